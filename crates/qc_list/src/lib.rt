@@ -1,0 +1,19 @@
+//! The ground floor: lists and texts that contracts see as plain lists, and
+//! the entry of a history.
+//!
+//! No type whose value a definition gives holds a bare `Vec` or `String`; it
+//! holds one of these, so that definitions and code speak of the same value.
+//! Every other crate stands on this one.
+#![tactic(auto)]
+
+mod list;
+mod marked;
+mod text;
+
+pub use list::List;
+pub use marked::Marked;
+use std::alloc::AllocError;
+pub use text::{Name, Path};
+
+/// Want of memory, the one answer that no contract ties to a cause.
+pub type OutOfMemory = AllocError;
