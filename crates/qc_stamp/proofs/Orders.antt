@@ -1,0 +1,45 @@
+-- The orders of stamps and transactions are total, and Equal only at one value.
+use Rattle.std.proofs.Common.{◌≡◌, ℕ, refl, arith}
+use Rattle.std.proofs.lemmas.Bool.Decides.{nat_tests}
+use Rattle.std.specs.Cmp.{IsTotalOrder}
+use Rattle.std.proofs.lemmas.Cmp.{then_total, on_total, nat_cmp_total}
+use Rattle.std.specs.Ordering.{nat_cmp, on, then_cmp, ordering_then}
+use Rattle.std.specs.declared.cmp.Ordering.{Ordering}
+use Rattle.std.specs.declared.cmp.Ordering.TheVariants.{Less, Equal, Greater}
+use Rattle.qc_stamp.specs.declared.stamp.Stamp.{Stamp}
+use Rattle.qc_stamp.specs.declared.stamp.TxId.{TxId}
+use Rattle.qc_stamp.specs.Order.{IsOrder, stamp_cmp, tx_cmp}
+
+-- a pair of answers is Equal only where both are
+pub first_Equal : (a b : Ordering) → ordering_then a b ≡ Equal → a ≡ Equal
+first_Equal Less b h = h
+first_Equal Equal b h = refl
+first_Equal Greater b h = h
+
+pub second_Equal : (a b : Ordering) → ordering_then a b ≡ Equal → b ≡ Equal
+second_Equal Less b h = absurd (let never : ⊥ = cc in never)
+second_Equal Equal b h = h
+second_Equal Greater b h = absurd (let never : ⊥ = cc in never)
+
+pub nat_apart : (a b : ℕ) → nat_cmp a b ≡ Equal → a ≡ b
+nat_apart a b h = grind (arith, nat_tests)
+
+pub stamp_order : IsOrder stamp_cmp
+stamp_order = record {
+  total = then_total (on_total (λ (s : Stamp). s.clock) nat_cmp_total) (on_total (λ (s : Stamp). s.client) nat_cmp_total);
+  apart = λ a b h.
+      let clock : a.clock ≡ b.clock = nat_apart _ _ (first_Equal _ _ h) in
+      let client : a.client ≡ b.client = nat_apart _ _ (second_Equal (nat_cmp a.clock b.clock) _ h) in
+      λ i. record { clock = clock i; client = client i };
+}
+
+pub tx_order : IsOrder tx_cmp
+tx_order = record {
+  total = then_total (on_total (λ (t : TxId). t.client) nat_cmp_total) (then_total (on_total (λ (t : TxId). t.life) nat_cmp_total) (on_total (λ (t : TxId). t.number) nat_cmp_total));
+  apart = λ a b h.
+      let rest : ordering_then (nat_cmp a.life b.life) (nat_cmp a.number b.number) ≡ Equal = second_Equal (nat_cmp a.client b.client) _ h in
+      let client : a.client ≡ b.client = nat_apart _ _ (first_Equal _ _ h) in
+      let life : a.life ≡ b.life = nat_apart _ _ (first_Equal _ _ rest) in
+      let number : a.number ≡ b.number = nat_apart _ _ (second_Equal (nat_cmp a.life b.life) _ rest) in
+      λ i. record { client = client i; life = life i; number = number i };
+}
