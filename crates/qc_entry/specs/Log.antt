@@ -1,0 +1,43 @@
+-- What the calls of a log give.
+use Rattle.std.specs.Prelude.{◌≡◌, ◌↔◌, ◌⊎◌, ℕ, List, [], ◌∷◌, ◌==◌, filter}
+use Rattle.std.specs.Ordering.{is_lt}
+use Rattle.std.specs.declared.cmp.Ordering.{Ordering}
+use Rattle.std.specs.declared.cmp.Ordering.TheVariants.{Less, Equal, Greater}
+use Rattle.qc_entry.specs.declared.line.Line.{Line}
+use Rattle.qc_entry.specs.Line.{line_cmp, IsAscending}
+use Rattle.qc_stamp.specs.declared.stamp.Stamp.{Stamp}
+use Rattle.qc_stamp.specs.Order.{stamp_cmp}
+
+-- the choice of the line that comes first, or of one where both are the same
+abbrev pub by_order : {A : Type 0} → Ordering → A → A → A → A
+by_order Less first both second = first
+by_order Equal first both second = both
+by_order Greater first both second = second
+
+-- the merge of x, before a rest that merges by itself, with a list
+abbrev pub union_from : Line → List Line → (List Line → List Line) → List Line → List Line
+union_from x xs rest [] = x ∷ xs
+union_from x xs rest (y ∷ ys) = by_order (line_cmp x y) (x ∷ rest (y ∷ ys)) (x ∷ rest ys) (y ∷ union_from x xs rest ys)
+
+-- the sorted union of two sorted lists, each line once
+abbrev pub union : List Line → List Line → List Line
+union [] ys = ys
+union (x ∷ xs) ys = union_from x xs (union xs) ys
+
+-- the lines of one object
+abbrev pub of_object : List Line → ℕ → List Line
+of_object lines object = filter (λ l. l.object == object) lines
+
+-- the lines with a greater stamp
+abbrev pub since_stamp : List Line → Stamp → List Line
+since_stamp lines stamp = filter (λ l. is_lt (stamp_cmp stamp l.stamp)) lines
+
+-- membership, by recursion
+abbrev pub In : Line → List Line → Type 0
+In x [] = ⊥
+In x (y ∷ ys) = (x ≡ y) ⊎ In x ys
+
+-- a list is sorted and has just the lines of either list
+pub record IsUnion (xs ys zs : List Line) : Type 0 where
+  pub ascending : IsAscending zs
+  pub members : (l : Line) → In l zs ↔ (In l xs ⊎ In l ys)

@@ -1,0 +1,15 @@
+//! What a log holds: lines, operations, commit records and prepared
+//! transactions.
+//!
+//! A log is a sorted list of distinct lines, by its type. The line of an
+//! operation has the stamp and name of its transaction, the operation's number
+//! there, its object and its event (Herlihy 1986).
+#![tactic(auto)]
+
+mod line;
+mod log;
+mod record;
+
+pub use line::{Line, Op, Ops, OwnLine, Owns, ReadLock, Reads};
+pub use log::Log;
+pub use record::{Commit, Prepared};
