@@ -1,0 +1,25 @@
+-- What a declaration says of an object.
+use Rattle.std.specs.Prelude.{ℕ, Option, Some, None, List, slice_get, option_map, option_and_then}
+use Rattle.std.specs.Option.{option_map_or}
+use Rattle.qc_decl.specs.declared.declaration.Kind.{Kind}
+use Rattle.qc_decl.specs.declared.declaration.Declaration.{Declaration}
+use Rattle.qc_plan.specs.declared.plan.Plan.{Plan}
+use Rattle.qc_plan.specs.Need.{need_of}
+use Rattle.qc_table.specs.Rules.{Rules}
+
+-- the table of an object's type, or none where the object isn't declared
+abbrev pub table_at : Declaration → ℕ → Option Rules
+table_at decl object = option_and_then (λ kind. option_map (λ (k : Kind). k.table) (slice_get decl.kinds kind)) (slice_get decl.objects object)
+
+-- the plan of an epoch, from epoch 1
+abbrev pub plan_in : Declaration → ℕ → Option Plan
+plan_in decl zero = None
+plan_in decl (suc k) = slice_get decl.plans k
+
+-- the weight that a read round needs in an epoch
+abbrev pub read_need_of : Declaration → ℕ → ℕ → ℕ → ℕ
+read_need_of decl epoch object inv = option_map_or (λ (p : Plan). need_of p.initial object inv) (plan_in decl epoch) 0
+
+-- the weight that an append round needs in an epoch
+abbrev pub append_need_of : Declaration → ℕ → ℕ → ℕ → ℕ
+append_need_of decl epoch object event = option_map_or (λ (p : Plan). need_of p.last object event) (plan_in decl epoch) 0

@@ -1,0 +1,40 @@
+-- The built-in declaration `@one`: one site, one client, and one register over 0 and 1.
+use Rattle.std.specs.Prelude.{ℕ, List, [], ◌∷◌, codes}
+use Rattle.qc_decl.specs.declared.declaration.KindNames.{KindNames}
+use Rattle.qc_decl.specs.declared.declaration.Declaration.{Declaration}
+use Rattle.qc_plan.specs.declared.plan.Plan.{Plan}
+use Rattle.qc_table.specs.declared.row.Row.{Row}
+use Rattle.qc_table.specs.Rules.{Rules}
+
+abbrev pub row : ℕ → ℕ → ℕ → ℕ → Row
+row state inv resp next = record { state = state; inv = inv; resp = resp; next = next }
+
+-- The register: invocations R, W0, W1 and responses 0, 1, ok have the numbers 0, 1, 2.
+abbrev pub register_rows : List Row
+register_rows = row 0 0 0 0 ∷ row 1 0 1 1 ∷ row 0 1 2 0 ∷ row 1 1 2 0 ∷ row 0 2 2 1 ∷ row 1 2 2 1 ∷ []
+
+abbrev pub register : Rules
+register = record { states = 2; invs = 3; resps = 3; start = 0; rows = register_rows }
+
+abbrev pub register_names : KindNames
+register_names = record {
+  name = codes "register";
+  states = codes "0" ∷ codes "1" ∷ [];
+  invs = codes "R" ∷ codes "W0" ∷ codes "W1" ∷ [];
+  resps = codes "0" ∷ codes "1" ∷ codes "ok" ∷ [];
+}
+
+-- R needs the site's weight to read; the events W0:ok and W1:ok, numbered 2 and 3, need it to append.
+abbrev pub one_plan : Plan
+one_plan = record { weights = 1 ∷ []; initial = (1 ∷ 0 ∷ 0 ∷ []) ∷ []; last = (0 ∷ 0 ∷ 1 ∷ 1 ∷ []) ∷ [] }
+
+abbrev pub one : Declaration
+one = record {
+  sites = 1;
+  clients = 1;
+  kinds = record { table = register } ∷ [];
+  objects = 0 ∷ [];
+  plans = one_plan ∷ [];
+  kind_names = register_names ∷ [];
+  object_names = codes "x" ∷ [];
+}

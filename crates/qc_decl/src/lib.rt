@@ -1,0 +1,13 @@
+//! Declarations: the types, objects and quorums of a store, and its actors'
+//! numbers.
+//!
+//! Sites are numbered first, then clients, then the administrator, then the
+//! controller. Objects, types, states, invocations, responses and events are
+//! numbered from 0 in the declaration's order.
+#![tactic(auto)]
+
+mod declaration;
+
+pub use declaration::{
+    Declaration, Kind, KindNames, KindNamesList, Kinds, Names, Objects, Plans,
+};
