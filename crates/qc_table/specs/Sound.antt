@@ -1,5 +1,4 @@
-use Rattle.std.specs.Prelude.{◌≡◌, ℕ, ◌<◌, ◌≤◌, None, List, length}
-use Rattle.qc_table.specs.declared.row.Row.{Row}
+use Rattle.std.specs.Prelude.{◌≡◌, ◌<◌, ◌≤◌, None}
 use Rattle.qc_table.specs.Rules.{Rules}
 use Rattle.qc_table.specs.Faults.{fault_of}
 

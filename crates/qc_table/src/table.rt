@@ -146,12 +146,13 @@ impl Table {
         ensures lowest { IfSome result (λ number. IsLowest self.now.rows state inv number) }
         ensures none { result ≡ None → (k : ℕ) → next_in self.now.rows state (event inv k) ≡ None }
     {
-        let resp = rows::lowest(self.rows.items(), state, inv)?;
-        rows::number(self.events.items(), Event { inv, resp })
+        rows::first(self.rows.items(), self.events.items(), state, inv)
     }
 }
 
 /// Every table is sound.
 pub fn tables_are_sound(table: &Table)
     ensures { IsSound table.now }
-{}
+{
+    let _start = table.start;
+}
