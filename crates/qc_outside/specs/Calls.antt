@@ -9,6 +9,10 @@ pub record CallsMade : Type 0 where
   pub made : ℕ
   pub faults : ℕ
 
+-- no call yet
+abbrev pub no_calls : List ℕ → CallsMade
+no_calls numbers = record { fail = numbers; made = 0; faults = 0 }
+
 -- whether the next call is to fail
 abbrev pub is_next_failing : CallsMade → Bool
 is_next_failing calls = list_any (λ number. number == one_more calls.made) calls.fail

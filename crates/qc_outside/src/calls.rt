@@ -1,7 +1,7 @@
 //! The calls of a fake, some of which are to fail.
 
 ghost use Rattle.std.specs.Prelude.{◌≡◌, ◌≤◌};
-ghost use Rattle.qc_outside.specs.Calls.{is_next_failing, after_fault, after_call};
+ghost use Rattle.qc_outside.specs.Calls.{no_calls, is_next_failing, after_fault, after_call};
 
 use std::marker::Model;
 
@@ -26,7 +26,7 @@ impl Model for Calls {
 impl Calls {
     /// No call yet. `fail` lists those that are to fail, counted from 1.
     pub(crate) fn new(fail: Vec<u32>) -> Calls
-        ensures { result ≡ record { fail = fail.items; made = 0; faults = 0 } }
+        ensures { result ≡ no_calls fail.items }
     {
         Calls {
             fail,

@@ -2,7 +2,7 @@
 
 ghost use Rattle.std.specs.Prelude.{◌≡◌, ◌↔◌, IfOk, IsTrue, IsErrOf, MatchResult, option_copied, map, option_map};
 ghost use Rattle.qc_outside.specs.Shelf.{IsTaken, IsRefused, ShelfRose, file_named, contents};
-ghost use Rattle.qc_outside.specs.Calls.{is_next_failing};
+ghost use Rattle.qc_outside.specs.Calls.{is_next_failing, no_calls};
 ghost use Rattle.qc_outside.specs.Fakes.{shelf_calls_after};
 
 use crate::calls::Calls;
@@ -37,7 +37,7 @@ impl MemShelf {
         fail: Vec<u32>,
     ) -> Result<MemShelf, OutOfMemory>
         ensures files { IfOk result (λ s. s.files ≡ contents files.items) }
-        ensures calls { IfOk result (λ s. s.calls ≡ record { fail = fail.items; made = 0; faults = 0 }) }
+        ensures calls { IfOk result (λ s. s.calls ≡ no_calls fail.items) }
     {
         Ok(MemShelf {
             alloc,
@@ -68,7 +68,9 @@ impl Shelf for MemShelf {
 
     fn take(&mut self, name: &str, limit: u32) -> Result<Vec<u8>, ShelfFault>
         ensures same { self.new.files ≡ self.old.files }
-        ensures content { MatchResult result (λ v. IsTaken (Some self.old.files) name.now limit v.items) (IsRefused (Some self.old.files) name.now limit) }
+        ensures content { MatchResult result
+            (λ v. IsTaken (Some self.old.files) name.now limit v.items)
+            (λ e. IsRefused (Some self.old.files) name.now limit e) }
         ensures cause { ShelfRose self.old.calls.faults self.new.calls.faults result }
         ensures failing { IsErrOf result ShelfFault.Failed ↔ IsTrue (is_next_failing self.old.calls) }
         ensures counted { self.new.calls ≡ shelf_calls_after result self.old.calls }

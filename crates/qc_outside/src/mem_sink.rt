@@ -2,7 +2,7 @@
 
 ghost use Rattle.std.specs.Prelude.{◌≡◌, ◌↔◌, [], IfOk, IsTrue, OnErr, IsErrOf};
 ghost use Rattle.qc_outside.specs.Sink.{IsWritten, SinkRose};
-ghost use Rattle.qc_outside.specs.Calls.{is_next_failing};
+ghost use Rattle.qc_outside.specs.Calls.{is_next_failing, no_calls};
 ghost use Rattle.qc_outside.specs.Fakes.{sink_calls_after};
 
 use crate::calls::Calls;
@@ -31,7 +31,7 @@ impl MemSink {
     /// from 1; such a call takes nothing.
     pub fn new(alloc: Global, fail: Vec<u32>) -> Result<MemSink, OutOfMemory>
         ensures bytes { IfOk result (λ s. s.bytes ≡ []) }
-        ensures calls { IfOk result (λ s. s.calls ≡ record { fail = fail.items; made = 0; faults = 0 }) }
+        ensures calls { IfOk result (λ s. s.calls ≡ no_calls fail.items) }
     {
         Ok(MemSink {
             bytes: Vec::new(alloc),

@@ -47,6 +47,8 @@ pub trait Shelf {
     /// wanting.
     fn take(&mut self, name: &str, limit: u32) -> Result<Vec<u8>, ShelfFault>
         ensures same { files self.new ≡ files self.old }
-        ensures content { MatchResult result (λ v. IsTaken (files self.old) name.now limit v.items) (IsRefused (files self.old) name.now limit) }
+        ensures content { MatchResult result
+            (λ v. IsTaken (files self.old) name.now limit v.items)
+            (λ e. IsRefused (files self.old) name.now limit e) }
         ensures cause { ShelfRose (faults self.old) (faults self.new) result };
 }
