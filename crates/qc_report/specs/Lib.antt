@@ -1,2 +1,7 @@
 pub mod Pieces
 pub mod Causes
+pub mod Parts
+pub mod Replies
+pub mod Committed
+pub mod LogText
+pub mod Replay

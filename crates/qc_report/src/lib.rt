@@ -2,6 +2,10 @@
 #![tactic(auto)]
 
 mod cause;
+mod names;
 mod page;
+mod parts;
+mod queues;
+mod replies;
 
 pub use cause::{Cause, What, cause_text};

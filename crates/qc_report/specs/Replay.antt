@@ -1,0 +1,54 @@
+-- A replay of committed operations on one copy of each object, and the states that it ends in.
+use Rattle.std.specs.Prelude.{ℕ, List, [], ◌∷◌, ◌++◌, Option, Some, None, codes, fold, map, flat_map, length, slice_get, slice_set, option_map, option_and_then}
+use Rattle.std.specs.List.{range_with_len}
+use Rattle.std.specs.Option.{option_map_or}
+use Rattle.qc_entry.specs.declared.line.Op.{Op}
+use Rattle.qc_entry.specs.declared.record.Commit.{Commit}
+use Rattle.qc_decl.specs.declared.declaration.Declaration.{Declaration}
+use Rattle.qc_decl.specs.declared.declaration.Kind.{Kind}
+use Rattle.qc_decl.specs.Lookup.{table_at}
+use Rattle.qc_table.specs.Rules.{Rules, event, events_of, event_number}
+use Rattle.qc_table.specs.Run.{step_of, first_of}
+use Rattle.qc_report.specs.Parts.{object_name, state_name}
+
+-- an absent operation stands where no response is legal, and keeps the state
+abbrev pub kept : ℕ → Option ℕ → Option ℕ
+kept state None = Some state
+kept state (Some number) = None
+
+-- the state after an invocation with this response, or with none
+abbrev pub state_after : Rules → ℕ → ℕ → Option ℕ → Option ℕ
+state_after rules state inv None = kept state (first_of rules.rows state inv)
+state_after rules state inv (Some resp) = option_and_then (step_of rules.rows state) (event_number (events_of rules.rows) (event inv resp))
+
+-- the states after an operation, none where its object has no such step
+abbrev pub states_after : Declaration → List ℕ → Op → Option (List ℕ)
+states_after decl states op =
+    option_and_then
+    (λ (rules : Rules). option_and_then (λ state. option_map (λ next. slice_set states op.object next) (state_after rules state op.inv op.resp)) (slice_get states op.object))
+    (table_at decl op.object)
+
+-- the states after one operation more; where a step was missing, one stays missing
+abbrev pub replayed : Declaration → Option (List ℕ) → Op → Option (List ℕ)
+replayed decl None op = None
+replayed decl (Some states) op = states_after decl states op
+
+-- the start state of each object
+abbrev pub starts : Declaration → List ℕ
+starts decl = map (λ kind. option_map_or (λ (k : Kind). k.table.start) (slice_get decl.kinds kind) 0) decl.objects
+
+-- all operations of the transactions, in their order, from the start states
+abbrev pub replay : Declaration → List Commit → Option (List ℕ)
+replay decl commits = fold (λ states (c : Commit). fold (replayed decl) states c.ops) (Some (starts decl)) commits
+
+-- the name of an object's state, and `?` where a step was missing
+abbrev pub state_text : Declaration → Option (List ℕ) → ℕ → List ℕ
+state_text decl None object = codes "?"
+state_text decl (Some states) object = option_map_or (state_name decl object) (slice_get states object) []
+
+abbrev pub state_line : Declaration → Option (List ℕ) → ℕ → List ℕ
+state_line decl states object = object_name decl object ++ (codes " " ++ (state_text decl states object ++ codes "\n"))
+
+-- the section of states, one line for each object
+abbrev pub states_text : Declaration → Option (List ℕ) → List ℕ
+states_text decl states = codes "states\n" ++ flat_map (state_line decl states) (range_with_len 0 (length decl.objects))
