@@ -47,7 +47,8 @@ pub struct OwnLine {
 pub type Owns = List<OwnLine>;
 
 /// An operation of a transaction, with the reply that its client got.
-#[derive(Clone, Copy, Debug, PartialEq, Eq)]
+/// Operations are ordered by object, invocation and response, none first.
+#[derive(Clone, Copy, Debug, PartialEq, Eq, PartialOrd, Ord)]
 pub struct Op {
     /// The object's number.
     pub object: u8,

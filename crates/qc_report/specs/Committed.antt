@@ -2,9 +2,10 @@
 use Rattle.std.specs.Prelude.{ℕ, if◌then◌else◌, List, [], ◌∷◌, Option, Some, None, fold}
 use Rattle.std.specs.List.{filter_map}
 use Rattle.std.specs.Cmp.Lexicographic.{slice_cmp}
+use Rattle.std.specs.Option.{option_cmp}
 use Rattle.std.specs.Ordering.{nat_cmp, on, then_cmp}
 use Rattle.std.specs.declared.cmp.Ordering.{Ordering}
-use Rattle.std.specs.declared.cmp.Ordering.TheVariants.{Less, Equal, Greater}
+use Rattle.std.specs.declared.cmp.Ordering.TheVariants.{Equal}
 use Rattle.qc_stamp.specs.Order.{stamp_cmp, tx_cmp}
 use Rattle.qc_entry.specs.declared.line.Op.{Op}
 use Rattle.qc_entry.specs.declared.record.Commit.{Commit}
@@ -16,16 +17,9 @@ use Rattle.qc_msg.specs.declared.step.Step.TheVariants.{Wrote}
 use Rattle.qc_msg.specs.declared.step.Record.TheVariants as records
 use Rattle.qc_msg.specs.Steps.{Entry}
 
--- an absent response comes before each response
-abbrev pub resp_cmp : Option ℕ → Option ℕ → Ordering
-resp_cmp None None = Equal
-resp_cmp None (Some b) = Less
-resp_cmp (Some a) None = Greater
-resp_cmp (Some a) (Some b) = nat_cmp a b
-
--- operations by object, invocation and response
+-- operations by object, invocation and response, an absent one before each response
 abbrev pub op_cmp : Op → Op → Ordering
-op_cmp = then_cmp (on (λ o. o.object) nat_cmp) (then_cmp (on (λ o. o.inv) nat_cmp) (on (λ o. o.resp) resp_cmp))
+op_cmp = then_cmp (on (λ o. o.object) nat_cmp) (then_cmp (on (λ o. o.inv) nat_cmp) (on (λ o. o.resp) (option_cmp nat_cmp)))
 
 -- commit records by stamp, then transaction, then operations
 abbrev pub commit_cmp : Commit → Commit → Ordering

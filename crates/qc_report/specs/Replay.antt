@@ -33,9 +33,13 @@ abbrev pub replayed : Declaration → Option (List ℕ) → Op → Option (List 
 replayed decl None op = None
 replayed decl (Some states) op = states_after decl states op
 
+-- the start state of a type
+abbrev pub start_of : Declaration → ℕ → ℕ
+start_of decl kind = option_map_or (λ (k : Kind). k.table.start) (slice_get decl.kinds kind) 0
+
 -- the start state of each object
 abbrev pub starts : Declaration → List ℕ
-starts decl = map (λ kind. option_map_or (λ (k : Kind). k.table.start) (slice_get decl.kinds kind) 0) decl.objects
+starts decl = map (start_of decl) decl.objects
 
 -- all operations of the transactions, in their order, from the start states
 abbrev pub replay : Declaration → List Commit → Option (List ℕ)

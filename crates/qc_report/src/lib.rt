@@ -2,10 +2,14 @@
 #![tactic(auto)]
 
 mod cause;
+mod committed;
+mod log_lines;
 mod names;
 mod page;
 mod parts;
 mod queues;
+mod replay;
 mod replies;
+mod states;
 
 pub use cause::{Cause, What, cause_text};

@@ -88,9 +88,9 @@ fn put_command(page: &mut Page, decl: &Declaration, command: Command) -> Result<
     match command {
         Command::Begin => page.put("begin"),
         Command::Do { object, inv } => page.put_all(&[
-            object_name(decl, object),
+            object_name(decl, object as usize),
             " ",
-            invocation_name(decl, object, inv),
+            invocation_name(decl, object as usize, inv),
         ]),
         Command::Commit => page.put("commit"),
         Command::Abort => page.put("abort"),
@@ -124,7 +124,7 @@ fn response_text(decl: &Declaration, command: Command, resp: u8) -> &str
     ensures { result.now ≡ response_text decl.now command resp }
 {
     match command {
-        Command::Do { object, .. } => response_name(decl, object, resp),
+        Command::Do { object, .. } => response_name(decl, object as usize, resp),
         Command::Begin | Command::Commit | Command::Abort => "",
     }
 }
