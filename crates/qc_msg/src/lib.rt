@@ -10,6 +10,7 @@
 
 mod history;
 mod message;
+mod post;
 mod step;
 
 pub use history::History;

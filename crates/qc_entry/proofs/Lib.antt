@@ -1,0 +1,5 @@
+pub mod Orders
+pub mod Every
+pub mod Union
+pub mod Without
+pub mod Walks

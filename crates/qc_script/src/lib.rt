@@ -1,0 +1,11 @@
+//! Scripts, and the runs of a script.
+//!
+//! A script is phases of commands. The crate has its grammar, a reader that
+//! gives exactly what the grammar does, and in `specs/` what is ready for an
+//! actor after a history and which histories are runs. A run is defined once,
+//! over any conduct of the actors.
+#![tactic(auto)]
+
+mod script;
+
+pub use script::{CommandLine, CommandLines, PhaseLines, PhaseList, Script, ScriptFault};

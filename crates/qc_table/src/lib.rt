@@ -1,0 +1,18 @@
+//! The tables of declared types: which responses a state allows, and what
+//! each of them leads to.
+//!
+//! A table keeps its rows as they were given. Each row names states,
+//! invocations and responses within the table's counts, no two rows have the
+//! same state, invocation and response, and there are at most 64 events.
+//! Events are numbered by their first rows. Checkers of declarations, front
+//! ends and laws on replies all read the same table.
+#![tactic(auto)]
+
+mod fault;
+mod row;
+mod rows;
+mod table;
+
+pub use fault::TableFault;
+pub use row::{Event, Row};
+pub use table::Table;
