@@ -1,6 +1,6 @@
 -- What a site becomes and does as a message comes (Herlihy 1986; presumed abort).
-use Rattle.std.specs.Prelude.{ℕ, ◌+◌, ◌*◌, max, nat_le, Bool, if◌then◌else◌, not, List, [], ◌∷◌, ◌++◌, map, fold, length, filter, Option, Some, None}
-use Rattle.std.specs.List.{find, list_any}
+use Rattle.std.specs.Prelude.{ℕ, ◌+◌, ◌*◌, max, nat_le, Bool, if◌then◌else◌, not, List, [], ◌∷◌, ◌++◌, fold, length, filter, Option, Some, None, is_some}
+use Rattle.std.specs.List.{find}
 use Rattle.qc_stamp.specs.declared.stamp.Stamp.{Stamp}
 use Rattle.qc_stamp.specs.declared.stamp.TxId.{TxId}
 use Rattle.qc_entry.specs.declared.line.Line.{Line}
@@ -13,6 +13,7 @@ use Rattle.qc_msg.specs.declared.message.Message.TheVariants.{Read, Append, Prep
 use Rattle.qc_msg.specs.declared.message.Outcome.{Outcome}
 use Rattle.qc_msg.specs.declared.message.Outcome.TheVariants.{Committed, Aborted}
 use Rattle.qc_msg.specs.declared.step.Record.TheVariants as records
+use Rattle.qc_msg.specs.declared.step.Turn.{Turn}
 use Rattle.qc_msg.specs.Mail.{Deed, Ordered, Hears, Sends}
 use Rattle.qc_site.specs.declared.held.Held.{Held}
 use Rattle.qc_site.specs.Held.{same_tx, held_of, is_held, holding_lock, holding_owns, without_held}
@@ -56,15 +57,15 @@ abbrev pub promises : SiteState → ℕ → ℕ → Prepared → SiteMove
 promises s from number p =
     if nat_le (prepare_length p) most_body
     then moved
-        (record s { recorded = union s.recorded p.lines; prepared = s.prepared ++ p ∷ [] })
-        (record { write = Some (records.Prepare p); sends = record { to = from; message = Yes number s.clock } ∷ []; told = None })
+    (record s { recorded = union s.recorded p.lines; prepared = s.prepared ++ p ∷ [] })
+    (record { write = Some (records.Prepare p); sends = record { to = from; message = Yes number s.clock } ∷ []; told = None })
     else moved s (answer from (Stale number))
 
 abbrev pub prepared_of : List Prepared → TxId → Option Prepared
 prepared_of prepared tx = find (λ p. same_tx p.tx tx) prepared
 
 abbrev pub is_prepared : List Prepared → TxId → Bool
-is_prepared prepared tx = list_any (λ p. same_tx p.tx tx) prepared
+is_prepared prepared tx = is_some (prepared_of prepared tx)
 
 -- a Prepare: nothing can be promised where nothing is held, and a promise stands
 abbrev pub prepares : SiteState → ℕ → ℕ → TxId → ℕ → SiteMove
@@ -75,22 +76,36 @@ prepares s from number tx epoch =
     then moved s (answer from (Yes number s.clock))
     else promises s from number (promise_of s tx epoch))
 
+-- nothing of the transaction is prepared
+abbrev pub without_prepared : List Prepared → TxId → List Prepared
+without_prepared prepared tx = filter (λ p. not (same_tx p.tx tx)) prepared
+
 -- nothing of the transaction is held or prepared any more
 abbrev pub dropped : SiteState → TxId → SiteState
-dropped s tx = record s { held = without_held s.held tx; prepared = filter (λ p. not (same_tx p.tx tx)) s.prepared }
+dropped s tx = record s { held = without_held s.held tx; prepared = without_prepared s.prepared tx }
 
--- own lines as the lines of a committed transaction
-abbrev pub stamped : Stamp → TxId → List OwnLine → List Line
-stamped stamp tx own = map (λ o. record { stamp = stamp; tx = tx; op = o.op; object = o.object; event = o.event }) own
+-- an own line as the line of a committed transaction
+abbrev pub stamped : Stamp → TxId → OwnLine → Line
+stamped stamp tx o = record { stamp = stamp; tx = tx; op = o.op; object = o.object; event = o.event }
+
+abbrev pub with_stamped : Stamp → TxId → List Line → OwnLine → List Line
+with_stamped stamp tx lines o = union lines (stamped stamp tx o ∷ [])
+
+-- the own lines as lines with this stamp, in order
+abbrev pub lines_of : Stamp → TxId → List OwnLine → List Line
+lines_of stamp tx own = fold (with_stamped stamp tx) [] own
+
+abbrev pub done_turn : TxId → Stamp → Turn
+done_turn tx stamp = record { write = Some (records.Done tx stamp.clock); sends = []; told = None }
 
 -- a prepared transaction committed: this is written, and the own lines of its promise become lines with its stamp
 abbrev pub joins : SiteState → TxId → Stamp → Option Prepared → SiteMove
 joins s tx stamp None = moved (dropped s tx) no_turn
 joins s tx stamp (Some p) =
-    let lines : List Line = stamped stamp tx p.own in
+    let lines : List Line = lines_of stamp tx p.own in
     moved
     (record (dropped s tx) { log = union s.log lines; recorded = union s.recorded lines })
-    (record { write = Some (records.Done tx stamp.clock); sends = []; told = None })
+    (done_turn tx stamp)
 
 -- a Decision: the transaction is finished here
 abbrev pub finishes : SiteState → TxId → Outcome → SiteMove

@@ -1,6 +1,6 @@
 -- What the unfinished transactions hold at a site.
-use Rattle.std.specs.Prelude.{ℕ, Bool, ◌==◌, ◌&&◌, not, if◌then◌else◌, List, [], ◌∷◌, fold, filter, Option, Some, None, unwrap_or}
-use Rattle.std.specs.List.{find, list_any}
+use Rattle.std.specs.Prelude.{Bool, ◌==◌, ◌&&◌, not, if◌then◌else◌, List, [], ◌∷◌, fold, filter, Option, is_some, unwrap_or}
+use Rattle.std.specs.List.{find}
 use Rattle.std.specs.Ordering.{nat_cmp, on, then_cmp}
 use Rattle.std.specs.declared.cmp.Ordering.{Ordering}
 use Rattle.qc_stamp.specs.declared.stamp.TxId.{TxId}
@@ -31,15 +31,16 @@ with_own (o ∷ os) line = by_order (nat_cmp line.op o.op) (line ∷ o ∷ os) (
 abbrev pub with_owns : List OwnLine → List OwnLine → List OwnLine
 with_owns own others = fold with_own own others
 
--- the entry of a transaction, which holds nothing where it has none
-abbrev pub nothing_of : TxId → Held
-nothing_of tx = record { tx = tx; locks = []; own = [] }
-
-abbrev pub held_of : List Held → TxId → Held
-held_of held tx = unwrap_or (find (λ h. same_tx h.tx tx) held) (nothing_of tx)
+-- the entry of a transaction, if it holds something
+abbrev pub entry_of : List Held → TxId → Option Held
+entry_of held tx = find (λ h. same_tx h.tx tx) held
 
 abbrev pub is_held : List Held → TxId → Bool
-is_held held tx = list_any (λ h. same_tx h.tx tx) held
+is_held held tx = is_some (entry_of held tx)
+
+-- what a transaction holds
+abbrev pub held_of : List Held → TxId → Held
+held_of held tx = unwrap_or (entry_of held tx) (record { tx = tx; locks = []; own = [] })
 
 -- the entry takes the place of its transaction's, or comes last where there is none
 abbrev pub with_entry : List Held → Held → List Held

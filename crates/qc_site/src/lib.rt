@@ -7,8 +7,12 @@
 //! lost. `handle` is the whole conduct: one message, one turn.
 #![tactic(auto)]
 
+mod decision;
 mod held;
+mod promise;
 mod site;
+mod sorted;
+mod turn;
 
 pub use held::{Held, HeldList};
 pub use site::{PreparedList, Site};
