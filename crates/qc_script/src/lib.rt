@@ -6,6 +6,10 @@
 //! over any conduct of the actors.
 #![tactic(auto)]
 
+mod form;
+mod reader;
 mod script;
 
+pub use form::Form;
+pub use reader::read;
 pub use script::{CommandLine, CommandLines, PhaseLines, PhaseList, Script, ScriptFault};
