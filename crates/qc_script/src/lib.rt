@@ -7,9 +7,10 @@
 #![tactic(auto)]
 
 mod form;
+mod laws;
 mod reader;
 mod script;
 
-pub use form::Form;
+pub use laws::scripts_ask_the_client;
 pub use reader::read;
 pub use script::{CommandLine, CommandLines, PhaseLines, PhaseList, Script, ScriptFault};
