@@ -1,15 +1,15 @@
 -- Ascending lists are settled by their members: filters, unions and differences.
-use Rattle.std.proofs.Common.{◌≡◌, ◌⊎◌, ◌↔◌, inl, inr, List, [], ◌∷◌, Bool, true, false, cond, refl, sym, ap, ◌∙◌, subst, IsTrue}
+use Rattle.std.proofs.Common.{◌≡◌, ◌⊎◌, ◌↔◌, inl, inr, List, [], ◌∷◌, Bool, true, false, cond, refl, sym, ap, ◌∙◌, subst}
 use Rattle.std.proofs.lemmas.Cmp.{tied_itself}
-use Rattle.std.specs.List.{AllByRecursion as Every, filter}
+use Rattle.std.specs.List.{filter}
 use Rattle.std.specs.Ordering.{is_eq}
 use Rattle.std.specs.Prelude.{not, ◌||◌}
 use Rattle.std.specs.declared.cmp.Ordering.{Ordering}
 use Rattle.std.specs.declared.cmp.Ordering.TheVariants.{Less, Equal, Greater}
 use Rattle.qc_entry.specs.declared.line.Line.{Line}
 use Rattle.qc_entry.specs.Line.{line_cmp, IsBelowAll, IsAscending}
-use Rattle.qc_entry.specs.Log.{In, union, union_from, by_order, without, has_line}
-use Rattle.qc_entry.proofs.Orders.{line_order, below}
+use Rattle.qc_entry.specs.Log.{In, union, by_order, without, has_line}
+use Rattle.qc_entry.proofs.Orders.{line_order}
 use Rattle.qc_entry.proofs.Every.{every-In, ascending-filter}
 use Rattle.qc_entry.proofs.Union.{in_first, in_second, in_either, ascending-union}
 
