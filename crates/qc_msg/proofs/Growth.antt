@@ -1,6 +1,6 @@
 -- How what is read off a history grows, as the history does.
-use Rattle.std.proofs.Common.{◌≡◌, ℕ, suc, ◌+◌, ◌==◌, ◌≤◌, Bool, true, false, cond, List, [], ◌∷◌, ◌++◌, map, filter, length, Option, Some, None, slice_get, option_to_list, refl, ap, sym, ◌∙◌, arith, append_assoc}
-use Rattle.std.specs.List.{fold, filter_map, cons_option}
+use Rattle.std.proofs.Common.{◌≡◌, ℕ, suc, ◌+◌, ◌==◌, ◌≤◌, Bool, true, false, cond, List, [], ◌∷◌, ◌++◌, map, filter, length, Option, Some, None, option_to_list, refl, ap, sym, ◌∙◌, arith, append_assoc}
+use Rattle.std.specs.List.{fold, cons_option}
 use Rattle.std.proofs.lemmas.Bool.{eq-eqb}
 use Rattle.std.proofs.lemmas.List.{append-nil, map-append}
 use Rattle.std.proofs.lemmas.List.Elements.{filter-append, filter_map-append}
@@ -13,7 +13,7 @@ use Rattle.qc_msg.specs.declared.step.Posting.{Posting}
 use Rattle.qc_msg.specs.declared.step.Record.{Record}
 use Rattle.qc_msg.specs.declared.step.Reply.{Reply}
 use Rattle.qc_msg.specs.declared.step.Step.{Step}
-use Rattle.qc_msg.specs.declared.step.Step.TheVariants.{Wrote, Sent, Told}
+use Rattle.qc_msg.specs.declared.step.Step.TheVariants.{Phase, Wrote, Sent, Told}
 use Rattle.qc_msg.specs.declared.step.Turn.{Turn}
 use Rattle.qc_msg.specs.Mail.{Deed, Sends, deed_at, deed_of, deeds, envelope_of, envelopes, heard, mail, sendings, WasSentTo}
 use Rattle.qc_msg.specs.Steps.{Entry, by, marked, own, posted, sents, step_of, told, wrote}
@@ -113,6 +113,13 @@ own-by_other a b (x ∷ xs) other =
     ap (λ (v : Bool). map (λ (e : Entry). e.step) (cond v (marked a x ∷ filter (λ (e : Entry). e.actor == b) (by a xs)) (filter (λ (e : Entry). e.actor == b) (by a xs)))) other
     ∙ own-by_other a b xs other
 
+-- a history that goes on by an actor's steps
+pub own-more : (a : ℕ) (h : List Entry) (xs : List Step) → own a (h ++ by a xs) ≡ own a h ++ xs
+own-more a h xs = own-append a h (by a xs) ∙ ap (λ (v : List Step). own a h ++ v) (own-by_same a xs)
+
+pub own-other : (a b : ℕ) (h : List Entry) (xs : List Step) → (a == b) ≡ false → own b (h ++ by a xs) ≡ own b h
+own-other a b h xs other = own-append b h (by a xs) ∙ ap (λ (v : List Step). own b h ++ v) (own-by_other a b xs other) ∙ append-nil (own b h)
+
 -- deeds
 
 cons_option-append : (o : Option Envelope) (es : List Envelope) → cons_option o es ≡ option_to_list o ++ es
@@ -200,6 +207,19 @@ pub deeds-event : (a n : ℕ) (h : List Entry) (input : Given) (turn : Turn) →
 deeds-event a n h input turn sent =
     deeds-append a [] h (marked a (step_of input) ∷ by a (posted n turn))
     ∙ ap (λ (v : List Deed). deeds a [] h ++ v) (deeds-input a (mail h) input (by a (posted n turn)) sent ∙ ap (λ (v : List Deed). deed_of a input ∷ v) (deeds-by_same a n _ turn))
+
+-- a phase sends nothing, and is no deed
+
+pub mail-phase : (h : List Entry) (a k : ℕ) → mail (h ++ marked a (Phase k) ∷ []) ≡ mail h
+mail-phase h a k = mail-append h (marked a (Phase k) ∷ []) ∙ append-nil (mail h)
+
+pub deeds-phase : (a b k : ℕ) (ms : List Envelope) (h : List Entry) → deeds b ms (h ++ marked a (Phase k) ∷ []) ≡ deeds b ms h
+deeds-phase a b k ms h =
+    deeds-append b ms h (marked a (Phase k) ∷ []) ∙ ap (λ (v : List Deed). deeds b ms h ++ v) (none (a == b)) ∙ append-nil (deeds b ms h)
+  where
+    none : (mine : Bool) → cond mine (deed_at (ms ++ mail h) (Phase k)) [] ++ [] ≡ []
+    none true = refl
+    none false = refl
 
 -- an actor whose own steps stay has the deeds that it had
 pub deeds-none_own : (a : ℕ) (ms : List Envelope) (k : List Entry) → own a k ≡ [] → deeds a ms k ≡ []

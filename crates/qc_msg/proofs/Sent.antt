@@ -1,9 +1,10 @@
 -- Which messages were sent, as more are sent.
-use Rattle.std.proofs.Common.{◌≡◌, ℕ, zero, suc, ◌+◌, ◌==◌, ◌≤◌, ◌<◌, Bool, true, false, cond, List, [], ◌∷◌, ◌++◌, filter, length, drop, Option, Some, None, slice_get, refl, ap, sym, subst, ◌∙◌, arith, append_assoc, length-append}
-use Rattle.std.proofs.lemmas.List.{append-nil}
+use Rattle.std.proofs.Common.{◌≡◌, ℕ, zero, suc, ◌+◌, ◌==◌, Bool, true, false, cond, List, [], ◌∷◌, ◌++◌, length, drop, Some, slice_get, refl, ap, subst, ◌∙◌, arith, append_assoc, length-append}
+use Rattle.std.proofs.lemmas.Bool.{eqb-true}
 use Rattle.qc_msg.specs.declared.message.Envelope.{Envelope}
+use Rattle.qc_msg.specs.declared.step.Given.TheVariants as given
 use Rattle.qc_msg.specs.declared.step.Posting.{Posting}
-use Rattle.qc_msg.specs.Mail.{AllSent, addressed, envelopes}
+use Rattle.qc_msg.specs.Mail.{AllSent, AllTo, WasSentTo, addressed, envelopes}
 
 -- what is found in a list is found in a longer one
 pub slice_get-append : {X : Type 0} (xs ys : List X) (n : ℕ) (x : X) → slice_get xs n ≡ Some x → slice_get (xs ++ ys) n ≡ Some x
@@ -55,3 +56,26 @@ AllSent-delivered ms a n to ps old count sent =
     AllSent-both (ms ++ envelopes a n ps) old (addressed to (envelopes a n ps))
     (AllSent-append ms (envelopes a n ps) old sent)
     (AllSent-addressed (ms ++ envelopes a n ps) to (envelopes a n ps) (AllSent-new ms a n ps count))
+
+-- messages to one actor
+
+pub AllTo-both : (a : ℕ) (xs ys : List Envelope) → AllTo a xs → AllTo a ys → AllTo a (xs ++ ys)
+AllTo-both a [] ys first second = second
+AllTo-both a (x ∷ xs) ys first second = (first.0, AllTo-both a xs ys first.1 second)
+
+pub AllTo-drop : (a n : ℕ) (es : List Envelope) → AllTo a es → AllTo a (drop n es)
+AllTo-drop a zero es all = all
+AllTo-drop a (suc n) [] all = tt
+AllTo-drop a (suc n) (e ∷ es) all = AllTo-drop a n es all.1
+
+pub AllTo-addressed : (a : ℕ) (es : List Envelope) → AllTo a (addressed a es)
+AllTo-addressed a [] = tt
+AllTo-addressed a (e ∷ es) = by_receiver (e.to == a) refl (AllTo-addressed a es)
+  where
+    by_receiver : (taken : Bool) → (e.to == a) ≡ taken → AllTo a (addressed a es) → AllTo a (cond taken (e ∷ addressed a es) (addressed a es))
+    by_receiver true same rest = (eqb-true e.to a same, rest)
+    by_receiver false same rest = rest
+
+-- the input that takes a message that was sent
+pub WasSentTo-got : (a : ℕ) (ms : List Envelope) (e : Envelope) → e.to ≡ a → slice_get ms e.number ≡ Some e → WasSentTo a ms (given.Got e.from e.number e.message)
+WasSentTo-got a ms e to sent = sent ∙ ap (λ (k : ℕ). Some (record { number = e.number; from = e.from; to = k; message = e.message })) to

@@ -68,6 +68,11 @@ abbrev pub AllSent : List Envelope → List Envelope → Type 0
 AllSent ms [] = Unit {0}
 AllSent ms (e ∷ es) = (slice_get ms e.number ≡ Some e) × AllSent ms es
 
+-- each of these messages goes to actor a
+abbrev pub AllTo : ℕ → List Envelope → Type 0
+AllTo a [] = Unit {0}
+AllTo a (e ∷ es) = (e.to ≡ a) × AllTo a es
+
 -- where the input is a message, it is the one that was sent to actor a under its number
 abbrev pub WasSentTo : ℕ → List Envelope → Given → Type 0
 WasSentTo a ms (given.Called command) = Unit {0}
