@@ -1,5 +1,5 @@
 -- The view of an object, and the event that it answers an invocation with (Herlihy 1986).
-use Rattle.std.specs.Prelude.{ℕ, ◌+◌, ◌==◌, ◌&&◌, nat_lt, List, [], ◌∷◌, ◌++◌, Option, map, filter, length, slice_get, option_map, option_and_then, unwrap_or}
+use Rattle.std.specs.Prelude.{ℕ, Bool, ◌+◌, ◌==◌, ◌&&◌, nat_lt, List, [], ◌∷◌, ◌++◌, Option, map, filter, length, slice_get, option_map, option_and_then, unwrap_or}
 use Rattle.qc_decl.specs.declared.declaration.Declaration.{Declaration}
 use Rattle.qc_decl.specs.Lookup.{table_at, append_need_of}
 use Rattle.qc_entry.specs.declared.line.Line.{Line}
@@ -40,9 +40,13 @@ resp_of decl object event =
 abbrev pub next_own : Begun → ℕ → ℕ → OwnLine
 next_own begun object event = record { op = length begun.ops + 1; object = object; event = event }
 
+-- whether an own line is on the object and its event needs weight to append
+abbrev pub weighs : Declaration → ℕ → OwnLine → Bool
+weighs decl object line = (line.object == object) && nat_lt 0 (append_need_of decl first_epoch object line.event)
+
 -- the own lines on an object whose events need weight to append
 abbrev pub own_weighing : Declaration → List OwnLine → ℕ → List OwnLine
-own_weighing decl own object = filter (λ l. (l.object == object) && nat_lt 0 (append_need_of decl first_epoch object l.event)) own
+own_weighing decl own object = filter (weighs decl object) own
 
 -- the own lines that the append of an event carries: those that weigh, and the event's own
 abbrev pub own_appended : Declaration → Begun → ℕ → ℕ → List OwnLine

@@ -11,12 +11,12 @@
 #![tactic(auto)]
 
 mod begun;
-
+mod commit;
 mod front;
-
+mod operation;
 mod round;
 mod turns;
-
+mod view;
 
 pub use begun::Begun;
 pub use front::{FIRST_EPOCH, FIRST_LIFE, Front, MOST_OPERATIONS};
