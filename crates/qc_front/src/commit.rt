@@ -86,6 +86,7 @@ impl Front {
         ensures err { OnErr result (self.new ≡ self.old) }
     {
         let Some(begun) = &self.begun else {
+            self.clock = clock;
             return Ok(quiet(alloc));
         };
         let stamp = Stamp {

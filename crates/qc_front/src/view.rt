@@ -109,12 +109,13 @@ fn own_weighing(
 ) -> Result<Owns, OutOfMemory>
     ensures { IfOk result (λ lines. lines ≡ own_weighing decl.now own.now object) }
 {
-    let lines = own
-        .iter()
-        .filter(|line| weighs(decl, line, object))
-        .copied()
-        .collect(alloc)?;
-    Ok(List::from_vec(lines))
+    let mut lines = List::new(alloc);
+    for line in own {
+        if weighs(decl, line, object) {
+            lines.push(*line)?;
+        }
+    }
+    Ok(lines)
 }
 
 /// Whether the own line is on the object, and its event needs weight to
