@@ -16,3 +16,6 @@ pub use laws::{lines_are_ordered, union_is_a_union};
 pub use line::{Line, Op, Ops, OwnLine, Owns, ReadLock, Reads};
 pub use log::Log;
 pub use record::{Commit, Prepared};
+
+#[cfg(test)]
+mod tests;

@@ -1,5 +1,5 @@
 -- What is ready for an actor after a history. Links pass every message on, each once.
-use Rattle.std.specs.Prelude.{ℕ, Bool, true, false, ◌==◌, ◌-◌, ◌++◌, ◌&&◌, not, List, [], ◌∷◌, Option, Some, None, cond, fold, filter, map, drop, slice_get, unwrap_or}
+use Rattle.std.specs.Prelude.{ℕ, Bool, true, false, ◌==◌, ◌-◌, ◌++◌, ◌&&◌, not, List, [], ◌∷◌, Option, Some, None, cond, fold, filter, map, drop, slice_get}
 use Rattle.std.specs.Option.{option_map_or}
 use Rattle.qc_decl.specs.declared.declaration.Declaration.{Declaration}
 use Rattle.qc_decl.specs.Actors.{is_client}

@@ -6,6 +6,11 @@
 //! over any conduct of the actors.
 #![tactic(auto)]
 
+mod form;
+mod laws;
+mod reader;
 mod script;
 
+pub use laws::scripts_ask_the_client;
+pub use reader::read;
 pub use script::{CommandLine, CommandLines, PhaseLines, PhaseList, Script, ScriptFault};

@@ -1,6 +1,9 @@
 //! A script, as it was read.
 
-use qc_list::List;
+ghost use Rattle.std.specs.Prelude.{◌≡◌};
+ghost use Rattle.qc_script.specs.declared.script.ScriptFault.TheVariants.{OutOfMemory};
+
+use qc_list::{List, OutOfMemory};
 use qc_msg::Command;
 
 /// A command of a script, with the actor that is asked.
@@ -40,4 +43,12 @@ pub enum ScriptFault {
     NotBuilt,
     /// Memory was wanting.
     OutOfMemory,
+}
+
+impl From<OutOfMemory> for ScriptFault {
+    ghost from_gives = { λ _ e. e ≡ OutOfMemory };
+
+    fn from(_: OutOfMemory) -> ScriptFault {
+        ScriptFault::OutOfMemory
+    }
 }

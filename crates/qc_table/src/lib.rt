@@ -9,10 +9,14 @@
 #![tactic(auto)]
 
 mod fault;
+mod laws;
 mod row;
 mod rows;
 mod table;
+#[cfg(test)]
+mod tests;
 
 pub use fault::TableFault;
+pub use laws::{first_is_an_event, first_leads_on, runs_join};
 pub use row::{Event, Row};
-pub use table::Table;
+pub use table::{Table, tables_are_sound};

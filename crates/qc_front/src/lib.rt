@@ -1,0 +1,23 @@
+//! A client: it begins transactions, executes invocations through rounds of
+//! requests, and commits or gives up.
+//!
+//! A response is chosen from the view: the lines that the site granted, then
+//! the transaction's own events (Herlihy 1986). An event that needs weight is
+//! appended before its response is told. A commit is recorded before anybody
+//! hears of it (presumed abort), with a stamp above all that the client has
+//! learned of (Lamport 1978). All work is done on a copy of the begun
+//! transaction, so that want of memory leaves the client as it was. The driver
+//! of a history gives it commands and messages, and posts its turns.
+#![tactic(auto)]
+
+mod begun;
+mod commit;
+mod front;
+mod operation;
+mod round;
+mod turns;
+mod view;
+
+pub use begun::Begun;
+pub use front::{FIRST_EPOCH, FIRST_LIFE, Front, MOST_OPERATIONS};
+pub use round::Round;
