@@ -1,1 +1,6 @@
 pub mod Joined
+pub mod More
+pub mod Told
+pub mod Asked
+pub mod Keys
+pub mod Missing

@@ -41,9 +41,13 @@ start_of decl kind = option_map_or (λ (k : Kind). k.table.start) (slice_get dec
 abbrev pub starts : Declaration → List ℕ
 starts decl = map (start_of decl) decl.objects
 
--- all operations of the transactions, in their order, from the start states
+-- the states after all operations of a transaction
+abbrev pub replay_commit : Declaration → Option (List ℕ) → Commit → Option (List ℕ)
+replay_commit decl states commit = fold (replayed decl) states commit.ops
+
+-- the states after all operations of the transactions, in their order, from the start states
 abbrev pub replay : Declaration → List Commit → Option (List ℕ)
-replay decl commits = fold (λ states (c : Commit). fold (replayed decl) states c.ops) (Some (starts decl)) commits
+replay decl commits = fold (replay_commit decl) (Some (starts decl)) commits
 
 -- the name of an object's state, and `?` where a step was missing
 abbrev pub state_text : Declaration → Option (List ℕ) → ℕ → List ℕ

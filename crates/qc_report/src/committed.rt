@@ -1,8 +1,9 @@
 //! The committed transactions of a history.
 
-ghost use Rattle.std.specs.Prelude.{◌≡◌, IfOk, map};
+ghost use Rattle.std.specs.Prelude.{◌≡◌, IfOk, MatchOption, None, Some, map};
 ghost use Rattle.qc_decl.specs.Actors.{is_client};
-ghost use Rattle.qc_report.specs.Committed.{committed};
+ghost use Rattle.qc_report.specs.Committed.{commit_by, committed};
+ghost use Rattle.qc_report.specs.Keys.{commit_of};
 
 use qc_decl::Declaration;
 use qc_entry::{Commit, Op};
@@ -31,13 +32,21 @@ pub(crate) fn committed(
 {
     let mut keys = BTreeSet::new(alloc);
     'entries: for entry in entries {
-        if let Step::Wrote(Record::Commit(commit)) = &entry.step {
-            if is_client(decl, entry.actor) {
-                let _is_new = keys.insert(key_of(alloc, commit)?)?;
-            }
+        if let Some(commit) = commit_by(decl, entry) {
+            let _is_new = keys.insert(key_of(alloc, commit)?)?;
         }
     }
     commits_of(alloc, keys)
+}
+
+/// The commit record that a client's step wrote.
+fn commit_by<'a>(decl: &Declaration, entry: &'a Entry) -> Option<&'a Commit>
+    ensures { MatchOption result (commit_by decl.now entry.now ≡ None) (λ c. commit_by decl.now entry.now ≡ Some c.now) }
+{
+    match &entry.step {
+        Step::Wrote(Record::Commit(commit)) if is_client(decl, entry.actor) => Some(commit),
+        _ => None,
+    }
 }
 
 /// Whether an actor is a client.
@@ -48,7 +57,9 @@ fn is_client(decl: &Declaration, actor: u8) -> bool
 }
 
 /// A commit record's place in the order.
-fn key_of(alloc: Global, commit: &Commit) -> Result<CommitKey, OutOfMemory> {
+fn key_of(alloc: Global, commit: &Commit) -> Result<CommitKey, OutOfMemory>
+    ensures { IfOk result (λ k. commit_of k ≡ commit.now) }
+{
     Ok(CommitKey {
         stamp: commit.stamp,
         tx: commit.tx,
@@ -57,7 +68,9 @@ fn key_of(alloc: Global, commit: &Commit) -> Result<CommitKey, OutOfMemory> {
 }
 
 /// The commit records in their order.
-fn commits_of(alloc: Global, keys: BTreeSet<CommitKey>) -> Result<Vec<Commit>, OutOfMemory> {
+fn commits_of(alloc: Global, keys: BTreeSet<CommitKey>) -> Result<Vec<Commit>, OutOfMemory>
+    ensures { IfOk result (λ v. v.items ≡ map commit_of keys.keys) }
+{
     let mut commits = Vec::new(alloc);
     'keys: for key in keys {
         let CommitKey { stamp, tx, ops } = key;

@@ -2,7 +2,7 @@
 //! taken yet.
 
 ghost use Rattle.std.specs.Prelude.{◌≡◌, ◌∷◌, ◌++◌, [], ℕ, ◌<◌, OnOk, IfOk, length, drop, slice_get, slice_set, slice_index_or};
-ghost use Rattle.qc_report.specs.Replies.{told_of};
+ghost use Rattle.qc_report.specs.Replies.{told_of, reply_in};
 
 use qc_list::OutOfMemory;
 use qc_msg::{Entry, Reply, Step};
@@ -70,7 +70,8 @@ fn empty_queues(alloc: Global) -> Result<Vec<Queue>, OutOfMemory>
 /// Adds a reply to an actor's queue.
 fn add_reply(queues: &mut [Queue], actor: u8, reply: Reply) -> Result<(), OutOfMemory>
     requires { length queues.old ≡ 256 }
-    ensures { OnOk result (queues.new ≡ slice_set queues.old actor (slice_index_or queues.old actor [] ++ reply ∷ [])) }
+    ensures within { actor < 256 }
+    ensures told { OnOk result (queues.new ≡ slice_set queues.old actor (slice_index_or queues.old actor [] ++ reply ∷ [])) }
 {
     queues[actor as usize].push(reply)
 }
@@ -78,10 +79,21 @@ fn add_reply(queues: &mut [Queue], actor: u8, reply: Reply) -> Result<(), OutOfM
 /// Takes the oldest reply of an actor's queue.
 pub(crate) fn take_reply(queues: &mut [Queue], actor: u8) -> Option<Reply>
     requires { length queues.old ≡ 256 }
+    ensures within { actor < 256 }
     ensures reply { result ≡ slice_get (slice_index_or queues.old actor []) 0 }
     ensures rest { queues.new ≡ slice_set queues.old actor (drop 1 (slice_index_or queues.old actor [])) }
 {
     queues[actor as usize].take()
+}
+
+/// The reply that a step told.
+fn reply_in(step: &Step) -> Option<Reply>
+    ensures { result ≡ reply_in step.now }
+{
+    match step {
+        Step::Told(reply) => Some(*reply),
+        _ => None,
+    }
 }
 
 /// All that each actor told.
@@ -90,10 +102,20 @@ pub(crate) fn queues_of(alloc: Global, entries: &[Entry]) -> Result<Vec<Queue>, 
     ensures told { IfOk result (λ v. (a : ℕ) → a < 256 → slice_index_or v.items a [] ≡ told_of a entries.now) }
 {
     let mut queues = empty_queues(alloc)?;
+    add_replies(&mut queues, entries)?;
+    Ok(queues)
+}
+
+/// Adds all replies of a history to empty queues.
+fn add_replies(queues: &mut [Queue], entries: &[Entry]) -> Result<(), OutOfMemory>
+    requires all { length queues.old ≡ 256 }
+    requires empty { (a : ℕ) → slice_index_or queues.old a [] ≡ [] }
+    ensures { OnOk result ((a : ℕ) → a < 256 → slice_index_or queues.new a [] ≡ told_of a entries.now) }
+{
     'entries: for entry in entries {
-        if let Step::Told(reply) = &entry.step {
-            add_reply(&mut queues, entry.actor, *reply)?;
+        if let Some(reply) = reply_in(&entry.step) {
+            add_reply(queues, entry.actor, reply)?;
         }
     }
-    Ok(queues)
+    Ok(())
 }

@@ -1,15 +1,15 @@
 //! A replay of committed operations on one copy of each object.
 
-ghost use Rattle.std.specs.Prelude.{◌≡◌, IfOk, Some, None, fold, option_map};
+ghost use Rattle.std.specs.Prelude.{◌≡◌, IfOk, IfSome, ◌<◌, length, Some, None, fold, option_map};
 ghost use Rattle.std.specs.Bool.{MatchBool};
 ghost use Rattle.std.specs.Option.{option_map_or};
-ghost use Rattle.qc_table.specs.Rules.{event, events_of, event_number};
+ghost use Rattle.qc_table.specs.Rules.{events_of, event_number};
 ghost use Rattle.qc_report.specs.Replay.{state_after, states_after, replayed, starts, start_of, replay};
 
 use qc_decl::Declaration;
 use qc_entry::{Commit, Op};
 use qc_list::OutOfMemory;
-use qc_table::Table;
+use qc_table::{Event, Table};
 use std::alloc::Global;
 
 /// Each object's state after all operations of the transactions, or `None`
@@ -90,7 +90,8 @@ fn state_after(table: &Table, state: u8, op: &Op) -> Option<u8>
 {
     match op.resp {
         Some(resp) => {
-            let number = event_number(table, op.inv, resp)?;
+            let event = Event { inv: op.inv, resp };
+            let number = event_number(table, event)?;
             table.step(state, number)
         }
         None => match table.first(state, op.inv) {
@@ -100,13 +101,18 @@ fn state_after(table: &Table, state: u8, op: &Op) -> Option<u8>
     }
 }
 
-/// The number of the event of an invocation and a response.
-fn event_number(table: &Table, inv: u8, resp: u8) -> Option<u8>
-    ensures { result ≡ event_number (events_of table.now.rows) (event inv resp) }
+/// The number of an event of a table.
+fn event_number(table: &Table, event: Event) -> Option<u8>
+    ensures { result ≡ event_number (events_of table.now.rows) event }
 {
-    let number = table
-        .events()
-        .iter()
-        .position(|e| e.inv == inv && e.resp == resp)?;
-    Some(number as u8)
+    let place = event_place(table.events(), event)?;
+    Some(place as u8)
+}
+
+/// The place of an event.
+fn event_place(events: &[Event], event: Event) -> Option<usize>
+    ensures place { result ≡ event_number events.now event }
+    ensures within { IfSome result (λ place. place < length events.now) }
+{
+    events.iter().position(|e| *e == event)
 }

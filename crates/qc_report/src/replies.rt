@@ -56,22 +56,24 @@ fn put_lines(
     ensures { OnOk result (page.new ≡ page.old ++ reply_lines decl.now entries.now [] commands.now) }
 {
     'commands: for line in commands {
-        if let Some(reply) = take_reply(queues, line.actor) {
-            put_line(page, decl, line, reply)?;
-        }
+        let reply = take_reply(queues, line.actor);
+        put_line(page, decl, line, reply)?;
     }
     Ok(())
 }
 
-/// Adds a command's line.
+/// Adds a command's line, if it has its reply.
 fn put_line(
     page: &mut Page,
     decl: &Declaration,
     line: &CommandLine,
-    reply: Reply,
+    reply: Option<Reply>,
 ) -> Result<(), OutOfMemory>
-    ensures { OnOk result (page.new ≡ page.old ++ reply_line decl.now line.now (Some reply)) }
+    ensures { OnOk result (page.new ≡ page.old ++ reply_line decl.now line.now reply) }
 {
+    let Some(reply) = reply else {
+        return Ok(());
+    };
     put_actor(page, decl, line.actor)?;
     page.put(" ")?;
     put_command(page, decl, line.command)?;
