@@ -4,3 +4,4 @@ pub mod Told
 pub mod Asked
 pub mod Keys
 pub mod Missing
+pub mod Sections
