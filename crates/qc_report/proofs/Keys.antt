@@ -38,3 +38,23 @@ committed_more decl h i x d l e =
     ap (committed decl) (more h i x d l e)
     ∙ ap (fold with_commit []) (filter_map-append (commit_by decl) (take i h) (x ∷ []))
     ∙ fold-append with_commit [] (filter_map (commit_by decl) (take i h)) (cons_option (commit_by decl x) [])
+
+-- a client wrote a commit record
+pub record_added : (decl : Declaration) (h : List Entry) (i : ℕ) (x d : Entry) (cmp : CommitKey → CommitKey → Ordering) (keys after : List CommitKey) (k : CommitKey) (c : Commit)
+    → AreOrderedAlike cmp → i < length h → x ≡ get_or h i d → after ≡ insert_key cmp keys k → commit_of k ≡ c → commit_by decl x ≡ Some c
+    → map commit_of keys ≡ committed decl (take i h) → map commit_of after ≡ committed decl (take (i + 1) h)
+record_added decl h i x d cmp keys after k c alike l e added key is known =
+    ap (map commit_of) added
+    ∙ key_added cmp alike k keys
+    ∙ ap (with_commit (map commit_of keys)) key
+    ∙ ap (λ (cs : List Commit). with_commit cs c) known
+    ∙ ap (λ (o : Option Commit). fold with_commit (committed decl (take i h)) (cons_option o [])) (sym is)
+    ∙ sym (committed_more decl h i x d l e)
+
+-- another step
+pub nothing_added : (decl : Declaration) (h : List Entry) (i : ℕ) (x d : Entry) (keys : List CommitKey) → i < length h → x ≡ get_or h i d → commit_by decl x ≡ None
+    → map commit_of keys ≡ committed decl (take i h) → map commit_of keys ≡ committed decl (take (i + 1) h)
+nothing_added decl h i x d keys l e is known =
+    known
+    ∙ ap (λ (o : Option Commit). fold with_commit (committed decl (take i h)) (cons_option o [])) (sym is)
+    ∙ sym (committed_more decl h i x d l e)
