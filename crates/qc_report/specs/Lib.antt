@@ -6,3 +6,6 @@ pub mod Committed
 pub mod Keys
 pub mod LogText
 pub mod Replay
+pub mod Letters
+pub mod Sites
+pub mod Text

@@ -10,6 +10,10 @@ mod parts;
 mod queues;
 mod replay;
 mod replies;
+mod report;
+mod sites;
 mod states;
+mod walk;
 
 pub use cause::{Cause, What, cause_text};
+pub use report::text;

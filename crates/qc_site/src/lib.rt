@@ -7,6 +7,7 @@
 //! lost. `handle` is the whole conduct: one message, one turn.
 #![tactic(auto)]
 
+mod counts;
 mod decision;
 mod held;
 mod laws;
