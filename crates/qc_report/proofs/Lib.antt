@@ -5,3 +5,4 @@ pub mod Asked
 pub mod Keys
 pub mod Missing
 pub mod Sections
+pub mod Along

@@ -35,3 +35,10 @@ numbered_more line n page page' start p e =
 -- a section's head, and then its lines
 pub section : (old head lines page page' : List ℕ) → page ≡ old ++ head → page' ≡ page ++ lines → page' ≡ old ++ (head ++ lines)
 section old head lines page page' h e = e ∙ ap (λ k. k ++ lines) h ∙ append_assoc old head lines
+
+-- four sections on an empty page
+pub sections : (p₀ p₁ p₂ p₃ p₄ a b c d : List ℕ) → p₀ ≡ [] → p₁ ≡ p₀ ++ a → p₂ ≡ p₁ ++ b → p₃ ≡ p₂ ++ c → p₄ ≡ p₃ ++ d → p₄ ≡ a ++ (b ++ (c ++ d))
+sections p₀ p₁ p₂ p₃ p₄ a b c d e₀ e₁ e₂ e₃ e₄ =
+    section p₁ (b ++ c) d p₃ p₄ (section p₁ b c p₂ p₃ e₂ e₃) e₄
+    ∙ ap (λ p. p ++ ((b ++ c) ++ d)) (e₁ ∙ ap (λ p. p ++ a) e₀)
+    ∙ ap (λ p. a ++ p) (append_assoc b c d)

@@ -1,11 +1,9 @@
 //! A site's state, read off a history: each message that it took is looked up
 //! by its number, and given to the site as it was then.
 
-ghost use Rattle.std.specs.Prelude.{◌≡◌, OnOk, IfOk, MatchOption, Some, None, map, fold};
-ghost use Rattle.qc_msg.specs.Mail.{deed_at, envelope_of};
-ghost use Rattle.qc_site.specs.Site.{moved, no_turn};
-ghost use Rattle.qc_site.specs.Conduct.{site_does};
-ghost use Rattle.qc_report.specs.Letters.{envelope_in};
+ghost use Rattle.std.specs.Prelude.{◌≡◌, OnOk, IfOk, MatchOption, Some, None, ◌++◌, map, option_to_list};
+ghost use Rattle.qc_msg.specs.Mail.{envelope_of};
+ghost use Rattle.qc_report.specs.Letters.{envelope_in, site_taking, site_step};
 ghost use Rattle.qc_report.specs.Sites.{site_in};
 
 use qc_decl::Declaration;
@@ -35,14 +33,20 @@ pub(crate) fn site_in(
     let mut site = Site::new(alloc, number)?;
     let mut sent = Vec::new(alloc);
     'entries: for entry in entries {
-        if entry.actor == number {
-            take_step(alloc, decl, &mut site, &sent, &entry.step)?;
-        }
-        if let Some(letter) = letter_of(entry) {
-            sent.push(letter)?;
-        }
+        take_entry(alloc, decl, &mut site, &sent, number, entry)?;
+        add_letter(&mut sent, entry)?;
     }
     Ok(site)
+}
+
+/// Adds the message that an entry sends, if it sends one.
+fn add_letter<'a>(sent: &mut Vec<Letter<'a>>, entry: &'a Entry) -> Result<(), OutOfMemory>
+    ensures { OnOk result (map envelope_in sent.new.items ≡ map envelope_in sent.old.items ++ option_to_list (envelope_of entry.now)) }
+{
+    if let Some(letter) = letter_of(entry) {
+        sent.push(letter)?;
+    }
+    Ok(())
 }
 
 /// The message that an entry sends.
@@ -64,6 +68,23 @@ fn letter_of(entry: &Entry) -> Option<Letter<'_>>
     }
 }
 
+/// Takes an entry, where it is one of the site with this number.
+fn take_entry(
+    alloc: Global,
+    decl: &Declaration,
+    site: &mut Site,
+    sent: &[Letter<'_>],
+    number: u8,
+    entry: &Entry,
+) -> Result<(), OutOfMemory>
+    ensures { OnOk result (site.new ≡ site_step number (map envelope_in sent.now) site.old entry.now) }
+{
+    if entry.actor == number {
+        take_step(alloc, decl, site, sent, &entry.step)?;
+    }
+    Ok(())
+}
+
 /// Takes a step of the site: where it is the take of a message that was sent,
 /// the site handles the message.
 fn take_step(
@@ -73,7 +94,7 @@ fn take_step(
     sent: &[Letter<'_>],
     step: &Step,
 ) -> Result<(), OutOfMemory>
-    ensures { OnOk result (site.new ≡ (fold site_does (moved site.old no_turn) (deed_at (map envelope_in sent.now) step.now)).site) }
+    ensures { OnOk result (site.new ≡ site_taking (map envelope_in sent.now) site.old step.now) }
 {
     let Step::Got(number) = step else {
         return Ok(());
