@@ -1,0 +1,4 @@
+pub mod Within
+pub mod Entries
+pub mod Holding
+pub mod Lines

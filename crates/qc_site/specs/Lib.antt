@@ -2,3 +2,4 @@ pub mod Held
 pub mod Site
 pub mod Conduct
 pub mod Within
+pub mod Laws

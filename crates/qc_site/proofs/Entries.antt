@@ -1,0 +1,120 @@
+-- The entries of what is held, by transaction.
+use Rattle.std.proofs.Common.{◌≡◌, ◌==◌, ◌&&◌, not, Bool, true, false, cond, List, [], ◌∷◌, filter, Option, Some, None, unwrap_or, refl, sym, ap, subst}
+use Rattle.std.specs.List.{find}
+use Rattle.std.proofs.lemmas.Bool.{eq-eqb, eqb-true}
+use Rattle.qc_stamp.specs.declared.stamp.TxId.{TxId}
+use Rattle.qc_site.specs.declared.held.Held.{Held}
+use Rattle.qc_site.specs.Held.{same_tx, entry_of, held_of, with_entry, without_held}
+use Rattle.qc_site.specs.Laws.{IsApart, IsSingle}
+
+-- the test of names
+
+and_first : (x y : Bool) → (x && y) ≡ true → x ≡ true
+and_first true y h = refl
+and_first false y h = h
+
+and_second : (x y : Bool) → (x && y) ≡ true → y ≡ true
+and_second true y h = h
+and_second false y h = absurd (let never : ⊥ = cc in never)
+
+pub same_self : (tx : TxId) → same_tx tx tx ≡ true
+same_self tx =
+    let client : (tx.client == tx.client) ≡ true = eq-eqb tx.client tx.client refl in
+    let life : (tx.life == tx.life) ≡ true = eq-eqb tx.life tx.life refl in
+    let number : (tx.number == tx.number) ≡ true = eq-eqb tx.number tx.number refl in
+    rw (client, life, number) refl
+
+pub tx_apart : (a b : TxId) → same_tx a b ≡ true → a ≡ b
+tx_apart a b h =
+    let rest : ((a.life == b.life) && (a.number == b.number)) ≡ true = and_second (a.client == b.client) _ h in
+    let client : a.client ≡ b.client = eqb-true a.client b.client (and_first (a.client == b.client) _ h) in
+    let life : a.life ≡ b.life = eqb-true a.life b.life (and_first (a.life == b.life) (a.number == b.number) rest) in
+    let number : a.number ≡ b.number = eqb-true a.number b.number (and_second (a.life == b.life) (a.number == b.number) rest) in
+    λ i. record { client = client i; life = life i; number = number i }
+
+pub apart_sym : (a b : TxId) → same_tx a b ≡ false → same_tx b a ≡ false
+apart_sym a b h = by (same_tx b a) refl where
+  by : (t : Bool) → same_tx b a ≡ t → t ≡ false
+  by true is =
+      let same : same_tx a b ≡ true = subst (λ u. same_tx a u ≡ true) (sym (tx_apart b a is)) (same_self a) in
+      absurd (let never : ⊥ = cc in never)
+  by false is = refl
+
+-- none that passes a test is left where those that pass it are left out
+pub find-none : {A : Type 0} (p : A → Bool) (xs : List A) → find p (filter (λ x. not (p x)) xs) ≡ None
+find-none p [] = refl
+find-none {A = A} p (x ∷ xs) = by (p x) refl (find-none p xs) where
+  by : (t : Bool) → p x ≡ t → find p (filter (λ y. not (p y)) xs) ≡ None → find p (cond (not t) (x ∷ filter (λ y. not (p y)) xs) (filter (λ y. not (p y)) xs)) ≡ None
+  by true is rest = rest
+  by false is rest = rw is rest
+
+-- an entry that was put
+
+pub entry-put : (held : List Held) (e : Held) → entry_of (with_entry held e) e.tx ≡ Some e
+entry-put [] e = rw (same_self e.tx) refl
+entry-put (h ∷ hs) e = by (same_tx h.tx e.tx) refl (entry-put hs e) where
+  by : (t : Bool) → same_tx h.tx e.tx ≡ t → entry_of (with_entry hs e) e.tx ≡ Some e → entry_of (cond t (e ∷ hs) (h ∷ with_entry hs e)) e.tx ≡ Some e
+  by true is rest = rw (same_self e.tx) refl
+  by false is rest = rw is rest
+
+pub held-put : (held : List Held) (e : Held) → held_of (with_entry held e) e.tx ≡ e
+held-put held e = ap (λ (o : Option Held). unwrap_or o (record { tx = e.tx; locks = []; own = [] })) (entry-put held e)
+
+pub entry-put_other : (held : List Held) (e : Held) (tx : TxId) → same_tx e.tx tx ≡ false → entry_of (with_entry held e) tx ≡ entry_of held tx
+entry-put_other [] e tx other = rw other refl
+entry-put_other (h ∷ hs) e tx other = by (same_tx h.tx e.tx) refl (entry-put_other hs e tx other) where
+  by : (t : Bool) → same_tx h.tx e.tx ≡ t → entry_of (with_entry hs e) tx ≡ entry_of hs tx → entry_of (cond t (e ∷ hs) (h ∷ with_entry hs e)) tx ≡ entry_of (h ∷ hs) tx
+  by true is rest =
+      let same : same_tx h.tx tx ≡ false = subst (λ u. same_tx u tx ≡ false) (sym (tx_apart h.tx e.tx is)) other in
+      rw (other, same) refl
+  by false is rest = ap (λ (o : Option Held). cond (same_tx h.tx tx) (Some h) o) rest
+
+pub held-put_other : (held : List Held) (e : Held) (tx : TxId) → same_tx e.tx tx ≡ false → held_of (with_entry held e) tx ≡ held_of held tx
+held-put_other held e tx other = ap (λ (o : Option Held). unwrap_or o (record { tx = tx; locks = []; own = [] })) (entry-put_other held e tx other)
+
+-- entries that were left out
+
+pub entry-without : (held : List Held) (tx : TxId) → entry_of (without_held held tx) tx ≡ None
+entry-without held tx = find-none (λ (h : Held). same_tx h.tx tx) held
+
+pub entry-without_other : (held : List Held) (tx other : TxId) → same_tx tx other ≡ false → entry_of (without_held held tx) other ≡ entry_of held other
+entry-without_other [] tx other apart = refl
+entry-without_other (h ∷ hs) tx other apart = by (same_tx h.tx tx) refl (entry-without_other hs tx other apart) where
+  by : (t : Bool) → same_tx h.tx tx ≡ t → entry_of (without_held hs tx) other ≡ entry_of hs other → entry_of (cond (not t) (h ∷ without_held hs tx) (without_held hs tx)) other ≡ entry_of (h ∷ hs) other
+  by true is rest =
+      let same : same_tx h.tx other ≡ false = subst (λ u. same_tx u other ≡ false) (sym (tx_apart h.tx tx is)) apart in
+      rw same rest
+  by false is rest = ap (λ (o : Option Held). cond (same_tx h.tx other) (Some h) o) rest
+
+pub held-without_other : (held : List Held) (tx other : TxId) → same_tx tx other ≡ false → held_of (without_held held tx) other ≡ held_of held other
+held-without_other held tx other apart = ap (λ (o : Option Held). unwrap_or o (record { tx = other; locks = []; own = [] })) (entry-without_other held tx other apart)
+
+-- one entry for each transaction
+
+apart-put : (tx : TxId) (held : List Held) (e : Held) → same_tx e.tx tx ≡ false → IsApart tx held → IsApart tx (with_entry held e)
+apart-put tx [] e other apart = (other, tt)
+apart-put tx (h ∷ hs) e other apart = by (same_tx h.tx e.tx) (apart-put tx hs e other apart.1) where
+  by : (t : Bool) → IsApart tx (with_entry hs e) → IsApart tx (cond t (e ∷ hs) (h ∷ with_entry hs e))
+  by true rest = (other, apart.1)
+  by false rest = (apart.0, rest)
+
+pub single-put : (held : List Held) (e : Held) → IsSingle held → IsSingle (with_entry held e)
+single-put [] e single = (tt, tt)
+single-put (h ∷ hs) e single = by (same_tx h.tx e.tx) refl (single-put hs e single.1) where
+  by : (t : Bool) → same_tx h.tx e.tx ≡ t → IsSingle (with_entry hs e) → IsSingle (cond t (e ∷ hs) (h ∷ with_entry hs e))
+  by true is rest = (subst (λ u. IsApart u hs) (tx_apart h.tx e.tx is) single.0, single.1)
+  by false is rest = (apart-put h.tx hs e (apart_sym h.tx e.tx is) single.0, rest)
+
+apart-filter : (tx : TxId) (test : Held → Bool) (held : List Held) → IsApart tx held → IsApart tx (filter test held)
+apart-filter tx test [] apart = tt
+apart-filter tx test (h ∷ hs) apart = by (test h) (apart-filter tx test hs apart.1) where
+  by : (t : Bool) → IsApart tx (filter test hs) → IsApart tx (cond t (h ∷ filter test hs) (filter test hs))
+  by true rest = (apart.0, rest)
+  by false rest = rest
+
+pub single-filter : (test : Held → Bool) (held : List Held) → IsSingle held → IsSingle (filter test held)
+single-filter test [] single = tt
+single-filter test (h ∷ hs) single = by (test h) (single-filter test hs single.1) where
+  by : (t : Bool) → IsSingle (filter test hs) → IsSingle (cond t (h ∷ filter test hs) (filter test hs))
+  by true rest = (apart-filter h.tx test hs single.0, rest)
+  by false rest = rest
