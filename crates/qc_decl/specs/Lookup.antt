@@ -1,5 +1,5 @@
 -- What a declaration says of an object.
-use Rattle.std.specs.Prelude.{ℕ, zero, suc, Option, Some, None, List, slice_get, option_map, option_and_then}
+use Rattle.std.specs.Prelude.{ℕ, ◌==◌, ◌-◌, cond, Option, Some, None, List, slice_get, option_map, option_and_then}
 use Rattle.std.specs.Option.{option_map_or}
 use Rattle.qc_decl.specs.declared.declaration.Kind.{Kind}
 use Rattle.qc_decl.specs.declared.declaration.Declaration.{Declaration}
@@ -13,8 +13,7 @@ table_at decl object = option_and_then (λ kind. option_map (λ (k : Kind). k.ta
 
 -- the plan of an epoch, from epoch 1
 abbrev pub plan_in : Declaration → ℕ → Option Plan
-plan_in decl zero = None
-plan_in decl (suc k) = slice_get decl.plans k
+plan_in decl epoch = cond (epoch == 0) None (slice_get decl.plans (epoch - 1))
 
 -- the weight that a read round needs in an epoch
 abbrev pub read_need_of : Declaration → ℕ → ℕ → ℕ → ℕ

@@ -8,6 +8,4 @@
 
 mod declaration;
 
-pub use declaration::{
-    Declaration, Kind, KindNames, KindNamesList, Kinds, Names, Objects, Plans,
-};
+pub use declaration::{Declaration, Kind, KindNames, KindNamesList, Kinds, Names, Objects, Plans};

@@ -1,6 +1,7 @@
 -- What the calls of a log give.
-use Rattle.std.specs.Prelude.{◌≡◌, ◌↔◌, ◌⊎◌, ℕ, List, [], ◌∷◌, ◌==◌, filter}
-use Rattle.std.specs.Ordering.{is_lt}
+use Rattle.std.specs.Prelude.{◌≡◌, ◌↔◌, ◌⊎◌, ℕ, Bool, List, [], ◌∷◌, ◌==◌, filter, not}
+use Rattle.std.specs.List.{list_any}
+use Rattle.std.specs.Ordering.{is_eq, is_lt}
 use Rattle.std.specs.declared.cmp.Ordering.{Ordering}
 use Rattle.std.specs.declared.cmp.Ordering.TheVariants.{Less, Equal, Greater}
 use Rattle.qc_entry.specs.declared.line.Line.{Line}
@@ -31,6 +32,14 @@ of_object lines object = filter (λ l. l.object == object) lines
 -- the lines with a greater stamp
 abbrev pub since_stamp : List Line → Stamp → List Line
 since_stamp lines stamp = filter (λ l. is_lt (stamp_cmp stamp l.stamp)) lines
+
+-- whether the line is among the lines
+abbrev pub has_line : List Line → Line → Bool
+has_line lines line = list_any (λ l. is_eq (line_cmp l line)) lines
+
+-- the lines of the first list that aren't among the second
+abbrev pub without : List Line → List Line → List Line
+without lines others = filter (λ l. not (has_line others l)) lines
 
 -- membership, by recursion
 abbrev pub In : Line → List Line → Type 0

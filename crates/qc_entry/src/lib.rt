@@ -6,10 +6,16 @@
 //! there, its object and its event (Herlihy 1986).
 #![tactic(auto)]
 
+mod laws;
 mod line;
 mod log;
 mod record;
+mod slices;
 
+pub use laws::{lines_are_ordered, union_is_a_union};
 pub use line::{Line, Op, Ops, OwnLine, Owns, ReadLock, Reads};
 pub use log::Log;
 pub use record::{Commit, Prepared};
+
+#[cfg(test)]
+mod tests;

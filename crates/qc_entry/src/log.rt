@@ -1,9 +1,11 @@
 //! Logs: sorted lists of distinct lines.
 
 ghost use Rattle.std.specs.Prelude.{◌≡◌, ◌∷◌, [], OnOk, OnErr, IfOk};
-ghost use Rattle.qc_entry.specs.Log.{union, of_object, since_stamp};
+ghost use Rattle.qc_entry.specs.Line.{IsAscending};
+ghost use Rattle.qc_entry.specs.Log.{union, of_object, since_stamp, without};
 
 use crate::Line;
+use crate::slices::{all_before, later, merged, of_one, rest_of};
 use qc_list::OutOfMemory;
 use qc_stamp::Stamp;
 use std::alloc::Global;
@@ -40,7 +42,8 @@ impl Log {
 
     /// The lines, in order.
     pub fn lines(&self) -> &[Line]
-        ensures { result.now ≡ self.now }
+        ensures value { result.now ≡ self.now }
+        ensures ascending { IsAscending self.now }
     {
         self.lines.as_slice()
     }
@@ -51,6 +54,72 @@ impl Log {
     {
         Ok(Log {
             lines: Vec::from_slice(*self.lines.allocator(), self.lines.as_slice())?,
+        })
+    }
+
+    /// Adds the lines of another log, each once. After want of memory the log
+    /// is as it was.
+    pub fn merge(&mut self, other: &Log) -> Result<(), OutOfMemory>
+        ensures ok { OnOk result (self.new ≡ union self.old other.now) }
+        ensures err { OnErr result (self.new ≡ self.old) }
+    {
+        self.join(other.lines())
+    }
+
+    /// Adds a line, unless the log has it. After want of memory the log is as
+    /// it was.
+    pub fn add(&mut self, line: Line) -> Result<(), OutOfMemory>
+        ensures ok { OnOk result (self.new ≡ union self.old (line ∷ [])) }
+        ensures err { OnErr result (self.new ≡ self.old) }
+    {
+        self.join(&[line])
+    }
+
+    /// Adds sorted lines: at the end where they come after all others.
+    fn join(&mut self, lines: &[Line]) -> Result<(), OutOfMemory>
+        requires { IsAscending lines.now }
+        ensures ok { OnOk result (self.new ≡ union self.old lines.now) }
+        ensures err { OnErr result (self.new ≡ self.old) }
+    {
+        let Some(first) = lines.first() else {
+            return Ok(());
+        };
+        if all_before(self.lines.as_slice(), first) {
+            self.lines.extend_from_slice(lines)?;
+        } else {
+            self.lines = merged(*self.lines.allocator(), self.lines.as_slice(), lines)?;
+        }
+        Ok(())
+    }
+
+    /// The lines with a stamp greater than this one.
+    pub fn since(&self, stamp: Stamp) -> Result<Log, OutOfMemory>
+        ensures { IfOk result (λ l. l ≡ since_stamp self.now stamp) }
+    {
+        Ok(Log {
+            lines: later(*self.lines.allocator(), self.lines.as_slice(), stamp)?,
+        })
+    }
+
+    /// The lines of one object.
+    pub fn of(&self, object: u8) -> Result<Log, OutOfMemory>
+        ensures { IfOk result (λ l. l ≡ of_object self.now object) }
+    {
+        Ok(Log {
+            lines: of_one(*self.lines.allocator(), self.lines.as_slice(), object)?,
+        })
+    }
+
+    /// The lines that aren't in the other log.
+    pub fn without(&self, other: &Log) -> Result<Log, OutOfMemory>
+        ensures { IfOk result (λ l. l ≡ without self.now other.now) }
+    {
+        Ok(Log {
+            lines: rest_of(
+                *self.lines.allocator(),
+                self.lines.as_slice(),
+                other.lines(),
+            )?,
         })
     }
 }

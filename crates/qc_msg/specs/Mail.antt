@@ -1,5 +1,5 @@
 -- The messages of a history, and what an actor does in it.
-use Rattle.std.specs.Prelude.{ℕ, ◌+◌, ◌==◌, List, [], ◌∷◌, ◌++◌, Option, Some, None, cond, slice_get, option_to_list}
+use Rattle.std.specs.Prelude.{◌≡◌, ℕ, ◌+◌, ◌==◌, List, [], ◌∷◌, ◌++◌, filter, Option, Some, None, cond, slice_get, option_to_list}
 use Rattle.std.specs.List.{filter_map}
 use Rattle.qc_msg.specs.declared.message.Envelope.{Envelope}
 use Rattle.qc_msg.specs.declared.step.Command.{Command}
@@ -58,3 +58,22 @@ deed_of a (given.Got from number message) = Hears (record { number = number; fro
 abbrev pub sendings : ℕ → List Posting → List Deed
 sendings n [] = []
 sendings n (p ∷ ps) = Sends n ∷ sendings (n + 1) ps
+
+-- the messages that go to an actor
+abbrev pub addressed : ℕ → List Envelope → List Envelope
+addressed to es = filter (λ e. e.to == to) es
+
+-- each of these messages was sent under its number
+abbrev pub AllSent : List Envelope → List Envelope → Type 0
+AllSent ms [] = Unit {0}
+AllSent ms (e ∷ es) = (slice_get ms e.number ≡ Some e) × AllSent ms es
+
+-- each of these messages goes to actor a
+abbrev pub AllTo : ℕ → List Envelope → Type 0
+AllTo a [] = Unit {0}
+AllTo a (e ∷ es) = (e.to ≡ a) × AllTo a es
+
+-- where the input is a message, it is the one that was sent to actor a under its number
+abbrev pub WasSentTo : ℕ → List Envelope → Given → Type 0
+WasSentTo a ms (given.Called command) = Unit {0}
+WasSentTo a ms (given.Got from number message) = slice_get ms number ≡ Some (record { number = number; from = from; to = a; message = message })

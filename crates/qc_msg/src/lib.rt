@@ -10,7 +10,10 @@
 
 mod history;
 mod message;
+mod post;
 mod step;
+#[cfg(test)]
+mod tests;
 
 pub use history::History;
 pub use message::{Envelope, Message, Outcome};

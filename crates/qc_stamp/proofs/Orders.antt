@@ -1,9 +1,8 @@
 -- The orders of stamps and transactions are total, and Equal only at one value.
 use Rattle.std.proofs.Common.{◌≡◌, ℕ, refl, arith}
 use Rattle.std.proofs.lemmas.Bool.Decides.{nat_tests}
-use Rattle.std.specs.Cmp.{IsTotalOrder}
 use Rattle.std.proofs.lemmas.Cmp.{then_total, on_total, nat_cmp_total}
-use Rattle.std.specs.Ordering.{nat_cmp, on, then_cmp, ordering_then}
+use Rattle.std.specs.Ordering.{nat_cmp, ordering_then}
 use Rattle.std.specs.declared.cmp.Ordering.{Ordering}
 use Rattle.std.specs.declared.cmp.Ordering.TheVariants.{Less, Equal, Greater}
 use Rattle.qc_stamp.specs.declared.stamp.Stamp.{Stamp}

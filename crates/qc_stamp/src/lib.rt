@@ -12,3 +12,6 @@ mod stamp;
 pub use clock::Clock;
 pub use laws::{stamps_are_ordered, transactions_are_ordered};
 pub use stamp::{Stamp, TxId};
+
+#[cfg(test)]
+mod tests;

@@ -1,0 +1,6 @@
+pub mod Orders
+pub mod Every
+pub mod Union
+pub mod Without
+pub mod Members
+pub mod Walks

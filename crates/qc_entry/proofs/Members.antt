@@ -1,0 +1,159 @@
+-- Ascending lists are settled by their members: filters, unions and differences.
+use Rattle.std.proofs.Common.{◌≡◌, ◌⊎◌, ◌↔◌, inl, inr, List, [], ◌∷◌, Bool, true, false, cond, refl, sym, ap, ◌∙◌, subst}
+use Rattle.std.proofs.lemmas.Cmp.{tied_itself}
+use Rattle.std.specs.List.{filter}
+use Rattle.std.specs.Ordering.{is_eq}
+use Rattle.std.specs.Prelude.{not, ◌||◌}
+use Rattle.std.specs.declared.cmp.Ordering.{Ordering}
+use Rattle.std.specs.declared.cmp.Ordering.TheVariants.{Less, Equal, Greater}
+use Rattle.qc_entry.specs.declared.line.Line.{Line}
+use Rattle.qc_entry.specs.Line.{line_cmp, IsBelowAll, IsAscending}
+use Rattle.qc_entry.specs.Log.{In, union, by_order, without, has_line}
+use Rattle.qc_entry.proofs.Orders.{line_order}
+use Rattle.qc_entry.proofs.Every.{every-In, ascending-filter}
+use Rattle.qc_entry.proofs.Union.{in_first, in_second, in_either, ascending-union}
+
+-- a filter's lines are those of the list that pass the test
+pub kept : (test : Line → Bool) (l : Line) (xs : List Line) → In l xs → test l ≡ true → In l (filter test xs)
+kept test l [] member passes = absurd member
+kept test l (x ∷ xs) member passes = by (test x) refl (λ in_xs. kept test l xs in_xs passes) member where
+  by : (b : Bool) → test x ≡ b → (In l xs → In l (filter test xs)) → In l (x ∷ xs) → In l (cond b (x ∷ filter test xs) (filter test xs))
+  by true is rest (inl same) = inl same
+  by true is rest (inr in_xs) = inr (rest in_xs)
+  by false is rest (inl same) = absurd (let never : ⊥ = cc (passes, is, ap test same) in never)
+  by false is rest (inr in_xs) = rest in_xs
+
+pub was_in : (test : Line → Bool) (l : Line) (xs : List Line) → In l (filter test xs) → In l xs
+was_in test l [] member = member
+was_in test l (x ∷ xs) member = by (test x) (was_in test l xs) member where
+  by : (b : Bool) → (In l (filter test xs) → In l xs) → In l (cond b (x ∷ filter test xs) (filter test xs)) → In l (x ∷ xs)
+  by true rest (inl same) = inl same
+  by true rest (inr later) = inr (rest later)
+  by false rest later = inr (rest later)
+
+pub passed : (test : Line → Bool) (l : Line) (xs : List Line) → In l (filter test xs) → test l ≡ true
+passed test l [] member = absurd member
+passed test l (x ∷ xs) member = by (test x) refl (passed test l xs) member where
+  by : (b : Bool) → test x ≡ b → (In l (filter test xs) → test l ≡ true) → In l (cond b (x ∷ filter test xs) (filter test xs)) → test l ≡ true
+  by true is rest (inl same) = ap test same ∙ is
+  by true is rest (inr later) = rest later
+  by false is rest later = rest later
+
+pub In-filter : (test : Line → Bool) (l : Line) (xs : List Line) → In l (filter test xs) ↔ (In l xs × (test l ≡ true))
+In-filter test l xs = (λ member. (was_in test l xs member, passed test l xs member), λ both. kept test l xs both.0 both.1)
+
+-- no line is below itself
+pub not_below : (l : Line) → line_cmp l l ≡ Less → ⊥
+not_below l less = let tied : line_cmp l l ≡ Equal = tied_itself line_order.total l in let never : ⊥ = cc (less, tied) in never
+
+-- a line that is below all lines of a list is not one of them
+pub not_among : (x : Line) (xs : List Line) → IsBelowAll x xs → In x xs → ⊥
+not_among x xs low member = not_below x (every-In (λ y. line_cmp x y ≡ Less) x xs low member)
+
+first_same : (x : Line) (xs : List Line) (y : Line) (ys : List Line) → IsAscending (x ∷ xs) → IsAscending (y ∷ ys) → In x (y ∷ ys) → In y (x ∷ xs) → x ≡ y
+first_same x xs y ys a b (inl same) there = same
+first_same x xs y ys a b (inr here) (inl same) = sym same
+first_same x xs y ys a b (inr here) (inr there) =
+    let less : line_cmp y x ≡ Less = every-In (λ z. line_cmp y z ≡ Less) x ys b.0 here in
+    let more : line_cmp x y ≡ Less = every-In (λ z. line_cmp x z ≡ Less) y xs a.0 there in
+    absurd (not_below x (line_order.total.trans x y x more less))
+
+-- a line behind the first of one list is behind the first, if that is the same, of the other
+behind : (x : Line) (xs : List Line) (y : Line) (ys : List Line) → x ≡ y → IsBelowAll x xs → (l : Line) → In l xs → In l (y ∷ ys) → In l ys
+behind x xs y ys heads low l member (inr later) = later
+behind x xs y ys heads low l member (inl same) =
+    absurd (not_among x xs low (subst (λ z. In z xs) (same ∙ sym heads) member))
+
+-- two ascending lists with the same lines are the same
+pub ascending-same : (xs ys : List Line) → IsAscending xs → IsAscending ys → ((l : Line) → In l xs → In l ys) → ((l : Line) → In l ys → In l xs) → xs ≡ ys
+ascending-same [] [] a b to from = refl
+ascending-same [] (y ∷ ys) a b to from = absurd (from y (inl refl))
+ascending-same (x ∷ xs) [] a b to from = absurd (to x (inl refl))
+ascending-same (x ∷ xs) (y ∷ ys) a b to from =
+    let heads : x ≡ y = first_same x xs y ys a b (to x (inl refl)) (from y (inl refl)) in
+    let tails : xs ≡ ys =
+    ascending-same xs ys a.1 b.1
+    (λ l member. behind x xs y ys heads a.0 l member (to l (inr member)))
+    (λ l member. behind y ys x xs (sym heads) b.0 l member (from l (inr member))) in
+    ap (λ z. z ∷ xs) heads ∙ ap (λ zs. y ∷ zs) tails
+
+-- a list with itself gives itself
+pub union-self : (xs : List Line) → union xs xs ≡ xs
+union-self [] = refl
+union-self (x ∷ xs) =
+    ap (λ order. by_order order (x ∷ union xs (x ∷ xs)) (x ∷ union xs xs) (x ∷ union (x ∷ xs) xs)) (tied_itself line_order.total x) ∙ ap (λ zs. x ∷ zs) (union-self xs)
+
+swapped : {A B : Type 0} → A ⊎ B → B ⊎ A
+swapped (inl a) = inr a
+swapped (inr b) = inl b
+
+in_union : (l : Line) (xs ys : List Line) → In l xs ⊎ In l ys → In l (union xs ys)
+in_union l xs ys (inl member) = in_first l xs ys member
+in_union l xs ys (inr member) = in_second l xs ys member
+
+-- the order of the lists doesn't matter
+pub union-commutes : (xs ys : List Line) → IsAscending xs → IsAscending ys → union xs ys ≡ union ys xs
+union-commutes xs ys a b =
+    ascending-same (union xs ys) (union ys xs) (ascending-union xs ys a b) (ascending-union ys xs b a)
+    (λ l member. in_union l ys xs (swapped (in_either l xs ys member)))
+    (λ l member. in_union l xs ys (swapped (in_either l ys xs member)))
+
+-- lines that the list has add nothing
+pub union-absorbs : (xs ys : List Line) → IsAscending xs → IsAscending ys → ((l : Line) → In l ys → In l xs) → union xs ys ≡ xs
+union-absorbs xs ys a b within =
+    ascending-same (union xs ys) xs (ascending-union xs ys a b) a
+    (λ l member. either l (in_either l xs ys member))
+    (λ l member. in_first l xs ys member) where
+      either : (l : Line) → In l xs ⊎ In l ys → In l xs
+      either l (inl member) = member
+      either l (inr member) = within l member
+
+-- the filter of a union is the union of the filters
+pub filter-union : (test : Line → Bool) (xs ys : List Line) → IsAscending xs → IsAscending ys → filter test (union xs ys) ≡ union (filter test xs) (filter test ys)
+filter-union test xs ys a b =
+    ascending-same (filter test (union xs ys)) (union (filter test xs) (filter test ys))
+    (ascending-filter test (union xs ys) (ascending-union xs ys a b))
+    (ascending-union (filter test xs) (filter test ys) (ascending-filter test xs a) (ascending-filter test ys b))
+    (λ l member. in_union l (filter test xs) (filter test ys) (there l (passed test l (union xs ys) member) (in_either l xs ys (was_in test l (union xs ys) member))))
+    (λ l member. back l (in_either l (filter test xs) (filter test ys) member)) where
+      there : (l : Line) → test l ≡ true → In l xs ⊎ In l ys → In l (filter test xs) ⊎ In l (filter test ys)
+      there l passes (inl member) = inl (kept test l xs member passes)
+      there l passes (inr member) = inr (kept test l ys member passes)
+
+      back : (l : Line) → In l (filter test xs) ⊎ In l (filter test ys) → In l (filter test (union xs ys))
+      back l (inl member) = kept test l (union xs ys) (in_first l xs ys (was_in test l xs member)) (passed test l xs member)
+      back l (inr member) = kept test l (union xs ys) (in_second l xs ys (was_in test l ys member)) (passed test l ys member)
+
+-- the test for a member tells of members
+pub has-In : (ys : List Line) (l : Line) → In l ys → has_line ys l ≡ true
+has-In [] l member = absurd member
+has-In (y ∷ ys) l (inl same) =
+    let tied : line_cmp y l ≡ Equal = subst (λ z. line_cmp z l ≡ Equal) same (tied_itself line_order.total l) in
+    ap (λ order. is_eq order || has_line ys l) tied
+has-In (y ∷ ys) l (inr member) =
+    rw (has-In ys l member) (either (is_eq (line_cmp y l))) where
+      either : (b : Bool) → (b || true) ≡ true
+      either true = refl
+      either false = refl
+
+pub In-has : (ys : List Line) (l : Line) → has_line ys l ≡ true → In l ys
+In-has [] l has = absurd (let never : ⊥ = cc in never)
+In-has (y ∷ ys) l has = by (line_cmp y l) refl (In-has ys l) has where
+  by : (order : Ordering) → line_cmp y l ≡ order → (has_line ys l ≡ true → In l ys) → (is_eq order || has_line ys l) ≡ true → In l (y ∷ ys)
+  by Less is rest has = inr (rest has)
+  by Equal is rest has = inl (sym (line_order.apart y l is))
+  by Greater is rest has = inr (rest has)
+
+-- a difference's lines are those of the first list that the second lacks
+pub In-without : (l : Line) (xs ys : List Line) → In l (without xs ys) ↔ (In l xs × ¬ In l ys)
+In-without l xs ys = (λ member. (was_in test l xs member, λ other. refused (has_line ys l) (passed test l xs member) (has-In ys l other)), λ both. kept test l xs both.0 (lacked (has_line ys l) refl both.1)) where
+  test : Line → Bool
+  test k = not (has_line ys k)
+
+  refused : (b : Bool) → not b ≡ true → b ≡ true → ⊥
+  refused true fails is = let never : ⊥ = cc in never
+  refused false fails is = let never : ⊥ = cc in never
+
+  lacked : (b : Bool) → has_line ys l ≡ b → (In l ys → ⊥) → not b ≡ true
+  lacked true is none = absurd (none (In-has ys l is))
+  lacked false is none = refl

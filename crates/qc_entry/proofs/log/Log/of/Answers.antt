@@ -1,0 +1,5 @@
+use Rattle.qc_entry.proofs.Every.{ascending-filter}
+use Rattle.qc_entry.proofs.log.Log.of.Goals as goal
+
+pub invariant_of-result : goal.invariant_of-result
+invariant_of-result c = rw (c.in_ok-of_one.ensures, c.as_slice.ensures.value) (ascending-filter _ _ c.self.invariant)

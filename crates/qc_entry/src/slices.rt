@@ -1,0 +1,103 @@
+//! Work on slices of lines, each linear in their lengths.
+
+ghost use Rattle.std.specs.Prelude.{◌≡◌, ℕ, IfOk, IsTrue};
+ghost use Rattle.std.specs.List.{AllByRecursion};
+ghost use Rattle.std.specs.declared.cmp.Ordering.TheVariants.{Less};
+ghost use Rattle.qc_entry.specs.Line.{line_cmp, IsAscending};
+ghost use Rattle.qc_entry.specs.Log.{union, of_object, since_stamp, without};
+
+use crate::Line;
+use qc_list::OutOfMemory;
+use qc_stamp::Stamp;
+use std::alloc::Global;
+use std::cmp::Ordering;
+
+/// The lines of two sorted slices in order, each once.
+pub(crate) fn merged(alloc: Global, a: &[Line], b: &[Line]) -> Result<Vec<Line>, OutOfMemory>
+    ensures { IfOk result (λ v. v.items ≡ union a.now b.now) }
+{
+    let mut out = Vec::new(alloc);
+    let mut i = 0;
+    let mut j = 0;
+    'lines: while i < a.len() && j < b.len() {
+        match a[i].compare(&b[j]) {
+            Ordering::Less => {
+                out.push(a[i])?;
+                i += 1;
+            }
+            Ordering::Equal => {
+                out.push(a[i])?;
+                i += 1;
+                j += 1;
+            }
+            Ordering::Greater => {
+                out.push(b[j])?;
+                j += 1;
+            }
+        }
+    }
+    out.extend_from_slice(&a[i..])?;
+    out.extend_from_slice(&b[j..])?;
+    Ok(out)
+}
+
+/// The lines of the first sorted slice that aren't in the second.
+pub(crate) fn rest_of(alloc: Global, a: &[Line], b: &[Line]) -> Result<Vec<Line>, OutOfMemory>
+    requires first { IsAscending a.now }
+    requires second { IsAscending b.now }
+    ensures { IfOk result (λ v. v.items ≡ without a.now b.now) }
+{
+    let mut out = Vec::new(alloc);
+    let mut i = 0;
+    let mut j = 0;
+    'lines: while i < a.len() && j < b.len() {
+        match a[i].compare(&b[j]) {
+            Ordering::Less => {
+                out.push(a[i])?;
+                i += 1;
+            }
+            Ordering::Equal => {
+                i += 1;
+                j += 1;
+            }
+            Ordering::Greater => {
+                j += 1;
+            }
+        }
+    }
+    out.extend_from_slice(&a[i..])?;
+    Ok(out)
+}
+
+/// The lines with a greater stamp.
+pub(crate) fn later(alloc: Global, lines: &[Line], stamp: Stamp) -> Result<Vec<Line>, OutOfMemory>
+    ensures { IfOk result (λ v. v.items ≡ since_stamp lines.now stamp) }
+{
+    lines
+        .iter()
+        .filter(|l| stamp.compare(&l.stamp).is_lt())
+        .copied()
+        .collect(alloc)
+}
+
+/// The lines of one object.
+pub(crate) fn of_one(alloc: Global, lines: &[Line], object: u8) -> Result<Vec<Line>, OutOfMemory>
+    ensures { IfOk result (λ v. v.items ≡ of_object lines.now object) }
+{
+    lines
+        .iter()
+        .filter(|l| l.object == object)
+        .copied()
+        .collect(alloc)
+}
+
+/// Whether each of the sorted lines comes before another line.
+pub(crate) fn all_before(lines: &[Line], line: &Line) -> bool
+    requires { IsAscending lines.now }
+    ensures { IsTrue result → AllByRecursion (λ l. line_cmp l line.now ≡ Less) lines.now }
+{
+    match lines.last() {
+        None => true,
+        Some(last) => last.compare(line).is_lt(),
+    }
+}

@@ -1,0 +1,19 @@
+//! A gate that a worker passes between taking an input and posting its turn.
+
+use std::sync::Wait;
+use std::thread::Threads;
+
+/// Lets a test hold workers back, so that it can choose how they interleave.
+pub trait Gate: Sync {
+    /// Called by a worker that has taken an input for `actor` when the history
+    /// had `taken` steps, and has not posted yet. It may wait.
+    fn at<T: Threads + Wait + Sync>(&self, rt: &T, actor: u8, taken: u64);
+}
+
+/// The gate that holds nobody back, which the program uses.
+#[derive(Clone, Copy, Debug)]
+pub struct OpenGate;
+
+impl Gate for OpenGate {
+    fn at<T: Threads + Wait + Sync>(&self, _rt: &T, _actor: u8, _taken: u64) {}
+}

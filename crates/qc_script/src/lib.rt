@@ -1,0 +1,16 @@
+//! Scripts, and the runs of a script.
+//!
+//! A script is phases of commands. The crate has its grammar, a reader that
+//! gives exactly what the grammar does, and in `specs/` what is ready for an
+//! actor after a history and which histories are runs. A run is defined once,
+//! over any conduct of the actors.
+#![tactic(auto)]
+
+mod form;
+mod laws;
+mod reader;
+mod script;
+
+pub use laws::scripts_ask_the_client;
+pub use reader::read;
+pub use script::{CommandLine, CommandLines, PhaseLines, PhaseList, Script, ScriptFault};

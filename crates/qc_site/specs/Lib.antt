@@ -1,0 +1,4 @@
+pub mod Held
+pub mod Site
+pub mod Conduct
+pub mod Within

@@ -1,0 +1,6 @@
+pub mod Legal
+pub mod Lowest
+pub mod Numbered
+pub mod Places
+pub mod Runs
+pub mod Unknown

@@ -1,0 +1,13 @@
+-- Laws of runs.
+use Rattle.std.proofs.Common.{◌≡◌, ℕ, List, [], ◌∷◌, ◌++◌, Option, None, refl}
+use Rattle.qc_table.specs.Run.{next_state, reached}
+
+-- no state stays no state
+pub reached_none : (step : ℕ → ℕ → Option ℕ) (numbers : List ℕ) → reached step None numbers ≡ None
+reached_none step [] = refl
+reached_none step (number ∷ numbers) = reached_none step numbers
+
+-- a run over two lists, one behind the other
+pub reached-append : (step : ℕ → ℕ → Option ℕ) (state : Option ℕ) (front back : List ℕ) → reached step state (front ++ back) ≡ reached step (reached step state front) back
+reached-append step state [] back = refl
+reached-append step state (number ∷ front) back = reached-append step (next_state step state number) front back

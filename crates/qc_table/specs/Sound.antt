@@ -1,0 +1,14 @@
+use Rattle.std.specs.Prelude.{◌≡◌, ◌<◌, ◌≤◌, None}
+use Rattle.qc_table.specs.Rules.{Rules}
+use Rattle.qc_table.specs.Faults.{fault_of}
+
+-- counts within the limits, at least one of each, a start among the states, and rows without fault
+pub record IsSound (rules : Rules) : Type 0 where
+  pub has_state : 0 < rules.states
+  pub has_inv : 0 < rules.invs
+  pub has_resp : 0 < rules.resps
+  pub states : rules.states ≤ 64
+  pub invs : rules.invs ≤ 32
+  pub resps : rules.resps ≤ 32
+  pub begins : rules.start < rules.states
+  pub faultless : fault_of rules ≡ None

@@ -1,0 +1,131 @@
+//! A register, a type that may choose, and rows that are no table.
+
+ghost use Rattle.std.specs.Prelude.{◌≡◌};
+
+use crate::{Event, Row, Table, TableFault};
+use qc_list::OutOfMemory;
+use std::alloc::{AllocError, Global};
+use std::test::Fail;
+
+fn row(state: u8, inv: u8, resp: u8, next: u8) -> Row
+    ensures { result ≡ record { state = state; inv = inv; resp = resp; next = next } }
+{
+    Row {
+        state,
+        inv,
+        resp,
+        next,
+    }
+}
+
+/// The register: invocations R, W0 and W1, responses 0, 1 and ok. That its
+/// rows are without fault is shown by computing.
+fn register(alloc: Global) -> Result<Table, OutOfMemory> {
+    let rows = [
+        row(0, 0, 0, 0),
+        row(1, 0, 1, 1),
+        row(0, 1, 2, 0),
+        row(1, 1, 2, 0),
+        row(0, 2, 2, 1),
+        row(1, 2, 2, 1),
+    ];
+    match Table::new(alloc, 2, 3, 3, 0, &rows) {
+        Ok(table) => Ok(table),
+        Err(TableFault::OutOfMemory) => Err(AllocError),
+        Err(_) => unreachable!(),
+    }
+}
+
+#[test]
+fn registers_read_what_was_written(rt: HostRuntime) -> Result<(), Fail> {
+    let table = register(rt.alloc())?;
+    let events = [(0, 0), (0, 1), (1, 2), (2, 2)];
+    assert_eq!(rt; table.events().len(), 4);
+    for (event, (inv, resp)) in table.events().iter().zip(events.iter()) {
+        assert_eq!(rt;
+            *event,
+            Event {
+                inv: *inv,
+                resp: *resp
+            }
+        );
+    }
+    assert_eq!(rt;
+        (table.states(), table.invs(), table.resps(), table.start()),
+        (2, 3, 3, 0)
+    );
+    for (state, inv, first, responses) in [(0, 0, 0, 1), (1, 0, 1, 2), (0, 1, 2, 4), (0, 2, 3, 4)] {
+        assert_eq!(rt; table.first(state, inv), Some(first), "in {state} at {inv}");
+        assert_eq!(rt;
+            table.responses(state, inv),
+            responses,
+            "in {state} at {inv}"
+        );
+    }
+    for (state, event, next) in [(0, 0, 0), (1, 1, 1), (1, 2, 0), (0, 3, 1)] {
+        assert_eq!(rt;
+            table.step(state, event),
+            Some(next),
+            "in {state} by {event}"
+        );
+    }
+    assert_eq!(rt;
+        (
+            table.step(0, 1),
+            table.step(0, 4),
+            table.first(2, 0),
+            table.first(0, 3)
+        ),
+        (None, None, None, None)
+    );
+    assert_eq!(rt; (table.responses(2, 0), table.responses(0, 3)), (0, 0));
+    Ok(())
+}
+
+/// Of the responses 3 and 1 the lower one comes first, though its row is later.
+#[test]
+fn the_lowest_response_is_first(rt: HostRuntime) -> Result<(), Fail> {
+    let rows = [row(0, 0, 3, 0), row(0, 0, 1, 0)];
+    let table = Table::new(rt.alloc(), 1, 1, 4, 0, &rows)?;
+    assert_eq!(rt; table.first(0, 0), Some(1));
+    assert_eq!(rt; table.responses(0, 0), 10);
+    Ok(())
+}
+
+#[test]
+fn faulty_rows_are_no_table(rt: HostRuntime) -> Result<(), Fail> {
+    let good = row(0, 0, 0, 0);
+    let unknown = Some(TableFault::UnknownName { row: 1 });
+    for bad in [
+        row(2, 0, 0, 0),
+        row(0, 2, 0, 0),
+        row(0, 0, 2, 0),
+        row(0, 0, 0, 2),
+    ] {
+        assert_eq!(rt;
+            Table::new(rt.alloc(), 2, 2, 2, 0, &[good, bad, bad]).err(),
+            unknown,
+            "{bad:?}"
+        );
+    }
+    let twice = Some(TableFault::DuplicateRow { row: 2 });
+    let rows = [good, row(1, 0, 0, 0), row(0, 0, 0, 1), good];
+    assert_eq!(rt; Table::new(rt.alloc(), 2, 1, 1, 0, &rows).err(), twice);
+    Ok(())
+}
+
+/// What is wrong with rows of so many events.
+fn fault_of_events(alloc: Global, count: u8) -> Result<Option<TableFault>, OutOfMemory> {
+    let mut rows = Vec::new(alloc);
+    for number in 0..count {
+        rows.push(row(0, number / 32, number % 32, 0))?;
+    }
+    Ok(Table::new(alloc, 1, 32, 32, 0, &rows).err())
+}
+
+#[test]
+fn sixty_five_events_are_too_many(rt: HostRuntime) -> Result<(), Fail> {
+    assert_eq!(rt; fault_of_events(rt.alloc(), 64)?, None);
+    assert_eq!(rt; fault_of_events(rt.alloc(), 65)?, Some(TableFault::TooMany));
+    Ok(())
+}
