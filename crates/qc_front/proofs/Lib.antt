@@ -2,4 +2,4 @@ pub mod Grants
 pub mod Branches
 pub mod Room
 pub mod Within
-
+pub mod Numbers
