@@ -48,7 +48,7 @@ unsent : (decl : Declaration) (front : Front) (write : Option Record) (told : Op
 unsent decl front write told first numbered = record {
   few = omega arith;
   sent =
-  ap (λ (a : Option ℕ). moved (record front { awaits = a }) (record { write = write; sends = []; told = told })) (sym (same_number front.round front.awaits first numbered));
+      ap (λ (a : Option ℕ). moved (record front { awaits = a }) (record { write = write; sends = []; told = told })) (sym (same_number front.round front.awaits first numbered));
   numbered = still_numbered front.round front.awaits first numbered;
 }
 
@@ -136,6 +136,7 @@ heard_told decl front message first numbered = by message
   where
     same : IsTold decl (moved front quiet) first
     same = unsent decl front None None first numbered
+
     by : (message : Message) → IsTold decl (heard decl front message) first
     by (Granted to life clock log) = branch (λ m. IsTold decl m first) (is_awaited front.awaits to) _ _ (granted_told decl front front.begun front.round life clock log first numbered) same
     by (Yes to clock) = branch (λ m. IsTold decl m first) (is_awaited front.awaits to) _ _ (promised_told decl front front.round clock first numbered) same

@@ -183,8 +183,10 @@ called_within decl bound front command within = by command
   where
     more : FrontWithin (bound + 1) front
     more = front-le bound (bound + 1) front (omega arith) within
+
     below : front.clock.value < bound + 1
     below = let own : front.clock.value ≤ bound = within.clock in omega arith
+
     by : (command : Command) → MoveWithin front.clock.value (bound + 1) (called decl front command)
     by Begin = begins_within bound front front.begun within
     by (Do object inv) = performs_within front.clock.value (bound + 1) decl front front.begun object inv (omega arith) more more.begun
@@ -196,10 +198,13 @@ heard_within decl bound front message within told = by message told
   where
     more : FrontWithin (bound + 1) front
     more = front-le bound (bound + 1) front (omega arith) within
+
     below : front.clock.value < bound + 1
     below = let own : front.clock.value ≤ bound = within.clock in omega arith
+
     same : MoveWithin front.clock.value (bound + 1) (moved front quiet)
     same = quiet_within front.clock.value (bound + 1) front (omega arith) more
+
     by : (message : Message) → MessageWithin bound message → MoveWithin front.clock.value (bound + 1) (heard decl front message)
     by (Granted to life clock log) told =
         let here : clock ≤ bound = told.0 in

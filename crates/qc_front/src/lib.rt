@@ -16,6 +16,8 @@ mod front;
 mod laws;
 mod operation;
 mod round;
+#[cfg(test)]
+mod tests;
 mod turns;
 mod view;
 
