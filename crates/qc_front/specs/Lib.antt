@@ -6,3 +6,4 @@ pub mod Ending
 pub mod Conduct
 pub mod Fits
 pub mod Within
+pub mod Numbers
