@@ -7,5 +7,7 @@
 #![tactic(auto)]
 
 mod declaration;
+mod one;
 
 pub use declaration::{Declaration, Kind, KindNames, KindNamesList, Kinds, Names, Objects, Plans};
+pub use one::built_in;
