@@ -8,6 +8,8 @@
 
 mod declaration;
 mod one;
+#[cfg(test)]
+mod tests;
 
 pub use declaration::{Declaration, Kind, KindNames, KindNamesList, Kinds, Names, Objects, Plans};
 pub use one::built_in;
