@@ -7,5 +7,9 @@
 #![tactic(auto)]
 
 mod declaration;
+mod one;
+#[cfg(test)]
+mod tests;
 
 pub use declaration::{Declaration, Kind, KindNames, KindNamesList, Kinds, Names, Objects, Plans};
+pub use one::built_in;
