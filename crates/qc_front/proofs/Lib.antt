@@ -3,3 +3,4 @@ pub mod Branches
 pub mod Room
 pub mod Within
 pub mod Numbers
+pub mod Going

@@ -12,7 +12,8 @@ use Rattle.qc_front.specs.Conduct.{called, heard, front_does}
 use Rattle.qc_front.specs.Ending.{begins, decides, commits, commit_turn, next_stamp, aborts, gives_up, promised, forgotten}
 use Rattle.qc_front.specs.Fits.{IsNumbered}
 use Rattle.qc_front.specs.Moves.{FrontMove, moved, quiet, telling}
-use Rattle.qc_front.specs.Numbers.{IsTold, is_idle, TellsAtEnd}
+use Rattle.qc_front.specs.Going.{is_idle}
+use Rattle.qc_front.specs.Numbers.{IsTold}
 use Rattle.qc_front.specs.Operation.{answered_by, performs, granted, joined}
 use Rattle.qc_front.specs.State.{first_epoch, most_operations, passed, turned, is_awaited, front_sent, told_number}
 use Rattle.qc_front.specs.View.{answer_of}

@@ -31,11 +31,11 @@ MoveHasRoom move = HasRoom move.front.begun move.front.round
 pushed : (ops : List Op) (op : Op) → length ops < 16 → length (ops ++ op ∷ []) ≤ 16
 pushed ops op room = rw length-append (omega arith)
 
-fresh_room : (begun : Begun) (round : Round) → begun.ops ≡ [] → HasRoom (Some begun) round
-fresh_room begun Idle none = rw none (omega arith)
-fresh_room begun (Reading object inv) none = rw none (omega arith)
-fresh_room begun (Appending object inv event) none = rw none (omega arith)
-fresh_room begun Voting none = rw none (omega arith)
+fresh_room : (begun : Begun) (round : Round) → begun.ops ≡ [] → HasRoom None round → HasRoom (Some begun) round
+fresh_room begun Idle none room = rw none (omega arith)
+fresh_room begun (Reading object inv) none room = absurd room
+fresh_room begun (Appending object inv event) none room = absurd room
+fresh_room begun Voting none room = absurd room
 
 answered_by_room : (decl : Declaration) (front : Front) (begun : Begun) (object inv : ℕ) (event : Option ℕ) → length begun.ops < 16 → MoveHasRoom (answered_by decl front begun object inv event)
 answered_by_room decl front begun object inv None room = pushed begun.ops _ room
@@ -59,9 +59,9 @@ granted_room decl front (Some begun) Idle life clock log own room = room
 granted_room decl front (Some begun) Voting life clock log own room = room
 granted_room decl front None round life clock log own room = room
 
-begins_room : (front : Front) (begun : Option Begun) → HasRoom front.begun front.round → MoveHasRoom (begins front begun)
-begins_room front (Some begun) room = room
-begins_room front None room = fresh_room (fresh (next_tx front)) front.round refl
+begins_room : (front : Front) (begun : Option Begun) → HasRoom begun front.round → HasRoom front.begun front.round → MoveHasRoom (begins front begun)
+begins_room front (Some begun) own room = room
+begins_room front None own room = fresh_room (fresh (next_tx front)) front.round refl own
 
 decides_room : (decl : Declaration) (front : Front) (begun : Option Begun) → HasRoom front.begun front.round → MoveHasRoom (decides decl front begun)
 decides_room decl front None room = room
@@ -98,7 +98,7 @@ forgotten_room decl front (Reading object inv) room = room
 forgotten_room decl front (Appending object inv event) room = room
 
 pub called_room : (decl : Declaration) (front : Front) (command : Command) → HasRoom front.begun front.round → MoveHasRoom (called decl front command)
-called_room decl front Begin room = begins_room front front.begun room
+called_room decl front Begin room = begins_room front front.begun room room
 called_room decl front (Do object inv) room = performs_room decl front front.begun object inv room
 called_room decl front Commit room = commits_room decl front front.begun room room
 called_room decl front Abort room = aborts_room decl front front.begun room

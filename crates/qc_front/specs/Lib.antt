@@ -7,3 +7,4 @@ pub mod Conduct
 pub mod Fits
 pub mod Within
 pub mod Numbers
+pub mod Going
