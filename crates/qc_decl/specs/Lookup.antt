@@ -1,5 +1,5 @@
 -- What a declaration says of an object.
-use Rattle.std.specs.Prelude.{ℕ, ◌==◌, ◌-◌, cond, Option, Some, None, List, slice_get, option_map, option_and_then}
+use Rattle.std.specs.Prelude.{ℕ, ◌==◌, ◌-◌, cond, Option, None, slice_get, option_map, option_and_then}
 use Rattle.std.specs.Option.{option_map_or}
 use Rattle.qc_decl.specs.declared.declaration.Kind.{Kind}
 use Rattle.qc_decl.specs.declared.declaration.Declaration.{Declaration}

@@ -1,5 +1,6 @@
 -- The built-in declaration `@one`: one site, one client, and one register over 0 and 1.
-use Rattle.std.specs.Prelude.{ℕ, List, [], ◌∷◌, codes}
+use Rattle.std.specs.Prelude.{ℕ, List, [], ◌∷◌, Option, Some, None, cond, codes}
+use Rattle.std.specs.Str.{bytes_eq}
 use Rattle.qc_decl.specs.declared.declaration.KindNames.{KindNames}
 use Rattle.qc_decl.specs.declared.declaration.Declaration.{Declaration}
 use Rattle.qc_plan.specs.declared.plan.Plan.{Plan}
@@ -38,3 +39,7 @@ one = record {
   kind_names = register_names ∷ [];
   object_names = codes "x" ∷ [];
 }
+
+-- the built-in declaration of a name, which is `@one` or none
+abbrev pub built_in_of : List ℕ → Option Declaration
+built_in_of name = cond (bytes_eq name (codes "@one")) (Some one) None

@@ -3,9 +3,14 @@
 //!
 //! Sites are numbered first, then clients, then the administrator, then the
 //! controller. Objects, types, states, invocations, responses and events are
-//! numbered from 0 in the declaration's order.
+//! numbered from 0 in the declaration's order. The declaration `@one` is built
+//! in. Every crate that asks what a designer declared asks it here.
 #![tactic(auto)]
 
 mod declaration;
+mod one;
+#[cfg(test)]
+mod tests;
 
 pub use declaration::{Declaration, Kind, KindNames, KindNamesList, Kinds, Names, Objects, Plans};
+pub use one::built_in;

@@ -46,7 +46,7 @@ ascending-filter test (x ∷ xs) ascending = by (test x) (ascending-filter test 
   by false rest = rest
 
 -- the test for Less tells that it is Less
-less_is : (order : Ordering) → IsTrue (is_lt order) → order ≡ Less
+pub less_is : (order : Ordering) → IsTrue (is_lt order) → order ≡ Less
 less_is Less test = refl
 less_is Equal test = absurd (let never : ⊥ = cc in never)
 less_is Greater test = absurd (let never : ⊥ = cc in never)

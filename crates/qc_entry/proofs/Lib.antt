@@ -3,4 +3,5 @@ pub mod Every
 pub mod Union
 pub mod Without
 pub mod Members
+pub mod Parts
 pub mod Walks

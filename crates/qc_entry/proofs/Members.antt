@@ -98,6 +98,30 @@ union-commutes xs ys a b =
     (λ l member. in_union l ys xs (swapped (in_either l xs ys member)))
     (λ l member. in_union l xs ys (swapped (in_either l ys xs member)))
 
+-- nor does the grouping of the lists
+pub union-associates : (xs ys zs : List Line) → IsAscending xs → IsAscending ys → IsAscending zs → union (union xs ys) zs ≡ union xs (union ys zs)
+union-associates xs ys zs a b c =
+    let front = ascending-union xs ys a b in
+    let back = ascending-union ys zs b c in
+    ascending-same (union (union xs ys) zs) (union xs (union ys zs)) (ascending-union (union xs ys) zs front c) (ascending-union xs (union ys zs) a back)
+    (λ l member. to l (in_either l (union xs ys) zs member))
+    (λ l member. from l (in_either l xs (union ys zs) member)) where
+      to_front : (l : Line) → In l xs ⊎ In l ys → In l (union xs (union ys zs))
+      to_front l (inl member) = in_first l xs (union ys zs) member
+      to_front l (inr member) = in_second l xs (union ys zs) (in_first l ys zs member)
+
+      to : (l : Line) → In l (union xs ys) ⊎ In l zs → In l (union xs (union ys zs))
+      to l (inl member) = to_front l (in_either l xs ys member)
+      to l (inr member) = in_second l xs (union ys zs) (in_second l ys zs member)
+
+      from_back : (l : Line) → In l ys ⊎ In l zs → In l (union (union xs ys) zs)
+      from_back l (inl member) = in_first l (union xs ys) zs (in_second l xs ys member)
+      from_back l (inr member) = in_second l (union xs ys) zs member
+
+      from : (l : Line) → In l xs ⊎ In l (union ys zs) → In l (union (union xs ys) zs)
+      from l (inl member) = in_first l (union xs ys) zs (in_first l xs ys member)
+      from l (inr member) = from_back l (in_either l ys zs member)
+
 -- lines that the list has add nothing
 pub union-absorbs : (xs ys : List Line) → IsAscending xs → IsAscending ys → ((l : Line) → In l ys → In l xs) → union xs ys ≡ xs
 union-absorbs xs ys a b within =

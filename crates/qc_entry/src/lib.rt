@@ -3,7 +3,8 @@
 //!
 //! A log is a sorted list of distinct lines, by its type. The line of an
 //! operation has the stamp and name of its transaction, the operation's number
-//! there, its object and its event (Herlihy 1986).
+//! there, its object and its event (Herlihy 1986). Logs are merged into their
+//! sorted union, so the order in which a site learns of lines doesn't matter.
 #![tactic(auto)]
 
 mod laws;

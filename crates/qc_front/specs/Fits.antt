@@ -10,9 +10,12 @@ use Rattle.qc_msg.specs.declared.message.Message.TheVariants.{Read, Append, Prep
 use Rattle.qc_msg.specs.declared.step.Input.{Input}
 use Rattle.qc_msg.specs.declared.step.Input.TheVariants.{Answer}
 
--- a transaction has at most 16 operations, and fewer while a round of a `do` runs
+-- a transaction has at most 16 operations, and fewer while a round of a `do` runs; with no transaction no round runs
 abbrev pub HasRoom : Option Begun → Round → Type 0
-HasRoom None round = Unit {0}
+HasRoom None Idle = Unit {0}
+HasRoom None (Reading object inv) = ⊥
+HasRoom None (Appending object inv event) = ⊥
+HasRoom None Voting = ⊥
 HasRoom (Some begun) Idle = length begun.ops ≤ most_operations
 HasRoom (Some begun) (Reading object inv) = length begun.ops < most_operations
 HasRoom (Some begun) (Appending object inv event) = length begun.ops < most_operations

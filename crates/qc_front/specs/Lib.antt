@@ -6,3 +6,5 @@ pub mod Ending
 pub mod Conduct
 pub mod Fits
 pub mod Within
+pub mod Numbers
+pub mod Going

@@ -13,11 +13,18 @@
 mod begun;
 mod commit;
 mod front;
+mod laws;
 mod operation;
 mod round;
+#[cfg(test)]
+mod tests;
 mod turns;
 mod view;
 
 pub use begun::Begun;
 pub use front::{FIRST_EPOCH, FIRST_LIFE, Front, MOST_OPERATIONS};
+pub use laws::{
+    answers_go_on, commands_are_numbered, commands_go_on, commands_stay_within,
+    messages_are_numbered, messages_stay_within, operations_have_room,
+};
 pub use round::Round;

@@ -127,3 +127,14 @@ pub struct Turn {
     /// The reply, if any.
     pub told: Option<Reply>,
 }
+
+/// A counted quantity of a history, which has a limit.
+#[derive(Clone, Copy, Debug, PartialEq, Eq)]
+pub enum What {
+    /// Steps.
+    Steps,
+    /// Committed operations with a response.
+    Operations,
+    /// Lines that messages carried.
+    Carried,
+}

@@ -1,6 +1,7 @@
 -- A script that the grammar gives for an actor asks that actor alone.
 use Rattle.std.proofs.Common.{◌≡◌, ℕ, ◌++◌, List, [], ◌∷◌, Bool, true, false, Option, Some, None, cond, refl, subst, arith}
 use Rattle.std.specs.Prelude.{option_map, codes, IfSome}
+use Rattle.std.specs.Str.{bytes_eq}
 use Rattle.std.specs.List.{fold, AllByRecursion as Every}
 use Rattle.qc_script.specs.declared.form.Form.{Form}
 use Rattle.qc_script.specs.declared.form.Form.TheVariants.{Skipped, Phase, Asks, Unknown}
@@ -8,7 +9,7 @@ use Rattle.qc_script.specs.declared.script.CommandLine.{CommandLine}
 use Rattle.qc_script.specs.declared.script.PhaseLines.{PhaseLines}
 use Rattle.qc_script.specs.declared.script.Script.{Script}
 use Rattle.qc_script.specs.Asked.{IsOfOne, IsAsked, AskOnly, AsksOnly}
-use Rattle.qc_script.specs.Grammar.{is_text, command_of, form_of, without_cr, lines_of, with_command, with_form, with_line, script_of}
+use Rattle.qc_script.specs.Grammar.{command_of, form_of, without_cr, lines_of, with_command, with_form, with_line, script_of}
 
 -- what a form asks is a command of `@one`
 
@@ -22,16 +23,16 @@ chosen false f g here there = there
 
 command-of_one : (line : List ℕ) → OfOne (command_of line)
 command-of_one line =
-    chosen (is_text line (codes "c0 begin")) _ _ tt
-    (chosen (is_text line (codes "c0 do x R")) _ _ (refl, omega arith)
-    (chosen (is_text line (codes "c0 do x W0")) _ _ (refl, omega arith)
-    (chosen (is_text line (codes "c0 do x W1")) _ _ (refl, omega arith)
-    (chosen (is_text line (codes "c0 commit")) _ _ tt
-    (chosen (is_text line (codes "c0 abort")) _ _ tt tt)))))
+    chosen (bytes_eq line (codes "c0 begin")) _ _ tt
+    (chosen (bytes_eq line (codes "c0 do x R")) _ _ (refl, omega arith)
+    (chosen (bytes_eq line (codes "c0 do x W0")) _ _ (refl, omega arith)
+    (chosen (bytes_eq line (codes "c0 do x W1")) _ _ (refl, omega arith)
+    (chosen (bytes_eq line (codes "c0 commit")) _ _ tt
+    (chosen (bytes_eq line (codes "c0 abort")) _ _ tt tt)))))
 
 form-of_one : (line : List ℕ) → OfOne (form_of line)
 form-of_one [] = tt
-form-of_one (b ∷ line) = chosen _ Skipped _ tt (chosen (is_text (b ∷ line) (codes "phase")) Phase _ tt (command-of_one (b ∷ line)))
+form-of_one (b ∷ line) = chosen _ Skipped _ tt (chosen (bytes_eq (b ∷ line) (codes "phase")) Phase _ tt (command-of_one (b ∷ line)))
 
 -- what holds of each item holds with one more
 every_push : {X : Type 0} (P : X → Type 0) (xs : List X) (x : X) → Every P xs → P x → Every P (xs ++ x ∷ [])

@@ -1,2 +1,4 @@
+pub mod Grows
+pub mod Found
 pub mod Asked
 pub mod Lines

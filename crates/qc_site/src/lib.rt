@@ -22,3 +22,6 @@ pub use laws::{
     logs_gain_what_is_brought, reads_are_locked, sites_stay_within,
 };
 pub use site::{PreparedList, Site};
+
+#[cfg(test)]
+mod tests;

@@ -38,6 +38,7 @@ pub legal_more : (rows : List Row) (n : ℕ) (d : Row) (state : ℕ) (e : Event)
     → is_legal (take (n + 1) rows) state e ≡ (is_legal (take n rows) state e || is_row_of state e (get_or rows n d))
 legal_more rows n d state e l = ap (λ (front : List Row). is_legal front state e) (take_more rows n d l) ∙ legal_push (take n rows) (get_or rows n d) state e
 
+-- where no row is for this state and event there is no next state
 pub none_where_illegal : (o : Option ℕ) → is_some o ≡ false → o ≡ None
 none_where_illegal None e = refl
 none_where_illegal (Some n) e = absurd (cc)

@@ -87,6 +87,7 @@ counted state inv row rows best result fits s =
           below = λ m c e eb. let own : b ≡ c = (let found : Some b ≡ Some c = sym eo ∙ eb in cc) in let within : m ≤ min b row.resp = s.below m (min b row.resp) e refl in omega arith;
         }
 
+-- the scan answers so
 scanned : (state inv : ℕ) (rows : List Row) (best : Option ℕ) → Scanned state inv rows best (fold (lowest_with state inv) best rows)
 scanned state inv [] best = record {
   nothing = λ e. e;

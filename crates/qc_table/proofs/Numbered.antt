@@ -1,4 +1,4 @@
--- A legal event has a number.
+-- A legal event has a number, and what `first_of` answers is the number of a legal event.
 use Rattle.std.proofs.Common.{◌≡◌, ℕ, ◌<◌, Bool, true, false, cond, List, [], ◌∷◌, ◌++◌, Option, Some, None, length, get_or, refl, sym, ap, ◌∙◌, subst}
 use Rattle.std.specs.Prelude.{IsSome, IfSome, option_and_then, ◌==◌, ◌&&◌, ◌||◌, fold, slice_get}
 use Rattle.std.specs.List.{list_any}
@@ -29,6 +29,7 @@ same_is a b e =
     let resps : a.resp ≡ b.resp = eqb-true a.resp b.resp (and_right (a.inv == b.inv) (a.resp == b.resp) e) in
     ap (λ i. event i a.resp) invs ∙ ap (event b.inv) resps
 
+-- and finds each event equal to itself
 pub same_itself : (a : Event) → same_event a a ≡ true
 same_itself a = rw (eq-eqb a.inv a.inv refl, eq-eqb a.resp a.resp refl)
 
@@ -52,6 +53,7 @@ among_kept events e new h = by (is_among new events)
     by true = h
     by false = list_any-append (λ x. same_event x e) events (new ∷ []) ∙ rw h
 
+-- also those of any rows
 among_more : (rows : List Row) (events : List Event) (e : Event) → is_among e events ≡ true → is_among e (fold (λ es row. with_event es (event_of row)) events rows) ≡ true
 among_more [] events e h = h
 among_more (row ∷ rows) events e h = among_more rows (with_event events (event_of row)) e (among_kept events e (event_of row) h)
@@ -93,6 +95,7 @@ first_is_lowest rows state inv resp number lowest numbered = record {
   lowest = none_lower rows state inv resp lowest;
 }
 
+-- the same of an answer that may be none
 pub found_is_lowest : (rows : List Row) (state inv resp : ℕ) (found : Option ℕ) → lowest_in rows state inv ≡ Some resp → found ≡ event_number (events_of rows) (event inv resp)
     → IfSome found (λ number. IsLowest rows state inv number)
 found_is_lowest rows state inv resp None lowest numbered = tt
@@ -102,6 +105,7 @@ found_is_lowest rows state inv resp (Some number) lowest numbered = first_is_low
 pub first_some : (rows : List Row) (state inv resp : ℕ) → lowest_in rows state inv ≡ Some resp → event_number (events_of rows) (event inv resp) ≡ None → ⊥
 first_some rows state inv resp lowest = legal_numbered rows state (event inv resp) (lowest_legal rows state inv resp lowest)
 
+-- the same, by what the scan for the lowest response answered
 first_found : (rows : List Row) (state inv number : ℕ) → (o : Option ℕ) → lowest_in rows state inv ≡ o
     → option_and_then (λ resp. event_number (events_of rows) (event inv resp)) o ≡ Some number → IsLowest rows state inv number
 first_found rows state inv number None lowest found = absurd (let never : ⊥ = cc in never)

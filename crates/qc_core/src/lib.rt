@@ -1,0 +1,10 @@
+//! The conduct of the whole system, and the laws of all its runs.
+//!
+//! A run is a history that the actors' conduct, the script and the links
+//! allow. Each law is the contract of a function with nothing to do, and
+//! speaks of every run of every declaration and script.
+#![tactic(auto)]
+
+mod laws;
+
+pub use laws::{clocks_and_counts_are_bounded, messages_and_replies_are_in_order};

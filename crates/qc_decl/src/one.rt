@@ -1,0 +1,129 @@
+//! The built-in declaration `@one`.
+
+ghost use Rattle.std.specs.Prelude.{◌≡◌, [], ◌∷◌, map, IfOk};
+ghost use Rattle.qc_decl.specs.One.{built_in_of, one, one_plan, register, register_names, register_rows, row as row_of};
+
+use crate::declaration::{Declaration, Kind, KindNames, Names};
+use qc_list::{List, Name, OutOfMemory};
+use qc_plan::{Needs, Plan};
+use qc_table::{Row, Table, TableFault};
+use std::alloc::{AllocError, Global};
+
+/// The built-in declaration of this name, or `None` where there is none.
+/// `@one` is one site, one client, and a register over 0 and 1 named `x`.
+pub fn built_in(alloc: Global, name: &str) -> Result<Option<Declaration>, OutOfMemory>
+    ensures { IfOk result (λ d. d ≡ built_in_of name.now) }
+{
+    if name != "@one" {
+        return Ok(None);
+    }
+    Ok(Some(one_site(alloc)?))
+}
+
+/// The declaration `@one`.
+fn one_site(alloc: Global) -> Result<Declaration, OutOfMemory>
+    ensures { IfOk result (λ d. d ≡ one) }
+{
+    Ok(Declaration {
+        sites: 1,
+        clients: 1,
+        kinds: single(
+            alloc,
+            Kind {
+                table: register_table(alloc)?,
+            },
+        )?,
+        objects: single(alloc, 0)?,
+        plans: single(alloc, plan(alloc)?)?,
+        kind_names: single(alloc, kind_names(alloc)?)?,
+        object_names: names(alloc, &["x"])?,
+    })
+}
+
+/// The register's table.
+fn register_table(alloc: Global) -> Result<Table, OutOfMemory>
+    ensures { IfOk result (λ t. t ≡ register) }
+{
+    match Table::new(alloc, 2, 3, 3, 0, &rows()) {
+        Ok(table) => Ok(table),
+        Err(TableFault::OutOfMemory) => Err(AllocError),
+        Err(_) => unreachable!(),
+    }
+}
+
+/// The register's rows: R answers the state, W0 and W1 answer ok and set it.
+fn rows() -> [Row; 6]
+    ensures { result ≡ register_rows }
+{
+    [
+        row(0, 0, 0, 0),
+        row(1, 0, 1, 1),
+        row(0, 1, 2, 0),
+        row(1, 1, 2, 0),
+        row(0, 2, 2, 1),
+        row(1, 2, 2, 1),
+    ]
+}
+
+/// A row of a table.
+fn row(state: u8, inv: u8, resp: u8, next: u8) -> Row
+    ensures { result ≡ row_of state inv resp next }
+{
+    Row {
+        state,
+        inv,
+        resp,
+        next,
+    }
+}
+
+/// The names of the register and of its parts.
+fn kind_names(alloc: Global) -> Result<KindNames, OutOfMemory>
+    ensures { IfOk result (λ n. n ≡ register_names) }
+{
+    Ok(KindNames {
+        name: Name::new(alloc, "register")?,
+        states: names(alloc, &["0", "1"])?,
+        invs: names(alloc, &["R", "W0", "W1"])?,
+        resps: names(alloc, &["0", "1", "ok"])?,
+    })
+}
+
+/// The plan of the one epoch: R needs the site to read, and W0 and W1 need it
+/// to append.
+fn plan(alloc: Global) -> Result<Plan, OutOfMemory>
+    ensures { IfOk result (λ p. p ≡ one_plan) }
+{
+    Ok(Plan {
+        weights: single(alloc, 1)?,
+        initial: needs(alloc, &[1, 0, 0])?,
+        last: needs(alloc, &[0, 0, 1, 1])?,
+    })
+}
+
+/// The thresholds of one object.
+fn needs(alloc: Global, thresholds: &[u16]) -> Result<Needs, OutOfMemory>
+    ensures { IfOk result (λ needs. needs ≡ thresholds.now ∷ []) }
+{
+    single(alloc, List::from_slice(alloc, thresholds)?)
+}
+
+/// These names, in their order.
+fn names(alloc: Global, texts: &[&str]) -> Result<Names, OutOfMemory>
+    ensures { IfOk result (λ names. names ≡ map (λ t. t.now) texts.now) }
+{
+    let mut names = List::new(alloc);
+    for text in texts {
+        names.push(Name::new(alloc, text)?)?;
+    }
+    Ok(names)
+}
+
+/// A list of one item.
+fn single<T: Drop>(alloc: Global, item: T) -> Result<List<T>, OutOfMemory>
+    ensures { IfOk result (λ list. list ≡ item ∷ []) }
+{
+    let mut list = List::new(alloc);
+    list.push(item)?;
+    Ok(list)
+}

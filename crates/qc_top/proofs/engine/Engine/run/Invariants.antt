@@ -1,0 +1,9 @@
+use Rattle.std.proofs.Common.{◌-◌, length}
+use Rattle.qc_top.specs.At.{IsAt}
+use Rattle.qc_top.proofs.engine.Engine.run.Given as goal
+
+abbrev pub invariant-events : goal.invariant-events
+invariant-events l = IsAt l.decl l.script l.self
+
+abbrev pub decreases-events : goal.decreases-events
+decreases-events l = 262144 - length l.self.history

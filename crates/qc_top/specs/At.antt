@@ -1,0 +1,86 @@
+-- The loop's invariant and its answers, in terms of its fields.
+use Rattle.std.specs.Prelude.{◌≡◌, ℕ, ◌<◌, ◌≤◌, ◌+◌, ◌++◌, Bool, false, List, [], ◌∷◌, Option, Some, None, length}
+use Rattle.qc_decl.specs.declared.declaration.Declaration.{Declaration}
+use Rattle.qc_msg.specs.declared.step.Reply.{Reply}
+use Rattle.qc_msg.specs.declared.step.Step.{Step}
+use Rattle.qc_msg.specs.declared.step.Turn.{Turn}
+use Rattle.qc_msg.specs.declared.step.What.{What}
+use Rattle.qc_msg.specs.declared.step.What.TheVariants.{Steps, Operations, Carried}
+use Rattle.qc_msg.specs.Counts.{operations_of, carried_of}
+use Rattle.qc_msg.specs.Mail.{addressed, envelopes}
+use Rattle.qc_msg.specs.Steps.{Entry, by, marked, posted}
+use Rattle.qc_script.specs.declared.script.Script.{Script}
+use Rattle.qc_top.specs.declared.engine.Engine.{Engine}
+use Rattle.qc_top.specs.declared.engine.Next.{Next}
+use Rattle.qc_top.specs.declared.engine.Next.TheVariants as next
+use Rattle.qc_top.specs.declared.engine.End.{End}
+use Rattle.qc_top.specs.declared.engine.End.TheVariants as end
+use Rattle.qc_top.specs.Engine.{IsIdle, Stands}
+
+-- the loop stands at the end of its history
+abbrev pub IsAt : Declaration → Script → Engine → Type 0
+IsAt decl script e = Stands decl script e.history e.site e.front e.site_box.items e.front_box.items e.orders.items e.busy e.last_phase e.sent
+
+-- nothing is ready
+pub record IsQuiet (e : Engine) : Type 0 where
+  pub site : e.site_box.items ≡ []
+  pub front : e.front_box.items ≡ []
+  pub idle : IsIdle e.busy e.orders.items
+
+-- the next command may be called
+pub record IsCallable (e : Engine) : Type 0 where
+  pub front : e.front_box.items ≡ []
+  pub free : e.busy ≡ false
+  pub left : 0 < length e.orders.items
+
+-- what comes next is there
+abbrev pub IsNext : Script → Engine → Next → Type 0
+IsNext script e next.Site = 0 < length e.site_box.items
+IsNext script e next.Message = 0 < length e.front_box.items
+IsNext script e next.Command = IsCallable e
+IsNext script e next.Phase = IsQuiet e × (e.last_phase < length script.phases)
+IsNext script e next.Nothing = IsQuiet e × (length script.phases ≤ e.last_phase)
+
+-- a turn was posted: the history has its input and its steps, and each actor's box its messages
+pub record IsPosted (old new : Engine) (client actor : ℕ) (input : Step) (turn : Turn) : Type 0 where
+  pub history : new.history ≡ old.history ++ marked actor input ∷ by actor (posted old.sent turn)
+  pub site_box : new.site_box.items ≡ old.site_box.items ++ addressed 0 (envelopes actor old.sent turn.sends)
+  pub front_box : new.front_box.items ≡ old.front_box.items ++ addressed client (envelopes actor old.sent turn.sends)
+  pub sent : new.sent ≡ old.sent + length turn.sends
+  pub site : new.site ≡ old.site
+  pub front : new.front ≡ old.front
+  pub orders : new.orders.items ≡ old.orders.items
+  pub busy : new.busy ≡ old.busy
+  pub last_phase : new.last_phase ≡ old.last_phase
+
+-- the limits of a run
+
+abbrev pub limit_of : What → ℕ
+limit_of Steps = 262144
+limit_of Operations = 1024
+limit_of Carried = 8388608
+
+abbrev pub number_of : What → List Entry → ℕ
+number_of Steps h = length h
+number_of Operations h = operations_of h
+number_of Carried h = carried_of h
+
+pub record IsBelow (h : List Entry) : Type 0 where
+  pub steps : length h < 262144
+  pub operations : operations_of h < 1024
+  pub carried : carried_of h < 8388608
+
+-- a quantity reached its limit, and this is its number
+pub record HasReached (what : What) (number : ℕ) (h : List Entry) : Type 0 where
+  pub limit : limit_of what ≤ number
+  pub number_is : number ≤ number_of what h
+
+abbrev pub IsReached : Option (What × ℕ) → List Entry → Type 0
+IsReached None h = IsBelow h
+IsReached (Some full) h = HasReached full.0 full.1 h
+
+-- how the loop ended
+abbrev pub IsEnd : End → List Entry → Type 0
+IsEnd end.Quiet h = IsBelow h
+IsEnd (end.Full what number) h = HasReached what number h
+IsEnd end.OutOfMemory h = Unit {0}
