@@ -17,4 +17,6 @@ mod tests;
 
 pub use history::History;
 pub use message::{Envelope, Message, Outcome};
-pub use step::{Command, Entry, Given, Input, Posting, Record, Reply, Sends, Step, Turn, What, Why};
+pub use step::{
+    Command, Entry, Given, Input, Posting, Record, Reply, Sends, Step, Turn, What, Why,
+};

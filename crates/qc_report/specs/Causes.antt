@@ -4,8 +4,8 @@ use Rattle.qc_outside.specs.declared.shelf.ShelfFault.{ShelfFault}
 use Rattle.qc_outside.specs.declared.shelf.ShelfFault.TheVariants as faults
 use Rattle.qc_report.specs.declared.cause.Cause.{Cause}
 use Rattle.qc_report.specs.declared.cause.Cause.TheVariants.{Done, NotBuilt, Shelf, Sink, Full, OutOfMemory}
-use Rattle.qc_report.specs.declared.cause.What.{What}
-use Rattle.qc_report.specs.declared.cause.What.TheVariants.{Steps, Operations, Carried}
+use Rattle.qc_msg.specs.declared.step.What.{What}
+use Rattle.qc_msg.specs.declared.step.What.TheVariants.{Steps, Operations, Carried}
 
 -- want of memory is status 8 wherever it stands
 abbrev pub status_of_shelf : ShelfFault → ℕ

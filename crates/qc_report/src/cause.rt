@@ -6,19 +6,9 @@ ghost use Rattle.qc_report.specs.Causes.{status_of, status_of_shelf, cause_text_
 use crate::page::Page;
 use itoa::Buffer;
 use qc_list::OutOfMemory;
+use qc_msg::What;
 use qc_outside::ShelfFault;
 use std::alloc::Global;
-
-/// A quantity of a run that has a limit.
-#[derive(Clone, Copy, Debug, PartialEq, Eq)]
-pub enum What {
-    /// Steps of the history.
-    Steps,
-    /// Committed operations with a response.
-    Operations,
-    /// Lines that messages carried.
-    Carried,
-}
 
 /// Why a call of the program ended.
 #[derive(Clone, Copy, Debug, PartialEq, Eq)]
@@ -110,7 +100,12 @@ fn full_text(page: &mut Page, what: What, number: u64) -> Result<(), OutOfMemory
     ensures { OnOk result (page.new ≡ page.old ++ cause_text_of (Cause.Full what number)) }
 {
     let mut digits = Buffer::new();
-    page.put_all(&["quorum: full: ", what_word(what), digits.format(number), "\n"])
+    page.put_all(&[
+        "quorum: full: ",
+        what_word(what),
+        digits.format(number),
+        "\n",
+    ])
 }
 
 /// The word of a quantity, and a space.

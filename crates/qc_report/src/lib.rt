@@ -15,5 +15,5 @@ mod sites;
 mod states;
 mod walk;
 
-pub use cause::{Cause, What, cause_text};
+pub use cause::{Cause, cause_text};
 pub use report::text;

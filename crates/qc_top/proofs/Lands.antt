@@ -5,7 +5,8 @@ use Rattle.qc_core.proofs.BoundLaw.{runs_are_bounded}
 use Rattle.qc_core.proofs.OrderLaw.{law}
 use Rattle.qc_core.proofs.Sites.{site_small}
 use Rattle.qc_core.specs.Bounds.{FrontBounded, IsBounded, front_at}
-use Rattle.qc_core.specs.Conduct.{IsRun}
+use Rattle.std.specs.Prelude.{replicate}
+use Rattle.qc_core.specs.Conduct.{IsLawful, IsRun}
 use Rattle.qc_decl.specs.declared.declaration.Declaration.{Declaration}
 use Rattle.qc_decl.specs.Actors.{client_actor, controller, is_site}
 use Rattle.qc_front.specs.declared.begun.Begun.{Begun}
@@ -14,7 +15,7 @@ use Rattle.qc_front.specs.Conduct.{called, front_after, heard}
 use Rattle.qc_front.specs.Fits.{ClockFits, FrontFits, HasRoom}
 use Rattle.qc_front.specs.Moves.{FrontMove, moved}
 use Rattle.qc_front.specs.Numbers.{IsTold}
-use Rattle.qc_front.specs.State.{front_sent}
+use Rattle.qc_front.specs.State.{front_sent, new_front}
 use Rattle.qc_front.specs.Within.{FrontWithin}
 use Rattle.qc_front.proofs.Numbers.{called_told, heard_told}
 use Rattle.qc_front.proofs.Room.{after_room}
@@ -35,7 +36,8 @@ use Rattle.qc_script.specs.declared.script.Script.{Script}
 use Rattle.qc_script.specs.Ready.{asked_in, asked_of, phase_of, waiting}
 use Rattle.qc_script.proofs.Grows.{busy_after}
 use Rattle.qc_site.specs.Conduct.{site_on}
-use Rattle.qc_site.specs.Site.{SiteState}
+use Rattle.qc_script.specs.Runs.{Runs, begins}
+use Rattle.qc_site.specs.Site.{SiteState, new_site}
 use Rattle.qc_top.specs.declared.engine.Engine.{Engine}
 use Rattle.qc_top.specs.At.{IsAt, IsCallable, IsPosted, IsQuiet}
 use Rattle.qc_top.specs.Engine.{IsIdle, IsOne, Stands}
@@ -214,3 +216,19 @@ phase_fits decl script e st below =
     let phases : phase_of e.history ≤ length e.history = (bounds decl script e st).phases in
     let same : phase_of e.history ≡ e.last_phase = st.phase_is in
     omega arith
+
+-- the loop before its first event
+pub starts : (decl : Declaration) (script : Script) → IsOne decl → Stands decl script [] (new_site 0) (new_front 0) [] [] [] false 0 0
+starts decl script one = record {
+  one = one;
+  runs = subst (λ (n : ℕ). Runs (IsLawful decl) decl script [] (replicate n false)) (λ i. one.sites i + one.clients i) begins;
+  site_is = refl;
+  front_is = refl;
+  site_box_is = refl;
+  front_box_is = refl;
+  left_is = refl;
+  busy_is = refl;
+  phase_is = refl;
+  sent_is = refl;
+  numbered = refl;
+}

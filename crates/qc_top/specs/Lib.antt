@@ -1,2 +1,4 @@
 pub mod Engine
 pub mod At
+pub mod Words
+pub mod Top

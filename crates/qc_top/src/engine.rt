@@ -4,7 +4,7 @@
 //! loop's invariant, `IsAt`, says that the history is a run without open
 //! inputs, and that the loop's state is what this run shows.
 
-ghost use Rattle.std.specs.Prelude.{◌≡◌, ◌<◌, ◌≤◌, ◌+◌, ◌^◌, ◌++◌, [], ◌∷◌, true, false, OnOk, OnErr, length, Ok};
+ghost use Rattle.std.specs.Prelude.{◌≡◌, ◌<◌, ◌≤◌, ◌+◌, ◌^◌, ◌++◌, [], ◌∷◌, true, false, IfOk, OnOk, OnErr, length, Ok};
 ghost use Rattle.qc_core.specs.Conduct.{IsRun};
 ghost use Rattle.qc_front.specs.State.{new_front};
 ghost use Rattle.qc_site.specs.Site.{new_site};
@@ -77,7 +77,7 @@ impl Engine {
     /// The loop before its first event.
     pub fn new(alloc: Global, decl: &Declaration, script: &Script) -> Result<Engine, OutOfMemory>
         requires { IsOne decl.now }
-        ensures { OnOk result (IsOne decl.now) }
+        ensures { IfOk result (λ engine. IsAt decl.now script.now engine) }
     {
         Ok(Engine {
             history: History::new(alloc),
@@ -93,7 +93,7 @@ impl Engine {
     }
 
     /// The history so far.
-    pub fn history(self) -> History
+    pub fn into_history(self) -> History
         ensures { result ≡ self.history }
     {
         let Engine {

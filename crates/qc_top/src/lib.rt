@@ -5,5 +5,9 @@
 #![tactic(auto)]
 
 mod engine;
+mod top;
+mod words;
 
-pub use engine::{End, Engine};
+pub use qc_msg::What;
+pub use qc_report::{Cause, cause_text, text};
+pub use top::{Ended, quorum_words};

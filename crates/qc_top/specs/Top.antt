@@ -1,0 +1,63 @@
+-- What the top call leaves: a run of the words' script, its text, and a cause that is due.
+use Rattle.std.specs.Prelude.{◌≡◌, ℕ, true, ◌++◌, List, [], ◌∷◌, Option, Some, None, MatchOption}
+use Rattle.qc_core.specs.Conduct.{IsRun}
+use Rattle.qc_decl.specs.One.{one}
+use Rattle.qc_msg.specs.Steps.{Entry}
+use Rattle.qc_outside.specs.declared.shelf.ShelfFault.{ShelfFault}
+use Rattle.qc_outside.specs.declared.shelf.ShelfFault.TheVariants as faults
+use Rattle.qc_outside.specs.Shelf.{Files}
+use Rattle.qc_report.specs.declared.cause.Cause.{Cause}
+use Rattle.qc_report.specs.declared.cause.Cause.TheVariants as causes
+use Rattle.qc_report.specs.Text.{text_of}
+use Rattle.qc_script.specs.declared.script.Script.{Script}
+use Rattle.qc_top.specs.At.{IsBelow, HasReached}
+use Rattle.qc_top.specs.Words.{script_in, script_named}
+
+-- the history is a run of the script, and is empty where there is none
+abbrev pub RunsScript : Option Script → List Entry → Type 0
+RunsScript None h = h ≡ []
+RunsScript (Some script) h = IsRun one script h
+
+-- The history is a run of the words' script, where the shelf tells its files. It is empty where they name none.
+abbrev pub RunsWords : Option Files → List (List ℕ) → List Entry → Type 0
+RunsWords (Some files) words h = RunsScript (script_in files words) h
+RunsWords None words h = MatchOption (script_named words) (h ≡ []) (λ name. (script : Script) × IsRun one script h)
+
+-- the loop's answers: a limit is told exactly where it was reached
+abbrev pub IsFullCause : Cause → List Entry → Type 0
+IsFullCause (causes.Full what number) h = HasReached what number h
+IsFullCause causes.Done h = IsBelow h
+IsFullCause causes.Sink h = IsBelow h
+IsFullCause (causes.Shelf script fault) h = h ≡ []
+IsFullCause causes.NotBuilt h = h ≡ []
+IsFullCause causes.OutOfMemory h = Unit {0}
+
+-- what a telling sink took: the whole text where all was done, a part of it where the sink failed, and else nothing
+
+abbrev pub IsPrefixOf : List ℕ → List ℕ → List ℕ → Type 0
+IsPrefixOf old text new = (front : List ℕ) × (back : List ℕ) × (front ++ back ≡ text) × (new ≡ old ++ front)
+
+abbrev pub Printed : List ℕ → List ℕ → Cause → List ℕ → Type 0
+Printed text old causes.Done new = new ≡ old ++ text
+Printed text old causes.Sink new = IsPrefixOf old text new
+Printed text old (causes.Full what number) new = new ≡ old
+Printed text old (causes.Shelf script fault) new = new ≡ old
+Printed text old causes.NotBuilt new = new ≡ old
+Printed text old causes.OutOfMemory new = new ≡ old
+
+abbrev pub PrintsBetween : List ℕ → Option (List ℕ) → Cause → Option (List ℕ) → Type 0
+PrintsBetween text (Some old) cause (Some new) = Printed text old cause new
+PrintsBetween text None cause None = Unit {0}
+PrintsBetween text None cause (Some new) = ⊥
+PrintsBetween text (Some old) cause None = ⊥
+
+abbrev pub PrintsScript : Option Script → List Entry → Option (List ℕ) → Cause → Option (List ℕ) → Type 0
+PrintsScript None h old cause new = new ≡ old
+PrintsScript (Some script) h old cause new = PrintsBetween (text_of one script h) old cause new
+
+-- the cause for a file that wasn't taken; want of memory is no fault of the shelf
+abbrev pub cause_of_shelf : ShelfFault → Cause
+cause_of_shelf faults.OutOfMemory = causes.OutOfMemory
+cause_of_shelf faults.Missing = causes.Shelf true faults.Missing
+cause_of_shelf faults.TooLong = causes.Shelf true faults.TooLong
+cause_of_shelf faults.Failed = causes.Shelf true faults.Failed
