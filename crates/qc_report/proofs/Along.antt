@@ -1,5 +1,5 @@
 -- A site's state along a history.
-use Rattle.std.proofs.Common.{◌≡◌, ℕ, ◌+◌, ◌<◌, Bool, true, false, cond, List, [], ◌∷◌, ◌++◌, Option, Some, None, length, get_or, map, take, drop, sym, ap, refl, ◌∙◌}
+use Rattle.std.proofs.Common.{◌≡◌, ℕ, ◌+◌, ◌<◌, Bool, true, false, cond, List, [], ◌∷◌, ◌++◌, Option, Some, length, get_or, drop, sym, ap, refl, ◌∙◌}
 use Rattle.std.specs.Prelude.{◌==◌, fold, slice_get, option_to_list}
 use Rattle.std.proofs.lemmas.List.Sums.{fold-append}
 use Rattle.qc_msg.specs.declared.message.Envelope.{Envelope}
@@ -46,9 +46,9 @@ pub walk_more : (number : ℕ) (h : List Entry) (i : ℕ) (x d : Entry) (site af
     → (fold site_does (moved after no_turn) (deeds number ms' (drop (i + 1) h))).site ≡ end
 walk_more number h i x d site after end ms ms' l e a m known =
     same_site (deeds number ms' (drop (i + 1) h)) (moved after no_turn) (fold site_does (moved site no_turn) (cond (x.actor == number) (deed_at ms x.step) []))
-      (a ∙ stepped (x.actor == number) site ms x.step)
+    (a ∙ stepped (x.actor == number) site ms x.step)
     ∙ ap (λ (move : SiteMove). move.site)
-      (sym (fold-append site_does (moved site no_turn) (cond (x.actor == number) (deed_at ms x.step) []) (deeds number ms' (drop (i + 1) h))))
+    (sym (fold-append site_does (moved site no_turn) (cond (x.actor == number) (deed_at ms x.step) []) (deeds number ms' (drop (i + 1) h))))
     ∙ ap (λ (es : List Envelope). (fold site_does (moved site no_turn) (cond (x.actor == number) (deed_at ms x.step) [] ++ deeds number es (drop (i + 1) h))).site) m
     ∙ ap (λ (es : List Entry). (fold site_does (moved site no_turn) (deeds number ms es)).site) (sym (rest h i x d l e))
     ∙ known

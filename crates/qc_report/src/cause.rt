@@ -110,7 +110,12 @@ fn full_text(page: &mut Page, what: What, number: u64) -> Result<(), OutOfMemory
     ensures { OnOk result (page.new ≡ page.old ++ cause_text_of (Cause.Full what number)) }
 {
     let mut digits = Buffer::new();
-    page.put_all(&["quorum: full: ", what_word(what), digits.format(number), "\n"])
+    page.put_all(&[
+        "quorum: full: ",
+        what_word(what),
+        digits.format(number),
+        "\n",
+    ])
 }
 
 /// The word of a quantity, and a space.

@@ -1,6 +1,5 @@
 use Rattle.std.proofs.Common.{◌≡◌, List, ℕ, Some, None, sym, ap, ◌∙◌}
 use Rattle.std.specs.Prelude.{fold}
-use Rattle.qc_entry.specs.declared.line.Op.{Op}
 use Rattle.qc_report.specs.Replay.{replayed}
 use Rattle.qc_report.proofs.Missing.{commit_missing}
 use Rattle.qc_report.proofs.replay.replay.Goals as goal
@@ -8,8 +7,8 @@ use Rattle.qc_report.proofs.replay.replay.Goals as goal
 pub returns-then-not-replay_ops : goal.returns-then-not-replay_ops
 returns-then-not-replay_ops c =
     let missing : fold (replayed c.args.decl.now) (Some c.commits.states.items) c.commit-item.result.ops ≡ None =
-        ap (fold (replayed c.args.decl.now) (Some c.commits.states.items)) (sym c.items.ensures)
-        ∙ ap (λ (s : List ℕ). fold (replayed c.args.decl.now) (Some s) c.items.result.now) (sym c.deref_mut.ensures.value)
-        ∙ c.if-not-replay_ops.ensures in
+    ap (fold (replayed c.args.decl.now) (Some c.commits.states.items)) (sym c.items.ensures)
+    ∙ ap (λ (s : List ℕ). fold (replayed c.args.decl.now) (Some s) c.items.result.now) (sym c.deref_mut.ensures.value)
+    ∙ c.if-not-replay_ops.ensures in
     sym (commit_missing c.args.decl.now c.commits.states.items c.args.commits.now c.commits.commit-index _ _ c.commits-test.true c.commit-item.is missing)
     ∙ c.commits.invariant
