@@ -1,5 +1,5 @@
 -- A replay of committed operations on one copy of each object, and the states that it ends in.
-use Rattle.std.specs.Prelude.{ℕ, List, [], ◌∷◌, ◌++◌, Option, Some, None, codes, fold, map, flat_map, length, slice_get, slice_set, option_map, option_and_then}
+use Rattle.std.specs.Prelude.{ℕ, List, [], ◌++◌, Option, Some, None, codes, fold, map, flat_map, length, slice_get, slice_set, option_map, option_and_then}
 use Rattle.std.specs.List.{range_with_len}
 use Rattle.std.specs.Option.{option_map_or}
 use Rattle.qc_entry.specs.declared.line.Op.{Op}

@@ -1,4 +1,4 @@
-use Rattle.std.proofs.Common.{◌≡◌, List, map, refl, ap, sym, ◌∙◌}
+use Rattle.std.proofs.Common.{map, refl, ap, ◌∙◌}
 use Rattle.qc_report.specs.Keys.{commit_of}
 use Rattle.qc_report.proofs.Keys.{record_added, nothing_added}
 use Rattle.qc_report.proofs.committed.committed.Goals as goal

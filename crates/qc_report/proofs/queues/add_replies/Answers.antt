@@ -1,4 +1,4 @@
-use Rattle.std.proofs.Common.{◌≡◌, [], List, length, get_or, refl, ap, sym, ◌∙◌}
+use Rattle.std.proofs.Common.{[], List, length, get_or, ap, sym, ◌∙◌}
 use Rattle.std.proofs.lemmas.List.{length-set}
 use Rattle.qc_msg.specs.declared.step.Reply.{Reply}
 use Rattle.qc_report.proofs.Told.{told_reply, told_nothing}

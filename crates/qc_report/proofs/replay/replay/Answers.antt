@@ -1,6 +1,5 @@
 use Rattle.std.proofs.Common.{◌≡◌, List, ℕ, Some, None, sym, ap, ◌∙◌}
 use Rattle.std.specs.Prelude.{fold}
-use Rattle.qc_entry.specs.declared.line.Op.{Op}
 use Rattle.qc_report.specs.Replay.{replayed}
 use Rattle.qc_report.proofs.Missing.{commit_missing}
 use Rattle.qc_report.proofs.replay.replay.Goals as goal

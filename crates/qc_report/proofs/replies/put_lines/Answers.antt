@@ -1,4 +1,4 @@
-use Rattle.std.proofs.Common.{rules, ◌≡◌, refl, ap, sym, ◌∙◌, subst, length, List, [], arith, get_or}
+use Rattle.std.proofs.Common.{refl, ap, ◌∙◌, length, List, [], get_or}
 use Rattle.std.proofs.lemmas.List.{length-set}
 use Rattle.qc_msg.specs.declared.step.Reply.{Reply}
 use Rattle.qc_report.proofs.Asked.{left_more, first_reply, text_more}

@@ -1,7 +1,5 @@
-use Rattle.std.proofs.Common.{◌≡◌, ◌++◌, List, map, sym, ap, ◌∙◌}
-use Rattle.std.specs.Prelude.{option_to_list}
+use Rattle.std.proofs.Common.{◌≡◌, List, map, ap, ◌∙◌}
 use Rattle.qc_msg.specs.declared.message.Envelope.{Envelope}
-use Rattle.qc_msg.specs.Mail.{envelope_of}
 use Rattle.qc_report.specs.Letters.{envelope_in, site_step}
 use Rattle.qc_report.specs.declared.walk.Letter.{Letter}
 use Rattle.qc_report.proofs.Along.{walk_more}

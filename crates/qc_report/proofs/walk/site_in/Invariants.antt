@@ -1,6 +1,6 @@
-use Rattle.std.proofs.Common.{◌≡◌, map, drop, take}
+use Rattle.std.proofs.Common.{◌≡◌, map, drop}
 use Rattle.std.specs.Prelude.{fold}
-use Rattle.qc_msg.specs.Mail.{mail, deeds}
+use Rattle.qc_msg.specs.Mail.{deeds}
 use Rattle.qc_site.specs.Site.{moved, no_turn}
 use Rattle.qc_site.specs.Conduct.{site_does}
 use Rattle.qc_report.specs.Letters.{envelope_in}
