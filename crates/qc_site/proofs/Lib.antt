@@ -2,3 +2,4 @@ pub mod Within
 pub mod Entries
 pub mod Holding
 pub mod Lines
+pub mod Order

@@ -17,15 +17,20 @@ same_tx a b = (a.client == b.client) && ((a.life == b.life) && (a.number == b.nu
 abbrev pub lock_cmp : ReadLock → ReadLock → Ordering
 lock_cmp = then_cmp (on (λ l. l.object) nat_cmp) (on (λ l. l.inv) nat_cmp)
 
--- the lock at its place in ascending locks, once
-abbrev pub with_lock : List ReadLock → ReadLock → List ReadLock
-with_lock [] lock = lock ∷ []
-with_lock (l ∷ ls) lock = by_order (lock_cmp lock l) (lock ∷ l ∷ ls) (lock ∷ ls) (l ∷ with_lock ls lock)
+-- own lines by operation
+abbrev pub own_cmp : OwnLine → OwnLine → Ordering
+own_cmp = on (λ o. o.op) nat_cmp
 
--- the own line at its place by operation, instead of one of the same operation
+-- the item at its place among ascending items, instead of one that ties with it
+abbrev pub inserted : {A : Type 0} → (A → A → Ordering) → List A → A → List A
+inserted cmp [] x = x ∷ []
+inserted cmp (y ∷ ys) x = by_order (cmp x y) (x ∷ y ∷ ys) (x ∷ ys) (y ∷ inserted cmp ys x)
+
+abbrev pub with_lock : List ReadLock → ReadLock → List ReadLock
+with_lock locks lock = inserted lock_cmp locks lock
+
 abbrev pub with_own : List OwnLine → OwnLine → List OwnLine
-with_own [] line = line ∷ []
-with_own (o ∷ os) line = by_order (nat_cmp line.op o.op) (line ∷ o ∷ os) (line ∷ os) (o ∷ with_own os line)
+with_own own line = inserted own_cmp own line
 
 -- own lines with others, one after another
 abbrev pub with_owns : List OwnLine → List OwnLine → List OwnLine

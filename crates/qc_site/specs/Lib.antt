@@ -3,3 +3,4 @@ pub mod Site
 pub mod Conduct
 pub mod Within
 pub mod Laws
+pub mod Order

@@ -14,6 +14,7 @@ ghost use Rattle.qc_site.specs.Held.{entry_of};
 ghost use Rattle.qc_site.specs.Site.{SiteState};
 ghost use Rattle.qc_site.specs.Conduct.{site_on, site_after, prepared_of};
 ghost use Rattle.qc_site.specs.Within.{SiteWithin, MoveWithin, DeedsWithin};
+ghost use Rattle.qc_site.specs.Order.{SiteSorted, AreDeedsSorted};
 ghost use Rattle.qc_site.specs.Laws.{HoldsLock, IsSingle, decides, brought};
 
 /// A site's clocks, and those of its turn, stay within a bound that the
@@ -63,4 +64,10 @@ pub fn decisions_free()
 pub fn entries_stay_single()
     ensures { (s : SiteState) (from number : ℕ) (message : Message)
         → IsSingle s.held → IsSingle (site_on s from number message).site.held }
+{}
+
+/// Locks ascend by object and invocation, own lines by operation, and lines in
+/// their order, each once, whatever a site heard.
+pub fn sites_stay_sorted()
+    ensures { (number : ℕ) (deeds : List Deed) → AreDeedsSorted deeds → SiteSorted (site_after number deeds).site }
 {}
