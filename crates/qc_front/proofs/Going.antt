@@ -1,5 +1,5 @@
 -- A command is told at once or asks, and so does each answer to its requests.
-use Rattle.std.proofs.Common.{◌≡◌, ℕ, ◌+◌, ◌==◌, nat_lt, nat_le, nat_eq, Bool, true, false, is_some, cond, List, [], ◌∷◌, length, Option, Some, None, refl, sym, ap, ◌∙◌, eq-eqb}
+use Rattle.std.proofs.Common.{◌≡◌, ℕ, nat_lt, nat_le, nat_eq, true, is_some, cond, List, length, Option, Some, None, refl, sym, ap, ◌∙◌, eq-eqb}
 use Rattle.qc_decl.specs.declared.declaration.Declaration.{Declaration}
 use Rattle.qc_decl.specs.Lookup.{read_need_of, append_need_of}
 use Rattle.qc_entry.specs.declared.line.Line.{Line}
@@ -8,20 +8,18 @@ use Rattle.qc_front.specs.declared.front.Front.{Front}
 use Rattle.qc_front.specs.declared.round.Round.{Round}
 use Rattle.qc_front.specs.declared.round.Round.TheVariants.{Idle, Reading, Appending, Voting}
 use Rattle.qc_front.specs.Conduct.{called, heard}
-use Rattle.qc_front.specs.Ending.{begins, decides, commits, aborts, gives_up, promised, forgotten}
+use Rattle.qc_front.specs.Ending.{begins, commits, aborts, promised, forgotten}
 use Rattle.qc_front.specs.Fits.{HasRoom}
-use Rattle.qc_front.specs.Going.{is_idle, IsRequest, IsAnswer, Asks, GoesOn}
-use Rattle.qc_front.specs.Moves.{FrontMove, moved, quiet, telling, asking}
+use Rattle.qc_front.specs.Going.{is_idle, IsAnswer, GoesOn}
+use Rattle.qc_front.specs.Moves.{FrontMove, moved, quiet}
 use Rattle.qc_front.specs.Operation.{answered_by, performs, granted, joined}
-use Rattle.qc_front.specs.State.{first_epoch, most_operations, passed, turned, is_awaited}
+use Rattle.qc_front.specs.State.{first_epoch, most_operations, passed, is_awaited}
 use Rattle.qc_front.specs.View.{answer_of}
 use Rattle.qc_front.proofs.Branches.{branch}
 use Rattle.qc_msg.specs.declared.message.Message.{Message}
 use Rattle.qc_msg.specs.declared.message.Message.TheVariants.{Read, Append, Prepare, Granted, Stale, Yes, Decision}
 use Rattle.qc_msg.specs.declared.step.Command.{Command}
 use Rattle.qc_msg.specs.declared.step.Command.TheVariants.{Begin, Do, Commit, Abort}
-use Rattle.qc_msg.specs.declared.step.Reply.{Reply}
-use Rattle.qc_msg.specs.declared.step.Turn.{Turn}
 
 -- a turn that tells, of a client that waits for no answer
 tells : (decl : Declaration) (move : FrontMove) → is_some move.turn.told ≡ true → is_idle move.front.round ≡ true → GoesOn decl move

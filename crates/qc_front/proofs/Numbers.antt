@@ -1,5 +1,5 @@
 -- A client's request has the number that it is told, and a command's reply is told at its end.
-use Rattle.std.proofs.Common.{◌≡◌, ℕ, ◌+◌, ◌<◌, ◌≤◌, ◌&&◌, nat_lt, nat_le, nat_eq, Bool, true, false, not, is_some, cond, List, [], ◌∷◌, length, fold, Option, Some, None, refl, sym, ap, ◌∙◌, arith}
+use Rattle.std.proofs.Common.{◌≡◌, ℕ, ◌+◌, nat_lt, nat_le, nat_eq, Bool, true, false, cond, List, [], ◌∷◌, length, Option, Some, None, refl, sym, ap, arith}
 use Rattle.qc_decl.specs.declared.declaration.Declaration.{Declaration}
 use Rattle.qc_decl.specs.Actors.{first_site}
 use Rattle.qc_decl.specs.Lookup.{read_need_of, append_need_of}
@@ -8,27 +8,24 @@ use Rattle.qc_front.specs.declared.begun.Begun.{Begun}
 use Rattle.qc_front.specs.declared.front.Front.{Front}
 use Rattle.qc_front.specs.declared.round.Round.{Round}
 use Rattle.qc_front.specs.declared.round.Round.TheVariants.{Idle, Reading, Appending, Voting}
-use Rattle.qc_front.specs.Conduct.{called, heard, front_does}
-use Rattle.qc_front.specs.Ending.{begins, decides, commits, commit_turn, next_stamp, aborts, gives_up, promised, forgotten}
+use Rattle.qc_front.specs.Conduct.{called, heard}
+use Rattle.qc_front.specs.Ending.{begins, decides, commits, next_stamp, aborts, gives_up, promised, forgotten}
 use Rattle.qc_front.specs.Fits.{IsNumbered}
-use Rattle.qc_front.specs.Moves.{FrontMove, moved, quiet, telling}
+use Rattle.qc_front.specs.Moves.{moved, quiet}
 use Rattle.qc_front.specs.Going.{is_idle}
 use Rattle.qc_front.specs.Numbers.{IsTold}
 use Rattle.qc_front.specs.Operation.{answered_by, performs, granted, joined}
-use Rattle.qc_front.specs.State.{first_epoch, most_operations, passed, turned, is_awaited, front_sent, told_number}
+use Rattle.qc_front.specs.State.{first_epoch, most_operations, passed, turned, is_awaited, told_number}
 use Rattle.qc_front.specs.View.{answer_of}
 use Rattle.qc_front.proofs.Branches.{branch}
 use Rattle.qc_msg.specs.declared.message.Message.{Message}
 use Rattle.qc_msg.specs.declared.message.Message.TheVariants.{Read, Append, Prepare, Granted, Stale, Yes, Decision}
-use Rattle.qc_msg.specs.declared.message.Outcome.{Outcome}
 use Rattle.qc_msg.specs.declared.message.Outcome.TheVariants.{Committed, Aborted}
 use Rattle.qc_msg.specs.declared.step.Command.{Command}
 use Rattle.qc_msg.specs.declared.step.Command.TheVariants.{Begin, Do, Commit, Abort}
 use Rattle.qc_msg.specs.declared.step.Posting.{Posting}
 use Rattle.qc_msg.specs.declared.step.Record.{Record}
 use Rattle.qc_msg.specs.declared.step.Reply.{Reply}
-use Rattle.qc_msg.specs.declared.step.Turn.{Turn}
-use Rattle.qc_msg.specs.Mail.{sendings}
 
 -- a number that is told already stays
 same_number : (round : Round) (awaits : Option ℕ) (first : ℕ) → IsNumbered round awaits → told_number round awaits first ≡ awaits

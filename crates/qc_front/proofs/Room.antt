@@ -1,5 +1,5 @@
 -- A transaction has room for the operation that runs.
-use Rattle.std.proofs.Common.{◌≡◌, ℕ, ◌+◌, ◌<◌, ◌≤◌, nat_lt, nat_le, nat_eq, Bool, true, false, List, [], ◌∷◌, ◌++◌, length, fold, Option, Some, None, refl, arith}
+use Rattle.std.proofs.Common.{◌≡◌, ℕ, ◌<◌, ◌≤◌, nat_lt, nat_le, nat_eq, List, [], ◌∷◌, ◌++◌, length, fold, Option, Some, None, refl, arith}
 use Rattle.std.proofs.lemmas.Bool.{leb-false}
 use Rattle.std.proofs.lemmas.List.{length-append}
 use Rattle.qc_decl.specs.declared.declaration.Declaration.{Declaration}
@@ -14,7 +14,7 @@ use Rattle.qc_front.specs.Conduct.{called, heard, front_does, front_after}
 use Rattle.qc_front.specs.Ending.{begins, decides, commits, aborts, gives_up, promised, forgotten}
 use Rattle.qc_front.specs.Fits.{HasRoom}
 use Rattle.qc_front.specs.Moves.{FrontMove, moved, quiet}
-use Rattle.qc_front.specs.Operation.{answered_by, answered, executes, performs, granted, joined}
+use Rattle.qc_front.specs.Operation.{answered_by, performs, granted, joined}
 use Rattle.qc_front.specs.State.{first_epoch, most_operations, fresh, next_tx, passed, is_awaited, new_front}
 use Rattle.qc_front.specs.View.{answer_of}
 use Rattle.qc_front.proofs.Branches.{branch, branch_by}

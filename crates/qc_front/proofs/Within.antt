@@ -1,5 +1,5 @@
 -- A client's clocks and counts stay within a bound that its inputs keep to.
-use Rattle.std.proofs.Common.{◌≡◌, ℕ, ◌+◌, ◌<◌, ◌≤◌, max, nat_lt, nat_le, nat_eq, Bool, true, false, cond, List, [], ◌∷◌, length, Option, Some, None, refl, arith}
+use Rattle.std.proofs.Common.{ℕ, ◌+◌, ◌<◌, ◌≤◌, nat_lt, nat_le, nat_eq, Bool, true, false, cond, List, [], ◌∷◌, length, Option, Some, None, arith}
 use Rattle.qc_decl.specs.declared.declaration.Declaration.{Declaration}
 use Rattle.qc_decl.specs.Actors.{first_site}
 use Rattle.qc_decl.specs.Lookup.{read_need_of, append_need_of}
@@ -9,10 +9,10 @@ use Rattle.qc_front.specs.declared.front.Front.{Front}
 use Rattle.qc_front.specs.declared.round.Round.{Round}
 use Rattle.qc_front.specs.declared.round.Round.TheVariants.{Idle, Reading, Appending, Voting}
 use Rattle.qc_front.specs.Conduct.{called, heard}
-use Rattle.qc_front.specs.Ending.{decision, begins, decides, prepares, commits, aborts, gives_up, promised, forgotten}
-use Rattle.qc_front.specs.Moves.{FrontMove, moved, quiet, telling}
-use Rattle.qc_front.specs.Operation.{absent, responded, appends, reads, answered_by, answered, executes, performs, granted, joined, met}
-use Rattle.qc_front.specs.State.{first_epoch, most_operations, fresh, next_tx, passed, is_awaited}
+use Rattle.qc_front.specs.Ending.{decision, begins, decides, commits, aborts, gives_up, promised, forgotten}
+use Rattle.qc_front.specs.Moves.{moved, quiet, telling}
+use Rattle.qc_front.specs.Operation.{reads, answered_by, performs, granted, joined}
+use Rattle.qc_front.specs.State.{first_epoch, most_operations, passed, is_awaited}
 use Rattle.qc_front.specs.View.{answer_of}
 use Rattle.qc_front.specs.Within.{BegunWithin, FrontWithin, MoveWithin}
 use Rattle.qc_front.proofs.Branches.{branch}
@@ -23,8 +23,8 @@ use Rattle.qc_msg.specs.declared.step.Command.{Command}
 use Rattle.qc_msg.specs.declared.step.Command.TheVariants.{Begin, Do, Commit, Abort}
 use Rattle.qc_msg.specs.declared.step.Reply.{Reply}
 use Rattle.qc_msg.specs.declared.step.Reply.TheVariants as replies
-use Rattle.qc_msg.specs.Within.{LinesWithin, OutcomeWithin, MessageWithin, ReplyWithin, SendsWithin, ToldWithin, TurnWithin}
-use Rattle.qc_msg.proofs.Within.{LinesWithin-le, LinesWithin-union, LinesWithin-of_object, MessageWithin-le}
+use Rattle.qc_msg.specs.Within.{LinesWithin, OutcomeWithin, MessageWithin, ReplyWithin, SendsWithin}
+use Rattle.qc_msg.proofs.Within.{LinesWithin-le, LinesWithin-union, LinesWithin-of_object}
 
 -- a greater bound
 

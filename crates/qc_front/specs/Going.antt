@@ -6,7 +6,7 @@ use Rattle.qc_front.specs.declared.round.Round.{Round}
 use Rattle.qc_front.specs.declared.round.Round.TheVariants.{Idle, Reading, Appending, Voting}
 use Rattle.qc_front.specs.Moves.{FrontMove}
 use Rattle.qc_msg.specs.declared.message.Message.{Message}
-use Rattle.qc_msg.specs.declared.message.Message.TheVariants.{Read, Append, Prepare, Granted, Stale, Yes, Decision}
+use Rattle.qc_msg.specs.declared.message.Message.TheVariants.{Read, Append, Prepare, Granted, Stale, Yes}
 
 -- whether the client waits for no answer
 abbrev pub is_idle : Round → Bool

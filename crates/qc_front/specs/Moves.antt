@@ -1,5 +1,5 @@
 -- A client with the turn that it takes, and turns of one kind.
-use Rattle.std.specs.Prelude.{ℕ, List, [], ◌∷◌, Option, Some, None}
+use Rattle.std.specs.Prelude.{ℕ, [], ◌∷◌, Some, None}
 use Rattle.qc_front.specs.declared.front.Front.{Front}
 use Rattle.qc_msg.specs.declared.message.Message.{Message}
 use Rattle.qc_msg.specs.declared.step.Reply.{Reply}

@@ -1,10 +1,10 @@
 //! A client of one site with one register: its part of a first transaction,
 //! and what it refuses and puts aside.
 
-ghost use Rattle.std.specs.Prelude.{◌<◌, IsTrue};
-ghost use Rattle.qc_front.specs.Fits.{FrontFits, HasRoom};
+ghost use Rattle.std.specs.Prelude.{◌<◌, Some, None, IsTrue, IfOk, IfSome};
+ghost use Rattle.qc_front.specs.Fits.{FrontFits, HasRoom, ClockFits};
 
-use crate::Front;
+use crate::{Begun, Front, Round};
 use qc_decl::{Declaration, Kind};
 use qc_entry::{Log, Op, OwnLine};
 use qc_list::{List, OutOfMemory};
@@ -83,265 +83,375 @@ fn has_room(front: &Front) -> bool
     ensures { IsTrue result → HasRoom front.now.begun front.now.round }
 {
     match &front.begun {
-        None => true,
-        Some(begun) => begun.ops.items().len() < 16,
+        None => is_idle(front.round),
+        Some(begun) => begun_has_room(begun, front.round),
     }
 }
 
-/// A client with its declaration.
-#[derive(Drop)]
-struct Bench {
-    decl: Declaration,
-    front: Front,
+fn begun_has_room(begun: &Begun, round: Round) -> bool
+    ensures { IsTrue result → HasRoom (Some begun.now) round }
+{
+    let count = begun.ops.items().len();
+    match round {
+        Round::Idle | Round::Voting => count <= 16,
+        Round::Reading { .. } | Round::Appending { .. } => count < 16,
+    }
 }
 
-impl Bench {
-    fn new(alloc: Global) -> Result<Bench, Fail> {
-        Ok(Bench {
-            decl: declaration(alloc)?,
-            front: Front::new(alloc, 0)?,
-        })
+fn is_idle(round: Round) -> bool
+    ensures { IsTrue result → HasRoom None round }
+{
+    match round {
+        Round::Idle => true,
+        Round::Reading { .. } | Round::Appending { .. } | Round::Voting => false,
     }
+}
 
-    /// The turn for a command, whose message is numbered `number`.
-    fn call(
-        &mut self,
-        rt: &impl Abort,
-        alloc: Global,
-        command: Command,
-        number: u32,
-    ) -> Result<Turn, Fail> {
-        assert!(rt; may_call(&self.front, &self.decl));
-        let turn = self.front.command(alloc, &self.decl, &command)?;
-        self.front.sent(number);
-        Ok(turn)
-    }
+/// What a client is given: a command, or an answer to the request of this
+/// number. Grants are empty, of life 1 and clock 0.
+#[derive(Clone, Copy, Debug)]
+enum Given {
+    Command(Command),
+    Grant(u32),
+    Promise(u32),
+    Forget(u32),
+}
 
-    /// The turn for an empty grant, whose message is numbered `number`.
-    fn grant(
-        &mut self,
-        rt: &impl Abort,
-        alloc: Global,
-        to: u32,
-        number: u32,
-    ) -> Result<Turn, Fail> {
-        assert!(rt; may_call(&self.front, &self.decl));
-        let granted = Message::Granted {
+/// The message of an answer.
+fn answer(alloc: Global, given: Given) -> Result<Option<Message>, OutOfMemory>
+    ensures { IfOk result (λ answer. IfSome answer (λ message. ClockFits message)) }
+{
+    Ok(match given {
+        Given::Command(_) => None,
+        Given::Grant(to) => Some(Message::Granted {
             to,
             life: 1,
             clock: 0,
             log: Log::new(alloc)?,
-        };
-        let turn = self
-            .front
-            .answer(alloc, &self.decl, 0, &Input::Answer(granted))?;
-        self.front.sent(number);
-        Ok(turn)
-    }
-
-    /// The turn for a promise.
-    fn promise(
-        &mut self,
-        rt: &impl Abort,
-        alloc: Global,
-        to: u32,
-        clock: u64,
-    ) -> Result<Turn, Fail> {
-        assert!(rt; may_call(&self.front, &self.decl));
-        assert!(rt; clock < 1000);
-        let yes = Input::Answer(Message::Yes { to, clock });
-        Ok(self.front.answer(alloc, &self.decl, 0, &yes)?)
-    }
-
-    /// The turn for the answer that nothing is held.
-    fn forget(&mut self, rt: &impl Abort, alloc: Global, to: u32) -> Result<Turn, Fail> {
-        assert!(rt; may_call(&self.front, &self.decl));
-        let stale = Input::Answer(Message::Stale { to });
-        Ok(self.front.answer(alloc, &self.decl, 0, &stale)?)
-    }
+        }),
+        Given::Promise(to) => Some(Message::Yes { to, clock: 0 }),
+        Given::Forget(to) => Some(Message::Stale { to }),
+    })
 }
 
-/// Whether a turn only tells this reply.
-fn tells(turn: &Turn, reply: Reply) -> bool {
-    turn.write.is_none() && turn.sends.items().is_empty() && turn.told == Some(reply)
-}
-
-/// The one message that a turn sends to site 0, where it does nothing else.
-fn request(turn: &Turn) -> Option<&Message> {
-    if turn.write.is_some() || turn.told.is_some() {
-        return None;
+/// The client's turn, or `None` where it can't be called.
+fn turn_of(
+    alloc: Global,
+    decl: &Declaration,
+    front: &mut Front,
+    given: Given,
+) -> Result<Option<Turn>, OutOfMemory> {
+    if !may_call(front, decl) {
+        return Ok(None);
     }
-    sent(turn)
+    let turn = match answer(alloc, given)? {
+        Some(message) => front.answer(alloc, decl, 0, &Input::Answer(message))?,
+        None => match given {
+            Given::Command(command) => front.command(alloc, decl, &command)?,
+            _ => return Ok(None),
+        },
+    };
+    Ok(Some(turn))
 }
 
-/// The one message that a turn sends to site 0.
-fn sent(turn: &Turn) -> Option<&Message> {
+/// A turn in short: what its one message to site 0 is.
+#[derive(Clone, Copy, Debug, PartialEq, Eq)]
+enum Sent {
+    Nothing,
+    Read {
+        tx: TxId,
+        epoch: u8,
+        life: u32,
+        object: u8,
+        inv: u8,
+    },
+    Append {
+        tx: TxId,
+        epoch: u8,
+        life: u32,
+        object: u8,
+        lines: usize,
+        owns: usize,
+        last: Option<OwnLine>,
+    },
+    Prepare {
+        tx: TxId,
+        epoch: u8,
+        life: u32,
+    },
+    Decision {
+        tx: TxId,
+        verdict: Outcome,
+    },
+    Other,
+}
+
+fn sent_by(turn: &Turn) -> Sent {
     match turn.sends.items() {
+        [] => Sent::Nothing,
         [posting] => {
             if posting.to == 0 {
-                Some(&posting.message)
+                shortened(&posting.message)
             } else {
-                None
+                Sent::Other
             }
+        }
+        _ => Sent::Other,
+    }
+}
+
+fn shortened(message: &Message) -> Sent {
+    match message {
+        Message::Read {
+            tx,
+            epoch,
+            life,
+            object,
+            inv,
+        } => Sent::Read {
+            tx: *tx,
+            epoch: *epoch,
+            life: *life,
+            object: *object,
+            inv: *inv,
+        },
+        Message::Append {
+            tx,
+            epoch,
+            life,
+            object,
+            view,
+            own,
+        } => Sent::Append {
+            tx: *tx,
+            epoch: *epoch,
+            life: *life,
+            object: *object,
+            lines: view.lines().len(),
+            owns: own.items().len(),
+            last: own.items().last().copied(),
+        },
+        Message::Prepare { tx, epoch, life } => Sent::Prepare {
+            tx: *tx,
+            epoch: *epoch,
+            life: *life,
+        },
+        Message::Decision { tx, verdict } => Sent::Decision {
+            tx: *tx,
+            verdict: *verdict,
+        },
+        Message::Granted { .. } | Message::Stale { .. } | Message::Yes { .. } => Sent::Other,
+    }
+}
+
+/// The commit that a turn writes in short, with its first and last operation.
+type Written = (Stamp, TxId, usize, Option<Op>, Option<Op>);
+
+fn written(turn: &Turn) -> Option<Written> {
+    match &turn.write {
+        Some(Record::Commit(commit)) => {
+            let ops = commit.ops.items();
+            Some((
+                commit.stamp,
+                commit.tx,
+                ops.len(),
+                ops.first().copied(),
+                ops.last().copied(),
+            ))
         }
         _ => None,
     }
 }
 
-/// Whether a turn only appends this event of the transaction's first
-/// operation, with an empty view.
-fn appends(turn: &Turn, name: TxId, line: OwnLine) -> bool {
-    match request(turn) {
-        Some(
-            Message::Append {
-                tx,
-                epoch,
-                life,
-                object,
-                view,
-                own,
-            },
-        ) => {
-            *tx == name
-                && (*epoch, *life, *object) == (1, 0, 0)
-                && view.lines().is_empty()
-                && own.items() == [line].as_slice()
-        }
-        _ => false,
+/// What is given, the number of the next message, and what the turn sends and
+/// tells.
+type Case = (Given, u32, Sent, Option<Reply>);
+
+/// Runs the cases in order, and gives the commit of the last turn.
+fn run(rt: &impl Abort, alloc: Global, cases: &[Case]) -> Result<Option<Written>, Fail> {
+    let decl = declaration(alloc)?;
+    let mut front = Front::new(alloc, 0)?;
+    let mut last = None;
+    for (given, number, sends, told) in cases {
+        let turn = turn_of(alloc, &decl, &mut front, *given)?.ok_or("it can't be called")?;
+        front.sent(*number);
+        assert_eq!(rt; sent_by(&turn), *sends, "at {given:?}");
+        assert_eq!(rt; turn.told, *told, "at {given:?}");
+        last = written(&turn);
     }
+    Ok(last)
 }
 
-/// Whether a turn only reads, for invocation 0 on object 0.
-fn reads(turn: &Turn, name: TxId) -> bool {
-    match request(turn) {
-        Some(
-            Message::Read {
-                tx,
-                epoch,
-                life,
-                object,
-                inv,
-            },
-        ) => *tx == name && (*epoch, *life, *object, *inv) == (1, 1, 0, 0),
-        _ => false,
-    }
-}
+const FIRST: TxId = TxId {
+    client: 0,
+    life: 1,
+    number: 1,
+};
 
-/// Whether a turn only asks for a promise.
-fn prepares(turn: &Turn, name: TxId) -> bool {
-    match request(turn) {
-        Some(Message::Prepare { tx, epoch, life }) => { *tx == name && (*epoch, *life) == (1, 1) }
-        _ => false,
-    }
-}
+const WRITE: Command = Command::Do { object: 0, inv: 2 };
 
-/// Whether a turn's one message tells this verdict.
-fn decides(turn: &Turn, name: TxId, outcome: Outcome) -> bool {
-    match sent(turn) {
-        Some(Message::Decision { tx, verdict }) => *tx == name && *verdict == outcome,
-        _ => false,
-    }
-}
+const READ: Command = Command::Do { object: 0, inv: 0 };
 
-/// Whether a turn writes this commit.
-fn writes(turn: &Turn, name: TxId, stamp: Stamp, ops: &[Op]) -> bool {
-    match &turn.write {
-        Some(Record::Commit(commit)) => {
-            commit.stamp == stamp && commit.tx == name && commit.ops.items() == ops
-        }
-        _ => false,
+/// The append of W1 as the first operation.
+fn append(tx: TxId) -> Sent {
+    Sent::Append {
+        tx,
+        epoch: 1,
+        life: 0,
+        object: 0,
+        lines: 0,
+        owns: 1,
+        last: Some(OwnLine {
+            op: 1,
+            object: 0,
+            event: 3,
+        }),
     }
 }
 
 #[test]
 fn first_run(rt: HostRuntime) -> Result<(), Fail> {
-    let alloc = rt.alloc();
-    let mut bench = Bench::new(alloc)?;
-    let tx = TxId {
-        client: 0,
-        life: 1,
-        number: 1,
-    };
-    let turn = bench.call(&rt, alloc, Command::Begin, 0)?;
-    assert!(rt; tells(&turn, Reply::Began { tx }));
-
-    let turn = bench.call(&rt, alloc, Command::Do { object: 0, inv: 2 }, 0)?;
-    let line = OwnLine {
-        op: 1,
-        object: 0,
-        event: 3,
-    };
-    assert!(rt; appends(&turn, tx, line));
-    let turn = bench.grant(&rt, alloc, 0, 2)?;
-    assert!(rt; tells(&turn, Reply::Response { resp: 2 }));
-
-    let turn = bench.call(&rt, alloc, Command::Do { object: 0, inv: 0 }, 2)?;
-    assert!(rt; reads(&turn, tx));
-    let turn = bench.grant(&rt, alloc, 2, 4)?;
-    assert!(rt; tells(&turn, Reply::Response { resp: 1 }));
-
-    let turn = bench.call(&rt, alloc, Command::Commit, 4)?;
-    assert!(rt; prepares(&turn, tx));
-    let turn = bench.promise(&rt, alloc, 4, 0)?;
+    let (tx, epoch, life) = (FIRST, 1, 1);
     let stamp = Stamp {
         clock: 1,
         client: 0,
     };
-    let ops = [
-        Op {
-            object: 0,
-            inv: 2,
-            resp: Some(2),
-        },
-        Op {
-            object: 0,
-            inv: 0,
-            resp: Some(1),
-        },
+    let read = Sent::Read {
+        tx,
+        epoch,
+        life,
+        object: 0,
+        inv: 0,
+    };
+    let decision = Sent::Decision {
+        tx,
+        verdict: Outcome::Committed { stamp },
+    };
+    let cases = [
+        (
+            Given::Command(Command::Begin),
+            0,
+            Sent::Nothing,
+            Some(Reply::Began { tx }),
+        ),
+        (Given::Command(WRITE), 0, append(tx), None),
+        (
+            Given::Grant(0),
+            2,
+            Sent::Nothing,
+            Some(Reply::Response { resp: 2 }),
+        ),
+        (Given::Command(READ), 2, read, None),
+        (
+            Given::Grant(2),
+            4,
+            Sent::Nothing,
+            Some(Reply::Response { resp: 1 }),
+        ),
+        (
+            Given::Command(Command::Commit),
+            4,
+            Sent::Prepare { tx, epoch, life },
+            None,
+        ),
+        (
+            Given::Promise(4),
+            6,
+            decision,
+            Some(Reply::Committed { stamp }),
+        ),
     ];
-    assert!(rt; writes(&turn, tx, stamp, &ops));
-    assert!(rt; decides(&turn, tx, Outcome::Committed { stamp }));
-    assert_eq!(rt; turn.told, Some(Reply::Committed { stamp }));
+    let wrote = Op {
+        object: 0,
+        inv: 2,
+        resp: Some(2),
+    };
+    let was_read = Op {
+        object: 0,
+        inv: 0,
+        resp: Some(1),
+    };
+    let written = run(&rt, rt.alloc(), &cases)?;
+    assert_eq!(rt; written, Some((stamp, tx, 2, Some(wrote), Some(was_read))));
     Ok(())
 }
 
 #[test]
 fn refused_and_put_aside(rt: HostRuntime) -> Result<(), Fail> {
-    let alloc = rt.alloc();
-    let mut bench = Bench::new(alloc)?;
-    let mut tx = TxId {
-        client: 0,
-        life: 1,
-        number: 1,
-    };
-    for command in [
-        Command::Do { object: 0, inv: 2 },
-        Command::Commit,
-        Command::Abort,
-    ] {
-        let turn = bench.call(&rt, alloc, command, 0)?;
-        assert!(rt; tells(&turn, Reply::NoTransaction), "at {command:?}");
-    }
-    for (command, reply) in [
-        (Command::Begin, Reply::Began { tx }),
-        (Command::Begin, Reply::Already { tx }),
-        (Command::Do { object: 9, inv: 0 }, Reply::Absent),
-        (Command::Abort, Reply::Dropped),
-    ] {
-        let turn = bench.call(&rt, alloc, command, 0)?;
-        assert!(rt; tells(&turn, reply), "at {command:?}");
-    }
-
+    let mut tx = FIRST;
     tx.number = 2;
-    bench.call(&rt, alloc, Command::Begin, 0)?;
-    bench.call(&rt, alloc, Command::Do { object: 0, inv: 2 }, 5)?;
-    let turn = bench.grant(&rt, alloc, 4, 6)?;
-    assert!(rt; turn.told.is_none() && turn.sends.items().is_empty());
-    bench.grant(&rt, alloc, 5, 6)?;
-    bench.call(&rt, alloc, Command::Commit, 7)?;
-    let turn = bench.forget(&rt, alloc, 7)?;
+    let absent = Command::Do { object: 9, inv: 0 };
     let why = Why::Forgot { site: 0 };
-    assert!(rt; turn.write.is_none() && decides(&turn, tx, Outcome::Aborted));
-    assert_eq!(rt; turn.told, Some(Reply::Aborted { why }));
+    let prepare = Sent::Prepare {
+        tx,
+        epoch: 1,
+        life: 1,
+    };
+    let decision = Sent::Decision {
+        tx,
+        verdict: Outcome::Aborted,
+    };
+    let cases = [
+        (
+            Given::Command(WRITE),
+            0,
+            Sent::Nothing,
+            Some(Reply::NoTransaction),
+        ),
+        (
+            Given::Command(Command::Commit),
+            0,
+            Sent::Nothing,
+            Some(Reply::NoTransaction),
+        ),
+        (
+            Given::Command(Command::Abort),
+            0,
+            Sent::Nothing,
+            Some(Reply::NoTransaction),
+        ),
+        (
+            Given::Command(Command::Begin),
+            0,
+            Sent::Nothing,
+            Some(Reply::Began { tx: FIRST }),
+        ),
+        (
+            Given::Command(Command::Begin),
+            0,
+            Sent::Nothing,
+            Some(Reply::Already { tx: FIRST }),
+        ),
+        (
+            Given::Command(absent),
+            0,
+            Sent::Nothing,
+            Some(Reply::Absent),
+        ),
+        (
+            Given::Command(Command::Abort),
+            0,
+            Sent::Nothing,
+            Some(Reply::Dropped),
+        ),
+        (
+            Given::Command(Command::Begin),
+            0,
+            Sent::Nothing,
+            Some(Reply::Began { tx }),
+        ),
+        (Given::Command(WRITE), 5, append(tx), None),
+        (Given::Grant(4), 6, Sent::Nothing, None),
+        (
+            Given::Grant(5),
+            6,
+            Sent::Nothing,
+            Some(Reply::Response { resp: 2 }),
+        ),
+        (Given::Command(Command::Commit), 7, prepare, None),
+        (Given::Forget(7), 9, decision, Some(Reply::Aborted { why })),
+    ];
+    let written = run(&rt, rt.alloc(), &cases)?;
+    assert_eq!(rt; written, None);
     Ok(())
 }

@@ -1,4 +1,4 @@
-use Rattle.std.proofs.Common.{◌≡◌, Some, drop, map}
+use Rattle.std.proofs.Common.{◌≡◌, drop, map}
 use Rattle.qc_entry.specs.declared.line.Line.{Line}
 use Rattle.qc_entry.specs.Log.{of_object}
 use Rattle.qc_table.specs.Run.{step_of, reached, after}
