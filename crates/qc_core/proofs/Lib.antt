@@ -4,3 +4,4 @@ pub mod Sites
 pub mod OrderLaw
 pub mod Within
 pub mod BoundLaw
+pub mod Calls

@@ -230,7 +230,7 @@ module _ (decl : Declaration) (script : Script) where
           (busy-posted a h b (length (mail h)) turn ∙ ap (λ (t : Bool). cond t (busy_after (is_busy a h) turn.told) (is_busy a h)) is) (law.busy a client)
 
   -- a reply that is told answers a command that runs
-  told_answers : (b : ℕ) (h : List Entry) (open_inputs : List Bool) (turn : Turn) → Law decl script h open_inputs → slice_get open_inputs b ≡ Some true
+  pub told_answers : (b : ℕ) (h : List Entry) (open_inputs : List Bool) (turn : Turn) → Law decl script h open_inputs → slice_get open_inputs b ≡ Some true
       → IsLawful decl b (deeds b [] h) turn → is_some turn.told ≡ true → is_busy b h ≡ true
   told_answers b h open_inputs turn law taken lawful tells = by_kind (is_site decl b) refl lawful
     where
@@ -311,9 +311,9 @@ law decl script h open_inputs (phase before k run none quiet more) =
     record {
       arrived = λ a. same_arrived a k (k ++ marked (controller decl) x ∷ []) same_mail (waiting-step a k (controller decl) x) (old.arrived a);
       busy = λ a client.
-        same_busy _ _ _ _ _ _
-        (ap (front_after decl (a - decl.sites)) (sym (deeds-append a [] k (marked (controller decl) x ∷ []) ∙ ap (λ (v : List Deed). deeds a [] k ++ (v ++ [])) (cond-same (controller decl == a) []) ∙ append-nil (deeds a [] k))))
-        (sym (busy-step a k (controller decl) x ∙ cond-same (controller decl == a) (is_busy a k))) refl (old.busy a client);
+          same_busy _ _ _ _ _ _
+          (ap (front_after decl (a - decl.sites)) (sym (deeds-append a [] k (marked (controller decl) x ∷ []) ∙ ap (λ (v : List Deed). deeds a [] k ++ (v ++ [])) (cond-same (controller decl == a) []) ∙ append-nil (deeds a [] k))))
+          (sym (busy-step a k (controller decl) x ∙ cond-same (controller decl == a) (is_busy a k))) refl (old.busy a client);
       orderly = EachAfter-append IsInOrder [] k (marked (controller decl) x ∷ []) old.orderly (tt, tt);
     }
 

@@ -1,3 +1,4 @@
 pub mod Conduct
 pub mod Order
 pub mod Bounds
+pub mod Whole
