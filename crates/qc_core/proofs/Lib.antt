@@ -5,3 +5,6 @@ pub mod OrderLaw
 pub mod Within
 pub mod BoundLaw
 pub mod Calls
+pub mod Answering
+pub mod UnderWay
+pub mod ServedLaw
