@@ -8,3 +8,4 @@ pub mod Calls
 pub mod Answering
 pub mod UnderWay
 pub mod ServedLaw
+pub mod WholeLaw

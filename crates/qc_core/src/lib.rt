@@ -9,4 +9,7 @@ mod laws;
 mod whole;
 
 pub use laws::{clocks_and_counts_are_bounded, messages_and_replies_are_in_order};
-pub use whole::{calls_are_asked, calls_are_replied, phases_are_the_scripts};
+pub use whole::{
+    calls_are_asked, calls_are_replied, commands_end, phases_are_the_scripts,
+    requests_are_answered, runs_are_whole,
+};
