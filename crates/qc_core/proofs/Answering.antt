@@ -1,5 +1,5 @@
 -- A site answers each request at once, and a client that hears the answer goes on.
-use Rattle.std.proofs.Common.{◌≡◌, ◌⊎◌, inl, inr, ℕ, nat_le, not, Bool, true, false, cond, List, [], ◌∷◌, Option, Some, None, refl, sym, ap, subst, ◌∙◌}
+use Rattle.std.proofs.Common.{◌≡◌, ◌⊎◌, inl, inr, ℕ, nat_le, not, Bool, true, false, cond, List, Option, Some, None, refl, sym, ap}
 use Rattle.std.proofs.lemmas.Bool.{eqb-true}
 use Rattle.qc_core.specs.Answer.{Answers}
 use Rattle.qc_decl.specs.declared.declaration.Declaration.{Declaration}

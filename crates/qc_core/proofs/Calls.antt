@@ -1,6 +1,6 @@
 -- What an actor called is what the script asked it so far, and it told a reply to each command but one that runs.
 use Rattle.std.proofs.Common.{◌≡◌, ◌≤◌, ℕ, zero, suc, ◌+◌, ◌-◌, ◌==◌, ◌<◌, ◌&&◌, not, Bool, true, false, cond, List, [], ◌∷◌, ◌++◌, length, drop, take, Option, Some, None, option_to_list, refl, ap, sym, subst, ◌∙◌, arith, append_assoc, length-append, slice_get}
-use Rattle.std.specs.List.{cons_option, filter_map, flat_map}
+use Rattle.std.specs.List.{cons_option, filter_map}
 use Rattle.std.specs.Option.{option_map_or}
 use Rattle.std.specs.Prelude.{is_some}
 use Rattle.std.proofs.lemmas.Bool.{eqb-true}
@@ -13,7 +13,6 @@ use Rattle.qc_decl.specs.declared.declaration.Declaration.{Declaration}
 use Rattle.qc_decl.specs.Actors.{controller, is_client}
 use Rattle.qc_msg.specs.declared.message.Envelope.{Envelope}
 use Rattle.qc_msg.specs.declared.step.Command.{Command}
-use Rattle.qc_msg.specs.declared.step.Given.{Given}
 use Rattle.qc_msg.specs.declared.step.Given.TheVariants as given
 use Rattle.qc_msg.specs.declared.step.Posting.{Posting}
 use Rattle.qc_msg.specs.declared.step.Record.{Record}
@@ -22,11 +21,11 @@ use Rattle.qc_msg.specs.declared.step.Step.{Step}
 use Rattle.qc_msg.specs.declared.step.Step.TheVariants.{Phase, Called, Got}
 use Rattle.qc_msg.specs.declared.step.Turn.{Turn}
 use Rattle.qc_msg.specs.Mail.{mail}
-use Rattle.qc_msg.specs.Steps.{Entry, by, marked, own, posted, sents, step_of, told, wrote}
+use Rattle.qc_msg.specs.Steps.{Entry, by, marked, own, posted, sents, told, wrote}
 use Rattle.qc_msg.proofs.Growth.{own-more, own-other}
 use Rattle.qc_script.specs.declared.script.PhaseLines.{PhaseLines}
 use Rattle.qc_script.specs.declared.script.Script.{Script}
-use Rattle.qc_script.specs.Ready.{asked_in, asked_of, busy_at, first_order, first_ready, is_busy, next_order, orders, orders_at, phase_of, ready, waiting}
+use Rattle.qc_script.specs.Ready.{asked_in, asked_of, first_order, first_ready, is_busy, next_order, orders, phase_of, ready, waiting}
 use Rattle.qc_script.specs.Runs.{Runs, begins, takes, posts, phase}
 use Rattle.qc_script.proofs.Found.{ready-called}
 use Rattle.qc_script.proofs.Grows.{busy-posted, busy-step, busy_after, orders-posted, orders-step, phase-posted, phase-step, phase-taken}

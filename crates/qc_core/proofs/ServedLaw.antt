@@ -1,12 +1,10 @@
 -- In every run with one site each client whose command runs is served.
-use Rattle.std.proofs.Common.{◌≡◌, ℕ, zero, suc, ◌+◌, ◌-◌, ◌==◌, ◌&&◌, not, Bool, true, false, cond, List, [], ◌∷◌, ◌++◌, drop, length, Option, Some, None, refl, ap, sym, subst, ◌∙◌, slice_get, nat_lt}
-use Rattle.std.specs.Bool.{MatchBool}
-use Rattle.std.specs.List.{fold}
+use Rattle.std.proofs.Common.{◌≡◌, ℕ, ◌+◌, ◌-◌, ◌==◌, ◌&&◌, not, Bool, true, false, cond, List, [], ◌∷◌, ◌++◌, drop, length, Option, Some, refl, ap, sym, subst, ◌∙◌, slice_get, nat_lt}
 use Rattle.std.specs.Prelude.{slice_set}
 use Rattle.std.proofs.lemmas.Bool.{eqb-true, eqb-false, eq-eqb, ne_eqb}
 use Rattle.std.proofs.lemmas.List.Sums.{fold-append}
 use Rattle.qc_core.proofs.Fronts.{runs}
-use Rattle.qc_core.proofs.OrderLaw.{IsBusyAs, Law, clients_turn, law}
+use Rattle.qc_core.proofs.OrderLaw.{Law, clients_turn, law}
 use Rattle.qc_core.proofs.Places.{slice_get-set_other, slice_get-set_same}
 use Rattle.qc_core.proofs.UnderWay.{IsServed, called_served, heard_served, others_served, posted_served, same_served, site_called_served, site_heard_served, site_posted_served}
 use Rattle.qc_core.proofs.Within.{sendings-site}
@@ -14,27 +12,23 @@ use Rattle.qc_core.specs.Bounds.{front_at, site_at}
 use Rattle.qc_core.specs.Conduct.{IsLawful}
 use Rattle.qc_decl.specs.declared.declaration.Declaration.{Declaration}
 use Rattle.qc_decl.specs.Actors.{controller, is_client, is_site}
-use Rattle.qc_front.specs.Conduct.{called, front_after, front_does, heard}
-use Rattle.qc_front.specs.Fits.{HasRoom}
-use Rattle.qc_front.specs.Moves.{FrontMove}
+use Rattle.qc_front.specs.Conduct.{front_after, front_does}
 use Rattle.qc_front.proofs.Room.{after_room}
-use Rattle.qc_msg.specs.declared.message.Envelope.{Envelope}
-use Rattle.qc_msg.specs.declared.message.Message.{Message}
 use Rattle.qc_msg.specs.declared.step.Command.{Command}
 use Rattle.qc_msg.specs.declared.step.Given.{Given}
 use Rattle.qc_msg.specs.declared.step.Given.TheVariants as given
 use Rattle.qc_msg.specs.declared.step.Step.{Step}
 use Rattle.qc_msg.specs.declared.step.Step.TheVariants.{Phase, Called, Got}
 use Rattle.qc_msg.specs.declared.step.Turn.{Turn}
-use Rattle.qc_msg.specs.Mail.{Deed, WasSentTo, addressed, deed_of, deeds, envelopes, mail, sendings}
+use Rattle.qc_msg.specs.Mail.{Deed, addressed, deed_of, deeds, envelopes, mail, sendings}
 use Rattle.qc_msg.specs.Steps.{Entry, by, marked, posted, step_of}
 use Rattle.qc_msg.proofs.Growth.{deeds-append, deeds-by_same, deeds-other, deeds-phase, deeds-taken}
 use Rattle.qc_script.specs.declared.script.Script.{Script}
-use Rattle.qc_script.specs.Ready.{is_busy, orders, phase_of, ready, waiting, waiting_at}
+use Rattle.qc_script.specs.Ready.{is_busy, orders, phase_of, ready, waiting}
 use Rattle.qc_script.specs.Runs.{Runs, begins, takes, posts, phase}
 use Rattle.qc_script.proofs.Found.{ready-called, ready-sent}
 use Rattle.qc_script.proofs.Grows.{waiting-posted, waiting-step}
-use Rattle.qc_site.specs.Conduct.{site_after, site_does, site_on}
+use Rattle.qc_site.specs.Conduct.{site_after, site_does}
 use Rattle.qc_site.specs.Site.{SiteMove}
 
 -- the client and what serves it, as the history shows them

@@ -1,5 +1,5 @@
 -- Where no input is open and nothing is ready, no command runs, and where no phase is left the run is whole.
-use Rattle.std.proofs.Common.{◌≡◌, ◌≤◌, ◌<◌, ℕ, zero, suc, ◌+◌, ◌-◌, ◌&&◌, not, Bool, true, false, cond, List, [], ◌∷◌, ◌++◌, length, take, Option, Some, None, refl, ap, sym, subst, ◌∙◌, arith, slice_get, nat_lt, nat_le}
+use Rattle.std.proofs.Common.{◌≡◌, ◌≤◌, ◌<◌, ℕ, zero, suc, ◌+◌, ◌&&◌, not, Bool, true, false, cond, List, [], ◌∷◌, ◌++◌, length, Option, Some, None, refl, ap, sym, ◌∙◌, arith, slice_get, nat_lt, nat_le}
 use Rattle.std.specs.Prelude.{replicate}
 use Rattle.std.proofs.lemmas.Bool.{le-ltb, leb-true, ltb-true}
 use Rattle.std.proofs.lemmas.List.{append-nil, take_all}
@@ -19,7 +19,7 @@ use Rattle.qc_msg.specs.declared.step.Given.{Given}
 use Rattle.qc_msg.specs.Steps.{Entry}
 use Rattle.qc_script.specs.declared.script.PhaseLines.{PhaseLines}
 use Rattle.qc_script.specs.declared.script.Script.{Script}
-use Rattle.qc_script.specs.Ready.{first_order, first_ready, is_busy, next_order, orders, phase_of, ready, waiting}
+use Rattle.qc_script.specs.Ready.{first_order, first_ready, is_busy, next_order, orders, phase_of, waiting}
 
 -- the kinds of actors
 
