@@ -2,7 +2,8 @@
 //!
 //! A run is a history that the actors' conduct, the script and the links
 //! allow. Each law is the contract of a function with nothing to do, and
-//! speaks of every run of every declaration and script.
+//! speaks of every run of every script. Where a law needs a declaration with
+//! one site, it says so.
 #![tactic(auto)]
 
 mod laws;
