@@ -4,3 +4,8 @@ pub mod Sites
 pub mod OrderLaw
 pub mod Within
 pub mod BoundLaw
+pub mod Calls
+pub mod Answering
+pub mod UnderWay
+pub mod ServedLaw
+pub mod WholeLaw

@@ -230,7 +230,7 @@ module _ (decl : Declaration) (script : Script) where
           (busy-posted a h b (length (mail h)) turn ∙ ap (λ (t : Bool). cond t (busy_after (is_busy a h) turn.told) (is_busy a h)) is) (law.busy a client)
 
   -- a reply that is told answers a command that runs
-  told_answers : (b : ℕ) (h : List Entry) (open_inputs : List Bool) (turn : Turn) → Law decl script h open_inputs → slice_get open_inputs b ≡ Some true
+  pub told_answers : (b : ℕ) (h : List Entry) (open_inputs : List Bool) (turn : Turn) → Law decl script h open_inputs → slice_get open_inputs b ≡ Some true
       → IsLawful decl b (deeds b [] h) turn → is_some turn.told ≡ true → is_busy b h ≡ true
   told_answers b h open_inputs turn law taken lawful tells = by_kind (is_site decl b) refl lawful
     where

@@ -2,9 +2,15 @@
 //!
 //! A run is a history that the actors' conduct, the script and the links
 //! allow. Each law is the contract of a function with nothing to do, and
-//! speaks of every run of every declaration and script.
+//! speaks of every run of every script. Where a law needs a declaration with
+//! one site, it says so.
 #![tactic(auto)]
 
 mod laws;
+mod whole;
 
 pub use laws::{clocks_and_counts_are_bounded, messages_and_replies_are_in_order};
+pub use whole::{
+    calls_are_asked, calls_are_replied, commands_end, phases_are_the_scripts,
+    requests_are_answered, runs_are_whole,
+};

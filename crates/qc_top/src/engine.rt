@@ -6,6 +6,7 @@
 
 ghost use Rattle.std.specs.Prelude.{◌≡◌, ◌<◌, ◌≤◌, ◌+◌, ◌^◌, ◌++◌, [], ◌∷◌, true, false, IfOk, OnOk, OnErr, length, Ok};
 ghost use Rattle.qc_core.specs.Conduct.{IsRun};
+ghost use Rattle.qc_core.specs.Whole.{IsWhole};
 ghost use Rattle.qc_front.specs.State.{new_front};
 ghost use Rattle.qc_site.specs.Site.{new_site};
 ghost use Rattle.qc_script.specs.Ready.{asked_of};
@@ -321,10 +322,11 @@ impl Engine {
     }
 
     /// Runs the script to its end, to a limit, or to want of memory. What
-    /// happened is a run in each case.
+    /// happened is a run in each case, and a whole run at the script's end.
     pub fn run(&mut self, alloc: Global, decl: &Declaration, script: &Script) -> End
         requires at { IsAt decl.now script.now self.old }
         ensures run { IsRun decl.now script.now self.new.history }
+        ensures whole { result ≡ End.Quiet → IsWhole decl.now script.now self.new.history }
         ensures end { IsEnd result self.new.history }
     {
         'events: loop {
