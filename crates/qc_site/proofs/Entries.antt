@@ -1,11 +1,16 @@
 -- The entries of what is held, by transaction.
-use Rattle.std.proofs.Common.{◌≡◌, ◌==◌, ◌&&◌, not, Bool, true, false, cond, List, [], ◌∷◌, filter, Option, Some, None, unwrap_or, refl, sym, ap, subst}
+use Rattle.std.proofs.Common.{◌≡◌, ◌<◌, ◌+◌, arith, length, ◌==◌, ◌&&◌, not, Bool, true, false, cond, List, [], ◌∷◌, filter, Option, Some, None, unwrap_or, refl, sym, ap, subst}
 use Rattle.std.specs.List.{find}
 use Rattle.std.proofs.lemmas.Bool.{eq-eqb, eqb-true}
 use Rattle.qc_stamp.specs.declared.stamp.TxId.{TxId}
 use Rattle.qc_site.specs.declared.held.Held.{Held}
-use Rattle.qc_site.specs.Held.{same_tx, entry_of, held_of, with_entry, without_held}
-use Rattle.qc_site.specs.Laws.{IsApart, IsSingle}
+use Rattle.std.specs.declared.cmp.Ordering.{Ordering}
+use Rattle.std.specs.declared.cmp.Ordering.TheVariants.{Less, Equal, Greater}
+use Rattle.qc_entry.specs.declared.line.OwnLine.{OwnLine}
+use Rattle.qc_entry.specs.declared.line.ReadLock.{ReadLock}
+use Rattle.qc_entry.specs.Log.{by_order}
+use Rattle.qc_site.specs.Held.{same_tx, lock_cmp, own_cmp, inserted, with_lock, with_own, with_owns, holding_lock, holding_owns, entry_of, held_of, with_entry, without_held}
+use Rattle.qc_site.specs.Laws.{IsApart, IsSingle, AreFull}
 
 -- the test of names
 
@@ -118,3 +123,56 @@ single-filter test (h ∷ hs) single = by (test h) (single-filter test hs single
   by : (t : Bool) → IsSingle (filter test hs) → IsSingle (cond t (h ∷ filter test hs) (filter test hs))
   by true rest = (apart-filter h.tx test hs single.0, rest)
   by false rest = rest
+
+-- own lines that are held, where there are any
+pub held_with_owns : (P : List Held → Type 0) (held : List Held) (tx : TxId) (own : List OwnLine) → P held
+    → ((length own == 0) ≡ false → P (with_entry held (record { tx = tx; locks = (held_of held tx).locks; own = with_owns (held_of held tx).own own }))) → P (holding_owns held tx own)
+held_with_owns P held tx own none some = by (length own == 0) refl where
+  by : (t : Bool) → (length own == 0) ≡ t → P (cond t held (with_entry held (record { tx = tx; locks = (held_of held tx).locks; own = with_owns (held_of held tx).own own })))
+  by true is = none
+  by false is = some is
+
+-- entries that hold something
+
+full-put : (held : List Held) (e : Held) → AreFull held → 0 < length e.locks + length e.own → AreFull (with_entry held e)
+full-put [] e full here = (here, tt)
+full-put (h ∷ hs) e full here = by (same_tx h.tx e.tx) (full-put hs e full.1 here) where
+  by : (t : Bool) → AreFull (with_entry hs e) → AreFull (cond t (e ∷ hs) (h ∷ with_entry hs e))
+  by true rest = (here, full.1)
+  by false rest = (full.0, rest)
+
+pub full-filter : (test : Held → Bool) (held : List Held) → AreFull held → AreFull (filter test held)
+full-filter test [] full = tt
+full-filter test (h ∷ hs) full = by (test h) (full-filter test hs full.1) where
+  by : (t : Bool) → AreFull (filter test hs) → AreFull (cond t (h ∷ filter test hs) (filter test hs))
+  by true rest = (full.0, rest)
+  by false rest = rest
+
+cons_some : {A : Type 0} (x : A) (xs : List A) → 0 < length (x ∷ xs)
+cons_some x xs = omega arith
+
+inserted_some : {A : Type 0} (cmp : A → A → Ordering) (ys : List A) (x : A) → 0 < length (inserted cmp ys x)
+inserted_some cmp [] x = cons_some x []
+inserted_some {A = A} cmp (y ∷ ys) x = by (cmp x y) where
+  by : (order : Ordering) → 0 < length (by_order order (x ∷ y ∷ ys) (x ∷ ys) (y ∷ inserted cmp ys x))
+  by Less = cons_some x (y ∷ ys)
+  by Equal = cons_some x ys
+  by Greater = cons_some y (inserted cmp ys x)
+
+owns_some : (own others : List OwnLine) → 0 < length own → 0 < length (with_owns own others)
+owns_some own [] some = some
+owns_some own (o ∷ os) some = owns_some (with_own own o) os (inserted_some own_cmp own o)
+
+any_some : (own others : List OwnLine) → (length others == 0) ≡ false → 0 < length (with_owns own others)
+any_some own [] some = absurd (let never : ⊥ = cc in never)
+any_some own (o ∷ os) some = owns_some (with_own own o) os (inserted_some own_cmp own o)
+
+pub full_with_lock : (held : List Held) (tx : TxId) (lock : ReadLock) → AreFull held → AreFull (holding_lock held tx lock)
+full_with_lock held tx lock full =
+    let some : 0 < length (with_lock (held_of held tx).locks lock) = inserted_some lock_cmp (held_of held tx).locks lock in
+    full-put held (record { tx = tx; locks = with_lock (held_of held tx).locks lock; own = (held_of held tx).own }) full (omega arith)
+
+pub full_with_owns : (held : List Held) (tx : TxId) (own : List OwnLine) → AreFull held → AreFull (holding_owns held tx own)
+full_with_owns held tx own full = held_with_owns AreFull held tx own full (λ is.
+    let some : 0 < length (with_owns (held_of held tx).own own) = any_some (held_of held tx).own own is in
+    full-put held (record { tx = tx; locks = (held_of held tx).locks; own = with_owns (held_of held tx).own own }) full (omega arith))

@@ -17,9 +17,9 @@ use Rattle.qc_site.specs.declared.held.Held.{Held}
 use Rattle.qc_site.specs.Held.{same_tx, lock_cmp, with_lock, with_owns, entry_of, is_held, held_of, with_entry, without_held}
 use Rattle.qc_site.specs.Site.{SiteState}
 use Rattle.qc_site.specs.Conduct.{prepare_length, most_body, promise_of, prepared_of, is_prepared, without_prepared, joins, finishes, site_on}
-use Rattle.qc_site.specs.Laws.{IsLocked, HoldsLock, IsSingle, decides}
+use Rattle.qc_site.specs.Laws.{IsLocked, HoldsLock, IsSingle, AreFull, decides}
 use Rattle.qc_site.proofs.Within.{branch}
-use Rattle.qc_site.proofs.Entries.{tx_apart, find-none, held-put, held-put_other, entry-without, held-without_other, single-put, single-filter}
+use Rattle.qc_site.proofs.Entries.{tx_apart, find-none, held-put, held-put_other, entry-without, held-without_other, single-put, single-filter, held_with_owns, full-filter, full_with_lock, full_with_owns}
 
 -- locks
 
@@ -94,8 +94,9 @@ lock_stays s from number (Read other epoch life object inv) tx lock member open_
     put_keeps s.held (record { tx = other; locks = with_lock (held_of s.held other).locks (record { object = object; inv = inv }); own = (held_of s.held other).own }) tx lock
     (λ is. locked-more (held_of s.held other).locks (record { object = object; inv = inv }) lock (moved_lock s.held other tx lock member is)) member
 lock_stays s from number (Append other epoch life object view own) tx lock member open_still =
+    held_with_owns (λ held. IsLocked (held_of held tx).locks lock) s.held other own member (λ some.
     put_keeps s.held (record { tx = other; locks = (held_of s.held other).locks; own = with_owns (held_of s.held other).own own }) tx lock
-    (λ is. moved_lock s.held other tx lock member is) member
+    (λ is. moved_lock s.held other tx lock member is) member)
 lock_stays s from number (Prepare other epoch life) tx lock member open_still =
     branch (λ m. HoldsLock m.site tx lock) (not (is_held s.held other)) _ _ member
     (branch (λ m. HoldsLock m.site tx lock) (is_prepared s.prepared other) _ _ member
@@ -112,7 +113,8 @@ pub stays_single : (s : SiteState) (from number : ℕ) (message : Message) → I
 stays_single s from number (Read tx epoch life object inv) single =
     single-put s.held (record { tx = tx; locks = with_lock (held_of s.held tx).locks (record { object = object; inv = inv }); own = (held_of s.held tx).own }) single
 stays_single s from number (Append tx epoch life object view own) single =
-    single-put s.held (record { tx = tx; locks = (held_of s.held tx).locks; own = with_owns (held_of s.held tx).own own }) single
+    held_with_owns IsSingle s.held tx own single (λ some.
+    single-put s.held (record { tx = tx; locks = (held_of s.held tx).locks; own = with_owns (held_of s.held tx).own own }) single)
 stays_single s from number (Prepare tx epoch life) single =
     branch (λ m. IsSingle m.site.held) (not (is_held s.held tx)) _ _ single
     (branch (λ m. IsSingle m.site.held) (is_prepared s.prepared tx) _ _ single
@@ -121,3 +123,15 @@ stays_single s from number (Granted to life clock log) single = single
 stays_single s from number (Stale to) single = single
 stays_single s from number (Yes to clock) single = single
 stays_single s from number (Decision tx verdict) single = subst IsSingle (sym (finishes-held s tx verdict)) (single-filter (λ (h : Held). not (same_tx h.tx tx)) s.held single)
+
+pub stays_full : (s : SiteState) (from number : ℕ) (message : Message) → AreFull s.held → AreFull (site_on s from number message).site.held
+stays_full s from number (Read tx epoch life object inv) full = full_with_lock s.held tx (record { object = object; inv = inv }) full
+stays_full s from number (Append tx epoch life object view own) full = full_with_owns s.held tx own full
+stays_full s from number (Prepare tx epoch life) full =
+    branch (λ m. AreFull m.site.held) (not (is_held s.held tx)) _ _ full
+    (branch (λ m. AreFull m.site.held) (is_prepared s.prepared tx) _ _ full
+    (branch (λ m. AreFull m.site.held) (nat_le (prepare_length (promise_of s tx epoch)) most_body) _ _ full full))
+stays_full s from number (Granted to life clock log) full = full
+stays_full s from number (Stale to) full = full
+stays_full s from number (Yes to clock) full = full
+stays_full s from number (Decision tx verdict) full = subst AreFull (sym (finishes-held s tx verdict)) (full-filter (λ (h : Held). not (same_tx h.tx tx)) s.held full)

@@ -1,8 +1,7 @@
 -- Sorted lists stay sorted.
-use Rattle.std.proofs.Common.{◌≡◌, ℕ, nat_le, not, Bool, true, false, cond, List, [], ◌∷◌, ◌++◌, fold, filter, Option, Some, None, unwrap_or, refl, sym, ◌∙◌, ap, subst}
-use Rattle.std.specs.List.{find}
+use Rattle.std.proofs.Common.{◌≡◌, ℕ, nat_le, not, Bool, true, false, cond, List, [], ◌∷◌, ◌++◌, fold, filter, Option, Some, None, unwrap_or, refl, ◌∙◌, ap}
 use Rattle.std.specs.Cmp.{IsTotalOrder}
-use Rattle.std.specs.Ordering.{nat_cmp, ordering_reverse}
+use Rattle.std.specs.Ordering.{ordering_reverse}
 use Rattle.std.specs.declared.cmp.Ordering.{Ordering}
 use Rattle.std.specs.declared.cmp.Ordering.TheVariants.{Less, Equal, Greater}
 use Rattle.std.proofs.lemmas.Cmp.{then_total, on_total, nat_cmp_total}
@@ -13,7 +12,7 @@ use Rattle.qc_entry.specs.declared.line.OwnLine.{OwnLine}
 use Rattle.qc_entry.specs.declared.line.ReadLock.{ReadLock}
 use Rattle.qc_entry.specs.declared.record.Prepared.{Prepared}
 use Rattle.qc_entry.specs.Line.{IsAscending}
-use Rattle.qc_entry.specs.Log.{by_order, has_line, union}
+use Rattle.qc_entry.specs.Log.{by_order, has_line}
 use Rattle.qc_entry.proofs.Union.{ascending-union}
 use Rattle.qc_entry.proofs.Every.{ascending-filter}
 use Rattle.qc_msg.specs.declared.message.Message.{Message}
@@ -22,11 +21,12 @@ use Rattle.qc_msg.specs.declared.message.Outcome.{Outcome}
 use Rattle.qc_msg.specs.declared.message.Outcome.TheVariants.{Committed, Aborted}
 use Rattle.qc_msg.specs.Mail.{Deed, Hears, Ordered, Sends}
 use Rattle.qc_site.specs.declared.held.Held.{Held}
-use Rattle.qc_site.specs.Held.{inserted, same_tx, lock_cmp, own_cmp, with_lock, with_own, with_owns, entry_of, is_held, held_of, with_entry, without_held}
+use Rattle.qc_site.specs.Held.{inserted, same_tx, lock_cmp, own_cmp, with_lock, with_own, with_owns, entry_of, is_held, held_of, with_entry}
 use Rattle.qc_site.specs.Site.{SiteState, SiteMove, new_site, no_turn, moved}
-use Rattle.qc_site.specs.Conduct.{prepare_length, most_body, promise_of, promises, prepared_of, is_prepared, prepares, without_prepared, dropped, stamped, with_stamped, lines_of, joins, finishes, site_on, site_does, site_after}
+use Rattle.qc_site.specs.Conduct.{prepare_length, most_body, promise_of, prepared_of, is_prepared, prepares, dropped, stamped, with_stamped, lines_of, joins, finishes, site_on, site_does, site_after}
 use Rattle.qc_site.specs.Order.{IsLow, Ascends, AreSorted, ArePromisesSorted, SiteSorted, IsMessageSorted, AreDeedsSorted}
 use Rattle.qc_site.proofs.Within.{branch}
+use Rattle.qc_site.proofs.Entries.{held_with_owns}
 
 -- insertion
 
@@ -160,7 +160,7 @@ stays_sorted s from number (Append tx epoch life object view own) w here =
     record {
       log = ascending-union s.log view w.log here;
       recorded = w.recorded;
-      held = sorted-put s.held (record { tx = tx; locks = (held_of s.held tx).locks; own = with_owns (held_of s.held tx).own own }) w.held entry.0 (ascends-owns (held_of s.held tx).own own entry.1);
+      held = held_with_owns AreSorted s.held tx own w.held (λ some. sorted-put s.held (record { tx = tx; locks = (held_of s.held tx).locks; own = with_owns (held_of s.held tx).own own }) w.held entry.0 (ascends-owns (held_of s.held tx).own own entry.1));
       prepared = w.prepared;
     }
 stays_sorted s from number (Prepare tx epoch life) w here = prepares-sorted s from number tx epoch w

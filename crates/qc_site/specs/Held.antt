@@ -1,5 +1,5 @@
 -- What the unfinished transactions hold at a site.
-use Rattle.std.specs.Prelude.{Bool, ◌==◌, ◌&&◌, not, if◌then◌else◌, List, [], ◌∷◌, fold, filter, Option, is_some, unwrap_or}
+use Rattle.std.specs.Prelude.{Bool, ◌==◌, ◌&&◌, not, if◌then◌else◌, List, [], ◌∷◌, length, fold, filter, Option, is_some, unwrap_or}
 use Rattle.std.specs.List.{find}
 use Rattle.std.specs.Ordering.{nat_cmp, on, then_cmp}
 use Rattle.std.specs.declared.cmp.Ordering.{Ordering}
@@ -58,11 +58,13 @@ holding_lock held tx lock =
     let entry : Held = held_of held tx in
     with_entry held (record { tx = tx; locks = with_lock entry.locks lock; own = entry.own })
 
--- the transaction holds these own lines too
+-- the transaction holds these own lines too, if there are any
 abbrev pub holding_owns : List Held → TxId → List OwnLine → List Held
 holding_owns held tx own =
     let entry : Held = held_of held tx in
-    with_entry held (record { tx = tx; locks = entry.locks; own = with_owns entry.own own })
+    if length own == 0
+    then held
+    else with_entry held (record { tx = tx; locks = entry.locks; own = with_owns entry.own own })
 
 -- the transaction holds nothing
 abbrev pub without_held : List Held → TxId → List Held

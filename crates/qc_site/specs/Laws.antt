@@ -1,5 +1,5 @@
 -- What the laws of a site speak of.
-use Rattle.std.specs.Prelude.{◌≡◌, ◌⊎◌, Bool, false, List, [], ◌∷◌, Option, Some, None}
+use Rattle.std.specs.Prelude.{◌≡◌, ◌⊎◌, ◌<◌, ◌+◌, Bool, false, List, [], ◌∷◌, length, Option, Some, None}
 use Rattle.qc_stamp.specs.declared.stamp.Stamp.{Stamp}
 use Rattle.qc_stamp.specs.declared.stamp.TxId.{TxId}
 use Rattle.qc_entry.specs.declared.line.Line.{Line}
@@ -32,6 +32,11 @@ IsApart tx (h ∷ hs) = (same_tx h.tx tx ≡ false) × IsApart tx hs
 abbrev pub IsSingle : List Held → Type 0
 IsSingle [] = Unit {0}
 IsSingle (h ∷ hs) = IsApart h.tx hs × IsSingle hs
+
+-- each entry has a lock or an own line
+abbrev pub AreFull : List Held → Type 0
+AreFull [] = Unit {0}
+AreFull (h ∷ hs) = (0 < length h.locks + length h.own) × AreFull hs
 
 -- whether the message is a decision on the transaction
 abbrev pub decides : Message → TxId → Bool

@@ -79,6 +79,15 @@ fn push_copies(all: &mut Vec<Held>, held: &[Held]) -> Result<(), OutOfMemory>
     Ok(())
 }
 
+/// The same entries, in memory of their own.
+fn copies(alloc: Global, held: &[Held]) -> Result<HeldList, OutOfMemory>
+    ensures { IfOk result (λ l. l ≡ held.now) }
+{
+    let mut all = Vec::new(alloc);
+    push_copies(&mut all, held)?;
+    Ok(List::from_vec(all))
+}
+
 /// The entries with this one in the place of its transaction's, or last.
 fn with_entry(alloc: Global, held: &[Held], entry: Held) -> Result<HeldList, OutOfMemory>
     ensures { IfOk result (λ l. l ≡ with_entry held.now entry) }
@@ -111,7 +120,7 @@ pub(crate) fn holding_lock(
     with_entry(alloc, held, Held { tx, locks, own })
 }
 
-/// What is held, and these own lines of a transaction too.
+/// What is held, and these own lines of a transaction too, if there are any.
 pub(crate) fn holding_owns(
     alloc: Global,
     held: &[Held],
@@ -120,6 +129,9 @@ pub(crate) fn holding_owns(
 ) -> Result<HeldList, OutOfMemory>
     ensures { IfOk result (λ l. l ≡ holding_owns held.now tx others.now) }
 {
+    if others.is_empty() {
+        return copies(alloc, held);
+    }
     let Held { locks, own, .. } = held_of(alloc, held, tx)?;
     let own = List::from_vec(with_owns(alloc, own.items(), others)?);
     with_entry(alloc, held, Held { tx, locks, own })

@@ -15,7 +15,7 @@ ghost use Rattle.qc_site.specs.Site.{SiteState};
 ghost use Rattle.qc_site.specs.Conduct.{site_on, site_after, prepared_of};
 ghost use Rattle.qc_site.specs.Within.{SiteWithin, MoveWithin, DeedsWithin};
 ghost use Rattle.qc_site.specs.Order.{SiteSorted, AreDeedsSorted};
-ghost use Rattle.qc_site.specs.Laws.{HoldsLock, IsSingle, decides, brought};
+ghost use Rattle.qc_site.specs.Laws.{HoldsLock, IsSingle, AreFull, decides, brought};
 
 /// A site's clocks, and those of its turn, stay within a bound that the
 /// messages keep to.
@@ -64,6 +64,13 @@ pub fn decisions_free()
 pub fn entries_stay_single()
     ensures { (s : SiteState) (from number : ℕ) (message : Message)
         → IsSingle s.held → IsSingle (site_on s from number message).site.held }
+{}
+
+/// Each entry holds something: a transaction has one just where it holds a
+/// lock or an own line.
+pub fn entries_stay_full()
+    ensures { (s : SiteState) (from number : ℕ) (message : Message)
+        → AreFull s.held → AreFull (site_on s from number message).site.held }
 {}
 
 /// Locks ascend by object and invocation, own lines by operation, and lines in

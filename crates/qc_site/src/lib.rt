@@ -18,8 +18,8 @@ mod turn;
 
 pub use held::{Held, HeldList};
 pub use laws::{
-    clocks_never_fall, clocks_stay_within, decisions_free, entries_stay_single, locks_stay,
-    logs_gain_what_is_brought, reads_are_locked, sites_stay_sorted, sites_stay_within,
+    clocks_never_fall, clocks_stay_within, decisions_free, entries_stay_full, entries_stay_single,
+    locks_stay, logs_gain_what_is_brought, reads_are_locked, sites_stay_sorted, sites_stay_within,
 };
 pub use site::{PreparedList, Site};
 
