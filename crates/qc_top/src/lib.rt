@@ -5,6 +5,8 @@
 #![tactic(auto)]
 
 mod engine;
+#[cfg(test)]
+mod tests;
 mod top;
 mod words;
 
