@@ -3,10 +3,13 @@ use Rattle.std.proofs.Common.{◌≡◌, ◌≤◌, ℕ, Bool, true, false, cond
 use Rattle.std.proofs.lemmas.Bool.Decides.{nat_tests}
 use Rattle.std.specs.Prelude.{MatchOption, nat_le, replicate, option_and_then}
 use Rattle.qc_core.specs.Conduct.{IsRun}
+use Rattle.qc_core.specs.Whole.{IsWhole}
 use Rattle.qc_decl.specs.declared.declaration.Declaration.{Declaration}
 use Rattle.qc_decl.specs.Actors.{actors, client_actor}
 use Rattle.qc_decl.specs.One.{one}
 use Rattle.qc_msg.specs.Steps.{Entry}
+use Rattle.qc_outside.specs.declared.shelf.ShelfFault.{ShelfFault}
+use Rattle.qc_outside.specs.declared.shelf.ShelfFault.TheVariants as faults
 use Rattle.qc_outside.specs.Shelf.{Files, IsTaken, file_named}
 use Rattle.qc_report.specs.declared.cause.Cause.{Cause}
 use Rattle.qc_report.specs.declared.cause.Cause.TheVariants as causes
@@ -14,7 +17,8 @@ use Rattle.qc_script.specs.declared.script.Script.{Script}
 use Rattle.qc_report.specs.Text.{text_of}
 use Rattle.qc_script.specs.Grammar.{script_of}
 use Rattle.qc_script.specs.Runs.{begins}
-use Rattle.qc_top.specs.Top.{PrintsBetween, PrintsScript, RunsScript, RunsWords}
+use Rattle.qc_top.specs.Engine.{IsOne}
+use Rattle.qc_top.specs.Top.{Leaves, OnPrinted, OverWords, PrintsBetween, PrintsScript, RunsScript, WholeScript, cause_of_shelf}
 use Rattle.qc_top.specs.Words.{script_in, script_in_bytes, script_named}
 
 -- the empty history is a run of every script
@@ -25,27 +29,23 @@ pub runs_nothing : (script : Option Script) (h : List Entry) → h ≡ [] → Ru
 runs_nothing None h none = none
 runs_nothing (Some script) h none = empty_run one script h none
 
-some_script : (script : Option Script) (h : List Entry) → RunsScript script h → (s : Script) × IsRun one s h
-some_script None h none = (record { phases = [] }, empty_run one (record { phases = [] }) h none)
-some_script (Some script) h run = (script, run)
-
 -- the words' script is that of the bytes that were taken
-pub words_run : (files : Option Files) (words : List (List ℕ)) (name bytes : List ℕ) (h : List Entry) → script_named words ≡ Some name → IsTaken files name 1048576 bytes
-    → RunsScript (script_in_bytes bytes) h → RunsWords files words h
-words_run None words name bytes h named taken run = rw named (some_script (script_in_bytes bytes) h run)
-words_run (Some files) words name bytes h named taken run =
+pub words_over : (P : Option Script → Type 0) (files : Option Files) (words : List (List ℕ)) (name bytes : List ℕ) → script_named words ≡ Some name → IsTaken files name 1048576 bytes
+    → P (script_in_bytes bytes) → OverWords P files words
+words_over P None words name bytes named taken here = rw named (script_in_bytes bytes, here)
+words_over P (Some files) words name bytes named taken here =
     let found : script_in files words ≡ script_in_bytes bytes =
     ap (λ (n : Option (List ℕ)). option_and_then (λ name. option_and_then script_in_bytes (file_named name files)) n) named ∙ ap (λ (b : Option (List ℕ)). option_and_then script_in_bytes b) taken.0 in
-    subst (λ (s : Option Script). RunsScript s h) (sym found) run
+    subst P (sym found) here
 
--- a call that ran nothing
-pub words_nothing : (files : Option Files) (words : List (List ℕ)) (h : List Entry) → h ≡ [] → RunsWords files words h
-words_nothing None words h none = by_name (script_named words)
+-- what holds over every script holds over the words'
+pub words_all : (P : Option Script → Type 0) (files : Option Files) (words : List (List ℕ)) → ((script : Option Script) → P script) → OverWords P files words
+words_all P None words all = by_name (script_named words)
   where
-    by_name : (n : Option (List ℕ)) → MatchOption n (h ≡ []) (λ name. (script : Script) × IsRun one script h)
-    by_name None = none
-    by_name (Some name) = (record { phases = [] }, empty_run one (record { phases = [] }) h none)
-words_nothing (Some files) words h none = runs_nothing (script_in files words) h none
+    by_name : (n : Option (List ℕ)) → MatchOption n (P None) (λ name. (script : Option Script) × P script)
+    by_name None = all None
+    by_name (Some name) = (None, all None)
+words_all P (Some files) words all = all (script_in files words)
 
 -- causes at which nothing is printed
 abbrev pub PrintsNone : Cause → Type 0
@@ -77,10 +77,59 @@ bytes_found bytes script short found = by_test (nat_le (length bytes) 1048576) (
     by_test true is = found
     by_test false is = absurd (let never : ⊥ = cc in never)
 
--- the text of the script that was read is that of the bytes' script
-pub text_found : (bytes : List ℕ) (decl : Declaration) (script : Script) (h : List Entry) (old : Option (List ℕ)) (cause : Cause) (new : Option (List ℕ)) → decl ≡ one → length bytes ≤ 1048576
-    → script_of (client_actor decl 0) bytes ≡ Some script → PrintsBetween (text_of decl script h) old cause new → PrintsScript (script_in_bytes bytes) h old cause new
-text_found bytes decl script h old cause new is short found printed =
+-- where nothing is printed, nothing is claimed of what is
+printed_none : (P : Type 0) (cause : Cause) → PrintsNone cause → OnPrinted cause P
+printed_none P causes.Done silent = absurd silent
+printed_none P causes.Sink silent = absurd silent
+printed_none P (causes.Full what number) silent = tt
+printed_none P (causes.Shelf script fault) silent = tt
+printed_none P causes.NotBuilt silent = tt
+printed_none P causes.OutOfMemory silent = tt
+
+whole_none : (script : Option Script) (cause : Cause) (h : List Entry) → PrintsNone cause → WholeScript script cause h
+whole_none None cause h silent = printed_none ⊥ cause silent
+whole_none (Some script) cause h silent = printed_none (IsWhole one script h) cause silent
+
+-- a call that ran nothing
+pub leaves_nothing : (script : Option Script) (taken : Option (List ℕ)) (cause : Cause) (h : List Entry) → h ≡ [] → PrintsNone cause → Leaves script taken cause taken h
+leaves_nothing script taken cause h none silent = record { run = runs_nothing script h none; whole = whole_none script cause h silent; text = script_none script h taken cause silent }
+
+-- the same, for the words
+pub words_nothing : (files : Option Files) (words : List (List ℕ)) (taken : Option (List ℕ)) (cause : Cause) (h : List Entry) → h ≡ [] → PrintsNone cause
+    → OverWords (λ script. Leaves script taken cause taken h) files words
+words_nothing files words taken cause h none silent = words_all (λ script. Leaves script taken cause taken h) files words (λ script. leaves_nothing script taken cause h none silent)
+
+-- a shelf's fault prints nothing
+pub shelf_silent : (fault : ShelfFault) → PrintsNone (cause_of_shelf fault)
+shelf_silent faults.Missing = tt
+shelf_silent faults.TooLong = tt
+shelf_silent faults.Failed = tt
+shelf_silent faults.OutOfMemory = tt
+
+-- a script that was run
+pub leaves_script : (decl : Declaration) (script : Script) (h : List Entry) (old : Option (List ℕ)) (cause : Cause) (new : Option (List ℕ)) → decl ≡ one
+    → IsRun decl script h → OnPrinted cause (IsWhole decl script h) → PrintsBetween (text_of decl script h) old cause new → Leaves (Some script) old cause new h
+leaves_script decl script h old cause new is run whole printed = record {
+  run = subst (λ (d : Declaration). IsRun d script h) is run;
+  whole = subst (λ (d : Declaration). OnPrinted cause (IsWhole d script h)) is whole;
+  text = subst (λ (d : Declaration). PrintsBetween (text_of d script h) old cause new) is printed;
+}
+
+-- the script of the bytes was run
+pub bytes_run : (bytes : List ℕ) (decl : Declaration) (script : Script) (h : List Entry) (old : Option (List ℕ)) (cause : Cause) (new : Option (List ℕ)) → decl ≡ one → length bytes ≤ 1048576
+    → script_of (client_actor decl 0) bytes ≡ Some script → Leaves (Some script) old cause new h → Leaves (script_in_bytes bytes) old cause new h
+bytes_run bytes decl script h old cause new is short found left =
     let here : script_of 1 bytes ≡ Some script = ap (λ (d : Declaration). script_of (client_actor d 0) bytes) (sym is) ∙ found in
-    subst (λ (s : Option Script). PrintsScript s h old cause new) (sym (bytes_found bytes script short here))
-    (subst (λ (d : Declaration). PrintsBetween (text_of d script h) old cause new) is printed)
+    subst (λ (s : Option Script). Leaves s old cause new h) (sym (bytes_found bytes script short here)) left
+
+pub one_is_one : (decl : Declaration) → decl ≡ one → IsOne decl
+one_is_one decl is = record { sites = ap (λ (d : Declaration). d.sites) is; clients = ap (λ (d : Declaration). d.clients) is }
+
+-- the same, where the cause is told by an equation
+
+pub leaves_caused : (script : Option Script) (taken : Option (List ℕ)) (cause why : Cause) (h : List Entry) → h ≡ [] → cause ≡ why → PrintsNone why → Leaves script taken cause taken h
+leaves_caused script taken cause why h none is silent = leaves_nothing script taken cause h none (subst PrintsNone (sym is) silent)
+
+pub words_caused : (files : Option Files) (words : List (List ℕ)) (taken : Option (List ℕ)) (cause why : Cause) (h : List Entry) → h ≡ [] → cause ≡ why → PrintsNone why
+    → OverWords (λ script. Leaves script taken cause taken h) files words
+words_caused files words taken cause why h none is silent = words_nothing files words taken cause h none (subst PrintsNone (sym is) silent)

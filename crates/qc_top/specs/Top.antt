@@ -1,6 +1,7 @@
 -- What the top call leaves: a run of the words' script, its text, and a cause that is due.
 use Rattle.std.specs.Prelude.{◌≡◌, ℕ, true, ◌++◌, List, [], ◌∷◌, Option, Some, None, MatchOption}
 use Rattle.qc_core.specs.Conduct.{IsRun}
+use Rattle.qc_core.specs.Whole.{IsWhole}
 use Rattle.qc_decl.specs.One.{one}
 use Rattle.qc_msg.specs.Steps.{Entry}
 use Rattle.qc_outside.specs.declared.shelf.ShelfFault.{ShelfFault}
@@ -17,11 +18,6 @@ use Rattle.qc_top.specs.Words.{script_in, script_named}
 abbrev pub RunsScript : Option Script → List Entry → Type 0
 RunsScript None h = h ≡ []
 RunsScript (Some script) h = IsRun one script h
-
--- The history is a run of the words' script, where the shelf tells its files. It is empty where they name none.
-abbrev pub RunsWords : Option Files → List (List ℕ) → List Entry → Type 0
-RunsWords (Some files) words h = RunsScript (script_in files words) h
-RunsWords None words h = MatchOption (script_named words) (h ≡ []) (λ name. (script : Script) × IsRun one script h)
 
 -- the loop's answers: a limit is told exactly where it was reached
 abbrev pub IsFullCause : Cause → List Entry → Type 0
@@ -61,3 +57,29 @@ cause_of_shelf faults.OutOfMemory = causes.OutOfMemory
 cause_of_shelf faults.Missing = causes.Shelf true faults.Missing
 cause_of_shelf faults.TooLong = causes.Shelf true faults.TooLong
 cause_of_shelf faults.Failed = causes.Shelf true faults.Failed
+
+-- where a text was printed, or a part of it
+abbrev pub OnPrinted : Cause → Type 0 → Type 0
+OnPrinted causes.Done P = P
+OnPrinted causes.Sink P = P
+OnPrinted (causes.Full what number) P = Unit {0}
+OnPrinted (causes.Shelf script fault) P = Unit {0}
+OnPrinted causes.NotBuilt P = Unit {0}
+OnPrinted causes.OutOfMemory P = Unit {0}
+
+-- a run whose text is printed is whole
+abbrev pub WholeScript : Option Script → Cause → List Entry → Type 0
+WholeScript None cause h = OnPrinted cause ⊥
+WholeScript (Some script) cause h = OnPrinted cause (IsWhole one script h)
+
+-- what a call over this script, or over none, leaves: a run of it, a whole one where its text is printed, and that text
+pub record Leaves (script : Option Script) (old : Option (List ℕ)) (cause : Cause) (new : Option (List ℕ)) (h : List Entry) : Type 0 where
+  pub run : RunsScript script h
+  pub whole : WholeScript script cause h
+  pub text : PrintsScript script h old cause new
+
+-- A fact about the script that the words name, or about none where they name none. Where the shelf doesn't tell its files it
+-- holds of some script, or of none.
+abbrev pub OverWords : (Option Script → Type 0) → Option Files → List (List ℕ) → Type 0
+OverWords P (Some files) words = P (script_in files words)
+OverWords P None words = MatchOption (script_named words) (P None) (λ name. (script : Option Script) × P script)

@@ -1,14 +1,15 @@
 //! The top call.
 
 ghost use Rattle.std.specs.Prelude.{◌≡◌, ◌≤◌, Some, None, List, [], length, true, Err};
-ghost use Rattle.qc_core.specs.Conduct.{IsRun};
+ghost use Rattle.qc_core.specs.Whole.{IsWhole};
 ghost use Rattle.qc_outside.specs.Causes.{Rose};
 ghost use Rattle.qc_report.specs.Causes.{status_of};
+ghost use Rattle.qc_decl.specs.One.{one};
 ghost use Rattle.qc_report.specs.Text.{text_of};
-ghost use Rattle.qc_top.specs.Engine.{IsOne};
 ghost use Rattle.qc_top.specs.Words.{script_in_bytes, texts_of};
 ghost use Rattle.qc_top.specs.At.{IsBelow, IsEnd};
-ghost use Rattle.qc_top.specs.Top.{cause_of_shelf, IsFullCause, PrintsBetween, PrintsScript, RunsScript, RunsWords};
+ghost use Rattle.qc_top.specs.declared.engine.End.TheVariants.{Quiet};
+ghost use Rattle.qc_top.specs.Top.{cause_of_shelf, IsFullCause, Leaves, OnPrinted, OverWords, PrintsBetween};
 
 use crate::engine::{End, Engine};
 use crate::words::script_name;
@@ -53,9 +54,12 @@ where
     K: Sink,
     R: Rack,
     G: Gate,
-    ensures run { RunsWords (F.files shelf.old) (texts_of words.now) result.history }
+    ensures leaves { OverWords
+        (λ script. Leaves script (K.taken sink.old) result.cause (K.taken sink.new) result.history)
+        (F.files shelf.old) (texts_of words.now) }
     ensures status { result.status ≡ status_of result.cause }
     ensures full { IsFullCause result.cause result.history }
+    ensures sink { result.cause ≡ Cause.Sink → Rose (K.faults sink.old) (K.faults sink.new) }
 {
     let Some(name) = script_name(words) else {
         return nothing(alloc, Cause::NotBuilt);
@@ -96,10 +100,10 @@ fn shelf_cause(fault: ShelfFault) -> Cause
 /// Runs the script that these bytes spell, and prints the run.
 fn run_bytes<K: Sink>(alloc: Global, bytes: &[u8], sink: &mut K) -> Ended
     requires { length bytes.now ≤ 1048576 }
-    ensures run { RunsScript (script_in_bytes bytes.now) result.history }
+    ensures leaves { Leaves (script_in_bytes bytes.now) (K.taken sink.old) result.cause (K.taken sink.new) result.history }
     ensures status { result.status ≡ status_of result.cause }
     ensures full { IsFullCause result.cause result.history }
-    ensures text { PrintsScript (script_in_bytes bytes.now) result.history (K.taken sink.old) result.cause (K.taken sink.new) }
+    ensures sink { result.cause ≡ Cause.Sink → Rose (K.faults sink.old) (K.faults sink.new) }
 {
     let Ok(Some(decl)) = built_in(alloc, "@one") else {
         return nothing(alloc, Cause::OutOfMemory);
@@ -113,11 +117,11 @@ fn run_bytes<K: Sink>(alloc: Global, bytes: &[u8], sink: &mut K) -> Ended
 
 /// Runs a script, and prints the run.
 fn run_script<K: Sink>(alloc: Global, decl: &Declaration, script: &Script, sink: &mut K) -> Ended
-    requires { IsOne decl.now }
-    ensures run { IsRun decl.now script.now result.history }
+    requires { decl.now ≡ one }
+    ensures leaves { Leaves (Some script.now) (K.taken sink.old) result.cause (K.taken sink.new) result.history }
     ensures status { result.status ≡ status_of result.cause }
     ensures full { IsFullCause result.cause result.history }
-    ensures text { PrintsBetween (text_of decl.now script.now result.history) (K.taken sink.old) result.cause (K.taken sink.new) }
+    ensures sink { result.cause ≡ Cause.Sink → Rose (K.faults sink.old) (K.faults sink.new) }
 {
     let Ok(mut engine) = Engine::new(alloc, decl, script) else {
         return nothing(alloc, Cause::OutOfMemory);
@@ -142,9 +146,12 @@ fn conclude<K: Sink>(
     history: &History,
     sink: &mut K,
 ) -> Cause
-    requires { IsEnd end history.now }
+    requires end { IsEnd end history.now }
+    requires whole { end ≡ Quiet → IsWhole decl.now script.now history.now }
     ensures full { IsFullCause result history.now }
+    ensures whole { OnPrinted result (IsWhole decl.now script.now history.now) }
     ensures text { PrintsBetween (text_of decl.now script.now history.now) (K.taken sink.old) result (K.taken sink.new) }
+    ensures sink { result ≡ Cause.Sink → Rose (K.faults sink.old) (K.faults sink.new) }
 {
     match end {
         End::Quiet => print(alloc, decl, script, history, sink),
@@ -161,8 +168,11 @@ fn print<K: Sink>(
     history: &History,
     sink: &mut K,
 ) -> Cause
-    requires { IsBelow history.now }
+    requires below { IsBelow history.now }
+    requires whole { IsWhole decl.now script.now history.now }
     ensures full { IsFullCause result history.now }
+    ensures whole { OnPrinted result (IsWhole decl.now script.now history.now) }
+    ensures sink { result ≡ Cause.Sink → Rose (K.faults sink.old) (K.faults sink.new) }
     ensures text { PrintsBetween (text_of decl.now script.now history.now) (K.taken sink.old) result (K.taken sink.new) }
 {
     let Ok(text) = text(alloc, decl, script, history) else {

@@ -1,15 +1,17 @@
-use Rattle.std.proofs.Common.{◌≡◌, List, ℕ, Some, rules, subst}
-use Rattle.qc_top.proofs.Ends.{words_nothing, words_run}
-use Rattle.qc_top.specs.Top.{RunsScript}
+use Rattle.std.proofs.Common.{◌≡◌, ◌∙◌, List, ℕ, Some, rules, subst}
+use Rattle.qc_top.proofs.Ends.{shelf_silent, words_caused, words_over}
+use Rattle.qc_top.specs.Top.{Leaves}
 use Rattle.qc_top.specs.Words.{script_in_bytes, script_named, texts_of}
 use Rattle.qc_top.proofs.top.quorum_words.Goals as goal
 
-pub returns-in-Ok-clause-run : goal.returns-in-Ok-clause-run
-returns-in-Ok-clause-run g c =
+pub returns-in-Ok-clause-leaves : goal.returns-in-Ok-clause-leaves
+returns-in-Ok-clause-leaves g c =
     let named : script_named (texts_of c.args.words.now) ≡ Some c.in-Some.name.now = search rules in
-    let run : RunsScript (script_in_bytes c.in-Ok.bytes.items) c.run_bytes.result.history =
-    subst (λ (bytes : List ℕ). RunsScript (script_in_bytes bytes) c.run_bytes.result.history) c.as_slice.ensures.value c.run_bytes.ensures.run in
-    words_run (g.F.Shelf.files c.args.shelf.now) (texts_of c.args.words.now) c.in-Some.name.now c.in-Ok.bytes.items c.run_bytes.result.history named c.in-Ok.ensures.content run
+    words_over (λ script. Leaves script (g.K.Sink.taken c.args.sink.now) c.run_bytes.result.cause (g.K.Sink.taken c.run_bytes.new.sink) c.run_bytes.result.history)
+    (g.F.Shelf.files c.args.shelf.now) (texts_of c.args.words.now) c.in-Some.name.now c.in-Ok.bytes.items named c.in-Ok.ensures.content
+    (subst (λ (bytes : List ℕ). Leaves (script_in_bytes bytes) (g.K.Sink.taken c.args.sink.now) c.run_bytes.result.cause (g.K.Sink.taken c.run_bytes.new.sink) c.run_bytes.result.history) c.as_slice.ensures.value c.run_bytes.ensures.leaves)
 
-pub returns-in-Err-clause-run : goal.returns-in-Err-clause-run
-returns-in-Err-clause-run g c = words_nothing (g.F.Shelf.files c.args.shelf.now) (texts_of c.args.words.now) c.nothing-in-Err.result.history c.nothing-in-Err.ensures.history
+pub returns-in-Err-clause-leaves : goal.returns-in-Err-clause-leaves
+returns-in-Err-clause-leaves g c =
+    words_caused (g.F.Shelf.files c.args.shelf.now) (texts_of c.args.words.now) (g.K.Sink.taken c.args.sink.now) c.nothing-in-Err.result.cause _ c.nothing-in-Err.result.history c.nothing-in-Err.ensures.history
+    (c.nothing-in-Err.ensures.cause ∙ c.shelf_cause.ensures) (shelf_silent c.in-Err.fault)
