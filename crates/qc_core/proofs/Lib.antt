@@ -4,3 +4,5 @@ pub mod Sites
 pub mod OrderLaw
 pub mod Within
 pub mod BoundLaw
+mod Row
+pub mod ActsGrow

@@ -1,3 +1,10 @@
 pub mod Conduct
 pub mod Order
 pub mod Bounds
+pub mod Committed
+pub mod OneCopy
+pub mod Acts
+pub mod Deals
+pub mod Seen
+pub mod Kept
+pub mod Atomic
