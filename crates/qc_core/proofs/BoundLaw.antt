@@ -125,8 +125,8 @@ module _ (decl : Declaration) (script : Script) (h : List Entry) (bound : ℕ) (
   posts_held = record {
     phases = let p : phase_of h ≤ bound = held.phases in omega (arith, phase-posted h b (length (mail h)) turn);
     messages =
-        subst (λ (v : List Envelope). MailWithin bound v) (sym (mail-append h (by b (posted (length (mail h)) turn)) ∙ ap (λ (v : List Envelope). mail h ++ v) (mail-posted b (length (mail h)) turn)))
-        (MailWithin-append bound (mail h) _ held.messages (MailWithin-envelopes bound b (length (mail h)) turn.sends turn_within.sends));
+      subst (λ (v : List Envelope). MailWithin bound v) (sym (mail-append h (by b (posted (length (mail h)) turn)) ∙ ap (λ (v : List Envelope). mail h ++ v) (mail-posted b (length (mail h)) turn)))
+      (MailWithin-append bound (mail h) _ held.messages (MailWithin-envelopes bound b (length (mail h)) turn.sends turn_within.sends));
     sites = λ a is. site_by a is (b == a) refl;
     fronts = λ a is. front_by a is (b == a) refl;
   }

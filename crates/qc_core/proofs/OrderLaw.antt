@@ -311,9 +311,9 @@ law decl script h open_inputs (phase before k run none quiet more) =
     record {
       arrived = λ a. same_arrived a k (k ++ marked (controller decl) x ∷ []) same_mail (waiting-step a k (controller decl) x) (old.arrived a);
       busy = λ a client.
-          same_busy _ _ _ _ _ _
-          (ap (front_after decl (a - decl.sites)) (sym (deeds-append a [] k (marked (controller decl) x ∷ []) ∙ ap (λ (v : List Deed). deeds a [] k ++ (v ++ [])) (cond-same (controller decl == a) []) ∙ append-nil (deeds a [] k))))
-          (sym (busy-step a k (controller decl) x ∙ cond-same (controller decl == a) (is_busy a k))) refl (old.busy a client);
+        same_busy _ _ _ _ _ _
+        (ap (front_after decl (a - decl.sites)) (sym (deeds-append a [] k (marked (controller decl) x ∷ []) ∙ ap (λ (v : List Deed). deeds a [] k ++ (v ++ [])) (cond-same (controller decl == a) []) ∙ append-nil (deeds a [] k))))
+        (sym (busy-step a k (controller decl) x ∙ cond-same (controller decl == a) (is_busy a k))) refl (old.busy a client);
       orderly = EachAfter-append IsInOrder [] k (marked (controller decl) x ∷ []) old.orderly (tt, tt);
     }
 

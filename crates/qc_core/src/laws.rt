@@ -12,7 +12,8 @@ ghost use Rattle.qc_script.specs.declared.script.Script.{Script};
 /// it, and each reply answers a command that was called and not yet answered.
 pub fn messages_and_replies_are_in_order()
     ensures { (decl : Declaration) (script : Script) (h : List Entry) → IsRun decl script h → IsOrderly h }
-{}
+{
+}
 
 ghost use Rattle.qc_core.specs.Bounds.{IsBounded};
 
@@ -21,4 +22,5 @@ ghost use Rattle.qc_core.specs.Bounds.{IsBounded};
 /// ends at its limits.
 pub fn clocks_and_counts_are_bounded()
     ensures { (decl : Declaration) (script : Script) (h : List Entry) → IsRun decl script h → IsBounded decl h }
-{}
+{
+}
