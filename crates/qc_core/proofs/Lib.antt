@@ -6,3 +6,5 @@ pub mod Within
 pub mod BoundLaw
 mod Row
 pub mod ActsGrow
+pub mod Members
+pub mod Ledger
