@@ -8,3 +8,5 @@ mod Row
 pub mod ActsGrow
 pub mod Members
 pub mod Ledger
+pub mod Sights
+pub mod Register
