@@ -10,3 +10,5 @@ pub mod Members
 pub mod Ledger
 pub mod Sights
 pub mod Register
+pub mod Walking
+pub mod Own

@@ -8,3 +8,4 @@ pub mod Deals
 pub mod Seen
 pub mod Kept
 pub mod Atomic
+pub mod Logged
