@@ -12,3 +12,4 @@ pub mod Sights
 pub mod Register
 pub mod Walking
 pub mod Own
+pub mod Doings

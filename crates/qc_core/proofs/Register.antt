@@ -1,6 +1,7 @@
 -- The built-in register: what its table and plan give, computed.
 use Rattle.std.proofs.Common.{◌≡◌, ℕ, zero, suc, ◌+◌, ◌==◌, Bool, true, false, cond, List, [], ◌∷◌, Option, Some, None, ◌⊎◌, inl, inr, refl, sym, ap, subst, ◌∙◌, arith}
 use Rattle.std.specs.Prelude.{nat_lt, option_and_then}
+use Rattle.std.proofs.lemmas.Bool.{ne_eqb}
 use Rattle.qc_decl.specs.Lookup.{append_need_of, read_need_of}
 use Rattle.qc_decl.specs.One.{one, register_rows}
 use Rattle.qc_front.specs.State.{first_epoch}
@@ -112,3 +113,18 @@ first_by s inv (Some resp) is none =
 pub none_anywhere : (s t inv : ℕ) → IsBit s → IsBit t → first_of register_rows s inv ≡ None → (resp : ℕ) → next_in register_rows t (event inv resp) ≡ None
 none_anywhere s t inv bit bit' none =
     none_legal register_rows t inv (lowest_same s t inv bit bit' (first_by s inv (lowest_in register_rows s inv) refl none))
+
+past : (a b c k : ℕ) → low a b c (0 == suc (suc (suc k))) (1 == suc (suc (suc k))) (2 == suc (suc (suc k))) ≡ None
+past a b c k =
+    let first : (0 == suc (suc (suc k))) ≡ false = ne_eqb 0 (suc (suc (suc k))) (λ e. omega arith) in
+    let second : (1 == suc (suc (suc k))) ≡ false = ne_eqb 1 (suc (suc (suc k))) (λ e. omega arith) in
+    let third : (2 == suc (suc (suc k))) ≡ false = ne_eqb 2 (suc (suc (suc k))) (λ e. omega arith) in
+    ap (λ (t : Bool). low a b c t (1 == suc (suc (suc k))) (2 == suc (suc (suc k)))) first
+    ∙ ap (λ (t : Bool). low a b c false t (2 == suc (suc (suc k)))) second
+    ∙ ap (λ (t : Bool). low a b c false false t) third
+
+-- there are no other invocations
+pub first_past : (s k : ℕ) → IsBit s → first_of register_rows s (suc (suc (suc k))) ≡ None
+first_past s k bit =
+    ap (λ (o : Option ℕ). option_and_then (λ (r : ℕ). event_number (events_of register_rows) (event (suc (suc (suc k))) r)) o)
+    (at_bit (λ v. lowest_in register_rows v (suc (suc (suc k))) ≡ None) s bit (past 0 2 2 k) (past 1 2 2 k))
