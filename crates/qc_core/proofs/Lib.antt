@@ -13,3 +13,4 @@ pub mod Register
 pub mod Walking
 pub mod Own
 pub mod Doings
+pub mod Holding
