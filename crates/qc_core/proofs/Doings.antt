@@ -205,7 +205,7 @@ module _ (before : ℕ → ℕ) (log : List Line) (b : Begun) (inv e : ℕ) (d :
     is_event = is.numbered;
   }
 
-  below : Every (λ (o : OwnLine). o.op < line.op) b.own
+  pub below : Every (λ (o : OwnLine). o.op < line.op) b.own
   below = every-weaker (λ (o : OwnLine). o.op ≤ length b.ops) (λ (o : OwnLine). o.op < line.op) (λ o le. omega arith) b.own d.within
 
   pub sorted_line : IsSorted (b.own ++ line ∷ [])
@@ -262,7 +262,7 @@ doing-fresh before log b no_ops no_own no_view bit = record {
 }
 
 -- the same transaction, where only the site's life is another, or whether a request was sent
-pub doing-alike : (before : ℕ → ℕ) (log log' : List Line) (b c : Begun) → log ≡ log' → b.ops ≡ c.ops → b.own ≡ c.own → b.view ≡ c.view → Doing before log b → Doing before log' c
+abbrev pub doing-alike : (before : ℕ → ℕ) (log log' : List Line) (b c : Begun) → log ≡ log' → b.ops ≡ c.ops → b.own ≡ c.own → b.view ≡ c.view → Doing before log b → Doing before log' c
 doing-alike before log log' b c same_log same_ops same_own same_view d = record {
   after = d.after;
   walked = subst (λ (v : List Op). Reach one before v d.after) same_ops d.walked;

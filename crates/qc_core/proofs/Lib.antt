@@ -14,3 +14,6 @@ pub mod Walking
 pub mod Own
 pub mod Doings
 pub mod Holding
+pub mod Sense
+pub mod Moves
+pub mod Serves
