@@ -17,3 +17,4 @@ pub mod Holding
 pub mod Sense
 pub mod Moves
 pub mod Serves
+pub mod Hears
