@@ -18,3 +18,5 @@ pub mod Sense
 pub mod Moves
 pub mod Serves
 pub mod Hears
+pub mod Answers
+pub mod Stand
