@@ -20,3 +20,4 @@ pub mod Serves
 pub mod Hears
 pub mod Answers
 pub mod Stand
+pub mod AtomicLaw
