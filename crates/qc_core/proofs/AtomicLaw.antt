@@ -8,11 +8,12 @@ use Rattle.std.proofs.lemmas.List.Sums.{fold-append}
 use Rattle.qc_stamp.specs.declared.stamp.TxId.{TxId}
 use Rattle.qc_entry.specs.declared.record.Commit.{Commit}
 use Rattle.qc_decl.specs.One.{one}
-use Rattle.qc_decl.specs.Actors.{controller, is_client}
+use Rattle.qc_decl.specs.Actors.{client_actor, is_client}
 use Rattle.qc_front.specs.declared.round.Round.{Round}
 use Rattle.qc_front.specs.declared.round.Round.TheVariants.{Idle, Reading, Appending, Voting}
 use Rattle.qc_front.specs.Conduct.{called, front_after, front_does, heard}
 use Rattle.qc_front.specs.Moves.{FrontMove}
+use Rattle.qc_front.specs.State.{new_front}
 use Rattle.qc_msg.specs.declared.message.Envelope.{Envelope}
 use Rattle.qc_msg.specs.declared.message.Message.{Message}
 use Rattle.qc_msg.specs.declared.step.Command.{Command}
@@ -36,7 +37,7 @@ use Rattle.qc_script.specs.Runs.{Runs, begins, takes, posts, phase}
 use Rattle.qc_script.proofs.Found.{ready-called, ready-sent}
 use Rattle.qc_script.proofs.Grows.{waiting-posted, waiting-step}
 use Rattle.qc_site.specs.Conduct.{site_after, site_does, site_on}
-use Rattle.qc_site.specs.Site.{SiteMove}
+use Rattle.qc_site.specs.Site.{SiteMove, new_site}
 use Rattle.qc_core.specs.Acts.{Act, acts}
 use Rattle.qc_core.specs.Atomic.{AreApart, AreTold, Atomic, HasBefore, HasCommit}
 use Rattle.qc_core.specs.Bounds.{front_at, site_at}
@@ -44,15 +45,15 @@ use Rattle.qc_core.specs.Committed.{In, commit_by, committed, with_commit, writt
 use Rattle.qc_core.specs.Conduct.{IsLawful, IsRun}
 use Rattle.qc_core.specs.Deals.{dealing, deals, endings}
 use Rattle.qc_core.specs.Kept.{Kept}
-use Rattle.qc_core.specs.OneCopy.{OneCopy}
+use Rattle.qc_core.specs.OneCopy.{OneCopy, start_at}
 use Rattle.qc_core.specs.Seen.{no_sight, seen, sight}
 use Rattle.qc_core.proofs.ActsGrow.{acts-other, acts-phase, acts-posted, acts-taken, posted_acts}
 use Rattle.qc_core.proofs.Fronts.{runs}
 use Rattle.qc_core.proofs.Ledger.{IsDead, IsEnd, rising_apart}
 use Rattle.qc_core.proofs.Members.{every-in}
 use Rattle.qc_core.proofs.OrderLaw.{Law, law}
-use Rattle.qc_core.proofs.Sense.{after_posting, to_site, with_record}
-use Rattle.qc_core.proofs.Stand.{Fair, Stand, client_calls, client_hears, client_posts, dealings_of, sights_of, site_posts, site_takes}
+use Rattle.qc_core.proofs.Sense.{Sense, after_posting, to_site, with_record}
+use Rattle.qc_core.proofs.Stand.{Fair, Stand, client_calls, client_hears, client_posts, dealings_of, fair_sense, sights_of, site_posts, site_takes}
 use Rattle.qc_core.proofs.Within.{sendings-site}
 
 -- what stands, moved along equal parts
@@ -274,3 +275,120 @@ phase_began h k x y st =
     (sym (written-none h (marked 3 (Phase k) ∷ []) refl))
     (sym (acts-phase 3 1 k [] h))
     st
+
+-- at the beginning
+begun_stand : StandAt [] false false
+begun_stand = record {
+  from = tt;
+  to_client = λ is. absurd (let never : ⊥ = cc in never);
+  lines = tt;
+  fair = fair_sense [] _ _ _ _ sense;
+  closed = λ is. record { client = refl; comes = refl; sense = sense };
+  opened = λ is. absurd (let never : ⊥ = cc in never);
+}
+  where
+    sense : Sense [] (new_front 0) (new_site 0) (dealings_of []) (sights_of [])
+    sense = record {
+      last = 0;
+      now = refl;
+      stamps = record { rising = tt; below = tt; sorted = refl };
+      book =
+        record {
+          begun = λ tx. refl;
+          unborn = λ k l. refl;
+          dealing = λ tx e. absurd (let never : ⊥ = cc in never);
+          dealt = λ c m. absurd m;
+          each = λ c m. absurd m;
+          ends = λ tx. tt;
+        };
+      vision = record { begun = λ tx. refl; known = λ tx. tt; seeing = λ tx e. absurd (let never : ⊥ = cc in never); seen = λ c tx m. absurd m };
+      copied = record { before = start_at one; walked = refl; bit = inl refl; logged = refl; lines = tt; zeros = tt };
+      works = (refl, refl);
+      asked = tt;
+    }
+
+taken_standing : (script : Script) (h : List Entry) (open_inputs : List Bool) (laws : Law one script h open_inputs) (a : ℕ) (input : Given) (x y : Bool) → open_inputs ≡ x ∷ y ∷ [] → StandAt h x y
+    → slice_get open_inputs a ≡ Some false → ready one script a h ≡ Some input → Standing (h ++ marked a (step_of input) ∷ []) (slice_set open_inputs a true)
+taken_standing script h open_inputs laws zero input x y shape st free rdy =
+    let is : x ≡ false = let e : Some x ≡ Some false = sym (ap (λ (o : List Bool). slice_get o 0) shape) ∙ free in cc in
+    record {
+      site = true;
+      client = y;
+      shape = ap (λ (o : List Bool). slice_set o 0 true) shape;
+      stand = site_took script h open_inputs laws input y rdy (subst (λ (v : Bool). StandAt h v y) is st);
+    }
+taken_standing script h open_inputs laws (suc zero) input x y shape st free rdy =
+    let is : y ≡ false = let e : Some y ≡ Some false = sym (ap (λ (o : List Bool). slice_get o 1) shape) ∙ free in cc in
+    record {
+      site = x;
+      client = true;
+      shape = ap (λ (o : List Bool). slice_set o 1 true) shape;
+      stand = client_took script h open_inputs laws input x free rdy (subst (λ (v : Bool). StandAt h x v) is st);
+    }
+taken_standing script h open_inputs laws (suc (suc a)) input x y shape st free rdy =
+    absurd (let e : None ≡ Some false = sym (ap (λ (o : List Bool). slice_get o (suc (suc a))) shape) ∙ free in let never : ⊥ = cc in never)
+
+posted_standing : (h : List Entry) (open_inputs : List Bool) (a : ℕ) (turn : Turn) (x y : Bool) → open_inputs ≡ x ∷ y ∷ [] → StandAt h x y
+    → slice_get open_inputs a ≡ Some true → IsLawful one a (deeds a [] h) turn → Standing (h ++ by a (posted (length (mail h)) turn)) (slice_set open_inputs a false)
+posted_standing h open_inputs zero turn x y shape st taken lawful =
+    let is : x ≡ true = let e : Some x ≡ Some true = sym (ap (λ (o : List Bool). slice_get o 0) shape) ∙ taken in cc in
+    record {
+      site = false;
+      client = y;
+      shape = ap (λ (o : List Bool). slice_set o 0 false) shape;
+      stand = site_posted h turn y lawful (subst (λ (v : Bool). StandAt h v y) is st);
+    }
+posted_standing h open_inputs (suc zero) turn x y shape st taken lawful =
+    let is : y ≡ true = let e : Some y ≡ Some true = sym (ap (λ (o : List Bool). slice_get o 1) shape) ∙ taken in cc in
+    record {
+      site = x;
+      client = false;
+      shape = ap (λ (o : List Bool). slice_set o 1 false) shape;
+      stand = client_posted h turn x lawful (subst (λ (v : Bool). StandAt h x v) is st);
+    }
+posted_standing h open_inputs (suc (suc a)) turn x y shape st taken lawful =
+    absurd (let e : None ≡ Some true = sym (ap (λ (o : List Bool). slice_get o (suc (suc a))) shape) ∙ taken in let never : ⊥ = cc in never)
+
+-- every run
+pub standing : (script : Script) (h : List Entry) (open_inputs : List Bool) → Runs (IsLawful one) one script h open_inputs → Standing h open_inputs
+standing script h open_inputs begins = record { site = false; client = false; shape = refl; stand = begun_stand }
+standing script h open_inputs (takes a input before k run free rdy) =
+    let s : Standing k before = standing script k before run in
+    taken_standing script k before (law one script k before run) a input s.site s.client s.shape s.stand free rdy
+standing script h open_inputs (posts a turn before k run taken lawful) =
+    let s : Standing k before = standing script k before run in
+    posted_standing k before a turn s.site s.client s.shape s.stand taken lawful
+standing script h open_inputs (phase before k run none quiet more) =
+    let s : Standing k open_inputs = standing script k open_inputs run in
+    record { site = s.site; client = s.client; shape = s.shape; stand = phase_began k (phase_of k + 1) s.site s.client s.stand }
+
+-- what stands gives atomicity
+
+one_client : (k : ℕ) → k < 1 → k ≡ 0
+one_client k l = omega arith
+
+atomic_of : (h : List Entry) → Fair (written one h) (dealings_of (acts 1 [] h)) (sights_of (acts 1 [] h)) → Atomic one h
+atomic_of h fair = record {
+  apart = subst AreApart (sym fair.sorted) (rising_apart (written one h) fair.rising);
+  one_copy = subst (OneCopy one) (sym fair.sorted) fair.one_copy;
+  dealt = subst (λ (cs : List Commit). (c : Commit) → In c cs → c.ops ≡ deals one h c.tx) (sym fair.sorted)
+    (λ c m. subst (λ (k : ℕ). c.ops ≡ (dealing one h k c.tx).ops) (sym (fair.client c m)) (sym (fair.dealt c m)));
+  seen = subst (λ (cs : List Commit). (c : Commit) (tx : TxId) → In c cs → In tx (seen one h c.tx) → tx ≢ c.tx → HasBefore cs tx c.stamp) (sym fair.sorted)
+    (λ c tx m.
+    subst (λ (k : ℕ). In tx (fold (sight c.tx) no_sight (acts (client_actor one k) [] h)).seen → tx ≢ c.tx → HasBefore (written one h) tx c.stamp) (sym (fair.client c m)) (fair.seen c tx m));
+  told = subst (λ (cs : List Commit). AreTold one cs h) (sym fair.sorted)
+    (record {
+      committed = λ k tx stamp l m.
+        every-in (IsEnd (written one h) fair.last tx) (replies.Committed stamp) _ (fair.ends tx) (subst (λ (v : ℕ). In (replies.Committed stamp) (endings one h v tx)) (one_client k l) m);
+      aborted = λ k tx why c l m.
+        let dead : IsDead (written one h) fair.last tx = every-in (IsEnd (written one h) fair.last tx) (replies.Aborted why) _ (fair.ends tx) (subst (λ (v : ℕ). In (replies.Aborted why) (endings one h v tx)) (one_client k l) m) in
+        dead.apart c;
+      dropped = λ k tx c l m.
+        let dead : IsDead (written one h) fair.last tx = every-in (IsEnd (written one h) fair.last tx) replies.Dropped _ (fair.ends tx) (subst (λ (v : ℕ). In replies.Dropped (endings one h v tx)) (one_client k l) m) in
+        dead.apart c;
+      each = λ c m. subst (λ (k : ℕ). In (replies.Committed c.stamp) (endings one h k c.tx)) (sym (fair.client c m)) (fair.each c m);
+    });
+}
+
+pub runs_are_atomic : (script : Script) (h : List Entry) → IsRun one script h → Kept h → Atomic one h
+runs_are_atomic script h run kept = atomic_of h (standing script h run.0 run.1).stand.fair

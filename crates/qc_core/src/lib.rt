@@ -5,6 +5,8 @@
 //! speaks of every run of every declaration and script.
 #![tactic(auto)]
 
+mod atomic;
 mod laws;
 
+pub use atomic::runs_are_atomic;
 pub use laws::{clocks_and_counts_are_bounded, messages_and_replies_are_in_order};
