@@ -1,9 +1,7 @@
 -- Clocks and counts are bounded by the number of steps, in every run.
-use Rattle.std.proofs.Common.{◌≡◌, ◌≤◌, ℕ, ◌+◌, ◌-◌, ◌==◌, Bool, true, false, cond, List, [], ◌∷◌, ◌++◌, length, Option, Some, None, refl, ap, sym, subst, ◌∙◌, arith, length-append, slice_get}
+use Rattle.std.proofs.Common.{◌≡◌, ◌≤◌, ℕ, ◌+◌, ◌-◌, ◌==◌, Bool, true, false, List, [], ◌∷◌, ◌++◌, length, refl, ap, sym, subst, ◌∙◌, arith, length-append}
 use Rattle.std.specs.Bool.{MatchBool}
-use Rattle.std.specs.List.{fold}
-use Rattle.std.proofs.lemmas.Bool.{eqb-true, eq-eqb}
-use Rattle.std.proofs.lemmas.List.{append-nil}
+use Rattle.std.proofs.lemmas.Bool.{eqb-true}
 use Rattle.std.proofs.lemmas.List.Sums.{fold-append}
 use Rattle.qc_core.proofs.OrderLaw.{clients_turn, law}
 use Rattle.qc_core.proofs.Within.{front_move-le, sendings-front, sendings-site, site_move-le}
@@ -13,23 +11,20 @@ use Rattle.qc_decl.specs.declared.declaration.Declaration.{Declaration}
 use Rattle.qc_decl.specs.Actors.{controller, is_client, is_site}
 use Rattle.qc_front.specs.Conduct.{called, front_after, front_does, heard}
 use Rattle.qc_front.specs.Moves.{FrontMove}
-use Rattle.qc_front.specs.Within.{FrontWithin, MoveWithin as FrontMoveWithin}
+use Rattle.qc_front.specs.Within.{MoveWithin as FrontMoveWithin}
 use Rattle.qc_front.proofs.Within.{called_within, heard_within}
 use Rattle.qc_msg.specs.declared.message.Envelope.{Envelope}
-use Rattle.qc_msg.specs.declared.message.Message.{Message}
-use Rattle.qc_msg.specs.declared.step.Command.{Command}
 use Rattle.qc_msg.specs.declared.step.Given.{Given}
 use Rattle.qc_msg.specs.declared.step.Given.TheVariants as given
-use Rattle.qc_msg.specs.declared.step.Step.{Step}
 use Rattle.qc_msg.specs.declared.step.Step.TheVariants.{Phase}
 use Rattle.qc_msg.specs.declared.step.Turn.{Turn}
-use Rattle.qc_msg.specs.Mail.{Deed, WasSentTo, deed_of, deeds, envelopes, mail, sendings}
+use Rattle.qc_msg.specs.Mail.{Deed, WasSentTo, deed_of, deeds, mail, sendings}
 use Rattle.qc_msg.specs.Steps.{Entry, by, marked, posted, step_of}
-use Rattle.qc_msg.specs.Within.{MailWithin, MessageWithin, TurnWithin}
+use Rattle.qc_msg.specs.Within.{MailWithin, TurnWithin}
 use Rattle.qc_msg.proofs.Growth.{deeds-append, deeds-by_same, deeds-other, deeds-phase, deeds-taken, length-mail, mail-append, mail-phase, mail-posted, mail-taken}
-use Rattle.qc_msg.proofs.Within.{MailWithin-append, MailWithin-envelopes, MailWithin-get, MailWithin-le, TurnWithin-le}
+use Rattle.qc_msg.proofs.Within.{MailWithin-append, MailWithin-envelopes, MailWithin-get, MailWithin-le}
 use Rattle.qc_script.specs.declared.script.Script.{Script}
-use Rattle.qc_script.specs.Ready.{phase_of, ready}
+use Rattle.qc_script.specs.Ready.{phase_of}
 use Rattle.qc_script.specs.Runs.{Runs, begins, takes, posts, phase}
 use Rattle.qc_script.proofs.Found.{ready-sent}
 use Rattle.qc_script.proofs.Grows.{phase-posted, phase-step, phase-taken}

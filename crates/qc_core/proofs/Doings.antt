@@ -1,5 +1,5 @@
 -- A begun transaction on one copy: its operations, its own lines, and its view.
-use Rattle.std.proofs.Common.{◌≡◌, ℕ, zero, suc, ◌+◌, ◌<◌, ◌≤◌, ◌==◌, ◌&&◌, Bool, true, false, cond, List, [], ◌∷◌, ◌++◌, filter, length, map, Option, Some, None, ◌⊎◌, inl, inr, slice_get, refl, sym, ap, subst, ◌∙◌, arith, length-append}
+use Rattle.std.proofs.Common.{◌≡◌, ℕ, zero, suc, ◌<◌, ◌≤◌, ◌==◌, Bool, true, false, cond, List, [], ◌∷◌, ◌++◌, length, map, Option, Some, None, ◌⊎◌, inl, inr, refl, sym, ap, subst, ◌∙◌, arith, length-append}
 use Rattle.std.specs.List.{AllByRecursion as Every}
 use Rattle.std.specs.Prelude.{nat_lt, option_and_then}
 use Rattle.std.proofs.lemmas.Bool.{and_parts}
@@ -12,12 +12,12 @@ use Rattle.qc_entry.proofs.Members.{union-self}
 use Rattle.qc_decl.specs.Lookup.{read_need_of}
 use Rattle.qc_decl.specs.One.{one, register, register_rows}
 use Rattle.qc_front.specs.declared.begun.Begun.{Begun}
-use Rattle.qc_front.specs.Operation.{joined, met, op_of, with_event, with_op}
+use Rattle.qc_front.specs.Operation.{joined, op_of, with_event, with_op}
 use Rattle.qc_front.specs.State.{first_epoch}
 use Rattle.qc_front.specs.View.{answer_of, next_own, own_on, resp_of, state_seen, weighs}
 use Rattle.qc_msg.proofs.Sent.{slice_get-append, slice_get-seam}
 use Rattle.qc_table.specs.Rules.{event}
-use Rattle.qc_table.specs.Run.{after, first_of, next_in, reached}
+use Rattle.qc_table.specs.Run.{after, first_of, reached}
 use Rattle.qc_table.proofs.Runs.{reached-append}
 use Rattle.qc_core.specs.Logged.{IsOperation}
 use Rattle.qc_core.specs.OneCopy.{step_at, updated}

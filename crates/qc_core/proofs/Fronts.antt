@@ -1,5 +1,5 @@
 -- A client's turn tells a reply exactly where no round runs after it.
-use Rattle.std.proofs.Common.{◌≡◌, ℕ, ◌+◌, ◌&&◌, not, Bool, true, false, cond, List, [], ◌∷◌, Option, Some, None, refl, ap, sym, subst, ◌∙◌}
+use Rattle.std.proofs.Common.{◌≡◌, ℕ, ◌+◌, ◌&&◌, not, Bool, true, false, cond, List, [], ◌∷◌, Option, Some, None, refl, ◌∙◌}
 use Rattle.std.specs.List.{fold}
 use Rattle.std.specs.Prelude.{is_some, nat_lt, nat_le, length, ◌==◌}
 use Rattle.qc_decl.specs.declared.declaration.Declaration.{Declaration}

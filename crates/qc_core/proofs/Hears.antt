@@ -1,5 +1,5 @@
 -- Each answer that the client waits for, with its move, keeps the sense of records, client and site.
-use Rattle.std.proofs.Common.{◌≡◌, ◌≤◌, ℕ, ◌+◌, ◌==◌, Bool, true, false, cond, max, List, [], ◌∷◌, ◌++◌, map, Option, Some, None, ◌⊎◌, inl, inr, refl, sym, ap, subst, ◌∙◌, arith}
+use Rattle.std.proofs.Common.{◌≡◌, ℕ, ◌==◌, Bool, true, false, cond, max, List, [], ◌∷◌, ◌++◌, map, Option, Some, None, ◌⊎◌, inl, inr, refl, sym, ap, subst, arith}
 use Rattle.std.specs.List.{AllByRecursion as Every}
 use Rattle.std.proofs.lemmas.Bool.{eq-eqb}
 use Rattle.qc_stamp.specs.declared.stamp.TxId.{TxId}
@@ -12,7 +12,7 @@ use Rattle.qc_front.specs.declared.front.Front.{Front}
 use Rattle.qc_front.specs.declared.round.Round.{Round}
 use Rattle.qc_front.specs.declared.round.Round.TheVariants.{Idle, Reading, Appending, Voting}
 use Rattle.qc_front.specs.Conduct.{heard}
-use Rattle.qc_front.specs.Moves.{FrontMove, moved, quiet}
+use Rattle.qc_front.specs.Moves.{moved, quiet}
 use Rattle.qc_front.specs.Ending.{forgotten, promised}
 use Rattle.qc_front.specs.Operation.{granted, joined, met, responded, with_event}
 use Rattle.qc_front.specs.State.{first_life, passed}
@@ -23,18 +23,17 @@ use Rattle.qc_msg.specs.declared.step.Command.TheVariants.{Do}
 use Rattle.qc_msg.specs.declared.step.Reply.TheVariants.{Aborted}
 use Rattle.qc_msg.specs.declared.step.Why.TheVariants.{Forgot}
 use Rattle.qc_site.specs.Site.{SiteState}
-use Rattle.qc_core.specs.Acts.{Act, Takes}
-use Rattle.qc_core.specs.Committed.{In}
+use Rattle.qc_core.specs.Acts.{Takes}
 use Rattle.qc_core.specs.Deals.{Dealing}
 use Rattle.qc_core.specs.Logged.{IsLogged}
 use Rattle.qc_core.specs.Seen.{Sight}
 use Rattle.qc_core.proofs.Doings.{Doing, doing-alike, doing-event, doing-joined, joined_view}
 use Rattle.qc_core.proofs.Holding.{HoldsBy, IsPromised}
-use Rattle.qc_core.proofs.Ledger.{Book, Stamps, book-gone, deals_on, not_now, stamps-le}
+use Rattle.qc_core.proofs.Ledger.{Stamps, book-gone, deals_on, not_now, stamps-le}
 use Rattle.qc_core.proofs.Moves.{decides_promised, front, gives_asked, responded-settles}
 use Rattle.qc_core.proofs.Own.{weighing, weighing-more}
 use Rattle.qc_core.proofs.Register.{IsBit, at_bit}
-use Rattle.qc_core.proofs.Sense.{Comes, IsAppending, IsReading, IsVoting, LifeBy, PromisedTo, Resting, Sense, Settled, name_of}
+use Rattle.qc_core.proofs.Sense.{Comes, IsReading, LifeBy, PromisedTo, Resting, Sense, Settled, name_of}
 use Rattle.qc_core.proofs.Serves.{view_settles}
 use Rattle.qc_core.proofs.Sights.{HasRecord, NoneNow, Vision, sights_on, vision-ended, vision-granted, vision-stale, vision-yes}
 

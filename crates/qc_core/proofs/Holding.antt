@@ -1,13 +1,12 @@
 -- What the site holds of the one begun transaction, as requests come.
-use Rattle.std.proofs.Common.{◌≡◌, ℕ, Bool, true, false, not, cond, List, [], ◌∷◌, ◌++◌, filter, Option, Some, None, ◌⊎◌, inl, inr, refl, sym, ap, subst, ◌∙◌}
-use Rattle.std.specs.Prelude.{nat_le, unwrap_or}
-use Rattle.std.specs.List.{find}
+use Rattle.std.proofs.Common.{◌≡◌, ℕ, suc, ◌==◌, length, arith, Bool, true, false, not, cond, List, [], ◌∷◌, ◌++◌, Some, None, ◌⊎◌, inl, inr, refl, sym, ap, subst, ◌∙◌}
+use Rattle.std.proofs.lemmas.Bool.Decides.{nat_tests}
+use Rattle.std.specs.Prelude.{nat_le}
 use Rattle.qc_stamp.specs.declared.stamp.TxId.{TxId}
 use Rattle.qc_entry.specs.declared.line.OwnLine.{OwnLine}
 use Rattle.qc_entry.specs.declared.line.ReadLock.{ReadLock}
 use Rattle.qc_entry.specs.declared.record.Prepared.{Prepared}
 use Rattle.qc_msg.specs.declared.message.Message.TheVariants.{Stale, Yes}
-use Rattle.qc_msg.specs.declared.step.Posting.{Posting}
 use Rattle.qc_site.specs.declared.held.Held.{Held}
 use Rattle.qc_site.specs.Conduct.{is_prepared, most_body, prepare_length, prepared_of, prepares, promise_of, promises, without_prepared}
 use Rattle.qc_site.specs.Held.{held_of, holding_lock, holding_owns, is_held, same_tx, with_entry, with_lock, with_owns, without_held}
@@ -40,18 +39,34 @@ hold_lock true held tx own lock holds = (
 )
 hold_lock false held tx own lock holds = (lock ∷ [], ap (λ (h : List Held). holding_lock h tx lock) holds.0 ∙ ap (λ (o : List OwnLine). entry tx (lock ∷ []) o ∷ []) (sym holds.1))
 
+-- what the site holds once it has own lines to hold
+abbrev holding : List Held → TxId → List OwnLine → List Held
+holding held tx own = with_entry held (entry tx (held_of held tx).locks (with_owns (held_of held tx).own own))
+
+not_zero : (n : ℕ) → (suc n == 0) ≡ false
+not_zero n = grind (arith, nat_tests)
+
+some_line : (own : List OwnLine) (y : OwnLine) → (length (own ++ y ∷ []) == 0) ≡ false
+some_line [] y = refl
+some_line (o ∷ own) y = not_zero (length (own ++ y ∷ []))
+
+holds_some : (held : List Held) (tx : TxId) (own : List OwnLine) (y : OwnLine) → holding_owns held tx (own ++ y ∷ []) ≡ holding held tx (own ++ y ∷ [])
+holds_some held tx own y = ap (λ (t : Bool). cond t held (holding held tx (own ++ y ∷ []))) (some_line own y)
+
 pub hold_owns : (asked : Bool) (held : List Held) (tx : TxId) (own : List OwnLine) (y : OwnLine) → IsSorted (own ++ y ∷ []) → HoldsBy asked held tx own
     → HoldsBy true (holding_owns held tx (own ++ y ∷ [])) tx (own ++ y ∷ [])
 hold_owns true held tx own y sorted holds = (
   holds.0,
-  ap (λ (h : List Held). holding_owns h tx (own ++ y ∷ [])) holds.1
+  holds_some held tx own y
+  ∙ ap (λ (h : List Held). holding h tx (own ++ y ∷ [])) holds.1
   ∙ ap (λ (e : Held). with_entry (entry tx holds.0 own ∷ []) (entry tx e.locks (with_owns e.own (own ++ y ∷ [])))) (held_is tx holds.0 own)
   ∙ put_is tx holds.0 own (entry tx holds.0 (with_owns own (own ++ y ∷ []))) refl
   ∙ ap (λ (o : List OwnLine). entry tx holds.0 o ∷ []) (with_owns-more own y sorted),
 )
 hold_owns false held tx own y sorted holds = (
   [],
-  ap (λ (h : List Held). holding_owns h tx (own ++ y ∷ [])) holds.0
+  holds_some held tx own y
+  ∙ ap (λ (h : List Held). holding h tx (own ++ y ∷ [])) holds.0
   ∙ ap (λ (o : List OwnLine). entry tx [] (with_owns o (own ++ y ∷ [])) ∷ []) (sym holds.1)
   ∙ ap (λ (o : List OwnLine). entry tx [] o ∷ []) (with_owns-more own y sorted),
 )

@@ -1,8 +1,7 @@
 -- What the commit records, and a client's acts, say of its transactions, as it acts.
-use Rattle.std.proofs.Common.{◌≡◌, ◌≢◌, ◌<◌, ◌≤◌, ℕ, ◌+◌, Bool, true, false, cond, List, [], ◌∷◌, ◌++◌, Option, Some, None, ◌⊎◌, inl, inr, fold, map, refl, sym, ap, subst, ◌∙◌, arith}
+use Rattle.std.proofs.Common.{◌≡◌, ◌≢◌, ◌<◌, ◌≤◌, ℕ, ◌+◌, Bool, true, false, cond, List, [], ◌∷◌, ◌++◌, Option, Some, None, ◌⊎◌, inl, inr, fold, refl, sym, ap, subst, ◌∙◌, arith}
 use Rattle.std.specs.List.{AllByRecursion as Every}
 use Rattle.std.specs.Ordering.{nat_cmp}
-use Rattle.std.specs.declared.cmp.Ordering.{Ordering}
 use Rattle.std.specs.declared.cmp.Ordering.TheVariants.{Less, Greater}
 use Rattle.std.proofs.lemmas.Bool.Decides.{nat_tests}
 use Rattle.std.proofs.lemmas.List.{append-nil}
@@ -12,18 +11,16 @@ use Rattle.qc_stamp.specs.declared.stamp.TxId.{TxId}
 use Rattle.qc_stamp.specs.Order.{stamp_cmp}
 use Rattle.qc_entry.specs.declared.line.Op.{Op}
 use Rattle.qc_entry.specs.declared.record.Commit.{Commit}
-use Rattle.qc_entry.specs.Log.{by_order}
 use Rattle.qc_msg.specs.declared.step.Command.{Command}
 use Rattle.qc_msg.specs.declared.step.Reply.{Reply}
 use Rattle.qc_msg.specs.declared.step.Reply.TheVariants.{Already, Began, NoTransaction, TooLong, Absent, Response, Aborted, Committed, Dropped}
 use Rattle.qc_site.specs.Held.{same_tx}
 use Rattle.qc_site.proofs.Entries.{same_self, tx_apart}
-use Rattle.qc_core.specs.Acts.{Act, Calls, Takes, Sends, Tells}
-use Rattle.qc_core.specs.Atomic.{AreApart, HasBefore, HasCommit}
+use Rattle.qc_core.specs.Acts.{Act, Calls}
+use Rattle.qc_core.specs.Atomic.{AreApart, HasCommit}
 use Rattle.qc_core.specs.Committed.{In, commit_cmp, with_commit}
 use Rattle.qc_core.specs.Deals.{Dealing, deal, dealt, ended, is_begun, operation}
-use Rattle.qc_core.specs.Seen.{Sight, sight, sees, begun_list}
-use Rattle.qc_core.proofs.Members.{In-first, In-last, In-more, In-second, every-append, every-in, every-weaker}
+use Rattle.qc_core.proofs.Members.{In-first, In-last, In-more, every-append, every-in, every-weaker}
 
 -- the one client's transactions, by their numbers
 abbrev pub tx_of : ℕ → TxId

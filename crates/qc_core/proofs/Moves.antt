@@ -1,7 +1,6 @@
 -- A client's moves, one by one, keep the sense of records, client and site.
 use Rattle.std.proofs.Common.{◌≡◌, ◌≤◌, ◌<◌, ℕ, ◌+◌, ◌==◌, Bool, true, false, cond, max, List, [], ◌∷◌, ◌++◌, map, filter, fold, Option, Some, None, ◌⊎◌, inl, inr, refl, sym, ap, subst, ◌∙◌, arith}
 use Rattle.std.specs.List.{AllByRecursion as Every}
-use Rattle.std.specs.Prelude.{flat_map}
 use Rattle.std.proofs.lemmas.List.{append-nil, map-append}
 use Rattle.std.proofs.lemmas.List.Concat.{flat_map-append}
 use Rattle.qc_stamp.specs.declared.stamp.Stamp.{Stamp}
@@ -18,16 +17,15 @@ use Rattle.qc_decl.specs.One.{one}
 use Rattle.qc_front.specs.declared.begun.Begun.{Begun}
 use Rattle.qc_front.specs.declared.front.Front.{Front}
 use Rattle.qc_front.specs.declared.round.Round.{Round}
-use Rattle.qc_front.specs.declared.round.Round.TheVariants.{Idle, Reading, Appending, Voting}
-use Rattle.qc_front.specs.Ending.{commit_turn, decides, gives_up, prepares}
+use Rattle.qc_front.specs.declared.round.Round.TheVariants.{Idle}
+use Rattle.qc_front.specs.Ending.{decides, gives_up, prepares}
 use Rattle.qc_front.specs.Moves.{FrontMove, moved}
-use Rattle.qc_front.specs.Operation.{absent, appends, op_of, reads, responded, with_event, with_op}
+use Rattle.qc_front.specs.Operation.{absent, appends, op_of, reads, responded, with_event}
 use Rattle.qc_front.specs.State.{turned}
 use Rattle.qc_front.specs.View.{next_own, resp_of}
 use Rattle.qc_msg.specs.declared.message.Message.TheVariants.{Decision, Stale, Yes}
 use Rattle.qc_msg.specs.declared.message.Outcome.TheVariants as outcomes
 use Rattle.qc_msg.specs.declared.step.Command.TheVariants.{Do}
-use Rattle.qc_msg.specs.declared.step.Posting.{Posting}
 use Rattle.qc_msg.specs.declared.step.Record.TheVariants as records
 use Rattle.qc_msg.specs.declared.step.Reply.{Reply}
 use Rattle.qc_msg.specs.declared.step.Reply.TheVariants as told
@@ -36,19 +34,17 @@ use Rattle.qc_site.specs.Site.{SiteMove, SiteState}
 use Rattle.qc_table.specs.Rules.{event}
 use Rattle.qc_table.specs.Run.{reached}
 use Rattle.qc_table.proofs.Runs.{reached-append}
-use Rattle.qc_core.specs.Acts.{Sends}
-use Rattle.qc_core.specs.Committed.{In}
 use Rattle.qc_core.specs.Deals.{Dealing, deal_told, operation}
 use Rattle.qc_core.specs.Logged.{IsLogged}
 use Rattle.qc_core.specs.OneCopy.{operations, start_at, step_at}
 use Rattle.qc_core.specs.Seen.{Sight, sight_told}
-use Rattle.qc_core.proofs.Doings.{Doing, IsAnswer, IsDone, all_of, below, doing-absent, doing-alike, line_events}
+use Rattle.qc_core.proofs.Doings.{Doing, IsDone, all_of, doing-absent, doing-alike, line_events}
 use Rattle.qc_core.proofs.Holding.{Answers as SiteAnswers, HoldsBy, IsPromised, Promises, freed, hold_lock, hold_owns, prepare_answers, promise_found, unpromised}
 use Rattle.qc_core.proofs.Ledger.{Book, IsBelow, IsNow, Stamps, book-committed, book-dealt, stamps-le, stamps-more, tx_of}
 use Rattle.qc_core.proofs.Members.{In-first, In-last, every-append, every-in, every-weaker}
 use Rattle.qc_core.proofs.Own.{IsSorted, every-filter, events, events_of_lines, lines_of-sorted, log_more, sorted-filter, sorted-more, weighing}
 use Rattle.qc_core.proofs.Register.{IsBit, IsNext, appended, stepped}
-use Rattle.qc_core.proofs.Sense.{Copied, IsVoting, LifeBy, Resting, Settled, copied-same, messages}
+use Rattle.qc_core.proofs.Sense.{Copied, LifeBy, Resting, Settled, copied-same, messages}
 use Rattle.qc_core.proofs.Sights.{Vision, vision-committed, vision-sent}
 use Rattle.qc_core.proofs.Walking.{Reach, reach-append}
 

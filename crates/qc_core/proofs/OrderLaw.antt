@@ -1,8 +1,8 @@
 -- Messages and replies are in order, in every run.
-use Rattle.std.proofs.Common.{◌≡◌, ℕ, zero, suc, ◌+◌, ◌-◌, ◌==◌, ◌<◌, ◌&&◌, not, Bool, true, false, cond, List, [], ◌∷◌, ◌++◌, length, drop, Option, Some, None, refl, ap, sym, subst, ◌∙◌, arith, append_assoc, length-append, slice_get}
+use Rattle.std.proofs.Common.{◌≡◌, ℕ, ◌+◌, ◌-◌, ◌==◌, ◌&&◌, not, Bool, true, false, cond, List, [], ◌∷◌, ◌++◌, length, drop, Option, Some, None, refl, ap, sym, subst, ◌∙◌, append_assoc, length-append, slice_get}
 use Rattle.std.specs.Bool.{MatchBool}
 use Rattle.std.specs.List.{fold}
-use Rattle.std.specs.Prelude.{is_some, slice_set, replicate}
+use Rattle.std.specs.Prelude.{is_some, slice_set}
 use Rattle.std.proofs.lemmas.Bool.{eqb-true, eq-eqb}
 use Rattle.std.proofs.lemmas.List.{append-nil}
 use Rattle.std.proofs.lemmas.List.Sums.{fold-append}
@@ -11,10 +11,9 @@ use Rattle.qc_core.proofs.Places.{slice_get-set_other, slice_get-set_same, slice
 use Rattle.qc_core.proofs.Sites.{site_silent}
 use Rattle.qc_core.specs.Bounds.{front_at}
 use Rattle.qc_core.specs.Conduct.{IsLawful, IsRun}
-use Rattle.qc_core.specs.Order.{EachAfter, IsInOrder, IsOrderly, WasSent}
+use Rattle.qc_core.specs.Order.{EachAfter, IsInOrder, IsOrderly}
 use Rattle.qc_decl.specs.declared.declaration.Declaration.{Declaration}
 use Rattle.qc_decl.specs.Actors.{actors, controller, is_site, is_client}
-use Rattle.qc_front.specs.declared.round.Round.TheVariants.{Idle}
 use Rattle.qc_front.specs.Conduct.{front_after, front_does, called, heard}
 use Rattle.qc_front.specs.Moves.{FrontMove}
 use Rattle.qc_msg.specs.declared.message.Envelope.{Envelope}
@@ -26,14 +25,14 @@ use Rattle.qc_msg.specs.declared.step.Posting.{Posting}
 use Rattle.qc_msg.specs.declared.step.Record.{Record}
 use Rattle.qc_msg.specs.declared.step.Reply.{Reply}
 use Rattle.qc_msg.specs.declared.step.Step.{Step}
-use Rattle.qc_msg.specs.declared.step.Step.TheVariants.{Phase, Called, Got, Sent, Told, Wrote}
+use Rattle.qc_msg.specs.declared.step.Step.TheVariants.{Phase, Called, Got, Sent, Wrote}
 use Rattle.qc_msg.specs.declared.step.Turn.{Turn}
-use Rattle.qc_msg.specs.Mail.{Deed, Ordered, Hears, AllSent, WasSentTo, addressed, deed_at, deed_of, deeds, envelopes, mail, sendings}
+use Rattle.qc_msg.specs.Mail.{Deed, WasSentTo, addressed, deed_of, deeds, envelopes, mail, sendings}
 use Rattle.qc_msg.specs.Steps.{Entry, by, marked, posted, sents, step_of, told, wrote}
-use Rattle.qc_msg.proofs.Growth.{by-posted, by-append, mail-append, mail-posted, mail-taken, deeds-append, deeds-by_same, deeds-other, deeds-taken, fold-wrote, fold-sents}
-use Rattle.qc_msg.proofs.Sent.{AllSent-append, AllSent-drop, AllSent-delivered}
+use Rattle.qc_msg.proofs.Growth.{by-posted, mail-append, mail-posted, mail-taken, deeds-append, deeds-by_same, deeds-other, deeds-taken, fold-wrote, fold-sents}
+use Rattle.qc_msg.proofs.Sent.{AllSent-drop, AllSent-delivered}
 use Rattle.qc_script.specs.declared.script.Script.{Script}
-use Rattle.qc_script.specs.Ready.{busy_at, busy_step, is_busy, phase_of, ready, waiting, waiting_at}
+use Rattle.qc_script.specs.Ready.{busy_at, busy_step, is_busy, phase_of, ready, waiting}
 use Rattle.qc_script.specs.Runs.{Runs, begins, takes, posts, phase}
 use Rattle.qc_site.specs.Conduct.{site_after}
 use Rattle.qc_script.proofs.Found.{AllTo-addressed, AllTo-both, AllTo-drop, Arrived, ready-called, ready-sent}

@@ -7,17 +7,15 @@ use Rattle.qc_entry.specs.declared.line.Line.{Line}
 use Rattle.qc_entry.specs.declared.line.Op.{Op}
 use Rattle.qc_entry.specs.declared.record.Commit.{Commit}
 use Rattle.qc_msg.specs.declared.message.Message.TheVariants.{Granted, Stale, Yes}
-use Rattle.qc_msg.specs.declared.step.Reply.{Reply}
-use Rattle.qc_msg.specs.declared.step.Reply.TheVariants.{Began, Aborted, Committed, Dropped}
-use Rattle.qc_msg.specs.declared.step.Why.{Why}
+use Rattle.qc_msg.specs.declared.step.Reply.TheVariants.{Began, Committed}
 use Rattle.qc_site.specs.Held.{same_tx}
-use Rattle.qc_site.proofs.Entries.{same_self, tx_apart}
+use Rattle.qc_site.proofs.Entries.{same_self}
 use Rattle.qc_core.specs.Acts.{Act, Takes, Sends, Tells}
 use Rattle.qc_core.specs.Atomic.{HasBefore}
 use Rattle.qc_core.specs.Committed.{In}
 use Rattle.qc_core.specs.Deals.{is_begun}
 use Rattle.qc_core.specs.Seen.{Sight, answered, begun_list, sees, sight, waits}
-use Rattle.qc_core.proofs.Ledger.{IsBelow, IsNow, Stamps, apart_by_number, clock_less, not_now, tx_of}
+use Rattle.qc_core.proofs.Ledger.{IsBelow, Stamps, apart_by_number, clock_less, tx_of}
 use Rattle.qc_core.proofs.Members.{In-first, In-last, In-more, every-append, every-in, every-weaker}
 
 -- a record of the transaction

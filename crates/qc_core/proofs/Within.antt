@@ -1,5 +1,5 @@
 -- Bounds on clocks, as the bound rises and as deeds go on.
-use Rattle.std.proofs.Common.{◌≡◌, ◌≤◌, ◌+◌, ℕ, List, [], ◌∷◌, refl, subst, arith}
+use Rattle.std.proofs.Common.{◌≡◌, ◌≤◌, ◌+◌, ℕ, List, [], ◌∷◌, refl, arith}
 use Rattle.std.specs.List.{fold}
 use Rattle.qc_core.specs.Bounds.{FrontBounded}
 use Rattle.qc_decl.specs.declared.declaration.Declaration.{Declaration}

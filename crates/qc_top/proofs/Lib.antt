@@ -1,3 +1,4 @@
 pub mod Turns
 pub mod Lands
 pub mod Ends
+pub mod Atomicity

@@ -1,6 +1,8 @@
 //! The top call.
 
 ghost use Rattle.std.specs.Prelude.{◌≡◌, ◌≢◌, ◌≤◌, Some, None, List, [], length, true, Err};
+ghost use Rattle.qc_core.specs.Atomic.{Atomic};
+ghost use Rattle.qc_core.specs.Kept.{Kept};
 ghost use Rattle.qc_core.specs.Whole.{IsWhole};
 ghost use Rattle.qc_outside.specs.Causes.{Rose};
 ghost use Rattle.qc_report.specs.Causes.{status_of};
@@ -57,6 +59,7 @@ where
     ensures leaves { OverWords
         (λ script. Leaves script (K.taken sink.old) result.cause (K.taken sink.new) result.history)
         (F.files shelf.old) (texts_of words.now) }
+    ensures atomic { Kept result.history → Atomic one result.history }
     ensures status { result.status ≡ status_of result.cause }
     ensures due { IsDue (F.files shelf.old) (texts_of words.now) result.cause }
     ensures full { IsFullCause result.cause result.history }

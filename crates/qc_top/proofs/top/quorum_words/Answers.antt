@@ -1,6 +1,7 @@
-use Rattle.std.proofs.Common.{◌≡◌, ◌∙◌, List, ℕ, Some, rules, subst}
+use Rattle.std.proofs.Common.{◌≡◌, ◌∙◌, List, ℕ, None, Some, rules, subst}
+use Rattle.qc_top.proofs.Atomicity.{script_atomic}
 use Rattle.qc_top.proofs.Ends.{shelf_silent, words_caused, words_over, words_refused, words_taken}
-use Rattle.qc_top.specs.Top.{IsDueOfScript, Leaves}
+use Rattle.qc_top.specs.Top.{IsDueOfScript, Leaves, RunsScript}
 use Rattle.qc_top.specs.Words.{script_in_bytes, script_named, texts_of}
 use Rattle.qc_top.proofs.top.quorum_words.Goals as goal
 
@@ -26,3 +27,14 @@ pub returns-in-Err-clause-due : goal.returns-in-Err-clause-due
 returns-in-Err-clause-due g c =
     let named : script_named (texts_of c.args.words.now) ≡ Some c.in-Some.name.now = search rules in
     words_refused (g.F.Shelf.files c.args.shelf.now) (texts_of c.args.words.now) c.in-Some.name.now c.in-Err.fault c.nothing-in-Err.result.cause named c.in-Err.ensures.content (c.nothing-in-Err.ensures.cause ∙ c.shelf_cause.ensures)
+
+pub returns-in_default-clause-atomic : goal.returns-in_default-clause-atomic
+returns-in_default-clause-atomic g c kept = script_atomic None c.nothing.result.history c.nothing.ensures.history kept
+
+pub returns-in-Ok-clause-atomic : goal.returns-in-Ok-clause-atomic
+returns-in-Ok-clause-atomic g c kept =
+    script_atomic (script_in_bytes c.in-Ok.bytes.items) c.run_bytes.result.history
+    (subst (λ (bytes : List ℕ). RunsScript (script_in_bytes bytes) c.run_bytes.result.history) c.as_slice.ensures.value c.run_bytes.ensures.leaves.run) kept
+
+pub returns-in-Err-clause-atomic : goal.returns-in-Err-clause-atomic
+returns-in-Err-clause-atomic g c kept = script_atomic None c.nothing-in-Err.result.history c.nothing-in-Err.ensures.history kept

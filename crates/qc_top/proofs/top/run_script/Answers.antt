@@ -1,4 +1,4 @@
-use Rattle.std.proofs.Common.{◌≡◌, Some, List, subst, sym}
+use Rattle.std.proofs.Common.{Some, List, subst, sym}
 use Rattle.qc_core.specs.Conduct.{IsRun}
 use Rattle.qc_msg.specs.Steps.{Entry}
 use Rattle.qc_top.proofs.Ends.{leaves_caused, leaves_script}

@@ -1,4 +1,4 @@
-use Rattle.std.proofs.Common.{◌≡◌, ◌+◌, ◌<◌, ◌^◌, ◌++◌, ◌∙◌, ap, refl, sym, arith, rules, slice_get, Some, List, [], ◌∷◌, subst, get_or}
+use Rattle.std.proofs.Common.{◌≡◌, ◌+◌, ◌<◌, ◌^◌, ◌++◌, ◌∙◌, ap, refl, sym, arith, slice_get, Some, List, [], ◌∷◌, subst, get_or}
 use Rattle.std.proofs.lemmas.Option.{slice_get-get_or}
 use Rattle.qc_msg.specs.declared.step.Step.TheVariants.{Phase}
 use Rattle.qc_msg.specs.Steps.{Entry, marked}
