@@ -9,3 +9,20 @@ pub mod Answering
 pub mod UnderWay
 pub mod ServedLaw
 pub mod WholeLaw
+mod Row
+pub mod ActsGrow
+pub mod Members
+pub mod Ledger
+pub mod Sights
+pub mod Register
+pub mod Walking
+pub mod Own
+pub mod Doings
+pub mod Holding
+pub mod Sense
+pub mod Moves
+pub mod Serves
+pub mod Hears
+pub mod Answers
+pub mod Stand
+pub mod AtomicLaw

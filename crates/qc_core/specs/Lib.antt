@@ -3,3 +3,11 @@ pub mod Order
 pub mod Bounds
 pub mod Answer
 pub mod Whole
+pub mod Committed
+pub mod OneCopy
+pub mod Acts
+pub mod Deals
+pub mod Seen
+pub mod Kept
+pub mod Atomic
+pub mod Logged

@@ -6,9 +6,11 @@
 //! one site, it says so.
 #![tactic(auto)]
 
+mod atomic;
 mod laws;
 mod whole;
 
+pub use atomic::runs_are_atomic;
 pub use laws::{clocks_and_counts_are_bounded, messages_and_replies_are_in_order};
 pub use whole::{
     calls_are_asked, calls_are_replied, commands_end, phases_are_the_scripts,

@@ -1,6 +1,7 @@
 -- How a call ends: with a run of its script, and with its text.
 use Rattle.std.proofs.Common.{◌≡◌, ◌≤◌, ℕ, Bool, true, false, cond, List, [], ◌∷◌, length, Option, Some, None, refl, ap, sym, subst, ◌∙◌, arith}
 use Rattle.std.proofs.lemmas.Bool.Decides.{nat_tests}
+use Rattle.std.specs.Bool.{MatchBool}
 use Rattle.std.specs.Prelude.{MatchOption, nat_le, replicate, option_and_then}
 use Rattle.qc_core.specs.Conduct.{IsRun}
 use Rattle.qc_core.specs.Whole.{IsWhole}
@@ -10,7 +11,7 @@ use Rattle.qc_decl.specs.One.{one}
 use Rattle.qc_msg.specs.Steps.{Entry}
 use Rattle.qc_outside.specs.declared.shelf.ShelfFault.{ShelfFault}
 use Rattle.qc_outside.specs.declared.shelf.ShelfFault.TheVariants as faults
-use Rattle.qc_outside.specs.Shelf.{Files, IsTaken, file_named}
+use Rattle.qc_outside.specs.Shelf.{Files, IsCaused, IsRefused, IsTaken, file_named}
 use Rattle.qc_report.specs.declared.cause.Cause.{Cause}
 use Rattle.qc_report.specs.declared.cause.Cause.TheVariants as causes
 use Rattle.qc_script.specs.declared.script.Script.{Script}
@@ -18,7 +19,7 @@ use Rattle.qc_report.specs.Text.{text_of}
 use Rattle.qc_script.specs.Grammar.{script_of}
 use Rattle.qc_script.specs.Runs.{begins}
 use Rattle.qc_top.specs.Engine.{IsOne}
-use Rattle.qc_top.specs.Top.{Leaves, OnPrinted, OverWords, PrintsBetween, PrintsScript, RunsScript, WholeScript, cause_of_shelf}
+use Rattle.qc_top.specs.Top.{Leaves, OnPrinted, OverWords, PrintsBetween, PrintsScript, RunsScript, WholeScript, cause_of_shelf, IsDue, IsDueOfFile, IsDueOfScript, IsFault, IsMissing, IsRan, IsTooLong}
 use Rattle.qc_top.specs.Words.{script_in, script_in_bytes, script_named}
 
 -- the empty history is a run of every script
@@ -133,3 +134,101 @@ leaves_caused script taken cause why h none is silent = leaves_nothing script ta
 pub words_caused : (files : Option Files) (words : List (List ℕ)) (taken : Option (List ℕ)) (cause why : Cause) (h : List Entry) → h ≡ [] → cause ≡ why → PrintsNone why
     → OverWords (λ script. Leaves script taken cause taken h) files words
 words_caused files words taken cause why h none is silent = words_nothing files words taken cause h none (subst PrintsNone (sym is) silent)
+
+-- which causes are due
+
+fault_due : (file : Option (List ℕ)) (cause : Cause) → IsFault cause → IsDueOfFile file cause
+fault_due None cause here = missing cause here
+  where
+    missing : (c : Cause) → IsFault c → IsMissing c
+    missing (causes.Shelf true faults.Failed) f = tt
+    missing causes.OutOfMemory f = tt
+    missing (causes.Shelf true faults.Missing) f = absurd f
+    missing (causes.Shelf true faults.TooLong) f = absurd f
+    missing (causes.Shelf true faults.OutOfMemory) f = absurd f
+    missing (causes.Shelf false fault) f = absurd f
+    missing causes.Done f = absurd f
+    missing causes.Sink f = absurd f
+    missing (causes.Full what number) f = absurd f
+    missing causes.NotBuilt f = absurd f
+fault_due (Some bytes) cause here = by_test (nat_le (length bytes) 1048576) (script_in_bytes bytes)
+  where
+    long : (c : Cause) → IsFault c → IsTooLong c
+    long (causes.Shelf true faults.Failed) f = tt
+    long causes.OutOfMemory f = tt
+    long (causes.Shelf true faults.Missing) f = absurd f
+    long (causes.Shelf true faults.TooLong) f = absurd f
+    long (causes.Shelf true faults.OutOfMemory) f = absurd f
+    long (causes.Shelf false fault) f = absurd f
+    long causes.Done f = absurd f
+    long causes.Sink f = absurd f
+    long (causes.Full what number) f = absurd f
+    long causes.NotBuilt f = absurd f
+
+    read : (s : Option Script) (c : Cause) → IsFault c → IsDueOfScript s c
+    read None (causes.Shelf true faults.Failed) f = tt
+    read None causes.OutOfMemory f = tt
+    read None (causes.Shelf true faults.Missing) f = absurd f
+    read None (causes.Shelf true faults.TooLong) f = absurd f
+    read None (causes.Shelf true faults.OutOfMemory) f = absurd f
+    read None (causes.Shelf false fault) f = absurd f
+    read None causes.Done f = absurd f
+    read None causes.Sink f = absurd f
+    read None (causes.Full what number) f = absurd f
+    read None causes.NotBuilt f = absurd f
+    read (Some s) (causes.Shelf true faults.Failed) f = tt
+    read (Some s) causes.OutOfMemory f = tt
+    read (Some s) (causes.Shelf true faults.Missing) f = absurd f
+    read (Some s) (causes.Shelf true faults.TooLong) f = absurd f
+    read (Some s) (causes.Shelf true faults.OutOfMemory) f = absurd f
+    read (Some s) (causes.Shelf false fault) f = absurd f
+    read (Some s) causes.Done f = absurd f
+    read (Some s) causes.Sink f = absurd f
+    read (Some s) (causes.Full what number) f = absurd f
+    read (Some s) causes.NotBuilt f = absurd f
+
+    by_test : (t : Bool) (s : Option Script) → MatchBool t (IsDueOfScript s cause) (IsTooLong cause)
+    by_test true s = read s cause here
+    by_test false s = long cause here
+
+-- a refused file
+refusal_due : (file : Option (List ℕ)) (fault : ShelfFault) → IsCaused fault 1048576 file → IsDueOfFile file (cause_of_shelf fault)
+refusal_due None faults.Missing here = tt
+refusal_due (Some bytes) faults.Missing here = absurd (let never : ⊥ = cc in never)
+refusal_due None faults.TooLong here = absurd here
+refusal_due (Some bytes) faults.TooLong here = by_test (nat_le (length bytes) 1048576) (grind (arith, nat_tests))
+  where
+    by_test : (t : Bool) → t ≡ false → MatchBool t (IsDueOfScript (script_in_bytes bytes) (causes.Shelf true faults.TooLong)) (Unit {0})
+    by_test false is = tt
+    by_test true is = absurd (let never : ⊥ = cc in never)
+refusal_due file faults.Failed here = fault_due file (causes.Shelf true faults.Failed) tt
+refusal_due file faults.OutOfMemory here = fault_due file causes.OutOfMemory tt
+
+pub words_refused : (files : Option Files) (words : List (List ℕ)) (name : List ℕ) (fault : ShelfFault) (cause : Cause) → script_named words ≡ Some name → IsRefused files name 1048576 fault → cause ≡ cause_of_shelf fault → IsDue files words cause
+words_refused None words name fault cause named here is = rw named tt
+words_refused (Some files) words name fault cause named here is = rw (named, is) (refusal_due (file_named name files) fault here)
+
+-- a file that was taken
+pub words_taken : (files : Option Files) (words : List (List ℕ)) (name bytes : List ℕ) (cause : Cause) → script_named words ≡ Some name → IsTaken files name 1048576 bytes → IsDueOfScript (script_in_bytes bytes) cause → IsDue files words cause
+words_taken None words name bytes cause named here due = rw named tt
+words_taken (Some files) words name bytes cause named here due =
+    subst (λ (n : Option (List ℕ)). MatchOption n (cause ≡ causes.NotBuilt) (λ name. IsDueOfFile (file_named name files) cause)) (sym named)
+    (subst (λ (b : Option (List ℕ)). IsDueOfFile b cause) (sym here.0) (by_test (nat_le (length bytes) 1048576) (within here.1)))
+  where
+    within : length bytes ≤ 1048576 → nat_le (length bytes) 1048576 ≡ true
+    within short = grind (arith, nat_tests)
+
+    by_test : (t : Bool) → t ≡ true → MatchBool t (IsDueOfScript (script_in_bytes bytes) cause) (IsTooLong cause)
+    by_test true is = due
+    by_test false is = absurd (let never : ⊥ = cc in never)
+
+-- the script of the bytes, or none, has its cause
+
+pub bytes_due : (bytes : List ℕ) (decl : Declaration) (script : Script) (cause : Cause) → decl ≡ one → length bytes ≤ 1048576 → script_of (client_actor decl 0) bytes ≡ Some script → IsRan cause → IsDueOfScript (script_in_bytes bytes) cause
+bytes_due bytes decl script cause is short found ran =
+    let here : script_of 1 bytes ≡ Some script = ap (λ (d : Declaration). script_of (client_actor d 0) bytes) (sym is) ∙ found in
+    subst (λ (s : Option Script). IsDueOfScript s cause) (sym (bytes_found bytes script short here)) ran
+
+pub memory_due : (script : Option Script) (cause : Cause) → cause ≡ causes.OutOfMemory → IsDueOfScript script cause
+memory_due None cause is = rw is tt
+memory_due (Some script) cause is = rw is tt

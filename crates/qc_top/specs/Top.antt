@@ -1,18 +1,19 @@
 -- What the top call leaves: a run of the words' script, its text, and a cause that is due.
-use Rattle.std.specs.Prelude.{◌≡◌, ℕ, true, ◌++◌, List, [], ◌∷◌, Option, Some, None, MatchOption}
+use Rattle.std.specs.Prelude.{◌≡◌, ℕ, true, ◌++◌, List, [], ◌∷◌, Option, Some, None, MatchOption, nat_le, length}
+use Rattle.std.specs.Bool.{MatchBool}
 use Rattle.qc_core.specs.Conduct.{IsRun}
 use Rattle.qc_core.specs.Whole.{IsWhole}
 use Rattle.qc_decl.specs.One.{one}
 use Rattle.qc_msg.specs.Steps.{Entry}
 use Rattle.qc_outside.specs.declared.shelf.ShelfFault.{ShelfFault}
 use Rattle.qc_outside.specs.declared.shelf.ShelfFault.TheVariants as faults
-use Rattle.qc_outside.specs.Shelf.{Files}
+use Rattle.qc_outside.specs.Shelf.{Files, file_named}
 use Rattle.qc_report.specs.declared.cause.Cause.{Cause}
 use Rattle.qc_report.specs.declared.cause.Cause.TheVariants as causes
 use Rattle.qc_report.specs.Text.{text_of}
 use Rattle.qc_script.specs.declared.script.Script.{Script}
 use Rattle.qc_top.specs.At.{IsBelow, HasReached}
-use Rattle.qc_top.specs.Words.{script_in, script_named}
+use Rattle.qc_top.specs.Words.{most_bytes, script_in, script_in_bytes, script_named}
 
 -- the history is a run of the script, and is empty where there is none
 abbrev pub RunsScript : Option Script → List Entry → Type 0
@@ -83,3 +84,45 @@ pub record Leaves (script : Option Script) (old : Option (List ℕ)) (cause : Ca
 abbrev pub OverWords : (Option Script → Type 0) → Option Files → List (List ℕ) → Type 0
 OverWords P (Some files) words = P (script_in files words)
 OverWords P None words = MatchOption (script_named words) (P None) (λ name. (script : Option Script) × P script)
+
+-- Which causes are due. A shelf that failed and want of memory may come in each case; want of memory stands in no other cause.
+
+abbrev pub IsFault : Cause → Type 0
+IsFault (causes.Shelf true faults.Failed) = Unit {0}
+IsFault causes.OutOfMemory = Unit {0}
+IsFault _ = ⊥
+
+-- the file isn't there
+abbrev pub IsMissing : Cause → Type 0
+IsMissing (causes.Shelf true faults.Missing) = Unit {0}
+IsMissing cause = IsFault cause
+
+-- the file is past its limit
+abbrev pub IsTooLong : Cause → Type 0
+IsTooLong (causes.Shelf true faults.TooLong) = Unit {0}
+IsTooLong cause = IsFault cause
+
+-- its bytes spell no script
+abbrev pub IsUnread : Cause → Type 0
+IsUnread causes.NotBuilt = Unit {0}
+IsUnread cause = IsFault cause
+
+-- they spell one, which was run
+abbrev pub IsRan : Cause → Type 0
+IsRan causes.Done = Unit {0}
+IsRan causes.Sink = Unit {0}
+IsRan (causes.Full what number) = Unit {0}
+IsRan cause = IsFault cause
+
+abbrev pub IsDueOfScript : Option Script → Cause → Type 0
+IsDueOfScript None cause = IsUnread cause
+IsDueOfScript (Some script) cause = IsRan cause
+
+abbrev pub IsDueOfFile : Option (List ℕ) → Cause → Type 0
+IsDueOfFile None cause = IsMissing cause
+IsDueOfFile (Some bytes) cause = MatchBool (nat_le (length bytes) most_bytes) (IsDueOfScript (script_in_bytes bytes) cause) (IsTooLong cause)
+
+-- The cause is due: exactly NotBuilt for words of another form, and else as the named file has it, where the shelf tells.
+abbrev pub IsDue : Option Files → List (List ℕ) → Cause → Type 0
+IsDue (Some files) words cause = MatchOption (script_named words) (cause ≡ causes.NotBuilt) (λ name. IsDueOfFile (file_named name files) cause)
+IsDue None words cause = MatchOption (script_named words) (cause ≡ causes.NotBuilt) (λ name. Unit {0})

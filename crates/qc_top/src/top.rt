@@ -1,6 +1,6 @@
 //! The top call.
 
-ghost use Rattle.std.specs.Prelude.{◌≡◌, ◌≤◌, Some, None, List, [], length, true, Err};
+ghost use Rattle.std.specs.Prelude.{◌≡◌, ◌≢◌, ◌≤◌, Some, None, List, [], length, true, Err};
 ghost use Rattle.qc_core.specs.Whole.{IsWhole};
 ghost use Rattle.qc_outside.specs.Causes.{Rose};
 ghost use Rattle.qc_report.specs.Causes.{status_of};
@@ -9,7 +9,7 @@ ghost use Rattle.qc_report.specs.Text.{text_of};
 ghost use Rattle.qc_top.specs.Words.{script_in_bytes, texts_of};
 ghost use Rattle.qc_top.specs.At.{IsBelow, IsEnd};
 ghost use Rattle.qc_top.specs.declared.engine.End.TheVariants.{Quiet};
-ghost use Rattle.qc_top.specs.Top.{cause_of_shelf, IsFullCause, Leaves, OnPrinted, OverWords, PrintsBetween};
+ghost use Rattle.qc_top.specs.Top.{cause_of_shelf, IsDue, IsDueOfScript, IsFullCause, IsRan, Leaves, OnPrinted, OverWords, PrintsBetween};
 
 use crate::engine::{End, Engine};
 use crate::words::script_name;
@@ -58,7 +58,9 @@ where
         (λ script. Leaves script (K.taken sink.old) result.cause (K.taken sink.new) result.history)
         (F.files shelf.old) (texts_of words.now) }
     ensures status { result.status ≡ status_of result.cause }
+    ensures due { IsDue (F.files shelf.old) (texts_of words.now) result.cause }
     ensures full { IsFullCause result.cause result.history }
+    ensures shelf { result.cause ≡ Cause.Shelf true ShelfFault.Failed → Rose (F.faults shelf.old) (F.faults shelf.new) }
     ensures sink { result.cause ≡ Cause.Sink → Rose (K.faults sink.old) (K.faults sink.new) }
 {
     let Some(name) = script_name(words) else {
@@ -101,6 +103,8 @@ fn shelf_cause(fault: ShelfFault) -> Cause
 fn run_bytes<K: Sink>(alloc: Global, bytes: &[u8], sink: &mut K) -> Ended
     requires { length bytes.now ≤ 1048576 }
     ensures leaves { Leaves (script_in_bytes bytes.now) (K.taken sink.old) result.cause (K.taken sink.new) result.history }
+    ensures due { IsDueOfScript (script_in_bytes bytes.now) result.cause }
+    ensures shelf { result.cause ≢ Cause.Shelf true ShelfFault.Failed }
     ensures status { result.status ≡ status_of result.cause }
     ensures full { IsFullCause result.cause result.history }
     ensures sink { result.cause ≡ Cause.Sink → Rose (K.faults sink.old) (K.faults sink.new) }
@@ -119,6 +123,8 @@ fn run_bytes<K: Sink>(alloc: Global, bytes: &[u8], sink: &mut K) -> Ended
 fn run_script<K: Sink>(alloc: Global, decl: &Declaration, script: &Script, sink: &mut K) -> Ended
     requires { decl.now ≡ one }
     ensures leaves { Leaves (Some script.now) (K.taken sink.old) result.cause (K.taken sink.new) result.history }
+    ensures ran { IsRan result.cause }
+    ensures shelf { result.cause ≢ Cause.Shelf true ShelfFault.Failed }
     ensures status { result.status ≡ status_of result.cause }
     ensures full { IsFullCause result.cause result.history }
     ensures sink { result.cause ≡ Cause.Sink → Rose (K.faults sink.old) (K.faults sink.new) }
@@ -151,6 +157,8 @@ fn conclude<K: Sink>(
     ensures full { IsFullCause result history.now }
     ensures whole { OnPrinted result (IsWhole decl.now script.now history.now) }
     ensures text { PrintsBetween (text_of decl.now script.now history.now) (K.taken sink.old) result (K.taken sink.new) }
+    ensures ran { IsRan result }
+    ensures shelf { result ≢ Cause.Shelf true ShelfFault.Failed }
     ensures sink { result ≡ Cause.Sink → Rose (K.faults sink.old) (K.faults sink.new) }
 {
     match end {
@@ -174,6 +182,8 @@ fn print<K: Sink>(
     ensures whole { OnPrinted result (IsWhole decl.now script.now history.now) }
     ensures sink { result ≡ Cause.Sink → Rose (K.faults sink.old) (K.faults sink.new) }
     ensures text { PrintsBetween (text_of decl.now script.now history.now) (K.taken sink.old) result (K.taken sink.new) }
+    ensures ran { IsRan result }
+    ensures shelf { result ≢ Cause.Shelf true ShelfFault.Failed }
 {
     let Ok(text) = text(alloc, decl, script, history) else {
         return Cause::OutOfMemory;

@@ -1,6 +1,6 @@
 use Rattle.std.proofs.Common.{◌≡◌, ◌∙◌, List, ℕ, Some, rules, subst}
-use Rattle.qc_top.proofs.Ends.{shelf_silent, words_caused, words_over}
-use Rattle.qc_top.specs.Top.{Leaves}
+use Rattle.qc_top.proofs.Ends.{shelf_silent, words_caused, words_over, words_refused, words_taken}
+use Rattle.qc_top.specs.Top.{IsDueOfScript, Leaves}
 use Rattle.qc_top.specs.Words.{script_in_bytes, script_named, texts_of}
 use Rattle.qc_top.proofs.top.quorum_words.Goals as goal
 
@@ -15,3 +15,14 @@ pub returns-in-Err-clause-leaves : goal.returns-in-Err-clause-leaves
 returns-in-Err-clause-leaves g c =
     words_caused (g.F.Shelf.files c.args.shelf.now) (texts_of c.args.words.now) (g.K.Sink.taken c.args.sink.now) c.nothing-in-Err.result.cause _ c.nothing-in-Err.result.history c.nothing-in-Err.ensures.history
     (c.nothing-in-Err.ensures.cause ∙ c.shelf_cause.ensures) (shelf_silent c.in-Err.fault)
+
+pub returns-in-Ok-clause-due : goal.returns-in-Ok-clause-due
+returns-in-Ok-clause-due g c =
+    let named : script_named (texts_of c.args.words.now) ≡ Some c.in-Some.name.now = search rules in
+    words_taken (g.F.Shelf.files c.args.shelf.now) (texts_of c.args.words.now) c.in-Some.name.now c.in-Ok.bytes.items c.run_bytes.result.cause named c.in-Ok.ensures.content
+    (subst (λ (bytes : List ℕ). IsDueOfScript (script_in_bytes bytes) c.run_bytes.result.cause) c.as_slice.ensures.value c.run_bytes.ensures.due)
+
+pub returns-in-Err-clause-due : goal.returns-in-Err-clause-due
+returns-in-Err-clause-due g c =
+    let named : script_named (texts_of c.args.words.now) ≡ Some c.in-Some.name.now = search rules in
+    words_refused (g.F.Shelf.files c.args.shelf.now) (texts_of c.args.words.now) c.in-Some.name.now c.in-Err.fault c.nothing-in-Err.result.cause named c.in-Err.ensures.content (c.nothing-in-Err.ensures.cause ∙ c.shelf_cause.ensures)

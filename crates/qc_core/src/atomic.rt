@@ -1,0 +1,20 @@
+//! The promise of the whole system, as the contract of a function with nothing
+//! to do.
+
+ghost use Rattle.std.specs.Prelude.{List};
+ghost use Rattle.qc_core.specs.Atomic.{Atomic};
+ghost use Rattle.qc_core.specs.Conduct.{IsRun};
+ghost use Rattle.qc_core.specs.Kept.{Kept};
+ghost use Rattle.qc_decl.specs.One.{one};
+ghost use Rattle.qc_msg.specs.Steps.{Entry};
+ghost use Rattle.qc_script.specs.declared.script.Script.{Script};
+
+/// In every run of the built-in declaration, whatever the script, where no
+/// record is lost: each committed transaction stands once, at a stamp of its
+/// own; in the order of the stamps their operations are those of one copy of
+/// each object, with just the replies that their clients got; each comes after
+/// all that its client had seen; and the clients know which committed.
+pub fn runs_are_atomic()
+    ensures { (script : Script) (h : List Entry) → IsRun one script h → Kept h → Atomic one h }
+{
+}
