@@ -1,11 +1,11 @@
 //! The whole text of three histories that were written by hand, and the text of
 //! each cause.
 
-use crate::{Cause, What, cause_text, text};
+use crate::{Cause, cause_text, text};
 use qc_decl::built_in;
 use qc_entry::{Commit, Log, Op, OwnLine, Prepared, ReadLock};
 use qc_list::{List, Marked, OutOfMemory};
-use qc_msg::{Command, Entry, History, Message, Outcome, Record, Reply, Step};
+use qc_msg::{Command, Entry, History, Message, Outcome, Record, Reply, Step, What};
 use qc_outside::ShelfFault;
 use qc_script::{CommandLine, PhaseLines, Script};
 use qc_stamp::{Stamp, TxId};
