@@ -291,14 +291,14 @@ begun_stand = record {
       now = refl;
       stamps = record { rising = tt; below = tt; sorted = refl };
       book =
-        record {
-          begun = λ tx. refl;
-          unborn = λ k l. refl;
-          dealing = λ tx e. absurd (let never : ⊥ = cc in never);
-          dealt = λ c m. absurd m;
-          each = λ c m. absurd m;
-          ends = λ tx. tt;
-        };
+          record {
+            begun = λ tx. refl;
+            unborn = λ k l. refl;
+            dealing = λ tx e. absurd (let never : ⊥ = cc in never);
+            dealt = λ c m. absurd m;
+            each = λ c m. absurd m;
+            ends = λ tx. tt;
+          };
       vision = record { begun = λ tx. refl; known = λ tx. tt; seeing = λ tx e. absurd (let never : ⊥ = cc in never); seen = λ c tx m. absurd m };
       copied = record { before = start_at one; walked = refl; bit = inl refl; logged = refl; lines = tt; zeros = tt };
       works = (refl, refl);
@@ -370,22 +370,22 @@ atomic_of h fair = record {
   apart = subst AreApart (sym fair.sorted) (rising_apart (written one h) fair.rising);
   one_copy = subst (OneCopy one) (sym fair.sorted) fair.one_copy;
   dealt = subst (λ (cs : List Commit). (c : Commit) → In c cs → c.ops ≡ deals one h c.tx) (sym fair.sorted)
-    (λ c m. subst (λ (k : ℕ). c.ops ≡ (dealing one h k c.tx).ops) (sym (fair.client c m)) (sym (fair.dealt c m)));
+      (λ c m. subst (λ (k : ℕ). c.ops ≡ (dealing one h k c.tx).ops) (sym (fair.client c m)) (sym (fair.dealt c m)));
   seen = subst (λ (cs : List Commit). (c : Commit) (tx : TxId) → In c cs → In tx (seen one h c.tx) → tx ≢ c.tx → HasBefore cs tx c.stamp) (sym fair.sorted)
-    (λ c tx m.
-    subst (λ (k : ℕ). In tx (fold (sight c.tx) no_sight (acts (client_actor one k) [] h)).seen → tx ≢ c.tx → HasBefore (written one h) tx c.stamp) (sym (fair.client c m)) (fair.seen c tx m));
+      (λ c tx m.
+      subst (λ (k : ℕ). In tx (fold (sight c.tx) no_sight (acts (client_actor one k) [] h)).seen → tx ≢ c.tx → HasBefore (written one h) tx c.stamp) (sym (fair.client c m)) (fair.seen c tx m));
   told = subst (λ (cs : List Commit). AreTold one cs h) (sym fair.sorted)
-    (record {
-      committed = λ k tx stamp l m.
-        every-in (IsEnd (written one h) fair.last tx) (replies.Committed stamp) _ (fair.ends tx) (subst (λ (v : ℕ). In (replies.Committed stamp) (endings one h v tx)) (one_client k l) m);
-      aborted = λ k tx why c l m.
-        let dead : IsDead (written one h) fair.last tx = every-in (IsEnd (written one h) fair.last tx) (replies.Aborted why) _ (fair.ends tx) (subst (λ (v : ℕ). In (replies.Aborted why) (endings one h v tx)) (one_client k l) m) in
-        dead.apart c;
-      dropped = λ k tx c l m.
-        let dead : IsDead (written one h) fair.last tx = every-in (IsEnd (written one h) fair.last tx) replies.Dropped _ (fair.ends tx) (subst (λ (v : ℕ). In replies.Dropped (endings one h v tx)) (one_client k l) m) in
-        dead.apart c;
-      each = λ c m. subst (λ (k : ℕ). In (replies.Committed c.stamp) (endings one h k c.tx)) (sym (fair.client c m)) (fair.each c m);
-    });
+      (record {
+        committed = λ k tx stamp l m.
+            every-in (IsEnd (written one h) fair.last tx) (replies.Committed stamp) _ (fair.ends tx) (subst (λ (v : ℕ). In (replies.Committed stamp) (endings one h v tx)) (one_client k l) m);
+        aborted = λ k tx why c l m.
+            let dead : IsDead (written one h) fair.last tx = every-in (IsEnd (written one h) fair.last tx) (replies.Aborted why) _ (fair.ends tx) (subst (λ (v : ℕ). In (replies.Aborted why) (endings one h v tx)) (one_client k l) m) in
+            dead.apart c;
+        dropped = λ k tx c l m.
+            let dead : IsDead (written one h) fair.last tx = every-in (IsEnd (written one h) fair.last tx) replies.Dropped _ (fair.ends tx) (subst (λ (v : ℕ). In replies.Dropped (endings one h v tx)) (one_client k l) m) in
+            dead.apart c;
+        each = λ c m. subst (λ (k : ℕ). In (replies.Committed c.stamp) (endings one h k c.tx)) (sym (fair.client c m)) (fair.each c m);
+      });
 }
 
 pub runs_are_atomic : (script : Script) (h : List Entry) → IsRun one script h → Kept h → Atomic one h

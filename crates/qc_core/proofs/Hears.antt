@@ -72,10 +72,10 @@ module _ (cs : List Commit) (clock count k c : ℕ) (b : Begun) (s : SiteState) 
   reading_heard object inv sense = record {
     vision = seen;
     settled = λ n.
-      subst (λ (t : Bool). Settled cs s dl (sights_on si (Takes m)) (cond t (granted one (at (Reading object inv)) (Some b) (Reading object inv) first_life c (of_object s.log object)) (moved (at (Reading object inv)) quiet)) n)
-      (sym (eq-eqb k k refl))
-      (view_settles cs later sense.last count (joined b first_life (of_object s.log object)) s dl (sights_on si (Takes m)) (Some b) (Reading object inv) (Some k) (later_stamps sense.last sense.stamps) sense.now sense.book seen
-      sense.copied rest n object inv (λ needs. full) sense.asked);
+        subst (λ (t : Bool). Settled cs s dl (sights_on si (Takes m)) (cond t (granted one (at (Reading object inv)) (Some b) (Reading object inv) first_life c (of_object s.log object)) (moved (at (Reading object inv)) quiet)) n)
+        (sym (eq-eqb k k refl))
+        (view_settles cs later sense.last count (joined b first_life (of_object s.log object)) s dl (sights_on si (Takes m)) (Some b) (Reading object inv) (Some k) (later_stamps sense.last sense.stamps) sense.now sense.book seen
+        sense.copied rest n object inv (λ needs. full) sense.asked);
   }
     where
       m : Message
@@ -98,7 +98,7 @@ module _ (cs : List Commit) (clock count k c : ℕ) (b : Begun) (s : SiteState) 
       rest : Resting sense.copied.before s (joined b first_life (of_object s.log object))
       rest = record {
         doing =
-          subst (λ (l : List Line). Doing sense.copied.before s.log (joined b first_life l)) same (doing-joined sense.copied.before s.log b first_life sense.copied.zeros sense.works.doing);
+            subst (λ (l : List Line). Doing sense.copied.before s.log (joined b first_life l)) same (doing-joined sense.copied.before s.log b first_life sense.copied.zeros sense.works.doing);
         holds = subst (λ (t : Bool). HoldsBy t s.held b.tx (weighing b.own)) (sym sense.works.asked) sense.works.holds;
         life = subst (λ (t : Bool). LifeBy t (met b first_life).life) (sym sense.works.asked) (life_met sense.works.life);
         prepared = sense.works.prepared;
@@ -109,13 +109,13 @@ module _ (cs : List Commit) (clock count k c : ℕ) (b : Begun) (s : SiteState) 
   appending_heard object inv e sense = record {
     vision = seen;
     settled = λ n.
-      subst (λ (t : Bool). Settled cs s dl (sights_on si (Takes (Granted k first_life c [])))
-      (cond t (granted one (at (Appending object inv e)) (Some b) (Appending object inv e) first_life c []) (moved (at (Appending object inv e)) quiet)) n) (sym (eq-eqb k k refl))
-      (subst (λ (o : ℕ). ((tx : TxId) → (dl tx).asked ≡ Some (Do o inv))
-      → Settled cs s dl (sights_on si (Takes (Granted k first_life c []))) (responded one (passed (at (Appending object inv e)) c) (met b first_life) o inv e) n) (sym sense.works.on)
-      (λ asked.
-      responded-settles cs later sense.last count (met b first_life) s dl (sights_on si (Takes (Granted k first_life c []))) (Some b) (Appending object inv e) (Some k) (later_stamps sense.last sense.stamps) sense.now sense.book
-      seen sense.copied inv e rest asked n) sense.asked);
+        subst (λ (t : Bool). Settled cs s dl (sights_on si (Takes (Granted k first_life c [])))
+        (cond t (granted one (at (Appending object inv e)) (Some b) (Appending object inv e) first_life c []) (moved (at (Appending object inv e)) quiet)) n) (sym (eq-eqb k k refl))
+        (subst (λ (o : ℕ). ((tx : TxId) → (dl tx).asked ≡ Some (Do o inv))
+        → Settled cs s dl (sights_on si (Takes (Granted k first_life c []))) (responded one (passed (at (Appending object inv e)) c) (met b first_life) o inv e) n) (sym sense.works.on)
+        (λ asked.
+        responded-settles cs later sense.last count (met b first_life) s dl (sights_on si (Takes (Granted k first_life c []))) (Some b) (Appending object inv e) (Some k) (later_stamps sense.last sense.stamps) sense.now sense.book
+        seen sense.copied inv e rest asked n) sense.asked);
   }
     where
       seen : Vision cs (Some b.tx) (sights_on si (Takes (Granted k first_life c [])))
@@ -130,8 +130,8 @@ module _ (cs : List Commit) (clock count k c : ℕ) (b : Begun) (s : SiteState) 
       rest = record {
         doing = doing;
         holds =
-          subst (λ (t : Bool). HoldsBy t s.held b.tx (weighing (b.own ++ next_own b 0 e ∷ []))) (sym sense.works.asked)
-          (subst (λ own. HoldsBy true s.held b.tx own) (sym (weighing-more b.own (next_own b 0 e) sense.works.needs)) sense.works.holds);
+            subst (λ (t : Bool). HoldsBy t s.held b.tx (weighing (b.own ++ next_own b 0 e ∷ []))) (sym sense.works.asked)
+            (subst (λ own. HoldsBy true s.held b.tx own) (sym (weighing-more b.own (next_own b 0 e) sense.works.needs)) sense.works.holds);
         life = subst (λ (t : Bool). LifeBy t (met b first_life).life) (sym sense.works.asked) (life_met sense.works.life);
         prepared = sense.works.prepared;
       }
@@ -141,9 +141,9 @@ module _ (cs : List Commit) (clock count k c : ℕ) (b : Begun) (s : SiteState) 
   yes_heard sense is = record {
     vision = seen;
     settled = λ n.
-      subst (λ (t : Bool). Settled cs s dl (sights_on si (Takes (Yes k c))) (cond t (promised one (at Voting) (Some b) Voting c) (moved (at Voting) quiet)) n) (sym (eq-eqb k k refl))
-      (decides_promised cs later sense.last count b s dl (sights_on si (Takes (Yes k c))) (Some b) Voting (Some k) (later_stamps sense.last sense.stamps) sense.now sense.book seen sense.copied
-      sense.works.asked sense.works.doing sense.works.holds is n);
+        subst (λ (t : Bool). Settled cs s dl (sights_on si (Takes (Yes k c))) (cond t (promised one (at Voting) (Some b) Voting c) (moved (at Voting) quiet)) n) (sym (eq-eqb k k refl))
+        (decides_promised cs later sense.last count b s dl (sights_on si (Takes (Yes k c))) (Some b) Voting (Some k) (later_stamps sense.last sense.stamps) sense.now sense.book seen sense.copied
+        sense.works.asked sense.works.doing sense.works.holds is n);
   }
     where
       seen : Vision cs (Some b.tx) (sights_on si (Takes (Yes k c)))
@@ -154,9 +154,9 @@ module _ (cs : List Commit) (clock count k c : ℕ) (b : Begun) (s : SiteState) 
   stale_heard sense = record {
     vision = seen;
     settled = λ n.
-      subst (λ (t : Bool). Settled cs s dl (sights_on si (Takes (Stale k))) (cond t (forgotten one (at Voting) (Some b) Voting) (moved (at Voting) quiet)) n) (sym (eq-eqb k k refl))
-      (gives_asked cs clock sense.last count b s dl (sights_on si (Takes (Stale k))) (Some b) Voting (Some k) sense.stamps sense.now sense.book seen sense.copied (Aborted (Forgot 0))
-      sense.works.asked sense.works.holds sense.works.promised (book-gone cs clock sense.last count b.tx b.ops dl sense.stamps sense.now sense.book (Aborted (Forgot 0)) (λ tx d. d)) (λ sights v. vision-ended cs (Some b.tx) sights v) n);
+        subst (λ (t : Bool). Settled cs s dl (sights_on si (Takes (Stale k))) (cond t (forgotten one (at Voting) (Some b) Voting) (moved (at Voting) quiet)) n) (sym (eq-eqb k k refl))
+        (gives_asked cs clock sense.last count b s dl (sights_on si (Takes (Stale k))) (Some b) Voting (Some k) sense.stamps sense.now sense.book seen sense.copied (Aborted (Forgot 0))
+        sense.works.asked sense.works.holds sense.works.promised (book-gone cs clock sense.last count b.tx b.ops dl sense.stamps sense.now sense.book (Aborted (Forgot 0)) (λ tx d. d)) (λ sights v. vision-ended cs (Some b.tx) sights v) n);
   }
     where
       seen : Vision cs (Some b.tx) (sights_on si (Takes (Stale k)))

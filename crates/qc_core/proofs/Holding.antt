@@ -34,8 +34,8 @@ pub hold_lock : (asked : Bool) (held : List Held) (tx : TxId) (own : List OwnLin
 hold_lock true held tx own lock holds = (
   with_lock holds.0 lock,
   ap (λ (h : List Held). holding_lock h tx lock) holds.1
-  ∙ ap (λ (e : Held). with_entry (entry tx holds.0 own ∷ []) (entry tx (with_lock e.locks lock) e.own)) (held_is tx holds.0 own)
-  ∙ put_is tx holds.0 own (entry tx (with_lock holds.0 lock) own) refl,
+      ∙ ap (λ (e : Held). with_entry (entry tx holds.0 own ∷ []) (entry tx (with_lock e.locks lock) e.own)) (held_is tx holds.0 own)
+      ∙ put_is tx holds.0 own (entry tx (with_lock holds.0 lock) own) refl,
 )
 hold_lock false held tx own lock holds = (lock ∷ [], ap (λ (h : List Held). holding_lock h tx lock) holds.0 ∙ ap (λ (o : List OwnLine). entry tx (lock ∷ []) o ∷ []) (sym holds.1))
 
@@ -58,17 +58,17 @@ pub hold_owns : (asked : Bool) (held : List Held) (tx : TxId) (own : List OwnLin
 hold_owns true held tx own y sorted holds = (
   holds.0,
   holds_some held tx own y
-  ∙ ap (λ (h : List Held). holding h tx (own ++ y ∷ [])) holds.1
-  ∙ ap (λ (e : Held). with_entry (entry tx holds.0 own ∷ []) (entry tx e.locks (with_owns e.own (own ++ y ∷ [])))) (held_is tx holds.0 own)
-  ∙ put_is tx holds.0 own (entry tx holds.0 (with_owns own (own ++ y ∷ []))) refl
-  ∙ ap (λ (o : List OwnLine). entry tx holds.0 o ∷ []) (with_owns-more own y sorted),
+      ∙ ap (λ (h : List Held). holding h tx (own ++ y ∷ [])) holds.1
+      ∙ ap (λ (e : Held). with_entry (entry tx holds.0 own ∷ []) (entry tx e.locks (with_owns e.own (own ++ y ∷ [])))) (held_is tx holds.0 own)
+      ∙ put_is tx holds.0 own (entry tx holds.0 (with_owns own (own ++ y ∷ []))) refl
+      ∙ ap (λ (o : List OwnLine). entry tx holds.0 o ∷ []) (with_owns-more own y sorted),
 )
 hold_owns false held tx own y sorted holds = (
   [],
   holds_some held tx own y
-  ∙ ap (λ (h : List Held). holding h tx (own ++ y ∷ [])) holds.0
-  ∙ ap (λ (o : List OwnLine). entry tx [] (with_owns o (own ++ y ∷ [])) ∷ []) (sym holds.1)
-  ∙ ap (λ (o : List OwnLine). entry tx [] o ∷ []) (with_owns-more own y sorted),
+      ∙ ap (λ (h : List Held). holding h tx (own ++ y ∷ [])) holds.0
+      ∙ ap (λ (o : List OwnLine). entry tx [] (with_owns o (own ++ y ∷ [])) ∷ []) (sym holds.1)
+      ∙ ap (λ (o : List OwnLine). entry tx [] o ∷ []) (with_owns-more own y sorted),
 )
 
 -- a decision frees what is held
@@ -118,7 +118,7 @@ prepare_answers s n tx epoch own holds none =
       log = refl;
       held = refl;
       promises =
-        inr (s.clock, refl, (p, ap (λ (ps : List Prepared). ps ++ p ∷ []) none, refl, ap (λ (h : List Held). (held_of h tx).own) holds.1 ∙ ap (λ (e : Held). e.own) (held_is tx holds.0 own)));
+          inr (s.clock, refl, (p, ap (λ (ps : List Prepared). ps ++ p ∷ []) none, refl, ap (λ (h : List Held). (held_of h tx).own) holds.1 ∙ ap (λ (e : Held). e.own) (held_is tx holds.0 own)));
     })
     (stale s n tx own none)))
   where

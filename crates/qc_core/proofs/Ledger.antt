@@ -221,9 +221,9 @@ module _ (cs : List Commit) (clock last count : ℕ) (t : TxId) (ops : List Op) 
   gone = record {
     number = let m : t.number ≡ count = ap (λ (x : TxId). x.number) now.0 in omega arith;
     apart = λ c member same.
-      let no : same_tx t c.tx ≡ false = not_now cs clock last count t c s now member in
-      let yes : same_tx t c.tx ≡ true = subst (λ (v : TxId). same_tx t v ≡ true) (sym same) (same_self t) in
-      let never : ⊥ = cc in never;
+        let no : same_tx t c.tx ≡ false = not_now cs clock last count t c s now member in
+        let yes : same_tx t c.tx ≡ true = subst (λ (v : TxId). same_tx t v ≡ true) (sym same) (same_self t) in
+        let never : ⊥ = cc in never;
   }
 
   dead-later : (tx : TxId) → IsDead cs last tx → IsDead cs count tx
@@ -248,7 +248,7 @@ module _ (cs : List Commit) (clock last count : ℕ) (t : TxId) (ops : List Op) 
     dealt = λ c m. b.dealt c m;
     each = λ c m. kept_end c.tx reply (Committed c.stamp) (b.each c m);
     ends = λ tx. more_ends tx reply (IsEnd cs count tx) (every-weaker (IsEnd cs last tx) (IsEnd cs count tx) (end-later tx) (dl tx).ends (b.ends tx))
-      (λ is. plain tx (subst (IsDead cs count) (tx_apart t tx is) gone));
+        (λ is. plain tx (subst (IsDead cs count) (tx_apart t tx is) gone));
   }
 
   -- with a record
@@ -294,8 +294,8 @@ module _ (cs : List Commit) (clock last count : ℕ) (t : TxId) (ops : List Op) 
     dealt = λ c m. dealt_by c (In-more c (new stamp) cs m);
     each = λ c m. each_by c (In-more c (new stamp) cs m);
     ends = λ tx. more_ends tx (Committed stamp) (IsEnd (cs ++ new stamp ∷ []) count tx)
-      (every-weaker (IsEnd cs last tx) (IsEnd (cs ++ new stamp ∷ []) count tx) (end-more stamp tx) (dl tx).ends (b.ends tx))
-      (λ is. record { commit = new stamp; listed = In-last (new stamp) cs; named = tx_apart t tx is; stamped = refl });
+        (every-weaker (IsEnd cs last tx) (IsEnd (cs ++ new stamp ∷ []) count tx) (end-more stamp tx) (dl tx).ends (b.ends tx))
+        (λ is. record { commit = new stamp; listed = In-last (new stamp) cs; named = tx_apart t tx is; stamped = refl });
   }
     where
       dealt_by : (c : Commit) → In c cs ⊎ (c ≡ new stamp) → (dl c.tx).ops ≡ c.ops

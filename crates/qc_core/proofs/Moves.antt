@@ -62,7 +62,7 @@ absorbed before log b d zeros = by d.view
 
 -- moves of a client whose transaction b is begun
 module _ (cs : List Commit) (clock last count : ℕ) (b : Begun) (s : SiteState) (dl : TxId → Dealing) (si : TxId → Sight) (bg : Option Begun) (rd : Round) (aw : Option ℕ)
-  (stamps : Stamps cs clock last) (now : IsNow last count (Some b.tx)) (book : Book cs last count (Some b.tx) b.ops dl) (vision : Vision cs (Some b.tx) si) (copied : Copied cs s.log) where
+    (stamps : Stamps cs clock last) (now : IsNow last count (Some b.tx)) (book : Book cs last count (Some b.tx) b.ops dl) (vision : Vision cs (Some b.tx) si) (copied : Copied cs s.log) where
   abbrev f : Front
   f = front clock count bg rd aw
 
@@ -74,16 +74,16 @@ module _ (cs : List Commit) (clock last count : ℕ) (b : Begun) (s : SiteState)
     away = refl;
     comes = refl;
     sense =
-      record {
-        last = last;
-        now = now;
-        stamps = stamps;
-        book = book-dealt cs clock last count b.tx b.ops dl stamps now book None (op_of object inv None) (λ tx. ap (λ a. operation a None) (asked tx));
-        vision = vision;
-        copied = copied;
-        works = record { doing = doing-absent copied.before s.log b object inv rest.doing none; holds = rest.holds; life = rest.life; prepared = rest.prepared };
-        asked = tt;
-      };
+        record {
+          last = last;
+          now = now;
+          stamps = stamps;
+          book = book-dealt cs clock last count b.tx b.ops dl stamps now book None (op_of object inv None) (λ tx. ap (λ a. operation a None) (asked tx));
+          vision = vision;
+          copied = copied;
+          works = record { doing = doing-absent copied.before s.log b object inv rest.doing none; holds = rest.holds; life = rest.life; prepared = rest.prepared };
+          asked = tt;
+        };
   }
 
   -- a response is told
@@ -94,18 +94,18 @@ module _ (cs : List Commit) (clock last count : ℕ) (b : Begun) (s : SiteState)
     away = refl;
     comes = refl;
     sense =
-      record {
-        last = last;
-        now = now;
-        stamps = stamps;
-        book =
-          book-dealt cs clock last count b.tx b.ops dl stamps now book (Some (resp_of one 0 e)) (op_of 0 inv (Some (resp_of one 0 e)))
-          (λ tx. ap (λ a. operation a (Some (resp_of one 0 e))) (asked tx));
-        vision = vision;
-        copied = copied;
-        works = rest;
-        asked = tt;
-      };
+        record {
+          last = last;
+          now = now;
+          stamps = stamps;
+          book =
+              book-dealt cs clock last count b.tx b.ops dl stamps now book (Some (resp_of one 0 e)) (op_of 0 inv (Some (resp_of one 0 e)))
+              (λ tx. ap (λ a. operation a (Some (resp_of one 0 e))) (asked tx));
+          vision = vision;
+          copied = copied;
+          works = rest;
+          asked = tt;
+        };
   }
 
   -- the site is asked to read
@@ -115,25 +115,25 @@ module _ (cs : List Commit) (clock last count : ℕ) (b : Begun) (s : SiteState)
     away = refl;
     comes = (n, s.clock, refl, refl);
     sense =
-      record {
-        last = last;
-        now = now;
-        stamps = stamps;
-        book = book;
-        vision = vision-sent cs (Some b.tx) si n vision;
-        copied = copied;
-        works =
-          record {
-            on = refl;
-            reads = refl;
-            doing = doing-alike copied.before s.log s.log b (record b { asked = true }) refl refl refl refl rest.doing;
-            asked = refl;
-            holds = hold_lock b.asked s.held b.tx (weighing b.own) _ rest.holds;
-            life = some_life b.asked rest.life;
-            prepared = rest.prepared;
-          };
-        asked = asked;
-      };
+        record {
+          last = last;
+          now = now;
+          stamps = stamps;
+          book = book;
+          vision = vision-sent cs (Some b.tx) si n vision;
+          copied = copied;
+          works =
+              record {
+                on = refl;
+                reads = refl;
+                doing = doing-alike copied.before s.log s.log b (record b { asked = true }) refl refl refl refl rest.doing;
+                asked = refl;
+                holds = hold_lock b.asked s.held b.tx (weighing b.own) _ rest.holds;
+                life = some_life b.asked rest.life;
+                prepared = rest.prepared;
+              };
+          asked = asked;
+        };
   }
     where
       some_life : (t : Bool) → LifeBy t b.life → IsBit b.life
@@ -148,27 +148,27 @@ module _ (cs : List Commit) (clock last count : ℕ) (b : Begun) (s : SiteState)
     away = refl;
     comes = (n, _, refl, refl);
     sense =
-      record {
-        last = last;
-        now = now;
-        stamps = stamps;
-        book = book;
-        vision = vision-sent cs (Some b.tx) si n vision;
-        copied = copied-same cs s.log _ same copied;
-        works =
-          record {
-            on = refl;
-            doing = doing-alike copied.before s.log _ b (record b { asked = true }) same refl refl refl rest.doing;
-            next = next;
-            is = is;
-            needs = needs;
-            asked = refl;
-            holds = hold_owns b.asked s.held b.tx (weighing b.own) (next_own b 0 e) sorted rest.holds;
-            life = some_life b.asked rest.life;
-            prepared = rest.prepared;
-          };
-        asked = asked;
-      };
+        record {
+          last = last;
+          now = now;
+          stamps = stamps;
+          book = book;
+          vision = vision-sent cs (Some b.tx) si n vision;
+          copied = copied-same cs s.log _ same copied;
+          works =
+              record {
+                on = refl;
+                doing = doing-alike copied.before s.log _ b (record b { asked = true }) same refl refl refl rest.doing;
+                next = next;
+                is = is;
+                needs = needs;
+                asked = refl;
+                holds = hold_owns b.asked s.held b.tx (weighing b.own) (next_own b 0 e) sorted rest.holds;
+                life = some_life b.asked rest.life;
+                prepared = rest.prepared;
+              };
+          asked = asked;
+        };
   }
     where
       same : s.log ≡ union s.log (of_object b.view 0)
@@ -194,23 +194,23 @@ module _ (cs : List Commit) (clock last count : ℕ) (b : Begun) (s : SiteState)
     away = refl;
     comes = (n, refl, comes_by ans.promises);
     sense =
-      record {
-        last = last;
-        now = now;
-        stamps = stamps;
-        book = book;
-        vision = vision-sent cs (Some b.tx) si n vision;
-        copied = copied-same cs s.log _ (sym ans.log) copied;
-        works =
-          record {
-            doing = doing-alike copied.before s.log _ b b (sym ans.log) refl refl refl rest.doing;
-            asked = asked;
-            holds = subst (λ h. HoldsBy true h b.tx (weighing b.own)) (sym ans.held) holds;
-            life = subst (λ (t : Bool). LifeBy t b.life) asked rest.life;
-            promised = promised_by ans.promises;
-          };
-        asked = tt;
-      };
+        record {
+          last = last;
+          now = now;
+          stamps = stamps;
+          book = book;
+          vision = vision-sent cs (Some b.tx) si n vision;
+          copied = copied-same cs s.log _ (sym ans.log) copied;
+          works =
+              record {
+                doing = doing-alike copied.before s.log _ b b (sym ans.log) refl refl refl rest.doing;
+                asked = asked;
+                holds = subst (λ h. HoldsBy true h b.tx (weighing b.own)) (sym ans.held) holds;
+                life = subst (λ (t : Bool). LifeBy t b.life) asked rest.life;
+                promised = promised_by ans.promises;
+              };
+          asked = tt;
+        };
   }
     where
       holds : HoldsBy true s.held b.tx (weighing b.own)
@@ -252,16 +252,16 @@ module _ (cs : List Commit) (clock last count : ℕ) (b : Begun) (s : SiteState)
         away = refl;
         comes = refl;
         sense =
-          record {
-            last = count;
-            now = refl;
-            stamps = ended_stamps;
-            book = bk;
-            vision = vs si vision;
-            copied = copied;
-            works = (holds.0, rest.prepared);
-            asked = tt;
-          };
+            record {
+              last = count;
+              now = refl;
+              stamps = ended_stamps;
+              book = bk;
+              vision = vs si vision;
+              copied = copied;
+              works = (holds.0, rest.prepared);
+              asked = tt;
+            };
       })
 
   pub gives_asked : (reply : Reply) → b.asked ≡ true → HoldsBy true s.held b.tx (weighing b.own) → (s.prepared ≡ []) ⊎ IsPromised s.prepared b.tx (weighing b.own)
@@ -274,16 +274,16 @@ module _ (cs : List Commit) (clock last count : ℕ) (b : Begun) (s : SiteState)
         away = refl;
         comes = refl;
         sense =
-          record {
-            last = count;
-            now = refl;
-            stamps = ended_stamps;
-            book = bk;
-            vision = vs _ (vision-sent cs (Some b.tx) si n vision);
-            copied = copied;
-            works = (freed s.held b.tx (weighing b.own) holds, unpromised s.prepared b.tx (weighing b.own) promised);
-            asked = tt;
-          };
+            record {
+              last = count;
+              now = refl;
+              stamps = ended_stamps;
+              book = bk;
+              vision = vs _ (vision-sent cs (Some b.tx) si n vision);
+              copied = copied;
+              works = (freed s.held b.tx (weighing b.own) holds, unpromised s.prepared b.tx (weighing b.own) promised);
+              asked = tt;
+            };
       })
 
   -- the transaction commits
@@ -324,25 +324,25 @@ module _ (cs : List Commit) (clock last count : ℕ) (b : Begun) (s : SiteState)
   new_copied log d is = record {
     before = d.after;
     walked =
-      subst (λ (ops : List Op). Reach one (start_at one) ops d.after) (sym (flat_map-append (λ (c : Commit). c.ops) cs (new ∷ []) ∙ ap (λ (v : List Op). operations cs ++ v) (append-nil b.ops)))
-      (reach-append one (start_at one) (operations cs) b.ops copied.before d.after copied.walked d.walked);
+        subst (λ (ops : List Op). Reach one (start_at one) ops d.after) (sym (flat_map-append (λ (c : Commit). c.ops) cs (new ∷ []) ∙ ap (λ (v : List Op). operations cs ++ v) (append-nil b.ops)))
+        (reach-append one (start_at one) (operations cs) b.ops copied.before d.after copied.walked d.walked);
     bit = d.bit;
     logged =
-      ap (λ (v : List Line). reached stepped (Some 0) (line_events v)) is
-      ∙ ap (λ (v : List ℕ). reached stepped (Some 0) v) (map-append (λ (l : Line). l.event) s.log (map (stamped stamp b.tx) (weighing b.own)))
-      ∙ ap (λ (v : List ℕ). reached stepped (Some 0) (line_events s.log ++ v)) (events_of_lines stamp b.tx (weighing b.own))
-      ∙ reached-append stepped (Some 0) (line_events s.log) (events (weighing b.own))
-      ∙ ap (λ (o : Option ℕ). reached stepped o (events (weighing b.own))) copied.logged
-      ∙ d.weighed;
+        ap (λ (v : List Line). reached stepped (Some 0) (line_events v)) is
+        ∙ ap (λ (v : List ℕ). reached stepped (Some 0) v) (map-append (λ (l : Line). l.event) s.log (map (stamped stamp b.tx) (weighing b.own)))
+        ∙ ap (λ (v : List ℕ). reached stepped (Some 0) (line_events s.log ++ v)) (events_of_lines stamp b.tx (weighing b.own))
+        ∙ reached-append stepped (Some 0) (line_events s.log) (events (weighing b.own))
+        ∙ ap (λ (o : Option ℕ). reached stepped o (events (weighing b.own))) copied.logged
+        ∙ d.weighed;
     lines =
-      subst (λ (v : List Line). Every (IsLogged one (cs ++ new ∷ [])) v) (sym is)
-      (every-append (IsLogged one (cs ++ new ∷ [])) s.log (map (stamped stamp b.tx) (weighing b.own))
-      (every-weaker (IsLogged one cs) (IsLogged one (cs ++ new ∷ [])) logged-more s.log copied.lines)
-      (lines_logged (weighing b.own) (every-filter (IsDone b.ops) _ b.own d.done)));
+        subst (λ (v : List Line). Every (IsLogged one (cs ++ new ∷ [])) v) (sym is)
+        (every-append (IsLogged one (cs ++ new ∷ [])) s.log (map (stamped stamp b.tx) (weighing b.own))
+        (every-weaker (IsLogged one cs) (IsLogged one (cs ++ new ∷ [])) logged-more s.log copied.lines)
+        (lines_logged (weighing b.own) (every-filter (IsDone b.ops) _ b.own d.done)));
     zeros =
-      subst (λ (v : List Line). Every (λ (l : Line). l.object ≡ 0) v) (sym is)
-      (every-append (λ (l : Line). l.object ≡ 0) s.log (map (stamped stamp b.tx) (weighing b.own)) copied.zeros
-      (lines_zero (weighing b.own) (every-filter (λ (o : OwnLine). o.object ≡ 0) _ b.own d.ours)));
+        subst (λ (v : List Line). Every (λ (l : Line). l.object ≡ 0) v) (sym is)
+        (every-append (λ (l : Line). l.object ≡ 0) s.log (map (stamped stamp b.tx) (weighing b.own)) copied.zeros
+        (lines_zero (weighing b.own) (every-filter (λ (o : OwnLine). o.object ≡ 0) _ b.own d.ours)));
   }
 
   abbrev new_turn : Bool → FrontMove
@@ -367,16 +367,16 @@ module _ (cs : List Commit) (clock last count : ℕ) (b : Begun) (s : SiteState)
         away = refl;
         comes = refl;
         sense =
-          record {
-            last = count;
-            now = refl;
-            stamps = new_stamps;
-            book = new_book;
-            vision = vision-committed cs clock last b.tx b.ops stamp si stamps (omega arith) vision;
-            copied = new_copied s.log rest.doing (sym (ap (λ (v : List OwnLine). s.log ++ map (stamped stamp b.tx) v) holds.1 ∙ append-nil s.log));
-            works = (holds.0, rest.prepared);
-            asked = tt;
-          };
+            record {
+              last = count;
+              now = refl;
+              stamps = new_stamps;
+              book = new_book;
+              vision = vision-committed cs clock last b.tx b.ops stamp si stamps (omega arith) vision;
+              copied = new_copied s.log rest.doing (sym (ap (λ (v : List OwnLine). s.log ++ map (stamped stamp b.tx) v) holds.1 ∙ append-nil s.log));
+              works = (holds.0, rest.prepared);
+              asked = tt;
+            };
       })
 
   -- the site promised its own lines
@@ -389,19 +389,19 @@ module _ (cs : List Commit) (clock last count : ℕ) (b : Begun) (s : SiteState)
         away = refl;
         comes = ap (λ o. messages (joins later b.tx stamp o).turn.sends ++ []) found;
         sense =
-          record {
-            last = count;
-            now = refl;
-            stamps = new_stamps;
-            book = new_book;
-            vision = vision-committed cs clock last b.tx b.ops stamp _ stamps (omega arith) (vision-sent cs (Some b.tx) si n vision);
-            copied = new_copied _ d (ap (λ o. (joins later b.tx stamp o).site.log) found ∙ same_log);
-            works = (
-              ap (λ o. (joins later b.tx stamp o).site.held) found ∙ freed s.held b.tx (weighing b.own) holds,
-              ap (λ o. (joins later b.tx stamp o).site.prepared) found ∙ unpromised s.prepared b.tx (weighing b.own) (inr promised),
-            );
-            asked = tt;
-          };
+            record {
+              last = count;
+              now = refl;
+              stamps = new_stamps;
+              book = new_book;
+              vision = vision-committed cs clock last b.tx b.ops stamp _ stamps (omega arith) (vision-sent cs (Some b.tx) si n vision);
+              copied = new_copied _ d (ap (λ o. (joins later b.tx stamp o).site.log) found ∙ same_log);
+              works = (
+                ap (λ o. (joins later b.tx stamp o).site.held) found ∙ freed s.held b.tx (weighing b.own) holds,
+                ap (λ o. (joins later b.tx stamp o).site.prepared) found ∙ unpromised s.prepared b.tx (weighing b.own) (inr promised),
+              );
+              asked = tt;
+            };
       })
     where
       later : SiteState

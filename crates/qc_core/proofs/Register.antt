@@ -77,7 +77,6 @@ read_alone (suc object) inv is = absurd (let never : ⊥ = cc in never)
 
 -- the states allow the same invocations
 
-
 -- the lowest of three responses, by whether each one's invocation is asked
 abbrev low : ℕ → ℕ → ℕ → Bool → Bool → Bool → Option ℕ
 low a b c first second third =

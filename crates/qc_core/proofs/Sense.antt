@@ -176,7 +176,7 @@ pub record Settled (commits : List Commit) (s : SiteState) (dl : TxId → Dealin
   pub away : addressed 1 (envelopes 1 n m.turn.sends) ≡ []
   pub comes : Comes (caught s (to_site n m)) (after_posting n m).front.begun (after_posting n m).front.round (after_posting n m).front.awaits (replies s (to_site n m))
   pub sense :
-    Sense (with_record commits m.turn.write) (after_posting n m).front (caught s (to_site n m)) (λ tx. fold (deal tx) (dl tx) (posted_acts n m.turn)) (λ tx. fold (sight tx) (si tx) (posted_acts n m.turn))
+      Sense (with_record commits m.turn.write) (after_posting n m).front (caught s (to_site n m)) (λ tx. fold (deal tx) (dl tx) (posted_acts n m.turn)) (λ tx. fold (sight tx) (si tx) (posted_acts n m.turn))
 
 -- a choice by a test
 pub settled_by : (cs : List Commit) (s : SiteState) (dl : TxId → Dealing) (si : TxId → Sight) (n : ℕ) (t : Bool) (m k : FrontMove)

@@ -32,8 +32,8 @@ use Rattle.qc_core.proofs.Sights.{Vision, vision-began, vision-ended}
 
 -- the view answers an invocation, where no request runs
 module _ (cs : List Commit) (clock last count : ℕ) (b : Begun) (s : SiteState) (dl : TxId → Dealing) (si : TxId → Sight) (bg : Option Begun) (rd : Round) (aw : Option ℕ)
-  (stamps : Stamps cs clock last) (now : IsNow last count (Some b.tx)) (book : Book cs last count (Some b.tx) b.ops dl) (vision : Vision cs (Some b.tx) si) (copied : Copied cs s.log)
-  (rest : Resting copied.before s b) (n : ℕ) where
+    (stamps : Stamps cs clock last) (now : IsNow last count (Some b.tx)) (book : Book cs last count (Some b.tx) b.ops dl) (vision : Vision cs (Some b.tx) si) (copied : Copied cs s.log)
+    (rest : Resting copied.before s b) (n : ℕ) where
   abbrev f : Front
   f = front clock count bg rd aw
 
@@ -103,16 +103,16 @@ module _ (cs : List Commit) (clock count : ℕ) (aw : Option ℕ) (s : SiteState
         away = refl;
         comes = refl;
         sense =
-          record {
-            last = sense.last;
-            now = (refl, omega arith);
-            stamps = sense.stamps;
-            book = book-began cs sense.last count (called_dl Begin) (book-called cs sense.last count None [] dl Begin sense.book);
-            vision = vision-began cs clock sense.last count si sense.stamps (omega arith) sense.vision;
-            copied = sense.copied;
-            works = record { doing = doing-fresh sense.copied.before s.log _ refl refl refl sense.copied.bit; holds = (sense.works.0, refl); life = refl; prepared = sense.works.1 };
-            asked = tt;
-          };
+            record {
+              last = sense.last;
+              now = (refl, omega arith);
+              stamps = sense.stamps;
+              book = book-began cs sense.last count (called_dl Begin) (book-called cs sense.last count None [] dl Begin sense.book);
+              vision = vision-began cs clock sense.last count si sense.stamps (omega arith) sense.vision;
+              copied = sense.copied;
+              works = record { doing = doing-fresh sense.copied.before s.log _ refl refl refl sense.copied.bit; holds = (sense.works.0, refl); life = refl; prepared = sense.works.1 };
+              asked = tt;
+            };
       }
 
   do_settles : (bg : Option Begun) (object inv : ℕ) → Sense cs (front clock count bg Idle aw) s dl si → Settled cs s (called_dl (Do object inv)) si (called one (front clock count bg Idle aw) (Do object inv)) n

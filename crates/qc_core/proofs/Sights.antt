@@ -98,13 +98,13 @@ vision-began cs clock last count si s le v = record {
   begun = λ tx. refl;
   known = λ tx. v.known tx;
   seeing = λ tx e.
-    let same : tx_of (count + 1) ≡ tx = cc in
-    let yes : same_tx (tx_of (count + 1)) tx ≡ true = subst (λ (u : TxId). same_tx (tx_of (count + 1)) u ≡ true) same (same_self (tx_of (count + 1))) in
-    subst (λ (t : Bool). Every (HasRecord cs) (cond t (si tx).known (si tx).seen)) (sym yes) (v.known tx);
+      let same : tx_of (count + 1) ≡ tx = cc in
+      let yes : same_tx (tx_of (count + 1)) tx ≡ true = subst (λ (u : TxId). same_tx (tx_of (count + 1)) u ≡ true) same (same_self (tx_of (count + 1))) in
+      subst (λ (t : Bool). Every (HasRecord cs) (cond t (si tx).known (si tx).seen)) (sym yes) (v.known tx);
   seen = λ c tx m.
-    let n : c.tx.number ≤ last = (every-in (IsBelow clock last) c cs s.below m).number in
-    let no : same_tx (tx_of (count + 1)) c.tx ≡ false = apart_by_number (tx_of (count + 1)) c.tx (λ e. omega arith) in
-    subst (λ (t : Bool). In tx (cond t (si c.tx).known (si c.tx).seen) → tx ≢ c.tx → HasBefore cs tx c.stamp) (sym no) (v.seen c tx m);
+      let n : c.tx.number ≤ last = (every-in (IsBelow clock last) c cs s.below m).number in
+      let no : same_tx (tx_of (count + 1)) c.tx ≡ false = apart_by_number (tx_of (count + 1)) c.tx (λ e. omega arith) in
+      subst (λ (t : Bool). In tx (cond t (si c.tx).known (si c.tx).seen) → tx ≢ c.tx → HasBefore cs tx c.stamp) (sym no) (v.seen c tx m);
 }
 
 -- a transaction ends without a record
@@ -118,9 +118,9 @@ pub vision-committed : (cs : List Commit) (clock last : ℕ) (t : TxId) (ops : L
 vision-committed cs clock last t ops stamp si s later v = record {
   begun = λ tx. refl;
   known = λ tx.
-    subst (λ (o : Option TxId). Every (HasRecord (cs ++ new ∷ [])) ((si tx).known ++ begun_list o)) (sym (v.begun tx))
-    (every-append (HasRecord (cs ++ new ∷ [])) (si tx).known (t ∷ []) (every-weaker (HasRecord cs) (HasRecord (cs ++ new ∷ [])) (has_record-more cs new) (si tx).known (v.known tx))
-    (record { commit = new; listed = In-last new cs; named = refl }, tt));
+      subst (λ (o : Option TxId). Every (HasRecord (cs ++ new ∷ [])) ((si tx).known ++ begun_list o)) (sym (v.begun tx))
+      (every-append (HasRecord (cs ++ new ∷ [])) (si tx).known (t ∷ []) (every-weaker (HasRecord cs) (HasRecord (cs ++ new ∷ [])) (has_record-more cs new) (si tx).known (v.known tx))
+      (record { commit = new; listed = In-last new cs; named = refl }, tt));
   seeing = λ tx e. absurd (let never : ⊥ = cc in never);
   seen = λ c tx m. by c tx (In-more c new cs m);
 }

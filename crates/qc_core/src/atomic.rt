@@ -16,5 +16,4 @@ ghost use Rattle.qc_script.specs.declared.script.Script.{Script};
 /// all that its client had seen; and the clients know which committed.
 pub fn runs_are_atomic()
     ensures { (script : Script) (h : List Entry) → IsRun one script h → Kept h → Atomic one h }
-{
-}
+{}
