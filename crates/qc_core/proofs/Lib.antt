@@ -21,3 +21,4 @@ pub mod Hears
 pub mod Answers
 pub mod Stand
 pub mod AtomicLaw
+pub mod RecordLaws

@@ -18,3 +18,24 @@ pub fn runs_are_atomic()
     ensures { (script : Script) (h : List Entry) → IsRun one script h → Kept h → Atomic one h }
 {
 }
+
+ghost use Rattle.qc_core.specs.Committed.{AreRising, written};
+
+/// In every run a client's commit records have rising stamps, in the order in
+/// which it wrote them.
+pub fn commit_stamps_rise()
+    ensures { (script : Script) (h : List Entry) → IsRun one script h → AreRising (written one h) }
+{
+}
+
+ghost use Rattle.qc_core.specs.Bounds.{site_at};
+ghost use Rattle.qc_core.specs.Committed.{committed};
+ghost use Rattle.qc_core.specs.Logged.{IsLogged};
+ghost use Rattle.std.specs.List.{AllByRecursion as Every};
+
+/// In every run each line of the site's log is an operation of a committed
+/// transaction, with its stamp.
+pub fn logs_have_committed_operations()
+    ensures { (script : Script) (h : List Entry) → IsRun one script h → Every (IsLogged one (committed one h)) (site_at 0 h).site.log }
+{
+}
