@@ -22,3 +22,4 @@ pub mod Answers
 pub mod Stand
 pub mod AtomicLaw
 pub mod RecordLaws
+pub mod Statuses
