@@ -23,3 +23,4 @@ pub mod Stand
 pub mod AtomicLaw
 pub mod RecordLaws
 pub mod Statuses
+pub mod StatusLaw

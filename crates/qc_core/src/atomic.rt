@@ -1,7 +1,7 @@
 //! The promise of the whole system, as the contract of a function with nothing
 //! to do.
 
-ghost use Rattle.std.specs.Prelude.{List};
+ghost use Rattle.std.specs.Prelude.{List, []};
 ghost use Rattle.qc_core.specs.Atomic.{Atomic};
 ghost use Rattle.qc_core.specs.Conduct.{IsRun};
 ghost use Rattle.qc_core.specs.Kept.{Kept};
@@ -37,5 +37,22 @@ ghost use Rattle.std.specs.List.{AllByRecursion as Every};
 /// transaction, with its stamp.
 pub fn logs_have_committed_operations()
     ensures { (script : Script) (h : List Entry) → IsRun one script h → Every (IsLogged one (committed one h)) (site_at 0 h).site.log }
+{
+}
+
+ghost use Rattle.std.specs.Prelude.{◌≡◌};
+ghost use Rattle.qc_core.specs.Order.{EachAfter};
+ghost use Rattle.qc_core.specs.Status.{HasEnded, IsRight, IsRightAfter, Status, status_at};
+ghost use Rattle.qc_decl.specs.declared.declaration.Declaration.{Declaration};
+ghost use Rattle.qc_msg.specs.declared.step.Step.{Step};
+ghost use Rattle.qc_stamp.specs.declared.stamp.TxId.{TxId};
+
+/// In every run, of every declaration, a transaction begins only while it is
+/// unborn, gets a commit record or is given up only while it is begun, and its
+/// sites are told only of a verdict that is its status. So each transaction
+/// begins once, has one record at most, and a verdict that was sent is final.
+pub fn transactions_move_on()
+    ensures right { (decl : Declaration) (script : Script) (h : List Entry) → IsRun decl script h → EachAfter (IsRightAfter decl) [] h }
+    ensures last { (tx : TxId) (s : Status) (step : Step) → HasEnded s → IsRight tx s step → status_at tx s step ≡ s }
 {
 }
