@@ -24,3 +24,4 @@ pub mod AtomicLaw
 pub mod RecordLaws
 pub mod Statuses
 pub mod StatusLaw
+pub mod Recorded

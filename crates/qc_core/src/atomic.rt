@@ -56,3 +56,14 @@ pub fn transactions_move_on()
     ensures last { (tx : TxId) (s : Status) (step : Step) → HasEnded s → IsRight tx s step → status_at tx s step ≡ s }
 {
 }
+
+ghost use Rattle.qc_core.specs.Committed.{In};
+ghost use Rattle.qc_core.specs.Status.{Committed, status};
+ghost use Rattle.qc_entry.specs.declared.record.Commit.{Commit};
+
+/// In every run a transaction with a commit record is committed, with the
+/// record's stamp, for ever. So no transaction that was given up has one.
+pub fn records_are_the_verdicts()
+    ensures { (script : Script) (h : List Entry) → IsRun one script h → (c : Commit) → In c (committed one h) → status one h c.tx ≡ Committed c.stamp }
+{
+}

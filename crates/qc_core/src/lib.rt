@@ -9,6 +9,7 @@ mod atomic;
 mod laws;
 
 pub use atomic::{
-    commit_stamps_rise, logs_have_committed_operations, runs_are_atomic, transactions_move_on,
+    commit_stamps_rise, logs_have_committed_operations, records_are_the_verdicts, runs_are_atomic,
+    transactions_move_on,
 };
 pub use laws::{clocks_and_counts_are_bounded, messages_and_replies_are_in_order};
