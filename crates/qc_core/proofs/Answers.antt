@@ -1,5 +1,5 @@
 -- A site answers the sender of a message, and nobody else.
-use Rattle.std.proofs.Common.{◌≡◌, ℕ, Bool, true, false, cond, not, List, [], ◌∷◌, Option, Some, None, refl}
+use Rattle.std.proofs.Common.{◌≡◌, ℕ, Bool, true, false, cond, not, Option, Some, None, refl}
 use Rattle.std.specs.List.{AllByRecursion as Every}
 use Rattle.std.specs.Prelude.{nat_le}
 use Rattle.qc_entry.specs.declared.record.Prepared.{Prepared}

@@ -1,7 +1,7 @@
 -- Every run of the built-in declaration keeps what stands between events, and so is atomic.
-use Rattle.std.proofs.Common.{◌≡◌, ◌≢◌, ◌<◌, ℕ, zero, suc, ◌+◌, ◌-◌, ◌==◌, ◌&&◌, not, Bool, true, false, cond, List, [], ◌∷◌, ◌++◌, length, drop, fold, Option, Some, None, ◌⊎◌, inl, inr, refl, sym, ap, subst, ◌∙◌, arith, slice_get}
-use Rattle.std.specs.List.{AllByRecursion as Every, filter_map}
-use Rattle.std.specs.Prelude.{slice_set, replicate}
+use Rattle.std.proofs.Common.{◌≡◌, ◌≢◌, ◌<◌, ℕ, zero, suc, ◌+◌, ◌==◌, ◌&&◌, not, Bool, true, false, cond, List, [], ◌∷◌, ◌++◌, length, drop, fold, Option, Some, None, ◌⊎◌, inl, inr, refl, sym, ap, subst, ◌∙◌, arith, slice_get}
+use Rattle.std.specs.List.{AllByRecursion as Every}
+use Rattle.std.specs.Prelude.{slice_set}
 use Rattle.std.proofs.lemmas.List.{append-nil}
 use Rattle.std.proofs.lemmas.List.Elements.{filter_map-append}
 use Rattle.std.proofs.lemmas.List.Sums.{fold-append}
@@ -11,11 +11,10 @@ use Rattle.qc_decl.specs.One.{one}
 use Rattle.qc_decl.specs.Actors.{client_actor, is_client}
 use Rattle.qc_front.specs.declared.round.Round.{Round}
 use Rattle.qc_front.specs.declared.round.Round.TheVariants.{Idle, Reading, Appending, Voting}
-use Rattle.qc_front.specs.Conduct.{called, front_after, front_does, heard}
+use Rattle.qc_front.specs.Conduct.{front_after, front_does}
 use Rattle.qc_front.specs.Moves.{FrontMove}
 use Rattle.qc_front.specs.State.{new_front}
 use Rattle.qc_msg.specs.declared.message.Envelope.{Envelope}
-use Rattle.qc_msg.specs.declared.message.Message.{Message}
 use Rattle.qc_msg.specs.declared.step.Command.{Command}
 use Rattle.qc_msg.specs.declared.step.Given.{Given}
 use Rattle.qc_msg.specs.declared.step.Given.TheVariants as given
@@ -27,7 +26,6 @@ use Rattle.qc_msg.specs.declared.step.Reply.TheVariants as replies
 use Rattle.qc_msg.specs.declared.step.Step.{Step}
 use Rattle.qc_msg.specs.declared.step.Step.TheVariants.{Phase}
 use Rattle.qc_msg.specs.declared.step.Turn.{Turn}
-use Rattle.qc_msg.specs.declared.step.Why.{Why}
 use Rattle.qc_msg.specs.Mail.{Deed, WasSentTo, addressed, deed_of, deeds, envelopes, mail, sendings}
 use Rattle.qc_msg.specs.Steps.{Entry, by, marked, posted, sents, step_of, told, wrote}
 use Rattle.qc_msg.proofs.Growth.{by-posted, deeds-append, deeds-by_same, deeds-other, deeds-phase, deeds-taken}
@@ -36,23 +34,23 @@ use Rattle.qc_script.specs.Ready.{first_order, first_ready, is_busy, next_order,
 use Rattle.qc_script.specs.Runs.{Runs, begins, takes, posts, phase}
 use Rattle.qc_script.proofs.Found.{ready-called, ready-sent}
 use Rattle.qc_script.proofs.Grows.{waiting-posted, waiting-step}
-use Rattle.qc_site.specs.Conduct.{site_after, site_does, site_on}
+use Rattle.qc_site.specs.Conduct.{site_after, site_does}
 use Rattle.qc_site.specs.Site.{SiteMove, new_site}
 use Rattle.qc_core.specs.Acts.{Act, acts}
-use Rattle.qc_core.specs.Atomic.{AreApart, AreTold, Atomic, HasBefore, HasCommit}
+use Rattle.qc_core.specs.Atomic.{AreApart, AreTold, Atomic, HasBefore}
 use Rattle.qc_core.specs.Bounds.{front_at, site_at}
-use Rattle.qc_core.specs.Committed.{In, commit_by, committed, with_commit, written}
+use Rattle.qc_core.specs.Committed.{In, commit_by, written}
 use Rattle.qc_core.specs.Conduct.{IsLawful, IsRun}
 use Rattle.qc_core.specs.Deals.{dealing, deals, endings}
 use Rattle.qc_core.specs.Kept.{Kept}
 use Rattle.qc_core.specs.OneCopy.{OneCopy, start_at}
 use Rattle.qc_core.specs.Seen.{no_sight, seen, sight}
-use Rattle.qc_core.proofs.ActsGrow.{acts-other, acts-phase, acts-posted, acts-taken, posted_acts}
+use Rattle.qc_core.proofs.ActsGrow.{acts-other, acts-phase, acts-posted, acts-taken}
 use Rattle.qc_core.proofs.Fronts.{runs}
 use Rattle.qc_core.proofs.Ledger.{IsDead, IsEnd, rising_apart}
 use Rattle.qc_core.proofs.Members.{every-in}
 use Rattle.qc_core.proofs.OrderLaw.{Law, law}
-use Rattle.qc_core.proofs.Sense.{Sense, after_posting, to_site, with_record}
+use Rattle.qc_core.proofs.Sense.{Sense, with_record}
 use Rattle.qc_core.proofs.Stand.{Fair, Stand, client_calls, client_hears, client_posts, dealings_of, fair_sense, sights_of, site_posts, site_takes}
 use Rattle.qc_core.proofs.Within.{sendings-site}
 
@@ -293,14 +291,14 @@ begun_stand = record {
       now = refl;
       stamps = record { rising = tt; below = tt; sorted = refl };
       book =
-        record {
-          begun = λ tx. refl;
-          unborn = λ k l. refl;
-          dealing = λ tx e. absurd (let never : ⊥ = cc in never);
-          dealt = λ c m. absurd m;
-          each = λ c m. absurd m;
-          ends = λ tx. tt;
-        };
+          record {
+            begun = λ tx. refl;
+            unborn = λ k l. refl;
+            dealing = λ tx e. absurd (let never : ⊥ = cc in never);
+            dealt = λ c m. absurd m;
+            each = λ c m. absurd m;
+            ends = λ tx. tt;
+          };
       vision = record { begun = λ tx. refl; known = λ tx. tt; seeing = λ tx e. absurd (let never : ⊥ = cc in never); seen = λ c tx m. absurd m };
       copied = record { before = start_at one; walked = refl; bit = inl refl; logged = refl; lines = tt; zeros = tt };
       works = (refl, refl);
@@ -372,22 +370,22 @@ atomic_of h fair = record {
   apart = subst AreApart (sym fair.sorted) (rising_apart (written one h) fair.rising);
   one_copy = subst (OneCopy one) (sym fair.sorted) fair.one_copy;
   dealt = subst (λ (cs : List Commit). (c : Commit) → In c cs → c.ops ≡ deals one h c.tx) (sym fair.sorted)
-    (λ c m. subst (λ (k : ℕ). c.ops ≡ (dealing one h k c.tx).ops) (sym (fair.client c m)) (sym (fair.dealt c m)));
+      (λ c m. subst (λ (k : ℕ). c.ops ≡ (dealing one h k c.tx).ops) (sym (fair.client c m)) (sym (fair.dealt c m)));
   seen = subst (λ (cs : List Commit). (c : Commit) (tx : TxId) → In c cs → In tx (seen one h c.tx) → tx ≢ c.tx → HasBefore cs tx c.stamp) (sym fair.sorted)
-    (λ c tx m.
-    subst (λ (k : ℕ). In tx (fold (sight c.tx) no_sight (acts (client_actor one k) [] h)).seen → tx ≢ c.tx → HasBefore (written one h) tx c.stamp) (sym (fair.client c m)) (fair.seen c tx m));
+      (λ c tx m.
+      subst (λ (k : ℕ). In tx (fold (sight c.tx) no_sight (acts (client_actor one k) [] h)).seen → tx ≢ c.tx → HasBefore (written one h) tx c.stamp) (sym (fair.client c m)) (fair.seen c tx m));
   told = subst (λ (cs : List Commit). AreTold one cs h) (sym fair.sorted)
-    (record {
-      committed = λ k tx stamp l m.
-        every-in (IsEnd (written one h) fair.last tx) (replies.Committed stamp) _ (fair.ends tx) (subst (λ (v : ℕ). In (replies.Committed stamp) (endings one h v tx)) (one_client k l) m);
-      aborted = λ k tx why c l m.
-        let dead : IsDead (written one h) fair.last tx = every-in (IsEnd (written one h) fair.last tx) (replies.Aborted why) _ (fair.ends tx) (subst (λ (v : ℕ). In (replies.Aborted why) (endings one h v tx)) (one_client k l) m) in
-        dead.apart c;
-      dropped = λ k tx c l m.
-        let dead : IsDead (written one h) fair.last tx = every-in (IsEnd (written one h) fair.last tx) replies.Dropped _ (fair.ends tx) (subst (λ (v : ℕ). In replies.Dropped (endings one h v tx)) (one_client k l) m) in
-        dead.apart c;
-      each = λ c m. subst (λ (k : ℕ). In (replies.Committed c.stamp) (endings one h k c.tx)) (sym (fair.client c m)) (fair.each c m);
-    });
+      (record {
+        committed = λ k tx stamp l m.
+            every-in (IsEnd (written one h) fair.last tx) (replies.Committed stamp) _ (fair.ends tx) (subst (λ (v : ℕ). In (replies.Committed stamp) (endings one h v tx)) (one_client k l) m);
+        aborted = λ k tx why c l m.
+            let dead : IsDead (written one h) fair.last tx = every-in (IsEnd (written one h) fair.last tx) (replies.Aborted why) _ (fair.ends tx) (subst (λ (v : ℕ). In (replies.Aborted why) (endings one h v tx)) (one_client k l) m) in
+            dead.apart c;
+        dropped = λ k tx c l m.
+            let dead : IsDead (written one h) fair.last tx = every-in (IsEnd (written one h) fair.last tx) replies.Dropped _ (fair.ends tx) (subst (λ (v : ℕ). In replies.Dropped (endings one h v tx)) (one_client k l) m) in
+            dead.apart c;
+        each = λ c m. subst (λ (k : ℕ). In (replies.Committed c.stamp) (endings one h k c.tx)) (sym (fair.client c m)) (fair.each c m);
+      });
 }
 
 pub runs_are_atomic : (script : Script) (h : List Entry) → IsRun one script h → Kept h → Atomic one h

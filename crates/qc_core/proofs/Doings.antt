@@ -1,5 +1,5 @@
 -- A begun transaction on one copy: its operations, its own lines, and its view.
-use Rattle.std.proofs.Common.{◌≡◌, ℕ, zero, suc, ◌+◌, ◌<◌, ◌≤◌, ◌==◌, ◌&&◌, Bool, true, false, cond, List, [], ◌∷◌, ◌++◌, filter, length, map, Option, Some, None, ◌⊎◌, inl, inr, slice_get, refl, sym, ap, subst, ◌∙◌, arith, length-append}
+use Rattle.std.proofs.Common.{◌≡◌, ℕ, zero, suc, ◌<◌, ◌≤◌, ◌==◌, Bool, true, false, cond, List, [], ◌∷◌, ◌++◌, length, map, Option, Some, None, ◌⊎◌, inl, inr, refl, sym, ap, subst, ◌∙◌, arith, length-append}
 use Rattle.std.specs.List.{AllByRecursion as Every}
 use Rattle.std.specs.Prelude.{nat_lt, option_and_then}
 use Rattle.std.proofs.lemmas.Bool.{and_parts}
@@ -12,12 +12,12 @@ use Rattle.qc_entry.proofs.Members.{union-self}
 use Rattle.qc_decl.specs.Lookup.{read_need_of}
 use Rattle.qc_decl.specs.One.{one, register, register_rows}
 use Rattle.qc_front.specs.declared.begun.Begun.{Begun}
-use Rattle.qc_front.specs.Operation.{joined, met, op_of, with_event, with_op}
+use Rattle.qc_front.specs.Operation.{joined, op_of, with_event, with_op}
 use Rattle.qc_front.specs.State.{first_epoch}
 use Rattle.qc_front.specs.View.{answer_of, next_own, own_on, resp_of, state_seen, weighs}
 use Rattle.qc_msg.proofs.Sent.{slice_get-append, slice_get-seam}
 use Rattle.qc_table.specs.Rules.{event}
-use Rattle.qc_table.specs.Run.{after, first_of, next_in, reached}
+use Rattle.qc_table.specs.Run.{after, first_of, reached}
 use Rattle.qc_table.proofs.Runs.{reached-append}
 use Rattle.qc_core.specs.Logged.{IsOperation}
 use Rattle.qc_core.specs.OneCopy.{step_at, updated}
@@ -186,7 +186,7 @@ doing-absent before log b object inv d none = record {
 
 -- an operation with a response
 module _ (before : ℕ → ℕ) (log : List Line) (b : Begun) (inv e : ℕ) (d : Doing before log b) (next : ℕ) (is : IsNext (d.after 0) inv e next)
-  (how : (appended e ≡ true) ⊎ ((appended e ≡ false) × (next ≡ d.after 0) × (b.view ≡ log))) where
+    (how : (appended e ≡ true) ⊎ ((appended e ≡ false) × (next ≡ d.after 0) × (b.view ≡ log))) where
   abbrev op : Op
   op = op_of 0 inv (Some (resp_of one 0 e))
 
@@ -238,11 +238,11 @@ module _ (before : ℕ → ℕ) (log : List Line) (b : Begun) (inv e : ℕ) (d :
     ours = every-append (λ (o : OwnLine). o.object ≡ 0) b.own (line ∷ []) d.ours (refl, tt);
     sorted = sorted_line;
     within =
-      every-append (λ (o : OwnLine). o.op ≤ length (b.ops ++ op ∷ [])) b.own (line ∷ [])
-      (every-weaker (λ (o : OwnLine). o.op ≤ length b.ops) (λ (o : OwnLine). o.op ≤ length (b.ops ++ op ∷ [])) (λ o le. omega (arith, length-append b.ops (op ∷ []))) b.own d.within)
-      (omega (arith, length-append b.ops (op ∷ [])), tt);
+        every-append (λ (o : OwnLine). o.op ≤ length (b.ops ++ op ∷ [])) b.own (line ∷ [])
+        (every-weaker (λ (o : OwnLine). o.op ≤ length b.ops) (λ (o : OwnLine). o.op ≤ length (b.ops ++ op ∷ [])) (λ o le. omega (arith, length-append b.ops (op ∷ []))) b.own d.within)
+        (omega (arith, length-append b.ops (op ∷ [])), tt);
     done =
-      every-append (IsDone (b.ops ++ op ∷ [])) b.own (line ∷ []) (every-weaker (IsDone b.ops) (IsDone (b.ops ++ op ∷ [])) (done-more b.ops op) b.own d.done) (event_line, tt);
+        every-append (IsDone (b.ops ++ op ∷ [])) b.own (line ∷ []) (every-weaker (IsDone b.ops) (IsDone (b.ops ++ op ∷ [])) (done-more b.ops op) b.own d.done) (event_line, tt);
     view = view_by how d.view;
   }
 
@@ -274,7 +274,7 @@ doing-alike before log log' b c same_log same_ops same_own same_view d = record 
   within = subst (λ (v : List OwnLine). Every (λ (o : OwnLine). o.op ≤ length c.ops) v) same_own (subst (λ (v : List Op). Every (λ (o : OwnLine). o.op ≤ length v) b.own) same_ops d.within);
   done = subst (λ (v : List OwnLine). Every (IsDone c.ops) v) same_own (subst (λ (v : List Op). Every (IsDone v) b.own) same_ops d.done);
   view =
-    subst (λ (v : List OwnLine). (c.view ≡ log') ⊎ ((c.view ≡ []) × (weighing v ≡ v))) same_own
-    (subst (λ (v : List Line). (v ≡ log') ⊎ ((v ≡ []) × (weighing b.own ≡ b.own))) same_view
-    (subst (λ (v : List Line). (b.view ≡ v) ⊎ ((b.view ≡ []) × (weighing b.own ≡ b.own))) same_log d.view));
+      subst (λ (v : List OwnLine). (c.view ≡ log') ⊎ ((c.view ≡ []) × (weighing v ≡ v))) same_own
+      (subst (λ (v : List Line). (v ≡ log') ⊎ ((v ≡ []) × (weighing b.own ≡ b.own))) same_view
+      (subst (λ (v : List Line). (b.view ≡ v) ⊎ ((b.view ≡ []) × (weighing b.own ≡ b.own))) same_log d.view));
 }

@@ -1,5 +1,5 @@
 -- Each answer that the client waits for, with its move, keeps the sense of records, client and site.
-use Rattle.std.proofs.Common.{◌≡◌, ◌≤◌, ℕ, ◌+◌, ◌==◌, Bool, true, false, cond, max, List, [], ◌∷◌, ◌++◌, map, Option, Some, None, ◌⊎◌, inl, inr, refl, sym, ap, subst, ◌∙◌, arith}
+use Rattle.std.proofs.Common.{◌≡◌, ℕ, ◌==◌, Bool, true, false, cond, max, List, [], ◌∷◌, ◌++◌, map, Option, Some, None, ◌⊎◌, inl, inr, refl, sym, ap, subst, arith}
 use Rattle.std.specs.List.{AllByRecursion as Every}
 use Rattle.std.proofs.lemmas.Bool.{eq-eqb}
 use Rattle.qc_stamp.specs.declared.stamp.TxId.{TxId}
@@ -12,7 +12,7 @@ use Rattle.qc_front.specs.declared.front.Front.{Front}
 use Rattle.qc_front.specs.declared.round.Round.{Round}
 use Rattle.qc_front.specs.declared.round.Round.TheVariants.{Idle, Reading, Appending, Voting}
 use Rattle.qc_front.specs.Conduct.{heard}
-use Rattle.qc_front.specs.Moves.{FrontMove, moved, quiet}
+use Rattle.qc_front.specs.Moves.{moved, quiet}
 use Rattle.qc_front.specs.Ending.{forgotten, promised}
 use Rattle.qc_front.specs.Operation.{granted, joined, met, responded, with_event}
 use Rattle.qc_front.specs.State.{first_life, passed}
@@ -23,18 +23,17 @@ use Rattle.qc_msg.specs.declared.step.Command.TheVariants.{Do}
 use Rattle.qc_msg.specs.declared.step.Reply.TheVariants.{Aborted}
 use Rattle.qc_msg.specs.declared.step.Why.TheVariants.{Forgot}
 use Rattle.qc_site.specs.Site.{SiteState}
-use Rattle.qc_core.specs.Acts.{Act, Takes}
-use Rattle.qc_core.specs.Committed.{In}
+use Rattle.qc_core.specs.Acts.{Takes}
 use Rattle.qc_core.specs.Deals.{Dealing}
 use Rattle.qc_core.specs.Logged.{IsLogged}
 use Rattle.qc_core.specs.Seen.{Sight}
 use Rattle.qc_core.proofs.Doings.{Doing, doing-alike, doing-event, doing-joined, joined_view}
 use Rattle.qc_core.proofs.Holding.{HoldsBy, IsPromised}
-use Rattle.qc_core.proofs.Ledger.{Book, Stamps, book-gone, deals_on, not_now, stamps-le}
+use Rattle.qc_core.proofs.Ledger.{Stamps, book-gone, deals_on, not_now, stamps-le}
 use Rattle.qc_core.proofs.Moves.{decides_promised, front, gives_asked, responded-settles}
 use Rattle.qc_core.proofs.Own.{weighing, weighing-more}
 use Rattle.qc_core.proofs.Register.{IsBit, at_bit}
-use Rattle.qc_core.proofs.Sense.{Comes, IsAppending, IsReading, IsVoting, LifeBy, PromisedTo, Resting, Sense, Settled, name_of}
+use Rattle.qc_core.proofs.Sense.{Comes, IsReading, LifeBy, PromisedTo, Resting, Sense, Settled, name_of}
 use Rattle.qc_core.proofs.Serves.{view_settles}
 use Rattle.qc_core.proofs.Sights.{HasRecord, NoneNow, Vision, sights_on, vision-ended, vision-granted, vision-stale, vision-yes}
 
@@ -59,8 +58,8 @@ module _ (cs : List Commit) (clock count k c : ℕ) (b : Begun) (s : SiteState) 
   abbrev later : ℕ
   later = max clock c
 
-  none_now : (last : ℕ) (round : Round) → Stamps cs clock last → (sense : Sense cs (at round) s dl si) → NoneNow cs (Some b.tx)
-  none_now last round stamps sense = λ c m. not_now cs clock sense.last count b.tx c sense.stamps sense.now m
+  none_now : (round : Round) → (sense : Sense cs (at round) s dl si) → NoneNow cs (Some b.tx)
+  none_now round sense = λ c m. not_now cs clock sense.last count b.tx c sense.stamps sense.now m
 
   later_stamps : (last : ℕ) → Stamps cs clock last → Stamps cs later last
   later_stamps last stamps = stamps-le cs clock last later last (omega arith) (omega arith) stamps
@@ -73,10 +72,10 @@ module _ (cs : List Commit) (clock count k c : ℕ) (b : Begun) (s : SiteState) 
   reading_heard object inv sense = record {
     vision = seen;
     settled = λ n.
-      subst (λ (t : Bool). Settled cs s dl (sights_on si (Takes m)) (cond t (granted one (at (Reading object inv)) (Some b) (Reading object inv) first_life c (of_object s.log object)) (moved (at (Reading object inv)) quiet)) n)
-      (sym (eq-eqb k k refl))
-      (view_settles cs later sense.last count (joined b first_life (of_object s.log object)) s dl (sights_on si (Takes m)) (Some b) (Reading object inv) (Some k) (later_stamps sense.last sense.stamps) sense.now sense.book seen
-      sense.copied rest n object inv (λ needs. full) sense.asked);
+        subst (λ (t : Bool). Settled cs s dl (sights_on si (Takes m)) (cond t (granted one (at (Reading object inv)) (Some b) (Reading object inv) first_life c (of_object s.log object)) (moved (at (Reading object inv)) quiet)) n)
+        (sym (eq-eqb k k refl))
+        (view_settles cs later sense.last count (joined b first_life (of_object s.log object)) s dl (sights_on si (Takes m)) (Some b) (Reading object inv) (Some k) (later_stamps sense.last sense.stamps) sense.now sense.book seen
+        sense.copied rest n object inv (λ needs. full) sense.asked);
   }
     where
       m : Message
@@ -87,7 +86,7 @@ module _ (cs : List Commit) (clock count k c : ℕ) (b : Begun) (s : SiteState) 
 
       seen : Vision cs (Some b.tx) (sights_on si (Takes (Granted k first_life c (of_object s.log object))))
       seen =
-          vision-granted cs (Some b.tx) si k first_life c (of_object s.log object) (none_now sense.last (Reading object inv) sense.stamps sense)
+          vision-granted cs (Some b.tx) si k first_life c (of_object s.log object) (none_now (Reading object inv) sense)
           (records_of cs s.log object sense.copied.lines) sense.vision
 
       same : of_object s.log 0 ≡ of_object s.log object
@@ -99,7 +98,7 @@ module _ (cs : List Commit) (clock count k c : ℕ) (b : Begun) (s : SiteState) 
       rest : Resting sense.copied.before s (joined b first_life (of_object s.log object))
       rest = record {
         doing =
-          subst (λ (l : List Line). Doing sense.copied.before s.log (joined b first_life l)) same (doing-joined sense.copied.before s.log b first_life sense.copied.zeros sense.works.doing);
+            subst (λ (l : List Line). Doing sense.copied.before s.log (joined b first_life l)) same (doing-joined sense.copied.before s.log b first_life sense.copied.zeros sense.works.doing);
         holds = subst (λ (t : Bool). HoldsBy t s.held b.tx (weighing b.own)) (sym sense.works.asked) sense.works.holds;
         life = subst (λ (t : Bool). LifeBy t (met b first_life).life) (sym sense.works.asked) (life_met sense.works.life);
         prepared = sense.works.prepared;
@@ -110,17 +109,17 @@ module _ (cs : List Commit) (clock count k c : ℕ) (b : Begun) (s : SiteState) 
   appending_heard object inv e sense = record {
     vision = seen;
     settled = λ n.
-      subst (λ (t : Bool). Settled cs s dl (sights_on si (Takes (Granted k first_life c [])))
-      (cond t (granted one (at (Appending object inv e)) (Some b) (Appending object inv e) first_life c []) (moved (at (Appending object inv e)) quiet)) n) (sym (eq-eqb k k refl))
-      (subst (λ (o : ℕ). ((tx : TxId) → (dl tx).asked ≡ Some (Do o inv))
-      → Settled cs s dl (sights_on si (Takes (Granted k first_life c []))) (responded one (passed (at (Appending object inv e)) c) (met b first_life) o inv e) n) (sym sense.works.on)
-      (λ asked.
-      responded-settles cs later sense.last count (met b first_life) s dl (sights_on si (Takes (Granted k first_life c []))) (Some b) (Appending object inv e) (Some k) (later_stamps sense.last sense.stamps) sense.now sense.book
-      seen sense.copied inv e rest asked n) sense.asked);
+        subst (λ (t : Bool). Settled cs s dl (sights_on si (Takes (Granted k first_life c [])))
+        (cond t (granted one (at (Appending object inv e)) (Some b) (Appending object inv e) first_life c []) (moved (at (Appending object inv e)) quiet)) n) (sym (eq-eqb k k refl))
+        (subst (λ (o : ℕ). ((tx : TxId) → (dl tx).asked ≡ Some (Do o inv))
+        → Settled cs s dl (sights_on si (Takes (Granted k first_life c []))) (responded one (passed (at (Appending object inv e)) c) (met b first_life) o inv e) n) (sym sense.works.on)
+        (λ asked.
+        responded-settles cs later sense.last count (met b first_life) s dl (sights_on si (Takes (Granted k first_life c []))) (Some b) (Appending object inv e) (Some k) (later_stamps sense.last sense.stamps) sense.now sense.book
+        seen sense.copied inv e rest asked n) sense.asked);
   }
     where
       seen : Vision cs (Some b.tx) (sights_on si (Takes (Granted k first_life c [])))
-      seen = vision-granted cs (Some b.tx) si k first_life c [] (none_now sense.last (Appending object inv e) sense.stamps sense) tt sense.vision
+      seen = vision-granted cs (Some b.tx) si k first_life c [] (none_now (Appending object inv e) sense) tt sense.vision
 
       doing : Doing sense.copied.before s.log (with_event one (met b first_life) 0 inv e)
       doing =
@@ -131,8 +130,8 @@ module _ (cs : List Commit) (clock count k c : ℕ) (b : Begun) (s : SiteState) 
       rest = record {
         doing = doing;
         holds =
-          subst (λ (t : Bool). HoldsBy t s.held b.tx (weighing (b.own ++ next_own b 0 e ∷ []))) (sym sense.works.asked)
-          (subst (λ own. HoldsBy true s.held b.tx own) (sym (weighing-more b.own (next_own b 0 e) sense.works.needs)) sense.works.holds);
+            subst (λ (t : Bool). HoldsBy t s.held b.tx (weighing (b.own ++ next_own b 0 e ∷ []))) (sym sense.works.asked)
+            (subst (λ own. HoldsBy true s.held b.tx own) (sym (weighing-more b.own (next_own b 0 e) sense.works.needs)) sense.works.holds);
         life = subst (λ (t : Bool). LifeBy t (met b first_life).life) (sym sense.works.asked) (life_met sense.works.life);
         prepared = sense.works.prepared;
       }
@@ -142,9 +141,9 @@ module _ (cs : List Commit) (clock count k c : ℕ) (b : Begun) (s : SiteState) 
   yes_heard sense is = record {
     vision = seen;
     settled = λ n.
-      subst (λ (t : Bool). Settled cs s dl (sights_on si (Takes (Yes k c))) (cond t (promised one (at Voting) (Some b) Voting c) (moved (at Voting) quiet)) n) (sym (eq-eqb k k refl))
-      (decides_promised cs later sense.last count b s dl (sights_on si (Takes (Yes k c))) (Some b) Voting (Some k) (later_stamps sense.last sense.stamps) sense.now sense.book seen sense.copied
-      sense.works.asked sense.works.doing sense.works.holds is n);
+        subst (λ (t : Bool). Settled cs s dl (sights_on si (Takes (Yes k c))) (cond t (promised one (at Voting) (Some b) Voting c) (moved (at Voting) quiet)) n) (sym (eq-eqb k k refl))
+        (decides_promised cs later sense.last count b s dl (sights_on si (Takes (Yes k c))) (Some b) Voting (Some k) (later_stamps sense.last sense.stamps) sense.now sense.book seen sense.copied
+        sense.works.asked sense.works.doing sense.works.holds is n);
   }
     where
       seen : Vision cs (Some b.tx) (sights_on si (Takes (Yes k c)))
@@ -155,9 +154,9 @@ module _ (cs : List Commit) (clock count k c : ℕ) (b : Begun) (s : SiteState) 
   stale_heard sense = record {
     vision = seen;
     settled = λ n.
-      subst (λ (t : Bool). Settled cs s dl (sights_on si (Takes (Stale k))) (cond t (forgotten one (at Voting) (Some b) Voting) (moved (at Voting) quiet)) n) (sym (eq-eqb k k refl))
-      (gives_asked cs clock sense.last count b s dl (sights_on si (Takes (Stale k))) (Some b) Voting (Some k) sense.stamps sense.now sense.book seen sense.copied (Aborted (Forgot 0))
-      sense.works.asked sense.works.holds sense.works.promised (book-gone cs clock sense.last count b.tx b.ops dl sense.stamps sense.now sense.book (Aborted (Forgot 0)) (λ tx d. d)) (λ sights v. vision-ended cs (Some b.tx) sights v) n);
+        subst (λ (t : Bool). Settled cs s dl (sights_on si (Takes (Stale k))) (cond t (forgotten one (at Voting) (Some b) Voting) (moved (at Voting) quiet)) n) (sym (eq-eqb k k refl))
+        (gives_asked cs clock sense.last count b s dl (sights_on si (Takes (Stale k))) (Some b) Voting (Some k) sense.stamps sense.now sense.book seen sense.copied (Aborted (Forgot 0))
+        sense.works.asked sense.works.holds sense.works.promised (book-gone cs clock sense.last count b.tx b.ops dl sense.stamps sense.now sense.book (Aborted (Forgot 0)) (λ tx d. d)) (λ sights v. vision-ended cs (Some b.tx) sights v) n);
   }
     where
       seen : Vision cs (Some b.tx) (sights_on si (Takes (Stale k)))

@@ -1,13 +1,11 @@
 -- What the site holds of the one begun transaction, as requests come.
-use Rattle.std.proofs.Common.{◌≡◌, ℕ, Bool, true, false, not, cond, List, [], ◌∷◌, ◌++◌, filter, Option, Some, None, ◌⊎◌, inl, inr, refl, sym, ap, subst, ◌∙◌}
-use Rattle.std.specs.Prelude.{nat_le, unwrap_or}
-use Rattle.std.specs.List.{find}
+use Rattle.std.proofs.Common.{◌≡◌, ℕ, Bool, true, false, not, cond, List, [], ◌∷◌, ◌++◌, Some, None, ◌⊎◌, inl, inr, refl, sym, ap, subst, ◌∙◌}
+use Rattle.std.specs.Prelude.{nat_le}
 use Rattle.qc_stamp.specs.declared.stamp.TxId.{TxId}
 use Rattle.qc_entry.specs.declared.line.OwnLine.{OwnLine}
 use Rattle.qc_entry.specs.declared.line.ReadLock.{ReadLock}
 use Rattle.qc_entry.specs.declared.record.Prepared.{Prepared}
 use Rattle.qc_msg.specs.declared.message.Message.TheVariants.{Stale, Yes}
-use Rattle.qc_msg.specs.declared.step.Posting.{Posting}
 use Rattle.qc_site.specs.declared.held.Held.{Held}
 use Rattle.qc_site.specs.Conduct.{is_prepared, most_body, prepare_length, prepared_of, prepares, promise_of, promises, without_prepared}
 use Rattle.qc_site.specs.Held.{held_of, holding_lock, holding_owns, is_held, same_tx, with_entry, with_lock, with_owns, without_held}
@@ -35,8 +33,8 @@ pub hold_lock : (asked : Bool) (held : List Held) (tx : TxId) (own : List OwnLin
 hold_lock true held tx own lock holds = (
   with_lock holds.0 lock,
   ap (λ (h : List Held). holding_lock h tx lock) holds.1
-  ∙ ap (λ (e : Held). with_entry (entry tx holds.0 own ∷ []) (entry tx (with_lock e.locks lock) e.own)) (held_is tx holds.0 own)
-  ∙ put_is tx holds.0 own (entry tx (with_lock holds.0 lock) own) refl,
+      ∙ ap (λ (e : Held). with_entry (entry tx holds.0 own ∷ []) (entry tx (with_lock e.locks lock) e.own)) (held_is tx holds.0 own)
+      ∙ put_is tx holds.0 own (entry tx (with_lock holds.0 lock) own) refl,
 )
 hold_lock false held tx own lock holds = (lock ∷ [], ap (λ (h : List Held). holding_lock h tx lock) holds.0 ∙ ap (λ (o : List OwnLine). entry tx (lock ∷ []) o ∷ []) (sym holds.1))
 
@@ -45,15 +43,15 @@ pub hold_owns : (asked : Bool) (held : List Held) (tx : TxId) (own : List OwnLin
 hold_owns true held tx own y sorted holds = (
   holds.0,
   ap (λ (h : List Held). holding_owns h tx (own ++ y ∷ [])) holds.1
-  ∙ ap (λ (e : Held). with_entry (entry tx holds.0 own ∷ []) (entry tx e.locks (with_owns e.own (own ++ y ∷ [])))) (held_is tx holds.0 own)
-  ∙ put_is tx holds.0 own (entry tx holds.0 (with_owns own (own ++ y ∷ []))) refl
-  ∙ ap (λ (o : List OwnLine). entry tx holds.0 o ∷ []) (with_owns-more own y sorted),
+      ∙ ap (λ (e : Held). with_entry (entry tx holds.0 own ∷ []) (entry tx e.locks (with_owns e.own (own ++ y ∷ [])))) (held_is tx holds.0 own)
+      ∙ put_is tx holds.0 own (entry tx holds.0 (with_owns own (own ++ y ∷ []))) refl
+      ∙ ap (λ (o : List OwnLine). entry tx holds.0 o ∷ []) (with_owns-more own y sorted),
 )
 hold_owns false held tx own y sorted holds = (
   [],
   ap (λ (h : List Held). holding_owns h tx (own ++ y ∷ [])) holds.0
-  ∙ ap (λ (o : List OwnLine). entry tx [] (with_owns o (own ++ y ∷ [])) ∷ []) (sym holds.1)
-  ∙ ap (λ (o : List OwnLine). entry tx [] o ∷ []) (with_owns-more own y sorted),
+      ∙ ap (λ (o : List OwnLine). entry tx [] (with_owns o (own ++ y ∷ [])) ∷ []) (sym holds.1)
+      ∙ ap (λ (o : List OwnLine). entry tx [] o ∷ []) (with_owns-more own y sorted),
 )
 
 -- a decision frees what is held
@@ -103,7 +101,7 @@ prepare_answers s n tx epoch own holds none =
       log = refl;
       held = refl;
       promises =
-        inr (s.clock, refl, (p, ap (λ (ps : List Prepared). ps ++ p ∷ []) none, refl, ap (λ (h : List Held). (held_of h tx).own) holds.1 ∙ ap (λ (e : Held). e.own) (held_is tx holds.0 own)));
+          inr (s.clock, refl, (p, ap (λ (ps : List Prepared). ps ++ p ∷ []) none, refl, ap (λ (h : List Held). (held_of h tx).own) holds.1 ∙ ap (λ (e : Held). e.own) (held_is tx holds.0 own)));
     })
     (stale s n tx own none)))
   where

@@ -1,8 +1,7 @@
 -- What the commit records, and a client's acts, say of its transactions, as it acts.
-use Rattle.std.proofs.Common.{◌≡◌, ◌≢◌, ◌<◌, ◌≤◌, ℕ, ◌+◌, Bool, true, false, cond, List, [], ◌∷◌, ◌++◌, Option, Some, None, ◌⊎◌, inl, inr, fold, map, refl, sym, ap, subst, ◌∙◌, arith}
+use Rattle.std.proofs.Common.{◌≡◌, ◌≢◌, ◌<◌, ◌≤◌, ℕ, ◌+◌, Bool, true, false, cond, List, [], ◌∷◌, ◌++◌, Option, Some, None, ◌⊎◌, inl, inr, fold, refl, sym, ap, subst, ◌∙◌, arith}
 use Rattle.std.specs.List.{AllByRecursion as Every}
 use Rattle.std.specs.Ordering.{nat_cmp}
-use Rattle.std.specs.declared.cmp.Ordering.{Ordering}
 use Rattle.std.specs.declared.cmp.Ordering.TheVariants.{Less, Greater}
 use Rattle.std.proofs.lemmas.Bool.Decides.{nat_tests}
 use Rattle.std.proofs.lemmas.List.{append-nil}
@@ -12,18 +11,16 @@ use Rattle.qc_stamp.specs.declared.stamp.TxId.{TxId}
 use Rattle.qc_stamp.specs.Order.{stamp_cmp}
 use Rattle.qc_entry.specs.declared.line.Op.{Op}
 use Rattle.qc_entry.specs.declared.record.Commit.{Commit}
-use Rattle.qc_entry.specs.Log.{by_order}
 use Rattle.qc_msg.specs.declared.step.Command.{Command}
 use Rattle.qc_msg.specs.declared.step.Reply.{Reply}
 use Rattle.qc_msg.specs.declared.step.Reply.TheVariants.{Already, Began, NoTransaction, TooLong, Absent, Response, Aborted, Committed, Dropped}
 use Rattle.qc_site.specs.Held.{same_tx}
 use Rattle.qc_site.proofs.Entries.{same_self, tx_apart}
-use Rattle.qc_core.specs.Acts.{Act, Calls, Takes, Sends, Tells}
-use Rattle.qc_core.specs.Atomic.{AreApart, HasBefore, HasCommit}
+use Rattle.qc_core.specs.Acts.{Act, Calls}
+use Rattle.qc_core.specs.Atomic.{AreApart, HasCommit}
 use Rattle.qc_core.specs.Committed.{In, commit_cmp, with_commit}
 use Rattle.qc_core.specs.Deals.{Dealing, deal, dealt, ended, is_begun, operation}
-use Rattle.qc_core.specs.Seen.{Sight, sight, sees, begun_list}
-use Rattle.qc_core.proofs.Members.{In-first, In-last, In-more, In-second, every-append, every-in, every-weaker}
+use Rattle.qc_core.proofs.Members.{In-first, In-last, In-more, every-append, every-in, every-weaker}
 
 -- the one client's transactions, by their numbers
 abbrev pub tx_of : ℕ → TxId
@@ -224,9 +221,9 @@ module _ (cs : List Commit) (clock last count : ℕ) (t : TxId) (ops : List Op) 
   gone = record {
     number = let m : t.number ≡ count = ap (λ (x : TxId). x.number) now.0 in omega arith;
     apart = λ c member same.
-      let no : same_tx t c.tx ≡ false = not_now cs clock last count t c s now member in
-      let yes : same_tx t c.tx ≡ true = subst (λ (v : TxId). same_tx t v ≡ true) (sym same) (same_self t) in
-      let never : ⊥ = cc in never;
+        let no : same_tx t c.tx ≡ false = not_now cs clock last count t c s now member in
+        let yes : same_tx t c.tx ≡ true = subst (λ (v : TxId). same_tx t v ≡ true) (sym same) (same_self t) in
+        let never : ⊥ = cc in never;
   }
 
   dead-later : (tx : TxId) → IsDead cs last tx → IsDead cs count tx
@@ -251,7 +248,7 @@ module _ (cs : List Commit) (clock last count : ℕ) (t : TxId) (ops : List Op) 
     dealt = λ c m. b.dealt c m;
     each = λ c m. kept_end c.tx reply (Committed c.stamp) (b.each c m);
     ends = λ tx. more_ends tx reply (IsEnd cs count tx) (every-weaker (IsEnd cs last tx) (IsEnd cs count tx) (end-later tx) (dl tx).ends (b.ends tx))
-      (λ is. plain tx (subst (IsDead cs count) (tx_apart t tx is) gone));
+        (λ is. plain tx (subst (IsDead cs count) (tx_apart t tx is) gone));
   }
 
   -- with a record
@@ -297,8 +294,8 @@ module _ (cs : List Commit) (clock last count : ℕ) (t : TxId) (ops : List Op) 
     dealt = λ c m. dealt_by c (In-more c (new stamp) cs m);
     each = λ c m. each_by c (In-more c (new stamp) cs m);
     ends = λ tx. more_ends tx (Committed stamp) (IsEnd (cs ++ new stamp ∷ []) count tx)
-      (every-weaker (IsEnd cs last tx) (IsEnd (cs ++ new stamp ∷ []) count tx) (end-more stamp tx) (dl tx).ends (b.ends tx))
-      (λ is. record { commit = new stamp; listed = In-last (new stamp) cs; named = tx_apart t tx is; stamped = refl });
+        (every-weaker (IsEnd cs last tx) (IsEnd (cs ++ new stamp ∷ []) count tx) (end-more stamp tx) (dl tx).ends (b.ends tx))
+        (λ is. record { commit = new stamp; listed = In-last (new stamp) cs; named = tx_apart t tx is; stamped = refl });
   }
     where
       dealt_by : (c : Commit) → In c cs ⊎ (c ≡ new stamp) → (dl c.tx).ops ≡ c.ops

@@ -1,7 +1,6 @@
 -- A client's moves, one by one, keep the sense of records, client and site.
 use Rattle.std.proofs.Common.{◌≡◌, ◌≤◌, ◌<◌, ℕ, ◌+◌, ◌==◌, Bool, true, false, cond, max, List, [], ◌∷◌, ◌++◌, map, filter, fold, Option, Some, None, ◌⊎◌, inl, inr, refl, sym, ap, subst, ◌∙◌, arith}
 use Rattle.std.specs.List.{AllByRecursion as Every}
-use Rattle.std.specs.Prelude.{flat_map}
 use Rattle.std.proofs.lemmas.List.{append-nil, map-append}
 use Rattle.std.proofs.lemmas.List.Concat.{flat_map-append}
 use Rattle.qc_stamp.specs.declared.stamp.Stamp.{Stamp}
@@ -18,16 +17,15 @@ use Rattle.qc_decl.specs.One.{one}
 use Rattle.qc_front.specs.declared.begun.Begun.{Begun}
 use Rattle.qc_front.specs.declared.front.Front.{Front}
 use Rattle.qc_front.specs.declared.round.Round.{Round}
-use Rattle.qc_front.specs.declared.round.Round.TheVariants.{Idle, Reading, Appending, Voting}
-use Rattle.qc_front.specs.Ending.{commit_turn, decides, gives_up, prepares}
+use Rattle.qc_front.specs.declared.round.Round.TheVariants.{Idle}
+use Rattle.qc_front.specs.Ending.{decides, gives_up, prepares}
 use Rattle.qc_front.specs.Moves.{FrontMove, moved}
-use Rattle.qc_front.specs.Operation.{absent, appends, op_of, reads, responded, with_event, with_op}
+use Rattle.qc_front.specs.Operation.{absent, appends, op_of, reads, responded, with_event}
 use Rattle.qc_front.specs.State.{turned}
 use Rattle.qc_front.specs.View.{next_own, resp_of}
 use Rattle.qc_msg.specs.declared.message.Message.TheVariants.{Decision, Stale, Yes}
 use Rattle.qc_msg.specs.declared.message.Outcome.TheVariants as outcomes
 use Rattle.qc_msg.specs.declared.step.Command.TheVariants.{Do}
-use Rattle.qc_msg.specs.declared.step.Posting.{Posting}
 use Rattle.qc_msg.specs.declared.step.Record.TheVariants as records
 use Rattle.qc_msg.specs.declared.step.Reply.{Reply}
 use Rattle.qc_msg.specs.declared.step.Reply.TheVariants as told
@@ -36,19 +34,17 @@ use Rattle.qc_site.specs.Site.{SiteMove, SiteState}
 use Rattle.qc_table.specs.Rules.{event}
 use Rattle.qc_table.specs.Run.{reached}
 use Rattle.qc_table.proofs.Runs.{reached-append}
-use Rattle.qc_core.specs.Acts.{Sends}
-use Rattle.qc_core.specs.Committed.{In}
 use Rattle.qc_core.specs.Deals.{Dealing, deal_told, operation}
 use Rattle.qc_core.specs.Logged.{IsLogged}
 use Rattle.qc_core.specs.OneCopy.{operations, start_at, step_at}
 use Rattle.qc_core.specs.Seen.{Sight, sight_told}
-use Rattle.qc_core.proofs.Doings.{Doing, IsAnswer, IsDone, all_of, below, doing-absent, doing-alike, line_events}
+use Rattle.qc_core.proofs.Doings.{Doing, IsDone, all_of, doing-absent, doing-alike, line_events}
 use Rattle.qc_core.proofs.Holding.{Answers as SiteAnswers, HoldsBy, IsPromised, Promises, freed, hold_lock, hold_owns, prepare_answers, promise_found, unpromised}
 use Rattle.qc_core.proofs.Ledger.{Book, IsBelow, IsNow, Stamps, book-committed, book-dealt, stamps-le, stamps-more, tx_of}
 use Rattle.qc_core.proofs.Members.{In-first, In-last, every-append, every-in, every-weaker}
 use Rattle.qc_core.proofs.Own.{IsSorted, every-filter, events, events_of_lines, lines_of-sorted, log_more, sorted-filter, sorted-more, weighing}
 use Rattle.qc_core.proofs.Register.{IsBit, IsNext, appended, stepped}
-use Rattle.qc_core.proofs.Sense.{Copied, IsVoting, LifeBy, Resting, Settled, copied-same, messages}
+use Rattle.qc_core.proofs.Sense.{Copied, LifeBy, Resting, Settled, copied-same, messages}
 use Rattle.qc_core.proofs.Sights.{Vision, vision-committed, vision-sent}
 use Rattle.qc_core.proofs.Walking.{Reach, reach-append}
 
@@ -66,7 +62,7 @@ absorbed before log b d zeros = by d.view
 
 -- moves of a client whose transaction b is begun
 module _ (cs : List Commit) (clock last count : ℕ) (b : Begun) (s : SiteState) (dl : TxId → Dealing) (si : TxId → Sight) (bg : Option Begun) (rd : Round) (aw : Option ℕ)
-  (stamps : Stamps cs clock last) (now : IsNow last count (Some b.tx)) (book : Book cs last count (Some b.tx) b.ops dl) (vision : Vision cs (Some b.tx) si) (copied : Copied cs s.log) where
+    (stamps : Stamps cs clock last) (now : IsNow last count (Some b.tx)) (book : Book cs last count (Some b.tx) b.ops dl) (vision : Vision cs (Some b.tx) si) (copied : Copied cs s.log) where
   abbrev f : Front
   f = front clock count bg rd aw
 
@@ -78,16 +74,16 @@ module _ (cs : List Commit) (clock last count : ℕ) (b : Begun) (s : SiteState)
     away = refl;
     comes = refl;
     sense =
-      record {
-        last = last;
-        now = now;
-        stamps = stamps;
-        book = book-dealt cs clock last count b.tx b.ops dl stamps now book None (op_of object inv None) (λ tx. ap (λ a. operation a None) (asked tx));
-        vision = vision;
-        copied = copied;
-        works = record { doing = doing-absent copied.before s.log b object inv rest.doing none; holds = rest.holds; life = rest.life; prepared = rest.prepared };
-        asked = tt;
-      };
+        record {
+          last = last;
+          now = now;
+          stamps = stamps;
+          book = book-dealt cs clock last count b.tx b.ops dl stamps now book None (op_of object inv None) (λ tx. ap (λ a. operation a None) (asked tx));
+          vision = vision;
+          copied = copied;
+          works = record { doing = doing-absent copied.before s.log b object inv rest.doing none; holds = rest.holds; life = rest.life; prepared = rest.prepared };
+          asked = tt;
+        };
   }
 
   -- a response is told
@@ -98,18 +94,18 @@ module _ (cs : List Commit) (clock last count : ℕ) (b : Begun) (s : SiteState)
     away = refl;
     comes = refl;
     sense =
-      record {
-        last = last;
-        now = now;
-        stamps = stamps;
-        book =
-          book-dealt cs clock last count b.tx b.ops dl stamps now book (Some (resp_of one 0 e)) (op_of 0 inv (Some (resp_of one 0 e)))
-          (λ tx. ap (λ a. operation a (Some (resp_of one 0 e))) (asked tx));
-        vision = vision;
-        copied = copied;
-        works = rest;
-        asked = tt;
-      };
+        record {
+          last = last;
+          now = now;
+          stamps = stamps;
+          book =
+              book-dealt cs clock last count b.tx b.ops dl stamps now book (Some (resp_of one 0 e)) (op_of 0 inv (Some (resp_of one 0 e)))
+              (λ tx. ap (λ a. operation a (Some (resp_of one 0 e))) (asked tx));
+          vision = vision;
+          copied = copied;
+          works = rest;
+          asked = tt;
+        };
   }
 
   -- the site is asked to read
@@ -119,25 +115,25 @@ module _ (cs : List Commit) (clock last count : ℕ) (b : Begun) (s : SiteState)
     away = refl;
     comes = (n, s.clock, refl, refl);
     sense =
-      record {
-        last = last;
-        now = now;
-        stamps = stamps;
-        book = book;
-        vision = vision-sent cs (Some b.tx) si n vision;
-        copied = copied;
-        works =
-          record {
-            on = refl;
-            reads = refl;
-            doing = doing-alike copied.before s.log s.log b (record b { asked = true }) refl refl refl refl rest.doing;
-            asked = refl;
-            holds = hold_lock b.asked s.held b.tx (weighing b.own) _ rest.holds;
-            life = some_life b.asked rest.life;
-            prepared = rest.prepared;
-          };
-        asked = asked;
-      };
+        record {
+          last = last;
+          now = now;
+          stamps = stamps;
+          book = book;
+          vision = vision-sent cs (Some b.tx) si n vision;
+          copied = copied;
+          works =
+              record {
+                on = refl;
+                reads = refl;
+                doing = doing-alike copied.before s.log s.log b (record b { asked = true }) refl refl refl refl rest.doing;
+                asked = refl;
+                holds = hold_lock b.asked s.held b.tx (weighing b.own) _ rest.holds;
+                life = some_life b.asked rest.life;
+                prepared = rest.prepared;
+              };
+          asked = asked;
+        };
   }
     where
       some_life : (t : Bool) → LifeBy t b.life → IsBit b.life
@@ -152,27 +148,27 @@ module _ (cs : List Commit) (clock last count : ℕ) (b : Begun) (s : SiteState)
     away = refl;
     comes = (n, _, refl, refl);
     sense =
-      record {
-        last = last;
-        now = now;
-        stamps = stamps;
-        book = book;
-        vision = vision-sent cs (Some b.tx) si n vision;
-        copied = copied-same cs s.log _ same copied;
-        works =
-          record {
-            on = refl;
-            doing = doing-alike copied.before s.log _ b (record b { asked = true }) same refl refl refl rest.doing;
-            next = next;
-            is = is;
-            needs = needs;
-            asked = refl;
-            holds = hold_owns b.asked s.held b.tx (weighing b.own) (next_own b 0 e) sorted rest.holds;
-            life = some_life b.asked rest.life;
-            prepared = rest.prepared;
-          };
-        asked = asked;
-      };
+        record {
+          last = last;
+          now = now;
+          stamps = stamps;
+          book = book;
+          vision = vision-sent cs (Some b.tx) si n vision;
+          copied = copied-same cs s.log _ same copied;
+          works =
+              record {
+                on = refl;
+                doing = doing-alike copied.before s.log _ b (record b { asked = true }) same refl refl refl rest.doing;
+                next = next;
+                is = is;
+                needs = needs;
+                asked = refl;
+                holds = hold_owns b.asked s.held b.tx (weighing b.own) (next_own b 0 e) sorted rest.holds;
+                life = some_life b.asked rest.life;
+                prepared = rest.prepared;
+              };
+          asked = asked;
+        };
   }
     where
       same : s.log ≡ union s.log (of_object b.view 0)
@@ -198,23 +194,23 @@ module _ (cs : List Commit) (clock last count : ℕ) (b : Begun) (s : SiteState)
     away = refl;
     comes = (n, refl, comes_by ans.promises);
     sense =
-      record {
-        last = last;
-        now = now;
-        stamps = stamps;
-        book = book;
-        vision = vision-sent cs (Some b.tx) si n vision;
-        copied = copied-same cs s.log _ (sym ans.log) copied;
-        works =
-          record {
-            doing = doing-alike copied.before s.log _ b b (sym ans.log) refl refl refl rest.doing;
-            asked = asked;
-            holds = subst (λ h. HoldsBy true h b.tx (weighing b.own)) (sym ans.held) holds;
-            life = subst (λ (t : Bool). LifeBy t b.life) asked rest.life;
-            promised = promised_by ans.promises;
-          };
-        asked = tt;
-      };
+        record {
+          last = last;
+          now = now;
+          stamps = stamps;
+          book = book;
+          vision = vision-sent cs (Some b.tx) si n vision;
+          copied = copied-same cs s.log _ (sym ans.log) copied;
+          works =
+              record {
+                doing = doing-alike copied.before s.log _ b b (sym ans.log) refl refl refl rest.doing;
+                asked = asked;
+                holds = subst (λ h. HoldsBy true h b.tx (weighing b.own)) (sym ans.held) holds;
+                life = subst (λ (t : Bool). LifeBy t b.life) asked rest.life;
+                promised = promised_by ans.promises;
+              };
+          asked = tt;
+        };
   }
     where
       holds : HoldsBy true s.held b.tx (weighing b.own)
@@ -256,16 +252,16 @@ module _ (cs : List Commit) (clock last count : ℕ) (b : Begun) (s : SiteState)
         away = refl;
         comes = refl;
         sense =
-          record {
-            last = count;
-            now = refl;
-            stamps = ended_stamps;
-            book = bk;
-            vision = vs si vision;
-            copied = copied;
-            works = (holds.0, rest.prepared);
-            asked = tt;
-          };
+            record {
+              last = count;
+              now = refl;
+              stamps = ended_stamps;
+              book = bk;
+              vision = vs si vision;
+              copied = copied;
+              works = (holds.0, rest.prepared);
+              asked = tt;
+            };
       })
 
   pub gives_asked : (reply : Reply) → b.asked ≡ true → HoldsBy true s.held b.tx (weighing b.own) → (s.prepared ≡ []) ⊎ IsPromised s.prepared b.tx (weighing b.own)
@@ -278,16 +274,16 @@ module _ (cs : List Commit) (clock last count : ℕ) (b : Begun) (s : SiteState)
         away = refl;
         comes = refl;
         sense =
-          record {
-            last = count;
-            now = refl;
-            stamps = ended_stamps;
-            book = bk;
-            vision = vs _ (vision-sent cs (Some b.tx) si n vision);
-            copied = copied;
-            works = (freed s.held b.tx (weighing b.own) holds, unpromised s.prepared b.tx (weighing b.own) promised);
-            asked = tt;
-          };
+            record {
+              last = count;
+              now = refl;
+              stamps = ended_stamps;
+              book = bk;
+              vision = vs _ (vision-sent cs (Some b.tx) si n vision);
+              copied = copied;
+              works = (freed s.held b.tx (weighing b.own) holds, unpromised s.prepared b.tx (weighing b.own) promised);
+              asked = tt;
+            };
       })
 
   -- the transaction commits
@@ -328,25 +324,25 @@ module _ (cs : List Commit) (clock last count : ℕ) (b : Begun) (s : SiteState)
   new_copied log d is = record {
     before = d.after;
     walked =
-      subst (λ (ops : List Op). Reach one (start_at one) ops d.after) (sym (flat_map-append (λ (c : Commit). c.ops) cs (new ∷ []) ∙ ap (λ (v : List Op). operations cs ++ v) (append-nil b.ops)))
-      (reach-append one (start_at one) (operations cs) b.ops copied.before d.after copied.walked d.walked);
+        subst (λ (ops : List Op). Reach one (start_at one) ops d.after) (sym (flat_map-append (λ (c : Commit). c.ops) cs (new ∷ []) ∙ ap (λ (v : List Op). operations cs ++ v) (append-nil b.ops)))
+        (reach-append one (start_at one) (operations cs) b.ops copied.before d.after copied.walked d.walked);
     bit = d.bit;
     logged =
-      ap (λ (v : List Line). reached stepped (Some 0) (line_events v)) is
-      ∙ ap (λ (v : List ℕ). reached stepped (Some 0) v) (map-append (λ (l : Line). l.event) s.log (map (stamped stamp b.tx) (weighing b.own)))
-      ∙ ap (λ (v : List ℕ). reached stepped (Some 0) (line_events s.log ++ v)) (events_of_lines stamp b.tx (weighing b.own))
-      ∙ reached-append stepped (Some 0) (line_events s.log) (events (weighing b.own))
-      ∙ ap (λ (o : Option ℕ). reached stepped o (events (weighing b.own))) copied.logged
-      ∙ d.weighed;
+        ap (λ (v : List Line). reached stepped (Some 0) (line_events v)) is
+        ∙ ap (λ (v : List ℕ). reached stepped (Some 0) v) (map-append (λ (l : Line). l.event) s.log (map (stamped stamp b.tx) (weighing b.own)))
+        ∙ ap (λ (v : List ℕ). reached stepped (Some 0) (line_events s.log ++ v)) (events_of_lines stamp b.tx (weighing b.own))
+        ∙ reached-append stepped (Some 0) (line_events s.log) (events (weighing b.own))
+        ∙ ap (λ (o : Option ℕ). reached stepped o (events (weighing b.own))) copied.logged
+        ∙ d.weighed;
     lines =
-      subst (λ (v : List Line). Every (IsLogged one (cs ++ new ∷ [])) v) (sym is)
-      (every-append (IsLogged one (cs ++ new ∷ [])) s.log (map (stamped stamp b.tx) (weighing b.own))
-      (every-weaker (IsLogged one cs) (IsLogged one (cs ++ new ∷ [])) logged-more s.log copied.lines)
-      (lines_logged (weighing b.own) (every-filter (IsDone b.ops) _ b.own d.done)));
+        subst (λ (v : List Line). Every (IsLogged one (cs ++ new ∷ [])) v) (sym is)
+        (every-append (IsLogged one (cs ++ new ∷ [])) s.log (map (stamped stamp b.tx) (weighing b.own))
+        (every-weaker (IsLogged one cs) (IsLogged one (cs ++ new ∷ [])) logged-more s.log copied.lines)
+        (lines_logged (weighing b.own) (every-filter (IsDone b.ops) _ b.own d.done)));
     zeros =
-      subst (λ (v : List Line). Every (λ (l : Line). l.object ≡ 0) v) (sym is)
-      (every-append (λ (l : Line). l.object ≡ 0) s.log (map (stamped stamp b.tx) (weighing b.own)) copied.zeros
-      (lines_zero (weighing b.own) (every-filter (λ (o : OwnLine). o.object ≡ 0) _ b.own d.ours)));
+        subst (λ (v : List Line). Every (λ (l : Line). l.object ≡ 0) v) (sym is)
+        (every-append (λ (l : Line). l.object ≡ 0) s.log (map (stamped stamp b.tx) (weighing b.own)) copied.zeros
+        (lines_zero (weighing b.own) (every-filter (λ (o : OwnLine). o.object ≡ 0) _ b.own d.ours)));
   }
 
   abbrev new_turn : Bool → FrontMove
@@ -371,16 +367,16 @@ module _ (cs : List Commit) (clock last count : ℕ) (b : Begun) (s : SiteState)
         away = refl;
         comes = refl;
         sense =
-          record {
-            last = count;
-            now = refl;
-            stamps = new_stamps;
-            book = new_book;
-            vision = vision-committed cs clock last b.tx b.ops stamp si stamps (omega arith) vision;
-            copied = new_copied s.log rest.doing (sym (ap (λ (v : List OwnLine). s.log ++ map (stamped stamp b.tx) v) holds.1 ∙ append-nil s.log));
-            works = (holds.0, rest.prepared);
-            asked = tt;
-          };
+            record {
+              last = count;
+              now = refl;
+              stamps = new_stamps;
+              book = new_book;
+              vision = vision-committed cs clock last b.tx b.ops stamp si stamps (omega arith) vision;
+              copied = new_copied s.log rest.doing (sym (ap (λ (v : List OwnLine). s.log ++ map (stamped stamp b.tx) v) holds.1 ∙ append-nil s.log));
+              works = (holds.0, rest.prepared);
+              asked = tt;
+            };
       })
 
   -- the site promised its own lines
@@ -393,19 +389,19 @@ module _ (cs : List Commit) (clock last count : ℕ) (b : Begun) (s : SiteState)
         away = refl;
         comes = ap (λ o. messages (joins later b.tx stamp o).turn.sends ++ []) found;
         sense =
-          record {
-            last = count;
-            now = refl;
-            stamps = new_stamps;
-            book = new_book;
-            vision = vision-committed cs clock last b.tx b.ops stamp _ stamps (omega arith) (vision-sent cs (Some b.tx) si n vision);
-            copied = new_copied _ d (ap (λ o. (joins later b.tx stamp o).site.log) found ∙ same_log);
-            works = (
-              ap (λ o. (joins later b.tx stamp o).site.held) found ∙ freed s.held b.tx (weighing b.own) holds,
-              ap (λ o. (joins later b.tx stamp o).site.prepared) found ∙ unpromised s.prepared b.tx (weighing b.own) (inr promised),
-            );
-            asked = tt;
-          };
+            record {
+              last = count;
+              now = refl;
+              stamps = new_stamps;
+              book = new_book;
+              vision = vision-committed cs clock last b.tx b.ops stamp _ stamps (omega arith) (vision-sent cs (Some b.tx) si n vision);
+              copied = new_copied _ d (ap (λ o. (joins later b.tx stamp o).site.log) found ∙ same_log);
+              works = (
+                ap (λ o. (joins later b.tx stamp o).site.held) found ∙ freed s.held b.tx (weighing b.own) holds,
+                ap (λ o. (joins later b.tx stamp o).site.prepared) found ∙ unpromised s.prepared b.tx (weighing b.own) (inr promised),
+              );
+              asked = tt;
+            };
       })
     where
       later : SiteState

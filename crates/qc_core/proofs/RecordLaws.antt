@@ -1,5 +1,5 @@
 -- Stamps of commit records rise, and the site's lines are operations of records.
-use Rattle.std.proofs.Common.{◌≡◌, ℕ, List, [], ◌∷◌, ◌⊎◌, inl, inr, refl, sym, subst}
+use Rattle.std.proofs.Common.{◌≡◌, List, [], ◌∷◌, inl, sym, subst}
 use Rattle.std.specs.List.{AllByRecursion as Every}
 use Rattle.std.specs.declared.cmp.Ordering.TheVariants.{Less}
 use Rattle.qc_stamp.specs.Order.{stamp_cmp}
@@ -19,7 +19,7 @@ use Rattle.qc_core.specs.Bounds.{site_at}
 use Rattle.qc_core.specs.Committed.{AreRising, committed, written}
 use Rattle.qc_core.specs.Conduct.{IsRun}
 use Rattle.qc_core.specs.Logged.{IsLogged}
-use Rattle.qc_core.proofs.AtomicLaw.{StandAt, Standing, standing}
+use Rattle.qc_core.proofs.AtomicLaw.{StandAt, standing}
 use Rattle.qc_core.proofs.Ledger.{IsEarlier, IsRising, clock_less}
 use Rattle.qc_core.proofs.Members.{every-weaker}
 use Rattle.qc_core.proofs.Sense.{caught}

@@ -1,5 +1,5 @@
 -- A transaction with a commit record is committed, with the record's stamp, for ever.
-use Rattle.std.proofs.Common.{◌≡◌, ◌<◌, ◌≤◌, ℕ, ◌+◌, ◌==◌, ◌&&◌, Bool, true, false, cond, List, [], ◌∷◌, ◌++◌, map, filter, fold, Option, Some, None, ◌⊎◌, inl, inr, refl, sym, ap, subst, ◌∙◌, arith, append_assoc}
+use Rattle.std.proofs.Common.{◌≡◌, ◌<◌, ◌≤◌, ℕ, ◌==◌, Bool, true, false, cond, List, [], ◌∷◌, ◌++◌, map, fold, Option, Some, None, inl, inr, refl, sym, ap, subst, ◌∙◌, arith, append_assoc}
 use Rattle.std.specs.List.{cons_option}
 use Rattle.std.specs.Prelude.{nat_le, nat_lt}
 use Rattle.std.proofs.lemmas.Bool.{and_parts, eqb-true, leb-true, ltb-true}
@@ -10,11 +10,10 @@ use Rattle.qc_entry.specs.declared.record.Commit.{Commit}
 use Rattle.qc_decl.specs.declared.declaration.Declaration.{Declaration}
 use Rattle.qc_decl.specs.Actors.{client_actor, is_client}
 use Rattle.qc_decl.specs.One.{one}
-use Rattle.qc_msg.specs.declared.step.Given.TheVariants as given
 use Rattle.qc_msg.specs.declared.step.Record.TheVariants as records
 use Rattle.qc_msg.specs.declared.step.Step.{Step}
 use Rattle.qc_msg.specs.declared.step.Step.TheVariants.{Phase, Called, Got, Sent, Told, Wrote}
-use Rattle.qc_msg.specs.Steps.{Entry, marked, own}
+use Rattle.qc_msg.specs.Steps.{Entry, own}
 use Rattle.qc_msg.proofs.Growth.{own-append}
 use Rattle.qc_script.specs.declared.script.Script.{Script}
 use Rattle.qc_site.specs.Held.{same_tx}
@@ -22,7 +21,7 @@ use Rattle.qc_site.proofs.Entries.{same_self}
 use Rattle.qc_core.specs.Committed.{In, commit_by, commit_in, committed, written}
 use Rattle.qc_core.specs.Conduct.{IsRun}
 use Rattle.qc_core.specs.Order.{EachAfter}
-use Rattle.qc_core.specs.Status.{Committed, HasEnded, IsRight, IsRightAfter, Status, Unborn, status, status_at}
+use Rattle.qc_core.specs.Status.{Committed, HasEnded, IsRightAfter, Unborn, status, status_at}
 use Rattle.qc_core.proofs.AtomicLaw.{StandAt, standing}
 use Rattle.qc_core.proofs.StatusLaw.{ended_stays, transactions_are_right}
 

@@ -1,17 +1,15 @@
 -- The built-in register: what its table and plan give, computed.
-use Rattle.std.proofs.Common.{◌≡◌, ℕ, zero, suc, ◌+◌, ◌==◌, Bool, true, false, cond, List, [], ◌∷◌, Option, Some, None, ◌⊎◌, inl, inr, refl, sym, ap, subst, ◌∙◌, arith}
+use Rattle.std.proofs.Common.{◌≡◌, ℕ, zero, suc, ◌==◌, Bool, true, false, cond, Option, Some, None, ◌⊎◌, inl, inr, refl, sym, ap, subst, ◌∙◌, arith}
 use Rattle.std.specs.Prelude.{nat_lt, option_and_then}
 use Rattle.std.proofs.lemmas.Bool.{ne_eqb}
 use Rattle.qc_decl.specs.Lookup.{append_need_of, read_need_of}
 use Rattle.qc_decl.specs.One.{one, register_rows}
 use Rattle.qc_front.specs.State.{first_epoch}
 use Rattle.qc_front.specs.View.{resp_of}
-use Rattle.qc_table.specs.declared.row.Event.{Event}
 use Rattle.qc_table.specs.Rules.{event, event_number, events_of}
 use Rattle.qc_table.specs.Run.{first_of, lower, lowest_in, next_in, step_of}
 use Rattle.qc_table.proofs.Lowest.{none_legal}
 use Rattle.qc_table.proofs.Numbered.{first_some}
-use Rattle.qc_core.specs.OneCopy.{step_at}
 
 -- the register's states
 abbrev pub IsBit : ℕ → Type 0
@@ -78,7 +76,6 @@ read_alone zero (suc (suc (suc inv))) is = absurd (let never : ⊥ = cc in never
 read_alone (suc object) inv is = absurd (let never : ⊥ = cc in never)
 
 -- the states allow the same invocations
-
 
 -- the lowest of three responses, by whether each one's invocation is asked
 abbrev low : ℕ → ℕ → ℕ → Bool → Bool → Bool → Option ℕ

@@ -1,10 +1,9 @@
 -- What holds of the commit records, the client and the site, where the site has caught up and the client's turn is posted.
-use Rattle.std.proofs.Common.{◌≡◌, ℕ, ◌+◌, ◌==◌, Bool, true, false, cond, List, [], ◌∷◌, ◌++◌, map, fold, Option, Some, None, ◌⊎◌, refl, sym, ap, subst, ◌∙◌}
+use Rattle.std.proofs.Common.{◌≡◌, ℕ, Bool, true, false, cond, List, [], ◌∷◌, ◌++◌, map, fold, Option, Some, None, ◌⊎◌, refl, subst}
 use Rattle.std.specs.List.{AllByRecursion as Every}
 use Rattle.qc_stamp.specs.declared.stamp.TxId.{TxId}
 use Rattle.qc_entry.specs.declared.line.Line.{Line}
 use Rattle.qc_entry.specs.declared.line.Op.{Op}
-use Rattle.qc_entry.specs.declared.line.OwnLine.{OwnLine}
 use Rattle.qc_entry.specs.declared.record.Commit.{Commit}
 use Rattle.qc_entry.specs.declared.record.Prepared.{Prepared}
 use Rattle.qc_entry.specs.Log.{of_object}
@@ -177,7 +176,7 @@ pub record Settled (commits : List Commit) (s : SiteState) (dl : TxId → Dealin
   pub away : addressed 1 (envelopes 1 n m.turn.sends) ≡ []
   pub comes : Comes (caught s (to_site n m)) (after_posting n m).front.begun (after_posting n m).front.round (after_posting n m).front.awaits (replies s (to_site n m))
   pub sense :
-    Sense (with_record commits m.turn.write) (after_posting n m).front (caught s (to_site n m)) (λ tx. fold (deal tx) (dl tx) (posted_acts n m.turn)) (λ tx. fold (sight tx) (si tx) (posted_acts n m.turn))
+      Sense (with_record commits m.turn.write) (after_posting n m).front (caught s (to_site n m)) (λ tx. fold (deal tx) (dl tx) (posted_acts n m.turn)) (λ tx. fold (sight tx) (si tx) (posted_acts n m.turn))
 
 -- a choice by a test
 pub settled_by : (cs : List Commit) (s : SiteState) (dl : TxId → Dealing) (si : TxId → Sight) (n : ℕ) (t : Bool) (m k : FrontMove)

@@ -1,49 +1,39 @@
 -- Each input of the client, with its move, keeps the sense of records, client and site.
-use Rattle.std.proofs.Common.{◌≡◌, ◌≤◌, ℕ, ◌+◌, ◌==◌, Bool, true, false, cond, max, List, [], ◌∷◌, ◌++◌, map, Option, Some, None, ◌⊎◌, inl, inr, refl, sym, ap, subst, ◌∙◌, arith}
-use Rattle.std.specs.List.{AllByRecursion as Every}
+use Rattle.std.proofs.Common.{◌≡◌, ℕ, ◌==◌, Bool, true, false, cond, List, [], Option, Some, None, ◌⊎◌, inl, inr, refl, sym, ap, subst, ◌∙◌, arith}
 use Rattle.std.specs.Prelude.{nat_le, nat_lt, length}
-use Rattle.std.proofs.lemmas.Bool.{eq-eqb}
 use Rattle.qc_stamp.specs.declared.stamp.TxId.{TxId}
-use Rattle.qc_entry.specs.declared.line.Line.{Line}
 use Rattle.qc_entry.specs.declared.record.Commit.{Commit}
-use Rattle.qc_entry.specs.Log.{of_object}
-use Rattle.qc_decl.specs.Lookup.{append_need_of, read_need_of}
+use Rattle.qc_decl.specs.Lookup.{read_need_of}
 use Rattle.qc_decl.specs.One.{one}
 use Rattle.qc_front.specs.declared.begun.Begun.{Begun}
 use Rattle.qc_front.specs.declared.front.Front.{Front}
 use Rattle.qc_front.specs.declared.round.Round.{Round}
-use Rattle.qc_front.specs.declared.round.Round.TheVariants.{Idle, Reading, Appending, Voting}
-use Rattle.qc_front.specs.Conduct.{called, heard}
-use Rattle.qc_front.specs.Moves.{FrontMove, moved, quiet, telling}
-use Rattle.qc_front.specs.Ending.{decides, forgotten, prepares, promised}
-use Rattle.qc_front.specs.Operation.{answered, answered_by, appends, executes, granted, joined, met, reads, responded, with_event}
-use Rattle.qc_front.specs.State.{first_epoch, first_life, most_operations, passed}
+use Rattle.qc_front.specs.declared.round.Round.TheVariants.{Idle}
+use Rattle.qc_front.specs.Conduct.{called}
+use Rattle.qc_front.specs.Ending.{decides, prepares}
+use Rattle.qc_front.specs.Operation.{answered, answered_by, appends, executes, reads, responded, with_event}
+use Rattle.qc_front.specs.State.{first_epoch, most_operations}
 use Rattle.qc_front.specs.View.{answer_of, next_own}
-use Rattle.qc_msg.specs.declared.message.Message.{Message}
-use Rattle.qc_msg.specs.declared.message.Message.TheVariants.{Granted, Stale, Yes}
 use Rattle.qc_msg.specs.declared.step.Command.{Command}
 use Rattle.qc_msg.specs.declared.step.Command.TheVariants.{Begin, Do, Commit as Ends, Abort}
-use Rattle.qc_msg.specs.declared.step.Reply.TheVariants.{Aborted, Dropped}
-use Rattle.qc_msg.specs.declared.step.Why.TheVariants.{Forgot}
+use Rattle.qc_msg.specs.declared.step.Reply.TheVariants.{Dropped}
 use Rattle.qc_site.specs.Site.{SiteState}
-use Rattle.qc_core.specs.Acts.{Act, Calls, Takes}
-use Rattle.qc_core.specs.Committed.{In}
-use Rattle.qc_core.specs.Deals.{Dealing, is_begun}
-use Rattle.qc_core.specs.Logged.{IsLogged}
+use Rattle.qc_core.specs.Acts.{Calls}
+use Rattle.qc_core.specs.Deals.{Dealing}
 use Rattle.qc_core.specs.Seen.{Sight}
-use Rattle.qc_core.proofs.Doings.{Answers, Doing, IsAnswer, all_of, answers, doing-alike, doing-event, doing-fresh, doing-joined, joined_view}
-use Rattle.qc_core.proofs.Holding.{HoldsBy, IsPromised}
-use Rattle.qc_core.proofs.Ledger.{Book, IsNow, Stamps, book-began, book-called, book-gone, deals_on, not_now, stamps-le, tx_of}
-use Rattle.qc_core.proofs.Moves.{absent-settles, appends-settles, decides_free, decides_promised, front, gives_asked, gives_free, prepares-settles, reads-settles, responded-settles}
-use Rattle.qc_core.proofs.Own.{weighing, weighing-more, weighing-same}
-use Rattle.qc_core.proofs.Register.{IsBit, IsNext, appended, read_alone}
-use Rattle.qc_core.proofs.Sense.{Comes, Copied, IsAppending, IsReading, IsVoting, LifeBy, Resting, Sense, Settled, Works, name_of, settled_by}
-use Rattle.qc_core.proofs.Sights.{HasRecord, NoneNow, Vision, sights_on, vision-began, vision-ended, vision-granted, vision-stale, vision-yes}
+use Rattle.qc_core.proofs.Doings.{Answers, Doing, IsAnswer, answers, doing-event, doing-fresh}
+use Rattle.qc_core.proofs.Holding.{HoldsBy}
+use Rattle.qc_core.proofs.Ledger.{Book, IsNow, Stamps, book-began, book-called, book-gone, deals_on}
+use Rattle.qc_core.proofs.Moves.{absent-settles, appends-settles, decides_free, front, gives_asked, gives_free, prepares-settles, reads-settles, responded-settles}
+use Rattle.qc_core.proofs.Own.{weighing, weighing-same}
+use Rattle.qc_core.proofs.Register.{appended, read_alone}
+use Rattle.qc_core.proofs.Sense.{Copied, LifeBy, Resting, Sense, Settled, name_of, settled_by}
+use Rattle.qc_core.proofs.Sights.{Vision, vision-began, vision-ended}
 
 -- the view answers an invocation, where no request runs
 module _ (cs : List Commit) (clock last count : ℕ) (b : Begun) (s : SiteState) (dl : TxId → Dealing) (si : TxId → Sight) (bg : Option Begun) (rd : Round) (aw : Option ℕ)
-  (stamps : Stamps cs clock last) (now : IsNow last count (Some b.tx)) (book : Book cs last count (Some b.tx) b.ops dl) (vision : Vision cs (Some b.tx) si) (copied : Copied cs s.log)
-  (rest : Resting copied.before s b) (n : ℕ) where
+    (stamps : Stamps cs clock last) (now : IsNow last count (Some b.tx)) (book : Book cs last count (Some b.tx) b.ops dl) (vision : Vision cs (Some b.tx) si) (copied : Copied cs s.log)
+    (rest : Resting copied.before s b) (n : ℕ) where
   abbrev f : Front
   f = front clock count bg rd aw
 
@@ -113,16 +103,16 @@ module _ (cs : List Commit) (clock count : ℕ) (aw : Option ℕ) (s : SiteState
         away = refl;
         comes = refl;
         sense =
-          record {
-            last = sense.last;
-            now = (refl, omega arith);
-            stamps = sense.stamps;
-            book = book-began cs sense.last count (called_dl Begin) (book-called cs sense.last count None [] dl Begin sense.book);
-            vision = vision-began cs clock sense.last count si sense.stamps (omega arith) sense.vision;
-            copied = sense.copied;
-            works = record { doing = doing-fresh sense.copied.before s.log _ refl refl refl sense.copied.bit; holds = (sense.works.0, refl); life = refl; prepared = sense.works.1 };
-            asked = tt;
-          };
+            record {
+              last = sense.last;
+              now = (refl, omega arith);
+              stamps = sense.stamps;
+              book = book-began cs sense.last count (called_dl Begin) (book-called cs sense.last count None [] dl Begin sense.book);
+              vision = vision-began cs clock sense.last count si sense.stamps (omega arith) sense.vision;
+              copied = sense.copied;
+              works = record { doing = doing-fresh sense.copied.before s.log _ refl refl refl sense.copied.bit; holds = (sense.works.0, refl); life = refl; prepared = sense.works.1 };
+              asked = tt;
+            };
       }
 
   do_settles : (bg : Option Begun) (object inv : ℕ) → Sense cs (front clock count bg Idle aw) s dl si → Settled cs s (called_dl (Do object inv)) si (called one (front clock count bg Idle aw) (Do object inv)) n

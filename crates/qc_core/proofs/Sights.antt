@@ -7,17 +7,15 @@ use Rattle.qc_entry.specs.declared.line.Line.{Line}
 use Rattle.qc_entry.specs.declared.line.Op.{Op}
 use Rattle.qc_entry.specs.declared.record.Commit.{Commit}
 use Rattle.qc_msg.specs.declared.message.Message.TheVariants.{Granted, Stale, Yes}
-use Rattle.qc_msg.specs.declared.step.Reply.{Reply}
-use Rattle.qc_msg.specs.declared.step.Reply.TheVariants.{Began, Aborted, Committed, Dropped}
-use Rattle.qc_msg.specs.declared.step.Why.{Why}
+use Rattle.qc_msg.specs.declared.step.Reply.TheVariants.{Began, Committed}
 use Rattle.qc_site.specs.Held.{same_tx}
-use Rattle.qc_site.proofs.Entries.{same_self, tx_apart}
+use Rattle.qc_site.proofs.Entries.{same_self}
 use Rattle.qc_core.specs.Acts.{Act, Takes, Sends, Tells}
 use Rattle.qc_core.specs.Atomic.{HasBefore}
 use Rattle.qc_core.specs.Committed.{In}
 use Rattle.qc_core.specs.Deals.{is_begun}
 use Rattle.qc_core.specs.Seen.{Sight, answered, begun_list, sees, sight, waits}
-use Rattle.qc_core.proofs.Ledger.{IsBelow, IsNow, Stamps, apart_by_number, clock_less, not_now, tx_of}
+use Rattle.qc_core.proofs.Ledger.{IsBelow, Stamps, apart_by_number, clock_less, tx_of}
 use Rattle.qc_core.proofs.Members.{In-first, In-last, In-more, every-append, every-in, every-weaker}
 
 -- a record of the transaction
@@ -55,14 +53,14 @@ vision-yes cs now si to clock v = record { begun = λ tx. v.begun tx; known = λ
 
 -- lines of recorded transactions are taken
 
-record Sees (commits : List Commit) (now : Option TxId) (tx : TxId) (old new : Sight) : Type 0 where
+record Sees (commits : List Commit) (tx : TxId) (old new : Sight) : Type 0 where
   pub begun : new.begun ≡ old.begun
   pub known : Every (HasRecord commits) old.known → Every (HasRecord commits) new.known
   pub seen : Every (HasRecord commits) old.seen → Every (HasRecord commits) new.seen
   pub other : is_begun tx old.begun ≡ false → new.seen ≡ old.seen
 
-sees_more : (cs : List Commit) (now : Option TxId) (tx : TxId) (s : Sight) (to : ℕ) (txs : List TxId) → Every (HasRecord cs) txs → Sees cs now tx s (sees tx (answered s to) txs)
-sees_more cs now tx s to txs all = record {
+sees_more : (cs : List Commit) (tx : TxId) (s : Sight) (to : ℕ) (txs : List TxId) → Every (HasRecord cs) txs → Sees cs tx s (sees tx (answered s to) txs)
+sees_more cs tx s to txs all = record {
   begun = refl;
   known = λ old. every-append (HasRecord cs) s.known txs old all;
   seen = λ old. by (is_begun tx s.begun) old;
@@ -73,9 +71,9 @@ sees_more cs now tx s to txs all = record {
     by true old = every-append (HasRecord cs) s.seen txs old all
     by false old = old
 
-sees_by : (cs : List Commit) (now : Option TxId) (tx : TxId) (s : Sight) (to : ℕ) (txs : List TxId) (t : Bool) → Every (HasRecord cs) txs → Sees cs now tx s (cond t (sees tx (answered s to) txs) s)
-sees_by cs now tx s to txs true all = sees_more cs now tx s to txs all
-sees_by cs now tx s to txs false all = record { begun = refl; known = λ old. old; seen = λ old. old; other = λ no. refl }
+sees_by : (cs : List Commit) (tx : TxId) (s : Sight) (to : ℕ) (txs : List TxId) (t : Bool) → Every (HasRecord cs) txs → Sees cs tx s (cond t (sees tx (answered s to) txs) s)
+sees_by cs tx s to txs true all = sees_more cs tx s to txs all
+sees_by cs tx s to txs false all = record { begun = refl; known = λ old. old; seen = λ old. old; other = λ no. refl }
 
 -- no record is of the begun transaction
 abbrev pub NoneNow : List Commit → Option TxId → Type 0
@@ -90,8 +88,8 @@ vision-granted cs now si to life clock log none all v = record {
   seen = λ c tx m s. v.seen c tx m (subst (λ (xs : List TxId). In tx xs) ((more c.tx).other (ap (is_begun c.tx) (v.begun c.tx) ∙ none c m)) s);
 }
   where
-    more : (tx : TxId) → Sees cs now tx (si tx) (sight tx (si tx) (Takes (Granted to life clock log)))
-    more tx = sees_by cs now tx (si tx) to (map (λ (l : Line). l.tx) log) (waits (si tx) to) all
+    more : (tx : TxId) → Sees cs tx (si tx) (sight tx (si tx) (Takes (Granted to life clock log)))
+    more tx = sees_by cs tx (si tx) to (map (λ (l : Line). l.tx) log) (waits (si tx) to) all
 
 -- a transaction begins
 pub vision-began : (cs : List Commit) (clock last count : ℕ) (si : TxId → Sight) → Stamps cs clock last → last ≤ count → Vision cs None si
@@ -100,13 +98,13 @@ vision-began cs clock last count si s le v = record {
   begun = λ tx. refl;
   known = λ tx. v.known tx;
   seeing = λ tx e.
-    let same : tx_of (count + 1) ≡ tx = cc in
-    let yes : same_tx (tx_of (count + 1)) tx ≡ true = subst (λ (u : TxId). same_tx (tx_of (count + 1)) u ≡ true) same (same_self (tx_of (count + 1))) in
-    subst (λ (t : Bool). Every (HasRecord cs) (cond t (si tx).known (si tx).seen)) (sym yes) (v.known tx);
+      let same : tx_of (count + 1) ≡ tx = cc in
+      let yes : same_tx (tx_of (count + 1)) tx ≡ true = subst (λ (u : TxId). same_tx (tx_of (count + 1)) u ≡ true) same (same_self (tx_of (count + 1))) in
+      subst (λ (t : Bool). Every (HasRecord cs) (cond t (si tx).known (si tx).seen)) (sym yes) (v.known tx);
   seen = λ c tx m.
-    let n : c.tx.number ≤ last = (every-in (IsBelow clock last) c cs s.below m).number in
-    let no : same_tx (tx_of (count + 1)) c.tx ≡ false = apart_by_number (tx_of (count + 1)) c.tx (λ e. omega arith) in
-    subst (λ (t : Bool). In tx (cond t (si c.tx).known (si c.tx).seen) → tx ≢ c.tx → HasBefore cs tx c.stamp) (sym no) (v.seen c tx m);
+      let n : c.tx.number ≤ last = (every-in (IsBelow clock last) c cs s.below m).number in
+      let no : same_tx (tx_of (count + 1)) c.tx ≡ false = apart_by_number (tx_of (count + 1)) c.tx (λ e. omega arith) in
+      subst (λ (t : Bool). In tx (cond t (si c.tx).known (si c.tx).seen) → tx ≢ c.tx → HasBefore cs tx c.stamp) (sym no) (v.seen c tx m);
 }
 
 -- a transaction ends without a record
@@ -120,9 +118,9 @@ pub vision-committed : (cs : List Commit) (clock last : ℕ) (t : TxId) (ops : L
 vision-committed cs clock last t ops stamp si s later v = record {
   begun = λ tx. refl;
   known = λ tx.
-    subst (λ (o : Option TxId). Every (HasRecord (cs ++ new ∷ [])) ((si tx).known ++ begun_list o)) (sym (v.begun tx))
-    (every-append (HasRecord (cs ++ new ∷ [])) (si tx).known (t ∷ []) (every-weaker (HasRecord cs) (HasRecord (cs ++ new ∷ [])) (has_record-more cs new) (si tx).known (v.known tx))
-    (record { commit = new; listed = In-last new cs; named = refl }, tt));
+      subst (λ (o : Option TxId). Every (HasRecord (cs ++ new ∷ [])) ((si tx).known ++ begun_list o)) (sym (v.begun tx))
+      (every-append (HasRecord (cs ++ new ∷ [])) (si tx).known (t ∷ []) (every-weaker (HasRecord cs) (HasRecord (cs ++ new ∷ [])) (has_record-more cs new) (si tx).known (v.known tx))
+      (record { commit = new; listed = In-last new cs; named = refl }, tt));
   seeing = λ tx e. absurd (let never : ⊥ = cc in never);
   seen = λ c tx m. by c tx (In-more c new cs m);
 }

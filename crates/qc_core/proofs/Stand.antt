@@ -1,14 +1,13 @@
 -- What stands between two events: for messages that wait, the site, the client, the records and the client's acts.
-use Rattle.std.proofs.Common.{◌≡◌, ◌≢◌, ◌<◌, ℕ, ◌+◌, ◌==◌, Bool, true, false, cond, List, [], ◌∷◌, ◌++◌, map, fold, Option, Some, None, ◌⊎◌, inl, inr, refl, sym, ap, subst, ◌∙◌, arith, append_assoc}
+use Rattle.std.proofs.Common.{◌≡◌, ◌≢◌, ℕ, ◌+◌, ◌==◌, Bool, true, false, cond, List, [], ◌∷◌, ◌++◌, map, fold, Option, refl, sym, ap, subst, ◌∙◌, append_assoc}
 use Rattle.std.specs.List.{AllByRecursion as Every}
-use Rattle.std.proofs.lemmas.List.{append-nil, map-append}
+use Rattle.std.proofs.lemmas.List.{map-append}
 use Rattle.std.proofs.lemmas.List.Sums.{fold-append}
 use Rattle.qc_stamp.specs.declared.stamp.TxId.{TxId}
 use Rattle.qc_entry.specs.declared.line.Op.{Op}
 use Rattle.qc_entry.specs.declared.line.Line.{Line}
 use Rattle.qc_entry.specs.declared.record.Commit.{Commit}
 use Rattle.qc_decl.specs.One.{one}
-use Rattle.qc_front.specs.declared.begun.Begun.{Begun}
 use Rattle.qc_front.specs.declared.front.Front.{Front}
 use Rattle.qc_front.specs.declared.round.Round.{Round}
 use Rattle.qc_front.specs.declared.round.Round.TheVariants.{Idle}
@@ -125,8 +124,8 @@ site_posts n w0 w1 sm fm cs shown y st = record {
   lines = st.lines;
   fair = st.fair;
   closed = λ is.
-    let c : Closed w0 w1 sm fm cs shown true = st.closed is in
-    record { client = c.client; comes = subst (λ ms. Comes (caught sm.site w0) fm.front.begun fm.front.round fm.front.awaits ms) (sym same) c.comes; sense = c.sense };
+      let c : Closed w0 w1 sm fm cs shown true = st.closed is in
+      record { client = c.client; comes = subst (λ ms. Comes (caught sm.site w0) fm.front.begun fm.front.round fm.front.awaits ms) (sym same) c.comes; sense = c.sense };
   opened = λ is. let o : Opened w0 w1 sm fm cs shown true = st.opened is in record { none = same ∙ o.none; settled = o.settled };
 }
   where
@@ -169,19 +168,19 @@ client_calls command w0 sm fm cs shown x idle st = record {
   to_client = st.to_client;
   lines = st.lines;
   fair =
-    fair_at cs _ _ _ _ (dealings-more shown (Calls command)) (sights-more shown (Calls command))
-    (fair_of cs fm.front.clock.value sense.last fm.front.count (name_of fm.front.begun) (ops_of fm.front.begun) (deals_on (dealings_of shown) (Calls command)) (sights_of shown) (caught sm.site w0).log sense.stamps
-    (book-called cs sense.last fm.front.count (name_of fm.front.begun) (ops_of fm.front.begun) (dealings_of shown) command sense.book) sense.vision sense.copied);
+      fair_at cs _ _ _ _ (dealings-more shown (Calls command)) (sights-more shown (Calls command))
+      (fair_of cs fm.front.clock.value sense.last fm.front.count (name_of fm.front.begun) (ops_of fm.front.begun) (deals_on (dealings_of shown) (Calls command)) (sights_of shown) (caught sm.site w0).log sense.stamps
+      (book-called cs sense.last fm.front.count (name_of fm.front.begun) (ops_of fm.front.begun) (dealings_of shown) command sense.book) sense.vision sense.copied);
   closed = λ is. absurd (let never : ⊥ = cc in never);
   opened = λ is.
-    record {
-      none = subst (λ (r : Round). Comes (caught sm.site w0) fm.front.begun r fm.front.awaits (coming w0 [] sm x)) idle c.comes;
-      settled = λ n.
-        settled_at cs (caught sm.site w0) _ _ _ _ (called one fm.front command) n (dealings-more shown (Calls command)) (sights-more shown (Calls command))
-        (subst (λ (v : Front). Settled cs (caught sm.site w0) (deals_on (dealings_of shown) (Calls command)) (sights_of shown) (called one v command) n) (sym known)
-        (command_settles cs fm.front.clock.value fm.front.count fm.front.awaits (caught sm.site w0) (dealings_of shown) (sights_of shown) n fm.front.begun command
-        (subst (λ (v : Front). Sense cs v (caught sm.site w0) (dealings_of shown) (sights_of shown)) known sense)));
-    };
+      record {
+        none = subst (λ (r : Round). Comes (caught sm.site w0) fm.front.begun r fm.front.awaits (coming w0 [] sm x)) idle c.comes;
+        settled = λ n.
+            settled_at cs (caught sm.site w0) _ _ _ _ (called one fm.front command) n (dealings-more shown (Calls command)) (sights-more shown (Calls command))
+            (subst (λ (v : Front). Settled cs (caught sm.site w0) (deals_on (dealings_of shown) (Calls command)) (sights_of shown) (called one v command) n) (sym known)
+            (command_settles cs fm.front.clock.value fm.front.count fm.front.awaits (caught sm.site w0) (dealings_of shown) (sights_of shown) n fm.front.begun command
+            (subst (λ (v : Front). Sense cs v (caught sm.site w0) (dealings_of shown) (sights_of shown)) known sense)));
+      };
 }
   where
     c : Closed w0 [] sm fm cs shown x
@@ -201,16 +200,16 @@ client_hears e w0 w1 sm fm cs shown x st = record {
   to_client = st.to_client;
   lines = st.lines;
   fair =
-    fair_at cs _ _ _ _ (dealings-more shown (Takes e.message)) (sights-more shown (Takes e.message))
-    (fair_of cs fm.front.clock.value sense.last fm.front.count (name_of fm.front.begun) (ops_of fm.front.begun) (dealings_of shown) (sights_on (sights_of shown) (Takes e.message)) (caught sm.site w0).log sense.stamps sense.book taken.1.vision sense.copied);
+      fair_at cs _ _ _ _ (dealings-more shown (Takes e.message)) (sights-more shown (Takes e.message))
+      (fair_of cs fm.front.clock.value sense.last fm.front.count (name_of fm.front.begun) (ops_of fm.front.begun) (dealings_of shown) (sights_on (sights_of shown) (Takes e.message)) (caught sm.site w0).log sense.stamps sense.book taken.1.vision sense.copied);
   closed = λ is. absurd (let never : ⊥ = cc in never);
   opened = λ is.
-    record {
-      none = taken.0;
-      settled = λ n.
-        settled_at cs (caught sm.site w0) _ _ _ _ (heard one fm.front e.message) n (dealings-more shown (Takes e.message)) (sights-more shown (Takes e.message))
-        (subst (λ (v : Front). Settled cs (caught sm.site w0) (dealings_of shown) (sights_on (sights_of shown) (Takes e.message)) (heard one v e.message) n) (sym known) (taken.1.settled n));
-    };
+      record {
+        none = taken.0;
+        settled = λ n.
+            settled_at cs (caught sm.site w0) _ _ _ _ (heard one fm.front e.message) n (dealings-more shown (Takes e.message)) (sights-more shown (Takes e.message))
+            (subst (λ (v : Front). Settled cs (caught sm.site w0) (dealings_of shown) (sights_on (sights_of shown) (Takes e.message)) (heard one v e.message) n) (sym known) (taken.1.settled n));
+      };
 }
   where
     sense : Sense cs fm.front (caught sm.site w0) (dealings_of shown) (sights_of shown)
@@ -254,19 +253,19 @@ client_posts n w0 w1 sm fm cs shown x st = record {
   to_client = st.to_client;
   lines = subst (λ (s : SiteState). Every (IsLogged one (with_record cs fm.turn.write)) s.log) (sym same) settled.sense.copied.lines;
   fair =
-    fair_at (with_record cs fm.turn.write) _ _ _ _ (dealings-append shown (posted_acts n fm.turn)) (sights-append shown (posted_acts n fm.turn)) (fair_sense _ _ _ _ _ settled.sense);
+      fair_at (with_record cs fm.turn.write) _ _ _ _ (dealings-append shown (posted_acts n fm.turn)) (sights-append shown (posted_acts n fm.turn)) (fair_sense _ _ _ _ _ settled.sense);
   closed = λ is.
-    record {
-      client = settled.client;
-      comes =
-        subst (λ (s : SiteState). Comes s (after_posting n fm).front.begun (after_posting n fm).front.round (after_posting n fm).front.awaits (coming (w0 ++ to_site n fm) w1 sm x)) (sym same)
-        (subst (λ ms. Comes (caught (caught sm.site w0) (to_site n fm)) (after_posting n fm).front.begun (after_posting n fm).front.round (after_posting n fm).front.awaits ms) (sym more) settled.comes);
-      sense =
-        subst (λ (s : SiteState). Sense (with_record cs fm.turn.write) (after_posting n fm).front s (dealings_of (shown ++ posted_acts n fm.turn)) (sights_of (shown ++ posted_acts n fm.turn))) (sym same)
-        (subst (λ (v : TxId → Dealing). Sense (with_record cs fm.turn.write) (after_posting n fm).front (caught (caught sm.site w0) (to_site n fm)) v (sights_of (shown ++ posted_acts n fm.turn))) (sym (dealings-append shown (posted_acts n fm.turn)))
-        (subst (λ (v : TxId → Sight). Sense (with_record cs fm.turn.write) (after_posting n fm).front (caught (caught sm.site w0) (to_site n fm)) (λ (tx : TxId). fold (deal tx) (dealings_of shown tx) (posted_acts n fm.turn)) v)
-        (sym (sights-append shown (posted_acts n fm.turn))) settled.sense));
-    };
+      record {
+        client = settled.client;
+        comes =
+            subst (λ (s : SiteState). Comes s (after_posting n fm).front.begun (after_posting n fm).front.round (after_posting n fm).front.awaits (coming (w0 ++ to_site n fm) w1 sm x)) (sym same)
+            (subst (λ ms. Comes (caught (caught sm.site w0) (to_site n fm)) (after_posting n fm).front.begun (after_posting n fm).front.round (after_posting n fm).front.awaits ms) (sym more) settled.comes);
+        sense =
+            subst (λ (s : SiteState). Sense (with_record cs fm.turn.write) (after_posting n fm).front s (dealings_of (shown ++ posted_acts n fm.turn)) (sights_of (shown ++ posted_acts n fm.turn))) (sym same)
+            (subst (λ (v : TxId → Dealing). Sense (with_record cs fm.turn.write) (after_posting n fm).front (caught (caught sm.site w0) (to_site n fm)) v (sights_of (shown ++ posted_acts n fm.turn))) (sym (dealings-append shown (posted_acts n fm.turn)))
+            (subst (λ (v : TxId → Sight). Sense (with_record cs fm.turn.write) (after_posting n fm).front (caught (caught sm.site w0) (to_site n fm)) (λ (tx : TxId). fold (deal tx) (dealings_of shown tx) (posted_acts n fm.turn)) v)
+            (sym (sights-append shown (posted_acts n fm.turn))) settled.sense));
+      };
   opened = λ is. absurd (let never : ⊥ = cc in never);
 }
   where

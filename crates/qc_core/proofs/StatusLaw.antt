@@ -1,13 +1,12 @@
 -- In every run each step is right for the transactions of its actor.
-use Rattle.std.proofs.Common.{◌≡◌, ◌<◌, ◌≤◌, ℕ, ◌+◌, ◌-◌, ◌==◌, Bool, true, false, cond, List, [], ◌∷◌, ◌++◌, length, fold, Option, Some, None, refl, sym, ap, subst, ◌∙◌, arith, slice_get, append_assoc}
+use Rattle.std.proofs.Common.{◌≡◌, ◌<◌, ℕ, ◌+◌, ◌-◌, ◌==◌, Bool, true, false, cond, List, [], ◌∷◌, ◌++◌, length, fold, Option, Some, refl, sym, ap, subst, ◌∙◌, arith, slice_get, append_assoc}
 use Rattle.std.specs.Prelude.{slice_set}
 use Rattle.std.proofs.lemmas.Bool.{eq-eqb, eqb-true, ltb-true}
 use Rattle.std.proofs.lemmas.List.{append-nil}
 use Rattle.std.proofs.lemmas.List.Sums.{fold-append}
 use Rattle.qc_stamp.specs.declared.stamp.TxId.{TxId}
 use Rattle.qc_decl.specs.declared.declaration.Declaration.{Declaration}
-use Rattle.qc_decl.specs.Actors.{actors, client_actor, controller, is_site}
-use Rattle.qc_front.specs.declared.begun.Begun.{Begun}
+use Rattle.qc_decl.specs.Actors.{actors, controller, is_site}
 use Rattle.qc_front.specs.Conduct.{front_after, front_does}
 use Rattle.qc_front.specs.Moves.{FrontMove, moved}
 use Rattle.qc_front.specs.State.{front_sent}
@@ -24,17 +23,17 @@ use Rattle.qc_msg.specs.declared.step.Step.TheVariants.{Phase, Called, Got, Sent
 use Rattle.qc_msg.specs.declared.step.Turn.{Turn}
 use Rattle.qc_msg.specs.Mail.{Deed, WasSentTo, deed_of, deeds, mail, sendings}
 use Rattle.qc_msg.specs.Steps.{Entry, by, marked, own, posted, step_of}
-use Rattle.qc_msg.proofs.Growth.{deeds-append, deeds-by_same, deeds-other, deeds-phase, deeds-taken, own-append, own-by_same, own-more, own-other}
+use Rattle.qc_msg.proofs.Growth.{deeds-append, deeds-by_same, deeds-other, deeds-phase, deeds-taken, own-more, own-other}
 use Rattle.qc_script.specs.declared.script.Script.{Script}
-use Rattle.qc_script.specs.Ready.{phase_of, ready}
+use Rattle.qc_script.specs.Ready.{phase_of}
 use Rattle.qc_script.specs.Runs.{Runs, begins, takes, posts, phase}
 use Rattle.qc_script.proofs.Found.{ready-sent}
 use Rattle.qc_site.specs.Held.{same_tx}
 use Rattle.qc_core.specs.Bounds.{front_at}
 use Rattle.qc_core.specs.Conduct.{IsLawful, IsRun}
 use Rattle.qc_core.specs.Order.{EachAfter}
-use Rattle.qc_core.specs.Status.{Begun as IsBegun, Committed, Dead, HasEnded, IsRight, IsRightAfter, Status, Unborn, given_up, status, status_at}
-use Rattle.qc_core.proofs.OrderLaw.{Law, clients_turn, law}
+use Rattle.qc_core.specs.Status.{Begun as IsBegun, Committed, Dead, HasEnded, IsRight, IsRightAfter, Status, Unborn, given_up, status_at}
+use Rattle.qc_core.proofs.OrderLaw.{clients_turn, law}
 use Rattle.qc_core.proofs.Places.{slice_get-replicate, slice_get-set_other, slice_get-set_same}
 use Rattle.qc_core.proofs.Sense.{name_of}
 use Rattle.qc_core.proofs.Statuses.{Along, Goes, Known, called_goes, heard_goes, stat_after}
@@ -141,10 +140,10 @@ module _ (decl : Declaration) (script : Script) where
   pub statuses : (h : List Entry) (open_inputs : List Bool) → Runs (IsLawful decl) decl script h open_inputs → StatusLaw decl h open_inputs
   statuses h open_inputs begins = record {
     fronts = λ a client.
-      record {
-        closed = λ e. record { unborn = λ k l. refl; begun = λ tx n. absurd (let never : ⊥ = cc in never); named = λ tx n. absurd (let never : ⊥ = cc in never) };
-        opened = λ e. absurd (slice_get-replicate (actors decl) a e);
-      };
+        record {
+          closed = λ e. record { unborn = λ k l. refl; begun = λ tx n. absurd (let never : ⊥ = cc in never); named = λ tx n. absurd (let never : ⊥ = cc in never) };
+          opened = λ e. absurd (slice_get-replicate (actors decl) a e);
+        };
     right = tt;
   }
   statuses h open_inputs (takes b input before k run free rdy) =
@@ -188,7 +187,7 @@ module _ (decl : Declaration) (script : Script) where
       let old : StatusLaw decl k open_inputs = statuses k open_inputs run in
       record {
         fronts = λ a client.
-          same_status _ _ _ _ _ _ (sym (stat-phase a (controller decl) k (phase_of k + 1))) (ap (front_after decl (a - decl.sites)) (sym (deeds-phase (controller decl) a (phase_of k + 1) [] k))) refl (old.fronts a client);
+            same_status _ _ _ _ _ _ (sym (stat-phase a (controller decl) k (phase_of k + 1))) (ap (front_after decl (a - decl.sites)) (sym (deeds-phase (controller decl) a (phase_of k + 1) [] k))) refl (old.fronts a client);
         right = EachAfter-both (IsRightAfter decl) [] k (marked (controller decl) (Phase (phase_of k + 1)) ∷ []) old.right ((λ tx same. tt), tt);
       }
 

@@ -1,7 +1,6 @@
 -- A client's moves are right for its transactions' statuses.
-use Rattle.std.proofs.Common.{◌≡◌, ◌<◌, ℕ, ◌+◌, ◌==◌, Bool, true, false, cond, List, [], ◌∷◌, ◌++◌, fold, Option, Some, None, refl, sym, ap, subst, ◌∙◌, arith}
+use Rattle.std.proofs.Common.{◌≡◌, ◌<◌, ℕ, ◌+◌, ◌==◌, Bool, true, false, cond, List, [], ◌∷◌, fold, Option, Some, None, refl, sym, ap, subst, ◌∙◌, arith}
 use Rattle.std.specs.Prelude.{nat_le, nat_lt, length}
-use Rattle.qc_stamp.specs.declared.stamp.Stamp.{Stamp}
 use Rattle.qc_stamp.specs.declared.stamp.TxId.{TxId}
 use Rattle.qc_decl.specs.declared.declaration.Declaration.{Declaration}
 use Rattle.qc_decl.specs.Actors.{first_site}
@@ -15,7 +14,7 @@ use Rattle.qc_front.specs.Conduct.{called, heard}
 use Rattle.qc_front.specs.Ending.{aborts, begins, commit_of, commits, decides, forgotten, gives_up, next_stamp, prepares, promised}
 use Rattle.qc_front.specs.Moves.{FrontMove, moved, quiet}
 use Rattle.qc_front.specs.Operation.{answered, answered_by, appends, executes, granted, joined, performs, reads, responded}
-use Rattle.qc_front.specs.State.{first_epoch, first_life, is_awaited, most_operations, next_tx, passed, turned}
+use Rattle.qc_front.specs.State.{first_epoch, is_awaited, most_operations, next_tx, passed, turned}
 use Rattle.qc_front.specs.View.{answer_of}
 use Rattle.qc_msg.specs.declared.message.Message.{Message}
 use Rattle.qc_msg.specs.declared.message.Message.TheVariants.{Read, Append, Prepare, Granted, Stale, Yes, Decision}
@@ -26,13 +25,12 @@ use Rattle.qc_msg.specs.declared.step.Record.TheVariants as records
 use Rattle.qc_msg.specs.declared.step.Reply.{Reply}
 use Rattle.qc_msg.specs.declared.step.Reply.TheVariants as replies
 use Rattle.qc_msg.specs.declared.step.Step.{Step}
-use Rattle.qc_msg.specs.declared.step.Step.TheVariants.{Phase, Called, Got, Sent, Told, Wrote}
 use Rattle.qc_msg.specs.declared.step.Why.{Why}
 use Rattle.qc_msg.specs.declared.step.Why.TheVariants.{Forgot}
 use Rattle.qc_msg.specs.Steps.{posted}
 use Rattle.qc_site.specs.Held.{same_tx}
 use Rattle.qc_site.proofs.Entries.{same_self, tx_apart}
-use Rattle.qc_core.specs.Status.{Status, Unborn, Begun as IsBegun, Committed, Dead, HasEnded, IsRight, given_up, status_at}
+use Rattle.qc_core.specs.Status.{Status, Unborn, Begun as IsBegun, Committed, Dead, IsRight, given_up, status_at}
 use Rattle.qc_core.proofs.Ledger.{apart_by_number}
 use Rattle.qc_core.proofs.Sense.{name_of}
 
@@ -74,13 +72,13 @@ module _ (decl : Declaration) (st : TxId → Status) where
   begins_goes f None is k = record {
     right = λ n tx. ((λ same. subst (λ (u : TxId). st u ≡ Unborn) (tx_apart (next_tx f) tx same) (k.unborn (f.count + 1) (omega arith))), tt);
     known = λ n.
-      record {
-        unborn = λ j l. ap (λ (t : Bool). cond t IsBegun (st (tx_at f.client j))) (apart_by_number (next_tx f) (tx_at f.client j) (λ e. omega arith)) ∙ k.unborn j (omega arith);
-        begun = λ tx e.
-          let same : next_tx f ≡ tx = cc in
-          subst (λ (u : TxId). cond (same_tx (next_tx f) u) IsBegun (st u) ≡ IsBegun) same (ap (λ (t : Bool). cond t IsBegun (st (next_tx f))) (same_self (next_tx f)));
-        named = λ tx e. let same : next_tx f ≡ tx = cc in sym same;
-      };
+        record {
+          unborn = λ j l. ap (λ (t : Bool). cond t IsBegun (st (tx_at f.client j))) (apart_by_number (next_tx f) (tx_at f.client j) (λ e. omega arith)) ∙ k.unborn j (omega arith);
+          begun = λ tx e.
+              let same : next_tx f ≡ tx = cc in
+              subst (λ (u : TxId). cond (same_tx (next_tx f) u) IsBegun (st u) ≡ IsBegun) same (ap (λ (t : Bool). cond t IsBegun (st (next_tx f))) (same_self (next_tx f)));
+          named = λ tx e. let same : next_tx f ≡ tx = cc in sym same;
+        };
   }
 
   answered_by_goes : (f : Front) (b : Begun) (object inv : ℕ) (e : Option ℕ) → Known st f.client f.count (Some b.tx) → Goes st (answered_by decl f b object inv e)

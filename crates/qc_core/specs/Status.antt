@@ -1,5 +1,5 @@
 -- How far a transaction is, as its client's steps show (presumed abort: without a commit record it is given up).
-use Rattle.std.specs.Prelude.{◌≡◌, ℕ, true, if◌then◌else◌, List, fold}
+use Rattle.std.specs.Prelude.{◌≡◌, true, if◌then◌else◌, List, fold}
 use Rattle.qc_stamp.specs.declared.stamp.Stamp.{Stamp}
 use Rattle.qc_stamp.specs.declared.stamp.TxId.{TxId}
 use Rattle.qc_decl.specs.declared.declaration.Declaration.{Declaration}

@@ -1,5 +1,5 @@
-//! The promise of the whole system, as the contract of a function with nothing
-//! to do.
+//! The promise of the whole system, and what it rests on, each the contract of
+//! a function with nothing to do.
 
 ghost use Rattle.std.specs.Prelude.{List, []};
 ghost use Rattle.qc_core.specs.Atomic.{Atomic};
@@ -16,8 +16,7 @@ ghost use Rattle.qc_script.specs.declared.script.Script.{Script};
 /// all that its client had seen; and the clients know which committed.
 pub fn runs_are_atomic()
     ensures { (script : Script) (h : List Entry) → IsRun one script h → Kept h → Atomic one h }
-{
-}
+{}
 
 ghost use Rattle.qc_core.specs.Committed.{AreRising, written};
 
@@ -25,8 +24,7 @@ ghost use Rattle.qc_core.specs.Committed.{AreRising, written};
 /// which it wrote them.
 pub fn commit_stamps_rise()
     ensures { (script : Script) (h : List Entry) → IsRun one script h → AreRising (written one h) }
-{
-}
+{}
 
 ghost use Rattle.qc_core.specs.Bounds.{site_at};
 ghost use Rattle.qc_core.specs.Committed.{committed};
@@ -37,8 +35,7 @@ ghost use Rattle.std.specs.List.{AllByRecursion as Every};
 /// transaction, with its stamp.
 pub fn logs_have_committed_operations()
     ensures { (script : Script) (h : List Entry) → IsRun one script h → Every (IsLogged one (committed one h)) (site_at 0 h).site.log }
-{
-}
+{}
 
 ghost use Rattle.std.specs.Prelude.{◌≡◌};
 ghost use Rattle.qc_core.specs.Order.{EachAfter};
@@ -54,8 +51,7 @@ ghost use Rattle.qc_stamp.specs.declared.stamp.TxId.{TxId};
 pub fn transactions_move_on()
     ensures right { (decl : Declaration) (script : Script) (h : List Entry) → IsRun decl script h → EachAfter (IsRightAfter decl) [] h }
     ensures last { (tx : TxId) (s : Status) (step : Step) → HasEnded s → IsRight tx s step → status_at tx s step ≡ s }
-{
-}
+{}
 
 ghost use Rattle.qc_core.specs.Committed.{In};
 ghost use Rattle.qc_core.specs.Status.{Committed, status};
@@ -65,5 +61,4 @@ ghost use Rattle.qc_entry.specs.declared.record.Commit.{Commit};
 /// record's stamp, for ever. So no transaction that was given up has one.
 pub fn records_are_the_verdicts()
     ensures { (script : Script) (h : List Entry) → IsRun one script h → (c : Commit) → In c (committed one h) → status one h c.tx ≡ Committed c.stamp }
-{
-}
+{}

@@ -2,7 +2,10 @@
 //!
 //! A run is a history that the actors' conduct, the script and the links
 //! allow. Each law is the contract of a function with nothing to do, and
-//! speaks of every run of every declaration and script.
+//! speaks of every run of every script: of every declaration, or of the
+//! built-in one. The promise is that runs are atomic: what committed is what
+//! one copy of each object would have answered, in the order of the stamps.
+//! The loop and the report rely on these laws.
 #![tactic(auto)]
 
 mod atomic;
