@@ -58,8 +58,8 @@ module _ (cs : List Commit) (clock count k c : ℕ) (b : Begun) (s : SiteState) 
   abbrev later : ℕ
   later = max clock c
 
-  none_now : (last : ℕ) (round : Round) → Stamps cs clock last → (sense : Sense cs (at round) s dl si) → NoneNow cs (Some b.tx)
-  none_now last round stamps sense = λ c m. not_now cs clock sense.last count b.tx c sense.stamps sense.now m
+  none_now : (round : Round) → (sense : Sense cs (at round) s dl si) → NoneNow cs (Some b.tx)
+  none_now round sense = λ c m. not_now cs clock sense.last count b.tx c sense.stamps sense.now m
 
   later_stamps : (last : ℕ) → Stamps cs clock last → Stamps cs later last
   later_stamps last stamps = stamps-le cs clock last later last (omega arith) (omega arith) stamps
@@ -86,7 +86,7 @@ module _ (cs : List Commit) (clock count k c : ℕ) (b : Begun) (s : SiteState) 
 
       seen : Vision cs (Some b.tx) (sights_on si (Takes (Granted k first_life c (of_object s.log object))))
       seen =
-          vision-granted cs (Some b.tx) si k first_life c (of_object s.log object) (none_now sense.last (Reading object inv) sense.stamps sense)
+          vision-granted cs (Some b.tx) si k first_life c (of_object s.log object) (none_now (Reading object inv) sense)
           (records_of cs s.log object sense.copied.lines) sense.vision
 
       same : of_object s.log 0 ≡ of_object s.log object
@@ -119,7 +119,7 @@ module _ (cs : List Commit) (clock count k c : ℕ) (b : Begun) (s : SiteState) 
   }
     where
       seen : Vision cs (Some b.tx) (sights_on si (Takes (Granted k first_life c [])))
-      seen = vision-granted cs (Some b.tx) si k first_life c [] (none_now sense.last (Appending object inv e) sense.stamps sense) tt sense.vision
+      seen = vision-granted cs (Some b.tx) si k first_life c [] (none_now (Appending object inv e) sense) tt sense.vision
 
       doing : Doing sense.copied.before s.log (with_event one (met b first_life) 0 inv e)
       doing =

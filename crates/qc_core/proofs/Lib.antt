@@ -26,3 +26,7 @@ pub mod Hears
 pub mod Answers
 pub mod Stand
 pub mod AtomicLaw
+pub mod RecordLaws
+pub mod Statuses
+pub mod StatusLaw
+pub mod Recorded

@@ -53,14 +53,14 @@ vision-yes cs now si to clock v = record { begun = λ tx. v.begun tx; known = λ
 
 -- lines of recorded transactions are taken
 
-record Sees (commits : List Commit) (now : Option TxId) (tx : TxId) (old new : Sight) : Type 0 where
+record Sees (commits : List Commit) (tx : TxId) (old new : Sight) : Type 0 where
   pub begun : new.begun ≡ old.begun
   pub known : Every (HasRecord commits) old.known → Every (HasRecord commits) new.known
   pub seen : Every (HasRecord commits) old.seen → Every (HasRecord commits) new.seen
   pub other : is_begun tx old.begun ≡ false → new.seen ≡ old.seen
 
-sees_more : (cs : List Commit) (now : Option TxId) (tx : TxId) (s : Sight) (to : ℕ) (txs : List TxId) → Every (HasRecord cs) txs → Sees cs now tx s (sees tx (answered s to) txs)
-sees_more cs now tx s to txs all = record {
+sees_more : (cs : List Commit) (tx : TxId) (s : Sight) (to : ℕ) (txs : List TxId) → Every (HasRecord cs) txs → Sees cs tx s (sees tx (answered s to) txs)
+sees_more cs tx s to txs all = record {
   begun = refl;
   known = λ old. every-append (HasRecord cs) s.known txs old all;
   seen = λ old. by (is_begun tx s.begun) old;
@@ -71,9 +71,9 @@ sees_more cs now tx s to txs all = record {
     by true old = every-append (HasRecord cs) s.seen txs old all
     by false old = old
 
-sees_by : (cs : List Commit) (now : Option TxId) (tx : TxId) (s : Sight) (to : ℕ) (txs : List TxId) (t : Bool) → Every (HasRecord cs) txs → Sees cs now tx s (cond t (sees tx (answered s to) txs) s)
-sees_by cs now tx s to txs true all = sees_more cs now tx s to txs all
-sees_by cs now tx s to txs false all = record { begun = refl; known = λ old. old; seen = λ old. old; other = λ no. refl }
+sees_by : (cs : List Commit) (tx : TxId) (s : Sight) (to : ℕ) (txs : List TxId) (t : Bool) → Every (HasRecord cs) txs → Sees cs tx s (cond t (sees tx (answered s to) txs) s)
+sees_by cs tx s to txs true all = sees_more cs tx s to txs all
+sees_by cs tx s to txs false all = record { begun = refl; known = λ old. old; seen = λ old. old; other = λ no. refl }
 
 -- no record is of the begun transaction
 abbrev pub NoneNow : List Commit → Option TxId → Type 0
@@ -88,8 +88,8 @@ vision-granted cs now si to life clock log none all v = record {
   seen = λ c tx m s. v.seen c tx m (subst (λ (xs : List TxId). In tx xs) ((more c.tx).other (ap (is_begun c.tx) (v.begun c.tx) ∙ none c m)) s);
 }
   where
-    more : (tx : TxId) → Sees cs now tx (si tx) (sight tx (si tx) (Takes (Granted to life clock log)))
-    more tx = sees_by cs now tx (si tx) to (map (λ (l : Line). l.tx) log) (waits (si tx) to) all
+    more : (tx : TxId) → Sees cs tx (si tx) (sight tx (si tx) (Takes (Granted to life clock log)))
+    more tx = sees_by cs tx (si tx) to (map (λ (l : Line). l.tx) log) (waits (si tx) to) all
 
 -- a transaction begins
 pub vision-began : (cs : List Commit) (clock last count : ℕ) (si : TxId → Sight) → Stamps cs clock last → last ≤ count → Vision cs None si

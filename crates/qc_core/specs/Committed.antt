@@ -1,10 +1,11 @@
 -- The committed transactions of a history (presumed abort: a transaction committed where its client wrote so).
 use Rattle.std.specs.Prelude.{◌≡◌, ◌⊎◌, if◌then◌else◌, List, [], ◌∷◌, Option, Some, None, fold}
-use Rattle.std.specs.List.{filter_map}
+use Rattle.std.specs.List.{AllByRecursion as Every, filter_map}
 use Rattle.std.specs.Cmp.Lexicographic.{slice_cmp}
 use Rattle.std.specs.Option.{option_cmp}
 use Rattle.std.specs.Ordering.{nat_cmp, on, then_cmp}
 use Rattle.std.specs.declared.cmp.Ordering.{Ordering}
+use Rattle.std.specs.declared.cmp.Ordering.TheVariants.{Less}
 use Rattle.qc_stamp.specs.Order.{stamp_cmp, tx_cmp}
 use Rattle.qc_entry.specs.declared.line.Op.{Op}
 use Rattle.qc_entry.specs.declared.record.Commit.{Commit}
@@ -49,3 +50,8 @@ written decl h = filter_map (commit_by decl) h
 -- the distinct commit records that clients wrote, in the order of their stamps
 abbrev pub committed : Declaration → List Entry → List Commit
 committed decl h = fold with_commit [] (written decl h)
+
+-- each record has a stamp after those of all records before it
+abbrev pub AreRising : List Commit → Type 0
+AreRising [] = Unit {0}
+AreRising (c ∷ cs) = Every (λ (d : Commit). stamp_cmp c.stamp d.stamp ≡ Less) cs × AreRising cs

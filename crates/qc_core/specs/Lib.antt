@@ -11,3 +11,4 @@ pub mod Seen
 pub mod Kept
 pub mod Atomic
 pub mod Logged
+pub mod Status

@@ -1,13 +1,23 @@
-//! The promise of the whole system, as the contract of a function with nothing
-//! to do.
+//! The promise of the whole system, and what it rests on, each the contract of
+//! a function with nothing to do.
 
-ghost use Rattle.std.specs.Prelude.{List};
+ghost use Rattle.std.specs.List.{AllByRecursion as Every};
+ghost use Rattle.std.specs.Prelude.{List, [], ◌≡◌};
 ghost use Rattle.qc_core.specs.Atomic.{Atomic};
+ghost use Rattle.qc_core.specs.Bounds.{site_at};
+ghost use Rattle.qc_core.specs.Committed.{AreRising, In, committed, written};
 ghost use Rattle.qc_core.specs.Conduct.{IsRun};
 ghost use Rattle.qc_core.specs.Kept.{Kept};
+ghost use Rattle.qc_core.specs.Logged.{IsLogged};
+ghost use Rattle.qc_core.specs.Order.{EachAfter};
+ghost use Rattle.qc_core.specs.Status.{Committed, HasEnded, IsRight, IsRightAfter, Status, status, status_at};
 ghost use Rattle.qc_decl.specs.One.{one};
+ghost use Rattle.qc_decl.specs.declared.declaration.Declaration.{Declaration};
+ghost use Rattle.qc_entry.specs.declared.record.Commit.{Commit};
 ghost use Rattle.qc_msg.specs.Steps.{Entry};
+ghost use Rattle.qc_msg.specs.declared.step.Step.{Step};
 ghost use Rattle.qc_script.specs.declared.script.Script.{Script};
+ghost use Rattle.qc_stamp.specs.declared.stamp.TxId.{TxId};
 
 /// In every run of the built-in declaration, whatever the script, where no
 /// record is lost: each committed transaction stands once, at a stamp of its
@@ -16,4 +26,31 @@ ghost use Rattle.qc_script.specs.declared.script.Script.{Script};
 /// all that its client had seen; and the clients know which committed.
 pub fn runs_are_atomic()
     ensures { (script : Script) (h : List Entry) → IsRun one script h → Kept h → Atomic one h }
+{}
+
+/// In every run a client's commit records have rising stamps, in the order in
+/// which it wrote them.
+pub fn commit_stamps_rise()
+    ensures { (script : Script) (h : List Entry) → IsRun one script h → AreRising (written one h) }
+{}
+
+/// In every run each line of the site's log is an operation of a committed
+/// transaction, with its stamp.
+pub fn logs_have_committed_operations()
+    ensures { (script : Script) (h : List Entry) → IsRun one script h → Every (IsLogged one (committed one h)) (site_at 0 h).site.log }
+{}
+
+/// In every run, of every declaration, a transaction begins only while it is
+/// unborn, gets a commit record or is given up only while it is begun, and its
+/// sites are told only of a verdict that is its status. So each transaction
+/// begins once, has one record at most, and a verdict that was sent is final.
+pub fn transactions_move_on()
+    ensures right { (decl : Declaration) (script : Script) (h : List Entry) → IsRun decl script h → EachAfter (IsRightAfter decl) [] h }
+    ensures last { (tx : TxId) (s : Status) (step : Step) → HasEnded s → IsRight tx s step → status_at tx s step ≡ s }
+{}
+
+/// In every run a transaction with a commit record is committed, with the
+/// record's stamp, for ever. So no transaction that was given up has one.
+pub fn records_are_the_verdicts()
+    ensures { (script : Script) (h : List Entry) → IsRun one script h → (c : Commit) → In c (committed one h) → status one h c.tx ≡ Committed c.stamp }
 {}

@@ -2,15 +2,20 @@
 //!
 //! A run is a history that the actors' conduct, the script and the links
 //! allow. Each law is the contract of a function with nothing to do, and
-//! speaks of every run of every script. Where a law needs a declaration with
-//! one site, it says so.
+//! speaks of every run of every script: of every declaration, or of the
+//! built-in one. The promise is that runs are atomic: what committed is what
+//! one copy of each object would have answered, in the order of the stamps.
+//! The loop and the report rely on these laws.
 #![tactic(auto)]
 
 mod atomic;
 mod laws;
 mod whole;
 
-pub use atomic::runs_are_atomic;
+pub use atomic::{
+    commit_stamps_rise, logs_have_committed_operations, records_are_the_verdicts, runs_are_atomic,
+    transactions_move_on,
+};
 pub use laws::{clocks_and_counts_are_bounded, messages_and_replies_are_in_order};
 pub use whole::{
     calls_are_asked, calls_are_replied, commands_end, phases_are_the_scripts,
