@@ -1,20 +1,17 @@
 -- The loop's state after one event, and what its calls need.
-use Rattle.std.proofs.Common.{◌≡◌, ℕ, ◌+◌, ◌-◌, ◌<◌, ◌≤◌, ◌^◌, Bool, true, false, List, [], ◌∷◌, ◌++◌, length, Option, Some, None, Result, Ok, Err, OnOk, refl, ap, sym, subst, ◌∙◌, arith, slice_get, nat_lt}
-use Rattle.std.proofs.lemmas.List.{append-nil}
+use Rattle.std.proofs.Common.{◌≡◌, ℕ, ◌+◌, ◌-◌, ◌<◌, ◌≤◌, ◌^◌, Bool, true, false, List, [], ◌∷◌, ◌++◌, length, Some, Result, Ok, Err, OnOk, refl, ap, sym, subst, ◌∙◌, arith, slice_get, nat_lt}
 use Rattle.qc_core.proofs.BoundLaw.{runs_are_bounded}
 use Rattle.qc_core.proofs.OrderLaw.{law}
 use Rattle.qc_core.proofs.Sites.{site_small}
-use Rattle.qc_core.specs.Bounds.{FrontBounded, IsBounded, front_at}
+use Rattle.qc_core.specs.Bounds.{IsBounded, front_at}
 use Rattle.std.specs.Prelude.{replicate}
 use Rattle.qc_core.specs.Conduct.{IsLawful, IsRun}
 use Rattle.qc_decl.specs.declared.declaration.Declaration.{Declaration}
 use Rattle.qc_decl.specs.Actors.{client_actor, controller, is_site}
-use Rattle.qc_front.specs.declared.begun.Begun.{Begun}
 use Rattle.qc_front.specs.declared.front.Front.{Front}
 use Rattle.qc_front.specs.Conduct.{called, front_after, heard}
 use Rattle.qc_front.specs.Fits.{ClockFits, FrontFits, HasRoom}
 use Rattle.qc_front.specs.Moves.{FrontMove, moved}
-use Rattle.qc_front.specs.Numbers.{IsTold}
 use Rattle.qc_front.specs.State.{front_sent, new_front}
 use Rattle.qc_front.specs.Within.{FrontWithin}
 use Rattle.qc_front.proofs.Numbers.{called_told, heard_told}
@@ -23,7 +20,6 @@ use Rattle.qc_msg.specs.declared.message.Envelope.{Envelope}
 use Rattle.qc_msg.specs.declared.message.Message.{Message}
 use Rattle.qc_msg.specs.declared.message.Message.TheVariants.{Read, Append, Prepare, Granted, Stale, Yes, Decision}
 use Rattle.qc_msg.specs.declared.step.Command.{Command}
-use Rattle.qc_msg.specs.declared.step.Step.{Step}
 use Rattle.qc_msg.specs.declared.step.Step.TheVariants.{Called, Got, Phase}
 use Rattle.qc_msg.specs.declared.step.Turn.{Turn}
 use Rattle.qc_msg.specs.Mail.{AllSent, addressed, deeds, envelopes, mail}
@@ -33,14 +29,14 @@ use Rattle.qc_msg.proofs.Growth.{length-mail}
 use Rattle.qc_msg.proofs.Within.{MailWithin-get}
 use Rattle.qc_script.specs.declared.script.PhaseLines.{PhaseLines}
 use Rattle.qc_script.specs.declared.script.Script.{Script}
-use Rattle.qc_script.specs.Ready.{asked_in, asked_of, phase_of, waiting}
+use Rattle.qc_script.specs.Ready.{asked_in, asked_of, phase_of}
 use Rattle.qc_script.proofs.Grows.{busy_after}
 use Rattle.qc_site.specs.Conduct.{site_on}
 use Rattle.qc_script.specs.Runs.{Runs, begins}
 use Rattle.qc_site.specs.Site.{SiteState, new_site}
 use Rattle.qc_top.specs.declared.engine.Engine.{Engine}
 use Rattle.qc_top.specs.At.{IsAt, IsCallable, IsPosted, IsQuiet}
-use Rattle.qc_top.specs.Engine.{IsIdle, IsOne, Stands}
+use Rattle.qc_top.specs.Engine.{IsOne, Stands}
 use Rattle.qc_top.proofs.Turns.{called_event, heard_event, phase_event, site_event}
 
 -- a fact for an answer that isn't want of memory

@@ -1,8 +1,7 @@
 -- A run goes on by one input and its turn, or by the next phase.
-use Rattle.std.proofs.Common.{◌≡◌, ℕ, zero, suc, ◌+◌, ◌-◌, ◌==◌, ◌&&◌, not, ◌<◌, ◌≤◌, Bool, true, false, cond, List, [], ◌∷◌, ◌++◌, drop, length, Option, Some, None, refl, ap, sym, subst, ◌∙◌, arith, append_assoc, length-append, slice_get}
-use Rattle.std.specs.Bool.{MatchBool}
+use Rattle.std.proofs.Common.{◌≡◌, ℕ, zero, suc, ◌+◌, ◌-◌, ◌==◌, ◌&&◌, not, ◌<◌, Bool, true, false, cond, List, [], ◌∷◌, ◌++◌, drop, length, Some, None, refl, ap, sym, subst, ◌∙◌, arith, append_assoc, length-append, slice_get}
 use Rattle.std.specs.List.{fold}
-use Rattle.std.specs.Prelude.{is_some, nat_lt, nat_le, slice_set}
+use Rattle.std.specs.Prelude.{nat_lt, nat_le, slice_set}
 use Rattle.std.proofs.lemmas.List.{append-nil}
 use Rattle.std.proofs.lemmas.List.Sums.{fold-append}
 use Rattle.qc_core.proofs.OrderLaw.{law}
@@ -14,7 +13,6 @@ use Rattle.qc_front.specs.Conduct.{front_after, front_does, called, heard}
 use Rattle.qc_front.specs.Moves.{FrontMove, moved}
 use Rattle.qc_front.specs.State.{front_sent}
 use Rattle.qc_msg.specs.declared.message.Envelope.{Envelope}
-use Rattle.qc_msg.specs.declared.message.Message.{Message}
 use Rattle.qc_msg.specs.declared.step.Command.{Command}
 use Rattle.qc_msg.specs.declared.step.Given.{Given}
 use Rattle.qc_msg.specs.declared.step.Given.TheVariants as given
@@ -22,9 +20,9 @@ use Rattle.qc_msg.specs.declared.step.Posting.{Posting}
 use Rattle.qc_msg.specs.declared.step.Step.{Step}
 use Rattle.qc_msg.specs.declared.step.Step.TheVariants.{Phase, Called, Got}
 use Rattle.qc_msg.specs.declared.step.Turn.{Turn}
-use Rattle.qc_msg.specs.Mail.{Deed, Ordered, Hears, WasSentTo, addressed, deed_of, deeds, envelopes, mail, sendings}
+use Rattle.qc_msg.specs.Mail.{Deed, WasSentTo, addressed, deed_of, deeds, envelopes, mail, sendings}
 use Rattle.qc_msg.specs.Steps.{Entry, by, marked, posted, step_of}
-use Rattle.qc_msg.proofs.Growth.{deeds-append, deeds-event, deeds-other, deeds-taken, mail-append, mail-event, mail-taken, length-envelopes}
+use Rattle.qc_msg.proofs.Growth.{deeds-event, deeds-other, deeds-taken, mail-append, mail-event, mail-taken, length-envelopes}
 use Rattle.qc_script.specs.declared.script.Script.{Script}
 use Rattle.qc_script.specs.Ready.{asked_in, busy_at, first_order, first_ready, is_busy, next_order, orders, orders_at, phase_of, ready, waiting, waiting_at}
 use Rattle.qc_script.specs.Runs.{Runs, takes, posts, phase}
@@ -32,7 +30,6 @@ use Rattle.qc_script.proofs.Found.{ready-sent}
 use Rattle.qc_script.proofs.Grows.{busy-posted, busy-step, busy_after, orders-posted, orders-step, phase-posted, phase-step, phase-taken, waiting-posted, waiting-step}
 use Rattle.qc_site.specs.Conduct.{site_after, site_does, site_on}
 use Rattle.qc_site.specs.Site.{SiteState, SiteMove}
-use Rattle.qc_front.specs.Fits.{IsNumbered}
 use Rattle.qc_front.specs.Numbers.{IsTold}
 use Rattle.qc_front.proofs.Numbers.{called_told, heard_told}
 use Rattle.qc_top.specs.Engine.{IsIdle, IsOne, Stands}

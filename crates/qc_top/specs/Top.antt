@@ -1,5 +1,5 @@
 -- What the top call leaves: a run of the words' script, its text, and a cause that is due.
-use Rattle.std.specs.Prelude.{◌≡◌, ℕ, true, ◌++◌, List, [], ◌∷◌, Option, Some, None, MatchOption, nat_le, length}
+use Rattle.std.specs.Prelude.{◌≡◌, ℕ, true, ◌++◌, List, [], Option, Some, None, MatchOption, nat_le, length}
 use Rattle.std.specs.Bool.{MatchBool}
 use Rattle.qc_core.specs.Conduct.{IsRun}
 use Rattle.qc_core.specs.Whole.{IsWhole}
