@@ -30,3 +30,4 @@ pub mod RecordLaws
 pub mod Statuses
 pub mod StatusLaw
 pub mod Recorded
+pub mod KeptLaw

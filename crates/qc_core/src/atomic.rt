@@ -54,3 +54,9 @@ pub fn transactions_move_on()
 pub fn records_are_the_verdicts()
     ensures { (script : Script) (h : List Entry) → IsRun one script h → (c : Commit) → In c (committed one h) → status one h c.tx ≡ Committed c.stamp }
 {}
+
+/// In every history each actor's records are kept: none of the steps that are
+/// built can lose one.
+pub fn histories_are_kept()
+    ensures { (h : List Entry) → Kept h }
+{}

@@ -13,8 +13,8 @@ mod laws;
 mod whole;
 
 pub use atomic::{
-    commit_stamps_rise, logs_have_committed_operations, records_are_the_verdicts, runs_are_atomic,
-    transactions_move_on,
+    commit_stamps_rise, histories_are_kept, logs_have_committed_operations,
+    records_are_the_verdicts, runs_are_atomic, transactions_move_on,
 };
 pub use laws::{clocks_and_counts_are_bounded, messages_and_replies_are_in_order};
 pub use whole::{

@@ -59,6 +59,7 @@ where
     ensures leaves { OverWords
         (λ script. Leaves script (K.taken sink.old) result.cause (K.taken sink.new) result.history)
         (F.files shelf.old) (texts_of words.now) }
+    ensures kept { Kept result.history }
     ensures atomic { Kept result.history → Atomic one result.history }
     ensures status { result.status ≡ status_of result.cause }
     ensures due { IsDue (F.files shelf.old) (texts_of words.now) result.cause }

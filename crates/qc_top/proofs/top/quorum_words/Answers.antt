@@ -1,4 +1,5 @@
 use Rattle.std.proofs.Common.{◌≡◌, ◌∙◌, List, ℕ, None, Some, rules, subst}
+use Rattle.qc_core.proofs.KeptLaw.{histories_are_kept}
 use Rattle.qc_top.proofs.Atomicity.{script_atomic}
 use Rattle.qc_top.proofs.Ends.{shelf_silent, words_caused, words_over, words_refused, words_taken}
 use Rattle.qc_top.specs.Top.{IsDueOfScript, Leaves, RunsScript}
@@ -38,3 +39,12 @@ returns-in-Ok-clause-atomic g c kept =
 
 pub returns-in-Err-clause-atomic : goal.returns-in-Err-clause-atomic
 returns-in-Err-clause-atomic g c kept = script_atomic None c.nothing-in-Err.result.history c.nothing-in-Err.ensures.history kept
+
+pub returns-in_default-clause-kept : goal.returns-in_default-clause-kept
+returns-in_default-clause-kept g c = histories_are_kept c.nothing.result.history
+
+pub returns-in-Ok-clause-kept : goal.returns-in-Ok-clause-kept
+returns-in-Ok-clause-kept g c = histories_are_kept c.run_bytes.result.history
+
+pub returns-in-Err-clause-kept : goal.returns-in-Err-clause-kept
+returns-in-Err-clause-kept g c = histories_are_kept c.nothing-in-Err.result.history
