@@ -3,7 +3,7 @@ use Rattle.std.specs.Prelude.{ℕ, List, ◌++◌}
 use Rattle.qc_decl.specs.declared.declaration.Declaration.{Declaration}
 use Rattle.qc_msg.specs.Steps.{Entry}
 use Rattle.qc_script.specs.declared.script.Script.{Script}
-use Rattle.qc_report.specs.Committed.{committed}
+use Rattle.qc_core.specs.Committed.{committed}
 use Rattle.qc_report.specs.Replies.{replies_text}
 use Rattle.qc_report.specs.LogText.{log_text}
 use Rattle.qc_report.specs.Replay.{replay, states_text}

@@ -2,7 +2,7 @@
 
 ghost use Rattle.std.specs.Prelude.{◌≡◌, IfOk, MatchOption, None, Some, map};
 ghost use Rattle.qc_decl.specs.Actors.{is_client};
-ghost use Rattle.qc_report.specs.Committed.{commit_by, committed};
+ghost use Rattle.qc_core.specs.Committed.{commit_by, committed};
 ghost use Rattle.qc_report.specs.Keys.{commit_of};
 
 use qc_decl::Declaration;

@@ -1,5 +1,5 @@
 use Rattle.std.proofs.Common.{◌≡◌, map, take}
-use Rattle.qc_report.specs.Committed.{committed}
+use Rattle.qc_core.specs.Committed.{committed}
 use Rattle.qc_report.specs.Keys.{commit_of}
 use Rattle.qc_report.proofs.committed.committed.Given as goal
 

@@ -2,7 +2,7 @@ use Rattle.std.proofs.Common.{◌≡◌, ◌++◌, ℕ, List, ap, ◌∙◌}
 use Rattle.std.specs.Prelude.{Option}
 use Rattle.qc_entry.specs.declared.record.Commit.{Commit}
 use Rattle.qc_msg.specs.Steps.{Entry}
-use Rattle.qc_report.specs.Committed.{committed}
+use Rattle.qc_core.specs.Committed.{committed}
 use Rattle.qc_report.specs.LogText.{log_text}
 use Rattle.qc_report.specs.Replies.{replies_text}
 use Rattle.qc_report.specs.Replay.{replay, states_text}
