@@ -9,41 +9,64 @@ mod outside;
 
 use outside::{FileShelf, OutSink};
 use qc_outside::{EmptyRack, OpenGate};
-use qc_top::{cause_text, quorum_words};
-use std::io::{self, Write};
+use qc_top::{Cause, cause_text, quorum_words};
+use std::io::{self, ErrorKind, Write};
 use std::process::ExitCode;
+use std::rt::{Env, Files};
+use std::sync::Wait;
+use std::thread::Threads;
 
-/// The status of words that the system doesn't tell as text.
-const NOT_BUILT: u8 = 9;
+/// The words that the program was called with, without its own name.
+fn words_of_call<R: Env + AllocGlobal>(rt: &R) -> io::Result<Vec<String>> {
+    let mut words = Vec::new(rt.alloc());
+    for word in std::env::args(rt)?.skip(1) {
+        words.push(word)?;
+    }
+    Ok(words)
+}
 
-fn main(rt: HostRuntime) -> io::Result<ExitCode> {
+/// Why the words couldn't be taken: memory was wanting, or one isn't text.
+fn cause_of(error: &io::Error) -> Cause {
+    match error.kind() {
+        ErrorKind::OutOfMemory => Cause::OutOfMemory,
+        _ => Cause::NotBuilt,
+    }
+}
+
+/// The top call over the system's files and standard output.
+fn run<R>(rt: &R, texts: &[String]) -> Cause
+where
+    R: Threads + Wait + Sync + Files + Print + AllocGlobal,
+{
     let alloc = rt.alloc();
-    let Ok(args) = std::env::args(&rt) else {
-        eprintln!(rt; "quorum: not built")?;
-        return Ok(ExitCode::from(NOT_BUILT));
-    };
-    let mut texts = Vec::new(alloc);
-    for word in args.skip(1) {
-        texts.push(word)?;
-    }
     let mut words = Vec::new(alloc);
-    for text in &texts {
-        words.push(text.as_str())?;
+    for text in texts {
+        if words.push(text.as_str()).is_err() {
+            return Cause::OutOfMemory;
+        }
     }
-    let mut shelf = FileShelf::new(&rt);
-    let mut sink = OutSink::new(&rt);
+    let mut shelf = FileShelf::new(rt);
+    let mut sink = OutSink::new(rt);
     let mut rack = EmptyRack::new(alloc);
-    let ended = quorum_words(
-        &rt,
+    quorum_words(
+        rt,
         alloc,
         words.as_slice(),
         &mut shelf,
         &mut sink,
         &mut rack,
         &OpenGate,
-    );
-    if let Ok(text) = cause_text(alloc, &ended.cause) {
+    )
+    .cause
+}
+
+fn main(rt: HostRuntime) -> io::Result<ExitCode> {
+    let cause = match words_of_call(&rt) {
+        Ok(words) => run(&rt, words.as_slice()),
+        Err(error) => cause_of(&error),
+    };
+    if let Ok(text) = cause_text(rt.alloc(), &cause) {
         rt.stderr().write_all(text.as_slice())?;
     }
-    Ok(ExitCode::from(ended.status))
+    Ok(ExitCode::from(cause.status()))
 }
