@@ -103,7 +103,7 @@ ready_client script h input rdy = by (waiting 1 h) refl rdy
     by [] is r = no_message is (orders 1 script h) (is_client one 1 && not (is_busy 1 h)) r
     by (e ∷ box) is r = let same : given.Got e.from e.number e.message ≡ input = cc in inl (e, box, is, same)
 
-idle_of : (r : Round) → runs r ≡ false → r ≡ Idle
+pub idle_of : (r : Round) → runs r ≡ false → r ≡ Idle
 idle_of Idle is = refl
 idle_of (Reading object inv) is = absurd (let never : ⊥ = cc in never)
 idle_of (Appending object inv e) is = absurd (let never : ⊥ = cc in never)

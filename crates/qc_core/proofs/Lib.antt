@@ -31,3 +31,7 @@ pub mod Statuses
 pub mod StatusLaw
 pub mod Recorded
 pub mod KeptLaw
+pub mod Happenings
+pub mod Dues
+pub mod DueLaw
+pub mod LegalLaw

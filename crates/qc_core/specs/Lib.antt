@@ -12,3 +12,4 @@ pub mod Kept
 pub mod Atomic
 pub mod Logged
 pub mod Status
+pub mod Due

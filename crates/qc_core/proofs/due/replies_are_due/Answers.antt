@@ -1,0 +1,5 @@
+use Rattle.qc_core.proofs.LegalLaw.{replies_are_due}
+use Rattle.qc_core.proofs.due.replies_are_due.Goals as goal
+
+pub returns : goal.returns
+returns c = replies_are_due
