@@ -1,4 +1,4 @@
 pub mod Turns
 pub mod Lands
 pub mod Ends
-pub mod Atomicity
+pub mod Promised

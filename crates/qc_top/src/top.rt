@@ -2,6 +2,7 @@
 
 ghost use Rattle.std.specs.Prelude.{◌≡◌, ◌≢◌, ◌≤◌, Some, None, List, [], length, true, Err};
 ghost use Rattle.qc_core.specs.Atomic.{Atomic};
+ghost use Rattle.qc_core.specs.Due.{Due};
 ghost use Rattle.qc_core.specs.Kept.{Kept};
 ghost use Rattle.qc_core.specs.Whole.{IsWhole};
 ghost use Rattle.qc_outside.specs.Causes.{Rose};
@@ -59,6 +60,7 @@ where
     ensures leaves { OverWords
         (λ script. Leaves script (K.taken sink.old) result.cause (K.taken sink.new) result.history)
         (F.files shelf.old) (texts_of words.now) }
+    ensures replies { Due one result.history }
     ensures kept { Kept result.history }
     ensures atomic { Kept result.history → Atomic one result.history }
     ensures status { result.status ≡ status_of result.cause }
