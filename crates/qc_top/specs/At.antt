@@ -1,5 +1,5 @@
 -- The loop's invariant and its answers, in terms of its fields.
-use Rattle.std.specs.Prelude.{◌≡◌, ℕ, ◌<◌, ◌≤◌, ◌+◌, ◌++◌, false, List, [], ◌∷◌, Option, Some, None, length}
+use Rattle.std.specs.Prelude.{◌≡◌, ℕ, ◌<◌, ◌≤◌, ◌+◌, ◌-◌, ◌^◌, min, ◌++◌, false, List, [], ◌∷◌, Option, Some, None, length}
 use Rattle.qc_decl.specs.declared.declaration.Declaration.{Declaration}
 use Rattle.qc_msg.specs.declared.step.Step.{Step}
 use Rattle.qc_msg.specs.declared.step.Turn.{Turn}
@@ -59,20 +59,28 @@ limit_of Steps = 262144
 limit_of Operations = 1024
 limit_of Carried = 8388608
 
+-- the number that is told of a quantity: itself, and at most what 32 bits hold where it isn't the steps
 abbrev pub number_of : What → List Entry → ℕ
 number_of Steps h = length h
-number_of Operations h = operations_of h
-number_of Carried h = carried_of h
+number_of Operations h = min (operations_of h) (2 ^ 32 - 1)
+number_of Carried h = min (carried_of h) (2 ^ 32 - 1)
+
+-- the quantities that are tested before this one are below their limits
+abbrev pub IsFirst : What → List Entry → Type 0
+IsFirst Steps h = Unit {0}
+IsFirst Operations h = length h < 262144
+IsFirst Carried h = (length h < 262144) × (operations_of h < 1024)
 
 pub record IsBelow (h : List Entry) : Type 0 where
   pub steps : length h < 262144
   pub operations : operations_of h < 1024
   pub carried : carried_of h < 8388608
 
--- a quantity reached its limit, and this is its number
+-- a quantity reached its limit, the first of those that did, and this is its number
 pub record HasReached (what : What) (number : ℕ) (h : List Entry) : Type 0 where
   pub limit : limit_of what ≤ number
-  pub number_is : number ≤ number_of what h
+  pub number_is : number ≡ number_of what h
+  pub first : IsFirst what h
 
 abbrev pub IsReached : Option (What × ℕ) → List Entry → Type 0
 IsReached None h = IsBelow h

@@ -68,6 +68,7 @@ where
     ensures full { IsFullCause result.cause result.history }
     ensures shelf { result.cause ≡ Cause.Shelf true ShelfFault.Failed → Rose (F.faults shelf.old) (F.faults shelf.new) }
     ensures sink { result.cause ≡ Cause.Sink → Rose (K.faults sink.old) (K.faults sink.new) }
+    ensures rack { R.faults _rack.new ≡ R.faults _rack.old }
 {
     let Some(name) = script_name(words) else {
         return nothing(alloc, Cause::NotBuilt);
