@@ -32,6 +32,7 @@ pub mod StatusLaw
 pub mod Recorded
 pub mod KeptLaw
 pub mod Happenings
+pub mod Views
 pub mod Dues
 pub mod DueLaw
 pub mod LegalLaw
