@@ -29,7 +29,8 @@ use Rattle.qc_core.specs.Bounds.{front_at}
 use Rattle.qc_core.specs.Conduct.{IsLawful, IsRun}
 use Rattle.qc_core.specs.Due.{Account, Due, EachReply, IsDueAt, account, account_at, happenings, no_account}
 use Rattle.qc_core.proofs.AtomicLaw.{idle_of}
-use Rattle.qc_core.proofs.Dues.{DueReply, Matches, Telling, account_after, called_tells, heard_tells}
+use Rattle.qc_core.proofs.Accounts.{DueReply, Matches, Telling, account_after}
+use Rattle.qc_core.proofs.Dues.{called_tells, heard_tells}
 use Rattle.qc_core.proofs.Happenings.{happening_of, happenings-other, happenings-phase, happenings-posted, happenings-taken, happenings-untold, posted_happenings, untold_happenings}
 use Rattle.qc_core.proofs.OrderLaw.{Law, clients_turn, law}
 use Rattle.qc_core.proofs.Sites.{site_silent}

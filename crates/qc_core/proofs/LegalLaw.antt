@@ -29,7 +29,7 @@ use Rattle.qc_core.specs.OneCopy.{Walks, operations, start_at}
 use Rattle.qc_core.proofs.AtomicLaw.{Standing, standing}
 use Rattle.qc_core.proofs.Doings.{Doing}
 use Rattle.qc_core.proofs.DueLaw.{DueLaw, OfTold, account-posted, account-untold, dues, input_each, posted_each, replies-append, site_each, untold}
-use Rattle.qc_core.proofs.Dues.{Matches, account_after}
+use Rattle.qc_core.proofs.Accounts.{Matches, account_after}
 use Rattle.qc_core.proofs.Happenings.{tells_happenings, untold_happenings}
 use Rattle.qc_core.proofs.Places.{slice_get-set_same}
 use Rattle.qc_core.proofs.Sense.{Copied, Works, ops_of}

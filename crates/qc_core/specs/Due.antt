@@ -7,11 +7,8 @@ use Rattle.qc_stamp.specs.declared.stamp.TxId.{TxId}
 use Rattle.qc_entry.specs.declared.line.Line.{Line}
 use Rattle.qc_entry.specs.declared.line.Op.{Op}
 use Rattle.qc_entry.specs.Log.{of_object, union}
-use Rattle.qc_decl.specs.Lookup.{append_need_of, read_need_of, table_at}
-use Rattle.qc_table.specs.Rules.{Rules}
-use Rattle.qc_table.specs.Run.{after, lowest_in, step_of}
-use Rattle.qc_core.specs.Logged.{event_at}
 use Rattle.qc_entry.specs.declared.record.Commit.{Commit}
+use Rattle.qc_decl.specs.Lookup.{append_need_of, read_need_of, table_at}
 use Rattle.qc_decl.specs.declared.declaration.Declaration.{Declaration}
 use Rattle.qc_front.specs.State.{first_epoch, first_life, is_awaited, most_operations}
 use Rattle.qc_msg.specs.declared.message.Envelope.{Envelope}
@@ -29,6 +26,9 @@ use Rattle.qc_msg.specs.declared.step.Why.{Why}
 use Rattle.qc_msg.specs.declared.step.Why.TheVariants.{Forgot}
 use Rattle.qc_msg.specs.Mail.{envelope_of}
 use Rattle.qc_msg.specs.Steps.{Entry}
+use Rattle.qc_table.specs.Rules.{Rules}
+use Rattle.qc_table.specs.Run.{after, lowest_in, step_of}
+use Rattle.qc_core.specs.Logged.{event_at}
 use Rattle.qc_core.specs.Committed.{committed}
 use Rattle.qc_core.specs.Deals.{operation}
 use Rattle.qc_core.specs.OneCopy.{Walks, operations, start_at}
@@ -82,7 +82,7 @@ pub record Account : Type 0 where
   -- its request to promise that isn't answered, and the site that it asked last
   pub vote : Option ℕ
   pub voter : ℕ
-  -- since that command: how many grants counted, the answer that counted last, and the commit record that it wrote
+  -- since its last command: how many grants counted, which answer counted last, and the commit record that it wrote
   pub grants : ℕ
   pub answer : Option Message
   pub wrote : Option Commit
@@ -160,7 +160,7 @@ state_viewed decl d object rules = after (step_of rules.rows) rules.start (map (
 abbrev pub response : Declaration → Account → ℕ → ℕ → Option ℕ
 response decl d object inv = option_and_then (λ (rules : Rules). option_and_then (λ (state : ℕ). lowest_in rules.rows state inv) (state_viewed decl d object rules)) (table_at decl object)
 
--- how many grants a weight needs, where one site has all weight
+-- how many grants a weight needs: one where it is above 0, since each round asks one site, which has all weight
 abbrev pub rounds : ℕ → ℕ
 rounds weight = if nat_lt 0 weight then 1 else 0
 
