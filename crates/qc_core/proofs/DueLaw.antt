@@ -15,7 +15,7 @@ use Rattle.qc_msg.specs.declared.step.Posting.{Posting}
 use Rattle.qc_msg.specs.declared.step.Record.{Record}
 use Rattle.qc_msg.specs.declared.step.Reply.{Reply}
 use Rattle.qc_msg.specs.declared.step.Step.{Step}
-use Rattle.qc_msg.specs.declared.step.Step.TheVariants.{Phase, Sent, Told}
+use Rattle.qc_msg.specs.declared.step.Step.TheVariants.{Phase, Sent}
 use Rattle.qc_msg.specs.declared.step.Turn.{Turn}
 use Rattle.qc_msg.specs.Mail.{Deed, WasSentTo, deed_of, deeds, mail}
 use Rattle.qc_msg.specs.Steps.{Entry, by, marked, posted, sents, step_of, told, wrote}
@@ -26,26 +26,17 @@ use Rattle.qc_script.specs.Runs.{Runs, begins, takes, posts, phase}
 use Rattle.qc_script.proofs.Found.{ready-called, ready-sent}
 use Rattle.qc_site.specs.Conduct.{site_after}
 use Rattle.qc_core.specs.Bounds.{front_at}
-use Rattle.qc_core.specs.Conduct.{IsLawful}
-use Rattle.qc_core.specs.Due.{Account, IsDue, account, account_at, happenings, no_account}
-use Rattle.qc_core.specs.Order.{EachAfter}
+use Rattle.qc_core.specs.Conduct.{IsLawful, IsRun}
+use Rattle.qc_core.specs.Due.{Account, Due, EachReply, IsDueAt, account, account_at, happenings, no_account}
 use Rattle.qc_core.proofs.AtomicLaw.{idle_of}
-use Rattle.qc_core.proofs.Dues.{DueReply, Matches, Telling, account_after, called_tells, heard_tells}
+use Rattle.qc_core.proofs.Accounts.{DueReply, Matches, Telling, account_after}
+use Rattle.qc_core.proofs.Dues.{called_tells, heard_tells}
 use Rattle.qc_core.proofs.Happenings.{happening_of, happenings-other, happenings-phase, happenings-posted, happenings-taken, happenings-untold, posted_happenings, untold_happenings}
 use Rattle.qc_core.proofs.OrderLaw.{Law, clients_turn, law}
 use Rattle.qc_core.proofs.Sites.{site_silent}
 use Rattle.qc_core.proofs.Places.{slice_get-replicate, slice_get-set_other, slice_get-set_same}
 
--- each reply of a history meets a relation, with the steps before it
-
-abbrev pub OnReply : (Reply → Type 0) → Step → Type 0
-OnReply P (Told reply) = P reply
-OnReply P _ = Unit {0}
-
-abbrev pub EachReply : (List Entry → ℕ → Reply → Type 0) → List Entry → List Entry → Type 0
-EachReply P before h = EachAfter (λ (k : List Entry) (e : Entry). OnReply (P k e.actor) e.step) before h
-
--- over two parts of a history
+-- each reply over two parts of a history
 pub replies-append : (P : List Entry → ℕ → Reply → Type 0) (before h k : List Entry) → EachReply P before h → EachReply P (before ++ h) k → EachReply P before (h ++ k)
 replies-append P before [] k first rest = subst (λ (v : List Entry). EachReply P v k) (append-nil before) rest
 replies-append P before (e ∷ h) k first rest =
@@ -119,13 +110,9 @@ same_account : (decl : Declaration) (client : ℕ) (d d' : Account) (m m' : Fron
 same_account decl client d d' m m' o o' x y z is =
     subst (λ v. AccountAt decl client v m' o') x (subst (λ v. AccountAt decl client d v o') y (subst (λ v. AccountAt decl client d m v) z is))
 
--- a reply is due by the account of the steps before it
-abbrev pub IsDueOf : Declaration → List Entry → ℕ → Reply → Type 0
-IsDueOf decl before actor reply = IsDue (actor - decl.sites) (account actor before) reply
-
 pub record DueLaw (decl : Declaration) (h : List Entry) (open_inputs : List Bool) : Type 0 where
   pub fronts : (a : ℕ) → is_site decl a ≡ false → AccountAt decl (a - decl.sites) (account a h) (front_at decl a h) (slice_get open_inputs a)
-  pub due : EachReply (IsDueOf decl) [] h
+  pub due : EachReply (IsDueAt decl) [] h
 
 module _ (decl : Declaration) (script : Script) where
   others_kept : (a b : ℕ) (h : List Entry) (open_inputs : List Bool) (xs : List Step) (v : Bool) → (b == a) ≡ false → AccountAt decl (a - decl.sites) (account a h) (front_at decl a h) (slice_get open_inputs a)
@@ -163,16 +150,16 @@ module _ (decl : Declaration) (script : Script) where
       (record { closed = λ e. (is.opened taken).matches (length (mail h)); opened = λ e. absurd (let never : ⊥ = cc in never) }))
 
   reply_due : (b : ℕ) (k : List Entry) (before : List Bool) (turn : Turn) → DueLaw decl k before → slice_get before b ≡ Some true → IsLawful decl b (deeds b [] k) turn
-      → (t : Bool) → is_site decl b ≡ t → OfTold (IsDueOf decl (k ++ untold b (length (mail k)) turn) b) turn.told
+      → (t : Bool) → is_site decl b ≡ t → OfTold (IsDueAt decl (k ++ untold b (length (mail k)) turn) b) turn.told
   reply_due b k before turn old taken lawful true is = site_each _ decl b (deeds b [] k) turn is lawful
   reply_due b k before turn old taken lawful false is =
-      subst (λ (t : Turn). OfTold (IsDueOf decl (k ++ untold b (length (mail k)) t) b) t.told) (sym (clients_turn decl script b k turn is lawful))
+      subst (λ (t : Turn). OfTold (IsDueAt decl (k ++ untold b (length (mail k)) t) b) t.told) (sym (clients_turn decl script b k turn is lawful))
       (of (front_at decl b k).turn (((old.fronts b is).opened taken).due (length (mail k))))
     where
-      of : (t : Turn) → DueReply (b - decl.sites) (account_after (account b k) (untold_happenings (length (mail k)) t)) t.told → OfTold (IsDueOf decl (k ++ untold b (length (mail k)) t) b) t.told
-      of t due = by t.told (subst (λ (d : Account). DueReply (b - decl.sites) d t.told) (sym (account-untold b (length (mail k)) k t)) due)
+      of : (t : Turn) → DueReply decl (b - decl.sites) (account_after (account b k) (untold_happenings (length (mail k)) t)) t.told → OfTold (IsDueAt decl (k ++ untold b (length (mail k)) t) b) t.told
+      of t due = by t.told (subst (λ (d : Account). DueReply decl (b - decl.sites) d t.told) (sym (account-untold b (length (mail k)) k t)) due)
         where
-          by : (reply : Option Reply) → DueReply (b - decl.sites) (account b (k ++ untold b (length (mail k)) t)) reply → OfTold (IsDueOf decl (k ++ untold b (length (mail k)) t) b) reply
+          by : (reply : Option Reply) → DueReply decl (b - decl.sites) (account b (k ++ untold b (length (mail k)) t)) reply → OfTold (IsDueAt decl (k ++ untold b (length (mail k)) t) b) reply
           by None is = tt
           by (Some reply) is = is
 
@@ -183,7 +170,7 @@ module _ (decl : Declaration) (script : Script) where
         record {
           closed = λ e.
               record {
-                agrees = record { client_is = refl; count_is = refl; clock_is = refl; begun_is = refl; ops_are = refl; life_is = refl };
+                agrees = record { client_is = refl; count_is = refl; clock_is = refl; begun_is = refl; ops_are = refl; life_is = refl; view_is = refl; owns = λ object. refl };
                 serves = (refl, refl);
               };
           opened = λ e. absurd (slice_get-replicate (actors decl) a e);
@@ -194,7 +181,7 @@ module _ (decl : Declaration) (script : Script) where
       let old : DueLaw decl k before = dues k before run in
       record {
         fronts = λ a client. taken_by a b k before input (law decl script k before run) rdy old free client (b == a) refl;
-        due = replies-append (IsDueOf decl) [] k (marked b (step_of input) ∷ []) old.due (input_each (IsDueOf decl) k b input);
+        due = replies-append (IsDueAt decl) [] k (marked b (step_of input) ∷ []) old.due (input_each (IsDueAt decl) k b input);
       }
     where
       taken_by : (a b : ℕ) (k : List Entry) (before : List Bool) (input : Given) → Law decl script k before → ready decl script b k ≡ Some input → DueLaw decl k before → slice_get before b ≡ Some false
@@ -210,8 +197,8 @@ module _ (decl : Declaration) (script : Script) where
       let old : DueLaw decl k before = dues k before run in
       record {
         fronts = λ a client. posted_by a b k before turn old taken lawful client (b == a) refl;
-        due = replies-append (IsDueOf decl) [] k (by b (posted (length (mail k)) turn)) old.due
-            (posted_each (IsDueOf decl) b (length (mail k)) k turn (reply_due b k before turn old taken lawful (is_site decl b) refl));
+        due = replies-append (IsDueAt decl) [] k (by b (posted (length (mail k)) turn)) old.due
+            (posted_each (IsDueAt decl) b (length (mail k)) k turn (reply_due b k before turn old taken lawful (is_site decl b) refl));
       }
     where
       posted_by : (a b : ℕ) (k : List Entry) (before : List Bool) (turn : Turn) → DueLaw decl k before → slice_get before b ≡ Some true → IsLawful decl b (deeds b [] k) turn → is_site decl a ≡ false
@@ -229,5 +216,8 @@ module _ (decl : Declaration) (script : Script) where
         fronts = λ a client.
             same_account _ _ _ _ _ _ _ _ (sym (account-phase a (controller decl) (phase_of k + 1) k)) (ap (front_after decl (a - decl.sites)) (sym (deeds-phase (controller decl) a (phase_of k + 1) [] k))) refl
             (old.fronts a client);
-        due = replies-append (IsDueOf decl) [] k (marked (controller decl) (Phase (phase_of k + 1)) ∷ []) old.due (tt, tt);
+        due = replies-append (IsDueAt decl) [] k (marked (controller decl) (Phase (phase_of k + 1)) ∷ []) old.due (tt, tt);
       }
+
+pub replies_are_due : (decl : Declaration) (script : Script) (h : List Entry) → IsRun decl script h → Due decl h
+replies_are_due decl script h run = (dues decl script h run.0 run.1).due

@@ -1,22 +1,24 @@
 -- A client's moves tell replies that are due.
-use Rattle.std.proofs.Common.{◌≡◌, ◌<◌, ◌≤◌, ℕ, ◌+◌, ◌==◌, Bool, true, false, cond, List, [], ◌∷◌, ◌++◌, fold, Option, Some, None, ◌⊎◌, inl, inr, refl, sym, ap, subst, ◌∙◌, arith}
+use Rattle.std.proofs.Common.{◌≡◌, ◌<◌, ◌≤◌, ℕ, ◌+◌, ◌==◌, Bool, true, false, cond, List, [], ◌∷◌, ◌++◌, Option, Some, None, ◌⊎◌, inl, inr, refl, sym, ap, subst, ◌∙◌, arith}
 use Rattle.std.specs.Prelude.{nat_le, nat_lt, length, max}
 use Rattle.std.proofs.lemmas.Bool.{eqb-true, leb-true}
+use Rattle.std.specs.Option.{option_map_or}
+use Rattle.qc_entry.specs.declared.line.Line.{Line}
+use Rattle.qc_entry.specs.declared.line.Op.{Op}
+use Rattle.qc_entry.specs.Log.{union}
 use Rattle.qc_decl.specs.declared.declaration.Declaration.{Declaration}
 use Rattle.qc_decl.specs.Actors.{first_site}
 use Rattle.qc_decl.specs.Lookup.{append_need_of, read_need_of}
-use Rattle.qc_entry.specs.declared.line.Line.{Line}
-use Rattle.qc_entry.specs.declared.line.Op.{Op}
 use Rattle.qc_front.specs.declared.begun.Begun.{Begun}
 use Rattle.qc_front.specs.declared.front.Front.{Front}
 use Rattle.qc_front.specs.declared.round.Round.{Round}
 use Rattle.qc_front.specs.declared.round.Round.TheVariants.{Idle, Reading, Appending, Voting}
-use Rattle.qc_front.specs.Conduct.{called, heard, front_does}
+use Rattle.qc_front.specs.Conduct.{called, heard}
 use Rattle.qc_front.specs.Ending.{aborts, begins, commit_of, commits, decides, forgotten, gives_up, next_stamp, prepares, promised}
 use Rattle.qc_front.specs.Moves.{FrontMove, moved, quiet}
 use Rattle.qc_front.specs.Operation.{absent, answered, answered_by, appends, executes, granted, joined, met, performs, reads, responded}
 use Rattle.qc_front.specs.State.{first_epoch, first_life, fresh, is_awaited, most_operations, next_tx, passed, turned}
-use Rattle.qc_front.specs.View.{answer_of, resp_of}
+use Rattle.qc_front.specs.View.{answer_of, next_own, resp_of}
 use Rattle.qc_msg.specs.declared.message.Message.{Message}
 use Rattle.qc_msg.specs.declared.message.Message.TheVariants.{Read, Append, Prepare, Granted, Stale, Yes, Decision}
 use Rattle.qc_msg.specs.declared.message.Outcome.TheVariants as verdicts
@@ -26,79 +28,15 @@ use Rattle.qc_msg.specs.declared.step.Command.TheVariants as commands
 use Rattle.qc_msg.specs.declared.step.Reply.{Reply}
 use Rattle.qc_msg.specs.declared.step.Reply.TheVariants as replies
 use Rattle.qc_msg.specs.declared.step.Why.TheVariants.{Forgot}
-use Rattle.qc_msg.specs.Mail.{sendings}
+use Rattle.qc_core.specs.Logged.{event_at}
+use Rattle.qc_core.proofs.Views.{Owns, answer_first, answer_none, answer_numbered, owns-absent, owns-event}
 use Rattle.qc_core.specs.Deals.{operation}
-use Rattle.qc_core.specs.Due.{Account, Calls, Happening, IsCommitted, IsDue, IsExecuted, IsPromise, NeedsBegun, Takes, Tells, Writes, account_at}
-use Rattle.qc_core.proofs.Happenings.{posted_happenings, untold_happenings}
-use Rattle.qc_core.proofs.Sense.{name_of, ops_of}
-
-abbrev pub life_of : Option Begun → ℕ
-life_of None = 0
-life_of (Some b) = b.life
-
--- the account is the client's state
-pub record Agrees (client : ℕ) (d : Account) (itself count clock : ℕ) (b : Option Begun) : Type 0 where
-  pub client_is : itself ≡ client
-  pub count_is : d.count ≡ count
-  pub clock_is : d.clock ≡ clock
-  pub begun_is : d.begun ≡ name_of b
-  pub ops_are : d.ops ≡ ops_of b
-  pub life_is : d.life ≡ life_of b
-
--- a request to read or append runs
-pub record IsRunning (d : Account) (awaits : Option ℕ) (object inv : ℕ) : Type 0 where
-  pub asked : d.asked ≡ Some (commands.Do object inv)
-  pub request : d.request ≡ awaits
-  pub vote : d.vote ≡ None
-  pub room : length d.ops < most_operations
-
--- a request to promise runs
-pub record IsPromising (client_site : ℕ) (d : Account) (awaits : Option ℕ) : Type 0 where
-  pub asked : d.asked ≡ Some commands.Commit
-  pub request : d.request ≡ None
-  pub vote : d.vote ≡ awaits
-  pub voter : d.voter ≡ client_site
-  pub unwritten : d.wrote ≡ None
-
--- the running request is the account's
-abbrev pub Serves : ℕ → Account → Option Begun → Round → Option ℕ → Type 0
-Serves site d b Idle awaits = (d.request ≡ None) × (d.vote ≡ None)
-Serves site d (Some b) (Reading object inv) awaits = IsRunning d awaits object inv
-Serves site d (Some b) (Appending object inv e) awaits = IsRunning d awaits object inv
-Serves site d (Some b) Voting awaits = IsPromising site d awaits
-Serves site d None (Reading object inv) awaits = ⊥
-Serves site d None (Appending object inv e) awaits = ⊥
-Serves site d None Voting awaits = ⊥
-
-pub record Matches (decl : Declaration) (client : ℕ) (d : Account) (f : Front) : Type 0 where
-  pub agrees : Agrees client d f.client f.count f.clock.value f.begun
-  pub serves : Serves (first_site decl f.client) d f.begun f.round f.awaits
-
-abbrev pub DueReply : ℕ → Account → Option Reply → Type 0
-DueReply client d None = Unit {0}
-DueReply client d (Some reply) = IsDue client d reply
-
-abbrev pub account_after : Account → List Happening → Account
-account_after d xs = fold account_at d xs
-
--- the move's reply is due, whatever number its messages have, and the account is the client's state after it
-pub record Telling (decl : Declaration) (client : ℕ) (d : Account) (m : FrontMove) : Type 0 where
-  pub due : (n : ℕ) → DueReply client (account_after d (untold_happenings n m.turn)) m.turn.told
-  pub matches : (n : ℕ) → Matches decl client (account_after d (posted_happenings n m.turn)) (fold (front_does decl) m (sendings n m.turn.sends)).front
-
--- a choice by a test
-tells_by : (decl : Declaration) (client : ℕ) (d : Account) (t : Bool) (x y : FrontMove) → (t ≡ true → Telling decl client d x) → (t ≡ false → Telling decl client d y) → Telling decl client d (cond t x y)
-tells_by decl client d true x y p q = p refl
-tells_by decl client d false x y p q = q refl
-
--- both sides choose by one test
-both_by : (decl : Declaration) (client : ℕ) (t : Bool) (c d : Account) (x y : FrontMove) → (t ≡ true → Telling decl client c x) → (t ≡ false → Telling decl client d y) → Telling decl client (cond t c d) (cond t x y)
-both_by decl client true c d x y p q = p refl
-both_by decl client false c d x y p q = q refl
+use Rattle.qc_core.specs.Due.{Account, Calls, IsCommitted, IsDue, IsPromise, NeedsBegun, Takes, Tells, Writes, account_at, rounds}
+use Rattle.qc_core.proofs.Accounts.{Agrees, IsPromising, Matches, Serves, Telling, both_by, tells_by}
 
 module _ (decl : Declaration) (client : ℕ) where
   abbrev Of : Account → Front → Option Begun → Type 0
-  Of d f b = Agrees client d f.client f.count f.clock.value b
+  Of d f b = Agrees decl client d f.client f.count f.clock.value b
 
   -- nothing is done
   aside : (d : Account) (f : Front) → Matches decl client d f → Telling decl client d (moved f quiet)
@@ -116,7 +54,7 @@ module _ (decl : Declaration) (client : ℕ) where
     matches = λ n.
         record {
           agrees = subst (λ (o : Option Begun). Of d f o) (sym is) k;
-          serves = subst (λ (r : Round). Serves (first_site decl f.client) d f.begun r f.awaits) (sym rests) (idle.request, idle.vote);
+          serves = subst (λ (r : Round). Serves decl (first_site decl f.client) d f.begun r f.awaits) (sym rests) (idle.request, idle.vote);
         };
   }
   begins_tells d f None is asked k idle rests = record {
@@ -124,8 +62,8 @@ module _ (decl : Declaration) (client : ℕ) where
     matches = λ n.
         record {
           agrees =
-              record { client_is = k.client_is; count_is = ap (λ (v : ℕ). v + 1) k.count_is; clock_is = k.clock_is; begun_is = refl; ops_are = refl; life_is = refl };
-          serves = subst (λ (r : Round). Serves (first_site decl f.client) (account_at d (Tells (replies.Began (next_tx f)))) (Some (fresh (next_tx f))) r f.awaits) (sym rests) (idle.request, idle.vote);
+              record { client_is = k.client_is; count_is = ap (λ (v : ℕ). v + 1) k.count_is; clock_is = k.clock_is; begun_is = refl; ops_are = refl; life_is = refl; view_is = refl; owns = λ object. refl };
+          serves = subst (λ (r : Round). Serves decl (first_site decl f.client) (account_at d (Tells (replies.Began (next_tx f)))) (Some (fresh (next_tx f))) r f.awaits) (sym rests) (idle.request, idle.vote);
         };
   }
 
@@ -136,22 +74,19 @@ module _ (decl : Declaration) (client : ℕ) where
     pub vote : d.vote ≡ None
     pub room : length d.ops < most_operations
 
-  executed : (d : Account) (f : Front) (b : Begun) (object inv : ℕ) → Of d f (Some b) → Executes d object inv → IsExecuted d
-  executed d f b object inv k e = record { asked = (object, inv, e.asked); begun = (b.tx, k.begun_is); room = e.room }
-
-  absent_tells : (d : Account) (f : Front) (b : Begun) (object inv : ℕ) → Of d f (Some b) → Executes d object inv → Telling decl client d (absent f b object inv)
-  absent_tells d f b object inv k e = record {
-    due = λ n. executed d f b object inv k e;
-    matches = λ n.
+  absent_tells : (d : Account) (f : Front) (b : Begun) (object inv : ℕ) → Of d f (Some b) → Executes d object inv → answer_of decl b object inv ≡ None → rounds (read_need_of decl first_epoch object inv) ≤ d.grants
+      → Telling decl client d (absent f b object inv)
+  absent_tells d f b object inv k e none met_read = record {
+    due = λ n.
         record {
-          agrees = record { client_is = k.client_is; count_is = k.count_is; clock_is = k.clock_is; begun_is = k.begun_is; ops_are = λ i. k.ops_are i ++ operation (e.asked i) None; life_is = k.life_is };
-          serves = (e.request, e.vote);
+          object = object;
+          inv = inv;
+          asked = e.asked;
+          begun = (b.tx, k.begun_is);
+          room = e.room;
+          granted = no_more (rounds (read_need_of decl first_epoch object inv)) d.grants met_read;
+          first = answer_none decl d b object inv k.view_is k.owns none;
         };
-  }
-
-  responded_tells : (d : Account) (f : Front) (b : Begun) (object inv event : ℕ) → Of d f (Some b) → Executes d object inv → Telling decl client d (responded decl f b object inv event)
-  responded_tells d f b object inv event k e = record {
-    due = λ n. executed d f b object inv k e;
     matches = λ n.
         record {
           agrees =
@@ -160,20 +95,61 @@ module _ (decl : Declaration) (client : ℕ) where
                 count_is = k.count_is;
                 clock_is = k.clock_is;
                 begun_is = k.begun_is;
-                ops_are = λ i. k.ops_are i ++ operation (e.asked i) (Some (resp_of decl object event));
+                ops_are = λ i. k.ops_are i ++ operation (e.asked i) None;
                 life_is = k.life_is;
+                view_is = k.view_is;
+                owns = subst (λ (c : Option Command). Owns decl (d.ops ++ operation c None) b.own) (sym e.asked) (owns-absent decl d.ops b.own object inv k.owns);
               };
           serves = (e.request, e.vote);
         };
   }
+    where
+      no_more : (m n : ℕ) → m ≤ n → m + 0 ≤ n
+      no_more m n le = omega arith
 
-  appends_tells : (d : Account) (f : Front) (b : Begun) (object inv event : ℕ) → Of d f (Some b) → Executes d object inv → Telling decl client d (appends decl f b object inv event)
-  appends_tells d f b object inv event k e = record {
+  responded_tells : (d : Account) (f : Front) (b : Begun) (object inv event : ℕ) → Of d f (Some b) → Executes d object inv → answer_of decl b object inv ≡ Some event
+      → rounds (read_need_of decl first_epoch object inv) + rounds (append_need_of decl first_epoch object event) ≤ d.grants → Telling decl client d (responded decl f b object inv event)
+  responded_tells d f b object inv event k e is met_both =
+      let numbered : event_at decl object inv (resp_of decl object event) ≡ Some event = answer_numbered decl b object inv event is in
+      record {
+        due = λ n.
+            record {
+              object = object;
+              inv = inv;
+              asked = e.asked;
+              begun = (b.tx, k.begun_is);
+              room = e.room;
+              granted =
+                  subst (λ (o : Option ℕ). rounds (read_need_of decl first_epoch object inv) + option_map_or (λ (v : ℕ). rounds (append_need_of decl first_epoch object v)) o 0 ≤ d.grants) (sym numbered) met_both;
+              first = answer_first decl d b object inv event k.view_is k.owns is;
+            };
+        matches = λ n.
+            record {
+              agrees =
+                  record {
+                    client_is = k.client_is;
+                    count_is = k.count_is;
+                    clock_is = k.clock_is;
+                    begun_is = k.begun_is;
+                    ops_are = λ i. k.ops_are i ++ operation (e.asked i) (Some (resp_of decl object event));
+                    life_is = k.life_is;
+                    view_is = k.view_is;
+                    owns =
+                        subst (λ (c : Option Command). Owns decl (d.ops ++ operation c (Some (resp_of decl object event))) (b.own ++ next_own b object event ∷ [])) (sym e.asked)
+                        (owns-event decl d.ops b.own object inv (resp_of decl object event) (length b.ops + 1) event numbered k.owns);
+                  };
+              serves = (e.request, e.vote);
+            };
+      }
+
+  appends_tells : (d : Account) (f : Front) (b : Begun) (object inv event : ℕ) → Of d f (Some b) → Executes d object inv → answer_of decl b object inv ≡ Some event → rounds (read_need_of decl first_epoch object inv) ≤ d.grants
+      → Telling decl client d (appends decl f b object inv event)
+  appends_tells d f b object inv event k e is met_read = record {
     due = λ n. tt;
     matches = λ n.
         record {
-          agrees = record { client_is = k.client_is; count_is = k.count_is; clock_is = k.clock_is; begun_is = k.begun_is; ops_are = k.ops_are; life_is = k.life_is };
-          serves = record { asked = e.asked; request = refl; vote = e.vote; room = e.room };
+          agrees = record { client_is = k.client_is; count_is = k.count_is; clock_is = k.clock_is; begun_is = k.begun_is; ops_are = k.ops_are; life_is = k.life_is; view_is = k.view_is; owns = k.owns };
+          serves = (record { asked = e.asked; request = refl; vote = e.vote; room = e.room }, record { answer = is; granted = met_read; appends = refl });
         };
   }
 
@@ -182,16 +158,35 @@ module _ (decl : Declaration) (client : ℕ) where
     due = λ n. tt;
     matches = λ n.
         record {
-          agrees = record { client_is = k.client_is; count_is = k.count_is; clock_is = k.clock_is; begun_is = k.begun_is; ops_are = k.ops_are; life_is = k.life_is };
-          serves = record { asked = e.asked; request = refl; vote = e.vote; room = e.room };
+          agrees = record { client_is = k.client_is; count_is = k.count_is; clock_is = k.clock_is; begun_is = k.begun_is; ops_are = k.ops_are; life_is = k.life_is; view_is = k.view_is; owns = k.owns };
+          serves = (record { asked = e.asked; request = refl; vote = e.vote; room = e.room }, refl);
         };
   }
 
-  answered_tells : (d : Account) (f : Front) (b : Begun) (object inv : ℕ) (event : Option ℕ) → Of d f (Some b) → Executes d object inv → Telling decl client d (answered_by decl f b object inv event)
-  answered_tells d f b object inv None k e = absent_tells d f b object inv k e
-  answered_tells d f b object inv (Some event) k e =
+  -- a grant meets each weight
+  one_grant : (weight : ℕ) → rounds weight ≤ 1
+  one_grant weight = by (nat_lt 0 weight)
+    where
+      by : (t : Bool) → cond t 1 0 ≤ 1
+      by true = omega arith
+      by false = omega arith
+
+  -- no weight needs none
+  no_grant : (weight : ℕ) → nat_lt 0 weight ≡ false → rounds weight ≡ 0
+  no_grant weight is = ap (λ (t : Bool). cond t 1 0) is
+
+  answered_tells : (d : Account) (f : Front) (b : Begun) (object inv : ℕ) (event : Option ℕ) → Of d f (Some b) → Executes d object inv → answer_of decl b object inv ≡ event
+      → rounds (read_need_of decl first_epoch object inv) ≤ d.grants → Telling decl client d (answered_by decl f b object inv event)
+  answered_tells d f b object inv None k e is met_read = absent_tells d f b object inv k e is met_read
+  answered_tells d f b object inv (Some event) k e is met_read =
       tells_by decl client d (nat_lt 0 (append_need_of decl first_epoch object event)) (appends decl f b object inv event) (responded decl f b object inv event)
-      (λ is. appends_tells d f b object inv event k e) (λ is. responded_tells d f b object inv event k e)
+      (λ need. appends_tells d f b object inv event k e is met_read)
+      (λ none.
+      responded_tells d f b object inv event k e is
+      (subst (λ (v : ℕ). rounds (read_need_of decl first_epoch object inv) + v ≤ d.grants) (sym (no_grant (append_need_of decl first_epoch object event) none)) (no_more _ _ met_read)))
+    where
+      no_more : (m n : ℕ) → m ≤ n → m + 0 ≤ n
+      no_more m n le = omega arith
 
   performs_tells : (d : Account) (f : Front) (b : Option Begun) (object inv : ℕ) → f.begun ≡ b → d.asked ≡ Some (commands.Do object inv) → Of d f b → IsIdle d → f.round ≡ Idle
       → Telling decl client d (performs decl f b object inv)
@@ -200,7 +195,7 @@ module _ (decl : Declaration) (client : ℕ) where
     matches = λ n.
         record {
           agrees = subst (λ (o : Option Begun). Of d f o) (sym is) k;
-          serves = subst (λ (r : Round). Serves (first_site decl f.client) d f.begun r f.awaits) (sym rests) (idle.request, idle.vote);
+          serves = subst (λ (r : Round). Serves decl (first_site decl f.client) d f.begun r f.awaits) (sym rests) (idle.request, idle.vote);
         };
   }
   performs_tells d f (Some b) object inv is asked k idle rests =
@@ -211,17 +206,22 @@ module _ (decl : Declaration) (client : ℕ) where
         matches = λ n.
             record {
               agrees = subst (λ (o : Option Begun). Of d f o) (sym is) k;
-              serves = subst (λ (r : Round). Serves (first_site decl f.client) d f.begun r f.awaits) (sym rests) (idle.request, idle.vote);
+              serves = subst (λ (r : Round). Serves decl (first_site decl f.client) d f.begun r f.awaits) (sym rests) (idle.request, idle.vote);
             };
       })
       (λ free.
       let e : Executes d object inv =
       record { asked = asked; request = idle.request; vote = idle.vote; room = subst (λ (v : List Op). length v < most_operations) (sym k.ops_are) (has_room (length b.ops) free) } in
       tells_by decl client d (nat_lt 0 (read_need_of decl first_epoch object inv)) (reads decl f b object inv) (answered decl f b object inv)
-      (λ need. reads_tells d f b object inv k e) (λ none. answered_tells d f b object inv (answer_of decl b object inv) k e))
+      (λ need. reads_tells d f b object inv k e)
+      (λ none.
+      answered_tells d f b object inv (answer_of decl b object inv) k e refl (subst (λ (v : ℕ). v ≤ d.grants) (sym (no_grant (read_need_of decl first_epoch object inv) none)) (least d.grants))))
     where
       has_room : (n : ℕ) → nat_le most_operations n ≡ false → n < most_operations
       has_room n free = grind (arith)
+
+      least : (n : ℕ) → 0 ≤ n
+      least n = omega arith
 
   -- it commits
   decides_tells : (d : Account) (f : Front) (b : Begun) → d.asked ≡ Some commands.Commit → Of d f (Some b) → d.request ≡ None → d.vote ≡ None → (d.life ≡ 0) ⊎ IsPromise d.answer
@@ -241,8 +241,8 @@ module _ (decl : Declaration) (client : ℕ) where
         stamped = λ i. record { clock = sym k.clock_is i + 1; client = k.client_is i };
       }
 
-      agrees : Agrees client (account_at committed (Tells (replies.Committed (next_stamp f)))) f.client f.count (f.clock.value + 1) None
-      agrees = record { client_is = k.client_is; count_is = k.count_is; clock_is = refl; begun_is = refl; ops_are = refl; life_is = refl }
+      agrees : Agrees decl client (account_at committed (Tells (replies.Committed (next_stamp f)))) f.client f.count (f.clock.value + 1) None
+      agrees = record { client_is = k.client_is; count_is = k.count_is; clock_is = refl; begun_is = refl; ops_are = refl; life_is = refl; view_is = refl; owns = λ object. refl }
 
       by : (t : Bool)
           → Telling decl client d
@@ -261,7 +261,7 @@ module _ (decl : Declaration) (client : ℕ) where
     matches = λ n.
         record {
           agrees = subst (λ (o : Option Begun). Of d f o) (sym is) k;
-          serves = subst (λ (r : Round). Serves (first_site decl f.client) d f.begun r f.awaits) (sym rests) (idle.request, idle.vote);
+          serves = subst (λ (r : Round). Serves decl (first_site decl f.client) d f.begun r f.awaits) (sym rests) (idle.request, idle.vote);
         };
   }
   commits_tells d f (Some b) is asked k idle rests =
@@ -272,14 +272,14 @@ module _ (decl : Declaration) (client : ℕ) where
         due = λ n. tt;
         matches = λ n.
             record {
-              agrees = record { client_is = k.client_is; count_is = k.count_is; clock_is = k.clock_is; begun_is = k.begun_is; ops_are = k.ops_are; life_is = k.life_is };
+              agrees = record { client_is = k.client_is; count_is = k.count_is; clock_is = k.clock_is; begun_is = k.begun_is; ops_are = k.ops_are; life_is = k.life_is; view_is = k.view_is; owns = k.owns };
               serves = record { asked = asked; request = idle.request; vote = refl; voter = refl; unwritten = idle.unwritten };
             };
       })
 
   -- it is given up
-  gone : (d : Account) (f : Front) (b : Begun) (reply : Reply) → Agrees client (account_at d (Tells reply)) f.client f.count f.clock.value None
-      → (account_at d (Tells reply)).request ≡ None → (account_at d (Tells reply)).vote ≡ None → IsDue client d reply → Telling decl client d (gives_up decl f (Some b) reply)
+  gone : (d : Account) (f : Front) (b : Begun) (reply : Reply) → Agrees decl client (account_at d (Tells reply)) f.client f.count f.clock.value None
+      → (account_at d (Tells reply)).request ≡ None → (account_at d (Tells reply)).vote ≡ None → IsDue decl client d reply → Telling decl client d (gives_up decl f (Some b) reply)
   gone d f b reply agrees request vote due = by b.asked
     where
       by : (t : Bool)
@@ -295,26 +295,26 @@ module _ (decl : Declaration) (client : ℕ) where
     matches = λ n.
         record {
           agrees = subst (λ (o : Option Begun). Of d f o) (sym is) k;
-          serves = subst (λ (r : Round). Serves (first_site decl f.client) d f.begun r f.awaits) (sym rests) (idle.request, idle.vote);
+          serves = subst (λ (r : Round). Serves decl (first_site decl f.client) d f.begun r f.awaits) (sym rests) (idle.request, idle.vote);
         };
   }
   aborts_tells d f (Some b) is asked k idle rests =
       gone d f b replies.Dropped
-      (record { client_is = k.client_is; count_is = k.count_is; clock_is = k.clock_is; begun_is = refl; ops_are = refl; life_is = refl })
+      (record { client_is = k.client_is; count_is = k.count_is; clock_is = k.clock_is; begun_is = refl; ops_are = refl; life_is = refl; view_is = refl; owns = λ object. refl })
       idle.request idle.vote (asked, (b.tx, k.begun_is), idle.unwritten)
 
   -- a command
   pub called_tells : (d : Account) (f : Front) (command : Command) → f.round ≡ Idle → Matches decl client d f → Telling decl client (account_at d (Calls command)) (called decl f command)
   called_tells d f command rests k = by command
     where
-      free : Serves (first_site decl f.client) d f.begun Idle f.awaits
-      free = subst (λ (r : Round). Serves (first_site decl f.client) d f.begun r f.awaits) rests k.serves
+      free : Serves decl (first_site decl f.client) d f.begun Idle f.awaits
+      free = subst (λ (r : Round). Serves decl (first_site decl f.client) d f.begun r f.awaits) rests k.serves
 
       idle : (c : Command) → IsIdle (account_at d (Calls c))
       idle c = record { request = free.0; vote = free.1; unwritten = refl }
 
       of : (c : Command) → Of (account_at d (Calls c)) f f.begun
-      of c = record { client_is = k.agrees.client_is; count_is = k.agrees.count_is; clock_is = k.agrees.clock_is; begun_is = k.agrees.begun_is; ops_are = k.agrees.ops_are; life_is = k.agrees.life_is }
+      of c = record { client_is = k.agrees.client_is; count_is = k.agrees.count_is; clock_is = k.agrees.clock_is; begun_is = k.agrees.begun_is; ops_are = k.agrees.ops_are; life_is = k.agrees.life_is; view_is = k.agrees.view_is; owns = k.agrees.owns }
 
       by : (c : Command) → Telling decl client (account_at d (Calls c)) (called decl f c)
       by commands.Begin = begins_tells _ f f.begun refl refl (of commands.Begin) (idle commands.Begin) rests
@@ -324,12 +324,19 @@ module _ (decl : Declaration) (client : ℕ) where
 
   -- a message
 
-  granted_tells : (d : Account) (f : Front) (to life clock : ℕ) (log : List Line) (b : Option Begun) (r : Round) (awaits : Option ℕ) → Matches decl client d f → Of d f b → Serves (first_site decl f.client) d b r awaits
+  granted_tells : (d : Account) (f : Front) (to life clock : ℕ) (log : List Line) (b : Option Begun) (r : Round) (awaits : Option ℕ) → Matches decl client d f → Of d f b → Serves decl (first_site decl f.client) d b r awaits
       → Telling decl client (account_at d (Takes (Granted to life clock log))) (cond (is_awaited awaits to) (granted decl f b r life clock log) (moved f quiet))
   granted_tells d f to life clock log b r awaits m k serves = by b r k serves
     where
       counted : Account
-      counted = record d { request = None; answer = Some (Granted to life clock log); clock = max d.clock clock; life = cond (d.life == 0) life d.life }
+      counted = record d {
+        request = None;
+        grants = d.grants + 1;
+        answer = Some (Granted to life clock log);
+        clock = max d.clock clock;
+        life = cond (d.life == 0) life d.life;
+        view = cond d.reading (union d.view log) d.view;
+      }
 
       -- it isn't awaited
       put_aside : (x : FrontMove) → d.request ≡ None → Telling decl client d x → Telling decl client (cond (is_awaited d.request to) counted d) (cond (is_awaited awaits to) x (moved f quiet))
@@ -342,17 +349,31 @@ module _ (decl : Declaration) (client : ℕ) where
           subst (λ (v : Option ℕ). Telling decl client (cond (is_awaited v to) counted d) (cond (is_awaited awaits to) x (moved f quiet))) (sym same)
           (both_by decl client (is_awaited awaits to) counted d x (moved f quiet) (λ is. goes) (λ is. aside d f m))
 
-      of : (b : Begun) (view : List Line) → Of d f (Some b) → Of counted (passed f clock) (Some (record b { life = cond (b.life == 0) life b.life; view = view }))
-      of b view k = record {
+      of : (b : Begun) (view : List Line) → cond d.reading (union d.view log) d.view ≡ view → Of d f (Some b) → Of counted (passed f clock) (Some (record b { life = cond (b.life == 0) life b.life; view = view }))
+      of b view same k = record {
         client_is = k.client_is;
         count_is = k.count_is;
         clock_is = ap (λ (v : ℕ). max v clock) k.clock_is;
         begun_is = k.begun_is;
         ops_are = k.ops_are;
         life_is = ap (λ (v : ℕ). cond (v == 0) life v) k.life_is;
+        view_is = same;
+        owns = k.owns;
       }
 
-      by : (b : Option Begun) (r : Round) → Of d f b → Serves (first_site decl f.client) d b r awaits
+      meets_one : (weight : ℕ) → rounds weight ≤ d.grants + 1
+      meets_one weight = let le : rounds weight ≤ 1 = one_grant weight in one_more (rounds weight) d.grants le
+        where
+          one_more : (m n : ℕ) → m ≤ 1 → m ≤ n + 1
+          one_more m n le = omega arith
+
+      meets_both : (weight other : ℕ) → rounds weight ≤ d.grants → rounds weight + rounds other ≤ d.grants + 1
+      meets_both weight other le = sums (rounds weight) (rounds other) d.grants le (one_grant other)
+        where
+          sums : (m n k : ℕ) → m ≤ k → n ≤ 1 → m + n ≤ k + 1
+          sums m n k le le' = omega arith
+
+      by : (b : Option Begun) (r : Round) → Of d f b → Serves decl (first_site decl f.client) d b r awaits
           → Telling decl client (cond (is_awaited d.request to) counted d) (cond (is_awaited awaits to) (granted decl f b r life clock log) (moved f quiet))
       by (Some b) Idle k serves = put_aside (moved f quiet) serves.0 (aside d f m)
       by None Idle k serves = put_aside (moved f quiet) serves.0 (aside d f m)
@@ -361,15 +382,18 @@ module _ (decl : Declaration) (client : ℕ) where
       by None (Reading object inv) k serves = absurd serves
       by None (Appending object inv e) k serves = absurd serves
       by (Some b) (Reading object inv) k serves =
-          both _ serves.request
-          (answered_tells counted (passed f clock) (joined b life log) object inv (answer_of decl (joined b life log) object inv) (of b (joined b life log).view k)
-          (record { asked = serves.asked; request = refl; vote = serves.vote; room = serves.room }))
+          both _ serves.0.request
+          (answered_tells counted (passed f clock) (joined b life log) object inv (answer_of decl (joined b life log) object inv)
+          (of b (union b.view log) (ap (λ (t : Bool). cond t (union d.view log) d.view) serves.1 ∙ ap (λ (v : List Line). union v log) k.view_is) k)
+          (record { asked = serves.0.asked; request = refl; vote = serves.0.vote; room = serves.0.room }) refl (meets_one (read_need_of decl first_epoch object inv)))
       by (Some b) (Appending object inv e) k serves =
-          both _ serves.request
-          (responded_tells counted (passed f clock) (met b life) object inv e (of b b.view k) (record { asked = serves.asked; request = refl; vote = serves.vote; room = serves.room }))
+          both _ serves.0.request
+          (responded_tells counted (passed f clock) (met b life) object inv e (of b b.view (ap (λ (t : Bool). cond t (union d.view log) d.view) serves.1.appends ∙ k.view_is) k)
+          (record { asked = serves.0.asked; request = refl; vote = serves.0.vote; room = serves.0.room }) serves.1.answer
+          (meets_both (read_need_of decl first_epoch object inv) (append_need_of decl first_epoch object e) serves.1.granted))
 
   -- an answer to a request to promise
-  voted_tells : (d voted : Account) (f : Front) (to : ℕ) (b : Option Begun) (r : Round) (awaits : Option ℕ) (x : FrontMove) → Matches decl client d f → Serves (first_site decl f.client) d b r awaits
+  voted_tells : (d voted : Account) (f : Front) (to : ℕ) (b : Option Begun) (r : Round) (awaits : Option ℕ) (x : FrontMove) → Matches decl client d f → Serves decl (first_site decl f.client) d b r awaits
       → ((b' : Begun) → b ≡ Some b' → r ≡ Voting → IsPromising (first_site decl f.client) d awaits → Telling decl client voted x)
       → ((r ≡ Voting → ⊥) → x ≡ moved f quiet)
       → Telling decl client (cond (is_awaited d.vote to) voted d) (cond (is_awaited awaits to) x (moved f quiet))
@@ -385,10 +409,10 @@ module _ (decl : Declaration) (client : ℕ) where
           subst (λ (v : Option ℕ). Telling decl client (cond (is_awaited v to) voted d) (cond (is_awaited awaits to) x (moved f quiet))) (sym same)
           (both_by decl client (is_awaited awaits to) voted d x (moved f quiet) (λ is. goes) (λ is. aside d f m))
 
-      by : (c : Option Begun) (s : Round) → b ≡ c → r ≡ s → Serves (first_site decl f.client) d c s awaits → Telling decl client (cond (is_awaited d.vote to) voted d) (cond (is_awaited awaits to) x (moved f quiet))
+      by : (c : Option Begun) (s : Round) → b ≡ c → r ≡ s → Serves decl (first_site decl f.client) d c s awaits → Telling decl client (cond (is_awaited d.vote to) voted d) (cond (is_awaited awaits to) x (moved f quiet))
       by c Idle same is serves = put_aside serves.1 (stays (λ e. let never : Idle ≡ Voting = sym is ∙ e in let no : ⊥ = cc in no))
-      by (Some c) (Reading object inv) same is serves = put_aside serves.vote (stays (λ e. let never : Reading object inv ≡ Voting = sym is ∙ e in let no : ⊥ = cc in no))
-      by (Some c) (Appending object inv e) same is serves = put_aside serves.vote (stays (λ z. let never : Appending object inv e ≡ Voting = sym is ∙ z in let no : ⊥ = cc in no))
+      by (Some c) (Reading object inv) same is serves = put_aside serves.0.vote (stays (λ e. let never : Reading object inv ≡ Voting = sym is ∙ e in let no : ⊥ = cc in no))
+      by (Some c) (Appending object inv e) same is serves = put_aside serves.0.vote (stays (λ z. let never : Appending object inv e ≡ Voting = sym is ∙ z in let no : ⊥ = cc in no))
       by (Some c) Voting same is serves = both serves.vote (goes c same is serves)
       by None Voting same is serves = absurd serves
       by None (Reading object inv) same is serves = absurd serves
@@ -415,7 +439,7 @@ module _ (decl : Declaration) (client : ℕ) where
       subst (λ (r : Round). Telling decl client promise (promised decl f f.begun r clock)) (sym is)
       (subst (λ (o : Option Begun). Telling decl client promise (promised decl f o Voting clock)) (sym same)
       (decides_tells promise (passed f clock) b s.asked
-      (record { client_is = k.client_is; count_is = k.count_is; clock_is = ap (λ (v : ℕ). max v clock) k.clock_is; begun_is = k.begun_is; ops_are = k.ops_are; life_is = k.life_is })
+      (record { client_is = k.client_is; count_is = k.count_is; clock_is = ap (λ (v : ℕ). max v clock) k.clock_is; begun_is = k.begun_is; ops_are = k.ops_are; life_is = k.life_is; view_is = k.view_is; owns = k.owns })
       s.request refl (inr tt))))
       (promised_stays f f.begun f.round clock)
     where
@@ -428,7 +452,7 @@ module _ (decl : Declaration) (client : ℕ) where
       subst (λ (r : Round). Telling decl client refusal (forgotten decl f f.begun r)) (sym is)
       (subst (λ (o : Option Begun). Telling decl client refusal (forgotten decl f o Voting)) (sym same)
       (gone refusal f b (replies.Aborted (Forgot (first_site decl f.client)))
-      (record { client_is = k.client_is; count_is = k.count_is; clock_is = k.clock_is; begun_is = refl; ops_are = refl; life_is = refl })
+      (record { client_is = k.client_is; count_is = k.count_is; clock_is = k.clock_is; begun_is = refl; ops_are = refl; life_is = refl; view_is = refl; owns = λ object. refl })
       s.request refl
       (record { asked = s.asked; begun = (b.tx, k.begun_is); unwritten = s.unwritten; refused = tt; by_voter = ap Forgot (sym s.voter) }))))
       (forgotten_stays f f.begun f.round)

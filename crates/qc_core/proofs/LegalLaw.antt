@@ -1,4 +1,4 @@
--- In every run of the built-in declaration each response goes on with one copy, and so each reply is due.
+-- In every run of the built-in declaration each response goes on with one copy.
 use Rattle.std.proofs.Common.{◌≡◌, ℕ, zero, suc, ◌+◌, Bool, true, false, List, [], ◌∷◌, ◌++◌, length, fold, Option, Some, None, refl, sym, ap, subst, ◌∙◌, slice_get, append_assoc}
 use Rattle.std.specs.Prelude.{slice_set}
 use Rattle.std.proofs.lemmas.List.{append-nil}
@@ -12,8 +12,7 @@ use Rattle.qc_front.specs.declared.round.Round.{Round}
 use Rattle.qc_front.specs.declared.round.Round.TheVariants.{Idle, Reading, Appending, Voting}
 use Rattle.qc_msg.specs.declared.step.Reply.{Reply}
 use Rattle.qc_msg.specs.declared.step.Reply.TheVariants.{Already, Began, NoTransaction, TooLong, Absent, Response, Aborted, Committed, Dropped}
-use Rattle.qc_msg.specs.declared.step.Step.{Step}
-use Rattle.qc_msg.specs.declared.step.Step.TheVariants.{Phase, Called, Got, Wrote, Sent, Told}
+use Rattle.qc_msg.specs.declared.step.Step.TheVariants.{Phase, Told}
 use Rattle.qc_msg.specs.declared.step.Turn.{Turn}
 use Rattle.qc_msg.specs.Mail.{deeds, mail}
 use Rattle.qc_msg.specs.Steps.{Entry, by, marked, posted, sents, step_of, told, wrote}
@@ -25,13 +24,12 @@ use Rattle.qc_site.specs.Site.{SiteState}
 use Rattle.qc_core.specs.Bounds.{front_at}
 use Rattle.qc_core.specs.Committed.{commit_by, committed, with_commit, written}
 use Rattle.qc_core.specs.Conduct.{IsLawful, IsRun}
-use Rattle.qc_core.specs.Due.{Account, Due, IsDueAt, IsLegalReply, account, account_at, account_told}
+use Rattle.qc_core.specs.Due.{Account, AreLegal, EachReply, IsLegalAt, IsLegalReply, account, account_at, account_told}
 use Rattle.qc_core.specs.OneCopy.{Walks, operations, start_at}
-use Rattle.qc_core.specs.Order.{EachAfter}
 use Rattle.qc_core.proofs.AtomicLaw.{Standing, standing}
 use Rattle.qc_core.proofs.Doings.{Doing}
-use Rattle.qc_core.proofs.DueLaw.{DueLaw, EachReply, IsDueOf, OfTold, OnReply, account-posted, account-untold, dues, input_each, posted_each, replies-append, site_each, untold}
-use Rattle.qc_core.proofs.Dues.{Matches, account_after}
+use Rattle.qc_core.proofs.DueLaw.{DueLaw, OfTold, account-posted, account-untold, dues, input_each, posted_each, replies-append, site_each, untold}
+use Rattle.qc_core.proofs.Accounts.{Matches, account_after}
 use Rattle.qc_core.proofs.Happenings.{tells_happenings, untold_happenings}
 use Rattle.qc_core.proofs.Places.{slice_get-set_same}
 use Rattle.qc_core.proofs.Sense.{Copied, Works, ops_of}
@@ -66,10 +64,6 @@ standing_walk h open_inputs s law free =
     (subst (λ (v : List Commit). Walks one (start_at one) (operations v ++ ops_of (front_at one 1 h).front.begun)) (sym closed.sense.stamps.sorted)
     (works_walk (written one h) _ closed.sense.copied (front_at one 1 h).front.begun (front_at one 1 h).front.round closed.sense.works))
 
--- a reply is legal by the steps before it
-abbrev pub IsLegalOf : List Entry → ℕ → Reply → Type 0
-IsLegalOf before actor reply = IsLegalReply one (committed one before) (account actor before) reply
-
 -- the reply's operation goes on, where it does with that one
 legal_of : (cs : List Commit) (d : Account) (reply : Reply) → Walks one (start_at one) (operations cs ++ (account_told d reply).ops) → IsLegalReply one cs d reply
 legal_of cs d (Response resp) walk = walk
@@ -88,7 +82,7 @@ written-told h (Some reply) = filter_map-append (commit_by one) h (marked 1 (Tol
 
 -- the whole turn, and its part before the reply
 turn_legal : (k : List Entry) (n : ℕ) (turn : Turn) → Walks one (start_at one) (operations (committed one (k ++ by 1 (posted n turn))) ++ (account 1 (k ++ by 1 (posted n turn))).ops)
-    → OfTold (IsLegalOf (k ++ untold 1 n turn) 1) turn.told
+    → OfTold (IsLegalAt one (k ++ untold 1 n turn) 1) turn.told
 turn_legal k n turn walk = of turn.told refl
   where
     u : List Entry
@@ -109,25 +103,25 @@ turn_legal k n turn walk = of turn.told refl
     here = subst (λ (d : Account). Walks one (start_at one) (operations (committed one u) ++ d.ops)) account_same
         (subst (λ (cs : List Commit). Walks one (start_at one) (operations cs ++ (account 1 (k ++ by 1 (posted n turn))).ops)) records_same walk)
 
-    of : (reply : Option Reply) → turn.told ≡ reply → OfTold (IsLegalOf u 1) reply
+    of : (reply : Option Reply) → turn.told ≡ reply → OfTold (IsLegalAt one u 1) reply
     of None is = tt
     of (Some reply) is = legal_of (committed one u) (account 1 u) reply (subst (λ (o : Option Reply). Walks one (start_at one) (operations (committed one u) ++ (account_after (account 1 u) (tells_happenings o)).ops)) is here)
 
 reply_legal : (b : ℕ) (k : List Entry) (before : List Bool) (turn : Turn) → Standing k before → IsLawful one b (deeds b [] k) turn → slice_get before b ≡ Some true
     → (b ≡ 1 → Walks one (start_at one) (operations (committed one (k ++ by 1 (posted (length (mail k)) turn))) ++ (account 1 (k ++ by 1 (posted (length (mail k)) turn))).ops))
-    → OfTold (IsLegalOf (k ++ untold b (length (mail k)) turn) b) turn.told
+    → OfTold (IsLegalAt one (k ++ untold b (length (mail k)) turn) b) turn.told
 reply_legal zero k before turn s lawful taken walk = site_each _ one 0 (deeds 0 [] k) turn refl lawful
 reply_legal (suc zero) k before turn s lawful taken walk = turn_legal k (length (mail k)) turn (walk refl)
 reply_legal (suc (suc b)) k before turn s lawful taken walk =
     absurd (let e : None ≡ Some true = sym (ap (λ (o : List Bool). slice_get o (suc (suc b))) s.shape) ∙ taken in let never : ⊥ = cc in never)
 
 -- every run
-legals : (script : Script) (h : List Entry) (open_inputs : List Bool) → Runs (IsLawful one) one script h open_inputs → EachReply IsLegalOf [] h
+legals : (script : Script) (h : List Entry) (open_inputs : List Bool) → Runs (IsLawful one) one script h open_inputs → EachReply (IsLegalAt one) [] h
 legals script h open_inputs begins = tt
-legals script h open_inputs (takes b input before k run free rdy) = replies-append IsLegalOf [] k (marked b (step_of input) ∷ []) (legals script k before run) (input_each IsLegalOf k b input)
+legals script h open_inputs (takes b input before k run free rdy) = replies-append (IsLegalAt one) [] k (marked b (step_of input) ∷ []) (legals script k before run) (input_each (IsLegalAt one) k b input)
 legals script h open_inputs (posts b turn before k run taken lawful) =
-    replies-append IsLegalOf [] k (by b (posted (length (mail k)) turn)) (legals script k before run)
-    (posted_each IsLegalOf b (length (mail k)) k turn (reply_legal b k before turn (standing script k before run) lawful taken walk))
+    replies-append (IsLegalAt one) [] k (by b (posted (length (mail k)) turn)) (legals script k before run)
+    (posted_each (IsLegalAt one) b (length (mail k)) k turn (reply_legal b k before turn (standing script k before run) lawful taken walk))
   where
     walk : b ≡ 1 → Walks one (start_at one) (operations (committed one (k ++ by 1 (posted (length (mail k)) turn))) ++ (account 1 (k ++ by 1 (posted (length (mail k)) turn))).ops)
     walk is =
@@ -142,21 +136,7 @@ legals script h open_inputs (posts b turn before k run taken lawful) =
         walk_at zero is all free = absurd (let never : ⊥ = cc in never)
         walk_at (suc (suc v)) is all free = absurd (let never : ⊥ = cc in never)
 legals script h open_inputs (phase before k run none quiet more) =
-    replies-append IsLegalOf [] k (marked 3 (Phase (phase_of k + 1)) ∷ []) (legals script k open_inputs run) (tt, tt)
+    replies-append (IsLegalAt one) [] k (marked 3 (Phase (phase_of k + 1)) ∷ []) (legals script k open_inputs run) (tt, tt)
 
--- both parts
-
-both_at : (before : List Entry) (actor : ℕ) (step : Step) → OnReply (IsDueOf one before actor) step → OnReply (IsLegalOf before actor) step → IsDueAt one before actor step
-both_at before actor (Told reply) due legal = (due, legal)
-both_at before actor (Phase k) due legal = tt
-both_at before actor (Called command) due legal = tt
-both_at before actor (Got n) due legal = tt
-both_at before actor (Wrote written) due legal = tt
-both_at before actor (Sent n to message) due legal = tt
-
-both : (before h : List Entry) → EachReply (IsDueOf one) before h → EachReply IsLegalOf before h → EachAfter (λ (k : List Entry) (e : Entry). IsDueAt one k e.actor e.step) before h
-both before [] due legal = tt
-both before (e ∷ h) due legal = (both_at before e.actor e.step due.0 legal.0, both (before ++ e ∷ []) h due.1 legal.1)
-
-pub replies_are_due : (script : Script) (h : List Entry) → IsRun one script h → Due one h
-replies_are_due script h run = both [] h (dues one script h run.0 run.1).due (legals script h run.0 run.1)
+pub replies_are_legal : (script : Script) (h : List Entry) → IsRun one script h → AreLegal one h
+replies_are_legal script h run = legals script h run.0 run.1

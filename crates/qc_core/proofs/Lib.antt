@@ -32,6 +32,8 @@ pub mod StatusLaw
 pub mod Recorded
 pub mod KeptLaw
 pub mod Happenings
+pub mod Views
+pub mod Accounts
 pub mod Dues
 pub mod DueLaw
 pub mod LegalLaw

@@ -1,16 +1,23 @@
-//! The law of replies, over all runs, the contract of a function with nothing
-//! to do.
+//! Laws of replies, over all runs, each the contract of a function with
+//! nothing to do.
 
 ghost use Rattle.std.specs.Prelude.{List};
 ghost use Rattle.qc_core.specs.Conduct.{IsRun};
-ghost use Rattle.qc_core.specs.Due.{Due};
+ghost use Rattle.qc_core.specs.Due.{AreLegal, Due};
 ghost use Rattle.qc_decl.specs.One.{one};
+ghost use Rattle.qc_decl.specs.declared.declaration.Declaration.{Declaration};
 ghost use Rattle.qc_msg.specs.Steps.{Entry};
 ghost use Rattle.qc_script.specs.declared.script.Script.{Script};
 
-/// In every run of the built-in declaration each reply that a client tells is
-/// due: what happened at the client before it shows what a reply of its kind
-/// says, and each response goes on with one copy of each object.
+/// In every run, of every declaration, each reply that a client tells is due:
+/// what happened at the client before it is what a reply of its kind says.
 pub fn replies_are_due()
-    ensures { (script : Script) (h : List Entry) → IsRun one script h → Due one h }
+    ensures { (decl : Declaration) (script : Script) (h : List Entry) → IsRun decl script h → Due decl h }
+{}
+
+/// In every run of the built-in declaration each reply to an invocation is that
+/// of one copy of each object, behind all committed operations and those of its
+/// own transaction, also where that doesn't commit.
+pub fn replies_are_legal()
+    ensures { (script : Script) (h : List Entry) → IsRun one script h → AreLegal one h }
 {}

@@ -17,7 +17,7 @@ pub use atomic::{
     commit_stamps_rise, histories_are_kept, logs_have_committed_operations,
     records_are_the_verdicts, runs_are_atomic, transactions_move_on,
 };
-pub use due::replies_are_due;
+pub use due::{replies_are_due, replies_are_legal};
 pub use laws::{clocks_and_counts_are_bounded, messages_and_replies_are_in_order};
 pub use whole::{
     calls_are_asked, calls_are_replied, commands_end, phases_are_the_scripts,

@@ -1,4 +1,4 @@
-use Rattle.qc_core.proofs.LegalLaw.{replies_are_due}
+use Rattle.qc_core.proofs.DueLaw.{replies_are_due}
 use Rattle.qc_core.proofs.due.replies_are_due.Goals as goal
 
 pub returns : goal.returns
