@@ -1,10 +1,11 @@
--- Whatever the cause of its end, a call's history has what each run has: it is atomic, and its replies are due.
+-- Whatever the cause of its end, a call's history has what each run has: it is atomic, and its replies are due and legal.
 use Rattle.std.proofs.Common.{List, [], Option, Some, None}
 use Rattle.qc_core.proofs.AtomicLaw.{runs_are_atomic}
-use Rattle.qc_core.proofs.LegalLaw.{replies_are_due}
+use Rattle.qc_core.proofs.DueLaw.{replies_are_due}
+use Rattle.qc_core.proofs.LegalLaw.{replies_are_legal}
 use Rattle.qc_core.specs.Atomic.{Atomic}
 use Rattle.qc_core.specs.Conduct.{IsRun}
-use Rattle.qc_core.specs.Due.{Due}
+use Rattle.qc_core.specs.Due.{AreLegal, Due}
 use Rattle.qc_core.specs.Kept.{Kept}
 use Rattle.qc_decl.specs.One.{one}
 use Rattle.qc_msg.specs.Steps.{Entry}
@@ -24,4 +25,7 @@ pub script_atomic : (script : Option Script) (h : List Entry) → RunsScript scr
 script_atomic = of_run (λ h. Kept h → Atomic one h) runs_are_atomic
 
 pub script_due : (script : Option Script) (h : List Entry) → RunsScript script h → Due one h
-script_due = of_run (Due one) replies_are_due
+script_due = of_run (Due one) (replies_are_due one)
+
+pub script_legal : (script : Option Script) (h : List Entry) → RunsScript script h → AreLegal one h
+script_legal = of_run (AreLegal one) replies_are_legal

@@ -2,7 +2,7 @@
 
 ghost use Rattle.std.specs.Prelude.{◌≡◌, ◌≢◌, ◌≤◌, Some, None, List, [], length, true, Err};
 ghost use Rattle.qc_core.specs.Atomic.{Atomic};
-ghost use Rattle.qc_core.specs.Due.{Due};
+ghost use Rattle.qc_core.specs.Due.{AreLegal, Due};
 ghost use Rattle.qc_core.specs.Kept.{Kept};
 ghost use Rattle.qc_core.specs.Whole.{IsWhole};
 ghost use Rattle.qc_outside.specs.Causes.{Rose};
@@ -61,6 +61,7 @@ where
         (λ script. Leaves script (K.taken sink.old) result.cause (K.taken sink.new) result.history)
         (F.files shelf.old) (texts_of words.now) }
     ensures replies { Due one result.history }
+    ensures legal { AreLegal one result.history }
     ensures kept { Kept result.history }
     ensures atomic { Kept result.history → Atomic one result.history }
     ensures status { result.status ≡ status_of result.cause }

@@ -1,7 +1,7 @@
 use Rattle.std.proofs.Common.{◌≡◌, ◌∙◌, List, ℕ, None, Some, rules, subst}
 use Rattle.qc_core.proofs.KeptLaw.{histories_are_kept}
 use Rattle.qc_top.proofs.Ends.{shelf_silent, words_caused, words_over, words_refused, words_taken}
-use Rattle.qc_top.proofs.Promised.{script_atomic, script_due}
+use Rattle.qc_top.proofs.Promised.{script_atomic, script_due, script_legal}
 use Rattle.qc_top.specs.Top.{IsDueOfScript, Leaves, RunsScript}
 use Rattle.qc_top.specs.Words.{script_in_bytes, script_named, texts_of}
 use Rattle.qc_top.proofs.top.quorum_words.Goals as goal
@@ -59,3 +59,14 @@ returns-in-Ok-clause-replies g c =
 
 pub returns-in-Err-clause-replies : goal.returns-in-Err-clause-replies
 returns-in-Err-clause-replies g c = script_due None c.nothing-in-Err.result.history c.nothing-in-Err.ensures.history
+
+pub returns-in_default-clause-legal : goal.returns-in_default-clause-legal
+returns-in_default-clause-legal g c = script_legal None c.nothing.result.history c.nothing.ensures.history
+
+pub returns-in-Ok-clause-legal : goal.returns-in-Ok-clause-legal
+returns-in-Ok-clause-legal g c =
+    script_legal (script_in_bytes c.in-Ok.bytes.items) c.run_bytes.result.history
+    (subst (λ (bytes : List ℕ). RunsScript (script_in_bytes bytes) c.run_bytes.result.history) c.as_slice.ensures.value c.run_bytes.ensures.leaves.run)
+
+pub returns-in-Err-clause-legal : goal.returns-in-Err-clause-legal
+returns-in-Err-clause-legal g c = script_legal None c.nothing-in-Err.result.history c.nothing-in-Err.ensures.history
