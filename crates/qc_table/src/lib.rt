@@ -9,7 +9,9 @@
 #![tactic(auto)]
 
 mod fault;
+mod kind;
 mod laws;
+mod relation;
 mod row;
 mod rows;
 mod table;
@@ -17,6 +19,8 @@ mod table;
 mod tests;
 
 pub use fault::TableFault;
+pub use kind::Kind;
 pub use laws::{first_is_an_event, first_leads_on, runs_join};
+pub use relation::{Pair, Relation};
 pub use row::{Event, Row};
 pub use table::{Table, tables_are_sound};

@@ -1,0 +1,7 @@
+use Rattle.std.proofs.Common.{◌≡◌, drop}
+use Rattle.std.specs.List.{fold}
+use Rattle.qc_table.specs.Depends.{with_pair, relation_of}
+use Rattle.qc_table.proofs.relation.Relation.new.Given as goal
+
+abbrev pub invariant-loop-pair : goal.invariant-loop-pair
+invariant-loop-pair l = fold with_pair l.relation (drop l.pair-index l.pairs) ≡ relation_of l.pairs
