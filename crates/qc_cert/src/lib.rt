@@ -1,0 +1,13 @@
+//! Certificates of dependency relations.
+//!
+//! A relation is exact where a reply that is computed from a view, a part of
+//! the history that has what its invocation depends on, is as legal as one
+//! computed from the whole. A certificate is a list of triples that shows a
+//! relation exact by rules that are checked state by state.
+#![tactic(auto)]
+
+mod fault;
+mod triple;
+
+pub use fault::CertFault;
+pub use triple::Triple;
