@@ -1,1 +1,4 @@
+pub mod Admitted
+pub mod Faults
 pub mod Need
+pub mod Weights

@@ -6,6 +6,8 @@
 //! voting, Gifford 1979).
 #![tactic(auto)]
 
+mod fault;
 mod plan;
 
+pub use fault::PlanFault;
 pub use plan::{Needs, Plan, Weights};
