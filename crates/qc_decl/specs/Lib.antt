@@ -1,3 +1,4 @@
+pub mod Accepted
 pub mod Actors
 pub mod Lookup
 pub mod One

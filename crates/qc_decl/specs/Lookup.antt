@@ -1,11 +1,11 @@
 -- What a declaration says of an object.
 use Rattle.std.specs.Prelude.{ℕ, ◌==◌, ◌-◌, cond, Option, None, slice_get, option_map, option_and_then}
 use Rattle.std.specs.Option.{option_map_or}
-use Rattle.qc_decl.specs.declared.declaration.Kind.{Kind}
 use Rattle.qc_decl.specs.declared.declaration.Declaration.{Declaration}
 use Rattle.qc_plan.specs.declared.plan.Plan.{Plan}
 use Rattle.qc_plan.specs.Need.{need_of}
 use Rattle.qc_table.specs.Rules.{Rules}
+use Rattle.qc_table.specs.declared.kind.Kind.{Kind}
 
 -- the table of an object's type, or none where the object isn't declared
 abbrev pub table_at : Declaration → ℕ → Option Rules

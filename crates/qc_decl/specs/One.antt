@@ -5,7 +5,10 @@ use Rattle.qc_decl.specs.declared.declaration.KindNames.{KindNames}
 use Rattle.qc_decl.specs.declared.declaration.Declaration.{Declaration}
 use Rattle.qc_plan.specs.declared.plan.Plan.{Plan}
 use Rattle.qc_table.specs.declared.row.Row.{Row}
+use Rattle.qc_table.specs.Depends.{relation_of}
 use Rattle.qc_table.specs.Rules.{Rules}
+use Rattle.qc_table.specs.declared.kind.Kind.{Kind}
+use Rattle.qc_table.specs.declared.relation.Pair.{Pair}
 
 abbrev pub row : ℕ → ℕ → ℕ → ℕ → Row
 row state inv resp next = record { state = state; inv = inv; resp = resp; next = next }
@@ -17,6 +20,13 @@ register_rows = row 0 0 0 0 ∷ row 1 0 1 1 ∷ row 0 1 2 0 ∷ row 1 1 2 0 ∷ 
 abbrev pub register : Rules
 register = record { states = 2; invs = 3; resps = 3; start = 0; rows = register_rows }
 
+-- R depends on the events W0:ok and W1:ok, numbered 2 and 3.
+abbrev pub register_pairs : List Pair
+register_pairs = record { inv = 0; event = 2 } ∷ record { inv = 0; event = 3 } ∷ []
+
+abbrev pub register_kind : Kind
+register_kind = record { table = register; relation = relation_of register_pairs }
+
 abbrev pub register_names : KindNames
 register_names = record {
   name = codes "register";
@@ -25,7 +35,7 @@ register_names = record {
   resps = codes "0" ∷ codes "1" ∷ codes "ok" ∷ [];
 }
 
--- R needs the site's weight to read; the events W0:ok and W1:ok, numbered 2 and 3, need it to append.
+-- R needs the site's weight to read; W0:ok and W1:ok need it to append.
 abbrev pub one_plan : Plan
 one_plan = record { weights = 1 ∷ []; initial = (1 ∷ 0 ∷ 0 ∷ []) ∷ []; last = (0 ∷ 0 ∷ 1 ∷ 1 ∷ []) ∷ [] }
 
@@ -33,7 +43,7 @@ abbrev pub one : Declaration
 one = record {
   sites = 1;
   clients = 1;
-  kinds = record { table = register } ∷ [];
+  kinds = register_kind ∷ [];
   objects = 0 ∷ [];
   plans = one_plan ∷ [];
   kind_names = register_names ∷ [];

@@ -6,14 +6,7 @@ ghost use Rattle.qc_decl.specs.Lookup.{table_at, plan_in, read_need_of, append_n
 
 use qc_list::{List, Name};
 use qc_plan::Plan;
-use qc_table::Table;
-
-/// A type: its table.
-#[derive(Drop)]
-pub struct Kind {
-    /// The rows.
-    pub table: Table,
-}
+use qc_table::{Kind, Table};
 
 /// The types, by number.
 pub type Kinds = List<Kind>;

@@ -12,5 +12,5 @@ mod one;
 #[cfg(test)]
 mod tests;
 
-pub use declaration::{Declaration, Kind, KindNames, KindNamesList, Kinds, Names, Objects, Plans};
+pub use declaration::{Declaration, KindNames, KindNamesList, Kinds, Names, Objects, Plans};
 pub use one::built_in;

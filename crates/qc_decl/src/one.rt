@@ -1,12 +1,13 @@
 //! The built-in declaration `@one`.
 
 ghost use Rattle.std.specs.Prelude.{◌≡◌, [], ◌∷◌, map, IfOk};
-ghost use Rattle.qc_decl.specs.One.{built_in_of, one, one_plan, register, register_names, register_rows, row as row_of};
+ghost use Rattle.qc_table.specs.Depends.{relation_of};
+ghost use Rattle.qc_decl.specs.One.{built_in_of, one, one_plan, register, register_names, register_pairs, register_rows, row as row_of};
 
-use crate::declaration::{Declaration, Kind, KindNames, Names};
+use crate::declaration::{Declaration, KindNames, Names};
 use qc_list::{List, Name, OutOfMemory};
 use qc_plan::{Needs, Plan};
-use qc_table::{Row, Table, TableFault};
+use qc_table::{Kind, Pair, Relation, Row, Table, TableFault};
 use std::alloc::{AllocError, Global};
 
 /// The built-in declaration of this name, or `None` where there is none.
@@ -31,6 +32,7 @@ fn one_site(alloc: Global) -> Result<Declaration, OutOfMemory>
             alloc,
             Kind {
                 table: register_table(alloc)?,
+                relation: register_relation(),
             },
         )?,
         objects: single(alloc, 0)?,
@@ -49,6 +51,13 @@ fn register_table(alloc: Global) -> Result<Table, OutOfMemory>
         Err(TableFault::OutOfMemory) => Err(AllocError),
         Err(_) => unreachable!(),
     }
+}
+
+/// The register's relation: R depends on what was written.
+fn register_relation() -> Relation
+    ensures { result ≡ relation_of register_pairs }
+{
+    Relation::new(&[Pair { inv: 0, event: 2 }, Pair { inv: 0, event: 3 }])
 }
 
 /// The register's rows: R answers the state, W0 and W1 answer ok and set it.

@@ -5,13 +5,13 @@ ghost use Rattle.std.specs.Prelude.{◌<◌, Some, None, IsTrue, IfOk, IfSome};
 ghost use Rattle.qc_front.specs.Fits.{FrontFits, HasRoom, ClockFits};
 
 use crate::{Begun, Front, Round};
-use qc_decl::{Declaration, Kind};
+use qc_decl::Declaration;
 use qc_entry::{Log, Op, OwnLine};
 use qc_list::{List, OutOfMemory};
 use qc_msg::{Command, Input, Message, Outcome, Record, Reply, Turn, Why};
 use qc_plan::Plan;
 use qc_stamp::{Stamp, TxId};
-use qc_table::{Row, Table, TableFault};
+use qc_table::{Kind, Pair, Relation, Row, Table, TableFault};
 use std::alloc::Global;
 use std::process::Abort;
 use std::test::Fail;
@@ -52,6 +52,7 @@ fn declaration(alloc: Global) -> Result<Declaration, Fail> {
     let mut kinds = List::new(alloc);
     kinds.push(Kind {
         table: register(alloc)?,
+        relation: Relation::new(&[Pair { inv: 0, event: 2 }, Pair { inv: 0, event: 3 }]),
     })?;
     let mut plans = List::new(alloc);
     plans.push(Plan {
