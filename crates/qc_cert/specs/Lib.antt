@@ -1,3 +1,4 @@
+pub mod Covered
 pub mod Faults
 pub mod Inductive
 pub mod Views

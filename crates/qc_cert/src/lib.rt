@@ -7,7 +7,9 @@
 #![tactic(auto)]
 
 mod fault;
+mod laws;
 mod triple;
 
 pub use fault::CertFault;
+pub use laws::{closed_sets_are_covered, inductive_lists_make_relations_exact};
 pub use triple::Triple;
