@@ -1,1 +1,4 @@
+pub mod Faultless
+pub mod Named
+pub mod Tests
 pub mod Walk

@@ -121,10 +121,10 @@ module _ (kind : Kind) (list : List Triple) (ind : IsInductive kind list) where
           chosen false b =
               let c : IsCovered list (triple t.view h (with_member t.out e)) = ind.left_out place t e h at s in
               let m : Reaches c.by es later log = rest (triple t.view h (with_member t.out e)) refl c (λ p f pf here g og. ⊎_elim
-                (λ (o : IsTrue (has t.out g)). free (suc p) f pf here g o)
-                (λ (same : e ≡ g). false_from_ne_true (depends kind.relation (inv_of kind f) g) (λ d.
-                  clash (closed (suc p) 0 f e pf refl (zero-lt-suc p) here (subst (λ (x : ℕ). IsTrue (depends kind.relation (inv_of kind f) x)) (sym same) d)) b))
-                (added t.out e g (c.covers.out g og))) in
+              (λ (o : IsTrue (has t.out g)). free (suc p) f pf here g o)
+              (λ (same : e ≡ g). false_from_ne_true (depends kind.relation (inv_of kind f) g) (λ d.
+              clash (closed (suc p) 0 f e pf refl (zero-lt-suc p) here (subst (λ (x : ℕ). IsTrue (depends kind.relation (inv_of kind f) x)) (sym same) d)) b))
+              (added t.out e g (c.covers.out g og))) in
               record {
                 place = m.place;
                 by = m.by;
@@ -132,9 +132,9 @@ module _ (kind : Kind) (list : List Triple) (ind : IsInductive kind list) where
                 view = goes_by step set e es t.view m.by.view b (subst (λ (x : ℕ). reached step (Some x) (picked later es) ≡ Some m.by.view) c.covers.view m.view);
                 same = m.same;
                 out = λ f o. ⊎_elim
-                  (λ (here : IsTrue (has c.by.out f)). ⊎_elim (λ (old : IsTrue (has t.out f)). inl old) (λ (same : e ≡ f). inr (record { position = 0; stands = ap Some same; outside = b })) (added t.out e f (c.covers.out f here)))
-                  (λ (x : StandsOutside es later f). inr (record { position = suc x.position; stands = x.stands; outside = x.outside }))
-                  (m.out f o);
+                    (λ (here : IsTrue (has c.by.out f)). ⊎_elim (λ (old : IsTrue (has t.out f)). inl old) (λ (same : e ≡ f). inr (record { position = 0; stands = ap Some same; outside = b })) (added t.out e f (c.covers.out f here)))
+                    (λ (x : StandsOutside es later f). inr (record { position = suc x.position; stands = x.stands; outside = x.outside }))
+                    (m.out f o);
               }
           chosen true b =
               let free_0 : IsFree kind (inv_of kind e) t.out = free 0 e refl b in
@@ -148,9 +148,9 @@ module _ (kind : Kind) (list : List Triple) (ind : IsInductive kind list) where
                 view = goes_in step set e es t.view g.0 m.by.view b g.1 (subst (λ (x : ℕ). reached step (Some x) (picked later es) ≡ Some m.by.view) c.covers.view m.view);
                 same = m.same;
                 out = λ f o. ⊎_elim
-                  (λ (here : IsTrue (has c.by.out f)). inl (c.covers.out f here))
-                  (λ (x : StandsOutside es later f). inr (record { position = suc x.position; stands = x.stands; outside = x.outside }))
-                  (m.out f o);
+                    (λ (here : IsTrue (has c.by.out f)). inl (c.covers.out f here))
+                    (λ (x : StandsOutside es later f). inr (record { position = suc x.position; stands = x.stands; outside = x.outside }))
+                    (m.out f o);
               }
 
   walk : (history : List ℕ) → WalksOver history
@@ -164,7 +164,7 @@ module _ (kind : Kind) (list : List Triple) (ind : IsInductive kind list) where
       let h : (x : ℕ) × (state_after kind history ≡ Some x) = some_of (state_after kind history) legal in
       let none : (f : ℕ) → IsTrue (has c.by.out f) → ⊥ = λ f o. clash (c.covers.out f o) (ap (λ b. b == 1) (bit_at-zero f)) in
       let m : Reaches c.by history set h.0 = walk history set c.place c.by h.0 c.listed closed (λ p e at here f o. absurd (none f o))
-        (subst (λ (x : ℕ). reached step (Some x) history ≡ Some h.0) (sym c.covers.log) h.1) in
+      (subst (λ (x : ℕ). reached step (Some x) history ≡ Some h.0) (sym c.covers.log) h.1) in
       record {
         place = m.place;
         by = m.by;

@@ -1,10 +1,12 @@
 //! Laws of certificates, for every type, list and history.
 
-ghost use Rattle.std.specs.Prelude.{ℕ, Bool, List};
+ghost use Rattle.std.specs.Prelude.{◌≡◌, ℕ, Bool, IsTrue, ◌↔◌, List, None};
 ghost use Rattle.qc_cert.specs.Covered.{IsAccountedFor};
-ghost use Rattle.qc_cert.specs.Inductive.{IsInductive};
+ghost use Rattle.qc_cert.specs.Faults.{covers, fault_of};
+ghost use Rattle.qc_cert.specs.Inductive.{Covers, IsInductive};
 ghost use Rattle.qc_cert.specs.Views.{IsLegalFor, IsClosed, IsExact};
 ghost use Rattle.qc_cert.specs.declared.triple.Triple.{Triple};
+ghost use Rattle.qc_table.specs.Sound.{IsSound};
 ghost use Rattle.qc_table.specs.declared.kind.Kind.{Kind};
 
 /// A list that is inductive shows its type's relation exact: each view of
@@ -22,4 +24,23 @@ pub fn closed_sets_are_covered()
     ensures { (kind : Kind) (list : List Triple) (history : List ℕ) (set : ℕ → Bool)
         → IsInductive kind list → IsLegalFor kind history → IsClosed kind history set
         → IsAccountedFor kind list history set }
+{}
+
+/// A list without a fault is inductive, where the type's table is sound, as
+/// every table is.
+pub fn no_fault_is_inductive()
+    ensures { (kind : Kind) (list : List Triple)
+        → IsSound kind.table → fault_of kind list ≡ None → IsInductive kind list }
+{}
+
+/// An inductive list has no fault.
+pub fn inductive_lists_have_no_fault()
+    ensures { (kind : Kind) (list : List Triple) → IsInductive kind list → fault_of kind list ≡ None }
+{}
+
+/// `Triple::covers` answers that a triple covers another just where it does:
+/// their states are the same, and each event that the one leaves out is left
+/// out by the other.
+pub fn covers_is_cover()
+    ensures { (a b : Triple) → IsTrue (covers a b) ↔ Covers a b }
 {}

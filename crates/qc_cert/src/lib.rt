@@ -11,5 +11,8 @@ mod laws;
 mod triple;
 
 pub use fault::CertFault;
-pub use laws::{closed_sets_are_covered, inductive_lists_make_relations_exact};
+pub use laws::{
+    closed_sets_are_covered, covers_is_cover, inductive_lists_have_no_fault,
+    inductive_lists_make_relations_exact, no_fault_is_inductive,
+};
 pub use triple::Triple;

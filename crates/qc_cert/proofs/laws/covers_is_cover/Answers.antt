@@ -1,0 +1,5 @@
+use Rattle.qc_cert.proofs.Tests.{covers_is}
+use Rattle.qc_cert.proofs.laws.covers_is_cover.Goals as goal
+
+pub returns : goal.returns
+returns c = covers_is

@@ -1,0 +1,5 @@
+use Rattle.qc_cert.proofs.Faultless.{inductive}
+use Rattle.qc_cert.proofs.laws.no_fault_is_inductive.Goals as goal
+
+pub returns : goal.returns
+returns c = inductive
