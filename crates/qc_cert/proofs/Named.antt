@@ -18,6 +18,7 @@ unranked : (unknown repeated : Option ℕ) (many : Bool) → ranked unknown repe
 unranked (Some row) repeated many e = absurd (let never : ⊥ = cc in never)
 unranked None repeated many e = refl
 
+-- a sound table has no unknown row
 all_known : (rules : Rules) → IsSound rules → list_any (is_unknown rules.states rules.invs rules.resps) rules.rows ≡ false
 all_known rules sound =
     let test = is_unknown rules.states rules.invs rules.resps in
@@ -31,11 +32,11 @@ row_within states invs resps row known =
     let next = or_parts (nat_le resps row.resp) (nat_le states row.next) resp.1 in
     (leb-false invs row.inv resp.0, leb-false resps row.resp next.0)
 
--- the row of an event has its invocation and its response
 and_second : (a b : Bool) → (a && b) ≡ true → b ≡ true
 and_second true b e = e
 and_second false b e = absurd (true≢false (sym e))
 
+-- rows of which none is unknown allow only events within the counts
 rows_within : (states invs resps : ℕ) (rows : List Row) (state : ℕ) (e : Event) → list_any (is_unknown states invs resps) rows ≡ false → is_legal rows state e ≡ true
     → (e.inv < invs) × (e.resp < resps)
 rows_within states invs resps [] state e known legal = absurd (true≢false (sym legal))

@@ -16,7 +16,7 @@ use Rattle.qc_cert.specs.Inductive.{triple, IsCovered, IsFree, is_allowed, IsInd
 use Rattle.qc_cert.specs.Views.{inv_of, state_after, IsLegalFor, IsClosed, picked, IsExact}
 use Rattle.qc_cert.specs.declared.triple.Triple.{Triple}
 
-pub some_of : {A : Type 0} (o : Option A) → IsSome o → (x : A) × (o ≡ Some x)
+some_of : {A : Type 0} (o : Option A) → IsSome o → (x : A) × (o ≡ Some x)
 some_of None h = absurd (let never : ⊥ = cc in never)
 some_of (Some x) h = (x, refl)
 
@@ -57,7 +57,7 @@ added out e f h = by (has out f) refl (sym (has_with out e f) ∙ h)
     by true here h = inl here
     by false here h = inr (eqb-true e f h)
 
--- a relation that depends on an event and doesn't
+-- a test that passes and fails
 clash : {A : Type 0} {b : Bool} → b ≡ true → b ≡ false → A
 clash t f = absurd (true≢false (sym t ∙ f))
 
@@ -74,7 +74,7 @@ module _ (kind : Kind) (list : List Triple) (ind : IsInductive kind list) where
   abbrev step : ℕ → ℕ → Option ℕ
   step = step_of kind.table.rows
 
-  -- where a triple's view comes to by the picked events
+  -- what a triple becomes by a history, of which the view takes the picked events
   record Reaches (t : Triple) (history : List ℕ) (set : ℕ → Bool) (log : ℕ) : Type 0 where
     place : ℕ
     by : Triple
@@ -157,7 +157,7 @@ module _ (kind : Kind) (list : List Triple) (ind : IsInductive kind list) where
   walk [] = walk_none
   walk (e ∷ es) = walk_more e es (walk es)
 
-  -- nothing is a member of the empty set
+  -- from the start, where nothing is left out
   pub accounted : (history : List ℕ) (set : ℕ → Bool) → IsLegalFor kind history → IsClosed kind history set → IsAccountedFor kind list history set
   accounted history set legal closed =
       let c : IsCovered list (triple kind.table.start kind.table.start 0) = ind.begun in
