@@ -1,4 +1,4 @@
+pub mod Computed
 pub mod Faultless
 pub mod Named
-pub mod Tests
 pub mod Walk

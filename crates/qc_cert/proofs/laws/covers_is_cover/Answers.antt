@@ -1,4 +1,4 @@
-use Rattle.qc_cert.proofs.Tests.{covers_is}
+use Rattle.qc_cert.proofs.Computed.{covers_is}
 use Rattle.qc_cert.proofs.laws.covers_is_cover.Goals as goal
 
 pub returns : goal.returns
