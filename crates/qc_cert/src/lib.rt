@@ -7,7 +7,10 @@
 #![tactic(auto)]
 
 mod fault;
+mod groups;
+mod rules;
 mod triple;
 
 pub use fault::CertFault;
+pub use rules::check;
 pub use triple::Triple;
