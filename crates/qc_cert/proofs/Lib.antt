@@ -1,4 +1,7 @@
+pub mod Allowed
 pub mod Computed
 pub mod Faultless
+pub mod Grouped
 pub mod Named
+pub mod Search
 pub mod Walk

@@ -1,4 +1,5 @@
 pub mod Covered
 pub mod Faults
+pub mod Groups
 pub mod Inductive
 pub mod Views

@@ -7,7 +7,9 @@
 #![tactic(auto)]
 
 mod fault;
+mod groups;
 mod laws;
+mod rules;
 mod triple;
 
 pub use fault::CertFault;
@@ -15,4 +17,5 @@ pub use laws::{
     closed_sets_are_covered, covers_is_cover, inductive_lists_have_no_fault,
     inductive_lists_make_relations_exact, no_fault_is_inductive,
 };
+pub use rules::check;
 pub use triple::Triple;

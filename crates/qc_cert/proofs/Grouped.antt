@@ -1,0 +1,68 @@
+-- Groups have what a search for a covering triple looks at.
+use Rattle.std.proofs.Common.{◌≡◌, ℕ, suc, ◌<◌, ◌≤◌, ◌⊎◌, Bool, true, false, cond, List, [], ◌∷◌, All, length, get_or, refl, sym, ap, ◌∙◌, inl, inr, suc-le-suc, zero-lt-suc, arith}
+use Rattle.std.specs.Prelude.{◌==◌, ◌&&◌, ◌||◌}
+use Rattle.std.specs.List.{list_any}
+use Rattle.std.proofs.lemmas.Bool.{eqb-true, eq-eqb}
+use Rattle.std.proofs.lemmas.List.Folds.{list_any_none}
+use Rattle.qc_cert.specs.Faults.{covers, is_covered}
+use Rattle.qc_cert.specs.Groups.{AreStates, place_of, outs_at}
+use Rattle.qc_cert.specs.declared.triple.Triple.{Triple}
+use Rattle.qc_table.specs.Sets.{is_within}
+
+-- different numbers
+differs : (a b : ℕ) → (a ≡ b → ⊥) → (a == b) ≡ false
+differs a b ne = by (a == b) refl
+  where
+    by : (v : Bool) → (a == b) ≡ v → v ≡ false
+    by true e = absurd (ne (eqb-true a b e))
+    by false e = refl
+
+-- of a list's first triple
+head_of : (t : Triple) (ts : List Triple) → All AreStates (t ∷ ts) → AreStates t
+head_of t ts all = all 0 t (zero-lt-suc (length ts))
+
+tail_of : (t : Triple) (ts : List Triple) → All AreStates (t ∷ ts) → All AreStates ts
+tail_of t ts all k d l = all (suc k) d (suc-le-suc l)
+
+-- two triples of one group have the same states
+same_states : (a b : Triple) → a.log < 64 → b.log < 64 → place_of a.view a.log ≡ place_of b.view b.log → ((a.view == b.view) ≡ true) × ((a.log == b.log) ≡ true)
+same_states a b la lb e = (eq-eqb a.view b.view (omega arith), eq-eqb a.log b.log (omega arith))
+
+-- triples of two groups don't cover each other
+apart : (a b : Triple) → (place_of a.view a.log ≡ place_of b.view b.log → ⊥) → covers a b ≡ false
+apart a b ne = by (a.view == b.view) (a.log == b.log) refl refl
+  where
+    by : (v w : Bool) → (a.view == b.view) ≡ v → (a.log == b.log) ≡ w → (v && (w && is_within a.out b.out)) ≡ false
+    by false w e f = refl
+    by true false e f = refl
+    by true true e f = let views : a.view ≡ b.view = eqb-true a.view b.view e in let logs : a.log ≡ b.log = eqb-true a.log b.log f in absurd (ne (omega arith))
+
+together : (a b : Triple) → (a.view == b.view) ≡ true → (a.log == b.log) ≡ true → is_within a.out b.out ≡ covers a b
+together a b e f = rw (e, f) refl
+
+-- the group of two states tells whether a triple of them is covered
+pub covered_in : (list : List Triple) (t : Triple) → All AreStates list → t.log < 64 → list_any (λ o. is_within o t.out) (outs_at list (place_of t.view t.log)) ≡ is_covered list t
+covered_in [] t all l = refl
+covered_in (a ∷ list) t all l = by (place_of a.view a.log == place_of t.view t.log) refl (covered_in list t (tail_of a list all) l)
+  where
+    by : (b : Bool) → (place_of a.view a.log == place_of t.view t.log) ≡ b → list_any (λ o. is_within o t.out) (outs_at list (place_of t.view t.log)) ≡ is_covered list t
+        → list_any (λ o. is_within o t.out) (cond b (a.out ∷ outs_at list (place_of t.view t.log)) (outs_at list (place_of t.view t.log))) ≡ (covers a t || is_covered list t)
+    by true e more =
+        let states : ((a.view == t.view) ≡ true) × ((a.log == t.log) ≡ true) = same_states a t (head_of a list all).1 l (eqb-true _ _ e) in
+        ap (λ b. b || list_any (λ o. is_within o t.out) (outs_at list (place_of t.view t.log))) (together a t states.0 states.1) ∙ ap (λ b. covers a t || b) more
+    by false e more =
+        let none : covers a t ≡ false = apart a t (λ same. let t : true ≡ false = sym (eq-eqb _ _ same) ∙ e in let never : ⊥ = cc in never) in
+        more ∙ sym (ap (λ b. b || is_covered list t) none)
+
+-- a triple with a state past all states isn't covered
+pub uncovered_past : (list : List Triple) (t : Triple) → All AreStates list → (64 ≤ t.view) ⊎ (64 ≤ t.log) → is_covered list t ≡ false
+uncovered_past list t all past = list_any_none (λ a. covers a t) list (λ k d l. by (get_or list k d) (all k d l) past)
+  where
+    logs : (v w b : Bool) → w ≡ false → (v && (w && b)) ≡ false
+    logs false w b e = refl
+    logs true false b e = refl
+    logs true true b e = absurd (let never : ⊥ = cc in never)
+
+    by : (a : Triple) → AreStates a → (64 ≤ t.view) ⊎ (64 ≤ t.log) → covers a t ≡ false
+    by a states (inl v) = rw (differs a.view t.view (λ (e : a.view ≡ t.view). let n : a.view < 64 = states.0 in omega arith)) refl
+    by a states (inr v) = logs (a.view == t.view) (a.log == t.log) (is_within a.out t.out) (differs a.log t.log (λ (e : a.log ≡ t.log). let n : a.log < 64 = states.1 in omega arith))

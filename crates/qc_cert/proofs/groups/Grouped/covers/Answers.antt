@@ -1,0 +1,28 @@
+use Rattle.std.proofs.Common.{ℕ, List, ◌≤◌, ◌<◌, ◌⊎◌, length, arith, ◌≡◌, ◌∙◌, ap, inl, inr, sym, get_or, []}
+use Rattle.std.specs.List.{list_any}
+use Rattle.std.proofs.lemmas.List.{get_or_read}
+use Rattle.qc_cert.specs.Faults.{is_covered}
+use Rattle.qc_cert.specs.Groups.{outs_at, place_of}
+use Rattle.qc_cert.proofs.Grouped.{covered_in, uncovered_past}
+use Rattle.qc_table.specs.Sets.{is_within}
+use Rattle.qc_cert.proofs.groups.Grouped.covers.Goals as goal
+use Rattle.qc_cert.proofs.groups.Grouped.covers.Goals.{then-triple-ge-STATES-via-then-triple-ge-STATES, then-triple-ge-STATES-via-else-triple-ge-STATES+then-triple-ge-STATES-2}
+
+pub returns-then-triple-ge-STATES : goal.returns-then-triple-ge-STATES
+returns-then-triple-ge-STATES c =
+    let past : (64 ≤ c.args.triple.now.view) ⊎ (64 ≤ c.args.triple.now.log) = elim c.then-triple-ge-STATES.branch [
+      | then-triple-ge-STATES-via-then-triple-ge-STATES w ↦ inl w.if-triple-ge-STATES.true
+      | then-triple-ge-STATES-via-else-triple-ge-STATES+then-triple-ge-STATES-2 w ↦ inr w.if-triple-ge-STATES-2.true
+    ] in
+    sym (ap (λ ts. is_covered ts c.args.triple.now) (sym c.self.view_is) ∙ uncovered_past c.self.inside.list.now c.args.triple.now c.self.invariant.states past)
+
+pub returns : goal.returns
+returns c =
+    let items = c.self.inside.groups.items in
+    let within : c.place.result < length items = omega (arith, c.place.ensures.within, c.self.invariant.all) in
+    let read : c.index-groups-place.result ≡ get_or items c.place.result c.index-groups-place.result = c.index-groups-place.is ∙ ap (λ (gs : List (List ℕ)). get_or gs c.place.result c.index-groups-place.result) c.as_slice-groups.ensures.value in
+    let group : c.index-groups-place.result ≡ outs_at c.self.inside.list.now (place_of c.args.triple.now.view c.args.triple.now.log) =
+    get_or_read items c.place.result c.index-groups-place.result within read [] ∙ c.self.invariant.outs c.place.result ∙ ap (outs_at c.self.inside.list.now) c.place.ensures.place in
+    c.covers.ensures ∙ ap (list_any (λ o. is_within o c.args.triple.now.out)) group
+    ∙ covered_in c.self.inside.list.now c.args.triple.now c.self.invariant.states c.if-triple-ge-STATES-2.false
+    ∙ ap (λ ts. is_covered ts c.args.triple.now) c.self.view_is

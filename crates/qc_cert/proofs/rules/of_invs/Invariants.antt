@@ -1,0 +1,7 @@
+use Rattle.std.proofs.Common.{◌≡◌, None}
+use Rattle.qc_cert.specs.Faults.{inv_fault}
+use Rattle.qc_table.specs.First.{first_below}
+use Rattle.qc_cert.proofs.rules.of_invs.Given as goal
+
+abbrev pub invariant-loop-inv : goal.invariant-loop-inv
+invariant-loop-inv l = first_below l.inv (inv_fault l.kind l.triples l.place l.triple) ≡ None

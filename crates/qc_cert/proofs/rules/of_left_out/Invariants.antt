@@ -1,0 +1,7 @@
+use Rattle.std.proofs.Common.{◌≡◌, None}
+use Rattle.qc_cert.specs.Faults.{left_out_fault}
+use Rattle.qc_table.specs.First.{first_below}
+use Rattle.qc_cert.proofs.rules.of_left_out.Given as goal
+
+abbrev pub invariant-loop-event : goal.invariant-loop-event
+invariant-loop-event l = first_below l.event (left_out_fault l.kind l.triples l.place l.triple) ≡ None

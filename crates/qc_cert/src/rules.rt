@@ -1,0 +1,246 @@
+//! The rules that make a list of triples a certificate.
+
+ghost use Rattle.std.specs.Prelude.{◌≡◌, ◌≤◌, ◌<◌, ◌↔◌, All, None, IfErr, OnOk, IsBitSet, IsTrue, length};
+ghost use Rattle.qc_cert.specs.Faults.{IsTold, fault_of, inv_fault, left_out_fault, taken_fault, triple_fault, triples_fault, unequal_fault, unless_covered};
+ghost use Rattle.qc_cert.specs.Views.{inv_of};
+ghost use Rattle.qc_cert.specs.declared.triple.Triple.{Triple};
+ghost use Rattle.qc_table.specs.First.{first_below};
+ghost use Rattle.qc_table.specs.Rules.{events_of};
+
+use crate::fault::CertFault;
+use crate::groups::Grouped;
+use crate::triple::Triple;
+use qc_table::{Kind, tables_are_sound};
+use std::alloc::Global;
+
+/// Whether a list of triples is inductive for a type. Some triple has to cover
+/// the start; each event that a triple's log takes and its view leaves out has
+/// to lead to a triple that is covered; an invocation that depends on nothing
+/// left out has to have the same legal responses in both states; and each of
+/// its events that both take has to lead to one that is covered.
+///
+/// The first fault is told: triples in the list's order, in each the events
+/// left out by number, then the invocations by number, first the lowest
+/// unequal response and then the events taken by number. The walk takes up to
+/// 4 MB beside the list.
+pub fn check(alloc: Global, kind: &Kind, list: &[Triple]) -> Result<(), CertFault>
+    requires few { length list.now ≤ 65536 }
+    requires states { All (λ (t : Triple). (t.view < kind.now.table.states) × (t.log < kind.now.table.states)) list.now }
+    ensures ok { OnOk result (fault_of kind.now list.now ≡ None) }
+    ensures err { IfErr result (λ e. IsTold e (fault_of kind.now list.now)) }
+{
+    tables_are_sound(&kind.table);
+    let triples = Grouped::new(alloc, list)?;
+    match first_fault(kind, &triples) {
+        Some(fault) => Err(fault),
+        None => Ok(()),
+    }
+}
+
+/// The first fault of a list.
+fn first_fault(kind: &Kind, triples: &Grouped) -> Option<CertFault>
+    requires { length triples.now ≤ 65536 }
+    ensures { result ≡ fault_of kind.now triples.now }
+{
+    let start = kind.table.start();
+    let begun = Triple {
+        view: start,
+        log: start,
+        out: 0,
+    };
+    match unless_covered(triples, CertFault::NoStart, &begun) {
+        Some(fault) => Some(fault),
+        None => of_triples(kind, triples),
+    }
+}
+
+/// The fault, where no triple of the list covers this one.
+fn unless_covered(triples: &Grouped, fault: CertFault, triple: &Triple) -> Option<CertFault>
+    ensures { result ≡ unless_covered triples.now fault triple.now }
+{
+    if triples.covers(triple) {
+        None
+    } else {
+        Some(fault)
+    }
+}
+
+/// The first fault of the triples.
+fn of_triples(kind: &Kind, triples: &Grouped) -> Option<CertFault>
+    requires { length triples.now ≤ 65536 }
+    ensures { result ≡ triples_fault kind.now triples.now 0 triples.now }
+{
+    for (place, triple) in triples.list().iter().enumerate() {
+        let fault = of_triple(kind, triples, place as u32, triple);
+        if fault.is_some() {
+            return fault;
+        }
+    }
+    None
+}
+
+/// The first fault of a triple, which has this place in the list.
+fn of_triple(kind: &Kind, triples: &Grouped, place: u32, triple: &Triple) -> Option<CertFault>
+    ensures { result ≡ triple_fault kind.now triples.now place triple.now }
+{
+    match of_left_out(kind, triples, place, triple) {
+        Some(fault) => Some(fault),
+        None => of_invs(kind, triples, place, triple),
+    }
+}
+
+/// The first fault of a triple's events left out.
+fn of_left_out(kind: &Kind, triples: &Grouped, place: u32, triple: &Triple) -> Option<CertFault>
+    ensures { result ≡ first_below (length (events_of kind.now.table.rows)) (left_out_fault kind.now triples.now place triple.now) }
+{
+    let events = kind.table.events().len();
+    for event in 0..events {
+        let fault = left_out(kind, triples, place, triple, event as u8);
+        if fault.is_some() {
+            return fault;
+        }
+    }
+    None
+}
+
+/// The fault of an event that a triple's log takes and its view leaves out.
+fn left_out(
+    kind: &Kind,
+    triples: &Grouped,
+    place: u32,
+    triple: &Triple,
+    event: u8,
+) -> Option<CertFault>
+    requires { event < 64 }
+    ensures { result ≡ left_out_fault kind.now triples.now place triple.now event }
+{
+    let log = kind.table.step(triple.log, event)?;
+    let fault = CertFault::Uncovered {
+        triple: place,
+        event,
+        taken: false,
+    };
+    let next = Triple {
+        view: triple.view,
+        log,
+        out: triple.out | 1 << event,
+    };
+    unless_covered(triples, fault, &next)
+}
+
+/// The first fault of the invocations at a triple.
+fn of_invs(kind: &Kind, triples: &Grouped, place: u32, triple: &Triple) -> Option<CertFault>
+    ensures { result ≡ first_below kind.now.table.invs (inv_fault kind.now triples.now place triple.now) }
+{
+    for inv in 0..kind.table.invs() {
+        let fault = of_inv(kind, triples, place, triple, inv);
+        if fault.is_some() {
+            return fault;
+        }
+    }
+    None
+}
+
+/// The first fault of an invocation at a triple: none where it depends on
+/// something left out.
+fn of_inv(kind: &Kind, triples: &Grouped, place: u32, triple: &Triple, inv: u8) -> Option<CertFault>
+    ensures { result ≡ inv_fault kind.now triples.now place triple.now inv }
+{
+    if kind.relation.depended(inv) & triple.out != 0 {
+        return None;
+    }
+    match of_responses(kind, place, triple, inv) {
+        Some(fault) => Some(fault),
+        None => of_taken(kind, triples, place, triple, inv),
+    }
+}
+
+/// The fault of the lowest response that only one of a triple's states
+/// allows an invocation.
+fn of_responses(kind: &Kind, place: u32, triple: &Triple, inv: u8) -> Option<CertFault>
+    ensures { result ≡ first_below kind.now.table.resps (unequal_fault kind.now place triple.now inv) }
+{
+    tables_are_sound(&kind.table);
+    let view = kind.table.responses(triple.view, inv);
+    let log = kind.table.responses(triple.log, inv);
+    if view == log {
+        return None;
+    }
+    for resp in 0..kind.table.resps() {
+        if has(view, resp) != has(log, resp) {
+            return Some(CertFault::Unequal {
+                triple: place,
+                inv,
+                resp,
+            });
+        }
+    }
+    None
+}
+
+/// Whether a response is among these.
+fn has(responses: u32, resp: u8) -> bool
+    requires { resp < 32 }
+    ensures { IsTrue result ↔ IsBitSet responses resp }
+{
+    responses & 1 << resp != 0
+}
+
+/// The first fault of the events of an invocation that both the view and the
+/// log of a triple take.
+fn of_taken(
+    kind: &Kind,
+    triples: &Grouped,
+    place: u32,
+    triple: &Triple,
+    inv: u8,
+) -> Option<CertFault>
+    ensures { result ≡ first_below (length (events_of kind.now.table.rows)) (taken_fault kind.now triples.now place triple.now inv) }
+{
+    let events = kind.table.events().len();
+    for event in 0..events {
+        let fault = taken(kind, triples, place, triple, inv, event as u8);
+        if fault.is_some() {
+            return fault;
+        }
+    }
+    None
+}
+
+/// The fault of an event of an invocation that both the view and the log of a
+/// triple take.
+fn taken(
+    kind: &Kind,
+    triples: &Grouped,
+    place: u32,
+    triple: &Triple,
+    inv: u8,
+    event: u8,
+) -> Option<CertFault>
+    ensures { result ≡ taken_fault kind.now triples.now place triple.now inv event }
+{
+    if inv_of(kind, event) != inv {
+        return None;
+    }
+    let fault = CertFault::Uncovered {
+        triple: place,
+        event,
+        taken: true,
+    };
+    let next = Triple {
+        view: kind.table.step(triple.view, event)?,
+        log: kind.table.step(triple.log, event)?,
+        out: triple.out,
+    };
+    unless_covered(triples, fault, &next)
+}
+
+/// The invocation of an event, and 0 where the type has no such event.
+fn inv_of(kind: &Kind, event: u8) -> u8
+    ensures { result ≡ inv_of kind.now event }
+{
+    kind.table
+        .events()
+        .get(event as usize)
+        .map_or(0, |event| event.inv)
+}
