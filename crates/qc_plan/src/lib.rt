@@ -16,6 +16,8 @@ mod fault;
 mod laws;
 mod plan;
 mod quorum;
+#[cfg(test)]
+mod tests;
 
 pub use admission::admit;
 pub use close::close_weight;
