@@ -1,0 +1,6 @@
+pub mod Below
+pub mod Faultless
+pub mod Heaviness
+pub mod Least
+pub mod Meet
+pub mod Sums

@@ -39,3 +39,8 @@ abbrev pub fault_of : Plan → List Kind → List ℕ → Option PlanFault
 fault_of plan kinds objects =
     if total plan.weights == 0 then Some NoWeight
     else option_or (first_below (length objects) (heavy_fault plan)) (first_below (length objects) (object_fault plan kinds objects))
+
+-- what a checker answers about a plan with this fault
+abbrev pub answer_of : Option PlanFault → Result (Unit {0}) PlanFault
+answer_of None = Ok tt
+answer_of (Some fault) = Err fault

@@ -1,4 +1,5 @@
 pub mod Admitted
+pub mod Close
 pub mod Faults
 pub mod Need
 pub mod Weights

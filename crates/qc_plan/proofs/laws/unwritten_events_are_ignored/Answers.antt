@@ -1,0 +1,12 @@
+use Rattle.std.proofs.Common.{◌+◌, ◌<◌, ◌≤◌, arith}
+use Rattle.std.proofs.lemmas.Bool.{false_from_ne_true}
+use Rattle.qc_plan.specs.Need.{need_of}
+use Rattle.qc_plan.specs.Weights.{total}
+use Rattle.qc_table.specs.Depends.{depends}
+use Rattle.qc_plan.proofs.laws.unwritten_events_are_ignored.Goals as goal
+
+pub returns : goal.returns
+returns c plan kinds objects object number kind inv event admitted numbered typed low known unwritten =
+    let light : need_of plan.initial object inv ≤ total plan.weights = admitted.initial_light object inv in
+    false_from_ne_true (depends kind.relation inv event)
+    (λ dependent. let heavy : total plan.weights < need_of plan.initial object inv + need_of plan.last object event = admitted.meets object number kind inv event numbered typed low known dependent in absurd (omega arith))

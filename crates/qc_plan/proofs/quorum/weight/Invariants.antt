@@ -1,0 +1,7 @@
+use Rattle.std.proofs.Common.{◌≡◌, ◌≤◌, ◌*◌, take}
+use Rattle.qc_table.specs.Sets.{has}
+use Rattle.qc_plan.specs.Weights.{weight}
+use Rattle.qc_plan.proofs.quorum.weight.Given as goal
+
+abbrev pub invariant-loop-site : goal.invariant-loop-site
+invariant-loop-site l = record { so_far : l.sum ≡ weight (has l.sites) (take l.site l.weights); few : l.sum ≤ 255 * l.site }

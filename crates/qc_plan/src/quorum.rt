@@ -1,0 +1,61 @@
+//! Weights of site sets, and the thresholds that they reach.
+
+ghost use Rattle.std.specs.Prelude.{◌≡◌, ◌<◌, ◌≤◌, length, nat_le};
+ghost use Rattle.qc_plan.specs.Need.{need_of};
+ghost use Rattle.qc_plan.specs.Weights.{weight, total};
+ghost use Rattle.qc_table.specs.Sets.{has};
+
+use crate::plan::Plan;
+
+/// Whether the sites, bit k for site k, are an initial quorum of an invocation
+/// of an object: whether their weight reaches its threshold.
+pub fn initial_met(plan: &Plan, object: u8, inv: u8, sites: u16) -> bool
+    requires { length plan.now.weights ≤ 16 }
+    ensures { result ≡ nat_le (need_of plan.now.initial object inv) (weight (has sites) plan.now.weights) }
+{
+    plan.read_need(object, inv) <= weight(plan.weights.items(), sites)
+}
+
+/// Whether the sites, bit k for site k, are a final quorum of an event of an
+/// object: whether their weight reaches its threshold.
+pub fn final_met(plan: &Plan, object: u8, event: u8, sites: u16) -> bool
+    requires { length plan.now.weights ≤ 16 }
+    ensures { result ≡ nat_le (need_of plan.now.last object event) (weight (has sites) plan.now.weights) }
+{
+    plan.append_need(object, event) <= weight(plan.weights.items(), sites)
+}
+
+/// The weight of the sites of a set.
+fn weight(weights: &[u8], sites: u16) -> u16
+    requires { length weights.now ≤ 16 }
+    ensures { result ≡ weight (has sites) weights.now }
+{
+    let mut sum = 0;
+    for (site, weight) in weights.iter().enumerate() {
+        if has(sites, site) {
+            sum += *weight as u16;
+        }
+    }
+    sum
+}
+
+/// Whether a site is in the set.
+fn has(sites: u16, site: usize) -> bool
+    requires { site < 16 }
+    ensures { result ≡ has sites site }
+{
+    (sites >> site) & 1 == 1
+}
+
+/// The weight of all sites.
+pub(crate) fn total(weights: &[u8]) -> u16
+    requires { length weights.now ≤ 16 }
+    ensures total { result ≡ total weights.now }
+    ensures few { result ≤ 4080 }
+{
+    let mut sum = 0;
+    for weight in weights {
+        sum += *weight as u16;
+    }
+    sum
+}
