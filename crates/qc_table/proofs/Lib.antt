@@ -1,7 +1,12 @@
+pub mod Answered
+pub mod Distinct
+pub mod Few
+pub mod Gridded
 pub mod Legal
 pub mod Lowest
 pub mod Numbered
 pub mod Places
 pub mod Related
 pub mod Runs
+pub mod Seen
 pub mod Unknown

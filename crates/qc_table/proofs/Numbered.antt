@@ -72,6 +72,10 @@ among_rows (row ∷ rows) events state e h = by (is_row_of state e row) refl (sy
         among_more rows (with_event events (event_of row)) e (subst (λ x. is_among x (with_event events (event_of row)) ≡ true) same (among_with events (event_of row)))
     by false is h more = more h
 
+-- a legal event is among the rows' events
+pub legal_among : (rows : List Row) (state : ℕ) (e : Event) → is_legal rows state e ≡ true → is_among e (events_of rows) ≡ true
+legal_among rows state e h = among_rows rows [] state e h
+
 -- what is among events has a number
 number_among : (events : List Event) (e : Event) → is_among e events ≡ true → event_number events e ≡ None → ⊥
 number_among events e h none = absurd (let t : true ≡ false = sym h ∙ position_none (λ x. same_event x e) events none in let never : ⊥ = cc in never)

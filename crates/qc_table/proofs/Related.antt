@@ -1,7 +1,6 @@
 -- A relation depends as its pairs say.
-use Rattle.std.proofs.Common.{◌≡◌, ℕ, zero, suc, subst, suc-le-suc, zero-lt-suc, ◌^◌, ◌<◌, ◌≤◌, max, Bool, true, false, IsTrue, cond, List, [], ◌∷◌, length, All, set, get_or, replicate, bit_or, refl, sym, ap, ◌∙◌, arith}
+use Rattle.std.proofs.Common.{◌≡◌, ℕ, zero, suc, subst, suc-le-suc, zero-lt-suc, ◌^◌, ◌<◌, ◌≤◌, Bool, true, false, List, [], ◌∷◌, length, All, get_or, replicate, refl, sym, ap, ◌∙◌, arith}
 use Rattle.std.specs.Prelude.{◌==◌, ◌&&◌, ◌||◌, fold}
-use Rattle.std.specs.List.{list_any}
 use Rattle.std.specs.Int.{bit_at}
 use Rattle.std.proofs.lemmas.Nat.Bits.{bit_at_or, bit_at-pow_same, bit_at-pow_other, bit_at-zero, bit_at-lt}
 use Rattle.std.proofs.Math.Nat.{div-eq_of_lt}
@@ -59,7 +58,7 @@ depends_more (p ∷ pairs) r inv event l all =
     ∙ ap (λ b. b || is_given pairs inv event) (depends_with r p inv event (subst (λ (n : ℕ). p.inv < n) (sym l) (all 0 p (zero-lt-suc (length pairs))).0))
     ∙ or_assoc (depends r inv event) ((p.inv == inv) && (p.event == event)) (is_given pairs inv event)
 
-zeros : (n place : ℕ) → let none : ℕ = 0 in get_or (replicate n none) place none ≡ none
+pub zeros : (n place : ℕ) → let none : ℕ = 0 in get_or (replicate n none) place none ≡ none
 zeros zero place = refl
 zeros (suc n) zero = refl
 zeros (suc n) (suc place) = zeros n place

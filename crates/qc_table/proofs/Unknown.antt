@@ -1,11 +1,14 @@
 -- What rows without fault name.
-use Rattle.std.proofs.Common.{◌≡◌, ℕ, ◌<◌, ◌≤◌, Bool, true, false, Option, Some, None, length, get_or, refl, sym, ◌∙◌, arith}
-use Rattle.std.specs.Prelude.{◌||◌, nat_le, nat_lt, position, All}
+use Rattle.std.proofs.Common.{List, [], ◌∷◌, ◌++◌, cond, suc, zero, ◌≡◌, ℕ, ◌<◌, ◌≤◌, Bool, true, false, suc-le-suc, zero-lt-suc, Option, Some, None, length, get_or, refl, sym, ◌∙◌, arith}
+use Rattle.std.specs.Prelude.{◌||◌, nat_le, nat_lt, position, All, fold}
 use Rattle.std.specs.List.{list_any}
 use Rattle.std.proofs.lemmas.Bool.{leb-false}
 use Rattle.std.proofs.lemmas.List.Folds.{list_any_at}
+use Rattle.std.proofs.lemmas.List.Elements.{All-append}
 use Rattle.qc_table.specs.declared.row.Row.{Row}
-use Rattle.qc_table.specs.Rules.{Rules, events_of}
+use Rattle.qc_table.specs.declared.row.Event.{Event}
+use Rattle.qc_table.specs.Rules.{Rules, event_of, same_event, with_event, events_of}
+use Rattle.qc_table.specs.Cases.{IsSmall}
 use Rattle.qc_table.specs.Faults.{is_unknown, ranked, first_repeat}
 use Rattle.qc_table.specs.Sound.{IsSound}
 use Rattle.qc_table.proofs.Places.{position_none}
@@ -25,6 +28,34 @@ named states invs resps row e = leb-false resps row.resp (third (nat_le states r
     third false true c d e = absurd (let never : ⊥ = cc in never)
     third true b c d e = absurd (let never : ⊥ = cc in never)
 
+-- nor a state or an invocation past their counts
+named_state : (states invs resps : ℕ) (row : Row) → is_unknown states invs resps row ≡ false → row.state < states
+named_state states invs resps row e = leb-false states row.state (first (nat_le states row.state) (nat_le invs row.inv || (nat_le resps row.resp || nat_le states row.next)) e)
+  where
+    first : (a b : Bool) → (a || b) ≡ false → a ≡ false
+    first true b e = absurd (let never : ⊥ = cc in never)
+    first false b e = refl
+
+named_inv : (states invs resps : ℕ) (row : Row) → is_unknown states invs resps row ≡ false → row.inv < invs
+named_inv states invs resps row e = leb-false invs row.inv (second (nat_le states row.state) (nat_le invs row.inv) (nat_le resps row.resp || nat_le states row.next) e)
+  where
+    second : (a b c : Bool) → (a || (b || c)) ≡ false → b ≡ false
+    second false true c e = absurd (let never : ⊥ = cc in never)
+    second false false c e = refl
+    second true b c e = absurd (let never : ⊥ = cc in never)
+
+-- where no row is unknown each is small
+pub small_rows : (states invs resps : ℕ) (rows : List Row) → states ≤ 64 → invs ≤ 32 → resps ≤ 32 → position (is_unknown states invs resps) rows ≡ None → All IsSmall rows
+small_rows states invs resps rows s i r none k d l = by (is_unknown states invs resps (get_or rows k d)) refl
+  where
+    by : (b : Bool) → is_unknown states invs resps (get_or rows k d) ≡ b → IsSmall (get_or rows k d)
+    by true e = absurd (let t : true ≡ false = sym (list_any_at (is_unknown states invs resps) rows k d l e) ∙ position_none (is_unknown states invs resps) rows none in let never : ⊥ = cc in never)
+    by false e = record {
+      state = let own : (get_or rows k d).state < states = named_state states invs resps (get_or rows k d) e in omega arith;
+      inv = let own : (get_or rows k d).inv < invs = named_inv states invs resps (get_or rows k d) e in omega arith;
+      resp = let own : (get_or rows k d).resp < resps = named states invs resps (get_or rows k d) e in omega arith;
+    }
+
 -- each response of a sound table is below 32
 pub responses_within : (rules : Rules) → IsSound rules → All (λ (row : Row). row.resp < 32) rules.rows
 responses_within rules sound k d l = let limit : rules.resps ≤ 32 = sound.resps in let own : (get_or rules.rows k d).resp < rules.resps = by (is_unknown rules.states rules.invs rules.resps (get_or rules.rows k d)) refl in omega arith
@@ -35,3 +66,24 @@ responses_within rules sound k d l = let limit : rules.resps ≤ 32 = sound.resp
     by : (b : Bool) → is_unknown rules.states rules.invs rules.resps (get_or rules.rows k d) ≡ b → (get_or rules.rows k d).resp < rules.resps
     by true e = absurd (let t : true ≡ false = sym (list_any_at (is_unknown rules.states rules.invs rules.resps) rules.rows k d l e) ∙ none in let never : ⊥ = cc in never)
     by false e = named rules.states rules.invs rules.resps (get_or rules.rows k d) e
+
+-- events with responses below 32 stay so with one more
+small_with : (events : List Event) (e : Event) → e.resp < 32 → All (λ (x : Event). x.resp < 32) events → All (λ (x : Event). x.resp < 32) (with_event events e)
+small_with events e l all = by (list_any (λ x. same_event x e) events)
+  where
+    one : All (λ (x : Event). x.resp < 32) (e ∷ [])
+    one zero d within = l
+    one (suc k) d within = absurd (omega arith)
+
+    by : (b : Bool) → All (λ (x : Event). x.resp < 32) (cond b events (events ++ e ∷ []))
+    by true = all
+    by false = All-append (λ (x : Event). x.resp < 32) events (e ∷ []) all one
+
+small_more : (rows : List Row) (events : List Event) → All (λ (row : Row). row.resp < 32) rows → All (λ (x : Event). x.resp < 32) events
+    → All (λ (x : Event). x.resp < 32) (fold (λ es row. with_event es (event_of row)) events rows)
+small_more [] events each all = all
+small_more (row ∷ rows) events each all = small_more rows (with_event events (event_of row)) (λ k d l. each (suc k) d (suc-le-suc l)) (small_with events (event_of row) (each 0 row (zero-lt-suc (length rows))) all)
+
+-- each event of a sound table has a response below 32
+pub events_within : (rules : Rules) → IsSound rules → All (λ (e : Event). e.resp < 32) (events_of rules.rows)
+events_within rules sound = small_more rules.rows [] (responses_within rules sound) (λ k d l. absurd (omega arith))

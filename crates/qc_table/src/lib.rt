@@ -4,11 +4,15 @@
 //! A table keeps its rows as they were given. Each row names states,
 //! invocations and responses within the table's counts, no two rows have the
 //! same state, invocation and response, and there are at most 64 events.
-//! Events are numbered by their first rows. Checkers of declarations, front
-//! ends and laws on replies all read the same table.
+//! Events are numbered by their first rows. It also keeps a grid of the next
+//! state of each state and each event, so that no question goes over the rows.
+//! Checkers of declarations, front ends and laws on replies all read the same
+//! table.
 #![tactic(auto)]
 
+mod cases;
 mod fault;
+mod grid;
 mod kind;
 mod laws;
 mod relation;

@@ -6,8 +6,8 @@ ghost use Rattle.qc_table.specs.declared.relation.Pair.{Pair};
 
 use std::marker::Model;
 
-/// How many invocations a type has at most.
-const INVOCATIONS: usize = 32;
+/// How many invocations a table has at most.
+pub(crate) const INVOCATIONS: usize = 32;
 
 /// An invocation with an event on which it depends.
 #[derive(Clone, Copy, PartialEq, Eq, Debug)]

@@ -1,20 +1,19 @@
 //! A table.
 
-ghost use Rattle.std.specs.Prelude.{◌≡◌, ℕ, ◌<◌, ◌≤◌, ◌↔◌, None, length, OnOk, IfOk, IfErr, IfSome, IsSome, IsBitSet};
+ghost use Rattle.std.specs.Prelude.{◌==◌, ◌&&◌, is_some, ◌≡◌, ℕ, ◌<◌, ◌≤◌, ◌↔◌, None, length, OnOk, IfOk, IfErr, IfSome, IsSome, IsBitSet};
 ghost use Rattle.qc_table.specs.Faults.{fault_of, IsTold};
 ghost use Rattle.qc_table.specs.Rules.{event, events_of, rules_of};
 ghost use Rattle.qc_table.specs.Run.{next_in, step_of, first_of, IsLowest};
+ghost use Rattle.qc_table.specs.Sets.{with_member};
 ghost use Rattle.qc_table.specs.Sound.{IsSound};
 
 use crate::fault::TableFault;
+use crate::grid::Grid;
 use crate::row::{Event, Row};
 use crate::rows::{self, Counts};
 use qc_list::List;
 use std::alloc::Global;
 use std::marker::Model;
-
-/// The most events of a table.
-const MOST_EVENTS: usize = 64;
 
 /// A table, which contracts see as what it was made of.
 #[derive(Drop)]
@@ -23,12 +22,14 @@ pub struct Table {
     start: u8,
     rows: List<Row>,
     events: List<Event>,
+    grid: Grid,
 }
 
 impl Model for Table {
     ghost use Rattle.std.specs.Prelude.{◌≡◌};
     ghost use Rattle.qc_table.specs.Rules.{Rules, events_of, rules_of};
     ghost use Rattle.qc_table.specs.Sound.{IsSound};
+    ghost use Rattle.qc_table.specs.Grid.{IsGrid};
 
     ghost Value = { Rules };
 
@@ -36,7 +37,8 @@ impl Model for Table {
 
     ghost invariant = { λ t.
         IsSound (rules_of t.counts.states t.counts.invs t.counts.resps t.start t.rows)
-        × (t.events ≡ events_of t.rows) };
+        × (t.events ≡ events_of t.rows)
+        × IsGrid t.rows t.grid };
 }
 
 impl Table {
@@ -71,18 +73,17 @@ impl Table {
         if let Some(row) = rows::first_unknown(counts, rows) {
             return Err(TableFault::UnknownName { row });
         }
-        if let Some(row) = rows::first_repeated(rows) {
+        if let Some(row) = rows::first_repeated(alloc, rows)? {
             return Err(TableFault::DuplicateRow { row });
         }
         let events = rows::events(alloc, rows)?;
-        if events.items().len() > MOST_EVENTS {
-            return Err(TableFault::TooMany);
-        }
+        let grid = Grid::new(alloc, rows, events.items())?;
         Ok(Table {
             counts,
             start,
             rows: List::from_slice(alloc, rows)?,
             events,
+            grid,
         })
     }
 
@@ -128,15 +129,28 @@ impl Table {
     pub fn step(&self, state: u8, event: u8) -> Option<u8>
         ensures { result ≡ step_of self.now.rows state event }
     {
-        let event = self.events.items().get(event as usize)?;
-        rows::next(self.rows.items(), state, *event)
+        self.grid.next(state, event)
     }
 
     /// The legal responses of an invocation in a state, bit k for response k.
     pub fn responses(&self, state: u8, inv: u8) -> u32
         ensures { (k : ℕ) → IsBitSet result k ↔ IsSome (next_in self.now.rows state (event inv k)) }
     {
-        rows::responses(self.rows.items(), state, inv)
+        let mut responses = 0;
+        for (number, event) in self.events.items().iter().enumerate() {
+            if self.allows(state, inv, number as u8, event) {
+                responses = with_response(responses, event.resp);
+            }
+        }
+        responses
+    }
+
+    /// Whether an event, given with its number, is one of the invocation that
+    /// a state allows.
+    fn allows(&self, state: u8, inv: u8, number: u8, event: &Event) -> bool
+        ensures { result ≡ ((event.now.inv == inv) && is_some (step_of self.now.rows state number)) }
+    {
+        event.inv == inv && self.step(state, number).is_some()
     }
 
     /// The number of the event with an invocation's lowest legal response in
@@ -146,8 +160,21 @@ impl Table {
         ensures lowest { IfSome result (λ number. IsLowest self.now.rows state inv number) }
         ensures none { result ≡ None → (k : ℕ) → next_in self.now.rows state (event inv k) ≡ None }
     {
-        rows::first(self.rows.items(), self.events.items(), state, inv)
+        let responses = self.responses(state, inv);
+        if responses == 0 {
+            return None;
+        }
+        let resp = responses.trailing_zeros() as u8;
+        rows::number(self.events(), Event { inv, resp })
     }
+}
+
+/// The responses with one more.
+fn with_response(responses: u32, resp: u8) -> u32
+    requires { resp < 32 }
+    ensures { result ≡ with_member responses resp }
+{
+    responses | 1 << resp
 }
 
 /// Every table is sound.

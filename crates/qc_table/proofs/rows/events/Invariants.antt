@@ -1,7 +1,10 @@
-use Rattle.std.proofs.Common.{◌≡◌, drop}
+use Rattle.std.proofs.Common.{◌≡◌, ◌≤◌, length, drop}
 use Rattle.std.specs.List.{fold}
 use Rattle.qc_table.specs.Rules.{event_of, with_event, events_of}
 use Rattle.qc_table.proofs.rows.events.Given as goal
 
 abbrev pub invariant-loop-row : goal.invariant-loop-row
-invariant-loop-row l = fold (λ events row. with_event events (event_of row)) l.events (drop l.row-index l.rows) ≡ events_of l.rows
+invariant-loop-row l = record {
+  folded : fold (λ events row. with_event events (event_of row)) l.events (drop l.row-index l.rows) ≡ events_of l.rows;
+  few : length l.events ≤ 64;
+}

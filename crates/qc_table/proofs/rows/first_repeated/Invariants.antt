@@ -1,6 +1,12 @@
 use Rattle.std.proofs.Common.{◌≡◌, take, drop}
-use Rattle.qc_table.specs.Faults.{repeat_after, first_repeat}
+use Rattle.std.specs.List.{list_any}
+use Rattle.qc_table.specs.declared.row.Row.{Row}
+use Rattle.qc_table.specs.Cases.{IsSmall, has_case}
+use Rattle.qc_table.specs.Faults.{same_case, repeat_after, first_repeat}
 use Rattle.qc_table.proofs.rows.first_repeated.Given as goal
 
 abbrev pub invariant-loop-place : goal.invariant-loop-place
-invariant-loop-place l = repeat_after (take l.place l.rows) (drop l.place l.rows) ≡ first_repeat l.rows
+invariant-loop-place l = record {
+  repeat : repeat_after (take l.place l.rows) (drop l.place l.rows) ≡ first_repeat l.rows;
+  seen : (row : Row) → IsSmall row → has_case l.cases row ≡ list_any (λ r. same_case r row) (take l.place l.rows);
+}
