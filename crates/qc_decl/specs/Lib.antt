@@ -1,4 +1,5 @@
 pub mod Accepted
 pub mod Actors
 pub mod Lookup
+pub mod Named
 pub mod One

@@ -8,6 +8,7 @@
 #![tactic(auto)]
 
 mod declaration;
+mod named;
 mod one;
 #[cfg(test)]
 mod tests;

@@ -1,6 +1,7 @@
 //! The built-in declaration `@one`.
 
-ghost use Rattle.std.specs.Prelude.{◌≡◌, [], ◌∷◌, map, IfOk};
+ghost use Rattle.std.specs.Prelude.{◌≡◌, [], ◌∷◌, map, IfOk, IfSome};
+ghost use Rattle.qc_decl.specs.Named.{IsNamed};
 ghost use Rattle.qc_table.specs.Depends.{relation_of};
 ghost use Rattle.qc_decl.specs.One.{built_in_of, one, one_plan, register, register_names, register_pairs, register_rows, row as row_of};
 
@@ -13,7 +14,8 @@ use std::alloc::{AllocError, Global};
 /// The built-in declaration of this name, or `None` where there is none.
 /// `@one` is one site, one client, and a register over 0 and 1 named `x`.
 pub fn built_in(alloc: Global, name: &str) -> Result<Option<Declaration>, OutOfMemory>
-    ensures { IfOk result (λ d. d ≡ built_in_of name.now) }
+    ensures built { IfOk result (λ d. d ≡ built_in_of name.now) }
+    ensures named { IfOk result (λ d. IfSome d IsNamed) }
 {
     if name != "@one" {
         return Ok(None);

@@ -8,31 +8,10 @@ use Rattle.qc_script.specs.declared.form.Form.TheVariants.{Skipped, Phase, Asks,
 use Rattle.qc_script.specs.declared.script.CommandLine.{CommandLine}
 use Rattle.qc_script.specs.declared.script.PhaseLines.{PhaseLines}
 use Rattle.qc_script.specs.declared.script.Script.{Script}
-use Rattle.qc_script.specs.Asked.{IsOfOne, IsAsked, AskOnly, AsksOnly}
+use Rattle.qc_decl.specs.Actors.{client_actor}
+use Rattle.qc_decl.specs.declared.declaration.Declaration.{Declaration}
+use Rattle.qc_script.specs.Asked.{IsAsked, AskOnly, AsksOnly}
 use Rattle.qc_script.specs.Grammar.{command_of, form_of, without_cr, lines_of, with_command, with_form, with_line, script_of}
-
--- what a form asks is a command of `@one`
-
-abbrev OfOne : Form → Type 0
-OfOne (Asks command) = IsOfOne command
-OfOne _ = Unit {0}
-
-chosen : (b : Bool) (f g : Form) → OfOne f → OfOne g → OfOne (cond b f g)
-chosen true f g here there = here
-chosen false f g here there = there
-
-command-of_one : (line : List ℕ) → OfOne (command_of line)
-command-of_one line =
-    chosen (bytes_eq line (codes "c0 begin")) _ _ tt
-    (chosen (bytes_eq line (codes "c0 do x R")) _ _ (refl, omega arith)
-    (chosen (bytes_eq line (codes "c0 do x W0")) _ _ (refl, omega arith)
-    (chosen (bytes_eq line (codes "c0 do x W1")) _ _ (refl, omega arith)
-    (chosen (bytes_eq line (codes "c0 commit")) _ _ tt
-    (chosen (bytes_eq line (codes "c0 abort")) _ _ tt tt)))))
-
-form-of_one : (line : List ℕ) → OfOne (form_of line)
-form-of_one [] = tt
-form-of_one (b ∷ line) = chosen _ Skipped _ tt (chosen (bytes_eq (b ∷ line) (codes "phase")) Phase _ tt (command-of_one (b ∷ line)))
 
 -- what holds of each item holds with one more
 every_push : {X : Type 0} (P : X → Type 0) (xs : List X) (x : X) → Every P xs → P x → Every P (xs ++ x ∷ [])
@@ -49,29 +28,30 @@ command-asked actor line (p ∷ q ∷ phases) before asked = behind (with_comman
   behind (Some rest) after = (before.0, after)
 
 -- a line more
-form-asked : (actor : ℕ) (phases : List PhaseLines) (form : Form) → AskOnly actor phases → OfOne form → IfSome (with_form actor phases form) (AskOnly actor)
-form-asked actor phases Skipped before of_one = before
-form-asked actor phases Phase before of_one = every_push (λ (p : PhaseLines). Every (IsAsked actor) p.commands) phases (record { commands = [] }) before tt
-form-asked actor phases (Asks command) before of_one =
-    command-asked actor (record { actor = actor; command = command }) phases before (record { asked = refl; command = of_one })
-form-asked actor phases Unknown before of_one = tt
+form-asked : (actor : ℕ) (phases : List PhaseLines) (form : Form) → AskOnly actor phases → IfSome (with_form actor phases form) (AskOnly actor)
+form-asked actor phases Skipped before = before
+form-asked actor phases Phase before = every_push (λ (p : PhaseLines). Every (IsAsked actor) p.commands) phases (record { commands = [] }) before tt
+form-asked actor phases (Asks command) before =
+    command-asked actor (record { actor = actor; command = command }) phases before refl
+form-asked actor phases Unknown before = tt
 
-line-asked : (actor : ℕ) (phases : Option (List PhaseLines)) (line : List ℕ) → IfSome phases (AskOnly actor) → IfSome (with_line actor phases line) (AskOnly actor)
-line-asked actor None line before = tt
-line-asked actor (Some phases) line before = form-asked actor phases (form_of (without_cr line)) before (form-of_one (without_cr line))
+line-asked : (decl : Declaration) (phases : Option (List PhaseLines)) (line : List ℕ) → IfSome phases (AskOnly (client_actor decl 0))
+    → IfSome (with_line decl phases line) (AskOnly (client_actor decl 0))
+line-asked decl None line before = tt
+line-asked decl (Some phases) line before = form-asked (client_actor decl 0) phases (form_of decl (without_cr line)) before
 
-lines-asked : (actor : ℕ) (lines : List (List ℕ)) (phases : Option (List PhaseLines)) → IfSome phases (AskOnly actor)
-    → IfSome (fold (with_line actor) phases lines) (AskOnly actor)
-lines-asked actor [] phases before = before
-lines-asked actor (line ∷ lines) phases before = lines-asked actor lines (with_line actor phases line) (line-asked actor phases line before)
+lines-asked : (decl : Declaration) (lines : List (List ℕ)) (phases : Option (List PhaseLines)) → IfSome phases (AskOnly (client_actor decl 0))
+    → IfSome (fold (with_line decl) phases lines) (AskOnly (client_actor decl 0))
+lines-asked decl [] phases before = before
+lines-asked decl (line ∷ lines) phases before = lines-asked decl lines (with_line decl phases line) (line-asked decl phases line before)
 
 -- the whole script
-pub script_asks : (actor : ℕ) (bytes : List ℕ) (script : Script) → script_of actor bytes ≡ Some script → AsksOnly actor script
-script_asks actor bytes script is = of (fold (with_line actor) (Some []) (lines_of bytes)) (lines-asked actor (lines_of bytes) (Some []) tt) is where
-  of : (phases : Option (List PhaseLines)) → IfSome phases (AskOnly actor) → option_map (λ (ps : List PhaseLines). let s : Script = record { phases = ps } in s) phases ≡ Some script
-      → AsksOnly actor script
+pub script_asks : (decl : Declaration) (bytes : List ℕ) (script : Script) → script_of decl bytes ≡ Some script → AsksOnly (client_actor decl 0) script
+script_asks decl bytes script is = of (fold (with_line decl) (Some []) (lines_of bytes)) (lines-asked decl (lines_of bytes) (Some []) tt) is where
+  of : (phases : Option (List PhaseLines)) → IfSome phases (AskOnly (client_actor decl 0)) → option_map (λ (ps : List PhaseLines). let s : Script = record { phases = ps } in s) phases ≡ Some script
+      → AsksOnly (client_actor decl 0) script
   of None asked is = absurd (let never : ⊥ = cc in never)
   of (Some phases) asked is =
       let s : Script = record { phases = phases } in
       let same : s ≡ script = cc in
-      subst (AsksOnly actor) same asked
+      subst (AsksOnly (client_actor decl 0)) same asked

@@ -1,4 +1,5 @@
-pub mod Grows
-pub mod Found
 pub mod Asked
+pub mod Found
+pub mod Grows
 pub mod Lines
+pub mod Words

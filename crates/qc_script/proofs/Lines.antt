@@ -4,15 +4,16 @@ use Rattle.std.specs.Prelude.{option_map}
 use Rattle.std.specs.List.{fold}
 use Rattle.std.proofs.lemmas.List.{at_drop_more, at_drop_all}
 use native.Mathlib.Numerals.{unary_clauses}
+use Rattle.qc_decl.specs.declared.declaration.Declaration.{Declaration}
 use Rattle.qc_script.specs.Grammar.{lines_of, with_command, with_line, script_of}
 use Rattle.qc_script.specs.declared.script.CommandLine.{CommandLine}
 use Rattle.qc_script.specs.declared.script.PhaseLines.{PhaseLines}
 use Rattle.qc_script.specs.declared.script.Script.{Script}
 
 -- once a line can't stand where it does, there is no script
-pub none_stays : (actor : ℕ) (lines : List (List ℕ)) → fold (with_line actor) None lines ≡ None
-none_stays actor [] = refl
-none_stays actor (line ∷ lines) = none_stays actor lines
+pub none_stays : (decl : Declaration) (lines : List (List ℕ)) → fold (with_line decl) None lines ≡ None
+none_stays decl [] = refl
+none_stays decl (line ∷ lines) = none_stays decl lines
 
 -- this line stands at this place of the lines
 pub record IsLine (lines : List (List ℕ)) (n : ℕ) (line : List ℕ) : Type 0 where
@@ -20,44 +21,42 @@ pub record IsLine (lines : List (List ℕ)) (n : ℕ) (line : List ℕ) : Type 0
   pub at : line ≡ get_or lines n line
 
 -- a line is taken
-pub one_line : (actor : ℕ) (phases : Option (List PhaseLines)) (lines : List (List ℕ)) (n : ℕ) (line : List ℕ) → IsLine lines n line
-    → fold (with_line actor) phases (drop n lines) ≡ fold (with_line actor) (with_line actor phases line) (drop (n + 1) lines)
-one_line actor phases lines n line h =
-    at_drop_more (fold (with_line actor) phases) lines n line h.within
-    ∙ ap (λ (l : List ℕ). fold (with_line actor) (with_line actor phases l) (drop (n + 1) lines)) (sym h.at)
+pub one_line : (decl : Declaration) (phases : Option (List PhaseLines)) (lines : List (List ℕ)) (n : ℕ) (line : List ℕ) → IsLine lines n line
+    → fold (with_line decl) phases (drop n lines) ≡ fold (with_line decl) (with_line decl phases line) (drop (n + 1) lines)
+one_line decl phases lines n line h =
+    at_drop_more (fold (with_line decl) phases) lines n line h.within
+    ∙ ap (λ (l : List ℕ). fold (with_line decl) (with_line decl phases l) (drop (n + 1) lines)) (sym h.at)
 
 -- the line can stand there
-pub reads_on : (actor : ℕ) (phases more : List PhaseLines) (lines : List (List ℕ)) (n m : ℕ) (line : List ℕ) (whole : Option (List PhaseLines))
-    → m ≡ n + 1 → IsLine lines n line → with_line actor (Some phases) line ≡ Some more → fold (with_line actor) (Some phases) (drop n lines) ≡ whole
-    → fold (with_line actor) (Some more) (drop m lines) ≡ whole
-reads_on actor phases more lines n m line whole next is_line stands before =
-    ap (λ (k : ℕ). fold (with_line actor) (Some more) (drop k lines)) next
-    ∙ ap (λ (o : Option (List PhaseLines)). fold (with_line actor) o (drop (n + 1) lines)) (sym stands)
-    ∙ sym (one_line actor (Some phases) lines n line is_line) ∙ before
+pub reads_on : (decl : Declaration) (phases more : List PhaseLines) (lines : List (List ℕ)) (n m : ℕ) (line : List ℕ) (whole : Option (List PhaseLines))
+    → m ≡ n + 1 → IsLine lines n line → with_line decl (Some phases) line ≡ Some more → fold (with_line decl) (Some phases) (drop n lines) ≡ whole
+    → fold (with_line decl) (Some more) (drop m lines) ≡ whole
+reads_on decl phases more lines n m line whole next is_line stands before =
+    ap (λ (k : ℕ). fold (with_line decl) (Some more) (drop k lines)) next
+    ∙ ap (λ (o : Option (List PhaseLines)). fold (with_line decl) o (drop (n + 1) lines)) (sym stands)
+    ∙ sym (one_line decl (Some phases) lines n line is_line) ∙ before
 
 -- the line can't
-pub reads_none : (actor : ℕ) (phases : List PhaseLines) (lines : List (List ℕ)) (n : ℕ) (line : List ℕ) (whole : Option (List PhaseLines))
-    → IsLine lines n line → with_line actor (Some phases) line ≡ None → fold (with_line actor) (Some phases) (drop n lines) ≡ whole → whole ≡ None
-reads_none actor phases lines n line whole is_line falls before =
-    sym before ∙ one_line actor (Some phases) lines n line is_line
-    ∙ ap (λ (o : Option (List PhaseLines)). fold (with_line actor) o (drop (n + 1) lines)) falls ∙ none_stays actor (drop (n + 1) lines)
+pub reads_none : (decl : Declaration) (phases : List PhaseLines) (lines : List (List ℕ)) (n : ℕ) (line : List ℕ) (whole : Option (List PhaseLines))
+    → IsLine lines n line → with_line decl (Some phases) line ≡ None → fold (with_line decl) (Some phases) (drop n lines) ≡ whole → whole ≡ None
+reads_none decl phases lines n line whole is_line falls before =
+    sym before ∙ one_line decl (Some phases) lines n line is_line
+    ∙ ap (λ (o : Option (List PhaseLines)). fold (with_line decl) o (drop (n + 1) lines)) falls ∙ none_stays decl (drop (n + 1) lines)
 
 -- the last line was taken
-pub reads_all : (actor : ℕ) (phases : List PhaseLines) (lines : List (List ℕ)) (n : ℕ) (whole : Option (List PhaseLines))
-    → n ≡ length lines → fold (with_line actor) (Some phases) (drop n lines) ≡ whole → whole ≡ Some phases
-reads_all actor phases lines n whole end before = sym before ∙ at_drop_all (fold (with_line actor) (Some phases)) lines n (omega arith)
+pub reads_all : (decl : Declaration) (phases : List PhaseLines) (lines : List (List ℕ)) (n : ℕ) (whole : Option (List PhaseLines))
+    → n ≡ length lines → fold (with_line decl) (Some phases) (drop n lines) ≡ whole → whole ≡ Some phases
+reads_all decl phases lines n whole end before = sym before ∙ at_drop_all (fold (with_line decl) (Some phases)) lines n (omega arith)
 
 -- the phases make the script
-pub script_read : (actor client : ℕ) (bytes : List ℕ) (phases list : List PhaseLines) → actor ≡ client → list ≡ phases
-    → fold (with_line actor) (Some []) (lines_of bytes) ≡ Some phases → script_of client bytes ≡ Some (record { phases = list })
-script_read actor client bytes phases list same listed whole =
-    ap (λ (a : ℕ). script_of a bytes) (sym same)
-    ∙ ap (option_map (λ (ps : List PhaseLines). let script : Script = record { phases = ps } in script)) (whole ∙ ap Some (sym listed))
+pub script_read : (decl : Declaration) (bytes : List ℕ) (phases list : List PhaseLines) → list ≡ phases
+    → fold (with_line decl) (Some []) (lines_of bytes) ≡ Some phases → script_of decl bytes ≡ Some (record { phases = list })
+script_read decl bytes phases list listed whole =
+    ap (option_map (λ (ps : List PhaseLines). let script : Script = record { phases = ps } in script)) (whole ∙ ap Some (sym listed))
 
 -- without phases there is none
-pub no_script : (actor client : ℕ) (bytes : List ℕ) → actor ≡ client → fold (with_line actor) (Some []) (lines_of bytes) ≡ None → script_of client bytes ≡ None
-no_script actor client bytes same whole =
-    ap (λ (a : ℕ). script_of a bytes) (sym same) ∙ ap (option_map (λ (ps : List PhaseLines). let script : Script = record { phases = ps } in script)) whole
+pub no_script : (decl : Declaration) (bytes : List ℕ) → fold (with_line decl) (Some []) (lines_of bytes) ≡ None → script_of decl bytes ≡ None
+no_script decl bytes whole = ap (option_map (λ (ps : List PhaseLines). let script : Script = record { phases = ps } in script)) whole
 
 -- a command is added to the last phase
 pub added : (line : CommandLine) (phases : List PhaseLines) (d : PhaseLines) → 0 < length phases

@@ -1,4 +1,5 @@
 pub mod Asked
+pub mod Cut
 pub mod Grammar
 pub mod Ready
 pub mod Runs

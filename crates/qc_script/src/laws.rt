@@ -1,12 +1,14 @@
 //! Laws of scripts, each the contract of a function with nothing to do.
 
 ghost use Rattle.std.specs.Prelude.{◌≡◌, ℕ, Some, List};
+ghost use Rattle.qc_decl.specs.Actors.{client_actor};
+ghost use Rattle.qc_decl.specs.declared.declaration.Declaration.{Declaration};
 ghost use Rattle.qc_script.specs.declared.script.Script.{Script};
 ghost use Rattle.qc_script.specs.Asked.{AsksOnly};
 ghost use Rattle.qc_script.specs.Grammar.{script_of};
 
-/// A script that the grammar gives for an actor asks that actor alone, and
-/// nothing but commands of `@one`.
+/// A script that the grammar gives for a declaration asks its first client
+/// alone.
 pub fn scripts_ask_the_client()
-    ensures { (actor : ℕ) (bytes : List ℕ) (script : Script) → script_of actor bytes ≡ Some script → AsksOnly actor script }
+    ensures { (decl : Declaration) (bytes : List ℕ) (script : Script) → script_of decl bytes ≡ Some script → AsksOnly (client_actor decl 0) script }
 {}

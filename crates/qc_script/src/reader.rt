@@ -1,8 +1,8 @@
 //! Reading a script.
 
 ghost use Rattle.std.specs.Prelude.{◌≡◌, ◌+◌, ◌<◌, ◌++◌, [], ◌∷◌, Some, None, OnOk, MatchResult};
-ghost use Rattle.qc_decl.specs.Actors.{client_actor};
-ghost use Rattle.qc_script.specs.Grammar.{form_of, script_of, with_command, with_form, with_line};
+ghost use Rattle.qc_decl.specs.Named.{IsNamed};
+ghost use Rattle.qc_script.specs.Grammar.{script_of, with_command, with_line};
 
 use crate::form::{self, Form};
 use crate::script::{CommandLine, PhaseLines, Script, ScriptFault};
@@ -15,15 +15,15 @@ use std::alloc::Global;
 /// # Errors
 /// `NotBuilt` exactly where the grammar has no script for the bytes.
 pub fn read(alloc: Global, bytes: &[u8], decl: &Declaration) -> Result<Script, ScriptFault>
-    requires { decl.now.sites + decl.now.clients < 256 }
+    requires actors { decl.now.sites + decl.now.clients < 256 }
+    requires named { IsNamed decl.now }
     ensures exact { MatchResult result
-        (λ script. script_of (client_actor decl.now 0) bytes.now ≡ Some script)
-        (λ e. e ≡ ScriptFault.NotBuilt → script_of (client_actor decl.now 0) bytes.now ≡ None) }
+        (λ script. script_of decl.now bytes.now ≡ Some script)
+        (λ e. e ≡ ScriptFault.NotBuilt → script_of decl.now bytes.now ≡ None) }
 {
-    let actor = decl.client_actor(0);
     let mut phases = Vec::new(alloc);
     for line in bytes.split(|b| *b == b'\n') {
-        add_line(alloc, &mut phases, actor, line)?;
+        add_line(alloc, &mut phases, decl, line)?;
     }
     Ok(Script {
         phases: List::from_vec(phases),
@@ -34,17 +34,25 @@ pub fn read(alloc: Global, bytes: &[u8], decl: &Declaration) -> Result<Script, S
 fn add_line(
     alloc: Global,
     phases: &mut Vec<PhaseLines>,
-    actor: u8,
+    decl: &Declaration,
     line: &[u8],
 ) -> Result<(), ScriptFault>
+    requires actors { decl.now.sites + decl.now.clients < 256 }
+    requires named { IsNamed decl.now }
     ensures exact { MatchResult result
-        (λ _. with_line actor (Some phases.old.items) line.now ≡ Some phases.new.items)
-        (λ e. e ≡ ScriptFault.NotBuilt → with_line actor (Some phases.old.items) line.now ≡ None) }
+        (λ _. with_line decl.now (Some phases.old.items) line.now ≡ Some phases.new.items)
+        (λ e. e ≡ ScriptFault.NotBuilt → with_line decl.now (Some phases.old.items) line.now ≡ None) }
 {
-    match Form::of(form::without_cr(line)) {
+    match Form::of(form::without_cr(line), decl) {
         Form::Skipped => {}
         Form::Phase => add_phase(alloc, phases)?,
-        Form::Asks(command) => add_command(phases, CommandLine { actor, command })?,
+        Form::Asks(command) => add_command(
+            phases,
+            CommandLine {
+                actor: decl.client_actor(0),
+                command,
+            },
+        )?,
         Form::Unknown => return Err(ScriptFault::NotBuilt),
     }
     Ok(())

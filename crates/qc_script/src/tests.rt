@@ -1,6 +1,7 @@
 //! Scripts that are read, and texts that are none.
 
 ghost use Rattle.std.specs.Prelude.{◌≡◌, IfOk, ◌+◌, ◌<◌};
+ghost use Rattle.qc_decl.specs.Named.{IsNamed};
 
 use crate::{CommandLine, Script, ScriptFault, read};
 use qc_decl::{Declaration, built_in};
@@ -10,7 +11,8 @@ use std::test::Fail;
 
 /// The declaration `@one`, whose client is actor 1.
 fn one(alloc: Global) -> Result<Declaration, Fail>
-    ensures { IfOk result (λ d. d.sites + d.clients < 256) }
+    ensures actors { IfOk result (λ d. d.sites + d.clients < 256) }
+    ensures named { IfOk result IsNamed }
 {
     match built_in(alloc, "@one")? {
         Some(decl) => Ok(decl),
@@ -95,6 +97,14 @@ fn refuses_other_lines(rt: HostRuntime) -> Result<(), Fail> {
         "phase\nc0 do x r\n",
         "phase\nc0 do x W2\n",
         "phase\nc0 do y R\n",
+        "phase\nc0 do x\n",
+        "phase\nc0 do x R R\n",
+        "phase\nc0 do x R \n",
+        "phase\nc0 do x  R\n",
+        "phase\nc0 do\n",
+        "phase\nc0 begin x R\n",
+        "phase\nc0\n",
+        "phase\nc0 commit \n",
         "phase\n # no comment\n",
         "phase\nc0 beg",
     ] {

@@ -13,7 +13,7 @@ loop-line-preserved c =
     let turn = YieldsList-turn
     (YieldsList-from_slice_split {s = c.into_iter-line-iterator.result} _ (λ b. b == 10) c.args.bytes.now (cc) (cc) (cc) (λ x r q k. search (rules, tests)))
     c.loop-line.yielded _ c.loop-line.yielded_by _ _ c.in-Some.line c.in-Some.is c.next.ensures.steps in
-    reads_on c.client_actor-actor.result c.loop-line.phases.items c.add_line.new.phases.items (lines_of c.args.bytes.now) (length c.loop-line.yielded) _ c.in-Some.line.now _
+    reads_on c.args.decl.now c.loop-line.phases.items c.add_line.new.phases.items (lines_of c.args.bytes.now) (length c.loop-line.yielded) _ c.in-Some.line.now _
     (length_push c.loop-line.yielded c.in-Some.line) (record { within = turn.0; at = turn.1 }) c.in_ok-add_line.ensures.exact c.loop-line.invariant
 
 pub returns-in_err-add_line : goal.returns-in_err-add_line
@@ -23,8 +23,8 @@ returns-in_err-add_line c =
     c.loop-line.yielded _ c.loop-line.yielded_by _ _ c.in-Some.line c.in-Some.is c.next.ensures.steps in
     let told = err_from_is_err_and c.from_residual.result c.from_residual.ensures.1 in
     rw (told.1, told.2) (record {
-      exact = λ e. no_script c.client_actor-actor.result _ c.args.bytes.now c.client_actor-actor.ensures
-          (reads_none c.client_actor-actor.result c.loop-line.phases.items (lines_of c.args.bytes.now) (length c.loop-line.yielded) c.in-Some.line.now _
+      exact = λ e. no_script c.args.decl.now c.args.bytes.now
+          (reads_none c.args.decl.now c.loop-line.phases.items (lines_of c.args.bytes.now) (length c.loop-line.yielded) c.in-Some.line.now _
           (record { within = turn.0; at = turn.1 }) (c.in_err-add_line.ensures.exact e) c.loop-line.invariant);
     })
 
@@ -34,6 +34,6 @@ returns c =
     (YieldsList-from_slice_split {s = c.into_iter-line-iterator.result} _ (λ b. b == 10) c.args.bytes.now (cc) (cc) (cc) (λ x r q k. search (rules, tests)))
     c.loop-line.yielded _ c.loop-line.yielded_by _ _ c.in-None.is c.next.ensures.steps in
     record {
-      exact = script_read c.client_actor-actor.result _ c.args.bytes.now c.loop-line.phases.items _ c.client_actor-actor.ensures c.from_vec.ensures
-          (reads_all c.client_actor-actor.result c.loop-line.phases.items (lines_of c.args.bytes.now) (length c.loop-line.yielded) _ end.1 c.loop-line.invariant);
+      exact = script_read c.args.decl.now c.args.bytes.now c.loop-line.phases.items _ c.from_vec.ensures
+          (reads_all c.args.decl.now c.loop-line.phases.items (lines_of c.args.bytes.now) (length c.loop-line.yielded) _ end.1 c.loop-line.invariant);
     }

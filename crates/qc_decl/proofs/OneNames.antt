@@ -1,0 +1,13 @@
+-- The names of the built-in declaration are few.
+use Rattle.std.proofs.Common.{◌≡◌, ℕ, zero, suc, ◌≤◌, [], ◌∷◌, Some, None, length, refl, subst, arith}
+use Rattle.std.specs.Prelude.{slice_get}
+use Rattle.qc_decl.specs.Named.{IsNamed}
+use Rattle.qc_decl.specs.One.{one, register_names}
+use Rattle.qc_decl.specs.declared.declaration.KindNames.{KindNames}
+
+few : (number : ℕ) (names : KindNames) → slice_get (register_names ∷ []) number ≡ Some names → length names.invs ≤ 32
+few zero names is = let same : register_names ≡ names = cc in subst (λ (n : KindNames). length n.invs ≤ 32) same (omega arith)
+few (suc number) names is = absurd (let never : ⊥ = cc in never)
+
+pub one_named : IsNamed one
+one_named = record { objects = omega arith; invs = few }
