@@ -43,10 +43,7 @@ fn first_fault(plan: &Plan, kinds: &[Kind], objects: &[u8]) -> Option<PlanFault>
     if all == 0 {
         return Some(PlanFault::NoWeight);
     }
-    match first_heavy(plan, all, objects.len()) {
-        Some(fault) => Some(fault),
-        None => first_miss(plan, all, kinds, objects),
-    }
+    first_heavy(plan, all, objects.len()).or_else(|| first_miss(plan, all, kinds, objects))
 }
 
 /// The first object with a threshold above the weight of all sites.

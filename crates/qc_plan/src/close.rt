@@ -9,7 +9,7 @@ use crate::quorum::total;
 
 /// The least weight of sites that share a site with every quorum of the plan
 /// whose threshold is above 0, and 0 where no threshold is above 0. It is at
-/// most the weight of all sites, 4,080.
+/// most the weight of all sites, which is at most 4,080.
 pub fn close_weight(plan: &Plan) -> u16
     requires { length plan.now.weights ≤ 16 }
     ensures { IsCloseWeight plan.now result }
