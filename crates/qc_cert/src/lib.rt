@@ -9,6 +9,8 @@
 mod fault;
 mod groups;
 mod rules;
+#[cfg(test)]
+mod tests;
 mod triple;
 
 pub use fault::CertFault;
