@@ -10,6 +10,8 @@ mod fault;
 mod groups;
 mod laws;
 mod rules;
+#[cfg(test)]
+mod tests;
 mod triple;
 
 pub use fault::CertFault;
