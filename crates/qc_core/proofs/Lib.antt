@@ -14,6 +14,8 @@ pub mod ActsGrow
 pub mod Members
 pub mod Ledger
 pub mod Sights
+pub mod ObjectTypes
+pub mod Faithful
 pub mod Register
 pub mod Walking
 pub mod Own
