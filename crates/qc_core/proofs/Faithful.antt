@@ -1,12 +1,12 @@
 -- What a transaction reads of an object, with one site, is a view of the object's history, and so is faithful where the relation is exact.
 -- The history is that of the committed events and then the transaction's own; it reads the committed ones that have weight, or
 -- none where it asked for none, and all its own.
-use Rattle.std.proofs.Common.{◌≡◌, ◌<◌, ◌≤◌, ℕ, zero, suc, ◌==◌, Bool, true, false, cond, List, [], ◌∷◌, ◌++◌, filter, length, Option, Some, None, ◌⊎◌, inl, inr, refl, sym, ap, subst, ◌∙◌, slice_get}
-use Rattle.std.specs.Prelude.{IsSome, IsTrue, is_some, option_and_then, option_map}
+use Rattle.std.proofs.Common.{◌≡◌, ◌<◌, ℕ, zero, suc, Bool, true, false, cond, List, [], ◌∷◌, ◌++◌, filter, length, Option, Some, None, ◌⊎◌, inl, inr, refl, sym, ap, subst, ◌∙◌, slice_get}
+use Rattle.std.specs.Prelude.{IsSome, IsTrue, is_some, option_and_then}
 use Rattle.std.specs.List.{AllByRecursion as Every}
 use Rattle.std.specs.Option.{option_map_or}
 use Rattle.std.proofs.lemmas.Option.{slice_get_within}
-use Rattle.qc_cert.specs.Views.{IsClosed, IsExact, IsFaithful, IsLegalFor, IsView, allows, inv_of, picked, state_after}
+use Rattle.qc_cert.specs.Views.{IsExact, IsFaithful, IsLegalFor, inv_of, picked, state_after}
 use Rattle.qc_table.specs.declared.kind.Kind.{Kind}
 use Rattle.qc_table.specs.declared.row.Event.{Event}
 use Rattle.qc_table.specs.Depends.{depends}
@@ -103,7 +103,6 @@ module _ (kind : Kind) (asked weighs : ℕ → Bool) (sound : IsSound kind.table
       (exact (before ++ own) inv (keeps weighs before) legal
       (record {
         closed = λ p q e f at there less kept on.
-            
             kept_by_test weighs before own q f there
             (meets (inv_of kind e) f (is_known (before ++ own) p e legal at).within (is_known (before ++ own) q f legal there).numbered on).1;
         complete = λ q f there on. kept_by_test weighs before own q f there (meets inv f within (is_known (before ++ own) q f legal there).numbered on).1;

@@ -3,12 +3,11 @@ use Rattle.std.proofs.Common.{◌≡◌, ◌<◌, ◌≤◌, ℕ, ◌+◌, ◌==
 use Rattle.std.specs.Prelude.{◌||◌, IsSome, IsTrue, find, nat_le, nat_lt, option_and_then, option_map, position}
 use Rattle.std.specs.List.{list_any}
 use Rattle.std.specs.Option.{option_map_or}
-use Rattle.std.proofs.lemmas.Bool.{and_parts, eqb-true, leb-false, ltb-true}
+use Rattle.std.proofs.lemmas.Bool.{and_parts, leb-false}
 use Rattle.std.proofs.lemmas.Bool.Decides.{nat_tests}
-use Rattle.qc_cert.specs.Views.{IsExact}
 use Rattle.qc_decl.specs.declared.declaration.Declaration.{Declaration}
-use Rattle.qc_decl.specs.Accepted.{IsAccepted, IsGood, IsRight}
-use Rattle.qc_decl.specs.Lookup.{append_need_of, plan_in, read_need_of, table_at}
+use Rattle.qc_decl.specs.Accepted.{IsAccepted, IsRight}
+use Rattle.qc_decl.specs.Lookup.{append_need_of, read_need_of, table_at}
 use Rattle.qc_front.specs.State.{first_epoch}
 use Rattle.qc_plan.specs.declared.plan.Plan.{Plan}
 use Rattle.qc_plan.specs.Admitted.{IsAdmitted}
@@ -77,8 +76,8 @@ first_plan : (plans : List Plan) → 0 < length plans → (plan : Plan) × (slic
 first_plan [] l = absurd (omega arith)
 first_plan (plan ∷ plans) l = (plan, refl)
 
-pub fits : (decl : Declaration) → IsAccepted decl → Fits decl
-fits decl a = record {
+pub accepted_fits : (decl : Declaration) → IsAccepted decl → Fits decl
+accepted_fits decl a = record {
   has_client = a.has_client;
   right = λ object kind t. a.right t.number kind t.is;
   meets = λ object kind inv e t within numbered depending.
