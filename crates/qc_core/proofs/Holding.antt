@@ -12,6 +12,7 @@ use Rattle.qc_site.specs.Conduct.{is_prepared, most_body, prepare_length, prepar
 use Rattle.qc_site.specs.Held.{held_of, holding_lock, holding_owns, is_held, same_tx, with_entry, with_lock, with_owns, without_held}
 use Rattle.qc_site.specs.Site.{SiteMove, SiteState, answer, moved}
 use Rattle.qc_site.proofs.Entries.{same_self}
+use Rattle.qc_core.specs.Committed.{In}
 use Rattle.qc_core.proofs.Own.{IsSorted, with_owns-more}
 
 abbrev pub entry : TxId → List ReadLock → List OwnLine → Held
@@ -53,22 +54,22 @@ some_line (o ∷ own) y = not_zero (length (own ++ y ∷ []))
 holds_some : (held : List Held) (tx : TxId) (own : List OwnLine) (y : OwnLine) → holding_owns held tx (own ++ y ∷ []) ≡ holding held tx (own ++ y ∷ [])
 holds_some held tx own y = ap (λ (t : Bool). cond t held (holding held tx (own ++ y ∷ []))) (some_line own y)
 
-pub hold_owns : (asked : Bool) (held : List Held) (tx : TxId) (own : List OwnLine) (y : OwnLine) → IsSorted (own ++ y ∷ []) → HoldsBy asked held tx own
-    → HoldsBy true (holding_owns held tx (own ++ y ∷ [])) tx (own ++ y ∷ [])
-hold_owns true held tx own y sorted holds = (
+pub hold_owns : (asked : Bool) (held : List Held) (tx : TxId) (own others : List OwnLine) (y : OwnLine) → IsSorted (own ++ y ∷ []) → ((o : OwnLine) → In o others → In o own)
+    → HoldsBy asked held tx own → HoldsBy true (holding_owns held tx (others ++ y ∷ [])) tx (own ++ y ∷ [])
+hold_owns true held tx own others y sorted among holds = (
   holds.0,
-  holds_some held tx own y
-      ∙ ap (λ (h : List Held). holding h tx (own ++ y ∷ [])) holds.1
-      ∙ ap (λ (e : Held). with_entry (entry tx holds.0 own ∷ []) (entry tx e.locks (with_owns e.own (own ++ y ∷ [])))) (held_is tx holds.0 own)
-      ∙ put_is tx holds.0 own (entry tx holds.0 (with_owns own (own ++ y ∷ []))) refl
-      ∙ ap (λ (o : List OwnLine). entry tx holds.0 o ∷ []) (with_owns-more own y sorted),
+  holds_some held tx others y
+      ∙ ap (λ (h : List Held). holding h tx (others ++ y ∷ [])) holds.1
+      ∙ ap (λ (e : Held). with_entry (entry tx holds.0 own ∷ []) (entry tx e.locks (with_owns e.own (others ++ y ∷ [])))) (held_is tx holds.0 own)
+      ∙ put_is tx holds.0 own (entry tx holds.0 (with_owns own (others ++ y ∷ []))) refl
+      ∙ ap (λ (o : List OwnLine). entry tx holds.0 o ∷ []) (with_owns-more own others y sorted among),
 )
-hold_owns false held tx own y sorted holds = (
+hold_owns false held tx own others y sorted among holds = (
   [],
-  holds_some held tx own y
-      ∙ ap (λ (h : List Held). holding h tx (own ++ y ∷ [])) holds.0
-      ∙ ap (λ (o : List OwnLine). entry tx [] (with_owns o (own ++ y ∷ [])) ∷ []) (sym holds.1)
-      ∙ ap (λ (o : List OwnLine). entry tx [] o ∷ []) (with_owns-more own y sorted),
+  holds_some held tx others y
+      ∙ ap (λ (h : List Held). holding h tx (others ++ y ∷ [])) holds.0
+      ∙ ap (λ (o : List OwnLine). entry tx [] (with_owns o (others ++ y ∷ [])) ∷ []) (sym holds.1)
+      ∙ ap (λ (o : List OwnLine). entry tx [] o ∷ []) (with_owns-more own others y sorted among),
 )
 
 -- a decision frees what is held

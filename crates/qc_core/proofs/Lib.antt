@@ -14,9 +14,12 @@ pub mod ActsGrow
 pub mod Members
 pub mod Ledger
 pub mod Sights
+pub mod ObjectTypes
+pub mod Faithful
 pub mod Register
 pub mod Walking
 pub mod Own
+pub mod Histories
 pub mod Doings
 pub mod Holding
 pub mod Sense
@@ -25,6 +28,7 @@ pub mod Serves
 pub mod Hears
 pub mod Answers
 pub mod Stand
+pub mod Others
 pub mod AtomicLaw
 pub mod RecordLaws
 pub mod Statuses
@@ -37,3 +41,4 @@ pub mod Accounts
 pub mod Dues
 pub mod DueLaw
 pub mod LegalLaw
+pub mod OneLaws

@@ -2,6 +2,7 @@
 use Rattle.std.proofs.Common.{◌≡◌, ◌≤◌, ◌<◌, ℕ, ◌+◌, ◌==◌, Bool, true, false, cond, max, List, [], ◌∷◌, ◌++◌, map, filter, fold, Option, Some, None, ◌⊎◌, inl, inr, refl, sym, ap, subst, ◌∙◌, arith}
 use Rattle.std.specs.List.{AllByRecursion as Every}
 use Rattle.std.proofs.lemmas.List.{append-nil, map-append}
+use Rattle.std.proofs.lemmas.List.Elements.{filter-append}
 use Rattle.std.proofs.lemmas.List.Concat.{flat_map-append}
 use Rattle.qc_stamp.specs.declared.stamp.Stamp.{Stamp}
 use Rattle.qc_stamp.specs.declared.stamp.TxId.{TxId}
@@ -10,10 +11,10 @@ use Rattle.qc_entry.specs.declared.line.Op.{Op}
 use Rattle.qc_entry.specs.declared.line.OwnLine.{OwnLine}
 use Rattle.qc_entry.specs.declared.record.Commit.{Commit}
 use Rattle.qc_entry.specs.declared.record.Prepared.{Prepared}
+use Rattle.qc_entry.specs.Line.{IsAscending}
 use Rattle.qc_entry.specs.Log.{of_object, union}
-use Rattle.qc_entry.proofs.Members.{union-self}
-use Rattle.qc_entry.proofs.Union.{union-nil}
-use Rattle.qc_decl.specs.One.{one}
+use Rattle.qc_entry.proofs.Union.{ascending-union}
+use Rattle.qc_decl.specs.declared.declaration.Declaration.{Declaration}
 use Rattle.qc_front.specs.declared.begun.Begun.{Begun}
 use Rattle.qc_front.specs.declared.front.Front.{Front}
 use Rattle.qc_front.specs.declared.round.Round.{Round}
@@ -22,7 +23,7 @@ use Rattle.qc_front.specs.Ending.{decides, gives_up, prepares}
 use Rattle.qc_front.specs.Moves.{FrontMove, moved}
 use Rattle.qc_front.specs.Operation.{absent, appends, op_of, reads, responded, with_event}
 use Rattle.qc_front.specs.State.{turned}
-use Rattle.qc_front.specs.View.{next_own, resp_of}
+use Rattle.qc_front.specs.View.{next_own, own_weighing, resp_of}
 use Rattle.qc_msg.specs.declared.message.Message.TheVariants.{Decision, Stale, Yes}
 use Rattle.qc_msg.specs.declared.message.Outcome.TheVariants as outcomes
 use Rattle.qc_msg.specs.declared.step.Command.TheVariants.{Do}
@@ -32,19 +33,19 @@ use Rattle.qc_msg.specs.declared.step.Reply.TheVariants as told
 use Rattle.qc_site.specs.Conduct.{joins, lines_of, prepared_of, prepares as site_prepares, stamped}
 use Rattle.qc_site.specs.Site.{SiteMove, SiteState}
 use Rattle.qc_table.specs.Rules.{event}
-use Rattle.qc_table.specs.Run.{reached}
-use Rattle.qc_table.proofs.Runs.{reached-append}
 use Rattle.qc_core.specs.Deals.{Dealing, deal_told, operation}
+use Rattle.qc_core.specs.Due.{own_events}
 use Rattle.qc_core.specs.Logged.{IsLogged}
 use Rattle.qc_core.specs.OneCopy.{operations, start_at, step_at}
 use Rattle.qc_core.specs.Seen.{Sight, sight_told}
-use Rattle.qc_core.proofs.Doings.{Doing, IsDone, all_of, doing-absent, doing-alike, line_events}
+use Rattle.qc_core.proofs.Doings.{Doing, IsAnswer, IsDone, doing-absent, doing-alike, line_events, view_absorbed}
+use Rattle.qc_core.proofs.Histories.{events-append}
 use Rattle.qc_core.proofs.Holding.{Answers as SiteAnswers, HoldsBy, IsPromised, Promises, freed, hold_lock, hold_owns, prepare_answers, promise_found, unpromised}
 use Rattle.qc_core.proofs.Ledger.{Book, IsBelow, IsNow, Stamps, book-committed, book-dealt, stamps-le, stamps-more, tx_of}
 use Rattle.qc_core.proofs.Members.{In-first, In-last, every-append, every-in, every-weaker}
-use Rattle.qc_core.proofs.Own.{IsSorted, every-filter, events, events_of_lines, lines_of-sorted, log_more, sorted-filter, sorted-more, weighing}
-use Rattle.qc_core.proofs.Register.{IsBit, IsNext, appended, stepped}
-use Rattle.qc_core.proofs.Sense.{Copied, LifeBy, Resting, Settled, copied-same, messages}
+use Rattle.qc_core.proofs.ObjectTypes.{weighted}
+use Rattle.qc_core.proofs.Own.{IsSorted, every-filter, lines_of-sorted, log_more, sorted-filter, sorted-more, stamped_ascend, stamped_events, weighing, weighing_on}
+use Rattle.qc_core.proofs.Sense.{Copied, HasRead, IsLife, LifeBy, Resting, Settled, single, copied-same, messages}
 use Rattle.qc_core.proofs.Sights.{Vision, vision-committed, vision-sent}
 use Rattle.qc_core.proofs.Walking.{Reach, reach-append}
 
@@ -52,26 +53,18 @@ use Rattle.qc_core.proofs.Walking.{Reach, reach-append}
 abbrev pub front : ℕ → ℕ → Option Begun → Round → Option ℕ → Front
 front clock count begun round awaits = record { client = 0; clock = record { value = clock }; count = count; begun = begun; round = round; awaits = awaits }
 
--- the view adds nothing to the log
-absorbed : (before : ℕ → ℕ) (log : List Line) (b : Begun) → Doing before log b → Every (λ (l : Line). l.object ≡ 0) log → union log (of_object b.view 0) ≡ log
-absorbed before log b d zeros = by d.view
-  where
-    by : (b.view ≡ log) ⊎ ((b.view ≡ []) × (weighing b.own ≡ b.own)) → union log (of_object b.view 0) ≡ log
-    by (inl full) = ap (λ (v : List Line). union log (of_object v 0)) full ∙ ap (union log) (all_of log zeros) ∙ union-self log
-    by (inr free) = ap (λ (v : List Line). union log (of_object v 0)) free.0 ∙ union-nil log
-
 -- moves of a client whose transaction b is begun
-module _ (cs : List Commit) (clock last count : ℕ) (b : Begun) (s : SiteState) (dl : TxId → Dealing) (si : TxId → Sight) (bg : Option Begun) (rd : Round) (aw : Option ℕ)
-    (stamps : Stamps cs clock last) (now : IsNow last count (Some b.tx)) (book : Book cs last count (Some b.tx) b.ops dl) (vision : Vision cs (Some b.tx) si) (copied : Copied cs s.log) where
+module _ (decl : Declaration) (cs : List Commit) (clock last count : ℕ) (b : Begun) (s : SiteState) (dl : TxId → Dealing) (si : TxId → Sight) (bg : Option Begun) (rd : Round) (aw : Option ℕ)
+    (stamps : Stamps cs clock last) (now : IsNow last count (Some b.tx)) (book : Book cs last count (Some b.tx) b.ops dl) (vision : Vision cs (Some b.tx) si) (copied : Copied decl cs s.log) where
   abbrev f : Front
   f = front clock count bg rd aw
 
   -- no response is legal
-  pub absent-settles : (object inv : ℕ) (rest : Resting copied.before s b) → ((resp : ℕ) → step_at one object (rest.doing.after object) (event inv resp) ≡ None)
-      → ((tx : TxId) → (dl tx).asked ≡ Some (Do object inv)) → (n : ℕ) → Settled cs s dl si (absent f b object inv) n
-  absent-settles object inv rest none asked n = record {
+  pub absent-settles : (object inv : ℕ) (rest : Resting decl copied.before s b) → ((resp : ℕ) → step_at decl object (rest.doing.after object) (event inv resp) ≡ None) → HasRead decl s.log b object inv
+      → ((tx : TxId) → (dl tx).asked ≡ Some (Do object inv)) → (n : ℕ) → Settled decl cs s dl si (absent f b object inv) n
+  absent-settles object inv rest none read asked n = record {
     client = refl;
-    away = refl;
+    away = tt;
     comes = refl;
     sense =
         record {
@@ -81,17 +74,17 @@ module _ (cs : List Commit) (clock last count : ℕ) (b : Begun) (s : SiteState)
           book = book-dealt cs clock last count b.tx b.ops dl stamps now book None (op_of object inv None) (λ tx. ap (λ a. operation a None) (asked tx));
           vision = vision;
           copied = copied;
-          works = record { doing = doing-absent copied.before s.log b object inv rest.doing none; holds = rest.holds; life = rest.life; prepared = rest.prepared };
+          works = record { doing = doing-absent decl copied.before s.log b object inv rest.doing none read; holds = rest.holds; life = rest.life; prepared = rest.prepared };
           asked = tt;
         };
   }
 
   -- a response is told
-  pub responded-settles : (inv e : ℕ) → Resting copied.before s (with_event one b 0 inv e) → ((tx : TxId) → (dl tx).asked ≡ Some (Do 0 inv)) → (n : ℕ)
-      → Settled cs s dl si (responded one f b 0 inv e) n
-  responded-settles inv e rest asked n = record {
+  pub responded-settles : (object inv e : ℕ) → Resting decl copied.before s (with_event decl b object inv e) → ((tx : TxId) → (dl tx).asked ≡ Some (Do object inv)) → (n : ℕ)
+      → Settled decl cs s dl si (responded (single decl) f b object inv e) n
+  responded-settles object inv e rest asked n = record {
     client = refl;
-    away = refl;
+    away = tt;
     comes = refl;
     sense =
         record {
@@ -99,8 +92,8 @@ module _ (cs : List Commit) (clock last count : ℕ) (b : Begun) (s : SiteState)
           now = now;
           stamps = stamps;
           book =
-              book-dealt cs clock last count b.tx b.ops dl stamps now book (Some (resp_of one 0 e)) (op_of 0 inv (Some (resp_of one 0 e)))
-              (λ tx. ap (λ a. operation a (Some (resp_of one 0 e))) (asked tx));
+              book-dealt cs clock last count b.tx b.ops dl stamps now book (Some (resp_of decl object e)) (op_of object inv (Some (resp_of decl object e)))
+              (λ tx. ap (λ a. operation a (Some (resp_of decl object e))) (asked tx));
           vision = vision;
           copied = copied;
           works = rest;
@@ -109,10 +102,10 @@ module _ (cs : List Commit) (clock last count : ℕ) (b : Begun) (s : SiteState)
   }
 
   -- the site is asked to read
-  pub reads-settles : Resting copied.before s b → ((tx : TxId) → (dl tx).asked ≡ Some (Do 0 0)) → (n : ℕ) → Settled cs s dl si (reads one f b 0 0) n
-  reads-settles rest asked n = record {
+  pub reads-settles : (object inv : ℕ) → Resting decl copied.before s b → ((tx : TxId) → (dl tx).asked ≡ Some (Do object inv)) → (n : ℕ) → Settled decl cs s dl si (reads (single decl) f b object inv) n
+  reads-settles object inv rest asked n = record {
     client = refl;
-    away = refl;
+    away = (refl, tt);
     comes = (n, s.clock, refl, refl);
     sense =
         record {
@@ -124,11 +117,9 @@ module _ (cs : List Commit) (clock last count : ℕ) (b : Begun) (s : SiteState)
           copied = copied;
           works =
               record {
-                on = refl;
-                reads = refl;
-                doing = doing-alike copied.before s.log s.log b (record b { asked = true }) refl refl refl refl rest.doing;
+                doing = doing-alike decl copied.before s.log s.log b (record b { asked = true }) refl refl refl refl rest.doing;
                 asked = refl;
-                holds = hold_lock b.asked s.held b.tx (weighing b.own) _ rest.holds;
+                holds = hold_lock b.asked s.held b.tx (weighing decl b.own) _ rest.holds;
                 life = some_life b.asked rest.life;
                 prepared = rest.prepared;
               };
@@ -136,16 +127,16 @@ module _ (cs : List Commit) (clock last count : ℕ) (b : Begun) (s : SiteState)
         };
   }
     where
-      some_life : (t : Bool) → LifeBy t b.life → IsBit b.life
+      some_life : (t : Bool) → LifeBy t b.life → IsLife b.life
       some_life true is = inr is
       some_life false is = inl is
 
   -- the site is asked to append
-  pub appends-settles : (inv e : ℕ) (rest : Resting copied.before s b) (next : ℕ) → IsNext (rest.doing.after 0) inv e next → appended e ≡ true → ((tx : TxId) → (dl tx).asked ≡ Some (Do 0 inv)) → (n : ℕ)
-      → Settled cs s dl si (appends one f b 0 inv e) n
-  appends-settles inv e rest next is needs asked n = record {
+  pub appends-settles : (object inv e : ℕ) (rest : Resting decl copied.before s b) → IsAnswer decl rest.doing.after object inv e → HasRead decl s.log b object inv → weighted decl object e ≡ true → ((tx : TxId) → (dl tx).asked ≡ Some (Do object inv)) → (n : ℕ)
+      → Settled decl cs s dl si (appends (single decl) f b object inv e) n
+  appends-settles object inv e rest answer read needs asked n = record {
     client = refl;
-    away = refl;
+    away = (refl, tt);
     comes = (n, _, refl, refl);
     sense =
         record {
@@ -154,16 +145,15 @@ module _ (cs : List Commit) (clock last count : ℕ) (b : Begun) (s : SiteState)
           stamps = stamps;
           book = book;
           vision = vision-sent cs (Some b.tx) si n vision;
-          copied = copied-same cs s.log _ same copied;
+          copied = copied-same decl cs s.log _ same copied;
           works =
               record {
-                on = refl;
-                doing = doing-alike copied.before s.log _ b (record b { asked = true }) same refl refl refl rest.doing;
-                next = next;
-                is = is;
+                doing = doing-alike decl copied.before s.log _ b (record b { asked = true }) same refl refl refl rest.doing;
+                answer = answer;
+                read = subst (λ (log : List Line). HasRead decl log b object inv) same read;
                 needs = needs;
                 asked = refl;
-                holds = hold_owns b.asked s.held b.tx (weighing b.own) (next_own b 0 e) sorted rest.holds;
+                holds = hold_owns b.asked s.held b.tx (weighing decl b.own) (own_weighing decl b.own object) (next_own b object e) sorted (weighing_on decl b.own object) rest.holds;
                 life = some_life b.asked rest.life;
                 prepared = rest.prepared;
               };
@@ -171,27 +161,27 @@ module _ (cs : List Commit) (clock last count : ℕ) (b : Begun) (s : SiteState)
         };
   }
     where
-      same : s.log ≡ union s.log (of_object b.view 0)
-      same = sym (absorbed copied.before s.log b rest.doing copied.zeros)
+      same : s.log ≡ union s.log (of_object b.view object)
+      same = sym (view_absorbed decl copied.before s.log b rest.doing copied.ascending object)
 
-      sorted : IsSorted (weighing b.own ++ next_own b 0 e ∷ [])
+      sorted : IsSorted (weighing decl b.own ++ next_own b object e ∷ [])
       sorted =
-          sorted-more (weighing b.own) (next_own b 0 e) (sorted-filter _ b.own rest.doing.sorted)
-          (every-filter (λ (o : OwnLine). o.op < (next_own b 0 e).op) _ b.own
+          sorted-more (weighing decl b.own) (next_own b object e) (sorted-filter _ b.own rest.doing.sorted)
+          (every-filter (λ (o : OwnLine). o.op < (next_own b object e).op) _ b.own
           (every-weaker (λ (o : OwnLine). o.op ≤ length_of) (λ (o : OwnLine). o.op < length_of + 1) (λ o le. omega arith) b.own rest.doing.within))
         where
           length_of : ℕ
           length_of = Rattle.std.proofs.Common.length b.ops
 
-      some_life : (t : Bool) → LifeBy t b.life → IsBit b.life
+      some_life : (t : Bool) → LifeBy t b.life → IsLife b.life
       some_life true is = inr is
       some_life false is = inl is
 
   -- the site is asked to promise
-  pub prepares-settles : Resting copied.before s b → b.asked ≡ true → (n : ℕ) → Settled cs s dl si (prepares one f b) n
+  pub prepares-settles : Resting decl copied.before s b → b.asked ≡ true → (n : ℕ) → Settled decl cs s dl si (prepares (single decl) f b) n
   prepares-settles rest asked n = record {
     client = refl;
-    away = refl;
+    away = (refl, tt);
     comes = (n, refl, comes_by ans.promises);
     sense =
         record {
@@ -200,12 +190,12 @@ module _ (cs : List Commit) (clock last count : ℕ) (b : Begun) (s : SiteState)
           stamps = stamps;
           book = book;
           vision = vision-sent cs (Some b.tx) si n vision;
-          copied = copied-same cs s.log _ (sym ans.log) copied;
+          copied = copied-same decl cs s.log _ (sym ans.log) copied;
           works =
               record {
-                doing = doing-alike copied.before s.log _ b b (sym ans.log) refl refl refl rest.doing;
+                doing = doing-alike decl copied.before s.log _ b b (sym ans.log) refl refl refl rest.doing;
                 asked = asked;
-                holds = subst (λ h. HoldsBy true h b.tx (weighing b.own)) (sym ans.held) holds;
+                holds = subst (λ h. HoldsBy true h b.tx (weighing decl b.own)) (sym ans.held) holds;
                 life = subst (λ (t : Bool). LifeBy t b.life) asked rest.life;
                 promised = promised_by ans.promises;
               };
@@ -213,23 +203,23 @@ module _ (cs : List Commit) (clock last count : ℕ) (b : Begun) (s : SiteState)
         };
   }
     where
-      holds : HoldsBy true s.held b.tx (weighing b.own)
-      holds = subst (λ (t : Bool). HoldsBy t s.held b.tx (weighing b.own)) asked rest.holds
+      holds : HoldsBy true s.held b.tx (weighing decl b.own)
+      holds = subst (λ (t : Bool). HoldsBy t s.held b.tx (weighing decl b.own)) asked rest.holds
 
       m : SiteMove
       m = site_prepares s 1 n b.tx 1
 
-      ans : SiteAnswers s (site_prepares s 1 n b.tx 1) n b.tx (weighing b.own)
-      ans = prepare_answers s n b.tx 1 (weighing b.own) holds rest.prepared
+      ans : SiteAnswers s (site_prepares s 1 n b.tx 1) n b.tx (weighing decl b.own)
+      ans = prepare_answers s n b.tx 1 (weighing decl b.own) holds rest.prepared
 
-      comes_by : Promises (site_prepares s 1 n b.tx 1) n b.tx (weighing b.own)
+      comes_by : Promises (site_prepares s 1 n b.tx 1) n b.tx (weighing decl b.own)
           → (messages (site_prepares s 1 n b.tx 1).turn.sends ++ [] ≡ Stale n ∷ [])
-          ⊎ ((k : ℕ) × (messages (site_prepares s 1 n b.tx 1).turn.sends ++ [] ≡ Yes n k ∷ []) × IsPromised (site_prepares s 1 n b.tx 1).site.prepared b.tx (weighing b.own))
+          ⊎ ((k : ℕ) × (messages (site_prepares s 1 n b.tx 1).turn.sends ++ [] ≡ Yes n k ∷ []) × IsPromised (site_prepares s 1 n b.tx 1).site.prepared b.tx (weighing decl b.own))
       comes_by (inl is) = inl (ap (λ ps. messages ps ++ []) is.0)
       comes_by (inr is) = inr (is.0, ap (λ ps. messages ps ++ []) is.1, is.2)
 
-      promised_by : Promises (site_prepares s 1 n b.tx 1) n b.tx (weighing b.own)
-          → ((site_prepares s 1 n b.tx 1).site.prepared ≡ []) ⊎ IsPromised (site_prepares s 1 n b.tx 1).site.prepared b.tx (weighing b.own)
+      promised_by : Promises (site_prepares s 1 n b.tx 1) n b.tx (weighing decl b.own)
+          → ((site_prepares s 1 n b.tx 1).site.prepared ≡ []) ⊎ IsPromised (site_prepares s 1 n b.tx 1).site.prepared b.tx (weighing decl b.own)
       promised_by (inl is) = inl is.1
       promised_by (inr is) = inr is.2
 
@@ -242,14 +232,14 @@ module _ (cs : List Commit) (clock last count : ℕ) (b : Begun) (s : SiteState)
   gone_turn reply t =
       moved (turned f None Idle) (record { write = None; sends = cond t (record { to = 0; message = Decision b.tx outcomes.Aborted } ∷ []) []; told = Some reply })
 
-  pub gives_free : (reply : Reply) → b.asked ≡ false → Resting copied.before s b → Book cs count count None [] (λ tx. deal_told tx (dl tx) reply)
-      → ((sights : TxId → Sight) → Vision cs (Some b.tx) sights → Vision cs None (λ tx. sight_told tx (sights tx) reply)) → (n : ℕ) → Settled cs s dl si (gives_up one f (Some b) reply) n
+  pub gives_free : (reply : Reply) → b.asked ≡ false → Resting decl copied.before s b → Book cs count count None [] (λ tx. deal_told tx (dl tx) reply)
+      → ((sights : TxId → Sight) → Vision cs (Some b.tx) sights → Vision cs None (λ tx. sight_told tx (sights tx) reply)) → (n : ℕ) → Settled decl cs s dl si (gives_up (single decl) f (Some b) reply) n
   gives_free reply asked rest bk vs n =
-      let holds : HoldsBy false s.held b.tx (weighing b.own) = subst (λ (t : Bool). HoldsBy t s.held b.tx (weighing b.own)) asked rest.holds in
-      subst (λ (t : Bool). Settled cs s dl si (gone_turn reply t) n) (sym asked)
+      let holds : HoldsBy false s.held b.tx (weighing decl b.own) = subst (λ (t : Bool). HoldsBy t s.held b.tx (weighing decl b.own)) asked rest.holds in
+      subst (λ (t : Bool). Settled decl cs s dl si (gone_turn reply t) n) (sym asked)
       (record {
         client = refl;
-        away = refl;
+        away = tt;
         comes = refl;
         sense =
             record {
@@ -264,14 +254,14 @@ module _ (cs : List Commit) (clock last count : ℕ) (b : Begun) (s : SiteState)
             };
       })
 
-  pub gives_asked : (reply : Reply) → b.asked ≡ true → HoldsBy true s.held b.tx (weighing b.own) → (s.prepared ≡ []) ⊎ IsPromised s.prepared b.tx (weighing b.own)
+  pub gives_asked : (reply : Reply) → b.asked ≡ true → HoldsBy true s.held b.tx (weighing decl b.own) → (s.prepared ≡ []) ⊎ IsPromised s.prepared b.tx (weighing decl b.own)
       → Book cs count count None [] (λ tx. deal_told tx (dl tx) reply)
-      → ((sights : TxId → Sight) → Vision cs (Some b.tx) sights → Vision cs None (λ tx. sight_told tx (sights tx) reply)) → (n : ℕ) → Settled cs s dl si (gives_up one f (Some b) reply) n
+      → ((sights : TxId → Sight) → Vision cs (Some b.tx) sights → Vision cs None (λ tx. sight_told tx (sights tx) reply)) → (n : ℕ) → Settled decl cs s dl si (gives_up (single decl) f (Some b) reply) n
   gives_asked reply asked holds promised bk vs n =
-      subst (λ (t : Bool). Settled cs s dl si (gone_turn reply t) n) (sym asked)
+      subst (λ (t : Bool). Settled decl cs s dl si (gone_turn reply t) n) (sym asked)
       (record {
         client = refl;
-        away = refl;
+        away = (refl, tt);
         comes = refl;
         sense =
             record {
@@ -281,7 +271,7 @@ module _ (cs : List Commit) (clock last count : ℕ) (b : Begun) (s : SiteState)
               book = bk;
               vision = vs _ (vision-sent cs (Some b.tx) si n vision);
               copied = copied;
-              works = (freed s.held b.tx (weighing b.own) holds, unpromised s.prepared b.tx (weighing b.own) promised);
+              works = (freed s.held b.tx (weighing decl b.own) holds, unpromised s.prepared b.tx (weighing decl b.own) promised);
               asked = tt;
             };
       })
@@ -305,45 +295,54 @@ module _ (cs : List Commit) (clock last count : ℕ) (b : Begun) (s : SiteState)
       (record { clock = omega arith; client = refl; named = now.0 ∙ ap tx_of (sym e); number = omega arith })
       (omega arith) (omega arith) (omega arith) (omega arith)
 
-  line_logged : (o : OwnLine) → IsDone b.ops o → IsLogged one (cs ++ new ∷ []) (stamped stamp b.tx o)
+  line_logged : (o : OwnLine) → IsDone decl b.ops o → IsLogged decl (cs ++ new ∷ []) (stamped stamp b.tx o)
   line_logged o is = record { commit = new; listed = In-last new cs; stamped = refl; named = refl; operation = is }
 
-  lines_logged : (own : List OwnLine) → Every (IsDone b.ops) own → Every (IsLogged one (cs ++ new ∷ [])) (map (stamped stamp b.tx) own)
+  lines_logged : (own : List OwnLine) → Every (IsDone decl b.ops) own → Every (IsLogged decl (cs ++ new ∷ [])) (map (stamped stamp b.tx) own)
   lines_logged [] done = tt
   lines_logged (o ∷ os) done = (line_logged o done.0, lines_logged os done.1)
 
-  lines_zero : (own : List OwnLine) → Every (λ (o : OwnLine). o.object ≡ 0) own → Every (λ (l : Line). l.object ≡ 0) (map (stamped stamp b.tx) own)
-  lines_zero [] zeros = tt
-  lines_zero (o ∷ os) zeros = (zeros.0, lines_zero os zeros.1)
-
-  logged-more : (l : Line) → IsLogged one cs l → IsLogged one (cs ++ new ∷ []) l
+  logged-more : (l : Line) → IsLogged decl cs l → IsLogged decl (cs ++ new ∷ []) l
   logged-more l is = record { commit = is.commit; listed = In-first is.commit cs (new ∷ []) is.listed; stamped = is.stamped; named = is.named; operation = is.operation }
 
+  below_stamp : (l : Line) → IsLogged decl cs l → l.stamp.clock < stamp.clock
+  below_stamp l is =
+      let le : is.commit.stamp.clock ≤ clock = (every-in (IsBelow clock last) is.commit cs stamps.below is.listed).clock in
+      let e : l.stamp.clock ≡ is.commit.stamp.clock = ap (λ (x : Stamp). x.clock) is.stamped in
+      omega arith
+
   -- the log with the lines of the new record
-  new_copied : (log : List Line) (d : Doing copied.before s.log b) → log ≡ s.log ++ map (stamped stamp b.tx) (weighing b.own) → Copied (cs ++ new ∷ []) log
+  new_copied : (log : List Line) (d : Doing decl copied.before s.log b) → log ≡ s.log ++ map (stamped stamp b.tx) (weighing decl b.own) → Copied decl (cs ++ new ∷ []) log
   new_copied log d is = record {
     before = d.after;
-    walked =
-        subst (λ (ops : List Op). Reach one (start_at one) ops d.after) (sym (flat_map-append (λ (c : Commit). c.ops) cs (new ∷ []) ∙ ap (λ (v : List Op). operations cs ++ v) (append-nil b.ops)))
-        (reach-append one (start_at one) (operations cs) b.ops copied.before d.after copied.walked d.walked);
-    bit = d.bit;
-    logged =
-        ap (λ (v : List Line). reached stepped (Some 0) (line_events v)) is
-        ∙ ap (λ (v : List ℕ). reached stepped (Some 0) v) (map-append (λ (l : Line). l.event) s.log (map (stamped stamp b.tx) (weighing b.own)))
-        ∙ ap (λ (v : List ℕ). reached stepped (Some 0) (line_events s.log ++ v)) (events_of_lines stamp b.tx (weighing b.own))
-        ∙ reached-append stepped (Some 0) (line_events s.log) (events (weighing b.own))
-        ∙ ap (λ (o : Option ℕ). reached stepped o (events (weighing b.own))) copied.logged
-        ∙ d.weighed;
+    follows =
+        record {
+          walked =
+              subst (λ (ops : List Op). Reach decl (start_at decl) ops d.after) (sym grown)
+              (reach-append decl (start_at decl) (operations cs) b.ops copied.before d.after copied.follows.walked d.walked);
+          logged = λ object.
+              ap (λ (v : List Line). line_events (of_object v object)) is
+              ∙ ap line_events (filter-append (λ (l : Line). l.object == object) s.log (map (stamped stamp b.tx) (weighing decl b.own)))
+              ∙ map-append (λ (l : Line). l.event) (of_object s.log object) (of_object (map (stamped stamp b.tx) (weighing decl b.own)) object)
+              ∙ ap (λ (v : List ℕ). v ++ line_events (of_object (map (stamped stamp b.tx) (weighing decl b.own)) object)) (copied.follows.logged object)
+              ∙ ap (λ (v : List ℕ). filter (weighted decl object) (own_events decl (operations cs) object) ++ v)
+              (stamped_events decl stamp b.tx b.own object ∙ ap (filter (weighted decl object)) (sym (d.owns object)))
+              ∙ sym (filter-append (weighted decl object) (own_events decl (operations cs) object) (own_events decl b.ops object))
+              ∙ ap (filter (weighted decl object)) (sym (events-append decl (operations cs) b.ops object) ∙ ap (λ (ops : List Op). own_events decl ops object) (sym grown));
+        };
+    ascending =
+        subst IsAscending (sym is)
+        (subst IsAscending (log_more s.log stamp b.tx (weighing decl b.own) (every-weaker (IsLogged decl cs) (λ (l : Line). l.stamp.clock < stamp.clock) below_stamp s.log copied.lines))
+        (ascending-union s.log (map (stamped stamp b.tx) (weighing decl b.own)) copied.ascending (stamped_ascend stamp b.tx (weighing decl b.own) (sorted-filter _ b.own d.sorted))));
     lines =
-        subst (λ (v : List Line). Every (IsLogged one (cs ++ new ∷ [])) v) (sym is)
-        (every-append (IsLogged one (cs ++ new ∷ [])) s.log (map (stamped stamp b.tx) (weighing b.own))
-        (every-weaker (IsLogged one cs) (IsLogged one (cs ++ new ∷ [])) logged-more s.log copied.lines)
-        (lines_logged (weighing b.own) (every-filter (IsDone b.ops) _ b.own d.done)));
-    zeros =
-        subst (λ (v : List Line). Every (λ (l : Line). l.object ≡ 0) v) (sym is)
-        (every-append (λ (l : Line). l.object ≡ 0) s.log (map (stamped stamp b.tx) (weighing b.own)) copied.zeros
-        (lines_zero (weighing b.own) (every-filter (λ (o : OwnLine). o.object ≡ 0) _ b.own d.ours)));
+        subst (λ (v : List Line). Every (IsLogged decl (cs ++ new ∷ [])) v) (sym is)
+        (every-append (IsLogged decl (cs ++ new ∷ [])) s.log (map (stamped stamp b.tx) (weighing decl b.own))
+        (every-weaker (IsLogged decl cs) (IsLogged decl (cs ++ new ∷ [])) logged-more s.log copied.lines)
+        (lines_logged (weighing decl b.own) (every-filter (IsDone decl b.ops) _ b.own d.done)));
   }
+    where
+      grown : operations (cs ++ new ∷ []) ≡ operations cs ++ b.ops
+      grown = flat_map-append (λ (c : Commit). c.ops) cs (new ∷ []) ∙ ap (λ (v : List Op). operations cs ++ v) (append-nil b.ops)
 
   abbrev new_turn : Bool → FrontMove
   new_turn t =
@@ -358,13 +357,13 @@ module _ (cs : List Commit) (clock last count : ℕ) (b : Begun) (s : SiteState)
   new_book = book-committed cs clock last count b.tx b.ops dl stamps now book stamp
 
   -- it wrote nothing that needs weight
-  pub decides_free : b.asked ≡ false → Resting copied.before s b → (n : ℕ) → Settled cs s dl si (decides one f (Some b)) n
+  pub decides_free : b.asked ≡ false → Resting decl copied.before s b → (n : ℕ) → Settled decl cs s dl si (decides (single decl) f (Some b)) n
   decides_free asked rest n =
-      let holds : HoldsBy false s.held b.tx (weighing b.own) = subst (λ (t : Bool). HoldsBy t s.held b.tx (weighing b.own)) asked rest.holds in
-      subst (λ (t : Bool). Settled cs s dl si (new_turn t) n) (sym asked)
+      let holds : HoldsBy false s.held b.tx (weighing decl b.own) = subst (λ (t : Bool). HoldsBy t s.held b.tx (weighing decl b.own)) asked rest.holds in
+      subst (λ (t : Bool). Settled decl cs s dl si (new_turn t) n) (sym asked)
       (record {
         client = refl;
-        away = refl;
+        away = tt;
         comes = refl;
         sense =
             record {
@@ -380,13 +379,13 @@ module _ (cs : List Commit) (clock last count : ℕ) (b : Begun) (s : SiteState)
       })
 
   -- the site promised its own lines
-  pub decides_promised : b.asked ≡ true → Doing copied.before s.log b → HoldsBy true s.held b.tx (weighing b.own) → IsPromised s.prepared b.tx (weighing b.own) → (n : ℕ)
-      → Settled cs s dl si (decides one f (Some b)) n
+  pub decides_promised : b.asked ≡ true → Doing decl copied.before s.log b → HoldsBy true s.held b.tx (weighing decl b.own) → IsPromised s.prepared b.tx (weighing decl b.own) → (n : ℕ)
+      → Settled decl cs s dl si (decides (single decl) f (Some b)) n
   decides_promised asked d holds promised n =
-      subst (λ (t : Bool). Settled cs s dl si (new_turn t) n) (sym asked)
+      subst (λ (t : Bool). Settled decl cs s dl si (new_turn t) n) (sym asked)
       (record {
         client = refl;
-        away = refl;
+        away = (refl, tt);
         comes = ap (λ o. messages (joins later b.tx stamp o).turn.sends ++ []) found;
         sense =
             record {
@@ -397,8 +396,8 @@ module _ (cs : List Commit) (clock last count : ℕ) (b : Begun) (s : SiteState)
               vision = vision-committed cs clock last b.tx b.ops stamp _ stamps (omega arith) (vision-sent cs (Some b.tx) si n vision);
               copied = new_copied _ d (ap (λ o. (joins later b.tx stamp o).site.log) found ∙ same_log);
               works = (
-                ap (λ o. (joins later b.tx stamp o).site.held) found ∙ freed s.held b.tx (weighing b.own) holds,
-                ap (λ o. (joins later b.tx stamp o).site.prepared) found ∙ unpromised s.prepared b.tx (weighing b.own) (inr promised),
+                ap (λ o. (joins later b.tx stamp o).site.held) found ∙ freed s.held b.tx (weighing decl b.own) holds,
+                ap (λ o. (joins later b.tx stamp o).site.prepared) found ∙ unpromised s.prepared b.tx (weighing decl b.own) (inr promised),
               );
               asked = tt;
             };
@@ -411,19 +410,13 @@ module _ (cs : List Commit) (clock last count : ℕ) (b : Begun) (s : SiteState)
       p = promised.0
 
       found : prepared_of s.prepared b.tx ≡ Some promised.0
-      found = promise_found s.prepared b.tx (weighing b.own) promised
+      found = promise_found s.prepared b.tx (weighing decl b.own) promised
 
-      sorted : IsSorted (weighing b.own)
+      sorted : IsSorted (weighing decl b.own)
       sorted = sorted-filter _ b.own d.sorted
 
-      below_stamp : (l : Line) → IsLogged one cs l → l.stamp.clock < stamp.clock
-      below_stamp l is =
-          let le : is.commit.stamp.clock ≤ clock = (every-in (IsBelow clock last) is.commit cs stamps.below is.listed).clock in
-          let e : l.stamp.clock ≡ is.commit.stamp.clock = ap (λ (x : Stamp). x.clock) is.stamped in
-          omega arith
-
-      same_log : union s.log (lines_of stamp b.tx promised.0.own) ≡ s.log ++ map (stamped stamp b.tx) (weighing b.own)
+      same_log : union s.log (lines_of stamp b.tx promised.0.own) ≡ s.log ++ map (stamped stamp b.tx) (weighing decl b.own)
       same_log =
           ap (λ (own : List OwnLine). union s.log (lines_of stamp b.tx own)) promised.3
-          ∙ ap (union s.log) (lines_of-sorted stamp b.tx (weighing b.own) sorted)
-          ∙ log_more s.log stamp b.tx (weighing b.own) (every-weaker (IsLogged one cs) (λ (l : Line). l.stamp.clock < stamp.clock) below_stamp s.log copied.lines)
+          ∙ ap (union s.log) (lines_of-sorted stamp b.tx (weighing decl b.own) sorted)
+          ∙ log_more s.log stamp b.tx (weighing decl b.own) (every-weaker (IsLogged decl cs) (λ (l : Line). l.stamp.clock < stamp.clock) below_stamp s.log copied.lines)

@@ -1,32 +1,34 @@
 -- A transaction's own lines: in order, as a site holds them, and as the lines of a committed transaction.
-use Rattle.std.proofs.Common.{◌≡◌, ℕ, ◌<◌, ◌==◌, Bool, true, false, cond, List, [], ◌∷◌, ◌++◌, filter, map, fold, refl, sym, ap, subst, ◌∙◌, arith, append_assoc}
+use Rattle.std.proofs.Common.{◌≡◌, ℕ, ◌<◌, ◌==◌, Bool, true, false, cond, List, [], ◌∷◌, ◌++◌, filter, map, fold, inl, inr, refl, sym, ap, subst, ◌∙◌, arith, append_assoc}
 use Rattle.std.specs.List.{AllByRecursion as Every}
 use Rattle.std.specs.Ordering.{nat_cmp}
 use Rattle.std.specs.declared.cmp.Ordering.TheVariants.{Less, Equal, Greater}
+use Rattle.std.proofs.lemmas.Bool.{and_parts, eqb-true}
 use Rattle.std.proofs.lemmas.Bool.Decides.{nat_tests}
 use Rattle.std.proofs.lemmas.Cmp.{tied_itself}
 use Rattle.std.proofs.lemmas.List.{append-nil}
 use Rattle.std.proofs.lemmas.List.Elements.{filter-append}
+use Rattle.std.proofs.lemmas.List.Sums.{fold-append}
 use Rattle.qc_stamp.specs.declared.stamp.Stamp.{Stamp}
 use Rattle.qc_stamp.specs.declared.stamp.TxId.{TxId}
 use Rattle.qc_stamp.proofs.Orders.{stamp_order, tx_order}
 use Rattle.qc_entry.specs.declared.line.Line.{Line}
 use Rattle.qc_entry.specs.declared.line.OwnLine.{OwnLine}
-use Rattle.qc_entry.specs.Line.{line_cmp}
-use Rattle.qc_entry.specs.Log.{union}
+use Rattle.qc_entry.specs.Line.{IsAscending, IsBelowAll, line_cmp}
+use Rattle.qc_entry.specs.Log.{of_object, union}
 use Rattle.qc_entry.proofs.Union.{append-union, union-after, union-nil}
-use Rattle.qc_decl.specs.One.{one}
+use Rattle.qc_decl.specs.declared.declaration.Declaration.{Declaration}
 use Rattle.qc_front.specs.View.{own_on, own_weighing, weighs}
 use Rattle.qc_site.specs.Conduct.{lines_of, stamped, with_stamped}
 use Rattle.qc_site.specs.Held.{with_own, with_owns}
-use Rattle.qc_core.proofs.Members.{every-append, every-weaker}
-
-abbrev pub events : List OwnLine → List ℕ
-events own = map (λ (o : OwnLine). o.event) own
+use Rattle.qc_core.specs.Committed.{In}
+use Rattle.qc_core.proofs.Members.{every-append, every-in, every-weaker}
+use Rattle.qc_core.proofs.ObjectTypes.{weighted}
+use Rattle.qc_core.proofs.Views.{line_events}
 
 -- the own lines whose events need weight
-abbrev pub weighing : List OwnLine → List OwnLine
-weighing own = own_weighing one own 0
+abbrev pub weighing : Declaration → List OwnLine → List OwnLine
+weighing decl own = filter (λ (o : OwnLine). weighted decl o.object o.event) own
 
 -- the own lines ascend by operation
 abbrev pub IsSorted : List OwnLine → Type 0
@@ -53,20 +55,34 @@ sorted-filter test (o ∷ os) sorted = by (test o) (sorted-filter test os sorted
     by true rest = (every-filter (λ (p : OwnLine). o.op < p.op) test os sorted.0, rest)
     by false rest = rest
 
--- all lines are on the register
-pub all_on : (own : List OwnLine) → Every (λ (o : OwnLine). o.object ≡ 0) own → own_on own 0 ≡ own
-all_on [] every = refl
-all_on (o ∷ os) every =
-    let here : (o.object == 0) ≡ true = ap (λ (k : ℕ). k == 0) every.0 in
-    ap (λ (t : Bool). cond t (o ∷ own_on os 0) (own_on os 0)) here ∙ ap (λ (v : List OwnLine). o ∷ v) (all_on os every.1)
-
 -- one own line more
 
-pub weighing-more : (own : List OwnLine) (y : OwnLine) → weighs one 0 y ≡ true → weighing (own ++ y ∷ []) ≡ weighing own ++ y ∷ []
-weighing-more own y is = filter-append (weighs one 0) own (y ∷ []) ∙ ap (λ (t : Bool). weighing own ++ cond t (y ∷ []) []) is
+pub weighing-more : (decl : Declaration) (own : List OwnLine) (y : OwnLine) → weighted decl y.object y.event ≡ true → weighing decl (own ++ y ∷ []) ≡ weighing decl own ++ y ∷ []
+weighing-more decl own y is = filter-append (λ (o : OwnLine). weighted decl o.object o.event) own (y ∷ []) ∙ ap (λ (t : Bool). weighing decl own ++ cond t (y ∷ []) []) is
 
-pub weighing-same : (own : List OwnLine) (y : OwnLine) → weighs one 0 y ≡ false → weighing (own ++ y ∷ []) ≡ weighing own
-weighing-same own y is = filter-append (weighs one 0) own (y ∷ []) ∙ ap (λ (t : Bool). weighing own ++ cond t (y ∷ []) []) is ∙ append-nil (weighing own)
+pub weighing-same : (decl : Declaration) (own : List OwnLine) (y : OwnLine) → weighted decl y.object y.event ≡ false → weighing decl (own ++ y ∷ []) ≡ weighing decl own
+weighing-same decl own y is =
+    filter-append (λ (o : OwnLine). weighted decl o.object o.event) own (y ∷ []) ∙ ap (λ (t : Bool). weighing decl own ++ cond t (y ∷ []) []) is ∙ append-nil (weighing decl own)
+
+-- those on one object are among them
+pub weighing_on : (decl : Declaration) (own : List OwnLine) (object : ℕ) (o : OwnLine) → In o (own_weighing decl own object) → In o (weighing decl own)
+weighing_on decl [] object o member = member
+weighing_on decl (p ∷ ps) object o member = by (weighs decl object p) refl member (weighing_on decl ps object o)
+  where
+    kept : (t : Bool) → weighted decl p.object p.event ≡ t → In o (weighing decl ps) → In o (cond t (p ∷ weighing decl ps) (weighing decl ps))
+    kept true is rest = inr rest
+    kept false is rest = rest
+
+    first : weighs decl object p ≡ true → weighted decl p.object p.event ≡ true
+    first is =
+        let parts : ((p.object == object) ≡ true) × (weighted decl object p.event ≡ true) = and_parts (p.object == object) (weighted decl object p.event) is in
+        subst (λ (x : ℕ). weighted decl x p.event ≡ true) (sym (eqb-true p.object object parts.0)) parts.1
+
+    by : (t : Bool) → weighs decl object p ≡ t → In o (cond t (p ∷ own_weighing decl ps object) (own_weighing decl ps object)) → (In o (own_weighing decl ps object) → In o (weighing decl ps))
+        → In o (cond (weighted decl p.object p.event) (p ∷ weighing decl ps) (weighing decl ps))
+    by true is (inl same) rest = subst (λ (t : Bool). In o (cond t (p ∷ weighing decl ps) (weighing decl ps))) (sym (first is)) (inl same)
+    by true is (inr more) rest = kept (weighted decl p.object p.event) refl (rest more)
+    by false is more rest = kept (weighted decl p.object p.event) refl (rest more)
 
 -- what a sorted list has before and after a place
 
@@ -86,23 +102,33 @@ greater f b l = grind (arith, nat_tests)
 equal : (b : OwnLine) → nat_cmp b.op b.op ≡ Equal
 equal b = grind (arith, nat_tests)
 
-with_own-again : (front back : List OwnLine) (b : OwnLine) → Every (λ (f : OwnLine). f.op < b.op) front → with_own (front ++ b ∷ back) b ≡ front ++ b ∷ back
-with_own-again [] back b below = rw (equal b) refl
-with_own-again (f ∷ fs) back b below = rw (greater f b below.0) (ap (λ (v : List OwnLine). f ∷ v) (with_own-again fs back b below.1))
+with_own-again : (own : List OwnLine) (o : OwnLine) → IsSorted own → In o own → with_own own o ≡ own
+with_own-again [] o sorted member = absurd member
+with_own-again (p ∷ ps) o sorted (inl same) = rw (ap (λ (x : OwnLine). nat_cmp x.op p.op) same ∙ equal p) (ap (λ (x : OwnLine). x ∷ ps) same)
+with_own-again (p ∷ ps) o sorted (inr member) = rw (greater p o (every-in (λ (x : OwnLine). p.op < x.op) o ps sorted.0 member)) (ap (λ (v : List OwnLine). p ∷ v) (with_own-again ps o sorted.1 member))
+
+with_owns-again : (own others : List OwnLine) → IsSorted own → ((o : OwnLine) → In o others → In o own) → fold with_own own others ≡ own
+with_owns-again own [] sorted among = refl
+with_owns-again own (o ∷ os) sorted among =
+    ap (λ (v : List OwnLine). fold with_own v os) (with_own-again own o sorted (among o (inl refl))) ∙ with_owns-again own os sorted (λ p member. among p (inr member))
 
 with_own-last : (front : List OwnLine) (b : OwnLine) → Every (λ (f : OwnLine). f.op < b.op) front → with_own front b ≡ front ++ b ∷ []
 with_own-last [] b below = refl
 with_own-last (f ∷ fs) b below = rw (greater f b below.0) (ap (λ (v : List OwnLine). f ∷ v) (with_own-last fs b below.1))
 
-refill : (front back : List OwnLine) (y : OwnLine) → IsSorted (front ++ (back ++ y ∷ [])) → fold with_own (front ++ back) (back ++ y ∷ []) ≡ front ++ (back ++ y ∷ [])
-refill front [] y sorted = ap (λ (v : List OwnLine). with_own v y) (append-nil front) ∙ with_own-last front y (sorted_before front [] y sorted)
-refill front (b ∷ back) y sorted =
-    ap (λ (v : List OwnLine). fold with_own v (back ++ y ∷ [])) (with_own-again front back b (sorted_before front (back ++ y ∷ []) b sorted) ∙ sym (append_assoc front (b ∷ []) back))
-    ∙ refill (front ++ b ∷ []) back y (subst IsSorted (sym (append_assoc front (b ∷ []) (back ++ y ∷ []))) sorted)
-    ∙ append_assoc front (b ∷ []) (back ++ y ∷ [])
+sorted_first : (own : List OwnLine) (y : OwnLine) → IsSorted (own ++ y ∷ []) → IsSorted own
+sorted_first [] y sorted = tt
+sorted_first (o ∷ os) y sorted = (all_but os sorted.0, sorted_first os y sorted.1)
+  where
+    all_but : (xs : List OwnLine) → Every (λ (p : OwnLine). o.op < p.op) (xs ++ y ∷ []) → Every (λ (p : OwnLine). o.op < p.op) xs
+    all_but [] every = tt
+    all_but (x ∷ xs) every = (every.0, all_but xs every.1)
 
-pub with_owns-more : (own : List OwnLine) (y : OwnLine) → IsSorted (own ++ y ∷ []) → with_owns own (own ++ y ∷ []) ≡ own ++ y ∷ []
-with_owns-more own y sorted = refill [] own y sorted
+pub with_owns-more : (own others : List OwnLine) (y : OwnLine) → IsSorted (own ++ y ∷ []) → ((o : OwnLine) → In o others → In o own) → with_owns own (others ++ y ∷ []) ≡ own ++ y ∷ []
+with_owns-more own others y sorted among =
+    fold-append with_own own others (y ∷ [])
+    ∙ ap (λ (v : List OwnLine). with_own v y) (with_owns-again own others (sorted_first own y sorted) among)
+    ∙ with_own-last own y (sorted_before own [] y sorted)
 
 -- own lines as lines with a stamp
 
@@ -143,6 +169,33 @@ log_more log stamp tx (o ∷ os) below =
     sym (append-union log (map (stamped stamp tx) (o ∷ os)) (stamped stamp tx o) refl
     (every-weaker (λ (l : Line). l.stamp.clock < stamp.clock) (λ (l : Line). line_cmp l (stamped stamp tx o) ≡ Less) (λ l le. later_line l stamp tx o le) log below))
 
-pub events_of_lines : (stamp : Stamp) (tx : TxId) (own : List OwnLine) → map (λ (l : Line). l.event) (map (stamped stamp tx) own) ≡ events own
-events_of_lines stamp tx [] = refl
-events_of_lines stamp tx (o ∷ os) = ap (λ (v : List ℕ). o.event ∷ v) (events_of_lines stamp tx os)
+-- they ascend
+pub stamped_ascend : (stamp : Stamp) (tx : TxId) (own : List OwnLine) → IsSorted own → IsAscending (map (stamped stamp tx) own)
+stamped_ascend stamp tx [] sorted = tt
+stamped_ascend stamp tx (o ∷ os) sorted = (below os sorted.0, stamped_ascend stamp tx os sorted.1)
+  where
+    below : (xs : List OwnLine) → Every (λ (p : OwnLine). o.op < p.op) xs → IsBelowAll (stamped stamp tx o) (map (stamped stamp tx) xs)
+    below [] every = tt
+    below (x ∷ xs) every = (line_less stamp tx o x every.0, below xs every.1)
+
+-- the events of those on one object that need weight
+pub stamped_events : (decl : Declaration) (stamp : Stamp) (tx : TxId) (own : List OwnLine) (object : ℕ)
+    → map (λ (l : Line). l.event) (of_object (map (stamped stamp tx) (weighing decl own)) object) ≡ filter (weighted decl object) (line_events own object)
+stamped_events decl stamp tx [] object = refl
+stamped_events decl stamp tx (o ∷ os) object = by (weighted decl o.object o.event) (o.object == object) refl refl (stamped_events decl stamp tx os object)
+  where
+    by : (w t : Bool) → weighted decl o.object o.event ≡ w → (o.object == object) ≡ t
+        → map (λ (l : Line). l.event) (of_object (map (stamped stamp tx) (weighing decl os)) object) ≡ filter (weighted decl object) (line_events os object)
+        → map (λ (l : Line). l.event) (of_object (map (stamped stamp tx) (cond w (o ∷ weighing decl os) (weighing decl os))) object)
+        ≡ filter (weighted decl object) (map (λ (l : OwnLine). l.event) (cond t (o ∷ own_on os object) (own_on os object)))
+    by true true heavy on rest =
+        let here : weighted decl object o.event ≡ true = subst (λ (x : ℕ). weighted decl x o.event ≡ true) (eqb-true o.object object on) heavy in
+        ap (λ (t : Bool). map (λ (l : Line). l.event) (cond t (stamped stamp tx o ∷ of_object (map (stamped stamp tx) (weighing decl os)) object) (of_object (map (stamped stamp tx) (weighing decl os)) object))) on
+        ∙ ap (λ (v : List ℕ). o.event ∷ v) rest
+        ∙ ap (λ (t : Bool). cond t (o.event ∷ filter (weighted decl object) (line_events os object)) (filter (weighted decl object) (line_events os object))) (sym here)
+    by false true light on rest =
+        let here : weighted decl object o.event ≡ false = subst (λ (x : ℕ). weighted decl x o.event ≡ false) (eqb-true o.object object on) light in
+        rest ∙ ap (λ (t : Bool). cond t (o.event ∷ filter (weighted decl object) (line_events os object)) (filter (weighted decl object) (line_events os object))) (sym here)
+    by true false heavy off rest =
+        ap (λ (t : Bool). map (λ (l : Line). l.event) (cond t (stamped stamp tx o ∷ of_object (map (stamped stamp tx) (weighing decl os)) object) (of_object (map (stamped stamp tx) (weighing decl os)) object))) off ∙ rest
+    by false false light off rest = rest

@@ -1,15 +1,14 @@
 -- A transaction with a commit record is committed, with the record's stamp, for ever.
-use Rattle.std.proofs.Common.{◌≡◌, ◌<◌, ◌≤◌, ℕ, ◌==◌, Bool, true, false, cond, List, [], ◌∷◌, ◌++◌, map, fold, Option, Some, None, inl, inr, refl, sym, ap, subst, ◌∙◌, arith, append_assoc}
-use Rattle.std.specs.List.{cons_option}
-use Rattle.std.specs.Prelude.{nat_le, nat_lt}
-use Rattle.std.proofs.lemmas.Bool.{and_parts, eqb-true, leb-true, ltb-true}
+use Rattle.std.proofs.Common.{◌≡◌, ℕ, ◌==◌, Bool, true, false, cond, List, [], ◌∷◌, ◌++◌, map, fold, Option, Some, None, inl, inr, refl, sym, ap, subst, ◌∙◌, append_assoc}
+use Rattle.std.specs.List.{AllByRecursion as Every, cons_option}
+use Rattle.std.proofs.lemmas.Bool.{eqb-true}
 use Rattle.std.proofs.lemmas.List.{append-nil}
 use Rattle.std.proofs.lemmas.List.Sums.{fold-append}
 use Rattle.qc_stamp.specs.declared.stamp.TxId.{TxId}
 use Rattle.qc_entry.specs.declared.record.Commit.{Commit}
 use Rattle.qc_decl.specs.declared.declaration.Declaration.{Declaration}
+use Rattle.qc_decl.specs.Accepted.{IsAccepted}
 use Rattle.qc_decl.specs.Actors.{client_actor, is_client}
-use Rattle.qc_decl.specs.One.{one}
 use Rattle.qc_msg.specs.declared.step.Record.TheVariants as records
 use Rattle.qc_msg.specs.declared.step.Step.{Step}
 use Rattle.qc_msg.specs.declared.step.Step.TheVariants.{Phase, Called, Got, Sent, Told, Wrote}
@@ -18,11 +17,15 @@ use Rattle.qc_msg.proofs.Growth.{own-append}
 use Rattle.qc_script.specs.declared.script.Script.{Script}
 use Rattle.qc_site.specs.Held.{same_tx}
 use Rattle.qc_site.proofs.Entries.{same_self}
+use Rattle.qc_core.specs.Asked.{AsksOnly}
 use Rattle.qc_core.specs.Committed.{In, commit_by, commit_in, committed, written}
 use Rattle.qc_core.specs.Conduct.{IsRun}
 use Rattle.qc_core.specs.Order.{EachAfter}
 use Rattle.qc_core.specs.Status.{Committed, HasEnded, IsRightAfter, Unborn, status, status_at}
-use Rattle.qc_core.proofs.AtomicLaw.{StandAt, standing}
+use Rattle.qc_core.proofs.AtomicLaw.{IsFirst, StandAt, Standing, first_alone, same_single, standing}
+use Rattle.qc_core.proofs.ObjectTypes.{Fits, accepted_fits}
+use Rattle.qc_core.proofs.Others.{NoOthers}
+use Rattle.qc_core.proofs.Sense.{single}
 use Rattle.qc_core.proofs.StatusLaw.{ended_stays, transactions_are_right}
 
 -- one entry more
@@ -52,22 +55,15 @@ ended_keeps decl tx before (e ∷ k) right ended =
     same : status decl (before ++ e ∷ []) tx ≡ status decl before tx
     same = status-step decl before e tx ∙ by (e.actor == client_actor decl tx.client) refl
 
--- the one client's number
-client_is : (a : ℕ) → is_client one a ≡ true → a ≡ 1
-client_is a is =
-    let low : 1 ≤ a = leb-true 1 a (and_parts (nat_le 1 a) (nat_lt a 2) is).0 in
-    let high : a < 2 = ltb-true a 2 (and_parts (nat_le 1 a) (nat_lt a 2) is).1 in
-    omega arith
-
 -- a record that is written commits its transaction
-written_here : (before : List Entry) (e : Entry) (c : Commit) → commit_by one e ≡ Some c → c.tx.client ≡ 0 → status one (before ++ e ∷ []) c.tx ≡ Committed c.stamp
-written_here before e c is client = by (is_client one e.actor) refl is
+written_here : (decl : Declaration) (before : List Entry) (e : Entry) (c : Commit) → IsFirst decl e → commit_by (single decl) e ≡ Some c → c.tx.client ≡ 0 → status (single decl) (before ++ e ∷ []) c.tx ≡ Committed c.stamp
+written_here decl before e c first is client = by (is_client (single decl) e.actor) refl is
   where
-    of_step : (x : Step) → commit_in x ≡ Some c → status_at c.tx (status one before c.tx) x ≡ Committed c.stamp
+    of_step : (x : Step) → commit_in x ≡ Some c → status_at c.tx (status (single decl) before c.tx) x ≡ Committed c.stamp
     of_step (Wrote (records.Commit d)) same =
         let here : d ≡ c = cc in
-        subst (λ (v : Commit). cond (same_tx v.tx c.tx) (Committed v.stamp) (status one before c.tx) ≡ Committed c.stamp) (sym here)
-        (ap (λ (t : Bool). cond t (Committed c.stamp) (status one before c.tx)) (same_self c.tx))
+        subst (λ (v : Commit). cond (same_tx v.tx c.tx) (Committed v.stamp) (status (single decl) before c.tx) ≡ Committed c.stamp) (sym here)
+        (ap (λ (t : Bool). cond t (Committed c.stamp) (status (single decl) before c.tx)) (same_self c.tx))
     of_step (Wrote (records.Prepare p)) same = absurd (let never : ⊥ = cc in never)
     of_step (Wrote (records.Done u clock)) same = absurd (let never : ⊥ = cc in never)
     of_step (Phase k) same = absurd (let never : ⊥ = cc in never)
@@ -76,35 +72,43 @@ written_here before e c is client = by (is_client one e.actor) refl is
     of_step (Sent n to message) same = absurd (let never : ⊥ = cc in never)
     of_step (Told reply) same = absurd (let never : ⊥ = cc in never)
 
-    by : (t : Bool) → is_client one e.actor ≡ t → cond t (commit_in e.step) None ≡ Some c → status one (before ++ e ∷ []) c.tx ≡ Committed c.stamp
+    by : (t : Bool) → is_client (single decl) e.actor ≡ t → cond t (commit_in e.step) None ≡ Some c → status (single decl) (before ++ e ∷ []) c.tx ≡ Committed c.stamp
     by true client_here same =
-        let mine : (e.actor == client_actor one c.tx.client) ≡ true =
-        ap (λ (k : ℕ). k == client_actor one c.tx.client) (client_is e.actor client_here) ∙ ap (λ (k : ℕ). 1 == client_actor one k) client in
-        status-step one before e c.tx
-        ∙ ap (λ (t : Bool). cond t (status_at c.tx (status one before c.tx) e.step) (status one before c.tx)) mine
+        let mine : (e.actor == client_actor (single decl) c.tx.client) ≡ true =
+        ap (λ (k : ℕ). k == client_actor (single decl) c.tx.client) (first client_here) ∙ ap (λ (k : ℕ). 1 == client_actor (single decl) k) client in
+        status-step (single decl) before e c.tx
+        ∙ ap (λ (t : Bool). cond t (status_at c.tx (status (single decl) before c.tx) e.step) (status (single decl) before c.tx)) mine
         ∙ of_step e.step same
     by false other same = absurd (let never : ⊥ = cc in never)
 
-recorded_from : (before k : List Entry) (c : Commit) → EachAfter (IsRightAfter one) before k → c.tx.client ≡ 0 → In c (written one k) → status one (before ++ k) c.tx ≡ Committed c.stamp
-recorded_from before [] c right client member = absurd member
-recorded_from before (e ∷ k) c right client member = by (commit_by one e) refl member (recorded_from (before ++ e ∷ []) k c right.1 client)
+recorded_from : (decl : Declaration) (before k : List Entry) (c : Commit) → Every (IsFirst decl) k → EachAfter (IsRightAfter (single decl)) before k → c.tx.client ≡ 0 → In c (written (single decl) k) → status (single decl) (before ++ k) c.tx ≡ Committed c.stamp
+recorded_from decl before [] c first right client member = absurd member
+recorded_from decl before (e ∷ k) c first right client member = by (commit_by (single decl) e) refl member (recorded_from decl (before ++ e ∷ []) k c first.1 right.1 client)
   where
-    on : status one ((before ++ e ∷ []) ++ k) c.tx ≡ Committed c.stamp → status one (before ++ e ∷ k) c.tx ≡ Committed c.stamp
-    on is = ap (λ (v : List Entry). status one v c.tx) (sym (append_assoc before (e ∷ []) k)) ∙ is
+    on : status (single decl) ((before ++ e ∷ []) ++ k) c.tx ≡ Committed c.stamp → status (single decl) (before ++ e ∷ k) c.tx ≡ Committed c.stamp
+    on is = ap (λ (v : List Entry). status (single decl) v c.tx) (sym (append_assoc before (e ∷ []) k)) ∙ is
 
-    here : commit_by one e ≡ Some c → status one (before ++ e ∷ k) c.tx ≡ Committed c.stamp
+    here : commit_by (single decl) e ≡ Some c → status (single decl) (before ++ e ∷ k) c.tx ≡ Committed c.stamp
     here is =
-        let now : status one (before ++ e ∷ []) c.tx ≡ Committed c.stamp = written_here before e c is client in
-        on (ended_keeps one c.tx (before ++ e ∷ []) k right.1 (subst HasEnded (sym now) tt) ∙ now)
+        let now : status (single decl) (before ++ e ∷ []) c.tx ≡ Committed c.stamp = written_here decl before e c first.0 is client in
+        on (ended_keeps (single decl) c.tx (before ++ e ∷ []) k right.1 (subst HasEnded (sym now) tt) ∙ now)
 
-    by : (o : Option Commit) → commit_by one e ≡ o → In c (cons_option o (written one k)) → (In c (written one k) → status one ((before ++ e ∷ []) ++ k) c.tx ≡ Committed c.stamp)
-        → status one (before ++ e ∷ k) c.tx ≡ Committed c.stamp
+    by : (o : Option Commit) → commit_by (single decl) e ≡ o → In c (cons_option o (written (single decl) k)) → (In c (written (single decl) k) → status (single decl) ((before ++ e ∷ []) ++ k) c.tx ≡ Committed c.stamp)
+        → status (single decl) (before ++ e ∷ k) c.tx ≡ Committed c.stamp
     by None is m rest = on (rest m)
     by (Some d) is (inl same) rest = here (is ∙ ap (λ (v : Commit). Some v) (sym same))
     by (Some d) is (inr m) rest = on (rest m)
 
-pub records_are_statuses : (script : Script) (h : List Entry) → IsRun one script h → (c : Commit) → In c (committed one h) → status one h c.tx ≡ Committed c.stamp
-records_are_statuses script h run c member =
-    let st : StandAt h (standing script h run.0 run.1).site (standing script h run.0 run.1).client = (standing script h run.0 run.1).stand in
-    let listed : In c (written one h) = subst (λ (cs : List Commit). In c cs) st.fair.sorted member in
-    recorded_from [] h c (transactions_are_right one script h run) (st.fair.client c listed) listed
+pub single_records : (decl : Declaration) → Fits decl → (script : Script) → NoOthers decl script → (h : List Entry) → IsRun (single decl) script h → (c : Commit) → In c (committed (single decl) h)
+    → status (single decl) h c.tx ≡ Committed c.stamp
+single_records decl fits script none h run c member =
+    let s : Standing decl h run.0 = standing decl fits script none h run.0 run.1 in
+    let st : StandAt decl h s.site s.client = s.stand in
+    let listed : In c (written (single decl) h) = subst (λ (cs : List Commit). In c cs) st.fair.sorted member in
+    recorded_from decl [] h c s.clients (transactions_are_right (single decl) script h run) (st.fair.client c listed) listed
+
+pub records_are_statuses : (decl : Declaration) (script : Script) (h : List Entry) → IsAccepted decl → decl.sites ≡ 1 → AsksOnly (client_actor decl 0) script → IsRun decl script h
+    → (c : Commit) → In c (committed decl h) → status decl h c.tx ≡ Committed c.stamp
+records_are_statuses decl script h accepted sites asks run =
+    subst (λ (d : Declaration). IsRun d script h → (c : Commit) → In c (committed d h) → status d h c.tx ≡ Committed c.stamp) (same_single decl sites)
+    (single_records decl (accepted_fits decl accepted) script (first_alone decl script sites asks) h) run

@@ -1,127 +1,270 @@
--- The built-in register: what its table and plan give, computed.
-use Rattle.std.proofs.Common.{◌≡◌, ℕ, zero, suc, ◌==◌, Bool, true, false, cond, Option, Some, None, ◌⊎◌, inl, inr, refl, sym, ap, subst, ◌∙◌, arith}
-use Rattle.std.specs.Prelude.{nat_lt, option_and_then}
-use Rattle.std.proofs.lemmas.Bool.{ne_eqb}
-use Rattle.qc_decl.specs.Lookup.{append_need_of, read_need_of}
-use Rattle.qc_decl.specs.One.{one, register_rows}
-use Rattle.qc_front.specs.State.{first_epoch}
-use Rattle.qc_front.specs.View.{resp_of}
-use Rattle.qc_table.specs.Rules.{event, event_number, events_of}
-use Rattle.qc_table.specs.Run.{first_of, lower, lowest_in, next_in, step_of}
-use Rattle.qc_table.proofs.Lowest.{none_legal}
-use Rattle.qc_table.proofs.Numbered.{first_some}
+-- The built-in register's relation is exact, and so the built-in declaration is accepted.
+use Rattle.std.proofs.Common.{◌≡◌, ◌<◌, ◌≤◌, ℕ, zero, suc, ◌+◌, ◌==◌, Bool, true, false, cond, List, [], ◌∷◌, length, Option, Some, None, ◌⊎◌, inl, inr, refl, sym, ap, subst, ◌∙◌, arith, slice_get}
+use Rattle.std.specs.Prelude.{IsSome, IsTrue, is_some, option_and_then, option_map}
+use Rattle.qc_cert.specs.Views.{IsClosed, IsExact, inv_of, picked}
+use Rattle.qc_decl.specs.Accepted.{IsAccepted, IsGood, IsRight}
+use Rattle.qc_decl.specs.One.{one, one_plan, register, register_kind, register_rows}
+use Rattle.qc_plan.specs.declared.plan.Plan.{Plan}
+use Rattle.qc_plan.specs.Admitted.{IsAdmitted}
+use Rattle.qc_plan.specs.Need.{need_of}
+use Rattle.qc_table.specs.declared.kind.Kind.{Kind}
+use Rattle.qc_table.specs.declared.row.Row.{Row}
+use Rattle.qc_table.specs.Depends.{depends}
+use Rattle.qc_table.specs.Rules.{event, events_of}
+use Rattle.qc_table.specs.Run.{next_in, reached, step_of}
+use Rattle.qc_table.specs.Sound.{IsSound}
+use Rattle.qc_core.proofs.ObjectTypes.{inv_within}
 
 -- the register's states
-abbrev pub IsBit : ℕ → Type 0
+abbrev IsBit : ℕ → Type 0
 IsBit s = (s ≡ 0) ⊎ (s ≡ 1)
 
 -- what holds of both states holds of a state
-pub at_bit : (P : ℕ → Type 0) (s : ℕ) → IsBit s → P 0 → P 1 → P s
+at_bit : (P : ℕ → Type 0) (s : ℕ) → IsBit s → P 0 → P 1 → P s
 at_bit P s (inl is) low high = subst P (sym is) low
 at_bit P s (inr is) low high = subst P (sym is) high
 
-abbrev pub stepped : ℕ → ℕ → Option ℕ
+abbrev stepped : ℕ → ℕ → Option ℕ
 stepped = step_of register_rows
 
--- whether an event needs weight to append
-abbrev pub appended : ℕ → Bool
-appended e = nat_lt 0 (append_need_of one first_epoch 0 e)
+-- R depends on an event
+abbrev is_write : ℕ → Bool
+is_write e = depends register_kind.relation 0 e
 
--- an event of an invocation, from a state, that the register takes on to the next one
-pub record IsNext (state inv e next : ℕ) : Type 0 where
-  pub legal : next_in register_rows state (event inv (resp_of one 0 e)) ≡ Some next
-  pub stepped : stepped state e ≡ Some next
-  pub numbered : event_number (events_of register_rows) (event inv (resp_of one 0 e)) ≡ Some e
-  pub bit : IsBit next
+-- a legal event reads the state, or writes one
+record Reads (s e : ℕ) : Type 0 where
+  pub inv : inv_of register_kind e ≡ 0
+  pub stays : stepped s e ≡ Some s
 
--- R answers the state, and keeps it
+record Writes (e : ℕ) : Type 0 where
+  pub value : ℕ
+  pub bit : IsBit value
+  pub sets : (s : ℕ) → IsBit s → stepped s e ≡ Some value
+  pub write : is_write e ≡ true
 
-pub read_first : (s : ℕ) → IsBit s → first_of register_rows s 0 ≡ Some s
-read_first s bit = at_bit (λ v. first_of register_rows v 0 ≡ Some v) s bit refl refl
+event_is : (s e : ℕ) → IsBit s → IsSome (stepped s e) → Reads s e ⊎ Writes e
+event_is s zero bit legal =
+    at_bit (λ v. IsSome (stepped v 0) → Reads v 0 ⊎ Writes 0) s bit (λ l. inl (record { inv = refl; stays = refl })) (λ l. absurd (let never : ⊥ = cc in never)) legal
+event_is s (suc zero) bit legal =
+    at_bit (λ v. IsSome (stepped v 1) → Reads v 1 ⊎ Writes 1) s bit (λ l. absurd (let never : ⊥ = cc in never)) (λ l. inl (record { inv = refl; stays = refl })) legal
+event_is s (suc (suc zero)) bit legal = inr (record { value = 0; bit = inl refl; sets = λ v b. at_bit (λ x. stepped x 2 ≡ Some 0) v b refl refl; write = refl })
+event_is s (suc (suc (suc zero))) bit legal = inr (record { value = 1; bit = inr refl; sets = λ v b. at_bit (λ x. stepped x 3 ≡ Some 1) v b refl refl; write = refl })
+event_is s (suc (suc (suc (suc e)))) bit legal = absurd (let never : ⊥ = cc in never)
 
-pub read_next : (s : ℕ) → IsBit s → IsNext s 0 s s
-read_next s bit =
-    at_bit (λ v. IsNext v 0 v v) s bit
-    (record { legal = refl; stepped = refl; numbered = refl; bit = inl refl })
-    (record { legal = refl; stepped = refl; numbered = refl; bit = inr refl })
+-- where the states are apart, no R is read any more
+abbrev IsLinked : List ℕ → (ℕ → Bool) → ℕ → ℕ → Type 0
+IsLinked history set view log = (view ≡ log) ⊎ ((p e : ℕ) → slice_get history p ≡ Some e → set p ≡ true → inv_of register_kind e ≡ 0 → ⊥)
 
-pub read_free : (s : ℕ) → IsBit s → appended s ≡ false
-read_free s bit = at_bit (λ v. appended v ≡ false) s bit refl refl
+-- the view has each write
+abbrev HasWrites : List ℕ → (ℕ → Bool) → Type 0
+HasWrites history set = (q f : ℕ) → slice_get history q ≡ Some f → is_write f ≡ true → set q ≡ true
 
--- W0 and W1 answer ok in each state, and set it
+-- where view and history lead from these states
+record Led (history : List ℕ) (set : ℕ → Bool) (view log : ℕ) : Type 0 where
+  pub seen : ℕ
+  pub state : ℕ
+  pub seen_bit : IsBit seen
+  pub state_bit : IsBit state
+  pub sees : reached stepped (Some view) (picked set history) ≡ Some seen
+  pub leads : reached stepped (Some log) history ≡ Some state
+  pub alike : view ≡ log → HasWrites history set → seen ≡ state
 
-pub write_first : (s : ℕ) → IsBit s → (first_of register_rows s 1 ≡ Some 2) × (first_of register_rows s 2 ≡ Some 3)
-write_first s bit = at_bit (λ v. (first_of register_rows v 1 ≡ Some 2) × (first_of register_rows v 2 ≡ Some 3)) s bit (refl, refl) (refl, refl)
+abbrev rest_of : (ℕ → Bool) → ℕ → Bool
+rest_of set p = set (suc p)
 
-pub write_next : (s : ℕ) → IsBit s → IsNext s 1 2 0 × IsNext s 2 3 1
-write_next s bit =
-    at_bit (λ v. IsNext v 1 2 0 × IsNext v 2 3 1) s bit
-    (record { legal = refl; stepped = refl; numbered = refl; bit = inl refl }, record { legal = refl; stepped = refl; numbered = refl; bit = inr refl })
-    (record { legal = refl; stepped = refl; numbered = refl; bit = inl refl }, record { legal = refl; stepped = refl; numbered = refl; bit = inr refl })
+closed_rest : (e : ℕ) (es : List ℕ) (set : ℕ → Bool) → IsClosed register_kind (e ∷ es) set → IsClosed register_kind es (rest_of set)
+closed_rest e es set closed = λ p q x f at there less kept on. closed (suc p) (suc q) x f at there (omega arith) kept on
 
--- the events that need weight are those of W0 and W1
-pub appended_steps : (e s : ℕ) → IsBit s → appended e ≡ true → (next : ℕ) × (stepped s e ≡ Some next) × IsBit next
-appended_steps zero s bit is = absurd (let never : ⊥ = cc in never)
-appended_steps (suc zero) s bit is = absurd (let never : ⊥ = cc in never)
-appended_steps (suc (suc zero)) s bit is = (0, (write_next s bit).0.stepped, inl refl)
-appended_steps (suc (suc (suc zero))) s bit is = (1, (write_next s bit).1.stepped, inr refl)
-appended_steps (suc (suc (suc (suc e)))) s bit is = absurd (let never : ⊥ = cc in never)
+some_step : (s e : ℕ) (es : List ℕ) → IsSome (reached stepped (stepped s e) es) → IsSome (stepped s e)
+some_step s e es legal = by (stepped s e) refl legal
+  where
+    none : (xs : List ℕ) → IsSome (reached stepped None xs) → ⊥
+    none [] is = let never : ⊥ = cc in never
+    none (x ∷ xs) is = none xs is
 
--- only R on the register needs weight to read
-pub read_alone : (object inv : ℕ) → nat_lt 0 (read_need_of one first_epoch object inv) ≡ true → (object ≡ 0) × (inv ≡ 0)
-read_alone zero zero is = (refl, refl)
-read_alone zero (suc zero) is = absurd (let never : ⊥ = cc in never)
-read_alone zero (suc (suc zero)) is = absurd (let never : ⊥ = cc in never)
-read_alone zero (suc (suc (suc inv))) is = absurd (let never : ⊥ = cc in never)
-read_alone (suc object) inv is = absurd (let never : ⊥ = cc in never)
+    by : (o : Option ℕ) → stepped s e ≡ o → IsSome (reached stepped o es) → IsSome (stepped s e)
+    by None is l = absurd (none es l)
+    by (Some next) is l = ap is_some is
 
--- the states allow the same invocations
+led : (history : List ℕ) (set : ℕ → Bool) (view log : ℕ) → IsBit view → IsBit log → IsSome (reached stepped (Some log) history) → IsClosed register_kind history set → IsLinked history set view log
+    → Led history set view log
+led [] set view log view_bit log_bit legal closed linked =
+    record { seen = view; state = log; seen_bit = view_bit; state_bit = log_bit; sees = refl; leads = refl; alike = λ same all. same }
+led (e ∷ es) set view log view_bit log_bit legal closed linked =
+    by (event_is log e log_bit (some_step log e es legal)) (set 0) refl (λ v l v_bit l_bit legal_rest linked_rest. led es (rest_of set) v l v_bit l_bit legal_rest (closed_rest e es set closed) linked_rest)
+  where
+    legal_on : (next : ℕ) → stepped log e ≡ Some next → IsSome (reached stepped (Some next) es)
+    legal_on next is = subst (λ (o : Option ℕ). IsSome (reached stepped o es)) is legal
 
--- the lowest of three responses, by whether each one's invocation is asked
-abbrev low : ℕ → ℕ → ℕ → Bool → Bool → Bool → Option ℕ
-low a b c first second third =
-    let one_of : Option ℕ = cond first (Some a) None in
-    let two_of : Option ℕ = cond second (lower one_of b) one_of in
-    cond third (lower two_of c) two_of
+    kept : (t : Bool) → set 0 ≡ t → (v l : ℕ) → cond t (stepped view e) (Some view) ≡ Some v → stepped log e ≡ Some l → (view ≡ log → HasWrites (e ∷ es) set → v ≡ l) → Led es (rest_of set) v l → Led (e ∷ es) set view log
+    kept true is v l view_on log_on same d = record {
+      seen = d.seen;
+      state = d.state;
+      seen_bit = d.seen_bit;
+      state_bit = d.state_bit;
+      sees = ap (λ (t : Bool). reached stepped (Some view) (cond t (e ∷ picked (rest_of set) es) (picked (rest_of set) es))) is ∙ ap (λ (o : Option ℕ). reached stepped o (picked (rest_of set) es)) view_on ∙ d.sees;
+      leads = ap (λ (o : Option ℕ). reached stepped o es) log_on ∙ d.leads;
+      alike = λ start all. d.alike (same start all) (λ q f there write. all (suc q) f there write);
+    }
+    kept false is v l view_on log_on same d = record {
+      seen = d.seen;
+      state = d.state;
+      seen_bit = d.seen_bit;
+      state_bit = d.state_bit;
+      sees = ap (λ (t : Bool). reached stepped (Some view) (cond t (e ∷ picked (rest_of set) es) (picked (rest_of set) es))) is ∙ ap (λ (o : Option ℕ). reached stepped o (picked (rest_of set) es)) view_on ∙ d.sees;
+      leads = ap (λ (o : Option ℕ). reached stepped o es) log_on ∙ d.leads;
+      alike = λ start all. d.alike (same start all) (λ q f there write. all (suc q) f there write);
+    }
 
-none_asked : (a b c a' b' c' : ℕ) (first second third : Bool) → low a b c first second third ≡ None → low a' b' c' first second third ≡ None
-none_asked a b c a' b' c' false false false none = refl
-none_asked a b c a' b' c' true false false none = absurd (let never : ⊥ = cc in never)
-none_asked a b c a' b' c' false true false none = absurd (let never : ⊥ = cc in never)
-none_asked a b c a' b' c' true true false none = absurd (let never : ⊥ = cc in never)
-none_asked a b c a' b' c' false false true none = absurd (let never : ⊥ = cc in never)
-none_asked a b c a' b' c' true false true none = absurd (let never : ⊥ = cc in never)
-none_asked a b c a' b' c' false true true none = absurd (let never : ⊥ = cc in never)
-none_asked a b c a' b' c' true true true none = absurd (let never : ⊥ = cc in never)
+    linked_on : IsLinked (e ∷ es) set view log → IsLinked es (rest_of set) view log
+    linked_on (inl same) = inl same
+    linked_on (inr none) = inr (λ p x at there inv. none (suc p) x at there inv)
 
--- in state 0 rows 0, 2 and 4 count, and in state 1 rows 1, 3 and 5
-lowest_same : (s t inv : ℕ) → IsBit s → IsBit t → lowest_in register_rows s inv ≡ None → lowest_in register_rows t inv ≡ None
-lowest_same s t inv bit bit' none =
-    at_bit (λ v. lowest_in register_rows v inv ≡ None) t bit'
-    (at_bit (λ v. lowest_in register_rows v inv ≡ None → lowest_in register_rows 0 inv ≡ None) s bit (λ e. e) (none_asked 1 2 2 0 2 2 (0 == inv) (1 == inv) (2 == inv)) none)
-    (at_bit (λ v. lowest_in register_rows v inv ≡ None → lowest_in register_rows 1 inv ≡ None) s bit (none_asked 0 2 2 1 2 2 (0 == inv) (1 == inv) (2 == inv)) (λ e. e) none)
+    read_same : IsLinked (e ∷ es) set view log → set 0 ≡ true → Reads log e → view ≡ log
+    read_same (inl same) is r = same
+    read_same (inr none) is r = absurd (none 0 e refl is r.inv)
 
-first_by : (s inv : ℕ) (lowest : Option ℕ) → lowest_in register_rows s inv ≡ lowest → first_of register_rows s inv ≡ None → lowest_in register_rows s inv ≡ None
-first_by s inv None is none = is
-first_by s inv (Some resp) is none =
-    absurd (first_some register_rows s inv resp is (ap (λ (o : Option ℕ). option_and_then (λ (r : ℕ). event_number (events_of register_rows) (event inv r)) o) (sym is) ∙ none))
+    by : Reads log e ⊎ Writes e → (t : Bool) → set 0 ≡ t
+        → ((v l : ℕ) → IsBit v → IsBit l → IsSome (reached stepped (Some l) es) → IsLinked es (rest_of set) v l → Led es (rest_of set) v l) → Led (e ∷ es) set view log
+    by (inl r) true is rest =
+        let same : view ≡ log = read_same linked is r in
+        kept true is view log (subst (λ (v : ℕ). stepped v e ≡ Some v) (sym same) r.stays) r.stays (λ start all. same) (rest view log view_bit log_bit (legal_on log r.stays) (inl same))
+    by (inl r) false is rest = kept false is view log refl r.stays (λ start all. start) (rest view log view_bit log_bit (legal_on log r.stays) (linked_on linked))
+    by (inr w) true is rest =
+        kept true is w.value w.value (w.sets view view_bit) (w.sets log log_bit) (λ start all. refl) (rest w.value w.value w.bit w.bit (legal_on w.value (w.sets log log_bit)) (inl refl))
+    by (inr w) false is rest =
+        kept false is view w.value refl (w.sets log log_bit)
+        (λ start all. absurd (let yes : set 0 ≡ true = all 0 e refl w.write in let never : ⊥ = cc in never))
+        (rest view w.value view_bit w.bit (legal_on w.value (w.sets log log_bit))
+        (inr
+        (λ p x at there inv.
+        let yes : set 0 ≡ true = closed (suc p) 0 x e at refl (omega arith) there (subst (λ (i : ℕ). IsTrue (depends register_kind.relation i e)) (sym inv) w.write) in
+        let never : ⊥ = cc in never)))
 
--- where one state has no response for an invocation, no response is legal for it in any
-pub none_anywhere : (s t inv : ℕ) → IsBit s → IsBit t → first_of register_rows s inv ≡ None → (resp : ℕ) → next_in register_rows t (event inv resp) ≡ None
-none_anywhere s t inv bit bit' none =
-    none_legal register_rows t inv (lowest_same s t inv bit bit' (first_by s inv (lowest_in register_rows s inv) refl none))
+-- W0 and W1 are legal with one response in each state, and no other invocation is legal
 
-past : (a b c k : ℕ) → low a b c (0 == suc (suc (suc k))) (1 == suc (suc (suc k))) (2 == suc (suc (suc k))) ≡ None
-past a b c k =
-    let first : (0 == suc (suc (suc k))) ≡ false = ne_eqb 0 (suc (suc (suc k))) (λ e. omega arith) in
-    let second : (1 == suc (suc (suc k))) ≡ false = ne_eqb 1 (suc (suc (suc k))) (λ e. omega arith) in
-    let third : (2 == suc (suc (suc k))) ≡ false = ne_eqb 2 (suc (suc (suc k))) (λ e. omega arith) in
-    ap (λ (t : Bool). low a b c t (1 == suc (suc (suc k))) (2 == suc (suc (suc k)))) first
-    ∙ ap (λ (t : Bool). low a b c false t (2 == suc (suc (suc k)))) second
-    ∙ ap (λ (t : Bool). low a b c false false t) third
+sound : IsSound register
+sound = record {
+  has_state = omega arith;
+  has_inv = omega arith;
+  has_resp = omega arith;
+  states = omega arith;
+  invs = omega arith;
+  resps = omega arith;
+  begins = omega arith;
+  faultless = refl;
+}
 
--- there are no other invocations
-pub first_past : (s k : ℕ) → IsBit s → first_of register_rows s (suc (suc (suc k))) ≡ None
-first_past s k bit =
-    ap (λ (o : Option ℕ). option_and_then (λ (r : ℕ). event_number (events_of register_rows) (event (suc (suc (suc k))) r)) o)
-    (at_bit (λ v. lowest_in register_rows v (suc (suc (suc k))) ≡ None) s bit (past 0 2 2 k) (past 1 2 2 k))
+either : (a b : Row) (t : Bool) → is_some (option_map (λ (r : Row). r.next) (cond t (Some a) None)) ≡ is_some (option_map (λ (r : Row). r.next) (cond t (Some b) None))
+either a b true = refl
+either a b false = refl
+
+abbrev Same : ℕ → ℕ → ℕ → ℕ → Type 0
+Same inv resp a b = is_some (next_in register_rows a (event inv resp)) ≡ is_some (next_in register_rows b (event inv resp))
+
+beyond : (s k resp : ℕ) → next_in register_rows s (event (suc (suc (suc k))) resp) ≡ None
+beyond s k resp = by (next_in register_rows s (event (suc (suc (suc k))) resp)) refl
+  where
+    by : (o : Option ℕ) → next_in register_rows s (event (suc (suc (suc k))) resp) ≡ o → o ≡ None
+    by None is = refl
+    by (Some next) is = absurd (let within : suc (suc (suc k)) < 3 = inv_within register s (suc (suc (suc k))) resp sound (ap is_some is) in omega arith)
+
+writes_same : (inv resp a b : ℕ) → IsBit a → IsBit b → Same (suc inv) resp a b
+writes_same zero resp a b first second =
+    at_bit (λ x. Same 1 resp x b) a first (at_bit (λ y. Same 1 resp 0 y) b second refl (either _ _ (2 == resp))) (at_bit (λ y. Same 1 resp 1 y) b second (either _ _ (2 == resp)) refl)
+writes_same (suc zero) resp a b first second =
+    at_bit (λ x. Same 2 resp x b) a first (at_bit (λ y. Same 2 resp 0 y) b second refl (either _ _ (2 == resp))) (at_bit (λ y. Same 2 resp 1 y) b second (either _ _ (2 == resp)) refl)
+writes_same (suc (suc k)) resp a b first second = ap is_some (beyond a k resp) ∙ sym (ap is_some (beyond b k resp))
+
+-- each view of each legal history is faithful
+pub register_exact : IsExact register_kind
+register_exact history inv set legal view = record {
+  legal = ap is_some d.sees;
+  same = λ resp.
+      ap (λ (o : Option ℕ). is_some (option_and_then (λ (s : ℕ). next_in register_rows s (event inv resp)) o)) d.sees
+      ∙ by inv resp (λ i. d.alike refl (λ q f there write. view.complete q f there (subst (λ (v : ℕ). IsTrue (depends register_kind.relation v f)) (sym i) write)))
+      ∙ sym (ap (λ (o : Option ℕ). is_some (option_and_then (λ (s : ℕ). next_in register_rows s (event inv resp)) o)) d.leads);
+}
+  where
+    d : Led history set 0 0
+    d = led history set 0 0 (inl refl) (inl refl) legal view.closed (inl refl)
+
+    by : (i resp : ℕ) → (i ≡ 0 → d.seen ≡ d.state) → Same i resp d.seen d.state
+    by zero resp same = ap (λ (s : ℕ). is_some (next_in register_rows s (event 0 resp))) (same refl)
+    by (suc i) resp same = writes_same i resp d.seen d.state d.seen_bit d.state_bit
+
+-- the plan
+
+read_light : (object inv : ℕ) → need_of one_plan.initial object inv ≤ 1
+read_light zero zero = omega arith
+read_light zero (suc zero) = omega arith
+read_light zero (suc (suc zero)) = omega arith
+read_light zero (suc (suc (suc inv))) = omega arith
+read_light (suc object) inv = omega arith
+
+append_light : (object e : ℕ) → need_of one_plan.last object e ≤ 1
+append_light zero zero = omega arith
+append_light zero (suc zero) = omega arith
+append_light zero (suc (suc zero)) = omega arith
+append_light zero (suc (suc (suc zero))) = omega arith
+append_light zero (suc (suc (suc (suc e)))) = omega arith
+append_light (suc object) e = omega arith
+
+abbrev Meets : ℕ → ℕ → Type 0
+Meets inv e = IsTrue (depends register_kind.relation inv e) → 1 < need_of one_plan.initial 0 inv + need_of one_plan.last 0 e
+
+meets : (inv e : ℕ) → inv < 3 → e < 4 → Meets inv e
+meets zero zero l m = λ on. absurd (let never : ⊥ = cc in never)
+meets zero (suc zero) l m = λ on. absurd (let never : ⊥ = cc in never)
+meets zero (suc (suc zero)) l m = λ on. omega arith
+meets zero (suc (suc (suc zero))) l m = λ on. omega arith
+meets zero (suc (suc (suc (suc e)))) l m = absurd (omega arith)
+meets (suc zero) zero l m = λ on. absurd (let never : ⊥ = cc in never)
+meets (suc zero) (suc zero) l m = λ on. absurd (let never : ⊥ = cc in never)
+meets (suc zero) (suc (suc zero)) l m = λ on. absurd (let never : ⊥ = cc in never)
+meets (suc zero) (suc (suc (suc zero))) l m = λ on. absurd (let never : ⊥ = cc in never)
+meets (suc zero) (suc (suc (suc (suc e)))) l m = absurd (omega arith)
+meets (suc (suc zero)) zero l m = λ on. absurd (let never : ⊥ = cc in never)
+meets (suc (suc zero)) (suc zero) l m = λ on. absurd (let never : ⊥ = cc in never)
+meets (suc (suc zero)) (suc (suc zero)) l m = λ on. absurd (let never : ⊥ = cc in never)
+meets (suc (suc zero)) (suc (suc (suc zero))) l m = λ on. absurd (let never : ⊥ = cc in never)
+meets (suc (suc zero)) (suc (suc (suc (suc e)))) l m = absurd (omega arith)
+meets (suc (suc (suc inv))) e l m = absurd (omega arith)
+
+meets_of : (object number : ℕ) (kind : Kind) (inv e : ℕ) → slice_get one.objects object ≡ Some number → slice_get one.kinds number ≡ Some kind
+    → inv < kind.table.invs → e < length (events_of kind.table.rows) → IsTrue (depends kind.relation inv e) → 1 < need_of one_plan.initial object inv + need_of one_plan.last object e
+meets_of (suc object) number kind inv e of is within numbered on = absurd (let never : ⊥ = cc in never)
+meets_of zero (suc number) kind inv e of is within numbered on = absurd (let never : ⊥ = cc in never)
+meets_of zero zero kind inv e of is within numbered on =
+    let same : register_kind ≡ kind = cc in
+    meets inv e (subst (λ (k : Kind). inv < k.table.invs) (sym same) within) (subst (λ (k : Kind). e < length (events_of k.table.rows)) (sym same) numbered)
+    (subst (λ (k : Kind). IsTrue (depends k.relation inv e)) (sym same) on)
+
+admitted : IsAdmitted one_plan one.kinds one.objects
+admitted = record { weighs = omega arith; initial_light = read_light; last_light = append_light; meets = meets_of }
+
+-- the built-in declaration
+
+typed : (object number : ℕ) → slice_get one.objects object ≡ Some number → number < 1
+typed zero number is = let same : 0 ≡ number = cc in omega arith
+typed (suc object) number is = absurd (let never : ⊥ = cc in never)
+
+right : (number : ℕ) (kind : Kind) → slice_get one.kinds number ≡ Some kind → IsRight kind
+right zero kind is = let same : register_kind ≡ kind = cc in subst IsRight same (record { sound = sound; exact = register_exact })
+right (suc number) kind is = absurd (let never : ⊥ = cc in never)
+
+good : (place : ℕ) (plan : Plan) → slice_get one.plans place ≡ Some plan → IsGood one plan
+good zero plan is = let same : one_plan ≡ plan = cc in subst (IsGood one) same (record { weights = refl; admitted = admitted })
+good (suc place) plan is = absurd (let never : ⊥ = cc in never)
+
+pub one_accepted : IsAccepted one
+one_accepted = record {
+  has_site = omega arith;
+  sites = omega arith;
+  has_client = omega arith;
+  clients = omega arith;
+  has_epoch = omega arith;
+  typed = typed;
+  right = right;
+  good = good;
+}

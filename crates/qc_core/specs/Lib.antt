@@ -13,3 +13,4 @@ pub mod Atomic
 pub mod Logged
 pub mod Status
 pub mod Due
+pub mod Asked

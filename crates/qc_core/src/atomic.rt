@@ -3,6 +3,7 @@
 
 ghost use Rattle.std.specs.List.{AllByRecursion as Every};
 ghost use Rattle.std.specs.Prelude.{List, [], ◌≡◌};
+ghost use Rattle.qc_core.specs.Asked.{AsksOnly};
 ghost use Rattle.qc_core.specs.Atomic.{Atomic};
 ghost use Rattle.qc_core.specs.Bounds.{site_at};
 ghost use Rattle.qc_core.specs.Committed.{AreRising, In, committed, written};
@@ -11,7 +12,8 @@ ghost use Rattle.qc_core.specs.Kept.{Kept};
 ghost use Rattle.qc_core.specs.Logged.{IsLogged};
 ghost use Rattle.qc_core.specs.Order.{EachAfter};
 ghost use Rattle.qc_core.specs.Status.{Committed, HasEnded, IsRight, IsRightAfter, Status, status, status_at};
-ghost use Rattle.qc_decl.specs.One.{one};
+ghost use Rattle.qc_decl.specs.Accepted.{IsAccepted};
+ghost use Rattle.qc_decl.specs.Actors.{client_actor};
 ghost use Rattle.qc_decl.specs.declared.declaration.Declaration.{Declaration};
 ghost use Rattle.qc_entry.specs.declared.record.Commit.{Commit};
 ghost use Rattle.qc_msg.specs.Steps.{Entry};
@@ -19,25 +21,29 @@ ghost use Rattle.qc_msg.specs.declared.step.Step.{Step};
 ghost use Rattle.qc_script.specs.declared.script.Script.{Script};
 ghost use Rattle.qc_stamp.specs.declared.stamp.TxId.{TxId};
 
-/// In every run of the built-in declaration, whatever the script, where no
-/// record is lost: each committed transaction stands once, at a stamp of its
-/// own; in the order of the stamps their operations are those of one copy of
-/// each object, with just the replies that their clients got; each comes after
-/// all that its client had seen; and the clients know which committed.
+/// In every run of an accepted declaration with one site, where the script asks
+/// the first client alone and no record is lost: each committed transaction
+/// stands once, at a stamp of its own; in the order of the stamps their
+/// operations are those of one copy of each object, with just the replies that
+/// their clients got; each comes after all that its client had seen; and the
+/// clients know which committed.
 pub fn runs_are_atomic()
-    ensures { (script : Script) (h : List Entry) → IsRun one script h → Kept h → Atomic one h }
+    ensures { (decl : Declaration) (script : Script) (h : List Entry) → IsAccepted decl → decl.sites ≡ 1 → AsksOnly (client_actor decl 0) script
+        → IsRun decl script h → Kept h → Atomic decl h }
 {}
 
-/// In every run a client's commit records have rising stamps, in the order in
-/// which it wrote them.
+/// In every such run the commit records have rising stamps, in the order in
+/// which they were written.
 pub fn commit_stamps_rise()
-    ensures { (script : Script) (h : List Entry) → IsRun one script h → AreRising (written one h) }
+    ensures { (decl : Declaration) (script : Script) (h : List Entry) → IsAccepted decl → decl.sites ≡ 1 → AsksOnly (client_actor decl 0) script
+        → IsRun decl script h → AreRising (written decl h) }
 {}
 
-/// In every run each line of the site's log is an operation of a committed
+/// In every such run each line of the site's log is an operation of a committed
 /// transaction, with its stamp.
 pub fn logs_have_committed_operations()
-    ensures { (script : Script) (h : List Entry) → IsRun one script h → Every (IsLogged one (committed one h)) (site_at 0 h).site.log }
+    ensures { (decl : Declaration) (script : Script) (h : List Entry) → IsAccepted decl → decl.sites ≡ 1 → AsksOnly (client_actor decl 0) script
+        → IsRun decl script h → Every (IsLogged decl (committed decl h)) (site_at 0 h).site.log }
 {}
 
 /// In every run, of every declaration, a transaction begins only while it is
@@ -49,10 +55,13 @@ pub fn transactions_move_on()
     ensures last { (tx : TxId) (s : Status) (step : Step) → HasEnded s → IsRight tx s step → status_at tx s step ≡ s }
 {}
 
-/// In every run a transaction with a commit record is committed, with the
-/// record's stamp, for ever. So no transaction that was given up has one.
+/// In every run of an accepted declaration with one site, where the script asks
+/// the first client alone, a transaction with a commit record is committed,
+/// with the record's stamp, for ever. So no transaction that was given up has
+/// one.
 pub fn records_are_the_verdicts()
-    ensures { (script : Script) (h : List Entry) → IsRun one script h → (c : Commit) → In c (committed one h) → status one h c.tx ≡ Committed c.stamp }
+    ensures { (decl : Declaration) (script : Script) (h : List Entry) → IsAccepted decl → decl.sites ≡ 1 → AsksOnly (client_actor decl 0) script
+        → IsRun decl script h → (c : Commit) → In c (committed decl h) → status decl h c.tx ≡ Committed c.stamp }
 {}
 
 /// In every history each actor's records are kept: none of the steps that are
