@@ -39,6 +39,7 @@ pub record Agrees (decl : Declaration) (client : ℕ) (d : Account) (itself coun
 pub record IsRunning (d : Account) (awaits : Option ℕ) (object inv : ℕ) : Type 0 where
   pub asked : d.asked ≡ Some (commands.Do object inv)
   pub request : d.request ≡ awaits
+  pub apt : d.apt ≡ true
   pub vote : d.vote ≡ None
   pub room : length d.ops < most_operations
 
@@ -53,8 +54,8 @@ pub record IsPromising (site : ℕ) (d : Account) (awaits : Option ℕ) : Type 0
 -- the event that runs was the view's answer, and the weight to read it is met
 pub record IsAnswering (decl : Declaration) (d : Account) (b : Begun) (object inv e : ℕ) : Type 0 where
   pub answer : answer_of decl b object inv ≡ Some e
-  pub granted : rounds (read_need_of decl first_epoch object inv) ≤ d.grants
-  pub appends : d.reading ≡ false
+  pub read : rounds (read_need_of decl first_epoch object inv) ≤ d.reads
+  pub appending : d.reading ≡ false
 
 -- the running request is the account's
 abbrev pub Serves : Declaration → ℕ → Account → Option Begun → Round → Option ℕ → Type 0

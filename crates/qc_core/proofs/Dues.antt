@@ -1,7 +1,7 @@
 -- A client's moves tell replies that are due.
-use Rattle.std.proofs.Common.{◌≡◌, ◌<◌, ◌≤◌, ℕ, ◌+◌, ◌==◌, Bool, true, false, cond, List, [], ◌∷◌, ◌++◌, Option, Some, None, ◌⊎◌, inl, inr, refl, sym, ap, subst, ◌∙◌, arith}
+use Rattle.std.proofs.Common.{◌≡◌, ◌<◌, ◌≤◌, ℕ, ◌+◌, ◌==◌, Bool, true, false, cond, not, ◌&&◌, List, [], ◌∷◌, ◌++◌, Option, Some, None, ◌⊎◌, inl, inr, refl, sym, ap, subst, ◌∙◌, arith}
 use Rattle.std.specs.Prelude.{nat_le, nat_lt, length, max}
-use Rattle.std.proofs.lemmas.Bool.{eqb-true, leb-true}
+use Rattle.std.proofs.lemmas.Bool.{eq-eqb, eqb-true, leb-true}
 use Rattle.std.specs.Option.{option_map_or}
 use Rattle.qc_entry.specs.declared.line.Line.{Line}
 use Rattle.qc_entry.specs.declared.line.Op.{Op}
@@ -30,8 +30,10 @@ use Rattle.qc_msg.specs.declared.step.Reply.TheVariants as replies
 use Rattle.qc_msg.specs.declared.step.Why.TheVariants.{Forgot}
 use Rattle.qc_core.specs.Logged.{event_at}
 use Rattle.qc_core.proofs.Views.{Owns, answer_first, answer_none, answer_numbered, owns-absent, owns-event}
-use Rattle.qc_core.specs.Deals.{operation}
-use Rattle.qc_core.specs.Due.{Account, Calls, IsCommitted, IsDue, IsPromise, NeedsBegun, Takes, Tells, Writes, account_at, rounds}
+use Rattle.qc_core.specs.Deals.{is_begun, operation}
+use Rattle.qc_site.proofs.Entries.{same_self}
+use Rattle.qc_stamp.specs.declared.stamp.TxId.{TxId}
+use Rattle.qc_core.specs.Due.{Account, Calls, IsCommitted, IsDue, IsPromise, NeedsBegun, Takes, Tells, Writes, account_at, is_on, is_to_execute, rounds}
 use Rattle.qc_core.proofs.Accounts.{Agrees, IsPromising, Matches, Serves, Telling, both_by, tells_by}
 
 module _ (decl : Declaration) (client : ℕ) where
@@ -74,7 +76,17 @@ module _ (decl : Declaration) (client : ℕ) where
     pub vote : d.vote ≡ None
     pub room : length d.ops < most_operations
 
-  absent_tells : (d : Account) (f : Front) (b : Begun) (object inv : ℕ) → Of d f (Some b) → Executes d object inv → answer_of decl b object inv ≡ None → rounds (read_need_of decl first_epoch object inv) ≤ d.grants
+  least : (n : ℕ) → 0 ≤ n
+  least n = omega arith
+
+  both_true : (s t : Bool) → s ≡ true → t ≡ true → (s && t) ≡ true
+  both_true s t first second = ap (λ (u : Bool). u && t) first ∙ second
+
+  -- the begun transaction is the account's
+  names_it : (d : Account) (f : Front) (b : Begun) → Of d f (Some b) → is_begun b.tx d.begun ≡ true
+  names_it d f b k = subst (λ (o : Option TxId). is_begun b.tx o ≡ true) (sym k.begun_is) (same_self b.tx)
+
+  absent_tells : (d : Account) (f : Front) (b : Begun) (object inv : ℕ) → Of d f (Some b) → Executes d object inv → answer_of decl b object inv ≡ None → rounds (read_need_of decl first_epoch object inv) ≤ d.reads
       → Telling decl client d (absent f b object inv)
   absent_tells d f b object inv k e none met_read = record {
     due = λ n.
@@ -84,7 +96,8 @@ module _ (decl : Declaration) (client : ℕ) where
           asked = e.asked;
           begun = (b.tx, k.begun_is);
           room = e.room;
-          granted = no_more (rounds (read_need_of decl first_epoch object inv)) d.grants met_read;
+          read = met_read;
+          appended = least d.appends;
           first = answer_none decl d b object inv k.view_is k.owns none;
         };
     matches = λ n.
@@ -103,13 +116,10 @@ module _ (decl : Declaration) (client : ℕ) where
           serves = (e.request, e.vote);
         };
   }
-    where
-      no_more : (m n : ℕ) → m ≤ n → m + 0 ≤ n
-      no_more m n le = omega arith
 
   responded_tells : (d : Account) (f : Front) (b : Begun) (object inv event : ℕ) → Of d f (Some b) → Executes d object inv → answer_of decl b object inv ≡ Some event
-      → rounds (read_need_of decl first_epoch object inv) + rounds (append_need_of decl first_epoch object event) ≤ d.grants → Telling decl client d (responded decl f b object inv event)
-  responded_tells d f b object inv event k e is met_both =
+      → rounds (read_need_of decl first_epoch object inv) ≤ d.reads → rounds (append_need_of decl first_epoch object event) ≤ d.appends → Telling decl client d (responded decl f b object inv event)
+  responded_tells d f b object inv event k e is met_read met_append =
       let numbered : event_at decl object inv (resp_of decl object event) ≡ Some event = answer_numbered decl b object inv event is in
       record {
         due = λ n.
@@ -119,8 +129,8 @@ module _ (decl : Declaration) (client : ℕ) where
               asked = e.asked;
               begun = (b.tx, k.begun_is);
               room = e.room;
-              granted =
-                  subst (λ (o : Option ℕ). rounds (read_need_of decl first_epoch object inv) + option_map_or (λ (v : ℕ). rounds (append_need_of decl first_epoch object v)) o 0 ≤ d.grants) (sym numbered) met_both;
+              read = met_read;
+              appended = subst (λ (o : Option ℕ). option_map_or (λ (v : ℕ). rounds (append_need_of decl first_epoch object v)) o 0 ≤ d.appends) (sym numbered) met_append;
               first = answer_first decl d b object inv event k.view_is k.owns is;
             };
         matches = λ n.
@@ -142,14 +152,17 @@ module _ (decl : Declaration) (client : ℕ) where
             };
       }
 
-  appends_tells : (d : Account) (f : Front) (b : Begun) (object inv event : ℕ) → Of d f (Some b) → Executes d object inv → answer_of decl b object inv ≡ Some event → rounds (read_need_of decl first_epoch object inv) ≤ d.grants
+  appends_tells : (d : Account) (f : Front) (b : Begun) (object inv event : ℕ) → Of d f (Some b) → Executes d object inv → answer_of decl b object inv ≡ Some event → rounds (read_need_of decl first_epoch object inv) ≤ d.reads
       → Telling decl client d (appends decl f b object inv event)
   appends_tells d f b object inv event k e is met_read = record {
     due = λ n. tt;
     matches = λ n.
         record {
           agrees = record { client_is = k.client_is; count_is = k.count_is; clock_is = k.clock_is; begun_is = k.begun_is; ops_are = k.ops_are; life_is = k.life_is; view_is = k.view_is; owns = k.owns };
-          serves = (record { asked = e.asked; request = refl; vote = e.vote; room = e.room }, record { answer = is; granted = met_read; appends = refl });
+          serves = (
+            record { asked = e.asked; request = refl; apt = both_true _ _ (names_it d f b k) (subst (λ (c : Option Command). is_on c object ≡ true) (sym e.asked) (eq-eqb object object refl)); vote = e.vote; room = e.room },
+            record { answer = is; read = met_read; appending = refl },
+          );
         };
   }
 
@@ -159,7 +172,8 @@ module _ (decl : Declaration) (client : ℕ) where
     matches = λ n.
         record {
           agrees = record { client_is = k.client_is; count_is = k.count_is; clock_is = k.clock_is; begun_is = k.begun_is; ops_are = k.ops_are; life_is = k.life_is; view_is = k.view_is; owns = k.owns };
-          serves = (record { asked = e.asked; request = refl; vote = e.vote; room = e.room }, refl);
+          serves =
+              (record { asked = e.asked; request = refl; apt = both_true _ _ (names_it d f b k) (subst (λ (c : Option Command). is_to_execute c object inv ≡ true) (sym e.asked) (both_true _ _ (eq-eqb object object refl) (eq-eqb inv inv refl))); vote = e.vote; room = e.room }, refl);
         };
   }
 
@@ -176,17 +190,14 @@ module _ (decl : Declaration) (client : ℕ) where
   no_grant weight is = ap (λ (t : Bool). cond t 1 0) is
 
   answered_tells : (d : Account) (f : Front) (b : Begun) (object inv : ℕ) (event : Option ℕ) → Of d f (Some b) → Executes d object inv → answer_of decl b object inv ≡ event
-      → rounds (read_need_of decl first_epoch object inv) ≤ d.grants → Telling decl client d (answered_by decl f b object inv event)
+      → rounds (read_need_of decl first_epoch object inv) ≤ d.reads → Telling decl client d (answered_by decl f b object inv event)
   answered_tells d f b object inv None k e is met_read = absent_tells d f b object inv k e is met_read
   answered_tells d f b object inv (Some event) k e is met_read =
       tells_by decl client d (nat_lt 0 (append_need_of decl first_epoch object event)) (appends decl f b object inv event) (responded decl f b object inv event)
       (λ need. appends_tells d f b object inv event k e is met_read)
       (λ none.
-      responded_tells d f b object inv event k e is
-      (subst (λ (v : ℕ). rounds (read_need_of decl first_epoch object inv) + v ≤ d.grants) (sym (no_grant (append_need_of decl first_epoch object event) none)) (no_more _ _ met_read)))
-    where
-      no_more : (m n : ℕ) → m ≤ n → m + 0 ≤ n
-      no_more m n le = omega arith
+      responded_tells d f b object inv event k e is met_read
+      (subst (λ (v : ℕ). v ≤ d.appends) (sym (no_grant (append_need_of decl first_epoch object event) none)) (least d.appends)))
 
   performs_tells : (d : Account) (f : Front) (b : Option Begun) (object inv : ℕ) → f.begun ≡ b → d.asked ≡ Some (commands.Do object inv) → Of d f b → IsIdle d → f.round ≡ Idle
       → Telling decl client d (performs decl f b object inv)
@@ -215,13 +226,10 @@ module _ (decl : Declaration) (client : ℕ) where
       tells_by decl client d (nat_lt 0 (read_need_of decl first_epoch object inv)) (reads decl f b object inv) (answered decl f b object inv)
       (λ need. reads_tells d f b object inv k e)
       (λ none.
-      answered_tells d f b object inv (answer_of decl b object inv) k e refl (subst (λ (v : ℕ). v ≤ d.grants) (sym (no_grant (read_need_of decl first_epoch object inv) none)) (least d.grants))))
+      answered_tells d f b object inv (answer_of decl b object inv) k e refl (subst (λ (v : ℕ). v ≤ d.reads) (sym (no_grant (read_need_of decl first_epoch object inv) none)) (least d.reads))))
     where
       has_room : (n : ℕ) → nat_le most_operations n ≡ false → n < most_operations
       has_room n free = grind (arith)
-
-      least : (n : ℕ) → 0 ≤ n
-      least n = omega arith
 
   -- it commits
   decides_tells : (d : Account) (f : Front) (b : Begun) → d.asked ≡ Some commands.Commit → Of d f (Some b) → d.request ≡ None → d.vote ≡ None → (d.life ≡ 0) ⊎ IsPromise d.answer
@@ -273,7 +281,7 @@ module _ (decl : Declaration) (client : ℕ) where
         matches = λ n.
             record {
               agrees = record { client_is = k.client_is; count_is = k.count_is; clock_is = k.clock_is; begun_is = k.begun_is; ops_are = k.ops_are; life_is = k.life_is; view_is = k.view_is; owns = k.owns };
-              serves = record { asked = asked; request = idle.request; vote = refl; voter = refl; unwritten = idle.unwritten };
+              serves = record { asked = asked; request = idle.request; vote = ap (λ (t : Bool). cond t (Some n) None) (names_it d f b k); voter = refl; unwritten = idle.unwritten };
             };
       })
 
@@ -331,7 +339,8 @@ module _ (decl : Declaration) (client : ℕ) where
       counted : Account
       counted = record d {
         request = None;
-        grants = d.grants + 1;
+        reads = cond (d.reading && d.apt) (d.reads + 1) d.reads;
+        appends = cond (not d.reading && d.apt) (d.appends + 1) d.appends;
         answer = Some (Granted to life clock log);
         clock = max d.clock clock;
         life = cond (d.life == 0) life d.life;
@@ -361,17 +370,27 @@ module _ (decl : Declaration) (client : ℕ) where
         owns = k.owns;
       }
 
-      meets_one : (weight : ℕ) → rounds weight ≤ d.grants + 1
-      meets_one weight = let le : rounds weight ≤ 1 = one_grant weight in one_more (rounds weight) d.grants le
+      -- it meets a weight to read, or to append
+
+      meets : (weight n : ℕ) → rounds weight ≤ n + 1
+      meets weight n = let le : rounds weight ≤ 1 = one_grant weight in one_more (rounds weight) n le
         where
           one_more : (m n : ℕ) → m ≤ 1 → m ≤ n + 1
           one_more m n le = omega arith
 
-      meets_both : (weight other : ℕ) → rounds weight ≤ d.grants → rounds weight + rounds other ≤ d.grants + 1
-      meets_both weight other le = sums (rounds weight) (rounds other) d.grants le (one_grant other)
-        where
-          sums : (m n k : ℕ) → m ≤ k → n ≤ 1 → m + n ≤ k + 1
-          sums m n k le le' = omega arith
+      meets_read : (weight : ℕ) → d.reading ≡ true → d.apt ≡ true → rounds weight ≤ counted.reads
+      meets_read weight reading apt =
+          subst (λ (t : Bool). rounds weight ≤ cond (t && d.apt) (d.reads + 1) d.reads) (sym reading)
+          (subst (λ (t : Bool). rounds weight ≤ cond t (d.reads + 1) d.reads) (sym apt) (meets weight d.reads))
+
+      meets_append : (weight : ℕ) → d.reading ≡ false → d.apt ≡ true → rounds weight ≤ counted.appends
+      meets_append weight appending apt =
+          subst (λ (t : Bool). rounds weight ≤ cond (not t && d.apt) (d.appends + 1) d.appends) (sym appending)
+          (subst (λ (t : Bool). rounds weight ≤ cond t (d.appends + 1) d.appends) (sym apt) (meets weight d.appends))
+
+      -- a grant to append leaves what was read
+      stays_read : (weight : ℕ) → d.reading ≡ false → rounds weight ≤ d.reads → rounds weight ≤ counted.reads
+      stays_read weight appending le = subst (λ (t : Bool). rounds weight ≤ cond (t && d.apt) (d.reads + 1) d.reads) (sym appending) le
 
       by : (b : Option Begun) (r : Round) → Of d f b → Serves decl (first_site decl f.client) d b r awaits
           → Telling decl client (cond (is_awaited d.request to) counted d) (cond (is_awaited awaits to) (granted decl f b r life clock log) (moved f quiet))
@@ -385,12 +404,12 @@ module _ (decl : Declaration) (client : ℕ) where
           both _ serves.0.request
           (answered_tells counted (passed f clock) (joined b life log) object inv (answer_of decl (joined b life log) object inv)
           (of b (union b.view log) (ap (λ (t : Bool). cond t (union d.view log) d.view) serves.1 ∙ ap (λ (v : List Line). union v log) k.view_is) k)
-          (record { asked = serves.0.asked; request = refl; vote = serves.0.vote; room = serves.0.room }) refl (meets_one (read_need_of decl first_epoch object inv)))
+          (record { asked = serves.0.asked; request = refl; vote = serves.0.vote; room = serves.0.room }) refl (meets_read (read_need_of decl first_epoch object inv) serves.1 serves.0.apt))
       by (Some b) (Appending object inv e) k serves =
           both _ serves.0.request
-          (responded_tells counted (passed f clock) (met b life) object inv e (of b b.view (ap (λ (t : Bool). cond t (union d.view log) d.view) serves.1.appends ∙ k.view_is) k)
+          (responded_tells counted (passed f clock) (met b life) object inv e (of b b.view (ap (λ (t : Bool). cond t (union d.view log) d.view) serves.1.appending ∙ k.view_is) k)
           (record { asked = serves.0.asked; request = refl; vote = serves.0.vote; room = serves.0.room }) serves.1.answer
-          (meets_both (read_need_of decl first_epoch object inv) (append_need_of decl first_epoch object e) serves.1.granted))
+          (stays_read (read_need_of decl first_epoch object inv) serves.1.appending serves.1.read) (meets_append (append_need_of decl first_epoch object e) serves.1.appending serves.0.apt))
 
   -- an answer to a request to promise
   voted_tells : (d voted : Account) (f : Front) (to : ℕ) (b : Option Begun) (r : Round) (awaits : Option ℕ) (x : FrontMove) → Matches decl client d f → Serves decl (first_site decl f.client) d b r awaits

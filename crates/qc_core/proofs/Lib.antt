@@ -35,6 +35,7 @@ pub mod Statuses
 pub mod StatusLaw
 pub mod Recorded
 pub mod KeptLaw
+pub mod SpentLaw
 pub mod Happenings
 pub mod Views
 pub mod Accounts

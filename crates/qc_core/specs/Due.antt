@@ -1,5 +1,5 @@
 -- Each reply that a client tells is due: what happened at the client before it shows what a reply of its kind says.
-use Rattle.std.specs.Prelude.{◌≡◌, ◌⊎◌, ℕ, ◌+◌, ◌-◌, ◌==◌, ◌<◌, ◌≤◌, if◌then◌else◌, List, [], ◌∷◌, ◌++◌, Bool, true, false, Option, Some, None, cond, fold, length, map, max, nat_lt, option_and_then, option_to_list, slice_get}
+use Rattle.std.specs.Prelude.{◌≡◌, ◌⊎◌, ℕ, ◌+◌, ◌-◌, ◌==◌, ◌<◌, ◌≤◌, ◌&&◌, not, if◌then◌else◌, List, [], ◌∷◌, ◌++◌, Bool, true, false, Option, Some, None, cond, fold, length, map, max, nat_lt, option_and_then, option_to_list, slice_get}
 use Rattle.std.specs.List.{filter_map}
 use Rattle.std.specs.Option.{option_map_or}
 use Rattle.qc_stamp.specs.declared.stamp.Stamp.{Stamp}
@@ -30,7 +30,7 @@ use Rattle.qc_table.specs.Rules.{Rules}
 use Rattle.qc_table.specs.Run.{after, lowest_in, step_of}
 use Rattle.qc_core.specs.Logged.{event_at}
 use Rattle.qc_core.specs.Committed.{committed}
-use Rattle.qc_core.specs.Deals.{operation}
+use Rattle.qc_core.specs.Deals.{is_begun, operation}
 use Rattle.qc_core.specs.OneCopy.{Walks, operations, start_at}
 use Rattle.qc_core.specs.Order.{EachAfter}
 
@@ -76,19 +76,33 @@ pub record Account : Type 0 where
   pub life : ℕ
   -- the greatest clock of the answers that counted and of its own stamps
   pub clock : ℕ
-  -- its request to read or append that isn't answered, and whether that is to read
+  -- its request to read or append that isn't answered, whether that is to read, and whether it is for the begun transaction and the
+  -- invocation that it was asked
   pub request : Option ℕ
   pub reading : Bool
-  -- its request to promise that isn't answered, and the site that it asked last
+  pub apt : Bool
+  -- its request to promise the begun transaction that isn't answered, and the site that it asked last
   pub vote : Option ℕ
   pub voter : ℕ
-  -- since its last command: how many grants counted, which answer counted last, and the commit record that it wrote
-  pub grants : ℕ
+  -- since its last command: how many grants counted that read for it, and that append for it; which answer counted last; and the commit
+  -- record that it wrote
+  pub reads : ℕ
+  pub appends : ℕ
   pub answer : Option Message
   pub wrote : Option Commit
 
 abbrev pub no_account : Account
-no_account = record { asked = None; count = 0; begun = None; ops = []; view = []; life = 0; clock = 0; request = None; reading = false; vote = None; voter = 0; grants = 0; answer = None; wrote = None }
+no_account = record { asked = None; count = 0; begun = None; ops = []; view = []; life = 0; clock = 0; request = None; reading = false; apt = false; vote = None; voter = 0; reads = 0; appends = 0; answer = None; wrote = None }
+
+-- the command is to execute this invocation of an object; it is on this object
+
+abbrev pub is_to_execute : Option Command → ℕ → ℕ → Bool
+is_to_execute (Some (commands.Do object inv)) o i = (object == o) && (inv == i)
+is_to_execute _ o i = false
+
+abbrev pub is_on : Option Command → ℕ → Bool
+is_on (Some (commands.Do object inv)) o = object == o
+is_on _ o = false
 
 -- a grant answers a request to read or append, a vote one to promise; the first answer counts
 abbrev pub account_taken : Account → Message → Account
@@ -96,7 +110,8 @@ account_taken d (Granted to life clock log) =
     if is_awaited d.request to
     then record d {
       request = None;
-      grants = d.grants + 1;
+      reads = if d.reading && d.apt then d.reads + 1 else d.reads;
+      appends = if not d.reading && d.apt then d.appends + 1 else d.appends;
       answer = Some (Granted to life clock log);
       clock = max d.clock clock;
       life = if d.life == 0 then life else d.life;
@@ -108,9 +123,9 @@ account_taken d (Stale to) = if is_awaited d.vote to then record d { vote = None
 account_taken d _ = d
 
 abbrev pub account_sent : Account → ℕ → ℕ → Message → Account
-account_sent d n to (Read tx epoch life object inv) = record d { request = Some n; reading = true }
-account_sent d n to (Append tx epoch life object view own) = record d { request = Some n; reading = false }
-account_sent d n to (Prepare tx epoch life) = record d { vote = Some n; voter = to }
+account_sent d n to (Read tx epoch life object inv) = record d { request = Some n; reading = true; apt = is_begun tx d.begun && is_to_execute d.asked object inv }
+account_sent d n to (Append tx epoch life object view own) = record d { request = Some n; reading = false; apt = is_begun tx d.begun && is_on d.asked object }
+account_sent d n to (Prepare tx epoch life) = record d { vote = if is_begun tx d.begun then Some n else None; voter = to }
 account_sent d n to _ = d
 
 abbrev pub account_wrote : Account → Record → Account
@@ -132,7 +147,7 @@ account_told d _ = d
 
 -- one happening more
 abbrev pub account_at : Account → Happening → Account
-account_at d (Calls command) = record d { asked = Some command; grants = 0; answer = None; wrote = None }
+account_at d (Calls command) = record d { asked = Some command; reads = 0; appends = 0; answer = None; wrote = None }
 account_at d (Takes message) = account_taken d message
 account_at d (Writes written) = account_wrote d written
 account_at d (Sends n to message) = account_sent d n to message
@@ -198,7 +213,8 @@ pub record IsExecuted (decl : Declaration) (d : Account) (resp : Option ℕ) : T
   pub begun : HasBegun d
   pub room : length d.ops < most_operations
   -- the weights to read and to append are met
-  pub granted : rounds (read_need_of decl first_epoch object inv) + append_rounds decl object inv resp ≤ d.grants
+  pub read : rounds (read_need_of decl first_epoch object inv) ≤ d.reads
+  pub appended : append_rounds decl object inv resp ≤ d.appends
   -- the view has this response first, or none
   pub first : response decl d object inv ≡ resp
 

@@ -9,6 +9,7 @@ pub mod Acts
 pub mod Deals
 pub mod Seen
 pub mod Kept
+pub mod Spent
 pub mod Atomic
 pub mod Logged
 pub mod Status

@@ -2,7 +2,7 @@
 //! a function with nothing to do.
 
 ghost use Rattle.std.specs.List.{AllByRecursion as Every};
-ghost use Rattle.std.specs.Prelude.{List, [], ◌≡◌};
+ghost use Rattle.std.specs.Prelude.{List, [], ◌≡◌, ℕ};
 ghost use Rattle.qc_core.specs.Asked.{AsksOnly};
 ghost use Rattle.qc_core.specs.Atomic.{Atomic};
 ghost use Rattle.qc_core.specs.Bounds.{site_at};
@@ -11,6 +11,7 @@ ghost use Rattle.qc_core.specs.Conduct.{IsRun};
 ghost use Rattle.qc_core.specs.Kept.{Kept};
 ghost use Rattle.qc_core.specs.Logged.{IsLogged};
 ghost use Rattle.qc_core.specs.Order.{EachAfter};
+ghost use Rattle.qc_core.specs.Spent.{Spent};
 ghost use Rattle.qc_core.specs.Status.{Committed, HasEnded, IsRight, IsRightAfter, Status, status, status_at};
 ghost use Rattle.qc_decl.specs.Accepted.{IsAccepted};
 ghost use Rattle.qc_decl.specs.Actors.{client_actor};
@@ -68,4 +69,11 @@ pub fn records_are_the_verdicts()
 /// built can lose one.
 pub fn histories_are_kept()
     ensures { (h : List Entry) → Kept h }
+{}
+
+/// In every history the falls by disks that no fault was armed for are among
+/// the faults that disks counted, however many: none of the steps that are
+/// built is a fall.
+pub fn falls_are_spent()
+    ensures { (h : List Entry) (n : ℕ) → Spent h n }
 {}

@@ -14,7 +14,7 @@ mod laws;
 mod whole;
 
 pub use atomic::{
-    commit_stamps_rise, histories_are_kept, logs_have_committed_operations,
+    commit_stamps_rise, falls_are_spent, histories_are_kept, logs_have_committed_operations,
     records_are_the_verdicts, runs_are_atomic, transactions_move_on,
 };
 pub use due::{replies_are_due, replies_are_legal};

@@ -70,3 +70,17 @@ below-last [] last y ascending at test = tt
 below-last (x ∷ xs) last y ascending at test =
     let place : length (x ∷ xs) - 1 ≡ length xs = omega arith in
     below_last (x ∷ xs) (length xs) last y ascending refl (sym (rw place at at)) (less_is (line_cmp last y) test)
+
+-- what holds of every line holds of the one at a place
+every-at : (P : Line → Type 0) (xs : List Line) (n : ℕ) (x : Line) → Every P xs → slice_get xs n ≡ Some x → P x
+every-at P [] n x every at = absurd (let never : ⊥ = cc in never)
+every-at P (y ∷ ys) zero x every at =
+    let same : x ≡ y = cc in
+    subst P (sym same) every.0
+every-at P (y ∷ ys) (suc n) x every at = every-at P ys n x every.1 at
+
+-- where each line is below a line, the last one is
+pub last-below : (xs : List Line) (last y : Line) → Some last ≡ slice_get xs (length xs - 1) → Every (λ x. line_cmp x y ≡ Less) xs → IsTrue (is_lt (line_cmp last y))
+last-below xs last y at every =
+    let less : line_cmp last y ≡ Less = every-at (λ x. line_cmp x y ≡ Less) xs (length xs - 1) last every (sym at) in
+    rw less refl

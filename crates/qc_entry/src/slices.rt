@@ -1,6 +1,6 @@
 //! Work on slices of lines, each linear in their lengths.
 
-ghost use Rattle.std.specs.Prelude.{◌≡◌, ℕ, IfOk, IsTrue};
+ghost use Rattle.std.specs.Prelude.{◌≡◌, ◌↔◌, ℕ, IfOk, IsTrue};
 ghost use Rattle.std.specs.List.{AllByRecursion};
 ghost use Rattle.std.specs.declared.cmp.Ordering.TheVariants.{Less};
 ghost use Rattle.qc_entry.specs.Line.{line_cmp, IsAscending};
@@ -94,7 +94,7 @@ pub(crate) fn of_one(alloc: Global, lines: &[Line], object: u8) -> Result<Vec<Li
 /// Whether each of the sorted lines comes before another line.
 pub(crate) fn all_before(lines: &[Line], line: &Line) -> bool
     requires { IsAscending lines.now }
-    ensures { IsTrue result → AllByRecursion (λ l. line_cmp l line.now ≡ Less) lines.now }
+    ensures { IsTrue result ↔ AllByRecursion (λ l. line_cmp l line.now ≡ Less) lines.now }
 {
     match lines.last() {
         None => true,

@@ -23,12 +23,13 @@ op_of object inv resp = record { object = object; inv = inv; resp = resp }
 abbrev pub with_op : Begun → Op → Begun
 with_op begun op = record begun { ops = begun.ops ++ op ∷ [] }
 
--- the transaction with one more operation that has an event: its own line is kept too
+-- the transaction with one more operation, whose event is given: its own line is kept too
+abbrev pub with_line : Begun → Op → ℕ → Begun
+with_line begun op event = record begun { ops = begun.ops ++ op ∷ []; own = begun.own ++ next_own begun op.object event ∷ [] }
+
+-- the transaction with one more operation, of an invocation and the response of an event
 abbrev pub with_event : Declaration → Begun → ℕ → ℕ → ℕ → Begun
-with_event decl begun object inv event = record begun {
-  ops = begun.ops ++ op_of object inv (Some (resp_of decl object event)) ∷ [];
-  own = begun.own ++ next_own begun object event ∷ [];
-}
+with_event decl begun object inv event = with_line begun (op_of object inv (Some (resp_of decl object event))) event
 
 -- no response is legal: the operation is recorded without one, and told
 abbrev pub absent : Front → Begun → ℕ → ℕ → FrontMove

@@ -4,7 +4,7 @@
 ghost use Rattle.std.specs.Prelude.{◌≡◌, ◌<◌, Some, IfOk, OnErr, length};
 ghost use Rattle.qc_front.specs.Fits.{FrontFits};
 ghost use Rattle.qc_front.specs.Moves.{moved};
-ghost use Rattle.qc_front.specs.Operation.{op_of, with_op, with_event, absent, responded, appends, answered, reads, executes, performs, met, joined, granted};
+ghost use Rattle.qc_front.specs.Operation.{op_of, with_op, with_line, absent, responded, appends, answered, reads, executes, performs, met, joined, granted};
 ghost use Rattle.qc_front.specs.State.{most_operations, passed};
 
 use crate::begun::Begun;
@@ -32,25 +32,15 @@ impl Begun {
         Ok(self)
     }
 
-    /// The same transaction with one more operation that has this event, and
+    /// The same transaction with one more operation, whose event this is, and
     /// its own line.
-    fn with_event(
-        mut self,
-        decl: &Declaration,
-        object: u8,
-        inv: u8,
-        event: u8,
-    ) -> Result<Begun, OutOfMemory>
+    fn with_line(mut self, op: Op, event: u8) -> Result<Begun, OutOfMemory>
         requires { length self.ops < most_operations }
-        ensures { IfOk result (λ b. b ≡ with_event decl.now self object inv event) }
+        ensures { IfOk result (λ b. b ≡ with_line self op event) }
     {
-        let line = self.next_own(object, event);
+        let line = self.next_own(op.object, event);
         self.own.push(line)?;
-        self.ops.push(Op {
-            object,
-            inv,
-            resp: Some(response(decl, object, event)),
-        })?;
+        self.ops.push(op)?;
         Ok(self)
     }
 
@@ -219,8 +209,13 @@ impl Front {
         ensures ok { IfOk result (λ turn. responded decl.now (record self.old { clock = clock }) begun object inv event ≡ moved self.new turn) }
         ensures err { OnErr result (self.new ≡ self.old) }
     {
-        let begun = begun.with_event(decl, object, inv, event)?;
         let resp = response(decl, object, event);
+        let op = Op {
+            object,
+            inv,
+            resp: Some(resp),
+        };
+        let begun = begun.with_line(op, event)?;
         self.turn_to(clock, Some(begun), Round::Idle);
         Ok(telling(alloc, Reply::Response { resp }))
     }

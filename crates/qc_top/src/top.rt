@@ -1,9 +1,10 @@
 //! The top call.
 
-ghost use Rattle.std.specs.Prelude.{◌≡◌, ◌≢◌, ◌≤◌, Some, None, List, [], length, true, Err};
+ghost use Rattle.std.specs.Prelude.{◌≡◌, ◌≢◌, ◌≤◌, ◌-◌, Some, None, List, [], length, true, Err};
 ghost use Rattle.qc_core.specs.Atomic.{Atomic};
 ghost use Rattle.qc_core.specs.Due.{AreLegal, Due};
 ghost use Rattle.qc_core.specs.Kept.{Kept};
+ghost use Rattle.qc_core.specs.Spent.{Spent};
 ghost use Rattle.qc_core.specs.Whole.{IsWhole};
 ghost use Rattle.qc_outside.specs.Causes.{Rose};
 ghost use Rattle.qc_report.specs.Causes.{status_of};
@@ -63,6 +64,7 @@ where
     ensures replies { Due one result.history }
     ensures legal { AreLegal one result.history }
     ensures kept { Kept result.history }
+    ensures spent { Spent result.history (R.faults _rack.new - R.faults _rack.old) }
     ensures atomic { Kept result.history → Atomic one result.history }
     ensures status { result.status ≡ status_of result.cause }
     ensures due { IsDue (F.files shelf.old) (texts_of words.now) result.cause }

@@ -5,6 +5,10 @@
 //! is told on standard error.
 #![tactic(auto)]
 
+ghost use Rattle.std.specs.Prelude.{◌≡◌};
+ghost use Rattle.std.specs.IoError.{error_kind};
+ghost use Rattle.quorum.specs.Words.{cause_of_kind};
+
 mod outside;
 
 use outside::{FileShelf, OutSink};
@@ -26,7 +30,9 @@ fn words_of_call<R: Env + AllocGlobal>(rt: &R) -> io::Result<Vec<String>> {
 }
 
 /// Why the words couldn't be taken: memory was wanting, or one isn't text.
-fn cause_of(error: &io::Error) -> Cause {
+fn cause_of(error: &io::Error) -> Cause
+    ensures { result ≡ cause_of_kind (error_kind error.now) }
+{
     match error.kind() {
         ErrorKind::OutOfMemory => Cause::OutOfMemory,
         _ => Cause::NotBuilt,

@@ -1,5 +1,6 @@
 use Rattle.std.proofs.Common.{◌≡◌, ◌∙◌, List, ℕ, None, Some, rules, subst}
 use Rattle.qc_core.proofs.KeptLaw.{histories_are_kept}
+use Rattle.qc_core.proofs.SpentLaw.{falls_are_spent}
 use Rattle.qc_top.proofs.Ends.{shelf_silent, words_caused, words_over, words_refused, words_taken}
 use Rattle.qc_top.proofs.Promised.{script_atomic, script_due, script_legal}
 use Rattle.qc_top.specs.Top.{IsDueOfScript, Leaves, RunsScript}
@@ -70,3 +71,12 @@ returns-in-Ok-clause-legal g c =
 
 pub returns-in-Err-clause-legal : goal.returns-in-Err-clause-legal
 returns-in-Err-clause-legal g c = script_legal None c.nothing-in-Err.result.history c.nothing-in-Err.ensures.history
+
+pub returns-in_default-clause-spent : goal.returns-in_default-clause-spent
+returns-in_default-clause-spent g c = falls_are_spent c.nothing.result.history _
+
+pub returns-in-Ok-clause-spent : goal.returns-in-Ok-clause-spent
+returns-in-Ok-clause-spent g c = falls_are_spent c.run_bytes.result.history _
+
+pub returns-in-Err-clause-spent : goal.returns-in-Err-clause-spent
+returns-in-Err-clause-spent g c = falls_are_spent c.nothing-in-Err.result.history _

@@ -9,7 +9,7 @@ use Rattle.qc_entry.proofs.log.Log.join.Goals as goal
 -- the log's end is below the lines that come, so they are appended
 appended : (c : goal.In_ok-extend_from_slice) → c.extend_from_slice.new.self.items ≡ union c.self.inside.lines.items c.args.lines.now
 appended c =
-    let low : Every (λ l. line_cmp l c.in-Some.first.now ≡ Less) c.as_slice.result.now = c.all_before.ensures c.if-all_before.true in
+    let low : Every (λ l. line_cmp l c.in-Some.first.now ≡ Less) c.as_slice.result.now = c.all_before.ensures.0 c.if-all_before.true in
     let low_lines = subst (Every (λ l. line_cmp l c.in-Some.first.now ≡ Less)) c.as_slice.ensures.value low in
     c.in_ok-extend_from_slice.ensures.items ∙ append-union _ _ _ c.in-Some.ensures.value low_lines
 
