@@ -5,6 +5,9 @@
 //! is told on standard error.
 #![tactic(auto)]
 
+ghost use Rattle.std.specs.IoError.{error_kind};
+ghost use Rattle.std.specs.Prelude.{◌≡◌, ◌≢◌};
+
 mod outside;
 
 use outside::{FileShelf, OutSink};
@@ -26,7 +29,10 @@ fn words_of_call<R: Env + AllocGlobal>(rt: &R) -> io::Result<Vec<String>> {
 }
 
 /// Why the words couldn't be taken: memory was wanting, or one isn't text.
-fn cause_of(error: &io::Error) -> Cause {
+fn cause_of(error: &io::Error) -> Cause
+    ensures memory { error_kind error.now ≡ ErrorKind.OutOfMemory → result ≡ Cause.OutOfMemory }
+    ensures other { error_kind error.now ≢ ErrorKind.OutOfMemory → result ≡ Cause.NotBuilt }
+{
     match error.kind() {
         ErrorKind::OutOfMemory => Cause::OutOfMemory,
         _ => Cause::NotBuilt,
