@@ -97,9 +97,9 @@ module _ (decl : Declaration) (ops : List Op) (rules : Rules) (object inv : ℕ)
       (λ o other. ap (λ (b : Bool). if b then next else copies o) other) in (
         λ some. (next, step_is resp ∙ is, (more _ _ after).0 some),
         λ goes. (more _ _ after).1 (
-          let same : goes.0 ≡ next = (let both : Some goes.0 ≡ Some next = sym goes.1 ∙ step_is resp ∙ is in cc) in
-          subst (λ (k : ℕ). Walks decl (updated copies object k) ops) same goes.2
-        ),
+            let same : goes.0 ≡ next = (let both : Some goes.0 ≡ Some next = sym goes.1 ∙ step_is resp ∙ is in cc) in
+            subst (λ (k : ℕ). Walks decl (updated copies object k) ops) same goes.2
+            ),
       )
 
   absent : (n : Option ℕ) → first_of rules.rows (copies object) inv ≡ n → Replays (kept (copies object) n) ↔ Goes decl copies object inv None (λ after. Walks decl after ops)
@@ -111,10 +111,10 @@ module _ (decl : Declaration) (ops : List Op) (rules : Rules) (object inv : ℕ)
   absent (Some number) is = (
     λ some. absurd (missing some),
     λ goes. absurd (
-      let l : IsLowest rules.rows (copies object) inv number = first_lowest rules.rows (copies object) inv number is in
-      let none : IsSome {T = ℕ} None = subst (λ (n : Option ℕ). IsSome n) (sym (step_is l.resp) ∙ goes.0 l.resp) l.legal in
-      let never : ⊥ = cc in never
-    ),
+        let l : IsLowest rules.rows (copies object) inv number = first_lowest rules.rows (copies object) inv number is in
+        let none : IsSome {T = ℕ} None = subst (λ (n : Option ℕ). IsSome n) (sym (step_is l.resp) ∙ goes.0 l.resp) l.legal in
+        let never : ⊥ = cc in never
+        ),
   )
 
   by_response : (resp : Option ℕ) → Replays (state_after rules (copies object) inv resp) ↔ Goes decl copies object inv resp (λ after. Walks decl after ops)
