@@ -17,7 +17,7 @@ use Rattle.qc_front.specs.Conduct.{called, heard}
 use Rattle.qc_front.specs.Ending.{aborts, begins, commit_of, commits, decides, forgotten, gives_up, next_stamp, prepares, promised}
 use Rattle.qc_front.specs.Moves.{FrontMove, moved, quiet}
 use Rattle.qc_front.specs.Operation.{absent, answered, answered_by, appends, executes, granted, joined, met, performs, reads, responded}
-use Rattle.qc_front.specs.State.{first_epoch, first_life, fresh, is_awaited, most_operations, next_tx, passed, turned}
+use Rattle.qc_front.specs.State.{first_epoch, fresh, is_awaited, most_operations, next_tx, passed, turned}
 use Rattle.qc_front.specs.View.{answer_of, next_own, resp_of}
 use Rattle.qc_msg.specs.declared.message.Message.{Message}
 use Rattle.qc_msg.specs.declared.message.Message.TheVariants.{Read, Append, Prepare, Granted, Stale, Yes, Decision}
@@ -28,6 +28,7 @@ use Rattle.qc_msg.specs.declared.step.Command.TheVariants as commands
 use Rattle.qc_msg.specs.declared.step.Reply.{Reply}
 use Rattle.qc_msg.specs.declared.step.Reply.TheVariants as replies
 use Rattle.qc_msg.specs.declared.step.Why.TheVariants.{Forgot}
+use Rattle.qc_msg.specs.Lives.{first_life}
 use Rattle.qc_core.specs.Logged.{event_at}
 use Rattle.qc_core.proofs.Views.{Owns, answer_first, answer_none, answer_numbered, owns-absent, owns-event}
 use Rattle.qc_core.specs.Deals.{is_begun, operation}

@@ -14,13 +14,14 @@ use Rattle.qc_front.specs.declared.round.Round.TheVariants.{Idle, Reading, Appen
 use Rattle.qc_front.specs.Conduct.{heard}
 use Rattle.qc_front.specs.Moves.{moved, quiet}
 use Rattle.qc_front.specs.Ending.{forgotten, promised}
-use Rattle.qc_front.specs.Operation.{granted, joined, met, with_event}
-use Rattle.qc_front.specs.State.{first_life}
+use Rattle.qc_front.specs.Operation.{granted, joined, met, responded, with_event}
+use Rattle.qc_front.specs.State.{passed}
 use Rattle.qc_front.specs.View.{next_own}
 use Rattle.qc_msg.specs.declared.message.Message.{Message}
 use Rattle.qc_msg.specs.declared.message.Message.TheVariants.{Granted, Stale, Yes}
 use Rattle.qc_msg.specs.declared.step.Reply.TheVariants.{Aborted}
 use Rattle.qc_msg.specs.declared.step.Why.TheVariants.{Forgot}
+use Rattle.qc_msg.specs.Lives.{first_life}
 use Rattle.qc_site.specs.Site.{SiteState}
 use Rattle.qc_core.specs.Acts.{Takes}
 use Rattle.qc_core.specs.Deals.{Dealing}

@@ -30,12 +30,12 @@ use Rattle.qc_msg.specs.declared.step.Turn.{Turn}
 use Rattle.qc_msg.specs.Mail.{Deed, WasSentTo, addressed, deed_of, deeds, envelopes, mail, sendings}
 use Rattle.qc_msg.specs.Steps.{Entry, by, marked, posted, sents, step_of, told, wrote}
 use Rattle.qc_msg.proofs.Growth.{by-posted, mail-append, mail-posted, mail-taken, deeds-append, deeds-by_same, deeds-other, deeds-taken, fold-wrote, fold-sents}
-use Rattle.qc_msg.proofs.Sent.{AllSent-drop, AllSent-delivered}
+use Rattle.qc_msg.proofs.Sent.{AllSent-delivered, AllSent-drop, AllTo-addressed, AllTo-both, AllTo-drop}
 use Rattle.qc_script.specs.declared.script.Script.{Script}
 use Rattle.qc_script.specs.Ready.{busy_at, busy_step, is_busy, phase_of, ready, waiting}
 use Rattle.qc_script.specs.Runs.{Runs, begins, takes, posts, phase}
 use Rattle.qc_site.specs.Conduct.{site_after}
-use Rattle.qc_script.proofs.Found.{AllTo-addressed, AllTo-both, AllTo-drop, Arrived, ready-called, ready-sent}
+use Rattle.qc_script.proofs.Found.{Arrived, ready-called, ready-sent}
 use Rattle.qc_script.proofs.Grows.{busy-posted, busy-step, busy_after, cond-same, waiting-posted, waiting-step}
 
 -- each entry, with those before it, over two parts of a history

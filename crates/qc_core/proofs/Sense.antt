@@ -15,7 +15,6 @@ use Rattle.qc_front.specs.declared.round.Round.{Round}
 use Rattle.qc_front.specs.declared.round.Round.TheVariants.{Idle, Reading, Appending, Voting}
 use Rattle.qc_front.specs.Conduct.{front_does}
 use Rattle.qc_front.specs.Moves.{FrontMove}
-use Rattle.qc_front.specs.State.{first_life}
 use Rattle.qc_front.specs.View.{next_own}
 use Rattle.qc_msg.specs.declared.message.Envelope.{Envelope}
 use Rattle.qc_msg.specs.declared.message.Message.{Message}
@@ -24,6 +23,7 @@ use Rattle.qc_msg.specs.declared.step.Command.TheVariants.{Do}
 use Rattle.qc_msg.specs.declared.step.Posting.{Posting}
 use Rattle.qc_msg.specs.declared.step.Record.{Record}
 use Rattle.qc_msg.specs.declared.step.Record.TheVariants as records
+use Rattle.qc_msg.specs.Lives.{first_life}
 use Rattle.qc_msg.specs.Mail.{addressed, envelopes, sendings}
 use Rattle.qc_site.specs.Conduct.{site_on}
 use Rattle.qc_site.specs.Site.{SiteState}

@@ -10,7 +10,7 @@ use Rattle.qc_entry.specs.Log.{of_object, union}
 use Rattle.qc_entry.specs.declared.record.Commit.{Commit}
 use Rattle.qc_decl.specs.Lookup.{append_need_of, read_need_of, table_at}
 use Rattle.qc_decl.specs.declared.declaration.Declaration.{Declaration}
-use Rattle.qc_front.specs.State.{first_epoch, first_life, is_awaited, most_operations}
+use Rattle.qc_front.specs.State.{first_epoch, is_awaited, most_operations}
 use Rattle.qc_msg.specs.declared.message.Envelope.{Envelope}
 use Rattle.qc_msg.specs.declared.message.Message.{Message}
 use Rattle.qc_msg.specs.declared.message.Message.TheVariants.{Read, Append, Prepare, Granted, Stale, Yes}
@@ -24,6 +24,7 @@ use Rattle.qc_msg.specs.declared.step.Step.{Step}
 use Rattle.qc_msg.specs.declared.step.Step.TheVariants.{Called, Got, Wrote, Sent, Told}
 use Rattle.qc_msg.specs.declared.step.Why.{Why}
 use Rattle.qc_msg.specs.declared.step.Why.TheVariants.{Forgot}
+use Rattle.qc_msg.specs.Lives.{first_life}
 use Rattle.qc_msg.specs.Mail.{envelope_of}
 use Rattle.qc_msg.specs.Steps.{Entry}
 use Rattle.qc_table.specs.Rules.{Rules}

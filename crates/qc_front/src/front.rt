@@ -13,12 +13,9 @@ use crate::round::Round;
 use crate::turns::{quiet, telling};
 use qc_decl::Declaration;
 use qc_list::OutOfMemory;
-use qc_msg::{Command, Input, Message, Reply, Turn};
+use qc_msg::{Command, FIRST_LIFE, Input, Message, Reply, Turn};
 use qc_stamp::{Clock, TxId};
 use std::alloc::Global;
-
-/// The life of an actor that has never fallen.
-pub const FIRST_LIFE: u32 = 1;
 
 /// The epoch that everything begins in.
 pub const FIRST_EPOCH: u8 = 1;

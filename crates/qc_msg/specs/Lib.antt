@@ -2,3 +2,4 @@ pub mod Steps
 pub mod Mail
 pub mod Counts
 pub mod Within
+pub mod Lives

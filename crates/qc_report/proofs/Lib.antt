@@ -6,3 +6,4 @@ pub mod Keys
 pub mod Missing
 pub mod Sections
 pub mod Along
+pub mod Copies

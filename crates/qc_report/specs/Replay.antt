@@ -1,7 +1,8 @@
 -- A replay of committed operations on one copy of each object, and the states that it ends in.
-use Rattle.std.specs.Prelude.{ℕ, List, [], ◌++◌, Option, Some, None, codes, fold, map, flat_map, length, slice_get, slice_set, option_map, option_and_then}
-use Rattle.std.specs.List.{range_with_len}
+use Rattle.std.specs.Prelude.{ℕ, List, [], ◌++◌, Option, Some, None, IsSome, codes, fold, map, flat_map, length, slice_get, slice_set, option_map, option_and_then}
+use Rattle.std.specs.List.{AllByRecursion as Every, range_with_len}
 use Rattle.std.specs.Option.{option_map_or}
+use Rattle.qc_core.specs.OneCopy.{operations}
 use Rattle.qc_entry.specs.declared.line.Op.{Op}
 use Rattle.qc_entry.specs.declared.record.Commit.{Commit}
 use Rattle.qc_decl.specs.declared.declaration.Declaration.{Declaration}
@@ -48,6 +49,10 @@ replay_commit decl states commit = fold (replayed decl) states commit.ops
 -- the states after all operations of the transactions, in their order, from the start states
 abbrev pub replay : Declaration → List Commit → Option (List ℕ)
 replay decl commits = fold (replay_commit decl) (Some (starts decl)) commits
+
+-- each operation of the records is on an object that is declared, with its type
+abbrev pub AreDeclared : Declaration → List Commit → Type 0
+AreDeclared decl commits = Every (λ (op : Op). IsSome (table_at decl op.object)) (operations commits)
 
 -- the name of an object's state, and `?` where a step was missing
 abbrev pub state_text : Declaration → Option (List ℕ) → ℕ → List ℕ

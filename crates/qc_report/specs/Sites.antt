@@ -1,15 +1,14 @@
 -- The sites, one line each, read off what they did.
-use Rattle.std.specs.Prelude.{ℕ, List, [], ◌++◌, codes, decimal, length, flat_map}
+use Rattle.std.specs.Prelude.{ℕ, List, ◌++◌, codes, decimal, length, flat_map}
 use Rattle.std.specs.List.{range_with_len}
+use Rattle.qc_core.specs.Bounds.{site_at}
 use Rattle.qc_decl.specs.declared.declaration.Declaration.{Declaration}
 use Rattle.qc_msg.specs.Steps.{Entry}
-use Rattle.qc_msg.specs.Mail.{deeds}
 use Rattle.qc_site.specs.Site.{SiteState}
-use Rattle.qc_site.specs.Conduct.{site_after}
 
 -- a site's state after its deeds in a history
 abbrev pub site_in : List Entry → ℕ → SiteState
-site_in h k = (site_after k (deeds k [] h)).site
+site_in h k = (site_at k h).site
 
 -- the lines of its log, and the transactions of which it holds locks or lines; its life and epoch are its first ones
 abbrev pub standing_line : ℕ → ℕ → ℕ → List ℕ

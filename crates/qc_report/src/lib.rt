@@ -10,6 +10,7 @@
 
 mod cause;
 mod committed;
+mod laws;
 mod log_lines;
 mod names;
 mod page;
@@ -25,4 +26,5 @@ mod tests;
 mod walk;
 
 pub use cause::{Cause, cause_text};
+pub use laws::replays_are_one_copy;
 pub use report::text;

@@ -1,39 +1,15 @@
 -- What is ready for an actor was sent to it, or is a command that it may call.
-use Rattle.std.proofs.Common.{◌≡◌, ℕ, ◌==◌, ◌&&◌, not, Bool, true, false, cond, List, [], ◌∷◌, ◌++◌, filter, drop, zero, suc, Option, Some, None, slice_get, refl, ap, sym, subst, ◌∙◌}
-use Rattle.std.proofs.lemmas.Bool.{eqb-true}
+use Rattle.std.proofs.Common.{◌≡◌, ℕ, ◌&&◌, not, Bool, true, false, cond, List, [], ◌∷◌, Some, None, slice_get, refl, ap, subst, ◌∙◌}
 use Rattle.qc_decl.specs.declared.declaration.Declaration.{Declaration}
 use Rattle.qc_decl.specs.Actors.{is_client}
 use Rattle.qc_msg.specs.declared.message.Envelope.{Envelope}
-use Rattle.qc_msg.specs.declared.message.Message.{Message}
 use Rattle.qc_msg.specs.declared.step.Command.{Command}
 use Rattle.qc_msg.specs.declared.step.Given.{Given}
 use Rattle.qc_msg.specs.declared.step.Given.TheVariants as given
-use Rattle.qc_msg.specs.Mail.{AllSent, WasSentTo, addressed, mail}
+use Rattle.qc_msg.specs.Mail.{AllSent, AllTo, WasSentTo, mail}
 use Rattle.qc_msg.specs.Steps.{Entry}
 use Rattle.qc_script.specs.declared.script.Script.{Script}
 use Rattle.qc_script.specs.Ready.{first_order, first_ready, is_busy, next_order, orders, ready, waiting}
-
--- each of these messages goes to the actor
-abbrev pub AllTo : ℕ → List Envelope → Type 0
-AllTo a [] = Unit {0}
-AllTo a (e ∷ es) = (e.to ≡ a) × AllTo a es
-
-pub AllTo-both : (a : ℕ) (xs ys : List Envelope) → AllTo a xs → AllTo a ys → AllTo a (xs ++ ys)
-AllTo-both a [] ys first second = second
-AllTo-both a (x ∷ xs) ys first second = (first.0, AllTo-both a xs ys first.1 second)
-
-pub AllTo-drop : (a n : ℕ) (es : List Envelope) → AllTo a es → AllTo a (drop n es)
-AllTo-drop a zero es to = to
-AllTo-drop a (suc n) [] to = tt
-AllTo-drop a (suc n) (e ∷ es) to = AllTo-drop a n es to.1
-
-pub AllTo-addressed : (a : ℕ) (es : List Envelope) → AllTo a (addressed a es)
-AllTo-addressed a [] = tt
-AllTo-addressed a (e ∷ es) = by_receiver (AllTo-addressed a es) (e.to == a) refl
-  where
-    by_receiver : AllTo a (addressed a es) → (t : Bool) → (e.to == a) ≡ t → AllTo a (cond t (e ∷ addressed a es) (addressed a es))
-    by_receiver rest true is = (eqb-true e.to a is, rest)
-    by_receiver rest false is = rest
 
 -- the messages that wait for an actor were sent, to it
 pub record Arrived (a : ℕ) (ms box : List Envelope) : Type 0 where

@@ -1,25 +1,21 @@
 -- How what is ready for an actor changes as the history grows by an input or a turn.
-use Rattle.std.proofs.Common.{◌≡◌, ℕ, ◌+◌, ◌-◌, ◌==◌, Bool, true, false, cond, List, [], ◌∷◌, ◌++◌, filter, drop, Option, Some, None, refl, ap, sym, ◌∙◌, append_assoc}
+use Rattle.std.proofs.Common.{◌≡◌, ℕ, ◌+◌, ◌==◌, Bool, true, false, cond, List, [], ◌∷◌, ◌++◌, Option, Some, None, refl, sym, ◌∙◌, append_assoc}
 use Rattle.std.specs.List.{fold}
-use Rattle.std.specs.Prelude.{is_some}
 use Rattle.std.proofs.lemmas.List.{append-nil}
 use Rattle.std.proofs.lemmas.List.Sums.{fold-append}
-use Rattle.qc_msg.specs.declared.message.Message.{Message}
 use Rattle.qc_msg.specs.declared.message.Envelope.{Envelope}
-use Rattle.qc_msg.specs.declared.step.Command.{Command}
 use Rattle.qc_msg.specs.declared.step.Given.{Given}
 use Rattle.qc_msg.specs.declared.step.Given.TheVariants as given
 use Rattle.qc_msg.specs.declared.step.Posting.{Posting}
-use Rattle.qc_msg.specs.declared.step.Record.{Record}
 use Rattle.qc_msg.specs.declared.step.Reply.{Reply}
 use Rattle.qc_msg.specs.declared.step.Step.{Step}
-use Rattle.qc_msg.specs.declared.step.Step.TheVariants.{Phase, Called, Got, Sent, Told, Wrote}
+use Rattle.qc_msg.specs.declared.step.Step.TheVariants.{Called, Got}
 use Rattle.qc_msg.specs.declared.step.Turn.{Turn}
 use Rattle.qc_msg.specs.Mail.{addressed, envelopes}
-use Rattle.qc_msg.specs.Steps.{Entry, by, marked, posted, sents, step_of, told, wrote}
+use Rattle.qc_msg.specs.Steps.{Entry, by, marked, posted, sents, step_of, told}
 use Rattle.qc_msg.proofs.Growth.{fold-posted_none, fold-posted_sents, fold-posted_told}
 use Rattle.qc_script.specs.declared.script.Script.{Script}
-use Rattle.qc_script.specs.Ready.{asked_in, busy_at, busy_step, is_busy, orders, orders_at, orders_step, phase_of, phase_step, waiting, waiting_at, waiting_step}
+use Rattle.qc_script.specs.Ready.{busy_at, busy_step, is_busy, orders, orders_at, orders_step, phase_of, phase_step, waiting, waiting_at, waiting_step}
 
 -- a choice between one value and itself
 pub cond-same : {B : Type 0} (t : Bool) (b : B) → cond t b b ≡ b

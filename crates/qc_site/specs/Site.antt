@@ -24,10 +24,6 @@ pub record SiteMove : Type 0 where
   pub site : SiteState
   pub turn : Turn
 
--- the life of an actor that has never fallen
-abbrev pub first_life : ℕ
-first_life = 1
-
 -- a site as it begins
 abbrev pub new_site : ℕ → SiteState
 new_site number = record { number = number; log = []; recorded = []; held = []; prepared = []; clock = 0 }

@@ -10,13 +10,10 @@ use crate::turn::{answer, no_turn};
 use qc_decl::Declaration;
 use qc_entry::{Line, Log, Owns, Prepared, ReadLock};
 use qc_list::{List, OutOfMemory};
-use qc_msg::{Message, Turn};
+use qc_msg::{FIRST_LIFE, Message, Turn};
 use qc_stamp::{Clock, TxId};
 use std::alloc::Global;
 use std::marker::Model;
-
-/// The life of a site that has never fallen.
-pub(crate) const FIRST_LIFE: u32 = 1;
 
 /// The transactions that a site has promised to keep.
 pub type PreparedList = List<Prepared>;

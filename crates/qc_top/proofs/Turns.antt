@@ -5,6 +5,7 @@ use Rattle.std.specs.Prelude.{nat_lt, nat_le, slice_set}
 use Rattle.std.proofs.lemmas.List.{append-nil}
 use Rattle.std.proofs.lemmas.List.Sums.{fold-append}
 use Rattle.qc_core.proofs.OrderLaw.{law}
+use Rattle.qc_core.proofs.Within.{sendings-site}
 use Rattle.qc_core.specs.Conduct.{IsLawful}
 use Rattle.qc_decl.specs.declared.declaration.Declaration.{Declaration}
 use Rattle.qc_decl.specs.Actors.{actors, controller, is_site, is_client}
@@ -16,7 +17,6 @@ use Rattle.qc_msg.specs.declared.message.Envelope.{Envelope}
 use Rattle.qc_msg.specs.declared.step.Command.{Command}
 use Rattle.qc_msg.specs.declared.step.Given.{Given}
 use Rattle.qc_msg.specs.declared.step.Given.TheVariants as given
-use Rattle.qc_msg.specs.declared.step.Posting.{Posting}
 use Rattle.qc_msg.specs.declared.step.Step.{Step}
 use Rattle.qc_msg.specs.declared.step.Step.TheVariants.{Phase, Called, Got}
 use Rattle.qc_msg.specs.declared.step.Turn.{Turn}
@@ -55,12 +55,6 @@ pub front_lawful : (decl : Declaration) (ds : List Deed) → IsOne decl → IsLa
 front_lawful decl ds one =
     let same : 1 - decl.sites ≡ 0 = ap (λ (n : ℕ). 1 - n) one.sites in
     rw (front_site decl one, front_kind decl one) (ap (λ (k : ℕ). (front_after decl k ds).turn) (sym same))
-
--- what an actor sends changes no site, and tells a client the numbers
-
-pub sendings_site : (m : SiteMove) (n : ℕ) (ps : List Posting) → fold site_does m (sendings n ps) ≡ m
-sendings_site m n [] = refl
-sendings_site m n (p ∷ ps) = sendings_site m (n + 1) ps
 
 -- one event: actor a takes an input and posts its turn
 module _ (decl : Declaration) (script : Script) (h : List Entry) (a : ℕ) (input : Given) (turn : Turn) where
@@ -142,7 +136,7 @@ site_event decl script h s f e rest front_box left busy k n new turn st moves =
     after_event =
         ap (site_after 0) (deeds-event 0 (length (mail h)) h (given.Got e.from e.number e.message) turn sent)
         ∙ fold-append site_does _ (deeds 0 [] h) (deed_of 0 (given.Got e.from e.number e.message) ∷ sendings (length (mail h)) turn.sends)
-        ∙ sendings_site _ (length (mail h)) turn.sends ∙ on
+        ∙ sendings-site _ (length (mail h)) turn.sends ∙ on
 
     lawful : IsLawful decl 0 (deeds 0 [] (h ++ marked 0 (Got e.number) ∷ [])) turn
     lawful = subst (λ (m : SiteMove). IsLawful decl 0 (deeds 0 [] (h ++ marked 0 (Got e.number) ∷ [])) m.turn) after_take (site_lawful decl (deeds 0 [] (h ++ marked 0 (Got e.number) ∷ [])) st.one)

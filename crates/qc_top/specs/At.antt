@@ -1,6 +1,7 @@
 -- The loop's invariant and its answers, in terms of its fields.
 use Rattle.std.specs.Prelude.{◌≡◌, ℕ, ◌<◌, ◌≤◌, ◌+◌, ◌-◌, ◌^◌, min, ◌++◌, false, List, [], ◌∷◌, Option, Some, None, length}
 use Rattle.qc_decl.specs.declared.declaration.Declaration.{Declaration}
+use Rattle.qc_msg.specs.declared.message.Envelope.{Envelope}
 use Rattle.qc_msg.specs.declared.step.Step.{Step}
 use Rattle.qc_msg.specs.declared.step.Turn.{Turn}
 use Rattle.qc_msg.specs.declared.step.What.{What}
@@ -26,16 +27,25 @@ pub record IsQuiet (e : Engine) : Type 0 where
   pub front : e.front_box.items ≡ []
   pub idle : IsIdle e.busy e.orders.items
 
--- the next command may be called
+-- the next command may be called: no message waits, no command runs, and one is left
 pub record IsCallable (e : Engine) : Type 0 where
+  pub site : e.site_box.items ≡ []
   pub front : e.front_box.items ≡ []
   pub free : e.busy ≡ false
   pub left : 0 < length e.orders.items
 
--- what comes next is there
+-- The first message that waits in this box was sent before the first of the other, where one waits there. Messages are
+-- numbered in the order of their sending.
+abbrev pub IsSentFirst : List Envelope → List Envelope → Type 0
+IsSentFirst [] others = ⊥
+IsSentFirst (first ∷ rest) [] = Unit {0}
+IsSentFirst (first ∷ rest) (second ∷ others) = first.number ≤ second.number
+
+-- What comes next, exactly: of two actors for which a message waits the one whose first was sent first; where no message
+-- waits, a command that may be called; else the next phase; else nothing.
 abbrev pub IsNext : Script → Engine → Next → Type 0
-IsNext script e next.Site = 0 < length e.site_box.items
-IsNext script e next.Message = 0 < length e.front_box.items
+IsNext script e next.Site = IsSentFirst e.site_box.items e.front_box.items
+IsNext script e next.Message = IsSentFirst e.front_box.items e.site_box.items
 IsNext script e next.Command = IsCallable e
 IsNext script e next.Phase = IsQuiet e × (e.last_phase < length script.phases)
 IsNext script e next.Nothing = IsQuiet e × (length script.phases ≤ e.last_phase)

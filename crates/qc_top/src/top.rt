@@ -69,6 +69,7 @@ where
     ensures status { result.status ≡ status_of result.cause }
     ensures due { IsDue (F.files shelf.old) (texts_of words.now) result.cause }
     ensures full { IsFullCause result.cause result.history }
+    ensures files { F.files shelf.new ≡ F.files shelf.old }
     ensures shelf { result.cause ≡ Cause.Shelf true ShelfFault.Failed → Rose (F.faults shelf.old) (F.faults shelf.new) }
     ensures sink { result.cause ≡ Cause.Sink → Rose (K.faults sink.old) (K.faults sink.new) }
     ensures rack { R.faults _rack.new ≡ R.faults _rack.old }

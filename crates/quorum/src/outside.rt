@@ -4,7 +4,7 @@ ghost use Rattle.std.specs.Prelude.{◌≡◌, None};
 
 use qc_outside::{Shelf, ShelfFault, Sink, SinkFault};
 use std::fs;
-use std::io::{self, ErrorKind, Write};
+use std::io::{self, ErrorKind, Read, Write};
 use std::rt::Files;
 
 /// The files of the system. It counts the calls that failed.
@@ -23,13 +23,22 @@ impl<'a, R: Files + AllocGlobal> FileShelf<'a, R> {
     }
 }
 
+/// The named file's bytes, or the first `limit + 1` of them where it has more,
+/// so that a long file isn't held whole.
+fn read_at_most<R: Files + AllocGlobal>(rt: &R, name: &str, limit: u32) -> io::Result<Vec<u8>> {
+    let mut bytes = Vec::new(rt.alloc());
+    let mut front = fs::open(rt, name)?.take(u64::from(limit) + 1);
+    front.read_to_end(&mut bytes)?;
+    Ok(bytes)
+}
+
 impl<R: Files + AllocGlobal> Shelf for FileShelf<'_, R> {
     ghost files = { λ _. None };
 
     ghost faults = { λ s. s.faults };
 
     fn take(&mut self, name: &str, limit: u32) -> Result<Vec<u8>, ShelfFault> {
-        match fs::read(self.rt, name) {
+        match read_at_most(self.rt, name, limit) {
             Ok(bytes) if bytes.len() <= limit as usize => Ok(bytes),
             Ok(_) => Err(ShelfFault::TooLong),
             Err(error) => match error.kind() {
