@@ -41,7 +41,7 @@ use Rattle.qc_script.proofs.Grows.{waiting-posted, waiting-step}
 use Rattle.qc_site.specs.Conduct.{site_after, site_does}
 use Rattle.qc_site.specs.Site.{SiteMove, new_site}
 use Rattle.qc_core.specs.Acts.{Act, acts}
-use Rattle.qc_core.specs.Asked.{AsksOnly}
+use Rattle.qc_script.specs.Asked.{AsksOnly}
 use Rattle.qc_core.specs.Atomic.{AreApart, AreTold, Atomic, HasBefore}
 use Rattle.qc_core.specs.Bounds.{front_at, site_at}
 use Rattle.qc_core.specs.Committed.{In, commit_by, commit_in, written}

@@ -23,7 +23,7 @@ use Rattle.qc_script.specs.declared.script.Script.{Script}
 use Rattle.qc_script.specs.Ready.{phase_of}
 use Rattle.qc_script.specs.Runs.{Runs, begins, takes, posts, phase}
 use Rattle.qc_site.specs.Site.{SiteState}
-use Rattle.qc_core.specs.Asked.{AsksOnly}
+use Rattle.qc_script.specs.Asked.{AsksOnly}
 use Rattle.qc_core.specs.Bounds.{front_at}
 use Rattle.qc_core.specs.Committed.{commit_by, committed, with_commit, written}
 use Rattle.qc_core.specs.Conduct.{IsLawful, IsRun}

@@ -21,7 +21,7 @@ use Rattle.qc_script.specs.declared.script.CommandLine.{CommandLine}
 use Rattle.qc_script.specs.declared.script.PhaseLines.{PhaseLines}
 use Rattle.qc_script.specs.declared.script.Script.{Script}
 use Rattle.qc_script.specs.Ready.{asked_of, first_order, first_ready, is_busy, next_order, orders, orders_at, orders_step, ready, waiting, waiting_at}
-use Rattle.qc_core.specs.Asked.{AsksOnly}
+use Rattle.qc_script.specs.Asked.{AsksOnly}
 use Rattle.qc_core.proofs.Sense.{single}
 
 -- nobody but actors 0 and 1 is asked anything

@@ -17,7 +17,7 @@ use Rattle.qc_script.specs.Ready.{waiting}
 use Rattle.qc_site.specs.Conduct.{site_on}
 use Rattle.qc_site.specs.Site.{SiteState}
 use Rattle.qc_site.proofs.Lines.{log_gains}
-use Rattle.qc_core.specs.Asked.{AsksOnly}
+use Rattle.qc_script.specs.Asked.{AsksOnly}
 use Rattle.qc_core.specs.Bounds.{site_at}
 use Rattle.qc_core.specs.Committed.{AreRising, committed, written}
 use Rattle.qc_core.specs.Conduct.{IsRun}

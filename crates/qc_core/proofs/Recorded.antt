@@ -17,7 +17,7 @@ use Rattle.qc_msg.proofs.Growth.{own-append}
 use Rattle.qc_script.specs.declared.script.Script.{Script}
 use Rattle.qc_site.specs.Held.{same_tx}
 use Rattle.qc_site.proofs.Entries.{same_self}
-use Rattle.qc_core.specs.Asked.{AsksOnly}
+use Rattle.qc_script.specs.Asked.{AsksOnly}
 use Rattle.qc_core.specs.Committed.{In, commit_by, commit_in, committed, written}
 use Rattle.qc_core.specs.Conduct.{IsRun}
 use Rattle.qc_core.specs.Order.{EachAfter}

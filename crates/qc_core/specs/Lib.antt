@@ -14,4 +14,3 @@ pub mod Atomic
 pub mod Logged
 pub mod Status
 pub mod Due
-pub mod Asked

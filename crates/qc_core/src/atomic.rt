@@ -3,7 +3,7 @@
 
 ghost use Rattle.std.specs.List.{AllByRecursion as Every};
 ghost use Rattle.std.specs.Prelude.{List, [], ◌≡◌, ℕ};
-ghost use Rattle.qc_core.specs.Asked.{AsksOnly};
+ghost use Rattle.qc_script.specs.Asked.{AsksOnly};
 ghost use Rattle.qc_core.specs.Atomic.{Atomic};
 ghost use Rattle.qc_core.specs.Bounds.{site_at};
 ghost use Rattle.qc_core.specs.Committed.{AreRising, In, committed, written};

@@ -2,7 +2,7 @@
 //! nothing to do.
 
 ghost use Rattle.std.specs.Prelude.{◌≡◌, List};
-ghost use Rattle.qc_core.specs.Asked.{AsksOnly};
+ghost use Rattle.qc_script.specs.Asked.{AsksOnly};
 ghost use Rattle.qc_core.specs.Conduct.{IsRun};
 ghost use Rattle.qc_core.specs.Due.{AreLegal, Due};
 ghost use Rattle.qc_decl.specs.Accepted.{IsAccepted};
