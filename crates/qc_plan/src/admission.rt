@@ -1,6 +1,6 @@
 //! Which plans are admitted.
 
-ghost use Rattle.std.specs.Prelude.{◌≡◌, ◌≤◌, ◌<◌, [], length, nat_lt, get_or, slice_get, option_and_then, OnOk};
+ghost use Rattle.std.specs.Prelude.{◌≡◌, ◌≤◌, [], length, nat_lt, get_or, slice_get, option_and_then, OnOk};
 ghost use Rattle.std.specs.List.{list_any};
 ghost use Rattle.qc_plan.specs.Admitted.{IsAdmitted};
 ghost use Rattle.qc_plan.specs.Faults.{answer_of, fault_of, heavy_fault, is_heavy, object_fault, kind_fault, pair_fault, can_miss};
