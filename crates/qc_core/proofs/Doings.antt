@@ -126,7 +126,7 @@ module _ (decl : Declaration) (fits : Fits decl) (committed : List Op) (before :
       ∙ reach_events decl object rules table (start_at decl) committed before follows.walked)
       ∙ reach_events decl object rules table before b.ops d.after d.walked
 
-  is_read : IsRead kind (asks decl object) (weighted decl object) right.sound right.exact (λ i e. fits.meets object kind i e typed) all own read
+  is_read : IsRead kind (asks decl object) (weighted decl object) all own read
   is_read = by (d.viewed object)
     where
       by : IsViewed decl log b.view b.ops object → (read ≡ filter (weighted decl object) all) ⊎ ((read ≡ []) × Every (IsFree decl object kind) own)

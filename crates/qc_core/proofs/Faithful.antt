@@ -88,6 +88,10 @@ known kind s e sound legal = by (slice_get (events_of kind.table.rows) e) refl l
           (inv_within kind.table s v.inv v.resp sound led);
     }
 
+-- what was read of the committed events: those that have weight; or none, where no invocation of the own ones was asked for
+abbrev pub IsRead : Kind → (ℕ → Bool) → (ℕ → Bool) → List ℕ → List ℕ → List ℕ → Type 0
+IsRead kind asked weighs before own read = (read ≡ filter weighs before) ⊎ ((read ≡ []) × Every (λ (e : ℕ). asked (inv_of kind e) ≡ false) own)
+
 -- one object of a type, with what its plan asks and weighs
 module _ (kind : Kind) (asked weighs : ℕ → Bool) (sound : IsSound kind.table) (exact : IsExact kind)
     (meets : (inv e : ℕ) → inv < kind.table.invs → e < length (events_of kind.table.rows) → IsTrue (depends kind.relation inv e) → (asked inv ≡ true) × (weighs e ≡ true)) where
@@ -125,11 +129,7 @@ module _ (kind : Kind) (asked weighs : ℕ → Bool) (sound : IsSound kind.table
             absurd (let never : ⊥ = cc in never);
       }))
 
-  -- what was read of the committed events
-  abbrev pub IsRead : List ℕ → List ℕ → List ℕ → Type 0
-  IsRead before own read = (read ≡ filter weighs before) ⊎ ((read ≡ []) × Every (λ (e : ℕ). asked (inv_of kind e) ≡ false) own)
-
-  pub faithful : (before own read : List ℕ) (inv : ℕ) → inv < kind.table.invs → IsLegalFor kind (before ++ own) → IsRead before own read → (asked inv ≡ true → read ≡ filter weighs before)
+  pub faithful : (before own read : List ℕ) (inv : ℕ) → inv < kind.table.invs → IsLegalFor kind (before ++ own) → IsRead kind asked weighs before own read → (asked inv ≡ true → read ≡ filter weighs before)
       → IsFaithful kind (before ++ own) inv (read ++ own)
   faithful before own read inv within legal (inl full) asking =
       subst (λ (v : List ℕ). IsFaithful kind (before ++ own) inv (v ++ own)) (sym full) (read_full before own inv within legal)

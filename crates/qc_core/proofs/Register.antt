@@ -96,22 +96,22 @@ led (e ∷ es) set view log view_bit log_bit legal closed linked =
     legal_on : (next : ℕ) → stepped log e ≡ Some next → IsSome (reached stepped (Some next) es)
     legal_on next is = subst (λ (o : Option ℕ). IsSome (reached stepped o es)) is legal
 
-    kept : (t : Bool) → set 0 ≡ t → (v l : ℕ) → cond t (stepped view e) (Some view) ≡ Some v → stepped log e ≡ Some l → (view ≡ log → HasWrites (e ∷ es) set → v ≡ l) → Led es (rest_of set) v l → Led (e ∷ es) set view log
-    kept true is v l view_on log_on same d = record {
+    chosen : (t : Bool) → reached stepped (Some view) (cond t (e ∷ picked (rest_of set) es) (picked (rest_of set) es)) ≡ reached stepped (cond t (stepped view e) (Some view)) (picked (rest_of set) es)
+    chosen true = refl
+    chosen false = refl
+
+    kept : (t : Bool) → set 0 ≡ t → (v l : ℕ) → cond t (stepped view e) (Some view) ≡ Some v → stepped log e ≡ Some l → (view ≡ log → HasWrites (e ∷ es) set → v ≡ l) → Led es (rest_of set) v l
+        → Led (e ∷ es) set view log
+    kept t is v l view_on log_on same d = record {
       seen = d.seen;
       state = d.state;
       seen_bit = d.seen_bit;
       state_bit = d.state_bit;
-      sees = ap (λ (t : Bool). reached stepped (Some view) (cond t (e ∷ picked (rest_of set) es) (picked (rest_of set) es))) is ∙ ap (λ (o : Option ℕ). reached stepped o (picked (rest_of set) es)) view_on ∙ d.sees;
-      leads = ap (λ (o : Option ℕ). reached stepped o es) log_on ∙ d.leads;
-      alike = λ start all. d.alike (same start all) (λ q f there write. all (suc q) f there write);
-    }
-    kept false is v l view_on log_on same d = record {
-      seen = d.seen;
-      state = d.state;
-      seen_bit = d.seen_bit;
-      state_bit = d.state_bit;
-      sees = ap (λ (t : Bool). reached stepped (Some view) (cond t (e ∷ picked (rest_of set) es) (picked (rest_of set) es))) is ∙ ap (λ (o : Option ℕ). reached stepped o (picked (rest_of set) es)) view_on ∙ d.sees;
+      sees =
+          ap (λ (t : Bool). reached stepped (Some view) (cond t (e ∷ picked (rest_of set) es) (picked (rest_of set) es))) is
+          ∙ chosen t
+          ∙ ap (λ (o : Option ℕ). reached stepped o (picked (rest_of set) es)) view_on
+          ∙ d.sees;
       leads = ap (λ (o : Option ℕ). reached stepped o es) log_on ∙ d.leads;
       alike = λ start all. d.alike (same start all) (λ q f there write. all (suc q) f there write);
     }

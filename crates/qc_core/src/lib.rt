@@ -2,8 +2,9 @@
 //!
 //! A run is a history that the actors' conduct, the script and the links
 //! allow. Each law is the contract of a function with nothing to do, and
-//! speaks of every run of every script: of every declaration, or of the
-//! built-in one. The promise is that runs are atomic: what committed is what
+//! speaks of every run: of every declaration and script, or of every accepted
+//! declaration with one site and every script that asks its first client alone.
+//! The promise is that runs are atomic: what committed is what
 //! one copy of each object would have answered, in the order of the stamps.
 //! The loop and the report rely on these laws.
 #![tactic(auto)]
