@@ -9,7 +9,7 @@ use Rattle.std.proofs.lemmas.Option.{slice_get-map}
 use Rattle.qc_core.proofs.Places.{slice_get-set_other, slice_get-set_same}
 use Rattle.qc_core.specs.OneCopy.{Goes, OneCopy, Walks, operations, start_at, step_at, updated}
 use Rattle.qc_decl.specs.declared.declaration.Declaration.{Declaration}
-use Rattle.qc_decl.specs.declared.declaration.Kind.{Kind}
+use Rattle.qc_table.specs.declared.kind.Kind.{Kind}
 use Rattle.qc_decl.specs.Lookup.{table_at}
 use Rattle.qc_entry.specs.declared.line.Op.{Op}
 use Rattle.qc_entry.specs.declared.record.Commit.{Commit}

@@ -71,10 +71,10 @@ script_none None h taken cause silent = refl
 script_none (Some script) h taken cause silent = between_none _ taken cause silent
 
 -- the bytes spell this script
-bytes_found : (bytes : List ℕ) (script : Script) → length bytes ≤ 1048576 → script_of 1 bytes ≡ Some script → script_in_bytes bytes ≡ Some script
+bytes_found : (bytes : List ℕ) (script : Script) → length bytes ≤ 1048576 → script_of one bytes ≡ Some script → script_in_bytes bytes ≡ Some script
 bytes_found bytes script short found = by_test (nat_le (length bytes) 1048576) (grind (arith, nat_tests))
   where
-    by_test : (t : Bool) → t ≡ true → cond t (script_of 1 bytes) None ≡ Some script
+    by_test : (t : Bool) → t ≡ true → cond t (script_of one bytes) None ≡ Some script
     by_test true is = found
     by_test false is = absurd (let never : ⊥ = cc in never)
 
@@ -118,9 +118,9 @@ leaves_script decl script h old cause new is run whole printed = record {
 
 -- the script of the bytes was run
 pub bytes_run : (bytes : List ℕ) (decl : Declaration) (script : Script) (h : List Entry) (old : Option (List ℕ)) (cause : Cause) (new : Option (List ℕ)) → decl ≡ one → length bytes ≤ 1048576
-    → script_of (client_actor decl 0) bytes ≡ Some script → Leaves (Some script) old cause new h → Leaves (script_in_bytes bytes) old cause new h
+    → script_of decl bytes ≡ Some script → Leaves (Some script) old cause new h → Leaves (script_in_bytes bytes) old cause new h
 bytes_run bytes decl script h old cause new is short found left =
-    let here : script_of 1 bytes ≡ Some script = ap (λ (d : Declaration). script_of (client_actor d 0) bytes) (sym is) ∙ found in
+    let here : script_of one bytes ≡ Some script = ap (λ (d : Declaration). script_of d bytes) (sym is) ∙ found in
     subst (λ (s : Option Script). Leaves s old cause new h) (sym (bytes_found bytes script short here)) left
 
 pub one_is_one : (decl : Declaration) → decl ≡ one → IsOne decl
@@ -224,9 +224,9 @@ words_taken (Some files) words name bytes cause named here due =
 
 -- the script of the bytes, or none, has its cause
 
-pub bytes_due : (bytes : List ℕ) (decl : Declaration) (script : Script) (cause : Cause) → decl ≡ one → length bytes ≤ 1048576 → script_of (client_actor decl 0) bytes ≡ Some script → IsRan cause → IsDueOfScript (script_in_bytes bytes) cause
+pub bytes_due : (bytes : List ℕ) (decl : Declaration) (script : Script) (cause : Cause) → decl ≡ one → length bytes ≤ 1048576 → script_of decl bytes ≡ Some script → IsRan cause → IsDueOfScript (script_in_bytes bytes) cause
 bytes_due bytes decl script cause is short found ran =
-    let here : script_of 1 bytes ≡ Some script = ap (λ (d : Declaration). script_of (client_actor d 0) bytes) (sym is) ∙ found in
+    let here : script_of one bytes ≡ Some script = ap (λ (d : Declaration). script_of d bytes) (sym is) ∙ found in
     subst (λ (s : Option Script). IsDueOfScript s cause) (sym (bytes_found bytes script short here)) ran
 
 pub memory_due : (script : Option Script) (cause : Cause) → cause ≡ causes.OutOfMemory → IsDueOfScript script cause

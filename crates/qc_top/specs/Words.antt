@@ -2,6 +2,7 @@
 use Rattle.std.specs.Prelude.{ℕ, Bool, false, ◌==◌, ◌&&◌, not, List, [], ◌∷◌, Option, Some, None, cond, codes, map, nat_le, length, option_and_then}
 use Rattle.std.specs.Borrow.{Bor}
 use Rattle.std.specs.Str.{bytes_eq}
+use Rattle.qc_decl.specs.One.{one}
 use Rattle.qc_outside.specs.Shelf.{Files, file_named}
 use Rattle.qc_script.specs.declared.script.Script.{Script}
 use Rattle.qc_script.specs.Grammar.{script_of}
@@ -24,9 +25,9 @@ script_named _ = None
 abbrev pub most_bytes : ℕ
 most_bytes = 1048576
 
--- the script in these bytes, for the one client, which is actor 1
+-- the script in these bytes, over `@one`
 abbrev pub script_in_bytes : List ℕ → Option Script
-script_in_bytes bytes = cond (nat_le (length bytes) most_bytes) (script_of 1 bytes) None
+script_in_bytes bytes = cond (nat_le (length bytes) most_bytes) (script_of one bytes) None
 
 -- the script that the words name among these files
 abbrev pub script_in : Files → List (List ℕ) → Option Script

@@ -1,5 +1,4 @@
 use Rattle.std.proofs.Common.{◌≡◌, Some, rules}
-use Rattle.qc_decl.specs.Actors.{client_actor}
 use Rattle.qc_decl.specs.One.{one}
 use Rattle.qc_script.specs.Grammar.{script_of}
 use Rattle.qc_top.proofs.Ends.{bytes_due, bytes_run, leaves_caused, memory_due}
@@ -16,7 +15,7 @@ returns-clause-leaves g c =
 pub returns-in-Ok-clause-leaves : goal.returns-in-Ok-clause-leaves
 returns-in-Ok-clause-leaves g c =
     let is : c.in-Ok-Some.decl ≡ one = search rules in
-    let found : script_of (client_actor c.in-Ok-Some.decl 0) c.args.bytes.now ≡ Some c.in-Ok.script = search rules in
+    let found : script_of c.in-Ok-Some.decl c.args.bytes.now ≡ Some c.in-Ok.script = search rules in
     bytes_run c.args.bytes.now c.in-Ok-Some.decl c.in-Ok.script c.run_script.result.history _ c.run_script.result.cause _ is c.requires found c.run_script.ensures.leaves
 
 pub returns-in_default-clause-due : goal.returns-in_default-clause-due
@@ -28,5 +27,5 @@ returns-clause-due g c = memory_due (script_in_bytes c.args.bytes.now) c.nothing
 pub returns-in-Ok-clause-due : goal.returns-in-Ok-clause-due
 returns-in-Ok-clause-due g c =
     let is : c.in-Ok-Some.decl ≡ one = search rules in
-    let found : script_of (client_actor c.in-Ok-Some.decl 0) c.args.bytes.now ≡ Some c.in-Ok.script = search rules in
+    let found : script_of c.in-Ok-Some.decl c.args.bytes.now ≡ Some c.in-Ok.script = search rules in
     bytes_due c.args.bytes.now c.in-Ok-Some.decl c.in-Ok.script c.run_script.result.cause is c.requires found c.run_script.ensures.ran
