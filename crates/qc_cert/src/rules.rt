@@ -2,7 +2,8 @@
 
 ghost use Rattle.std.specs.Prelude.{◌≡◌, ◌≤◌, ◌<◌, ◌↔◌, All, None, IfErr, OnOk, IsBitSet, IsTrue, length};
 ghost use Rattle.qc_cert.specs.Faults.{IsTold, fault_of, inv_fault, left_out_fault, taken_fault, triple_fault, triples_fault, unequal_fault, unless_covered};
-ghost use Rattle.qc_cert.specs.Views.{inv_of};
+ghost use Rattle.qc_cert.specs.Inductive.{IsInductive};
+ghost use Rattle.qc_cert.specs.Views.{inv_of, IsExact};
 ghost use Rattle.qc_cert.specs.declared.triple.Triple.{Triple};
 ghost use Rattle.qc_table.specs.First.{first_below};
 ghost use Rattle.qc_table.specs.Rules.{events_of};
@@ -21,13 +22,16 @@ use std::alloc::Global;
 ///
 /// The first fault is told: triples in the list's order, in each the events
 /// left out by number, then the invocations by number, first the lowest
-/// unequal response and then the events taken by number. The walk takes up to
+/// unequal response and then the events taken by number. A list that is
+/// accepted shows that the type's relation is exact. The walk takes up to
 /// 4 MB beside the list.
 pub fn check(alloc: Global, kind: &Kind, list: &[Triple]) -> Result<(), CertFault>
     requires few { length list.now ≤ 65536 }
     requires states { All (λ (t : Triple). (t.view < kind.now.table.states) × (t.log < kind.now.table.states)) list.now }
     ensures ok { OnOk result (fault_of kind.now list.now ≡ None) }
     ensures err { IfErr result (λ e. IsTold e (fault_of kind.now list.now)) }
+    ensures inductive { OnOk result (IsInductive kind.now list.now) }
+    ensures exact { OnOk result (IsExact kind.now) }
 {
     tables_are_sound(&kind.table);
     let triples = Grouped::new(alloc, list)?;
