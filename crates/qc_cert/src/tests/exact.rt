@@ -1,5 +1,7 @@
 //! Exactness, computed from its definition on histories of up to four events.
 
+ghost use Rattle.std.specs.Prelude.{◌≤◌};
+
 use super::{fault, kind};
 use crate::{CertFault, Triple};
 use qc_table::Kind;
@@ -98,13 +100,23 @@ fn history_of(number: u16) -> [u8; 4] {
     ]
 }
 
+/// Whether one of so many histories of this length is refuted.
+fn is_refuted_at(kind: &Kind, length: usize, count: u16) -> bool
+    requires { length ≤ 4 }
+{
+    for number in 0..count {
+        if is_refuted(kind, &history_of(number)[..length]) {
+            return true;
+        }
+    }
+    false
+}
+
 /// Whether the relation is exact on all histories of up to four events.
 fn is_exact(kind: &Kind) -> bool {
     for (length, count) in HISTORIES.iter().enumerate() {
-        for number in 0..*count {
-            if is_refuted(kind, &history_of(number)[..length]) {
-                return false;
-            }
+        if is_refuted_at(kind, length, *count) {
+            return false;
         }
     }
     true
@@ -172,15 +184,17 @@ fn closure(alloc: Global, kind: &Kind) -> Result<Vec<Triple>, AllocError> {
     Ok(list)
 }
 
-/// All triples of the type's states and events, in an order that a list of
-/// triples needn't have.
+/// All triples of up to 3 states and of 4 events.
 fn everything(alloc: Global, states: u8) -> Result<Vec<Triple>, AllocError> {
     let mut list = Vec::new(alloc);
-    for out in 0..16 {
-        for view in 0..states {
-            for log in 0..states {
-                list.push(Triple { view, log, out })?;
-            }
+    for number in 0..144_u8 {
+        let triple = Triple {
+            view: number % 3,
+            log: number / 3 % 3,
+            out: u64::from(number / 9),
+        };
+        if triple.view < states && triple.log < states {
+            list.push(triple)?;
         }
     }
     Ok(list)
@@ -210,14 +224,10 @@ fn draw_rows(
     states: u8,
 ) -> Result<Vec<(u8, u8, u8, u8)>, AllocError> {
     let mut rows = Vec::new(alloc);
-    for state in 0..states {
-        for inv in 0..2 {
-            for resp in 0..2 {
-                let next = draw.below(states.saturating_add(2));
-                if next < states {
-                    rows.push((state, inv, resp, next))?;
-                }
-            }
+    for number in 0..states.saturating_mul(4) {
+        let next = draw.below(states.saturating_add(2));
+        if next < states {
+            rows.push((number / 4, number / 2 % 2, number % 2, next))?;
         }
     }
     Ok(rows)
@@ -227,11 +237,9 @@ fn draw_rows(
 /// so many in eight.
 fn draw_pairs(alloc: Global, draw: &mut Draw, chance: u8) -> Result<Vec<(u8, u8)>, AllocError> {
     let mut pairs = Vec::new(alloc);
-    for inv in 0..2 {
-        for event in 0..4 {
-            if draw.below(8) < chance {
-                pairs.push((inv, event))?;
-            }
+    for number in 0..8 {
+        if draw.below(8) < chance {
+            pairs.push((number / 4, number % 4))?;
         }
     }
     Ok(pairs)
@@ -262,24 +270,34 @@ fn try_kind(rt: &impl Abort, alloc: Global, kind: &Kind, tally: &mut Tally) -> R
     Ok(())
 }
 
-/// Twenty types of two or three states, each with relations of no pair, of
-/// all, and of some.
+/// Tries relations of no pair, of all, and of some, over a type of so many
+/// states.
+fn try_relations(
+    rt: &impl Abort,
+    alloc: Global,
+    draw: &mut Draw,
+    states: u8,
+    tally: &mut Tally,
+) -> Result<(), Fail> {
+    let rows = draw_rows(alloc, draw, states)?;
+    for chance in [0, 8, 2, 4, 4, 6, 6] {
+        let pairs = draw_pairs(alloc, draw, chance)?;
+        let kind = kind(alloc, (states, 2, 2), &rows, &pairs).ok_or("no type")?;
+        try_kind(rt, alloc, &kind, tally)?;
+    }
+    Ok(())
+}
+
+/// Twenty types of two or three states.
 #[test]
 fn accepted_relations_are_exact(rt: HostRuntime) -> Result<(), Fail> {
-    let alloc = rt.alloc();
     let mut draw = Draw { seed: 1986 };
     let mut tally = Tally {
         accepted: 0,
         refuted: 0,
     };
     for number in 0..20 {
-        let states = 2 + number % 2;
-        let rows = draw_rows(alloc, &mut draw, states)?;
-        for chance in [0, 8, 2, 4, 4, 6, 6] {
-            let pairs = draw_pairs(alloc, &mut draw, chance)?;
-            let kind = kind(alloc, (states, 2, 2), &rows, &pairs).ok_or("no type")?;
-            try_kind(&rt, alloc, &kind, &mut tally)?;
-        }
+        try_relations(&rt, rt.alloc(), &mut draw, 2 + number % 2, &mut tally)?;
     }
     assert!(rt; tally.accepted > 0 && tally.refuted > 0);
     Ok(())

@@ -22,17 +22,12 @@ fn list(alloc: Global, triples: &[(u8, u8, u64)]) -> Result<Vec<Triple>, AllocEr
 /// One triple for each two states, in their order, that leaves out these.
 fn grid(alloc: Global, states: u8, outs: &[u64]) -> Result<Vec<Triple>, AllocError> {
     let mut triples = Vec::new(alloc);
-    let mut outs = outs.iter();
-    for view in 0..states {
-        for log in 0..states {
-            if let Some(out) = outs.next() {
-                triples.push(Triple {
-                    view,
-                    log,
-                    out: *out,
-                })?;
-            }
-        }
+    for (number, out) in (0..u8::MAX).zip(outs.iter()) {
+        triples.push(Triple {
+            view: number.checked_div(states).unwrap_or(0),
+            log: number.checked_rem(states).unwrap_or(0),
+            out: *out,
+        })?;
     }
     Ok(triples)
 }
