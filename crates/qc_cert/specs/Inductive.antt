@@ -1,5 +1,5 @@
 -- Certificates: lists of triples that show by four rules, checked state by state, that a relation is exact.
-use Rattle.std.specs.Prelude.{◌≡◌, ℕ, Bool, false, IsTrue, List, slice_get, Option, Some, is_some}
+use Rattle.std.specs.Prelude.{◌≡◌, ℕ, Bool, false, IsTrue, List, slice_get, Some, is_some}
 use Rattle.qc_cert.specs.Views.{inv_of}
 use Rattle.qc_cert.specs.declared.triple.Triple.{Triple}
 use Rattle.qc_table.specs.Depends.{depends}

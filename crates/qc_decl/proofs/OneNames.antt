@@ -1,5 +1,5 @@
 -- The names of the built-in declaration are few.
-use Rattle.std.proofs.Common.{◌≡◌, ℕ, zero, suc, ◌≤◌, [], ◌∷◌, Some, None, length, refl, subst, arith}
+use Rattle.std.proofs.Common.{◌≡◌, ℕ, zero, suc, ◌≤◌, [], ◌∷◌, Some, length, subst, arith}
 use Rattle.std.specs.Prelude.{slice_get}
 use Rattle.qc_decl.specs.Named.{IsNamed}
 use Rattle.qc_decl.specs.One.{one, register_names}

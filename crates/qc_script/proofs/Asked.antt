@@ -1,7 +1,6 @@
 -- A script that the grammar gives for an actor asks that actor alone.
-use Rattle.std.proofs.Common.{◌≡◌, ℕ, ◌++◌, List, [], ◌∷◌, Bool, true, false, Option, Some, None, cond, refl, subst, arith}
-use Rattle.std.specs.Prelude.{option_map, codes, IfSome}
-use Rattle.std.specs.Str.{bytes_eq}
+use Rattle.std.proofs.Common.{◌≡◌, ℕ, ◌++◌, List, [], ◌∷◌, Option, Some, None, refl, subst}
+use Rattle.std.specs.Prelude.{option_map, IfSome}
 use Rattle.std.specs.List.{fold, AllByRecursion as Every}
 use Rattle.qc_script.specs.declared.form.Form.{Form}
 use Rattle.qc_script.specs.declared.form.Form.TheVariants.{Skipped, Phase, Asks, Unknown}
@@ -11,7 +10,7 @@ use Rattle.qc_script.specs.declared.script.Script.{Script}
 use Rattle.qc_decl.specs.Actors.{client_actor}
 use Rattle.qc_decl.specs.declared.declaration.Declaration.{Declaration}
 use Rattle.qc_script.specs.Asked.{IsAsked, AskOnly, AsksOnly}
-use Rattle.qc_script.specs.Grammar.{command_of, form_of, without_cr, lines_of, with_command, with_form, with_line, script_of}
+use Rattle.qc_script.specs.Grammar.{form_of, without_cr, lines_of, with_command, with_form, with_line, script_of}
 
 -- what holds of each item holds with one more
 every_push : {X : Type 0} (P : X → Type 0) (xs : List X) (x : X) → Every P xs → P x → Every P (xs ++ x ∷ [])

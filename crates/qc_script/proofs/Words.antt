@@ -1,14 +1,14 @@
 -- A line's words, cut off one at a time.
-use Rattle.std.proofs.Common.{◌≡◌, ℕ, ◌+◌, ◌-◌, ◌<◌, Bool, true, false, List, [], ◌∷◌, Option, Some, None, cond, codes, length, take, drop, ltb, refl, sym, ap, subst, ◌∙◌, arith}
+use Rattle.std.proofs.Common.{◌≡◌, ℕ, ◌+◌, ◌-◌, ◌<◌, Bool, true, false, List, [], ◌∷◌, Some, None, cond, codes, length, take, drop, ltb, refl, sym, ap, subst, ◌∙◌, arith}
 use Rattle.std.specs.Prelude.{◌==◌, ◌||◌, position}
 use Rattle.std.specs.Str.{bytes_eq}
-use Rattle.std.specs.List.{position_or_len, slice_split, list_any, onto_first}
+use Rattle.std.specs.List.{position_or_len, list_any, onto_first}
 use Rattle.std.proofs.lemmas.List.{take_all, length-drop}
 use Rattle.std.proofs.lemmas.List.Splits.{slice_split_first, slice_split-cons_no, length-slice_split}
 use Rattle.qc_table.proofs.Places.{position_none}
 use Rattle.qc_decl.specs.declared.declaration.Declaration.{Declaration}
 use Rattle.qc_script.specs.declared.form.Form.TheVariants.{Unknown}
-use Rattle.qc_script.specs.Grammar.{words_of, asked_of, invoked_by, command_of}
+use Rattle.qc_script.specs.Grammar.{words_of, asked_of, invoked_by}
 
 -- every line has a word
 pub words_some : (line : List ℕ) → 0 < length (words_of line)
