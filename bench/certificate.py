@@ -4,7 +4,7 @@ beside the plain walk of certificate_walk.rs over the same one.
 
 usage: bench/certificate.py [RUNS]
 
-Makes a program of certificate_check.rt on a copy of the crates in a temporary
+Makes a program of certificate_check.rt.in on a copy of the crates in a temporary
 folder, proves and builds it with rt, compiles the walk with rustc -O, and runs
 one after the other RUNS times, 7 unless it is given. Seconds are those of the
 processor, as the system counts them for each run, less those of making the
@@ -29,7 +29,7 @@ def build(folder):
         shutil.copytree(os.path.join(ROOT, "crates", crate), os.path.join(folder, "crates", crate))
     source = os.path.join(folder, "crates", "walk", "src")
     os.makedirs(source)
-    shutil.copy(os.path.join(ROOT, "bench", "certificate_check.rt"), os.path.join(source, "main.rt"))
+    shutil.copy(os.path.join(ROOT, "bench", "certificate_check.rt.in"), os.path.join(source, "main.rt"))
     with open(os.path.join(folder, "crates.txt"), "w") as file:
         file.write("qc_list:\nqc_table: qc_list\nqc_cert: qc_list qc_table\nwalk: qc_list qc_table qc_cert\n")
     subprocess.run(["rt", "run"], cwd=os.path.join(folder, "crates", "walk"), check=True, stdout=subprocess.DEVNULL)
