@@ -1,0 +1,287 @@
+-- An accepted declaration keeps what it has to.
+use Rattle.std.proofs.Common.{◌≡◌, ℕ, zero, suc, ◌+◌, ◌<◌, ◌≤◌, List, [], ◌∷◌, ◌++◌, length, map, Option, Some, None, Ok, Err, get_or, refl, sym, ap, ◌∙◌, subst, arith}
+use Rattle.std.specs.Prelude.{All, codes, slice_get, option_map, option_and_then}
+use Rattle.std.specs.Option.{option_map_or}
+use Rattle.std.proofs.lemmas.List.{length-map}
+use Rattle.std.proofs.lemmas.Option.{slice_get-map}
+use Rattle.toml.specs.Data.{Members}
+use Rattle.qc_cert.proofs.Faultless.{inductive}
+use Rattle.qc_cert.proofs.Walk.{exact}
+use Rattle.qc_cert.specs.Faults as cert
+use Rattle.qc_cert.specs.Views.{IsExact}
+use Rattle.qc_cert.specs.declared.fault.CertFault.{CertFault}
+use Rattle.qc_cert.specs.declared.triple.Triple.{Triple}
+use Rattle.qc_plan.proofs.Faultless as plan_proofs
+use Rattle.qc_plan.specs.Admitted.{IsAdmitted}
+use Rattle.qc_plan.specs.Faults as plan
+use Rattle.qc_plan.specs.declared.fault.PlanFault.{PlanFault}
+use Rattle.qc_plan.specs.declared.plan.Plan.{Plan}
+use Rattle.qc_table.specs.Sound.{IsSound}
+use Rattle.qc_table.specs.declared.kind.Kind.{Kind}
+use Rattle.qc_decl.specs.declared.declaration.Declaration.{Declaration}
+use Rattle.qc_decl.specs.declared.declaration.KindNames.{KindNames}
+use Rattle.qc_accept.specs.declared.fault.DeclFault.{DeclFault}
+use Rattle.qc_accept.specs.declared.fault.DeclFault.TheVariants as decl
+use Rattle.qc_accept.specs.Accept.{DraftOf, AreOfStates, AreChecked, ArePlanned, IsShaped, accepted, admitted, all_admitted, all_certified, all_names, cert_names, certified, declared, document_of, draft, draft_of, keys, kind_names, plan_names}
+use Rattle.qc_decl.specs.Accepted.{IsAccepted, IsRight, IsGood}
+use Rattle.qc_accept.specs.Answers.{Answer, ◌>>=◌}
+use Rattle.qc_accept.specs.Epochs.{StoreOf, IsFit, plans_of}
+use Rattle.qc_accept.specs.Fields.{number, no_others}
+use Rattle.qc_decl.specs.Named.{IsNamed}
+use Rattle.qc_accept.specs.Objects.{ObjectsOf, objects_of}
+use Rattle.qc_accept.specs.Types.{AreFew, TypeOf, TypesOf, types_of}
+use Rattle.qc_accept.proofs.Answered.{Came, came, mapped, same_ok}
+use Rattle.qc_accept.proofs.Kept.{AreWords, IsTypeKept, AreTypesKept, types_kept}
+use Rattle.qc_accept.proofs.Drafted.{all_at, all_of, number_is, AreObjectsKept, objects_kept, IsPlanOf, ArePlansKept, plans_kept}
+
+-- what a draft was made of
+pub record IsDraft (d : DraftOf) : Type 0 where
+  pub sites : ℕ
+  pub clients : ℕ
+  pub types : TypesOf
+  pub objects : ObjectsOf
+  pub plans : List Plan
+  pub is : draft sites clients types objects plans ≡ d
+  pub sites_are : (1 ≤ sites) × (sites ≤ 16)
+  pub clients_are : (1 ≤ clients) × (clients ≤ 16)
+  pub types_are : AreTypesKept types
+  pub objects_are : AreObjectsKept (length types.names) objects
+  pub plans_are : ArePlansKept (record { sites = sites; types = types; objects = objects }) plans
+
+pub draft_is : (table : Members) (d : DraftOf) → draft_of table ≡ Ok d → IsDraft d
+draft_is table d is =
+    let a = came (number [] table (codes "sites") 1 16) _ d is in
+    let b = came (number [] table (codes "clients") 1 16) _ d a.rest in
+    let c = came (types_of [] table) _ d b.rest in
+    let e = came (objects_of [] table c.value) _ d c.rest in
+    let f = came (plans_of [] table (record { sites = a.value; types = c.value; objects = e.value })) _ d e.rest in
+    let g = came (no_others [] table keys) _ d f.rest in
+    record {
+      sites = a.value;
+      clients = b.value;
+      types = c.value;
+      objects = e.value;
+      plans = f.value;
+      is = same_ok (draft a.value b.value c.value e.value f.value) d g.rest;
+      sites_are = number_is [] table (codes "sites") 1 16 a.value a.first;
+      clients_are = number_is [] table (codes "clients") 1 16 b.value b.first;
+      types_are = types_kept [] table c.value c.first;
+      objects_are = objects_kept [] table c.value e.value e.first;
+      plans_are = plans_kept [] table (record { sites = a.value; types = c.value; objects = e.value }) f.value f.first;
+    }
+
+-- a store of kept parts fits
+pub store_fits : (sites : ℕ) (types : TypesOf) (objects : ObjectsOf) → sites ≤ 16 → AreTypesKept types → length objects.names ≤ 16
+    → IsFit (record { sites = sites; types = types; objects = objects })
+store_fits sites types objects few_sites are few = record {
+  sites = few_sites;
+  objects = few;
+  words = all_of IsTypeKept (λ (t : TypeOf). AreFew t.words) types.list (λ t k. k.words.few) are.kept;
+  events = all_of IsTypeKept (λ (t : TypeOf). length t.events ≤ 64) types.list (λ t k. k.events) are.kept;
+}
+
+-- names for each type
+names_long : (names : List (List ℕ)) (ts : List TypeOf) → length names ≡ length ts → length (all_names names ts) ≡ length ts
+names_long [] [] same = refl
+names_long [] (t ∷ ts) same = absurd (omega arith)
+names_long (name ∷ names) [] same = absurd (omega arith)
+names_long (name ∷ names) (t ∷ ts) same = ap suc (names_long names ts (omega arith))
+
+record IsNamesOf (ts : List TypeOf) (k : ℕ) (n : KindNames) : Type 0 where
+  name : List ℕ
+  type : TypeOf
+  at : slice_get ts k ≡ Some type
+  is : kind_names name type ≡ n
+
+names_of_type : (names : List (List ℕ)) (ts : List TypeOf) (k : ℕ) (n : KindNames) → slice_get (all_names names ts) k ≡ Some n → IsNamesOf ts k n
+names_of_type [] ts k n is = absurd (let never : ⊥ = cc in never)
+names_of_type (name ∷ names) [] k n is = absurd (let never : ⊥ = cc in never)
+names_of_type (name ∷ names) (t ∷ ts) zero n is = record { name = name; type = t; at = refl; is = cc }
+names_of_type (name ∷ names) (t ∷ ts) (suc k) n is =
+    let p : IsNamesOf ts k n = names_of_type names ts k n is in record { name = p.name; type = p.type; at = p.at; is = p.is }
+
+-- a part of the type at a place
+record IsPart {A : Type 0} (part : TypeOf → A) (ts : List TypeOf) (k : ℕ) (a : A) : Type 0 where
+  type : TypeOf
+  at : slice_get ts k ≡ Some type
+  is : part type ≡ a
+
+part_at : {A : Type 0} (part : TypeOf → A) (ts : List TypeOf) (k : ℕ) (a : A) → slice_get (map part ts) k ≡ Some a → IsPart part ts k a
+part_at part ts k a is =
+    let m = mapped (slice_get ts k) part a (sym (slice_get-map part ts k) ∙ is) in record { type = m.value; at = m.first; is = m.rest }
+
+-- the draft can be checked
+states_are : (ts : List TypeOf) → All IsTypeKept ts → (place : ℕ) (kind : Kind) (list : List Triple)
+    → slice_get (map (λ (t : TypeOf). t.kind) ts) place ≡ Some kind → slice_get (map (λ (t : TypeOf). t.triples) ts) place ≡ Some list → AreOfStates kind list
+states_are ts all place kind list at_kind at_list =
+    let p : IsPart (λ (t : TypeOf). t.kind) ts place kind = part_at (λ (t : TypeOf). t.kind) ts place kind at_kind in
+    let q : IsPart (λ (t : TypeOf). t.triples) ts place list = part_at (λ (t : TypeOf). t.triples) ts place list at_list in
+    let one : Some p.type ≡ Some q.type = sym p.at ∙ q.at in
+    let same : p.type ≡ q.type = cc in
+    let kept : IsTypeKept p.type = all_at IsTypeKept ts place p.type all p.at in
+    let listed : p.type.triples ≡ list = ap (λ (t : TypeOf). t.triples) same ∙ q.is in
+    subst (λ (k : Kind). AreOfStates k list) p.is (subst (AreOfStates p.type.kind) listed kept.triples)
+
+pub draft_checked : (d : DraftOf) → IsDraft d → AreChecked d
+draft_checked d i =
+    let ts : List TypeOf = i.types.list in
+    let few : length ts ≤ 8 = i.types_are.few in
+    let lists : length (map (λ (t : TypeOf). t.triples) ts) ≡ length ts = length-map ts (λ (t : TypeOf). t.triples) in
+    let kinds : length (map (λ (t : TypeOf). t.kind) ts) ≡ length ts = length-map ts (λ (t : TypeOf). t.kind) in
+    subst AreChecked i.is (record {
+      few = omega arith;
+      names = names_long i.types.names ts i.types_are.names ∙ sym lists;
+      kinds = kinds ∙ sym lists;
+      states = states_are ts i.types_are.kept;
+    })
+
+-- the plans can be checked
+pub draft_planned : (d : DraftOf) → IsDraft d → ArePlanned d.decl
+draft_planned d i =
+    let objects : length i.objects.kinds ≡ length i.objects.names = i.objects_are.kinds in
+    let few : length i.objects.names ≤ 16 = i.objects_are.few in
+    let sites : i.sites ≤ 16 = i.sites_are.1 in
+    let whole : DraftOf = draft i.sites i.clients i.types i.objects i.plans in
+    subst (λ (x : DraftOf). ArePlanned x.decl) i.is (record {
+      objects = omega arith;
+      epochs = i.plans_are.few;
+      shaped = all_of (IsPlanOf (record { sites = i.sites; types = i.types; objects = i.objects })) (IsShaped whole.decl) i.plans
+          (λ p is.
+          let weights : length p.weights ≡ i.sites = is.weights in
+          let initial : length p.initial ≡ length i.objects.names = is.initial in
+          let last : length p.last ≡ length i.objects.names = is.last in
+          record { weights = omega arith; initial = omega arith; last = omega arith }) i.plans_are.each_is;
+    })
+
+-- certified types have no fault
+certified_none : (place : ℕ) (names : KindNames) (kind : Kind) (list : List Triple) → certified place names kind list ≡ Ok tt → cert.fault_of kind list ≡ None
+certified_none place names kind list is = by (cert.fault_of kind list) is
+  where
+    by : (o : Option CertFault) → option_map_or (λ fault. (let answer : Answer (Unit {0}) = Err (decl.Cert place fault (cert_names names kind fault)) in answer)) o (Ok tt) ≡ Ok tt → o ≡ None
+    by None is = refl
+    by (Some fault) is = absurd (let never : ⊥ = cc in never)
+
+all_certified_none : (place : ℕ) (names : List KindNames) (kinds : List Kind) (lists : List (List Triple)) → length names ≡ length kinds
+    → all_certified place names kinds lists ≡ Ok tt
+    → (k : ℕ) (kind : Kind) (list : List Triple) → slice_get kinds k ≡ Some kind → slice_get lists k ≡ Some list → cert.fault_of kind list ≡ None
+all_certified_none place names [] lists long is k kind list at_kind at_list = absurd (let never : ⊥ = cc in never)
+all_certified_none place names (x ∷ kinds) [] long is k kind list at_kind at_list = absurd (let never : ⊥ = cc in never)
+all_certified_none place [] (x ∷ kinds) (ts ∷ lists) long is k kind list at_kind at_list = absurd (omega arith)
+all_certified_none place (n ∷ names) (x ∷ kinds) (ts ∷ lists) long is zero kind list at_kind at_list =
+    let c = came (certified place n x ts) (λ _. all_certified (suc place) names kinds lists) tt is in
+    let one : x ≡ kind = cc in
+    let same : ts ≡ list = cc in
+    subst (λ (y : Kind). cert.fault_of y list ≡ None) one (subst (λ (ys : List Triple). cert.fault_of x ys ≡ None) same (certified_none place n x ts c.first))
+all_certified_none place (n ∷ names) (x ∷ kinds) (ts ∷ lists) long is (suc k) kind list at_kind at_list =
+    let c = came (certified place n x ts) (λ _. all_certified (suc place) names kinds lists) tt is in
+    all_certified_none (suc place) names kinds lists (omega arith) c.rest k kind list at_kind at_list
+
+-- admitted plans have no fault
+admitted_none : (d : Declaration) (epoch : ℕ) (p : Plan) → admitted d epoch p ≡ Ok tt → plan.fault_of p d.kinds d.objects ≡ None
+admitted_none d epoch p is = by (plan.fault_of p d.kinds d.objects) is
+  where
+    by : (o : Option PlanFault) → option_map_or (λ fault. (let answer : Answer (Unit {0}) = Err (decl.Plan epoch fault (plan_names d fault)) in answer)) o (Ok tt) ≡ Ok tt → o ≡ None
+    by None is = refl
+    by (Some fault) is = absurd (let never : ⊥ = cc in never)
+
+all_admitted_none : (d : Declaration) (epoch : ℕ) (ps : List Plan) → all_admitted d epoch ps ≡ Ok tt → (k : ℕ) (p : Plan) → slice_get ps k ≡ Some p
+    → plan.fault_of p d.kinds d.objects ≡ None
+all_admitted_none d epoch [] is k p at = absurd (let never : ⊥ = cc in never)
+all_admitted_none d epoch (x ∷ ps) is zero p at =
+    let c = came (admitted d epoch x) (λ _. all_admitted d (suc epoch) ps) tt is in
+    let same : x ≡ p = cc in
+    subst (λ (y : Plan). plan.fault_of y d.kinds d.objects ≡ None) same (admitted_none d epoch x c.first)
+all_admitted_none d epoch (x ∷ ps) is (suc k) p at =
+    let c = came (admitted d epoch x) (λ _. all_admitted d (suc epoch) ps) tt is in
+    all_admitted_none d (suc epoch) ps c.rest k p at
+
+-- the parts of an accepted declaration
+module _ (sites clients : ℕ) (types : TypesOf) (objects : ObjectsOf) (plans : List Plan) (types_are : AreTypesKept types)
+    (objects_are : AreObjectsKept (length types.names) objects) (plans_are : ArePlansKept (record { sites = sites; types = types; objects = objects }) plans) where
+  right_at : all_certified 0 (all_names types.names types.list) (map (λ (t : TypeOf). t.kind) types.list) (map (λ (t : TypeOf). t.triples) types.list) ≡ Ok tt
+      → (number : ℕ) (kind : Kind) → slice_get (map (λ (t : TypeOf). t.kind) types.list) number ≡ Some kind → IsRight kind
+  right_at shown number kind at =
+      let ts : List TypeOf = types.list in
+      let p : IsPart (λ (t : TypeOf). t.kind) ts number kind = part_at (λ (t : TypeOf). t.kind) ts number kind at in
+      let kept : IsTypeKept p.type = all_at IsTypeKept ts number p.type types_are.kept p.at in
+      let list_at : slice_get (map (λ (t : TypeOf). t.triples) ts) number ≡ Some p.type.triples =
+      slice_get-map (λ (t : TypeOf). t.triples) ts number ∙ ap (option_map (λ (t : TypeOf). t.triples)) p.at in
+      let long : length (all_names types.names ts) ≡ length (map (λ (t : TypeOf). t.kind) ts) =
+      names_long types.names ts types_are.names ∙ sym (length-map ts (λ (t : TypeOf). t.kind)) in
+      let none : cert.fault_of kind p.type.triples ≡ None =
+      all_certified_none 0 (all_names types.names ts) (map (λ (t : TypeOf). t.kind) ts) (map (λ (t : TypeOf). t.triples) ts) long shown number kind p.type.triples at list_at in
+      let sound : IsSound kind.table = subst (λ (k : Kind). IsSound k.table) p.is kept.table in
+      record { sound = sound; exact = exact kind p.type.triples (inductive kind p.type.triples sound none) }
+
+  good_at : all_admitted (draft sites clients types objects plans).decl 1 plans ≡ Ok tt → (place : ℕ) (p : Plan) → slice_get plans place ≡ Some p
+      → IsGood (draft sites clients types objects plans).decl p
+  good_at shown place p at =
+      let whole : Declaration = (draft sites clients types objects plans).decl in
+      let is : IsPlanOf (record { sites = sites; types = types; objects = objects }) p =
+      all_at (IsPlanOf (record { sites = sites; types = types; objects = objects })) plans place p plans_are.each_is at in
+      let kinds : length objects.kinds ≡ length objects.names = objects_are.kinds in
+      let initial : length p.initial ≡ length objects.names = is.initial in
+      let last : length p.last ≡ length objects.names = is.last in
+      record {
+        weights = is.weights;
+        admitted = plan_proofs.admitted p whole.kinds whole.objects (omega arith) (omega arith) (all_admitted_none whole 1 plans shown place p at);
+      }
+
+  typed_at : (object number : ℕ) → slice_get objects.kinds object ≡ Some number → number < length (map (λ (t : TypeOf). t.kind) types.list)
+  typed_at object number at =
+      subst (λ n. number < n) (types_are.names ∙ sym (length-map types.list (λ (t : TypeOf). t.kind)))
+      (all_at (λ kind. kind < length types.names) objects.kinds object number objects_are.typed at)
+
+  invs_at : (number : ℕ) (names : KindNames) → slice_get (all_names types.names types.list) number ≡ Some names → length names.invs ≤ 32
+  invs_at number names at =
+      let p : IsNamesOf types.list number names = names_of_type types.names types.list number names at in
+      let kept : IsTypeKept p.type = all_at IsTypeKept types.list number p.type types_are.kept p.at in
+      subst (λ (n : KindNames). length n.invs ≤ 32) p.is kept.words.few.invs
+
+-- a draft whose certificates and plans are shown is an accepted declaration
+pub draft_accepted : (d : DraftOf) → IsDraft d → all_certified 0 d.decl.kind_names d.decl.kinds d.triples ≡ Ok tt → all_admitted d.decl 1 d.decl.plans ≡ Ok tt
+    → IsAccepted d.decl
+draft_accepted d i certs plans =
+    let site : 1 ≤ i.sites = i.sites_are.0 in
+    let client : 1 ≤ i.clients = i.clients_are.0 in
+    subst (λ (x : DraftOf). IsAccepted x.decl) i.is (record {
+      has_site = omega arith;
+      sites = i.sites_are.1;
+      has_client = omega arith;
+      clients = i.clients_are.1;
+      has_epoch = i.plans_are.some;
+      typed = typed_at i.sites i.clients i.types i.objects i.plans i.types_are i.objects_are i.plans_are;
+      right = right_at i.sites i.clients i.types i.objects i.plans i.types_are i.objects_are i.plans_are
+          (subst (λ (x : DraftOf). all_certified 0 x.decl.kind_names x.decl.kinds x.triples ≡ Ok tt) (sym i.is) certs);
+      good = good_at i.sites i.clients i.types i.objects i.plans i.types_are i.objects_are i.plans_are
+          (subst (λ (x : DraftOf). all_admitted x.decl 1 x.decl.plans ≡ Ok tt) (sym i.is) plans);
+    })
+
+pub draft_named : (d : DraftOf) → IsDraft d → IsNamed d.decl
+draft_named d i = subst (λ (x : DraftOf). IsNamed x.decl) i.is (record {
+  objects = i.objects_are.few;
+  invs = invs_at i.sites i.clients i.types i.objects i.plans i.types_are i.objects_are i.plans_are;
+})
+
+-- what was accepted came from a draft
+pub record IsShown (d : Declaration) : Type 0 where
+  pub whole : DraftOf
+  pub is : whole.decl ≡ d
+  pub drafted : IsDraft whole
+  pub certified : all_certified 0 whole.decl.kind_names whole.decl.kinds whole.triples ≡ Ok tt
+  pub admitted : all_admitted whole.decl 1 whole.decl.plans ≡ Ok tt
+
+shown : (bytes : List ℕ) (d : Declaration) → accepted bytes ≡ Ok d → IsShown d
+shown bytes d is =
+    let a = came (document_of bytes) declared d is in
+    let b = came (draft_of a.value) _ d a.rest in
+    let c = came (all_certified 0 b.value.decl.kind_names b.value.decl.kinds b.value.triples) _ d b.rest in
+    let e = came (all_admitted b.value.decl 1 b.value.decl.plans) _ d c.rest in
+    record { whole = b.value; is = same_ok b.value.decl d e.rest; drafted = draft_is a.value b.value b.first; certified = c.first; admitted = e.first }
+
+pub accepted_is : (bytes : List ℕ) (d : Declaration) → accepted bytes ≡ Ok d → IsAccepted d
+accepted_is bytes d is =
+    let s : IsShown d = shown bytes d is in subst IsAccepted s.is (draft_accepted s.whole s.drafted s.certified s.admitted)
+
+pub accepted_named : (bytes : List ℕ) (d : Declaration) → accepted bytes ≡ Ok d → IsNamed d
+accepted_named bytes d is = let s : IsShown d = shown bytes d is in subst IsNamed s.is (draft_named s.whole s.drafted)

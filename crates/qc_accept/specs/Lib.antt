@@ -1,0 +1,9 @@
+pub mod Accept
+pub mod Answers
+pub mod Epochs
+pub mod Fields
+pub mod Lookup
+pub mod Objects
+pub mod Types
+pub mod Views
+pub mod Words
