@@ -10,6 +10,8 @@ ghost use Rattle.std.specs.IoError.{error_kind};
 ghost use Rattle.quorum.specs.Words.{cause_of_kind};
 
 mod outside;
+#[cfg(test)]
+mod tests;
 
 use outside::{FileShelf, OutSink};
 use qc_outside::{EmptyRack, OpenGate};
