@@ -59,9 +59,12 @@ is_at object place entry = (entry.object == object) && (entry.place == place)
 abbrev pub with_entry : List EntryOf → EntryOf → Option (List EntryOf)
 with_entry entries entry = if list_any (is_at entry.object entry.place) entries then None else Some (entries ++ entry ∷ [])
 
+-- the entries, with the one that a value is
+abbrev pub with_item : StoreOf → Side → List EntryOf → Data → Option (List EntryOf)
+with_item store side entries d = option_and_then (with_entry entries) (option_and_then (entry_in store side) (as_str d))
+
 abbrev pub entries_in : StoreOf → Side → List Data → Option (List EntryOf)
-entries_in store side ds =
-    read_each (λ entries d. option_and_then (with_entry entries) (option_and_then (entry_in store side) (as_str d))) [] ds
+entries_in store side ds = read_each (with_item store side) [] ds
 
 -- the threshold at a place, 0 where none is listed
 abbrev pub threshold_of : List EntryOf → ℕ → ℕ → ℕ
@@ -72,11 +75,15 @@ abbrev pub thresholds : List EntryOf → ℕ → ℕ → List ℕ
 thresholds entries object zero = []
 thresholds entries object (suc n) = thresholds entries object n ++ threshold_of entries object n ∷ []
 
+-- how many places an object has
+abbrev pub places_of : StoreOf → Side → ℕ → ℕ
+places_of store side object = option_map_or (places side) (kind_of store.types store.objects object) 0
+
 -- the thresholds of the first objects
 abbrev pub needs_of : StoreOf → Side → List EntryOf → ℕ → List (List ℕ)
 needs_of store side entries zero = []
 needs_of store side entries (suc n) =
-    needs_of store side entries n ++ thresholds entries n (option_map_or (places side) (kind_of store.types store.objects n) 0) ∷ []
+    needs_of store side entries n ++ thresholds entries n (places_of store side n) ∷ []
 
 -- the thresholds of a side
 abbrev pub needs : List ℕ → Members → StoreOf → List ℕ → Side → Answer (List (List ℕ))

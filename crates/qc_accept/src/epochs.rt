@@ -1,4 +1,40 @@
-//! The epochs of a declaration.
+//! The epochs of a declaration, each with its plan.
+
+ghost use Rattle.std.specs.Prelude.{◌≡◌, ◌+◌, ◌<◌, ◌≤◌, [], Some, None, length, option_map, if◌then◌else◌, IfOk, OnOk};
+ghost use Rattle.toml.specs.View.{view};
+ghost use Rattle.qc_accept.specs.Answers.{IsAnswer, IsReading, read_each};
+ghost use Rattle.qc_accept.specs.Epochs.{IsFit, entries_in, entry_in, needs as needs_of_key, needs_of, place_in, places, places_of, plan_of, plans_of, threshold_of, thresholds, with_entry, with_item, with_plan, with_weight};
+ghost use Rattle.qc_accept.specs.Types.{AreFew};
+ghost use Rattle.qc_accept.specs.Views.{data_of, entry_of, events_in, listed_in, path_in, store_in, table_in, type_in, words_in};
+
+use crate::fault::{DeclFault, Wrong};
+use crate::fields::{self, Fields};
+use crate::kinds::{TypeRead, Types};
+use crate::objects::ObjectsRead;
+use crate::{certificates, words};
+use indexmap::IndexMap;
+use qc_decl::Plans;
+use qc_list::{List, OutOfMemory};
+use qc_plan::{Needs, Plan, Weights};
+use std::alloc::Global;
+use toml::Value;
+
+/// The most epochs.
+const MOST_EPOCHS: usize = 8;
+
+/// The greatest weight of a site.
+const MOST_WEIGHT: u8 = 255;
+
+/// The keys of an epoch.
+const KEYS: [&str; 3] = ["weights", "initial", "final"];
+
+/// What the epochs of a declaration stand on.
+#[derive(Clone, Copy)]
+pub(crate) struct Store<'g, 'a> {
+    pub(crate) sites: u8,
+    pub(crate) types: &'g Types<'a>,
+    pub(crate) objects: &'g ObjectsRead<'a>,
+}
 
 /// Which thresholds are read.
 #[derive(Clone, Copy, PartialEq, Eq, Debug)]
@@ -7,4 +43,232 @@ pub(crate) enum Side {
     Initial,
     /// Those of final quorums, by event.
     Final,
+}
+
+/// Reads the plans.
+pub(crate) fn read_plans(root: &Fields<'_>, store: &Store<'_, '_>) -> Result<Plans, DeclFault>
+    requires { IsFit (store_in store.now) }
+    ensures { IsAnswer (λ plans. plans) result (plans_of (path_in root.now) (table_in root.now) (store_in store.now)) }
+{
+    let items = root.items("epoch", 1, MOST_EPOCHS)?;
+    let mut plans = List::new(root.alloc);
+    for item in items {
+        add_plan(root.alloc, &mut plans, store, item)?;
+    }
+    Ok(plans)
+}
+
+/// Reads the plan of one epoch more.
+fn add_plan(
+    alloc: Global,
+    plans: &mut Plans,
+    store: &Store<'_, '_>,
+    item: &Value,
+) -> Result<(), DeclFault>
+    requires store { IsFit (store_in store.now) }
+    requires plans { length plans.old < 8 }
+    ensures plans { IsAnswer (λ _. plans.new) result (with_plan (store_in store.now) plans.old (view item.now)) }
+    ensures one_more { OnOk result (length plans.new ≡ length plans.old + 1) }
+{
+    let fields = Fields::of_item(alloc, "epoch", plans.items().len() as u8, item)?;
+    let plan = read_plan(&fields, store)?;
+    plans.push(plan)?;
+    Ok(())
+}
+
+/// Reads a plan.
+fn read_plan(fields: &Fields<'_>, store: &Store<'_, '_>) -> Result<Plan, DeclFault>
+    requires { IsFit (store_in store.now) }
+    ensures { IsAnswer (λ plan. plan) result (plan_of (path_in fields.now) (table_in fields.now) (store_in store.now)) }
+{
+    let sites = store.sites as usize;
+    let items = fields.items("weights", sites, sites)?;
+    let read = read_weights(fields.alloc, items);
+    let weights = fields.told("weights", read)?;
+    let initial = needs(fields, store, "initial", Side::Initial)?;
+    let last = needs(fields, store, "final", Side::Final)?;
+    fields.no_others(&KEYS)?;
+    Ok(Plan {
+        weights,
+        initial,
+        last,
+    })
+}
+
+/// The weights that an array's items are.
+fn read_weights(alloc: Global, items: &[Value]) -> Result<Weights, Wrong>
+    ensures { IsReading (λ ws. ws) result (read_each with_weight [] (data_of items.now)) }
+{
+    let mut weights = List::new(alloc);
+    for item in items {
+        let weight = fields::number(item, 0, MOST_WEIGHT)?;
+        weights.push(weight)?;
+    }
+    Ok(weights)
+}
+
+/// Reads the thresholds of a side.
+fn needs(
+    fields: &Fields<'_>,
+    store: &Store<'_, '_>,
+    key: &str,
+    side: Side,
+) -> Result<Needs, DeclFault>
+    requires { IsFit (store_in store.now) }
+    ensures { IsAnswer (λ needs. needs) result (needs_of_key (path_in fields.now) (table_in fields.now) (store_in store.now) key.now side) }
+{
+    let items = fields.optional(key)?;
+    let read = read_listed(fields.alloc, store, side, items);
+    let listed = fields.told(key, read)?;
+    let needs = listed.needs(fields.alloc, store, side)?;
+    Ok(needs)
+}
+
+/// The thresholds that are listed, by object and place.
+#[derive(Drop)]
+struct Listed {
+    thresholds: IndexMap<(u8, u8), u16>,
+}
+
+/// The thresholds that an array's items are.
+fn read_listed(
+    alloc: Global,
+    store: &Store<'_, '_>,
+    side: Side,
+    items: &[Value],
+) -> Result<Listed, Wrong>
+    requires { IsFit (store_in store.now) }
+    ensures { IsReading listed_in result (entries_in (store_in store.now) side (data_of items.now)) }
+{
+    let mut listed = Listed {
+        thresholds: IndexMap::new(alloc),
+    };
+    for item in items {
+        listed.add_item(store, side, item)?;
+    }
+    Ok(listed)
+}
+
+/// A threshold of an object, at the place of an invocation or an event.
+#[derive(Clone, Copy)]
+struct Entry {
+    object: u8,
+    place: u8,
+    threshold: u16,
+}
+
+impl Store<'_, '_> {
+    /// The entry that a text is, as `OBJECT INV NUMBER` or `OBJECT EVENT
+    /// NUMBER`.
+    fn entry(&self, side: Side, text: &str) -> Option<Entry>
+        requires { IsFit (store_in self.now) }
+        ensures { option_map entry_of result ≡ entry_in (store_in self.now) side text.now }
+    {
+        let (name, word, digits) = words::three(text)?;
+        let object = self.objects.names.number(name)?;
+        let kind = self.objects.kind(self.types, object)?;
+        let place = side.place(kind, word)?;
+        let threshold = words::number(digits)?;
+        Some(Entry {
+            object,
+            place,
+            threshold,
+        })
+    }
+
+    /// How many places an object has.
+    fn places(&self, side: Side, object: u8) -> u8
+        requires { IsFit (store_in self.now) }
+        ensures { result ≡ places_of (store_in self.now) side object }
+    {
+        match self.objects.kind(self.types, object) {
+            Some(kind) => side.places(kind),
+            None => 0,
+        }
+    }
+}
+
+impl Side {
+    /// The place of an invocation, or of an event.
+    fn place(self, kind: &TypeRead<'_>, word: &str) -> Option<u8>
+        requires words { AreFew (words_in kind.now.words) }
+        requires events { length (events_in kind.now.events) ≤ 64 }
+        ensures { result ≡ place_in self (type_in kind.now) word.now }
+    {
+        match self {
+            Side::Initial => kind.words.invs.number(word),
+            Side::Final => certificates::event_number(&kind.words, &kind.events, word),
+        }
+    }
+
+    /// How many places there are.
+    fn places(self, kind: &TypeRead<'_>) -> u8
+        requires words { AreFew (words_in kind.now.words) }
+        requires events { length (events_in kind.now.events) ≤ 64 }
+        ensures { result ≡ places self (type_in kind.now) }
+    {
+        match self {
+            Side::Initial => kind.words.invs.count(),
+            Side::Final => kind.events.count(),
+        }
+    }
+}
+
+impl Listed {
+    /// Adds the entry that a value is: one whose place had none.
+    fn add_item(&mut self, store: &Store<'_, '_>, side: Side, item: &Value) -> Result<(), Wrong>
+        requires { IsFit (store_in store.now) }
+        ensures { IsReading (λ _. listed_in self.new) result (with_item (store_in store.now) side (listed_in self.old) (view item.now)) }
+    {
+        let text = fields::text(item)?;
+        let entry = store.entry(side, text).ok_or(Wrong::Form)?;
+        if !self.add(entry)? {
+            return Err(Wrong::Form);
+        }
+        Ok(())
+    }
+
+    /// Adds an entry, and tells whether its place had none.
+    fn add(&mut self, entry: Entry) -> Result<bool, OutOfMemory>
+        ensures { IfOk result (λ is_new. with_entry (listed_in self.old) (entry_of entry) ≡ (if is_new then Some (listed_in self.new) else None)) }
+    {
+        let Entry {
+            object,
+            place,
+            threshold,
+        } = entry;
+        let before = self.thresholds.insert((object, place), threshold)?;
+        Ok(before.is_none())
+    }
+
+    /// The thresholds of all objects.
+    fn needs(&self, alloc: Global, store: &Store<'_, '_>, side: Side) -> Result<Needs, OutOfMemory>
+        requires { IsFit (store_in store.now) }
+        ensures { IfOk result (λ needs. needs ≡ needs_of (store_in store.now) side (listed_in self.now) (length (store_in store.now).objects.names)) }
+    {
+        let mut needs = List::new(alloc);
+        for object in 0..store.objects.names.count() {
+            let list = self.of_object(alloc, object, store.places(side, object))?;
+            needs.push(list)?;
+        }
+        Ok(needs)
+    }
+
+    /// The thresholds of one object.
+    fn of_object(&self, alloc: Global, object: u8, places: u8) -> Result<List<u16>, OutOfMemory>
+        ensures { IfOk result (λ list. list ≡ thresholds (listed_in self.now) object places) }
+    {
+        let mut thresholds = List::new(alloc);
+        for place in 0..places {
+            thresholds.push(self.threshold(object, place))?;
+        }
+        Ok(thresholds)
+    }
+
+    /// The threshold at a place, 0 where none is listed.
+    fn threshold(&self, object: u8, place: u8) -> u16
+        ensures { result ≡ threshold_of (listed_in self.now) object place }
+    {
+        self.thresholds.get(&(object, place)).copied().unwrap_or(0)
+    }
 }

@@ -1,4 +1,5 @@
--- The built-in declaration `@one`: one site, one client, and one register over 0 and 1.
+-- The built-in declarations: `@one` has one site, one client, and one register over 0 and 1; `@three` has three sites and
+-- three clients, and each quorum is two of the sites.
 use Rattle.std.specs.Prelude.{ℕ, List, [], ◌∷◌, Option, Some, None, cond, codes}
 use Rattle.std.specs.Str.{bytes_eq}
 use Rattle.qc_decl.specs.declared.declaration.KindNames.{KindNames}
@@ -35,21 +36,28 @@ register_names = record {
   resps = codes "0" ∷ codes "1" ∷ codes "ok" ∷ [];
 }
 
--- R needs the site's weight to read; W0:ok and W1:ok need it to append.
-abbrev pub one_plan : Plan
-one_plan = record { weights = 1 ∷ []; initial = (1 ∷ 0 ∷ 0 ∷ []) ∷ []; last = (0 ∷ 0 ∷ 1 ∷ 1 ∷ []) ∷ [] }
+-- R needs so much weight to read; W0:ok and W1:ok need it to append.
+abbrev pub register_plan : List ℕ → ℕ → Plan
+register_plan weights need = record { weights = weights; initial = (need ∷ 0 ∷ 0 ∷ []) ∷ []; last = (0 ∷ 0 ∷ need ∷ need ∷ []) ∷ [] }
 
-abbrev pub one : Declaration
-one = record {
-  sites = 1;
-  clients = 1;
+-- the register on so many sites of these weights, with so many clients
+abbrev pub register_store : ℕ → List ℕ → ℕ → Declaration
+register_store actors weights need = record {
+  sites = actors;
+  clients = actors;
   kinds = register_kind ∷ [];
   objects = 0 ∷ [];
-  plans = one_plan ∷ [];
+  plans = register_plan weights need ∷ [];
   kind_names = register_names ∷ [];
   object_names = codes "x" ∷ [];
 }
 
--- the built-in declaration of a name, which is `@one` or none
+abbrev pub one : Declaration
+one = register_store 1 (1 ∷ []) 1
+
+abbrev pub three : Declaration
+three = register_store 3 (1 ∷ 1 ∷ 1 ∷ []) 2
+
+-- the built-in declaration of a name
 abbrev pub built_in_of : List ℕ → Option Declaration
-built_in_of name = cond (bytes_eq name (codes "@one")) (Some one) None
+built_in_of name = cond (bytes_eq name (codes "@one")) (Some one) (cond (bytes_eq name (codes "@three")) (Some three) None)

@@ -24,8 +24,9 @@ impl Declaration {
         number_of(&names.invs, name)
     }
 
-    /// The names of an object's type.
-    fn names_of(&self, object: u8) -> Option<&KindNames>
+    /// The names of an object's type and of its parts, or `None` where there is
+    /// no such object.
+    pub fn names_of(&self, object: u8) -> Option<&KindNames>
         ensures some { IfSome result (λ n. names_of self.now object ≡ Some n.now) }
         ensures none { IsNone result ↔ (names_of self.now object ≡ None) }
     {

@@ -1,9 +1,9 @@
-//! The built-in declaration `@one`.
+//! The built-in declarations `@one` and `@three`.
 
 ghost use Rattle.std.specs.Prelude.{◌≡◌, [], ◌∷◌, map, IfOk, IfSome};
 ghost use Rattle.qc_decl.specs.Named.{IsNamed};
 ghost use Rattle.qc_table.specs.Depends.{relation_of};
-ghost use Rattle.qc_decl.specs.One.{built_in_of, one, one_plan, register, register_names, register_pairs, register_rows, row as row_of};
+ghost use Rattle.qc_decl.specs.One.{built_in_of, register, register_plan, register_store, register_names, register_pairs, register_rows, row as row_of};
 
 use crate::declaration::{Declaration, KindNames, Names};
 use qc_list::{List, Name, OutOfMemory};
@@ -12,24 +12,35 @@ use qc_table::{Kind, Pair, Relation, Row, Table, TableFault};
 use std::alloc::{AllocError, Global};
 
 /// The built-in declaration of this name, or `None` where there is none.
-/// `@one` is one site, one client, and a register over 0 and 1 named `x`.
+/// `@one` is one site, one client, and a register over 0 and 1 named `x`;
+/// `@three` is the same with three sites and three clients, where each quorum
+/// is two of the sites.
 pub fn built_in(alloc: Global, name: &str) -> Result<Option<Declaration>, OutOfMemory>
     ensures built { IfOk result (λ d. d ≡ built_in_of name.now) }
     ensures named { IfOk result (λ d. IfSome d IsNamed) }
 {
-    if name != "@one" {
-        return Ok(None);
+    if name == "@one" {
+        return Ok(Some(register_store(alloc, 1, &[1], 1)?));
     }
-    Ok(Some(one_site(alloc)?))
+    if name == "@three" {
+        return Ok(Some(register_store(alloc, 3, &[1, 1, 1], 2)?));
+    }
+    Ok(None)
 }
 
-/// The declaration `@one`.
-fn one_site(alloc: Global) -> Result<Declaration, OutOfMemory>
-    ensures { IfOk result (λ d. d ≡ one) }
+/// A register `x` on so many sites, with so many clients. The sites have these
+/// weights, and each quorum weighs `need`.
+fn register_store(
+    alloc: Global,
+    actors: u8,
+    weights: &[u8],
+    need: u16,
+) -> Result<Declaration, OutOfMemory>
+    ensures { IfOk result (λ d. d ≡ register_store actors weights.now need) }
 {
     Ok(Declaration {
-        sites: 1,
-        clients: 1,
+        sites: actors,
+        clients: actors,
         kinds: single(
             alloc,
             Kind {
@@ -38,7 +49,7 @@ fn one_site(alloc: Global) -> Result<Declaration, OutOfMemory>
             },
         )?,
         objects: single(alloc, 0)?,
-        plans: single(alloc, plan(alloc)?)?,
+        plans: single(alloc, plan(alloc, weights, need)?)?,
         kind_names: single(alloc, kind_names(alloc)?)?,
         object_names: names(alloc, &["x"])?,
     })
@@ -100,15 +111,15 @@ fn kind_names(alloc: Global) -> Result<KindNames, OutOfMemory>
     })
 }
 
-/// The plan of the one epoch: R needs the site to read, and W0 and W1 need it
-/// to append.
-fn plan(alloc: Global) -> Result<Plan, OutOfMemory>
-    ensures { IfOk result (λ p. p ≡ one_plan) }
+/// The plan of the one epoch: R needs so much weight of sites to read, and W0
+/// and W1 need it to append.
+fn plan(alloc: Global, weights: &[u8], need: u16) -> Result<Plan, OutOfMemory>
+    ensures { IfOk result (λ p. p ≡ register_plan weights.now need) }
 {
     Ok(Plan {
-        weights: single(alloc, 1)?,
-        initial: needs(alloc, &[1, 0, 0])?,
-        last: needs(alloc, &[0, 0, 1, 1])?,
+        weights: List::from_slice(alloc, weights)?,
+        initial: needs(alloc, &[need, 0, 0])?,
+        last: needs(alloc, &[0, 0, need, need])?,
     })
 }
 

@@ -18,7 +18,7 @@ pub struct Row {
 }
 
 /// An invocation with its response.
-#[derive(Clone, Copy, PartialEq, Eq, Debug)]
+#[derive(Clone, Copy, PartialEq, Eq, Hash, Debug)]
 pub struct Event {
     /// The invocation.
     pub inv: u8,

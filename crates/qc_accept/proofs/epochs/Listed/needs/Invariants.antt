@@ -1,0 +1,7 @@
+use Rattle.std.proofs.Common.{◌≡◌}
+use Rattle.qc_accept.specs.Epochs.{needs_of}
+use Rattle.qc_accept.specs.Views.{listed_in, store_in}
+use Rattle.qc_accept.proofs.epochs.Listed.needs.Given as goal
+
+abbrev pub invariant-loop-object : goal.invariant-loop-object
+invariant-loop-object l = l.needs ≡ needs_of (store_in l.store) l.side (listed_in l.self) l.object

@@ -1,0 +1,17 @@
+use Rattle.std.proofs.Common.{◌≡◌, ◌++◌, ℕ, List, Ok, refl, ap, sym, ◌∙◌}
+use Rattle.std.specs.Prelude.{codes}
+use Rattle.std.proofs.lemmas.Result.{err_from_is_err_and}
+use Rattle.qc_accept.specs.Views.{path_in}
+use Rattle.qc_accept.proofs.Told.{then_err, then_ok, told_err, told_ok}
+use Rattle.qc_accept.proofs.epochs.read_plan.Goals as goal
+
+pub returns-in_err-items : goal.returns-in_err-items
+returns-in_err-items c =
+    let out = err_from_is_err_and c.from_residual.result c.from_residual.ensures.1 in
+    rw (out.1, out.2) (λ apart. then_err _ _ _ (then_err _ _ _ c.in_err-items.ensures) apart)
+
+pub returns-in_err-weights : goal.returns-in_err-weights
+returns-in_err-weights c =
+    let out = err_from_is_err_and c.from_residual.result c.from_residual.ensures.1 in
+    rw (out.1, out.2) (λ apart. then_err _ _ _ (λ apart. then_ok _ _ _ _ c.in_ok-items.ensures
+    (told_err (λ (ws : List ℕ). ws) (path_in c.args.fields.now ++ codes "weights") _ c.read_weights-read.result _ c.read_weights-read.ensures c.in_err-weights.ensures apart)) apart)

@@ -1,0 +1,8 @@
+use Rattle.std.proofs.Common.{◌≡◌, [], drop}
+use Rattle.qc_accept.specs.Answers.{read_each}
+use Rattle.qc_accept.specs.Epochs.{with_weight}
+use Rattle.qc_accept.specs.Views.{data_of}
+use Rattle.qc_accept.proofs.epochs.read_weights.Given as goal
+
+abbrev pub invariant-loop-item : goal.invariant-loop-item
+invariant-loop-item l = read_each with_weight [] (data_of l.items) ≡ read_each with_weight l.weights (drop l.item-index (data_of l.items))

@@ -1,0 +1,262 @@
+//! The types of a declaration.
+
+ghost use Rattle.std.specs.Prelude.{◌≡◌, ◌<◌, ◌≤◌, ◌++◌, [], ◌∷◌, length, map, IfOk, OnOk};
+ghost use Rattle.toml.specs.View.{view};
+ghost use Rattle.qc_accept.specs.Accept.{all_names, kind_names};
+ghost use Rattle.qc_accept.specs.Answers.{IsAnswer, IsReading};
+ghost use Rattle.qc_accept.specs.Fields.{name_among, names as names_of};
+ghost use Rattle.qc_accept.specs.Types.{AreFew, AreSome, TypeOf, name_at, table_of, type_of, types_of, with_type, words as words_of};
+ghost use Rattle.qc_accept.specs.Views.{names_in, path_in, table_in, type_in, types_in, words_in};
+
+use crate::fault::{DeclFault, Wrong};
+use crate::fields::{self, Fields};
+use crate::names::{self, Events, Index};
+use crate::{certificates, rows};
+use qc_cert::Triple;
+use qc_decl::{KindNames, KindNamesList, Kinds, Names};
+use qc_list::{List, Name, OutOfMemory};
+use qc_table::{Kind, Row, Table, TableFault};
+use std::alloc::Global;
+use toml::Value;
+
+/// The most types.
+const MOST_TYPES: usize = 8;
+
+/// The most states.
+const MOST_STATES: usize = 64;
+
+/// The most invocations, and the most responses.
+const MOST_WORDS: usize = 32;
+
+/// The most rows.
+const MOST_ROWS: usize = 131_072;
+
+/// The keys of a type.
+const KEYS: [&str; 8] = [
+    "name",
+    "states",
+    "start",
+    "invocations",
+    "responses",
+    "rows",
+    "depends",
+    "triples",
+];
+
+/// The words of a type.
+#[derive(Drop)]
+pub(crate) struct Words<'a> {
+    pub(crate) states: Index<'a>,
+    pub(crate) start: u8,
+    pub(crate) invs: Index<'a>,
+    pub(crate) resps: Index<'a>,
+}
+
+/// A type as it was read.
+#[derive(Drop)]
+pub(crate) struct TypeRead<'a> {
+    pub(crate) words: Words<'a>,
+    pub(crate) events: Events,
+    pub(crate) kind: Kind,
+    pub(crate) triples: List<Triple>,
+}
+
+/// The types as they were read, with their names.
+#[derive(Drop)]
+pub(crate) struct Types<'a> {
+    pub(crate) names: Index<'a>,
+    pub(crate) list: Vec<TypeRead<'a>>,
+}
+
+/// Reads the types.
+pub(crate) fn read_types<'a>(root: &Fields<'a>) -> Result<Types<'a>, DeclFault>
+    ensures { IsAnswer types_in result (types_of (path_in root.now) (table_in root.now)) }
+{
+    let items = root.items("type", 1, MOST_TYPES)?;
+    let mut types = Types {
+        names: Index::new(root.alloc),
+        list: Vec::new(root.alloc),
+    };
+    for item in items {
+        add_type(root.alloc, &mut types, item)?;
+    }
+    Ok(types)
+}
+
+/// Reads one type more.
+fn add_type<'a>(alloc: Global, types: &mut Types<'a>, item: &'a Value) -> Result<(), DeclFault>
+    requires names { length (names_in types.old.names) < 8 }
+    ensures { IsAnswer (λ _. types_in types.new) result (with_type (types_in types.old) (view item.now)) }
+{
+    let place = types.names.count();
+    let fields = Fields::of_item(alloc, "type", place, item)?;
+    let name = fields.required("name")?;
+    fields.told("name", types.names.add(name))?;
+    let read = read_type(&fields, place, &types.names)?;
+    add(&mut types.list, read)?;
+    Ok(())
+}
+
+/// Adds an item to a vector.
+fn add<T: Drop>(list: &mut Vec<T>, item: T) -> Result<(), OutOfMemory>
+    ensures { OnOk result (list.new.items ≡ list.old.items ++ item ∷ []) }
+{
+    list.push(item)?;
+    Ok(())
+}
+
+/// Reads what follows a type's name.
+fn read_type<'a>(
+    fields: &Fields<'a>,
+    place: u8,
+    names: &Index<'a>,
+) -> Result<TypeRead<'a>, DeclFault>
+    requires { place < length (names_in names.now) }
+    ensures { IsAnswer type_in result (type_of (path_in fields.now) (table_in fields.now) place (name_at (names_in names.now) place)) }
+{
+    let words = read_words(fields)?;
+    let items = fields.items("rows", 0, MOST_ROWS)?;
+    let rows = fields.told("rows", rows::rows(fields.alloc, &words, items))?;
+    let table = table_of(fields.alloc, place, names, &words, rows.items())?;
+    let events = Events::of(fields.alloc, &table)?;
+    let relation = fields.told(
+        "depends",
+        certificates::relation(fields.alloc, &words, &events, fields.optional("depends")?),
+    )?;
+    let triples = fields.told(
+        "triples",
+        certificates::triples(fields.alloc, &words, &events, fields.optional("triples")?),
+    )?;
+    fields.no_others(&KEYS)?;
+    Ok(TypeRead {
+        words,
+        events,
+        kind: Kind { table, relation },
+        triples,
+    })
+}
+
+/// Reads a type's words.
+fn read_words<'a>(fields: &Fields<'a>) -> Result<Words<'a>, DeclFault>
+    ensures { IsAnswer words_in result (words_of (path_in fields.now) (table_in fields.now)) }
+{
+    let states = read_names(fields, "states", MOST_STATES)?;
+    let start = fields.told("start", name_among(&states, fields.required("start")?))?;
+    let invs = read_names(fields, "invocations", MOST_WORDS)?;
+    let resps = read_names(fields, "responses", MOST_WORDS)?;
+    Ok(Words {
+        states,
+        start,
+        invs,
+        resps,
+    })
+}
+
+/// Reads a key's distinct names, at least one.
+fn read_names<'a>(fields: &Fields<'a>, key: &str, most: usize) -> Result<Index<'a>, DeclFault>
+    ensures { IsAnswer names_in result (names_of (path_in fields.now) (table_in fields.now) key.now most) }
+{
+    let items = fields.items(key, 1, most)?;
+    fields.told(key, names::read_index(fields.alloc, items))
+}
+
+/// The number of the name that a value is.
+pub(crate) fn name_among(names: &Index<'_>, value: &Value) -> Result<u8, Wrong>
+    requires { length (names_in names.now) ≤ 256 }
+    ensures { IsReading (λ n. n) result (name_among (names_in names.now) (view value.now)) }
+{
+    names.number(fields::text(value)?).ok_or(Wrong::Form)
+}
+
+/// The table of a type's rows.
+fn table_of(
+    alloc: Global,
+    kind: u8,
+    names: &Index<'_>,
+    words: &Words<'_>,
+    rows: &[Row],
+) -> Result<Table, DeclFault>
+    requires place { kind < length (names_in names.now) }
+    requires words { AreSome (words_in words.now) }
+    requires few { AreFew (words_in words.now) }
+    requires rows { length rows.now ≤ 131072 }
+    ensures { IsAnswer (λ table. table) result (table_of kind (name_at (names_in names.now) kind) (words_in words.now) rows.now) }
+{
+    let made = Table::new(
+        alloc,
+        words.states.count(),
+        words.invs.count(),
+        words.resps.count(),
+        words.start,
+        rows,
+    );
+    match made {
+        Ok(table) => Ok(table),
+        Err(TableFault::OutOfMemory) => Err(DeclFault::OutOfMemory),
+        Err(fault) => Err(DeclFault::Table {
+            kind,
+            fault,
+            names: names.single(alloc, kind)?,
+        }),
+    }
+}
+
+/// The types, their names and their triples, each by number.
+#[derive(Drop)]
+pub(crate) struct Sorted {
+    pub(crate) kinds: Kinds,
+    pub(crate) names: KindNamesList,
+    pub(crate) triples: List<List<Triple>>,
+}
+
+/// Sorts what was read of the types.
+pub(crate) fn sort_types(alloc: Global, types: Types<'_>) -> Result<Sorted, OutOfMemory>
+    requires { length (types_in types).names ≡ length (types_in types).list }
+    ensures { IfOk result (λ sorted.
+        (sorted.kinds ≡ map (λ (t : TypeOf). t.kind) (types_in types.entry).list)
+        × (sorted.names ≡ all_names (types_in types.entry).names (types_in types.entry).list)
+        × (sorted.triples ≡ map (λ (t : TypeOf). t.triples) (types_in types.entry).list)) }
+{
+    let mut sorted = Sorted {
+        kinds: List::new(alloc),
+        names: List::new(alloc),
+        triples: List::new(alloc),
+    };
+    let Types { names, list } = types;
+    let names = names.names(alloc)?;
+    for (read, name) in list.into_iter().zip(names.into_vec()) {
+        sorted.add(alloc, read, name)?;
+    }
+    Ok(sorted)
+}
+
+impl Sorted {
+    /// Adds a type.
+    fn add(&mut self, alloc: Global, read: TypeRead<'_>, name: Name) -> Result<(), OutOfMemory>
+        ensures { OnOk result ((self.new.kinds ≡ self.old.kinds ++ read.entry.kind ∷ []) × (self.new.names ≡ self.old.names ++ kind_names name (type_in read.entry) ∷ []) × (self.new.triples ≡ self.old.triples ++ read.entry.triples ∷ [])) }
+    {
+        let TypeRead {
+            words,
+            events,
+            kind,
+            triples,
+        } = read;
+        self.names.push(words.names(alloc, name)?)?;
+        self.kinds.push(kind)?;
+        self.triples.push(triples)
+    }
+}
+
+impl Words<'_> {
+    /// The names of the type of this name.
+    fn names(&self, alloc: Global, name: Name) -> Result<KindNames, OutOfMemory>
+        ensures { IfOk result (λ n. n ≡ record { name = name; states = names_in self.now.states; invs = names_in self.now.invs; resps = names_in self.now.resps }) }
+    {
+        Ok(KindNames {
+            name,
+            states: self.states.names(alloc)?,
+            invs: self.invs.names(alloc)?,
+            resps: self.resps.names(alloc)?,
+        })
+    }
+}
