@@ -7,7 +7,7 @@ mod limits;
 
 use crate::{DeclFault, accept};
 use qc_cert::CertFault;
-use qc_decl::{Declaration, Names, built_in};
+use qc_decl::Names;
 use qc_plan::PlanFault;
 use qc_table::TableFault;
 use std::alloc::{AllocError, Global};
@@ -133,20 +133,6 @@ fn check_edits(rt: &impl Abort, alloc: Global, rows: &[(&str, &str, &str)]) -> R
             *want,
             "where `{old}` is `{new}`"
         );
-    }
-    Ok(())
-}
-
-#[test]
-fn two_are_built_in(rt: HostRuntime) -> Result<(), Fail> {
-    let alloc = rt.alloc();
-    for (name, sites, weight) in [("@one", 1, 1), ("@three", 3, 2)] {
-        let decl = built_in(alloc, name)?.ok_or("not built in")?;
-        assert_eq!(rt; (decl.sites, decl.clients), (sites, sites), "at {name}");
-        assert_eq!(rt; decl.read_need(1, 0, 0), weight, "at {name}");
-    }
-    for name in ["@two", "one", "@One", "@one ", "@three ", ""] {
-        assert!(rt; built_in(alloc, name)?.is_none(), "at {name}");
     }
     Ok(())
 }

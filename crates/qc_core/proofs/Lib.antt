@@ -16,7 +16,6 @@ pub mod Ledger
 pub mod Sights
 pub mod ObjectTypes
 pub mod Faithful
-pub mod Register
 pub mod Walking
 pub mod Own
 pub mod Histories
@@ -42,4 +41,3 @@ pub mod Accounts
 pub mod Dues
 pub mod DueLaw
 pub mod LegalLaw
-pub mod OneLaws

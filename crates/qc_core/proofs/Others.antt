@@ -7,7 +7,6 @@ use Rattle.std.proofs.lemmas.Bool.{and_parts, ltb-true}
 use Rattle.std.proofs.lemmas.Bool.Decides.{nat_tests}
 use Rattle.qc_decl.specs.declared.declaration.Declaration.{Declaration}
 use Rattle.qc_decl.specs.Actors.{is_client}
-use Rattle.qc_decl.specs.One.{one}
 use Rattle.qc_msg.specs.declared.message.Envelope.{Envelope}
 use Rattle.qc_msg.specs.declared.step.Command.{Command}
 use Rattle.qc_msg.specs.declared.step.Given.{Given}
@@ -67,10 +66,6 @@ none_left a script asks (e ∷ h) = ap (λ (v : List Command). fold (orders_step
 
 pub asked_alone : (decl : Declaration) (script : Script) → AsksOnly 1 script → NoOthers decl script
 asked_alone decl script asks a h client = none_left a script asks h
-
--- the built-in declaration has no other clients
-pub one_alone : (script : Script) → NoOthers one script
-one_alone script a h client = absurd (let l : suc (suc a) < 2 = ltb-true (suc (suc a)) 2 (and_parts (nat_le 1 (suc (suc a))) (nat_lt (suc (suc a)) 2) client).1 in omega arith)
 
 -- where no message waits for it, nothing is ready for such an actor
 pub never_ready : (decl : Declaration) (script : Script) (a : ℕ) (h : List Entry) → NoOthers decl script → waiting (suc (suc a)) h ≡ [] → ready (single decl) script (suc (suc a)) h ≡ None

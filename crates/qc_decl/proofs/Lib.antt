@@ -1,1 +1,1 @@
-pub mod OneNames
+mod BuiltInRules

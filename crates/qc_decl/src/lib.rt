@@ -3,8 +3,9 @@
 //!
 //! Sites are numbered first, then clients, then the administrator, then the
 //! controller. Objects, types, states, invocations, responses and events are
-//! numbered from 0 in the declaration's order. The declaration `@one` is built
-//! in. Every crate that asks what a designer declared asks it here.
+//! numbered from 0 in the declaration's order. The declarations `@one` and
+//! `@three` are built in. Every crate that asks what a designer declared asks
+//! it here.
 #![tactic(auto)]
 
 mod declaration;

@@ -1,6 +1,7 @@
 //! The built-in declarations `@one` and `@three`.
 
 ghost use Rattle.std.specs.Prelude.{◌≡◌, [], ◌∷◌, map, IfOk, IfSome};
+ghost use Rattle.qc_decl.specs.Accepted.{IsAccepted};
 ghost use Rattle.qc_decl.specs.Named.{IsNamed};
 ghost use Rattle.qc_table.specs.Depends.{relation_of};
 ghost use Rattle.qc_decl.specs.One.{built_in_of, register, register_plan, register_store, register_names, register_pairs, register_rows, row as row_of};
@@ -14,9 +15,11 @@ use std::alloc::{AllocError, Global};
 /// The built-in declaration of this name, or `None` where there is none.
 /// `@one` is one site, one client, and a register over 0 and 1 named `x`;
 /// `@three` is the same with three sites and three clients, where each quorum
-/// is two of the sites.
+/// is two of the sites. Both keep the rules of accepted declarations.
+#[tactic(auto, using(crate::proofs::BuiltInRules::one_accepted, crate::proofs::BuiltInRules::three_accepted))]
 pub fn built_in(alloc: Global, name: &str) -> Result<Option<Declaration>, OutOfMemory>
     ensures built { IfOk result (λ d. d ≡ built_in_of name.now) }
+    ensures accepted { IfOk result (λ d. IfSome d IsAccepted) }
     ensures named { IfOk result (λ d. IfSome d IsNamed) }
 {
     if name == "@one" {
