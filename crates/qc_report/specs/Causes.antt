@@ -3,9 +3,10 @@ use Rattle.std.specs.Prelude.{ℕ, Bool, if◌then◌else◌, List, [], ◌++◌
 use Rattle.qc_outside.specs.declared.shelf.ShelfFault.{ShelfFault}
 use Rattle.qc_outside.specs.declared.shelf.ShelfFault.TheVariants as faults
 use Rattle.qc_report.specs.declared.cause.Cause.{Cause}
-use Rattle.qc_report.specs.declared.cause.Cause.TheVariants.{Done, NotBuilt, Shelf, Sink, Full, OutOfMemory}
+use Rattle.qc_report.specs.declared.cause.Cause.TheVariants.{Done, NotBuilt, Shelf, Declaration, Sink, Full, OutOfMemory}
 use Rattle.qc_msg.specs.declared.step.What.{What}
 use Rattle.qc_msg.specs.declared.step.What.TheVariants.{Steps, Operations, Carried}
+use Rattle.qc_report.specs.Declarations.{status_of_refused, refused_text, no_memory_text}
 
 -- want of memory is status 8 wherever it stands
 abbrev pub status_of_shelf : ShelfFault → ℕ
@@ -14,14 +15,12 @@ status_of_shelf _ = 4
 
 abbrev pub status_of : Cause → ℕ
 status_of Done = 0
+status_of (Declaration fault) = status_of_refused fault
 status_of (Shelf script fault) = status_of_shelf fault
 status_of Sink = 5
 status_of (Full what number) = 7
 status_of OutOfMemory = 8
 status_of NotBuilt = 9
-
-abbrev pub no_memory_text : List ℕ
-no_memory_text = codes "quorum: out of memory\n"
 
 -- which file it was
 abbrev pub file_text : Bool → List ℕ
@@ -43,6 +42,7 @@ abbrev pub cause_text_of : Cause → List ℕ
 cause_text_of Done = []
 cause_text_of NotBuilt = codes "quorum: not built\n"
 cause_text_of (Shelf script fault) = shelf_text script fault
+cause_text_of (Declaration fault) = refused_text fault
 cause_text_of Sink = codes "quorum: output failed\n"
 cause_text_of (Full what number) = codes "quorum: full: " ++ (what_text what ++ (decimal number ++ codes "\n"))
 cause_text_of OutOfMemory = no_memory_text

@@ -1,4 +1,5 @@
 pub mod Pieces
+pub mod Declarations
 pub mod Causes
 pub mod Parts
 pub mod Replies

@@ -3,15 +3,17 @@
 ghost use Rattle.std.specs.Prelude.{◌≡◌, IfOk, OnOk, ◌++◌};
 ghost use Rattle.qc_report.specs.Causes.{status_of, status_of_shelf, cause_text_of, shelf_text, file_text, what_text};
 
+use crate::declaration::{put_refused, refused_status};
 use crate::page::Page;
 use itoa::Buffer;
+use qc_accept::DeclFault;
 use qc_list::OutOfMemory;
 use qc_msg::What;
 use qc_outside::ShelfFault;
 use std::alloc::Global;
 
 /// Why a call of the program ended.
-#[derive(Clone, Copy, Debug, PartialEq, Eq)]
+#[derive(Drop)]
 pub enum Cause {
     /// All was done.
     Done,
@@ -19,6 +21,8 @@ pub enum Cause {
     NotBuilt,
     /// A file wasn't taken: the script's, or else the declaration's.
     Shelf { script: bool, fault: ShelfFault },
+    /// The declaration is refused.
+    Declaration(DeclFault),
     /// The output failed.
     Sink,
     /// A counted quantity reached its limit, and then had this number.
@@ -28,13 +32,15 @@ pub enum Cause {
 }
 
 impl Cause {
-    /// The program's exit status: 0 where all was done, 4 for a file, 5 for the
-    /// output, 7 for a limit, 8 for want of memory, 9 for what isn't built.
+    /// The program's exit status: 0 where all was done, 2 for a declaration
+    /// that is refused, 4 for a file, 5 for the output, 7 for a limit, 8 for want
+    /// of memory, 9 for what isn't built.
     pub fn status(&self) -> u8
         ensures { result ≡ status_of self.now }
     {
         match self {
             Cause::Done => 0,
+            Cause::Declaration(fault) => refused_status(fault),
             Cause::Shelf { fault, .. } => shelf_status(*fault),
             Cause::Sink => 5,
             Cause::Full { .. } => 7,
@@ -64,6 +70,7 @@ pub fn cause_text(alloc: Global, cause: &Cause) -> Result<Vec<u8>, OutOfMemory>
         Cause::Done => {}
         Cause::NotBuilt => page.put("quorum: not built\n")?,
         Cause::Shelf { script, fault } => shelf_text(&mut page, *script, *fault)?,
+        Cause::Declaration(fault) => put_refused(&mut page, fault)?,
         Cause::Sink => page.put("quorum: output failed\n")?,
         Cause::Full { what, number } => full_text(&mut page, *what, *number)?,
         Cause::OutOfMemory => page.put("quorum: out of memory\n")?,

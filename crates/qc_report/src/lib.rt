@@ -1,4 +1,5 @@
-//! The texts that the program prints: what a run gave, and why a call ended.
+//! The texts that the program prints: what a run gave, what a declaration has,
+//! and why a call ended.
 //!
 //! The text of a run has four sections, each read off the history alone: the
 //! replies, in the script's order; the log of what committed, in the order of
@@ -10,6 +11,7 @@
 
 mod cause;
 mod committed;
+mod declaration;
 mod laws;
 mod log_lines;
 mod names;
@@ -26,5 +28,6 @@ mod tests;
 mod walk;
 
 pub use cause::{Cause, cause_text};
+pub use declaration::accepted_text;
 pub use laws::replays_are_one_copy;
 pub use report::text;

@@ -6,7 +6,7 @@ ghost use Rattle.qc_report.specs.Parts.{name_at, names_of, object_name, invocati
 use qc_decl::{Declaration, KindNames, Names};
 
 /// The name with this number, and no byte where there is none.
-fn name_at(names: &Names, place: usize) -> &str
+pub(crate) fn name_at(names: &Names, place: usize) -> &str
     ensures { result.now ≡ name_at names.now place }
 {
     match names.items().get(place) {

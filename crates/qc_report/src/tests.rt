@@ -1,6 +1,8 @@
 //! The whole text of three histories that were written by hand, and the text of
 //! each cause.
 
+mod declarations;
+
 use crate::{Cause, cause_text, text};
 use qc_decl::built_in;
 use qc_entry::{Commit, Log, Op, OwnLine, Prepared, ReadLock};
