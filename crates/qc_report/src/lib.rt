@@ -6,7 +6,7 @@
 //! the stamps; the states after a replay of it; and the sites. Each function
 //! that adds to a page adds exactly what its definition in `specs/` says. The
 //! work is linear in the history, but for the commits, which are sorted, and a
-//! site's walk, which does what the site did. The top call prints both texts.
+//! site's walk, which does what the site did. The top call prints these texts.
 #![tactic(auto)]
 
 mod cause;
