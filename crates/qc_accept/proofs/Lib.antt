@@ -9,6 +9,7 @@ pub mod Indexed
 pub mod Kept
 pub mod ListTexts
 pub mod Outs
+pub mod Placed
 pub mod Planned
 pub mod Reading
 pub mod Sorted

@@ -15,7 +15,7 @@ returns-in_err-items c =
 
 pub returns-in_err-listed : goal.returns-in_err-listed
 returns-in_err-listed c =
-    let out = err_from_is_err_and c.from_residual.result c.from_residual.ensures.1 in
+    let out = err_from_is_err_and c.from_residual-in_err-listed.result c.from_residual-in_err-listed.ensures.1 in
     rw (out.1, out.2) (λ apart. then_ok _ _ _ _ c.in_ok-items.ensures
     (then_err _ _ _ (told_err listed_in (path_in c.args.fields.now ++ c.args.key.now) _ c.read_listed-read.result _ c.read_listed-read.ensures c.in_err-listed.ensures) apart))
 

@@ -1,4 +1,5 @@
-use Rattle.std.proofs.Common.{◌≤◌, length, map, length-map, arith}
+use Rattle.std.proofs.Common.{◌≤◌, length, map, arith}
+use Rattle.std.proofs.lemmas.List.{length-map}
 use Rattle.std.proofs.lemmas.Result.{err_from_is_err_and}
 use Rattle.toml.specs.View.{view}
 use Rattle.qc_accept.specs.Epochs.{with_item}

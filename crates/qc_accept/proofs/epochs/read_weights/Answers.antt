@@ -1,5 +1,6 @@
-use Rattle.std.proofs.Common.{◌≤◌, ◌++◌, ℕ, [], ◌∷◌, Some, length, map, length-map, ap, sym, ◌∙◌, arith}
+use Rattle.std.proofs.Common.{◌≤◌, ◌++◌, ℕ, [], ◌∷◌, Some, length, map, ap, sym, ◌∙◌, arith}
 use Rattle.std.specs.Prelude.{option_map}
+use Rattle.std.proofs.lemmas.List.{length-map}
 use Rattle.std.proofs.lemmas.Result.{err_from_is_err_and}
 use Rattle.toml.specs.View.{view}
 use Rattle.qc_accept.specs.Epochs.{with_weight}

@@ -15,21 +15,21 @@ returns-in_err-name c = rw c.from_residual.ensures (sym (no_words (store_in c.ar
 
 pub returns-in_err-object : goal.returns-in_err-object
 returns-in_err-object c =
-    rw c.from_residual.ensures (sym (no_object (store_in c.args.self.now) c.args.side c.args.text.now _ _ _ c.in_ok-name.ensures (sym c.in_err-object.ensures.number)))
+    rw c.from_residual-in_err-object.ensures (sym (no_object (store_in c.args.self.now) c.args.side c.args.text.now _ _ _ c.in_ok-name.ensures (sym c.in_err-object.ensures.number)))
 
 pub returns-in_err-kind : goal.returns-in_err-kind
 returns-in_err-kind c =
-    rw c.from_residual.ensures (sym (no_kind (store_in c.args.self.now) c.args.side c.args.text.now _ _ _ c.in_ok-name.ensures c.in_ok-object.object c.in_ok-object.ensures.number
+    rw c.from_residual-in_err-kind.ensures (sym (no_kind (store_in c.args.self.now) c.args.side c.args.text.now _ _ _ c.in_ok-name.ensures c.in_ok-object.object c.in_ok-object.ensures.number
     (sym c.in_err-kind.ensures)))
 
 pub returns-in_err-place : goal.returns-in_err-place
 returns-in_err-place c =
-    rw c.from_residual.ensures (sym (no_place (store_in c.args.self.now) c.args.side c.args.text.now _ _ _ c.in_ok-name.ensures c.in_ok-object.object c.in_ok-object.ensures.number
+    rw c.from_residual-in_err-place.ensures (sym (no_place (store_in c.args.self.now) c.args.side c.args.text.now _ _ _ c.in_ok-name.ensures c.in_ok-object.object c.in_ok-object.ensures.number
     (type_in c.in_ok-kind.kind.now) c.in_ok-kind.ensures (sym c.in_err-place.ensures)))
 
 pub returns-in_err-threshold : goal.returns-in_err-threshold
 returns-in_err-threshold c =
-    rw c.from_residual.ensures (sym (no_threshold (store_in c.args.self.now) c.args.side c.args.text.now _ _ _ c.in_ok-name.ensures c.in_ok-object.object c.in_ok-object.ensures.number
+    rw c.from_residual-in_err-threshold.ensures (sym (no_threshold (store_in c.args.self.now) c.args.side c.args.text.now _ _ _ c.in_ok-name.ensures c.in_ok-object.object c.in_ok-object.ensures.number
     (type_in c.in_ok-kind.kind.now) c.in_ok-kind.ensures c.in_ok-place.place c.in_ok-place.ensures (sym c.in_err-threshold.ensures)))
 
 pub returns : goal.returns
