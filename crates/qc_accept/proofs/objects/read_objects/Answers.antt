@@ -1,28 +1,12 @@
-use Rattle.std.proofs.Common.{◌≡◌, ◌+◌, ◌≤◌, ◌<◌, ℕ, length, map, refl, ap, sym, ◌∙◌, arith}
-use Rattle.std.specs.Prelude.{codes}
-use Rattle.std.proofs.lemmas.List.{length-map}
+use Rattle.std.proofs.Common.{◌+◌, ℕ, ap, ◌∙◌}
 use Rattle.std.proofs.lemmas.Result.{err_from_is_err_and}
 use Rattle.toml.specs.View.{view}
 use Rattle.qc_accept.specs.Objects.{with_object}
-use Rattle.qc_accept.specs.Views.{data_of, names_in, objects_in, path_in, table_in}
-use Rattle.qc_accept.proofs.Answered.{so_many}
-use Rattle.qc_accept.proofs.Placed.{object_counted}
-use Rattle.qc_accept.proofs.Reading.{ends, goes_on, item_seen, stops}
-use Rattle.qc_accept.proofs.Told.{then_err, then_ok}
+use Rattle.qc_accept.specs.Views.{data_of, names_in, objects_in}
+use Rattle.qc_accept.proofs.Counted.{object_counted}
+use Rattle.qc_accept.proofs.Reading.{goes_on, item_seen, stops}
+use Rattle.qc_accept.proofs.Told.{then_ok}
 use Rattle.qc_accept.proofs.objects.read_objects.Goals as goal
-
-pub add_object-requires : goal.add_object-requires
-add_object-requires c =
-    let few = so_many (path_in c.args.root.now) (table_in c.args.root.now) (codes "object") 1 16 (data_of c.in_ok-items.items.now) c.in_ok-items.ensures in
-    record {
-      types = c.requires;
-      names = omega (arith, few.1, length-map c.in_ok-items.items.now view);
-    }
-
-pub returns-in_err-items : goal.returns-in_err-items
-returns-in_err-items c =
-    let out = err_from_is_err_and c.from_residual.result c.from_residual.ensures.1 in
-    rw (out.1, out.2) (then_err _ _ _ c.in_err-items.ensures)
 
 pub returns-in_err-add_object : goal.returns-in_err-add_object
 returns-in_err-add_object c =
@@ -40,9 +24,3 @@ loop-item-preserved c = record {
   many = object_counted (names_in c.args.types.now.names) (objects_in c.loop-item.objects) (view c.item-item.result) _ c.in_ok-add_object.ensures
       ∙ ap (λ (n : ℕ). n + 1) c.loop-item.invariant.many;
 }
-
-pub returns : goal.returns
-returns c =
-    let past : length (map view c.in_ok-items.items.now) ≤ c.loop-item.item-index = omega (arith, length-map c.in_ok-items.items.now view) in
-    then_ok _ _ _ _ c.in_ok-items.ensures
-    (ends (with_object (names_in c.args.types.now.names)) (objects_in c.loop-item.objects) (data_of c.in_ok-items.items.now) c.loop-item.item-index _ past c.loop-item.invariant.reads)
