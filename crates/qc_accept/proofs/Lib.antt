@@ -2,6 +2,7 @@ pub mod Accepting
 pub mod Alike
 pub mod Answered
 pub mod Checking
+pub mod Counted
 pub mod Digits
 pub mod DraftRead
 pub mod Drafted
@@ -9,7 +10,6 @@ pub mod Indexed
 pub mod Kept
 pub mod ListTexts
 pub mod Outs
-pub mod Planned
 pub mod Reading
 pub mod Sorted
 pub mod Steps

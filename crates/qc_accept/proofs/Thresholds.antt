@@ -1,5 +1,5 @@
 -- Thresholds as a map has them, and as the definition lists them.
-use Rattle.std.proofs.Common.{◌≡◌, ℕ, ◌+◌, Bool, true, false, cond, List, [], ◌∷◌, ◌++◌, Option, Some, None, is_some, map, add-one, refl, sym, ap, ◌∙◌}
+use Rattle.std.proofs.Common.{◌≡◌, ℕ, Bool, true, false, cond, List, [], ◌∷◌, ◌++◌, Option, Some, None, is_some, map, refl, sym, ap, ◌∙◌}
 use Rattle.std.specs.Prelude.{◌==◌, ◌&&◌, ◌||◌, not, if◌then◌else◌, find, unwrap_or}
 use Rattle.std.specs.List.{list_any}
 use Rattle.std.specs.Map.{lookup}
@@ -7,8 +7,7 @@ use Rattle.std.specs.Option.{option_map_or}
 use Rattle.std.proofs.lemmas.Cmp.{nat_eq_equiv}
 use Rattle.std.proofs.lemmas.List.{map-append}
 use Rattle.indexmap.specs.IndexMap.{insert_entry}
-use Rattle.qc_accept.specs.declared.epochs.Side.{Side}
-use Rattle.qc_accept.specs.Epochs.{EntryOf, StoreOf, is_at, needs_of, places_of, threshold_of, thresholds, with_entry}
+use Rattle.qc_accept.specs.Epochs.{EntryOf, is_at, threshold_of, with_entry}
 use Rattle.qc_accept.specs.Views.{entry_at}
 
 -- whether a key is of this object and place
@@ -70,16 +69,3 @@ module _ (object place : ℕ) where
       ap (λ (b : Bool). if b then None else Some (map entry_at entries ++ entry_at ((object, place), t) ∷ [])) (any_found entries ∙ ap is_some (sym was))
   entry_added t entries new None false was is told = absurd (let never : ⊥ = cc in never)
   entry_added t entries new (Some before) true was is told = absurd (let never : ⊥ = cc in never)
-
--- one place more
-pub thresholds_more : (entries : List EntryOf) (object place : ℕ) (list more : List ℕ) (t : ℕ) → list ≡ thresholds entries object place → t ≡ threshold_of entries object place
-    → more ≡ list ++ t ∷ [] → more ≡ thresholds entries object (place + 1)
-thresholds_more entries object place list more t so_far is next =
-    next ∙ (λ j. so_far j ++ is j ∷ []) ∙ ap (thresholds entries object) (sym (add-one place))
-
--- one object more
-pub needs_more : (store : StoreOf) (side : Side) (entries : List EntryOf) (object : ℕ) (needs more : List (List ℕ)) (n : ℕ) (list : List ℕ)
-    → needs ≡ needs_of store side entries object → n ≡ places_of store side object → list ≡ thresholds entries object n → more ≡ needs ++ list ∷ []
-    → more ≡ needs_of store side entries (object + 1)
-needs_more store side entries object needs more n list so_far many is next =
-    next ∙ (λ j. so_far j ++ (is ∙ ap (thresholds entries object) many) j ∷ []) ∙ ap (needs_of store side entries) (sym (add-one object))

@@ -1,9 +1,8 @@
-use Rattle.std.proofs.Common.{◌≤◌, length, map, length-map, arith}
 use Rattle.std.proofs.lemmas.Result.{err_from_is_err_and}
 use Rattle.toml.specs.View.{view}
 use Rattle.qc_accept.specs.Epochs.{with_item}
 use Rattle.qc_accept.specs.Views.{data_of, listed_in, store_in}
-use Rattle.qc_accept.proofs.Reading.{item_seen, reads_on, reads_none, reads_all}
+use Rattle.qc_accept.proofs.Reading.{item_seen, reads_on, reads_none}
 use Rattle.qc_accept.proofs.epochs.read_listed.Goals as goal
 
 pub returns-in_err-add_item : goal.returns-in_err-add_item
@@ -18,8 +17,3 @@ loop-item-preserved c =
     reads_on (with_item (store_in c.args.store.now) c.args.side) (listed_in c.loop-item.listed) _ (data_of c.args.items.now) c.loop-item.item-index (view c.item-item.result) _
     (item_seen view c.args.items.now c.loop-item.item-index c.item-item.result c.loop-item-test.true c.item-item.is)
     c.in_ok-add_item.ensures c.loop-item.invariant
-
-pub returns : goal.returns
-returns c =
-    let past : length (map view c.args.items.now) ≤ c.loop-item.item-index = omega (arith, length-map c.args.items.now view) in
-    reads_all (with_item (store_in c.args.store.now) c.args.side) (listed_in c.loop-item.listed) (data_of c.args.items.now) c.loop-item.item-index _ past c.loop-item.invariant

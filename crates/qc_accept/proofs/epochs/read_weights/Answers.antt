@@ -1,10 +1,10 @@
-use Rattle.std.proofs.Common.{◌≤◌, ◌++◌, ℕ, [], ◌∷◌, Some, length, map, length-map, ap, sym, ◌∙◌, arith}
+use Rattle.std.proofs.Common.{◌++◌, ℕ, [], ◌∷◌, Some, ap, sym, ◌∙◌}
 use Rattle.std.specs.Prelude.{option_map}
 use Rattle.std.proofs.lemmas.Result.{err_from_is_err_and}
 use Rattle.toml.specs.View.{view}
 use Rattle.qc_accept.specs.Epochs.{with_weight}
 use Rattle.qc_accept.specs.Views.{data_of}
-use Rattle.qc_accept.proofs.Reading.{item_seen, reads_on, reads_none, reads_all}
+use Rattle.qc_accept.proofs.Reading.{item_seen, reads_on, reads_none}
 use Rattle.qc_accept.proofs.epochs.read_weights.Goals as goal
 
 pub returns-in_err-weight : goal.returns-in_err-weight
@@ -19,8 +19,3 @@ loop-item-preserved c =
     reads_on with_weight c.loop-item.weights _ (data_of c.args.items.now) c.loop-item.item-index (view c.item-item.result) _
     (item_seen view c.args.items.now c.loop-item.item-index c.item-item.result c.loop-item-test.true c.item-item.is)
     (ap (option_map (λ (w : ℕ). c.loop-item.weights ++ w ∷ [])) c.in_ok-weight.ensures ∙ ap Some (sym c.in_ok-push.ensures.ok)) c.loop-item.invariant
-
-pub returns : goal.returns
-returns c =
-    let past : length (map view c.args.items.now) ≤ c.loop-item.item-index = omega (arith, length-map c.args.items.now view) in
-    reads_all with_weight c.loop-item.weights (data_of c.args.items.now) c.loop-item.item-index _ past c.loop-item.invariant

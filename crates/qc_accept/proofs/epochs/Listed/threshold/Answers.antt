@@ -1,5 +1,3 @@
-use Rattle.std.proofs.Common.{ap, ◌∙◌}
-use Rattle.std.specs.Prelude.{unwrap_or}
 use Rattle.qc_accept.proofs.Thresholds.{threshold_found}
 use Rattle.qc_accept.proofs.epochs.Listed.threshold.Goals as goal
 
