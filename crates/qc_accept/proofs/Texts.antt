@@ -1,5 +1,5 @@
 -- Where a text is cut, and whether it has a byte.
-use Rattle.std.proofs.Common.{◌≡◌, ◌≢◌, ℕ, ◌+◌, ◌<◌, Bool, true, false, not, cond, ltb, List, [], ◌∷◌, Option, Some, None, get_or, length, take, drop, refl, sym, ap, suc, ◌∙◌, arith}
+use Rattle.std.proofs.Common.{◌≡◌, ◌≢◌, ℕ, ◌+◌, ◌<◌, Bool, true, false, not, cond, List, [], ◌∷◌, Option, Some, None, get_or, length, take, drop, refl, sym, ap, suc, ◌∙◌, arith}
 use Rattle.std.specs.Prelude.{◌==◌, ◌&&◌, ◌||◌, ◌≤◌, if◌then◌else◌, option_map, option_and_then}
 use Rattle.std.specs.Borrow.{Bor}
 use Rattle.std.specs.Bool.{MatchBool}
@@ -19,15 +19,18 @@ cut_around c (b ∷ s) l = by (b == c) l (cut_around c s)
     n : ℕ
     n = position_or_len (λ x. x == c) s
 
-    next : 1 + n ≡ suc n
-    next = omega arith
+    before : suc n ≡ 1 + n
+    before = omega arith
+
+    behind : suc (n + 1) ≡ 1 + n + 1
+    behind = omega arith
 
     by : (t : Bool) → cond (not t) (1 + n) 0 < suc (length s) → (n < length s → cut c s ≡ Some (take n s, drop (n + 1) s))
         → cond {A = Option (List ℕ × List ℕ)} t (Some ([], s)) (option_map (λ p. (b ∷ p.0, p.1)) (cut c s)) ≡ Some (take (cond (not t) (1 + n) 0) (b ∷ s), drop (cond (not t) (1 + n) 0 + 1) (b ∷ s))
     by true l more = refl
     by false l more =
         ap (option_map (λ (p : List ℕ × List ℕ). (b ∷ p.0, p.1))) (more (omega arith))
-        ∙ sym (ap (λ (k : ℕ). Some (take k (b ∷ s), drop (k + 1) (b ∷ s))) next)
+        ∙ (λ j. Some (take (before j) (b ∷ s), drop (behind j) (b ∷ s)))
 
 -- and a text without is not cut
 cut_nowhere : (c : ℕ) (s : List ℕ) → position_or_len (λ b. b == c) s ≡ length s → cut c s ≡ None

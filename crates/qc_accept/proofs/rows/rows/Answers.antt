@@ -1,8 +1,7 @@
-use Rattle.std.proofs.Common.{◌≡◌, ap, sym, ◌∙◌}
 use Rattle.std.proofs.lemmas.Result.{err_from_is_err_and}
 use Rattle.qc_accept.specs.Types.{row_in}
 use Rattle.qc_accept.specs.Views.{words_in}
-use Rattle.qc_accept.proofs.ListTexts.{takes, no_text, no_item, takes_all}
+use Rattle.qc_accept.proofs.ListTexts.{takes, no_text, no_item}
 use Rattle.qc_accept.proofs.rows.rows.Goals as goal
 
 pub returns-in_err-text : goal.returns-in_err-text

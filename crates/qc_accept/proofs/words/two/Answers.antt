@@ -1,4 +1,4 @@
-use Rattle.std.proofs.Common.{◌≡◌, ℕ, List, Some, None, sym, ap, ◌∙◌, arith}
+use Rattle.std.proofs.Common.{Some, None, ◌∙◌, arith}
 use Rattle.qc_accept.proofs.Texts.{split_is_cut, contains_is_any, two_uncut, two_more, two_words}
 use Rattle.qc_accept.proofs.words.two.Goals as goal
 

@@ -1,7 +1,7 @@
-use Rattle.std.proofs.Common.{◌≡◌, ◌++◌, Vec, Global, Option, List, map, None, Ok, Err, ap, sym, ◌∙◌, inl, inr, arith}
+use Rattle.std.proofs.Common.{◌≡◌, ◌++◌, Vec, Global, List, map, None, Ok, Err, ap, sym, ◌∙◌, inl, inr, arith}
 use Rattle.std.specs.Prelude.{option_map}
 use Rattle.std.specs.Borrow.{Bor}
-use Rattle.toml.specs.Data.{Data, Items}
+use Rattle.toml.specs.Data.{Data}
 use Rattle.toml.specs.View.{view, array_view}
 use Rattle.toml.specs.declared.value.Value.{Value}
 use Rattle.qc_accept.specs.declared.fault.DeclFault.{DeclFault}

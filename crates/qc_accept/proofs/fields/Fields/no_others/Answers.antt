@@ -1,4 +1,4 @@
-use Rattle.std.proofs.Common.{◌≡◌, map, ap, sym, ◌∙◌}
+use Rattle.std.proofs.Common.{map, ap, sym, ◌∙◌}
 use Rattle.qc_accept.proofs.Tables.{other_of, other_in}
 use Rattle.qc_accept.proofs.fields.Fields.no_others.Goals as goal
 

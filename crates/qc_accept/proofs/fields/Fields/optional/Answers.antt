@@ -1,4 +1,4 @@
-use Rattle.std.proofs.Common.{◌≡◌, ◌++◌, [], Vec, Global, Option, List, Ok, Err, Some, map, ap, sym, ◌∙◌}
+use Rattle.std.proofs.Common.{◌++◌, [], Vec, Global, Option, List, Ok, Err, Some, map, ap, sym, ◌∙◌}
 use Rattle.std.specs.Prelude.{option_map}
 use Rattle.std.specs.Borrow.{Bor}
 use Rattle.std.specs.Option.{option_map_or}

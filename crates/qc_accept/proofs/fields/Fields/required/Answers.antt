@@ -1,8 +1,7 @@
-use Rattle.std.proofs.Common.{◌≡◌, ◌++◌, Option, Ok, Err, Some, None, ap, sym, ◌∙◌}
+use Rattle.std.proofs.Common.{◌++◌, Err, ap, sym, ◌∙◌}
 use Rattle.std.specs.Prelude.{option_map}
 use Rattle.std.specs.Borrow.{Bor}
 use Rattle.toml.proofs.Views.{table_get}
-use Rattle.toml.specs.Data.{Data}
 use Rattle.toml.specs.View.{view}
 use Rattle.toml.specs.declared.value.Value.{Value}
 use Rattle.qc_accept.specs.declared.fault.DeclFault.{DeclFault}

@@ -1,4 +1,4 @@
-use Rattle.std.proofs.Common.{◌≡◌, ◌<◌, List, length, take, get_or, refl, sym, subst, ◌∙◌}
+use Rattle.std.proofs.Common.{refl, sym, subst, ◌∙◌}
 use Rattle.std.proofs.lemmas.List.{take_all}
 use Rattle.qc_table.proofs.Distinct.{AreDistinct, events_distinct}
 use Rattle.qc_accept.proofs.Indexed.{event_inserted}
