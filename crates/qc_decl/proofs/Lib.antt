@@ -1,1 +1,1 @@
-mod BuiltInRules
+pub mod BuiltInRules

@@ -1,13 +1,13 @@
 -- The loop's state after one event, and what its calls need.
-use Rattle.std.proofs.Common.{◌≡◌, ℕ, ◌+◌, ◌-◌, ◌<◌, ◌≤◌, ◌^◌, Bool, true, false, List, [], ◌∷◌, ◌++◌, length, Some, Result, Ok, Err, OnOk, refl, ap, sym, subst, ◌∙◌, arith, slice_get, nat_lt}
+use Rattle.std.proofs.Common.{◌≡◌, ℕ, ◌+◌, ◌-◌, ◌<◌, ◌≤◌, ◌^◌, Bool, true, false, List, [], ◌∷◌, ◌++◌, length, Some, Result, Ok, Err, OnOk, refl, ap, sym, subst, ◌∙◌, arith, slice_get}
 use Rattle.qc_core.proofs.BoundLaw.{runs_are_bounded}
 use Rattle.qc_core.proofs.OrderLaw.{law}
 use Rattle.qc_core.proofs.Sites.{site_small}
 use Rattle.qc_core.specs.Bounds.{IsBounded, front_at}
 use Rattle.std.specs.Prelude.{replicate}
-use Rattle.qc_core.specs.Conduct.{IsLawful, IsRun}
+use Rattle.qc_core.specs.Conduct.{IsRun}
 use Rattle.qc_decl.specs.declared.declaration.Declaration.{Declaration}
-use Rattle.qc_decl.specs.Actors.{client_actor, controller, is_site}
+use Rattle.qc_decl.specs.Actors.{actors, client_actor, controller}
 use Rattle.qc_front.specs.declared.front.Front.{Front}
 use Rattle.qc_front.specs.Conduct.{called, front_after, heard}
 use Rattle.qc_front.specs.Fits.{ClockFits, FrontFits, HasRoom}
@@ -32,11 +32,12 @@ use Rattle.qc_script.specs.declared.script.Script.{Script}
 use Rattle.qc_script.specs.Ready.{asked_in, asked_of, phase_of}
 use Rattle.qc_script.proofs.Grows.{busy_after}
 use Rattle.qc_site.specs.Conduct.{site_on}
-use Rattle.qc_script.specs.Runs.{Runs, begins}
+use Rattle.qc_script.specs.Runs.{begins}
 use Rattle.qc_site.specs.Site.{SiteState, new_site}
 use Rattle.qc_top.specs.declared.engine.Engine.{Engine}
 use Rattle.qc_top.specs.At.{IsAt, IsCallable, IsPosted, IsQuiet}
-use Rattle.qc_top.specs.Engine.{IsOne, Stands}
+use Rattle.qc_top.specs.Engine.{AsksFirst, Stands}
+use Rattle.qc_top.proofs.Inputs.{front_site}
 use Rattle.qc_top.proofs.Turns.{called_event, heard_event, phase_event, site_event}
 
 -- a fact for an answer that isn't want of memory
@@ -50,16 +51,16 @@ lands : (decl : Declaration) (script : Script) (new : Engine) (h : List Entry) (
     → Stands decl script h s f x y l b k n → IsAt decl script new
 lands decl script new h s f x y l b k n eh es ef ex ey el eb ek en st = rw (eh, es, ef, ex, ey, el, eb, ek, en) st
 
--- the client is actor 1
-client_is_one : (decl : Declaration) (client : ℕ) → IsOne decl → client ≡ client_actor decl 0 → client ≡ 1
-client_is_one decl client one is = is ∙ ap (λ (n : ℕ). n + 0) one.sites
+-- the first client is actor 1
+client_is_one : (decl : Declaration) (client : ℕ) → decl.sites ≡ 1 → client ≡ client_actor decl 0 → client ≡ 1
+client_is_one decl client sites is = is ∙ ap (λ (n : ℕ). n + 0) sites
 
 -- the site has taken a message
 pub site_lands : (decl : Declaration) (script : Script) (old mid new : Engine) (e : Envelope) (client : ℕ) (turn : Turn)
     → IsAt decl script old → old.site_box.items ≡ e ∷ mid.site_box.items → site_on old.site e.from e.number e.message ≡ record { site = mid.site; turn = turn }
     → mid ≡ record old { site = mid.site; site_box = mid.site_box } → client ≡ client_actor decl 0 → IsPosted mid new client 0 (Got e.number) turn → IsAt decl script new
 site_lands decl script old mid new e client turn st popped handled kept client_is p =
-    let one : client ≡ 1 = client_is_one decl client st.one client_is in
+    let one : client ≡ 1 = client_is_one decl client st.first.sites client_is in
     let before : Stands decl script old.history old.site old.front (e ∷ mid.site_box.items) old.front_box.items old.orders.items old.busy old.last_phase old.sent =
     subst (λ (w : List Envelope). Stands decl script old.history old.site old.front w old.front_box.items old.orders.items old.busy old.last_phase old.sent) popped st in
     lands decl script new _ _ _ _ _ _ _ _ _
@@ -80,7 +81,7 @@ pub heard_lands : (decl : Declaration) (script : Script) (old mid new : Engine) 
     → mid.front ≡ front_sent after old.sent → mid.busy ≡ busy_after old.busy turn.told
     → mid ≡ record old { front = mid.front; front_box = mid.front_box; busy = mid.busy } → client ≡ client_actor decl 0 → IsPosted mid new client client (Got e.number) turn → IsAt decl script new
 heard_lands decl script old mid new e client after turn st popped handled numbered busy kept client_is p =
-    let one : client ≡ 1 = client_is_one decl client st.one client_is in
+    let one : client ≡ 1 = client_is_one decl client st.first.sites client_is in
     let before : Stands decl script old.history old.site old.front old.site_box.items (e ∷ mid.front_box.items) old.orders.items old.busy old.last_phase old.sent =
     subst (λ (w : List Envelope). Stands decl script old.history old.site old.front old.site_box.items w old.orders.items old.busy old.last_phase old.sent) popped st in
     lands decl script new _ _ _ _ _ _ _ _ _
@@ -101,7 +102,7 @@ pub called_lands : (decl : Declaration) (script : Script) (old mid new : Engine)
     → mid.front ≡ front_sent after old.sent → mid.busy ≡ busy_after true turn.told
     → mid ≡ record old { front = mid.front; orders = mid.orders; busy = mid.busy } → client ≡ client_actor decl 0 → IsPosted mid new client client (Called command) turn → IsAt decl script new
 called_lands decl script old mid new command client after turn st free popped handled numbered busy kept client_is p =
-    let one : client ≡ 1 = client_is_one decl client st.one client_is in
+    let one : client ≡ 1 = client_is_one decl client st.first.sites client_is in
     let before : Stands decl script old.history old.site old.front old.site_box.items [] (command ∷ mid.orders.items) false old.last_phase old.sent =
     subst (λ (w : List Envelope). Stands decl script old.history old.site old.front old.site_box.items w (command ∷ mid.orders.items) false old.last_phase old.sent) free.front
     (subst (λ (b : Bool). Stands decl script old.history old.site old.front old.site_box.items old.front_box.items (command ∷ mid.orders.items) b old.last_phase old.sent) free.free
@@ -131,7 +132,7 @@ pub phase_lands : (decl : Declaration) (script : Script) (old new : Engine) (p :
     → new.history ≡ old.history ++ marked ctl (Phase (old.last_phase + 1)) ∷ [] → new.orders.items ≡ old.orders.items ++ asked_of client p.commands
     → new ≡ record old { history = new.history; orders = new.orders; last_phase = old.last_phase + 1 } → IsAt decl script new
 phase_lands decl script old new p client ctl st quiet more there client_is ctl_is history orders kept =
-    let one : client ≡ 1 = client_is_one decl client st.one client_is in
+    let one : client ≡ 1 = client_is_one decl client st.first.sites client_is in
     let before : Stands decl script old.history old.site old.front [] [] old.orders.items old.busy old.last_phase old.sent =
     subst (λ (w : List Envelope). Stands decl script old.history old.site old.front w [] old.orders.items old.busy old.last_phase old.sent) quiet.site
     (subst (λ (w : List Envelope). Stands decl script old.history old.site old.front old.site_box.items w old.orders.items old.busy old.last_phase old.sent) quiet.front st) in
@@ -150,18 +151,15 @@ phase_lands decl script old new p client ctl st quiet more there client_is ctl_i
 -- what the calls of one event need
 
 run_of : (decl : Declaration) (script : Script) (e : Engine) → IsAt decl script e → IsRun decl script e.history
-run_of decl script e st = (false ∷ false ∷ [], st.runs)
+run_of decl script e st = (replicate (actors decl) false, st.runs)
 
 bounds : (decl : Declaration) (script : Script) (e : Engine) → IsAt decl script e → IsBounded decl e.history
 bounds decl script e st = runs_are_bounded decl script e.history (run_of decl script e st)
 
-no_site : (decl : Declaration) → IsOne decl → is_site decl 1 ≡ false
-no_site decl one = ap (λ (n : ℕ). nat_lt 1 n) one.sites
-
 pub front_fits : (decl : Declaration) (script : Script) (e : Engine) → IsAt decl script e → length e.history < 262144 → FrontFits e.front
 front_fits decl script e st below =
-    let same : (front_at decl 1 e.history).front ≡ e.front = ap (λ (k : ℕ). (front_after decl (1 - k) (deeds 1 [] e.history)).front) st.one.sites ∙ st.front_is in
-    let within : FrontWithin (length e.history) e.front = subst (λ (f : Front). FrontWithin (length e.history) f) same ((bounds decl script e st).fronts 1 (no_site decl st.one)).front in
+    let same : (front_at decl 1 e.history).front ≡ e.front = ap (λ (k : ℕ). (front_after decl (1 - k) (deeds 1 [] e.history)).front) st.first.sites ∙ st.front_is in
+    let within : FrontWithin (length e.history) e.front = subst (λ (f : Front). FrontWithin (length e.history) f) same ((bounds decl script e st).fronts 1 (front_site decl st.first.sites)).front in
     let clock : e.front.clock.value ≤ length e.history = within.clock in
     let count : e.front.count ≤ length e.history = within.count in
     record {
@@ -182,7 +180,7 @@ clock_fits bound (Decision tx verdict) below within = tt
 pub message_fits : (decl : Declaration) (script : Script) (e : Engine) (envelope : Envelope) (rest : List Envelope) → IsAt decl script e → length e.history < 262144 → e.front_box.items ≡ envelope ∷ rest → ClockFits envelope.message
 message_fits decl script e envelope rest st below popped =
     let sent : AllSent (mail e.history) (envelope ∷ rest) =
-    subst (λ (w : List Envelope). AllSent (mail e.history) w) (st.front_box_is ∙ popped) ((law decl script e.history (false ∷ false ∷ []) st.runs).arrived 1).sent in
+    subst (λ (w : List Envelope). AllSent (mail e.history) w) (st.front_box_is ∙ popped) ((law decl script e.history (replicate (actors decl) false) st.runs).arrived 1).sent in
     clock_fits (length e.history) envelope.message below (MailWithin-get (length e.history) envelope.number (mail e.history) envelope (bounds decl script e st).messages sent.0)
 
 -- the messages that were sent and one more have numbers of 32 bits
@@ -214,14 +212,16 @@ phase_fits decl script e st below =
     omega arith
 
 -- the loop before its first event
-pub starts : (decl : Declaration) (script : Script) → IsOne decl → Stands decl script [] (new_site 0) (new_front 0) [] [] [] false 0 0
-starts decl script one = record {
-  one = one;
-  runs = subst (λ (n : ℕ). Runs (IsLawful decl) decl script [] (replicate n false)) (λ i. one.sites i + one.clients i) begins;
+pub starts : (decl : Declaration) (script : Script) → AsksFirst decl script → Stands decl script [] (new_site 0) (new_front 0) [] [] [] false 0 0
+starts decl script first = record {
+  first = first;
+  runs = begins;
   site_is = refl;
   front_is = refl;
   site_box_is = refl;
   front_box_is = refl;
+  others_is = λ a. refl;
+  from_first = tt;
   left_is = refl;
   busy_is = refl;
   phase_is = refl;

@@ -1,4 +1,7 @@
-pub mod Turns
-pub mod Lands
-pub mod Ends
-pub mod Promised
+mod Asking
+mod Ends
+mod Inputs
+mod Lands
+mod Right
+mod Takes
+mod Turns

@@ -1,4 +1,5 @@
 pub mod Engine
 pub mod At
 pub mod Words
+pub mod Work
 pub mod Top

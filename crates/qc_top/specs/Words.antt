@@ -1,11 +1,8 @@
 -- What the program's words say.
-use Rattle.std.specs.Prelude.{ℕ, Bool, false, ◌==◌, ◌&&◌, not, List, [], ◌∷◌, Option, Some, None, cond, codes, map, nat_le, length, option_and_then}
+use Rattle.std.specs.Prelude.{ℕ, Bool, false, ◌==◌, ◌&&◌, not, List, [], ◌∷◌, Option, Some, None, cond, codes, map, option_map}
 use Rattle.std.specs.Borrow.{Bor}
 use Rattle.std.specs.Str.{bytes_eq}
-use Rattle.qc_decl.specs.One.{one}
-use Rattle.qc_outside.specs.Shelf.{Files, file_named}
-use Rattle.qc_script.specs.declared.script.Script.{Script}
-use Rattle.qc_script.specs.Grammar.{script_of}
+use Rattle.qc_top.specs.declared.words.Asked.{Asked}
 
 -- the words as texts
 abbrev pub texts_of : List (Bor (List ℕ)) → List (List ℕ)
@@ -16,19 +13,17 @@ abbrev pub is_name : List ℕ → Bool
 is_name [] = false
 is_name (b ∷ name) = not (b == 45)
 
--- the words `run`, `@one` and a script's name: that name
-abbrev pub script_named : List (List ℕ) → Option (List ℕ)
-script_named (command ∷ decl ∷ name ∷ []) = cond (bytes_eq command (codes "run") && (bytes_eq decl (codes "@one") && is_name name)) (Some name) None
-script_named _ = None
+-- what words ask of a declaration, by its name: a script's run, by the script's name, or else whether it is accepted
+pub record AskedOf : Type 0 where
+  pub decl : List ℕ
+  pub script : Option (List ℕ)
 
--- the most bytes of a script's file
-abbrev pub most_bytes : ℕ
-most_bytes = 1048576
+abbrev pub asked_in : Asked → AskedOf
+asked_in a = record { decl = a.decl.now; script = option_map (λ s. s.now) a.script }
 
--- the script in these bytes, over `@one`
-abbrev pub script_in_bytes : List ℕ → Option Script
-script_in_bytes bytes = cond (nat_le (length bytes) most_bytes) (script_of one bytes) None
-
--- the script that the words name among these files
-abbrev pub script_in : Files → List (List ℕ) → Option Script
-script_in files words = option_and_then (λ name. option_and_then script_in_bytes (file_named name files)) (script_named words)
+-- the words `check DECL` and `run DECL SCRIPT`
+abbrev pub asked : List (List ℕ) → Option AskedOf
+asked (command ∷ decl ∷ []) = cond (bytes_eq command (codes "check") && is_name decl) (Some (record { decl = decl; script = None })) None
+asked (command ∷ decl ∷ script ∷ []) =
+    cond (bytes_eq command (codes "run") && (is_name decl && is_name script)) (Some (record { decl = decl; script = Some script })) None
+asked _ = None

@@ -1,4 +1,7 @@
-//! The loop: it serves the site and the client, one event at a time.
+//! The loop: it serves the site and the first client, one event at a time.
+//!
+//! There may be more clients. Nothing is asked of them, and nothing is ever
+//! ready for them, so the loop keeps no state of theirs.
 //!
 //! One event is an input of an actor with its turn, or the next phase. The
 //! loop's invariant, `IsAt`, says that the history is a run without open
@@ -11,7 +14,7 @@ ghost use Rattle.qc_front.specs.State.{new_front};
 ghost use Rattle.qc_site.specs.Site.{new_site};
 ghost use Rattle.qc_script.specs.Ready.{asked_of};
 ghost use Rattle.qc_script.proofs.Grows.{busy_after};
-ghost use Rattle.qc_top.specs.Engine.{IsOne};
+ghost use Rattle.qc_top.specs.Engine.{AsksFirst};
 ghost use Rattle.qc_top.specs.At.{IsAt, IsQuiet, IsCallable, IsNext, IsEnd, IsReached, IsPosted};
 
 use qc_decl::Declaration;
@@ -77,7 +80,7 @@ pub struct Engine {
 impl Engine {
     /// The loop before its first event.
     pub fn new(alloc: Global, decl: &Declaration, script: &Script) -> Result<Engine, OutOfMemory>
-        requires { IsOne decl.now }
+        requires { AsksFirst decl.now script.now }
         ensures { IfOk result (λ engine. IsAt decl.now script.now engine) }
     {
         Ok(Engine {

@@ -9,6 +9,7 @@ mod engine;
 mod tests;
 mod top;
 mod words;
+mod work;
 
 pub use qc_msg::What;
 pub use qc_report::{Cause, cause_text, text};

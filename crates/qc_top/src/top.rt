@@ -1,33 +1,33 @@
 //! The top call.
 
-ghost use Rattle.std.specs.Prelude.{◌≡◌, ◌≢◌, ◌≤◌, ◌-◌, Some, None, List, [], length, true, Err};
-ghost use Rattle.qc_core.specs.Atomic.{Atomic};
-ghost use Rattle.qc_core.specs.Due.{AreLegal, Due};
+ghost use Rattle.std.specs.Prelude.{◌≡◌, ◌-◌, Bool, [], Err, None, Ok};
+ghost use Rattle.qc_core.specs.Conduct.{IsRun};
 ghost use Rattle.qc_core.specs.Kept.{Kept};
 ghost use Rattle.qc_core.specs.Spent.{Spent};
 ghost use Rattle.qc_core.specs.Whole.{IsWhole};
+ghost use Rattle.qc_decl.specs.Accepted.{IsAccepted};
 ghost use Rattle.qc_outside.specs.Causes.{Rose};
+ghost use Rattle.qc_report.specs.Declarations.{accepted_text_of};
 ghost use Rattle.qc_report.specs.Causes.{status_of};
-ghost use Rattle.qc_decl.specs.One.{one};
 ghost use Rattle.qc_report.specs.Text.{text_of};
-ghost use Rattle.qc_top.specs.Words.{script_in_bytes, texts_of};
 ghost use Rattle.qc_top.specs.At.{IsBelow, IsEnd};
+ghost use Rattle.qc_top.specs.Engine.{AsksFirst};
+ghost use Rattle.qc_top.specs.Top.{IsFullCause, IsNoShelf, IsRan, IsRight, IsTold, Leaves, LeavesRun, LeavesWord, OnPrinted, OverWords, PrintsBetween};
+ghost use Rattle.qc_top.specs.Words.{asked, texts_of};
+ghost use Rattle.qc_top.specs.Work.{Gives};
 ghost use Rattle.qc_top.specs.declared.engine.End.TheVariants.{Quiet};
-ghost use Rattle.qc_top.specs.Top.{cause_of_shelf, IsDue, IsDueOfScript, IsFullCause, IsRan, Leaves, OnPrinted, OverWords, PrintsBetween};
 
 use crate::engine::{End, Engine};
-use crate::words::script_name;
-use qc_decl::{Declaration, built_in};
+use crate::words::asked_by;
+use crate::work::{Work, work_for};
+use qc_decl::Declaration;
 use qc_msg::History;
 use qc_outside::{Gate, Rack, Shelf, ShelfFault, Sink, SinkFault};
-use qc_report::{Cause, text};
-use qc_script::{Script, ScriptFault, read};
+use qc_report::{Cause, accepted_text, text};
+use qc_script::Script;
 use std::alloc::Global;
 use std::sync::Wait;
 use std::thread::Threads;
-
-/// The most bytes of a script's file.
-const MOST_BYTES: u32 = 1_048_576;
 
 /// How a call ended, and all that happened in it.
 #[derive(Drop)]
@@ -41,8 +41,11 @@ pub struct Ended {
     pub history: History,
 }
 
-/// Does all that the program does: reads the words, takes the script from the
-/// shelf, runs it and writes the text of the run to the sink.
+/// Does all that the program does. `check DECL` takes the declaration of this
+/// name and says that it is accepted; `run DECL SCRIPT` runs the script of this
+/// name over it and writes the text of the run to the sink. Files are taken
+/// from the shelf; a name of a declaration that begins with `@` is that of a
+/// built-in one.
 pub fn quorum_words<T, F, K, R, G>(
     _rt: &T,
     alloc: Global,
@@ -59,32 +62,29 @@ where
     R: Rack,
     G: Gate,
     ensures leaves { OverWords
-        (λ script. Leaves script (K.taken sink.old) result.cause (K.taken sink.new) result.history)
+        (λ given. Leaves given (K.taken sink.old) result.cause (K.taken sink.new) result.history)
         (F.files shelf.old) (texts_of words.now) }
-    ensures replies { Due one result.history }
-    ensures legal { AreLegal one result.history }
+    ensures words { asked (texts_of words.now) ≡ None → result.cause ≡ Cause.NotBuilt }
     ensures kept { Kept result.history }
     ensures spent { Spent result.history (R.faults _rack.new - R.faults _rack.old) }
-    ensures atomic { Kept result.history → Atomic one result.history }
     ensures status { result.status ≡ status_of result.cause }
-    ensures due { IsDue (F.files shelf.old) (texts_of words.now) result.cause }
     ensures full { IsFullCause result.cause result.history }
     ensures files { F.files shelf.new ≡ F.files shelf.old }
-    ensures shelf { result.cause ≡ Cause.Shelf true ShelfFault.Failed → Rose (F.faults shelf.old) (F.faults shelf.new) }
+    ensures shelf { (script : Bool) → result.cause ≡ Cause.Shelf script ShelfFault.Failed → Rose (F.faults shelf.old) (F.faults shelf.new) }
     ensures sink { result.cause ≡ Cause.Sink → Rose (K.faults sink.old) (K.faults sink.new) }
     ensures rack { R.faults _rack.new ≡ R.faults _rack.old }
 {
-    let Some(name) = script_name(words) else {
-        return nothing(alloc, Cause::NotBuilt);
+    let Some(asked) = asked_by(words) else {
+        return without_run(alloc, Cause::NotBuilt);
     };
-    match shelf.take(name, MOST_BYTES) {
-        Ok(bytes) => run_bytes(alloc, bytes.as_slice(), sink),
-        Err(fault) => nothing(alloc, shelf_cause(fault)),
+    match work_for(alloc, asked, shelf) {
+        Ok(work) => perform(alloc, &work, sink),
+        Err(cause) => without_run(alloc, cause),
     }
 }
 
 /// A call that ended before the first phase.
-fn nothing(alloc: Global, cause: Cause) -> Ended
+fn without_run(alloc: Global, cause: Cause) -> Ended
     ensures cause { result.cause ≡ cause }
     ensures status { result.status ≡ status_of cause }
     ensures history { result.history ≡ [] }
@@ -96,52 +96,46 @@ fn nothing(alloc: Global, cause: Cause) -> Ended
     }
 }
 
-/// The cause of a script's file that wasn't taken. Want of memory is no fault
-/// of the shelf.
-fn shelf_cause(fault: ShelfFault) -> Cause
-    ensures { result ≡ cause_of_shelf fault }
+/// Does what is to be done.
+fn perform<K: Sink>(alloc: Global, work: &Work, sink: &mut K) -> Ended
+    requires { IsRight work.now }
+    ensures leaves { Leaves (Ok work.now) (K.taken sink.old) result.cause (K.taken sink.new) result.history }
+    ensures status { result.status ≡ status_of result.cause }
+    ensures full { IsFullCause result.cause result.history }
+    ensures shelf { IsNoShelf result.cause }
+    ensures sink { result.cause ≡ Cause.Sink → Rose (K.faults sink.old) (K.faults sink.new) }
 {
-    match fault {
-        ShelfFault::OutOfMemory => Cause::OutOfMemory,
-        ShelfFault::Missing | ShelfFault::TooLong | ShelfFault::Failed => Cause::Shelf {
-            script: true,
-            fault,
-        },
+    match work {
+        Work::Accept(decl) => without_run(alloc, tell(alloc, decl, sink)),
+        Work::Run(decl, script) => run(alloc, decl, script, sink),
     }
 }
 
-/// Runs the script that these bytes spell, and prints the run.
-fn run_bytes<K: Sink>(alloc: Global, bytes: &[u8], sink: &mut K) -> Ended
-    requires { length bytes.now ≤ 1048576 }
-    ensures leaves { Leaves (script_in_bytes bytes.now) (K.taken sink.old) result.cause (K.taken sink.new) result.history }
-    ensures due { IsDueOfScript (script_in_bytes bytes.now) result.cause }
-    ensures shelf { result.cause ≢ Cause.Shelf true ShelfFault.Failed }
-    ensures status { result.status ≡ status_of result.cause }
-    ensures full { IsFullCause result.cause result.history }
-    ensures sink { result.cause ≡ Cause.Sink → Rose (K.faults sink.old) (K.faults sink.new) }
+/// Says that a declaration is accepted.
+fn tell<K: Sink>(alloc: Global, decl: &Declaration, sink: &mut K) -> Cause
+    ensures told { IsTold result }
+    ensures text { PrintsBetween (accepted_text_of decl.now) (K.taken sink.old) result (K.taken sink.new) }
+    ensures shelf { IsNoShelf result }
+    ensures sink { result ≡ Cause.Sink → Rose (K.faults sink.old) (K.faults sink.new) }
 {
-    let Ok(Some(decl)) = built_in(alloc, "@one") else {
-        return nothing(alloc, Cause::OutOfMemory);
-    };
-    match read(alloc, bytes, &decl) {
-        Ok(script) => run_script(alloc, &decl, &script, sink),
-        Err(ScriptFault::NotBuilt) => nothing(alloc, Cause::NotBuilt),
-        Err(ScriptFault::OutOfMemory) => nothing(alloc, Cause::OutOfMemory),
+    match accepted_text(alloc, decl) {
+        Ok(text) => write(text.as_slice(), sink),
+        Err(_) => Cause::OutOfMemory,
     }
 }
 
 /// Runs a script, and prints the run.
-fn run_script<K: Sink>(alloc: Global, decl: &Declaration, script: &Script, sink: &mut K) -> Ended
-    requires { decl.now ≡ one }
-    ensures leaves { Leaves (Some script.now) (K.taken sink.old) result.cause (K.taken sink.new) result.history }
-    ensures ran { IsRan result.cause }
-    ensures shelf { result.cause ≢ Cause.Shelf true ShelfFault.Failed }
+fn run<K: Sink>(alloc: Global, decl: &Declaration, script: &Script, sink: &mut K) -> Ended
+    requires asks { AsksFirst decl.now script.now }
+    requires accepted { IsAccepted decl.now }
+    ensures leaves { LeavesRun decl.now script.now (K.taken sink.old) result.cause (K.taken sink.new) result.history }
     ensures status { result.status ≡ status_of result.cause }
     ensures full { IsFullCause result.cause result.history }
+    ensures shelf { IsNoShelf result.cause }
     ensures sink { result.cause ≡ Cause.Sink → Rose (K.faults sink.old) (K.faults sink.new) }
 {
     let Ok(mut engine) = Engine::new(alloc, decl, script) else {
-        return nothing(alloc, Cause::OutOfMemory);
+        return without_run(alloc, Cause::OutOfMemory);
     };
     let end = engine.run(alloc, decl, script);
     let history = engine.into_history();
@@ -169,7 +163,7 @@ fn conclude<K: Sink>(
     ensures whole { OnPrinted result (IsWhole decl.now script.now history.now) }
     ensures text { PrintsBetween (text_of decl.now script.now history.now) (K.taken sink.old) result (K.taken sink.new) }
     ensures ran { IsRan result }
-    ensures shelf { result ≢ Cause.Shelf true ShelfFault.Failed }
+    ensures shelf { IsNoShelf result }
     ensures sink { result ≡ Cause.Sink → Rose (K.faults sink.old) (K.faults sink.new) }
 {
     match end {
@@ -187,19 +181,25 @@ fn print<K: Sink>(
     history: &History,
     sink: &mut K,
 ) -> Cause
-    requires below { IsBelow history.now }
-    requires whole { IsWhole decl.now script.now history.now }
-    ensures full { IsFullCause result history.now }
-    ensures whole { OnPrinted result (IsWhole decl.now script.now history.now) }
-    ensures sink { result ≡ Cause.Sink → Rose (K.faults sink.old) (K.faults sink.new) }
+    ensures told { IsTold result }
     ensures text { PrintsBetween (text_of decl.now script.now history.now) (K.taken sink.old) result (K.taken sink.new) }
-    ensures ran { IsRan result }
-    ensures shelf { result ≢ Cause.Shelf true ShelfFault.Failed }
+    ensures shelf { IsNoShelf result }
+    ensures sink { result ≡ Cause.Sink → Rose (K.faults sink.old) (K.faults sink.new) }
 {
-    let Ok(text) = text(alloc, decl, script, history) else {
-        return Cause::OutOfMemory;
-    };
-    match sink.write(text.as_slice()) {
+    match text(alloc, decl, script, history) {
+        Ok(text) => write(text.as_slice(), sink),
+        Err(_) => Cause::OutOfMemory,
+    }
+}
+
+/// Writes a text that is whole to the sink.
+fn write<K: Sink>(text: &[u8], sink: &mut K) -> Cause
+    ensures told { IsTold result }
+    ensures text { PrintsBetween text.now (K.taken sink.old) result (K.taken sink.new) }
+    ensures shelf { IsNoShelf result }
+    ensures sink { result ≡ Cause.Sink → Rose (K.faults sink.old) (K.faults sink.new) }
+{
+    match sink.write(text) {
         Ok(()) => Cause::Done,
         Err(SinkFault::Failed) => Cause::Sink,
         Err(SinkFault::OutOfMemory) => Cause::OutOfMemory,

@@ -1,29 +1,38 @@
 //! The program's words.
 
-ghost use Rattle.std.specs.Prelude.{◌≡◌, MatchOption, Some, None, ◌&&◌, codes, not};
-ghost use Rattle.std.specs.Str.{bytes_eq};
-ghost use Rattle.qc_top.specs.Words.{is_name, script_named, texts_of};
+ghost use Rattle.std.specs.Prelude.{◌≡◌, option_map};
+ghost use Rattle.qc_top.specs.Words.{asked, asked_in, is_name, texts_of};
 
-/// The script's name, where the words are `run`, `@one` and a name that isn't
-/// empty and doesn't begin with `-`.
-pub fn script_name<'a>(words: &[&'a str]) -> Option<&'a str>
-    ensures { MatchOption result (script_named (texts_of words.now) ≡ None) (λ name. script_named (texts_of words.now) ≡ Some name.now) }
+/// What the words ask of the declaration of this name: the run of the script of
+/// this name, or else whether it is accepted.
+#[derive(Clone, Copy)]
+pub(crate) struct Asked<'a> {
+    pub(crate) decl: &'a str,
+    pub(crate) script: Option<&'a str>,
+}
+
+/// What the words ask, `check DECL` or `run DECL SCRIPT`, where they have this
+/// form. Neither name is empty or begins with `-`.
+pub(crate) fn asked_by<'a>(words: &[&'a str]) -> Option<Asked<'a>>
+    ensures { option_map asked_in result ≡ asked (texts_of words.now) }
 {
     match words {
-        [command, decl, name] if is_run(command, decl) && is_file_name(name) => Some(name),
+        [command, decl] if *command == "check" && is_name(decl) => Some(Asked {
+            decl,
+            script: None,
+        }),
+        [command, decl, script] if *command == "run" && is_name(decl) && is_name(script) => {
+            Some(Asked {
+                decl,
+                script: Some(script),
+            })
+        }
         _ => None,
     }
 }
 
-/// Whether the first two words are `run` and `@one`.
-fn is_run(command: &str, decl: &str) -> bool
-    ensures { result ≡ (bytes_eq command.now (codes "run") && bytes_eq decl.now (codes "@one")) }
-{
-    command == "run" && decl == "@one"
-}
-
-/// Whether a word can be a file's name.
-fn is_file_name(word: &str) -> bool
+/// Whether a word can name a declaration or a file.
+fn is_name(word: &str) -> bool
     ensures { result ≡ is_name word.now }
 {
     match word.as_bytes() {

@@ -1,82 +1,38 @@
-use Rattle.std.proofs.Common.{◌≡◌, ◌∙◌, List, ℕ, None, Some, rules, subst}
+use Rattle.std.proofs.Common.{◌≡◌, ◌∙◌, List, Some, ap, subst, sym}
+use Rattle.std.specs.Prelude.{option_map}
 use Rattle.qc_core.proofs.KeptLaw.{histories_are_kept}
 use Rattle.qc_core.proofs.SpentLaw.{falls_are_spent}
-use Rattle.qc_top.proofs.Ends.{shelf_silent, words_caused, words_over, words_refused, words_taken}
-use Rattle.qc_top.proofs.Promised.{script_atomic, script_due, script_legal}
-use Rattle.qc_top.specs.Top.{IsDueOfScript, Leaves, RunsScript}
-use Rattle.qc_top.specs.Words.{script_in_bytes, script_named, texts_of}
+use Rattle.qc_msg.specs.Steps.{Entry}
+use Rattle.qc_report.specs.declared.cause.Cause.{Cause}
+use Rattle.qc_top.proofs.Ends.{refused_full, right_given, words_given, words_refused}
+use Rattle.qc_top.specs.Top.{IsFullCause, Leaves, OverWords}
+use Rattle.qc_top.specs.Words.{asked, asked_in, texts_of}
 use Rattle.qc_top.proofs.top.quorum_words.Goals as goal
+
+pub perform-requires : goal.perform-requires
+perform-requires g c = right_given (g.F.Shelf.files c.args.shelf.now) (asked_in c.in-Some.asked) c.in-Ok.work c.in-Ok.ensures.work
 
 pub returns-in-Ok-clause-leaves : goal.returns-in-Ok-clause-leaves
 returns-in-Ok-clause-leaves g c =
-    let named : script_named (texts_of c.args.words.now) ≡ Some c.in-Some.name.now = search rules in
-    words_over (λ script. Leaves script (g.K.Sink.taken c.args.sink.now) c.run_bytes.result.cause (g.K.Sink.taken c.run_bytes.new.sink) c.run_bytes.result.history)
-    (g.F.Shelf.files c.args.shelf.now) (texts_of c.args.words.now) c.in-Some.name.now c.in-Ok.bytes.items named c.in-Ok.ensures.content
-    (subst (λ (bytes : List ℕ). Leaves (script_in_bytes bytes) (g.K.Sink.taken c.args.sink.now) c.run_bytes.result.cause (g.K.Sink.taken c.run_bytes.new.sink) c.run_bytes.result.history) c.as_slice.ensures.value c.run_bytes.ensures.leaves)
+    let named : asked (texts_of c.args.words.now) ≡ Some (asked_in c.in-Some.asked) = sym c.asked_by.ensures ∙ ap (option_map asked_in) c.in-Some.is in
+    words_given (λ given. Leaves given (g.K.Sink.taken c.args.sink.now) c.perform.result.cause (g.K.Sink.taken c.perform.new.sink) c.perform.result.history) (g.F.Shelf.files c.args.shelf.now) (texts_of c.args.words.now)
+    (asked_in c.in-Some.asked) c.in-Ok.work named c.in-Ok.ensures.work c.perform.ensures.leaves
 
 pub returns-in-Err-clause-leaves : goal.returns-in-Err-clause-leaves
 returns-in-Err-clause-leaves g c =
-    words_caused (g.F.Shelf.files c.args.shelf.now) (texts_of c.args.words.now) (g.K.Sink.taken c.args.sink.now) c.nothing-in-Err.result.cause _ c.nothing-in-Err.result.history c.nothing-in-Err.ensures.history
-    (c.nothing-in-Err.ensures.cause ∙ c.shelf_cause.ensures) (shelf_silent c.in-Err.fault)
+    let named : asked (texts_of c.args.words.now) ≡ Some (asked_in c.in-Some.asked) = sym c.asked_by.ensures ∙ ap (option_map asked_in) c.in-Some.is in
+    subst (λ (cause : Cause). OverWords (λ given. Leaves given (g.K.Sink.taken c.args.sink.now) cause (g.K.Sink.taken c.args.sink.now) c.without_run-in-Err.result.history) (g.F.Shelf.files c.args.shelf.now) (texts_of c.args.words.now))
+    (sym c.without_run-in-Err.ensures.cause)
+    (subst (λ (h : List Entry). OverWords (λ given. Leaves given (g.K.Sink.taken c.args.sink.now) c.in-Err.cause (g.K.Sink.taken c.args.sink.now) h) (g.F.Shelf.files c.args.shelf.now) (texts_of c.args.words.now))
+    (sym c.without_run-in-Err.ensures.history)
+    (words_refused (g.F.Shelf.files c.args.shelf.now) (texts_of c.args.words.now) (asked_in c.in-Some.asked) (g.K.Sink.taken c.args.sink.now) c.in-Err.cause named c.in-Err.ensures.work))
 
-pub returns-in-Ok-clause-due : goal.returns-in-Ok-clause-due
-returns-in-Ok-clause-due g c =
-    let named : script_named (texts_of c.args.words.now) ≡ Some c.in-Some.name.now = search rules in
-    words_taken (g.F.Shelf.files c.args.shelf.now) (texts_of c.args.words.now) c.in-Some.name.now c.in-Ok.bytes.items c.run_bytes.result.cause named c.in-Ok.ensures.content
-    (subst (λ (bytes : List ℕ). IsDueOfScript (script_in_bytes bytes) c.run_bytes.result.cause) c.as_slice.ensures.value c.run_bytes.ensures.due)
-
-pub returns-in-Err-clause-due : goal.returns-in-Err-clause-due
-returns-in-Err-clause-due g c =
-    let named : script_named (texts_of c.args.words.now) ≡ Some c.in-Some.name.now = search rules in
-    words_refused (g.F.Shelf.files c.args.shelf.now) (texts_of c.args.words.now) c.in-Some.name.now c.in-Err.fault c.nothing-in-Err.result.cause named c.in-Err.ensures.content (c.nothing-in-Err.ensures.cause ∙ c.shelf_cause.ensures)
-
-pub returns-in_default-clause-atomic : goal.returns-in_default-clause-atomic
-returns-in_default-clause-atomic g c kept = script_atomic None c.nothing.result.history c.nothing.ensures.history kept
-
-pub returns-in-Ok-clause-atomic : goal.returns-in-Ok-clause-atomic
-returns-in-Ok-clause-atomic g c kept =
-    script_atomic (script_in_bytes c.in-Ok.bytes.items) c.run_bytes.result.history
-    (subst (λ (bytes : List ℕ). RunsScript (script_in_bytes bytes) c.run_bytes.result.history) c.as_slice.ensures.value c.run_bytes.ensures.leaves.run) kept
-
-pub returns-in-Err-clause-atomic : goal.returns-in-Err-clause-atomic
-returns-in-Err-clause-atomic g c kept = script_atomic None c.nothing-in-Err.result.history c.nothing-in-Err.ensures.history kept
-
-pub returns-in_default-clause-kept : goal.returns-in_default-clause-kept
-returns-in_default-clause-kept g c = histories_are_kept c.nothing.result.history
+pub returns-in-Err-clause-full : goal.returns-in-Err-clause-full
+returns-in-Err-clause-full g c =
+    subst (λ (cause : Cause). IsFullCause cause c.without_run-in-Err.result.history) (sym c.without_run-in-Err.ensures.cause) (refused_full c.in-Err.cause c.without_run-in-Err.result.history c.in-Err.ensures.refusal c.without_run-in-Err.ensures.history)
 
 pub returns-in-Ok-clause-kept : goal.returns-in-Ok-clause-kept
-returns-in-Ok-clause-kept g c = histories_are_kept c.run_bytes.result.history
-
-pub returns-in-Err-clause-kept : goal.returns-in-Err-clause-kept
-returns-in-Err-clause-kept g c = histories_are_kept c.nothing-in-Err.result.history
-
-pub returns-in_default-clause-replies : goal.returns-in_default-clause-replies
-returns-in_default-clause-replies g c = script_due None c.nothing.result.history c.nothing.ensures.history
-
-pub returns-in-Ok-clause-replies : goal.returns-in-Ok-clause-replies
-returns-in-Ok-clause-replies g c =
-    script_due (script_in_bytes c.in-Ok.bytes.items) c.run_bytes.result.history
-    (subst (λ (bytes : List ℕ). RunsScript (script_in_bytes bytes) c.run_bytes.result.history) c.as_slice.ensures.value c.run_bytes.ensures.leaves.run)
-
-pub returns-in-Err-clause-replies : goal.returns-in-Err-clause-replies
-returns-in-Err-clause-replies g c = script_due None c.nothing-in-Err.result.history c.nothing-in-Err.ensures.history
-
-pub returns-in_default-clause-legal : goal.returns-in_default-clause-legal
-returns-in_default-clause-legal g c = script_legal None c.nothing.result.history c.nothing.ensures.history
-
-pub returns-in-Ok-clause-legal : goal.returns-in-Ok-clause-legal
-returns-in-Ok-clause-legal g c =
-    script_legal (script_in_bytes c.in-Ok.bytes.items) c.run_bytes.result.history
-    (subst (λ (bytes : List ℕ). RunsScript (script_in_bytes bytes) c.run_bytes.result.history) c.as_slice.ensures.value c.run_bytes.ensures.leaves.run)
-
-pub returns-in-Err-clause-legal : goal.returns-in-Err-clause-legal
-returns-in-Err-clause-legal g c = script_legal None c.nothing-in-Err.result.history c.nothing-in-Err.ensures.history
-
-pub returns-in_default-clause-spent : goal.returns-in_default-clause-spent
-returns-in_default-clause-spent g c = falls_are_spent c.nothing.result.history _
+returns-in-Ok-clause-kept g c = histories_are_kept c.perform.result.history
 
 pub returns-in-Ok-clause-spent : goal.returns-in-Ok-clause-spent
-returns-in-Ok-clause-spent g c = falls_are_spent c.run_bytes.result.history _
-
-pub returns-in-Err-clause-spent : goal.returns-in-Err-clause-spent
-returns-in-Err-clause-spent g c = falls_are_spent c.nothing-in-Err.result.history _
+returns-in-Ok-clause-spent g c = falls_are_spent c.perform.result.history _

@@ -1,12 +1,9 @@
-use Rattle.std.proofs.Common.{◌≤◌, ◌+◌, length, ℕ, Ok, false, List, [], ap, sym, subst}
-use Rattle.std.specs.Prelude.{replicate}
+use Rattle.std.proofs.Common.{◌≤◌, length, ℕ, Ok, List, [], ap, sym, subst}
 use Rattle.qc_core.proofs.WholeLaw.{is_whole}
-use Rattle.qc_core.specs.Conduct.{IsLawful}
-use Rattle.qc_core.specs.Whole.{IsClosed, IsQuiet, IsWhole}
+use Rattle.qc_core.specs.Whole.{IsQuiet, IsWhole}
 use Rattle.qc_decl.specs.declared.declaration.Declaration.{Declaration}
 use Rattle.qc_msg.specs.declared.message.Envelope.{Envelope}
 use Rattle.qc_script.specs.declared.script.Script.{Script}
-use Rattle.qc_script.specs.Runs.{Runs}
 use Rattle.qc_top.specs.declared.engine.Engine.{Engine}
 use Rattle.qc_top.specs.declared.engine.Next.TheVariants as next
 use Rattle.qc_top.specs.At.{IsAt, IsNext}
@@ -16,11 +13,8 @@ use Rattle.qc_top.proofs.engine.Engine.run.Goals as goal
 
 -- where the loop has nothing left to do, the run is whole
 ends_whole : (decl : Declaration) (script : Script) (e : Engine) → IsAt decl script e → IsNext script e next.Nothing → IsWhole decl script e.history
-ends_whole decl script e st (idle, done) = is_whole decl script e.history closed still st.one.sites (subst (λ (k : ℕ). length script.phases ≤ k) (sym st.phase_is) done)
+ends_whole decl script e st (idle, done) = is_whole decl script e.history st.runs still st.first.sites (subst (λ (k : ℕ). length script.phases ≤ k) (sym st.phase_is) done)
   where
-    closed : IsClosed decl script e.history
-    closed = subst (λ (n : ℕ). Runs (IsLawful decl) decl script e.history (replicate n false)) (λ i. sym st.one.sites i + sym st.one.clients i) st.runs
-
     empty : Stands decl script e.history e.site e.front [] [] e.orders.items e.busy e.last_phase e.sent
     empty =
         subst (λ (w : List Envelope). Stands decl script e.history e.site e.front w [] e.orders.items e.busy e.last_phase e.sent) idle.site
