@@ -13,6 +13,7 @@ pub mod Outs
 pub mod Reading
 pub mod Sorted
 pub mod Steps
+pub mod Sufficing
 pub mod Tables
 pub mod Texts
 pub mod Thresholds

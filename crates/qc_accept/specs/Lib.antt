@@ -4,6 +4,7 @@ pub mod Epochs
 pub mod Fields
 pub mod Lookup
 pub mod Objects
+pub mod Sufficient
 pub mod Types
 pub mod Views
 pub mod Words

@@ -24,4 +24,7 @@ mod words;
 
 pub use acceptance::accept;
 pub use fault::DeclFault;
-pub use laws::{accepted_declarations_are_named, accepted_declarations_keep_the_rules};
+pub use laws::{
+    accepted_declarations_are_named, accepted_declarations_keep_the_rules,
+    sufficient_declarations_are_accepted,
+};
