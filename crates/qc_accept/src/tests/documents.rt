@@ -130,6 +130,9 @@ fn what_the_reader_takes(rt: HostRuntime) -> Result<(), Fail> {
             ("clients = 3\n", "clients = 3 # many\r\n", "accepted"),
             ("name = \"register\"", "name = '''register'''", "accepted"),
             ("name = \"register\"", "name = \"\\x72egister\"", "accepted"),
+            ("name = \"x\"", "name = \"\\e\"", "field object[0].name"),
+            ("sites = 3", "sites = 3\ntime = 07:32", "field time"),
+            ("sites = 3", "sites = 3\nmuch = 1e999", "not toml"),
             (
                 "name = \"x\"\ntype = \"register\"",
                 "type = \"register\"\nname = \"x\"",
@@ -147,6 +150,29 @@ fn what_the_reader_takes(rt: HostRuntime) -> Result<(), Fail> {
             ),
         ],
     )
+}
+
+/// An array in an array, and so on, so many deep.
+fn nested(alloc: Global, depth: usize) -> Result<String, Fail> {
+    let mut text = String::from_str(alloc, "sites = 3\nnest = ")?;
+    for _ in 0..depth {
+        text.push_str("[")?;
+    }
+    for _ in 0..depth {
+        text.push_str("]")?;
+    }
+    Ok(text)
+}
+
+#[test]
+fn arrays_are_nested_up_to_80_deep(rt: HostRuntime) -> Result<(), Fail> {
+    let alloc = rt.alloc();
+    for (depth, want) in [(79, "field nest"), (80, "field nest"), (81, "not toml")] {
+        let deep = nested(alloc, depth)?;
+        let text = edited(alloc, "sites = 3", deep.as_str())?;
+        assert_eq!(rt; told(alloc, text.as_str())?.as_str(), want, "at {depth}");
+    }
+    Ok(())
 }
 
 #[test]
