@@ -11,10 +11,12 @@ pub mod ListTexts
 pub mod Outs
 pub mod Planned
 pub mod Reading
+pub mod Ruled
 pub mod Sorted
 pub mod Steps
 pub mod Tables
 pub mod Texts
 pub mod Thresholds
 pub mod Told
+pub mod TypeFields
 pub mod Typed
