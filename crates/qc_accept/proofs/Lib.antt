@@ -3,6 +3,7 @@ pub mod Alike
 pub mod Answered
 pub mod Checking
 pub mod Digits
+pub mod Documents
 pub mod DraftRead
 pub mod Drafted
 pub mod Indexed

@@ -62,4 +62,4 @@ pub returns : goal.returns
 returns c =
     at_root (path_in c.of_document-root.result) (table_in c.of_document-root.result) (table_view c.args.table.now) _ c.of_document-root.ensures.path c.of_document-root.ensures.table
     (draft_read (path_in c.of_document-root.result) (table_in c.of_document-root.result) c.in_ok-sites.sites c.in_ok-clients.clients (types_in c.in_ok-types.types) (objects_in c.in_ok-objects.objects) c.in_ok-plans.plans _ c.in_ok-sites.ensures c.in_ok-clients.ensures c.in_ok-types.ensures c.in_ok-objects.ensures c.in_ok-plans.ensures c.in_ok-no_others.ensures
-    (draft_same c.in_ok-sites.sites c.in_ok-clients.clients (types_in c.in_ok-types.types) (objects_in c.in_ok-objects.objects) c.in_ok-plans.plans _ _ _ _ c.in_ok-sort_types.ensures.0 c.in_ok-sort_types.ensures.1 c.in_ok-sort_types.ensures.2 c.in_ok-object_names.ensures))
+    (draft_same c.in_ok-sites.sites c.in_ok-clients.clients (types_in c.in_ok-types.types) (objects_in c.in_ok-objects.objects) c.in_ok-plans.plans _ _ _ _ c.in_ok-kinds.ensures.0 c.in_ok-kinds.ensures.1 c.in_ok-kinds.ensures.2 c.in_ok-object_names.ensures))
