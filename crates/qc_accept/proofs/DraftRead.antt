@@ -1,16 +1,19 @@
 -- Reading the fields of a declaration, one key after another.
-use Rattle.std.proofs.Common.{◌≡◌, ◌≢◌, ℕ, ◌<◌, ◌≤◌, List, [], length, Ok, Err, refl, ap, sym, ◌∙◌, subst, arith}
+use Rattle.std.proofs.Common.{◌≡◌, ◌≢◌, ℕ, ◌<◌, ◌≤◌, List, [], length, map, Ok, Err, refl, ap, sym, ◌∙◌, subst, arith}
 use Rattle.std.specs.Prelude.{codes}
 use Rattle.toml.specs.Data.{Members}
+use Rattle.qc_cert.specs.declared.triple.Triple.{Triple}
+use Rattle.qc_decl.specs.declared.declaration.KindNames.{KindNames}
 use Rattle.qc_plan.specs.declared.plan.Plan.{Plan}
+use Rattle.qc_table.specs.declared.kind.Kind.{Kind}
 use Rattle.qc_accept.specs.declared.fault.DeclFault.{DeclFault}
 use Rattle.qc_accept.specs.declared.fault.DeclFault.TheVariants.{OutOfMemory}
-use Rattle.qc_accept.specs.Accept.{DraftOf, draft, draft_of, keys}
+use Rattle.qc_accept.specs.Accept.{DraftOf, all_names, draft, draft_of, keys}
 use Rattle.qc_accept.specs.Answers.{Answer, ◌>>=◌}
 use Rattle.qc_accept.specs.Epochs.{StoreOf, IsFit, plans_of}
 use Rattle.qc_accept.specs.Fields.{number, no_others}
 use Rattle.qc_accept.specs.Objects.{ObjectsOf, objects_of}
-use Rattle.qc_accept.specs.Types.{TypesOf, types_of}
+use Rattle.qc_accept.specs.Types.{TypeOf, TypesOf, types_of}
 use Rattle.qc_accept.proofs.Accepting.{store_fits}
 use Rattle.qc_accept.proofs.Drafted.{AreObjectsKept, number_is, objects_kept}
 use Rattle.qc_accept.proofs.Kept.{AreTypesKept, types_kept}
@@ -102,3 +105,17 @@ draft_read path table sites clients types objects plans d a b c e f g is =
     (then_ok (objects_of path table types) _ objects _ e
     (then_ok (plans_of path table (record { sites = sites; types = types; objects = objects })) _ plans _ f
     (then_ok (no_others path table keys) _ tt _ g (ap (λ (x : DraftOf). let answer : Answer DraftOf = Ok x in answer) (sym is)))))))
+
+-- the draft is made of what was read
+pub draft_same : (sites clients : ℕ) (types : TypesOf) (objects : ObjectsOf) (plans : List Plan) (kinds : List Kind) (kind_names : List KindNames)
+    (triples : List (List Triple)) (object_names : List (List ℕ)) → kinds ≡ map (λ (t : TypeOf). t.kind) types.list → kind_names ≡ all_names types.names types.list
+    → triples ≡ map (λ (t : TypeOf). t.triples) types.list → object_names ≡ objects.names
+    → (let d : DraftOf = record {
+      decl = record { sites = sites; clients = clients; kinds = kinds; objects = objects.kinds; plans = plans; kind_names = kind_names; object_names = object_names };
+      triples = triples;
+    } in d)
+    ≡ draft sites clients types objects plans
+draft_same sites clients types objects plans kinds kind_names triples object_names a b c e = λ j. record {
+  decl = record { sites = sites; clients = clients; kinds = a j; objects = objects.kinds; plans = plans; kind_names = b j; object_names = e j };
+  triples = c j;
+}

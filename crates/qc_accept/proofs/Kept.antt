@@ -73,7 +73,7 @@ words_are path table w is =
     })
 
 -- no fault of the rows
-ruled_ok : (place : ℕ) (name : List ℕ) (rules r : Rules) (fault : Option TableFault) → ruled place name rules fault ≡ Ok r → (fault ≡ None) × (rules ≡ r)
+pub ruled_ok : (place : ℕ) (name : List ℕ) (rules r : Rules) (fault : Option TableFault) → ruled place name rules fault ≡ Ok r → (fault ≡ None) × (rules ≡ r)
 ruled_ok place name rules r None is = (refl, same_ok rules r is)
 ruled_ok place name rules r (Some fault) is = absurd (let never : ⊥ = cc in never)
 
@@ -136,7 +136,7 @@ read_more P read so_far d next each_is all is =
     let f = found (as_str d) read m.value m.first in
     subst (All P) m.rest (one_more P so_far m.value all (each_is f.value m.value f.rest))
 
-read_long : {A : Type 0} (read : List ℕ → Option A) (so_far : List A) (d : Data) (next : List A) → with_read read so_far d ≡ Some next → length next ≡ suc (length so_far)
+pub read_long : {A : Type 0} (read : List ℕ → Option A) (so_far : List A) (d : Data) (next : List A) → with_read read so_far d ≡ Some next → length next ≡ suc (length so_far)
 read_long read so_far d next is =
     let m = mapped (option_and_then read (as_str d)) (λ a. so_far ++ a ∷ []) next is in
     let long : length (so_far ++ m.value ∷ []) ≡ length so_far + 1 = length-append so_far (m.value ∷ []) in

@@ -4,6 +4,7 @@ pub mod Answered
 pub mod Checking
 pub mod Counted
 pub mod Digits
+pub mod Documents
 pub mod DraftRead
 pub mod Drafted
 pub mod Indexed
@@ -11,6 +12,7 @@ pub mod Kept
 pub mod ListTexts
 pub mod Outs
 pub mod Reading
+pub mod Ruled
 pub mod Sorted
 pub mod Steps
 pub mod Sufficing
@@ -18,4 +20,5 @@ pub mod Tables
 pub mod Texts
 pub mod Thresholds
 pub mod Told
+pub mod TypeFields
 pub mod Typed

@@ -1,5 +1,6 @@
 -- Sorting what was read of the types.
-use Rattle.std.proofs.Common.{◌≡◌, ℕ, suc, List, [], ◌∷◌, length, map, refl, ap, arith}
+use Rattle.std.proofs.Common.{◌≡◌, ℕ, suc, ◌+◌, ◌<◌, ◌≤◌, List, [], ◌∷◌, ◌++◌, length, map, take, get_or, refl, sym, ap, ◌∙◌, arith}
+use Rattle.std.proofs.lemmas.List.{map-append, take_all, take_more}
 use Rattle.std.specs.List.{zip}
 use Rattle.qc_cert.specs.declared.triple.Triple.{Triple}
 use Rattle.qc_table.specs.declared.kind.Kind.{Kind}
@@ -35,3 +36,16 @@ names_sorted [] [] long = refl
 names_sorted [] (n ∷ names) long = absurd (omega arith)
 names_sorted (t ∷ ts) [] long = absurd (omega arith)
 names_sorted (t ∷ ts) (n ∷ names) long = ap (λ (ks : List KindNames). kind_names n (type_in t) ∷ ks) (names_sorted ts names (omega arith))
+
+-- one item more is kept of each
+pub kept_more : {A B : Type 0} (keep : A → B) (items : List A) (n : ℕ) (item : A) (before after : List B) → (n < length items) × (item ≡ get_or items n item)
+    → before ≡ map keep (take n items) → after ≡ before ++ keep item ∷ [] → after ≡ map keep (take (n + 1) items)
+kept_more {A} {B} keep items n item before after is so_far pushed =
+    pushed ∙ ap (λ (bs : List B). bs ++ keep item ∷ []) so_far
+    ∙ sym (map-append keep (take n items) (item ∷ []))
+    ∙ ap (λ (a : A). map keep (take n items ++ a ∷ [])) is.1
+    ∙ sym (ap (map keep) (take_more items n item is.0))
+
+-- and at the end of all
+pub kept_all : {A B : Type 0} (keep : A → B) (items : List A) (n : ℕ) (before : List B) → n ≡ length items → before ≡ map keep (take n items) → before ≡ map keep items
+kept_all keep items n before all so_far = so_far ∙ ap (map keep) (let past : length items ≤ n = omega arith in take_all n items past)

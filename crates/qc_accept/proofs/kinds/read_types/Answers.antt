@@ -24,7 +24,7 @@ loop-item-preserved c =
 
 pub returns-in_err-add_type : goal.returns-in_err-add_type
 returns-in_err-add_type c =
-    let told = err_from_is_err_and c.from_residual.result c.from_residual.ensures.1 in
+    let told = err_from_is_err_and c.from_residual-in_err-add_type.result c.from_residual-in_err-add_type.ensures.1 in
     rw (told.1, told.2) (λ apart.
     types_read (path_in c.args.root.now) (table_in c.args.root.now) (data_of c.in_ok-items.items.now) _ c.in_ok-items.ensures
     (stops with_type (types_in c.loop-item.types) (data_of c.in_ok-items.items.now) c.loop-item.item-index (view c.item-item.result) _ _
