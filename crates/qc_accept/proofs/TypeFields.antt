@@ -12,7 +12,7 @@ use Rattle.qc_accept.specs.Answers.{Answer, ◌>>=◌, read_each}
 use Rattle.qc_accept.specs.Fields.{told, items, optional, no_others}
 use Rattle.qc_accept.specs.Types.{WordsOf, TypeOf, words, row_in, rows_in, rows, with_read, table_of, relation, pairs_in, triples, triples_in, type_of, type_keys}
 use Rattle.qc_table.specs.Depends.{relation_of}
-use Rattle.qc_accept.proofs.Answered.{read_each_keeps, told_some, so_many}
+use Rattle.qc_accept.proofs.Answered.{came, read_each_keeps, told_some, so_many}
 use Rattle.qc_accept.proofs.Kept.{IsTable, few_events, read_long, table_is, words_are}
 use Rattle.qc_accept.proofs.Told.{then_ok, then_err}
 
@@ -139,3 +139,23 @@ module _ (path : List ℕ) (table : Members) (place : ℕ) (name : List ℕ) whe
       → after_triples w rules events rel ts ≡ Ok (record { words = w; events = events; kind = record { table = rules; relation = rel }; triples = ts })
   known_keys w rules events rel ts is =
       ap (λ (o : Answer (Unit {0})). o >>= (λ _. let answer : Answer TypeOf = Ok (record { words = w; events = events; kind = record { table = rules; relation = rel }; triples = ts }) in answer)) is
+
+  -- the rows and their table, in one
+  pub no_ruled : (w : WordsOf) (fault : DeclFault) → (fault ≢ OutOfMemory → (rows path table w >>= table_of place name w) ≡ Err fault) → fault ≢ OutOfMemory
+      → after_words w ≡ Err fault
+  no_ruled w fault is apart = joined (rows path table w) (is apart)
+    where
+      joined : (read : Answer (List Row)) → (read >>= table_of place name w) ≡ Err fault → (read >>= after_rows w) ≡ Err fault
+      joined (Ok rs) e = then_err (table_of place name w rs) (λ rules. after_rules w rules (events_of rules.rows)) fault (λ _. e) apart
+      joined (Err other) e = let same : other ≡ fault = cc in ap (λ (f : DeclFault). let answer : Answer TypeOf = Err f in answer) same
+
+  pub has_ruled : (w : WordsOf) (rules : Rules) (events : List Event) (whole : Answer TypeOf) → (rows path table w >>= table_of place name w) ≡ Ok rules
+      → events ≡ events_of rules.rows → after_rules w rules events ≡ whole → after_words w ≡ whole
+  has_ruled w rules events whole is same rest =
+      let a = came (rows path table w) (table_of place name w) rules is in
+      then_ok (rows path table w) (after_rows w) a.value whole a.first (has_rules w a.value rules events whole a.rest same rest)
+
+  pub few_ruled : (w : WordsOf) (rules : Rules) (events : List Event) → words path table ≡ Ok w → (rows path table w >>= table_of place name w) ≡ Ok rules
+      → events ≡ events_of rules.rows → length events ≤ 64
+  few_ruled w rules events a is same =
+      let c = came (rows path table w) (table_of place name w) rules is in events_few path table place name w c.value rules events a c.rest same

@@ -3,10 +3,10 @@
 ghost use Rattle.std.specs.Prelude.{◌≡◌, ◌<◌, ◌≤◌, ◌++◌, [], ◌∷◌, length, map, IfOk, OnOk};
 ghost use Rattle.toml.specs.View.{view};
 ghost use Rattle.qc_accept.specs.Accept.{all_names, kind_names};
-ghost use Rattle.qc_accept.specs.Answers.{IsAnswer, IsReading};
+ghost use Rattle.qc_accept.specs.Answers.{IsAnswer, IsReading, and_then};
 ghost use Rattle.qc_accept.specs.Fields.{name_among, names as names_of};
-ghost use Rattle.qc_accept.specs.Types.{AreFew, AreSome, TypeOf, name_at, table_of, type_of, types_of, with_type, words as words_of};
-ghost use Rattle.qc_accept.specs.Views.{names_in, path_in, table_in, type_in, types_in, words_in};
+ghost use Rattle.qc_accept.specs.Types.{AreFew, AreSome, TypeOf, name_at, relation as relation_in, rows as rows_of, table_of, triples as triples_of, type_of, types_of, with_type, words as words_of};
+ghost use Rattle.qc_accept.specs.Views.{events_in, names_in, path_in, table_in, type_in, types_in, words_in};
 
 use crate::fault::{DeclFault, Wrong};
 use crate::fields::{self, Fields};
@@ -15,7 +15,7 @@ use crate::{certificates, rows};
 use qc_cert::Triple;
 use qc_decl::{KindNames, KindNamesList, Kinds, Names};
 use qc_list::{List, Name, OutOfMemory};
-use qc_table::{Kind, Row, Table, TableFault};
+use qc_table::{Kind, Relation, Row, Table, TableFault};
 use std::alloc::Global;
 use toml::Value;
 
@@ -115,18 +115,10 @@ fn read_type<'a>(
     ensures { IsAnswer type_in result (type_of (path_in fields.now) (table_in fields.now) place (name_at (names_in names.now) place)) }
 {
     let words = read_words(fields)?;
-    let items = fields.items("rows", 0, MOST_ROWS)?;
-    let rows = fields.told("rows", rows::rows(fields.alloc, &words, items))?;
-    let table = table_of(fields.alloc, place, names, &words, rows.items())?;
+    let table = read_table(fields, place, names, &words)?;
     let events = Events::of(fields.alloc, &table)?;
-    let relation = fields.told(
-        "depends",
-        certificates::relation(fields.alloc, &words, &events, fields.optional("depends")?),
-    )?;
-    let triples = fields.told(
-        "triples",
-        certificates::triples(fields.alloc, &words, &events, fields.optional("triples")?),
-    )?;
+    let relation = read_relation(fields, &words, &events)?;
+    let triples = read_triples(fields, &words, &events)?;
     fields.no_others(&KEYS)?;
     Ok(TypeRead {
         words,
@@ -134,6 +126,53 @@ fn read_type<'a>(
         kind: Kind { table, relation },
         triples,
     })
+}
+
+/// Reads a type's rows as a table.
+fn read_table(
+    fields: &Fields<'_>,
+    place: u8,
+    names: &Index<'_>,
+    words: &Words<'_>,
+) -> Result<Table, DeclFault>
+    requires place { place < length (names_in names.now) }
+    requires words { AreSome (words_in words.now) }
+    requires few { AreFew (words_in words.now) }
+    ensures { IsAnswer (λ table. table) result (and_then (table_of place (name_at (names_in names.now) place) (words_in words.now)) (rows_of (path_in fields.now) (table_in fields.now) (words_in words.now))) }
+{
+    let items = fields.items("rows", 0, MOST_ROWS)?;
+    let rows = fields.told("rows", rows::rows(fields.alloc, words, items))?;
+    table_of(fields.alloc, place, names, words, rows.items())
+}
+
+/// Reads a type's relation.
+fn read_relation(
+    fields: &Fields<'_>,
+    words: &Words<'_>,
+    events: &Events,
+) -> Result<Relation, DeclFault>
+    requires words { AreFew (words_in words.now) }
+    requires events { length (events_in events.now) ≤ 64 }
+    ensures { IsAnswer (λ r. r) result (relation_in (path_in fields.now) (table_in fields.now) (words_in words.now) (events_in events.now)) }
+{
+    let items = fields.optional("depends")?;
+    let read = certificates::relation(fields.alloc, words, events, items);
+    fields.told("depends", read)
+}
+
+/// Reads a type's triples.
+fn read_triples(
+    fields: &Fields<'_>,
+    words: &Words<'_>,
+    events: &Events,
+) -> Result<List<Triple>, DeclFault>
+    requires words { AreFew (words_in words.now) }
+    requires events { length (events_in events.now) ≤ 64 }
+    ensures { IsAnswer (λ ts. ts) result (triples_of (path_in fields.now) (table_in fields.now) (words_in words.now) (events_in events.now)) }
+{
+    let items = fields.optional("triples")?;
+    let read = certificates::triples(fields.alloc, words, events, items);
+    fields.told("triples", read)
 }
 
 /// Reads a type's words.

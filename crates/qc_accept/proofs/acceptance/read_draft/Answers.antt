@@ -21,7 +21,7 @@ returns-in_err-sites c =
     let told = err_from_is_err_and c.from_residual.result c.from_residual.ensures.1 in
     rw (told.1, told.2) (λ apart.
     at_root (path_in c.of_document-root.result) (table_in c.of_document-root.result) (table_view c.args.table.now) _ c.of_document-root.ensures.path c.of_document-root.ensures.table
-    (no_sites (path_in c.of_document-root.result) (table_in c.of_document-root.result) _ apart  c.in_err-sites.ensures))
+    (no_sites (path_in c.of_document-root.result) (table_in c.of_document-root.result) _ apart c.in_err-sites.ensures))
 
 pub returns-in_err-clients : goal.returns-in_err-clients
 returns-in_err-clients c =
