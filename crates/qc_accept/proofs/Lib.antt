@@ -7,6 +7,7 @@ pub mod Digits
 pub mod Documents
 pub mod DraftRead
 pub mod Drafted
+pub mod Gathered
 pub mod Indexed
 pub mod Kept
 pub mod ListTexts

@@ -1,5 +1,6 @@
 pub mod Accept
 pub mod Answers
+pub mod Certificates
 pub mod Epochs
 pub mod Fields
 pub mod Lookup

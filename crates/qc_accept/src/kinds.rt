@@ -2,8 +2,10 @@
 
 ghost use Rattle.std.specs.Prelude.{◌≡◌, ◌<◌, ◌≤◌, ◌++◌, [], ◌∷◌, length, map, IfOk, OnOk};
 ghost use Rattle.toml.specs.View.{view};
+ghost use Rattle.qc_table.specs.Rules.{events_of};
 ghost use Rattle.qc_accept.specs.Accept.{all_names, kind_names};
 ghost use Rattle.qc_accept.specs.Answers.{IsAnswer, IsReading, and_then};
+ghost use Rattle.qc_accept.specs.Certificates.{certificate_of, rest_of};
 ghost use Rattle.qc_accept.specs.Fields.{name_among, names as names_of};
 ghost use Rattle.qc_accept.specs.Types.{AreFew, AreSome, TypeOf, name_at, relation as relation_in, rows as rows_of, table_of, triples as triples_of, type_of, types_of, with_type, words as words_of};
 ghost use Rattle.qc_accept.specs.Views.{events_in, names_in, path_in, table_in, type_in, types_in, words_in};
@@ -50,6 +52,13 @@ pub(crate) struct Words<'a> {
     pub(crate) start: u8,
     pub(crate) invs: Index<'a>,
     pub(crate) resps: Index<'a>,
+}
+
+/// A type's relation, with the triples that are to show it exact.
+#[derive(Drop)]
+struct Certificate {
+    relation: Relation,
+    triples: List<Triple>,
 }
 
 /// A type as it was read.
@@ -116,16 +125,44 @@ fn read_type<'a>(
 {
     let words = read_words(fields)?;
     let table = read_table(fields, place, names, &words)?;
+    read_rest(fields, words, table)
+}
+
+/// Reads what follows a type's rows.
+fn read_rest<'a>(
+    fields: &Fields<'a>,
+    words: Words<'a>,
+    table: Table,
+) -> Result<TypeRead<'a>, DeclFault>
+    requires words { AreFew (words_in words) }
+    requires events { length (events_of table.rows) ≤ 64 }
+    ensures { IsAnswer type_in result (rest_of (path_in fields.now) (table_in fields.now) (words_in words.entry) table) }
+{
     let events = Events::of(fields.alloc, &table)?;
-    let relation = read_relation(fields, &words, &events)?;
-    let triples = read_triples(fields, &words, &events)?;
-    fields.no_others(&KEYS)?;
+    let certificate = read_certificate(fields, &words, &events)?;
+    let Certificate { relation, triples } = certificate;
     Ok(TypeRead {
         words,
         events,
         kind: Kind { table, relation },
         triples,
     })
+}
+
+/// Reads a type's relation and triples, which its last keys are.
+fn read_certificate(
+    fields: &Fields<'_>,
+    words: &Words<'_>,
+    events: &Events,
+) -> Result<Certificate, DeclFault>
+    requires words { AreFew (words_in words.now) }
+    requires events { length (events_in events.now) ≤ 64 }
+    ensures { IsAnswer (λ c. c) result (certificate_of (path_in fields.now) (table_in fields.now) (words_in words.now) (events_in events.now)) }
+{
+    let relation = read_relation(fields, words, events)?;
+    let triples = read_triples(fields, words, events)?;
+    fields.no_others(&KEYS)?;
+    Ok(Certificate { relation, triples })
 }
 
 /// Reads a type's rows as a table.
