@@ -1,6 +1,6 @@
 -- An accepted declaration keeps what it has to.
-use Rattle.std.proofs.Common.{◌≡◌, ℕ, zero, suc, ◌+◌, ◌<◌, ◌≤◌, List, [], ◌∷◌, ◌++◌, length, map, Option, Some, None, Ok, Err, get_or, refl, sym, ap, ◌∙◌, subst, arith}
-use Rattle.std.specs.Prelude.{All, codes, slice_get, option_map, option_and_then}
+use Rattle.std.proofs.Common.{◌≡◌, ℕ, zero, suc, ◌<◌, ◌≤◌, List, [], ◌∷◌, length, map, Option, Some, None, Ok, Err, refl, sym, ap, ◌∙◌, subst, arith}
+use Rattle.std.specs.Prelude.{All, codes, slice_get, option_map}
 use Rattle.std.specs.Option.{option_map_or}
 use Rattle.std.proofs.lemmas.List.{length-map}
 use Rattle.std.proofs.lemmas.Option.{slice_get-map}
@@ -8,11 +8,9 @@ use Rattle.toml.specs.Data.{Members}
 use Rattle.qc_cert.proofs.Faultless.{inductive}
 use Rattle.qc_cert.proofs.Walk.{exact}
 use Rattle.qc_cert.specs.Faults as cert
-use Rattle.qc_cert.specs.Views.{IsExact}
 use Rattle.qc_cert.specs.declared.fault.CertFault.{CertFault}
 use Rattle.qc_cert.specs.declared.triple.Triple.{Triple}
 use Rattle.qc_plan.proofs.Faultless as plan_proofs
-use Rattle.qc_plan.specs.Admitted.{IsAdmitted}
 use Rattle.qc_plan.specs.Faults as plan
 use Rattle.qc_plan.specs.declared.fault.PlanFault.{PlanFault}
 use Rattle.qc_plan.specs.declared.plan.Plan.{Plan}
@@ -20,18 +18,17 @@ use Rattle.qc_table.specs.Sound.{IsSound}
 use Rattle.qc_table.specs.declared.kind.Kind.{Kind}
 use Rattle.qc_decl.specs.declared.declaration.Declaration.{Declaration}
 use Rattle.qc_decl.specs.declared.declaration.KindNames.{KindNames}
-use Rattle.qc_accept.specs.declared.fault.DeclFault.{DeclFault}
 use Rattle.qc_accept.specs.declared.fault.DeclFault.TheVariants as decl
 use Rattle.qc_accept.specs.Accept.{DraftOf, AreOfStates, AreChecked, ArePlanned, IsShaped, accepted, admitted, all_admitted, all_certified, all_names, cert_names, certified, declared, document_of, draft, draft_of, keys, kind_names, plan_names}
 use Rattle.qc_decl.specs.Accepted.{IsAccepted, IsRight, IsGood}
-use Rattle.qc_accept.specs.Answers.{Answer, ◌>>=◌}
-use Rattle.qc_accept.specs.Epochs.{StoreOf, IsFit, plans_of}
+use Rattle.qc_accept.specs.Answers.{Answer}
+use Rattle.qc_accept.specs.Epochs.{IsFit, plans_of}
 use Rattle.qc_accept.specs.Fields.{number, no_others}
 use Rattle.qc_decl.specs.Named.{IsNamed}
 use Rattle.qc_accept.specs.Objects.{ObjectsOf, objects_of}
 use Rattle.qc_accept.specs.Types.{AreFew, TypeOf, TypesOf, types_of}
-use Rattle.qc_accept.proofs.Answered.{Came, came, mapped, same_ok}
-use Rattle.qc_accept.proofs.Kept.{AreWords, IsTypeKept, AreTypesKept, types_kept}
+use Rattle.qc_accept.proofs.Answered.{came, mapped, same_ok}
+use Rattle.qc_accept.proofs.Kept.{IsTypeKept, AreTypesKept, types_kept}
 use Rattle.qc_accept.proofs.Drafted.{all_at, all_of, number_is, AreObjectsKept, objects_kept, IsPlanOf, ArePlansKept, plans_kept}
 
 -- what a draft was made of

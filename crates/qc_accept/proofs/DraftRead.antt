@@ -1,5 +1,5 @@
 -- Reading the fields of a declaration, one key after another.
-use Rattle.std.proofs.Common.{◌≡◌, ◌≢◌, ℕ, ◌<◌, ◌≤◌, List, [], length, map, Ok, Err, refl, ap, sym, ◌∙◌, subst, arith}
+use Rattle.std.proofs.Common.{◌≡◌, ◌≢◌, ℕ, ◌≤◌, List, [], length, map, Ok, Err, ap, sym, subst, arith}
 use Rattle.std.specs.Prelude.{codes}
 use Rattle.toml.specs.Data.{Members}
 use Rattle.qc_cert.specs.declared.triple.Triple.{Triple}
@@ -10,12 +10,12 @@ use Rattle.qc_accept.specs.declared.fault.DeclFault.{DeclFault}
 use Rattle.qc_accept.specs.declared.fault.DeclFault.TheVariants.{OutOfMemory}
 use Rattle.qc_accept.specs.Accept.{DraftOf, all_names, draft, draft_of, keys}
 use Rattle.qc_accept.specs.Answers.{Answer, ◌>>=◌}
-use Rattle.qc_accept.specs.Epochs.{StoreOf, IsFit, plans_of}
+use Rattle.qc_accept.specs.Epochs.{IsFit, plans_of}
 use Rattle.qc_accept.specs.Fields.{number, no_others}
 use Rattle.qc_accept.specs.Objects.{ObjectsOf, objects_of}
 use Rattle.qc_accept.specs.Types.{TypeOf, TypesOf, types_of}
 use Rattle.qc_accept.proofs.Accepting.{store_fits}
-use Rattle.qc_accept.proofs.Drafted.{AreObjectsKept, number_is, objects_kept}
+use Rattle.qc_accept.proofs.Drafted.{number_is, objects_kept}
 use Rattle.qc_accept.proofs.Kept.{AreTypesKept, types_kept}
 use Rattle.qc_accept.proofs.Told.{then_ok, then_err}
 

@@ -1,27 +1,22 @@
 -- What the fields of a declaration keep, once they are read.
-use Rattle.std.proofs.Common.{◌≡◌, ℕ, zero, suc, ◌+◌, ◌<◌, ◌≤◌, Bool, true, false, cond, List, [], ◌∷◌, ◌++◌, length, map, Option, Some, None, Ok, Err, get_or, refl, sym, ap, ◌∙◌, subst, arith}
-use Rattle.std.specs.Prelude.{All, codes, slice_get, option_map, option_and_then}
+use Rattle.std.proofs.Common.{◌≡◌, ℕ, zero, suc, ◌+◌, ◌<◌, ◌≤◌, List, [], ◌∷◌, ◌++◌, length, Some, Ok, get_or, refl, sym, ap, ◌∙◌, subst, arith}
+use Rattle.std.specs.Prelude.{All, codes, slice_get, option_and_then}
 use Rattle.std.specs.Option.{option_map_or}
-use Rattle.std.proofs.lemmas.List.{length-append, length-map}
+use Rattle.std.proofs.lemmas.List.{length-append}
 use Rattle.std.proofs.lemmas.List.Elements.{All-nil}
-use Rattle.std.proofs.lemmas.Option.{cond_some, slice_get-map, slice_get_within, get_or_from_slice_get}
-use Rattle.toml.specs.Data.{Data, Members, as_str, as_integer}
-use Rattle.qc_cert.specs.declared.triple.Triple.{Triple}
+use Rattle.std.proofs.lemmas.Option.{cond_some, slice_get_within, get_or_from_slice_get}
+use Rattle.toml.specs.Data.{Data, Members, as_integer}
 use Rattle.qc_plan.specs.declared.plan.Plan.{Plan}
-use Rattle.qc_table.specs.declared.kind.Kind.{Kind}
-use Rattle.qc_decl.specs.declared.declaration.Declaration.{Declaration}
-use Rattle.qc_decl.specs.declared.declaration.KindNames.{KindNames}
 use Rattle.qc_accept.specs.declared.epochs.Side.{Side}
 use Rattle.qc_accept.specs.declared.epochs.Side.TheVariants.{Initial, Final}
-use Rattle.qc_accept.specs.Accept.{DraftOf, AreOfStates, AreChecked, ArePlanned, IsShaped, all_names, draft, draft_of, keys, kind_names}
-use Rattle.qc_accept.specs.Answers.{Answer, ◌>>=◌, each, read_each}
-use Rattle.qc_accept.specs.Epochs.{StoreOf, IsFit, EntryOf, entries_in, epoch_keys, needs, needs_of, places, plan_of, plans_of, thresholds, weights, with_plan, with_weight}
+use Rattle.qc_accept.specs.Answers.{read_each}
+use Rattle.qc_accept.specs.Epochs.{StoreOf, EntryOf, entries_in, epoch_keys, needs, needs_of, places, plan_of, plans_of, thresholds, weights, with_plan, with_weight}
 use Rattle.qc_accept.specs.Fields.{told, required, items, number, number_between, natural, name_among, with_name, no_others, item_table, keys_path, optional}
-use Rattle.qc_accept.specs.Objects.{ObjectsOf, kind_of, object_keys, objects_of, with_kind, with_object}
-use Rattle.qc_accept.specs.Types.{AreFew, TypeOf, TypesOf, types_of}
+use Rattle.qc_accept.specs.Objects.{ObjectsOf, kind_of, object_keys, objects_of, with_object}
+use Rattle.qc_accept.specs.Types.{TypesOf}
 use Rattle.qc_accept.specs.Words.{is_between}
-use Rattle.qc_accept.proofs.Answered.{Came, came, found, mapped, told_some, same_ok, each_keeps, read_each_keeps, between, so_many, one_more}
-use Rattle.qc_accept.proofs.Kept.{AreWords, IsTypeKept, AreTypesKept, among_within, name_more, types_kept}
+use Rattle.qc_accept.proofs.Answered.{came, found, mapped, told_some, same_ok, each_keeps, read_each_keeps, between, so_many, one_more}
+use Rattle.qc_accept.proofs.Kept.{among_within, name_more}
 
 -- what holds of each holds of the one at a place
 pub all_at : {A : Type 0} (P : A → Type 0) (xs : List A) (k : ℕ) (x : A) → All P xs → slice_get xs k ≡ Some x → P x

@@ -10,7 +10,7 @@ use Rattle.qc_accept.specs.declared.kinds.Certificate.{Certificate}
 use Rattle.qc_accept.specs.Answers.{Answer, ◌>>=◌}
 use Rattle.qc_accept.specs.Certificates.{certificate_of, rest_of, type_with}
 use Rattle.qc_accept.specs.Fields.{no_others}
-use Rattle.qc_accept.specs.Types.{WordsOf, TypeOf, relation, rows, table_of, triples, type_keys, type_of, words}
+use Rattle.qc_accept.specs.Types.{WordsOf, relation, rows, table_of, triples, type_keys, type_of, words}
 use Rattle.qc_accept.proofs.Told.{then_err}
 use Rattle.qc_accept.proofs.TypeFields.{has_ruled, has_words}
 

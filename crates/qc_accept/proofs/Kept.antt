@@ -1,6 +1,6 @@
 -- What the types of a declaration keep: limits, tables that are sound, and triples of their states.
-use Rattle.std.proofs.Common.{◌≡◌, ℕ, zero, suc, ◌+◌, ◌<◌, ◌≤◌, Bool, true, false, cond, ◌&&◌, not, List, [], ◌∷◌, ◌++◌, length, Option, Some, None, Ok, Err, refl, sym, ap, ◌∙◌, subst, arith}
-use Rattle.std.specs.Prelude.{All, codes, nat_le, nat_lt, position, option_map, option_and_then}
+use Rattle.std.proofs.Common.{◌≡◌, ℕ, suc, ◌+◌, ◌<◌, ◌≤◌, Bool, true, false, cond, ◌&&◌, not, List, [], ◌∷◌, ◌++◌, length, Option, Some, None, Ok, refl, sym, ap, ◌∙◌, subst, arith}
+use Rattle.std.specs.Prelude.{All, codes, nat_le, nat_lt, position, option_and_then}
 use Rattle.std.specs.List.{list_any}
 use Rattle.std.specs.Str.{bytes_eq}
 use Rattle.std.proofs.lemmas.Bool.{leb-true, leb-false}
@@ -14,15 +14,14 @@ use Rattle.qc_table.specs.Faults.{fault_of, ranked, is_unknown, first_repeat}
 use Rattle.qc_table.specs.Rules.{Rules, rules_of, events_of}
 use Rattle.qc_table.specs.Sound.{IsSound}
 use Rattle.qc_table.specs.declared.fault.TableFault.{TableFault}
-use Rattle.qc_table.specs.declared.kind.Kind.{Kind}
 use Rattle.qc_table.specs.declared.row.Event.{Event}
 use Rattle.qc_table.specs.declared.row.Row.{Row}
 use Rattle.qc_accept.specs.Accept.{AreOfStates}
-use Rattle.qc_accept.specs.Answers.{Answer, ◌>>=◌, each, read_each}
-use Rattle.qc_accept.specs.Fields.{told, required, items, names, name_among, with_name, with_text, no_others, item_table, item_path, keys_path, optional}
-use Rattle.qc_accept.specs.Types.{WordsOf, AreFew, AreSome, TypeOf, TypesOf, words, rows, ruled, table_of, relation, triple_in, triples, triples_in, are_few_alike, with_read, out_in, type_of, type_keys, with_rest, with_type, types_of, name_at}
+use Rattle.qc_accept.specs.Answers.{read_each}
+use Rattle.qc_accept.specs.Fields.{told, required, items, names, name_among, with_name, with_text, no_others, item_table, keys_path, optional}
+use Rattle.qc_accept.specs.Types.{WordsOf, AreFew, AreSome, TypeOf, TypesOf, words, rows, ruled, table_of, relation, triple_in, triples, triples_in, are_few_alike, with_read, out_in, type_of, type_keys, with_type, types_of, name_at}
 use Rattle.qc_accept.specs.Words.{is_name, number_of, three}
-use Rattle.qc_accept.proofs.Answered.{Came, came, Found, found, Mapped, mapped, told_some, same_ok, each_keeps, read_each_keeps, so_many, one_more}
+use Rattle.qc_accept.proofs.Answered.{Came, came, Found, found, mapped, told_some, same_ok, each_keeps, read_each_keeps, so_many, one_more}
 
 -- a name more
 pub name_more : (known : List (List ℕ)) (d : Data) (next : List (List ℕ)) → with_name known d ≡ Some next → length next ≡ suc (length known)

@@ -1,7 +1,6 @@
 pub mod Accepting
 pub mod Alike
 pub mod Answered
-pub mod Checking
 pub mod Counted
 pub mod Digits
 pub mod Documents
@@ -13,7 +12,6 @@ pub mod Kept
 pub mod ListTexts
 pub mod Outs
 pub mod Reading
-pub mod Ruled
 pub mod Sorted
 pub mod Steps
 pub mod Sufficing

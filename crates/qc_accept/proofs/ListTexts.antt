@@ -1,14 +1,13 @@
 -- Reading the texts of an array, each as an item of a list.
-use Rattle.std.proofs.Common.{◌≡◌, ℕ, ◌+◌, ◌<◌, ◌≤◌, ◌++◌, List, [], ◌∷◌, Option, Some, None, length, get_or, drop, sym, ap, ◌∙◌, arith}
+use Rattle.std.proofs.Common.{◌≡◌, ℕ, ◌+◌, ◌<◌, ◌++◌, List, [], ◌∷◌, Option, Some, None, length, get_or, drop, sym, ap, ◌∙◌}
 use Rattle.std.specs.Prelude.{option_map, option_and_then}
-use Rattle.std.proofs.lemmas.List.{length-map}
 use Rattle.toml.specs.Data.{as_str}
 use Rattle.toml.specs.View.{view}
 use Rattle.toml.specs.declared.value.Value.{Value}
 use Rattle.qc_accept.specs.Answers.{read_each}
 use Rattle.qc_accept.specs.Types.{with_read}
 use Rattle.qc_accept.specs.Views.{data_of}
-use Rattle.qc_accept.proofs.Reading.{reads_on, reads_none, reads_all, item_seen}
+use Rattle.qc_accept.proofs.Reading.{reads_on, reads_none, item_seen}
 
 -- a list with an item, where there is one
 abbrev more : {A : Type 0} → List A → Option A → Option (List A)
@@ -37,10 +36,3 @@ pub no_item : {A : Type 0} (read : List ℕ → Option A) (so_far : List A) (val
 no_item {A} read so_far values i value text whole within at is_text is_item before =
     reads_none (with_read read) so_far (data_of values) i (view value) whole (item_seen view values i value within at)
     (ap (λ (o : Option (List ℕ)). more so_far (option_and_then read o)) is_text ∙ ap (more so_far) is_item) before
-
--- the last value was taken
-pub takes_all : {A : Type 0} (read : List ℕ → Option A) (so_far : List A) (values : List Value) (i : ℕ) (whole : Option (List A)) → length values ≤ i
-    → whole ≡ read_each (with_read read) so_far (drop i (data_of values)) → whole ≡ Some so_far
-takes_all read so_far values i whole past before =
-    let end : length (data_of values) ≤ i = omega (arith, length-map values view) in
-    reads_all (with_read read) so_far (data_of values) i whole end before

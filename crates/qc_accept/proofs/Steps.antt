@@ -1,5 +1,5 @@
 -- Reading the items of a slice, one after another.
-use Rattle.std.proofs.Common.{◌≡◌, ℕ, suc, ◌+◌, ◌<◌, ◌≤◌, List, [], ◌∷◌, Option, Some, None, map, get_or, length, drop, drop-cons, sym, ap, ◌∙◌, arith}
+use Rattle.std.proofs.Common.{◌≡◌, ℕ, suc, ◌+◌, ◌<◌, ◌≤◌, List, ◌∷◌, Option, Some, None, map, get_or, length, drop, drop-cons, sym, ap, ◌∙◌, arith}
 use Rattle.std.proofs.lemmas.List.{get_or-map, length-map, drop_all}
 use Rattle.std.specs.Prelude.{option_and_then}
 use Rattle.qc_accept.specs.Answers.{read_each}

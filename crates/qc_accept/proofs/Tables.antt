@@ -1,14 +1,14 @@
 -- Fields of a document's tables, as the code looks them up.
-use Rattle.std.proofs.Common.{◌≡◌, ℕ, ◌≤◌, ◌<◌, ◌⊎◌, inl, inr, true, false, Bool, List, [], ◌∷◌, Option, Some, None, Ok, Err, length, map, cond, ap, sym, ◌∙◌, refl, vec_len, String, Vec, Global, arith}
+use Rattle.std.proofs.Common.{◌≡◌, ℕ, ◌≤◌, ◌<◌, ◌⊎◌, true, false, Bool, List, [], ◌∷◌, Option, Some, None, length, map, ap, sym, ◌∙◌, refl, vec_len, String, Vec, Global, arith}
 use Rattle.std.proofs.lemmas.Bool.Decides.{nat_tests, same_from_decides, Decides-like}
 use Rattle.std.proofs.lemmas.List.{length-map}
 use Rattle.std.proofs.lemmas.Slice.Eq.{bytes_eq-Decides}
-use Rattle.std.specs.Prelude.{option_and_then, option_map, nat_le, ◌&&◌, ◌||◌, if◌then◌else◌, string_bytes}
+use Rattle.std.specs.Prelude.{option_and_then, if◌then◌else◌, string_bytes}
 use Rattle.std.specs.Borrow.{Bor}
 use Rattle.std.specs.List.{list_any}
 use Rattle.std.specs.Map.{keys_of}
 use Rattle.std.specs.Str.{bytes_eq}
-use Rattle.toml.specs.Data.{Data, Items, Members, as_array}
+use Rattle.toml.specs.Data.{Data, Items, as_array}
 use Rattle.toml.specs.View.{view, items_view, members_view}
 use Rattle.toml.specs.declared.value.Value.{Value}
 use Rattle.qc_accept.specs.Fields.{listed, items_between, first_other}

@@ -1,6 +1,6 @@
 -- Reading what follows a type's name, one key after another.
-use Rattle.std.proofs.Common.{◌≡◌, ◌≢◌, ℕ, suc, ◌+◌, ◌≤◌, List, [], ◌++◌, length, map, Ok, Err, refl, ap, sym, ◌∙◌, subst, arith}
-use Rattle.std.specs.Prelude.{codes, option_map}
+use Rattle.std.proofs.Common.{◌≡◌, ◌≢◌, ℕ, suc, ◌+◌, ◌≤◌, List, [], ◌++◌, length, Ok, Err, refl, ap, sym, ◌∙◌, subst, arith}
+use Rattle.std.specs.Prelude.{codes}
 use Rattle.toml.specs.Data.{Data, Members}
 use Rattle.qc_cert.specs.declared.triple.Triple.{Triple}
 use Rattle.qc_table.specs.Rules.{Rules, events_of}
@@ -8,10 +8,9 @@ use Rattle.qc_table.specs.declared.row.Event.{Event}
 use Rattle.qc_table.specs.declared.row.Row.{Row}
 use Rattle.qc_accept.specs.declared.fault.DeclFault.{DeclFault}
 use Rattle.qc_accept.specs.declared.fault.DeclFault.TheVariants.{OutOfMemory}
-use Rattle.qc_accept.specs.Answers.{Answer, ◌>>=◌, read_each}
-use Rattle.qc_accept.specs.Fields.{told, items, optional, no_others}
-use Rattle.qc_accept.specs.Types.{WordsOf, TypeOf, words, row_in, rows_in, rows, with_read, table_of, relation, pairs_in, triples, triples_in, type_of, type_keys}
-use Rattle.qc_table.specs.Depends.{relation_of}
+use Rattle.qc_accept.specs.Answers.{Answer, ◌>>=◌}
+use Rattle.qc_accept.specs.Fields.{told, items, no_others}
+use Rattle.qc_accept.specs.Types.{WordsOf, TypeOf, words, row_in, rows_in, rows, with_read, table_of, relation, triples, type_of, type_keys}
 use Rattle.qc_accept.proofs.Answered.{came, read_each_keeps, told_some, so_many}
 use Rattle.qc_accept.proofs.Kept.{IsTable, few_events, read_long, table_is, words_are}
 use Rattle.qc_accept.proofs.Told.{then_ok, then_err}
@@ -58,87 +57,11 @@ module _ (path : List ℕ) (table : Members) (place : ℕ) (name : List ℕ) whe
   pub has_words : (w : WordsOf) (whole : Answer TypeOf) → words path table ≡ Ok w → after_words w ≡ whole → type_of path table place name ≡ whole
   has_words w whole is rest = then_ok (words path table) after_words w whole is rest
 
-  -- the rows
-  pub no_rows : (w : WordsOf) (fault : DeclFault) → (fault ≢ OutOfMemory → items path table (codes "rows") 0 131072 ≡ Err fault) → fault ≢ OutOfMemory
-      → after_words w ≡ Err fault
-  no_rows w fault is apart =
-      then_err (rows path table w) (after_rows w) fault
-      (λ a. then_err (items path table (codes "rows") 0 131072) (λ ds. told (path ++ codes "rows") (rows_in w ds)) fault is a) apart
-
-  pub ill_rows : (w : WordsOf) (ds : List Data) (fault : DeclFault) → items path table (codes "rows") 0 131072 ≡ Ok ds
-      → (fault ≢ OutOfMemory → told (path ++ codes "rows") (rows_in w ds) ≡ Err fault) → fault ≢ OutOfMemory → after_words w ≡ Err fault
-  ill_rows w ds fault a is apart =
-      then_err (rows path table w) (after_rows w) fault
-      (λ b. then_ok (items path table (codes "rows") 0 131072) (λ ds. told (path ++ codes "rows") (rows_in w ds)) ds (Err fault) a (is b)) apart
-
-  pub has_rows : (w : WordsOf) (ds : List Data) (rs : List Row) (whole : Answer TypeOf) → items path table (codes "rows") 0 131072 ≡ Ok ds
-      → told (path ++ codes "rows") (rows_in w ds) ≡ Ok rs → after_rows w rs ≡ whole → after_words w ≡ whole
-  has_rows w ds rs whole a b rest =
-      then_ok (rows path table w) (after_rows w) rs whole
-      (then_ok (items path table (codes "rows") 0 131072) (λ ds. told (path ++ codes "rows") (rows_in w ds)) ds (Ok rs) a b) rest
-
-  -- the table of them
-  pub no_rules : (w : WordsOf) (rs : List Row) (fault : DeclFault) → (fault ≢ OutOfMemory → table_of place name w rs ≡ Err fault) → fault ≢ OutOfMemory
-      → after_rows w rs ≡ Err fault
-  no_rules w rs fault is apart = then_err (table_of place name w rs) (λ rules. after_rules w rules (events_of rules.rows)) fault is apart
-
   pub has_rules : (w : WordsOf) (rs : List Row) (rules : Rules) (events : List Event) (whole : Answer TypeOf) → table_of place name w rs ≡ Ok rules
       → events ≡ events_of rules.rows → after_rules w rules events ≡ whole → after_rows w rs ≡ whole
   has_rules w rs rules events whole is same rest =
       then_ok (table_of place name w rs) (λ rules. after_rules w rules (events_of rules.rows)) rules whole is
       (subst (λ (es : List Event). after_rules w rules es ≡ whole) same rest)
-
-  -- the relation
-  pub no_depends : (w : WordsOf) (rules : Rules) (events : List Event) (fault : DeclFault) → (fault ≢ OutOfMemory → optional path table (codes "depends") ≡ Err fault)
-      → fault ≢ OutOfMemory → after_rules w rules events ≡ Err fault
-  no_depends w rules events fault is apart =
-      then_err (relation path table w events) (after_relation w rules events) fault
-      (λ a. then_err (optional path table (codes "depends")) (λ ds. told (path ++ codes "depends") (option_map relation_of (pairs_in w events ds))) fault is a) apart
-
-  pub ill_depends : (w : WordsOf) (rules : Rules) (events : List Event) (ds : List Data) (fault : DeclFault) → optional path table (codes "depends") ≡ Ok ds
-      → (fault ≢ OutOfMemory → told (path ++ codes "depends") (option_map relation_of (pairs_in w events ds)) ≡ Err fault) → fault ≢ OutOfMemory
-      → after_rules w rules events ≡ Err fault
-  ill_depends w rules events ds fault a is apart =
-      then_err (relation path table w events) (after_relation w rules events) fault
-      (λ b. then_ok (optional path table (codes "depends")) (λ ds. told (path ++ codes "depends") (option_map relation_of (pairs_in w events ds))) ds (Err fault) a (is b)) apart
-
-  pub has_depends : (w : WordsOf) (rules : Rules) (events : List Event) (ds : List Data) (rel : List ℕ) (whole : Answer TypeOf) → optional path table (codes "depends") ≡ Ok ds
-      → told (path ++ codes "depends") (option_map relation_of (pairs_in w events ds)) ≡ Ok rel → after_relation w rules events rel ≡ whole
-      → after_rules w rules events ≡ whole
-  has_depends w rules events ds rel whole a b rest =
-      then_ok (relation path table w events) (after_relation w rules events) rel whole
-      (then_ok (optional path table (codes "depends")) (λ ds. told (path ++ codes "depends") (option_map relation_of (pairs_in w events ds))) ds (Ok rel) a b) rest
-
-  -- the triples
-  pub no_triples : (w : WordsOf) (rules : Rules) (events : List Event) (rel : List ℕ) (fault : DeclFault)
-      → (fault ≢ OutOfMemory → optional path table (codes "triples") ≡ Err fault) → fault ≢ OutOfMemory → after_relation w rules events rel ≡ Err fault
-  no_triples w rules events rel fault is apart =
-      then_err (triples path table w events) (after_triples w rules events rel) fault
-      (λ a. then_err (optional path table (codes "triples")) (λ ds. told (path ++ codes "triples") (triples_in w events ds)) fault is a) apart
-
-  pub ill_triples : (w : WordsOf) (rules : Rules) (events : List Event) (rel : List ℕ) (ds : List Data) (fault : DeclFault) → optional path table (codes "triples") ≡ Ok ds
-      → (fault ≢ OutOfMemory → told (path ++ codes "triples") (triples_in w events ds) ≡ Err fault) → fault ≢ OutOfMemory → after_relation w rules events rel ≡ Err fault
-  ill_triples w rules events rel ds fault a is apart =
-      then_err (triples path table w events) (after_triples w rules events rel) fault
-      (λ b. then_ok (optional path table (codes "triples")) (λ ds. told (path ++ codes "triples") (triples_in w events ds)) ds (Err fault) a (is b)) apart
-
-  pub has_triples : (w : WordsOf) (rules : Rules) (events : List Event) (rel : List ℕ) (ds : List Data) (ts : List Triple) (whole : Answer TypeOf)
-      → optional path table (codes "triples") ≡ Ok ds → told (path ++ codes "triples") (triples_in w events ds) ≡ Ok ts
-      → after_triples w rules events rel ts ≡ whole → after_relation w rules events rel ≡ whole
-  has_triples w rules events rel ds ts whole a b rest =
-      then_ok (triples path table w events) (after_triples w rules events rel) ts whole
-      (then_ok (optional path table (codes "triples")) (λ ds. told (path ++ codes "triples") (triples_in w events ds)) ds (Ok ts) a b) rest
-
-  -- the keys
-  pub other_keys : (w : WordsOf) (rules : Rules) (events : List Event) (rel : List ℕ) (ts : List Triple) (fault : DeclFault)
-      → (fault ≢ OutOfMemory → no_others path table type_keys ≡ Err fault) → fault ≢ OutOfMemory → after_triples w rules events rel ts ≡ Err fault
-  other_keys w rules events rel ts fault is apart =
-      then_err (no_others path table type_keys) (λ _. Ok (record { words = w; events = events; kind = record { table = rules; relation = rel }; triples = ts })) fault is apart
-
-  pub known_keys : (w : WordsOf) (rules : Rules) (events : List Event) (rel : List ℕ) (ts : List Triple) → no_others path table type_keys ≡ Ok tt
-      → after_triples w rules events rel ts ≡ Ok (record { words = w; events = events; kind = record { table = rules; relation = rel }; triples = ts })
-  known_keys w rules events rel ts is =
-      ap (λ (o : Answer (Unit {0})). o >>= (λ _. let answer : Answer TypeOf = Ok (record { words = w; events = events; kind = record { table = rules; relation = rel }; triples = ts }) in answer)) is
 
   -- the rows and their table, in one
   pub no_ruled : (w : WordsOf) (fault : DeclFault) → (fault ≢ OutOfMemory → (rows path table w >>= table_of place name w) ≡ Err fault) → fault ≢ OutOfMemory

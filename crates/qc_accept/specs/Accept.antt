@@ -2,7 +2,7 @@
 --
 -- The bytes are a TOML document. Its fields are read in the order of the keys and of the arrays; a type whose rows are no
 -- table ends this. Then each type's triples have to show its relation exact, and then each epoch's plan has to be admitted.
-use Rattle.std.specs.Prelude.{◌≡◌, ℕ, ◌<◌, ◌≤◌, All, length, suc, List, [], ◌∷◌, ◌++◌, Option, Some, None, Ok, Err, if◌then◌else◌, codes, map, slice_get, option_map, option_and_then}
+use Rattle.std.specs.Prelude.{◌≡◌, ℕ, ◌<◌, ◌≤◌, All, length, suc, List, [], ◌∷◌, ◌++◌, Option, Some, Ok, Err, if◌then◌else◌, codes, map, slice_get}
 use Rattle.std.specs.Option.{option_map_or}
 use Rattle.std.specs.Str.{is_utf8}
 use Rattle.toml.specs.Data.{Members}
@@ -20,10 +20,9 @@ use Rattle.qc_table.specs.declared.kind.Kind.{Kind}
 use Rattle.qc_table.specs.declared.row.Event.{Event}
 use Rattle.qc_decl.specs.declared.declaration.Declaration.{Declaration}
 use Rattle.qc_decl.specs.declared.declaration.KindNames.{KindNames}
-use Rattle.qc_accept.specs.declared.fault.DeclFault.{DeclFault}
 use Rattle.qc_accept.specs.declared.fault.DeclFault.TheVariants as decl
 use Rattle.qc_accept.specs.Answers.{Answer, ◌>>=◌}
-use Rattle.qc_accept.specs.Epochs.{StoreOf, plans_of}
+use Rattle.qc_accept.specs.Epochs.{plans_of}
 use Rattle.qc_accept.specs.Fields.{number, no_others}
 use Rattle.qc_accept.specs.Lookup.{kind_at, names_at}
 use Rattle.qc_accept.specs.Objects.{ObjectsOf, objects_of}

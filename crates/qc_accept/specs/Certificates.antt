@@ -1,7 +1,6 @@
 -- What stands behind a type's rows: its relation and its triples, and no unknown key.
 use Rattle.std.specs.Prelude.{ℕ, List, Ok}
 use Rattle.toml.specs.Data.{Members}
-use Rattle.qc_cert.specs.declared.triple.Triple.{Triple}
 use Rattle.qc_table.specs.Rules.{Rules, events_of}
 use Rattle.qc_table.specs.declared.row.Event.{Event}
 use Rattle.qc_accept.specs.declared.kinds.Certificate.{Certificate}

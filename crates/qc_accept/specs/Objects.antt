@@ -1,5 +1,5 @@
 -- The objects of a declaration.
-use Rattle.std.specs.Prelude.{ℕ, List, [], ◌∷◌, ◌++◌, length, Option, Some, None, Ok, Err, codes, slice_get, option_and_then}
+use Rattle.std.specs.Prelude.{ℕ, List, [], ◌∷◌, ◌++◌, length, Option, Ok, codes, slice_get, option_and_then}
 use Rattle.toml.specs.Data.{Data, Members}
 use Rattle.qc_accept.specs.Answers.{Answer, ◌>>=◌, each}
 use Rattle.qc_accept.specs.Fields.{told, required, items, name_among, with_name, no_others, item_table, keys_path}

@@ -1,5 +1,5 @@
 -- The types of a declaration.
-use Rattle.std.specs.Prelude.{ℕ, ◌<◌, ◌≤◌, Bool, ◌==◌, ◌&&◌, nat_le, List, [], ◌∷◌, ◌++◌, length, Option, Some, None, Ok, Err, if◌then◌else◌, codes, map, count_by, unwrap_or, slice_get, option_map, option_and_then}
+use Rattle.std.specs.Prelude.{ℕ, ◌<◌, ◌≤◌, Bool, ◌==◌, ◌&&◌, nat_le, List, [], ◌∷◌, ◌++◌, length, Option, Some, None, Ok, Err, if◌then◌else◌, codes, count_by, unwrap_or, slice_get, option_map, option_and_then}
 use Rattle.std.specs.List.{list_all, slice_split}
 use Rattle.std.specs.Str.{bytes_eq}
 use Rattle.toml.specs.Data.{Data, Members, as_str}
@@ -13,7 +13,6 @@ use Rattle.qc_table.specs.declared.kind.Kind.{Kind}
 use Rattle.qc_table.specs.declared.relation.Pair.{Pair}
 use Rattle.qc_table.specs.declared.row.Event.{Event}
 use Rattle.qc_table.specs.declared.row.Row.{Row}
-use Rattle.qc_accept.specs.declared.fault.DeclFault.{DeclFault}
 use Rattle.qc_accept.specs.declared.fault.DeclFault.TheVariants.{Table}
 use Rattle.qc_accept.specs.Answers.{Answer, ◌>>=◌, each, read_each}
 use Rattle.qc_accept.specs.Fields.{told, required, items, optional, names, name_among, with_name, no_others, item_table, keys_path}

@@ -1,6 +1,5 @@
 -- What the code's values stand for.
 use Rattle.std.specs.Prelude.{ℕ, List, map, string_bytes}
-use Rattle.std.specs.Borrow.{Bor}
 use Rattle.toml.specs.Data.{Data, Members}
 use Rattle.toml.specs.View.{view, table_view}
 use Rattle.toml.specs.declared.value.Value.{Value}

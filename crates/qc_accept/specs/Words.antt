@@ -1,5 +1,5 @@
 -- Texts of a declaration: words, names, numbers and events.
-use Rattle.std.specs.Prelude.{ℕ, ◌+◌, ◌-◌, ◌*◌, Bool, not, ◌==◌, ◌&&◌, ◌||◌, nat_le, nat_lt, List, [], ◌∷◌, ◌++◌, length, fold, Option, Some, None, if◌then◌else◌, option_map, option_and_then, position}
+use Rattle.std.specs.Prelude.{ℕ, ◌+◌, ◌-◌, ◌*◌, Bool, ◌==◌, ◌&&◌, ◌||◌, nat_le, List, [], ◌∷◌, length, fold, Option, Some, None, if◌then◌else◌, option_map, option_and_then, position}
 use Rattle.std.specs.List.{list_any, list_all}
 use Rattle.std.specs.Str.{bytes_eq}
 use Rattle.qc_table.specs.Rules.{event, event_number}

@@ -119,11 +119,6 @@ words_refused files words a taken cause is given = named (λ given. Leaves given
 pub right_given : (files : Option Files) (a : AskedOf) (work : Work) → OverFiles (λ given. given ≡ Ok work) files a → IsRight work
 right_given files a work given = work_is a given.0.decl given.0.script work given.1
 
-pub words_unknown : (files : Option Files) (words : List (List ℕ)) (taken : Option (List ℕ)) → asked words ≡ None → OverWords (λ given. Leaves given taken causes.NotBuilt taken []) files words
-words_unknown files words taken is =
-    subst (λ (o : Option AskedOf). MatchOption o (Leaves (Err causes.NotBuilt) taken causes.NotBuilt taken []) (λ x. OverFiles (λ given. Leaves given taken causes.NotBuilt taken []) files x)) (sym is)
-    (record { due = inl refl; history = refl; text = refl })
-
 -- limits, where nothing ran
 
 pub told_full : (cause : Cause) (h : List Entry) → IsTold cause → h ≡ [] → IsFullCause cause h

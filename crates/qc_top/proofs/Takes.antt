@@ -87,10 +87,6 @@ the_work_err cause = Err cause
 abbrev pub the_ok : Source → Result Source Cause
 the_ok source = Ok source
 
--- a later count rose too
-rose_before : (before between now : ℕ) → before ≤ between → Rose between now → Rose before now
-rose_before before between now later rose = omega arith
-
 -- what holds of an error holds of the answer that is it
 pub err_as : {A : Type 0} (P : Result A Cause → Type 0) (result : Result A Cause) (cause : Cause) → IsErrAnd result (λ e. e ≡ cause) → P (Err cause) → P result
 err_as P (Ok a) cause is here = absurd is
@@ -109,13 +105,6 @@ source_by name file t is = ap (λ (b : Bool). let c : Caused Source = if b then 
 
 pub built_in_given : (files : Option Files) (name : List ℕ) (result : Result Source Cause) → is_built_in name ≡ true → Gives (known_as name) result → GivesFile files name (source_of name) result
 built_in_given files name result is given = (file_of files name, of_is_held files name, subst (λ c. Gives c result) (sym (source_by name (file_of files name) true is)) given)
-
-pub from_file : (files : Option Files) (name : List ℕ) (result : Result (List ℕ) Cause) (source : Result Source Cause) → is_built_in name ≡ false
-    → GivesFile files name (bytes_within false most_declaration_bytes) result
-    → ((given : Caused (List ℕ)) → Gives given result → Gives (given >>= (λ bytes. Ok (Bytes bytes))) source)
-    → GivesFile files name (source_of name) source
-from_file files name result source is given step =
-    (given.0, given.1, subst (λ c. Gives c source) (sym (source_by name given.0 false is)) (step (bytes_within false most_declaration_bytes given.0) given.2))
 
 -- the whole work
 
@@ -161,20 +150,4 @@ script_given files after asked name source work is same given step = (
   subst (λ (s : Option (List ℕ)). Gives (source_of asked.decl given.0 >>= source_work s step.0) work) (sym is) (goes_on (source_of asked.decl given.0) (source_work (Some name) step.0) source work given.2 step.2),
 )
 
--- a script's bytes, then its declaration, then its run
-pub run_given : (files : Option Files) (name : List ℕ) (source : Source) (result : Result (List ℕ) Cause) (work : Result Work Cause)
-    → GivesFile files name (bytes_within true 1048576) result
-    → ((given : Caused (List ℕ)) → Gives given result → Gives (given >>= (λ bytes. declared_by source >>= (λ decl. run_of decl bytes))) work)
-    → GivesFile files name (script_work source) work
-run_given files name source result work given step = (given.0, given.1, step (bytes_within true 1048576 given.0) given.2)
-
 -- counts
-
-pub counted_on : {A B : Type 0} (before between now : ℕ) (first : Result A Cause) (second : Result B Cause) → IsCounted before between first → IsCounted between now second → IsCounted before now second
-counted_on before between now first second a b = record {
-  later = let x : before ≤ between = a.later in let y : between ≤ now = b.later in omega arith;
-  failed = λ script is. rose_before before between now a.later (b.failed script is);
-}
-
-pub blames_none : {A : Type 0} (before now : ℕ) (result : Result A Cause) → before ≤ now → BlamesNoShelf result → IsCounted before now result
-blames_none before now result later none = record { later = later; failed = λ script is. absurd (none script is) }

@@ -6,11 +6,13 @@ use std::process::Abort;
 use std::test::Fail;
 
 /// Texts in quotes with commas between them: the text of each number.
-fn list(
+fn list<F: Fn(&mut String, u32) -> Result<(), AllocError>>(
     alloc: Global,
     count: u32,
-    mut put: impl FnMut(&mut String, u32) -> Result<(), AllocError>,
-) -> Result<String, AllocError> {
+    put: F,
+) -> Result<String, AllocError>
+    requires { F.IsAlwaysCallable put }
+{
     let mut text = String::new(alloc);
     for k in 0..count {
         text.push_str("\"")?;

@@ -1,12 +1,11 @@
-use Rattle.std.proofs.Common.{◌≡◌, ◌+◌, ◌≤◌, suc, length, ap, ◌∙◌, arith}
+use Rattle.std.proofs.Common.{◌≡◌, ◌≤◌, suc, length, arith}
 use Rattle.std.proofs.lemmas.List.{length-map}
 use Rattle.std.proofs.lemmas.Result.{err_from_is_err_and}
 use Rattle.toml.specs.View.{view}
-use Rattle.qc_accept.specs.Answers.{each}
 use Rattle.qc_accept.specs.Types.{with_type}
 use Rattle.qc_accept.specs.Views.{data_of, path_in, table_in, types_in}
 use Rattle.qc_accept.proofs.Reading.{goes_on, stops, ends, item_seen}
-use Rattle.qc_accept.proofs.Typed.{no_types, type_named, types_read}
+use Rattle.qc_accept.proofs.Typed.{type_named, types_read}
 use Rattle.qc_accept.proofs.kinds.read_types.Goals as goal
 
 pub loop-item-preserved : goal.loop-item-preserved

@@ -1,6 +1,6 @@
 use Rattle.std.proofs.Common.{◌≡◌, ◌≤◌, [], length, drop}
 use Rattle.qc_accept.specs.Answers.{each}
-use Rattle.qc_accept.specs.Types.{TypesOf, with_type}
+use Rattle.qc_accept.specs.Types.{with_type}
 use Rattle.qc_accept.specs.Views.{data_of, types_in}
 use Rattle.qc_accept.proofs.kinds.read_types.Given as goal
 
