@@ -53,22 +53,25 @@ fn prints<T: Threads + Wait + Sync + Abort>(
     Ok(())
 }
 
+/// How a call ends: its status, what is told of its cause, and its steps.
+type Ending = (u8, &'static str, u64);
+
 /// The call with these words over these files, where the shelf and the sink
-/// fail so, ends with this status, tells this of its cause, has so many steps
-/// and prints nothing.
+/// fail so, ends so and prints nothing.
 fn ends_with<T: Threads + Wait + Sync + Abort>(
     rt: &T,
     alloc: Global,
     words: &[&str],
     files: &[(&str, &str)],
     failing: (&[u32], &[u32]),
-    want: (u8, &str, u64),
+    want: Ending,
 ) -> Result<(), Fail> {
     let (ended, taken) = call(rt, alloc, words, files, failing)?;
+    let (status, text, steps) = want;
     let told = cause_text(alloc, &ended.cause)?;
-    assert_eq!(rt; ended.status, want.0, "where `{}` is wanted", want.1);
-    assert_eq!(rt; told.as_slice(), want.1.as_bytes());
-    assert_eq!(rt; ended.history.steps(), want.2);
+    assert_eq!(rt; told.as_slice(), text.as_bytes());
+    assert_eq!(rt; ended.status, status);
+    assert_eq!(rt; ended.history.steps(), steps);
     assert_eq!(rt; taken.len(), 0);
     Ok(())
 }

@@ -1,17 +1,17 @@
 //! Calls that end without a run.
 
-use crate::tests::{call, ends_with};
+use crate::tests::{Ending, call, ends_with};
 use std::alloc::Global;
 use std::test::Fail;
 
 /// The script of the first run.
 const SCRIPT: &str = "phase\nc0 begin\nc0 do x W1\nc0 do x R\nc0 commit\n";
 
-const NOT_BUILT: (u8, &str, u64) = (9, "quorum: not built\n", 0);
+const NOT_BUILT: Ending = (9, "quorum: not built\n", 0);
 
-const NO_DECLARATION: (u8, &str, u64) = (4, "quorum: declaration file: missing\n", 0);
+const NO_DECLARATION: Ending = (4, "quorum: declaration file: missing\n", 0);
 
-const NO_SCRIPT: (u8, &str, u64) = (4, "quorum: script file: missing\n", 0);
+const NO_SCRIPT: Ending = (4, "quorum: script file: missing\n", 0);
 
 #[test]
 fn words_have_two_forms(rt: HostRuntime) -> Result<(), Fail> {
@@ -44,7 +44,7 @@ fn words_have_two_forms(rt: HostRuntime) -> Result<(), Fail> {
 
 #[test]
 fn files_are_taken_in_their_order(rt: HostRuntime) -> Result<(), Fail> {
-    let rows: [(&[&str], (u8, &str, u64)); 8] = [
+    let rows: [(&[&str], Ending); 8] = [
         (&["check", "d"], NO_DECLARATION),
         (&["check", "@two"], NO_DECLARATION),
         (&["run", "d", "t"], NO_DECLARATION),
