@@ -1,13 +1,14 @@
 #!/usr/bin/env python3
-"""Runs the first example once for each allocation of its run, which then fails.
+"""Runs each example once for each allocation of its run, which then fails.
 
 usage: tools/failing_allocations.py [PROGRAM]
 
 PROGRAM is crates/quorum/out/quorum unless it is given; it has to be built, and
-a C compiler has to be on the path as `cc`. Each run has to end with the whole
-text and status 0, or with nothing on standard output, status 8 and its cause.
-It goes on until 100 runs after one another met no failing allocation. Ends with
-status 1 where a run did something else.
+a C compiler has to be on the path as `cc`. Each run has to end as the example
+says, or with nothing on standard output, status 8 and its cause; a cause may be
+left untold where its text wants memory. An example is over when 100 runs after
+one another met no failing allocation. Ends with status 1 where a run did
+something else, and where there is no example.
 """
 
 import collections
@@ -18,42 +19,57 @@ import tempfile
 
 HERE = os.path.dirname(os.path.abspath(__file__))
 ROOT = os.path.dirname(HERE)
-EXAMPLE = os.path.join(ROOT, "examples", "first_run")
+EXAMPLES = os.path.join(ROOT, "examples")
 WANTING = b"quorum: out of memory\n"
 
 
-def outcome(program, shim, number, text):
-    """What the run did whose allocation of this number fails."""
-    ran = subprocess.run(
-        [program, "run", "@one", os.path.join(EXAMPLE, "script")],
-        env={"LD_PRELOAD": shim, "FAIL_AT": str(number)},
-        capture_output=True,
-    )
-    if (ran.returncode, ran.stdout, ran.stderr) == (0, text, b""):
+def content(folder, name, missing=b""):
+    """What a file of an example holds."""
+    path = os.path.join(folder, name)
+    if not os.path.exists(path):
+        return missing
+    with open(path, "rb") as file:
+        return file.read()
+
+
+def outcome(program, shim, number, folder):
+    """What the run of an example did whose allocation of this number fails."""
+    words = content(folder, "words").decode().split("\n")[:-1]
+    env = {"LD_PRELOAD": shim, "FAIL_AT": str(number)}
+    ran = subprocess.run([program, *words], cwd=folder, env=env, capture_output=True)
+    wanted = int(content(folder, "status", b"0")), content(folder, "expected"), content(folder, "expected_error")
+    if (ran.returncode, ran.stdout, ran.stderr) == wanted:
         return "whole"
+    if (ran.returncode, ran.stdout, ran.stderr) == (*wanted[:2], b""):
+        return "untold"
     if (ran.returncode, ran.stdout) == (8, b"") and ran.stderr in (WANTING, b""):
         return "wanting"
     return "status %d, %r, %r" % (ran.returncode, ran.stdout[:40], ran.stderr)
 
 
-def main():
-    program = sys.argv[1] if len(sys.argv) > 1 else os.path.join(ROOT, "crates/quorum/out/quorum")
-    with open(os.path.join(EXAMPLE, "expected"), "rb") as file:
-        text = file.read()
+def sweep(program, shim, folder):
+    """How often the runs of an example did what."""
     counts, number, whole = collections.Counter(), 0, 0
+    while whole < 100:
+        number += 1
+        did = outcome(program, shim, number, folder)
+        whole = whole + 1 if did == "whole" else 0
+        counts[did] += 1
+    return counts
+
+
+def main():
+    program = os.path.abspath(sys.argv[1] if len(sys.argv) > 1 else os.path.join(ROOT, "crates/quorum/out/quorum"))
+    seen = set()
     with tempfile.TemporaryDirectory() as folder:
         shim = os.path.join(folder, "shim.so")
         source = os.path.join(HERE, "malloc_that_fails.c")
         subprocess.run(["cc", "-O1", "-shared", "-fPIC", "-o", shim, source, "-ldl"], check=True)
-        while whole < 100:
-            number += 1
-            did = outcome(program, shim, number, text)
-            whole = whole + 1 if did == "whole" else 0
-            counts[did] += 1
-            if did not in ("whole", "wanting"):
-                print("allocation %d: %s" % (number, did))
-    print(", ".join("%s: %d" % pair for pair in sorted(counts.items())))
-    return 0 if set(counts) <= {"whole", "wanting"} else 1
+        for name in sorted(os.listdir(EXAMPLES)):
+            counts = sweep(program, shim, os.path.join(EXAMPLES, name))
+            print("%s: %s" % (name, ", ".join("%s: %d" % pair for pair in sorted(counts.items()))))
+            seen |= set(counts)
+    return 0 if seen and seen <= {"whole", "untold", "wanting"} else 1
 
 
 if __name__ == "__main__":
