@@ -1,12 +1,19 @@
 //! The conduct of the whole system, and the laws of all its runs.
 //!
 //! A run is a history that the actors' conduct, the script and the links
-//! allow. Each law is the contract of a function with nothing to do, and
-//! speaks of every run: of every declaration and script, or of every accepted
-//! declaration with one site and every script that asks its first client alone.
-//! The promise is that runs are atomic: what committed is what
-//! one copy of each object would have answered, in the order of the stamps.
-//! The loop and the report rely on these laws.
+//! allow. Each law is the contract of a function with nothing to do. What holds:
+//!
+//! 1. Of every run of every declaration and script: messages are numbered in
+//!    order and sent before they are taken, each reply has its command, no
+//!    clock or count passes the number of steps, a transaction has one commit
+//!    record at most and a verdict that was sent is final, and each reply is
+//!    due.
+//! 2. With one site: a run of which nothing is left is whole.
+//! 3. Of every accepted declaration with one site, where the script asks its
+//!    first client alone: runs are atomic. What committed is what one copy of
+//!    each object would have answered, in the order of the stamps.
+//!
+//! The loop and the text rely on these laws.
 #![tactic(auto)]
 
 mod atomic;

@@ -1,10 +1,16 @@
 //! Scripts, and the runs of a script.
 //!
-//! A script is phases of commands. The crate has its grammar, a reader that
-//! gives exactly what the grammar does, and in `specs/` what is ready for an
-//! actor after a history and which histories are runs. A run is defined once,
-//! over any conduct of the actors. The program that runs a script, and the laws
-//! of its runs, stand on this crate.
+//! A script is phases of commands. What holds:
+//!
+//! 1. The reader gives exactly the script that the grammar gives, and refuses
+//!    where there is none (`read`).
+//! 2. Each command that it gives asks the first client
+//!    (`scripts_ask_the_client`).
+//! 3. Which histories are runs is defined once, over any conduct of the
+//!    actors, by what is ready for an actor (`specs/Ready.antt`,
+//!    `specs/Runs.antt`).
+//!
+//! The loop, which runs a script, and the laws of all runs stand on it.
 #![tactic(auto)]
 
 mod form;
