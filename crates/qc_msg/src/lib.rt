@@ -21,8 +21,6 @@ mod history;
 mod message;
 mod post;
 mod step;
-#[cfg(test)]
-mod tests;
 
 pub use history::History;
 pub use message::{Envelope, FIRST_LIFE, Message, Outcome};

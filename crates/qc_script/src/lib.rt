@@ -17,8 +17,6 @@ mod form;
 mod laws;
 mod reader;
 mod script;
-#[cfg(test)]
-mod tests;
 
 pub use laws::scripts_ask_the_client;
 pub use reader::read;

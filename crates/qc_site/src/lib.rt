@@ -30,6 +30,3 @@ pub use laws::{
     locks_stay, logs_gain_what_is_brought, reads_are_locked, sites_stay_sorted, sites_stay_within,
 };
 pub use site::{PreparedList, Site};
-
-#[cfg(test)]
-mod tests;

@@ -1,9 +1,9 @@
 //! Each public call once where memory is left, and counts that were made by
 //! hand.
 
-use crate::{Envelope, History, Message, Outcome, Posting, Record, Reply, Step, Turn};
 use qc_entry::{Commit, Line, Log, Op, OwnLine};
 use qc_list::{List, Marked, OutOfMemory};
+use qc_msg::{Envelope, History, Message, Outcome, Posting, Record, Reply, Step, Turn};
 use qc_stamp::{Stamp, TxId};
 use std::alloc::Global;
 use std::collections::VecDeque;

@@ -1,10 +1,10 @@
 //! Two sites' parts of histories, as an independent model gives them.
 
-use super::*;
 use qc_decl::Declaration;
 use qc_entry::{Line, Log, OwnLine, Owns, Prepared, ReadLock, Reads};
 use qc_list::{List, OutOfMemory};
 use qc_msg::{Message, Outcome, Record, Turn};
+use qc_site::Site;
 use qc_stamp::{Stamp, TxId};
 use std::alloc::Global;
 use std::test::Fail;

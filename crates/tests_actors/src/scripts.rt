@@ -3,9 +3,9 @@
 ghost use Rattle.std.specs.Prelude.{◌≡◌, IfOk, ◌+◌, ◌<◌};
 ghost use Rattle.qc_decl.specs.Named.{IsNamed};
 
-use crate::{CommandLine, Script, ScriptFault, read};
 use qc_decl::{Declaration, built_in};
 use qc_msg::Command;
+use qc_script::{CommandLine, Script, ScriptFault, read};
 use std::alloc::Global;
 use std::test::Fail;
 
