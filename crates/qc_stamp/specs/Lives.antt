@@ -1,4 +1,4 @@
--- The lives of actors.
+-- The lives of actors, from one fall to the next.
 use Rattle.std.specs.Prelude.{ℕ}
 
 -- the life of an actor that has never fallen
