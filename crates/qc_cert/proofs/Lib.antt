@@ -3,5 +3,4 @@ pub mod Computed
 pub mod Faultless
 pub mod Grouped
 pub mod Named
-pub mod Search
 pub mod Walk

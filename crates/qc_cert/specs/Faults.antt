@@ -9,7 +9,7 @@ use Rattle.qc_cert.specs.declared.fault.CertFault.{CertFault}
 use Rattle.qc_cert.specs.declared.fault.CertFault.TheVariants.{NoStart, Uncovered, Unequal, OutOfMemory}
 use Rattle.qc_cert.specs.declared.triple.Triple.{Triple}
 use Rattle.qc_table.specs.Depends.{depended}
-use Rattle.qc_table.specs.First.{first_below}
+use Rattle.qc_list.specs.Search.{first_below}
 use Rattle.qc_table.specs.Rules.{events_of}
 use Rattle.qc_table.specs.Run.{step_of}
 use Rattle.qc_table.specs.Sets.{with_member, is_within, are_apart}

@@ -6,7 +6,7 @@ use Rattle.qc_entry.specs.declared.record.Commit.{Commit}
 use Rattle.qc_decl.specs.declared.declaration.Declaration.{Declaration}
 use Rattle.qc_decl.specs.Lookup.{table_at}
 use Rattle.qc_table.specs.Rules.{Rules, event, event_number, events_of}
-use Rattle.qc_core.specs.Committed.{In}
+use Rattle.qc_list.specs.Members.{In}
 
 -- the number of the event of an invocation and a response, in an object's type
 abbrev pub event_at : Declaration → ℕ → ℕ → ℕ → Option ℕ

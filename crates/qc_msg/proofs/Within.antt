@@ -4,7 +4,8 @@ use Rattle.std.specs.declared.cmp.Ordering.{Ordering}
 use Rattle.std.specs.declared.cmp.Ordering.TheVariants.{Less, Equal, Greater}
 use Rattle.qc_entry.specs.declared.line.Line.{Line}
 use Rattle.qc_entry.specs.Line.{line_cmp}
-use Rattle.qc_entry.specs.Log.{by_order, has_line, of_object, since_stamp, union, union_from, without}
+use Rattle.qc_entry.specs.Log.{has_line, of_object, since_stamp, union, union_from, without}
+use Rattle.qc_list.specs.Order.{by_order}
 use Rattle.qc_stamp.specs.declared.stamp.Stamp.{Stamp}
 use Rattle.qc_stamp.specs.Order.{stamp_cmp}
 use Rattle.std.specs.Ordering.{is_lt}

@@ -23,7 +23,7 @@ mod post;
 mod step;
 
 pub use history::History;
-pub use message::{Envelope, FIRST_LIFE, Message, Outcome};
+pub use message::{Envelope, Message, Outcome};
 pub use step::{
     Command, Entry, Given, Input, Posting, Record, Reply, Sends, Step, Turn, What, Why,
 };

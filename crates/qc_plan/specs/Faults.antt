@@ -9,7 +9,7 @@ use Rattle.qc_plan.specs.declared.fault.PlanFault.{PlanFault}
 use Rattle.qc_plan.specs.declared.fault.PlanFault.TheVariants.{NoWeight, TooHeavy, CanMiss}
 use Rattle.qc_plan.specs.declared.plan.Plan.{Plan}
 use Rattle.qc_table.specs.Depends.{depends}
-use Rattle.qc_table.specs.First.{first_below}
+use Rattle.qc_list.specs.Search.{first_below}
 use Rattle.qc_table.specs.Rules.{events_of}
 use Rattle.qc_table.specs.declared.kind.Kind.{Kind}
 

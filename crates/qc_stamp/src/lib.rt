@@ -11,7 +11,7 @@ mod stamp;
 
 pub use clock::Clock;
 pub use laws::{stamps_are_ordered, transactions_are_ordered};
-pub use stamp::{Stamp, TxId};
+pub use stamp::{FIRST_LIFE, Stamp, TxId};
 
 #[cfg(test)]
 mod tests;

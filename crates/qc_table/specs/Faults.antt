@@ -1,5 +1,6 @@
 use Rattle.std.specs.Prelude.{◌≡◌, ℕ, Bool, true, false, Option, Some, None, List, [], ◌∷◌, ◌++◌, ◌==◌, ◌&&◌, ◌||◌, nat_le, nat_lt, length, if◌then◌else◌, position}
 use Rattle.std.specs.List.{list_any}
+use Rattle.qc_table.specs.Limits.{most_events}
 use Rattle.qc_table.specs.declared.row.Row.{Row}
 use Rattle.qc_table.specs.declared.fault.TableFault.{TableFault}
 use Rattle.qc_table.specs.declared.fault.TableFault.TheVariants.{UnknownName, DuplicateRow, TooMany, OutOfMemory}
@@ -32,7 +33,7 @@ ranked None None false = None
 -- what is wrong with the rows, if anything
 abbrev pub fault_of : Rules → Option TableFault
 fault_of rules =
-    ranked (position (is_unknown rules.states rules.invs rules.resps) rules.rows) (first_repeat rules.rows) (nat_lt 64 (length (events_of rules.rows)))
+    ranked (position (is_unknown rules.states rules.invs rules.resps) rules.rows) (first_repeat rules.rows) (nat_lt most_events (length (events_of rules.rows)))
 
 -- the fault told is the fault there is; want of memory may be told of any rows
 abbrev pub IsTold : TableFault → Option TableFault → Type 0
