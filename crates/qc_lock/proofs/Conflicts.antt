@@ -1,0 +1,281 @@
+-- The smallest clash is the smallest conflict.
+use Rattle.std.proofs.Common.{◌≡◌, ◌⊎◌, inl, inr, ℕ, ◌==◌, ◌&&◌, Bool, true, false, cond, List, [], ◌∷◌, ◌++◌, fold, filter, map, Option, Some, None, refl, sym, ◌∙◌, ap, subst}
+use Rattle.std.specs.Cmp.{IsTotalOrder}
+use Rattle.std.specs.List.{flat_map}
+use Rattle.std.specs.Ordering.{ordering_reverse}
+use Rattle.std.specs.declared.cmp.Ordering.{Ordering}
+use Rattle.std.specs.declared.cmp.Ordering.TheVariants.{Less, Equal, Greater}
+use Rattle.std.proofs.lemmas.Bool.{eq-eqb, eqb-true}
+use Rattle.std.proofs.lemmas.Cmp.{then_total, on_total, nat_cmp_total}
+use Rattle.qc_stamp.specs.declared.stamp.TxId.{TxId}
+use Rattle.qc_stamp.proofs.Orders.{tx_order}
+use Rattle.qc_entry.specs.declared.line.OwnLine.{OwnLine}
+use Rattle.qc_entry.specs.declared.line.ReadLock.{ReadLock}
+use Rattle.qc_entry.specs.Log.{by_order}
+use Rattle.qc_table.specs.Depends.{depends}
+use Rattle.qc_lock.specs.declared.clash.Clash.{Clash}
+use Rattle.qc_lock.specs.declared.held.Held.{Held}
+use Rattle.qc_lock.specs.Held.{same_tx}
+use Rattle.qc_lock.specs.Clash.{clash_cmp, smaller, smallest, lines_in_way, locks_in_way, read_clashes, append_clashes, read_clash, append_clash}
+use Rattle.qc_lock.specs.Conflict.{In, IsReadConflict, IsAppendConflict, IsSmallest}
+use Rattle.qc_lock.proofs.Entries.{and_first, and_second}
+
+clash_total : IsTotalOrder clash_cmp
+clash_total = then_total (on_total (λ (c : Clash). c.holder) tx_order.total) (then_total (on_total (λ (c : Clash). c.inv) nat_cmp_total) (on_total (λ (c : Clash). c.event) nat_cmp_total))
+
+never_both : (o : Ordering) → o ≡ Less → o ≡ Greater → ⊥
+never_both o a b = cc
+
+equal_self : (c : Clash) → clash_cmp c c ≡ Equal
+equal_self c = by (clash_cmp c c) refl where
+  by : (o : Ordering) → clash_cmp c c ≡ o → o ≡ Equal
+  by Less is = let turned : clash_cmp c c ≡ Greater = clash_total.antisymm c c ∙ ap ordering_reverse is in absurd (never_both (clash_cmp c c) is turned)
+  by Equal is = refl
+  by Greater is = let turned : clash_cmp c c ≡ Less = clash_total.antisymm c c ∙ ap ordering_reverse is in absurd (never_both (clash_cmp c c) turned is)
+
+-- the smallest so far
+
+equal_or : (o : Ordering) → o ≡ Equal → o ≡ Greater → ⊥
+equal_or o a b = cc
+
+turned : (a b : Clash) (o : Ordering) → clash_cmp a b ≡ o → clash_cmp b a ≡ ordering_reverse o
+turned a b o is = clash_total.antisymm b a ∙ ap ordering_reverse is
+
+-- a clash below the smallest so far is below all
+below : (best c d : Clash) → clash_cmp c best ≡ Less → (clash_cmp best d ≡ Greater → ⊥) → clash_cmp c d ≡ Greater → ⊥
+below best c d less most greater =
+    let back : clash_cmp d c ≡ Less = turned c d Greater greater in
+    most (turned d best Less (clash_total.trans d c best back less))
+
+step : (P : Clash → Type 0) (best : Option Clash) (c : Clash) → IsSmallest P best → IsSmallest (λ d. P d ⊎ (d ≡ c)) (smaller best c)
+step P None c least = (inr refl, only) where
+  only : (d : Clash) → P d ⊎ (d ≡ c) → clash_cmp c d ≡ Greater → ⊥
+  only d (inl p) greater = least d p
+  only d (inr is) greater = equal_or (clash_cmp c d) (subst (λ x. clash_cmp c x ≡ Equal) (sym is) (equal_self c)) greater
+step P (Some best) c least = by (clash_cmp c best) refl where
+  by : (o : Ordering) → clash_cmp c best ≡ o → IsSmallest (λ d. P d ⊎ (d ≡ c)) (Some (by_order o c best best))
+  by Less is = (inr refl, all) where
+    all : (d : Clash) → P d ⊎ (d ≡ c) → clash_cmp c d ≡ Greater → ⊥
+    all d (inl p) greater = below best c d is (least.1 d p) greater
+    all d (inr same) greater = equal_or (clash_cmp c d) (subst (λ x. clash_cmp c x ≡ Equal) (sym same) (equal_self c)) greater
+  by Equal is = (inl least.0, all) where
+    all : (d : Clash) → P d ⊎ (d ≡ c) → clash_cmp best d ≡ Greater → ⊥
+    all d (inl p) greater = least.1 d p greater
+    all d (inr same) greater = equal_or (clash_cmp best c) (turned c best Equal is) (subst (λ x. clash_cmp best x ≡ Greater) same greater)
+  by Greater is = (inl least.0, all) where
+    all : (d : Clash) → P d ⊎ (d ≡ c) → clash_cmp best d ≡ Greater → ⊥
+    all d (inl p) greater = least.1 d p greater
+    all d (inr same) greater = never_both (clash_cmp best c) (turned c best Greater is) (subst (λ x. clash_cmp best x ≡ Greater) same greater)
+
+-- smallest by one predicate is so by another that says the same
+smallest_by : (P Q : Clash → Type 0) (best : Option Clash) → ((d : Clash) → P d → Q d) → ((d : Clash) → Q d → P d) → IsSmallest P best → IsSmallest Q best
+smallest_by P Q None to back least = λ d q. least d (back d q)
+smallest_by P Q (Some best) to back least = (to best least.0, λ d q. least.1 d (back d q))
+
+run : (P : Clash → Type 0) (best : Option Clash) (cs : List Clash) → IsSmallest P best → IsSmallest (λ d. P d ⊎ In d cs) (fold smaller best cs)
+run P best [] least = smallest_by P (λ d. P d ⊎ In d []) best (λ d p. inl p) back least where
+  back : (d : Clash) → P d ⊎ In d [] → P d
+  back d (inl p) = p
+  back d (inr never) = absurd never
+run P best (c ∷ cs) least =
+    smallest_by (λ d. (P d ⊎ (d ≡ c)) ⊎ In d cs) (λ d. P d ⊎ In d (c ∷ cs)) (fold smaller (smaller best c) cs) to back (run (λ d. P d ⊎ (d ≡ c)) (smaller best c) cs (step P best c least)) where
+      to : (d : Clash) → (P d ⊎ (d ≡ c)) ⊎ In d cs → P d ⊎ In d (c ∷ cs)
+      to d (inl (inl p)) = inl p
+      to d (inl (inr is)) = inr (inl is)
+      to d (inr member) = inr (inr member)
+
+      back : (d : Clash) → P d ⊎ In d (c ∷ cs) → (P d ⊎ (d ≡ c)) ⊎ In d cs
+      back d (inl p) = inl (inl p)
+      back d (inr (inl is)) = inl (inr is)
+      back d (inr (inr member)) = inr member
+
+smallest_of : (cs : List Clash) → IsSmallest (λ d. In d cs) (smallest cs)
+smallest_of cs = smallest_by (λ d. ⊥ ⊎ In d cs) (λ d. In d cs) (smallest cs) to (λ d member. inr member) (run (λ d. ⊥) None cs (λ d never. never)) where
+  to : (d : Clash) → ⊥ ⊎ In d cs → In d cs
+  to d (inl never) = absurd never
+  to d (inr member) = member
+
+-- membership
+
+in-append_left : {A : Type 0} (x : A) (xs ys : List A) → In x xs → In x (xs ++ ys)
+in-append_left x [] ys member = absurd member
+in-append_left x (z ∷ zs) ys (inl is) = inl is
+in-append_left x (z ∷ zs) ys (inr member) = inr (in-append_left x zs ys member)
+
+in-append_right : {A : Type 0} (x : A) (xs ys : List A) → In x ys → In x (xs ++ ys)
+in-append_right x [] ys member = member
+in-append_right x (z ∷ zs) ys member = inr (in-append_right x zs ys member)
+
+in-append : {A : Type 0} (x : A) (xs ys : List A) → In x (xs ++ ys) → In x xs ⊎ In x ys
+in-append x [] ys member = inr member
+in-append x (z ∷ zs) ys (inl is) = inl (inl is)
+in-append {A = A} x (z ∷ zs) ys (inr member) = by (in-append x zs ys member) where
+  by : In x zs ⊎ In x ys → In x (z ∷ zs) ⊎ In x ys
+  by (inl here) = inl (inr here)
+  by (inr there) = inr there
+
+-- some member of a list, of which the fact holds
+abbrev pub Some_in : {A : Type 0} → (A → Type 0) → List A → Type 0
+Some_in {A} P xs = (x : A) × In x xs × P x
+
+in-flat_map : {A B : Type 0} (f : A → List B) (y : B) (xs : List A) → In y (flat_map f xs) → Some_in (λ x. In y (f x)) xs
+in-flat_map f y [] member = absurd member
+in-flat_map {A = A} {B = B} f y (x ∷ xs) member = by (in-append y (f x) (flat_map f xs) member) (in-flat_map f y xs) where
+  by : In y (f x) ⊎ In y (flat_map f xs) → (In y (flat_map f xs) → Some_in (λ z. In y (f z)) xs) → Some_in (λ z. In y (f z)) (x ∷ xs)
+  by (inl here) rest = (x, inl refl, here)
+  by (inr there) rest = let found = rest there in (found.0, inr found.1, found.2)
+
+flat_map-in : {A B : Type 0} (f : A → List B) (y : B) (x : A) (xs : List A) → In x xs → In y (f x) → In y (flat_map f xs)
+flat_map-in f y x [] member here = absurd member
+flat_map-in f y x (z ∷ zs) (inl is) here = in-append_left y (f z) (flat_map f zs) (subst (λ w. In y (f w)) is here)
+flat_map-in f y x (z ∷ zs) (inr member) here = in-append_right y (f z) (flat_map f zs) (flat_map-in f y x zs member here)
+
+in-map : {A B : Type 0} (f : A → B) (y : B) (xs : List A) → In y (map f xs) → Some_in (λ x. y ≡ f x) xs
+in-map f y [] member = absurd member
+in-map f y (x ∷ xs) (inl is) = (x, inl refl, is)
+in-map f y (x ∷ xs) (inr member) = let found = in-map f y xs member in (found.0, inr found.1, found.2)
+
+map-in : {A B : Type 0} (f : A → B) (x : A) (xs : List A) → In x xs → In (f x) (map f xs)
+map-in f x [] member = absurd member
+map-in f x (z ∷ zs) (inl is) = inl (ap f is)
+map-in f x (z ∷ zs) (inr member) = inr (map-in f x zs member)
+
+in-filter : {A : Type 0} (test : A → Bool) (x : A) (xs : List A) → In x (filter test xs) → In x xs × (test x ≡ true)
+in-filter test x [] member = absurd member
+in-filter {A = A} test x (z ∷ zs) member = by (test z) refl (in-filter test x zs) member where
+  by : (t : Bool) → test z ≡ t → (In x (filter test zs) → In x zs × (test x ≡ true)) → In x (cond t (z ∷ filter test zs) (filter test zs)) → In x (z ∷ zs) × (test x ≡ true)
+  by true is rest (inl same) = (inl same, subst (λ w. test w ≡ true) (sym same) is)
+  by true is rest (inr member) = let found = rest member in (inr found.0, found.1)
+  by false is rest member = let found = rest member in (inr found.0, found.1)
+
+filter-in : {A : Type 0} (test : A → Bool) (x : A) (xs : List A) → In x xs → test x ≡ true → In x (filter test xs)
+filter-in test x [] member passes = absurd member
+filter-in {A = A} test x (z ∷ zs) member passes = by (test z) refl (λ there. filter-in test x zs there passes) member where
+  by : (t : Bool) → test z ≡ t → (In x zs → In x (filter test zs)) → In x (z ∷ zs) → In x (cond t (z ∷ filter test zs) (filter test zs))
+  by true is rest (inl same) = inl same
+  by true is rest (inr member) = inr (rest member)
+  by false is rest (inl same) = let no : test x ≡ false = subst (λ w. test w ≡ false) (sym same) is in absurd (cc)
+  by false is rest (inr member) = rest member
+
+-- others
+
+-- what an entry gives, where it is of another transaction
+in-unless : {A : Type 0} (t : Bool) (x : A) (xs : List A) → In x (cond t [] xs) → (t ≡ false) × In x xs
+in-unless true x xs member = absurd member
+in-unless false x xs member = (refl, member)
+
+unless-in : {A : Type 0} (t : Bool) (x : A) (xs : List A) → t ≡ false → In x xs → In x (cond t [] xs)
+unless-in t x xs is member = subst (λ b. In x (cond b [] xs)) (sym is) member
+
+both : (a b : Bool) → a ≡ true → b ≡ true → (a && b) ≡ true
+both true b x y = y
+both false b x y = x
+
+-- reads
+
+read_to : (relation : List ℕ) (held : List Held) (tx : TxId) (object inv : ℕ) (d : Clash)
+    → In d (read_clashes relation held tx object inv) → IsReadConflict relation held tx object inv d
+read_to relation held tx object inv d member =
+    let entry = in-flat_map (lines_in_way relation tx object inv) d held member in
+    let h : Held = entry.0 in
+    let test : OwnLine → Bool = λ l. (l.object == object) && depends relation inv l.event in
+    let f : OwnLine → Clash = λ l. record { holder = h.tx; inv = inv; event = l.event } in
+    let here = in-unless (same_tx h.tx tx) d (map f (filter test h.own)) entry.2 in
+    let line = in-map f d (filter test h.own) here.1 in
+    let l : OwnLine = line.0 in
+    let own = in-filter test l h.own line.1 in
+    record {
+      holder = h;
+      line = l;
+      holds = entry.1;
+      another = here.0;
+      own = own.0;
+      here = eqb-true l.object object (and_first (l.object == object) (depends relation inv l.event) own.1);
+      depended = and_second (l.object == object) (depends relation inv l.event) own.1;
+      told = line.2;
+    }
+
+read_back : (relation : List ℕ) (held : List Held) (tx : TxId) (object inv : ℕ) (d : Clash)
+    → IsReadConflict relation held tx object inv d → In d (read_clashes relation held tx object inv)
+read_back relation held tx object inv d c =
+    let f : OwnLine → Clash = λ l. record { holder = c.holder.tx; inv = inv; event = l.event } in
+    let test : OwnLine → Bool = λ l. (l.object == object) && depends relation inv l.event in
+    let passes : test c.line ≡ true = both (c.line.object == object) (depends relation inv c.line.event) (eq-eqb c.line.object object c.here) c.depended in
+    let here : In (f c.line) (lines_in_way relation tx object inv c.holder) =
+    unless-in (same_tx c.holder.tx tx) (f c.line) (map f (filter test c.holder.own)) c.another (map-in f c.line (filter test c.holder.own) (filter-in test c.line c.holder.own c.own passes)) in
+    flat_map-in (lines_in_way relation tx object inv) d c.holder held c.holds (subst (λ x. In x (lines_in_way relation tx object inv c.holder)) (sym c.told) here)
+
+pub read_smallest : (relation : List ℕ) (held : List Held) (tx : TxId) (object inv : ℕ) → IsSmallest (IsReadConflict relation held tx object inv) (read_clash relation held tx object inv)
+read_smallest relation held tx object inv =
+    smallest_by (λ d. In d (read_clashes relation held tx object inv)) (IsReadConflict relation held tx object inv) (read_clash relation held tx object inv)
+    (read_to relation held tx object inv) (read_back relation held tx object inv) (smallest_of (read_clashes relation held tx object inv))
+
+-- appends
+
+append_to : (relation : List ℕ) (held : List Held) (tx : TxId) (own : List OwnLine) (d : Clash)
+    → In d (append_clashes relation held tx own) → IsAppendConflict relation held tx own d
+append_to relation held tx own d member =
+    let given = in-flat_map (λ (line : OwnLine). flat_map (locks_in_way relation tx line) held) d own member in
+    let line : OwnLine = given.0 in
+    let entry = in-flat_map (locks_in_way relation tx line) d held given.2 in
+    let h : Held = entry.0 in
+    let test : ReadLock → Bool = λ l. (l.object == line.object) && depends relation l.inv line.event in
+    let f : ReadLock → Clash = λ l. record { holder = h.tx; inv = l.inv; event = line.event } in
+    let here = in-unless (same_tx h.tx tx) d (map f (filter test h.locks)) entry.2 in
+    let found = in-map f d (filter test h.locks) here.1 in
+    let l : ReadLock = found.0 in
+    let locked = in-filter test l h.locks found.1 in
+    record {
+      line = line;
+      holder = h;
+      lock = l;
+      given = given.1;
+      holds = entry.1;
+      another = here.0;
+      locked = locked.0;
+      here = eqb-true l.object line.object (and_first (l.object == line.object) (depends relation l.inv line.event) locked.1);
+      depended = and_second (l.object == line.object) (depends relation l.inv line.event) locked.1;
+      told = found.2;
+    }
+
+append_back : (relation : List ℕ) (held : List Held) (tx : TxId) (own : List OwnLine) (d : Clash)
+    → IsAppendConflict relation held tx own d → In d (append_clashes relation held tx own)
+append_back relation held tx own d c =
+    let f : ReadLock → Clash = λ l. record { holder = c.holder.tx; inv = l.inv; event = c.line.event } in
+    let test : ReadLock → Bool = λ l. (l.object == c.line.object) && depends relation l.inv c.line.event in
+    let passes : test c.lock ≡ true = both (c.lock.object == c.line.object) (depends relation c.lock.inv c.line.event) (eq-eqb c.lock.object c.line.object c.here) c.depended in
+    let here : In (f c.lock) (locks_in_way relation tx c.line c.holder) =
+    unless-in (same_tx c.holder.tx tx) (f c.lock) (map f (filter test c.holder.locks)) c.another (map-in f c.lock (filter test c.holder.locks) (filter-in test c.lock c.holder.locks c.locked passes)) in
+    let way : In d (flat_map (locks_in_way relation tx c.line) held) = flat_map-in (locks_in_way relation tx c.line) d c.holder held c.holds (subst (λ x. In x (locks_in_way relation tx c.line c.holder)) (sym c.told) here) in
+    flat_map-in (λ (line : OwnLine). flat_map (locks_in_way relation tx line) held) d c.line own c.given way
+
+pub append_smallest : (relation : List ℕ) (held : List Held) (tx : TxId) (own : List OwnLine) → IsSmallest (IsAppendConflict relation held tx own) (append_clash relation held tx own)
+append_smallest relation held tx own =
+    smallest_by (λ d. In d (append_clashes relation held tx own)) (IsAppendConflict relation held tx own) (append_clash relation held tx own)
+    (append_to relation held tx own) (append_back relation held tx own) (smallest_of (append_clashes relation held tx own))
+
+-- grants
+
+is_false : (b : Bool) → (b ≡ true → ⊥) → b ≡ false
+is_false true never = absurd (never refl)
+is_false false never = refl
+
+none_of : (P : Clash → Type 0) (answer : Option Clash) (d : Clash) → IsSmallest P answer → answer ≡ None → P d → ⊥
+none_of P None d least is p = least d p
+none_of P (Some c) d least is p = absurd (cc)
+
+pub read_free : (relation : List ℕ) (held : List Held) (tx : TxId) (object inv : ℕ) (holder : Held) (line : OwnLine)
+    → read_clash relation held tx object inv ≡ None → In holder held → same_tx holder.tx tx ≡ false → In line holder.own → line.object ≡ object
+    → depends relation inv line.event ≡ false
+read_free relation held tx object inv holder line free holds another own here =
+    is_false (depends relation inv line.event) (λ depended.
+    none_of (IsReadConflict relation held tx object inv) (read_clash relation held tx object inv) (record { holder = holder.tx; inv = inv; event = line.event }) (read_smallest relation held tx object inv) free
+    (record { holder = holder; line = line; holds = holds; another = another; own = own; here = here; depended = depended; told = refl }))
+
+pub append_free : (relation : List ℕ) (held : List Held) (tx : TxId) (own : List OwnLine) (line : OwnLine) (holder : Held) (lock : ReadLock)
+    → append_clash relation held tx own ≡ None → In line own → In holder held → same_tx holder.tx tx ≡ false → In lock holder.locks → lock.object ≡ line.object
+    → depends relation lock.inv line.event ≡ false
+append_free relation held tx own line holder lock free given holds another locked here =
+    is_false (depends relation lock.inv line.event) (λ depended.
+    none_of (IsAppendConflict relation held tx own) (append_clash relation held tx own) (record { holder = holder.tx; inv = lock.inv; event = line.event }) (append_smallest relation held tx own) free
+    (record { line = line; holder = holder; lock = lock; given = given; holds = holds; another = another; locked = locked; here = here; depended = depended; told = refl }))

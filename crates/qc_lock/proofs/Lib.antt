@@ -1,0 +1,4 @@
+pub mod Conflicts
+pub mod Entries
+pub mod Loops
+pub mod Order

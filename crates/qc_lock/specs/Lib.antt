@@ -1,0 +1,4 @@
+pub mod Clash
+pub mod Conflict
+pub mod Held
+pub mod Sound
