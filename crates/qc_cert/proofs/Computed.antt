@@ -1,9 +1,8 @@
 -- What the tests of a list of triples tell: sets within each other and apart, cover, searches that find nothing.
-use Rattle.std.proofs.Common.{◌≡◌, ℕ, zero, suc, ◌<◌, ◌≤◌, ⊎_elim, min, Bool, true, false, IsTrue, List, [], ◌∷◌, Option, Some, None, slice_get, bit_and, refl, sym, ap, ◌∙◌, arith}
+use Rattle.std.proofs.Common.{◌≡◌, ℕ, zero, suc, min, Bool, true, false, IsTrue, List, [], ◌∷◌, Some, slice_get, bit_and, refl, sym, ap, ◌∙◌, arith}
 use Rattle.std.specs.Prelude.{◌↔◌, ◌==◌, ◌&&◌, ◌||◌}
 use Rattle.std.specs.Int.{bit_at}
-use Rattle.std.specs.Option.{option_or}
-use Rattle.std.proofs.lemmas.Bool.{eqb-true, eqb-false, eq-eqb, and_from, and_parts, or_left, or_right, true≢false, cases_lt}
+use Rattle.std.proofs.lemmas.Bool.{eqb-true, eqb-false, eq-eqb, and_from, and_parts, or_left, or_right, true≢false}
 use Rattle.std.proofs.lemmas.Nat.Bits.{bit_at_and, bit_at-lt, bit_at-zero, same_from_bits}
 use Rattle.qc_table.specs.Depends.{depended}
 use Rattle.qc_table.specs.Sets.{IsWithin, is_within}

@@ -11,7 +11,7 @@ use Rattle.qc_table.specs.Run.{step_of}
 use Rattle.qc_table.specs.Sets.{with_member}
 use Rattle.qc_table.specs.Sound.{IsSound}
 use Rattle.qc_table.specs.declared.kind.Kind.{Kind}
-use Rattle.qc_cert.proofs.Named.{allowed_within}
+use Rattle.qc_table.proofs.Named.{allowed_within}
 use Rattle.qc_cert.proofs.Computed.{free_true, true_free, covered_true, true_covered}
 use Rattle.qc_cert.proofs.Walk.{IsStep, step_is}
 use Rattle.qc_cert.specs.Faults.{is_covered, is_free, unless_covered, left_out_fault, unequal_fault, taken_fault, inv_fault, triple_fault, triples_fault, fault_of}

@@ -1,6 +1,7 @@
 //! A list of triples, grouped by their two states.
 
-ghost use Rattle.std.specs.Prelude.{◌≡◌, ℕ, ◌*◌, ◌<◌, ◌++◌, [], ◌∷◌, All, IfOk, OnOk, length, slice_index_or, slice_set};
+ghost use Rattle.std.specs.Prelude.{◌≡◌, ℕ, ◌*◌, ◌<◌, ◌++◌, [], ◌∷◌, All, IfOk, OnOk, length, slice_index_or};
+ghost use Rattle.std.specs.Prelude.{slice_set};
 ghost use Rattle.std.specs.List.{list_any};
 ghost use Rattle.qc_cert.specs.Faults.{is_covered};
 ghost use Rattle.qc_cert.specs.Groups.{AreStates, outs_at, place_of};
@@ -150,7 +151,8 @@ fn add_triple(groups: &mut [Group], triple: &Triple) -> Result<(), OutOfMemory>
     requires all { length groups.old ≡ most_states * most_states }
     requires states { AreStates triple.now }
     ensures all { length groups.new ≡ most_states * most_states }
-    ensures added { OnOk result (let place = place_of triple.now.view triple.now.log in groups.new ≡ slice_set groups.old place (slice_index_or groups.old place [] ++ triple.now.out ∷ [])) }
+    ensures added { OnOk result (let place = place_of triple.now.view triple.now.log in
+        groups.new ≡ slice_set groups.old place (slice_index_or groups.old place [] ++ triple.now.out ∷ [])) }
 {
     groups[place(triple.view, triple.log)].push(triple.out)
 }

@@ -1,7 +1,8 @@
 //! The rules that make a list of triples a certificate.
 
 ghost use Rattle.std.specs.Prelude.{◌≡◌, ◌≤◌, ◌<◌, ◌↔◌, All, None, IfErr, OnOk, IsBitSet, IsTrue, length};
-ghost use Rattle.qc_cert.specs.Faults.{IsTold, fault_of, inv_fault, left_out_fault, taken_fault, triple_fault, triples_fault, unequal_fault, unless_covered};
+ghost use Rattle.qc_cert.specs.Faults.{IsTold, fault_of, inv_fault, left_out_fault, taken_fault};
+ghost use Rattle.qc_cert.specs.Faults.{triple_fault, triples_fault, unequal_fault, unless_covered};
 ghost use Rattle.qc_cert.specs.Inductive.{IsInductive};
 ghost use Rattle.qc_cert.specs.Views.{inv_of, IsExact};
 ghost use Rattle.qc_cert.specs.declared.triple.Triple.{Triple};
@@ -29,7 +30,8 @@ use std::alloc::Global;
 /// 4 MB beside the list.
 pub fn check(alloc: Global, kind: &Kind, list: &[Triple]) -> Result<(), CertFault>
     requires few { length list.now ≤ most_triples }
-    requires states { All (λ (t : Triple). (t.view < kind.now.table.states) × (t.log < kind.now.table.states)) list.now }
+    requires states { All (λ (t : Triple).
+        (t.view < kind.now.table.states) × (t.log < kind.now.table.states)) list.now }
     ensures ok { OnOk result (fault_of kind.now list.now ≡ None) }
     ensures err { IfErr result (λ e. IsTold e (fault_of kind.now list.now)) }
     ensures inductive { OnOk result (IsInductive kind.now list.now) }
@@ -97,7 +99,8 @@ fn of_triple(kind: &Kind, triples: &Grouped, place: u32, triple: &Triple) -> Opt
 
 /// The first fault of a triple's events left out.
 fn of_left_out(kind: &Kind, triples: &Grouped, place: u32, triple: &Triple) -> Option<CertFault>
-    ensures { result ≡ first_below (length (events_of kind.now.table.rows)) (left_out_fault kind.now triples.now place triple.now) }
+    ensures { result ≡ first_below (length (events_of kind.now.table.rows))
+        (left_out_fault kind.now triples.now place triple.now) }
 {
     let events = kind.table.events().len();
     for event in 0..events {
@@ -201,7 +204,8 @@ fn of_taken(
     triple: &Triple,
     inv: u8,
 ) -> Option<CertFault>
-    ensures { result ≡ first_below (length (events_of kind.now.table.rows)) (taken_fault kind.now triples.now place triple.now inv) }
+    ensures { result ≡ first_below (length (events_of kind.now.table.rows))
+        (taken_fault kind.now triples.now place triple.now inv) }
 {
     let events = kind.table.events().len();
     for event in 0..events {

@@ -16,8 +16,7 @@ use Rattle.qc_entry.specs.Line.{IsAscending}
 use Rattle.qc_entry.specs.Log.{of_object, union}
 use Rattle.qc_list.specs.Members.{In as LineIn}
 use Rattle.qc_list.proofs.Members.{In-filter, In-passes, In-unfiltered, every-append, every-weaker}
-use Rattle.qc_entry.proofs.Members.{filter-union, union-absorbs}
-use Rattle.qc_entry.proofs.Parts.{ascending-of_object}
+use Rattle.qc_entry.proofs.Members.{ascending-of_object, filter-union, union-absorbs}
 use Rattle.qc_entry.proofs.Union.{ascending-union, union-nil}
 use Rattle.qc_front.specs.declared.begun.Begun.{Begun}
 use Rattle.qc_front.specs.Operation.{joined, op_of, with_event, with_op}
@@ -94,9 +93,6 @@ Answers decl after object inv (Some e) = IsAnswer decl after object inv e
 some_next : (o : Option ℕ) → is_some o ≡ true → (next : ℕ) × (o ≡ Some next)
 some_next None is = absurd (let never : ⊥ = cc in never)
 some_next (Some next) is = (next, refl)
-
-no_more : (o : Option ℕ) → o ≡ None → is_some o ≡ false
-no_more o is = ap is_some is
 
 -- on an object of a type
 module _ (decl : Declaration) (fits : Fits decl) (committed : List Op) (before : ℕ → ℕ) (log : List Line) (b : Begun) (d : Doing decl before log b) (follows : Follows decl committed before log)

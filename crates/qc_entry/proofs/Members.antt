@@ -1,15 +1,13 @@
--- Ascending lists are settled by their members: filters, unions and differences.
-use Rattle.std.proofs.Common.{◌≡◌, ◌⊎◌, ◌↔◌, inl, inr, List, [], ◌∷◌, Bool, true, false, refl, sym, ap, ◌∙◌, subst}
+-- Ascending lists are settled by their members: so unions commute, associate and absorb, and a filter of a union is the
+-- union of the filters. Front ends join the logs that sites send them; over several sites these come in any order.
+use Rattle.std.proofs.Common.{◌≡◌, ℕ, ◌⊎◌, inl, inr, List, [], ◌∷◌, Bool, true, refl, sym, ap, ◌∙◌, subst}
 use Rattle.std.proofs.lemmas.Cmp.{tied_itself}
 use Rattle.std.specs.List.{filter}
-use Rattle.std.specs.Ordering.{is_eq}
-use Rattle.std.specs.Prelude.{not, ◌||◌}
-use Rattle.std.specs.declared.cmp.Ordering.{Ordering}
-use Rattle.std.specs.declared.cmp.Ordering.TheVariants.{Less, Equal, Greater}
+use Rattle.std.specs.declared.cmp.Ordering.TheVariants.{Less, Equal}
 use Rattle.qc_entry.specs.declared.line.Line.{Line}
 use Rattle.qc_entry.specs.Line.{line_cmp, IsAscending}
 use Rattle.qc_list.specs.Order.{IsBelowAll}
-use Rattle.qc_entry.specs.Log.{union, without, has_line}
+use Rattle.qc_entry.specs.Log.{of_object, union}
 use Rattle.qc_list.specs.Members.{In}
 use Rattle.qc_list.specs.Order.{by_order}
 use Rattle.qc_list.proofs.Members.{every-In, In-filter, In-passes, In-unfiltered}
@@ -123,36 +121,6 @@ filter-union test xs ys a b =
       back l (inl member) = In-filter test l (union xs ys) (in_first l xs ys (In-unfiltered test l xs member)) (In-passes test l xs member)
       back l (inr member) = In-filter test l (union xs ys) (in_second l xs ys (In-unfiltered test l ys member)) (In-passes test l ys member)
 
--- the test for a member tells of members
-pub has-In : (ys : List Line) (l : Line) → In l ys → has_line ys l ≡ true
-has-In [] l member = absurd member
-has-In (y ∷ ys) l (inl same) =
-    let tied : line_cmp y l ≡ Equal = subst (λ z. line_cmp z l ≡ Equal) same (tied_itself line_order.total l) in
-    ap (λ order. is_eq order || has_line ys l) tied
-has-In (y ∷ ys) l (inr member) =
-    rw (has-In ys l member) (either (is_eq (line_cmp y l))) where
-      either : (b : Bool) → (b || true) ≡ true
-      either true = refl
-      either false = refl
-
-pub In-has : (ys : List Line) (l : Line) → has_line ys l ≡ true → In l ys
-In-has [] l has = absurd (let never : ⊥ = cc in never)
-In-has (y ∷ ys) l has = by (line_cmp y l) refl (In-has ys l) has where
-  by : (order : Ordering) → line_cmp y l ≡ order → (has_line ys l ≡ true → In l ys) → (is_eq order || has_line ys l) ≡ true → In l (y ∷ ys)
-  by Less is rest has = inr (rest has)
-  by Equal is rest has = inl (sym (line_order.apart y l is))
-  by Greater is rest has = inr (rest has)
-
--- a difference's lines are those of the first list that the second lacks
-pub In-without : (l : Line) (xs ys : List Line) → In l (without xs ys) ↔ (In l xs × ¬ In l ys)
-In-without l xs ys = (λ member. (In-unfiltered test l xs member, λ other. refused (has_line ys l) (In-passes test l xs member) (has-In ys l other)), λ both. In-filter test l xs both.0 (lacked (has_line ys l) refl both.1)) where
-  test : Line → Bool
-  test k = not (has_line ys k)
-
-  refused : (b : Bool) → not b ≡ true → b ≡ true → ⊥
-  refused true fails is = let never : ⊥ = cc in never
-  refused false fails is = let never : ⊥ = cc in never
-
-  lacked : (b : Bool) → has_line ys l ≡ b → (In l ys → ⊥) → not b ≡ true
-  lacked true is none = absurd (none (In-has ys l is))
-  lacked false is none = refl
+-- the lines of one object ascend
+pub ascending-of_object : (xs : List Line) (object : ℕ) → IsAscending xs → IsAscending (of_object xs object)
+ascending-of_object xs object ascending = ascends-filter line_cmp _ xs ascending

@@ -1,6 +1,6 @@
 -- Thresholds above the weight of all sites.
-use Rattle.std.proofs.Common.{◌≡◌, ℕ, zero, suc, ◌<◌, ◌≤◌, Bool, true, false, List, [], ◌∷◌, None, length, get_or, refl, ap, subst, ⊎_elim, arith}
-use Rattle.std.specs.Prelude.{◌||◌, nat_lt, slice_get, unwrap_or}
+use Rattle.std.proofs.Common.{◌≡◌, ℕ, zero, suc, ◌<◌, ◌≤◌, false, List, [], ◌∷◌, None, length, get_or, refl, ap, subst, ⊎_elim, arith}
+use Rattle.std.specs.Prelude.{nat_lt, slice_get, unwrap_or}
 use Rattle.std.specs.List.{list_any}
 use Rattle.std.proofs.lemmas.Bool.{cases_lt, ltb-false, le-ltb, or_from, or_parts}
 use Rattle.std.proofs.lemmas.Option.{slice_get_past, unwrap_or-slice_get}

@@ -3,7 +3,8 @@
 ghost use Rattle.std.specs.Prelude.{◌≡◌, ◌≤◌, [], length, nat_lt, get_or, slice_get, option_and_then, OnOk};
 ghost use Rattle.std.specs.List.{list_any};
 ghost use Rattle.qc_plan.specs.Admitted.{IsAdmitted};
-ghost use Rattle.qc_plan.specs.Faults.{answer_of, fault_of, heavy_fault, is_heavy, object_fault, kind_fault, pair_fault, can_miss};
+ghost use Rattle.qc_plan.specs.Faults.{answer_of, fault_of, heavy_fault, is_heavy, object_fault, kind_fault};
+ghost use Rattle.qc_plan.specs.Faults.{pair_fault, can_miss};
 ghost use Rattle.qc_plan.specs.Weights.{total};
 ghost use Rattle.qc_list.specs.Search.{first_below};
 ghost use Rattle.qc_table.specs.Rules.{events_of};

@@ -1,8 +1,6 @@
 -- What is sorted in a site: locks, own lines and lines.
-use Rattle.std.specs.Prelude.{◌≡◌, List, [], ◌∷◌}
+use Rattle.std.specs.Prelude.{List, [], ◌∷◌}
 use Rattle.qc_list.specs.Order.{Ascends}
-use Rattle.std.specs.declared.cmp.Ordering.{Ordering}
-use Rattle.std.specs.declared.cmp.Ordering.TheVariants.{Less}
 use Rattle.qc_entry.specs.declared.record.Prepared.{Prepared}
 use Rattle.qc_entry.specs.Line.{IsAscending}
 use Rattle.qc_msg.specs.declared.message.Message.{Message}

@@ -1,4 +1,5 @@
--- Which cases, a state with an invocation and a response, some rows have: for each state and invocation the set of the responses.
+-- Which cases, a state with an invocation and a response, some rows have: for each state and invocation the set of the
+-- responses.
 use Rattle.std.specs.Prelude.{ℕ, ◌+◌, ◌*◌, ◌<◌, Bool, List, replicate, set, get_or}
 use Rattle.qc_table.specs.Limits.{most_states, most_invocations, most_responses}
 use Rattle.qc_table.specs.declared.row.Row.{Row}

@@ -15,7 +15,9 @@ grid_next grid state number = if nat_lt number most_events then get_or grid (gri
 
 -- the grid with a row, whose event has this number; an earlier row stays
 abbrev pub with_next : List (Option ℕ) → Row → ℕ → List (Option ℕ)
-with_next grid row number = set grid (grid_place row.state number) (option_or (get_or grid (grid_place row.state number) None) (Some row.next))
+with_next grid row number =
+    set grid (grid_place row.state number)
+    (option_or (get_or grid (grid_place row.state number) None) (Some row.next))
 
 -- the grid with a row; a row whose event has no number adds nothing
 abbrev pub with_row : List (Option ℕ) → Row → Option ℕ → List (Option ℕ)

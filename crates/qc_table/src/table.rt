@@ -1,6 +1,7 @@
 //! A table.
 
-ghost use Rattle.std.specs.Prelude.{◌==◌, ◌&&◌, is_some, ◌≡◌, ℕ, ◌<◌, ◌≤◌, ◌↔◌, None, length, OnOk, IfOk, IfErr, IfSome, IsSome, IsBitSet};
+ghost use Rattle.std.specs.Prelude.{◌==◌, ◌&&◌, is_some, ◌≡◌, ℕ, ◌<◌, ◌≤◌, ◌↔◌, None, length, OnOk, IfOk};
+ghost use Rattle.std.specs.Prelude.{IfErr, IfSome, IsSome, IsBitSet};
 ghost use Rattle.qc_table.specs.Limits.{most_events, most_invocations, most_responses, most_rows, most_states};
 ghost use Rattle.qc_table.specs.Faults.{fault_of, IsTold};
 ghost use Rattle.qc_table.specs.Rules.{event, events_of, rules_of};
