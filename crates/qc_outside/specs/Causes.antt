@@ -1,4 +1,5 @@
--- Counts of faults. Each answer that blames the outside is tied to one that rose.
+-- Counts of faults. Each answer that blames the outside is tied to a count that rose, or that stands at the greatest
+-- number: there a count stays, and what is blamed is no longer told from what isn't.
 use Rattle.std.specs.Prelude.{ℕ, ◌+◌, ◌-◌, ◌^◌, ◌≤◌, min}
 
 -- both counts together, or the most that 64 bits hold
@@ -9,6 +10,6 @@ sum_of_faults a b = min (a + b) (2 ^ 64 - 1)
 abbrev pub one_more : ℕ → ℕ
 one_more count = sum_of_faults count 1
 
--- the count rose, or stands at the most that 64 bits hold
+-- the count rose, or was and is the most that 64 bits hold
 abbrev pub Rose : ℕ → ℕ → Type 0
 Rose before now = one_more before ≤ now

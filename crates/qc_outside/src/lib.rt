@@ -3,7 +3,8 @@
 //!
 //! Each trait states what its calls mean where an implementation tells what it
 //! holds, and keeps a count of faults that never falls: a call answers `Failed`
-//! only where the count rose. So a run's fault is always the outside's own.
+//! only where the count rose, or stands at the greatest number of 64 bits. Below
+//! that a run's fault is always the outside's own.
 //! Who cannot know what the outside holds, as a real file, tells nothing.
 //! Fakes in memory stand beside the traits. The top call takes one of each, and
 //! the program brings the real ones.
