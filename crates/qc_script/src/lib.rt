@@ -14,6 +14,7 @@ mod script;
 #[cfg(test)]
 mod tests;
 
+pub use form::Form;
 pub use laws::scripts_ask_the_client;
 pub use reader::read;
 pub use script::{CommandLine, CommandLines, PhaseLines, PhaseList, Script, ScriptFault};

@@ -47,7 +47,8 @@ pub struct Ended {
 /// name and says that it is accepted; `run DECL SCRIPT` runs the script of this
 /// name over it and writes the text of the run to the sink. Files are taken
 /// from the shelf; a name of a declaration that begins with `@` is that of a
-/// built-in one.
+/// built-in one. Where the shelf or the sink is blamed, its count of faults rose,
+/// or stands at the greatest number that it can tell.
 pub fn quorum_words<T, F, K, R, G>(
     _rt: &T,
     alloc: Global,
