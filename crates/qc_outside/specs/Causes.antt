@@ -9,7 +9,6 @@ sum_of_faults a b = min (a + b) (2 ^ 64 - 1)
 abbrev pub one_more : ℕ → ℕ
 one_more count = sum_of_faults count 1
 
--- the count rose; of a count at the most that 64 bits hold, or past it, this says only that it isn't below that number
--- now
+-- the count rose, or was and is the most that 64 bits hold
 abbrev pub Rose : ℕ → ℕ → Type 0
 Rose before now = one_more before ≤ now

@@ -1,6 +1,6 @@
 -- The files of a shelf, and what a call may answer of them.
-use Rattle.std.specs.Prelude.{◌≡◌, ℕ, ◌<◌, ◌≤◌, List, map, length, find, bytes_eq, Option, Some, None}
-use Rattle.std.specs.Prelude.{option_map, MatchOption, Result, Err, Vec}
+use Rattle.std.specs.Prelude.{◌≡◌, ℕ, ◌<◌, ◌≤◌, List, map, length, find, bytes_eq, Option, Some, None, option_map}
+use Rattle.std.specs.Prelude.{MatchOption, Result, Ok, Err, Vec}
 use Rattle.std.specs.declared.alloc.Global.{Global}
 use Rattle.qc_outside.specs.Causes.{Rose}
 use Rattle.qc_outside.specs.declared.shelf.ShelfFault.{ShelfFault}
@@ -34,6 +34,19 @@ IsCaused OutOfMemory limit file = Unit {0}
 abbrev pub IsRefused : Option Files → List ℕ → ℕ → ShelfFault → Type 0
 IsRefused None name limit fault = Unit {0}
 IsRefused (Some files) name limit fault = IsCaused fault limit (file_named name files)
+
+-- what a call answers: a file's bytes, or a fault
+abbrev pub Answer : Type 0
+Answer = Result (List ℕ) ShelfFault
+
+abbrev pub answer_of : Result (Vec ℕ Global) ShelfFault → Answer
+answer_of (Ok bytes) = Ok bytes.items
+answer_of (Err fault) = Err fault
+
+-- an answer may come of a file of this name within this limit: of the named file, where the shelf tells its files
+abbrev pub IsAnswer : Option Files → List ℕ → ℕ → Answer → Type 0
+IsAnswer files name limit (Ok bytes) = IsTaken files name limit bytes
+IsAnswer files name limit (Err fault) = IsRefused files name limit fault
 
 -- the count of faults never falls, rises where the shelf failed, and stands where memory was wanting
 pub record ShelfRose {T : Type 0} (before now : ℕ) (result : Result T ShelfFault) : Type 0 where

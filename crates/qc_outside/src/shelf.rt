@@ -1,7 +1,7 @@
 //! A shelf of files, from which the declaration and the script are taken.
 
 ghost use Rattle.std.specs.Prelude.{◌≡◌, MatchResult};
-ghost use Rattle.qc_outside.specs.Shelf.{IsTaken, IsRefused, ShelfRose};
+ghost use Rattle.qc_outside.specs.Shelf.{IsTaken, IsRefused, ShelfRose, answer_of};
 
 use qc_list::OutOfMemory;
 
@@ -30,14 +30,18 @@ impl From<OutOfMemory> for ShelfFault {
 
 /// Files by name, with a count of the shelf's faults.
 pub trait Shelf {
-    ghost use Rattle.std.specs.Prelude.{ℕ, Option};
-    ghost use Rattle.qc_outside.specs.Shelf.{Files};
+    ghost use Rattle.std.specs.Prelude.{ℕ, List, Option, ⊤};
+    ghost use Rattle.qc_outside.specs.Shelf.{Answer, Files};
 
     // The files, where the shelf tells them.
     ghost files: { Self → Option Files };
 
     // How many calls failed so far, or more.
     ghost faults: { Self → ℕ };
+
+    // What a call may do: asked for a file of this name within this limit, the
+    // shelf gives this answer, and then is that shelf.
+    ghost gives: { Self → List ℕ → ℕ → Answer → Self → Type 0 } = { λ _ _ _ _ _. ⊤ };
 
     /// The bytes of the named file, which has at most `limit` of them.
     ///
@@ -47,6 +51,7 @@ pub trait Shelf {
     /// wanting.
     fn take(&mut self, name: &str, limit: u32) -> Result<Vec<u8>, ShelfFault>
         ensures same { files self.new ≡ files self.old }
+        ensures given { gives self.old name.now limit (answer_of result) self.new }
         ensures content { MatchResult result
             (λ v. IsTaken (files self.old) name.now limit v.items)
             (λ e. IsRefused (files self.old) name.now limit e) }

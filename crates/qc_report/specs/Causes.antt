@@ -3,7 +3,8 @@ use Rattle.std.specs.Prelude.{ℕ, Bool, if◌then◌else◌, List, [], ◌++◌
 use Rattle.qc_outside.specs.declared.shelf.ShelfFault.{ShelfFault}
 use Rattle.qc_outside.specs.declared.shelf.ShelfFault.TheVariants as faults
 use Rattle.qc_report.specs.declared.cause.Cause.{Cause}
-use Rattle.qc_report.specs.declared.cause.Cause.TheVariants.{Done, NotBuilt, Shelf, Declaration, Sink, Full, OutOfMemory}
+use Rattle.qc_report.specs.declared.cause.Cause.TheVariants.{Done, NotBuilt, Shelf, Declaration, Sink, Full}
+use Rattle.qc_report.specs.declared.cause.Cause.TheVariants.{OutOfMemory}
 use Rattle.qc_msg.specs.declared.step.What.{What}
 use Rattle.qc_msg.specs.declared.step.What.TheVariants.{Steps, Operations, Carried}
 use Rattle.qc_report.specs.Declarations.{status_of_refused, refused_text, no_memory_text}

@@ -1,5 +1,6 @@
 -- How numbers, transactions, stamps, actors and names are written.
-use Rattle.std.specs.Prelude.{ℕ, ◌-◌, nat_lt, if◌then◌else◌, List, [], ◌++◌, Option, codes, decimal, slice_get, unwrap_or, option_and_then}
+use Rattle.std.specs.Prelude.{ℕ, ◌-◌, nat_lt, if◌then◌else◌, List, [], ◌++◌, Option, codes, decimal, slice_get}
+use Rattle.std.specs.Prelude.{unwrap_or, option_and_then}
 use Rattle.std.specs.Option.{option_map_or}
 use Rattle.qc_stamp.specs.declared.stamp.Stamp.{Stamp}
 use Rattle.qc_stamp.specs.declared.stamp.TxId.{TxId}

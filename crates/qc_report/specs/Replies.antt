@@ -1,11 +1,13 @@
 -- The replies, one line for each command in the script's order.
-use Rattle.std.specs.Prelude.{ℕ, ◌==◌, if◌then◌else◌, List, [], ◌∷◌, ◌++◌, Option, Some, None, codes, decimal, slice_get, count_by, flat_map}
+use Rattle.std.specs.Prelude.{ℕ, ◌==◌, if◌then◌else◌, List, [], ◌∷◌, ◌++◌, Option, Some, None, codes, decimal}
+use Rattle.std.specs.Prelude.{slice_get, count_by, flat_map}
 use Rattle.std.specs.List.{filter_map}
 use Rattle.qc_decl.specs.declared.declaration.Declaration.{Declaration}
 use Rattle.qc_msg.specs.declared.step.Command.{Command}
 use Rattle.qc_msg.specs.declared.step.Command.TheVariants as commands
 use Rattle.qc_msg.specs.declared.step.Reply.{Reply}
-use Rattle.qc_msg.specs.declared.step.Reply.TheVariants.{Already, Began, NoTransaction, TooLong, Absent, Response, Aborted, Committed, Dropped}
+use Rattle.qc_msg.specs.declared.step.Reply.TheVariants.{Already, Began, NoTransaction, TooLong, Absent, Response}
+use Rattle.qc_msg.specs.declared.step.Reply.TheVariants.{Aborted, Committed, Dropped}
 use Rattle.qc_msg.specs.declared.step.Why.{Why}
 use Rattle.qc_msg.specs.declared.step.Why.TheVariants.{Forgot}
 use Rattle.qc_msg.specs.declared.step.Step.{Step}

@@ -2,7 +2,10 @@
 
 ghost use Rattle.std.specs.Prelude.{◌≡◌, ◌++◌, IfOk, OnOk, codes};
 ghost use Rattle.qc_report.specs.Parts.{name_at};
-ghost use Rattle.qc_report.specs.Declarations.{accepted_text_of, accepted_line, refused_text, status_of_refused, status_of_table, status_of_cert, table_text, cert_text, plan_text, type_text, row_text, triple_text, uncovered_text, differs_text, epoch_text, can_miss_text};
+ghost use Rattle.qc_report.specs.Declarations.{accepted_text_of, accepted_line, refused_text, status_of_refused};
+ghost use Rattle.qc_report.specs.Declarations.{status_of_table, status_of_cert, table_text, cert_text, plan_text};
+ghost use Rattle.qc_report.specs.Declarations.{type_text, row_text, triple_text, uncovered_text, differs_text};
+ghost use Rattle.qc_report.specs.Declarations.{epoch_text, can_miss_text};
 
 use crate::names::name_at;
 use crate::page::Page;

@@ -23,8 +23,6 @@ mod replies;
 mod report;
 mod sites;
 mod states;
-#[cfg(test)]
-mod tests;
 mod walk;
 
 pub use cause::{Cause, cause_text};

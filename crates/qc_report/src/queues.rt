@@ -1,7 +1,8 @@
 //! The replies that each actor told and that no command of the script has
 //! taken yet.
 
-ghost use Rattle.std.specs.Prelude.{◌≡◌, ◌∷◌, ◌++◌, [], ℕ, ◌<◌, OnOk, IfOk, length, drop, slice_get, slice_set, slice_index_or};
+ghost use Rattle.std.specs.Prelude.{◌≡◌, ◌∷◌, ◌++◌, [], ℕ, ◌<◌, OnOk, IfOk, length, drop, slice_get, slice_set};
+ghost use Rattle.std.specs.Prelude.{slice_index_or};
 ghost use Rattle.qc_report.specs.Replies.{told_of, reply_in};
 
 use qc_list::OutOfMemory;

@@ -1,7 +1,8 @@
 //! The replies, one line for each command in the script's order.
 
 ghost use Rattle.std.specs.Prelude.{◌≡◌, ◌++◌, [], ℕ, ◌<◌, OnOk, IfOk, Some, length, slice_index_or, flat_map};
-ghost use Rattle.qc_report.specs.Replies.{command_text, why_text, response_text, reply_text, reply_line, reply_lines, replies_text, commands_of, told_of};
+ghost use Rattle.qc_report.specs.Replies.{command_text, why_text, response_text, reply_text, reply_line, reply_lines};
+ghost use Rattle.qc_report.specs.Replies.{replies_text, commands_of, told_of};
 
 use crate::names::{invocation_name, object_name, response_name};
 use crate::page::Page;

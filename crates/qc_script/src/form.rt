@@ -10,7 +10,7 @@ use qc_msg::Command;
 
 /// What a line of a script says.
 #[derive(Clone, Copy, Debug, PartialEq, Eq)]
-pub(crate) enum Form {
+pub enum Form {
     /// Nothing: the line is empty, or a comment.
     Skipped,
     /// The next phase begins here.

@@ -18,6 +18,7 @@ mod laws;
 mod reader;
 mod script;
 
+pub use form::Form;
 pub use laws::scripts_ask_the_client;
 pub use reader::read;
 pub use script::{CommandLine, CommandLines, PhaseLines, PhaseList, Script, ScriptFault};

@@ -10,22 +10,24 @@ use Rattle.qc_decl.specs.Accepted.{IsAccepted}
 use Rattle.qc_decl.specs.Actors.{actors}
 use Rattle.qc_decl.specs.declared.declaration.Declaration.{Declaration}
 use Rattle.qc_msg.specs.Steps.{Entry}
-use Rattle.qc_outside.specs.Shelf.{Files}
-use Rattle.qc_outside.specs.declared.shelf.ShelfFault.{ShelfFault}
-use Rattle.qc_outside.specs.declared.shelf.ShelfFault.TheVariants as faults
+use Rattle.qc_outside.specs.Shelf.{Answer, Files}
 use Rattle.qc_report.specs.declared.cause.Cause.{Cause}
 use Rattle.qc_report.specs.declared.cause.Cause.TheVariants as causes
 use Rattle.qc_report.specs.Text.{text_of}
 use Rattle.qc_script.specs.Runs.{begins}
 use Rattle.qc_script.specs.declared.script.Script.{Script}
 use Rattle.qc_top.proofs.Right.{work_is}
-use Rattle.qc_top.specs.At.{IsBelow}
 use Rattle.qc_top.specs.Engine.{AsksFirst}
-use Rattle.qc_top.specs.Top.{IsFullCause, IsRan, IsRight, IsTold, Leaves, LeavesRun, OnPrinted, OverWords, PrintsBetween}
+use Rattle.qc_top.specs.Full.{IsBelow}
+use Rattle.qc_top.specs.Top.{IsFullCause, IsRan, IsRight, IsTold, Leaves, LeavesAsked, LeavesNothing, LeavesRun, LeavesWords, OnPrinted, PrintsBetween}
 use Rattle.qc_top.specs.Words.{AskedOf, asked}
-use Rattle.qc_top.specs.Work.{Caused, Gives, IsFault, IsRefusal, OverFiles, work_of}
+use Rattle.qc_top.specs.Work.{Caused, Gives, IsRefusal, work_of}
+use Rattle.qc_top.specs.declared.answers.Answers.{Answers}
 use Rattle.qc_top.specs.declared.work.Work.{Work}
 use Rattle.qc_top.specs.declared.work.Work.TheVariants.{Accept, Run}
+
+abbrev pub the_err : Cause → Result Work Cause
+the_err cause = Err cause
 
 -- the empty history is a run of every script
 empty_run : (decl : Declaration) (script : Script) → IsRun decl script []
@@ -45,51 +47,22 @@ leaves_run decl script h old cause new right first run ran whole text = record {
   atomic = runs_are_atomic decl script h right first.sites first.asks run;
 }
 
--- at a fault nothing is printed
+-- for want of memory nothing is printed
+pub want_between : (text : List ℕ) (taken : Option (List ℕ)) → PrintsBetween text taken causes.OutOfMemory taken
+want_between text None = tt
+want_between text (Some old) = refl
 
-fault_between : (text : List ℕ) (taken : Option (List ℕ)) (cause : Cause) → IsFault cause → PrintsBetween text taken cause taken
-fault_between text None cause fault = tt
-fault_between text (Some old) (causes.Shelf script faults.Failed) fault = refl
-fault_between text (Some old) causes.OutOfMemory fault = refl
-fault_between text (Some old) (causes.Shelf script faults.Missing) fault = absurd fault
-fault_between text (Some old) (causes.Shelf script faults.TooLong) fault = absurd fault
-fault_between text (Some old) (causes.Shelf script faults.OutOfMemory) fault = absurd fault
-fault_between text (Some old) (causes.Declaration refused) fault = absurd fault
-fault_between text (Some old) causes.Done fault = absurd fault
-fault_between text (Some old) causes.Sink fault = absurd fault
-fault_between text (Some old) (causes.Full what number) fault = absurd fault
-fault_between text (Some old) causes.NotBuilt fault = absurd fault
-
-record IsSilent (P : Type 0) (cause : Cause) : Type 0 where
-  pub printed : OnPrinted cause P
-  pub told : IsTold cause
-  pub ran : IsRan cause
-
-silent : (P : Type 0) (cause : Cause) → IsFault cause → IsSilent P cause
-silent P (causes.Shelf script faults.Failed) fault = record { printed = tt; told = tt; ran = tt }
-silent P causes.OutOfMemory fault = record { printed = tt; told = tt; ran = tt }
-silent P (causes.Shelf script faults.Missing) fault = absurd fault
-silent P (causes.Shelf script faults.TooLong) fault = absurd fault
-silent P (causes.Shelf script faults.OutOfMemory) fault = absurd fault
-silent P (causes.Declaration refused) fault = absurd fault
-silent P causes.Done fault = absurd fault
-silent P causes.Sink fault = absurd fault
-silent P (causes.Full what number) fault = absurd fault
-silent P causes.NotBuilt fault = absurd fault
-
--- a call that a fault ended before the first phase
-leaves_fault : (work : Caused Work) (taken : Option (List ℕ)) (cause : Cause) → ((w : Work) → work ≡ Ok w → IsRight w) → IsFault cause → Leaves work taken cause taken []
-leaves_fault (Err why) taken cause right fault = record { due = inr fault; history = refl; text = refl }
-leaves_fault (Ok (Accept decl)) taken cause right fault = record {
+leaves_want : (work : Caused Work) (taken : Option (List ℕ)) → ((w : Work) → work ≡ Ok w → IsRight w) → Leaves work taken causes.OutOfMemory taken []
+leaves_want (Err why) taken right = record { due = inr refl; history = refl; text = refl }
+leaves_want (Ok (Accept decl)) taken right = record {
   accepted = right (Accept decl) refl;
-  due = (silent ⊥ cause fault).told;
+  due = tt;
   history = refl;
-  text = fault_between _ taken cause fault;
+  text = want_between _ taken;
 }
-leaves_fault (Ok (Run decl script)) taken cause right fault =
+leaves_want (Ok (Run decl script)) taken right =
     let both : IsAccepted decl × AsksFirst decl script = right (Run decl script) refl in
-    let s : IsSilent (IsWhole decl script []) cause = silent (IsWhole decl script []) cause fault in
-    leaves_run decl script [] taken cause taken both.0 both.1 (empty_run decl script) s.ran s.printed (fault_between (text_of decl script []) taken cause fault)
+    leaves_run decl script [] taken causes.OutOfMemory taken both.0 both.1 (empty_run decl script) tt tt (want_between (text_of decl script []) taken)
 
 -- the run that didn't begin, for want of memory
 pub leaves_unbegun : (decl : Declaration) (script : Script) (taken : Option (List ℕ)) (cause : Cause) (h : List Entry) → IsAccepted decl → AsksFirst decl script → h ≡ [] → cause ≡ causes.OutOfMemory
@@ -97,27 +70,25 @@ pub leaves_unbegun : (decl : Declaration) (script : Script) (taken : Option (Lis
 leaves_unbegun decl script taken cause h right first none is =
     subst (λ (c : Cause). LeavesRun decl script taken c taken h) (sym is)
     (subst (λ (k : List Entry). LeavesRun decl script taken causes.OutOfMemory taken k) (sym none)
-    (leaves_run decl script [] taken causes.OutOfMemory taken right first (empty_run decl script) tt tt (fault_between (text_of decl script []) taken causes.OutOfMemory tt)))
+    (leaves_run decl script [] taken causes.OutOfMemory taken right first (empty_run decl script) tt tt (want_between (text_of decl script []) taken)))
+
+-- nothing was to be done, for this cause
+pub leaves_refused : (asked : AskedOf) (answers : Answers) (taken : Option (List ℕ)) (cause : Cause) → Gives (work_of asked answers) (the_err cause) → Leaves (work_of asked answers) taken cause taken []
+leaves_refused asked answers taken cause (inl is) = subst (λ (w : Caused Work). Leaves w taken cause taken []) (sym is) (record { due = inl refl; history = refl; text = refl })
+leaves_refused asked answers taken cause (inr wanting) =
+    subst (λ (c : Cause). Leaves (work_of asked answers) taken c taken []) (sym wanting) (leaves_want (work_of asked answers) taken (λ w is. work_is asked answers w is))
 
 -- what the words come to, by what was asked
-named : (P : Caused Work → Type 0) (files : Option Files) (words : List (List ℕ)) (a : AskedOf) → asked words ≡ Some a → OverFiles P files a → OverWords P files words
-named P files words a is here = subst (λ (o : Option AskedOf). MatchOption o (P (Err causes.NotBuilt)) (λ x. OverFiles P files x)) (sym is) here
+pub words_leave : {S : Type 0} (gives : S → List ℕ → ℕ → Answer → S → Type 0) (files : Option Files) (words : List (List ℕ)) (a : AskedOf) (before after : S) (old : Option (List ℕ)) (cause : Cause) (new : Option (List ℕ)) (h : List Entry)
+    → asked words ≡ Some a → LeavesAsked gives files a before after old cause new h → LeavesWords gives files words before after old cause new h
+words_leave gives files words a before after old cause new h is here =
+    subst (λ (o : Option AskedOf). MatchOption o (LeavesNothing causes.NotBuilt old cause new h) (λ x. LeavesAsked gives files x before after old cause new h)) (sym is) here
 
-pub words_given : (P : Caused Work → Type 0) (files : Option Files) (words : List (List ℕ)) (a : AskedOf) (work : Work) → asked words ≡ Some a
-    → OverFiles (λ given. given ≡ Ok work) files a → P (Ok work) → OverWords P files words
-words_given P files words a work is given here = named P files words a is (given.0, subst P (sym given.1) here)
-
-pub words_refused : (files : Option Files) (words : List (List ℕ)) (a : AskedOf) (taken : Option (List ℕ)) (cause : Cause) → asked words ≡ Some a
-    → OverFiles (λ given. (given ≡ Err cause) ⊎ IsFault cause) files a → OverWords (λ given. Leaves given taken cause taken []) files words
-words_refused files words a taken cause is given = named (λ given. Leaves given taken cause taken []) files words a is (given.0, by (work_of a given.0.decl given.0.script) refl given.1)
-  where
-    by : (work : Caused Work) → work_of a given.0.decl given.0.script ≡ work → (work ≡ Err cause) ⊎ IsFault cause → Leaves work taken cause taken []
-    by work of (inl refused) = subst (λ (w : Caused Work). Leaves w taken cause taken []) (sym refused) (record { due = inl refl; history = refl; text = refl })
-    by work of (inr fault) = leaves_fault work taken cause (λ w same. work_is a given.0.decl given.0.script w (of ∙ same)) fault
-
--- what is to be done can be done
-pub right_given : (files : Option Files) (a : AskedOf) (work : Work) → OverFiles (λ given. given ≡ Ok work) files a → IsRight work
-right_given files a work given = work_is a given.0.decl given.0.script work given.1
+pub no_words_leave : {S : Type 0} (gives : S → List ℕ → ℕ → Answer → S → Type 0) (files : Option Files) (words : List (List ℕ)) (before after : S) (old : Option (List ℕ)) (cause : Cause) (h : List Entry)
+    → asked words ≡ None → cause ≡ causes.NotBuilt → h ≡ [] → LeavesWords gives files words before after old cause old h
+no_words_leave gives files words before after old cause h is why none =
+    subst (λ (o : Option AskedOf). MatchOption o (LeavesNothing causes.NotBuilt old cause old h) (λ x. LeavesAsked gives files x before after old cause old h)) (sym is)
+    (record { due = inl why; history = none; text = refl })
 
 -- limits, where nothing ran
 

@@ -20,6 +20,7 @@ use Rattle.qc_msg.specs.declared.message.Envelope.{Envelope}
 use Rattle.qc_msg.specs.declared.message.Message.{Message}
 use Rattle.qc_msg.specs.declared.message.Message.TheVariants.{Read, Append, Prepare, Granted, Stale, Yes, Decision}
 use Rattle.qc_msg.specs.declared.step.Command.{Command}
+use Rattle.qc_msg.specs.declared.step.Step.{Step}
 use Rattle.qc_msg.specs.declared.step.Step.TheVariants.{Called, Got, Phase}
 use Rattle.qc_msg.specs.declared.step.Turn.{Turn}
 use Rattle.qc_msg.specs.Mail.{AllSent, addressed, deeds, envelopes, mail}
@@ -35,8 +36,10 @@ use Rattle.qc_site.specs.Conduct.{site_on}
 use Rattle.qc_script.specs.Runs.{begins}
 use Rattle.qc_site.specs.Site.{SiteState, new_site}
 use Rattle.qc_top.specs.declared.engine.Engine.{Engine}
-use Rattle.qc_top.specs.At.{IsAt, IsCallable, IsPosted, IsQuiet}
+use Rattle.qc_top.specs.At.{IsAt, IsCallable, IsLater, IsPosted, IsQuiet}
+use Rattle.qc_top.specs.Full.{before_last_event, begins_event, has_event}
 use Rattle.qc_top.specs.Engine.{AsksFirst, Stands}
+use Rattle.qc_top.proofs.Events.{before_event, grows, post_none}
 use Rattle.qc_top.proofs.Inputs.{front_site}
 use Rattle.qc_top.proofs.Turns.{called_event, heard_event, phase_event, site_event}
 
@@ -51,6 +54,15 @@ lands : (decl : Declaration) (script : Script) (new : Engine) (h : List Entry) (
     → Stands decl script h s f x y l b k n → IsAt decl script new
 lands decl script new h s f x y l b k n eh es ef ex ey el eb ek en st = rw (eh, es, ef, ex, ey, el, eb, ek, en) st
 
+-- after an input, with what is posted for it, the loop has made one event more
+later : (decl : Declaration) (script : Script) (old new : Engine) (a : ℕ) (x : Step) (post : List Entry) → IsAt decl script new → new.history ≡ old.history ++ marked a x ∷ post
+    → begins_event x ≡ true → has_event post ≡ false → IsLater decl script old new
+later decl script old new a x post at is starts_one none = record {
+  at = at;
+  longer = grows old.history new.history (marked a x) post is;
+  event = ap before_last_event is ∙ before_event old.history (marked a x) post starts_one none;
+}
+
 -- the first client is actor 1
 client_is_one : (decl : Declaration) (client : ℕ) → decl.sites ≡ 1 → client ≡ client_actor decl 0 → client ≡ 1
 client_is_one decl client sites is = is ∙ ap (λ (n : ℕ). n + 0) sites
@@ -58,13 +70,14 @@ client_is_one decl client sites is = is ∙ ap (λ (n : ℕ). n + 0) sites
 -- the site has taken a message
 pub site_lands : (decl : Declaration) (script : Script) (old mid new : Engine) (e : Envelope) (client : ℕ) (turn : Turn)
     → IsAt decl script old → old.site_box.items ≡ e ∷ mid.site_box.items → site_on old.site e.from e.number e.message ≡ record { site = mid.site; turn = turn }
-    → mid ≡ record old { site = mid.site; site_box = mid.site_box } → client ≡ client_actor decl 0 → IsPosted mid new client 0 (Got e.number) turn → IsAt decl script new
+    → mid ≡ record old { site = mid.site; site_box = mid.site_box } → client ≡ client_actor decl 0 → IsPosted mid new client 0 (Got e.number) turn → IsLater decl script old new
 site_lands decl script old mid new e client turn st popped handled kept client_is p =
     let one : client ≡ 1 = client_is_one decl client st.first.sites client_is in
     let before : Stands decl script old.history old.site old.front (e ∷ mid.site_box.items) old.front_box.items old.orders.items old.busy old.last_phase old.sent =
     subst (λ (w : List Envelope). Stands decl script old.history old.site old.front w old.front_box.items old.orders.items old.busy old.last_phase old.sent) popped st in
-    lands decl script new _ _ _ _ _ _ _ _ _
-    (p.history ∙ ap (λ (m : Engine). m.history ++ marked 0 (Got e.number) ∷ by 0 (posted m.sent turn)) kept)
+    let history : new.history ≡ old.history ++ marked 0 (Got e.number) ∷ by 0 (posted old.sent turn) =
+    p.history ∙ ap (λ (m : Engine). m.history ++ marked 0 (Got e.number) ∷ by 0 (posted m.sent turn)) kept in
+    let at : IsAt decl script new = lands decl script new _ _ _ _ _ _ _ _ _ history
     p.site
     (p.front ∙ ap (λ (m : Engine). m.front) kept)
     (p.site_box ∙ ap (λ (m : Engine). mid.site_box.items ++ addressed 0 (envelopes 0 m.sent turn.sends)) kept)
@@ -73,19 +86,21 @@ site_lands decl script old mid new e client turn st popped handled kept client_i
     (p.busy ∙ ap (λ (m : Engine). m.busy) kept)
     (p.last_phase ∙ ap (λ (m : Engine). m.last_phase) kept)
     (p.sent ∙ ap (λ (m : Engine). m.sent + length turn.sends) kept)
-    (site_event decl script old.history old.site old.front e mid.site_box.items old.front_box.items old.orders.items old.busy old.last_phase old.sent mid.site turn before handled)
+    (site_event decl script old.history old.site old.front e mid.site_box.items old.front_box.items old.orders.items old.busy old.last_phase old.sent mid.site turn before handled) in
+    later decl script old new 0 (Got e.number) _ at history refl (post_none 0 old.sent turn)
 
 -- the client has taken a message
 pub heard_lands : (decl : Declaration) (script : Script) (old mid new : Engine) (e : Envelope) (client : ℕ) (after : Front) (turn : Turn)
     → IsAt decl script old → old.front_box.items ≡ e ∷ mid.front_box.items → heard decl old.front e.message ≡ moved after turn
     → mid.front ≡ front_sent after old.sent → mid.busy ≡ busy_after old.busy turn.told
-    → mid ≡ record old { front = mid.front; front_box = mid.front_box; busy = mid.busy } → client ≡ client_actor decl 0 → IsPosted mid new client client (Got e.number) turn → IsAt decl script new
+    → mid ≡ record old { front = mid.front; front_box = mid.front_box; busy = mid.busy } → client ≡ client_actor decl 0 → IsPosted mid new client client (Got e.number) turn → IsLater decl script old new
 heard_lands decl script old mid new e client after turn st popped handled numbered busy kept client_is p =
     let one : client ≡ 1 = client_is_one decl client st.first.sites client_is in
     let before : Stands decl script old.history old.site old.front old.site_box.items (e ∷ mid.front_box.items) old.orders.items old.busy old.last_phase old.sent =
     subst (λ (w : List Envelope). Stands decl script old.history old.site old.front old.site_box.items w old.orders.items old.busy old.last_phase old.sent) popped st in
-    lands decl script new _ _ _ _ _ _ _ _ _
-    (p.history ∙ (λ i. (kept i).history ++ marked (one i) (Got e.number) ∷ by (one i) (posted (kept i).sent turn)))
+    let history : new.history ≡ old.history ++ marked 1 (Got e.number) ∷ by 1 (posted old.sent turn) =
+    p.history ∙ (λ i. (kept i).history ++ marked (one i) (Got e.number) ∷ by (one i) (posted (kept i).sent turn)) in
+    let at : IsAt decl script new = lands decl script new _ _ _ _ _ _ _ _ _ history
     (p.site ∙ ap (λ (m : Engine). m.site) kept)
     (p.front ∙ numbered)
     (p.site_box ∙ (λ i. (kept i).site_box.items ++ addressed 0 (envelopes (one i) (kept i).sent turn.sends)))
@@ -94,21 +109,23 @@ heard_lands decl script old mid new e client after turn st popped handled number
     (p.busy ∙ busy)
     (p.last_phase ∙ ap (λ (m : Engine). m.last_phase) kept)
     (p.sent ∙ ap (λ (m : Engine). m.sent + length turn.sends) kept)
-    (heard_event decl script old.history old.site old.front e old.site_box.items mid.front_box.items old.orders.items old.busy old.last_phase old.sent after turn before handled)
+    (heard_event decl script old.history old.site old.front e old.site_box.items mid.front_box.items old.orders.items old.busy old.last_phase old.sent after turn before handled) in
+    later decl script old new 1 (Got e.number) _ at history refl (post_none 1 old.sent turn)
 
 -- the client has taken a command
 pub called_lands : (decl : Declaration) (script : Script) (old mid new : Engine) (command : Command) (client : ℕ) (after : Front) (turn : Turn)
     → IsAt decl script old → IsCallable old → old.orders.items ≡ command ∷ mid.orders.items → called decl old.front command ≡ moved after turn
     → mid.front ≡ front_sent after old.sent → mid.busy ≡ busy_after true turn.told
-    → mid ≡ record old { front = mid.front; orders = mid.orders; busy = mid.busy } → client ≡ client_actor decl 0 → IsPosted mid new client client (Called command) turn → IsAt decl script new
+    → mid ≡ record old { front = mid.front; orders = mid.orders; busy = mid.busy } → client ≡ client_actor decl 0 → IsPosted mid new client client (Called command) turn → IsLater decl script old new
 called_lands decl script old mid new command client after turn st free popped handled numbered busy kept client_is p =
     let one : client ≡ 1 = client_is_one decl client st.first.sites client_is in
     let before : Stands decl script old.history old.site old.front old.site_box.items [] (command ∷ mid.orders.items) false old.last_phase old.sent =
     subst (λ (w : List Envelope). Stands decl script old.history old.site old.front old.site_box.items w (command ∷ mid.orders.items) false old.last_phase old.sent) free.front
     (subst (λ (b : Bool). Stands decl script old.history old.site old.front old.site_box.items old.front_box.items (command ∷ mid.orders.items) b old.last_phase old.sent) free.free
     (subst (λ (q : List Command). Stands decl script old.history old.site old.front old.site_box.items old.front_box.items q old.busy old.last_phase old.sent) popped st)) in
-    lands decl script new _ _ _ _ _ _ _ _ _
-    (p.history ∙ (λ i. (kept i).history ++ marked (one i) (Called command) ∷ by (one i) (posted (kept i).sent turn)))
+    let history : new.history ≡ old.history ++ marked 1 (Called command) ∷ by 1 (posted old.sent turn) =
+    p.history ∙ (λ i. (kept i).history ++ marked (one i) (Called command) ∷ by (one i) (posted (kept i).sent turn)) in
+    let at : IsAt decl script new = lands decl script new _ _ _ _ _ _ _ _ _ history
     (p.site ∙ ap (λ (m : Engine). m.site) kept)
     (p.front ∙ numbered)
     (p.site_box ∙ (λ i. (kept i).site_box.items ++ addressed 0 (envelopes (one i) (kept i).sent turn.sends)))
@@ -117,7 +134,8 @@ called_lands decl script old mid new command client after turn st free popped ha
     (p.busy ∙ busy)
     (p.last_phase ∙ ap (λ (m : Engine). m.last_phase) kept)
     (p.sent ∙ ap (λ (m : Engine). m.sent + length turn.sends) kept)
-    (called_event decl script old.history old.site old.front command old.site_box.items mid.orders.items old.last_phase old.sent after turn before handled)
+    (called_event decl script old.history old.site old.front command old.site_box.items mid.orders.items old.last_phase old.sent after turn before handled) in
+    later decl script old new 1 (Called command) _ at history refl (post_none 1 old.sent turn)
 
 -- the phase of this place has these commands
 asked : (a : ℕ) (script : Script) (k : ℕ) (p : PhaseLines) → slice_get script.phases k ≡ Some p → asked_in a script (k + 1) ≡ asked_of a p.commands
@@ -130,14 +148,15 @@ pub phase_lands : (decl : Declaration) (script : Script) (old new : Engine) (p :
     → IsAt decl script old → IsQuiet old → old.last_phase < length script.phases → slice_get script.phases old.last_phase ≡ Some p
     → client ≡ client_actor decl 0 → ctl ≡ controller decl
     → new.history ≡ old.history ++ marked ctl (Phase (old.last_phase + 1)) ∷ [] → new.orders.items ≡ old.orders.items ++ asked_of client p.commands
-    → new ≡ record old { history = new.history; orders = new.orders; last_phase = old.last_phase + 1 } → IsAt decl script new
+    → new ≡ record old { history = new.history; orders = new.orders; last_phase = old.last_phase + 1 } → IsLater decl script old new
 phase_lands decl script old new p client ctl st quiet more there client_is ctl_is history orders kept =
     let one : client ≡ 1 = client_is_one decl client st.first.sites client_is in
     let before : Stands decl script old.history old.site old.front [] [] old.orders.items old.busy old.last_phase old.sent =
     subst (λ (w : List Envelope). Stands decl script old.history old.site old.front w [] old.orders.items old.busy old.last_phase old.sent) quiet.site
     (subst (λ (w : List Envelope). Stands decl script old.history old.site old.front old.site_box.items w old.orders.items old.busy old.last_phase old.sent) quiet.front st) in
-    lands decl script new _ _ _ _ _ _ _ _ _
-    (history ∙ ap (λ (c : ℕ). old.history ++ marked c (Phase (old.last_phase + 1)) ∷ []) ctl_is)
+    let grown : new.history ≡ old.history ++ marked (controller decl) (Phase (old.last_phase + 1)) ∷ [] =
+    history ∙ ap (λ (c : ℕ). old.history ++ marked c (Phase (old.last_phase + 1)) ∷ []) ctl_is in
+    let at : IsAt decl script new = lands decl script new _ _ _ _ _ _ _ _ _ grown
     (ap (λ (m : Engine). m.site) kept)
     (ap (λ (m : Engine). m.front) kept)
     (ap (λ (m : Engine). m.site_box.items) kept ∙ quiet.site)
@@ -146,7 +165,8 @@ phase_lands decl script old new p client ctl st quiet more there client_is ctl_i
     (ap (λ (m : Engine). m.busy) kept)
     (ap (λ (m : Engine). m.last_phase) kept)
     (ap (λ (m : Engine). m.sent) kept)
-    (phase_event decl script old.history old.site old.front old.orders.items old.busy old.last_phase old.sent before quiet.idle more)
+    (phase_event decl script old.history old.site old.front old.orders.items old.busy old.last_phase old.sent before quiet.idle more) in
+    later decl script old new (controller decl) (Phase (old.last_phase + 1)) [] at grown refl refl
 
 -- what the calls of one event need
 

@@ -1,5 +1,7 @@
 mod Asking
+mod Blame
 mod Ends
+mod Events
 mod Inputs
 mod Lands
 mod Right

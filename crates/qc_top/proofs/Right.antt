@@ -12,6 +12,7 @@ use Rattle.qc_decl.proofs.BuiltInRules.{one_accepted, three_accepted}
 use Rattle.qc_decl.specs.Accepted.{IsAccepted}
 use Rattle.qc_decl.specs.One.{built_in_of, one, three}
 use Rattle.qc_decl.specs.declared.declaration.Declaration.{Declaration}
+use Rattle.qc_outside.specs.Shelf.{Answer}
 use Rattle.qc_outside.specs.declared.shelf.ShelfFault.TheVariants as faults
 use Rattle.qc_report.specs.declared.cause.Cause.{Cause}
 use Rattle.qc_report.specs.declared.cause.Cause.TheVariants as causes
@@ -21,9 +22,9 @@ use Rattle.qc_script.specs.declared.script.Script.{Script}
 use Rattle.qc_top.specs.Engine.{AsksFirst}
 use Rattle.qc_top.specs.Top.{IsRight}
 use Rattle.qc_top.specs.Words.{AskedOf}
-use Rattle.qc_top.specs.Work.{Caused, ◌>>=◌, bytes_within, declared_by, is_built_in, most_declaration_bytes, run_of, script_work, source_of, source_work, unless_refused, work_of}
-use Rattle.qc_top.specs.declared.work.Source.{Source}
-use Rattle.qc_top.specs.declared.work.Source.TheVariants.{BuiltIn, Bytes}
+use Rattle.qc_top.specs.Answers.{is_built_in}
+use Rattle.qc_top.specs.Work.{Caused, ◌>>=◌, bytes_of, run_of, spelled_in, unless_refused, work_of, work_on}
+use Rattle.qc_top.specs.declared.answers.Answers.{Answers}
 use Rattle.qc_top.specs.declared.work.Work.{Work}
 use Rattle.qc_top.specs.declared.work.Work.TheVariants.{Accept, Run}
 
@@ -37,6 +38,13 @@ came : {A B : Type 0} (given : Caused A) (next : A → Caused B) (b : B) → (gi
 came (Ok a) next b is = record { first = a; is = refl; rest = is }
 came (Err cause) next b is = absurd (let never : ⊥ = cc in never)
 
+-- of two answers that are equal, the values are
+inner : {A : Type 0} (a b : A) → (let given : Caused A = Ok a in given) ≡ Ok b → a ≡ b
+inner a b is = cc
+
+abbrev the_ok : Declaration → Result Declaration DeclFault
+the_ok decl = Ok decl
+
 -- a built-in declaration
 
 known : (name : List ℕ) (decl : Declaration) → built_in_of name ≡ Some decl → IsAccepted decl
@@ -47,35 +55,35 @@ known name decl is = by (bytes_eq name (codes "@one")) (bytes_eq name (codes "@t
     by false true is = let same : three ≡ decl = cc in subst IsAccepted same three_accepted
     by false false is = absurd (let never : ⊥ = cc in never)
 
--- where a declaration stands
+-- what stands under a declaration's name
 
-abbrev IsSource : Source → Type 0
-IsSource (BuiltIn decl) = IsAccepted decl
-IsSource (Bytes bytes) = Unit {0}
+abbrev IsRightly : Result Declaration DeclFault → Type 0
+IsRightly (Ok decl) = IsAccepted decl
+IsRightly (Err fault) = Unit {0}
 
-source_is : (name : List ℕ) (file : Option (List ℕ)) (source : Source) → source_of name file ≡ Ok source → IsSource source
-source_is name file source is = by (is_built_in name) is
+rightly : (bytes : List ℕ) (spelled : Result Declaration DeclFault) → accepted bytes ≡ spelled → IsRightly spelled
+rightly bytes (Ok decl) is = accepted_is bytes decl is
+rightly bytes (Err fault) is = tt
+
+spelled_is : (name : List ℕ) (answer : Answer) (spelled : Result Declaration DeclFault) → spelled_in name answer ≡ Ok spelled → IsRightly spelled
+spelled_is name answer spelled is = by (is_built_in name) is
   where
-    named : (o : Option Declaration) → built_in_of name ≡ o → option_map_or (λ d. (let given : Caused Source = Ok (BuiltIn d) in given)) o (Err (causes.Shelf false faults.Missing)) ≡ Ok source → IsSource source
-    named None none is = absurd (let never : ⊥ = cc in never)
-    named (Some decl) some is = let same : BuiltIn decl ≡ source = cc in subst IsSource same (known name decl some)
+    built_in : (o : Option Declaration) → built_in_of name ≡ o → option_map_or (λ d. (let given : Caused (Result Declaration DeclFault) = Ok (Ok d) in given)) o (Err (causes.Shelf false faults.Missing)) ≡ Ok spelled → IsRightly spelled
+    built_in None none is = absurd (let never : ⊥ = cc in never)
+    built_in (Some decl) some is = let same : the_ok decl ≡ spelled = cc in subst IsRightly same (known name decl some)
 
-    taken : (given : Caused (List ℕ)) → (given >>= (λ bytes. Ok (Bytes bytes))) ≡ Ok source → IsSource source
-    taken (Ok bytes) is = let same : Bytes bytes ≡ source = cc in subst IsSource same tt
+    taken : (given : Caused (List ℕ)) → (given >>= (λ bytes. Ok (accepted bytes))) ≡ Ok spelled → IsRightly spelled
+    taken (Ok bytes) is = rightly bytes spelled (inner (accepted bytes) spelled is)
     taken (Err cause) is = absurd (let never : ⊥ = cc in never)
 
-    by : (t : Bool) → (if t then option_map_or (λ d. (let given : Caused Source = Ok (BuiltIn d) in given)) (built_in_of name) (Err (causes.Shelf false faults.Missing)) else bytes_within false most_declaration_bytes file >>= (λ bytes. Ok (Bytes bytes))) ≡ Ok source
-        → IsSource source
-    by true is = named (built_in_of name) refl is
-    by false is = taken (bytes_within false most_declaration_bytes file) is
+    by : (t : Bool) → (if t then option_map_or (λ d. (let given : Caused (Result Declaration DeclFault) = Ok (Ok d) in given)) (built_in_of name) (Err (causes.Shelf false faults.Missing)) else bytes_of false answer >>= (λ bytes. Ok (accepted bytes))) ≡ Ok spelled
+        → IsRightly spelled
+    by true is = built_in (built_in_of name) refl is
+    by false is = taken (bytes_of false answer) is
 
-declared_is : (source : Source) (decl : Declaration) → IsSource source → declared_by source ≡ Ok decl → IsAccepted decl
-declared_is (BuiltIn d) decl right is = let same : d ≡ decl = cc in subst IsAccepted same right
-declared_is (Bytes bytes) decl right is = by (accepted bytes) refl is
-  where
-    by : (answer : Result Declaration DeclFault) → accepted bytes ≡ answer → unless_refused answer ≡ Ok decl → IsAccepted decl
-    by (Ok d) read is = let same : d ≡ decl = cc in accepted_is bytes decl (read ∙ ap (λ (x : Declaration). let a : Result Declaration DeclFault = Ok x in a) same)
-    by (Err fault) read is = absurd (let never : ⊥ = cc in never)
+declared_is : (spelled : Result Declaration DeclFault) (decl : Declaration) → IsRightly spelled → unless_refused spelled ≡ Ok decl → IsAccepted decl
+declared_is (Ok d) decl right is = let same : d ≡ decl = cc in subst IsAccepted same right
+declared_is (Err fault) decl right is = absurd (let never : ⊥ = cc in never)
 
 -- a run over one site
 
@@ -92,18 +100,18 @@ run_is decl bytes work right is = by (decl.sites == 1) refl is
     by true one is = read (eqb-true decl.sites 1 one) (script_of decl bytes) refl is
     by false many is = absurd (let never : ⊥ = cc in never)
 
-pub work_is : (asked : AskedOf) (decl_file script_file : Option (List ℕ)) (work : Work) → work_of asked decl_file script_file ≡ Ok work → IsRight work
-work_is asked decl_file script_file work is =
-    let c : Came (source_of asked.decl decl_file) (source_work asked.script script_file) work = came (source_of asked.decl decl_file) (source_work asked.script script_file) work is in
-    by asked.script c.first (source_is asked.decl decl_file c.first c.is) c.rest
+pub work_is : (asked : AskedOf) (answers : Answers) (work : Work) → work_of asked answers ≡ Ok work → IsRight work
+work_is asked answers work is =
+    let c : Came (spelled_in asked.decl answers.decl) (work_on asked.script answers.script) work = came (spelled_in asked.decl answers.decl) (work_on asked.script answers.script) work is in
+    by asked.script c.first (spelled_is asked.decl answers.decl c.first c.is) c.rest
   where
-    by : (script : Option (List ℕ)) (source : Source) → IsSource source → source_work script script_file source ≡ Ok work → IsRight work
-    by None source right is =
-        let d : Came (declared_by source) (λ decl. Ok (Accept decl)) work = came (declared_by source) (λ decl. Ok (Accept decl)) work is in
+    by : (script : Option (List ℕ)) (spelled : Result Declaration DeclFault) → IsRightly spelled → work_on script answers.script spelled ≡ Ok work → IsRight work
+    by None spelled right is =
+        let d : Came (unless_refused spelled) (λ decl. Ok (Accept decl)) work = came (unless_refused spelled) (λ decl. Ok (Accept decl)) work is in
         let same : Accept d.first ≡ work = let e = d.rest in cc in
-        subst IsRight same (declared_is source d.first right d.is)
-    by (Some name) source right is =
-        let b : Came (bytes_within true 1048576 script_file) (λ bytes. declared_by source >>= (λ decl. run_of decl bytes)) work =
-        came (bytes_within true 1048576 script_file) (λ bytes. declared_by source >>= (λ decl. run_of decl bytes)) work is in
-        let d : Came (declared_by source) (λ decl. run_of decl b.first) work = came (declared_by source) (λ decl. run_of decl b.first) work b.rest in
-        run_is d.first b.first work (declared_is source d.first right d.is) d.rest
+        subst IsRight same (declared_is spelled d.first right d.is)
+    by (Some name) spelled right is =
+        let b : Came (bytes_of true answers.script) (λ bytes. unless_refused spelled >>= (λ decl. run_of decl bytes)) work =
+        came (bytes_of true answers.script) (λ bytes. unless_refused spelled >>= (λ decl. run_of decl bytes)) work is in
+        let d : Came (unless_refused spelled) (λ decl. run_of decl b.first) work = came (unless_refused spelled) (λ decl. run_of decl b.first) work b.rest in
+        run_is d.first b.first work (declared_is spelled d.first right d.is) d.rest

@@ -1,12 +1,9 @@
 -- The loop's invariant and its answers, in terms of its fields.
-use Rattle.std.specs.Prelude.{◌≡◌, ℕ, ◌<◌, ◌≤◌, ◌+◌, ◌-◌, ◌^◌, min, ◌++◌, false, List, [], ◌∷◌, Option, Some, None, length}
+use Rattle.std.specs.Prelude.{◌≡◌, ℕ, ◌<◌, ◌≤◌, ◌+◌, ◌++◌, false, List, [], ◌∷◌, length}
 use Rattle.qc_decl.specs.declared.declaration.Declaration.{Declaration}
 use Rattle.qc_msg.specs.declared.message.Envelope.{Envelope}
 use Rattle.qc_msg.specs.declared.step.Step.{Step}
 use Rattle.qc_msg.specs.declared.step.Turn.{Turn}
-use Rattle.qc_msg.specs.declared.step.What.{What}
-use Rattle.qc_msg.specs.declared.step.What.TheVariants.{Steps, Operations, Carried}
-use Rattle.qc_msg.specs.Counts.{operations_of, carried_of}
 use Rattle.qc_msg.specs.Mail.{addressed, envelopes}
 use Rattle.qc_msg.specs.Steps.{Entry, by, marked, posted}
 use Rattle.qc_script.specs.declared.script.Script.{Script}
@@ -16,10 +13,13 @@ use Rattle.qc_top.specs.declared.engine.Next.TheVariants as next
 use Rattle.qc_top.specs.declared.engine.End.{End}
 use Rattle.qc_top.specs.declared.engine.End.TheVariants as end
 use Rattle.qc_top.specs.Engine.{IsIdle, Stands}
+use Rattle.qc_top.specs.Full.{HasReached, IsBelow, before_last_event}
 
 -- the loop stands at the end of its history
 abbrev pub IsAt : Declaration → Script → Engine → Type 0
-IsAt decl script e = Stands decl script e.history e.site e.front e.site_box.items e.front_box.items e.orders.items e.busy e.last_phase e.sent
+IsAt decl script e =
+    Stands decl script e.history e.site e.front e.site_box.items e.front_box.items e.orders.items e.busy e.last_phase
+    e.sent
 
 -- nothing is ready
 pub record IsQuiet (e : Engine) : Type 0 where
@@ -41,8 +41,8 @@ IsSentFirst [] others = ⊥
 IsSentFirst (first ∷ rest) [] = Unit {0}
 IsSentFirst (first ∷ rest) (second ∷ others) = first.number ≤ second.number
 
--- What comes next, exactly: of two actors for which a message waits the one whose first was sent first; where no message
--- waits, a command that may be called; else the next phase; else nothing.
+-- What comes next, exactly: of two actors for which a message waits the one whose first was sent first; where no
+-- message waits, a command that may be called; else the next phase; else nothing.
 abbrev pub IsNext : Script → Engine → Next → Type 0
 IsNext script e next.Site = IsSentFirst e.site_box.items e.front_box.items
 IsNext script e next.Message = IsSentFirst e.front_box.items e.site_box.items
@@ -62,39 +62,11 @@ pub record IsPosted (old new : Engine) (client actor : ℕ) (input : Step) (turn
   pub busy : new.busy ≡ old.busy
   pub last_phase : new.last_phase ≡ old.last_phase
 
--- the limits of a run
-
-abbrev pub limit_of : What → ℕ
-limit_of Steps = 262144
-limit_of Operations = 1024
-limit_of Carried = 8388608
-
--- the number that is told of a quantity: itself, and at most what 32 bits hold where it isn't the steps
-abbrev pub number_of : What → List Entry → ℕ
-number_of Steps h = length h
-number_of Operations h = min (operations_of h) (2 ^ 32 - 1)
-number_of Carried h = min (carried_of h) (2 ^ 32 - 1)
-
--- the quantities that are tested before this one are below their limits
-abbrev pub IsFirst : What → List Entry → Type 0
-IsFirst Steps h = Unit {0}
-IsFirst Operations h = length h < 262144
-IsFirst Carried h = (length h < 262144) × (operations_of h < 1024)
-
-pub record IsBelow (h : List Entry) : Type 0 where
-  pub steps : length h < 262144
-  pub operations : operations_of h < 1024
-  pub carried : carried_of h < 8388608
-
--- a quantity reached its limit, the first of those that did, and this is its number
-pub record HasReached (what : What) (number : ℕ) (h : List Entry) : Type 0 where
-  pub limit : limit_of what ≤ number
-  pub number_is : number ≡ number_of what h
-  pub first : IsFirst what h
-
-abbrev pub IsReached : Option (What × ℕ) → List Entry → Type 0
-IsReached None h = IsBelow h
-IsReached (Some full) h = HasReached full.0 full.1 h
+-- the loop has made one event more
+pub record IsLater (decl : Declaration) (script : Script) (old new : Engine) : Type 0 where
+  pub at : IsAt decl script new
+  pub longer : length old.history < length new.history
+  pub event : before_last_event new.history ≡ old.history
 
 -- how the loop ended
 abbrev pub IsEnd : End → List Entry → Type 0

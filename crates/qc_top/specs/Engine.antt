@@ -29,9 +29,10 @@ pub record AsksFirst (decl : Declaration) (script : Script) : Type 0 where
 abbrev pub IsFromFirst : Envelope → Type 0
 IsFromFirst e = e.from ≡ 1
 
--- A run without open inputs, the states of the site and the first client, what waits for each, the commands that are left,
--- whether one runs, the last phase, and how many messages were sent. Nothing waits for the other clients.
-pub record Stands (decl : Declaration) (script : Script) (h : List Entry) (site : SiteState) (front : Front) (site_box front_box : List Envelope) (left : List Command) (busy : Bool) (last_phase sent : ℕ) : Type 0 where
+-- A run without open inputs, the states of the site and the first client, what waits for each, the commands that are
+-- left, whether one runs, the last phase, and how many messages were sent. Nothing waits for the other clients.
+pub record Stands (decl : Declaration) (script : Script) (h : List Entry) (site : SiteState) (front : Front)
+    (site_box front_box : List Envelope) (left : List Command) (busy : Bool) (last_phase sent : ℕ) : Type 0 where
   pub first : AsksFirst decl script
   pub runs : Runs (IsLawful decl) decl script h (replicate (actors decl) false)
   pub site_is : (site_after 0 (deeds 0 [] h)).site ≡ site

@@ -1,4 +1,4 @@
--- What the top call leaves: a run of the words' script and its text, or a word on a declaration, or a cause that is due.
+-- What the top call leaves: a run of the words' script and its text, a word on a declaration, or a cause that is due.
 use Rattle.std.specs.Prelude.{◌≡◌, ℕ, Bool, ◌++◌, List, [], Option, Some, None, Ok, Err, MatchOption, ◌⊎◌}
 use Rattle.qc_core.specs.Atomic.{Atomic}
 use Rattle.qc_core.specs.Conduct.{IsRun}
@@ -9,16 +9,18 @@ use Rattle.qc_decl.specs.Accepted.{IsAccepted}
 use Rattle.qc_decl.specs.declared.declaration.Declaration.{Declaration}
 use Rattle.qc_msg.specs.Steps.{Entry}
 use Rattle.qc_outside.specs.declared.shelf.ShelfFault.TheVariants as faults
-use Rattle.qc_outside.specs.Shelf.{Files}
+use Rattle.qc_outside.specs.Shelf.{Answer, Files}
 use Rattle.qc_report.specs.Declarations.{accepted_text_of}
 use Rattle.qc_report.specs.declared.cause.Cause.{Cause}
 use Rattle.qc_report.specs.declared.cause.Cause.TheVariants as causes
 use Rattle.qc_report.specs.Text.{text_of}
 use Rattle.qc_script.specs.declared.script.Script.{Script}
-use Rattle.qc_top.specs.At.{IsBelow, HasReached}
+use Rattle.qc_top.specs.Full.{IsBelow, HasReached}
 use Rattle.qc_top.specs.Engine.{AsksFirst}
-use Rattle.qc_top.specs.Words.{asked}
-use Rattle.qc_top.specs.Work.{Caused, IsFault, OverFiles}
+use Rattle.qc_top.specs.Answers.{AreAnswers}
+use Rattle.qc_top.specs.Words.{AskedOf, asked}
+use Rattle.qc_top.specs.Work.{Caused, IsBlamed, work_of}
+use Rattle.qc_top.specs.declared.answers.Answers.{Answers}
 use Rattle.qc_top.specs.declared.work.Work.{Work}
 use Rattle.qc_top.specs.declared.work.Work.TheVariants.{Accept, Run}
 
@@ -40,7 +42,11 @@ IsPrefixOf old text new = (front : List ℕ) × (back : List ℕ) × (front ++ b
 abbrev pub Printed : List ℕ → List ℕ → Cause → List ℕ → Type 0
 Printed text old causes.Done new = new ≡ old ++ text
 Printed text old causes.Sink new = IsPrefixOf old text new
-Printed text old _ new = new ≡ old
+Printed text old causes.OutOfMemory new = new ≡ old
+Printed text old causes.NotBuilt new = new ≡ old
+Printed text old (causes.Shelf script fault) new = new ≡ old
+Printed text old (causes.Declaration fault) new = new ≡ old
+Printed text old (causes.Full what number) new = new ≡ old
 
 abbrev pub PrintsBetween : List ℕ → Option (List ℕ) → Cause → Option (List ℕ) → Type 0
 PrintsBetween text (Some old) cause (Some new) = Printed text old cause new
@@ -52,35 +58,52 @@ PrintsBetween text (Some old) cause None = ⊥
 abbrev pub OnPrinted : Cause → Type 0 → Type 0
 OnPrinted causes.Done P = P
 OnPrinted causes.Sink P = P
-OnPrinted _ P = Unit {0}
+OnPrinted causes.OutOfMemory P = Unit {0}
+OnPrinted causes.NotBuilt P = Unit {0}
+OnPrinted (causes.Shelf script fault) P = Unit {0}
+OnPrinted (causes.Declaration fault) P = Unit {0}
+OnPrinted (causes.Full what number) P = Unit {0}
 
--- a declaration was told of
+-- the causes with which a call may end that tells of a declaration
 abbrev pub IsTold : Cause → Type 0
 IsTold causes.Done = Unit {0}
 IsTold causes.Sink = Unit {0}
-IsTold cause = IsFault cause
+IsTold causes.OutOfMemory = Unit {0}
+IsTold causes.NotBuilt = ⊥
+IsTold (causes.Shelf script fault) = ⊥
+IsTold (causes.Declaration fault) = ⊥
+IsTold (causes.Full what number) = ⊥
 
--- a script was run
+-- the causes with which a call may end that runs a script
 abbrev pub IsRan : Cause → Type 0
 IsRan (causes.Full what number) = Unit {0}
-IsRan cause = IsTold cause
+IsRan causes.Done = Unit {0}
+IsRan causes.Sink = Unit {0}
+IsRan causes.OutOfMemory = Unit {0}
+IsRan causes.NotBuilt = ⊥
+IsRan (causes.Shelf script fault) = ⊥
+IsRan (causes.Declaration fault) = ⊥
 
--- What a call leaves that had nothing to do, for this cause: nothing happened, and nothing was printed.
-pub record LeavesNothing (why : Cause) (old : Option (List ℕ)) (cause : Cause) (new : Option (List ℕ)) (h : List Entry) : Type 0 where
-  pub due : (cause ≡ why) ⊎ IsFault cause
+-- What a call leaves that had nothing to do, for this cause: nothing happened, and nothing was printed. Memory may be
+-- wanting before the cause is known.
+pub record LeavesNothing (why : Cause) (old : Option (List ℕ)) (cause : Cause) (new : Option (List ℕ))
+    (h : List Entry) : Type 0 where
+  pub due : (cause ≡ why) ⊎ (cause ≡ causes.OutOfMemory)
   pub history : h ≡ []
   pub text : new ≡ old
 
 -- What a call leaves that tells of a declaration: it is accepted, and this is printed.
-pub record LeavesWord (decl : Declaration) (old : Option (List ℕ)) (cause : Cause) (new : Option (List ℕ)) (h : List Entry) : Type 0 where
+pub record LeavesWord (decl : Declaration) (old : Option (List ℕ)) (cause : Cause) (new : Option (List ℕ))
+    (h : List Entry) : Type 0 where
   pub accepted : IsAccepted decl
   pub due : IsTold cause
   pub history : h ≡ []
   pub text : PrintsBetween (accepted_text_of decl) old cause new
 
--- What a call leaves that runs a script over a declaration: a run, a whole one where its text is printed, and that text. Each
--- reply is due, and legal on one copy; the history is atomic where it keeps its records.
-pub record LeavesRun (decl : Declaration) (script : Script) (old : Option (List ℕ)) (cause : Cause) (new : Option (List ℕ)) (h : List Entry) : Type 0 where
+-- What a call leaves that runs a script over a declaration: a run, a whole one where its text is printed, and that
+-- text. Each reply is due, and legal on one copy; the history is atomic where it keeps its records.
+pub record LeavesRun (decl : Declaration) (script : Script) (old : Option (List ℕ)) (cause : Cause)
+    (new : Option (List ℕ)) (h : List Entry) : Type 0 where
   pub accepted : IsAccepted decl
   pub due : IsRan cause
   pub run : IsRun decl script h
@@ -95,15 +118,28 @@ Leaves (Err why) old cause new h = LeavesNothing why old cause new h
 Leaves (Ok (Accept decl)) old cause new h = LeavesWord decl old cause new h
 Leaves (Ok (Run decl script)) old cause new h = LeavesRun decl script old cause new h
 
--- A fact about the work that the words come to. Words of another form come to none.
-abbrev pub OverWords : (Caused Work → Type 0) → Option Files → List (List ℕ) → Type 0
-OverWords P files words = MatchOption (asked words) (P (Err causes.NotBuilt)) (λ a. OverFiles P files a)
+-- What a call leaves whose words ask this, over any shelf: there are the answers that the shelf gave, and all is said
+-- of these bytes and faults.
+pub record LeavesAsked {S : Type 0} (gives : S → List ℕ → ℕ → Answer → S → Type 0) (files : Option Files)
+    (asked : AskedOf) (before after : S) (old : Option (List ℕ)) (cause : Cause) (new : Option (List ℕ))
+    (h : List Entry) : Type 0 where
+  pub answers : Answers
+  pub given : AreAnswers gives files asked before after answers
+  pub leaves : Leaves (work_of asked answers) old cause new h
+  pub blame : (script : Bool) → cause ≡ causes.Shelf script faults.Failed → IsBlamed asked answers script
 
--- the shelf isn't blamed for a failure
-abbrev pub IsNoShelf : Cause → Type 0
-IsNoShelf cause = (script : Bool) → cause ≡ causes.Shelf script faults.Failed → ⊥
+-- the same of words; words of another form come to nothing
+abbrev pub LeavesWords : {S : Type 0} → (S → List ℕ → ℕ → Answer → S → Type 0) → Option Files → List (List ℕ)
+    → S → S → Option (List ℕ) → Cause → Option (List ℕ) → List Entry → Type 0
+LeavesWords gives files words before after old cause new h =
+    MatchOption (asked words) (LeavesNothing causes.NotBuilt old cause new h)
+    (λ a. LeavesAsked gives files a before after old cause new h)
 
 -- work that can be done: what the words come to is such work
 abbrev pub IsRight : Work → Type 0
 IsRight (Accept decl) = IsAccepted decl
 IsRight (Run decl script) = IsAccepted decl × AsksFirst decl script
+
+-- the shelf isn't blamed for a failure
+abbrev pub IsNoShelf : Cause → Type 0
+IsNoShelf cause = (script : Bool) → cause ≡ causes.Shelf script faults.Failed → ⊥

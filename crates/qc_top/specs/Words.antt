@@ -1,5 +1,6 @@
 -- What the program's words say.
-use Rattle.std.specs.Prelude.{ℕ, Bool, false, ◌==◌, ◌&&◌, not, List, [], ◌∷◌, Option, Some, None, cond, codes, map, option_map}
+use Rattle.std.specs.Prelude.{ℕ, Bool, false, ◌==◌, ◌&&◌, not, List, [], ◌∷◌, Option, Some, None, cond, codes, map}
+use Rattle.std.specs.Prelude.{option_map}
 use Rattle.std.specs.Borrow.{Bor}
 use Rattle.std.specs.Str.{bytes_eq}
 use Rattle.qc_top.specs.declared.words.Asked.{Asked}
@@ -23,7 +24,9 @@ asked_in a = record { decl = a.decl.now; script = option_map (λ s. s.now) a.scr
 
 -- the words `check DECL` and `run DECL SCRIPT`
 abbrev pub asked : List (List ℕ) → Option AskedOf
-asked (command ∷ decl ∷ []) = cond (bytes_eq command (codes "check") && is_name decl) (Some (record { decl = decl; script = None })) None
+asked (command ∷ decl ∷ []) =
+    cond (bytes_eq command (codes "check") && is_name decl) (Some (record { decl = decl; script = None })) None
 asked (command ∷ decl ∷ script ∷ []) =
-    cond (bytes_eq command (codes "run") && (is_name decl && is_name script)) (Some (record { decl = decl; script = Some script })) None
+    cond (bytes_eq command (codes "run") && (is_name decl && is_name script))
+    (Some (record { decl = decl; script = Some script })) None
 asked _ = None

@@ -7,15 +7,14 @@
 //! loop's invariant, `IsAt`, says that the history is a run without open
 //! inputs, and that the loop's state is what this run shows.
 
-ghost use Rattle.std.specs.Prelude.{◌≡◌, ◌<◌, ◌≤◌, ◌+◌, ◌^◌, ◌++◌, [], ◌∷◌, true, false, IfOk, OnOk, OnErr, length, Ok};
+ghost use Rattle.std.specs.Prelude.{◌≡◌, ◌<◌, ◌+◌, ◌^◌, ◌++◌, [], ◌∷◌, true, false, IfOk, OnOk, OnErr, length, Ok};
 ghost use Rattle.qc_core.specs.Conduct.{IsRun};
 ghost use Rattle.qc_core.specs.Whole.{IsWhole};
-ghost use Rattle.qc_front.specs.State.{new_front};
-ghost use Rattle.qc_site.specs.Site.{new_site};
 ghost use Rattle.qc_script.specs.Ready.{asked_of};
 ghost use Rattle.qc_script.proofs.Grows.{busy_after};
 ghost use Rattle.qc_top.specs.Engine.{AsksFirst};
-ghost use Rattle.qc_top.specs.At.{IsAt, IsQuiet, IsCallable, IsNext, IsEnd, IsReached, IsPosted};
+ghost use Rattle.qc_top.specs.At.{IsAt, IsQuiet, IsCallable, IsNext, IsEnd, IsPosted, IsLater};
+ghost use Rattle.qc_top.specs.Full.{IsBelow, IsReached, before_last_event};
 
 use qc_decl::Declaration;
 use qc_front::Front;
@@ -81,7 +80,8 @@ impl Engine {
     /// The loop before its first event.
     pub fn new(alloc: Global, decl: &Declaration, script: &Script) -> Result<Engine, OutOfMemory>
         requires { AsksFirst decl.now script.now }
-        ensures { IfOk result (λ engine. IsAt decl.now script.now engine) }
+        ensures at { IfOk result (λ engine. IsAt decl.now script.now engine) }
+        ensures begun { IfOk result (λ engine. engine.history ≡ []) }
     {
         Ok(Engine {
             history: History::new(alloc),
@@ -149,8 +149,7 @@ impl Engine {
         requires at { IsAt decl.now script.now self.old }
         requires next { 0 < length self.old.site_box.items }
         requires below { length self.old.history < 262144 }
-        ensures ok { OnOk result (IsAt decl.now script.now self.new) }
-        ensures longer { OnOk result (length self.old.history < length self.new.history) }
+        ensures ok { OnOk result (IsLater decl.now script.now self.old self.new) }
         ensures err { OnErr result (self.new.history ≡ self.old.history) }
     {
         let Some(envelope) = self.site_box.pop_front() else {
@@ -178,8 +177,7 @@ impl Engine {
         requires at { IsAt decl.now script.now self.old }
         requires next { 0 < length self.old.front_box.items }
         requires below { length self.old.history < 262144 }
-        ensures ok { OnOk result (IsAt decl.now script.now self.new) }
-        ensures longer { OnOk result (length self.old.history < length self.new.history) }
+        ensures ok { OnOk result (IsLater decl.now script.now self.old self.new) }
         ensures err { OnErr result (self.new.history ≡ self.old.history) }
     {
         let Some(envelope) = self.front_box.pop_front() else {
@@ -210,8 +208,7 @@ impl Engine {
         requires at { IsAt decl.now script.now self.old }
         requires next { IsCallable self.old }
         requires below { length self.old.history < 262144 }
-        ensures ok { OnOk result (IsAt decl.now script.now self.new) }
-        ensures longer { OnOk result (length self.old.history < length self.new.history) }
+        ensures ok { OnOk result (IsLater decl.now script.now self.old self.new) }
         ensures err { OnErr result (self.new.history ≡ self.old.history) }
     {
         let Some(command) = self.orders.pop_front() else {
@@ -235,8 +232,7 @@ impl Engine {
         requires quiet { IsQuiet self.old }
         requires next { self.old.last_phase < length script.now.phases }
         requires below { length self.old.history < 262144 }
-        ensures ok { OnOk result (IsAt decl.now script.now self.new) }
-        ensures longer { OnOk result (length self.old.history < length self.new.history) }
+        ensures ok { OnOk result (IsLater decl.now script.now self.old self.new) }
         ensures err { OnErr result (self.new.history ≡ self.old.history) }
     {
         let phase = &script.phases.items()[self.last_phase as usize];
@@ -290,10 +286,9 @@ impl Engine {
     ) -> Result<bool, OutOfMemory>
         requires at { IsAt decl.now script.now self.old }
         requires below { length self.old.history < 262144 }
-        ensures ok { OnOk result (IsAt decl.now script.now self.new) }
-        ensures longer { result ≡ Ok true → length self.old.history < length self.new.history }
+        ensures more { result ≡ Ok true → IsLater decl.now script.now self.old self.new }
         ensures end { result ≡ Ok false → IsNext script.now self.new Next.Nothing }
-        ensures same { result ≡ Ok false → self.new.history ≡ self.old.history }
+        ensures same { result ≡ Ok false → self.new ≡ self.old }
         ensures err { OnErr result (self.new.history ≡ self.old.history) }
     {
         match self.next(script) {
@@ -325,12 +320,15 @@ impl Engine {
     }
 
     /// Runs the script to its end, to a limit, or to want of memory. What
-    /// happened is a run in each case, and a whole run at the script's end.
+    /// happened is a run in each case, and a whole run at the script's end. The
+    /// limits are tested before each event.
     pub fn run(&mut self, alloc: Global, decl: &Declaration, script: &Script) -> End
         requires at { IsAt decl.now script.now self.old }
+        requires before { IsBelow (before_last_event self.old.history) }
         ensures run { IsRun decl.now script.now self.new.history }
         ensures whole { result ≡ End.Quiet → IsWhole decl.now script.now self.new.history }
         ensures end { IsEnd result self.new.history }
+        ensures before { IsBelow (before_last_event self.new.history) }
     {
         'events: loop {
             if let Some((what, number)) = self.full() {

@@ -1,7 +1,6 @@
 //! The top call.
 
 ghost use Rattle.std.specs.Prelude.{◌≡◌, ◌-◌, Bool, [], Err, None, Ok};
-ghost use Rattle.qc_core.specs.Conduct.{IsRun};
 ghost use Rattle.qc_core.specs.Kept.{Kept};
 ghost use Rattle.qc_core.specs.Spent.{Spent};
 ghost use Rattle.qc_core.specs.Whole.{IsWhole};
@@ -10,15 +9,18 @@ ghost use Rattle.qc_outside.specs.Causes.{Rose};
 ghost use Rattle.qc_report.specs.Declarations.{accepted_text_of};
 ghost use Rattle.qc_report.specs.Causes.{status_of};
 ghost use Rattle.qc_report.specs.Text.{text_of};
-ghost use Rattle.qc_top.specs.At.{IsBelow, IsEnd};
+ghost use Rattle.qc_top.specs.At.{IsEnd};
 ghost use Rattle.qc_top.specs.Engine.{AsksFirst};
-ghost use Rattle.qc_top.specs.Top.{IsFullCause, IsNoShelf, IsRan, IsRight, IsTold, Leaves, LeavesRun, LeavesWord, OnPrinted, OverWords, PrintsBetween};
-ghost use Rattle.qc_top.specs.Words.{asked, texts_of};
-ghost use Rattle.qc_top.specs.Work.{Gives};
+ghost use Rattle.qc_top.specs.Full.{IsBelow, before_last_event};
+ghost use Rattle.qc_top.specs.Top.{IsFullCause, IsNoShelf, IsRan, IsRight, IsTold, Leaves, LeavesRun, LeavesWords};
+ghost use Rattle.qc_top.specs.Top.{OnPrinted, PrintsBetween};
+ghost use Rattle.qc_top.specs.Words.{asked, asked_in, texts_of};
+ghost use Rattle.qc_top.specs.Work.{IsBlamed, work_of};
 ghost use Rattle.qc_top.specs.declared.engine.End.TheVariants.{Quiet};
 
+use crate::answers::{Answers, answers_for};
 use crate::engine::{End, Engine};
-use crate::words::asked_by;
+use crate::words::{Asked, asked_by};
 use crate::work::{Work, work_for};
 use qc_decl::Declaration;
 use qc_msg::History;
@@ -45,7 +47,8 @@ pub struct Ended {
 /// name and says that it is accepted; `run DECL SCRIPT` runs the script of this
 /// name over it and writes the text of the run to the sink. Files are taken
 /// from the shelf; a name of a declaration that begins with `@` is that of a
-/// built-in one.
+/// built-in one. Where the shelf or the sink is blamed, its count of faults rose,
+/// or stands at the greatest number that it can tell.
 pub fn quorum_words<T, F, K, R, G>(
     _rt: &T,
     alloc: Global,
@@ -61,24 +64,43 @@ where
     K: Sink,
     R: Rack,
     G: Gate,
-    ensures leaves { OverWords
-        (λ given. Leaves given (K.taken sink.old) result.cause (K.taken sink.new) result.history)
-        (F.files shelf.old) (texts_of words.now) }
+    ensures leaves { LeavesWords F.gives (F.files shelf.old) (texts_of words.now) shelf.old shelf.new
+        (K.taken sink.old) result.cause (K.taken sink.new) result.history }
     ensures words { asked (texts_of words.now) ≡ None → result.cause ≡ Cause.NotBuilt }
     ensures kept { Kept result.history }
     ensures spent { Spent result.history (R.faults _rack.new - R.faults _rack.old) }
     ensures status { result.status ≡ status_of result.cause }
     ensures full { IsFullCause result.cause result.history }
+    ensures before { IsBelow (before_last_event result.history) }
     ensures files { F.files shelf.new ≡ F.files shelf.old }
-    ensures shelf { (script : Bool) → result.cause ≡ Cause.Shelf script ShelfFault.Failed → Rose (F.faults shelf.old) (F.faults shelf.new) }
+    ensures shelf { (script : Bool) → result.cause ≡ Cause.Shelf script ShelfFault.Failed
+        → Rose (F.faults shelf.old) (F.faults shelf.new) }
     ensures sink { result.cause ≡ Cause.Sink → Rose (K.faults sink.old) (K.faults sink.new) }
     ensures rack { R.faults _rack.new ≡ R.faults _rack.old }
 {
     let Some(asked) = asked_by(words) else {
         return without_run(alloc, Cause::NotBuilt);
     };
-    match work_for(alloc, asked, shelf) {
-        Ok(work) => perform(alloc, &work, sink),
+    let answers = answers_for(asked, shelf);
+    perform(alloc, asked, answers, sink)
+}
+
+/// Does what the words ask, over the bytes or faults that were handed over for
+/// their files, whoever gave these.
+pub fn perform<K: Sink>(alloc: Global, asked: Asked<'_>, answers: Answers, sink: &mut K) -> Ended
+    ensures leaves { Leaves (work_of (asked_in asked.entry) answers)
+        (K.taken sink.old) result.cause (K.taken sink.new) result.history }
+    ensures blame { (script : Bool) → result.cause ≡ Cause.Shelf script ShelfFault.Failed
+        → IsBlamed (asked_in asked.entry) answers script }
+    ensures kept { Kept result.history }
+    ensures spent { Spent result.history 0 }
+    ensures status { result.status ≡ status_of result.cause }
+    ensures full { IsFullCause result.cause result.history }
+    ensures before { IsBelow (before_last_event result.history) }
+    ensures sink { result.cause ≡ Cause.Sink → Rose (K.faults sink.old) (K.faults sink.new) }
+{
+    match work_for(alloc, asked, answers) {
+        Ok(work) => do_work(alloc, &work, sink),
         Err(cause) => without_run(alloc, cause),
     }
 }
@@ -97,11 +119,12 @@ fn without_run(alloc: Global, cause: Cause) -> Ended
 }
 
 /// Does what is to be done.
-fn perform<K: Sink>(alloc: Global, work: &Work, sink: &mut K) -> Ended
+fn do_work<K: Sink>(alloc: Global, work: &Work, sink: &mut K) -> Ended
     requires { IsRight work.now }
     ensures leaves { Leaves (Ok work.now) (K.taken sink.old) result.cause (K.taken sink.new) result.history }
     ensures status { result.status ≡ status_of result.cause }
     ensures full { IsFullCause result.cause result.history }
+    ensures before { IsBelow (before_last_event result.history) }
     ensures shelf { IsNoShelf result.cause }
     ensures sink { result.cause ≡ Cause.Sink → Rose (K.faults sink.old) (K.faults sink.new) }
 {
@@ -131,6 +154,7 @@ fn run<K: Sink>(alloc: Global, decl: &Declaration, script: &Script, sink: &mut K
     ensures leaves { LeavesRun decl.now script.now (K.taken sink.old) result.cause (K.taken sink.new) result.history }
     ensures status { result.status ≡ status_of result.cause }
     ensures full { IsFullCause result.cause result.history }
+    ensures before { IsBelow (before_last_event result.history) }
     ensures shelf { IsNoShelf result.cause }
     ensures sink { result.cause ≡ Cause.Sink → Rose (K.faults sink.old) (K.faults sink.new) }
 {
@@ -161,7 +185,8 @@ fn conclude<K: Sink>(
     requires whole { end ≡ Quiet → IsWhole decl.now script.now history.now }
     ensures full { IsFullCause result history.now }
     ensures whole { OnPrinted result (IsWhole decl.now script.now history.now) }
-    ensures text { PrintsBetween (text_of decl.now script.now history.now) (K.taken sink.old) result (K.taken sink.new) }
+    ensures text { PrintsBetween (text_of decl.now script.now history.now)
+        (K.taken sink.old) result (K.taken sink.new) }
     ensures ran { IsRan result }
     ensures shelf { IsNoShelf result }
     ensures sink { result ≡ Cause.Sink → Rose (K.faults sink.old) (K.faults sink.new) }
@@ -182,7 +207,8 @@ fn print<K: Sink>(
     sink: &mut K,
 ) -> Cause
     ensures told { IsTold result }
-    ensures text { PrintsBetween (text_of decl.now script.now history.now) (K.taken sink.old) result (K.taken sink.new) }
+    ensures text { PrintsBetween (text_of decl.now script.now history.now)
+        (K.taken sink.old) result (K.taken sink.new) }
     ensures shelf { IsNoShelf result }
     ensures sink { result ≡ Cause.Sink → Rose (K.faults sink.old) (K.faults sink.new) }
 {

@@ -6,14 +6,16 @@ ghost use Rattle.qc_top.specs.Words.{asked, asked_in, is_name, texts_of};
 /// What the words ask of the declaration of this name: the run of the script of
 /// this name, or else whether it is accepted.
 #[derive(Clone, Copy)]
-pub(crate) struct Asked<'a> {
-    pub(crate) decl: &'a str,
-    pub(crate) script: Option<&'a str>,
+pub struct Asked<'a> {
+    /// The declaration's name.
+    pub decl: &'a str,
+    /// The script's, where its run is asked.
+    pub script: Option<&'a str>,
 }
 
 /// What the words ask, `check DECL` or `run DECL SCRIPT`, where they have this
 /// form. Neither name is empty or begins with `-`.
-pub(crate) fn asked_by<'a>(words: &[&'a str]) -> Option<Asked<'a>>
+pub fn asked_by<'a>(words: &[&'a str]) -> Option<Asked<'a>>
     ensures { option_map asked_in result ≡ asked (texts_of words.now) }
 {
     match words {

@@ -2,11 +2,13 @@
 //!
 //! All that matters is in `qc_top`. Here the words, the files and standard
 //! output of the system are handed in, and the cause of a status other than 0
-//! is told on standard error.
+//! is told on standard error, whatever that takes.
 #![tactic(auto)]
 
 ghost use Rattle.std.specs.Prelude.{◌≡◌};
 ghost use Rattle.std.specs.IoError.{error_kind};
+ghost use Rattle.std.specs.Process.{exit_status};
+ghost use Rattle.qc_report.specs.Causes.{status_of};
 ghost use Rattle.quorum.specs.Words.{cause_of_kind};
 
 mod outside;
@@ -68,13 +70,21 @@ where
     .cause
 }
 
-fn main(rt: HostRuntime) -> io::Result<ExitCode> {
+/// Tells a cause on standard error, and gives the program's exit, which is the
+/// cause's also where standard error takes nothing of it or only a part.
+fn exit_for(rt: &HostRuntime, cause: &Cause) -> ExitCode
+    ensures { exit_status result ≡ status_of cause.now }
+{
+    if let Ok(text) = cause_text(rt.alloc(), cause) {
+        let _taken = rt.stderr().write_all(text.as_slice());
+    }
+    ExitCode::from(cause.status())
+}
+
+fn main(rt: HostRuntime) -> ExitCode {
     let cause = match words_of_call(&rt) {
         Ok(words) => run(&rt, words.as_slice()),
         Err(error) => cause_of(&error),
     };
-    if let Ok(text) = cause_text(rt.alloc(), &cause) {
-        rt.stderr().write_all(text.as_slice())?;
-    }
-    Ok(ExitCode::from(cause.status()))
+    exit_for(&rt, &cause)
 }

@@ -1,4 +1,4 @@
-use Rattle.std.proofs.Common.{◌≤◌, length, ℕ, Ok, List, [], ap, sym, subst}
+use Rattle.std.proofs.Common.{◌≡◌, ◌≤◌, length, ℕ, Ok, List, [], ap, sym, subst}
 use Rattle.qc_core.proofs.WholeLaw.{is_whole}
 use Rattle.qc_core.specs.Whole.{IsQuiet, IsWhole}
 use Rattle.qc_decl.specs.declared.declaration.Declaration.{Declaration}
@@ -24,5 +24,7 @@ ends_whole decl script e st (idle, done) = is_whole decl script e.history st.run
     still = quiet decl script e.history e.site e.front e.orders.items e.busy e.last_phase e.sent empty idle.idle
 
 pub returns-in-Ok-false-clause-whole : goal.returns-in-Ok-false-clause-whole
-returns-in-Ok-false-clause-whole c =
-    λ end. ends_whole c.args.decl.now c.args.script.now c.step.new.self c.in-Ok-false.ensures.ok (c.in-Ok-false.ensures.end (ap Ok c.in-Ok-false.field-0-test))
+returns-in-Ok-false-clause-whole c = λ end.
+    (let same : c.step.new.self ≡ c.events.self = c.in-Ok-false.ensures.same (ap Ok c.in-Ok-false.field-0-test) in
+    ends_whole c.args.decl.now c.args.script.now c.step.new.self (subst (λ (e : Engine). IsAt c.args.decl.now c.args.script.now e) (sym same) c.events.invariant.0)
+    (c.in-Ok-false.ensures.end (ap Ok c.in-Ok-false.field-0-test)))

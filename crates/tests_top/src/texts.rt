@@ -3,12 +3,12 @@
 
 mod declarations;
 
-use crate::{Cause, cause_text, text};
 use qc_decl::built_in;
 use qc_entry::{Commit, Log, Op, OwnLine, Prepared, ReadLock};
 use qc_list::{List, Marked, OutOfMemory};
 use qc_msg::{Command, Entry, History, Message, Outcome, Record, Reply, Step, What};
 use qc_outside::ShelfFault;
+use qc_report::{Cause, cause_text, text};
 use qc_script::{CommandLine, PhaseLines, Script};
 use qc_stamp::{Stamp, TxId};
 use std::alloc::Global;

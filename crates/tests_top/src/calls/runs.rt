@@ -1,7 +1,7 @@
 //! Whole runs over `@one`.
 
-use crate::cause_text;
-use crate::tests::{call, prints};
+use crate::calls::{call, prints};
+use qc_top::cause_text;
 use std::alloc::Global;
 use std::test::Fail;
 

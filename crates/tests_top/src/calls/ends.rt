@@ -1,6 +1,6 @@
 //! Calls that end without a run.
 
-use crate::tests::{Ending, call, ends_with};
+use crate::calls::{Ending, call, ends_with};
 use std::alloc::Global;
 use std::test::Fail;
 

@@ -1,6 +1,6 @@
 //! Declarations of one's own: checked, refused and run.
 
-use crate::tests::{ends_with, prints};
+use crate::calls::{ends_with, prints};
 use std::alloc::Global;
 use std::test::Fail;
 

@@ -1,12 +1,12 @@
 //! The text of each cause for which a declaration is refused, and those of the
 //! built-in declarations, which are accepted.
 
-use crate::{Cause, accepted_text, cause_text};
 use qc_accept::DeclFault;
 use qc_cert::CertFault;
 use qc_decl::{Names, built_in};
 use qc_list::{List, Name, OutOfMemory, Path};
 use qc_plan::PlanFault;
+use qc_report::{Cause, accepted_text, cause_text};
 use qc_table::TableFault;
 use std::alloc::Global;
 use std::test::Fail;

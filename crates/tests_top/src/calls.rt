@@ -4,8 +4,8 @@ mod declarations;
 mod ends;
 mod runs;
 
-use crate::{Ended, cause_text, quorum_words};
 use qc_outside::{EmptyRack, MemShelf, MemSink, OpenGate};
+use qc_top::{Ended, cause_text, quorum_words};
 use std::alloc::Global;
 use std::process::Abort;
 use std::sync::Wait;
