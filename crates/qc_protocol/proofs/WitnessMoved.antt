@@ -1,0 +1,429 @@
+-- A run over two epochs: one client writes 1 at s0 and s1 and commits; the quorums are moved by the Shut answers of s0, where it is still
+-- prepared, and s1; another client reads it in epoch 2 at s1 and s2 and commits.
+use Rattle.std.proofs.Common.{◌≡◌, ℕ, zero, suc, ◌+◌, ◌<◌, ◌≤◌, Bool, true, false, IsTrue, ◌⊎◌, inl, inr, List, [], ◌∷◌, Some, refl, sym, ap, ◌∙◌, subst, arith}
+use Rattle.std.proofs.lemmas.Bool.Decides.{nat_tests}
+use Rattle.std.specs.Prelude.{nat_lt, ◌&&◌}
+use Rattle.qc_stamp.specs.declared.stamp.Stamp.{Stamp}
+use Rattle.qc_stamp.specs.declared.stamp.TxId.{TxId}
+use Rattle.qc_entry.specs.declared.line.Line.{Line}
+use Rattle.qc_entry.specs.declared.record.Commit.{Commit as CommitRecord}
+use Rattle.qc_table.specs.declared.kind.Kind.{Kind}
+use Rattle.qc_table.specs.Rules.{event, event_number, events_of}
+use Rattle.qc_decl.specs.One.{three, register_kind, register_plan}
+use Rattle.qc_onecopy.specs.Lists.{In}
+use Rattle.qc_onecopy.specs.Committed.{sorted}
+use Rattle.qc_onecopy.specs.Executed.{Executed, kind_at, own_line, committed_line}
+use Rattle.qc_protocol.specs.Site.{Item, Closes, Promise, Lock, Own, Grants, Prepares, LearnsCommit, Deed, Installs, epoch_from, shut_from, DoneRecord, empty_site, items_of, done_records, site_after}
+use Rattle.qc_protocol.specs.Names.{same_tx}
+use Rattle.qc_plan.specs.declared.plan.Plan.{Plan}
+use Rattle.qc_plan.specs.Need.{need_of}
+use Rattle.qc_decl.specs.declared.declaration.Declaration.{Declaration}
+use Rattle.qc_decl.specs.Lookup.{plan_in}
+use Rattle.qc_entry.specs.declared.line.OwnLine.{OwnLine}
+use Rattle.qc_protocol.specs.State.{TakeSnapshot, Decide, Decision, Install, MaySnapshot, IsResolved, MayDecide, Close, Snapshot, Granted, AppendRequest, YesVote, Act, Begin, Choose, SendAppend, Execute, Grant, Count, Prepare, Vote, Commit, Announce, Learn, HasGranted, IsExecutedFrom, MayGrant, HasQuorum, IsShown, state, IsRun}
+
+abbrev plan : Plan
+plan = register_plan (1 ∷ 1 ∷ 1 ∷ []) 2
+
+abbrev two : Declaration
+two = record three { plans = plan ∷ plan ∷ [] }
+
+abbrev a : TxId
+a = record { client = 0; life = 1; number = 1 }
+
+abbrev b : TxId
+b = record { client = 1; life = 1; number = 1 }
+
+abbrev write : Executed
+write = record { number = 1; op = record { object = 0; inv = 2; resp = Some 2 }; event = 3; view = []; own = [] }
+
+abbrev line : Line
+line = record { stamp = record { clock = 1; client = 0 }; tx = a; op = 1; object = 0; event = 3 }
+
+abbrev read : Executed
+read = record { number = 1; op = record { object = 0; inv = 0; resp = Some 1 }; event = 1; view = line ∷ []; own = [] }
+
+abbrev owns : List Item
+owns = Own (own_line write) ∷ []
+
+abbrev locks : List Item
+locks = Lock (record { object = 0; inv = 0 }) ∷ []
+
+abbrev request : AppendRequest
+request = record { tx = a; items = owns; view = [] }
+
+abbrev w0 : Granted
+w0 = record { tx = a; site = 0; epoch = 1; life = 1; clock = 0; before = []; items = owns; view = [] }
+
+abbrev w1 : Granted
+w1 = record { tx = a; site = 1; epoch = 1; life = 1; clock = 0; before = []; items = owns; view = [] }
+
+abbrev first : CommitRecord
+first = record { stamp = record { clock = 1; client = 0 }; tx = a; ops = write.op ∷ [] }
+
+abbrev r1 : Granted
+r1 = record { tx = b; site = 1; epoch = 2; life = 2; clock = 1; before = Grants a owns [] ∷ Prepares a ∷ LearnsCommit a first.stamp ∷ Closes ∷ Installs 2 1 (line ∷ []) ∷ []; items = locks; view = [] }
+
+abbrev r2 : Granted
+r2 = record { tx = b; site = 2; epoch = 2; life = 1; clock = 1; before = Installs 2 1 (line ∷ []) ∷ []; items = locks; view = [] }
+
+abbrev s0 : Snapshot
+s0 = record { site = 0; clock = 0; before = Grants a owns [] ∷ Prepares a ∷ Closes ∷ [] }
+
+abbrev s1 : Snapshot
+s1 = record { site = 1; clock = 1; before = Grants a owns [] ∷ Prepares a ∷ LearnsCommit a first.stamp ∷ Closes ∷ [] }
+
+abbrev moves : Decision
+moves = record { epoch = 2; clock = 1; log = line ∷ []; snapshots = s0 ∷ s1 ∷ [] }
+
+abbrev second : CommitRecord
+second = record { stamp = record { clock = 2; client = 1 }; tx = b; ops = read.op ∷ [] }
+
+abbrev acts : List Act
+acts =
+    Commit second ∷ Vote 2 b ∷ Vote 1 b ∷ Prepare b ∷ Execute b ∷ Choose b read ∷ Count r2 ∷ Count r1 ∷ Grant r2 ∷ Grant r1 ∷ Begin b 2
+    ∷ Install 2 moves ∷ Install 1 moves ∷ Decide moves ∷ TakeSnapshot s1 ∷ TakeSnapshot s0 ∷ Close 1 ∷ Close 0
+    ∷ Learn 1 (record { tx = a; stamp = Some first.stamp }) ∷ Announce a
+    ∷ Commit first ∷ Vote 1 a ∷ Vote 0 a ∷ Prepare a ∷ Execute a ∷ Count w1 ∷ Count w0 ∷ Grant w1 ∷ Grant w0 ∷ SendAppend request ∷ Choose a write ∷ Begin a 1 ∷ []
+
+the_kind : (kind : Kind) → kind_at two 0 ≡ Some kind → register_kind ≡ kind
+the_kind kind e = cc
+
+written : IsExecutedFrom two 1 [] [] a write
+written = record {
+  answered = record { kind = register_kind; typed = refl; numbered = λ resp e. (let same : 2 ≡ resp = cc in subst (λ (r : ℕ). event_number (events_of register_kind.table.rows) (event 2 r) ≡ Some 3) same refl); replies = refl; sorted = tt };
+  known = λ kind e. subst (λ (k : Kind). 2 < k.table.invs) (the_kind kind e) (omega arith);
+  numbered = refl;
+  own = refl;
+  shown = λ l h. absurd h;
+  whole = λ l s e. absurd s.counts;
+  met = record { sites = λ s. false; enough = (omega arith); each = λ s t. absurd (let never : ⊥ = cc in never) };
+}
+
+appended : HasQuorum two 1 (w1 ∷ w0 ∷ []) a (Own (own_line write)) 2
+appended = record { sites = λ s. nat_lt s 2; enough = (omega arith); each = each }
+  where
+    each : (s : ℕ) → IsTrue (nat_lt s 2) → HasGranted (w1 ∷ w0 ∷ []) a s (Own (own_line write))
+    each zero t = record { grant = w0; counts = inr (inl refl); its = refl; from = refl; has = inl refl }
+    each (suc zero) t = record { grant = w1; counts = inl refl; its = refl; from = refl; has = inl refl }
+    each (suc (suc s)) t = absurd (grind (arith, nat_tests))
+
+three_more : (s : ℕ) → (nat_lt 0 (suc (suc (suc s))) && nat_lt (suc (suc (suc s))) 3) ≡ false
+three_more s = by (nat_lt 0 (suc (suc (suc s)))) (nat_lt (suc (suc (suc s))) 3) (grind (arith, nat_tests))
+  where
+    by : (x y : Bool) → y ≡ false → (x && y) ≡ false
+    by true y e = e
+    by false y e = refl
+
+seen : IsExecutedFrom two 2 (r2 ∷ r1 ∷ w1 ∷ w0 ∷ []) [] b read
+seen = record {
+  answered = record { kind = register_kind; typed = refl; numbered = λ resp e. (let same : 1 ≡ resp = cc in subst (λ (r : ℕ). event_number (events_of register_kind.table.rows) (event 0 r) ≡ Some 1) same refl); replies = refl; sorted = (λ y h. absurd h, tt) };
+  known = λ kind e. subst (λ (k : Kind). 0 < k.table.invs) (the_kind kind e) (omega arith);
+  numbered = refl;
+  own = refl;
+  shown = λ l h. elim h [
+    | inl same ↦ (ap (λ (x : Line). x.object) same, record { grant = r1; counts = inr (inl refl); its = refl; shows = record { stands = inl same; lock = record { object = 0; inv = 0 }; granted = inl refl; on = ap (λ (x : Line). x.object) (sym same) } })
+    | inr never ↦ absurd never
+  ];
+  whole = λ l s e. whole l s;
+  met = record { sites = λ s. nat_lt 0 s && nat_lt s 3; enough = (omega arith); each = each };
+}
+  where
+    whole : (l : Line) → IsShown (r2 ∷ r1 ∷ w1 ∷ w0 ∷ []) b l → In l (line ∷ [])
+    whole l s = by s.counts
+      where
+        by : In s.grant (r2 ∷ r1 ∷ w1 ∷ w0 ∷ []) → In l (line ∷ [])
+        by (inl same) = subst (λ (g : Granted). In l (site_after g.before).volatile) same s.shows.stands
+        by (inr (inl same)) = subst (λ (g : Granted). In l (site_after g.before).volatile) same s.shows.stands
+        by (inr (inr (inl same))) = absurd (subst (λ (g : Granted). In l (site_after g.before).volatile) same s.shows.stands)
+        by (inr (inr (inr (inl same)))) = absurd (subst (λ (g : Granted). In l (site_after g.before).volatile) same s.shows.stands)
+        by (inr (inr (inr (inr never)))) = absurd never
+
+    each : (s : ℕ) → IsTrue (nat_lt 0 s && nat_lt s 3) → HasGranted (r2 ∷ r1 ∷ w1 ∷ w0 ∷ []) b s (Lock (record { object = 0; inv = 0 }))
+    each zero t = absurd (let never : ⊥ = cc in never)
+    each (suc zero) t = record { grant = r1; counts = inr (inl refl); its = refl; from = refl; has = inl refl }
+    each (suc (suc zero)) t = record { grant = r2; counts = inl refl; its = refl; from = refl; has = inl refl }
+    each (suc (suc (suc s))) t = absurd (let never : ⊥ = cc (t, three_more s) in never)
+
+granted_w : (g : Granted) → g.before ≡ [] → g.epoch ≡ 1 → MayGrant two g
+granted_w g e one = record {
+  current = ap (epoch_from 1) e ∙ sym one;
+  unshut = ap (shut_from false) e;
+  passes_installs = λ k c log h. absurd (subst (λ (ds : List Deed). In (Installs k c log) ds) e h);
+  free = λ u x y hx hy ne c. (subst (λ ds. In y (items_of u (site_after ds).held)) e hy);
+  passes_done = λ u s h. absurd (subst (λ ds. In (record { tx = u; stamp = s }) (done_records empty_site ds)) e h);
+  passes_lines = λ l h. absurd (subst (λ ds. In l (site_after ds).volatile) e h);
+}
+
+one_install : (k c : ℕ) (log : List Line) → Installs k c log ≡ Installs 2 1 (line ∷ []) → c ≤ 1
+one_install k c log e = let x : c ≡ 1 = cc in omega arith
+
+r1_installs : (k c : ℕ) (log : List Line) → In (Installs k c log) r1.before → c ≤ 1
+r1_installs k c log (inl x) = absurd (let never : ⊥ = cc in never)
+r1_installs k c log (inr (inl x)) = absurd (let never : ⊥ = cc in never)
+r1_installs k c log (inr (inr (inl x))) = absurd (let never : ⊥ = cc in never)
+r1_installs k c log (inr (inr (inr (inl x)))) = absurd (let never : ⊥ = cc in never)
+r1_installs k c log (inr (inr (inr (inr (inl x))))) = one_install k c log x
+r1_installs k c log (inr (inr (inr (inr (inr never))))) = absurd never
+
+granted_r2 : MayGrant two r2
+granted_r2 = record {
+  current = refl;
+  unshut = refl;
+  passes_installs = λ k c log h. elim h [ inl x ↦ one_install k c log x | inr never ↦ absurd never ];
+  free = λ u x y hx hy ne c. hy;
+  passes_done = λ u s h. absurd h;
+  passes_lines = λ l h. elim h [ inl same ↦ subst (λ (z : Line). z.stamp.clock ≤ 1) (sym same) (omega arith) | inr never ↦ absurd never ];
+}
+
+granted_r : MayGrant two r1
+granted_r = record {
+  current = refl;
+  unshut = refl;
+  passes_installs = λ k c log h. r1_installs k c log h;
+  free = λ u x y hx hy ne c. none u y (same_tx u a) hy;
+  passes_done = λ u s h. elim h [ inl same ↦ (let x : s ≡ first.stamp = ap (λ (m : DoneRecord). m.stamp) same in subst (λ (z : Stamp). z.clock ≤ 1) (sym x) (omega arith)) | inr never ↦ absurd never ];
+  passes_lines = λ l h. elim h [ inl same ↦ subst (λ (z : Line). z.stamp.clock ≤ 1) (sym same) (omega arith) | inr never ↦ absurd never ];
+}
+  where
+    none : (u : TxId) (y : Item) (t : Bool) → In y (items_of u (site_after r1.before).held) → ⊥
+    none u y t h = h
+
+abbrev client_of : TxId → ℕ
+client_of t = t.client
+
+differ : a ≡ b → ⊥
+differ e = apart (ap client_of e)
+  where
+    apart : (zero ≡ suc zero) → ⊥
+    apart c = omega arith
+
+votes_a : (g : Granted) → In g (w1 ∷ w0 ∷ []) → g.tx ≡ a → In {A = YesVote} (record { tx = a; site = g.site }) (record { tx = a; site = 1 } ∷ record { tx = a; site = 0 } ∷ [])
+votes_a g (inl same) e = inl (ap (λ (x : Granted). record { tx = a; site = x.site }) same)
+votes_a g (inr (inl same)) e = inr (inl (ap (λ (x : Granted). record { tx = a; site = x.site }) same))
+votes_a g (inr (inr never)) e = absurd never
+
+votes_b : (g : Granted) → In g (r2 ∷ r1 ∷ w1 ∷ w0 ∷ []) → g.tx ≡ b → In {A = YesVote} (record { tx = b; site = g.site }) (record { tx = b; site = 2 } ∷ record { tx = b; site = 1 } ∷ record { tx = a; site = 1 } ∷ record { tx = a; site = 0 } ∷ [])
+votes_b g (inl same) e = inl (ap (λ (x : Granted). record { tx = b; site = x.site }) same)
+votes_b g (inr (inl same)) e = inr (inl (ap (λ (x : Granted). record { tx = b; site = x.site }) same))
+votes_b g (inr (inr (inl same))) e = absurd (differ (ap (λ (y : Granted). y.tx) (sym same) ∙ e))
+votes_b g (inr (inr (inr (inl same)))) e = absurd (differ (ap (λ (y : Granted). y.tx) (sym same) ∙ e))
+votes_b g (inr (inr (inr (inr never)))) e = absurd never
+
+lives_a : (g : Granted) → In g (w1 ∷ w0 ∷ []) → g.life ≡ 1
+lives_a g (inl same) = ap (λ (x : Granted). x.life) same
+lives_a g (inr (inl same)) = ap (λ (x : Granted). x.life) same
+lives_a g (inr (inr never)) = absurd never
+
+lives_b : (g : Granted) → In g (r2 ∷ r1 ∷ w1 ∷ w0 ∷ []) → g.tx ≡ b → ((g.site ≡ 1) × (g.life ≡ 2)) ⊎ ((g.site ≡ 2) × (g.life ≡ 1))
+lives_b g (inl same) e = inr (ap (λ (x : Granted). x.site) same, ap (λ (x : Granted). x.life) same)
+lives_b g (inr (inl same)) e = inl (ap (λ (x : Granted). x.site) same, ap (λ (x : Granted). x.life) same)
+lives_b g (inr (inr (inl same))) e = absurd (differ (ap (λ (y : Granted). y.tx) (sym same) ∙ e))
+lives_b g (inr (inr (inr (inl same)))) e = absurd (differ (ap (λ (y : Granted). y.tx) (sym same) ∙ e))
+lives_b g (inr (inr (inr (inr never)))) e = absurd never
+
+life_at : (g : Granted) (site life : ℕ) → ((g.site ≡ 1) × (g.life ≡ 2)) ⊎ ((g.site ≡ 2) × (g.life ≡ 1)) → g.site ≡ site → ((site ≡ 1) × (life ≡ 2)) ⊎ ((site ≡ 2) × (life ≡ 1)) → g.life ≡ life
+life_at g site life (inl x) f (inl y) = x.1 ∙ sym y.1
+life_at g site life (inl x) f (inr y) = let c : 1 ≡ site = sym x.0 ∙ f in let d : site ≡ 2 = y.0 in absurd (omega arith)
+life_at g site life (inr x) f (inl y) = let c : 2 ≡ site = sym x.0 ∙ f in let d : site ≡ 1 = y.0 in absurd (omega arith)
+life_at g site life (inr x) f (inr y) = x.1 ∙ sym y.1
+
+closing : (object inv : ℕ) → 0 < need_of plan.initial object inv → 3 < 2 + need_of plan.initial object inv
+closing zero zero l = omega arith
+closing zero (suc zero) l = absurd (omega arith)
+closing zero (suc (suc zero)) l = absurd (omega arith)
+closing zero (suc (suc (suc n))) l = absurd (omega arith)
+closing (suc o) n l = absurd (omega arith)
+
+closing_last : (object event : ℕ) → 0 < need_of plan.last object event → 3 < 2 + need_of plan.last object event
+closing_last zero zero l = absurd (omega arith)
+closing_last zero (suc zero) l = absurd (omega arith)
+closing_last zero (suc (suc zero)) l = omega arith
+closing_last zero (suc (suc (suc zero))) l = omega arith
+closing_last zero (suc (suc (suc (suc n)))) l = absurd (omega arith)
+closing_last (suc o) n l = absurd (omega arith)
+
+decides : MayDecide two (state (TakeSnapshot s1 ∷ TakeSnapshot s0 ∷ Close 1 ∷ Close 0 ∷ Learn 1 (record { tx = a; stamp = Some first.stamp }) ∷ Announce a
+    ∷ Commit first ∷ Vote 1 a ∷ Vote 0 a ∷ Prepare a ∷ Execute a ∷ Count w1 ∷ Count w0 ∷ Grant w1 ∷ Grant w0 ∷ SendAppend request ∷ Choose a write ∷ Begin a 1 ∷ [])) moves
+decides = record {
+  new = λ e h. absurd h;
+  plan = plan;
+  planned = λ e is. (let x : 1 ≡ e = (omega arith) in subst (λ (k : ℕ). plan_in two k ≡ Some plan) x refl);
+  epochs = λ s h. elim h [
+    | inl same ↦ subst (λ (x : Snapshot). In x (s1 ∷ s0 ∷ []) × (2 ≡ suc (epoch_from 1 x.before))) (sym same) (inr (inl refl), refl)
+    | inr rest ↦ elim rest [ inl same ↦ subst (λ (x : Snapshot). In x (s1 ∷ s0 ∷ []) × (2 ≡ suc (epoch_from 1 x.before))) (sym same) (inl refl, refl) | inr never ↦ absurd never ]
+  ];
+  sites = λ s. nat_lt s 2;
+  closes = record { initial = closing; last = closing_last };
+  each = each;
+  resolved = resolved;
+  logs = logs;
+  merged = λ l h. elim h [ inl same ↦ record { snapshot = s1; counts = inr (inl refl); from = inl (inl same) } | inr never ↦ absurd never ];
+  clocks = λ s h. elim h [
+    | inl same ↦ subst (λ (x : Snapshot). x.clock ≤ 1) (sym same) (omega arith)
+    | inr rest ↦ elim rest [ inl same ↦ subst (λ (x : Snapshot). x.clock ≤ 1) (sym same) (omega arith) | inr never ↦ absurd never ]
+  ];
+}
+  where
+    each : (site : ℕ) → IsTrue (nat_lt site 2) → (s : Snapshot) × In s (s0 ∷ s1 ∷ []) × (s.site ≡ site)
+    each zero t = (s0, inl refl, refl)
+    each (suc zero) t = (s1, inr (inl refl), refl)
+    each (suc (suc n)) t = absurd (grind (arith, nat_tests))
+
+    logs : (s : Snapshot) (l : Line) → In s (s0 ∷ s1 ∷ []) → In l (site_after s.before).volatile → In l (line ∷ [])
+    logs s l (inl same) h = absurd (subst (λ (x : Snapshot). In l (site_after x.before).volatile) same h)
+    logs s l (inr (inl same)) h = subst (λ (x : Snapshot). In l (site_after x.before).volatile) same h
+    logs s l (inr (inr never)) h = absurd never
+
+    of_a : (p : Promise) → p ≡ record { tx = a; items = owns } → IsResolved (record { tx = a; stamp = Some first.stamp } ∷ []) moves p
+    of_a p e = subst (λ (x : Promise). IsResolved (record { tx = a; stamp = Some first.stamp } ∷ []) moves x) (sym e)
+        (inl (first.stamp, inl refl, λ o h. own o h, omega arith))
+      where
+        own : (o : OwnLine) → In (Own o) owns → In (committed_line first.stamp a o) (line ∷ [])
+        own o (inl same) = let x : o ≡ own_line write = cc in inl (ap (committed_line first.stamp a) x)
+        own o (inr never) = absurd never
+
+    resolved : (s : Snapshot) (p : Promise) → In s (s0 ∷ s1 ∷ []) → In p (site_after s.before).prepared → IsResolved (record { tx = a; stamp = Some first.stamp } ∷ []) moves p
+    resolved s p (inl same) h = elim (subst (λ (x : Snapshot). In p (site_after x.before).prepared) same h) [ inl is ↦ of_a p is | inr never ↦ absurd never ]
+    resolved s p (inr (inl same)) h = absurd (subst (λ (x : Snapshot). In p (site_after x.before).prepared) same h)
+    resolved s p (inr (inr never)) h = absurd never
+
+answered_s0 : MaySnapshot s0
+answered_s0 = record { shut = refl; passes_done = λ u s h. absurd h; passes_installs = λ k c log h. s0_installs k c log h }
+  where
+    s0_installs : (k c : ℕ) (log : List Line) → In (Installs k c log) s0.before → c ≤ 0
+    s0_installs k c log (inl x) = absurd (let never : ⊥ = cc in never)
+    s0_installs k c log (inr (inl x)) = absurd (let never : ⊥ = cc in never)
+    s0_installs k c log (inr (inr (inl x))) = absurd (let never : ⊥ = cc in never)
+    s0_installs k c log (inr (inr (inr never))) = absurd never
+
+answered_s1 : MaySnapshot s1
+answered_s1 = record {
+  shut = refl;
+  passes_done = λ u s h. elim h [ inl same ↦ (let x : s ≡ first.stamp = ap (λ (m : DoneRecord). m.stamp) same in subst (λ (z : Stamp). z.clock ≤ 1) (sym x) (omega arith)) | inr never ↦ absurd never ];
+  passes_installs = λ k c log h. s1_installs k c log h;
+}
+  where
+    s1_installs : (k c : ℕ) (log : List Line) → In (Installs k c log) s1.before → c ≤ 1
+    s1_installs k c log (inl x) = absurd (let never : ⊥ = cc in never)
+    s1_installs k c log (inr (inl x)) = absurd (let never : ⊥ = cc in never)
+    s1_installs k c log (inr (inr (inl x))) = absurd (let never : ⊥ = cc in never)
+    s1_installs k c log (inr (inr (inr (inl x)))) = absurd (let never : ⊥ = cc in never)
+    s1_installs k c log (inr (inr (inr (inr never)))) = absurd never
+
+only_w : (g : Granted) → In g (w1 ∷ w0 ∷ []) → g.tx ≡ b → g.life ≡ 2
+only_w g (inl same) e = absurd (differ (ap (λ (y : Granted). y.tx) (sym same) ∙ e))
+only_w g (inr (inl same)) e = absurd (differ (ap (λ (y : Granted). y.tx) (sym same) ∙ e))
+only_w g (inr (inr never)) e = absurd never
+
+only_r1 : (g : Granted) → In g (r1 ∷ w1 ∷ w0 ∷ []) → g.tx ≡ b → g.site ≡ 2 → g.life ≡ 1
+only_r1 g (inl same) e f = let c : g.site ≡ 1 = ap (λ (x : Granted). x.site) same in absurd (omega arith)
+only_r1 g (inr h) e f = let x : g.life ≡ 2 = only_w g h e in absurd (by g h e)
+  where
+    by : (g : Granted) → In g (w1 ∷ w0 ∷ []) → g.tx ≡ b → ⊥
+    by g (inl same) e = differ (ap (λ (y : Granted). y.tx) (sym same) ∙ e)
+    by g (inr (inl same)) e = differ (ap (λ (y : Granted). y.tx) (sym same) ∙ e)
+    by g (inr (inr never)) e = never
+
+pub run : IsRun two acts
+run = (
+  record { voting = refl; votes = λ g h e. votes_b g h e; client = refl; above = (omega arith); ops = refl },
+  (
+    (tt, λ g h e f. life_at g 2 1 (lives_b g h e) f (inr (refl, refl))),
+    (
+      (tt, λ g h e f. life_at g 1 2 (lives_b g h e) f (inl (refl, refl))),
+      (
+        (refl, refl),
+        (
+          (refl, (read, refl, record { sites = λ s. false; enough = (omega arith); each = λ s t. absurd (let never : ⊥ = cc in never) })),
+          (
+            (refl, refl, seen, refl),
+            (
+              (inl refl, refl, refl, λ g h e f. only_r1 g h e f),
+              (
+                (inr (inl refl), refl, refl, λ g h e f. only_w g h e),
+                (
+                  (refl, refl, granted_r2, inl (record { object = 0; inv = 0 }, refl, refl)),
+                  (
+                    (refl, refl, granted_r, inl (record { object = 0; inv = 0 }, refl, refl)),
+                    (
+                      (refl, (plan, refl)),
+                      (
+                        (inl refl, omega arith),
+                        (
+                          (inl refl, omega arith),
+                          (
+                            decides,
+                            (
+                              (refl, answered_s1),
+                              (
+                                (refl, answered_s0),
+                                (
+                                  tt,
+                                  (
+                                    tt,
+                                    (
+                                      inl refl,
+                                      (
+                                        tt,
+                                        (
+                                          record { voting = refl; votes = λ g h e. votes_a g h e; client = refl; above = (omega arith); ops = refl },
+                                          (
+                                            (tt, λ g h e f. lives_a g h),
+                                            (
+                                              (tt, λ g h e f. lives_a g h),
+                                              (
+                                                (refl, refl),
+                                                (
+                                                  (refl, (write, refl, appended)),
+                                                  (
+                                                    (inl refl, refl, refl, λ g h e f. lives_a g (inr h)),
+                                                    (
+                                                      (inr (inl refl), refl, refl, λ g h e f. absurd h),
+                                                      (
+                                                        (refl, refl, granted_w w1 refl refl, inr (inl refl)),
+                                                        (
+                                                          (refl, refl, granted_w w0 refl refl, inr (inl refl)),
+                                                          (
+                                                            (write, refl, record { view = refl; items = λ x h. elim h [ inl same ↦ (own_line write, same, inl refl) | inr never ↦ absurd never ]; whole = λ o h. absurd h }),
+                                                            (
+                                                              (refl, refl, written, refl),
+                                                              (
+                                                                (refl, (register_plan (1 ∷ 1 ∷ 1 ∷ []) 2, refl)),
+                                                                tt,
+                                                              ),
+                                                            ),
+                                                          ),
+                                                        ),
+                                                      ),
+                                                    ),
+                                                  ),
+                                                ),
+                                              ),
+                                            ),
+                                          ),
+                                        ),
+                                      ),
+                                    ),
+                                  ),
+                                ),
+                              ),
+                            ),
+                          ),
+                        ),
+                      ),
+                    ),
+                  ),
+                ),
+              ),
+            ),
+          ),
+        ),
+      ),
+    ),
+  ),
+)
+
+-- what it comes to
+in_order : sorted (state acts).records ≡ first ∷ second ∷ []
+in_order = refl

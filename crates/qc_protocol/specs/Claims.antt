@@ -1,0 +1,34 @@
+-- What is claimed of every run.
+use Rattle.std.specs.Prelude.{◌≡◌, ℕ, ◌<◌, ◌⊎◌, List, Option, Some, None}
+use Rattle.qc_stamp.specs.declared.stamp.Stamp.{Stamp}
+use Rattle.qc_stamp.specs.declared.stamp.TxId.{TxId}
+use Rattle.qc_entry.specs.declared.line.Line.{Line}
+use Rattle.qc_entry.specs.declared.record.Commit.{Commit as CommitRecord}
+use Rattle.qc_onecopy.specs.Lists.{In}
+use Rattle.qc_protocol.specs.Site.{site_after}
+use Rattle.qc_protocol.specs.State.{Granted, AppendRequest, Shows, State}
+
+-- a log of a site, now or when it granted, or the view of an Append
+abbrev pub IsLogOf : State → List Line → Type 0
+IsLogOf w log =
+    ((site : ℕ) × (log ≡ (site_after (w.deeds site)).volatile))
+    ⊎ (((g : Granted) × In g w.granted × (log ≡ (site_after g.before).volatile))
+    ⊎ ((s : AppendRequest) × In s w.appends × (log ≡ s.view)))
+
+-- a record of this transaction and stamp, before another
+pub record HasEarlier (records : List CommitRecord) (tx : TxId) (stamp : Stamp) (clock : ℕ) : Type 0 where
+  pub commit : CommitRecord
+  pub listed : In commit records
+  pub named : commit.tx ≡ tx
+  pub stamped : commit.stamp ≡ stamp
+  pub before : commit.stamp.clock < clock
+
+-- what a client had learned as its transaction got this record: lines of grants that it counted since it rose, and its own records
+pub record FollowsSeen (w : State) (c : CommitRecord) : Type 0 where
+  pub seen_by : (g : Granted) (l : Line) → In g (w.seen_by c.tx.client) → Shows g l → HasEarlier w.records l.tx l.stamp c.stamp.clock
+  pub own : (d : CommitRecord) → In d w.records → d.tx.client ≡ c.tx.client → d.stamp.clock < c.stamp.clock
+
+-- a record with this stamp, or none
+abbrev pub IsVerdictOf : List CommitRecord → TxId → Option Stamp → Type 0
+IsVerdictOf records tx (Some stamp) = (c : CommitRecord) × In c records × (c.tx ≡ tx) × (c.stamp ≡ stamp)
+IsVerdictOf records tx None = (c : CommitRecord) → In c records → c.tx ≡ tx → ⊥
