@@ -26,8 +26,10 @@ use Rattle.qc_onecopy.proofs.Committed.{sorts}
 use Rattle.qc_onecopy.proofs.Lists.{compared}
 use Rattle.qc_onecopy.proofs.Orders.{earlier_line, line_clocks, line_trans, not_line_less, not_stamp_less}
 use Rattle.qc_onecopy.proofs.Runs.{inv_is, table_is}
-use Rattle.qc_protocol.specs.State.{Committed, Aborted, Granted, Shows, Verdict, Act, MayCommit, op_of, state, IsRun}
-use Rattle.qc_protocol.specs.Laws.{IsOutcome, StateLaws}
+use Rattle.qc_protocol.specs.State.{Committed, Aborted, Granted, Verdict}
+use Rattle.qc_protocol.specs.Guards.{Shows, MayCommit, op_of, IsRun}
+use Rattle.qc_protocol.specs.Acts.{Act, state}
+use Rattle.qc_protocol.specs.StateLaws.{IsOutcome, StateLaws}
 use Rattle.qc_protocol.specs.Logs.{AreInOrder, IsDependedOn, IsClosedAt, LogLaws}
 use Rattle.qc_protocol.specs.Claims.{FollowsSeen, HasEarlier, IsLogOf, IsVerdictOf}
 use Rattle.qc_protocol.proofs.Names.{tx_cases}

@@ -18,8 +18,10 @@ use Rattle.qc_onecopy.specs.Executed.{Executed, depends_at, kind_at, own_line, c
 use Rattle.qc_onecopy.proofs.Lists.{in_left, in_right}
 use Rattle.qc_protocol.specs.Site.{Item, Lock, Own, Promise, Deed, Grants, LearnsCommit, Installs, Site, after_deed, site_from, site_after, empty_site, done_records, epoch_from, shut_from}
 use Rattle.qc_protocol.specs.SiteLaws.{HasDone, HaveNoInstall, IsPreparedWith, SparesUntilDone}
-use Rattle.qc_protocol.specs.State.{Status, NotBegun, Committed, Decision, Granted, Snapshot, Act, IsResolved, read_lock, weights_of, state, IsRun}
-use Rattle.qc_protocol.specs.Laws.{HasRisingEpochs, CountedLaw, IsDecisionFrom, IsOutcome, StateLaws}
+use Rattle.qc_protocol.specs.State.{Status, NotBegun, Committed, Decision, Granted, Snapshot}
+use Rattle.qc_protocol.specs.Acts.{Act, state}
+use Rattle.qc_protocol.specs.Guards.{IsResolved, read_lock, weights_of, IsRun}
+use Rattle.qc_protocol.specs.StateLaws.{HasRisingEpochs, CountedLaw, IsDecisionFrom, IsOutcome, StateLaws}
 use Rattle.qc_protocol.specs.Logs.{IsDependedOn, LogLaws}
 use Rattle.qc_protocol.proofs.SiteOrder.{after_append, laws_after, logged_from}
 use Rattle.qc_protocol.proofs.Epochs.{epoch-append, installed, none_between, rising-left, rising-right, shut-append, still_shut, prepared_or_done}

@@ -6,7 +6,7 @@ use Rattle.qc_protocol.specs.Names.{same_tx}
 use Rattle.qc_protocol.proofs.Names.{tx_is, tx_test}
 use Rattle.qc_protocol.specs.Site.{Deed, Grants, Prepares, LearnsCommit, LearnsAbort, Closes, Installs, Rises}
 use Rattle.qc_protocol.specs.SiteLaws.{SparesUntilDone}
-use Rattle.qc_protocol.specs.Laws.{KeepsLife, IsPreparedOrDone}
+use Rattle.qc_protocol.specs.StateLaws.{KeepsLife, IsPreparedOrDone}
 
 -- a deed that harms nobody but whom it names
 abbrev pub IsCalm : TxId → Deed → Type 0

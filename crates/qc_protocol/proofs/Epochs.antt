@@ -7,7 +7,7 @@ use Rattle.qc_onecopy.specs.Lists.{In}
 use Rattle.qc_protocol.specs.Names.{same_tx}
 use Rattle.qc_protocol.specs.Site.{Item, Deed, Grants, Prepares, LearnsCommit, LearnsAbort, Closes, Installs, Rises, Site, site_from, after_deed, epoch_from, shut_from}
 use Rattle.qc_protocol.specs.SiteLaws.{HasDone, HaveNoInstall, Holds, IsPreparedWith, SiteLaws, Spares, SparesUntilDone, is_prepared_after}
-use Rattle.qc_protocol.specs.Laws.{HasRisingEpochs, IsPreparedOrDone}
+use Rattle.qc_protocol.specs.StateLaws.{HasRisingEpochs, IsPreparedOrDone}
 use Rattle.qc_protocol.proofs.SiteHolds.{held_after}
 use Rattle.qc_protocol.proofs.SiteOrder.{first_done, keeps, stays}
 

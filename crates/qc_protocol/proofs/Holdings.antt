@@ -10,8 +10,10 @@ use Rattle.qc_onecopy.specs.Executed.{Executed, own_line}
 use Rattle.qc_onecopy.proofs.Lists.{in_right, in_split}
 use Rattle.qc_protocol.specs.Site.{Item, Own, Deed, Grants, LearnsCommit, Site, site_from, after_deed, empty_site, epoch_from, items_of, site_after}
 use Rattle.qc_protocol.specs.SiteLaws.{HaveNoInstall}
-use Rattle.qc_protocol.specs.State.{Status, Voting, Aborted, Granted, Act, state, IsRun}
-use Rattle.qc_protocol.specs.Laws.{HasRisingEpochs, IsOutcome, StateLaws}
+use Rattle.qc_protocol.specs.State.{Status, Voting, Aborted, Granted}
+use Rattle.qc_protocol.specs.Acts.{Act, state}
+use Rattle.qc_protocol.specs.Guards.{IsRun}
+use Rattle.qc_protocol.specs.StateLaws.{HasRisingEpochs, IsOutcome, StateLaws}
 use Rattle.qc_protocol.specs.Logs.{AreInOrder, IsExecutedOrChosen, LogLaws}
 use Rattle.qc_protocol.proofs.Keeps.{laws}
 use Rattle.qc_protocol.proofs.LogKeeps.{log_laws}

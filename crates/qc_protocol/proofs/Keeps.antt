@@ -13,8 +13,10 @@ use Rattle.qc_protocol.specs.Names.{same_tx, put, put_tx}
 use Rattle.qc_protocol.specs.Site.{Deed, Grants, Prepares, LearnsCommit, LearnsAbort, Closes, Installs, Rises, Promise, epoch_from}
 use Rattle.qc_plan.specs.declared.plan.Plan.{Plan}
 use Rattle.qc_decl.specs.Lookup.{plan_in}
-use Rattle.qc_protocol.specs.State.{Status, NotBegun, Active, Voting, Pending, Committed, Aborted, Decision, Granted, AppendRequest, Snapshot, YesVote, Verdict, State, Act, TakeSnapshot, Decide, Install, MaySnapshot, IsResolved, Begin, Choose, SendAppend, Execute, ExecuteAbsent, Grant, Count, Prepare, Vote, PrepareLost, Commit, CommitUnknown, Recover, Abort, RiseClient, Announce, Learn, Rise, Close, HasRecord, MayPrepare, MayGrant, IsLive, MayCommit, op_of, chosen_list, deed_of_outcome, deed_of, verdict_of, recover_status, recover_records, after_act, IsAllowed, state, IsRun}
-use Rattle.qc_protocol.specs.Laws.{IsOutcome, AgreesWithStatus, KeepsLife, HasRisingEpochs, GrantedLaw, CountedLaw, HasDecision, IsDecisionFrom, IsRecordOf, StateLaws}
+use Rattle.qc_protocol.specs.State.{Status, NotBegun, Active, Voting, Pending, Committed, Aborted, Decision, Granted, AppendRequest, Snapshot, YesVote, Verdict, State}
+use Rattle.qc_protocol.specs.Acts.{Act, TakeSnapshot, Decide, Install, Begin, Choose, SendAppend, Execute, ExecuteAbsent, Grant, Count, Prepare, Vote, PrepareLost, Commit, CommitUnknown, Recover, Abort, RiseClient, Announce, Learn, Rise, Close, chosen_list, deed_of_outcome, deed_of, verdict_of, recover_status, recover_records, after_act, state}
+use Rattle.qc_protocol.specs.Guards.{MaySnapshot, IsResolved, HasRecord, MayPrepare, MayGrant, IsLive, MayCommit, op_of, IsAllowed, IsRun}
+use Rattle.qc_protocol.specs.StateLaws.{IsOutcome, AgreesWithStatus, KeepsLife, HasRisingEpochs, GrantedLaw, CountedLaw, HasDecision, IsDecisionFrom, IsRecordOf, StateLaws}
 use Rattle.qc_protocol.proofs.Names.{put_case, put_tx_case, put_tx_here, put_here, tx_is, tx_test}
 use Rattle.qc_protocol.proofs.Deeds.{IsCalm, IsMild, more_calm, IsBorne, more_borne, more_prepared_or_done, vote_prepared_or_done, no_rise_more, calm_all}
 

@@ -14,8 +14,10 @@ use Rattle.qc_onecopy.specs.Executed.{Executed, own_line, committed_line}
 use Rattle.qc_onecopy.proofs.Lists.{in_left, in_right, in_split}
 use Rattle.qc_protocol.specs.Names.{put, put_tx}
 use Rattle.qc_protocol.specs.Site.{Item, Lock, Own, Promise, Installs, Deed, Grants, Prepares, Closes, Rises, Site, empty_site, site_after}
-use Rattle.qc_protocol.specs.State.{Status, TakeSnapshot, Decide, Decision, Install, IsMerged, IsResolved, MayDecide, Snapshot, YesVote, NotBegun, Active, Voting, Pending, Committed, Aborted, Granted, AppendRequest, State, Act, Begin, Choose, SendAppend, Execute, ExecuteAbsent, Grant, Count, Prepare, Vote, PrepareLost, Commit, CommitUnknown, Recover, Abort, RiseClient, Announce, Learn, Rise, Close, IsRequested, IsExecutedFrom, HasQuorum, IsAppendOf, IsShown, deed_of, deed_of_outcome, after_act, own_on, recover_status, recover_records, chosen_list, IsAllowed, state, IsRun}
-use Rattle.qc_protocol.specs.Laws.{IsOutcome, StateLaws}
+use Rattle.qc_protocol.specs.State.{Status, Decision, Snapshot, YesVote, NotBegun, Active, Voting, Pending, Committed, Aborted, Granted, AppendRequest, State}
+use Rattle.qc_protocol.specs.Acts.{TakeSnapshot, Decide, Install, Act, Begin, Choose, SendAppend, Execute, ExecuteAbsent, Grant, Count, Prepare, Vote, PrepareLost, Commit, CommitUnknown, Recover, Abort, RiseClient, Announce, Learn, Rise, Close, deed_of, deed_of_outcome, after_act, recover_status, recover_records, chosen_list, state}
+use Rattle.qc_protocol.specs.Guards.{IsMerged, IsResolved, MayDecide, IsRequested, IsExecutedFrom, HasQuorum, IsAppendOf, IsShown, own_on, IsAllowed, IsRun}
+use Rattle.qc_protocol.specs.StateLaws.{IsOutcome, StateLaws}
 use Rattle.qc_protocol.specs.Logs.{AreInOrder, IsDependedOn, IsClosedAt, IsExecutedOrChosen, IsNextOperation, IsOwnClosedAt, IsAnsweredFromQuorum, IsAppendClosed, LogLaws, IsSiteClosed}
 use Rattle.qc_protocol.proofs.Names.{put_case, put_tx_case, put_tx_here}
 use Rattle.qc_protocol.proofs.SiteOrder.{after_append}

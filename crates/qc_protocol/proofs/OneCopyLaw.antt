@@ -27,8 +27,10 @@ use Rattle.qc_onecopy.specs.Views.{AreFromViews, HasLine, HasOwn, IsNext}
 use Rattle.qc_onecopy.proofs.Lists.{in_left, in_map, in_right, in_split, map_in, ordered-append}
 use Rattle.qc_onecopy.proofs.Walk.{one_copy}
 use Rattle.qc_protocol.specs.Site.{Grants, site_after}
-use Rattle.qc_protocol.specs.State.{Committed, Granted, Act, op_of, own_on, read_lock, weights_of, state, IsRun}
-use Rattle.qc_protocol.specs.Laws.{StateLaws}
+use Rattle.qc_protocol.specs.State.{Committed, Granted}
+use Rattle.qc_protocol.specs.Acts.{Act, state}
+use Rattle.qc_protocol.specs.Guards.{op_of, own_on, read_lock, weights_of, IsRun}
+use Rattle.qc_protocol.specs.StateLaws.{StateLaws}
 use Rattle.qc_protocol.specs.Logs.{AreInOrder, IsDependedOn, IsClosedAt, IsAnsweredFromQuorum, LogLaws}
 use Rattle.qc_protocol.proofs.Keeps.{committed_record, laws}
 use Rattle.qc_protocol.proofs.LogKeeps.{log_laws, own_of}

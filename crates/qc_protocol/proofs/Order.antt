@@ -12,8 +12,10 @@ use Rattle.qc_onecopy.proofs.Lists.{in_left, in_right}
 use Rattle.qc_protocol.specs.Names.{same_tx}
 use Rattle.qc_protocol.specs.Site.{Item, Lock, Own, Promise, Deed, Grants, Prepares, LearnsCommit, LearnsAbort, Closes, Installs, Rises, Site, each_held, items_of, promise_of, after_prepare, after_commit, after_deed, site_from, site_after, empty_site, done_record, done_records, epoch_from}
 use Rattle.qc_protocol.specs.SiteLaws.{SiteLaws, Holds, SparesUntilDone, HaveNoInstall, HasDone}
-use Rattle.qc_protocol.specs.State.{Status, Committed, Aborted, Granted, Act, state, IsRun}
-use Rattle.qc_protocol.specs.Laws.{IsOutcome, HasRisingEpochs, CountedLaw, StateLaws}
+use Rattle.qc_protocol.specs.State.{Status, Committed, Aborted, Granted}
+use Rattle.qc_protocol.specs.Acts.{Act, state}
+use Rattle.qc_protocol.specs.Guards.{IsRun}
+use Rattle.qc_protocol.specs.StateLaws.{IsOutcome, HasRisingEpochs, CountedLaw, StateLaws}
 use Rattle.qc_protocol.proofs.Names.{tx_is, tx_test}
 use Rattle.qc_protocol.proofs.SiteLists.{items_of-append, items_of-each_held, in_dropped, not_found}
 use Rattle.qc_protocol.proofs.SiteOrder.{after_append, held_or_done, held_or_logged, laws_after}

@@ -5,7 +5,7 @@ use Rattle.std.proofs.lemmas.List.{length-append}
 use Rattle.qc_onecopy.specs.Lists.{In}
 use Rattle.qc_onecopy.specs.Executed.{Executed, own_line}
 use Rattle.qc_onecopy.proofs.Lists.{in_left, in_right, in_split}
-use Rattle.qc_protocol.specs.State.{own_on}
+use Rattle.qc_protocol.specs.Guards.{own_on}
 use Rattle.qc_protocol.specs.Logs.{AreInOrder, IsNextOperation}
 
 one_more : (earlier : List Executed) (d : Executed) → length (earlier ++ d ∷ []) ≡ suc (length earlier)

@@ -7,7 +7,9 @@ use Rattle.qc_onecopy.specs.Lists.{In}
 use Rattle.qc_onecopy.proofs.Lists.{in_split}
 use Rattle.qc_protocol.specs.Names.{put, put_tx}
 use Rattle.qc_protocol.specs.Site.{Deed, Grants, Prepares, LearnsCommit, LearnsAbort, Closes, Installs, Rises, epoch_from, shut_from}
-use Rattle.qc_protocol.specs.State.{Act, IsAllowed, TakeSnapshot, Prepare, Begin, Count, Decide, Grant, Granted, Learn, Install, IsRun, Abort, Execute, ExecuteAbsent, Commit, RiseClient, Rise, Vote, SendAppend, Recover, Close, CommitUnknown, Announce, Choose, State, PrepareLost, deed_of, after_act, deed_of_outcome, state}
+use Rattle.qc_protocol.specs.Acts.{Act, TakeSnapshot, Prepare, Begin, Count, Decide, Grant, Learn, Install, Abort, Execute, ExecuteAbsent, Commit, RiseClient, Rise, Vote, SendAppend, Recover, Close, CommitUnknown, Announce, Choose, PrepareLost, deed_of, after_act, deed_of_outcome, state}
+use Rattle.qc_protocol.specs.Guards.{IsAllowed, IsRun}
+use Rattle.qc_protocol.specs.State.{Granted, State}
 use Rattle.qc_protocol.specs.Plain.{ArePlain, IsFirst, IsPlain, IsPlainDeed}
 use Rattle.qc_protocol.proofs.Names.{put_case, put_tx_case}
 

@@ -17,7 +17,7 @@ use Rattle.qc_decl.specs.declared.declaration.Declaration.{Declaration}
 use Rattle.qc_decl.specs.Accepted.{IsAccepted}
 use Rattle.qc_decl.specs.Lookup.{append_need_of, plan_in, read_need_of}
 use Rattle.qc_onecopy.specs.Executed.{depends_at, kind_at}
-use Rattle.qc_protocol.specs.State.{weights_of}
+use Rattle.qc_protocol.specs.Guards.{weights_of}
 
 -- the place of an epoch's plan
 placed : (decl : Declaration) (epoch : ℕ) (plan : Plan) → plan_in decl epoch ≡ Some plan → (place : ℕ) × (slice_get decl.plans place ≡ Some plan)

@@ -14,7 +14,9 @@ use Rattle.qc_onecopy.specs.Committed.{sorted}
 use Rattle.qc_onecopy.specs.Executed.{Executed, kind_at, own_line}
 use Rattle.qc_protocol.specs.Site.{Item, Lock, Own, Grants, Prepares, LearnsCommit, Deed, Installs, epoch_from, shut_from, DoneRecord, empty_site, items_of, done_records, site_after}
 use Rattle.qc_protocol.specs.Names.{same_tx}
-use Rattle.qc_protocol.specs.State.{Granted, AppendRequest, YesVote, Act, Begin, Choose, SendAppend, Execute, Grant, Count, Prepare, Vote, Commit, Announce, Learn, HasGranted, IsExecutedFrom, MayGrant, HasQuorum, IsShown, state, IsRun}
+use Rattle.qc_protocol.specs.State.{Granted, AppendRequest, YesVote}
+use Rattle.qc_protocol.specs.Acts.{Act, Begin, Choose, SendAppend, Execute, Grant, Count, Prepare, Vote, Commit, Announce, Learn, state}
+use Rattle.qc_protocol.specs.Guards.{HasGranted, IsExecutedFrom, MayGrant, HasQuorum, IsShown, IsRun}
 
 abbrev a : TxId
 a = record { client = 0; life = 1; number = 1 }

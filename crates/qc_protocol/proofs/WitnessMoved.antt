@@ -20,7 +20,9 @@ use Rattle.qc_plan.specs.Need.{need_of}
 use Rattle.qc_decl.specs.declared.declaration.Declaration.{Declaration}
 use Rattle.qc_decl.specs.Lookup.{plan_in}
 use Rattle.qc_entry.specs.declared.line.OwnLine.{OwnLine}
-use Rattle.qc_protocol.specs.State.{TakeSnapshot, Decide, Decision, Install, MaySnapshot, IsResolved, MayDecide, Close, Snapshot, Granted, AppendRequest, YesVote, Act, Begin, Choose, SendAppend, Execute, Grant, Count, Prepare, Vote, Commit, Announce, Learn, HasGranted, IsExecutedFrom, MayGrant, HasQuorum, IsShown, state, IsRun}
+use Rattle.qc_protocol.specs.Acts.{TakeSnapshot, Decide, Install, Close, Act, Begin, Choose, SendAppend, Execute, Grant, Count, Prepare, Vote, Commit, Announce, Learn, state}
+use Rattle.qc_protocol.specs.State.{Decision, Snapshot, Granted, AppendRequest, YesVote}
+use Rattle.qc_protocol.specs.Guards.{MaySnapshot, IsResolved, MayDecide, HasGranted, IsExecutedFrom, MayGrant, HasQuorum, IsShown, IsRun}
 
 abbrev plan : Plan
 plan = register_plan (1 ∷ 1 ∷ 1 ∷ []) 2

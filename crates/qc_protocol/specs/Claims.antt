@@ -6,7 +6,8 @@ use Rattle.qc_entry.specs.declared.line.Line.{Line}
 use Rattle.qc_entry.specs.declared.record.Commit.{Commit as CommitRecord}
 use Rattle.qc_onecopy.specs.Lists.{In}
 use Rattle.qc_protocol.specs.Site.{site_after}
-use Rattle.qc_protocol.specs.State.{Granted, AppendRequest, Shows, State}
+use Rattle.qc_protocol.specs.State.{Granted, AppendRequest, State}
+use Rattle.qc_protocol.specs.Guards.{Shows}
 
 -- a log of a site, now or when it granted, or the view of an Append
 abbrev pub IsLogOf : State → List Line → Type 0

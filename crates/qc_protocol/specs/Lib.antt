@@ -2,7 +2,9 @@ pub mod Names
 pub mod Site
 pub mod SiteLaws
 pub mod State
-pub mod Laws
+pub mod Acts
+pub mod Guards
+pub mod StateLaws
 pub mod Logs
 pub mod Claims
 pub mod Plain

@@ -12,7 +12,8 @@ use Rattle.qc_decl.specs.Lookup.{append_need_of, read_need_of}
 use Rattle.qc_onecopy.specs.Lists.{In}
 use Rattle.qc_onecopy.specs.Executed.{Executed, IsAnswered, depends_at, kind_at, own_line, committed_line}
 use Rattle.qc_protocol.specs.Site.{Item, Lock, Own, Promise, Site, items_of, site_after}
-use Rattle.qc_protocol.specs.State.{Status, NotBegun, Committed, Decision, Granted, AppendRequest, Snapshot, State, HasQuorum, IsShown, Shows, own_on, read_lock, weights_of}
+use Rattle.qc_protocol.specs.State.{Status, NotBegun, Committed, Decision, Granted, AppendRequest, Snapshot, State}
+use Rattle.qc_protocol.specs.Guards.{HasQuorum, IsShown, Shows, own_on, read_lock, weights_of}
 
 -- some invocation of the object's type depends on the event of this number
 pub record IsDependedOn (decl : Declaration) (object number : ℕ) : Type 0 where

@@ -3,7 +3,8 @@ use Rattle.std.specs.Prelude.{◌≡◌, ℕ, List, [], ◌∷◌}
 use Rattle.qc_stamp.specs.declared.stamp.TxId.{TxId}
 use Rattle.qc_onecopy.specs.Lists.{In}
 use Rattle.qc_protocol.specs.Site.{Deed, Grants, Prepares, LearnsCommit, LearnsAbort}
-use Rattle.qc_protocol.specs.State.{Act, TakeSnapshot, Prepare, Begin, Count, Decide, Grant, Granted, Learn, Install, Abort, Execute, ExecuteAbsent, Commit, RiseClient, Rise, Vote, SendAppend, Recover, Close, CommitUnknown, Announce, Choose, State, PrepareLost}
+use Rattle.qc_protocol.specs.Acts.{Act, TakeSnapshot, Prepare, Begin, Count, Decide, Grant, Learn, Install, Abort, Execute, ExecuteAbsent, Commit, RiseClient, Rise, Vote, SendAppend, Recover, Close, CommitUnknown, Announce, Choose, PrepareLost}
+use Rattle.qc_protocol.specs.State.{Granted, State}
 
 -- nothing falls, rises, closes or is installed; transactions begin in the first epoch
 abbrev pub IsPlain : Act → Type 0

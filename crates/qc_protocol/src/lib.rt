@@ -18,7 +18,9 @@ ghost use Rattle.qc_onecopy.specs.Committed.{AreApart, IsStampedBefore, sorted};
 ghost use Rattle.qc_onecopy.specs.Lists.{In, IsOrdered};
 ghost use Rattle.qc_onecopy.specs.Logged.{IsClosedLog, IsLogged};
 ghost use Rattle.qc_onecopy.specs.OneCopy.{OneCopy};
-ghost use Rattle.qc_protocol.specs.State.{Act, Granted, Commit, Verdict, Voting, state, IsRun};
+ghost use Rattle.qc_protocol.specs.Acts.{Act, Commit, state};
+ghost use Rattle.qc_protocol.specs.State.{Granted, Verdict, Voting};
+ghost use Rattle.qc_protocol.specs.Guards.{IsRun};
 ghost use Rattle.qc_protocol.specs.Plain.{ArePlain, IsFirst};
 ghost use Rattle.qc_protocol.specs.Claims.{FollowsSeen, IsLogOf, IsVerdictOf};
 

@@ -14,7 +14,8 @@ use Rattle.qc_onecopy.specs.Executed.{Executed}
 use Rattle.qc_protocol.specs.Names.{same_tx}
 use Rattle.qc_protocol.specs.Site.{Promise, Deed, Grants, Prepares, LearnsCommit, LearnsAbort, Closes, Installs, Rises, epoch_from, site_after}
 use Rattle.qc_protocol.specs.SiteLaws.{SparesUntilDone}
-use Rattle.qc_protocol.specs.State.{Status, NotBegun, Voting, Committed, Aborted, Decision, Granted, Snapshot, YesVote, Verdict, State, MaySnapshot, IsResolved, HasRecord, MayPrepare, MayGrant, IsLive, op_of}
+use Rattle.qc_protocol.specs.State.{Status, NotBegun, Voting, Committed, Aborted, Decision, Granted, Snapshot, YesVote, Verdict, State}
+use Rattle.qc_protocol.specs.Guards.{MaySnapshot, IsResolved, HasRecord, MayPrepare, MayGrant, IsLive, op_of}
 
 -- a verdict is the status, which is final
 abbrev pub IsOutcome : Status → Option Stamp → Type 0
