@@ -1,6 +1,7 @@
--- When each act is allowed, and runs: lists of acts that were allowed, newest first. A guard asks no more than its site or client
--- can see: what it did, what it has, and what was sent to it. Quorums are weighted votes (Gifford 1979); locks of reads and lines
--- conflict by the relation of the object's type (Herlihy 1986); stamps are clocks with the client's number (Lamport 1978).
+-- When each act is allowed, and runs: lists of acts that were allowed, newest first. A guard asks no more than its
+-- site or client can see: what it did, what it has, and what was sent to it. Quorums are weighted votes (Gifford
+-- 1979); locks of reads and lines conflict by the relation of the object's type (Herlihy 1986); stamps are clocks
+-- with the client's number (Lamport 1978).
 use Rattle.std.specs.Prelude.{◌≡◌, ◌≢◌, ℕ, suc, ◌<◌, ◌≤◌, Bool, true, false, IsTrue, ◌==◌, ◌&&◌, ◌⊎◌, if◌then◌else◌, List, [], ◌∷◌, ◌++◌, map, length, Some, None, IsSome, is_some}
 use Rattle.std.specs.Option.{option_map_or}
 use Rattle.qc_stamp.specs.declared.stamp.Stamp.{Stamp}
@@ -49,7 +50,8 @@ abbrev pub weights_of : Declaration → ℕ → List ℕ
 weights_of decl epoch = option_map_or (λ (p : Plan). p.weights) (plan_in decl epoch) []
 
 -- sites that weigh enough granted the item to tx, and were counted
-pub record HasQuorum (decl : Declaration) (epoch : ℕ) (counted : List Granted) (tx : TxId) (item : Item) (need : ℕ) : Type 0 where
+pub record HasQuorum (decl : Declaration) (epoch : ℕ) (counted : List Granted) (tx : TxId) (item : Item)
+    (need : ℕ) : Type 0 where
   pub sites : ℕ → Bool
   pub enough : need ≤ weight sites (weights_of decl epoch)
   pub each : (site : ℕ) → IsTrue (sites site) → HasGranted counted tx site item
@@ -61,11 +63,13 @@ read_lock op = record { object = op.object; inv = op.inv }
 -- the own lines of the operations with responses on an object
 abbrev pub own_on : List Executed → ℕ → List OwnLine
 own_on [] object = []
-own_on (d ∷ ds) object = (if (d.op.object == object) && is_some d.op.resp then own_line d ∷ [] else []) ++ own_on ds object
+own_on (d ∷ ds) object =
+    (if (d.op.object == object) && is_some d.op.resp then own_line d ∷ [] else []) ++ own_on ds object
 
--- the operation's Read round is met: it comes next in its transaction, its view is all that the transaction was shown of the
--- object, and its reply is one that the view allows
-pub record IsExecutedFrom (decl : Declaration) (epoch : ℕ) (counted : List Granted) (executed : List Executed) (tx : TxId) (d : Executed) : Type 0 where
+-- the operation's Read round is met: it comes next in its transaction, its view is all that the transaction was shown
+-- of the object, and its reply is one that the view allows
+pub record IsExecutedFrom (decl : Declaration) (epoch : ℕ) (counted : List Granted) (executed : List Executed)
+    (tx : TxId) (d : Executed) : Type 0 where
   pub answered : IsAnswered decl d
   pub known : (kind : Kind) → kind_at decl d.op.object ≡ Some kind → d.op.inv < kind.table.invs
   pub numbered : d.number ≡ suc (length executed)
@@ -74,8 +78,8 @@ pub record IsExecutedFrom (decl : Declaration) (epoch : ℕ) (counted : List Gra
   pub whole : (l : Line) → IsShown counted tx l → l.object ≡ d.op.object → In l d.view
   pub met : HasQuorum decl epoch counted tx (Lock (read_lock d.op)) (read_need_of decl epoch d.op.object d.op.inv)
 
--- an Append of the operation brings its view, and own lines of the object: its own, and at least those of events with a final
--- threshold
+-- an Append of the operation brings its view, and own lines of the object: its own, and at least those of events with
+-- a final threshold
 pub record IsAppendOf (decl : Declaration) (epoch : ℕ) (d : Executed) (s : AppendRequest) : Type 0 where
   pub view : s.view ≡ d.view
   pub items : (x : Item) → In x s.items → (o : OwnLine) × (x ≡ Own o) × ((o ≡ own_line d) ⊎ In o d.own)
@@ -89,39 +93,48 @@ Conflict decl _ _ = ⊥
 
 -- it was asked for a Read, or by an Append that was sent
 abbrev pub IsRequested : List AppendRequest → Granted → Type 0
-IsRequested appends g = ((lock : ReadLock) × (g.items ≡ Lock lock ∷ []) × (g.view ≡ [])) ⊎ In (record { tx = g.tx; items = g.items; view = g.view }) appends
+IsRequested appends g = ((lock : ReadLock) × (g.items ≡ Lock lock ∷ []) × (g.view ≡ []))
+    ⊎ In (record { tx = g.tx; items = g.items; view = g.view }) appends
 
--- a site may grant in the epoch that it has installed and not closed, where nobody else holds what conflicts, and with a clock that
--- has passed its Install records, its Done records and its lines
+-- a site may grant in the epoch that it has installed and not closed, where nobody else holds what conflicts, and
+-- with a clock that has passed its Install records, its Done records and its lines
 pub record MayGrant (decl : Declaration) (g : Granted) : Type 0 where
   pub current : epoch_from 1 g.before ≡ g.epoch
   pub unshut : shut_from false g.before ≡ false
   pub passes_installs : (k c : ℕ) (log : List Line) → In (Installs k c log) g.before → c ≤ g.clock
-  pub free : (u : TxId) (x y : Item) → In x g.items → In y (items_of u (site_after g.before).held) → u ≢ g.tx → Conflict decl x y → ⊥
-  pub passes_done : (u : TxId) (stamp : Stamp) → In (record { tx = u; stamp = stamp }) (done_records empty_site g.before) → stamp.clock ≤ g.clock
+  pub free : (u : TxId) (x y : Item) → In x g.items → In y (items_of u (site_after g.before).held) → u ≢ g.tx
+      → Conflict decl x y → ⊥
+  pub passes_done : (u : TxId) (stamp : Stamp)
+      → In (record { tx = u; stamp = stamp }) (done_records empty_site g.before) → stamp.clock ≤ g.clock
   pub passes_lines : (l : Line) → In l (site_after g.before).volatile → l.stamp.clock ≤ g.clock
 
 -- a site that has closed may tell what it has, with a clock that has passed its Install and Done records
 pub record MaySnapshot (s : Snapshot) : Type 0 where
   pub shut : shut_from false s.before ≡ true
-  pub passes_done : (u : TxId) (stamp : Stamp) → In (record { tx = u; stamp = stamp }) (done_records empty_site s.before) → stamp.clock ≤ s.clock
+  pub passes_done : (u : TxId) (stamp : Stamp)
+      → In (record { tx = u; stamp = stamp }) (done_records empty_site s.before) → stamp.clock ≤ s.clock
   pub passes_installs : (k c : ℕ) (log : List Line) → In (Installs k c log) s.before → c ≤ s.clock
 
--- the client of a prepared transaction of a snapshot told its end: it committed, its own lines are in the log with its stamp, and
--- the clock has passed this; or it aborted
+-- the client of a prepared transaction of a snapshot told its end: it committed, its own lines are in the log with
+-- its stamp, and the clock has passed this; or it aborted
 abbrev pub IsResolved : List Verdict → Decision → Promise → Type 0
 IsResolved verdicts d p =
-    ((stamp : Stamp) × In (record { tx = p.tx; stamp = Some stamp }) verdicts × ((o : OwnLine) → In (Own o) p.items → In (committed_line stamp p.tx o) d.log) × (stamp.clock ≤ d.clock))
+    ((stamp : Stamp) × In (record { tx = p.tx; stamp = Some stamp }) verdicts
+    × ((o : OwnLine) → In (Own o) p.items → In (committed_line stamp p.tx o) d.log) × (stamp.clock ≤ d.clock))
     ⊎ In (record { tx = p.tx; stamp = None }) verdicts
 
--- where a line of the new log comes from: the log of a snapshot, or an own line of a prepared transaction there that committed
+-- where a line of the new log comes from: the log of a snapshot, or an own line of a prepared transaction there that
+-- committed
 pub record IsMerged (verdicts : List Verdict) (d : Decision) (l : Line) : Type 0 where
   pub snapshot : Snapshot
   pub counts : In snapshot d.snapshots
-  pub from : In l (site_after snapshot.before).volatile ⊎ ((p : Promise) × (o : OwnLine) × (stamp : Stamp) × In p (site_after snapshot.before).prepared × In (Own o) p.items × In (record { tx = p.tx; stamp = Some stamp }) verdicts × (l ≡ committed_line stamp p.tx o))
+  pub from : In l (site_after snapshot.before).volatile
+      ⊎ ((p : Promise) × (o : OwnLine) × (stamp : Stamp) × In p (site_after snapshot.before).prepared
+      × In (Own o) p.items × In (record { tx = p.tx; stamp = Some stamp }) verdicts
+      × (l ≡ committed_line stamp p.tx o))
 
--- an epoch is decided once, from snapshots of the epoch before, of sites that weigh enough to close it; its log is all that they
--- have, and its clock has passed theirs
+-- an epoch is decided once, from snapshots of the epoch before, of sites that weigh enough to close it; its log is
+-- all that they have, and its clock has passed theirs
 pub record MayDecide (decl : Declaration) (now : State) (d : Decision) : Type 0 where
   pub new : (e : Decision) → In e now.decided → e.epoch ≢ d.epoch
   pub plan : Plan
@@ -130,7 +143,8 @@ pub record MayDecide (decl : Declaration) (now : State) (d : Decision) : Type 0 
   pub sites : ℕ → Bool
   pub closes : Closing plan (weight sites plan.weights)
   pub each : (site : ℕ) → IsTrue (sites site) → (s : Snapshot) × In s d.snapshots × (s.site ≡ site)
-  pub resolved : (s : Snapshot) (p : Promise) → In s d.snapshots → In p (site_after s.before).prepared → IsResolved now.verdicts d p
+  pub resolved : (s : Snapshot) (p : Promise) → In s d.snapshots → In p (site_after s.before).prepared
+      → IsResolved now.verdicts d p
   pub logs : (s : Snapshot) (l : Line) → In s d.snapshots → In l (site_after s.before).volatile → In l d.log
   pub merged : (l : Line) → In l d.log → IsMerged now.verdicts d l
   pub clocks : (s : Snapshot) → In s d.snapshots → s.clock ≤ d.clock
@@ -157,8 +171,8 @@ HasRecord _ d = ⊥
 abbrev pub op_of : Executed → Op
 op_of d = d.op
 
--- each site that the client counted a grant of has voted; the record has the operations of the transaction, the client's number, and
--- a stamp above the client's clock
+-- each site that the client counted a grant of has voted; the record has the operations of the transaction, the
+-- client's number, and a stamp above the client's clock
 pub record MayCommit (now : State) (c : CommitRecord) : Type 0 where
   pub voting : now.status c.tx ≡ Voting
   pub votes : (g : Granted) → In g now.counted → g.tx ≡ c.tx → In (record { tx = c.tx; site = g.site }) now.votes
@@ -198,7 +212,8 @@ IsAllowed decl now (Count g) =
 IsAllowed decl now (Prepare tx) = (now.status tx ≡ Active) × (now.chosen tx ≡ None)
 -- a site votes on what may have been sent Prepare, in the life of the grants that were counted
 IsAllowed decl now (Vote site tx) =
-    MayPrepare (now.status tx) × ((g : Granted) → In g now.counted → g.tx ≡ tx → g.site ≡ site → g.life ≡ now.life site)
+    MayPrepare (now.status tx)
+    × ((g : Granted) → In g now.counted → g.tx ≡ tx → g.site ≡ site → g.life ≡ now.life site)
 -- a Prepare record is written only of what may have been sent Prepare
 IsAllowed decl now (PrepareLost site tx) = MayPrepare (now.status tx)
 -- a commit record is written as MayCommit says
