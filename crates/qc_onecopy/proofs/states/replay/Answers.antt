@@ -1,8 +1,8 @@
 use Rattle.std.proofs.Common.{◌≡◌, List, ℕ, Some, None, sym, ap, ◌∙◌}
 use Rattle.std.specs.Prelude.{fold}
-use Rattle.qc_report.specs.Replay.{replayed}
-use Rattle.qc_report.proofs.Missing.{commit_missing}
-use Rattle.qc_report.proofs.replay.replay.Goals as goal
+use Rattle.qc_onecopy.specs.Replay.{replayed}
+use Rattle.qc_onecopy.proofs.Missing.{commit_missing}
+use Rattle.qc_onecopy.proofs.states.replay.Goals as goal
 
 pub returns-then-not-replay_ops : goal.returns-then-not-replay_ops
 returns-then-not-replay_ops c =

@@ -1,10 +1,11 @@
-//! A replay of committed operations on one copy of each object.
+//! A replay of committed operations on one copy of each object: it tests
+//! whether they are those of one copy, and says in which states they end.
 
 ghost use Rattle.std.specs.Prelude.{◌≡◌, IfOk, IfSome, ◌<◌, length, Some, None, fold, option_map};
 ghost use Rattle.std.specs.Bool.{MatchBool};
 ghost use Rattle.std.specs.Option.{option_map_or};
 ghost use Rattle.qc_table.specs.Rules.{events_of, event_number};
-ghost use Rattle.qc_report.specs.Replay.{state_after, states_after, replayed, starts, start_of, replay};
+ghost use Rattle.qc_onecopy.specs.Replay.{state_after, states_after, replayed, starts, start_of, replay};
 
 use qc_decl::Declaration;
 use qc_entry::{Commit, Op};
@@ -13,8 +14,9 @@ use qc_table::{Event, Table};
 use std::alloc::Global;
 
 /// Each object's state after all operations of the transactions, or `None`
-/// where a step is missing.
-pub(crate) fn replay(
+/// exactly where an operation with a response has no row, or an absent one has
+/// one. An object that isn't declared has no rows.
+pub fn replay(
     alloc: Global,
     decl: &Declaration,
     commits: &[Commit],
@@ -69,7 +71,7 @@ fn replay_op(decl: &Declaration, states: &mut [u8], op: &Op) -> bool
 {
     let object = op.object as usize;
     let Some(table) = decl.table(op.object) else {
-        return false;
+        return op.resp.is_none();
     };
     if object >= states.len() {
         return false;

@@ -1,13 +1,12 @@
 -- The replay has states exactly where the operations are those of one copy of each object.
 use Rattle.std.proofs.Common.{◌≡◌, ℕ, ◌==◌, Bool, true, false, List, [], ◌∷◌, Option, Some, None, refl, sym, ap, subst, ◌∙◌}
 use Rattle.std.specs.Prelude.{◌↔◌, IsSome, if◌then◌else◌, fold, slice_get, slice_set, option_map, option_and_then}
-use Rattle.std.specs.List.{AllByRecursion as Every}
 use Rattle.std.specs.Option.{option_map_or}
 use Rattle.std.proofs.lemmas.Bool.{eqb-true, eq-eqb}
 use Rattle.std.proofs.lemmas.List.Sums.{fold-append}
 use Rattle.std.proofs.lemmas.Option.{slice_get-map}
-use Rattle.qc_core.proofs.Places.{slice_get-set_other, slice_get-set_same}
-use Rattle.qc_core.specs.OneCopy.{Goes, OneCopy, Walks, operations, start_at, step_at, updated}
+use Rattle.qc_onecopy.proofs.Places.{slice_get-set_other, slice_get-set_same}
+use Rattle.qc_onecopy.specs.OneCopy.{Goes, OneCopy, Walks, operations, start_at, step_at, updated}
 use Rattle.qc_decl.specs.declared.declaration.Declaration.{Declaration}
 use Rattle.qc_table.specs.declared.kind.Kind.{Kind}
 use Rattle.qc_decl.specs.Lookup.{table_at}
@@ -17,8 +16,8 @@ use Rattle.qc_table.proofs.Lowest.{none_legal}
 use Rattle.qc_table.proofs.Numbered.{first_lowest, first_some, legal_numbered, number_is}
 use Rattle.qc_table.specs.Rules.{Rules, event, event_number, events_of}
 use Rattle.qc_table.specs.Run.{IsLowest, first_of, lowest_in, next_in, step_of}
-use Rattle.qc_report.proofs.Missing.{no_ops}
-use Rattle.qc_report.specs.Replay.{AreDeclared, kept, replay, replay_commit, replayed, start_of, starts, state_after, states_after}
+use Rattle.qc_onecopy.proofs.Missing.{no_ops}
+use Rattle.qc_onecopy.specs.Replay.{kept, replay, replay_commit, replayed, start_of, starts, state_after, states_after, states_by, unlisted}
 
 -- the replay's states of declared objects are the copies'
 abbrev pub Alike : Declaration → List ℕ → (ℕ → ℕ) → Type 0
@@ -126,31 +125,52 @@ module _ (decl : Declaration) (ops : List Op) (rules : Rules) (object inv : ℕ)
   pub goes_on : (resp : Option ℕ) → IsSome (fold (replayed decl) (states_after decl states (record { object = object; inv = inv; resp = resp })) ops) ↔ Goes decl copies object inv resp (λ after. Walks decl after ops)
   goes_on resp =
       subst
-      (λ (t : Option Rules). IsSome (fold (replayed decl) (option_and_then (λ (rules : Rules). option_and_then (λ state. option_map (λ next. slice_set states object next) (state_after rules state inv resp)) (slice_get states object)) t) ops) ↔ Goes decl copies object inv resp (λ after. Walks decl after ops))
+      (λ (t : Option Rules). IsSome (fold (replayed decl) (states_by t states (record { object = object; inv = inv; resp = resp })) ops) ↔ Goes decl copies object inv resp (λ after. Walks decl after ops))
       (sym table)
       (subst
       (λ (s : Option ℕ). IsSome (fold (replayed decl) (option_and_then (λ state. option_map (λ next. slice_set states object next) (state_after rules state inv resp)) s) ops) ↔ Goes decl copies object inv resp (λ after. Walks decl after ops))
       (sym (alike object declared))
       (by_response resp))
 
--- operations on declared objects
-pub walks_replayed : (decl : Declaration) (ops : List Op) → Every (λ (op : Op). IsSome (table_at decl op.object)) ops → (states : List ℕ) (copies : ℕ → ℕ) → Alike decl states copies
-    → IsSome (fold (replayed decl) (Some states) ops) ↔ Walks decl copies ops
-walks_replayed decl [] all states copies alike = (λ some. tt, λ walks. refl)
-walks_replayed decl (op ∷ ops) all states copies alike = by_table (table_at decl op.object) refl all.0 (walks_replayed decl ops all.1)
+-- an operation on an object that isn't declared
+undeclared : (decl : Declaration) (ops : List Op) (object inv : ℕ) (states : List ℕ) (copies : ℕ → ℕ) → table_at decl object ≡ None → Alike decl states copies
+    → ((states : List ℕ) (copies : ℕ → ℕ) → Alike decl states copies → IsSome (fold (replayed decl) (Some states) ops) ↔ Walks decl copies ops)
+    → (resp : Option ℕ) → IsSome (fold (replayed decl) (unlisted states resp) ops) ↔ Goes decl copies object inv resp (λ after. Walks decl after ops)
+undeclared decl ops object inv states copies none alike more None = (
+  λ some. (λ resp. no_step resp, (more states copies alike).0 some),
+  λ goes. (more states copies alike).1 goes.1,
+)
   where
-    by_table : (t : Option Rules) → table_at decl op.object ≡ t → IsSome t
+    no_step : (resp : ℕ) → step_at decl object (copies object) (event inv resp) ≡ None
+    no_step resp = ap (option_and_then (λ (rules : Rules). next_in rules.rows (copies object) (event inv resp))) none
+undeclared decl ops object inv states copies none alike more (Some resp) = (
+  λ some. absurd (let fault : IsSome {T = List ℕ} None = subst (λ (s : Option (List ℕ)). IsSome s) (no_ops decl ops) some in let never : ⊥ = cc in never),
+  λ goes. absurd (
+      let no_step : step_at decl object (copies object) (event inv resp) ≡ None = ap (option_and_then (λ (rules : Rules). next_in rules.rows (copies object) (event inv resp))) none in
+      let both : None ≡ Some goes.0 = sym no_step ∙ goes.1 in let never : ⊥ = cc in never
+      ),
+)
+
+-- operations, one by one
+pub walks_replayed : (decl : Declaration) (ops : List Op) (states : List ℕ) (copies : ℕ → ℕ) → Alike decl states copies
+    → IsSome (fold (replayed decl) (Some states) ops) ↔ Walks decl copies ops
+walks_replayed decl [] states copies alike = (λ some. tt, λ walks. refl)
+walks_replayed decl (op ∷ ops) states copies alike = by_table (table_at decl op.object) refl (walks_replayed decl ops)
+  where
+    by_table : (t : Option Rules) → table_at decl op.object ≡ t
         → ((states : List ℕ) (copies : ℕ → ℕ) → Alike decl states copies → IsSome (fold (replayed decl) (Some states) ops) ↔ Walks decl copies ops)
         → IsSome (fold (replayed decl) (states_after decl states op) ops) ↔ Goes decl copies op.object op.inv op.resp (λ after. Walks decl after ops)
-    by_table None is declared more = absurd (let never : ⊥ = cc in never)
-    by_table (Some rules) is declared more = goes_on decl ops rules op.object op.inv states copies is alike more op.resp
+    by_table None is more =
+        subst (λ (t : Option Rules). IsSome (fold (replayed decl) (states_by t states op) ops) ↔ Goes decl copies op.object op.inv op.resp (λ after. Walks decl after ops)) (sym is)
+        (undeclared decl ops op.object op.inv states copies is alike more op.resp)
+    by_table (Some rules) is more = goes_on decl ops rules op.object op.inv states copies is alike more op.resp
 
 -- the replay goes over the operations of all records in order
 replay_is : (decl : Declaration) (commits : List Commit) (states : Option (List ℕ)) → fold (replay_commit decl) states commits ≡ fold (replayed decl) states (operations commits)
 replay_is decl [] states = refl
 replay_is decl (c ∷ cs) states = replay_is decl cs (replay_commit decl states c) ∙ sym (fold-append (replayed decl) states c.ops (operations cs))
 
-pub replay_copies : (decl : Declaration) (commits : List Commit) → AreDeclared decl commits → IsSome (replay decl commits) ↔ OneCopy decl commits
-replay_copies decl commits all =
+pub replay_copies : (decl : Declaration) (commits : List Commit) → IsSome (replay decl commits) ↔ OneCopy decl commits
+replay_copies decl commits =
     subst (λ (s : Option (List ℕ)). IsSome s ↔ OneCopy decl commits) (sym (replay_is decl commits (Some (starts decl))))
-    (walks_replayed decl (operations commits) all (starts decl) (start_at decl) (starts_alike decl))
+    (walks_replayed decl (operations commits) (starts decl) (start_at decl) (starts_alike decl))

@@ -1,6 +1,6 @@
 use Rattle.std.proofs.Common.{refl, sym, ◌∙◌}
-use Rattle.qc_report.proofs.Missing.{op_missing}
-use Rattle.qc_report.proofs.replay.replay_ops.Goals as goal
+use Rattle.qc_onecopy.proofs.Missing.{op_missing}
+use Rattle.qc_onecopy.proofs.states.replay_ops.Goals as goal
 
 pub returns-then-not-replay_op : goal.returns-then-not-replay_op
 returns-then-not-replay_op c =

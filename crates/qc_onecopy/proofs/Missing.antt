@@ -1,11 +1,15 @@
 -- A step that is missing stays missing.
-use Rattle.std.proofs.Common.{◌≡◌, ℕ, ◌+◌, ◌<◌, List, [], ◌∷◌, Some, None, length, get_or, drop, ap, refl, ◌∙◌}
+use Rattle.std.proofs.Common.{◌≡◌, ℕ, ◌+◌, ◌<◌, List, [], ◌∷◌, Some, None, length, get_or, drop, ap, refl, sym, ◌∙◌}
 use Rattle.std.specs.Prelude.{Option, fold}
 use Rattle.qc_entry.specs.declared.line.Op.{Op}
 use Rattle.qc_entry.specs.declared.record.Commit.{Commit}
 use Rattle.qc_decl.specs.declared.declaration.Declaration.{Declaration}
-use Rattle.qc_report.specs.Replay.{states_after, replayed, replay_commit}
-use Rattle.qc_report.proofs.More.{rest}
+use Rattle.qc_onecopy.specs.Replay.{states_after, replayed, replay_commit}
+use Rattle.std.proofs.lemmas.List.{drop_more}
+
+-- one element more of a list, as a loop takes it
+rest : {A : Type 0} (xs : List A) (i : ℕ) (x d : A) → i < length xs → x ≡ get_or xs i d → drop i xs ≡ x ∷ drop (i + 1) xs
+rest xs i x d l e = drop_more xs i d l ∙ ap (λ y. y ∷ drop (i + 1) xs) (sym e)
 
 pub no_ops : (decl : Declaration) (ops : List Op) → fold (replayed decl) None ops ≡ None
 no_ops decl [] = refl
