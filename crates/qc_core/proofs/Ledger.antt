@@ -18,8 +18,8 @@ use Rattle.qc_stamp.proofs.Orders.{same_tx_itself, same_tx_is}
 use Rattle.qc_list.specs.Members.{In}
 use Rattle.qc_list.proofs.Members.{In-first, In-last, In-more, every-append, every-In, every-weaker}
 use Rattle.qc_core.specs.Acts.{Act, Calls}
-use Rattle.qc_core.specs.Atomic.{AreApart, HasCommit}
-use Rattle.qc_core.specs.Committed.{commit_cmp, with_commit}
+use Rattle.qc_onecopy.specs.Committed.{AreApart, commit_cmp, with_commit}
+use Rattle.qc_core.specs.Atomic.{HasCommit}
 use Rattle.qc_core.specs.Deals.{Dealing, deal, dealt, ended, is_begun, operation}
 
 -- the one client's transactions, by their numbers

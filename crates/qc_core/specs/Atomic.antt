@@ -12,13 +12,9 @@ use Rattle.qc_msg.specs.Steps.{Entry}
 use Rattle.qc_core.specs.Committed.{committed}
 use Rattle.qc_list.specs.Members.{In}
 use Rattle.qc_core.specs.Deals.{deals, endings}
-use Rattle.qc_core.specs.OneCopy.{OneCopy}
+use Rattle.qc_onecopy.specs.Committed.{AreApart}
+use Rattle.qc_onecopy.specs.OneCopy.{OneCopy}
 use Rattle.qc_core.specs.Seen.{seen}
-
--- no two records have one stamp, or one transaction
-pub record AreApart (commits : List Commit) : Type 0 where
-  pub stamps : (c d : Commit) → In c commits → In d commits → c.stamp ≡ d.stamp → c ≡ d
-  pub transactions : (c d : Commit) → In c commits → In d commits → c.tx ≡ d.tx → c ≡ d
 
 -- a record of the transaction, with a stamp before this one
 pub record HasBefore (commits : List Commit) (tx : TxId) (stamp : Stamp) : Type 0 where

@@ -10,7 +10,7 @@ ghost use Rattle.qc_core.specs.Committed.{AreRising, committed, written};
 ghost use Rattle.qc_list.specs.Members.{In};
 ghost use Rattle.qc_core.specs.Conduct.{IsRun};
 ghost use Rattle.qc_core.specs.Kept.{Kept};
-ghost use Rattle.qc_core.specs.Logged.{IsLogged};
+ghost use Rattle.qc_onecopy.specs.Logged.{IsLogged};
 ghost use Rattle.qc_core.specs.Order.{EachAfter};
 ghost use Rattle.qc_core.specs.Spent.{Spent};
 ghost use Rattle.qc_core.specs.Status.{Committed, HasEnded, IsRight, IsRightAfter, Status, status, status_at};

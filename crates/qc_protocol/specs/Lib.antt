@@ -1,0 +1,12 @@
+pub mod Names
+pub mod Site
+pub mod SiteLaws
+pub mod State
+pub mod Acts
+pub mod Guards
+pub mod StateLaws
+pub mod Logs
+pub mod Claims
+pub mod HeldLaw
+pub mod Placed
+pub mod Plain
