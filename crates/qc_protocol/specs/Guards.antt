@@ -18,6 +18,7 @@ use Rattle.qc_decl.specs.Lookup.{append_need_of, plan_in, read_need_of}
 use Rattle.qc_onecopy.specs.Lists.{In}
 use Rattle.qc_onecopy.specs.Executed.{Executed, IsAnswered, depends_at, kind_at, own_line, committed_line}
 use Rattle.qc_protocol.specs.Site.{Item, Lock, Own, Promise, Installs, epoch_from, shut_from, items_of, site_after, empty_site, done_records}
+use Rattle.qc_protocol.specs.Asked.{Guard, Asked, every_guard, AnswersFromView, InvocationIsDeclared, OperationsAreNumbered, OwnLinesAreKept, ViewWasShown, ViewIsWhole, ReadQuorumIsMet, AppendCarriesView, AppendCarriesOnlyOwnLines, AppendCarriesEarlierLines, GrantTellsEpoch, GrantsUnlessClosed, GrantPassesInstalls, GrantsWithoutConflict, GrantPassesDone, GrantPassesLines, SnapshotIsOfClosed, SnapshotPassesDone, SnapshotPassesInstalls, MergesEveryEntry, DecidePassesCommitted, DecidesByPlan, DecidesFromSnapshots, DecidesNextEpoch, ClosesEnough, ClosedSitesAnswered, ResolvesPrepared, MergesLogs, MergesOnlyCommitted, DecidePassesSnapshots, CommitsWhenVoting, AllHaveVoted, StampIsItsClients, StampPassesClock, RecordHasOperations, BeginsOnce, BeginsInPlannedEpoch, OperatesWhileActive, ChoosesOneAtATime, ChosenHasResponse, AppendsWhatIsChosen, AppendQuorumIsMet, AbsentHasNoResponse, GrantTellsDeeds, GrantTellsLife, GrantsWhatWasRequested, CountsWhatWasGranted, CountsWhileActive, CountsInItsEpoch, PreparesOnce, PreparesWhenExecuted, VotesWhenAsked, VotesInGrantedLife, RecordsPrepareWhenAsked, AbortsBeforeRecord, RisesWithNoneRunning, RisesPastRecords, LearnsWhatWasAnnounced, SnapshotTellsDeeds, InstallsWhatWasDecided, InstallsLaterEpoch}
 use Rattle.qc_protocol.specs.State.{Status, NotBegun, Active, Voting, Pending, Committed, AppendRequest, Granted, Verdict, Snapshot, Decision, State}
 use Rattle.qc_protocol.specs.Acts.{Act, Begin, Choose, SendAppend, Execute, ExecuteAbsent, Grant, Count, Prepare, Vote, PrepareLost, Commit, CommitUnknown, Recover, Abort, RiseClient, Announce, Learn, Rise, Close, TakeSnapshot, Decide, Install, state}
 
@@ -61,20 +62,26 @@ own_on [] object = []
 own_on (d ∷ ds) object = (if (d.op.object == object) && is_some d.op.resp then own_line d ∷ [] else []) ++ own_on ds object
 
 -- the operation's Read round is met; its view is all that tx was shown of the object, and its reply is one that the view allows
-pub record IsExecutedFrom (decl : Declaration) (epoch : ℕ) (counted : List Granted) (executed : List Executed) (tx : TxId) (d : Executed) : Type 0 where
-  pub answered : IsAnswered decl d
-  pub known : (kind : Kind) → kind_at decl d.op.object ≡ Some kind → d.op.inv < kind.table.invs
-  pub numbered : d.number ≡ suc (length executed)
-  pub own : d.own ≡ own_on executed d.op.object
-  pub shown : (l : Line) → In l d.view → (l.object ≡ d.op.object) × IsShown counted tx l
-  pub whole : (l : Line) → IsShown counted tx l → l.object ≡ d.op.object → In l d.view
-  pub met : HasQuorum decl epoch counted tx (Lock (read_lock d.op)) (read_need_of decl epoch d.op.object d.op.inv)
+pub record IsExecutedFromBy (ask : Guard → Bool) (decl : Declaration) (epoch : ℕ) (counted : List Granted) (executed : List Executed) (tx : TxId) (d : Executed) : Type 0 where
+  pub answered : Asked (ask AnswersFromView) (IsAnswered decl d)
+  pub known : Asked (ask InvocationIsDeclared) ((kind : Kind) → kind_at decl d.op.object ≡ Some kind → d.op.inv < kind.table.invs)
+  pub numbered : Asked (ask OperationsAreNumbered) (d.number ≡ suc (length executed))
+  pub own : Asked (ask OwnLinesAreKept) (d.own ≡ own_on executed d.op.object)
+  pub shown : Asked (ask ViewWasShown) ((l : Line) → In l d.view → (l.object ≡ d.op.object) × IsShown counted tx l)
+  pub whole : Asked (ask ViewIsWhole) ((l : Line) → IsShown counted tx l → l.object ≡ d.op.object → In l d.view)
+  pub met : Asked (ask ReadQuorumIsMet) (HasQuorum decl epoch counted tx (Lock (read_lock d.op)) (read_need_of decl epoch d.op.object d.op.inv))
+
+abbrev pub IsExecutedFrom : Declaration → ℕ → List Granted → List Executed → TxId → Executed → Type 0
+IsExecutedFrom = IsExecutedFromBy every_guard
 
 -- an Append of the operation: its view, and own lines of the object, at least those whose event has a final threshold
-pub record IsAppendOf (decl : Declaration) (epoch : ℕ) (d : Executed) (s : AppendRequest) : Type 0 where
-  pub view : s.view ≡ d.view
-  pub items : (x : Item) → In x s.items → (o : OwnLine) × (x ≡ Own o) × ((o ≡ own_line d) ⊎ In o d.own)
-  pub whole : (o : OwnLine) → In o d.own → 0 < append_need_of decl epoch o.object o.event → In (Own o) s.items
+pub record IsAppendOfBy (ask : Guard → Bool) (decl : Declaration) (epoch : ℕ) (d : Executed) (s : AppendRequest) : Type 0 where
+  pub view : Asked (ask AppendCarriesView) (s.view ≡ d.view)
+  pub items : Asked (ask AppendCarriesOnlyOwnLines) ((x : Item) → In x s.items → (o : OwnLine) × (x ≡ Own o) × ((o ≡ own_line d) ⊎ In o d.own))
+  pub whole : Asked (ask AppendCarriesEarlierLines) ((o : OwnLine) → In o d.own → 0 < append_need_of decl epoch o.object o.event → In (Own o) s.items)
+
+abbrev pub IsAppendOf : Declaration → ℕ → Executed → AppendRequest → Type 0
+IsAppendOf = IsAppendOfBy every_guard
 
 -- a read lock against another's line, or a line against another's read lock
 abbrev pub Conflict : Declaration → Item → Item → Type 0
@@ -87,25 +94,36 @@ abbrev pub IsRequested : List AppendRequest → Granted → Type 0
 IsRequested appends g = ((lock : ReadLock) × (g.items ≡ Lock lock ∷ []) × (g.view ≡ [])) ⊎ In (record { tx = g.tx; items = g.items; view = g.view }) appends
 
 -- nobody else holds what conflicts, and the clock has passed all lines and Done records of the site
-pub record MayGrant (decl : Declaration) (g : Granted) : Type 0 where
-  pub current : epoch_from 1 g.before ≡ g.epoch
-  pub unshut : shut_from false g.before ≡ false
-  pub passes_installs : (k c : ℕ) (log : List Line) → In (Installs k c log) g.before → c ≤ g.clock
-  pub free : (u : TxId) (x y : Item) → In x g.items → In y (items_of u (site_after g.before).held) → u ≢ g.tx → Conflict decl x y → ⊥
-  pub passes_done : (u : TxId) (stamp : Stamp) → In (record { tx = u; stamp = stamp }) (done_records empty_site g.before) → stamp.clock ≤ g.clock
-  pub passes_lines : (l : Line) → In l (site_after g.before).volatile → l.stamp.clock ≤ g.clock
+pub record MayGrantBy (ask : Guard → Bool) (decl : Declaration) (g : Granted) : Type 0 where
+  pub current : Asked (ask GrantTellsEpoch) (epoch_from 1 g.before ≡ g.epoch)
+  pub unshut : Asked (ask GrantsUnlessClosed) (shut_from false g.before ≡ false)
+  pub passes_installs : Asked (ask GrantPassesInstalls) ((k c : ℕ) (log : List Line) → In (Installs k c log) g.before → c ≤ g.clock)
+  pub free : Asked (ask GrantsWithoutConflict) ((u : TxId) (x y : Item) → In x g.items → In y (items_of u (site_after g.before).held) → u ≢ g.tx → Conflict decl x y → ⊥)
+  pub passes_done : Asked (ask GrantPassesDone) ((u : TxId) (stamp : Stamp) → In (record { tx = u; stamp = stamp }) (done_records empty_site g.before) → stamp.clock ≤ g.clock)
+  pub passes_lines : Asked (ask GrantPassesLines) ((l : Line) → In l (site_after g.before).volatile → l.stamp.clock ≤ g.clock)
+
+abbrev pub MayGrant : Declaration → Granted → Type 0
+MayGrant = MayGrantBy every_guard
 
 -- the site is shut, and the clock has passed all lines, Done and Install records
-pub record MaySnapshot (s : Snapshot) : Type 0 where
-  pub shut : shut_from false s.before ≡ true
-  pub passes_done : (u : TxId) (stamp : Stamp) → In (record { tx = u; stamp = stamp }) (done_records empty_site s.before) → stamp.clock ≤ s.clock
-  pub passes_installs : (k c : ℕ) (log : List Line) → In (Installs k c log) s.before → c ≤ s.clock
+pub record MaySnapshotBy (ask : Guard → Bool) (s : Snapshot) : Type 0 where
+  pub shut : Asked (ask SnapshotIsOfClosed) (shut_from false s.before ≡ true)
+  pub passes_done : Asked (ask SnapshotPassesDone) ((u : TxId) (stamp : Stamp) → In (record { tx = u; stamp = stamp }) (done_records empty_site s.before) → stamp.clock ≤ s.clock)
+  pub passes_installs : Asked (ask SnapshotPassesInstalls) ((k c : ℕ) (log : List Line) → In (Installs k c log) s.before → c ≤ s.clock)
+
+abbrev pub MaySnapshot : Snapshot → Type 0
+MaySnapshot = MaySnapshotBy every_guard
 
 -- a prepared transaction of a Shut was asked about: it committed, and its own lines with the stamp are in the log, or it is given up
-abbrev pub IsResolved : List Verdict → Decision → Promise → Type 0
-IsResolved verdicts d p =
-    ((stamp : Stamp) × In (record { tx = p.tx; stamp = Some stamp }) verdicts × ((o : OwnLine) → In (Own o) p.items → In (committed_line stamp p.tx o) d.log) × (stamp.clock ≤ d.clock))
+abbrev pub IsResolvedBy : (Guard → Bool) → List Verdict → Decision → Promise → Type 0
+IsResolvedBy ask verdicts d p =
+    ((stamp : Stamp) × In (record { tx = p.tx; stamp = Some stamp }) verdicts
+    × Asked (ask MergesEveryEntry) ((o : OwnLine) → In (Own o) p.items → In (committed_line stamp p.tx o) d.log)
+    × Asked (ask DecidePassesCommitted) (stamp.clock ≤ d.clock))
     ⊎ In (record { tx = p.tx; stamp = None }) verdicts
+
+abbrev pub IsResolved : List Verdict → Decision → Promise → Type 0
+IsResolved = IsResolvedBy every_guard
 
 -- where a line of the new log comes from: a Shut log, or an own line of a committed transaction in a Shut
 pub record IsMerged (verdicts : List Verdict) (d : Decision) (l : Line) : Type 0 where
@@ -114,18 +132,20 @@ pub record IsMerged (verdicts : List Verdict) (d : Decision) (l : Line) : Type 0
   pub from : In l (site_after snapshot.before).volatile ⊎ ((p : Promise) × (o : OwnLine) × (stamp : Stamp) × In p (site_after snapshot.before).prepared × In (Own o) p.items × In (record { tx = p.tx; stamp = Some stamp }) verdicts × (l ≡ committed_line stamp p.tx o))
 
 -- Shut answers of the epoch before, of sites of the close weight; the log is all that they have
-pub record MayDecide (decl : Declaration) (w : State) (d : Decision) : Type 0 where
-  pub new : (e : Decision) → In e w.decided → e.epoch ≢ d.epoch
+pub record MayDecideBy (ask : Guard → Bool) (decl : Declaration) (w : State) (d : Decision) : Type 0 where
   pub plan : Plan
-  pub planned : (epoch : ℕ) → d.epoch ≡ suc epoch → plan_in decl epoch ≡ Some plan
-  pub epochs : (s : Snapshot) → In s d.snapshots → In s w.snapshots × (d.epoch ≡ suc (epoch_from 1 s.before))
+  pub planned : Asked (ask DecidesByPlan) ((epoch : ℕ) → d.epoch ≡ suc epoch → plan_in decl epoch ≡ Some plan)
+  pub epochs : (s : Snapshot) → In s d.snapshots → Asked (ask DecidesFromSnapshots) (In s w.snapshots) × Asked (ask DecidesNextEpoch) (d.epoch ≡ suc (epoch_from 1 s.before))
   pub sites : ℕ → Bool
-  pub closes : Closing plan (weight sites plan.weights)
-  pub each : (site : ℕ) → IsTrue (sites site) → (s : Snapshot) × In s d.snapshots × (s.site ≡ site)
-  pub resolved : (s : Snapshot) (p : Promise) → In s d.snapshots → In p (site_after s.before).prepared → IsResolved w.verdicts d p
-  pub logs : (s : Snapshot) (l : Line) → In s d.snapshots → In l (site_after s.before).volatile → In l d.log
-  pub merged : (l : Line) → In l d.log → IsMerged w.verdicts d l
-  pub clocks : (s : Snapshot) → In s d.snapshots → s.clock ≤ d.clock
+  pub closes : Asked (ask ClosesEnough) (Closing plan (weight sites plan.weights))
+  pub each : Asked (ask ClosedSitesAnswered) ((site : ℕ) → IsTrue (sites site) → (s : Snapshot) × In s d.snapshots × (s.site ≡ site))
+  pub resolved : Asked (ask ResolvesPrepared) ((s : Snapshot) (p : Promise) → In s d.snapshots → In p (site_after s.before).prepared → IsResolvedBy ask w.verdicts d p)
+  pub logs : Asked (ask MergesLogs) ((s : Snapshot) (l : Line) → In s d.snapshots → In l (site_after s.before).volatile → In l d.log)
+  pub merged : Asked (ask MergesOnlyCommitted) ((l : Line) → In l d.log → IsMerged w.verdicts d l)
+  pub clocks : Asked (ask DecidePassesSnapshots) ((s : Snapshot) → In s d.snapshots → s.clock ≤ d.clock)
+
+abbrev pub MayDecide : Declaration → State → Decision → Type 0
+MayDecide = MayDecideBy every_guard
 
 abbrev pub MayPrepare : Status → Type 0
 MayPrepare NotBegun = ⊥
@@ -148,37 +168,76 @@ abbrev pub op_of : Executed → Op
 op_of d = d.op
 
 -- all sites of the transaction voted, and the record has its operations, with a stamp above the client's clock
-pub record MayCommit (w : State) (c : CommitRecord) : Type 0 where
-  pub voting : w.status c.tx ≡ Voting
-  pub votes : (g : Granted) → In g w.counted → g.tx ≡ c.tx → In (record { tx = c.tx; site = g.site }) w.votes
-  pub client : c.stamp.client ≡ c.tx.client
-  pub above : w.clock c.tx.client < c.stamp.clock
-  pub ops : c.ops ≡ map op_of (w.executed c.tx)
+pub record MayCommitBy (ask : Guard → Bool) (w : State) (c : CommitRecord) : Type 0 where
+  pub voting : Asked (ask CommitsWhenVoting) (w.status c.tx ≡ Voting)
+  pub votes : Asked (ask AllHaveVoted) ((g : Granted) → In g w.counted → g.tx ≡ c.tx → In (record { tx = c.tx; site = g.site }) w.votes)
+  pub client : Asked (ask StampIsItsClients) (c.stamp.client ≡ c.tx.client)
+  pub above : Asked (ask StampPassesClock) (w.clock c.tx.client < c.stamp.clock)
+  pub ops : Asked (ask RecordHasOperations) (c.ops ≡ map op_of (w.executed c.tx))
+
+abbrev pub MayCommit : State → CommitRecord → Type 0
+MayCommit = MayCommitBy every_guard
+
+-- what is asked of each act, where these guards are asked
+abbrev pub IsAllowedBy : (Guard → Bool) → Declaration → State → Act → Type 0
+IsAllowedBy ask decl w (Begin tx epoch) =
+    Asked (ask BeginsOnce) (w.status tx ≡ NotBegun)
+    × Asked (ask BeginsInPlannedEpoch) ((plan : Plan) × (plan_in decl epoch ≡ Some plan))
+IsAllowedBy ask decl w (Choose tx operation) =
+    Asked (ask OperatesWhileActive) (w.status tx ≡ Active)
+    × Asked (ask ChoosesOneAtATime) (w.chosen tx ≡ None)
+    × IsExecutedFromBy ask decl (w.epoch tx) w.counted (w.executed tx) tx operation
+    × Asked (ask ChosenHasResponse) (IsSome operation.op.resp)
+IsAllowedBy ask decl w (SendAppend s) =
+    (operation : Executed) × Asked (ask AppendsWhatIsChosen) (w.chosen s.tx ≡ Some operation) × IsAppendOfBy ask decl (w.epoch s.tx) operation s
+IsAllowedBy ask decl w (Execute tx) =
+    Asked (ask OperatesWhileActive) (w.status tx ≡ Active)
+    × ((operation : Executed) × (w.chosen tx ≡ Some operation)
+    × Asked (ask AppendQuorumIsMet) (HasQuorum decl (w.epoch tx) w.counted tx (Own (own_line operation)) (append_need_of decl (w.epoch tx) operation.op.object operation.event)))
+IsAllowedBy ask decl w (ExecuteAbsent tx operation) =
+    Asked (ask OperatesWhileActive) (w.status tx ≡ Active)
+    × Asked (ask ChoosesOneAtATime) (w.chosen tx ≡ None)
+    × IsExecutedFromBy ask decl (w.epoch tx) w.counted (w.executed tx) tx operation
+    × Asked (ask AbsentHasNoResponse) (operation.op.resp ≡ None)
+IsAllowedBy ask decl w (Grant g) =
+    Asked (ask GrantTellsDeeds) (g.before ≡ w.deeds g.site)
+    × Asked (ask GrantTellsLife) (g.life ≡ w.life g.site)
+    × MayGrantBy ask decl g
+    × Asked (ask GrantsWhatWasRequested) (IsRequested w.appends g)
+IsAllowedBy ask decl w (Count g) =
+    Asked (ask CountsWhatWasGranted) (In g w.granted)
+    × Asked (ask CountsWhileActive) (w.status g.tx ≡ Active)
+    × Asked (ask CountsInItsEpoch) (g.epoch ≡ w.epoch g.tx)
+IsAllowedBy ask decl w (Prepare tx) =
+    Asked (ask PreparesOnce) (w.status tx ≡ Active) × Asked (ask PreparesWhenExecuted) (w.chosen tx ≡ None)
+IsAllowedBy ask decl w (Vote site tx) =
+    Asked (ask VotesWhenAsked) (MayPrepare (w.status tx))
+    × Asked (ask VotesInGrantedLife) ((g : Granted) → In g w.counted → g.tx ≡ tx → g.site ≡ site → g.life ≡ w.life site)
+IsAllowedBy ask decl w (PrepareLost site tx) = Asked (ask RecordsPrepareWhenAsked) (MayPrepare (w.status tx))
+IsAllowedBy ask decl w (Commit c) = MayCommitBy ask w c
+IsAllowedBy ask decl w (CommitUnknown c) = MayCommitBy ask w c
+IsAllowedBy ask decl w (Recover tx with_record) = (c : CommitRecord) × (w.status tx ≡ Pending c)
+IsAllowedBy ask decl w (Abort tx) = Asked (ask AbortsBeforeRecord) ((w.status tx ≡ Active) ⊎ (w.status tx ≡ Voting))
+IsAllowedBy ask decl w (RiseClient client clock) =
+    Asked (ask RisesWithNoneRunning) ((tx : TxId) → tx.client ≡ client → IsLive (w.status tx) → ⊥)
+    × Asked (ask RisesPastRecords) ((tx : TxId) (c : CommitRecord) → tx.client ≡ client → HasRecord (w.status tx) c → c.stamp.clock ≤ clock)
+IsAllowedBy ask decl w (Announce tx) = Unit {0}
+IsAllowedBy ask decl w (Learn site v) = Asked (ask LearnsWhatWasAnnounced) (In v w.verdicts)
+IsAllowedBy ask decl w (Rise site) = Unit {0}
+IsAllowedBy ask decl w (Close site) = Unit {0}
+IsAllowedBy ask decl w (TakeSnapshot s) = Asked (ask SnapshotTellsDeeds) (s.before ≡ w.deeds s.site) × MaySnapshotBy ask s
+IsAllowedBy ask decl w (Decide d) = MayDecideBy ask decl w d
+IsAllowedBy ask decl w (Install site d) =
+    Asked (ask InstallsWhatWasDecided) (In d w.decided) × Asked (ask InstallsLaterEpoch) (epoch_from 1 (w.deeds site) < d.epoch)
 
 abbrev pub IsAllowed : Declaration → State → Act → Type 0
-IsAllowed decl w (Begin tx epoch) = (w.status tx ≡ NotBegun) × ((plan : Plan) × (plan_in decl epoch ≡ Some plan))
-IsAllowed decl w (Choose tx operation) = (w.status tx ≡ Active) × (w.chosen tx ≡ None) × IsExecutedFrom decl (w.epoch tx) w.counted (w.executed tx) tx operation × IsSome operation.op.resp
-IsAllowed decl w (SendAppend s) = (operation : Executed) × (w.chosen s.tx ≡ Some operation) × IsAppendOf decl (w.epoch s.tx) operation s
-IsAllowed decl w (Execute tx) = (w.status tx ≡ Active) × ((operation : Executed) × (w.chosen tx ≡ Some operation) × HasQuorum decl (w.epoch tx) w.counted tx (Own (own_line operation)) (append_need_of decl (w.epoch tx) operation.op.object operation.event))
-IsAllowed decl w (ExecuteAbsent tx operation) = (w.status tx ≡ Active) × (w.chosen tx ≡ None) × IsExecutedFrom decl (w.epoch tx) w.counted (w.executed tx) tx operation × (operation.op.resp ≡ None)
-IsAllowed decl w (Grant g) = (g.before ≡ w.deeds g.site) × (g.life ≡ w.life g.site) × MayGrant decl g × IsRequested w.appends g
-IsAllowed decl w (Count g) = In g w.granted × (w.status g.tx ≡ Active) × (g.epoch ≡ w.epoch g.tx) × ((h : Granted) → In h w.counted → h.tx ≡ g.tx → h.site ≡ g.site → h.life ≡ g.life)
-IsAllowed decl w (Prepare tx) = (w.status tx ≡ Active) × (w.chosen tx ≡ None)
-IsAllowed decl w (Vote site tx) = MayPrepare (w.status tx) × ((g : Granted) → In g w.counted → g.tx ≡ tx → g.site ≡ site → g.life ≡ w.life site)
-IsAllowed decl w (PrepareLost site tx) = MayPrepare (w.status tx)
-IsAllowed decl w (Commit c) = MayCommit w c
-IsAllowed decl w (CommitUnknown c) = MayCommit w c
-IsAllowed decl w (Recover tx with_record) = (c : CommitRecord) × (w.status tx ≡ Pending c)
-IsAllowed decl w (Abort tx) = (w.status tx ≡ Active) ⊎ (w.status tx ≡ Voting)
-IsAllowed decl w (RiseClient client clock) = ((tx : TxId) → tx.client ≡ client → IsLive (w.status tx) → ⊥) × ((tx : TxId) (c : CommitRecord) → tx.client ≡ client → HasRecord (w.status tx) c → c.stamp.clock ≤ clock)
-IsAllowed decl w (Announce tx) = Unit {0}
-IsAllowed decl w (Learn site v) = In v w.verdicts
-IsAllowed decl w (Rise site) = Unit {0}
-IsAllowed decl w (Close site) = Unit {0}
-IsAllowed decl w (TakeSnapshot s) = (s.before ≡ w.deeds s.site) × MaySnapshot s
-IsAllowed decl w (Decide d) = MayDecide decl w d
-IsAllowed decl w (Install site d) = In d w.decided × (epoch_from 1 (w.deeds site) < d.epoch)
+IsAllowed = IsAllowedBy every_guard
 
+-- acts, newest first, each of which was allowed where these guards are asked
+abbrev pub IsRunBy : (Guard → Bool) → Declaration → List Act → Type 0
+IsRunBy ask decl [] = Unit {0}
+IsRunBy ask decl (a ∷ older) = IsAllowedBy ask decl (state older) a × IsRunBy ask decl older
+
+-- a run of the protocol: each guard is asked
 abbrev pub IsRun : Declaration → List Act → Type 0
-IsRun decl [] = Unit {0}
-IsRun decl (a ∷ older) = IsAllowed decl (state older) a × IsRun decl older
+IsRun = IsRunBy every_guard

@@ -124,5 +124,4 @@ pub record StateLaws (decl : Declaration) (w : State) : Type 0 where
   pub rising : (s : ℕ) → HasRisingEpochs 1 (w.deeds s)
   pub snapped : (s : Snapshot) → In s w.snapshots → (later : List Deed) × (w.deeds s.site ≡ s.before ++ later)
   pub answers : (s : Snapshot) → In s w.snapshots → MaySnapshot s
-  pub decisions : (d e : Decision) → In d w.decided → In e w.decided → d.epoch ≡ e.epoch → d ≡ e
   pub made : (d : Decision) → In d w.decided → IsDecisionFrom decl w.snapshots w.verdicts d
