@@ -33,9 +33,13 @@ use Rattle.qc_protocol.specs.StateLaws.{IsOutcome, StateLaws}
 use Rattle.qc_protocol.specs.Logs.{AreInOrder, IsDependedOn, IsClosedAt, LogLaws}
 use Rattle.qc_protocol.specs.Claims.{FollowsSeen, HasEarlier, IsLogOf, IsVerdictOf}
 use Rattle.qc_protocol.proofs.Names.{tx_cases}
-use Rattle.qc_protocol.proofs.Keeps.{committed_record, laws, outcome_commit, outcome_aborted}
+use Rattle.qc_protocol.proofs.Outcomes.{committed_record, outcome_commit, outcome_aborted}
+use Rattle.qc_protocol.proofs.Keeps.{laws}
 use Rattle.qc_protocol.proofs.LogKeeps.{log_laws}
-use Rattle.qc_protocol.proofs.OneCopyLaw.{depended, ordered, own_all, place, placed, placed_of, placed_ordered, runs_are_one_copy, some_resp, whose}
+use Rattle.qc_protocol.proofs.CommittedViews.{depended, own_all, whose}
+use Rattle.qc_protocol.proofs.Ordering.{ordered}
+use Rattle.qc_protocol.proofs.PlacedOperations.{place, placed, placed_of, placed_ordered, some_resp}
+use Rattle.qc_protocol.proofs.OneCopyLaw.{runs_are_one_copy}
 
 -- the place of an operation is its number
 pub record IsThere (ds : List Executed) (d : Executed) (from : ℕ) : Type 0 where

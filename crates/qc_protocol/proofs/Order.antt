@@ -21,7 +21,8 @@ use Rattle.qc_protocol.proofs.SiteLists.{items_of-append, items_of-each_held, in
 use Rattle.qc_protocol.proofs.SiteOrder.{after_append, held_or_done, held_or_logged, laws_after}
 use Rattle.qc_protocol.proofs.Epochs.{epoch-append, none_between, rising-left, rising-right}
 use Rattle.qc_protocol.proofs.SiteHolds.{held_after}
-use Rattle.qc_protocol.proofs.Keeps.{committed_record, laws}
+use Rattle.qc_protocol.proofs.Outcomes.{committed_record}
+use Rattle.qc_protocol.proofs.Keeps.{laws}
 
 -- two places in one list
 pub data Places (a b : List Deed) (x y : Deed) (p q : List Deed) : Type 0 where

@@ -1,11 +1,11 @@
 -- In plain runs all is of the first life and epoch.
-use Rattle.std.proofs.Common.{◌≡◌, ℕ, Bool, true, false, inl, inr, List, [], ◌∷◌, ◌++◌, Option, Some, None, refl, sym, ap, ◌∙◌, subst}
+use Rattle.std.proofs.Common.{◌≡◌, ℕ, false, inl, inr, List, [], ◌∷◌, ◌++◌, Option, Some, None, refl, sym, ◌∙◌, subst}
 use Rattle.qc_stamp.specs.declared.stamp.Stamp.{Stamp}
 use Rattle.qc_stamp.specs.declared.stamp.TxId.{TxId}
 use Rattle.qc_decl.specs.declared.declaration.Declaration.{Declaration}
 use Rattle.qc_onecopy.specs.Lists.{In}
 use Rattle.qc_onecopy.proofs.Lists.{in_split}
-use Rattle.qc_protocol.specs.Names.{put, put_tx}
+use Rattle.qc_protocol.specs.Names.{put}
 use Rattle.qc_protocol.specs.Site.{Deed, Grants, Prepares, LearnsCommit, LearnsAbort, Closes, Installs, Rises, epoch_from, shut_from}
 use Rattle.qc_protocol.specs.Acts.{Act, TakeSnapshot, Prepare, Begin, Count, Decide, Grant, Learn, Install, Abort, Execute, ExecuteAbsent, Commit, RiseClient, Rise, Vote, SendAppend, Recover, Close, CommitUnknown, Announce, Choose, PrepareLost, deed_of, after_act, deed_of_outcome, state}
 use Rattle.qc_protocol.specs.Guards.{IsAllowed, IsRun}

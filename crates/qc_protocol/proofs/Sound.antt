@@ -30,10 +30,10 @@ committed_line_in tx stamp (Own o ∷ xs) l (inl same) = record { own = o; liste
 committed_line_in tx stamp (Own o ∷ xs) l (inr h) = let r = committed_line_in tx stamp xs l h in record { own = r.own; listed = inr r.listed; is = r.is }
 
 module _ (decl : Declaration) (status : TxId → Status) (executed : TxId → List Executed) (chosen : TxId → Option Executed) where
-  abbrev Founded : List Line → Line → Type 0
+  abbrev pub Founded : List Line → Line → Type 0
   Founded log l = IsClosedAt decl status executed log l
 
-  abbrev Owned : TxId → List Line → List Item → OwnLine → Type 0
+  abbrev pub Owned : TxId → List Line → List Item → OwnLine → Type 0
   Owned tx log items o = IsOwnClosedAt decl executed chosen tx log items o
 
   pub wider : (a b : List Line) (l : Line) → ((m : Line) → In m a → In m b) → IsClosedAt decl status executed a l → IsClosedAt decl status executed b l
@@ -105,7 +105,7 @@ module _ (decl : Declaration) (status : TxId → Status) (executed : TxId → Li
       by true e = let same : tx ≡ u = tx_is tx u e in no_own_closed tx log (items_of tx (without_tx u s.held)) (ap (λ (t : TxId). items_of t (without_tx u s.held)) same ∙ items_of-dropped u s.held)
       by false e = subst (λ (xs : List Item). (o : OwnLine) → In (Own o) xs → IsOwnClosedAt decl executed chosen tx log xs o) (sym (items_of-kept u tx s.held e)) (a tx)
 
-  abbrev Good : Site → Type 0
+  abbrev pub Good : Site → Type 0
   Good s = IsSiteClosed decl status executed chosen s
 
   grants_keep : (s : Site) (tx : TxId) (items : List Item) (view : List Line) → IsAppendClosed decl status executed chosen tx items view → IsSiteClosed decl status executed chosen s → IsSiteClosed decl status executed chosen (after_deed s (Grants tx items view))

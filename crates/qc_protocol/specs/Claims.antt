@@ -11,10 +11,10 @@ use Rattle.qc_protocol.specs.Guards.{Shows}
 
 -- a log of a site, now or when it granted, or the view of an Append
 abbrev pub IsLogOf : State → List Line → Type 0
-IsLogOf w log =
-    ((site : ℕ) × (log ≡ (site_after (w.deeds site)).volatile))
-    ⊎ (((g : Granted) × In g w.granted × (log ≡ (site_after g.before).volatile))
-    ⊎ ((s : AppendRequest) × In s w.appends × (log ≡ s.view)))
+IsLogOf now log =
+    ((site : ℕ) × (log ≡ (site_after (now.deeds site)).volatile))
+    ⊎ (((g : Granted) × In g now.granted × (log ≡ (site_after g.before).volatile))
+    ⊎ ((s : AppendRequest) × In s now.appends × (log ≡ s.view)))
 
 -- a record of this transaction and stamp, before another
 pub record HasEarlier (records : List CommitRecord) (tx : TxId) (stamp : Stamp) (clock : ℕ) : Type 0 where
@@ -25,9 +25,9 @@ pub record HasEarlier (records : List CommitRecord) (tx : TxId) (stamp : Stamp) 
   pub before : commit.stamp.clock < clock
 
 -- what a client had learned as its transaction got this record: lines of grants that it counted since it rose, and its own records
-pub record FollowsSeen (w : State) (c : CommitRecord) : Type 0 where
-  pub seen_by : (g : Granted) (l : Line) → In g (w.seen_by c.tx.client) → Shows g l → HasEarlier w.records l.tx l.stamp c.stamp.clock
-  pub own : (d : CommitRecord) → In d w.records → d.tx.client ≡ c.tx.client → d.stamp.clock < c.stamp.clock
+pub record FollowsSeen (now : State) (c : CommitRecord) : Type 0 where
+  pub seen_by : (g : Granted) (l : Line) → In g (now.seen_by c.tx.client) → Shows g l → HasEarlier now.records l.tx l.stamp c.stamp.clock
+  pub own : (d : CommitRecord) → In d now.records → d.tx.client ≡ c.tx.client → d.stamp.clock < c.stamp.clock
 
 -- a record with this stamp, or none
 abbrev pub IsVerdictOf : List CommitRecord → TxId → Option Stamp → Type 0

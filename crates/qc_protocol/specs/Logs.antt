@@ -94,15 +94,15 @@ pub record IsAnsweredFromQuorum (decl : Declaration) (epoch : ℕ) (counted : Li
   pub shown : (l : Line) → In l d.view → (l.object ≡ d.op.object) × IsShown counted tx l
   pub met : IsReadBy decl epoch counted tx d
 
-pub record LogLaws (decl : Declaration) (w : State) : Type 0 where
-  pub order : (tx : TxId) → AreInOrder [] (w.executed tx)
-  pub begun : (tx : TxId) (d : Executed) → IsExecutedOrChosen (w.executed tx) (w.chosen tx) d → w.status tx ≢ NotBegun
-  pub next : (tx : TxId) (d : Executed) → w.chosen tx ≡ Some d → IsNextOperation (w.executed tx) d × IsSome d.op.resp
-  pub right : (tx : TxId) (d : Executed) → IsExecutedOrChosen (w.executed tx) (w.chosen tx) d → IsAnsweredFromQuorum decl (w.epoch tx) w.counted tx d
-  pub written : (tx : TxId) (d : Executed) → In d (w.executed tx) → IsSome d.op.resp → HasQuorum decl (w.epoch tx) w.counted tx (Own (own_line d)) (append_need_of decl (w.epoch tx) d.op.object d.event)
-  pub views : (tx : TxId) (d : Executed) (l : Line) → IsExecutedOrChosen (w.executed tx) (w.chosen tx) d → In l d.view → IsClosedAt decl w.status w.executed d.view l
-  pub appends : (s : AppendRequest) → In s w.appends → IsAppendClosed decl w.status w.executed w.chosen s.tx s.items s.view
-  pub sites : (site : ℕ) → IsSiteClosed decl w.status w.executed w.chosen (site_after (w.deeds site))
-  pub granted : (g : Granted) → In g w.granted → IsSiteClosed decl w.status w.executed w.chosen (site_after g.before)
-  pub snapshots : (s : Snapshot) → In s w.snapshots → IsSiteClosed decl w.status w.executed w.chosen (site_after s.before)
-  pub decided : (d : Decision) (l : Line) → In d w.decided → In l d.log → IsClosedAt decl w.status w.executed d.log l
+pub record LogLaws (decl : Declaration) (now : State) : Type 0 where
+  pub order : (tx : TxId) → AreInOrder [] (now.executed tx)
+  pub begun : (tx : TxId) (d : Executed) → IsExecutedOrChosen (now.executed tx) (now.chosen tx) d → now.status tx ≢ NotBegun
+  pub next : (tx : TxId) (d : Executed) → now.chosen tx ≡ Some d → IsNextOperation (now.executed tx) d × IsSome d.op.resp
+  pub right : (tx : TxId) (d : Executed) → IsExecutedOrChosen (now.executed tx) (now.chosen tx) d → IsAnsweredFromQuorum decl (now.epoch tx) now.counted tx d
+  pub written : (tx : TxId) (d : Executed) → In d (now.executed tx) → IsSome d.op.resp → HasQuorum decl (now.epoch tx) now.counted tx (Own (own_line d)) (append_need_of decl (now.epoch tx) d.op.object d.event)
+  pub views : (tx : TxId) (d : Executed) (l : Line) → IsExecutedOrChosen (now.executed tx) (now.chosen tx) d → In l d.view → IsClosedAt decl now.status now.executed d.view l
+  pub appends : (s : AppendRequest) → In s now.appends → IsAppendClosed decl now.status now.executed now.chosen s.tx s.items s.view
+  pub sites : (site : ℕ) → IsSiteClosed decl now.status now.executed now.chosen (site_after (now.deeds site))
+  pub granted : (g : Granted) → In g now.granted → IsSiteClosed decl now.status now.executed now.chosen (site_after g.before)
+  pub snapshots : (s : Snapshot) → In s now.snapshots → IsSiteClosed decl now.status now.executed now.chosen (site_after s.before)
+  pub decided : (d : Decision) (l : Line) → In d now.decided → In l d.log → IsClosedAt decl now.status now.executed d.log l

@@ -3,7 +3,7 @@ use Rattle.std.specs.Prelude.{◌≡◌, ℕ, List, [], ◌∷◌}
 use Rattle.qc_stamp.specs.declared.stamp.TxId.{TxId}
 use Rattle.qc_onecopy.specs.Lists.{In}
 use Rattle.qc_protocol.specs.Site.{Deed, Grants, Prepares, LearnsCommit, LearnsAbort}
-use Rattle.qc_protocol.specs.Acts.{Act, TakeSnapshot, Prepare, Begin, Count, Decide, Grant, Learn, Install, Abort, Execute, ExecuteAbsent, Commit, RiseClient, Rise, Vote, SendAppend, Recover, Close, CommitUnknown, Announce, Choose, PrepareLost}
+use Rattle.qc_protocol.specs.Acts.{Act, TakeSnapshot, Begin, Decide, Install, RiseClient, Rise, Recover, Close, CommitUnknown, PrepareLost}
 use Rattle.qc_protocol.specs.State.{Granted, State}
 
 -- nothing falls, rises, closes or is installed; transactions begin in the first epoch
@@ -32,8 +32,8 @@ IsPlainDeed (LearnsAbort tx) = Unit {0}
 IsPlainDeed _ = ⊥
 
 -- all is of the first life and epoch
-pub record IsFirst (w : State) : Type 0 where
-  pub lives : (site : ℕ) → w.life site ≡ 1
-  pub epochs : (tx : TxId) → w.epoch tx ≡ 1
-  pub deeds : (site : ℕ) (d : Deed) → In d (w.deeds site) → IsPlainDeed d
-  pub granted : (g : Granted) → In g w.granted → g.life ≡ 1
+pub record IsFirst (now : State) : Type 0 where
+  pub lives : (site : ℕ) → now.life site ≡ 1
+  pub epochs : (tx : TxId) → now.epoch tx ≡ 1
+  pub deeds : (site : ℕ) (d : Deed) → In d (now.deeds site) → IsPlainDeed d
+  pub granted : (g : Granted) → In g now.granted → g.life ≡ 1

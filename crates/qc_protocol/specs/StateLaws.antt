@@ -101,27 +101,27 @@ pub record IsDecisionFrom (decl : Declaration) (snapshots : List Snapshot) (verd
   pub logs : (s : Snapshot) (l : Line) → In s d.snapshots → In l (site_after s.before).volatile → In l d.log
   pub clocks : (s : Snapshot) → In s d.snapshots → s.clock ≤ d.clock
 
-pub record StateLaws (decl : Declaration) (w : State) : Type 0 where
-  pub verdicts : (v : Verdict) → In v w.verdicts → IsOutcome (w.status v.tx) v.stamp
-  pub deeds : (s : ℕ) (d : Deed) → In d (w.deeds s) → AgreesWithStatus w.status d
-  pub granted : (g : Granted) → In g w.granted → GrantedLaw (w.deeds g.site) (w.life g.site) g
-  pub facts : (g : Granted) → In g w.granted → MayGrant decl g
-  pub known : (g : Granted) → In g w.counted → In g w.granted
-  pub counted : (g : Granted) → In g w.counted → CountedLaw (w.deeds g.site) (w.life g.site) (w.status g.tx) w.votes g
-  pub votes : (v : YesVote) → In v w.votes → MayPrepare (w.status v.tx)
-  pub begun : (g : Granted) → In g w.counted → w.status g.tx ≢ NotBegun
-  pub passed : (g : Granted) → In g w.counted → IsLive (w.status g.tx) → g.clock ≤ w.clock g.tx.client
-  pub seen_by : (client : ℕ) (g : Granted) → In g (w.seen_by client) → In g w.granted × (g.clock ≤ w.clock client)
-  pub quiet : (tx : TxId) → w.status tx ≡ Voting → w.chosen tx ≡ None
-  pub record_of : (tx : TxId) (c : CommitRecord) → HasRecord (w.status tx) c → IsRecordOf w.counted w.votes (w.clock tx.client) (w.executed tx) (w.chosen tx) tx c
-  pub apart : (tx u : TxId) (c d : CommitRecord) → HasRecord (w.status tx) c → HasRecord (w.status u) d → tx ≢ u → c.stamp ≢ d.stamp
-  pub written : (c : CommitRecord) → In c w.records → w.status c.tx ≡ Committed c
-  pub writes : (tx : TxId) (c : CommitRecord) → w.status tx ≡ Committed c → In c w.records
+pub record StateLaws (decl : Declaration) (now : State) : Type 0 where
+  pub verdicts : (v : Verdict) → In v now.verdicts → IsOutcome (now.status v.tx) v.stamp
+  pub deeds : (s : ℕ) (d : Deed) → In d (now.deeds s) → AgreesWithStatus now.status d
+  pub granted : (g : Granted) → In g now.granted → GrantedLaw (now.deeds g.site) (now.life g.site) g
+  pub facts : (g : Granted) → In g now.granted → MayGrant decl g
+  pub known : (g : Granted) → In g now.counted → In g now.granted
+  pub counted : (g : Granted) → In g now.counted → CountedLaw (now.deeds g.site) (now.life g.site) (now.status g.tx) now.votes g
+  pub votes : (v : YesVote) → In v now.votes → MayPrepare (now.status v.tx)
+  pub begun : (g : Granted) → In g now.counted → now.status g.tx ≢ NotBegun
+  pub passed : (g : Granted) → In g now.counted → IsLive (now.status g.tx) → g.clock ≤ now.clock g.tx.client
+  pub seen_by : (client : ℕ) (g : Granted) → In g (now.seen_by client) → In g now.granted × (g.clock ≤ now.clock client)
+  pub quiet : (tx : TxId) → now.status tx ≡ Voting → now.chosen tx ≡ None
+  pub record_of : (tx : TxId) (c : CommitRecord) → HasRecord (now.status tx) c → IsRecordOf now.counted now.votes (now.clock tx.client) (now.executed tx) (now.chosen tx) tx c
+  pub apart : (tx u : TxId) (c d : CommitRecord) → HasRecord (now.status tx) c → HasRecord (now.status u) d → tx ≢ u → c.stamp ≢ d.stamp
+  pub written : (c : CommitRecord) → In c now.records → now.status c.tx ≡ Committed c
+  pub writes : (tx : TxId) (c : CommitRecord) → now.status tx ≡ Committed c → In c now.records
   -- epochs
-  pub counts_epoch : (g : Granted) → In g w.counted → g.epoch ≡ w.epoch g.tx
-  pub planned : (tx : TxId) → w.status tx ≢ NotBegun → (plan : Plan) × (plan_in decl (w.epoch tx) ≡ Some plan)
-  pub installed : (s : ℕ) (k c : ℕ) (log : List Line) → In (Installs k c log) (w.deeds s) → HasDecision w.decided k c log
-  pub rising : (s : ℕ) → HasRisingEpochs 1 (w.deeds s)
-  pub snapped : (s : Snapshot) → In s w.snapshots → (later : List Deed) × (w.deeds s.site ≡ s.before ++ later)
-  pub answers : (s : Snapshot) → In s w.snapshots → MaySnapshot s
-  pub made : (d : Decision) → In d w.decided → IsDecisionFrom decl w.snapshots w.verdicts d
+  pub counts_epoch : (g : Granted) → In g now.counted → g.epoch ≡ now.epoch g.tx
+  pub planned : (tx : TxId) → now.status tx ≢ NotBegun → (plan : Plan) × (plan_in decl (now.epoch tx) ≡ Some plan)
+  pub installed : (s : ℕ) (k c : ℕ) (log : List Line) → In (Installs k c log) (now.deeds s) → HasDecision now.decided k c log
+  pub rising : (s : ℕ) → HasRisingEpochs 1 (now.deeds s)
+  pub snapped : (s : Snapshot) → In s now.snapshots → (later : List Deed) × (now.deeds s.site ≡ s.before ++ later)
+  pub answers : (s : Snapshot) → In s now.snapshots → MaySnapshot s
+  pub made : (d : Decision) → In d now.decided → IsDecisionFrom decl now.snapshots now.verdicts d
