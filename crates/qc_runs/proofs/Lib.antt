@@ -1,0 +1,9 @@
+pub mod Finding
+pub mod Alike
+pub mod Answered
+pub mod Quorums
+pub mod AllowedSites
+pub mod AllowedClients
+pub mod AllowedDecisions
+pub mod Begun
+pub mod Allowed
