@@ -22,27 +22,27 @@ use Rattle.qc_runs.proofs.Finding.{asked, at_most, below, both, every, found, me
 use Rattle.qc_runs.proofs.Quorums.{quorum}
 use Rattle.qc_runs.specs.Moves.{Move, acts_from, acts_of}
 
-none_chosen : (o : Option Executed) → Option (o ≡ None)
+abbrev none_chosen : (o : Option Executed) → Option (o ≡ None)
 none_chosen None = Some refl
 none_chosen (Some d) = None
 
-none_told : (o : Option ℕ) → Option (o ≡ None)
+abbrev none_told : (o : Option ℕ) → Option (o ≡ None)
 none_told None = Some refl
 none_told (Some r) = None
 
-some_told : (o : Option ℕ) → Option (IsSome o)
+abbrev some_told : (o : Option ℕ) → Option (IsSome o)
 some_told None = None
 some_told (Some r) = Some refl
 
-planned : (o : Option Plan) → Option ((plan : Plan) × (o ≡ Some plan))
+abbrev planned : (o : Option Plan) → Option ((plan : Plan) × (o ≡ Some plan))
 planned None = None
 planned (Some plan) = Some (plan, refl)
 
-pending : (s : Status) → Option ((c : CommitRecord) × (s ≡ Pending c))
+abbrev pending : (s : Status) → Option ((c : CommitRecord) × (s ≡ Pending c))
 pending (Pending c) = Some (c, refl)
 pending _ = None
 
-may_prepare : (s : Status) → Option (MayPrepare s)
+abbrev may_prepare : (s : Status) → Option (MayPrepare s)
 may_prepare NotBegun = None
 may_prepare Active = None
 may_prepare Voting = Some tt
@@ -50,12 +50,12 @@ may_prepare (Pending c) = Some tt
 may_prepare (Committed c) = Some tt
 may_prepare Aborted = Some tt
 
-running : (s : Status) → Option ((s ≡ Active) ⊎ (s ≡ Voting))
+abbrev running : (s : Status) → Option ((s ≡ Active) ⊎ (s ≡ Voting))
 running Active = Some (inl refl)
 running Voting = Some (inr refl)
 running _ = None
 
-not_live : (s : Status) → Option (IsLive s → ⊥)
+abbrev not_live : (s : Status) → Option (IsLive s → ⊥)
 not_live NotBegun = Some (λ x. x)
 not_live Active = None
 not_live Voting = None
@@ -64,32 +64,32 @@ not_live (Committed c) = Some (λ x. x)
 not_live Aborted = Some (λ x. x)
 
 -- an operation for an Append of what wasn't chosen
-pretended : AppendRequest → Executed
+abbrev pretended : AppendRequest → Executed
 pretended s = by s.items
   where
     by : List Item → Executed
     by (Own o ∷ xs) = record { number = o.op; op = record { object = o.object; inv = 0; resp = None }; event = o.event; view = s.view; own = [] }
     by _ = record { number = 0; op = record { object = 0; inv = 0; resp = None }; event = 0; view = s.view; own = [] }
 
-sent : (ask : Guard → Bool) (decl : Declaration) (now : State) (s : AppendRequest) (is : Bool) (o : Option Executed) → now.chosen s.tx ≡ o
+abbrev sent : (ask : Guard → Bool) (decl : Declaration) (now : State) (s : AppendRequest) (is : Bool) (o : Option Executed) → now.chosen s.tx ≡ o
     → Option ((operation : Executed) × Asked is (now.chosen s.tx ≡ Some operation) × IsAppendOfBy ask decl (now.epoch s.tx) operation s)
 sent ask decl now s true None e = None
 sent ask decl now s true (Some d) e = option_map (λ f. (d, e, f)) (append_of ask decl (now.epoch s.tx) d s)
 sent ask decl now s false o e = option_map (λ f. (pretended s, tt, f)) (append_of ask decl (now.epoch s.tx) (pretended s) s)
 
-executed : (ask : Guard → Bool) (decl : Declaration) (now : State) (tx : TxId) (o : Option Executed) → now.chosen tx ≡ o
+abbrev executed : (ask : Guard → Bool) (decl : Declaration) (now : State) (tx : TxId) (o : Option Executed) → now.chosen tx ≡ o
     → Option ((operation : Executed) × (now.chosen tx ≡ Some operation) × Asked (ask AppendQuorumIsMet) (HasQuorum decl (now.epoch tx) now.counted tx (Own (own_line operation)) (append_need_of decl (now.epoch tx) operation.op.object operation.event)))
 executed ask decl now tx None e = None
 executed ask decl now tx (Some d) e = option_map (λ f. (d, e, f)) (asked (ask AppendQuorumIsMet) (quorum decl (now.epoch tx) now.counted tx (Own (own_line d)) (append_need_of decl (now.epoch tx) d.op.object d.event)))
 
 -- what concerns all of a client's transactions is found among those that have begun
-none_runs : (acts : List Act) (client : ℕ) → Option ((tx : TxId) → tx.client ≡ client → IsLive ((state acts).status tx) → ⊥)
+abbrev none_runs : (acts : List Act) (client : ℕ) → Option ((tx : TxId) → tx.client ≡ client → IsLive ((state acts).status tx) → ⊥)
 none_runs acts client = option_map made (every (λ (tx : TxId). tx.client ≡ client → IsLive ((state acts).status tx) → ⊥) (λ tx. where_same tx.client client (not_live ((state acts).status tx))) (begun acts))
   where
     made : ((tx : TxId) → In tx (begun acts) → tx.client ≡ client → IsLive ((state acts).status tx) → ⊥) → (tx : TxId) → tx.client ≡ client → IsLive ((state acts).status tx) → ⊥
     made f tx e live = elim (new_or_begun acts tx) [ inl new ↦ subst IsLive new live | inr h ↦ f tx h e live ]
 
-past_record : (clock : ℕ) (s : Status) → Option ((c : CommitRecord) → HasRecord s c → c.stamp.clock ≤ clock)
+abbrev past_record : (clock : ℕ) (s : Status) → Option ((c : CommitRecord) → HasRecord s c → c.stamp.clock ≤ clock)
 past_record clock (Committed d) = option_map (λ (e : d.stamp.clock ≤ clock). λ (c : CommitRecord) (same : d ≡ c). subst (λ (x : CommitRecord). x.stamp.clock ≤ clock) same e) (at_most d.stamp.clock clock)
 past_record clock (Pending d) = option_map (λ (e : d.stamp.clock ≤ clock). λ (c : CommitRecord) (same : d ≡ c). subst (λ (x : CommitRecord). x.stamp.clock ≤ clock) same e) (at_most d.stamp.clock clock)
 past_record clock NotBegun = Some (λ c h. absurd h)
@@ -97,14 +97,14 @@ past_record clock Active = Some (λ c h. absurd h)
 past_record clock Voting = Some (λ c h. absurd h)
 past_record clock Aborted = Some (λ c h. absurd h)
 
-past_records : (acts : List Act) (client clock : ℕ) → Option ((tx : TxId) (c : CommitRecord) → tx.client ≡ client → HasRecord ((state acts).status tx) c → c.stamp.clock ≤ clock)
+abbrev past_records : (acts : List Act) (client clock : ℕ) → Option ((tx : TxId) (c : CommitRecord) → tx.client ≡ client → HasRecord ((state acts).status tx) c → c.stamp.clock ≤ clock)
 past_records acts client clock = option_map made (every (λ (tx : TxId). tx.client ≡ client → (c : CommitRecord) → HasRecord ((state acts).status tx) c → c.stamp.clock ≤ clock) (λ tx. where_same tx.client client (past_record clock ((state acts).status tx))) (begun acts))
   where
     made : ((tx : TxId) → In tx (begun acts) → tx.client ≡ client → (c : CommitRecord) → HasRecord ((state acts).status tx) c → c.stamp.clock ≤ clock)
         → (tx : TxId) (c : CommitRecord) → tx.client ≡ client → HasRecord ((state acts).status tx) c → c.stamp.clock ≤ clock
     made f tx c e has = elim (new_or_begun acts tx) [ inl new ↦ absurd (subst (λ (s : Status). HasRecord s c) new has) | inr h ↦ f tx h e c has ]
 
-pub allowed : (ask : Guard → Bool) (decl : Declaration) (acts : List Act) (a : Act) → Option (IsAllowedBy ask decl (state acts) a)
+abbrev pub allowed : (ask : Guard → Bool) (decl : Declaration) (acts : List Act) (a : Act) → Option (IsAllowedBy ask decl (state acts) a)
 allowed ask decl acts (Begin tx epoch) = let now = state acts in both (asked (ask BeginsOnce) (is_new (now.status tx))) (asked (ask BeginsInPlannedEpoch) (planned (plan_in decl epoch)))
 allowed ask decl acts (Choose tx d) =
     let now = state acts in
@@ -147,10 +147,10 @@ allowed ask decl acts (Decide d) = may_decide ask decl (state acts) d
 allowed ask decl acts (Install site d) =
     let now = state acts in both (asked (ask InstallsWhatWasDecided) (member same_decision d now.decided)) (asked (ask InstallsLaterEpoch) (below (epoch_from 1 (now.deeds site)) d.epoch))
 
-run_from : (ask : Guard → Bool) (decl : Declaration) (older : List Act) (story : List Move) → Option (IsRunBy ask decl older) → Option (IsRunBy ask decl (acts_from older story))
+abbrev run_from : (ask : Guard → Bool) (decl : Declaration) (older : List Act) (story : List Move) → Option (IsRunBy ask decl older) → Option (IsRunBy ask decl (acts_from older story))
 run_from ask decl older [] run = run
 run_from ask decl older (m ∷ ms) run = run_from ask decl (m (state older) ∷ older) ms (both (allowed ask decl older (m (state older))) run)
 
 -- a story is a run where these guards are asked
-pub run_of : (ask : Guard → Bool) (decl : Declaration) (story : List Move) → Option (IsRunBy ask decl (acts_of story))
+abbrev pub run_of : (ask : Guard → Bool) (decl : Declaration) (story : List Move) → Option (IsRunBy ask decl (acts_of story))
 run_of ask decl story = run_from ask decl [] story (Some tt)

@@ -18,26 +18,26 @@ use Rattle.qc_runs.proofs.Answered.{answered}
 use Rattle.qc_runs.proofs.Finding.{asked, below, both, every, member, same_number, where_same_tx}
 use Rattle.qc_runs.proofs.Quorums.{line_shown, quorum, view_whole}
 
-pub is_active : (s : Status) → Option (s ≡ Active)
+abbrev pub is_active : (s : Status) → Option (s ≡ Active)
 is_active Active = Some refl
 is_active _ = None
 
-pub is_voting : (s : Status) → Option (s ≡ Voting)
+abbrev pub is_voting : (s : Status) → Option (s ≡ Voting)
 is_voting Voting = Some refl
 is_voting _ = None
 
-pub is_new : (s : Status) → Option (s ≡ NotBegun)
+abbrev pub is_new : (s : Status) → Option (s ≡ NotBegun)
 is_new NotBegun = Some refl
 is_new _ = None
 
-declared : (o : Option Kind) (inv : ℕ) → Option ((kind : Kind) → o ≡ Some kind → inv < kind.table.invs)
+abbrev declared : (o : Option Kind) (inv : ℕ) → Option ((kind : Kind) → o ≡ Some kind → inv < kind.table.invs)
 declared None inv = Some (λ kind e. absurd (let never : ⊥ = cc in never))
 declared (Some k) inv = option_map by (below inv k.table.invs)
   where
     by : inv < k.table.invs → (kind : Kind) → Some k ≡ Some kind → inv < kind.table.invs
     by e kind f = let same : k ≡ kind = cc in subst (λ (x : Kind). inv < x.table.invs) same e
 
-pub executed_from : (ask : Guard → Bool) (decl : Declaration) (epoch : ℕ) (counted : List Granted) (executed : List Executed) (tx : TxId) (d : Executed)
+abbrev pub executed_from : (ask : Guard → Bool) (decl : Declaration) (epoch : ℕ) (counted : List Granted) (executed : List Executed) (tx : TxId) (d : Executed)
     → Option (IsExecutedFromBy ask decl epoch counted executed tx d)
 executed_from ask decl epoch counted executed tx d =
     option_map (λ f. record { answered = f.0; known = (f.1).0; numbered = ((f.1).1).0; own = (((f.1).1).1).0; shown = ((((f.1).1).1).1).0; whole = (((((f.1).1).1).1).1).0; met = (((((f.1).1).1).1).1).1 })
@@ -52,7 +52,7 @@ executed_from ask decl epoch counted executed tx d =
 abbrev IsOwnItem : Executed → Item → Type 0
 IsOwnItem d x = (o : OwnLine) × (x ≡ Own o) × ((o ≡ own_line d) ⊎ In o d.own)
 
-own_item : (d : Executed) (x : Item) → Option (IsOwnItem d x)
+abbrev own_item : (d : Executed) (x : Item) → Option (IsOwnItem d x)
 own_item d (Lock l) = None
 own_item d (Own o) = by (same_own o (own_line d)) (member same_own o d.own)
   where
@@ -61,21 +61,21 @@ own_item d (Own o) = by (same_own o (own_line d)) (member same_own o d.own)
     by None (Some h) = Some (o, refl, inr h)
     by None None = None
 
-carried : (items : List Item) (need : ℕ) (o : OwnLine) → Option (0 < need → In (Own o) items)
+abbrev carried : (items : List Item) (need : ℕ) (o : OwnLine) → Option (0 < need → In (Own o) items)
 carried items zero o = Some (λ e. absurd (omega arith))
 carried items (suc need) o = option_map (λ (h : In (Own o) items). λ (e : 0 < suc need). h) (member same_item (Own o) items)
 
-own_items : (d : Executed) (items : List Item) → Option ((x : Item) → In x items → (o : OwnLine) × (x ≡ Own o) × ((o ≡ own_line d) ⊎ In o d.own))
+abbrev own_items : (d : Executed) (items : List Item) → Option ((x : Item) → In x items → (o : OwnLine) × (x ≡ Own o) × ((o ≡ own_line d) ⊎ In o d.own))
 own_items d items = every (IsOwnItem d) (own_item d) items
 
-pub append_of : (ask : Guard → Bool) (decl : Declaration) (epoch : ℕ) (d : Executed) (s : AppendRequest) → Option (IsAppendOfBy ask decl epoch d s)
+abbrev pub append_of : (ask : Guard → Bool) (decl : Declaration) (epoch : ℕ) (d : Executed) (s : AppendRequest) → Option (IsAppendOfBy ask decl epoch d s)
 append_of ask decl epoch d s =
     option_map (λ f. record { view = f.0; items = (f.1).0; whole = (f.1).1 })
     (both (asked (ask AppendCarriesView) (same_list same_line s.view d.view))
     (both (asked (ask AppendCarriesOnlyOwnLines) (own_items d s.items))
     (asked (ask AppendCarriesEarlierLines) (every (λ (o : OwnLine). 0 < append_need_of decl epoch o.object o.event → In (Own o) s.items) (λ o. carried s.items (append_need_of decl epoch o.object o.event) o) d.own))))
 
-pub may_commit : (ask : Guard → Bool) (now : State) (c : CommitRecord) → Option (MayCommitBy ask now c)
+abbrev pub may_commit : (ask : Guard → Bool) (now : State) (c : CommitRecord) → Option (MayCommitBy ask now c)
 may_commit ask now c =
     option_map (λ f. record { voting = f.0; votes = (f.1).0; client = ((f.1).1).0; above = (((f.1).1).1).0; ops = (((f.1).1).1).1 })
     (both (asked (ask CommitsWhenVoting) (is_voting (now.status c.tx)))

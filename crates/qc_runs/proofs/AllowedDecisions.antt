@@ -19,14 +19,14 @@ use Rattle.qc_protocol.specs.State.{Decision, Snapshot, State, Verdict}
 use Rattle.qc_runs.proofs.Alike.{same_item, same_line, same_snapshot, same_verdict}
 use Rattle.qc_runs.proofs.Finding.{IsFound, asked, at_most, both, every, found, member, same_number, some}
 
-no_plan : Plan
+abbrev pub no_plan : Plan
 no_plan = record { weights = []; initial = []; last = [] }
 
 -- the plan by which the decision is made; any where it isn't asked
 abbrev IsPlanFor : Bool → Declaration → ℕ → Plan → Type 0
 IsPlanFor is decl decided plan = Asked is ((epoch : ℕ) → decided ≡ suc epoch → plan_in decl epoch ≡ Some plan)
 
-plan_for : (is : Bool) (decl : Declaration) (decided : ℕ) → Option ((plan : Plan) × IsPlanFor is decl decided plan)
+abbrev plan_for : (is : Bool) (decl : Declaration) (decided : ℕ) → Option ((plan : Plan) × IsPlanFor is decl decided plan)
 plan_for false decl decided = Some (no_plan, tt)
 plan_for true decl zero = None
 plan_for true decl (suc epoch) = by (plan_in decl epoch) refl
@@ -35,11 +35,10 @@ plan_for true decl (suc epoch) = by (plan_in decl epoch) refl
     by None e = None
     by (Some plan) e = Some (plan, λ k f. (let same : epoch ≡ k = omega arith in subst (λ (n : ℕ). plan_in decl n ≡ Some plan) same e))
 
-close_weight_of : Plan → ℕ
+abbrev close_weight_of : Plan → ℕ
 close_weight_of plan = max (closing_needs (total plan.weights) plan.initial) (closing_needs (total plan.weights) plan.last)
 
-closing : (plan : Plan) (sites_weight : ℕ) → Option (Closing plan sites_weight)
-unfolding close_weight_of
+abbrev closing : (plan : Plan) (sites_weight : ℕ) → Option (Closing plan sites_weight)
 closing plan sites_weight = option_map made (at_most (close_weight_of plan) sites_weight)
   where
     made : close_weight_of plan ≤ sites_weight → Closing plan sites_weight
@@ -51,16 +50,15 @@ closing plan sites_weight = option_map made (at_most (close_weight_of plan) site
 abbrev IsOfSite : ℕ → Snapshot → Type 0
 IsOfSite site s = s.site ≡ site
 
-of_site : (snapshots : List Snapshot) (site : ℕ) → Option (IsFound (IsOfSite site) snapshots)
+abbrev of_site : (snapshots : List Snapshot) (site : ℕ) → Option (IsFound (IsOfSite site) snapshots)
 of_site snapshots site = some (IsOfSite site) (λ s. same_number s.site site) snapshots
 
 -- the sites that answered; all where answers aren't asked
-closed_sites : Bool → List Snapshot → ℕ → Bool
+abbrev closed_sites : Bool → List Snapshot → ℕ → Bool
 closed_sites true snapshots site = is_some (of_site snapshots site)
 closed_sites false snapshots site = true
 
-each_answered : (is : Bool) (snapshots : List Snapshot) → Asked is ((site : ℕ) → IsTrue (closed_sites is snapshots site) → (s : Snapshot) × In s snapshots × (s.site ≡ site))
-unfolding closed_sites
+pub each_answered : (is : Bool) (snapshots : List Snapshot) → Asked is ((site : ℕ) → IsTrue (closed_sites is snapshots site) → (s : Snapshot) × In s snapshots × (s.site ≡ site))
 each_answered true snapshots = λ site t. (let f = found (of_site snapshots site) t in (f.item, f.stands, f.holds))
 each_answered false snapshots = tt
 
@@ -68,14 +66,14 @@ each_answered false snapshots = tt
 abbrev IsLineIn : Stamp → Promise → List Line → Item → Type 0
 IsLineIn stamp p log x = (o : OwnLine) → x ≡ Own o → In (committed_line stamp p.tx o) log
 
-line_in : (stamp : Stamp) (p : Promise) (log : List Line) (x : Item) → Option (IsLineIn stamp p log x)
+abbrev line_in : (stamp : Stamp) (p : Promise) (log : List Line) (x : Item) → Option (IsLineIn stamp p log x)
 line_in stamp p log (Lock l) = Some (λ o e. absurd (let never : ⊥ = cc in never))
 line_in stamp p log (Own q) = option_map made (member same_line (committed_line stamp p.tx q) log)
   where
     made : In (committed_line stamp p.tx q) log → IsLineIn stamp p log (Own q)
     made h o e = let same : q ≡ o = cc in subst (λ (x : OwnLine). In (committed_line stamp p.tx x) log) same h
 
-lines_in : (stamp : Stamp) (p : Promise) (log : List Line) → Option ((o : OwnLine) → In (Own o) p.items → In (committed_line stamp p.tx o) log)
+abbrev lines_in : (stamp : Stamp) (p : Promise) (log : List Line) → Option ((o : OwnLine) → In (Own o) p.items → In (committed_line stamp p.tx o) log)
 lines_in stamp p log = option_map made (every (IsLineIn stamp p log) (line_in stamp p log) p.items)
   where
     made : ((x : Item) → In x p.items → IsLineIn stamp p log x) → (o : OwnLine) → In (Own o) p.items → In (committed_line stamp p.tx o) log
@@ -87,14 +85,14 @@ IsCommitOf ask d p v =
     × Asked (ask MergesEveryEntry) ((o : OwnLine) → In (Own o) p.items → In (committed_line stamp p.tx o) d.log)
     × Asked (ask DecidePassesCommitted) (stamp.clock ≤ d.clock)
 
-commit_of : (ask : Guard → Bool) (d : Decision) (p : Promise) (v : Verdict) → Option (IsCommitOf ask d p v)
+abbrev commit_of : (ask : Guard → Bool) (d : Decision) (p : Promise) (v : Verdict) → Option (IsCommitOf ask d p v)
 commit_of ask d p v = by v.stamp
   where
     by : Option Stamp → Option (IsCommitOf ask d p v)
     by None = None
     by (Some stamp) = option_map (λ f. (stamp, f.0, (f.1).0, (f.1).1)) (both (same_verdict v (record { tx = p.tx; stamp = Some stamp })) (both (asked (ask MergesEveryEntry) (lines_in stamp p d.log)) (asked (ask DecidePassesCommitted) (at_most stamp.clock d.clock))))
 
-resolved : (ask : Guard → Bool) (verdicts : List Verdict) (d : Decision) (p : Promise) → Option (IsResolvedBy ask verdicts d p)
+abbrev resolved : (ask : Guard → Bool) (verdicts : List Verdict) (d : Decision) (p : Promise) → Option (IsResolvedBy ask verdicts d p)
 resolved ask verdicts d p = by (some (IsCommitOf ask d p) (commit_of ask d p) verdicts) (member same_verdict (record { tx = p.tx; stamp = None }) verdicts)
   where
     by : Option (IsFound (IsCommitOf ask d p) verdicts) → Option (In (record { tx = p.tx; stamp = None }) verdicts) → Option (IsResolvedBy ask verdicts d p)
@@ -102,17 +100,17 @@ resolved ask verdicts d p = by (some (IsCommitOf ask d p) (commit_of ask d p) ve
     by None (Some h) = Some (inr h)
     by None None = None
 
-all_resolved : (ask : Guard → Bool) (verdicts : List Verdict) (d : Decision)
+abbrev all_resolved : (ask : Guard → Bool) (verdicts : List Verdict) (d : Decision)
     → Option ((s : Snapshot) (p : Promise) → In s d.snapshots → In p (site_after s.before).prepared → IsResolvedBy ask verdicts d p)
 all_resolved ask verdicts d = option_map (λ (f : (s : Snapshot) → In s d.snapshots → (p : Promise) → In p (site_after s.before).prepared → IsResolvedBy ask verdicts d p). λ s p hs hp. f s hs p hp)
     (every (λ (s : Snapshot). (p : Promise) → In p (site_after s.before).prepared → IsResolvedBy ask verdicts d p) (λ s. every (IsResolvedBy ask verdicts d) (resolved ask verdicts d) (site_after s.before).prepared) d.snapshots)
 
-all_logs : (d : Decision) → Option ((s : Snapshot) (l : Line) → In s d.snapshots → In l (site_after s.before).volatile → In l d.log)
+abbrev all_logs : (d : Decision) → Option ((s : Snapshot) (l : Line) → In s d.snapshots → In l (site_after s.before).volatile → In l d.log)
 all_logs d = option_map (λ (f : (s : Snapshot) → In s d.snapshots → (l : Line) → In l (site_after s.before).volatile → In l d.log). λ s l hs hl. f s hs l hl)
     (every (λ (s : Snapshot). (l : Line) → In l (site_after s.before).volatile → In l d.log) (λ s. every (λ (l : Line). In l d.log) (λ l. member same_line l d.log) (site_after s.before).volatile) d.snapshots)
 
 -- where a line of the new log may come from
-own_of : Line → OwnLine
+abbrev own_of : Line → OwnLine
 own_of l = record { op = l.op; object = l.object; event = l.event }
 
 abbrev IsOfPromise : List Verdict → Line → Promise → Type 0
@@ -121,7 +119,7 @@ IsOfPromise verdicts l p = In (Own (own_of l)) p.items × (In (record { tx = p.t
 abbrev IsFrom : List Verdict → Line → Snapshot → Type 0
 IsFrom verdicts l s = In l (site_after s.before).volatile ⊎ IsFound (IsOfPromise verdicts l) (site_after s.before).prepared
 
-from : (verdicts : List Verdict) (l : Line) (s : Snapshot) → Option (IsFrom verdicts l s)
+abbrev from : (verdicts : List Verdict) (l : Line) (s : Snapshot) → Option (IsFrom verdicts l s)
 from verdicts l s = by (member same_line l (site_after s.before).volatile) (some (IsOfPromise verdicts l) one (site_after s.before).prepared)
   where
     one : (p : Promise) → Option (IsOfPromise verdicts l p)
@@ -132,7 +130,7 @@ from verdicts l s = by (member same_line l (site_after s.before).volatile) (some
     by None (Some f) = Some (inr f)
     by None None = None
 
-merged : (verdicts : List Verdict) (d : Decision) (l : Line) → Option (IsMerged verdicts d l)
+abbrev merged : (verdicts : List Verdict) (d : Decision) (l : Line) → Option (IsMerged verdicts d l)
 merged verdicts d l = option_map made (some (IsFrom verdicts l) (from verdicts l) d.snapshots)
   where
     made : IsFound (IsFrom verdicts l) d.snapshots → IsMerged verdicts d l
@@ -142,7 +140,7 @@ merged verdicts d l = option_map made (some (IsFrom verdicts l) (from verdicts l
       from = elim f.holds [ inl h ↦ inl h | inr p ↦ inr (p.item, own_of l, l.stamp, p.stands, p.holds.0, (p.holds.1).0, (p.holds.1).1) ];
     }
 
-pub may_decide : (ask : Guard → Bool) (decl : Declaration) (now : State) (d : Decision) → Option (MayDecideBy ask decl now d)
+abbrev pub may_decide : (ask : Guard → Bool) (decl : Declaration) (now : State) (d : Decision) → Option (MayDecideBy ask decl now d)
 may_decide ask decl now d = by (plan_for (ask DecidesByPlan) decl d.epoch)
   where
     sites : ℕ → Bool

@@ -16,7 +16,7 @@ use Rattle.qc_table.specs.declared.kind.Kind.{Kind}
 use Rattle.qc_table.specs.declared.row.Row.{Row}
 
 -- no row is for this invocation in this state
-unanswered : (rows : List Row) (state inv : ℕ) → Option ((resp : ℕ) → next_in rows state (event inv resp) ≡ None)
+abbrev unanswered : (rows : List Row) (state inv : ℕ) → Option ((resp : ℕ) → next_in rows state (event inv resp) ≡ None)
 unanswered [] state inv = Some (λ resp. refl)
 unanswered (row ∷ rows) state inv = by (row.state == state) (row.inv == inv) refl refl (unanswered rows state inv)
   where
@@ -28,7 +28,7 @@ unanswered (row ∷ rows) state inv = by (row.state == state) (row.inv == inv) r
     by true false d e (Some rest) = Some (λ resp. rw (d, e) (rest resp))
 
 -- a view allows the invocation no response
-no_reply : (kind : Kind) (history : List ℕ) (inv : ℕ) → Option ((resp : ℕ) → allows kind history inv resp ≡ false)
+abbrev no_reply : (kind : Kind) (history : List ℕ) (inv : ℕ) → Option ((resp : ℕ) → allows kind history inv resp ≡ false)
 no_reply kind history inv = by (state_after kind history) refl
   where
     by : (o : Option ℕ) → state_after kind history ≡ o → Option ((resp : ℕ) → allows kind history inv resp ≡ false)
@@ -40,18 +40,18 @@ no_reply kind history inv = by (state_after kind history) refl
             ap (λ (o : Option ℕ). is_some (option_and_then (λ state. next_in kind.table.rows state (event inv resp)) o)) e
             ∙ ap (λ (o : Option ℕ). is_some o) (none resp)
 
-replies : (kind : Kind) (history : List ℕ) (inv : ℕ) (o : Option ℕ) → Option (Replies kind history inv o)
+abbrev replies : (kind : Kind) (history : List ℕ) (inv : ℕ) (o : Option ℕ) → Option (Replies kind history inv o)
 replies kind history inv None = no_reply kind history inv
 replies kind history inv (Some resp) = is_true (allows kind history inv resp)
 
-numbered : (kind : Kind) (inv number : ℕ) (o : Option ℕ) → Option ((resp : ℕ) → o ≡ Some resp → event_number (events_of kind.table.rows) (event inv resp) ≡ Some number)
+abbrev numbered : (kind : Kind) (inv number : ℕ) (o : Option ℕ) → Option ((resp : ℕ) → o ≡ Some resp → event_number (events_of kind.table.rows) (event inv resp) ≡ Some number)
 numbered kind inv number None = Some (λ resp e. absurd (let never : ⊥ = cc in never))
 numbered kind inv number (Some r) = option_map by (same_option same_number (event_number (events_of kind.table.rows) (event inv r)) (Some number))
   where
     by : event_number (events_of kind.table.rows) (event inv r) ≡ Some number → (resp : ℕ) → Some r ≡ Some resp → event_number (events_of kind.table.rows) (event inv resp) ≡ Some number
     by e resp f = let same : r ≡ resp = cc in subst (λ (x : ℕ). event_number (events_of kind.table.rows) (event inv x) ≡ Some number) same e
 
-line_before : (l m : Line) → Option (IsLineBefore l m)
+abbrev line_before : (l m : Line) → Option (IsLineBefore l m)
 line_before l m = by (line_cmp l m) refl
   where
     by : (o : Ordering) → line_cmp l m ≡ o → Option (line_cmp l m ≡ Less)
@@ -59,11 +59,11 @@ line_before l m = by (line_cmp l m) refl
     by Equal e = None
     by Greater e = None
 
-lines_in_order : (view : List Line) → Option (IsOrdered IsLineBefore view)
+abbrev lines_in_order : (view : List Line) → Option (IsOrdered IsLineBefore view)
 lines_in_order [] = Some tt
 lines_in_order (l ∷ ls) = both (every (λ (m : Line). IsLineBefore l m) (line_before l) ls) (lines_in_order ls)
 
-pub answered : (decl : Declaration) (d : Executed) → Option (IsAnswered decl d)
+abbrev pub answered : (decl : Declaration) (d : Executed) → Option (IsAnswered decl d)
 answered decl d = by (kind_at decl d.op.object) refl
   where
     by : (o : Option Kind) → kind_at decl d.op.object ≡ o → Option (IsAnswered decl d)

@@ -21,7 +21,7 @@ begun (_ ∷ older) = begun older
 abbrev pub IsNewOrBegun : List Act → TxId → Type 0
 IsNewOrBegun acts tx = ((state acts).status tx ≡ NotBegun) ⊎ In tx (begun acts)
 
-one_more : (older : List Act) (k : TxId) (s : Status) (tx : TxId) → IsNewOrBegun older tx → (put_tx (state older).status k s tx ≡ NotBegun) ⊎ In tx (k ∷ begun older)
+pub one_more : (older : List Act) (k : TxId) (s : Status) (tx : TxId) → IsNewOrBegun older tx → (put_tx (state older).status k s tx ≡ NotBegun) ⊎ In tx (k ∷ begun older)
 one_more older k s tx known =
     put_tx_case (λ (x : Status). (x ≡ NotBegun) ⊎ In tx (k ∷ begun older)) (state older).status k s tx (λ e. inr (inl e)) (λ ne. elim known [ inl new ↦ inl new | inr h ↦ inr (inr h) ])
 

@@ -7,3 +7,5 @@ pub mod AllowedClients
 pub mod AllowedDecisions
 pub mod Begun
 pub mod Allowed
+pub mod Broken
+pub mod Accepted

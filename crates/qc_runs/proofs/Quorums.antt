@@ -15,13 +15,13 @@ use Rattle.qc_runs.proofs.Finding.{IsFound, at_most, both, every, found, member,
 abbrev IsGrantOf : TxId → ℕ → Item → Granted → Type 0
 IsGrantOf tx site item g = (g.tx ≡ tx) × ((g.site ≡ site) × In item g.items)
 
-has_granted : (counted : List Granted) (tx : TxId) (item : Item) (site : ℕ) → Option (HasGranted counted tx site item)
+abbrev has_granted : (counted : List Granted) (tx : TxId) (item : Item) (site : ℕ) → Option (HasGranted counted tx site item)
 has_granted counted tx item site = option_map made (some (IsGrantOf tx site item) (λ g. both (alike_tx g.tx tx) (both (same_number g.site site) (member same_item item g.items))) counted)
   where
     made : IsFound (IsGrantOf tx site item) counted → HasGranted counted tx site item
     made f = record { grant = f.item; counts = f.stands; its = f.holds.0; from = (f.holds.1).0; has = (f.holds.1).1 }
 
-pub quorum : (decl : Declaration) (epoch : ℕ) (counted : List Granted) (tx : TxId) (item : Item) (need : ℕ) → Option (HasQuorum decl epoch counted tx item need)
+abbrev pub quorum : (decl : Declaration) (epoch : ℕ) (counted : List Granted) (tx : TxId) (item : Item) (need : ℕ) → Option (HasQuorum decl epoch counted tx item need)
 quorum decl epoch counted tx item need = option_map made (at_most need (weight (λ site. is_some (has_granted counted tx item site)) (weights_of decl epoch)))
   where
     made : need ≤ weight (λ site. is_some (has_granted counted tx item site)) (weights_of decl epoch) → HasQuorum decl epoch counted tx item need
@@ -31,20 +31,20 @@ quorum decl epoch counted tx item need = option_map made (at_most need (weight (
 abbrev IsLockOn : ℕ → Item → Type 0
 IsLockOn object x = (k : ReadLock) × ((x ≡ Lock k) × (k.object ≡ object))
 
-lock_on : (object : ℕ) (x : Item) → Option (IsLockOn object x)
+abbrev lock_on : (object : ℕ) (x : Item) → Option (IsLockOn object x)
 lock_on object (Own o) = None
 lock_on object (Lock k) = option_map made (same_number k.object object)
   where
     made : k.object ≡ object → IsLockOn object (Lock k)
     made e = (k, (refl, e))
 
-shows : (g : Granted) (l : Line) → Option (Shows g l)
+abbrev pub shows : (g : Granted) (l : Line) → Option (Shows g l)
 shows g l = option_map made (both (member same_line l (site_after g.before).volatile) (some (IsLockOn l.object) (lock_on l.object) g.items))
   where
     made : In l (site_after g.before).volatile × IsFound (IsLockOn l.object) g.items → Shows g l
     made f = record { stands = f.0; lock = (f.1).holds.0; granted = subst (λ (x : Item). In x g.items) (((f.1).holds.1).0) (f.1).stands; on = ((f.1).holds.1).1 }
 
-pub line_shown : (counted : List Granted) (tx : TxId) (l : Line) → Option (IsShown counted tx l)
+abbrev pub line_shown : (counted : List Granted) (tx : TxId) (l : Line) → Option (IsShown counted tx l)
 line_shown counted tx l = option_map made (some (λ (g : Granted). (g.tx ≡ tx) × Shows g l) (λ g. both (alike_tx g.tx tx) (shows g l)) counted)
   where
     made : IsFound (λ (g : Granted). (g.tx ≡ tx) × Shows g l) counted → IsShown counted tx l
@@ -54,7 +54,7 @@ line_shown counted tx l = option_map made (some (λ (g : Granted). (g.tx ≡ tx)
 abbrev IsSeenBy : ℕ → List Line → List Line → Item → Type 0
 IsSeenBy object lines view x = (k : ReadLock) → x ≡ Lock k → (l : Line) → In l lines → k.object ≡ l.object → l.object ≡ object → In l view
 
-seen_by_item : (object : ℕ) (lines view : List Line) (x : Item) → Option (IsSeenBy object lines view x)
+abbrev seen_by_item : (object : ℕ) (lines view : List Line) (x : Item) → Option (IsSeenBy object lines view x)
 seen_by_item object lines view (Own o) = Some (λ k e. absurd (let never : ⊥ = cc in never))
 seen_by_item object lines view (Lock k) = option_map made (every (λ (l : Line). k.object ≡ l.object → l.object ≡ object → In l view) (λ l. where_same k.object l.object (where_same l.object object (member same_line l view))) lines)
   where
@@ -65,10 +65,10 @@ seen_by_item object lines view (Lock k) = option_map made (every (λ (l : Line).
 abbrev IsSeenOf : TxId → ℕ → List Line → Granted → Type 0
 IsSeenOf tx object view g = g.tx ≡ tx → (x : Item) → In x g.items → IsSeenBy object (site_after g.before).volatile view x
 
-seen_of_grant : (tx : TxId) (object : ℕ) (view : List Line) (g : Granted) → Option (IsSeenOf tx object view g)
+abbrev seen_of_grant : (tx : TxId) (object : ℕ) (view : List Line) (g : Granted) → Option (IsSeenOf tx object view g)
 seen_of_grant tx object view g = where_same_tx g.tx tx (every (IsSeenBy object (site_after g.before).volatile view) (seen_by_item object (site_after g.before).volatile view) g.items)
 
-pub view_whole : (counted : List Granted) (tx : TxId) (object : ℕ) (view : List Line) → Option ((l : Line) → IsShown counted tx l → l.object ≡ object → In l view)
+abbrev pub view_whole : (counted : List Granted) (tx : TxId) (object : ℕ) (view : List Line) → Option ((l : Line) → IsShown counted tx l → l.object ≡ object → In l view)
 view_whole counted tx object view = option_map made (every (IsSeenOf tx object view) (seen_of_grant tx object view) counted)
   where
     made : ((g : Granted) → In g counted → IsSeenOf tx object view g) → (l : Line) → IsShown counted tx l → l.object ≡ object → In l view

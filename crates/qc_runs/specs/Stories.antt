@@ -4,14 +4,14 @@ use Rattle.qc_stamp.specs.declared.stamp.TxId.{TxId}
 use Rattle.qc_runs.specs.Moves.{Call, Move, announces, begins, chooses, closes, commits, counts, decides, executes, grants_append, grants_read, installs, learns, prepares, sends, tells, votes}
 
 -- transactions of three clients
-abbrev pub first_client : TxId
-first_client = record { client = 0; life = 1; number = 1 }
+abbrev pub first : TxId
+first = record { client = 0; life = 1; number = 1 }
 
-abbrev pub second_client : TxId
-second_client = record { client = 1; life = 1; number = 1 }
+abbrev pub second : TxId
+second = record { client = 1; life = 1; number = 1 }
 
-abbrev pub third_client : TxId
-third_client = record { client = 2; life = 1; number = 1 }
+abbrev pub third : TxId
+third = record { client = 2; life = 1; number = 1 }
 
 -- the register's calls
 abbrev pub reads_zero : Call
@@ -60,3 +60,19 @@ reads_only tx epoch call sites = begins tx epoch ∷ reads tx 0 call sites ++ co
 -- the quorums move: a site is closed and tells what it has, an epoch is decided from this, and another site installs it
 abbrev pub moves_to : ℕ → ℕ → ℕ → List Move
 moves_to epoch from to = closes from ∷ tells from ∷ decides epoch (from ∷ []) ∷ installs to epoch ∷ []
+
+-- the calls of a latch, and of a ticket
+abbrev pub arms : Call
+arms = record { inv = 0; resp = Some 0; event = 0 }
+
+abbrev pub fires : Call
+fires = record { inv = 1; resp = Some 0; event = 1 }
+
+abbrev pub looks_unfired : Call
+looks_unfired = record { inv = 2; resp = Some 1; event = 2 }
+
+abbrev pub takes : Call
+takes = record { inv = 0; resp = Some 0; event = 0 }
+
+abbrev pub takes_none : Call
+takes_none = record { inv = 0; resp = None; event = 0 }
