@@ -151,7 +151,7 @@ may_decide ask decl now d = by (plan_for (ask DecidesByPlan) decl d.epoch)
     by (Some p) =
         option_map (λ f. record { plan = p.0; planned = p.1; epochs = f.0; sites = sites; closes = (f.1).0; each = each_answered (ask ClosedSitesAnswered) d.snapshots; resolved = ((f.1).1).0; logs = (((f.1).1).1).0; merged = ((((f.1).1).1).1).0; clocks = ((((f.1).1).1).1).1 })
         (both (every (λ (s : Snapshot). Asked (ask DecidesFromSnapshots) (In s now.snapshots) × Asked (ask DecidesNextEpoch) (d.epoch ≡ suc (epoch_from 1 s.before)))
-            (λ s. both (asked (ask DecidesFromSnapshots) (member same_snapshot s now.snapshots)) (asked (ask DecidesNextEpoch) (same_number d.epoch (suc (epoch_from 1 s.before))))) d.snapshots)
+        (λ s. both (asked (ask DecidesFromSnapshots) (member same_snapshot s now.snapshots)) (asked (ask DecidesNextEpoch) (same_number d.epoch (suc (epoch_from 1 s.before))))) d.snapshots)
         (both (asked (ask ClosesEnough) (closing (p.0) (weight sites (p.0).weights)))
         (both (asked (ask ResolvesPrepared) (all_resolved ask now.verdicts d))
         (both (asked (ask MergesLogs) (all_logs d))

@@ -9,3 +9,10 @@ pub mod Begun
 pub mod Allowed
 pub mod Broken
 pub mod Accepted
+pub mod Needs
+pub mod WrongOperations
+pub mod WrongAppends
+pub mod WrongGrants
+pub mod WrongCommits
+pub mod WrongSnapshots
+pub mod WrongDecisions

@@ -1,5 +1,8 @@
 -- Longer parts of the stories that runs are told as.
 use Rattle.std.specs.Prelude.{ℕ, List, [], ◌∷◌, ◌++◌, map, flat_map, Some, None}
+use Rattle.qc_entry.specs.declared.line.Line.{Line}
+use Rattle.qc_entry.specs.declared.line.OwnLine.{OwnLine}
+use Rattle.qc_stamp.specs.declared.stamp.Stamp.{Stamp}
 use Rattle.qc_stamp.specs.declared.stamp.TxId.{TxId}
 use Rattle.qc_runs.specs.Moves.{Call, Move, announces, begins, chooses, closes, commits, counts, decides, executes, grants_append, grants_read, installs, learns, prepares, sends, tells, votes}
 
@@ -76,3 +79,24 @@ takes = record { inv = 0; resp = Some 0; event = 0 }
 
 abbrev pub takes_none : Call
 takes_none = record { inv = 0; resp = None; event = 0 }
+
+-- grants of the chosen operation's Append, counted
+abbrev pub appended : TxId → List ℕ → List Move
+appended tx sites = flat_map (λ site. grants_append tx site ∷ counts tx site ∷ []) sites
+
+-- a second transaction of the first client
+abbrev pub first_again : TxId
+first_again = record { client = 0; life = 1; number = 2 }
+
+abbrev pub stamp_of : ℕ → ℕ → Stamp
+stamp_of clock client = record { clock = clock; client = client }
+
+-- a write that nobody executed: as a line, and as a first and a second own line
+abbrev pub made_up : Line
+made_up = record { stamp = stamp_of 1 0; tx = first; op = 1; object = 0; event = 3 }
+
+abbrev pub first_line : OwnLine
+first_line = record { op = 1; object = 0; event = 3 }
+
+abbrev pub second_line : OwnLine
+second_line = record { op = 2; object = 0; event = 2 }
