@@ -22,10 +22,11 @@ kind_at decl object = option_and_then (slice_get decl.kinds) (slice_get decl.obj
 
 -- whether an invocation of the object depends on the event of this number
 abbrev pub depends_at : Declaration → ℕ → ℕ → ℕ → Bool
-depends_at decl object inv number = option_map_or (λ (kind : Kind). depends kind.relation inv number) (kind_at decl object) false
+depends_at decl object inv number =
+    option_map_or (λ (kind : Kind). depends kind.relation inv number) (kind_at decl object) false
 
--- an operation, its number in its transaction, its event's number where it has a response; the log that it was answered from, of
--- other transactions' lines, and the lines that its own transaction had on the object
+-- an operation, its number in its transaction, its event's number where it has a response; the log that it was
+-- answered from, of other transactions' lines, and the lines that its own transaction had on the object
 pub record Executed : Type 0 where
   pub number : ℕ
   pub op : Op
@@ -51,7 +52,8 @@ line_of p = committed_line p.stamp p.tx (own_line p.operation)
 
 -- by stamp, and in one transaction by number
 abbrev pub IsEarlier : Placed → Placed → Type 0
-IsEarlier a b = (stamp_cmp a.stamp b.stamp ≡ Less) ⊎ ((a.stamp ≡ b.stamp) × (a.tx ≡ b.tx) × (a.operation.number < b.operation.number))
+IsEarlier a b = (stamp_cmp a.stamp b.stamp ≡ Less)
+    ⊎ ((a.stamp ≡ b.stamp) × (a.tx ≡ b.tx) × (a.operation.number < b.operation.number))
 
 abbrev pub IsLineBefore : Line → Line → Type 0
 IsLineBefore l m = line_cmp l m ≡ Less
@@ -73,6 +75,7 @@ events_seen d = map (λ (l : Line). l.event) d.view ++ map (λ (o : OwnLine). o.
 pub record IsAnswered (decl : Declaration) (d : Executed) : Type 0 where
   pub kind : Kind
   pub typed : kind_at decl d.op.object ≡ Some kind
-  pub numbered : (resp : ℕ) → d.op.resp ≡ Some resp → event_number (events_of kind.table.rows) (event d.op.inv resp) ≡ Some d.event
+  pub numbered : (resp : ℕ) → d.op.resp ≡ Some resp
+      → event_number (events_of kind.table.rows) (event d.op.inv resp) ≡ Some d.event
   pub replies : Replies kind (events_seen d) d.op.inv d.op.resp
   pub sorted : IsOrdered IsLineBefore d.view

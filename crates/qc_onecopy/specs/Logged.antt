@@ -15,7 +15,8 @@ use Rattle.qc_onecopy.specs.Executed.{IsLineBefore, kind_at}
 
 -- the number of the event of an invocation and a response, in an object's type
 abbrev pub event_at : Declaration → ℕ → ℕ → ℕ → Option ℕ
-event_at decl object inv resp = option_and_then (λ (rules : Rules). event_number (events_of rules.rows) (event inv resp)) (table_at decl object)
+event_at decl object inv resp =
+    option_and_then (λ (rules : Rules). event_number (events_of rules.rows) (event inv resp)) (table_at decl object)
 
 -- the operation of this number in a transaction, from 1, has a response, and is this event of the object
 pub record IsOperation (decl : Declaration) (ops : List Op) (number object number_of_event : ℕ) : Type 0 where
@@ -38,9 +39,11 @@ pub record IsLogged (decl : Declaration) (commits : List Commit) (l : Line) : Ty
 
 -- whether the invocation of a line's event depends on the event of this number
 abbrev pub line_depends : Declaration → Line → ℕ → Bool
-line_depends decl l number = option_map_or (λ (kind : Kind). depends kind.relation (inv_of kind l.event) number) (kind_at decl l.object) false
+line_depends decl l number =
+    option_map_or (λ (kind : Kind). depends kind.relation (inv_of kind l.event) number) (kind_at decl l.object) false
 
 -- with a line, the log has each committed line of its object before it on which its invocation depends
 abbrev pub IsClosedLog : Declaration → List Commit → List Line → Type 0
 IsClosedLog decl commits log =
-    (l m : Line) → In l log → IsLogged decl commits m → m.object ≡ l.object → IsLineBefore m l → IsTrue (line_depends decl l m.event) → In m log
+    (l m : Line) → In l log → IsLogged decl commits m → m.object ≡ l.object → IsLineBefore m l
+    → IsTrue (line_depends decl l m.event) → In m log

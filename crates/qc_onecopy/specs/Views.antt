@@ -1,5 +1,5 @@
--- What must be known of the committed transactions' operations, so that they are those of one copy of each object. It knows no
--- sites, locks, epochs, lives or messages.
+-- What must be known of the committed transactions' operations, so that they are those of one copy of each object. It
+-- knows no sites, locks, epochs, lives or messages.
 use Rattle.std.specs.Prelude.{◌≡◌, ◌≢◌, ◌<◌, IsTrue, ◌⊎◌, List, IsSome}
 use Rattle.qc_entry.specs.declared.line.Line.{Line}
 use Rattle.qc_entry.specs.declared.line.OwnLine.{OwnLine}
@@ -37,16 +37,23 @@ pub record AreFromViews (decl : Declaration) (all : List Placed) : Type 0 where
   -- the own lines are those of the transaction's earlier operations on the object
   pub own : (b : Placed) (o : OwnLine) → In b all → In o b.operation.own → HasOwn all b o
   pub own_sorted : (b : Placed) → In b all → IsOrdered IsOwnBefore b.operation.own
-  pub own_all : (a b : Placed) → In a all → In b all → IsNext a b → IsSome a.operation.op.resp → In (own_line a.operation) b.operation.own
+  pub own_all : (a b : Placed) → In a all → In b all → IsNext a b → IsSome a.operation.op.resp
+      → In (own_line a.operation) b.operation.own
   -- lines of views are lines of operations with smaller clocks
   pub smaller : (b : Placed) (l : Line) → In b all → In l b.operation.view → HasLine all b l
   -- the ordering lemma
-  pub ordering : (a b : Placed) → In a all → In b all → a.stamp ≢ b.stamp → a.operation.op.object ≡ b.operation.op.object → IsSome a.operation.op.resp
-      → IsTrue (depends_at decl b.operation.op.object b.operation.op.inv a.operation.event) → In (line_of a) b.operation.view ⊎ (b.stamp.clock < a.stamp.clock)
+  pub ordering : (a b : Placed) → In a all → In b all → a.stamp ≢ b.stamp
+      → a.operation.op.object ≡ b.operation.op.object → IsSome a.operation.op.resp
+      → IsTrue (depends_at decl b.operation.op.object b.operation.op.inv a.operation.event)
+      → In (line_of a) b.operation.view ⊎ (b.stamp.clock < a.stamp.clock)
   -- closed logs: with a line, what it was answered from
-  pub closed : (a b : Placed) (l : Line) → In a all → In b all → In (line_of a) b.operation.view → In l a.operation.view → In l b.operation.view
+  pub closed : (a b : Placed) (l : Line) → In a all → In b all → In (line_of a) b.operation.view
+      → In l a.operation.view → In l b.operation.view
   -- and the earlier own lines on which it depends
-  pub closed_own : (c a b : Placed) → In c all → In a all → In b all → In (line_of a) b.operation.view → IsNext c a → IsSome c.operation.op.resp
-      → IsTrue (depends_at decl a.operation.op.object a.operation.op.inv c.operation.event) → In (line_of c) b.operation.view
+  pub closed_own : (c a b : Placed) → In c all → In a all → In b all → In (line_of a) b.operation.view → IsNext c a
+      → IsSome c.operation.op.resp
+      → IsTrue (depends_at decl a.operation.op.object a.operation.op.inv c.operation.event)
+      → In (line_of c) b.operation.view
   -- a transaction's view of an object only grows
-  pub grows : (a b : Placed) (l : Line) → In a all → In b all → IsNext a b → In l a.operation.view → In l b.operation.view
+  pub grows : (a b : Placed) (l : Line) → In a all → In b all → IsNext a b → In l a.operation.view
+      → In l b.operation.view

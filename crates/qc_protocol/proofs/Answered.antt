@@ -16,7 +16,7 @@ use Rattle.qc_protocol.specs.Logs.{AreInOrder, IsClosedAt, IsNextOperation, IsAn
 use Rattle.qc_protocol.proofs.Grows.{same}
 
 module _ (decl : Declaration) where
-  -- what a dealt operation is
+  -- what an operation that was answered is
   pub next_operation : (w : State) (tx : TxId) (d : Executed) → IsExecutedFrom decl (w.epoch tx) w.counted (w.executed tx) tx d → LogLaws decl w → IsNextOperation (w.executed tx) d
   next_operation w tx d k l = record {
     numbered = k.numbered;

@@ -92,7 +92,7 @@ module _ (decl : Declaration) where
         voted = λ alive v. absurd (never_prepares (l.votes (record { tx = g.tx; site = g.site }) v));
       }
 
-  -- an operation is tried, or told: the transaction is open
+  -- an operation is chosen, or executed: the transaction is active
   pub executes : (w : State) (tx : TxId) (executed : TxId → List Executed) (chosen : TxId → Option Executed) (appends : List AppendRequest) → w.status tx ≡ Active → ((t : TxId) → (t ≢ tx) → w.executed t ≡ executed t) → ((t : TxId) → (t ≢ tx) → w.chosen t ≡ chosen t)
       → StateLaws decl w → StateLaws decl (record w { executed = executed; chosen = chosen; appends = appends })
   executes w tx executed chosen appends e same_executed same_chosen l = record {

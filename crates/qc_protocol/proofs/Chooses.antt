@@ -74,7 +74,7 @@ module _ (decl : Declaration) where
         ];
       }
 
-      -- what is tried now
+      -- what is chosen now
       now : (t : TxId) (d : Executed) → put_tx w.chosen tx (Some operation) t ≡ Some d → ((t ≡ tx) × (d ≡ operation)) ⊎ (w.chosen t ≡ Some d)
       now t d = put_tx_case (λ (o : Option Executed). o ≡ Some d → ((t ≡ tx) × (d ≡ operation)) ⊎ (w.chosen t ≡ Some d)) w.chosen tx (Some operation) t (λ e h. inl (e, cc)) (λ ne h. inr h)
 

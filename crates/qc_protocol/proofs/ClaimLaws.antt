@@ -76,7 +76,7 @@ module _ (decl : Declaration) (accepted : IsAccepted decl) where
           | inr ne ↦ absurd (wl.apart c.tx d.tx c d (committed_record ((state acts).status c.tx) c (wl.written c hc)) (committed_record ((state acts).status d.tx) d (wl.written d hd)) ne same)
         ]
 
-    -- a founded line is an operation of a record
+    -- a line that is closed at is an operation of a record
     logged : (log : List Line) (l : Line) → IsClosedAt decl (state acts).status (state acts).executed log l → IsLogged decl (state acts).records l
     logged log l f =
         let r = wl.record_of l.tx f.commit (committed_record ((state acts).status l.tx) f.commit f.committed) in
@@ -109,7 +109,7 @@ module _ (decl : Declaration) (accepted : IsAccepted decl) where
         resp_of None h = absurd (let never : ⊥ = cc in never)
         resp_of (Some r) h = (r, refl)
 
-    -- each line of a log is founded in it
+    -- each line of a log is closed at in it
     closed_at : (log : List Line) → IsLogOf (state acts) log → (l : Line) → In l log → IsClosedAt decl (state acts).status (state acts).executed log l
     closed_at log (inl s) l h = subst (λ (x : List Line). IsClosedAt decl (state acts).status (state acts).executed x l) (sym s.1) ((ll.sites s.0).volatile l (subst (λ (x : List Line). In l x) s.1 h))
     closed_at log (inr (inl g)) l h = subst (λ (x : List Line). IsClosedAt decl (state acts).status (state acts).executed x l) (sym g.2) ((ll.granted g.0 g.1).volatile l (subst (λ (x : List Line). In l x) g.2 h))

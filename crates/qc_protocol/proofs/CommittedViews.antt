@@ -115,7 +115,7 @@ module _ (decl : Declaration) (accepted : IsAccepted decl) (acts : List Act) (ru
         is = f.is ∙ ap (λ (x : TxId). committed_line f.commit.stamp x (own_line f.operation)) (sym r.named);
       }
 
-  -- a line of a view is founded in it
+  -- a view is closed at each of its lines
   closed_at : (a b : Placed) (ka : IsOf (state acts).executed L a) (kb : IsOf (state acts).executed L b) → In (line_of a) b.operation.view → (f : IsClosedAt decl (state acts).status (state acts).executed b.operation.view (line_of a)) × (f.operation ≡ a.operation)
   closed_at a b ka kb h =
       let f = ll.views b.tx b.operation (line_of a) (inl kb.operation) h in

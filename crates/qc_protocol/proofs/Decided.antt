@@ -63,7 +63,7 @@ module _ (decl : Declaration) (accepted : IsAccepted decl) (acts : List Act) (ru
   ll : LogLaws decl (state acts)
   ll = log_laws decl accepted acts run
 
-  -- what a Shut has of a grant of its epoch
+  -- what a snapshot has of a grant of its epoch
   pub record IsPast (g : Granted) (sn : Snapshot) : Type 0 where
     pub since : List Deed
     pub is : sn.before ≡ g.before ++ Grants g.tx g.items g.view ∷ since
@@ -109,7 +109,7 @@ module _ (decl : Declaration) (accepted : IsAccepted decl) (acts : List Act) (ru
         | inr d ↦ inr d
       ]
 
-  -- the Done in the Shut's past has the record's stamp
+  -- the Done in the snapshot's past has the record's stamp
   done_stamp : (g : Granted) (c : CommitRecord) (sn : Snapshot) → (state acts).status g.tx ≡ Committed c → (p : IsPast g sn) → (d : HasDone g.tx false p.since) → c.stamp ≡ d.stamp
   done_stamp g c sn sg p d =
       stamp_of decl acts run g.tx c sg g.site d.stamp
@@ -117,7 +117,7 @@ module _ (decl : Declaration) (accepted : IsAccepted decl) (acts : List Act) (ru
       (in_left (LearnsCommit g.tx d.stamp) (g.before ++ Grants g.tx g.items g.view ∷ p.since) p.later
       (in_right (LearnsCommit g.tx d.stamp) g.before (Grants g.tx g.items g.view ∷ p.since) (inr (ended decl acts run p.since g.tx d)))))
 
-  -- the verdict on a committed transaction that a Shut had prepared
+  -- the verdict on a committed transaction that a snapshot had prepared
   verdict : (tx : TxId) (c : CommitRecord) (d : Decision) (p : Promise) → (state acts).status tx ≡ Committed c → p.tx ≡ tx → IsResolved (state acts).verdicts d p
       → ((o : OwnLine) → In (Own o) p.items → In (committed_line c.stamp tx o) d.log) × (c.stamp.clock ≤ d.clock)
   verdict tx c d p is its (inl r) =

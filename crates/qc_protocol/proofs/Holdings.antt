@@ -42,7 +42,7 @@ module _ (decl : Declaration) (accepted : IsAccepted decl) (acts : List Act) (ru
         | inr new ↦ elim new [ inl same ↦ let x : b.number ≡ e.number = ap (λ (z : Executed). z.number) same in let n : e.number ≡ suc (length earlier) = o.0.numbered in let y = length-append earlier (e ∷ []) in omega arith | inr never ↦ absurd never ]
       ]) a there)
 
-  -- operations that are earlier or tried have numbers of their own
+  -- operations that were executed or are chosen have numbers of their own
   known_one : (tx : TxId) (d e : Executed) → IsExecutedOrChosen ((state acts).executed tx) ((state acts).chosen tx) d → IsExecutedOrChosen ((state acts).executed tx) ((state acts).chosen tx) e → d.number ≡ e.number → d ≡ e
   known_one tx d e (inl hd) (inl he) same = (at ((state acts).executed tx) (ll.order tx) e he).one d hd same
   known_one tx d e (inl hd) (inr he) same =

@@ -73,6 +73,6 @@ active_has_no_record c h = h
 pub committed_record : (s : Status) (c : CommitRecord) → s ≡ Committed c → HasRecord s c
 committed_record s c e = subst (λ (x : Status). HasRecord x c) (sym e) refl
 
--- an open transaction has no record
+-- an active transaction has no record
 pub not_active : (status : TxId → Status) (tx u : TxId) (c : CommitRecord) → status tx ≡ Active → HasRecord (status u) c → u ≢ tx
 not_active status tx u c e h same = subst (λ (s : Status). HasRecord s c) e (subst (λ (x : TxId). HasRecord (status x) c) same h)

@@ -1,6 +1,6 @@
--- The guards of the protocol, each by a name and in one sentence. A machine asks a set of them: all are asked of the protocol's
--- runs, and all but one of the runs that show what this one is for.
-use Rattle.std.specs.Prelude.{ℕ, Bool, true, false, not, ◌==◌}
+-- The guards of the protocol, each by a name and in one sentence. A machine asks a set of them: all are asked of the
+-- protocol's runs, and all but one of the runs that show what this one is for.
+use Rattle.std.specs.Prelude.{Bool, true, false}
 
 pub data Guard : Type 0 where
   -- a transaction begins

@@ -24,9 +24,11 @@ pub record HasEarlier (records : List CommitRecord) (tx : TxId) (stamp : Stamp) 
   pub stamped : commit.stamp ≡ stamp
   pub before : commit.stamp.clock < clock
 
--- what a client had learned as its transaction got this record: lines of grants that it counted since it rose, and its own records
+-- what a client had learned as its transaction got this record: lines of grants that it counted since it rose, and
+-- its own records
 pub record FollowsSeen (now : State) (c : CommitRecord) : Type 0 where
-  pub seen_by : (g : Granted) (l : Line) → In g (now.seen_by c.tx.client) → Shows g l → HasEarlier now.records l.tx l.stamp c.stamp.clock
+  pub seen_by : (g : Granted) (l : Line) → In g (now.seen_by c.tx.client) → Shows g l
+      → HasEarlier now.records l.tx l.stamp c.stamp.clock
   pub own : (d : CommitRecord) → In d now.records → d.tx.client ≡ c.tx.client → d.stamp.clock < c.stamp.clock
 
 -- a record with this stamp, or none

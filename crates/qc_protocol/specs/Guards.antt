@@ -1,6 +1,7 @@
--- When each act is allowed, and runs: lists of acts that were allowed, newest first. A guard asks no more than its site or client
--- can see: what it did, what it has, and what was sent to it. Quorums are weighted votes (Gifford 1979); locks of reads and lines
--- conflict by the relation of the object's type (Herlihy 1986); stamps are clocks with the client's number (Lamport 1978).
+-- When each act is allowed, and runs: lists of acts that were allowed, newest first. A guard asks no more than its
+-- site or client can see: what it did, what it has, and what was sent to it. Quorums are weighted votes (Gifford
+-- 1979); locks of reads and lines conflict by the relation of the object's type (Herlihy 1986); stamps are clocks
+-- with the client's number (Lamport 1978).
 use Rattle.std.specs.Prelude.{◌≡◌, ◌≢◌, ℕ, suc, ◌<◌, ◌≤◌, Bool, true, false, IsTrue, ◌==◌, ◌&&◌, ◌⊎◌, if◌then◌else◌, List, [], ◌∷◌, ◌++◌, map, length, Some, None, IsSome, is_some}
 use Rattle.std.specs.Option.{option_map_or}
 use Rattle.qc_stamp.specs.declared.stamp.Stamp.{Stamp}
@@ -18,55 +19,16 @@ use Rattle.qc_decl.specs.declared.declaration.Declaration.{Declaration}
 use Rattle.qc_decl.specs.Lookup.{append_need_of, plan_in, read_need_of}
 use Rattle.qc_onecopy.specs.Lists.{In}
 use Rattle.qc_onecopy.specs.Executed.{Executed, IsAnswered, depends_at, kind_at, own_line, committed_line}
+pub use Rattle.qc_protocol.specs.Quorums.{HasGranted, HasQuorum, IsShown, Shows, own_on, read_lock, weights_of}
 use Rattle.qc_protocol.specs.Site.{Item, Lock, Own, Promise, Installs, epoch_from, shut_from, items_of, site_after, empty_site, done_records}
 use Rattle.qc_protocol.specs.Asked.{Guard, Asked, every_guard, AnswersFromView, InvocationIsDeclared, OperationsAreNumbered, OwnLinesAreKept, ViewWasShown, ViewIsWhole, ReadQuorumIsMet, AppendCarriesView, AppendCarriesOnlyOwnLines, AppendCarriesEarlierLines, GrantTellsEpoch, GrantsUnlessClosed, GrantPassesInstalls, GrantsWithoutConflict, GrantPassesDone, GrantPassesLines, SnapshotIsOfClosed, SnapshotPassesDone, SnapshotPassesInstalls, MergesEveryEntry, DecidePassesCommitted, DecidesByPlan, DecidesFromSnapshots, DecidesNextEpoch, ClosesEnough, ClosedSitesAnswered, ResolvesPrepared, MergesLogs, MergesOnlyCommitted, DecidePassesSnapshots, CommitsWhenVoting, AllHaveVoted, StampIsItsClients, StampPassesClock, RecordHasOperations, BeginsOnce, BeginsInPlannedEpoch, OperatesWhileActive, ChoosesOneAtATime, ChosenHasResponse, AppendsWhatIsChosen, AppendQuorumIsMet, AbsentHasNoResponse, GrantTellsDeeds, GrantTellsLife, GrantsWhatWasRequested, CountsWhatWasGranted, CountsWhileActive, CountsInItsEpoch, PreparesOnce, PreparesWhenExecuted, VotesWhenAsked, VotesInGrantedLife, RecordsPrepareWhenAsked, AbortsBeforeRecord, RisesWithNoneRunning, RisesPastRecords, LearnsWhatWasAnnounced, SnapshotTellsDeeds, InstallsWhatWasDecided, InstallsLaterEpoch}
 use Rattle.qc_protocol.specs.State.{Status, NotBegun, Active, Voting, Pending, Committed, AppendRequest, Granted, Verdict, Snapshot, Decision, State}
 use Rattle.qc_protocol.specs.Acts.{Act, Begin, Choose, SendAppend, Execute, ExecuteAbsent, Grant, Count, Prepare, Vote, PrepareLost, Commit, CommitUnknown, Recover, Abort, RiseClient, Announce, Learn, Rise, Close, TakeSnapshot, Decide, Install, state}
 
--- what a grant shows its client: the site's lines of the objects on which it has a read lock
-pub record Shows (g : Granted) (l : Line) : Type 0 where
-  pub stands : In l (site_after g.before).volatile
-  pub lock : ReadLock
-  pub granted : In (Lock lock) g.items
-  pub on : lock.object ≡ l.object
-
--- a line that a counted grant of tx shows
-pub record IsShown (counted : List Granted) (tx : TxId) (l : Line) : Type 0 where
-  pub grant : Granted
-  pub counts : In grant counted
-  pub its : grant.tx ≡ tx
-  pub shows : Shows grant l
-
--- a counted grant of tx from a site, with the item
-pub record HasGranted (counted : List Granted) (tx : TxId) (site : ℕ) (item : Item) : Type 0 where
-  pub grant : Granted
-  pub counts : In grant counted
-  pub its : grant.tx ≡ tx
-  pub from : grant.site ≡ site
-  pub has : In item grant.items
-
--- the votes of the sites in an epoch
-abbrev pub weights_of : Declaration → ℕ → List ℕ
-weights_of decl epoch = option_map_or (λ (p : Plan). p.weights) (plan_in decl epoch) []
-
--- sites that weigh enough granted the item to tx, and were counted
-pub record HasQuorum (decl : Declaration) (epoch : ℕ) (counted : List Granted) (tx : TxId) (item : Item) (need : ℕ) : Type 0 where
-  pub sites : ℕ → Bool
-  pub enough : need ≤ weight sites (weights_of decl epoch)
-  pub each : (site : ℕ) → IsTrue (sites site) → HasGranted counted tx site item
-
--- what a Read asks for
-abbrev pub read_lock : Op → ReadLock
-read_lock op = record { object = op.object; inv = op.inv }
-
--- the own lines of the operations with responses on an object
-abbrev pub own_on : List Executed → ℕ → List OwnLine
-own_on [] object = []
-own_on (d ∷ ds) object = (if (d.op.object == object) && is_some d.op.resp then own_line d ∷ [] else []) ++ own_on ds object
-
--- the operation's Read round is met: it comes next in its transaction, its view is all that the transaction was shown of the
--- object, and its reply is one that the view allows
-pub record IsExecutedFromBy (ask : Guard → Bool) (decl : Declaration) (epoch : ℕ) (counted : List Granted) (executed : List Executed) (tx : TxId) (d : Executed) : Type 0 where
+-- the operation's Read round is met: it comes next in its transaction, its view is all that the transaction was shown
+-- of the object, and its reply is one that the view allows
+pub record IsExecutedFromBy (ask : Guard → Bool) (decl : Declaration) (epoch : ℕ) (counted : List Granted)
+    (executed : List Executed) (tx : TxId) (d : Executed) : Type 0 where
   pub answered : Asked (ask AnswersFromView) (IsAnswered decl d)
   pub known : Asked (ask InvocationIsDeclared)
       ((kind : Kind) → kind_at decl d.op.object ≡ Some kind → d.op.inv < kind.table.invs)
@@ -80,9 +42,10 @@ pub record IsExecutedFromBy (ask : Guard → Bool) (decl : Declaration) (epoch :
 abbrev pub IsExecutedFrom : Declaration → ℕ → List Granted → List Executed → TxId → Executed → Type 0
 IsExecutedFrom = IsExecutedFromBy every_guard
 
--- an Append of the operation brings its view, and own lines of the object: its own, and at least those of events with a final
--- threshold
-pub record IsAppendOfBy (ask : Guard → Bool) (decl : Declaration) (epoch : ℕ) (d : Executed) (s : AppendRequest) : Type 0 where
+-- an Append of the operation brings its view, and own lines of the object: its own, and at least those of events with
+-- a final threshold
+pub record IsAppendOfBy (ask : Guard → Bool) (decl : Declaration) (epoch : ℕ) (d : Executed) (s : AppendRequest) :
+    Type 0 where
   pub view : Asked (ask AppendCarriesView) (s.view ≡ d.view)
   pub items : Asked (ask AppendCarriesOnlyOwnLines)
       ((x : Item) → In x s.items → (o : OwnLine) × (x ≡ Own o) × ((o ≡ own_line d) ⊎ In o d.own))
@@ -100,19 +63,22 @@ Conflict decl _ _ = ⊥
 
 -- it was asked for a Read, or by an Append that was sent
 abbrev pub IsRequested : List AppendRequest → Granted → Type 0
-IsRequested appends g = ((lock : ReadLock) × (g.items ≡ Lock lock ∷ []) × (g.view ≡ [])) ⊎ In (record { tx = g.tx; items = g.items; view = g.view }) appends
+IsRequested appends g = ((lock : ReadLock) × (g.items ≡ Lock lock ∷ []) × (g.view ≡ []))
+    ⊎ In (record { tx = g.tx; items = g.items; view = g.view }) appends
 
--- a site may grant in the epoch that it has installed and not closed, where nobody else holds what conflicts, and with a clock that
--- has passed its Install records, its Done records and its lines
+-- a site may grant in the epoch that it has installed and not closed, where nobody else holds what conflicts, and
+-- with a clock that has passed its Install records, its Done records and its lines
 pub record MayGrantBy (ask : Guard → Bool) (decl : Declaration) (g : Granted) : Type 0 where
   pub current : Asked (ask GrantTellsEpoch) (epoch_from 1 g.before ≡ g.epoch)
   pub unshut : Asked (ask GrantsUnlessClosed) (shut_from false g.before ≡ false)
   pub passes_installs : Asked (ask GrantPassesInstalls)
       ((k c : ℕ) (log : List Line) → In (Installs k c log) g.before → c ≤ g.clock)
   pub free : Asked (ask GrantsWithoutConflict)
-      ((u : TxId) (x y : Item) → In x g.items → In y (items_of u (site_after g.before).held) → u ≢ g.tx → Conflict decl x y → ⊥)
+      ((u : TxId) (x y : Item) → In x g.items → In y (items_of u (site_after g.before).held) → u ≢ g.tx
+      → Conflict decl x y → ⊥)
   pub passes_done : Asked (ask GrantPassesDone)
-      ((u : TxId) (stamp : Stamp) → In (record { tx = u; stamp = stamp }) (done_records empty_site g.before) → stamp.clock ≤ g.clock)
+      ((u : TxId) (stamp : Stamp) → In (record { tx = u; stamp = stamp }) (done_records empty_site g.before)
+      → stamp.clock ≤ g.clock)
   pub passes_lines : Asked (ask GrantPassesLines)
       ((l : Line) → In l (site_after g.before).volatile → l.stamp.clock ≤ g.clock)
 
@@ -123,15 +89,16 @@ MayGrant = MayGrantBy every_guard
 pub record MaySnapshotBy (ask : Guard → Bool) (s : Snapshot) : Type 0 where
   pub shut : Asked (ask SnapshotIsOfClosed) (shut_from false s.before ≡ true)
   pub passes_done : Asked (ask SnapshotPassesDone)
-      ((u : TxId) (stamp : Stamp) → In (record { tx = u; stamp = stamp }) (done_records empty_site s.before) → stamp.clock ≤ s.clock)
+      ((u : TxId) (stamp : Stamp) → In (record { tx = u; stamp = stamp }) (done_records empty_site s.before)
+      → stamp.clock ≤ s.clock)
   pub passes_installs : Asked (ask SnapshotPassesInstalls)
       ((k c : ℕ) (log : List Line) → In (Installs k c log) s.before → c ≤ s.clock)
 
 abbrev pub MaySnapshot : Snapshot → Type 0
 MaySnapshot = MaySnapshotBy every_guard
 
--- the client of a prepared transaction of a snapshot told its end: it committed, its own lines are in the log with its stamp, and
--- the clock has passed this; or it aborted
+-- the client of a prepared transaction of a snapshot told its end: it committed, its own lines are in the log with
+-- its stamp, and the clock has passed this; or it aborted
 abbrev pub IsResolvedBy : (Guard → Bool) → List Verdict → Decision → Promise → Type 0
 IsResolvedBy ask verdicts d p =
     ((stamp : Stamp) × In (record { tx = p.tx; stamp = Some stamp }) verdicts
@@ -142,25 +109,31 @@ IsResolvedBy ask verdicts d p =
 abbrev pub IsResolved : List Verdict → Decision → Promise → Type 0
 IsResolved = IsResolvedBy every_guard
 
--- where a line of the new log comes from: the log of a snapshot, or an own line of a prepared transaction there that committed
+-- where a line of the new log comes from: the log of a snapshot, or an own line of a prepared transaction there that
+-- committed
 pub record IsMerged (verdicts : List Verdict) (d : Decision) (l : Line) : Type 0 where
   pub snapshot : Snapshot
   pub counts : In snapshot d.snapshots
-  pub from : In l (site_after snapshot.before).volatile ⊎ ((p : Promise) × (o : OwnLine) × (stamp : Stamp) × In p (site_after snapshot.before).prepared × In (Own o) p.items × In (record { tx = p.tx; stamp = Some stamp }) verdicts × (l ≡ committed_line stamp p.tx o))
+  pub from : In l (site_after snapshot.before).volatile
+      ⊎ ((p : Promise) × (o : OwnLine) × (stamp : Stamp) × In p (site_after snapshot.before).prepared
+      × In (Own o) p.items × In (record { tx = p.tx; stamp = Some stamp }) verdicts
+      × (l ≡ committed_line stamp p.tx o))
 
--- an epoch is decided from snapshots of the epoch before, of sites that weigh enough to close it; its log is all that they
--- have, and its clock has passed theirs
+-- an epoch is decided from snapshots of the epoch before, of sites that weigh enough to close it; its log is
+-- all that they have, and its clock has passed theirs
 pub record MayDecideBy (ask : Guard → Bool) (decl : Declaration) (now : State) (d : Decision) : Type 0 where
   pub plan : Plan
   pub planned : Asked (ask DecidesByPlan) ((epoch : ℕ) → d.epoch ≡ suc epoch → plan_in decl epoch ≡ Some plan)
   pub epochs : (s : Snapshot) → In s d.snapshots
-      → Asked (ask DecidesFromSnapshots) (In s now.snapshots) × Asked (ask DecidesNextEpoch) (d.epoch ≡ suc (epoch_from 1 s.before))
+      → Asked (ask DecidesFromSnapshots) (In s now.snapshots)
+      × Asked (ask DecidesNextEpoch) (d.epoch ≡ suc (epoch_from 1 s.before))
   pub sites : ℕ → Bool
   pub closes : Asked (ask ClosesEnough) (Closing plan (weight sites plan.weights))
   pub each : Asked (ask ClosedSitesAnswered)
       ((site : ℕ) → IsTrue (sites site) → (s : Snapshot) × In s d.snapshots × (s.site ≡ site))
   pub resolved : Asked (ask ResolvesPrepared)
-      ((s : Snapshot) (p : Promise) → In s d.snapshots → In p (site_after s.before).prepared → IsResolvedBy ask now.verdicts d p)
+      ((s : Snapshot) (p : Promise) → In s d.snapshots → In p (site_after s.before).prepared
+      → IsResolvedBy ask now.verdicts d p)
   pub logs : Asked (ask MergesLogs)
       ((s : Snapshot) (l : Line) → In s d.snapshots → In l (site_after s.before).volatile → In l d.log)
   pub merged : Asked (ask MergesOnlyCommitted) ((l : Line) → In l d.log → IsMerged now.verdicts d l)
@@ -191,8 +164,8 @@ HasRecord _ d = ⊥
 abbrev pub op_of : Executed → Op
 op_of d = d.op
 
--- each site that the client counted a grant of has voted; the record has the operations of the transaction, the client's number, and
--- a stamp above the client's clock
+-- each site that the client counted a grant of has voted; the record has the operations of the transaction, the
+-- client's number, and a stamp above the client's clock
 pub record MayCommitBy (ask : Guard → Bool) (now : State) (c : CommitRecord) : Type 0 where
   pub voting : Asked (ask CommitsWhenVoting) (now.status c.tx ≡ Voting)
   pub votes : Asked (ask AllHaveVoted)
@@ -250,7 +223,8 @@ IsAllowedBy ask decl now (Prepare tx) =
 -- a site votes on what may have been sent Prepare, in the life of all grants that were counted
 IsAllowedBy ask decl now (Vote site tx) =
     Asked (ask VotesWhenAsked) (MayPrepare (now.status tx))
-    × Asked (ask VotesInGrantedLife) ((g : Granted) → In g now.counted → g.tx ≡ tx → g.site ≡ site → g.life ≡ now.life site)
+    × Asked (ask VotesInGrantedLife)
+    ((g : Granted) → In g now.counted → g.tx ≡ tx → g.site ≡ site → g.life ≡ now.life site)
 -- a Prepare record is written only of what may have been sent Prepare
 IsAllowedBy ask decl now (PrepareLost site tx) = Asked (ask RecordsPrepareWhenAsked) (MayPrepare (now.status tx))
 -- a commit record is written as MayCommit says
@@ -260,7 +234,8 @@ IsAllowedBy ask decl now (CommitUnknown c) = MayCommitBy ask now c
 -- a commit record that may stand or not is read again
 IsAllowedBy ask decl now (Recover tx with_record) = (c : CommitRecord) × (now.status tx ≡ Pending c)
 -- a transaction that has no commit record aborts
-IsAllowedBy ask decl now (Abort tx) = Asked (ask AbortsBeforeRecord) ((now.status tx ≡ Active) ⊎ (now.status tx ≡ Voting))
+IsAllowedBy ask decl now (Abort tx) =
+    Asked (ask AbortsBeforeRecord) ((now.status tx ≡ Active) ⊎ (now.status tx ≡ Voting))
 -- a client rises without transactions that it runs, and with a clock that has passed the stamps of its commit records
 IsAllowedBy ask decl now (RiseClient client clock) =
     Asked (ask RisesWithNoneRunning) ((tx : TxId) → tx.client ≡ client → IsLive (now.status tx) → ⊥)

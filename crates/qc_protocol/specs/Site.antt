@@ -1,5 +1,5 @@
--- A site, read off what it did: its volatile log, the log that its records give, what transactions hold, and its promises.
--- Logs are sets here: a line may stand twice, and in any order.
+-- A site, read off what it did: its volatile log, the log that its records give, what transactions hold, and its
+-- promises. Logs are sets here: a line may stand twice, and in any order.
 use Rattle.std.specs.Prelude.{ℕ, Bool, true, false, if◌then◌else◌, List, [], ◌∷◌, ◌++◌, Option, Some, None}
 use Rattle.qc_stamp.specs.declared.stamp.Stamp.{Stamp}
 use Rattle.qc_stamp.specs.declared.stamp.TxId.{TxId}
@@ -27,7 +27,7 @@ pub data Deed : Type 0 where
   Grants : (tx : TxId) (items : List Item) (view : List Line) → Deed  -- a Read or an Append
   Prepares : (tx : TxId) → Deed  -- a Prepare record is written
   LearnsCommit : (tx : TxId) (stamp : Stamp) → Deed  -- a verdict: it committed
-  LearnsAbort : (tx : TxId) → Deed  -- a verdict: it is given up
+  LearnsAbort : (tx : TxId) → Deed  -- a verdict: it aborted
   Closes : Deed  -- a Close record
   Installs : (epoch clock : ℕ) (log : List Line) → Deed  -- an Install record
   Rises : Deed
@@ -36,8 +36,10 @@ pub record Site : Type 0 where
   pub volatile : List Line
   pub stable : List Line
   pub held : List Held
-  pub prepared : List Promise  -- by which a transaction is prepared now
-  pub promises : List Promise  -- the Prepare records after the last Install without a Done, the last of each transaction
+  -- the promises by which transactions are prepared now
+  pub prepared : List Promise
+  -- the Prepare records after the last Install, without a Done: the last of each transaction
+  pub promises : List Promise
 
 abbrev pub each_held : TxId → List Item → List Held
 each_held tx [] = []
@@ -74,7 +76,7 @@ abbrev pub after_prepare : TxId → Option Promise → Site → Site
 after_prepare tx (Some p) s = s
 after_prepare tx None s =
     let p : Promise = record { tx = tx; items = items_of tx s.held } in
-    record { volatile = s.volatile; stable = s.volatile; held = s.held; prepared = p ∷ s.prepared; promises = p ∷ without_promise tx s.promises }
+    record s { stable = s.volatile; prepared = p ∷ s.prepared; promises = p ∷ without_promise tx s.promises }
 
 abbrev pub after_commit : TxId → Stamp → Option Promise → Site → Site
 after_commit tx stamp (Some p) s = record {
@@ -84,16 +86,16 @@ after_commit tx stamp (Some p) s = record {
   prepared = without_promise tx s.prepared;
   promises = without_promise tx s.promises;
 }
-after_commit tx stamp None s = record { volatile = s.volatile; stable = s.stable; held = without_tx tx s.held; prepared = s.prepared; promises = s.promises }
+after_commit tx stamp None s = record s { held = without_tx tx s.held }
 
 abbrev pub after_deed : Site → Deed → Site
-after_deed s (Grants tx items view) = record { volatile = view ++ s.volatile; stable = s.stable; held = each_held tx items ++ s.held; prepared = s.prepared; promises = s.promises }
+after_deed s (Grants tx items view) = record s { volatile = view ++ s.volatile; held = each_held tx items ++ s.held }
 after_deed s (Prepares tx) = after_prepare tx (promise_of tx s.prepared) s
 after_deed s (LearnsCommit tx stamp) = after_commit tx stamp (promise_of tx s.prepared) s
-after_deed s (LearnsAbort tx) = record { volatile = s.volatile; stable = s.stable; held = without_tx tx s.held; prepared = without_promise tx s.prepared; promises = s.promises }
-after_deed s Closes = record { volatile = s.volatile; stable = s.stable; held = held_by_promises s.prepared; prepared = s.prepared; promises = s.promises }
+after_deed s (LearnsAbort tx) = record s { held = without_tx tx s.held; prepared = without_promise tx s.prepared }
+after_deed s Closes = record s { held = held_by_promises s.prepared }
 after_deed s (Installs k c log) = record { volatile = log; stable = log; held = []; prepared = []; promises = [] }
-after_deed s Rises = record { volatile = s.stable; stable = s.stable; held = held_by_promises s.promises; prepared = s.promises; promises = s.promises }
+after_deed s Rises = record s { volatile = s.stable; held = held_by_promises s.promises; prepared = s.promises }
 
 -- oldest first
 abbrev pub site_from : Site → List Deed → Site
@@ -117,10 +119,11 @@ done_record tx stamp (Some p) = record { tx = tx; stamp = stamp } ∷ []
 
 abbrev pub done_records : Site → List Deed → List DoneRecord
 done_records s [] = []
-done_records s (LearnsCommit tx stamp ∷ ds) = done_record tx stamp (promise_of tx s.prepared) ++ done_records (after_deed s (LearnsCommit tx stamp)) ds
+done_records s (LearnsCommit tx stamp ∷ ds) =
+    done_record tx stamp (promise_of tx s.prepared) ++ done_records (after_deed s (LearnsCommit tx stamp)) ds
 done_records s (d ∷ ds) = done_records (after_deed s d) ds
 
--- the epoch that is installed after deeds, and whether the site is shut
+-- the epoch that is installed after deeds, and whether the site has closed and not installed since
 abbrev pub epoch_from : ℕ → List Deed → ℕ
 epoch_from e [] = e
 epoch_from e (Installs k c log ∷ ds) = epoch_from k ds

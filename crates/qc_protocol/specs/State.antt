@@ -1,5 +1,6 @@
--- The state of the protocol: what the clients know, what each site did, and all messages that were ever sent. A message is never
--- taken away, so any may come late, again or not at all. It knows no scripts, rounds, numbers of messages or code.
+-- The state of the protocol: what the clients know, what each site did, and all messages that were ever sent. A
+-- message is never taken away, so any may come late, again or not at all. It knows no scripts, rounds, numbers of
+-- messages or code.
 use Rattle.std.specs.Prelude.{ℕ, List, Option}
 use Rattle.qc_stamp.specs.declared.stamp.Stamp.{Stamp}
 use Rattle.qc_stamp.specs.declared.stamp.TxId.{TxId}
@@ -8,7 +9,8 @@ use Rattle.qc_entry.specs.declared.record.Commit.{Commit as CommitRecord}
 use Rattle.qc_onecopy.specs.Executed.{Executed}
 use Rattle.qc_protocol.specs.Site.{Item, Deed}
 
--- where a transaction stands; the last two are final (presumed abort, Mohan and Lindsay 1983: without a commit record it aborted)
+-- where a transaction stands; the last two are final (presumed abort, Mohan and Lindsay 1983: without a commit record
+-- it aborted)
 pub data Status : Type 0 where
   NotBegun : Status
   Active : Status  -- it executes operations
