@@ -13,7 +13,7 @@ use Rattle.qc_plan.specs.Faults.{fault_of}
 use Rattle.qc_plan.specs.declared.fault.PlanFault.{PlanFault}
 use Rattle.qc_plan.specs.declared.plan.Plan.{Plan}
 use Rattle.qc_runs.proofs.Finding.{at_most, below, both, found, same_number}
-use Rattle.qc_runs.specs.Settings.{latch, latch_kind, latched, moved, pair, store, ticket, ticket_kind, ticketed}
+use Rattle.qc_runs.specs.Settings.{latch, latch_kind, latched, moved, pair, store, three_twice, ticket, ticket_kind, ticketed}
 use Rattle.qc_table.specs.Sound.{IsSound}
 use Rattle.qc_table.specs.declared.kind.Kind.{Kind}
 
@@ -83,3 +83,6 @@ latched_accepted = found (store_accepted 2 latch_kind (0 ∷ []) latched.plans l
 
 pub ticketed_accepted : IsAccepted ticketed
 ticketed_accepted = found (store_accepted 1 ticket_kind (0 ∷ []) ticketed.plans ticket_right) refl
+
+pub three_twice_accepted : IsAccepted three_twice
+three_twice_accepted = found (store_accepted 3 register_kind (0 ∷ []) three_twice.plans register_right) refl

@@ -1,4 +1,4 @@
--- A promise is found to be broken.
+-- A guarantee is found to be broken.
 use Rattle.std.proofs.Common.{◌≡◌, ℕ, zero, suc, ◌+◌, ◌<◌, ◌≤◌, ◌==◌, Bool, true, false, List, [], ◌∷◌, Option, Some, None, slice_get, option_map, inl, inr, refl, sym, ap, ◌∙◌, subst, arith}
 use Rattle.std.proofs.lemmas.Bool.{eqb-false}
 use Rattle.qc_stamp.specs.declared.stamp.Stamp.{Stamp}
@@ -19,7 +19,7 @@ use Rattle.qc_protocol.specs.State.{Granted, State, Verdict}
 use Rattle.qc_runs.proofs.Alike.{alike_tx, same_stamp}
 use Rattle.qc_runs.proofs.Finding.{IsFound, at_most, both, every, some, where_same_tx}
 use Rattle.qc_runs.proofs.Quorums.{shows}
-use Rattle.qc_runs.specs.Promises.{LastRecordFollowsSeen, LogsHoldOperations, RecordsAreApart, RecordsAreOneCopy, VerdictsAgree}
+use Rattle.qc_runs.specs.Guarantees.{Holds, LastRecordFollowsSeen, LogsHoldOperations, RecordsAreApart, RecordsAreOneCopy, VerdictsAgree}
 use Rattle.qc_table.specs.Rules.{event}
 
 abbrev pub other_number : (a b : ℕ) → Option (a ≡ b → ⊥)
@@ -81,7 +81,7 @@ no_walk decl states [] = None
 no_walk decl states (op ∷ ops) = goes_wrong decl states op.object op.inv op.resp ops (λ after. no_walk decl after ops)
 
 -- the records aren't one copy's
-abbrev pub not_one_copy : (decl : Declaration) (acts : List Act) → Option (RecordsAreOneCopy decl acts → ⊥)
+abbrev pub not_one_copy : (decl : Declaration) (acts : List Act) → Option (Holds RecordsAreOneCopy decl acts → ⊥)
 not_one_copy decl acts = no_walk decl (start_at decl) (operations (sorted (state acts).records))
 
 abbrev other_tx : (t u : TxId) → Option (t ≡ u → ⊥)
@@ -109,7 +109,7 @@ not_apart_of (c ∷ []) = None
 not_apart_of [] = None
 
 -- the last two records have one stamp, or one transaction
-abbrev pub not_apart : (decl : Declaration) (acts : List Act) → Option (RecordsAreApart decl acts → ⊥)
+abbrev pub not_apart : (decl : Declaration) (acts : List Act) → Option (Holds RecordsAreApart decl acts → ⊥)
 not_apart decl acts = not_apart_of (state acts).records
 
 -- an operation of a record isn't of this event
@@ -151,10 +151,10 @@ not_logged decl records l = option_map made (every (λ (c : CommitRecord). l.tx 
     made f h = f h.commit h.listed h.named h.operation
 
 -- a log of this site has a line that is no record's operation
-abbrev pub wrong_log : (site : ℕ) (decl : Declaration) (acts : List Act) → Option (LogsHoldOperations decl acts → ⊥)
+abbrev pub wrong_log : (site : ℕ) (decl : Declaration) (acts : List Act) → Option (Holds LogsHoldOperations decl acts → ⊥)
 wrong_log site decl acts = option_map made (some (λ (l : Line). IsLogged decl (state acts).records l → ⊥) (not_logged decl (state acts).records) (site_after ((state acts).deeds site)).volatile)
   where
-    made : IsFound (λ (l : Line). IsLogged decl (state acts).records l → ⊥) (site_after ((state acts).deeds site)).volatile → LogsHoldOperations decl acts → ⊥
+    made : IsFound (λ (l : Line). IsLogged decl (state acts).records l → ⊥) (site_after ((state acts).deeds site)).volatile → Holds LogsHoldOperations decl acts → ⊥
     made f h = f.holds (h site f.item f.stands)
 
 -- a transaction that was told to be given up has a record
@@ -165,10 +165,10 @@ has_record acts v = by v.stamp
     by None = option_map (λ (f : IsFound (λ (c : CommitRecord). c.tx ≡ v.tx) (state acts).records). λ h. h f.item f.stands f.holds) (some (λ (c : CommitRecord). c.tx ≡ v.tx) (λ c. alike_tx c.tx v.tx) (state acts).records)
     by (Some s) = None
 
-abbrev pub wrong_verdict : (decl : Declaration) (acts : List Act) → Option (VerdictsAgree decl acts → ⊥)
+abbrev pub wrong_verdict : (decl : Declaration) (acts : List Act) → Option (Holds VerdictsAgree decl acts → ⊥)
 wrong_verdict decl acts = option_map made (some (λ (v : Verdict). IsVerdictOf (state acts).records v.tx v.stamp → ⊥) (has_record acts) (state acts).verdicts)
   where
-    made : IsFound (λ (v : Verdict). IsVerdictOf (state acts).records v.tx v.stamp → ⊥) (state acts).verdicts → VerdictsAgree decl acts → ⊥
+    made : IsFound (λ (v : Verdict). IsVerdictOf (state acts).records v.tx v.stamp → ⊥) (state acts).verdicts → Holds VerdictsAgree decl acts → ⊥
     made f h = f.holds (h f.item f.stands)
 
 -- a line that the client had counted has no record with a smaller clock
@@ -188,9 +188,9 @@ seen_late now c g = option_map made (some (λ (l : Line). Shows g l × (HasEarli
     made f = (f.item, (f.holds.0, f.holds.1))
 
 -- the last record isn't stamped above all that its client had counted
-abbrev pub wrong_order : (decl : Declaration) (acts : List Act) → Option (LastRecordFollowsSeen decl acts → ⊥)
+abbrev pub wrong_order : (decl : Declaration) (acts : List Act) → Option (Holds LastRecordFollowsSeen decl acts → ⊥)
 wrong_order decl (Commit c ∷ older) = option_map made (some (IsSeenLate (state older) c) (seen_late (state older) c) ((state older).seen_by c.tx.client))
   where
-    made : IsFound (IsSeenLate (state older) c) ((state older).seen_by c.tx.client) → LastRecordFollowsSeen decl (Commit c ∷ older) → ⊥
+    made : IsFound (IsSeenLate (state older) c) ((state older).seen_by c.tx.client) → Holds LastRecordFollowsSeen decl (Commit c ∷ older) → ⊥
     made f h = (f.holds.1).1 ((h c older refl).seen_by f.item f.holds.0 f.stands (f.holds.1).0)
 wrong_order decl _ = None

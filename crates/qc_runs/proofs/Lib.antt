@@ -16,3 +16,6 @@ pub mod WrongGrants
 pub mod WrongCommits
 pub mod WrongSnapshots
 pub mod WrongDecisions
+pub mod WitnessRuns
+pub mod EveryGuard
+pub mod Kept

@@ -1,5 +1,6 @@
 pub mod Needed
-pub mod Promises
+pub mod Guarantees
 pub mod Moves
 pub mod Stories
 pub mod Settings
+pub mod Witnesses

@@ -1,10 +1,11 @@
--- When a guard is needed: where it isn't asked, and every other guard is, some run breaks a promise that the protocol keeps.
+-- When a guard is needed: where it isn't asked, and every other guard is, some run breaks a guarantee.
 use Rattle.std.specs.Prelude.{ℕ, ◌==◌, Bool, not, List, [], ◌∷◌}
 use Rattle.qc_decl.specs.declared.declaration.Declaration.{Declaration}
 use Rattle.qc_decl.specs.Accepted.{IsAccepted}
 use Rattle.qc_protocol.specs.Acts.{Act}
 use Rattle.qc_protocol.specs.Asked.{Guard, BeginsOnce, BeginsInPlannedEpoch, OperatesWhileActive, ChoosesOneAtATime, AnswersFromView, InvocationIsDeclared, OperationsAreNumbered, OwnLinesAreKept, ViewWasShown, ViewIsWhole, ReadQuorumIsMet, ChosenHasResponse, AbsentHasNoResponse, AppendsWhatIsChosen, AppendCarriesView, AppendCarriesOnlyOwnLines, AppendCarriesEarlierLines, AppendQuorumIsMet, GrantTellsDeeds, GrantTellsLife, GrantTellsEpoch, GrantsUnlessClosed, GrantPassesInstalls, GrantsWithoutConflict, GrantPassesDone, GrantPassesLines, GrantsWhatWasRequested, CountsWhatWasGranted, CountsWhileActive, CountsInItsEpoch, PreparesOnce, PreparesWhenExecuted, VotesWhenAsked, VotesInGrantedLife, RecordsPrepareWhenAsked, CommitsWhenVoting, AllHaveVoted, StampIsItsClients, StampPassesClock, RecordHasOperations, AbortsBeforeRecord, RisesWithNoneRunning, RisesPastRecords, LearnsWhatWasAnnounced, SnapshotTellsDeeds, SnapshotIsOfClosed, SnapshotPassesDone, SnapshotPassesInstalls, DecidesByPlan, DecidesFromSnapshots, DecidesNextEpoch, ClosesEnough, ClosedSitesAnswered, ResolvesPrepared, MergesEveryEntry, DecidePassesCommitted, MergesLogs, MergesOnlyCommitted, DecidePassesSnapshots, InstallsWhatWasDecided, InstallsLaterEpoch}
 use Rattle.qc_protocol.specs.Guards.{IsRunBy}
+use Rattle.qc_runs.specs.Guarantees.{Guarantee, Holds}
 
 -- all guards, in the order of the acts that ask them
 abbrev pub guards : List Guard
@@ -91,10 +92,10 @@ place_of InstallsLaterEpoch = 60
 abbrev pub every_guard_but : Guard → Guard → Bool
 every_guard_but one guard = not (place_of guard == place_of one)
 
--- without the guard a run, over an accepted declaration, breaks the promise
-pub record IsNeeded (guard : Guard) (Promised : Declaration → List Act → Type 0) : Type 0 where
+-- without the guard a run, over an accepted declaration, breaks the guarantee
+pub record IsNeeded (guard : Guard) (guarantee : Guarantee) : Type 0 where
   pub decl : Declaration
   pub accepted : IsAccepted decl
   pub acts : List Act
   pub run : IsRunBy (every_guard_but guard) decl acts
-  pub broken : Promised decl acts → ⊥
+  pub broken : Holds guarantee decl acts → ⊥

@@ -23,6 +23,10 @@ store actors kind objects plans = record {
 abbrev pub moved : Declaration
 moved = store 3 register_kind (0 ∷ []) (register_plan (1 ∷ 0 ∷ 0 ∷ []) 1 ∷ register_plan (0 ∷ 1 ∷ 0 ∷ []) 1 ∷ register_plan (0 ∷ 0 ∷ 1 ∷ []) 1 ∷ [])
 
+-- the built-in register at three sites, two of which are each quorum, with a second epoch
+abbrev pub three_twice : Declaration
+three_twice = store 3 register_kind (0 ∷ []) (register_plan (1 ∷ 1 ∷ 1 ∷ []) 2 ∷ register_plan (1 ∷ 1 ∷ 1 ∷ []) 2 ∷ [])
+
 -- Of two registers at two sites an event is written at either site, and read at both; so the close needs both.
 abbrev pub pair_plan : Plan
 pair_plan = record { weights = 1 ∷ 1 ∷ []; initial = (2 ∷ 0 ∷ 0 ∷ []) ∷ (2 ∷ 0 ∷ 0 ∷ []) ∷ []; last = (0 ∷ 0 ∷ 1 ∷ 1 ∷ []) ∷ (0 ∷ 0 ∷ 1 ∷ 1 ∷ []) ∷ [] }

@@ -84,7 +84,10 @@ takes_none = record { inv = 0; resp = None; event = 0 }
 abbrev pub appended : TxId → List ℕ → List Move
 appended tx sites = flat_map (λ site. grants_append tx site ∷ counts tx site ∷ []) sites
 
--- a second transaction of the first client
+-- second transactions of the first and the second client
+abbrev pub second_again : TxId
+second_again = record { client = 1; life = 1; number = 2 }
+
 abbrev pub first_again : TxId
 first_again = record { client = 0; life = 1; number = 2 }
 

@@ -2,8 +2,8 @@
 //! run without it.
 
 ghost use Rattle.qc_protocol.specs.Asked.{AppendsWhatIsChosen, AppendCarriesView, AppendCarriesOnlyOwnLines, AppendCarriesEarlierLines, AppendQuorumIsMet};
+ghost use Rattle.qc_runs.specs.Guarantees.{LogsHoldOperations, RecordsAreOneCopy};
 ghost use Rattle.qc_runs.specs.Needed.{IsNeeded};
-ghost use Rattle.qc_runs.specs.Promises.{LogsHoldOperations, RecordsAreOneCopy};
 
 /// A transaction that has chosen nothing sends a line, and its record lacks it.
 #[tactic(auto, using(crate::proofs::WrongAppends::appends_of_nothing_chosen))]

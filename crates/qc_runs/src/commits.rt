@@ -2,8 +2,8 @@
 //! and is shown by a run without it.
 
 ghost use Rattle.qc_protocol.specs.Asked.{PreparesOnce, PreparesWhenExecuted, VotesWhenAsked, VotesInGrantedLife, RecordsPrepareWhenAsked, CommitsWhenVoting, AllHaveVoted, StampIsItsClients, StampPassesClock, RecordHasOperations, AbortsBeforeRecord, RisesWithNoneRunning, RisesPastRecords, LearnsWhatWasAnnounced};
+ghost use Rattle.qc_runs.specs.Guarantees.{LogsHoldOperations, RecordsAreApart, RecordsAreOneCopy, VerdictsAgree};
 ghost use Rattle.qc_runs.specs.Needed.{IsNeeded};
-ghost use Rattle.qc_runs.specs.Promises.{LogsHoldOperations, RecordsAreApart, RecordsAreOneCopy, VerdictsAgree};
 
 /// A transaction that was told to be given up is prepared and commits.
 #[tactic(auto, using(crate::proofs::WrongCommits::prepare_after_an_abort))]

@@ -2,8 +2,8 @@
 //! is shown by a run without it.
 
 ghost use Rattle.qc_protocol.specs.Asked.{DecidesByPlan, DecidesFromSnapshots, DecidesNextEpoch, ClosesEnough, ClosedSitesAnswered, ResolvesPrepared, MergesEveryEntry, DecidePassesCommitted, MergesLogs, MergesOnlyCommitted, DecidePassesSnapshots, InstallsWhatWasDecided, InstallsLaterEpoch};
+ghost use Rattle.qc_runs.specs.Guarantees.{RecordsAreOneCopy};
 ghost use Rattle.qc_runs.specs.Needed.{IsNeeded};
-ghost use Rattle.qc_runs.specs.Promises.{RecordsAreOneCopy};
 
 /// By a plan without thresholds nothing must close: an epoch is decided from no
 /// snapshot.

@@ -2,8 +2,8 @@
 //! and is shown by a run without it.
 
 ghost use Rattle.qc_protocol.specs.Asked.{GrantTellsDeeds, GrantTellsLife, GrantTellsEpoch, GrantsUnlessClosed, GrantPassesInstalls, GrantsWithoutConflict, GrantPassesDone, GrantPassesLines, GrantsWhatWasRequested, CountsWhatWasGranted, CountsWhileActive, CountsInItsEpoch};
+ghost use Rattle.qc_runs.specs.Guarantees.{LastRecordFollowsSeen, LogsHoldOperations, RecordsAreOneCopy};
 ghost use Rattle.qc_runs.specs.Needed.{IsNeeded};
-ghost use Rattle.qc_runs.specs.Promises.{LastRecordFollowsSeen, LogsHoldOperations, RecordsAreOneCopy};
 
 /// A site grants a read lock as if it had done nothing.
 #[tactic(auto, using(crate::proofs::WrongGrants::grants_that_show_an_older_log))]

@@ -2,8 +2,8 @@
 //! guard, and is shown by a run without it.
 
 ghost use Rattle.qc_protocol.specs.Asked.{BeginsOnce, BeginsInPlannedEpoch, OperatesWhileActive, ChoosesOneAtATime, AnswersFromView, OperationsAreNumbered, OwnLinesAreKept, ViewWasShown, ViewIsWhole, ReadQuorumIsMet, ChosenHasResponse, AbsentHasNoResponse};
+ghost use Rattle.qc_runs.specs.Guarantees.{LogsHoldOperations, RecordsAreApart, RecordsAreOneCopy};
 ghost use Rattle.qc_runs.specs.Needed.{IsNeeded};
-ghost use Rattle.qc_runs.specs.Promises.{LogsHoldOperations, RecordsAreApart, RecordsAreOneCopy};
 
 /// A transaction begins again after its commit, and commits again.
 #[tactic(auto, using(crate::proofs::WrongOperations::transactions_that_begin_twice))]

@@ -2,8 +2,8 @@
 //! a run without it.
 
 ghost use Rattle.qc_protocol.specs.Asked.{SnapshotTellsDeeds, SnapshotIsOfClosed, SnapshotPassesDone, SnapshotPassesInstalls};
+ghost use Rattle.qc_runs.specs.Guarantees.{RecordsAreOneCopy};
 ghost use Rattle.qc_runs.specs.Needed.{IsNeeded};
-ghost use Rattle.qc_runs.specs.Promises.{RecordsAreOneCopy};
 
 /// A site that closes tells nothing of a write that it has.
 #[tactic(auto, using(crate::proofs::WrongSnapshots::snapshots_of_an_older_log))]

@@ -1,4 +1,4 @@
--- What the protocol promises of all that was done. Each holds of every run (the laws of qc_protocol).
+-- What the protocol guarantees of all that was done.
 use Rattle.std.specs.Prelude.{◌≡◌, ℕ, List, ◌∷◌}
 use Rattle.qc_decl.specs.declared.declaration.Declaration.{Declaration}
 use Rattle.qc_entry.specs.declared.line.Line.{Line}
@@ -12,24 +12,26 @@ use Rattle.qc_protocol.specs.Claims.{FollowsSeen, IsVerdictOf}
 use Rattle.qc_protocol.specs.Site.{site_after}
 use Rattle.qc_protocol.specs.State.{Verdict}
 
+pub data Guarantee : Type 0 where
+  RecordsAreOneCopy : Guarantee
+  RecordsAreApart : Guarantee
+  LogsHoldOperations : Guarantee
+  VerdictsAgree : Guarantee
+  LastRecordFollowsSeen : Guarantee
+
+-- what a guarantee says of acts, newest first
+abbrev pub Holds : Guarantee → Declaration → List Act → Type 0
 -- the records, in the order of their stamps, are one copy's of each object
-abbrev pub RecordsAreOneCopy : Declaration → List Act → Type 0
-RecordsAreOneCopy decl acts = OneCopy decl (sorted (state acts).records)
-
+Holds RecordsAreOneCopy decl acts = OneCopy decl (sorted (state acts).records)
 -- no two records have one stamp, or one transaction
-abbrev pub RecordsAreApart : Declaration → List Act → Type 0
-RecordsAreApart decl acts = AreApart (state acts).records
-
+Holds RecordsAreApart decl acts = AreApart (state acts).records
 -- each line of each site's log is an operation of a record
-abbrev pub LogsHoldOperations : Declaration → List Act → Type 0
-LogsHoldOperations decl acts =
-    (site : ℕ) (line : Line) → In line (site_after ((state acts).deeds site)).volatile → IsLogged decl (state acts).records line
-
+Holds LogsHoldOperations decl acts =
+    (site : ℕ) (line : Line) → In line (site_after ((state acts).deeds site)).volatile
+    → IsLogged decl (state acts).records line
 -- each verdict that was sent is the records'
-abbrev pub VerdictsAgree : Declaration → List Act → Type 0
-VerdictsAgree decl acts = (verdict : Verdict) → In verdict (state acts).verdicts → IsVerdictOf (state acts).records verdict.tx verdict.stamp
-
+Holds VerdictsAgree decl acts =
+    (verdict : Verdict) → In verdict (state acts).verdicts → IsVerdictOf (state acts).records verdict.tx verdict.stamp
 -- what its client had learned of as the last record was written has records with smaller clocks
-abbrev pub LastRecordFollowsSeen : Declaration → List Act → Type 0
-LastRecordFollowsSeen decl acts =
+Holds LastRecordFollowsSeen decl acts =
     (commit : CommitRecord) (older : List Act) → acts ≡ Commit commit ∷ older → FollowsSeen (state older) commit
