@@ -42,13 +42,15 @@ use Rattle.qc_site.specs.Conduct.{site_after, site_does}
 use Rattle.qc_site.specs.Site.{SiteMove, new_site}
 use Rattle.qc_core.specs.Acts.{Act, acts}
 use Rattle.qc_script.specs.Asked.{AsksOnly}
-use Rattle.qc_core.specs.Atomic.{AreApart, AreTold, Atomic, HasBefore}
+use Rattle.qc_onecopy.specs.Committed.{AreApart}
+use Rattle.qc_core.specs.Atomic.{AreTold, Atomic, HasBefore}
 use Rattle.qc_core.specs.Bounds.{front_at, site_at}
-use Rattle.qc_core.specs.Committed.{In, commit_by, commit_in, written}
+use Rattle.qc_onecopy.specs.Lists.{In}
+use Rattle.qc_core.specs.Committed.{commit_by, commit_in, written}
 use Rattle.qc_core.specs.Conduct.{IsLawful, IsRun}
 use Rattle.qc_core.specs.Deals.{deal, dealing, deals, endings, no_dealing}
 use Rattle.qc_core.specs.Kept.{Kept}
-use Rattle.qc_core.specs.OneCopy.{OneCopy, start_at}
+use Rattle.qc_onecopy.specs.OneCopy.{OneCopy, start_at}
 use Rattle.qc_core.specs.Seen.{no_sight, seen, sight}
 use Rattle.qc_core.proofs.ActsGrow.{acts-other, acts-phase, acts-posted, acts-taken}
 use Rattle.qc_core.proofs.Fronts.{runs}

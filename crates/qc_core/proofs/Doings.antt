@@ -30,8 +30,8 @@ use Rattle.qc_table.proofs.Lowest.{none_legal}
 use Rattle.qc_table.proofs.Numbered.{first_lowest, first_some}
 use Rattle.qc_table.proofs.Runs.{reached-append}
 use Rattle.qc_core.specs.Due.{own_events}
-use Rattle.qc_core.specs.Logged.{IsOperation, event_at}
-use Rattle.qc_core.specs.OneCopy.{start_at, step_at, updated}
+use Rattle.qc_onecopy.specs.Logged.{IsOperation, event_at}
+use Rattle.qc_onecopy.specs.OneCopy.{start_at, step_at, updated}
 use Rattle.qc_core.proofs.Faithful.{IsRead, faithful, same_next}
 use Rattle.qc_core.proofs.Histories.{IsFree, IsUnread, reach_events, unread_events}
 use Rattle.qc_core.proofs.Members.{every-append, every-weaker}

@@ -34,7 +34,8 @@ use Rattle.qc_core.proofs.Dues.{called_tells, heard_tells}
 use Rattle.qc_core.proofs.Happenings.{happening_of, happenings-other, happenings-phase, happenings-posted, happenings-taken, happenings-untold, posted_happenings, untold_happenings}
 use Rattle.qc_core.proofs.OrderLaw.{Law, clients_turn, law}
 use Rattle.qc_core.proofs.Sites.{site_silent}
-use Rattle.qc_core.proofs.Places.{slice_get-replicate, slice_get-set_other, slice_get-set_same}
+use Rattle.qc_core.proofs.Places.{slice_get-replicate}
+use Rattle.qc_onecopy.proofs.Places.{slice_get-set_other, slice_get-set_same}
 
 -- each reply over two parts of a history
 pub replies-append : (P : List Entry → ℕ → Reply → Type 0) (before h k : List Entry) → EachReply P before h → EachReply P (before ++ h) k → EachReply P before (h ++ k)

@@ -29,7 +29,7 @@ use Rattle.qc_msg.specs.declared.step.Reply.{Reply}
 use Rattle.qc_msg.specs.declared.step.Reply.TheVariants as replies
 use Rattle.qc_msg.specs.declared.step.Why.TheVariants.{Forgot}
 use Rattle.qc_msg.specs.Lives.{first_life}
-use Rattle.qc_core.specs.Logged.{event_at}
+use Rattle.qc_onecopy.specs.Logged.{event_at}
 use Rattle.qc_core.proofs.Views.{Owns, answer_first, answer_none, answer_numbered, owns-absent, owns-event}
 use Rattle.qc_core.specs.Deals.{is_begun, operation}
 use Rattle.qc_site.proofs.Entries.{same_self}

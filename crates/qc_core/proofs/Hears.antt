@@ -14,8 +14,7 @@ use Rattle.qc_front.specs.declared.round.Round.TheVariants.{Idle, Reading, Appen
 use Rattle.qc_front.specs.Conduct.{heard}
 use Rattle.qc_front.specs.Moves.{moved, quiet}
 use Rattle.qc_front.specs.Ending.{forgotten, promised}
-use Rattle.qc_front.specs.Operation.{granted, joined, met, responded, with_event}
-use Rattle.qc_front.specs.State.{passed}
+use Rattle.qc_front.specs.Operation.{granted, joined, met, with_event}
 use Rattle.qc_front.specs.View.{next_own}
 use Rattle.qc_msg.specs.declared.message.Message.{Message}
 use Rattle.qc_msg.specs.declared.message.Message.TheVariants.{Granted, Stale, Yes}
@@ -25,7 +24,7 @@ use Rattle.qc_msg.specs.Lives.{first_life}
 use Rattle.qc_site.specs.Site.{SiteState}
 use Rattle.qc_core.specs.Acts.{Takes}
 use Rattle.qc_core.specs.Deals.{Dealing}
-use Rattle.qc_core.specs.Logged.{IsLogged}
+use Rattle.qc_onecopy.specs.Logged.{IsLogged}
 use Rattle.qc_core.specs.Seen.{Sight}
 use Rattle.qc_core.proofs.Doings.{Doing, doing-alike, doing-event, doing-joined, joined_full}
 use Rattle.qc_core.proofs.Holding.{HoldsBy, IsPromised}

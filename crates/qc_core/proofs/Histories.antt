@@ -16,8 +16,8 @@ use Rattle.qc_table.specs.Rules.{Rules, event, event_number, events_of}
 use Rattle.qc_table.specs.Run.{next_in, reached, step_of}
 use Rattle.qc_table.proofs.Numbered.{legal_numbered, number_is}
 use Rattle.qc_core.specs.Due.{event_on, own_events}
-use Rattle.qc_core.specs.Logged.{event_at}
-use Rattle.qc_core.specs.OneCopy.{Goes, step_at, updated}
+use Rattle.qc_onecopy.specs.Logged.{event_at}
+use Rattle.qc_onecopy.specs.OneCopy.{Goes, step_at, updated}
 use Rattle.qc_core.proofs.ObjectTypes.{IsTyped, asks, table_is}
 use Rattle.qc_core.proofs.Walking.{Reach}
 

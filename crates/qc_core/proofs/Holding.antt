@@ -12,7 +12,7 @@ use Rattle.qc_site.specs.Conduct.{is_prepared, most_body, prepare_length, prepar
 use Rattle.qc_site.specs.Held.{held_of, holding_lock, holding_owns, is_held, same_tx, with_entry, with_lock, with_owns, without_held}
 use Rattle.qc_site.specs.Site.{SiteMove, SiteState, answer, moved}
 use Rattle.qc_site.proofs.Entries.{same_self}
-use Rattle.qc_core.specs.Committed.{In}
+use Rattle.qc_onecopy.specs.Lists.{In}
 use Rattle.qc_core.proofs.Own.{IsSorted, with_owns-more}
 
 abbrev pub entry : TxId → List ReadLock → List OwnLine → Held

@@ -17,8 +17,10 @@ use Rattle.qc_msg.specs.declared.step.Reply.TheVariants.{Already, Began, NoTrans
 use Rattle.qc_site.specs.Held.{same_tx}
 use Rattle.qc_site.proofs.Entries.{same_self, tx_apart}
 use Rattle.qc_core.specs.Acts.{Act, Calls}
-use Rattle.qc_core.specs.Atomic.{AreApart, HasCommit}
-use Rattle.qc_core.specs.Committed.{In, commit_cmp, with_commit}
+use Rattle.qc_onecopy.specs.Committed.{AreApart}
+use Rattle.qc_core.specs.Atomic.{HasCommit}
+use Rattle.qc_onecopy.specs.Lists.{In}
+use Rattle.qc_onecopy.specs.Committed.{commit_cmp, with_commit}
 use Rattle.qc_core.specs.Deals.{Dealing, deal, dealt, ended, is_begun, operation}
 use Rattle.qc_core.proofs.Members.{In-first, In-last, In-more, every-append, every-in, every-weaker}
 

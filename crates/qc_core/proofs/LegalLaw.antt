@@ -25,16 +25,17 @@ use Rattle.qc_script.specs.Runs.{Runs, begins, takes, posts, phase}
 use Rattle.qc_site.specs.Site.{SiteState}
 use Rattle.qc_script.specs.Asked.{AsksOnly}
 use Rattle.qc_core.specs.Bounds.{front_at}
-use Rattle.qc_core.specs.Committed.{commit_by, committed, with_commit, written}
+use Rattle.qc_core.specs.Committed.{commit_by, committed, written}
+use Rattle.qc_onecopy.specs.Committed.{with_commit}
 use Rattle.qc_core.specs.Conduct.{IsLawful, IsRun}
 use Rattle.qc_core.specs.Due.{Account, AreLegal, EachReply, IsLegalAt, IsLegalReply, account, account_at, account_told}
-use Rattle.qc_core.specs.OneCopy.{Walks, operations, start_at}
+use Rattle.qc_onecopy.specs.OneCopy.{Walks, operations, start_at}
 use Rattle.qc_core.proofs.AtomicLaw.{Standing, first_alone, same_single, standing, written-told}
 use Rattle.qc_core.proofs.Doings.{Doing}
 use Rattle.qc_core.proofs.DueLaw.{DueLaw, OfTold, account-posted, account-untold, dues, input_each, posted_each, replies-append, site_each, untold}
 use Rattle.qc_core.proofs.Accounts.{Matches, account_after}
 use Rattle.qc_core.proofs.Happenings.{tells_happenings, untold_happenings}
-use Rattle.qc_core.proofs.Places.{slice_get-set_same}
+use Rattle.qc_onecopy.proofs.Places.{slice_get-set_same}
 use Rattle.qc_core.proofs.ObjectTypes.{Fits, accepted_fits}
 use Rattle.qc_core.proofs.Others.{NoOthers}
 use Rattle.qc_core.proofs.Sense.{Copied, Works, single, ops_of}

@@ -1,7 +1,7 @@
 -- Members of lists, and what holds of each.
 use Rattle.std.proofs.Common.{◌≡◌, List, [], ◌∷◌, ◌++◌, ◌⊎◌, inl, inr, refl, sym, subst}
 use Rattle.std.specs.List.{AllByRecursion as Every}
-use Rattle.qc_core.specs.Committed.{In}
+use Rattle.qc_onecopy.specs.Lists.{In}
 
 pub In-first : {X : Type 0} (x : X) (xs ys : List X) → In x xs → In x (xs ++ ys)
 In-first x [] ys member = absurd member

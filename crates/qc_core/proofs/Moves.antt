@@ -35,8 +35,8 @@ use Rattle.qc_site.specs.Site.{SiteMove, SiteState}
 use Rattle.qc_table.specs.Rules.{event}
 use Rattle.qc_core.specs.Deals.{Dealing, deal_told, operation}
 use Rattle.qc_core.specs.Due.{own_events}
-use Rattle.qc_core.specs.Logged.{IsLogged}
-use Rattle.qc_core.specs.OneCopy.{operations, start_at, step_at}
+use Rattle.qc_onecopy.specs.Logged.{IsLogged}
+use Rattle.qc_onecopy.specs.OneCopy.{operations, start_at, step_at}
 use Rattle.qc_core.specs.Seen.{Sight, sight_told}
 use Rattle.qc_core.proofs.Doings.{Doing, IsAnswer, IsDone, doing-absent, doing-alike, line_events, view_absorbed}
 use Rattle.qc_core.proofs.Histories.{events-append}

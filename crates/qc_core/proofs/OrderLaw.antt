@@ -7,7 +7,8 @@ use Rattle.std.proofs.lemmas.Bool.{eqb-true, eq-eqb}
 use Rattle.std.proofs.lemmas.List.{append-nil}
 use Rattle.std.proofs.lemmas.List.Sums.{fold-append}
 use Rattle.qc_core.proofs.Fronts.{runs, called_ends, heard_goes, sendings-round, Ends, GoesOn}
-use Rattle.qc_core.proofs.Places.{slice_get-set_other, slice_get-set_same, slice_get-replicate}
+use Rattle.qc_onecopy.proofs.Places.{slice_get-set_other, slice_get-set_same}
+use Rattle.qc_core.proofs.Places.{slice_get-replicate}
 use Rattle.qc_core.proofs.Sites.{site_silent}
 use Rattle.qc_core.specs.Bounds.{front_at}
 use Rattle.qc_core.specs.Conduct.{IsLawful, IsRun}

@@ -21,7 +21,7 @@ use Rattle.qc_decl.specs.declared.declaration.Declaration.{Declaration}
 use Rattle.qc_front.specs.View.{own_on, own_weighing, weighs}
 use Rattle.qc_site.specs.Conduct.{lines_of, stamped, with_stamped}
 use Rattle.qc_site.specs.Held.{with_own, with_owns}
-use Rattle.qc_core.specs.Committed.{In}
+use Rattle.qc_onecopy.specs.Lists.{In}
 use Rattle.qc_core.proofs.Members.{every-append, every-in, every-weaker}
 use Rattle.qc_core.proofs.ObjectTypes.{weighted}
 use Rattle.qc_core.proofs.Views.{line_events}

@@ -21,7 +21,7 @@ use Rattle.qc_script.specs.Asked.{AsksOnly}
 use Rattle.qc_core.specs.Bounds.{site_at}
 use Rattle.qc_core.specs.Committed.{AreRising, committed, written}
 use Rattle.qc_core.specs.Conduct.{IsRun}
-use Rattle.qc_core.specs.Logged.{IsLogged}
+use Rattle.qc_onecopy.specs.Logged.{IsLogged}
 use Rattle.qc_core.proofs.AtomicLaw.{StandAt, Standing, first_alone, same_single, standing}
 use Rattle.qc_core.proofs.Ledger.{IsEarlier, IsRising, clock_less}
 use Rattle.qc_core.proofs.Members.{every-weaker}

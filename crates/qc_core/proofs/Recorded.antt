@@ -18,7 +18,8 @@ use Rattle.qc_script.specs.declared.script.Script.{Script}
 use Rattle.qc_site.specs.Held.{same_tx}
 use Rattle.qc_site.proofs.Entries.{same_self}
 use Rattle.qc_script.specs.Asked.{AsksOnly}
-use Rattle.qc_core.specs.Committed.{In, commit_by, commit_in, committed, written}
+use Rattle.qc_onecopy.specs.Lists.{In}
+use Rattle.qc_core.specs.Committed.{commit_by, commit_in, committed, written}
 use Rattle.qc_core.specs.Conduct.{IsRun}
 use Rattle.qc_core.specs.Order.{EachAfter}
 use Rattle.qc_core.specs.Status.{Committed, HasEnded, IsRightAfter, Unborn, status, status_at}

@@ -15,7 +15,7 @@ use Rattle.qc_msg.specs.Steps.{Entry, marked}
 use Rattle.qc_core.specs.Committed.{committed}
 use Rattle.qc_core.specs.Deals.{deals, endings}
 use Rattle.qc_core.specs.Kept.{Kept}
-use Rattle.qc_core.specs.OneCopy.{OneCopy}
+use Rattle.qc_onecopy.specs.OneCopy.{OneCopy}
 use Rattle.qc_core.specs.Seen.{seen}
 
 abbrev tx : TxId

@@ -28,8 +28,8 @@ use Rattle.qc_msg.specs.Mail.{addressed, envelopes, sendings}
 use Rattle.qc_site.specs.Conduct.{site_on}
 use Rattle.qc_site.specs.Site.{SiteState}
 use Rattle.qc_core.specs.Deals.{Dealing, deal}
-use Rattle.qc_core.specs.Logged.{IsLogged}
-use Rattle.qc_core.specs.OneCopy.{operations}
+use Rattle.qc_onecopy.specs.Logged.{IsLogged}
+use Rattle.qc_onecopy.specs.OneCopy.{operations}
 use Rattle.qc_core.specs.Seen.{Sight, sight}
 use Rattle.qc_core.proofs.ActsGrow.{posted_acts}
 use Rattle.qc_core.proofs.Doings.{Doing, Follows, IsAnswer}

@@ -5,7 +5,7 @@ use Rattle.std.proofs.lemmas.Bool.{eqb-true, eqb-false, eq-eqb, ne_eqb}
 use Rattle.std.proofs.lemmas.List.Sums.{fold-append}
 use Rattle.qc_core.proofs.Fronts.{runs}
 use Rattle.qc_core.proofs.OrderLaw.{Law, clients_turn, law}
-use Rattle.qc_core.proofs.Places.{slice_get-set_other, slice_get-set_same}
+use Rattle.qc_onecopy.proofs.Places.{slice_get-set_other, slice_get-set_same}
 use Rattle.qc_core.proofs.UnderWay.{IsServed, called_served, heard_served, others_served, posted_served, same_served, site_called_served, site_heard_served, site_posted_served}
 use Rattle.qc_core.proofs.Within.{sendings-site}
 use Rattle.qc_core.specs.Bounds.{front_at, site_at}

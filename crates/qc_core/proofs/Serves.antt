@@ -19,7 +19,7 @@ use Rattle.qc_msg.specs.declared.step.Reply.TheVariants.{Dropped}
 use Rattle.qc_site.specs.Site.{SiteState}
 use Rattle.qc_core.specs.Acts.{Calls}
 use Rattle.qc_core.specs.Deals.{Dealing}
-use Rattle.qc_core.specs.OneCopy.{operations}
+use Rattle.qc_onecopy.specs.OneCopy.{operations}
 use Rattle.qc_core.specs.Seen.{Sight}
 use Rattle.qc_core.proofs.Doings.{Answers, Doing, IsAnswer, answers, doing-event, doing-fresh}
 use Rattle.qc_core.proofs.Holding.{HoldsBy}

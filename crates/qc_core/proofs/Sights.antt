@@ -12,7 +12,7 @@ use Rattle.qc_site.specs.Held.{same_tx}
 use Rattle.qc_site.proofs.Entries.{same_self}
 use Rattle.qc_core.specs.Acts.{Act, Takes, Sends, Tells}
 use Rattle.qc_core.specs.Atomic.{HasBefore}
-use Rattle.qc_core.specs.Committed.{In}
+use Rattle.qc_onecopy.specs.Lists.{In}
 use Rattle.qc_core.specs.Deals.{is_begun}
 use Rattle.qc_core.specs.Seen.{Sight, answered, begun_list, sees, sight, waits}
 use Rattle.qc_core.proofs.Ledger.{IsBelow, Stamps, apart_by_number, clock_less, tx_of}

@@ -23,10 +23,11 @@ use Rattle.qc_site.specs.Conduct.{site_on}
 use Rattle.qc_site.specs.Site.{SiteMove, SiteState}
 use Rattle.qc_core.specs.Acts.{Act, Calls, Takes}
 use Rattle.qc_core.specs.Atomic.{HasBefore}
-use Rattle.qc_core.specs.Committed.{In, with_commit}
+use Rattle.qc_onecopy.specs.Lists.{In}
+use Rattle.qc_onecopy.specs.Committed.{with_commit}
 use Rattle.qc_core.specs.Deals.{Dealing, deal, no_dealing}
-use Rattle.qc_core.specs.Logged.{IsLogged}
-use Rattle.qc_core.specs.OneCopy.{OneCopy, operations, start_at}
+use Rattle.qc_onecopy.specs.Logged.{IsLogged}
+use Rattle.qc_onecopy.specs.OneCopy.{OneCopy, operations, start_at}
 use Rattle.qc_core.specs.Seen.{Sight, no_sight, sight}
 use Rattle.qc_core.proofs.ActsGrow.{posted_acts}
 use Rattle.qc_core.proofs.Answers.{to_sender}

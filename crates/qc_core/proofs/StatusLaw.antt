@@ -34,7 +34,8 @@ use Rattle.qc_core.specs.Conduct.{IsLawful, IsRun}
 use Rattle.qc_core.specs.Order.{EachAfter}
 use Rattle.qc_core.specs.Status.{Begun as IsBegun, Committed, Dead, HasEnded, IsRight, IsRightAfter, Status, Unborn, given_up, status_at}
 use Rattle.qc_core.proofs.OrderLaw.{clients_turn, law}
-use Rattle.qc_core.proofs.Places.{slice_get-replicate, slice_get-set_other, slice_get-set_same}
+use Rattle.qc_core.proofs.Places.{slice_get-replicate}
+use Rattle.qc_onecopy.proofs.Places.{slice_get-set_other, slice_get-set_same}
 use Rattle.qc_core.proofs.Sense.{name_of}
 use Rattle.qc_core.proofs.Statuses.{Along, Goes, Known, called_goes, heard_goes, stat_after}
 

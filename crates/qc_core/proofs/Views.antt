@@ -18,7 +18,7 @@ use Rattle.qc_table.specs.Rules.{Rules, event, event_number, events_of}
 use Rattle.qc_table.specs.Run.{after, first_of, lowest_in, step_of}
 use Rattle.qc_table.proofs.Numbered.{first_some, number_is}
 use Rattle.qc_core.specs.Due.{Account, event_on, own_events, response}
-use Rattle.qc_core.specs.Logged.{event_at}
+use Rattle.qc_onecopy.specs.Logged.{event_at}
 
 abbrev pub view_of : Option Begun → List Line
 view_of None = []

@@ -3,7 +3,7 @@ use Rattle.std.proofs.Common.{◌≡◌, ℕ, List, [], ◌∷◌, ◌++◌, Opt
 use Rattle.qc_entry.specs.declared.line.Op.{Op}
 use Rattle.qc_decl.specs.declared.declaration.Declaration.{Declaration}
 use Rattle.qc_table.specs.Rules.{event}
-use Rattle.qc_core.specs.OneCopy.{Goes, Walks, step_at, updated}
+use Rattle.qc_onecopy.specs.OneCopy.{Goes, Walks, step_at, updated}
 
 -- a walk from these states to those
 abbrev pub Reach : Declaration → (ℕ → ℕ) → List Op → (ℕ → ℕ) → Type 0

@@ -9,15 +9,12 @@ use Rattle.qc_decl.specs.declared.declaration.Declaration.{Declaration}
 use Rattle.qc_msg.specs.declared.step.Reply.TheVariants.{Aborted, Committed, Dropped}
 use Rattle.qc_msg.specs.declared.step.Why.{Why}
 use Rattle.qc_msg.specs.Steps.{Entry}
-use Rattle.qc_core.specs.Committed.{In, committed}
+use Rattle.qc_onecopy.specs.Lists.{In}
+use Rattle.qc_core.specs.Committed.{committed}
 use Rattle.qc_core.specs.Deals.{deals, endings}
-use Rattle.qc_core.specs.OneCopy.{OneCopy}
+use Rattle.qc_onecopy.specs.Committed.{AreApart}
+use Rattle.qc_onecopy.specs.OneCopy.{OneCopy}
 use Rattle.qc_core.specs.Seen.{seen}
-
--- no two records have one stamp, or one transaction
-pub record AreApart (commits : List Commit) : Type 0 where
-  pub stamps : (c d : Commit) → In c commits → In d commits → c.stamp ≡ d.stamp → c ≡ d
-  pub transactions : (c d : Commit) → In c commits → In d commits → c.tx ≡ d.tx → c ≡ d
 
 -- a record of the transaction, with a stamp before this one
 pub record HasBefore (commits : List Commit) (tx : TxId) (stamp : Stamp) : Type 0 where

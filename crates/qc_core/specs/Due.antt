@@ -29,10 +29,10 @@ use Rattle.qc_msg.specs.Mail.{envelope_of}
 use Rattle.qc_msg.specs.Steps.{Entry}
 use Rattle.qc_table.specs.Rules.{Rules}
 use Rattle.qc_table.specs.Run.{after, lowest_in, step_of}
-use Rattle.qc_core.specs.Logged.{event_at}
+use Rattle.qc_onecopy.specs.Logged.{event_at}
 use Rattle.qc_core.specs.Committed.{committed}
 use Rattle.qc_core.specs.Deals.{is_begun, operation}
-use Rattle.qc_core.specs.OneCopy.{Walks, operations, start_at}
+use Rattle.qc_onecopy.specs.OneCopy.{Walks, operations, start_at}
 use Rattle.qc_core.specs.Order.{EachAfter}
 
 -- what happens at an actor: it calls a command, takes a message, writes a record, sends a message of this number, tells a reply

@@ -4,13 +4,11 @@ pub mod Bounds
 pub mod Answer
 pub mod Whole
 pub mod Committed
-pub mod OneCopy
 pub mod Acts
 pub mod Deals
 pub mod Seen
 pub mod Kept
 pub mod Spent
 pub mod Atomic
-pub mod Logged
 pub mod Status
 pub mod Due

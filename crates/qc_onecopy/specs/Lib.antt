@@ -4,3 +4,4 @@ pub mod Executed
 pub mod Views
 pub mod Committed
 pub mod Logged
+pub mod Replay

@@ -1,19 +1,21 @@
-//! One copy of each object, and when operations that were answered from
-//! views are those of one copy.
+//! One copy of each object: what it is that committed transactions are its
+//! operations, how that is tested, and what is enough for it.
+//!
+//! 1. Commit records stand in the order of their stamps, each once.
+//! 2. A replay of them has states exactly where they are one copy's.
+//! 3. Operations that were answered from views, in the sense of certificates,
+//!    are one copy's. What is asked of them is what a reader can check of
+//!    operations and lines; it knows no sites, locks, epochs, lives or messages.
+//!
+//! The theory of the protocol stands on the third, the laws of the system on
+//! the definitions, and the report on the replay. No unsorted list, and no
+//! state of a site, is seen here.
 #![tactic(auto)]
 
-ghost use Rattle.std.specs.Prelude.{◌≡◌, ℕ, List, Some, map};
-ghost use Rattle.qc_cert.specs.Views.{IsExact};
-ghost use Rattle.qc_table.specs.declared.kind.Kind.{Kind};
-ghost use Rattle.qc_decl.specs.declared.declaration.Declaration.{Declaration};
-ghost use Rattle.qc_onecopy.specs.Executed.{Placed, kind_at};
-ghost use Rattle.qc_onecopy.specs.OneCopy.{Walks, start_at};
-ghost use Rattle.qc_onecopy.specs.Views.{AreFromViews};
+mod laws;
+mod states;
+#[cfg(test)]
+mod tests;
 
-/// Operations that were answered from views, under exact relations, are those
-/// of one copy of each object.
-pub fn views_are_one_copy()
-    ensures { (decl : Declaration) (all : List Placed)
-        → ((object : ℕ) (kind : Kind) → kind_at decl object ≡ Some kind → IsExact kind)
-        → AreFromViews decl all → Walks decl (start_at decl) (map (λ (p : Placed). p.operation.op) all) }
-{}
+pub use laws::{records_are_sorted, replays_are_one_copy, views_are_one_copy};
+pub use states::replay;

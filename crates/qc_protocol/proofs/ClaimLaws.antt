@@ -31,14 +31,15 @@ use Rattle.qc_protocol.specs.Guards.{Shows, MayCommit, op_of, IsRun}
 use Rattle.qc_protocol.specs.Acts.{Act, state}
 use Rattle.qc_protocol.specs.StateLaws.{IsOutcome, StateLaws}
 use Rattle.qc_protocol.specs.Logs.{AreInOrder, IsDependedOn, IsClosedAt, LogLaws}
-use Rattle.qc_protocol.specs.Claims.{FollowsSeen, HasEarlier, IsLogOf, IsVerdictOf}
+use Rattle.qc_protocol.specs.Claims.{OfAppend, OfDecision, OfGrant, OfSite, OfSnapshot, FollowsSeen, HasEarlier, IsLogOf, IsVerdictOf}
 use Rattle.qc_protocol.proofs.Names.{tx_cases}
 use Rattle.qc_protocol.proofs.Outcomes.{committed_record, outcome_commit, outcome_aborted}
 use Rattle.qc_protocol.proofs.Keeps.{laws}
 use Rattle.qc_protocol.proofs.LogKeeps.{log_laws}
 use Rattle.qc_protocol.proofs.CommittedViews.{depended, own_all, whose}
 use Rattle.qc_protocol.proofs.Ordering.{ordered}
-use Rattle.qc_protocol.proofs.PlacedOperations.{place, placed, placed_of, placed_ordered, some_resp}
+use Rattle.qc_protocol.specs.Placed.{place, placed}
+use Rattle.qc_protocol.proofs.PlacedOperations.{placed_of, placed_ordered, some_resp}
 use Rattle.qc_protocol.proofs.OneCopyLaw.{runs_are_one_copy}
 
 -- the place of an operation is its number
@@ -109,11 +110,18 @@ module _ (decl : Declaration) (accepted : IsAccepted decl) where
         resp_of None h = absurd (let never : ⊥ = cc in never)
         resp_of (Some r) h = (r, refl)
 
-    -- each line of a log is closed at in it
+    -- a log that is one of these
+    on_log : {log known : List Line} → log ≡ known → ((l : Line) → In l known → IsClosedAt decl (state acts).status (state acts).executed known l)
+        → (l : Line) → In l log → IsClosedAt decl (state acts).status (state acts).executed log l
+    on_log is each l h = subst (λ (x : List Line). IsClosedAt decl (state acts).status (state acts).executed x l) (sym is) (each l (subst (λ (x : List Line). In l x) is h))
+
+    -- a log is closed at each of its lines
     closed_at : (log : List Line) → IsLogOf (state acts) log → (l : Line) → In l log → IsClosedAt decl (state acts).status (state acts).executed log l
-    closed_at log (inl s) l h = subst (λ (x : List Line). IsClosedAt decl (state acts).status (state acts).executed x l) (sym s.1) ((ll.sites s.0).volatile l (subst (λ (x : List Line). In l x) s.1 h))
-    closed_at log (inr (inl g)) l h = subst (λ (x : List Line). IsClosedAt decl (state acts).status (state acts).executed x l) (sym g.2) ((ll.granted g.0 g.1).volatile l (subst (λ (x : List Line). In l x) g.2 h))
-    closed_at log (inr (inr s)) l h = subst (λ (x : List Line). IsClosedAt decl (state acts).status (state acts).executed x l) (sym s.2) ((ll.appends s.0 s.1).closed_at l (subst (λ (x : List Line). In l x) s.2 h))
+    closed_at log (OfSite site is) l h = on_log is ((ll.sites site).volatile) l h
+    closed_at log (OfGrant g i is) l h = on_log is ((ll.granted g i).volatile) l h
+    closed_at log (OfSnapshot s i is) l h = on_log is ((ll.snapshots s i).volatile) l h
+    closed_at log (OfAppend s i is) l h = on_log is ((ll.appends s i).closed_at) l h
+    closed_at log (OfDecision d i is) l h = on_log is (λ m k. ll.decided d m i k) l h
 
     pub logs_hold_operations : (log : List Line) → IsLogOf (state acts) log → (l : Line) → In l log → IsLogged decl (state acts).records l
     logs_hold_operations log is l h = logged log l (closed_at log is l h)

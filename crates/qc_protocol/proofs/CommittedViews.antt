@@ -27,7 +27,8 @@ use Rattle.qc_protocol.proofs.OwnLines.{own_of}
 use Rattle.qc_protocol.proofs.Order.{committed_yes}
 use Rattle.qc_protocol.proofs.Places.{IsAt, at, own_in}
 use Rattle.qc_protocol.proofs.Quorums.{number_within}
-use Rattle.qc_protocol.proofs.PlacedOperations.{place, placed, IsOf, of_placed, placed_of, own_ordered, some_resp}
+use Rattle.qc_protocol.specs.Placed.{place, placed}
+use Rattle.qc_protocol.proofs.PlacedOperations.{IsOf, of_placed, placed_of, own_ordered, some_resp}
 
 module _ (decl : Declaration) (accepted : IsAccepted decl) (acts : List Act) (run : IsRun decl acts) (L : List CommitRecord) (rising : IsOrdered IsStampedBefore L) (all : (c : CommitRecord) → In c L ↔ In c (state acts).records) where
   pub wl : StateLaws decl (state acts)

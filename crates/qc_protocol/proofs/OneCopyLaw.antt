@@ -15,7 +15,8 @@ use Rattle.qc_protocol.specs.Acts.{Act, state}
 use Rattle.qc_protocol.specs.Guards.{op_of, IsRun}
 use Rattle.qc_protocol.proofs.Outcomes.{committed_record}
 use Rattle.qc_protocol.proofs.Quorums.{exact}
-use Rattle.qc_protocol.proofs.PlacedOperations.{place, placed, placed_ordered}
+use Rattle.qc_protocol.specs.Placed.{place, placed}
+use Rattle.qc_protocol.proofs.PlacedOperations.{placed_ordered}
 use Rattle.qc_protocol.proofs.CommittedViews.{wl, ll, whose, right, own, own_sorted, own_all, grows, smaller, closed, closed_own}
 use Rattle.qc_protocol.proofs.Ordering.{ordered}
 

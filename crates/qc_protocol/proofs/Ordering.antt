@@ -21,7 +21,8 @@ use Rattle.qc_protocol.proofs.Order.{ordering}
 use Rattle.qc_protocol.proofs.Places.{above}
 use Rattle.qc_protocol.proofs.Quorums.{heavy, needed, read_needed, shared, some_site}
 use Rattle.qc_protocol.proofs.Decided.{kept_lines, of_epoch, passed_stamps, positive}
-use Rattle.qc_protocol.proofs.PlacedOperations.{placed, IsOf, le_cases}
+use Rattle.qc_protocol.specs.Placed.{placed}
+use Rattle.qc_protocol.proofs.PlacedOperations.{IsOf, le_cases}
 use Rattle.qc_protocol.proofs.CommittedViews.{wl, ll, whose, status_is, same_stamp, right, clock_below, depended, plan_of}
 
 module _ (decl : Declaration) (accepted : IsAccepted decl) (acts : List Act) (run : IsRun decl acts) (L : List CommitRecord) (rising : IsOrdered IsStampedBefore L) (all : (c : CommitRecord) → In c L ↔ In c (state acts).records) where

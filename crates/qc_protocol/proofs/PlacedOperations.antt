@@ -14,18 +14,11 @@ use Rattle.qc_onecopy.specs.Lists.{In, IsOrdered}
 use Rattle.qc_onecopy.specs.Committed.{IsStampedBefore}
 use Rattle.qc_onecopy.specs.Executed.{Executed, Placed, IsEarlier, IsOwnBefore, own_line}
 use Rattle.qc_onecopy.proofs.Lists.{in_left, in_map, in_right, in_split, map_in, ordered-append}
+use Rattle.qc_protocol.specs.Placed.{place, placed}
 use Rattle.qc_protocol.specs.Guards.{own_on}
 use Rattle.qc_protocol.specs.Logs.{AreInOrder}
 use Rattle.qc_protocol.proofs.OwnLines.{own_of}
 use Rattle.qc_protocol.proofs.Places.{above}
-
--- the operations of a record, and of all
-abbrev pub place : CommitRecord → Executed → Placed
-place c d = record { stamp = c.stamp; tx = c.tx; operation = d }
-
-abbrev pub placed : (TxId → List Executed) → List CommitRecord → List Placed
-placed executed [] = []
-placed executed (c ∷ cs) = map (λ (d : Executed). place c d) (executed c.tx) ++ placed executed cs
 
 -- whose operation it is
 pub record IsOf (executed : TxId → List Executed) (L : List CommitRecord) (p : Placed) : Type 0 where

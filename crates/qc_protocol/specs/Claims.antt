@@ -1,20 +1,21 @@
 -- What is claimed of every run.
-use Rattle.std.specs.Prelude.{◌≡◌, ℕ, ◌<◌, ◌⊎◌, List, Option, Some, None}
+use Rattle.std.specs.Prelude.{◌≡◌, ℕ, ◌<◌, List, Option, Some, None}
 use Rattle.qc_stamp.specs.declared.stamp.Stamp.{Stamp}
 use Rattle.qc_stamp.specs.declared.stamp.TxId.{TxId}
 use Rattle.qc_entry.specs.declared.line.Line.{Line}
 use Rattle.qc_entry.specs.declared.record.Commit.{Commit as CommitRecord}
 use Rattle.qc_onecopy.specs.Lists.{In}
 use Rattle.qc_protocol.specs.Site.{site_after}
-use Rattle.qc_protocol.specs.State.{Granted, AppendRequest, State}
+use Rattle.qc_protocol.specs.State.{AppendRequest, Decision, Granted, Snapshot, State}
 use Rattle.qc_protocol.specs.Guards.{Shows}
 
--- a log of a site, now or when it granted, or the view of an Append
-abbrev pub IsLogOf : State → List Line → Type 0
-IsLogOf now log =
-    ((site : ℕ) × (log ≡ (site_after (now.deeds site)).volatile))
-    ⊎ (((g : Granted) × In g now.granted × (log ≡ (site_after g.before).volatile))
-    ⊎ ((s : AppendRequest) × In s now.appends × (log ≡ s.view)))
+-- a log of a site, now, when it granted, or in a snapshot; the view of an Append; or the log of a decision
+pub data IsLogOf (now : State) (log : List Line) : Type 0 where
+  OfSite : (site : ℕ) → log ≡ (site_after (now.deeds site)).volatile → IsLogOf now log
+  OfGrant : (g : Granted) → In g now.granted → log ≡ (site_after g.before).volatile → IsLogOf now log
+  OfSnapshot : (s : Snapshot) → In s now.snapshots → log ≡ (site_after s.before).volatile → IsLogOf now log
+  OfAppend : (s : AppendRequest) → In s now.appends → log ≡ s.view → IsLogOf now log
+  OfDecision : (d : Decision) → In d now.decided → log ≡ d.log → IsLogOf now log
 
 -- a record of this transaction and stamp, before another
 pub record HasEarlier (records : List CommitRecord) (tx : TxId) (stamp : Stamp) (clock : ℕ) : Type 0 where

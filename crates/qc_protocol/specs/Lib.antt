@@ -9,4 +9,6 @@ pub mod Guards
 pub mod StateLaws
 pub mod Logs
 pub mod Claims
+pub mod HeldLaw
+pub mod Placed
 pub mod Plain

@@ -10,7 +10,8 @@ use Rattle.qc_entry.specs.declared.record.Commit.{Commit}
 use Rattle.qc_entry.specs.Log.{by_order}
 use Rattle.qc_decl.specs.declared.declaration.Declaration.{Declaration}
 use Rattle.qc_msg.specs.Steps.{Entry}
-use Rattle.qc_core.specs.Committed.{commit_cmp, commit_by, with_commit, committed}
+use Rattle.qc_onecopy.specs.Committed.{commit_cmp, with_commit}
+use Rattle.qc_core.specs.Committed.{commit_by, committed}
 use Rattle.qc_report.specs.declared.committed.CommitKey.{CommitKey}
 use Rattle.qc_report.specs.Keys.{commit_of}
 use Rattle.qc_report.proofs.More.{more}

@@ -3,7 +3,5 @@ pub mod More
 pub mod Told
 pub mod Asked
 pub mod Keys
-pub mod Missing
 pub mod Sections
 pub mod Along
-pub mod Copies

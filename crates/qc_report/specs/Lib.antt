@@ -5,7 +5,7 @@ pub mod Parts
 pub mod Replies
 pub mod Keys
 pub mod LogText
-pub mod Replay
+pub mod States
 pub mod Letters
 pub mod Sites
 pub mod Text

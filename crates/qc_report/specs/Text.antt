@@ -6,7 +6,8 @@ use Rattle.qc_script.specs.declared.script.Script.{Script}
 use Rattle.qc_core.specs.Committed.{committed}
 use Rattle.qc_report.specs.Replies.{replies_text}
 use Rattle.qc_report.specs.LogText.{log_text}
-use Rattle.qc_report.specs.Replay.{replay, states_text}
+use Rattle.qc_onecopy.specs.Replay.{replay}
+use Rattle.qc_report.specs.States.{states_text}
 use Rattle.qc_report.specs.Sites.{sites_text}
 
 -- four sections: the replies, the log of what committed, the states after its replay, and the sites

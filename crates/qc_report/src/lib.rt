@@ -12,13 +12,11 @@
 mod cause;
 mod committed;
 mod declaration;
-mod laws;
 mod log_lines;
 mod names;
 mod page;
 mod parts;
 mod queues;
-mod replay;
 mod replies;
 mod report;
 mod sites;
@@ -29,5 +27,4 @@ mod walk;
 
 pub use cause::{Cause, cause_text};
 pub use declaration::accepted_text;
-pub use laws::replays_are_one_copy;
 pub use report::text;

@@ -6,13 +6,13 @@ ghost use Rattle.qc_report.specs.Text.{text_of};
 use crate::committed::committed;
 use crate::log_lines::put_log;
 use crate::page::Page;
-use crate::replay::replay;
 use crate::replies::put_replies;
 use crate::sites::put_sites;
 use crate::states::put_states;
 use qc_decl::Declaration;
 use qc_list::OutOfMemory;
 use qc_msg::History;
+use qc_onecopy::replay;
 use qc_script::Script;
 use std::alloc::Global;
 

@@ -1,7 +1,7 @@
 //! The states, one line for each object.
 
 ghost use Rattle.std.specs.Prelude.{◌≡◌, ◌++◌, OnOk, option_map};
-ghost use Rattle.qc_report.specs.Replay.{state_text, state_line, states_text};
+ghost use Rattle.qc_report.specs.States.{state_text, state_line, states_text};
 
 use crate::names::{object_name, state_name};
 use crate::page::Page;

@@ -9,7 +9,8 @@ use Rattle.qc_core.proofs.AtomicLaw.{first_alone, same_single}
 use Rattle.qc_core.proofs.Members.{every-append}
 use Rattle.qc_core.proofs.OrderLaw.{law}
 use Rattle.qc_core.proofs.Others.{first_apart, never_ready, none_to, second_apart, still_quiet}
-use Rattle.qc_core.proofs.Places.{slice_get-replicate, slice_get-set_same}
+use Rattle.qc_core.proofs.Places.{slice_get-replicate}
+use Rattle.qc_onecopy.proofs.Places.{slice_get-set_same}
 use Rattle.qc_core.proofs.Within.{sendings-site}
 use Rattle.qc_core.specs.Conduct.{IsLawful}
 use Rattle.qc_decl.specs.declared.declaration.Declaration.{Declaration}

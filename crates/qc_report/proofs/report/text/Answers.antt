@@ -5,7 +5,8 @@ use Rattle.qc_msg.specs.Steps.{Entry}
 use Rattle.qc_core.specs.Committed.{committed}
 use Rattle.qc_report.specs.LogText.{log_text}
 use Rattle.qc_report.specs.Replies.{replies_text}
-use Rattle.qc_report.specs.Replay.{replay, states_text}
+use Rattle.qc_onecopy.specs.Replay.{replay}
+use Rattle.qc_report.specs.States.{states_text}
 use Rattle.qc_report.specs.Sites.{sites_text}
 use Rattle.qc_report.proofs.Sections.{sections}
 use Rattle.qc_report.proofs.report.text.Goals as goal

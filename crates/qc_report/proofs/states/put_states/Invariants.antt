@@ -1,6 +1,6 @@
 use Rattle.std.proofs.Common.{◌≡◌, ◌++◌, option_map}
 use Rattle.std.specs.List.{flat_map, range_with_len}
-use Rattle.qc_report.specs.Replay.{state_line}
+use Rattle.qc_report.specs.States.{state_line}
 use Rattle.qc_report.proofs.states.put_states.Given as goal
 
 abbrev pub invariant-objects : goal.invariant-objects

@@ -1,0 +1,14 @@
+use Rattle.std.proofs.Common.{sym, ◌∙◌}
+use Rattle.qc_protocol.specs.Acts.{state}
+use Rattle.qc_protocol.proofs.Holdings.{granted_is_held}
+use Rattle.qc_protocol.proofs.Keeps.{laws}
+use Rattle.qc_protocol.proofs.Plain.{first, plain_epoch}
+use Rattle.qc_protocol.proofs.held.votes_are_never_stale.Goals as goal
+
+pub returns : goal.returns
+returns c decl acts grant item accepted run plain counted listed voting =
+    let f = first decl acts run plain in
+    let wl = laws decl acts run in
+    granted_is_held decl accepted acts run grant item counted listed voting
+    (f.lives grant.site ∙ sym (f.granted grant (wl.known grant counted)))
+    (plain_epoch ((state acts).deeds grant.site) 1 (f.deeds grant.site) ∙ sym (wl.counts_epoch grant counted ∙ f.epochs grant.tx))
