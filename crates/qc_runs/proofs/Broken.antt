@@ -12,7 +12,7 @@ use Rattle.qc_onecopy.specs.Lists.{In}
 use Rattle.qc_onecopy.specs.Logged.{IsLogged, IsOperation, event_at}
 use Rattle.qc_onecopy.specs.OneCopy.{Goes, Walks, operations, start_at, step_at, updated}
 use Rattle.qc_protocol.specs.Acts.{Act, Commit, state}
-use Rattle.qc_protocol.specs.Claims.{HasEarlier, IsVerdictOf}
+use Rattle.qc_protocol.specs.Claims.{HasEarlier, IsVerdictOf, OfSite}
 use Rattle.qc_protocol.specs.Guards.{Shows}
 use Rattle.qc_protocol.specs.Site.{site_after}
 use Rattle.qc_protocol.specs.State.{Granted, State, Verdict}
@@ -155,7 +155,7 @@ abbrev pub wrong_log : (site : ℕ) (decl : Declaration) (acts : List Act) → O
 wrong_log site decl acts = option_map made (some (λ (l : Line). IsLogged decl (state acts).records l → ⊥) (not_logged decl (state acts).records) (site_after ((state acts).deeds site)).volatile)
   where
     made : IsFound (λ (l : Line). IsLogged decl (state acts).records l → ⊥) (site_after ((state acts).deeds site)).volatile → Holds LogsHoldOperations decl acts → ⊥
-    made f h = f.holds (h site f.item f.stands)
+    made f h = f.holds (h (site_after ((state acts).deeds site)).volatile (OfSite site refl) f.item f.stands)
 
 -- a transaction that was told to be given up has a record
 abbrev has_record : (acts : List Act) (v : Verdict) → Option (IsVerdictOf (state acts).records v.tx v.stamp → ⊥)

@@ -1,5 +1,5 @@
 -- What the protocol guarantees of all that was done.
-use Rattle.std.specs.Prelude.{◌≡◌, ℕ, List, ◌∷◌}
+use Rattle.std.specs.Prelude.{◌≡◌, List, ◌∷◌}
 use Rattle.qc_decl.specs.declared.declaration.Declaration.{Declaration}
 use Rattle.qc_entry.specs.declared.line.Line.{Line}
 use Rattle.qc_entry.specs.declared.record.Commit.{Commit as CommitRecord}
@@ -8,8 +8,7 @@ use Rattle.qc_onecopy.specs.Lists.{In}
 use Rattle.qc_onecopy.specs.Logged.{IsLogged}
 use Rattle.qc_onecopy.specs.OneCopy.{OneCopy}
 use Rattle.qc_protocol.specs.Acts.{Act, Commit, state}
-use Rattle.qc_protocol.specs.Claims.{FollowsSeen, IsVerdictOf}
-use Rattle.qc_protocol.specs.Site.{site_after}
+use Rattle.qc_protocol.specs.Claims.{FollowsSeen, IsLogOf, IsVerdictOf}
 use Rattle.qc_protocol.specs.State.{Verdict}
 
 pub data Guarantee : Type 0 where
@@ -25,10 +24,9 @@ abbrev pub Holds : Guarantee → Declaration → List Act → Type 0
 Holds RecordsAreOneCopy decl acts = OneCopy decl (sorted (state acts).records)
 -- no two records have one stamp, or one transaction
 Holds RecordsAreApart decl acts = AreApart (state acts).records
--- each line of each site's log is an operation of a record
+-- each line of each log, of a site or a message, is an operation of a record
 Holds LogsHoldOperations decl acts =
-    (site : ℕ) (line : Line) → In line (site_after ((state acts).deeds site)).volatile
-    → IsLogged decl (state acts).records line
+    (log : List Line) → IsLogOf (state acts) log → (line : Line) → In line log → IsLogged decl (state acts).records line
 -- each verdict that was sent is the records'
 Holds VerdictsAgree decl acts =
     (verdict : Verdict) → In verdict (state acts).verdicts → IsVerdictOf (state acts).records verdict.tx verdict.stamp
