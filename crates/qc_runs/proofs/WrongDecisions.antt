@@ -18,7 +18,7 @@ closes_by_another_plan =
     (writes first 1 (0 ∷ []) ++ decides 2 [] ∷ installs 1 2 ∷ reads_only second 2 reads_zero (1 ∷ []))
     refl refl
 
--- An epoch is decided from a Shut answer that no site gave.
+-- An epoch is decided from a snapshot that no site sent.
 pub snapshots_made_up : IsNeeded DecidesFromSnapshots RecordsAreOneCopy
 snapshots_made_up =
     needed DecidesFromSnapshots RecordsAreOneCopy moved moved_accepted not_one_copy
@@ -89,7 +89,7 @@ merges_of_lines_made_up =
     (closes 0 ∷ tells 0 ∷ (λ now. Decide (record (decision 2 (0 ∷ []) now) { log = made_up ∷ [] })) ∷ installs 1 2 ∷ reads_only second 2 reads_one (1 ∷ []))
     refl refl
 
--- The new clock is below that of a Shut answer, and a write is stamped below a read of the epoch before.
+-- The new clock is below that of a snapshot, and a write is stamped below a read of the epoch before.
 pub decide_clocks_below_a_snapshot : IsNeeded DecidePassesSnapshots RecordsAreOneCopy
 decide_clocks_below_a_snapshot =
     needed DecidePassesSnapshots RecordsAreOneCopy moved moved_accepted not_one_copy

@@ -1,4 +1,4 @@
--- Shut answers that are given wrongly. Each run is one without the guard that its law names.
+-- Snapshots that are sent wrongly. Each run is one without the guard that its law names.
 use Rattle.std.proofs.Common.{refl, List, [], ◌∷◌, ◌++◌}
 use Rattle.qc_protocol.specs.Acts.{TakeSnapshot}
 use Rattle.qc_protocol.specs.Asked.{SnapshotTellsDeeds, SnapshotIsOfClosed, SnapshotPassesDone, SnapshotPassesInstalls}

@@ -52,6 +52,7 @@ one_epoch =
     ∷ announces first ∷ learns first 1 ∷ begins second_again 1 ∷ reads second_again 0 reads_one (1 ∷ 2 ∷ [])
     ++ commits_at second_again (1 ∷ 2 ∷ []) ++ ends_at second_again (1 ∷ 2 ∷ [])
     ++ grants_append first 2 ∷ learns first 2 ∷ learns first 0 ∷ []
+
 abbrev pub one_epoch_records : List CommitRecord
 one_epoch_records = committed first 1 (one_written ∷ []) ∷ committed second_again 2 (one_read ∷ []) ∷ []
 

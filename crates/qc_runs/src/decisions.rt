@@ -12,7 +12,7 @@ pub fn closes_by_another_plan()
     ensures { IsNeeded DecidesByPlan RecordsAreOneCopy }
 {}
 
-/// An epoch is decided from a Shut answer that no site gave.
+/// An epoch is decided from a snapshot that no site sent.
 #[tactic(auto, using(crate::proofs::WrongDecisions::snapshots_made_up))]
 pub fn snapshots_made_up()
     ensures { IsNeeded DecidesFromSnapshots RecordsAreOneCopy }
@@ -70,7 +70,7 @@ pub fn merges_of_lines_made_up()
     ensures { IsNeeded MergesOnlyCommitted RecordsAreOneCopy }
 {}
 
-/// The new clock is below that of a Shut answer, and a write is stamped below a
+/// The new clock is below that of a snapshot, and a write is stamped below a
 /// read of the epoch before.
 #[tactic(auto, using(crate::proofs::WrongDecisions::decide_clocks_below_a_snapshot))]
 pub fn decide_clocks_below_a_snapshot()

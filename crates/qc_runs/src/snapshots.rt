@@ -1,5 +1,5 @@
-//! Shut answers that are given wrongly. Each law is of a guard, and is shown by
-//! a run without it.
+//! Snapshots that are sent wrongly. Each law is of a guard, and is shown by a
+//! run without it.
 
 ghost use Rattle.qc_protocol.specs.Asked.{SnapshotTellsDeeds, SnapshotIsOfClosed, SnapshotPassesDone, SnapshotPassesInstalls};
 ghost use Rattle.qc_runs.specs.Guarantees.{RecordsAreOneCopy};
