@@ -62,7 +62,6 @@ module _ (decl : Declaration) where
     rising = l.rising;
     snapped = l.snapped;
     answers = l.answers;
-    decisions = l.decisions;
     made = l.made;
   }
     where
@@ -125,6 +124,5 @@ module _ (decl : Declaration) where
     rising = l.rising;
     snapped = l.snapped;
     answers = l.answers;
-    decisions = l.decisions;
     made = l.made;
   }

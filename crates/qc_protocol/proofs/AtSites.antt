@@ -85,7 +85,6 @@ module _ (decl : Declaration) where
         (λ e. let r = l.snapped s h in (r.0 ++ d ∷ [], ap (λ (ds : List Deed). ds ++ d ∷ []) (ap w.deeds (sym e) ∙ r.1) ∙ append_assoc s.before r.0 (d ∷ [])))
         (λ ne. l.snapped s h);
     answers = l.answers;
-    decisions = l.decisions;
     made = l.made;
   }
 

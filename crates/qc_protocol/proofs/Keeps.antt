@@ -25,7 +25,7 @@ module _ (decl : Declaration) where
   pub keeps : (w : State) (a : Act) → IsAllowed decl w a → StateLaws decl w → StateLaws decl (after_act w a)
   keeps w (Begin tx epoch) ok l = moved decl w tx Active w.clock w.records (put_tx w.epoch tx epoch) (begin_moves decl w tx epoch ok.0 ok.1) l
   keeps w (Choose tx operation) ok l = executes decl w tx w.executed (put_tx w.chosen tx (Some operation)) w.appends ok.0 (λ t ne. refl) (put_other w.chosen tx (Some operation)) l
-  keeps w (SendAppend s) ok l = record { verdicts = l.verdicts; deeds = l.deeds; granted = l.granted; facts = l.facts; known = l.known; counted = l.counted; votes = l.votes; begun = l.begun; passed = l.passed; seen_by = l.seen_by; quiet = l.quiet; record_of = l.record_of; apart = l.apart; written = l.written; writes = l.writes; counts_epoch = l.counts_epoch; planned = l.planned; installed = l.installed; rising = l.rising; snapped = l.snapped; answers = l.answers; decisions = l.decisions; made = l.made }
+  keeps w (SendAppend s) ok l = record { verdicts = l.verdicts; deeds = l.deeds; granted = l.granted; facts = l.facts; known = l.known; counted = l.counted; votes = l.votes; begun = l.begun; passed = l.passed; seen_by = l.seen_by; quiet = l.quiet; record_of = l.record_of; apart = l.apart; written = l.written; writes = l.writes; counts_epoch = l.counts_epoch; planned = l.planned; installed = l.installed; rising = l.rising; snapped = l.snapped; answers = l.answers; made = l.made }
   keeps w (Execute tx) ok l = executes decl w tx (put_tx w.executed tx (w.executed tx ++ chosen_list (w.chosen tx))) (put_tx w.chosen tx None) w.appends ok.0 (put_other w.executed tx (w.executed tx ++ chosen_list (w.chosen tx))) (put_other w.chosen tx None) l
   keeps w (ExecuteAbsent tx operation) ok l = executes decl w tx (put_tx w.executed tx (w.executed tx ++ operation ∷ [])) (put_tx w.chosen tx None) w.appends ok.0 (put_other w.executed tx (w.executed tx ++ operation ∷ [])) (put_other w.chosen tx None) l
   keeps w (Grant g) ok l = grant_keeps decl w g ok l
@@ -68,7 +68,6 @@ module _ (decl : Declaration) where
     rising = l.rising;
     snapped = l.snapped;
     answers = l.answers;
-    decisions = l.decisions;
     made = l.made;
   }
   keeps w (Announce tx) ok l = record {
@@ -96,7 +95,6 @@ module _ (decl : Declaration) where
     rising = l.rising;
     snapped = l.snapped;
     answers = l.answers;
-    decisions = l.decisions;
     made = λ d h. made_more decl w.snapshots w.verdicts w.snapshots (verdict_of tx (w.status tx) ++ w.verdicts) d (λ s i. i) (λ v i. in_right v (verdict_of tx (w.status tx)) w.verdicts i) (l.made d h);
   }
   keeps w (Learn site t) ok l = learn_keeps decl w site t ok l
@@ -124,7 +122,6 @@ module _ (decl : Declaration) where
     rising = l.rising;
     snapped = λ t h. elim h [ inl same ↦ subst (λ (x : Snapshot). (later : List Deed) × (w.deeds x.site ≡ x.before ++ later)) (sym same) ([], sym ok.0 ∙ sym (append-nil s.before)) | inr old ↦ l.snapped t old ];
     answers = λ t h. elim h [ inl same ↦ subst MaySnapshot (sym same) ok.1 | inr old ↦ l.answers t old ];
-    decisions = l.decisions;
     made = λ d h. made_more decl w.snapshots w.verdicts (s ∷ w.snapshots) w.verdicts d (λ t i. inr i) (λ v i. i) (l.made d h);
   }
   keeps w (Decide d) ok l = record {
@@ -149,10 +146,6 @@ module _ (decl : Declaration) where
     rising = l.rising;
     snapped = l.snapped;
     answers = l.answers;
-    decisions = λ a b ha hb e. elim ha [
-      | inl x ↦ elim hb [ inl y ↦ x ∙ sym y | inr y ↦ absurd (ok.new b y (sym e ∙ ap (λ (z : Decision). z.epoch) x)) ]
-      | inr x ↦ elim hb [ inl y ↦ absurd (ok.new a x (e ∙ ap (λ (z : Decision). z.epoch) y)) | inr y ↦ l.decisions a b x y e ]
-    ];
     made = λ e h. elim h [
       | inl same ↦ subst (λ (x : Decision). IsDecisionFrom decl w.snapshots w.verdicts x) (sym same) (record { plan = ok.plan; planned = ok.planned; epochs = ok.epochs; sites = ok.sites; closes = ok.closes; each = ok.each; resolved = ok.resolved; logs = ok.logs; clocks = ok.clocks })
       | inr old ↦ l.made e old
@@ -184,7 +177,6 @@ module _ (decl : Declaration) where
     rising = λ s. tt;
     snapped = λ s h. absurd h;
     answers = λ s h. absurd h;
-    decisions = λ d e h. absurd h;
     made = λ d h. absurd h;
   }
   laws (a ∷ older) ok = keeps (state older) a ok.0 (laws older ok.1)

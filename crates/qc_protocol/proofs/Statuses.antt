@@ -88,7 +88,6 @@ module _ (decl : Declaration) where
     rising = l.rising;
     snapped = l.snapped;
     answers = l.answers;
-    decisions = l.decisions;
     made = l.made;
   }
 

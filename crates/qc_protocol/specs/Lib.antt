@@ -3,6 +3,8 @@ pub mod Site
 pub mod SiteLaws
 pub mod State
 pub mod Acts
+pub mod Asked
+pub mod Quorums
 pub mod Guards
 pub mod StateLaws
 pub mod Logs

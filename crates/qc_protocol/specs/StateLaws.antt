@@ -135,5 +135,4 @@ pub record StateLaws (decl : Declaration) (now : State) : Type 0 where
   pub rising : (s : ℕ) → HasRisingEpochs 1 (now.deeds s)
   pub snapped : (s : Snapshot) → In s now.snapshots → (later : List Deed) × (now.deeds s.site ≡ s.before ++ later)
   pub answers : (s : Snapshot) → In s now.snapshots → MaySnapshot s
-  pub decisions : (d e : Decision) → In d now.decided → In e now.decided → d.epoch ≡ e.epoch → d ≡ e
   pub made : (d : Decision) → In d now.decided → IsDecisionFrom decl now.snapshots now.verdicts d

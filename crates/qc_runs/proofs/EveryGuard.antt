@@ -1,0 +1,140 @@
+-- Each guard but one is needed, and no two have one place in the list of all.
+use Rattle.std.proofs.Common.{◌≡◌, ◌≢◌, List, ◌∷◌, Some, refl, slice_get, subst}
+use Rattle.qc_decl.specs.Accepted.{IsAccepted}
+use Rattle.qc_decl.specs.declared.declaration.Declaration.{Declaration}
+use Rattle.qc_protocol.specs.Acts.{Act}
+use Rattle.qc_protocol.specs.Asked.{Guard, BeginsOnce, BeginsInPlannedEpoch, OperatesWhileActive, ChoosesOneAtATime, AnswersFromView, InvocationIsDeclared, OperationsAreNumbered, OwnLinesAreKept, ViewWasShown, ViewIsWhole, ReadQuorumIsMet, ChosenHasResponse, AbsentHasNoResponse, AppendsWhatIsChosen, AppendCarriesView, AppendCarriesOnlyOwnLines, AppendCarriesEarlierLines, AppendQuorumIsMet, GrantTellsDeeds, GrantTellsLife, GrantTellsEpoch, GrantsUnlessClosed, GrantPassesInstalls, GrantsWithoutConflict, GrantPassesDone, GrantPassesLines, GrantsWhatWasRequested, CountsWhatWasGranted, CountsWhileActive, CountsInItsEpoch, PreparesOnce, PreparesWhenExecuted, VotesWhenAsked, VotesInGrantedLife, RecordsPrepareWhenAsked, CommitsWhenVoting, AllHaveVoted, StampIsItsClients, StampPassesClock, RecordHasOperations, AbortsBeforeRecord, RisesWithNoneRunning, RisesPastRecords, LearnsWhatWasAnnounced, SnapshotTellsDeeds, SnapshotIsOfClosed, SnapshotPassesDone, SnapshotPassesInstalls, DecidesByPlan, DecidesFromSnapshots, DecidesNextEpoch, ClosesEnough, ClosedSitesAnswered, ResolvesPrepared, MergesEveryEntry, DecidePassesCommitted, MergesLogs, MergesOnlyCommitted, DecidePassesSnapshots, InstallsWhatWasDecided, InstallsLaterEpoch}
+use Rattle.qc_runs.proofs.WrongOperations.{absent_operations_appended, epochs_without_a_plan, lines_left_out_of_views, operations_after_prepare, operations_with_other_numbers, own_writes_forgotten, reads_without_locks, replies_that_no_view_allows, transactions_that_begin_twice, two_operations_at_once, views_made_up, writes_without_an_append}
+use Rattle.qc_runs.proofs.WrongAppends.{appends_of_nothing_chosen, appends_of_other_lines, earlier_lines_not_sent_along, quorums_that_do_not_meet, views_not_sent_along}
+use Rattle.qc_runs.proofs.WrongGrants.{grant_clocks_below_a_done_record, grant_clocks_below_a_line, grant_clocks_below_an_install, grants_counted_before_the_begin, grants_made_up, grants_of_another_epoch, grants_of_closed_sites, grants_that_name_a_later_epoch, grants_that_name_a_later_life, grants_that_nobody_asked_for, grants_that_show_an_older_log, writes_past_a_read_lock}
+use Rattle.qc_runs.proofs.WrongCommits.{aborts_after_the_record, clients_that_forget_their_stamps, commits_twice, commits_without_votes, prepare_after_an_abort, prepare_during_an_append, prepare_records_before_prepare, records_of_other_operations, stamps_of_another_client, stamps_that_ignore_the_clocks, transactions_that_outlive_a_fall, verdicts_made_up, votes_before_prepare, votes_of_another_life}
+use Rattle.qc_runs.proofs.WrongSnapshots.{snapshot_clocks_below_a_done_record, snapshot_clocks_below_an_install, snapshots_of_an_older_log, snapshots_of_open_sites}
+use Rattle.qc_runs.proofs.WrongDecisions.{closes_by_another_plan, closes_of_silent_sites, closes_too_few_sites, decide_clocks_below_a_committed_stamp, decide_clocks_below_a_snapshot, decides_without_the_prepared, installs_made_up, installs_of_the_same_epoch, logs_not_merged, merges_of_lines_made_up, merges_of_one_entry_for_several, snapshots_made_up, snapshots_of_an_older_epoch}
+use Rattle.qc_runs.specs.Guarantees.{Guarantee, LastRecordFollowsSeen, LogsHoldOperations, RecordsAreApart, RecordsAreOneCopy, VerdictsAgree}
+use Rattle.qc_runs.specs.Needed.{IsNeeded, guards, place_of}
+
+pub stands : (guard : Guard) → slice_get guards (place_of guard) ≡ Some guard
+stands BeginsOnce = refl
+stands BeginsInPlannedEpoch = refl
+stands OperatesWhileActive = refl
+stands ChoosesOneAtATime = refl
+stands AnswersFromView = refl
+stands InvocationIsDeclared = refl
+stands OperationsAreNumbered = refl
+stands OwnLinesAreKept = refl
+stands ViewWasShown = refl
+stands ViewIsWhole = refl
+stands ReadQuorumIsMet = refl
+stands ChosenHasResponse = refl
+stands AbsentHasNoResponse = refl
+stands AppendsWhatIsChosen = refl
+stands AppendCarriesView = refl
+stands AppendCarriesOnlyOwnLines = refl
+stands AppendCarriesEarlierLines = refl
+stands AppendQuorumIsMet = refl
+stands GrantTellsDeeds = refl
+stands GrantTellsLife = refl
+stands GrantTellsEpoch = refl
+stands GrantsUnlessClosed = refl
+stands GrantPassesInstalls = refl
+stands GrantsWithoutConflict = refl
+stands GrantPassesDone = refl
+stands GrantPassesLines = refl
+stands GrantsWhatWasRequested = refl
+stands CountsWhatWasGranted = refl
+stands CountsWhileActive = refl
+stands CountsInItsEpoch = refl
+stands PreparesOnce = refl
+stands PreparesWhenExecuted = refl
+stands VotesWhenAsked = refl
+stands VotesInGrantedLife = refl
+stands RecordsPrepareWhenAsked = refl
+stands CommitsWhenVoting = refl
+stands AllHaveVoted = refl
+stands StampIsItsClients = refl
+stands StampPassesClock = refl
+stands RecordHasOperations = refl
+stands AbortsBeforeRecord = refl
+stands RisesWithNoneRunning = refl
+stands RisesPastRecords = refl
+stands LearnsWhatWasAnnounced = refl
+stands SnapshotTellsDeeds = refl
+stands SnapshotIsOfClosed = refl
+stands SnapshotPassesDone = refl
+stands SnapshotPassesInstalls = refl
+stands DecidesByPlan = refl
+stands DecidesFromSnapshots = refl
+stands DecidesNextEpoch = refl
+stands ClosesEnough = refl
+stands ClosedSitesAnswered = refl
+stands ResolvesPrepared = refl
+stands MergesEveryEntry = refl
+stands DecidePassesCommitted = refl
+stands MergesLogs = refl
+stands MergesOnlyCommitted = refl
+stands DecidePassesSnapshots = refl
+stands InstallsWhatWasDecided = refl
+stands InstallsLaterEpoch = refl
+
+pub some_is_broken : (guard : Guard) → guard ≢ InvocationIsDeclared → (guarantee : Guarantee) × IsNeeded guard guarantee
+some_is_broken BeginsOnce other = (RecordsAreApart, transactions_that_begin_twice)
+some_is_broken BeginsInPlannedEpoch other = (RecordsAreOneCopy, epochs_without_a_plan)
+some_is_broken OperatesWhileActive other = (LogsHoldOperations, operations_after_prepare)
+some_is_broken ChoosesOneAtATime other = (LogsHoldOperations, two_operations_at_once)
+some_is_broken AnswersFromView other = (RecordsAreOneCopy, replies_that_no_view_allows)
+some_is_broken InvocationIsDeclared other = absurd (other refl)
+some_is_broken OperationsAreNumbered other = (LogsHoldOperations, operations_with_other_numbers)
+some_is_broken OwnLinesAreKept other = (RecordsAreOneCopy, own_writes_forgotten)
+some_is_broken ViewWasShown other = (RecordsAreOneCopy, views_made_up)
+some_is_broken ViewIsWhole other = (RecordsAreOneCopy, lines_left_out_of_views)
+some_is_broken ReadQuorumIsMet other = (RecordsAreOneCopy, reads_without_locks)
+some_is_broken ChosenHasResponse other = (LogsHoldOperations, absent_operations_appended)
+some_is_broken AbsentHasNoResponse other = (RecordsAreOneCopy, writes_without_an_append)
+some_is_broken AppendsWhatIsChosen other = (LogsHoldOperations, appends_of_nothing_chosen)
+some_is_broken AppendCarriesView other = (RecordsAreOneCopy, views_not_sent_along)
+some_is_broken AppendCarriesOnlyOwnLines other = (LogsHoldOperations, appends_of_other_lines)
+some_is_broken AppendCarriesEarlierLines other = (RecordsAreOneCopy, earlier_lines_not_sent_along)
+some_is_broken AppendQuorumIsMet other = (RecordsAreOneCopy, quorums_that_do_not_meet)
+some_is_broken GrantTellsDeeds other = (RecordsAreOneCopy, grants_that_show_an_older_log)
+some_is_broken GrantTellsLife other = (RecordsAreOneCopy, grants_that_name_a_later_life)
+some_is_broken GrantTellsEpoch other = (RecordsAreOneCopy, grants_that_name_a_later_epoch)
+some_is_broken GrantsUnlessClosed other = (RecordsAreOneCopy, grants_of_closed_sites)
+some_is_broken GrantPassesInstalls other = (RecordsAreOneCopy, grant_clocks_below_an_install)
+some_is_broken GrantsWithoutConflict other = (RecordsAreOneCopy, writes_past_a_read_lock)
+some_is_broken GrantPassesDone other = (RecordsAreOneCopy, grant_clocks_below_a_done_record)
+some_is_broken GrantPassesLines other = (LastRecordFollowsSeen, grant_clocks_below_a_line)
+some_is_broken GrantsWhatWasRequested other = (LogsHoldOperations, grants_that_nobody_asked_for)
+some_is_broken CountsWhatWasGranted other = (RecordsAreOneCopy, grants_made_up)
+some_is_broken CountsWhileActive other = (RecordsAreOneCopy, grants_counted_before_the_begin)
+some_is_broken CountsInItsEpoch other = (RecordsAreOneCopy, grants_of_another_epoch)
+some_is_broken PreparesOnce other = (VerdictsAgree, prepare_after_an_abort)
+some_is_broken PreparesWhenExecuted other = (LogsHoldOperations, prepare_during_an_append)
+some_is_broken VotesWhenAsked other = (RecordsAreOneCopy, votes_before_prepare)
+some_is_broken VotesInGrantedLife other = (RecordsAreOneCopy, votes_of_another_life)
+some_is_broken RecordsPrepareWhenAsked other = (RecordsAreOneCopy, prepare_records_before_prepare)
+some_is_broken CommitsWhenVoting other = (RecordsAreApart, commits_twice)
+some_is_broken AllHaveVoted other = (RecordsAreOneCopy, commits_without_votes)
+some_is_broken StampIsItsClients other = (RecordsAreApart, stamps_of_another_client)
+some_is_broken StampPassesClock other = (RecordsAreOneCopy, stamps_that_ignore_the_clocks)
+some_is_broken RecordHasOperations other = (RecordsAreOneCopy, records_of_other_operations)
+some_is_broken AbortsBeforeRecord other = (VerdictsAgree, aborts_after_the_record)
+some_is_broken RisesWithNoneRunning other = (RecordsAreOneCopy, transactions_that_outlive_a_fall)
+some_is_broken RisesPastRecords other = (RecordsAreApart, clients_that_forget_their_stamps)
+some_is_broken LearnsWhatWasAnnounced other = (LogsHoldOperations, verdicts_made_up)
+some_is_broken SnapshotTellsDeeds other = (RecordsAreOneCopy, snapshots_of_an_older_log)
+some_is_broken SnapshotIsOfClosed other = (RecordsAreOneCopy, snapshots_of_open_sites)
+some_is_broken SnapshotPassesDone other = (RecordsAreOneCopy, snapshot_clocks_below_a_done_record)
+some_is_broken SnapshotPassesInstalls other = (RecordsAreOneCopy, snapshot_clocks_below_an_install)
+some_is_broken DecidesByPlan other = (RecordsAreOneCopy, closes_by_another_plan)
+some_is_broken DecidesFromSnapshots other = (RecordsAreOneCopy, snapshots_made_up)
+some_is_broken DecidesNextEpoch other = (RecordsAreOneCopy, snapshots_of_an_older_epoch)
+some_is_broken ClosesEnough other = (RecordsAreOneCopy, closes_too_few_sites)
+some_is_broken ClosedSitesAnswered other = (RecordsAreOneCopy, closes_of_silent_sites)
+some_is_broken ResolvesPrepared other = (RecordsAreOneCopy, decides_without_the_prepared)
+some_is_broken MergesEveryEntry other = (RecordsAreOneCopy, merges_of_one_entry_for_several)
+some_is_broken DecidePassesCommitted other = (RecordsAreOneCopy, decide_clocks_below_a_committed_stamp)
+some_is_broken MergesLogs other = (RecordsAreOneCopy, logs_not_merged)
+some_is_broken MergesOnlyCommitted other = (RecordsAreOneCopy, merges_of_lines_made_up)
+some_is_broken DecidePassesSnapshots other = (RecordsAreOneCopy, decide_clocks_below_a_snapshot)
+some_is_broken InstallsWhatWasDecided other = (RecordsAreOneCopy, installs_made_up)
+some_is_broken InstallsLaterEpoch other = (RecordsAreOneCopy, installs_of_the_same_epoch)

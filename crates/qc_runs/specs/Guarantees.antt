@@ -1,0 +1,35 @@
+-- What the protocol guarantees of all that was done.
+use Rattle.std.specs.Prelude.{◌≡◌, List, ◌∷◌}
+use Rattle.qc_decl.specs.declared.declaration.Declaration.{Declaration}
+use Rattle.qc_entry.specs.declared.line.Line.{Line}
+use Rattle.qc_entry.specs.declared.record.Commit.{Commit as CommitRecord}
+use Rattle.qc_onecopy.specs.Committed.{AreApart, sorted}
+use Rattle.qc_onecopy.specs.Lists.{In}
+use Rattle.qc_onecopy.specs.Logged.{IsLogged}
+use Rattle.qc_onecopy.specs.OneCopy.{OneCopy}
+use Rattle.qc_protocol.specs.Acts.{Act, Commit, state}
+use Rattle.qc_protocol.specs.Claims.{FollowsSeen, IsLogOf, IsVerdictOf}
+use Rattle.qc_protocol.specs.State.{Verdict}
+
+pub data Guarantee : Type 0 where
+  RecordsAreOneCopy : Guarantee
+  RecordsAreApart : Guarantee
+  LogsHoldOperations : Guarantee
+  VerdictsAgree : Guarantee
+  LastRecordFollowsSeen : Guarantee
+
+-- what a guarantee says of acts, newest first
+abbrev pub Holds : Guarantee → Declaration → List Act → Type 0
+-- the records, in the order of their stamps, are one copy's of each object
+Holds RecordsAreOneCopy decl acts = OneCopy decl (sorted (state acts).records)
+-- no two records have one stamp, or one transaction
+Holds RecordsAreApart decl acts = AreApart (state acts).records
+-- each line of each log, of a site or a message, is an operation of a record
+Holds LogsHoldOperations decl acts =
+    (log : List Line) → IsLogOf (state acts) log → (line : Line) → In line log → IsLogged decl (state acts).records line
+-- each verdict that was sent is the records'
+Holds VerdictsAgree decl acts =
+    (verdict : Verdict) → In verdict (state acts).verdicts → IsVerdictOf (state acts).records verdict.tx verdict.stamp
+-- what its client had learned of as the last record was written has records with smaller clocks
+Holds LastRecordFollowsSeen decl acts =
+    (commit : CommitRecord) (older : List Act) → acts ≡ Commit commit ∷ older → FollowsSeen (state older) commit

@@ -1,0 +1,6 @@
+pub mod Needed
+pub mod Guarantees
+pub mod Moves
+pub mod Stories
+pub mod Settings
+pub mod Witnesses

@@ -1,0 +1,229 @@
+-- Moves, of which the runs here are told: a move is an act that takes from the state what its doer would tell. A site's grant shows
+-- what the site did, with the least clock that passes it; a client chooses with all that it was shown; a snapshot, a decision and a
+-- commit record are made as the protocol makes them. A run that does otherwise changes a move by hand.
+use Rattle.std.specs.Prelude.{ℕ, suc, max, Bool, true, false, ◌==◌, ◌&&◌, if◌then◌else◌, List, [], ◌∷◌, ◌++◌, map, flat_map, filter, fold, length, Option, Some, None, unwrap_or, find, option_to_list}
+use Rattle.std.specs.List.{list_any}
+use Rattle.qc_stamp.specs.declared.stamp.Stamp.{Stamp}
+use Rattle.qc_stamp.specs.declared.stamp.TxId.{TxId}
+use Rattle.qc_entry.specs.Line.{line_cmp}
+use Rattle.qc_entry.specs.Log.{by_order, union}
+use Rattle.qc_entry.specs.declared.line.Line.{Line}
+use Rattle.qc_entry.specs.declared.line.Op.{Op}
+use Rattle.qc_entry.specs.declared.line.ReadLock.{ReadLock}
+use Rattle.qc_entry.specs.declared.record.Commit.{Commit as CommitRecord}
+use Rattle.qc_onecopy.specs.Executed.{Executed, own_line}
+use Rattle.qc_protocol.specs.Acts.{Act, Begin, Choose, SendAppend, Execute, ExecuteAbsent, Grant, Count, Prepare, Vote, PrepareLost, Commit, CommitUnknown, Recover, Abort, RiseClient, Announce, Learn, Rise, Close, TakeSnapshot, Decide, Install, state}
+use Rattle.qc_protocol.specs.Guards.{op_of, own_on}
+use Rattle.qc_protocol.specs.Names.{same_tx}
+use Rattle.qc_protocol.specs.Site.{Deed, Installs, DoneRecord, Item, Lock, Own, Promise, Site, done_records, empty_site, epoch_from, site_after, stamped_lines}
+use Rattle.qc_protocol.specs.State.{AppendRequest, Decision, Granted, Snapshot, State, Verdict}
+
+abbrev pub Move : Type 0
+Move = State → Act
+
+-- the acts of moves, oldest first, after older acts
+abbrev pub acts_from : List Act → List Move → List Act
+acts_from older [] = older
+acts_from older (m ∷ ms) = acts_from (m (state older) ∷ older) ms
+
+-- the acts of a story, newest first
+abbrev pub acts_of : List Move → List Act
+acts_of story = acts_from [] story
+
+-- what an invocation is, and what it was told; an event has its number
+pub record Call : Type 0 where
+  pub inv : ℕ
+  pub resp : Option ℕ
+  pub event : ℕ
+
+-- the clocks that a site has passed: of Done records, lines and Install records
+abbrev pub done_clocks : List Deed → List ℕ
+done_clocks deeds = map (λ (d : DoneRecord). d.stamp.clock) (done_records empty_site deeds)
+
+abbrev pub line_clocks : List Deed → List ℕ
+line_clocks deeds = map (λ (l : Line). l.stamp.clock) (site_after deeds).volatile
+
+abbrev pub install_clock : Deed → List ℕ
+install_clock (Installs k c log) = c ∷ []
+install_clock _ = []
+
+abbrev pub greatest : List ℕ → ℕ
+greatest clocks = fold max 0 clocks
+
+abbrev pub site_clock : List Deed → ℕ
+site_clock deeds = greatest (done_clocks deeds ++ line_clocks deeds ++ flat_map install_clock deeds)
+
+-- the first that passes a test
+abbrev pub first_of : {A : Type 0} → (A → Bool) → A → List A → A
+first_of test none xs = unwrap_or (find test xs) none
+
+abbrev pub begins : TxId → ℕ → Move
+begins tx epoch now = Begin tx epoch
+
+-- a site's grant of items and a view to a transaction
+abbrev pub granted : TxId → ℕ → List Item → List Line → State → Granted
+granted tx site items view now = record {
+  tx = tx;
+  site = site;
+  epoch = epoch_from 1 (now.deeds site);
+  life = now.life site;
+  clock = site_clock (now.deeds site);
+  before = now.deeds site;
+  items = items;
+  view = view;
+}
+
+abbrev pub lock : ℕ → ℕ → List Item
+lock object inv = Lock (record { object = object; inv = inv }) ∷ []
+
+abbrev pub read_granted : TxId → ℕ → ℕ → ℕ → State → Granted
+read_granted tx site object inv now = granted tx site (lock object inv) [] now
+
+-- the last Append of the transaction
+abbrev pub last_append : TxId → State → AppendRequest
+last_append tx now = first_of (λ (s : AppendRequest). same_tx s.tx tx) (record { tx = tx; items = []; view = [] }) now.appends
+
+abbrev pub append_granted : TxId → ℕ → State → Granted
+append_granted tx site now = let s : AppendRequest = last_append tx now in granted tx site s.items s.view now
+
+abbrev pub grants_read : TxId → ℕ → ℕ → ℕ → Move
+grants_read tx site object inv now = Grant (read_granted tx site object inv now)
+
+abbrev pub grants_append : TxId → ℕ → Move
+grants_append tx site now = Grant (append_granted tx site now)
+
+-- the client counts the last grant of the site
+abbrev pub counts : TxId → ℕ → Move
+counts tx site now = Count (first_of (λ (g : Granted). same_tx g.tx tx && (g.site == site)) (granted tx site [] [] now) now.granted)
+
+abbrev pub locks_object : Item → ℕ → Bool
+locks_object (Lock l) object = l.object == object
+locks_object (Own o) object = false
+
+-- what a transaction was shown of an object
+abbrev pub shown_by : TxId → ℕ → Granted → List Line
+shown_by tx object g =
+    if same_tx g.tx tx && list_any (λ (x : Item). locks_object x object) g.items
+    then filter (λ (l : Line). l.object == object) (site_after g.before).volatile
+    else []
+
+abbrev pub with_line : List Line → Line → List Line
+with_line lines l = union (l ∷ []) lines
+
+abbrev pub view_of : TxId → ℕ → State → List Line
+view_of tx object now = fold with_line [] (flat_map (shown_by tx object) now.counted)
+
+abbrev pub operation : TxId → ℕ → Call → State → Executed
+operation tx object call now = record {
+  number = suc (length (now.executed tx));
+  op = record { object = object; inv = call.inv; resp = call.resp };
+  event = call.event;
+  view = view_of tx object now;
+  own = own_on (now.executed tx) object;
+}
+
+abbrev pub chooses : TxId → ℕ → Call → Move
+chooses tx object call now = Choose tx (operation tx object call now)
+
+abbrev pub finds_absent : TxId → ℕ → Call → Move
+finds_absent tx object call now = ExecuteAbsent tx (operation tx object call now)
+
+-- the Append of an operation, with all earlier own lines of the object
+abbrev pub append_of : TxId → Executed → AppendRequest
+append_of tx d = record { tx = tx; items = map Own d.own ++ Own (own_line d) ∷ []; view = d.view }
+
+abbrev pub nothing : Executed
+nothing = record { number = 0; op = record { object = 0; inv = 0; resp = None }; event = 0; view = []; own = [] }
+
+abbrev pub chosen_append : TxId → State → AppendRequest
+chosen_append tx now = append_of tx (unwrap_or (now.chosen tx) nothing)
+
+abbrev pub sends : TxId → Move
+sends tx now = SendAppend (chosen_append tx now)
+
+abbrev pub executes : TxId → Move
+executes tx now = Execute tx
+
+abbrev pub prepares : TxId → Move
+prepares tx now = Prepare tx
+
+abbrev pub votes : TxId → ℕ → Move
+votes tx site now = Vote site tx
+
+abbrev pub prepares_unheard : TxId → ℕ → Move
+prepares_unheard tx site now = PrepareLost site tx
+
+-- the commit record, with the least stamp above the client's clock
+abbrev pub record_of : TxId → State → CommitRecord
+record_of tx now = record { stamp = record { clock = suc (now.clock tx.client); client = tx.client }; tx = tx; ops = map op_of (now.executed tx) }
+
+abbrev pub commits : TxId → Move
+commits tx now = Commit (record_of tx now)
+
+abbrev pub falls_committing : TxId → Move
+falls_committing tx now = CommitUnknown (record_of tx now)
+
+abbrev pub recovers : TxId → Bool → Move
+recovers tx with_record now = Recover tx with_record
+
+abbrev pub aborts : TxId → Move
+aborts tx now = Abort tx
+
+abbrev pub rises_at : ℕ → ℕ → Move
+rises_at client clock now = RiseClient client clock
+
+abbrev pub announces : TxId → Move
+announces tx now = Announce tx
+
+-- the site takes the last verdict of the transaction
+abbrev pub learns : TxId → ℕ → Move
+learns tx site now = Learn site (first_of (λ (v : Verdict). same_tx v.tx tx) (record { tx = tx; stamp = None }) now.verdicts)
+
+abbrev pub rises : ℕ → Move
+rises site now = Rise site
+
+abbrev pub closes : ℕ → Move
+closes site now = Close site
+
+abbrev pub snapshot : ℕ → State → Snapshot
+snapshot site now = record { site = site; clock = greatest (done_clocks (now.deeds site) ++ flat_map install_clock (now.deeds site)); before = now.deeds site }
+
+abbrev pub tells : ℕ → Move
+tells site now = TakeSnapshot (snapshot site now)
+
+-- the last snapshot of each of the sites
+abbrev pub snapshots_of : List ℕ → State → List Snapshot
+snapshots_of sites now = map (λ site. first_of (λ (s : Snapshot). s.site == site) (snapshot site now) now.snapshots) sites
+
+-- the stamps that verdicts gave a prepared transaction
+abbrev pub stamps_of : List Verdict → Promise → List Stamp
+stamps_of verdicts p = flat_map (λ (v : Verdict). if same_tx v.tx p.tx then option_to_list v.stamp else []) verdicts
+
+-- the lines of a snapshot: its log, and the own lines of what is prepared there and committed
+abbrev pub merged_lines : List Verdict → Snapshot → List Line
+merged_lines verdicts s =
+    let site : Site = site_after s.before in
+    site.volatile ++ flat_map (λ (p : Promise). flat_map (λ (stamp : Stamp). stamped_lines p.tx stamp p.items) (stamps_of verdicts p)) site.prepared
+
+-- the clocks that a snapshot brings
+abbrev pub merged_clocks : List Verdict → Snapshot → List ℕ
+merged_clocks verdicts s =
+    s.clock ∷ flat_map (λ (p : Promise). map (λ (stamp : Stamp). stamp.clock) (stamps_of verdicts p)) (site_after s.before).prepared
+
+-- the decision of an epoch from the last snapshots of the sites
+abbrev pub decision : ℕ → List ℕ → State → Decision
+decision epoch sites now =
+    let snapshots : List Snapshot = snapshots_of sites now in
+    record {
+      epoch = epoch;
+      clock = greatest (flat_map (merged_clocks now.verdicts) snapshots);
+      log = flat_map (merged_lines now.verdicts) snapshots;
+      snapshots = snapshots;
+    }
+
+abbrev pub decides : ℕ → List ℕ → Move
+decides epoch sites now = Decide (decision epoch sites now)
+
+-- the site installs the last decision of the epoch
+abbrev pub installs : ℕ → ℕ → Move
+installs site epoch now = Install site (first_of (λ (d : Decision). d.epoch == epoch) (decision epoch [] now) now.decided)
