@@ -2,4 +2,5 @@ pub mod Admitted
 pub mod Close
 pub mod Faults
 pub mod Need
+pub mod Round
 pub mod Weights
