@@ -2,4 +2,5 @@ pub mod Faultless
 pub mod Heaviness
 pub mod Least
 pub mod Meet
+pub mod Rounds
 pub mod Sums

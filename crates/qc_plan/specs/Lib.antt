@@ -3,4 +3,5 @@ pub mod Close
 pub mod Faults
 pub mod Limits
 pub mod Need
+pub mod Round
 pub mod Weights

@@ -11,19 +11,31 @@
 //!    more than all weight. So sites of that weight share a site with every
 //!    quorum of such a threshold. Lighter ones may do so too: with the weights
 //!    2, 2 and 2 and the threshold 3 it is 4, though 3 would do.
+//! 3. A round asks sites until those that granted weigh what is needed: none of
+//!    weight 0, in the order in which it lists them.
+//! 4. What a round comes to depends on the asked sites and what was noted of
+//!    them, and is final only once each asked site is noted.
+//! 5. A round takes memory as it starts, and then no more.
 //!
 //! `qc_accept` admits the plan of each declared epoch, and front ends read its
-//! thresholds. `initial_met`, `final_met` and the close weight have no caller
-//! yet: front ends over several sites and changes of epochs will ask them.
+//! thresholds. Rounds, `initial_met`, `final_met` and the close weight have no
+//! caller yet: front ends over several sites and changes of epochs will ask
+//! them.
 #![tactic(auto)]
 
 mod admission;
+mod asked;
 mod close;
 mod fault;
 mod laws;
 mod limits;
 mod plan;
 mod quorum;
+mod round;
+mod round_laws;
+#[cfg(test)]
+mod round_tests;
+mod standing;
 
 pub use admission::admit;
 pub use close::close_weight;
@@ -35,3 +47,6 @@ pub use laws::{
 pub use limits::{MOST_SITES, limit_of_sites_is_as_defined};
 pub use plan::{Needs, Plan, Weights};
 pub use quorum::{final_met, initial_met};
+pub use round::Round;
+pub use round_laws::{met_rounds_share_a_site, sites_are_asked_one_by_one};
+pub use standing::{Asked, Standing, Verdict};

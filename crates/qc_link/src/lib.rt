@@ -1,0 +1,26 @@
+//! Links: what becomes of a message as it is sent.
+//!
+//! A plan of links is a list of rules. A rule names a sender, a receiver and an
+//! ordinal, or leaves them open, and gives a fate to the messages that it is
+//! for; the first rule that is for a message decides. Actors that are cut from
+//! each other lose all messages between them, until they are healed.
+//!
+//! 1. The first rule added that is for a message decides, however many rules
+//!    there are: each pattern's first place is looked up, and no list of rules
+//!    is walked.
+//! 2. Two actors that were cut any number of times are joined by one heal.
+//! 3. To ask for a fate takes no memory.
+#![tactic(auto)]
+
+mod cuts;
+mod laws;
+mod plan;
+mod rule;
+
+pub use cuts::{ACTORS, Cuts};
+pub use laws::{cuts_part_two_actors, heals_join_two_actors};
+pub use plan::{Link, LinkPlan, fate};
+pub use rule::{Fate, Rule};
+
+#[cfg(test)]
+mod tests;
