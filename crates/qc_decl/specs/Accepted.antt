@@ -1,6 +1,7 @@
 -- What every accepted declaration keeps: counts within the limits, relations that are exact, and quorums that meet.
 use Rattle.std.specs.Prelude.{◌≡◌, ℕ, ◌<◌, ◌≤◌, Some, length, slice_get}
 use Rattle.qc_cert.specs.Views.{IsExact}
+use Rattle.qc_decl.specs.Limits.{most_clients, most_sites}
 use Rattle.qc_decl.specs.declared.declaration.Declaration.{Declaration}
 use Rattle.qc_plan.specs.Admitted.{IsAdmitted}
 use Rattle.qc_plan.specs.declared.plan.Plan.{Plan}
@@ -19,9 +20,9 @@ pub record IsGood (decl : Declaration) (plan : Plan) : Type 0 where
 
 pub record IsAccepted (decl : Declaration) : Type 0 where
   pub has_site : 0 < decl.sites
-  pub sites : decl.sites ≤ 16
+  pub sites : decl.sites ≤ most_sites
   pub has_client : 0 < decl.clients
-  pub clients : decl.clients ≤ 16
+  pub clients : decl.clients ≤ most_clients
   pub has_epoch : 0 < length decl.plans
   pub typed : (object number : ℕ) → slice_get decl.objects object ≡ Some number → number < length decl.kinds
   pub right : (number : ℕ) (kind : Kind) → slice_get decl.kinds number ≡ Some kind → IsRight kind

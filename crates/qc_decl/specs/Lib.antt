@@ -1,5 +1,6 @@
 pub mod Accepted
 pub mod Actors
+pub mod Limits
 pub mod Lookup
 pub mod Named
 pub mod One
