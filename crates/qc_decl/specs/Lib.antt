@@ -3,4 +3,5 @@ pub mod Actors
 pub mod Limits
 pub mod Lookup
 pub mod Named
+pub mod Names
 pub mod One

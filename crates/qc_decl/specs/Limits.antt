@@ -65,14 +65,14 @@ most_declaration_bytes = 4194304
 abbrev pub most_script_bytes : ℕ
 most_script_bytes = 1048576
 
--- Of a run: the operations of a transaction, the bytes of a Prepare message, the steps, the committed operations with a
+-- Of a run: the operations of a transaction, the bytes of a journal record's body, the steps, the committed operations with a
 -- response, and the lines that messages carry.
 
 abbrev pub most_transaction_operations : ℕ
 most_transaction_operations = 16
 
-abbrev pub most_prepare_bytes : ℕ
-most_prepare_bytes = 65536
+abbrev pub most_record_bytes : ℕ
+most_record_bytes = 65536
 
 abbrev pub most_steps : ℕ
 most_steps = 262144

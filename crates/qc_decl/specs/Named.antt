@@ -1,5 +1,5 @@
 -- What the names of a declaration stand for.
-use Rattle.std.specs.Prelude.{◌≡◌, ℕ, ◌≤◌, List, Option, Some, length, position, slice_get, option_and_then}
+use Rattle.std.specs.Prelude.{◌≡◌, ◌↔◌, ℕ, ◌≤◌, List, Option, Some, length, position, slice_get, option_and_then}
 use Rattle.std.specs.Str.{bytes_eq}
 use Rattle.qc_decl.specs.Limits.{most_invocations, most_objects}
 use Rattle.qc_decl.specs.declared.declaration.Declaration.{Declaration}
@@ -8,6 +8,10 @@ use Rattle.qc_decl.specs.declared.declaration.KindNames.{KindNames}
 -- the number of a name is its place among the names
 abbrev pub place_of : List (List ℕ) → List ℕ → Option ℕ
 place_of names name = position (bytes_eq name) names
+
+-- each name stands for its place, and for no other
+abbrev pub StandForPlaces : List (List ℕ) → Type 0
+StandForPlaces names = (name : List ℕ) (number : ℕ) → (place_of names name ≡ Some number) ↔ (slice_get names number ≡ Some name)
 
 -- the number of the object of this name
 abbrev pub object_named : Declaration → List ℕ → Option ℕ

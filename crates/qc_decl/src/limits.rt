@@ -3,7 +3,7 @@
 //! end says that both agree.
 
 ghost use Rattle.std.specs.Prelude.{◌≡◌};
-ghost use Rattle.qc_decl.specs.Limits.{greatest_threshold, greatest_weight, longest_name, most_alike_triples, most_carried_lines, most_clients, most_committed_operations, most_declaration_bytes, most_digits, most_epochs, most_events, most_invocations, most_objects, most_prepare_bytes, most_responses, most_rows, most_script_bytes, most_sites, most_states, most_steps, most_transaction_operations, most_triples, most_types};
+ghost use Rattle.qc_decl.specs.Limits as limits;
 
 /// The most sites.
 pub const MOST_SITES: u8 = 16;
@@ -62,8 +62,8 @@ pub const MOST_SCRIPT_BYTES: u32 = 1_048_576;
 /// The most operations of a transaction.
 pub const MOST_TRANSACTION_OPERATIONS: usize = 16;
 
-/// The most bytes of a Prepare message.
-pub const MOST_PREPARE_BYTES: usize = 65_536;
+/// The most bytes of the body of a journal's record.
+pub const MOST_RECORD_BYTES: usize = 65_536;
 
 /// The most steps of a run.
 pub const MOST_STEPS: u64 = 262_144;
@@ -76,27 +76,27 @@ pub const MOST_CARRIED_LINES: u32 = 8_388_608;
 
 /// The limits of the code are those of the definitions.
 pub fn limits_are_as_defined()
-    ensures sites { MOST_SITES ≡ most_sites }
-    ensures clients { MOST_CLIENTS ≡ most_clients }
-    ensures types { MOST_TYPES ≡ most_types }
-    ensures objects { MOST_OBJECTS ≡ most_objects }
-    ensures epochs { MOST_EPOCHS ≡ most_epochs }
-    ensures states { MOST_STATES ≡ most_states }
-    ensures invocations { MOST_INVOCATIONS ≡ most_invocations }
-    ensures responses { MOST_RESPONSES ≡ most_responses }
-    ensures events { MOST_EVENTS ≡ most_events }
-    ensures rows { MOST_ROWS ≡ most_rows }
-    ensures triples { MOST_TRIPLES ≡ most_triples }
-    ensures alike_triples { MOST_ALIKE_TRIPLES ≡ most_alike_triples }
-    ensures name { LONGEST_NAME ≡ longest_name }
-    ensures digits { MOST_DIGITS ≡ most_digits }
-    ensures weight { GREATEST_WEIGHT ≡ greatest_weight }
-    ensures threshold { GREATEST_THRESHOLD ≡ greatest_threshold }
-    ensures declaration_bytes { MOST_DECLARATION_BYTES ≡ most_declaration_bytes }
-    ensures script_bytes { MOST_SCRIPT_BYTES ≡ most_script_bytes }
-    ensures transaction_operations { MOST_TRANSACTION_OPERATIONS ≡ most_transaction_operations }
-    ensures prepare_bytes { MOST_PREPARE_BYTES ≡ most_prepare_bytes }
-    ensures steps { MOST_STEPS ≡ most_steps }
-    ensures committed_operations { MOST_COMMITTED_OPERATIONS ≡ most_committed_operations }
-    ensures carried_lines { MOST_CARRIED_LINES ≡ most_carried_lines }
+    ensures sites { MOST_SITES ≡ limits.most_sites }
+    ensures clients { MOST_CLIENTS ≡ limits.most_clients }
+    ensures types { MOST_TYPES ≡ limits.most_types }
+    ensures objects { MOST_OBJECTS ≡ limits.most_objects }
+    ensures epochs { MOST_EPOCHS ≡ limits.most_epochs }
+    ensures states { MOST_STATES ≡ limits.most_states }
+    ensures invocations { MOST_INVOCATIONS ≡ limits.most_invocations }
+    ensures responses { MOST_RESPONSES ≡ limits.most_responses }
+    ensures events { MOST_EVENTS ≡ limits.most_events }
+    ensures rows { MOST_ROWS ≡ limits.most_rows }
+    ensures triples { MOST_TRIPLES ≡ limits.most_triples }
+    ensures alike_triples { MOST_ALIKE_TRIPLES ≡ limits.most_alike_triples }
+    ensures name { LONGEST_NAME ≡ limits.longest_name }
+    ensures digits { MOST_DIGITS ≡ limits.most_digits }
+    ensures weight { GREATEST_WEIGHT ≡ limits.greatest_weight }
+    ensures threshold { GREATEST_THRESHOLD ≡ limits.greatest_threshold }
+    ensures declaration_bytes { MOST_DECLARATION_BYTES ≡ limits.most_declaration_bytes }
+    ensures script_bytes { MOST_SCRIPT_BYTES ≡ limits.most_script_bytes }
+    ensures transaction_operations { MOST_TRANSACTION_OPERATIONS ≡ limits.most_transaction_operations }
+    ensures record_bytes { MOST_RECORD_BYTES ≡ limits.most_record_bytes }
+    ensures steps { MOST_STEPS ≡ limits.most_steps }
+    ensures committed_operations { MOST_COMMITTED_OPERATIONS ≡ limits.most_committed_operations }
+    ensures carried_lines { MOST_CARRIED_LINES ≡ limits.most_carried_lines }
 {}
