@@ -49,14 +49,15 @@ place_found p (x ∷ xs) (suc k) d l is = by (p x) (place_found p xs k d (omega 
 place_is : {X : Type 0} (p : X → Bool) (xs : List X) (k : ℕ) (d : X) → k < length xs → p (get_or xs k d) ≡ true → position p xs ≡ Some (position_or_len p xs)
 place_is p xs k d l is = rw (lt-ltb (position_or_len p xs) (length xs) (place_found p xs k d l is)) refl
 
-pub names_stand : (names : List (List ℕ)) → AllPairs (λ a b. a ≢ b) names → StandForPlaces names
-names_stand names apart = λ name number. (there name number, back name number)
-  where
-    there : (name : List ℕ) (number : ℕ) → place_of names name ≡ Some number → slice_get names number ≡ Some name
-    there name number is =
-        let p = position-Some (bytes_eq name) names number [] is in
-        slice_get-get_or names number [] p.0 ∙ ap Some (sym ((bytes_eq-Decides name (get_or names number [])).0 p.1))
+-- a number of a name leads to it
+pub place_at : (names : List (List ℕ)) (name : List ℕ) (number : ℕ) → place_of names name ≡ Some number → slice_get names number ≡ Some name
+place_at names name number is =
+    let p = position-Some (bytes_eq name) names number [] is in
+    slice_get-get_or names number [] p.0 ∙ ap Some (sym ((bytes_eq-Decides name (get_or names number [])).0 p.1))
 
+pub names_stand : (names : List (List ℕ)) → AllPairs (λ a b. a ≢ b) names → StandForPlaces names
+names_stand names apart = λ name number. (place_at names name number, back name number)
+  where
     one : (name : List ℕ) (i j : ℕ) → i < length names → j < length names → get_or names i [] ≡ name → get_or names j [] ≡ name → i ≡ j
     one name i j within inside is at =
         let before : i < j → ⊥ = λ l. apart i j [] l inside (is ∙ sym at) in

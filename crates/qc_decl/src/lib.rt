@@ -13,8 +13,6 @@ mod laws;
 mod limits;
 mod named;
 mod one;
-#[cfg(test)]
-mod tests;
 
 pub use declaration::{Declaration, KindNames, KindNamesList, Kinds, Names, Objects, Plans};
 pub use laws::{accepted_declarations_have_few_names, names_stand_for_their_places};
