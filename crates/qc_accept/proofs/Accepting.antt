@@ -1,6 +1,6 @@
 -- An accepted declaration keeps what it has to.
 use Rattle.std.proofs.Common.{◌≡◌, ℕ, zero, suc, ◌<◌, ◌≤◌, List, [], ◌∷◌, length, map, Option, Some, None, Ok, Err, refl, sym, ap, ◌∙◌, subst, arith}
-use Rattle.std.specs.Prelude.{All, codes, slice_get, option_map}
+use Rattle.std.specs.Prelude.{All, codes, slice_get, option_and_then, option_map}
 use Rattle.std.specs.Option.{option_map_or}
 use Rattle.std.proofs.lemmas.List.{length-map}
 use Rattle.std.proofs.lemmas.Option.{slice_get-map}
@@ -14,22 +14,29 @@ use Rattle.qc_plan.proofs.Faultless as plan_proofs
 use Rattle.qc_plan.specs.Faults as plan
 use Rattle.qc_plan.specs.declared.fault.PlanFault.{PlanFault}
 use Rattle.qc_plan.specs.declared.plan.Plan.{Plan}
+use Rattle.qc_table.specs.Rules.{events_of}
 use Rattle.qc_table.specs.Sound.{IsSound}
 use Rattle.qc_table.specs.declared.kind.Kind.{Kind}
 use Rattle.qc_decl.specs.declared.declaration.Declaration.{Declaration}
 use Rattle.qc_decl.specs.declared.declaration.KindNames.{KindNames}
+use Rattle.qc_decl.specs.Limits.{most_clients, most_events, most_objects, most_sites, most_types}
 use Rattle.qc_accept.specs.declared.fault.DeclFault.TheVariants as decl
 use Rattle.qc_accept.specs.Accept.{DraftOf, AreOfStates, AreChecked, ArePlanned, IsShaped, accepted, admitted, all_admitted, all_certified, all_names, cert_names, certified, declared, document_of, draft, draft_of, keys, kind_names, plan_names}
-use Rattle.qc_decl.specs.Accepted.{IsAccepted, IsRight, IsGood}
+use Rattle.qc_decl.proofs.AcceptedNames.{few_names}
+use Rattle.qc_decl.specs.Accepted.{AreThresholds, HasNames, HasThresholds, IsAccepted, IsRight, IsGood}
+use Rattle.qc_decl.specs.Lookup.{kind_at}
+use Rattle.qc_decl.specs.Names.{AreNames}
 use Rattle.qc_accept.specs.Answers.{Answer}
-use Rattle.qc_accept.specs.Epochs.{IsFit, plans_of}
+use Rattle.qc_accept.specs.declared.epochs.Side.{Side}
+use Rattle.qc_accept.specs.declared.epochs.Side.TheVariants.{Initial, Final}
+use Rattle.qc_accept.specs.Epochs.{IsFit, places, plans_of}
 use Rattle.qc_accept.specs.Fields.{number, no_others}
 use Rattle.qc_decl.specs.Named.{IsNamed}
-use Rattle.qc_accept.specs.Objects.{ObjectsOf, objects_of}
+use Rattle.qc_accept.specs.Objects.{ObjectsOf, kind_of, objects_of}
 use Rattle.qc_accept.specs.Types.{AreFew, TypeOf, TypesOf, types_of}
-use Rattle.qc_accept.proofs.Answered.{came, mapped, same_ok}
+use Rattle.qc_accept.proofs.Answered.{came, found, mapped, same_ok}
 use Rattle.qc_accept.proofs.Kept.{IsTypeKept, AreTypesKept, types_kept}
-use Rattle.qc_accept.proofs.Drafted.{all_at, all_of, number_is, AreObjectsKept, objects_kept, IsPlanOf, ArePlansKept, plans_kept}
+use Rattle.qc_accept.proofs.Drafted.{all_at, all_of, number_is, AreObjectsKept, objects_kept, AreLists, IsPlanOf, ArePlansKept, plans_kept}
 
 -- what a draft was made of
 pub record IsDraft (d : DraftOf) : Type 0 where
@@ -39,16 +46,16 @@ pub record IsDraft (d : DraftOf) : Type 0 where
   pub objects : ObjectsOf
   pub plans : List Plan
   pub is : draft sites clients types objects plans ≡ d
-  pub sites_are : (1 ≤ sites) × (sites ≤ 16)
-  pub clients_are : (1 ≤ clients) × (clients ≤ 16)
+  pub sites_are : (1 ≤ sites) × (sites ≤ most_sites)
+  pub clients_are : (1 ≤ clients) × (clients ≤ most_clients)
   pub types_are : AreTypesKept types
   pub objects_are : AreObjectsKept (length types.names) objects
   pub plans_are : ArePlansKept (record { sites = sites; types = types; objects = objects }) plans
 
 pub draft_is : (table : Members) (d : DraftOf) → draft_of table ≡ Ok d → IsDraft d
 draft_is table d is =
-    let a = came (number [] table (codes "sites") 1 16) _ d is in
-    let b = came (number [] table (codes "clients") 1 16) _ d a.rest in
+    let a = came (number [] table (codes "sites") 1 most_sites) _ d is in
+    let b = came (number [] table (codes "clients") 1 most_clients) _ d a.rest in
     let c = came (types_of [] table) _ d b.rest in
     let e = came (objects_of [] table c.value) _ d c.rest in
     let f = came (plans_of [] table (record { sites = a.value; types = c.value; objects = e.value })) _ d e.rest in
@@ -60,21 +67,21 @@ draft_is table d is =
       objects = e.value;
       plans = f.value;
       is = same_ok (draft a.value b.value c.value e.value f.value) d g.rest;
-      sites_are = number_is [] table (codes "sites") 1 16 a.value a.first;
-      clients_are = number_is [] table (codes "clients") 1 16 b.value b.first;
+      sites_are = number_is [] table (codes "sites") 1 most_sites a.value a.first;
+      clients_are = number_is [] table (codes "clients") 1 most_clients b.value b.first;
       types_are = types_kept [] table c.value c.first;
       objects_are = objects_kept [] table c.value e.value e.first;
       plans_are = plans_kept [] table (record { sites = a.value; types = c.value; objects = e.value }) f.value f.first;
     }
 
 -- a store of kept parts fits
-pub store_fits : (sites : ℕ) (types : TypesOf) (objects : ObjectsOf) → sites ≤ 16 → AreTypesKept types → length objects.names ≤ 16
+pub store_fits : (sites : ℕ) (types : TypesOf) (objects : ObjectsOf) → sites ≤ most_sites → AreTypesKept types → length objects.names ≤ most_objects
     → IsFit (record { sites = sites; types = types; objects = objects })
 store_fits sites types objects few_sites are few = record {
   sites = few_sites;
   objects = few;
   words = all_of IsTypeKept (λ (t : TypeOf). AreFew t.words) types.list (λ t k. k.words.few) are.kept;
-  events = all_of IsTypeKept (λ (t : TypeOf). length t.events ≤ 64) types.list (λ t k. k.events) are.kept;
+  events = all_of IsTypeKept (λ (t : TypeOf). length t.events ≤ most_events) types.list (λ t k. k.events) are.kept;
 }
 
 -- names for each type
@@ -96,6 +103,12 @@ names_of_type (name ∷ names) [] k n is = absurd (let never : ⊥ = cc in never
 names_of_type (name ∷ names) (t ∷ ts) zero n is = record { name = name; type = t; at = refl; is = cc }
 names_of_type (name ∷ names) (t ∷ ts) (suc k) n is =
     let p : IsNamesOf ts k n = names_of_type names ts k n is in record { name = p.name; type = p.type; at = p.at; is = p.is }
+
+names_back : (names : List (List ℕ)) (ts : List TypeOf) → length names ≡ length ts → map (λ (n : KindNames). n.name) (all_names names ts) ≡ names
+names_back [] [] same = refl
+names_back [] (t ∷ ts) same = absurd (omega arith)
+names_back (name ∷ names) [] same = absurd (omega arith)
+names_back (name ∷ names) (t ∷ ts) same = ap (λ (ns : List (List ℕ)). name ∷ ns) (names_back names ts (omega arith))
 
 -- a part of the type at a place
 record IsPart {A : Type 0} (part : TypeOf → A) (ts : List TypeOf) (k : ℕ) (a : A) : Type 0 where
@@ -122,7 +135,7 @@ states_are ts all place kind list at_kind at_list =
 pub draft_checked : (d : DraftOf) → IsDraft d → AreChecked d
 draft_checked d i =
     let ts : List TypeOf = i.types.list in
-    let few : length ts ≤ 8 = i.types_are.few in
+    let few : length ts ≤ most_types = i.types_are.few in
     let lists : length (map (λ (t : TypeOf). t.triples) ts) ≡ length ts = length-map ts (λ (t : TypeOf). t.triples) in
     let kinds : length (map (λ (t : TypeOf). t.kind) ts) ≡ length ts = length-map ts (λ (t : TypeOf). t.kind) in
     subst AreChecked i.is (record {
@@ -136,17 +149,17 @@ draft_checked d i =
 pub draft_planned : (d : DraftOf) → IsDraft d → ArePlanned d.decl
 draft_planned d i =
     let objects : length i.objects.kinds ≡ length i.objects.names = i.objects_are.kinds in
-    let few : length i.objects.names ≤ 16 = i.objects_are.few in
-    let sites : i.sites ≤ 16 = i.sites_are.1 in
+    let few : length i.objects.names ≤ most_objects = i.objects_are.few in
+    let sites : i.sites ≤ most_sites = i.sites_are.1 in
     let whole : DraftOf = draft i.sites i.clients i.types i.objects i.plans in
     subst (λ (x : DraftOf). ArePlanned x.decl) i.is (record {
       objects = omega arith;
       epochs = i.plans_are.few;
       shaped = all_of (IsPlanOf (record { sites = i.sites; types = i.types; objects = i.objects })) (IsShaped whole.decl) i.plans
           (λ p is.
-          let weights : length p.weights ≡ i.sites = is.weights in
-          let initial : length p.initial ≡ length i.objects.names = is.initial in
-          let last : length p.last ≡ length i.objects.names = is.last in
+          let weights : length p.weights ≡ i.sites = is.weights.long in
+          let initial : length p.initial ≡ length i.objects.names = is.initial.objects in
+          let last : length p.last ≡ length i.objects.names = is.last.objects in
           record { weights = omega arith; initial = omega arith; last = omega arith }) i.plans_are.each_is;
     })
 
@@ -192,6 +205,13 @@ all_admitted_none d epoch (x ∷ ps) is (suc k) p at =
     let c = came (admitted d epoch x) (λ _. all_admitted d (suc epoch) ps) tt is in
     all_admitted_none d (suc epoch) ps c.rest k p at
 
+-- the type of an object, and what it keeps
+record IsObjectOf (types : TypesOf) (objects : ObjectsOf) (object : ℕ) (kind : Kind) : Type 0 where
+  type : TypeOf
+  of : kind_of types objects object ≡ Some type
+  is : type.kind ≡ kind
+  kept : IsTypeKept type
+
 -- the parts of an accepted declaration
 module _ (sites clients : ℕ) (types : TypesOf) (objects : ObjectsOf) (plans : List Plan) (types_are : AreTypesKept types)
     (objects_are : AreObjectsKept (length types.names) objects) (plans_are : ArePlansKept (record { sites = sites; types = types; objects = objects }) plans) where
@@ -217,10 +237,10 @@ module _ (sites clients : ℕ) (types : TypesOf) (objects : ObjectsOf) (plans : 
       let is : IsPlanOf (record { sites = sites; types = types; objects = objects }) p =
       all_at (IsPlanOf (record { sites = sites; types = types; objects = objects })) plans place p plans_are.each_is at in
       let kinds : length objects.kinds ≡ length objects.names = objects_are.kinds in
-      let initial : length p.initial ≡ length objects.names = is.initial in
-      let last : length p.last ≡ length objects.names = is.last in
+      let initial : length p.initial ≡ length objects.names = is.initial.objects in
+      let last : length p.last ≡ length objects.names = is.last.objects in
       record {
-        weights = is.weights;
+        weights = is.weights.long;
         admitted = plan_proofs.admitted p whole.kinds whole.objects (omega arith) (omega arith) (all_admitted_none whole 1 plans shown place p at);
       }
 
@@ -229,11 +249,60 @@ module _ (sites clients : ℕ) (types : TypesOf) (objects : ObjectsOf) (plans : 
       subst (λ n. number < n) (types_are.names ∙ sym (length-map types.list (λ (t : TypeOf). t.kind)))
       (all_at (λ kind. kind < length types.names) objects.kinds object number objects_are.typed at)
 
-  invs_at : (number : ℕ) (names : KindNames) → slice_get (all_names types.names types.list) number ≡ Some names → length names.invs ≤ 32
-  invs_at number names at =
-      let p : IsNamesOf types.list number names = names_of_type types.names types.list number names at in
+  -- the type of an object is the one that was read
+  type_at : (object : ℕ) (kind : Kind) → kind_at (draft sites clients types objects plans).decl object ≡ Some kind → IsObjectOf types objects object kind
+  type_at object kind at =
+      let c = found (slice_get objects.kinds object) (slice_get (map (λ (t : TypeOf). t.kind) types.list)) kind at in
+      let p : IsPart (λ (t : TypeOf). t.kind) types.list c.value kind = part_at (λ (t : TypeOf). t.kind) types.list c.value kind c.rest in
+      record {
+        type = p.type;
+        of = ap (option_and_then (slice_get types.list)) c.first ∙ p.at;
+        is = p.is;
+        kept = all_at IsTypeKept types.list c.value p.type types_are.kept p.at;
+      }
+
+  -- the thresholds of a side
+  thresholds_at : (side : Side) (count : Kind → ℕ) (lists : List (List ℕ)) → AreLists (record { sites = sites; types = types; objects = objects }) side lists
+      → ((t : TypeOf) → IsTypeKept t → places side t ≡ count t.kind) → AreThresholds (draft sites clients types objects plans).decl count lists
+  thresholds_at side count lists are same = record {
+    objects = are.objects ∙ sym objects_are.kinds;
+    each_is = λ object kind list at of.
+        let o : IsObjectOf types objects object kind = type_at object kind at in
+        are.each_is object o.type list o.of of ∙ same o.type o.kept ∙ ap count o.is;
+    numbers = are.numbers;
+  }
+
+  listed_at : (place : ℕ) (p : Plan) → slice_get plans place ≡ Some p → HasThresholds (draft sites clients types objects plans).decl p
+  listed_at place p at =
+      let is : IsPlanOf (record { sites = sites; types = types; objects = objects }) p =
+      all_at (IsPlanOf (record { sites = sites; types = types; objects = objects })) plans place p plans_are.each_is at in
+      record {
+        weights = is.weights.small;
+        initial = thresholds_at Initial (λ kind. kind.table.invs) p.initial is.initial (λ t kept. kept.invs.count);
+        last = thresholds_at Final (λ kind. length (events_of kind.table.rows)) p.last is.last (λ t kept. ap length kept.events_are);
+      }
+
+  -- names
+
+  types_named : AreNames (length (map (λ (t : TypeOf). t.kind) types.list)) (map (λ (n : KindNames). n.name) (all_names types.names types.list))
+  types_named =
+      subst (AreNames (length (map (λ (t : TypeOf). t.kind) types.list))) (sym (names_back types.names types.list types_are.names))
+      (subst (λ n. AreNames n types.names) (sym (length-map types.list (λ (t : TypeOf). t.kind))) types_are.named)
+
+  objects_named : AreNames (length objects.kinds) objects.names
+  objects_named = subst (λ n. AreNames n objects.names) (sym objects_are.kinds) objects_are.named
+
+  parts_named : (number : ℕ) (kind : Kind) (names : KindNames) → slice_get (map (λ (t : TypeOf). t.kind) types.list) number ≡ Some kind
+      → slice_get (all_names types.names types.list) number ≡ Some names → HasNames kind names
+  parts_named number kind names at of =
+      let p : IsPart (λ (t : TypeOf). t.kind) types.list number kind = part_at (λ (t : TypeOf). t.kind) types.list number kind at in
+      let n : IsNamesOf types.list number names = names_of_type types.names types.list number names of in
+      let both : Some p.type ≡ Some n.type = sym p.at ∙ n.at in
+      let same : p.type ≡ n.type = cc in
       let kept : IsTypeKept p.type = all_at IsTypeKept types.list number p.type types_are.kept p.at in
-      subst (λ (n : KindNames). length n.invs ≤ 32) p.is kept.words.few.invs
+      let whole : HasNames p.type.kind (kind_names n.name p.type) = record { states = kept.states; invs = kept.invs; resps = kept.resps } in
+      subst (λ (k : Kind). HasNames k names) p.is
+      (subst (HasNames p.type.kind) (ap (kind_names n.name) same ∙ n.is) whole)
 
 -- a draft whose certificates and plans are shown is an accepted declaration
 pub draft_accepted : (d : DraftOf) → IsDraft d → all_certified 0 d.decl.kind_names d.decl.kinds d.triples ≡ Ok tt → all_admitted d.decl 1 d.decl.plans ≡ Ok tt
@@ -241,24 +310,32 @@ pub draft_accepted : (d : DraftOf) → IsDraft d → all_certified 0 d.decl.kind
 draft_accepted d i certs plans =
     let site : 1 ≤ i.sites = i.sites_are.0 in
     let client : 1 ≤ i.clients = i.clients_are.0 in
+    let kinds : length (map (λ (t : TypeOf). t.kind) i.types.list) ≡ length i.types.list = length-map i.types.list (λ (t : TypeOf). t.kind) in
+    let some_type : 0 < length (map (λ (t : TypeOf). t.kind) i.types.list) = subst (λ n. 0 < n) (sym kinds) i.types_are.some in
+    let few_types : length (map (λ (t : TypeOf). t.kind) i.types.list) ≤ most_types = subst (λ n. n ≤ most_types) (sym kinds) i.types_are.few in
+    let some_object : 0 < length i.objects.kinds = subst (λ n. 0 < n) (sym i.objects_are.kinds) i.objects_are.some in
+    let few_objects : length i.objects.kinds ≤ most_objects = subst (λ n. n ≤ most_objects) (sym i.objects_are.kinds) i.objects_are.few in
     subst (λ (x : DraftOf). IsAccepted x.decl) i.is (record {
       has_site = omega arith;
       sites = i.sites_are.1;
       has_client = omega arith;
       clients = i.clients_are.1;
+      has_type = some_type;
+      types = few_types;
+      has_object = some_object;
+      objects = few_objects;
       has_epoch = i.plans_are.some;
+      epochs = i.plans_are.few;
       typed = typed_at i.sites i.clients i.types i.objects i.plans i.types_are i.objects_are i.plans_are;
       right = right_at i.sites i.clients i.types i.objects i.plans i.types_are i.objects_are i.plans_are
           (subst (λ (x : DraftOf). all_certified 0 x.decl.kind_names x.decl.kinds x.triples ≡ Ok tt) (sym i.is) certs);
       good = good_at i.sites i.clients i.types i.objects i.plans i.types_are i.objects_are i.plans_are
           (subst (λ (x : DraftOf). all_admitted x.decl 1 x.decl.plans ≡ Ok tt) (sym i.is) plans);
+      thresholds = listed_at i.sites i.clients i.types i.objects i.plans i.types_are i.objects_are i.plans_are;
+      type_names = types_named i.sites i.clients i.types i.objects i.plans i.types_are i.objects_are i.plans_are;
+      object_names = objects_named i.sites i.clients i.types i.objects i.plans i.types_are i.objects_are i.plans_are;
+      names = parts_named i.sites i.clients i.types i.objects i.plans i.types_are i.objects_are i.plans_are;
     })
-
-pub draft_named : (d : DraftOf) → IsDraft d → IsNamed d.decl
-draft_named d i = subst (λ (x : DraftOf). IsNamed x.decl) i.is (record {
-  objects = i.objects_are.few;
-  invs = invs_at i.sites i.clients i.types i.objects i.plans i.types_are i.objects_are i.plans_are;
-})
 
 -- what was accepted came from a draft
 pub record IsShown (d : Declaration) : Type 0 where
@@ -281,4 +358,4 @@ accepted_is bytes d is =
     let s : IsShown d = shown bytes d is in subst IsAccepted s.is (draft_accepted s.whole s.drafted s.certified s.admitted)
 
 pub accepted_named : (bytes : List ℕ) (d : Declaration) → accepted bytes ≡ Ok d → IsNamed d
-accepted_named bytes d is = let s : IsShown d = shown bytes d is in subst IsNamed s.is (draft_named s.whole s.drafted)
+accepted_named bytes d is = few_names d (accepted_is bytes d is)

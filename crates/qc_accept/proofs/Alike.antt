@@ -8,6 +8,7 @@ use Rattle.std.proofs.lemmas.List.Sums.{sum_by-cons, sum_by-take-le, count_by_mo
 use Rattle.toml.specs.Data.{Data}
 use Rattle.qc_cert.specs.declared.triple.Triple.{Triple}
 use Rattle.qc_table.specs.declared.row.Event.{Event}
+use Rattle.qc_decl.specs.Limits.{most_alike_triples, most_triples}
 use Rattle.qc_accept.specs.Answers.{read_each}
 use Rattle.qc_accept.specs.Types.{WordsOf, is_alike, are_few_alike, triple_in, triples_in, with_read}
 
@@ -27,7 +28,7 @@ AreLow t = (t.view < 64) × (t.log < 64)
 pub record AreCounted (counts : List ℕ) (triples : List Triple) : Type 0 where
   pub size : length counts ≡ 4096
   pub at : (p : ℕ) → p < 4096 → get_or counts p 0 ≡ count_at p triples
-  pub few : (p : ℕ) → p < 4096 → get_or counts p 0 ≤ 1024
+  pub few : (p : ℕ) → p < 4096 → get_or counts p 0 ≤ most_alike_triples
 
 -- triples are alike where their places are the same
 alike_is : (t u : Triple) → t.log < 64 → u.log < 64 → is_alike t u ≡ (place u == place t)
@@ -65,7 +66,7 @@ counted_nothing = record { size = refl; at = λ p l. zeros 4096 p; few = λ p l.
 
 -- one triple more, where its place has room
 pub counted_more : (counts : List ℕ) (triples : List Triple) (n : ℕ) (d : Triple) → n < length triples → All AreLow triples → AreCounted counts (take n triples)
-    → get_or counts (place (get_or triples n d)) 0 ≢ 1024
+    → get_or counts (place (get_or triples n d)) 0 ≢ most_alike_triples
     → AreCounted (set counts (place (get_or triples n d)) (get_or counts (place (get_or triples n d)) 0 + 1)) (take (n + 1) triples)
 counted_more counts triples n d l all before room = record { size = length-set counts p _ ∙ before.size; at = at; few = few }
   where
@@ -91,29 +92,29 @@ counted_more counts triples n d l all before room = record { size = length-set c
     at : (q : ℕ) → q < 4096 → get_or (set counts p (get_or counts p 0 + 1)) q 0 ≡ count_at q (take (n + 1) triples)
     at q within = at_by q (p == q) within refl
 
-    few_by : (q : ℕ) (b : Bool) → q < 4096 → (p == q) ≡ b → get_or (set counts p (get_or counts p 0 + 1)) q 0 ≤ 1024
+    few_by : (q : ℕ) (b : Bool) → q < 4096 → (p == q) ≡ b → get_or (set counts p (get_or counts p 0 + 1)) q 0 ≤ most_alike_triples
     few_by q true within is =
         let same : p ≡ q = eqb-true p q is in
         let size : length counts ≡ 4096 = before.size in
         let inside : p < length counts = omega (arith, same, within, size) in
-        let old : get_or counts p 0 ≤ 1024 = before.few p (omega (arith, same, within)) in
+        let old : get_or counts p 0 ≤ most_alike_triples = before.few p (omega (arith, same, within)) in
         let new : get_or (set counts p (get_or counts p 0 + 1)) p 0 ≡ get_or counts p 0 + 1 = get_or-set_same counts p (get_or counts p 0 + 1) 0 inside in
-        subst (λ k. get_or (set counts p (get_or counts p 0 + 1)) k 0 ≤ 1024) same (omega (arith, new, old, room))
+        subst (λ k. get_or (set counts p (get_or counts p 0 + 1)) k 0 ≤ most_alike_triples) same (omega (arith, new, old, room))
     few_by q false within is =
         let other : get_or (set counts p (get_or counts p 0 + 1)) q 0 ≡ get_or counts q 0 = get_or-set_other counts p q (get_or counts p 0 + 1) 0 (λ e. eqb-false p q is (sym e)) in
         omega (arith, other, before.few q within)
 
-    few : (q : ℕ) → q < 4096 → get_or (set counts p (get_or counts p 0 + 1)) q 0 ≤ 1024
+    few : (q : ℕ) → q < 4096 → get_or (set counts p (get_or counts p 0 + 1)) q 0 ≤ most_alike_triples
     few q within = few_by q (p == q) within refl
 
 -- all are counted: none are too many
 pub few_alike : (counts : List ℕ) (triples : List Triple) (n : ℕ) → length triples ≤ n → All AreLow triples → AreCounted counts (take n triples)
     → true ≡ are_few_alike triples
 few_alike counts triples n end all counted =
-    sym (list_all-from_AllPass (λ t. leb (count_by (is_alike t) triples) 1024) triples
-    (λ k d within. le-leb (count_by (is_alike (get_or triples k d)) triples) 1024 (at (get_or triples k d) (all k d within))))
+    sym (list_all-from_AllPass (λ t. leb (count_by (is_alike t) triples) most_alike_triples) triples
+    (λ k d within. le-leb (count_by (is_alike (get_or triples k d)) triples) most_alike_triples (at (get_or triples k d) (all k d within))))
   where
-    at : (t : Triple) → AreLow t → count_by (is_alike t) triples ≤ 1024
+    at : (t : Triple) → AreLow t → count_by (is_alike t) triples ≤ most_alike_triples
     at t low =
         let view : t.view < 64 = low.0 in let log : t.log < 64 = low.1 in
         let within : place t < 4096 = omega arith in
@@ -122,9 +123,9 @@ few_alike counts triples n end all counted =
 
 -- a place was full: this triple is one too many
 pub many_alike : (counts : List ℕ) (triples : List Triple) (n : ℕ) (d : Triple) → n < length triples → All AreLow triples → AreCounted counts (take n triples)
-    → get_or counts (place (get_or triples n d)) 0 ≡ 1024 → false ≡ are_few_alike triples
+    → get_or counts (place (get_or triples n d)) 0 ≡ most_alike_triples → false ≡ are_few_alike triples
 many_alike counts triples n d l all counted full =
-    sym (list_all_at (λ t. leb (count_by (is_alike t) triples) 1024) triples n d l (lt-leb (count_by (is_alike t) triples) 1024 many))
+    sym (list_all_at (λ t. leb (count_by (is_alike t) triples) most_alike_triples) triples n d l (lt-leb (count_by (is_alike t) triples) most_alike_triples many))
   where
     t : Triple
     t = get_or triples n d
@@ -135,7 +136,7 @@ many_alike counts triples n d l all counted full =
     more : count_at (place t) (take (n + 1) triples) ≡ count_at (place t) (take n triples) + 1
     more = count_by_more_yes (λ u. place u == place t) triples n d l (eq-eqb (place t) (place t) refl)
 
-    many : 1024 < count_by (is_alike t) triples
+    many : most_alike_triples < count_by (is_alike t) triples
     many = omega (arith, full, counted.at (place t) within, more, sum_by-take-le (λ u. cond (place u == place t) 1 0) triples (n + 1), count_alike t triples (all n d l).1 all)
 
 -- states of these numbers are within the limit
@@ -146,7 +147,7 @@ low_at o t n is within few =
 
 -- no list where a text says nothing
 pub no_triples : (w : WordsOf) (events : List Event) (ds : List Data) → read_each (with_read (triple_in w events)) [] ds ≡ None → triples_in w events ds ≡ None
-no_triples w events ds none = by (leb (length ds) 65536)
+no_triples w events ds none = by (leb (length ds) most_triples)
   where
     by : (b : Bool) → cond b (option_and_then (λ ts. cond (are_few_alike ts) (Some ts) None) (read_each (with_read (triple_in w events)) [] ds)) None ≡ None
     by true = ap (option_and_then (λ (ts : List Triple). cond (are_few_alike ts) (Some ts) None)) none

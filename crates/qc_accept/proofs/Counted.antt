@@ -8,7 +8,7 @@ use Rattle.std.proofs.lemmas.Option.{cond_some}
 use Rattle.toml.specs.Data.{Data, as_str}
 use Rattle.qc_accept.specs.Fields.{item_table, keys_path, name_among, no_others, required, told, with_name, with_text}
 use Rattle.qc_accept.specs.Objects.{ObjectsOf, object_keys, with_object}
-use Rattle.qc_accept.specs.Words.{is_name}
+use Rattle.qc_decl.specs.Names.{is_name}
 use Rattle.qc_accept.proofs.Answered.{came, found, same_ok, told_some}
 
 -- a name more is one more

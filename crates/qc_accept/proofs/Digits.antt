@@ -5,7 +5,9 @@ use Rattle.std.specs.Prelude.{◌==◌, ◌&&◌, nat_le, if◌then◌else◌, O
 use Rattle.std.specs.Result.{result_ok}
 use Rattle.std.proofs.lemmas.Bool.{leb-true, leb-false, le-leb, eqb-false}
 use Rattle.std.proofs.lemmas.List.Folds.{list_all_at}
-use Rattle.qc_accept.specs.Words.{is_between, number_in, value_of}
+use Rattle.qc_decl.specs.Names.{is_between}
+use Rattle.qc_decl.specs.Limits.{greatest_threshold, most_digits}
+use Rattle.qc_accept.specs.Words.{number_in, value_of}
 
 -- the first number that so many digits can't write
 abbrev pub limit : ℕ → ℕ
@@ -22,7 +24,7 @@ up (suc n) zero l = absurd (omega arith)
 up (suc n) (suc m) l = let h : limit n ≤ limit m = up n m (omega arith) in omega arith
 
 -- five digits write less than 100,000
-pub few_small : (n v : ℕ) → n ≤ 5 → v < limit n → v < 100000
+pub few_small : (n v : ℕ) → n ≤ most_digits → v < limit n → v < 100000
 few_small n v l h = let k : limit n ≤ 100000 = up n 5 l in omega arith
 
 -- one digit more
@@ -44,25 +46,25 @@ digit_at digits i l all = by (is_between 48 57 (get_or digits i 0)) refl
 -- what a conversion of a digits' value to 16 bits answers is the number that the digits write
 pub read_number : {E : Type 0} (text : List ℕ) (v : ℕ) (r : Result ℕ E) → (length text == 0) ≡ false → length text ≤ 5 → list_all (is_between 48 57) text ≡ true → v ≡ value_of text
     → OkIff r (v < 65536) v → result_ok r ≡ number_in text
-read_number {E = E} text v r some few all is h = by r (nat_le (value_of text) 65535) refl h
+read_number {E = E} text v r some few all is h = by r (nat_le (value_of text) greatest_threshold) refl h
   where
     long : is_between 1 5 (length text) ≡ true
     long = rw (le-leb 1 (length text) (let n : length text ≢ 0 = eqb-false _ 0 some in omega arith), le-leb (length text) 5 few)
 
-    by_value : (b : Bool) → nat_le (value_of text) 65535 ≡ b → number_in text ≡ (if b then Some (value_of text) else None)
+    by_value : (b : Bool) → nat_le (value_of text) greatest_threshold ≡ b → number_in text ≡ (if b then Some (value_of text) else None)
     by_value b e =
-        ap (λ t. if t && (list_all (is_between 48 57) text && nat_le (value_of text) 65535) then Some (value_of text) else None) long
-        ∙ ap (λ t. if t && nat_le (value_of text) 65535 then Some (value_of text) else None) all
+        ap (λ t. if t && (list_all (is_between 48 57) text && nat_le (value_of text) greatest_threshold) then Some (value_of text) else None) long
+        ∙ ap (λ t. if t && nat_le (value_of text) greatest_threshold then Some (value_of text) else None) all
         ∙ ap (λ t. if t then Some (value_of text) else None) e
 
-    by : (r : Result ℕ E) (b : Bool) → nat_le (value_of text) 65535 ≡ b → OkIff r (v < 65536) v → result_ok r ≡ number_in text
+    by : (r : Result ℕ E) (b : Bool) → nat_le (value_of text) greatest_threshold ≡ b → OkIff r (v < 65536) v → result_ok r ≡ number_in text
     by (Ok x) true e h = ap Some (h.1 ∙ is) ∙ sym (by_value true e)
     by (Ok x) false e h =
-        let over : 65535 < value_of text = leb-false _ 65535 e in
-        let same : 65535 < v = subst (λ n. 65535 < n) (sym is) over in
+        let over : greatest_threshold < value_of text = leb-false _ greatest_threshold e in
+        let same : greatest_threshold < v = subst (λ n. greatest_threshold < n) (sym is) over in
         absurd (omega (arith, h.0))
     by (Err y) true e h =
-        let under : value_of text ≤ 65535 = leb-true _ 65535 e in
-        let same : v ≤ 65535 = subst (λ n. n ≤ 65535) (sym is) under in
+        let under : value_of text ≤ greatest_threshold = leb-true _ greatest_threshold e in
+        let same : v ≤ greatest_threshold = subst (λ n. n ≤ greatest_threshold) (sym is) under in
         absurd (h (omega arith))
     by (Err y) false e h = sym (by_value false e)

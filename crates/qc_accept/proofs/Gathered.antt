@@ -7,7 +7,8 @@ use Rattle.qc_table.specs.declared.row.Event.{Event}
 use Rattle.qc_accept.specs.declared.fault.DeclFault.{DeclFault}
 use Rattle.qc_accept.specs.declared.fault.DeclFault.TheVariants.{OutOfMemory}
 use Rattle.qc_accept.specs.declared.kinds.Certificate.{Certificate}
-use Rattle.qc_accept.specs.Answers.{Answer, ◌>>=◌}
+use Rattle.qc_list.specs.Results.{◌>>=◌}
+use Rattle.qc_accept.specs.Answers.{Answer}
 use Rattle.qc_accept.specs.Certificates.{certificate_of, rest_of, type_with}
 use Rattle.qc_accept.specs.Fields.{no_others}
 use Rattle.qc_accept.specs.Types.{WordsOf, relation, rows, table_of, triples, type_keys, type_of, words}

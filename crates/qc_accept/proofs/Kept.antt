@@ -16,11 +16,14 @@ use Rattle.qc_table.specs.Sound.{IsSound}
 use Rattle.qc_table.specs.declared.fault.TableFault.{TableFault}
 use Rattle.qc_table.specs.declared.row.Event.{Event}
 use Rattle.qc_table.specs.declared.row.Row.{Row}
+use Rattle.qc_decl.specs.Limits.{most_events, most_invocations, most_responses, most_states, most_triples, most_types}
 use Rattle.qc_accept.specs.Accept.{AreOfStates}
 use Rattle.qc_accept.specs.Answers.{read_each}
 use Rattle.qc_accept.specs.Fields.{told, required, items, names, name_among, with_name, with_text, no_others, item_table, keys_path, optional}
 use Rattle.qc_accept.specs.Types.{WordsOf, AreFew, AreSome, TypeOf, TypesOf, words, rows, ruled, table_of, relation, triple_in, triples, triples_in, are_few_alike, with_read, out_in, type_of, type_keys, with_type, types_of, name_at}
-use Rattle.qc_accept.specs.Words.{is_name, number_of, three}
+use Rattle.qc_decl.specs.Names.{AreNames, is_name}
+use Rattle.qc_accept.proofs.Naming.{names_are, names_more, no_names}
+use Rattle.qc_accept.specs.Words.{number_of, three}
 use Rattle.qc_accept.proofs.Answered.{Came, came, Found, found, mapped, told_some, same_ok, each_keeps, read_each_keeps, so_many, one_more}
 
 -- a name more
@@ -50,25 +53,31 @@ pub among_within : (known : List (List ℕ)) (d : Data) (n : ℕ) → name_among
 among_within known d n is =
     let f : Found (as_str d) (number_of known) n = found (as_str d) (number_of known) n is in number_within known f.value n f.rest
 
--- the words are few and some
+-- the words are few and some, and their names distinct
 pub record AreWords (w : WordsOf) : Type 0 where
   pub few : AreFew w
   pub some : AreSome w
+  pub states : AreNames (length w.states) w.states
+  pub invs : AreNames (length w.invs) w.invs
+  pub resps : AreNames (length w.resps) w.resps
 
 pub words_are : (path : List ℕ) (table : Members) (w : WordsOf) → words path table ≡ Ok w → AreWords w
 words_are path table w is =
-    let a = came (names path table (codes "states") 64) _ w is in
+    let a = came (names path table (codes "states") most_states) _ w is in
     let b = came (required path table (codes "start")) _ w a.rest in
     let c = came (told (path ++ codes "start") (name_among a.value b.value)) _ w b.rest in
-    let d = came (names path table (codes "invocations") 32) _ w c.rest in
-    let e = came (names path table (codes "responses") 32) _ w d.rest in
-    let states : (0 < length a.value) × (length a.value ≤ 64) = named path table (codes "states") 64 a.value a.first in
-    let invs : (0 < length d.value) × (length d.value ≤ 32) = named path table (codes "invocations") 32 d.value d.first in
-    let resps : (0 < length e.value) × (length e.value ≤ 32) = named path table (codes "responses") 32 e.value e.first in
+    let d = came (names path table (codes "invocations") most_invocations) _ w c.rest in
+    let e = came (names path table (codes "responses") most_responses) _ w d.rest in
+    let states : (0 < length a.value) × (length a.value ≤ most_states) = named path table (codes "states") most_states a.value a.first in
+    let invs : (0 < length d.value) × (length d.value ≤ most_invocations) = named path table (codes "invocations") most_invocations d.value d.first in
+    let resps : (0 < length e.value) × (length e.value ≤ most_responses) = named path table (codes "responses") most_responses e.value e.first in
     let start : c.value < length a.value = among_within a.value b.value c.value (told_some (path ++ codes "start") (name_among a.value b.value) c.value c.first) in
     subst AreWords (same_ok (record { states = a.value; start = c.value; invs = d.value; resps = e.value }) w e.rest) (record {
       few = record { states = states.1; invs = invs.1; resps = resps.1 };
       some = record { states = states.0; invs = invs.0; resps = resps.0; start = start };
+      states = names_are path table (codes "states") most_states a.value a.first;
+      invs = names_are path table (codes "invocations") most_invocations d.value d.first;
+      resps = names_are path table (codes "responses") most_responses e.value e.first;
     })
 
 -- no fault of the rows
@@ -83,7 +92,7 @@ ranked_none None None true is = absurd (let never : ⊥ = cc in never)
 ranked_none None None false is = refl
 
 -- rows without fault have few events
-pub few_events : (rules : Rules) → fault_of rules ≡ None → length (events_of rules.rows) ≤ 64
+pub few_events : (rules : Rules) → fault_of rules ≡ None → length (events_of rules.rows) ≤ most_events
 few_events rules none =
     let few : length (events_of rules.rows) < 65 =
     leb-false 65 (length (events_of rules.rows))
@@ -94,6 +103,8 @@ few_events rules none =
 pub record IsTable (w : WordsOf) (rules : Rules) : Type 0 where
   pub sound : IsSound rules
   pub states : rules.states ≡ length w.states
+  pub invs : rules.invs ≡ length w.invs
+  pub resps : rules.resps ≡ length w.resps
 
 pub table_is : (place : ℕ) (name : List ℕ) (w : WordsOf) (rs : List Row) (rules : Rules) → AreWords w → table_of place name w rs ≡ Ok rules → IsTable w rules
 table_is place name w rs rules are is =
@@ -111,6 +122,8 @@ table_is place name w rs rules are is =
         faultless = none.0;
       };
       states = refl;
+      invs = refl;
+      resps = refl;
     })
 
 -- a triple is of the states
@@ -141,22 +154,22 @@ read_long read so_far d next is =
     let long : length (so_far ++ m.value ∷ []) ≡ length so_far + 1 = length-append so_far (m.value ∷ []) in
     ap length (sym m.rest) ∙ (long ∙ omega arith)
 
-then_some : {A : Type 0} (b : Bool) (o : Option A) (a : A) → cond b o None ≡ Some a → (b ≡ true) × (o ≡ Some a)
+pub then_some : {A : Type 0} (b : Bool) (o : Option A) (a : A) → cond b o None ≡ Some a → (b ≡ true) × (o ≡ Some a)
 then_some true o a is = (refl, is)
 then_some false o a is = absurd (let never : ⊥ = cc in never)
 
 -- the triples are few and of the states
 pub triples_of_states : (w : WordsOf) (events : List Event) (ds : List Data) (ts : List Triple) → triples_in w events ds ≡ Some ts
-    → (length ts ≤ 65536) × All (IsOf (length w.states)) ts
+    → (length ts ≤ most_triples) × All (IsOf (length w.states)) ts
 triples_of_states w events ds ts is =
-    let t = then_some (nat_le (length ds) 65536) _ ts is in
+    let t = then_some (nat_le (length ds) most_triples) _ ts is in
     let f = found (read_each (with_read (triple_in w events)) [] ds) _ ts t.1 in
     let same : f.value ≡ ts = (cond_some (are_few_alike f.value) f.value ts f.rest).1 in
-    let few : length ds ≤ 65536 = leb-true (length ds) 65536 t.0 in
+    let few : length ds ≤ most_triples = leb-true (length ds) most_triples t.0 in
     let long : length f.value ≡ 0 + length ds =
     read_each_keeps (λ n (a : List Triple). length a ≡ n) (with_read (triple_in w events))
     (λ n a b next holds more. read_long (triple_in w events) a b next more ∙ ap suc holds) 0 [] ds f.value refl f.first in
-    subst (λ (xs : List Triple). (length xs ≤ 65536) × All (IsOf (length w.states)) xs) same (
+    subst (λ (xs : List Triple). (length xs ≤ most_triples) × All (IsOf (length w.states)) xs) same (
       omega arith,
       read_each_keeps (λ n. All (IsOf (length w.states))) (with_read (triple_in w events))
           (λ n a b next holds more. read_more (IsOf (length w.states)) (triple_in w events) a b next (triple_of w events) holds more) 0 [] ds f.value (All-nil (IsOf (length w.states))) f.first,
@@ -165,9 +178,13 @@ triples_of_states w events ds ts is =
 -- what a type keeps
 pub record IsTypeKept (t : TypeOf) : Type 0 where
   pub words : AreWords t.words
-  pub events : length t.events ≤ 64
+  pub events : length t.events ≤ most_events
+  pub events_are : t.events ≡ events_of t.kind.table.rows
   pub table : IsSound t.kind.table
   pub triples : AreOfStates t.kind t.triples
+  pub states : AreNames t.kind.table.states t.words.states
+  pub invs : AreNames t.kind.table.invs t.words.invs
+  pub resps : AreNames t.kind.table.resps t.words.resps
 
 pub type_kept : (path : List ℕ) (table : Members) (place : ℕ) (name : List ℕ) (t : TypeOf) → type_of path table place name ≡ Ok t → IsTypeKept t
 type_kept path table place name t is =
@@ -180,20 +197,25 @@ type_kept path table place name t is =
     let g = came (optional path table (codes "triples")) _ e.value e.first in
     let are : AreWords a.value = words_are path table a.value a.first in
     let ruled : IsTable a.value c.value = table_is place name a.value b.value c.value are c.first in
-    let few : (length e.value ≤ 65536) × All (IsOf (length a.value.states)) e.value =
+    let few : (length e.value ≤ most_triples) × All (IsOf (length a.value.states)) e.value =
     triples_of_states a.value (events_of c.value.rows) g.value e.value (told_some (path ++ codes "triples") (triples_in a.value (events_of c.value.rows) g.value) e.value g.rest) in
     subst IsTypeKept
     (same_ok (record { words = a.value; events = events_of c.value.rows; kind = record { table = c.value; relation = d.value }; triples = e.value }) t f.rest)
     (record {
       words = are;
       events = few_events c.value ruled.sound.faultless;
+      events_are = refl;
       table = ruled.sound;
       triples = (few.0, subst (λ n. All (IsOf n) e.value) (sym ruled.states) few.1);
+      states = subst (λ n. AreNames n a.value.states) (sym ruled.states) are.states;
+      invs = subst (λ n. AreNames n a.value.invs) (sym ruled.invs) are.invs;
+      resps = subst (λ n. AreNames n a.value.resps) (sym ruled.resps) are.resps;
     })
 
 -- so many types, each with a name
 pub record AreTypes (n : ℕ) (types : TypesOf) : Type 0 where
   pub names : length types.names ≡ n
+  pub named : AreNames n types.names
   pub long : length types.list ≡ n
   pub kept : All IsTypeKept types.list
 
@@ -208,14 +230,16 @@ type_more n types d next are is =
     let before : length types.list ≡ n = are.long in
     subst (AreTypes (suc n)) (same_ok (record { names = c.value; list = types.list ++ e.value ∷ [] }) next e.rest) (record {
       names = name_more types.names b.value c.value (told_some (path ++ codes "name") (with_name types.names b.value) c.value c.first) ∙ ap suc are.names;
+      named = names_more n types.names b.value c.value are.named (told_some (path ++ codes "name") (with_name types.names b.value) c.value c.first);
       long = long ∙ omega arith;
       kept = one_more IsTypeKept types.list e.value are.kept (type_kept path a.value (length types.names) (name_at c.value (length types.names)) e.value e.first);
     })
 
 pub record AreTypesKept (types : TypesOf) : Type 0 where
   pub some : 0 < length types.list
-  pub few : length types.list ≤ 8
+  pub few : length types.list ≤ most_types
   pub names : length types.names ≡ length types.list
+  pub named : AreNames (length types.list) types.names
   pub kept : All IsTypeKept types.list
 
 nothing : (n : ℕ) → 0 + n ≡ n
@@ -223,9 +247,9 @@ nothing n = omega arith
 
 pub types_kept : (path : List ℕ) (table : Members) (types : TypesOf) → types_of path table ≡ Ok types → AreTypesKept types
 types_kept path table types is =
-    let c = came (items path table (codes "type") 1 8) _ types is in
-    let many : (1 ≤ length c.value) × (length c.value ≤ 8) = so_many path table (codes "type") 1 8 c.value c.first in
+    let c = came (items path table (codes "type") 1 most_types) _ types is in
+    let many : (1 ≤ length c.value) × (length c.value ≤ most_types) = so_many path table (codes "type") 1 most_types c.value c.first in
     let are : AreTypes (0 + length c.value) types =
-    each_keeps AreTypes with_type type_more 0 (record { names = []; list = [] }) c.value types (record { names = refl; long = refl; kept = All-nil IsTypeKept }) c.rest in
+    each_keeps AreTypes with_type type_more 0 (record { names = []; list = [] }) c.value types (record { names = refl; named = no_names; long = refl; kept = All-nil IsTypeKept }) c.rest in
     let long : length types.list ≡ length c.value = are.long ∙ nothing (length c.value) in
-    record { some = omega arith; few = omega arith; names = are.names ∙ sym are.long; kept = are.kept }
+    record { some = omega arith; few = omega arith; names = are.names ∙ sym are.long; named = subst (λ n. AreNames n types.names) (sym are.long) are.named; kept = are.kept }

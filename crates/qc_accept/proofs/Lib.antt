@@ -2,6 +2,7 @@ pub mod Accepting
 pub mod Alike
 pub mod Answered
 pub mod Counted
+pub mod Declaring
 pub mod Digits
 pub mod Documents
 pub mod DraftRead
@@ -10,9 +11,13 @@ pub mod Gathered
 pub mod Indexed
 pub mod Kept
 pub mod ListTexts
+pub mod Listed
+pub mod Listing
+pub mod Naming
 pub mod Outs
 pub mod Reading
 pub mod Sorted
+pub mod Spelling
 pub mod Steps
 pub mod Sufficing
 pub mod Tables

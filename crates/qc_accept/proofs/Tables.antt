@@ -12,7 +12,7 @@ use Rattle.toml.specs.Data.{Data, Items, as_array}
 use Rattle.toml.specs.View.{view, items_view, members_view}
 use Rattle.toml.specs.declared.value.Value.{Value}
 use Rattle.qc_accept.specs.Fields.{listed, items_between, first_other}
-use Rattle.qc_accept.specs.Words.{is_between}
+use Rattle.qc_decl.specs.Names.{is_between}
 
 -- an array's items, as a list
 pub listed_view : (vs : List Value) → listed (items_view vs) ≡ map view vs

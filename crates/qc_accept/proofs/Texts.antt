@@ -8,7 +8,9 @@ use Rattle.std.specs.Str.Pattern.{FindsChar}
 use Rattle.std.proofs.lemmas.Bool.{eqb-true, eqb-false, eq-eqb, le-leb}
 use Rattle.std.proofs.lemmas.List.Folds.{list_any_at}
 use Rattle.std.proofs.lemmas.Str.Pattern.{IsSplitOnceResult, split_once_first, contains_char}
-use Rattle.qc_accept.specs.Words.{cut, two, is_name, is_name_byte, is_between}
+use Rattle.qc_decl.specs.Names.{is_name, is_name_byte, is_between}
+use Rattle.qc_decl.specs.Limits.{longest_name}
+use Rattle.qc_accept.specs.Words.{cut, two}
 
 -- a text with such a byte is cut around the first one
 cut_around : (c : ℕ) (s : List ℕ) → position_or_len (λ b. b == c) s < length s
@@ -105,8 +107,8 @@ pub word_none : {A B : Type 0} (read : List ℕ → Option A) (with : List ℕ �
 word_none read with s e = ap (option_and_then (λ (p : List ℕ × List ℕ). option_map (with p.0) (read p.1))) e
 
 -- a text of the length of a name is one where each byte may stand in a name
-pub named : (text : List ℕ) → (length text == 0) ≡ false → length text ≤ 32 → list_all is_name_byte text ≡ is_name text
+pub named : (text : List ℕ) → (length text == 0) ≡ false → length text ≤ longest_name → list_all is_name_byte text ≡ is_name text
 named text some few = sym (ap (λ t. t && list_all is_name_byte text) long)
   where
-    long : is_between 1 32 (length text) ≡ true
-    long = rw (le-leb 1 (length text) (let n : length text ≢ 0 = eqb-false _ 0 some in omega arith), le-leb (length text) 32 few)
+    long : is_between 1 longest_name (length text) ≡ true
+    long = rw (le-leb 1 (length text) (let n : length text ≢ 0 = eqb-false _ 0 some in omega arith), le-leb (length text) longest_name few)

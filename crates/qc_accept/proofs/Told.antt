@@ -5,7 +5,8 @@ use Rattle.qc_accept.specs.declared.fault.DeclFault.{DeclFault}
 use Rattle.qc_accept.specs.declared.fault.DeclFault.TheVariants.{OutOfMemory, Field}
 use Rattle.qc_accept.specs.declared.fault.Wrong.{Wrong}
 use Rattle.qc_accept.specs.declared.fault.Wrong.TheVariants.{Form}
-use Rattle.qc_accept.specs.Answers.{Answer, ◌>>=◌, IsAnswer, IsReading}
+use Rattle.qc_list.specs.Results.{◌>>=◌}
+use Rattle.qc_accept.specs.Answers.{Answer, IsAnswer, IsReading}
 use Rattle.qc_accept.specs.Fields.{told}
 
 -- what follows an answer

@@ -6,9 +6,11 @@ use Rattle.qc_cert.specs.declared.triple.Triple.{Triple}
 use Rattle.qc_table.specs.Rules.{Rules, events_of}
 use Rattle.qc_table.specs.declared.row.Event.{Event}
 use Rattle.qc_table.specs.declared.row.Row.{Row}
+use Rattle.qc_decl.specs.Limits.{most_events, most_rows}
 use Rattle.qc_accept.specs.declared.fault.DeclFault.{DeclFault}
 use Rattle.qc_accept.specs.declared.fault.DeclFault.TheVariants.{OutOfMemory}
-use Rattle.qc_accept.specs.Answers.{Answer, ◌>>=◌}
+use Rattle.qc_list.specs.Results.{◌>>=◌}
+use Rattle.qc_accept.specs.Answers.{Answer}
 use Rattle.qc_accept.specs.Fields.{told, items, no_others}
 use Rattle.qc_accept.specs.Types.{WordsOf, TypeOf, words, row_in, rows_in, rows, with_read, table_of, relation, triples, type_of, type_keys}
 use Rattle.qc_accept.proofs.Answered.{came, read_each_keeps, told_some, so_many}
@@ -16,10 +18,10 @@ use Rattle.qc_accept.proofs.Kept.{IsTable, few_events, read_long, table_is, word
 use Rattle.qc_accept.proofs.Told.{then_ok, then_err}
 
 -- the rows are as few as their items
-pub few_rows : (path : List ℕ) (table : Members) (w : WordsOf) (ds : List Data) (rs : List Row) → items path table (codes "rows") 0 131072 ≡ Ok ds
-    → told (path ++ codes "rows") (rows_in w ds) ≡ Ok rs → length rs ≤ 131072
+pub few_rows : (path : List ℕ) (table : Members) (w : WordsOf) (ds : List Data) (rs : List Row) → items path table (codes "rows") 0 most_rows ≡ Ok ds
+    → told (path ++ codes "rows") (rows_in w ds) ≡ Ok rs → length rs ≤ most_rows
 few_rows path table w ds rs a b =
-    let many : (0 ≤ length ds) × (length ds ≤ 131072) = so_many path table (codes "rows") 0 131072 ds a in
+    let many : (0 ≤ length ds) × (length ds ≤ most_rows) = so_many path table (codes "rows") 0 most_rows ds a in
     let long : length rs ≡ 0 + length ds =
     read_each_keeps (λ n (a : List Row). length a ≡ n) (with_read (row_in w)) (λ n a b next holds more. read_long (row_in w) a b next more ∙ ap suc holds) 0 [] ds rs refl
     (told_some (path ++ codes "rows") (rows_in w ds) rs b) in
@@ -27,10 +29,10 @@ few_rows path table w ds rs a b =
 
 -- the events of a table that was read are few
 pub events_few : (path : List ℕ) (table : Members) (place : ℕ) (name : List ℕ) (w : WordsOf) (rs : List Row) (rules : Rules) (events : List Event)
-    → words path table ≡ Ok w → table_of place name w rs ≡ Ok rules → events ≡ events_of rules.rows → length events ≤ 64
+    → words path table ≡ Ok w → table_of place name w rs ≡ Ok rules → events ≡ events_of rules.rows → length events ≤ most_events
 events_few path table place name w rs rules events a b is =
     let sound : IsTable w rules = table_is place name w rs rules (words_are path table w a) b in
-    subst (λ (es : List Event). length es ≤ 64) (sym is) (few_events rules sound.sound.faultless)
+    subst (λ (es : List Event). length es ≤ most_events) (sym is) (few_events rules sound.sound.faultless)
 
 module _ (path : List ℕ) (table : Members) (place : ℕ) (name : List ℕ) where
   -- what follows the words, the table, the relation and the triples
@@ -79,6 +81,6 @@ module _ (path : List ℕ) (table : Members) (place : ℕ) (name : List ℕ) whe
       then_ok (rows path table w) (after_rows w) a.value whole a.first (has_rules w a.value rules events whole a.rest same rest)
 
   pub few_ruled : (w : WordsOf) (rules : Rules) (events : List Event) → words path table ≡ Ok w → (rows path table w >>= table_of place name w) ≡ Ok rules
-      → events ≡ events_of rules.rows → length events ≤ 64
+      → events ≡ events_of rules.rows → length events ≤ most_events
   few_ruled w rules events a is same =
       let c = came (rows path table w) (table_of place name w) rules is in events_few path table place name w c.value rules events a c.rest same

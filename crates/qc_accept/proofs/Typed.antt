@@ -3,10 +3,12 @@ use Rattle.std.proofs.Common.{◌≡◌, ◌≢◌, ℕ, suc, List, [], ◌∷�
 use Rattle.std.specs.Prelude.{codes}
 use Rattle.std.proofs.lemmas.List.{map-append}
 use Rattle.toml.specs.Data.{Data, Members}
+use Rattle.qc_decl.specs.Limits.{most_types}
 use Rattle.qc_accept.specs.declared.fault.DeclFault.{DeclFault}
 use Rattle.qc_accept.specs.declared.fault.DeclFault.TheVariants.{OutOfMemory}
 use Rattle.qc_accept.specs.declared.kinds.TypeRead.{TypeRead}
-use Rattle.qc_accept.specs.Answers.{Answer, ◌>>=◌, each}
+use Rattle.qc_list.specs.Results.{◌>>=◌}
+use Rattle.qc_accept.specs.Answers.{Answer, each}
 use Rattle.qc_accept.specs.Fields.{told, required, items, with_name, item_table, keys_path}
 use Rattle.qc_accept.specs.Types.{TypeOf, TypesOf, name_at, type_of, types_of, with_type}
 use Rattle.qc_accept.specs.Views.{type_in}
@@ -30,9 +32,9 @@ type_named types d next is =
     ∙ name_more types.names b.value c.value (told_some (path ++ codes "name") (with_name types.names b.value) c.value c.first)
 
 -- the types are what the items give
-pub types_read : (path : List ℕ) (table : Members) (ds : List Data) (whole : Answer TypesOf) → items path table (codes "type") 1 8 ≡ Ok ds
+pub types_read : (path : List ℕ) (table : Members) (ds : List Data) (whole : Answer TypesOf) → items path table (codes "type") 1 most_types ≡ Ok ds
     → each with_type no_types ds ≡ whole → types_of path table ≡ whole
-types_read path table ds whole is rest = then_ok (items path table (codes "type") 1 8) (λ ds. each with_type no_types ds) ds whole is rest
+types_read path table ds whole is rest = then_ok (items path table (codes "type") 1 most_types) (λ ds. each with_type no_types ds) ds whole is rest
 
 -- what follows the table of a type's item
 abbrev pub after_table : TypesOf → ℕ → List ℕ → Members → Answer TypesOf

@@ -20,11 +20,14 @@ use Rattle.qc_table.specs.declared.kind.Kind.{Kind}
 use Rattle.qc_table.specs.declared.row.Event.{Event}
 use Rattle.qc_decl.specs.declared.declaration.Declaration.{Declaration}
 use Rattle.qc_decl.specs.declared.declaration.KindNames.{KindNames}
+use Rattle.qc_decl.specs.Limits.{most_clients, most_epochs, most_objects, most_sites, most_triples, most_types}
 use Rattle.qc_accept.specs.declared.fault.DeclFault.TheVariants as decl
-use Rattle.qc_accept.specs.Answers.{Answer, ◌>>=◌}
+use Rattle.qc_list.specs.Results.{◌>>=◌}
+use Rattle.qc_accept.specs.Answers.{Answer}
 use Rattle.qc_accept.specs.Epochs.{plans_of}
 use Rattle.qc_accept.specs.Fields.{number, no_others}
-use Rattle.qc_accept.specs.Lookup.{kind_at, names_at}
+use Rattle.qc_decl.specs.Lookup.{kind_at}
+use Rattle.qc_decl.specs.Named.{names_of}
 use Rattle.qc_accept.specs.Objects.{ObjectsOf, objects_of}
 use Rattle.qc_accept.specs.Types.{TypeOf, TypesOf, types_of, name_at}
 
@@ -67,8 +70,8 @@ keys = codes "sites" ∷ codes "clients" ∷ codes "type" ∷ codes "object" ∷
 -- the fields
 abbrev pub draft_of : Members → Answer DraftOf
 draft_of table =
-    number [] table (codes "sites") 1 16 >>= (λ sites.
-    number [] table (codes "clients") 1 16 >>= (λ clients.
+    number [] table (codes "sites") 1 most_sites >>= (λ sites.
+    number [] table (codes "clients") 1 most_clients >>= (λ clients.
     types_of [] table >>= (λ types.
     objects_of [] table types >>= (λ objects.
     plans_of [] table (record { sites = sites; types = types; objects = objects }) >>= (λ plans.
@@ -93,10 +96,10 @@ certified place names kind list =
 
 -- each list is one that can be checked against its type: few triples, of the type's states
 abbrev pub AreOfStates : Kind → List Triple → Type 0
-AreOfStates kind list = (length list ≤ 65536) × All (λ (t : Triple). (t.view < kind.table.states) × (t.log < kind.table.states)) list
+AreOfStates kind list = (length list ≤ most_triples) × All (λ (t : Triple). (t.view < kind.table.states) × (t.log < kind.table.states)) list
 
 pub record AreChecked (d : DraftOf) : Type 0 where
-  pub few : length d.triples ≤ 8
+  pub few : length d.triples ≤ most_types
   pub names : length d.decl.kind_names ≡ length d.triples
   pub kinds : length d.decl.kinds ≡ length d.triples
   pub states : (place : ℕ) (kind : Kind) (list : List Triple) → slice_get d.decl.kinds place ≡ Some kind → slice_get d.triples place ≡ Some list
@@ -116,21 +119,21 @@ pair_names _ _ inv e = []
 abbrev pub plan_names : Declaration → PlanFault → List (List ℕ)
 plan_names d NoWeight = []
 plan_names d (TooHeavy object) = name_at d.object_names object ∷ []
-plan_names d (CanMiss object inv e) = name_at d.object_names object ∷ pair_names (names_at d object) (kind_at d object) inv e
+plan_names d (CanMiss object inv e) = name_at d.object_names object ∷ pair_names (names_of d object) (kind_at d object) inv e
 
 abbrev pub admitted : Declaration → ℕ → Plan → Answer (Unit {0})
 admitted d epoch p =
     option_map_or (λ fault. Err (decl.Plan epoch fault (plan_names d fault))) (plan.fault_of p d.kinds d.objects) (Ok tt)
 
--- a plan has at most 16 weights, and thresholds for no more than the objects
+-- a plan has no more weights than there may be sites, and thresholds for no more than the objects
 pub record IsShaped (d : Declaration) (p : Plan) : Type 0 where
-  pub weights : length p.weights ≤ 16
+  pub weights : length p.weights ≤ most_sites
   pub initial : length p.initial ≤ length d.objects
   pub last : length p.last ≤ length d.objects
 
 pub record ArePlanned (d : Declaration) : Type 0 where
-  pub objects : length d.objects ≤ 16
-  pub epochs : length d.plans ≤ 8
+  pub objects : length d.objects ≤ most_objects
+  pub epochs : length d.plans ≤ most_epochs
   pub shaped : All (IsShaped d) d.plans
 
 -- the plans from an epoch on

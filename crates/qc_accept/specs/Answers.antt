@@ -1,5 +1,6 @@
 -- What reading gives: what was read, or the first fault.
 use Rattle.std.specs.Prelude.{◌≡◌, ◌≢◌, List, [], ◌∷◌, Option, Some, None, Result, Ok, Err, option_and_then}
+use Rattle.qc_list.specs.Results.{◌>>=◌}
 use Rattle.qc_accept.specs.declared.fault.DeclFault.{DeclFault}
 use Rattle.qc_accept.specs.declared.fault.DeclFault.TheVariants.{OutOfMemory}
 use Rattle.qc_accept.specs.declared.fault.Wrong.{Wrong}
@@ -7,15 +8,6 @@ use Rattle.qc_accept.specs.declared.fault.Wrong.TheVariants.{Form}
 
 abbrev pub Answer : Type 0 → Type 0
 Answer A = Result A DeclFault
-
--- what follows, where what comes before has no fault
-abbrev pub and_then : {A B : Type 0} → (A → Answer B) → Answer A → Answer B
-and_then next (Ok a) = next a
-and_then next (Err fault) = Err fault
-
-infixl 10 ◌>>=◌
-abbrev pub ◌>>=◌ : {A B : Type 0} → Answer A → (A → Answer B) → Answer B
-answer >>= next = and_then next answer
 
 -- each item in turn adds to what was read so far, up to the first fault
 abbrev pub each : {A B : Type 0} → (A → B → Answer A) → A → List B → Answer A

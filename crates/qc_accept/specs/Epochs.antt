@@ -4,9 +4,11 @@ use Rattle.std.specs.List.{list_any}
 use Rattle.std.specs.Option.{option_map_or}
 use Rattle.toml.specs.Data.{Data, Members, as_str}
 use Rattle.qc_plan.specs.declared.plan.Plan.{Plan}
+use Rattle.qc_decl.specs.Limits.{greatest_weight, most_epochs, most_events, most_objects, most_sites}
 use Rattle.qc_accept.specs.declared.epochs.Side.{Side}
 use Rattle.qc_accept.specs.declared.epochs.Side.TheVariants.{Initial, Final}
-use Rattle.qc_accept.specs.Answers.{Answer, ◌>>=◌, each, read_each}
+use Rattle.qc_list.specs.Results.{◌>>=◌}
+use Rattle.qc_accept.specs.Answers.{Answer, each, read_each}
 use Rattle.qc_accept.specs.Fields.{told, items, optional, number_between, no_others, item_table, keys_path}
 use Rattle.qc_accept.specs.Objects.{ObjectsOf, kind_of}
 use Rattle.qc_accept.specs.Types.{AreFew, TypeOf, TypesOf, event_of_text}
@@ -20,10 +22,10 @@ pub record StoreOf : Type 0 where
 
 -- the numbers of it all fit a byte
 pub record IsFit (store : StoreOf) : Type 0 where
-  pub sites : store.sites ≤ 16
-  pub objects : length store.objects.names ≤ 16
+  pub sites : store.sites ≤ most_sites
+  pub objects : length store.objects.names ≤ most_objects
   pub words : All (λ (t : TypeOf). AreFew t.words) store.types.list
-  pub events : All (λ (t : TypeOf). length t.events ≤ 64) store.types.list
+  pub events : All (λ (t : TypeOf). length t.events ≤ most_events) store.types.list
 
 -- a threshold of an object, at the place of an invocation or an event
 pub record EntryOf : Type 0 where
@@ -94,7 +96,7 @@ needs path table store key side =
 
 -- the weights, one for each site
 abbrev pub with_weight : List ℕ → Data → Option (List ℕ)
-with_weight so_far d = option_map (λ w. so_far ++ w ∷ []) (number_between 0 255 d)
+with_weight so_far d = option_map (λ w. so_far ++ w ∷ []) (number_between 0 greatest_weight d)
 
 abbrev pub weights : List ℕ → Members → ℕ → Answer (List ℕ)
 weights path table sites =
@@ -120,4 +122,4 @@ with_plan store plans d =
 
 -- the plans
 abbrev pub plans_of : List ℕ → Members → StoreOf → Answer (List Plan)
-plans_of path table store = items path table (codes "epoch") 1 8 >>= (λ ds. each (with_plan store) [] ds)
+plans_of path table store = items path table (codes "epoch") 1 most_epochs >>= (λ ds. each (with_plan store) [] ds)

@@ -3,8 +3,8 @@ pub mod Answers
 pub mod Certificates
 pub mod Epochs
 pub mod Fields
-pub mod Lookup
 pub mod Objects
+pub mod Spelled
 pub mod Sufficient
 pub mod Types
 pub mod Views

@@ -1,7 +1,9 @@
 -- The objects of a declaration.
 use Rattle.std.specs.Prelude.{ℕ, List, [], ◌∷◌, ◌++◌, length, Option, Ok, codes, slice_get, option_and_then}
 use Rattle.toml.specs.Data.{Data, Members}
-use Rattle.qc_accept.specs.Answers.{Answer, ◌>>=◌, each}
+use Rattle.qc_list.specs.Results.{◌>>=◌}
+use Rattle.qc_decl.specs.Limits.{most_objects}
+use Rattle.qc_accept.specs.Answers.{Answer, each}
 use Rattle.qc_accept.specs.Fields.{told, required, items, name_among, with_name, no_others, item_table, keys_path}
 use Rattle.qc_accept.specs.Types.{TypeOf, TypesOf}
 
@@ -33,7 +35,7 @@ with_object types objects d =
 -- the objects
 abbrev pub objects_of : List ℕ → Members → TypesOf → Answer ObjectsOf
 objects_of path table types =
-    items path table (codes "object") 1 16 >>= (λ ds. each (with_object types.names) (record { names = []; kinds = [] }) ds)
+    items path table (codes "object") 1 most_objects >>= (λ ds. each (with_object types.names) (record { names = []; kinds = [] }) ds)
 
 -- the type of an object
 abbrev pub kind_of : TypesOf → ObjectsOf → ℕ → Option TypeOf

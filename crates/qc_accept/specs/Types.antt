@@ -13,10 +13,13 @@ use Rattle.qc_table.specs.declared.kind.Kind.{Kind}
 use Rattle.qc_table.specs.declared.relation.Pair.{Pair}
 use Rattle.qc_table.specs.declared.row.Event.{Event}
 use Rattle.qc_table.specs.declared.row.Row.{Row}
+use Rattle.qc_decl.specs.Limits.{most_alike_triples, most_invocations, most_responses, most_rows, most_states, most_triples, most_types}
 use Rattle.qc_accept.specs.declared.fault.DeclFault.TheVariants.{Table}
-use Rattle.qc_accept.specs.Answers.{Answer, ◌>>=◌, each, read_each}
+use Rattle.qc_list.specs.Results.{◌>>=◌}
+use Rattle.qc_accept.specs.Answers.{Answer, each, read_each}
 use Rattle.qc_accept.specs.Fields.{told, required, items, optional, names, name_among, with_name, no_others, item_table, keys_path}
-use Rattle.qc_accept.specs.Words.{two, three, four, is_name, number_of, event_in}
+use Rattle.qc_decl.specs.Names.{is_name}
+use Rattle.qc_accept.specs.Words.{two, three, four, number_of, event_in}
 
 -- the words of a type: its states with the number of the one at the beginning, its invocations and its responses
 pub record WordsOf : Type 0 where
@@ -27,9 +30,9 @@ pub record WordsOf : Type 0 where
 
 -- the words are as few as the limits say
 pub record AreFew (w : WordsOf) : Type 0 where
-  pub states : length w.states ≤ 64
-  pub invs : length w.invs ≤ 32
-  pub resps : length w.resps ≤ 32
+  pub states : length w.states ≤ most_states
+  pub invs : length w.invs ≤ most_invocations
+  pub resps : length w.resps ≤ most_responses
 
 -- there is one of each, and the start is a state
 pub record AreSome (w : WordsOf) : Type 0 where
@@ -53,16 +56,20 @@ pub record TypesOf : Type 0 where
 -- the words
 abbrev pub words : List ℕ → Members → Answer WordsOf
 words path table =
-    names path table (codes "states") 64 >>= (λ states.
+    names path table (codes "states") most_states >>= (λ states.
     required path table (codes "start") >>= (λ d.
     told (path ++ codes "start") (name_among states d) >>= (λ start.
-    names path table (codes "invocations") 32 >>= (λ invs.
-    names path table (codes "responses") 32 >>= (λ resps.
+    names path table (codes "invocations") most_invocations >>= (λ invs.
+    names path table (codes "responses") most_responses >>= (λ resps.
     Ok (record { states = states; start = start; invs = invs; resps = resps }))))))
 
--- the number of a name, or 255 where it is unknown, which the rules of a table refuse; none where it is ill-formed
+-- the number in place of a name that isn't declared, which no type has; the rules of a table refuse it
+abbrev pub unknown : ℕ
+unknown = 255
+
+-- the number of a name, or the unknown one; none where the name is ill-formed
 abbrev pub number_or_unknown : List (List ℕ) → List ℕ → Option ℕ
-number_or_unknown known text = if is_name text then Some (unwrap_or (number_of known text) 255) else None
+number_or_unknown known text = if is_name text then Some (unwrap_or (number_of known text) unknown) else None
 
 -- a row, `STATE INV RESP NEXT`
 abbrev pub row_in : WordsOf → List ℕ → Option Row
@@ -123,16 +130,16 @@ triple_in w events text =
     option_map (λ out. record { view = view; log = log; out = out })
     (out_in w events ws.2)) (number_of w.states ws.1)) (number_of w.states ws.0)) (three text)
 
--- at most 1,024 triples have the same two states
+-- not too many triples have the same two states
 abbrev pub is_alike : Triple → Triple → Bool
 is_alike a b = (a.view == b.view) && (a.log == b.log)
 
 abbrev pub are_few_alike : List Triple → Bool
-are_few_alike triples = list_all (λ t. nat_le (count_by (is_alike t) triples) 1024) triples
+are_few_alike triples = list_all (λ t. nat_le (count_by (is_alike t) triples) most_alike_triples) triples
 
 abbrev pub triples_in : WordsOf → List Event → List Data → Option (List Triple)
 triples_in w events ds =
-    if nat_le (length ds) 65536
+    if nat_le (length ds) most_triples
     then option_and_then (λ triples. if are_few_alike triples then Some triples else None) (read_each (with_read (triple_in w events)) [] ds)
     else None
 
@@ -152,7 +159,7 @@ triples path table w events =
 
 -- the rows
 abbrev pub rows : List ℕ → Members → WordsOf → Answer (List Row)
-rows path table w = items path table (codes "rows") 0 131072 >>= (λ ds. told (path ++ codes "rows") (rows_in w ds))
+rows path table w = items path table (codes "rows") 0 most_rows >>= (λ ds. told (path ++ codes "rows") (rows_in w ds))
 
 -- a type behind its name
 abbrev pub type_of : List ℕ → Members → ℕ → List ℕ → Answer TypeOf
@@ -185,4 +192,4 @@ with_type types d =
 
 -- the types
 abbrev pub types_of : List ℕ → Members → Answer TypesOf
-types_of path table = items path table (codes "type") 1 8 >>= (λ ds. each with_type (record { names = []; list = [] }) ds)
+types_of path table = items path table (codes "type") 1 most_types >>= (λ ds. each with_type (record { names = []; list = [] }) ds)

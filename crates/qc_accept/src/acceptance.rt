@@ -15,13 +15,10 @@ use crate::fields::Fields;
 use crate::kinds::{self, Sorted};
 use crate::objects::{self, ObjectsRead};
 use qc_cert::Triple;
-use qc_decl::Declaration;
+use qc_decl::{Declaration, MOST_CLIENTS, MOST_SITES};
 use qc_list::{List, OutOfMemory};
 use std::alloc::Global;
 use toml::Table;
-
-/// The most sites, and the most clients.
-const MOST_ACTORS: u8 = 16;
 
 /// The keys of a declaration.
 const KEYS: [&str; 5] = ["sites", "clients", "type", "object", "epoch"];
@@ -70,8 +67,8 @@ fn read_draft(alloc: Global, table: &Table) -> Result<Draft, DeclFault>
     ensures { IsAnswer draft_in result (draft_of (table_view table.now)) }
 {
     let root = Fields::of_document(alloc, table);
-    let sites = root.number("sites", 1, MOST_ACTORS)?;
-    let clients = root.number("clients", 1, MOST_ACTORS)?;
+    let sites = root.number("sites", 1, MOST_SITES)?;
+    let clients = root.number("clients", 1, MOST_CLIENTS)?;
     let types = kinds::read_types(&root)?;
     let objects = objects::read_objects(&root, &types)?;
     let plans = epochs::read_plans(

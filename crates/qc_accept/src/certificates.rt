@@ -3,6 +3,7 @@
 ghost use Rattle.std.specs.Prelude.{◌≡◌, ◌<◌, ◌≤◌, length, option_map, All, IfSome};
 ghost use Rattle.qc_cert.specs.declared.triple.Triple.{Triple};
 ghost use Rattle.qc_table.specs.Depends.{relation_of};
+ghost use Rattle.qc_decl.specs.Limits.{most_events, most_invocations, most_states};
 ghost use Rattle.qc_accept.specs.Answers.{IsReading};
 ghost use Rattle.qc_accept.specs.Types.{AreFew, pairs_in, pair_in, event_of_text, triples_in, triple_in, out_in, with_new, are_few_alike};
 ghost use Rattle.qc_accept.specs.Views.{data_of, events_in, names_in, words_in};
@@ -12,19 +13,11 @@ use crate::kinds::Words;
 use crate::names::Events;
 use crate::{fields, words};
 use qc_cert::Triple;
+use qc_decl::{MOST_ALIKE_TRIPLES, MOST_STATES, MOST_TRIPLES};
 use qc_list::List;
 use qc_table::{Event, Pair, Relation};
 use std::alloc::Global;
 use toml::Value;
-
-/// The most triples.
-const MOST_TRIPLES: usize = 65_536;
-
-/// The most triples with the same two states.
-const MOST_ALIKE: u16 = 1_024;
-
-/// The most states.
-const STATES: usize = 64;
 
 /// The relation whose pairs an array's items are, each `INV EVENT`.
 pub(crate) fn relation(
@@ -34,7 +27,7 @@ pub(crate) fn relation(
     items: &[Value],
 ) -> Result<Relation, Wrong>
     requires words { AreFew (words_in words.now) }
-    requires events { length (events_in events.now) ≤ 64 }
+    requires events { length (events_in events.now) ≤ most_events }
     ensures { IsReading (λ r. r) result (option_map relation_of (pairs_in (words_in words.now) (events_in events.now) (data_of items.now))) }
 {
     let mut pairs = List::new(alloc);
@@ -47,9 +40,9 @@ pub(crate) fn relation(
 /// The pair that a text is.
 fn pair(words: &Words<'_>, events: &Events, text: &str) -> Option<Pair>
     requires words { AreFew (words_in words.now) }
-    requires events { length (events_in events.now) ≤ 64 }
+    requires events { length (events_in events.now) ≤ most_events }
     ensures pair { result ≡ pair_in (words_in words.now) (events_in events.now) text.now }
-    ensures within { IfSome result (λ p. (p.inv < 32) × (p.event < 64)) }
+    ensures within { IfSome result (λ p. (p.inv < most_invocations) × (p.event < most_events)) }
 {
     let (inv, event) = words::two(text)?;
     Some(Pair {
@@ -61,7 +54,7 @@ fn pair(words: &Words<'_>, events: &Events, text: &str) -> Option<Pair>
 /// The number of the event that a text is, as `INV:RESP`.
 pub(crate) fn event_number(words: &Words<'_>, events: &Events, text: &str) -> Option<u8>
     requires words { AreFew (words_in words.now) }
-    requires events { length (events_in events.now) ≤ 64 }
+    requires events { length (events_in events.now) ≤ most_events }
     ensures number { result ≡ event_of_text (words_in words.now) (events_in events.now) text.now }
     ensures within { IfSome result (λ n. n < length (events_in events.now)) }
 {
@@ -81,7 +74,7 @@ pub(crate) fn triples(
     items: &[Value],
 ) -> Result<List<Triple>, Wrong>
     requires words { AreFew (words_in words.now) }
-    requires events { length (events_in events.now) ≤ 64 }
+    requires events { length (events_in events.now) ≤ most_events }
     ensures { IsReading (λ ts. ts) result (triples_in (words_in words.now) (events_in events.now) (data_of items.now)) }
 {
     if items.len() > MOST_TRIPLES {
@@ -100,7 +93,7 @@ pub(crate) fn triples(
 /// The triple that a text is, as `VIEW LOG OUT`.
 fn triple(words: &Words<'_>, events: &Events, text: &str) -> Option<Triple>
     requires words { AreFew (words_in words.now) }
-    requires events { length (events_in events.now) ≤ 64 }
+    requires events { length (events_in events.now) ≤ most_events }
     ensures triple { result ≡ triple_in (words_in words.now) (events_in events.now) text.now }
     ensures within { IfSome result (λ t. (t.view < length (names_in words.now.states)) × (t.log < length (names_in words.now.states))) }
 {
@@ -115,7 +108,7 @@ fn triple(words: &Words<'_>, events: &Events, text: &str) -> Option<Triple>
 /// The set of events that a text is: `-`, or distinct events joined by `,`.
 fn events_out(words: &Words<'_>, events: &Events, text: &str) -> Option<u64>
     requires words { AreFew (words_in words.now) }
-    requires events { length (events_in events.now) ≤ 64 }
+    requires events { length (events_in events.now) ≤ most_events }
     ensures { result ≡ out_in (words_in words.now) (events_in events.now) text.now }
 {
     if text == "-" {
@@ -130,7 +123,7 @@ fn events_out(words: &Words<'_>, events: &Events, text: &str) -> Option<u64>
 
 /// The set with an event that it doesn't have yet.
 fn with_event(out: u64, event: u8) -> Option<u64>
-    requires { event < 64 }
+    requires { event < most_events }
     ensures { result ≡ with_new out event }
 {
     if out >> event & 1 == 1 {
@@ -139,15 +132,15 @@ fn with_event(out: u64, event: u8) -> Option<u64>
     Some(out | 1 << event)
 }
 
-/// Whether at most 1,024 triples have the same two states.
+/// Whether not too many triples have the same two states.
 fn are_few_alike(triples: &[Triple]) -> bool
-    requires { All (λ (t : Triple). (t.view < 64) × (t.log < 64)) triples.now }
+    requires { All (λ (t : Triple). (t.view < most_states) × (t.log < most_states)) triples.now }
     ensures { result ≡ are_few_alike triples.now }
 {
-    let mut counts = [0u16; STATES * STATES];
+    let mut counts = [0u16; MOST_STATES * MOST_STATES];
     for triple in triples {
-        let place = STATES * triple.view as usize + triple.log as usize;
-        if counts[place] == MOST_ALIKE {
+        let place = MOST_STATES * triple.view as usize + triple.log as usize;
+        if counts[place] == MOST_ALIKE_TRIPLES {
             return false;
         }
         counts[place] += 1;

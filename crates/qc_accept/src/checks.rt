@@ -2,6 +2,7 @@
 
 ghost use Rattle.std.specs.Prelude.{◌≡◌, ◌<◌, ◌≤◌, length, All, IfOk};
 ghost use Rattle.qc_cert.specs.declared.triple.Triple.{Triple};
+ghost use Rattle.qc_decl.specs.Limits.{most_triples};
 ghost use Rattle.qc_accept.specs.Accept.{AreChecked, ArePlanned, IsShaped, admitted, all_admitted, all_certified, cert_names, certified, event_name, plan_names};
 ghost use Rattle.qc_accept.specs.Answers.{IsAnswer};
 ghost use Rattle.qc_accept.specs.Types.{name_at};
@@ -43,7 +44,7 @@ fn check_type(
     kind: &Kind,
     triples: &[Triple],
 ) -> Result<(), DeclFault>
-    requires few { length triples.now ≤ 65536 }
+    requires few { length triples.now ≤ most_triples }
     requires states { All (λ (t : Triple). (t.view < kind.now.table.states) × (t.log < kind.now.table.states)) triples.now }
     ensures { IsAnswer (λ _. tt) result (certified number names.now kind.now triples.now) }
 {

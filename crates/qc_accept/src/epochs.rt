@@ -2,6 +2,7 @@
 
 ghost use Rattle.std.specs.Prelude.{◌≡◌, ◌+◌, ◌<◌, ◌≤◌, [], Some, None, length, option_map, if◌then◌else◌, IfOk, OnOk};
 ghost use Rattle.toml.specs.View.{view};
+ghost use Rattle.qc_decl.specs.Limits.{most_epochs, most_events};
 ghost use Rattle.qc_accept.specs.Answers.{IsAnswer, IsReading, read_each};
 ghost use Rattle.qc_accept.specs.Epochs.{IsFit, entries_in, entry_in, needs as needs_of_key, needs_of, place_in, places, places_of, plan_of, plans_of, threshold_of, thresholds, with_entry, with_item, with_plan, with_weight};
 ghost use Rattle.qc_accept.specs.Types.{AreFew};
@@ -13,17 +14,11 @@ use crate::kinds::{TypeRead, Types};
 use crate::objects::ObjectsRead;
 use crate::{certificates, words};
 use indexmap::IndexMap;
-use qc_decl::Plans;
+use qc_decl::{GREATEST_WEIGHT, MOST_EPOCHS, Plans};
 use qc_list::{List, OutOfMemory};
 use qc_plan::{Needs, Plan, Weights};
 use std::alloc::Global;
 use toml::Value;
-
-/// The most epochs.
-const MOST_EPOCHS: usize = 8;
-
-/// The greatest weight of a site.
-const MOST_WEIGHT: u8 = 255;
 
 /// The keys of an epoch.
 const KEYS: [&str; 3] = ["weights", "initial", "final"];
@@ -66,7 +61,7 @@ fn add_plan(
     item: &Value,
 ) -> Result<(), DeclFault>
     requires store { IsFit (store_in store.now) }
-    requires plans { length plans.old < 8 }
+    requires plans { length plans.old < most_epochs }
     ensures plans { IsAnswer (λ _. plans.new) result (with_plan (store_in store.now) plans.old (view item.now)) }
     ensures one_more { OnOk result (length plans.new ≡ length plans.old + 1) }
 {
@@ -101,7 +96,7 @@ fn read_weights(alloc: Global, items: &[Value]) -> Result<Weights, Wrong>
 {
     let mut weights = List::new(alloc);
     for item in items {
-        let weight = fields::number(item, 0, MOST_WEIGHT)?;
+        let weight = fields::number(item, 0, GREATEST_WEIGHT)?;
         weights.push(weight)?;
     }
     Ok(weights)
@@ -192,7 +187,7 @@ impl Side {
     /// The place of an invocation, or of an event.
     fn place(self, kind: &TypeRead<'_>, word: &str) -> Option<u8>
         requires words { AreFew (words_in kind.now.words) }
-        requires events { length (events_in kind.now.events) ≤ 64 }
+        requires events { length (events_in kind.now.events) ≤ most_events }
         ensures { result ≡ place_in self (type_in kind.now) word.now }
     {
         match self {
@@ -204,7 +199,7 @@ impl Side {
     /// How many places there are.
     fn places(self, kind: &TypeRead<'_>) -> u8
         requires words { AreFew (words_in kind.now.words) }
-        requires events { length (events_in kind.now.events) ≤ 64 }
+        requires events { length (events_in kind.now.events) ≤ most_events }
         ensures { result ≡ places self (type_in kind.now) }
     {
         match self {

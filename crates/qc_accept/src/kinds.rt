@@ -3,8 +3,10 @@
 ghost use Rattle.std.specs.Prelude.{◌≡◌, ◌<◌, ◌≤◌, ◌++◌, [], ◌∷◌, length, map, IfOk, OnOk};
 ghost use Rattle.toml.specs.View.{view};
 ghost use Rattle.qc_table.specs.Rules.{events_of};
+ghost use Rattle.qc_decl.specs.Limits.{most_events, most_rows, most_types};
 ghost use Rattle.qc_accept.specs.Accept.{all_names, kind_names};
-ghost use Rattle.qc_accept.specs.Answers.{IsAnswer, IsReading, and_then};
+ghost use Rattle.qc_list.specs.Results.{and_then};
+ghost use Rattle.qc_accept.specs.Answers.{IsAnswer, IsReading};
 ghost use Rattle.qc_accept.specs.Certificates.{certificate_of, rest_of};
 ghost use Rattle.qc_accept.specs.Fields.{name_among, names as names_of};
 ghost use Rattle.qc_accept.specs.Types.{AreFew, AreSome, TypeOf, name_at, relation as relation_in, rows as rows_of, table_of, triples as triples_of, type_of, types_of, with_type, words as words_of};
@@ -15,23 +17,14 @@ use crate::fields::{self, Fields};
 use crate::names::{self, Events, Index};
 use crate::{certificates, rows};
 use qc_cert::Triple;
-use qc_decl::{KindNames, KindNamesList, Kinds, Names};
+use qc_decl::{
+    KindNames, KindNamesList, Kinds, MOST_INVOCATIONS, MOST_RESPONSES, MOST_ROWS, MOST_STATES,
+    MOST_TYPES, Names,
+};
 use qc_list::{List, Name, OutOfMemory};
 use qc_table::{Kind, Relation, Row, Table, TableFault};
 use std::alloc::Global;
 use toml::Value;
-
-/// The most types.
-const MOST_TYPES: usize = 8;
-
-/// The most states.
-const MOST_STATES: usize = 64;
-
-/// The most invocations, and the most responses.
-const MOST_WORDS: usize = 32;
-
-/// The most rows.
-const MOST_ROWS: usize = 131_072;
 
 /// The keys of a type.
 const KEYS: [&str; 8] = [
@@ -94,7 +87,7 @@ pub(crate) fn read_types<'a>(root: &Fields<'a>) -> Result<Types<'a>, DeclFault>
 
 /// Reads one type more.
 fn add_type<'a>(alloc: Global, types: &mut Types<'a>, item: &'a Value) -> Result<(), DeclFault>
-    requires names { length (names_in types.old.names) < 8 }
+    requires names { length (names_in types.old.names) < most_types }
     ensures { IsAnswer (λ _. types_in types.new) result (with_type (types_in types.old) (view item.now)) }
 {
     let place = types.names.count();
@@ -135,7 +128,7 @@ fn read_rest<'a>(
     table: Table,
 ) -> Result<TypeRead<'a>, DeclFault>
     requires words { AreFew (words_in words) }
-    requires events { length (events_of table.rows) ≤ 64 }
+    requires events { length (events_of table.rows) ≤ most_events }
     ensures { IsAnswer type_in result (rest_of (path_in fields.now) (table_in fields.now) (words_in words.entry) table) }
 {
     let events = Events::of(fields.alloc, &table)?;
@@ -156,7 +149,7 @@ fn read_certificate(
     events: &Events,
 ) -> Result<Certificate, DeclFault>
     requires words { AreFew (words_in words.now) }
-    requires events { length (events_in events.now) ≤ 64 }
+    requires events { length (events_in events.now) ≤ most_events }
     ensures { IsAnswer (λ c. c) result (certificate_of (path_in fields.now) (table_in fields.now) (words_in words.now) (events_in events.now)) }
 {
     let relation = read_relation(fields, words, events)?;
@@ -189,7 +182,7 @@ fn read_relation(
     events: &Events,
 ) -> Result<Relation, DeclFault>
     requires words { AreFew (words_in words.now) }
-    requires events { length (events_in events.now) ≤ 64 }
+    requires events { length (events_in events.now) ≤ most_events }
     ensures { IsAnswer (λ r. r) result (relation_in (path_in fields.now) (table_in fields.now) (words_in words.now) (events_in events.now)) }
 {
     let items = fields.optional("depends")?;
@@ -204,7 +197,7 @@ fn read_triples(
     events: &Events,
 ) -> Result<List<Triple>, DeclFault>
     requires words { AreFew (words_in words.now) }
-    requires events { length (events_in events.now) ≤ 64 }
+    requires events { length (events_in events.now) ≤ most_events }
     ensures { IsAnswer (λ ts. ts) result (triples_of (path_in fields.now) (table_in fields.now) (words_in words.now) (events_in events.now)) }
 {
     let items = fields.optional("triples")?;
@@ -218,8 +211,8 @@ fn read_words<'a>(fields: &Fields<'a>) -> Result<Words<'a>, DeclFault>
 {
     let states = read_names(fields, "states", MOST_STATES)?;
     let start = fields.told("start", name_among(&states, fields.required("start")?))?;
-    let invs = read_names(fields, "invocations", MOST_WORDS)?;
-    let resps = read_names(fields, "responses", MOST_WORDS)?;
+    let invs = read_names(fields, "invocations", MOST_INVOCATIONS)?;
+    let resps = read_names(fields, "responses", MOST_RESPONSES)?;
     Ok(Words {
         states,
         start,
@@ -255,7 +248,7 @@ fn table_of(
     requires place { kind < length (names_in names.now) }
     requires words { AreSome (words_in words.now) }
     requires few { AreFew (words_in words.now) }
-    requires rows { length rows.now ≤ 131072 }
+    requires rows { length rows.now ≤ most_rows }
     ensures { IsAnswer (λ table. table) result (table_of kind (name_at (names_in names.now) kind) (words_in words.now) rows.now) }
 {
     let made = Table::new(

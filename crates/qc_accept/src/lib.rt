@@ -18,13 +18,12 @@ mod laws;
 mod names;
 mod objects;
 mod rows;
-#[cfg(test)]
-mod tests;
 mod words;
 
 pub use acceptance::accept;
 pub use fault::DeclFault;
 pub use laws::{
-    accepted_declarations_are_named, accepted_declarations_keep_the_rules,
-    sufficient_declarations_are_accepted,
+    accepted_declarations_are_named, accepted_declarations_are_their_documents,
+    accepted_declarations_keep_the_rules, sufficient_declarations_are_accepted,
+    thresholds_are_their_texts, types_are_their_texts,
 };

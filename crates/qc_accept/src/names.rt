@@ -5,6 +5,7 @@ ghost use Rattle.std.specs.List.{list_any};
 ghost use Rattle.std.specs.Str.{bytes_eq};
 ghost use Rattle.qc_table.specs.Rules.{events_of, event_number};
 ghost use Rattle.toml.specs.View.{view};
+ghost use Rattle.qc_decl.specs.Limits.{most_events};
 ghost use Rattle.qc_accept.specs.Answers.{IsReading, read_each};
 ghost use Rattle.qc_accept.specs.Fields.{with_name};
 ghost use Rattle.qc_accept.specs.Types.{name_at};
@@ -127,7 +128,7 @@ impl Events {
 
     /// The number of an event.
     pub(crate) fn number(&self, event: Event) -> Option<u8>
-        requires { length (events_in self.now) ≤ 64 }
+        requires { length (events_in self.now) ≤ most_events }
         ensures number { result ≡ event_number (events_in self.now) event }
         ensures within { IfSome result (λ n. n < length (events_in self.now)) }
     {
@@ -137,7 +138,7 @@ impl Events {
 
     /// How many events there are.
     pub(crate) fn count(&self) -> u8
-        requires { length (events_in self.now) ≤ 64 }
+        requires { length (events_in self.now) ≤ most_events }
         ensures { result ≡ length (events_in self.now) }
     {
         self.events.len() as u8

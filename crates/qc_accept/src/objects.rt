@@ -2,6 +2,7 @@
 
 ghost use Rattle.std.specs.Prelude.{◌≡◌, ◌<◌, ◌≤◌, length, option_map};
 ghost use Rattle.toml.specs.View.{view};
+ghost use Rattle.qc_decl.specs.Limits.{most_objects};
 ghost use Rattle.qc_accept.specs.Answers.{IsAnswer};
 ghost use Rattle.qc_accept.specs.Objects.{kind_of, objects_of, with_object};
 ghost use Rattle.qc_accept.specs.Views.{names_in, objects_in, path_in, table_in, type_in, types_in};
@@ -10,13 +11,10 @@ use crate::fault::DeclFault;
 use crate::fields::Fields;
 use crate::kinds::{self, TypeRead, Types};
 use crate::names::Index;
-use qc_decl::Objects;
+use qc_decl::{MOST_OBJECTS, Objects};
 use qc_list::List;
 use std::alloc::Global;
 use toml::Value;
-
-/// The most objects.
-const MOST_OBJECTS: usize = 16;
 
 /// The keys of an object.
 const KEYS: [&str; 2] = ["name", "type"];
@@ -56,7 +54,7 @@ fn add_object<'a>(
     item: &'a Value,
 ) -> Result<(), DeclFault>
     requires types { length (names_in types.now) ≤ 256 }
-    requires names { length (names_in objects.old.names) < 16 }
+    requires names { length (names_in objects.old.names) < most_objects }
     ensures { IsAnswer (λ _. objects_in objects.new) result (with_object (names_in types.now) (objects_in objects.old) (view item.now)) }
 {
     let fields = Fields::of_item(alloc, "object", objects.names.count(), item)?;

@@ -2,13 +2,11 @@
 
 ghost use Rattle.std.specs.Prelude.{◌≡◌, ◌<◌, ◌≤◌, length, option_map, IsTrue};
 ghost use Rattle.std.specs.List.{list_all};
-ghost use Rattle.qc_accept.specs.Words.{two, three, four, is_between, is_name, is_name_byte, number_in, value_of};
+ghost use Rattle.qc_decl.specs.Names.{is_between, is_name, is_name_byte};
+ghost use Rattle.qc_decl.specs.Limits.{most_digits};
+ghost use Rattle.qc_accept.specs.Words.{two, three, four, number_in, value_of};
 
-/// The longest name.
-const LONGEST_NAME: usize = 32;
-
-/// The most digits of a number.
-const MOST_DIGITS: usize = 5;
+use qc_decl::{LONGEST_NAME, MOST_DIGITS};
 
 /// The one word before and the one behind the text's one space.
 pub(crate) fn two(text: &str) -> Option<(&str, &str)>
@@ -39,7 +37,8 @@ pub(crate) fn four(text: &str) -> Option<(&str, &str, &str, &str)>
     Some((first, second, third, fourth))
 }
 
-/// Whether a text is a name: 1 to 32 ASCII letters, digits and `_`.
+/// Whether a text is a name: ASCII letters, digits and `_`, one or more and not
+/// too many.
 pub(crate) fn is_name(text: &str) -> bool
     ensures { result ≡ is_name text.now }
 {
@@ -54,7 +53,8 @@ fn is_name_byte(byte: u8) -> bool
     byte.is_ascii_alphanumeric() || byte == b'_'
 }
 
-/// The number that a text writes by one to five ASCII digits, at most 65,535.
+/// The number that a text writes by ASCII digits, one or more and not too many,
+/// where 16 bits hold it.
 pub(crate) fn number(text: &str) -> Option<u16>
     ensures { result ≡ number_in text.now }
 {
@@ -65,9 +65,9 @@ pub(crate) fn number(text: &str) -> Option<u16>
     u16::try_from(value(bytes)).ok()
 }
 
-/// The value of at most five digits.
+/// The value of digits that are not too many.
 fn value(digits: &[u8]) -> u32
-    requires few { length digits.now ≤ 5 }
+    requires few { length digits.now ≤ most_digits }
     requires digits { IsTrue (list_all (is_between 48 57) digits.now) }
     ensures value { result ≡ value_of digits.now }
     ensures small { result < 100000 }

@@ -1,1 +1,3 @@
+pub mod AcceptedNames
 pub mod BuiltInRules
+pub mod Places

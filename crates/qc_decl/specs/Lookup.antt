@@ -7,6 +7,10 @@ use Rattle.qc_plan.specs.Need.{need_of}
 use Rattle.qc_table.specs.Rules.{Rules}
 use Rattle.qc_table.specs.declared.kind.Kind.{Kind}
 
+-- the type of an object
+abbrev pub kind_at : Declaration → ℕ → Option Kind
+kind_at decl object = option_and_then (slice_get decl.kinds) (slice_get decl.objects object)
+
 -- the table of an object's type, or none where the object isn't declared
 abbrev pub table_at : Declaration → ℕ → Option Rules
 table_at decl object = option_and_then (λ kind. option_map (λ (k : Kind). k.table) (slice_get decl.kinds kind)) (slice_get decl.objects object)

@@ -1,3 +1,4 @@
 pub mod Members
 pub mod Order
+pub mod Results
 pub mod Search

@@ -4,6 +4,7 @@ use Rattle.std.proofs.lemmas.List.Elements.{All-push}
 use Rattle.std.proofs.lemmas.Result.{err_from_is_err_and}
 use Rattle.qc_table.specs.Depends.{relation_of}
 use Rattle.qc_table.specs.declared.relation.Pair.{Pair}
+use Rattle.qc_decl.specs.Limits.{most_events, most_invocations}
 use Rattle.qc_accept.specs.Types.{pair_in}
 use Rattle.qc_accept.specs.Views.{events_in, words_in}
 use Rattle.qc_accept.proofs.ListTexts.{takes, no_text, no_item}
@@ -32,7 +33,7 @@ loop-item-preserved c =
     record {
       reads = takes (pair_in (words_in c.args.words.now) (events_in c.args.events.now)) c.loop-item.pairs c.push.new.self c.args.items.now c.loop-item.item-index c.item-item.result
           c.in_ok-text.field-0.now c.in_ok-ok_or.field-0 _ c.loop-item-test.true c.item-item.is c.in_ok-text.ensures (sym c.pair.ensures.pair ∙ some) c.in_ok-push.ensures.ok c.loop-item.invariant.reads;
-      within = subst (λ (ps : List Pair). All (λ (p : Pair). (p.inv < 32) × (p.event < 64)) ps) (sym c.in_ok-push.ensures.ok)
-          (All-push (λ (p : Pair). (p.inv < 32) × (p.event < 64)) c.loop-item.pairs c.in_ok-ok_or.field-0 c.loop-item.invariant.within
-          (subst (λ (o : Option Pair). IfSome o (λ p. (p.inv < 32) × (p.event < 64))) some c.pair.ensures.within));
+      within = subst (λ (ps : List Pair). All (λ (p : Pair). (p.inv < most_invocations) × (p.event < most_events)) ps) (sym c.in_ok-push.ensures.ok)
+          (All-push (λ (p : Pair). (p.inv < most_invocations) × (p.event < most_events)) c.loop-item.pairs c.in_ok-ok_or.field-0 c.loop-item.invariant.within
+          (subst (λ (o : Option Pair). IfSome o (λ p. (p.inv < most_invocations) × (p.event < most_events))) some c.pair.ensures.within));
     }

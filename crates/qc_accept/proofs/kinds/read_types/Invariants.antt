@@ -1,4 +1,5 @@
 use Rattle.std.proofs.Common.{◌≡◌, ◌≤◌, [], length, drop}
+use Rattle.qc_decl.specs.Limits.{most_types}
 use Rattle.qc_accept.specs.Answers.{each}
 use Rattle.qc_accept.specs.Types.{with_type}
 use Rattle.qc_accept.specs.Views.{data_of, types_in}
@@ -8,5 +9,5 @@ abbrev pub invariant-loop-item : goal.invariant-loop-item
 invariant-loop-item l = record {
   read : each with_type (record { names = []; list = [] }) (data_of l.items) ≡ each with_type (types_in l.types) (drop l.item-index (data_of l.items));
   long : length (types_in l.types).names ≡ l.item-index;
-  few : length l.items ≤ 8;
+  few : length l.items ≤ most_types;
 }

@@ -5,7 +5,8 @@ use Rattle.toml.specs.Data.{Data}
 use Rattle.toml.specs.View.{view, array_view}
 use Rattle.toml.specs.declared.value.Value.{Value}
 use Rattle.qc_accept.specs.declared.fault.DeclFault.{DeclFault}
-use Rattle.qc_accept.specs.Answers.{Answer, and_then}
+use Rattle.qc_list.specs.Results.{and_then}
+use Rattle.qc_accept.specs.Answers.{Answer}
 use Rattle.qc_accept.specs.Fields.{told, items_between}
 use Rattle.qc_accept.specs.Views.{path_in}
 use Rattle.qc_accept.proofs.Tables.{items_within, items_outside, items_none}

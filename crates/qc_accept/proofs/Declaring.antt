@@ -1,0 +1,321 @@
+-- A declaration is what its document spells.
+use Rattle.std.proofs.Common.{◌≡◌, ℕ, zero, suc, List, [], ◌∷◌, ◌++◌, length, map, Option, Some, Ok, refl, sym, ap, ◌∙◌, subst}
+use Rattle.std.specs.Prelude.{◌&&◌, not, codes, slice_get, option_and_then}
+use Rattle.std.specs.List.{list_any}
+use Rattle.std.specs.Str.{bytes_eq}
+use Rattle.std.proofs.lemmas.List.{append-nil, append_assoc}
+use Rattle.std.proofs.lemmas.Option.{cond_some}
+use Rattle.toml.specs.Data.{Data, Members, as_str, as_table, get_member}
+use Rattle.qc_plan.specs.declared.plan.Plan.{Plan}
+use Rattle.qc_decl.proofs.Places.{place_at}
+use Rattle.qc_decl.specs.Limits.{greatest_weight, most_clients, most_epochs, most_objects, most_sites, most_types}
+use Rattle.qc_decl.specs.Names.{is_name}
+use Rattle.qc_decl.specs.declared.declaration.Declaration.{Declaration}
+use Rattle.qc_accept.specs.declared.epochs.Side.TheVariants.{Initial, Final}
+use Rattle.qc_accept.specs.Accept.{DraftOf, accepted, all_admitted, all_certified, declared, document_of, draft, draft_of, keys}
+use Rattle.qc_accept.specs.Answers.{Answer, each, read_each}
+use Rattle.qc_accept.specs.Epochs.{StoreOf, epoch_keys, needs, plan_of, plans_of, weights, with_plan, with_weight}
+use Rattle.qc_accept.specs.Fields.{item_path, item_table, items, keys_path, name_among, no_others, number, number_between, required, told, with_name, with_text}
+use Rattle.qc_accept.specs.Objects.{ObjectsOf, object_keys, objects_of, with_object}
+use Rattle.qc_accept.specs.Spelled.{AreListed, IsDeclared, IsSpelled, array_at, text_at}
+use Rattle.qc_accept.specs.Types.{TypeOf, TypesOf, name_at, type_of, types_of, with_type}
+use Rattle.qc_accept.specs.Words.{number_of}
+use Rattle.qc_accept.proofs.Answered.{Came, came, found, mapped, same_ok, told_some}
+use Rattle.qc_accept.proofs.Listing.{plan_listed}
+use Rattle.qc_accept.proofs.Spelling.{in_order, items_are, type_spelled}
+
+-- an item's reading adds one to a list, which came from the item
+pub record Adds {A B C : Type 0} (list : A → List C) (From : B → C → Type 0) (a : A) (b : B) (next : A) : Type 0 where
+  pub one : C
+  pub grown : list a ++ one ∷ [] ≡ list next
+  pub from : From b one
+
+pub record IsFrom {B C : Type 0} (From : B → C → Type 0) (bs : List B) (k : ℕ) (c : C) : Type 0 where
+  pub item : B
+  pub at : slice_get bs k ≡ Some item
+  pub from : From item c
+
+pub record AreFrom {B C : Type 0} (From : B → C → Type 0) (bs : List B) (all : List C) : Type 0 where
+  pub long : length all ≡ length bs
+  pub each_is : (k : ℕ) (c : C) → slice_get all k ≡ Some c → IsFrom From bs k c
+
+pub record Grown {A B C : Type 0} (list : A → List C) (From : B → C → Type 0) (a : A) (bs : List B) (last : A) : Type 0 where
+  pub all : List C
+  pub whole : list a ++ all ≡ list last
+  pub are : AreFrom From bs all
+
+module _ {A B C : Type 0} (add : A → B → Answer A) (list : A → List C) (From : B → C → Type 0)
+    (step : (a : A) (b : B) (next : A) → add a b ≡ Ok next → Adds list From a b next) where
+  one_more_from : (b : B) (bs : List B) (c : C) (all : List C) → From b c → AreFrom From bs all → AreFrom From (b ∷ bs) (c ∷ all)
+  one_more_from b bs c all from are = record { long = ap suc are.long; each_is = each_is }
+    where
+      each_is : (k : ℕ) (x : C) → slice_get (c ∷ all) k ≡ Some x → IsFrom From (b ∷ bs) k x
+      each_is zero x is = record { item = b; at = refl; from = subst (From b) (let same : c ≡ x = cc in same) from }
+      each_is (suc k) x is = let f : IsFrom From bs k x = are.each_is k x is in record { item = f.item; at = f.at; from = f.from }
+
+  none_from : AreFrom From [] []
+  none_from = record { long = refl; each_is = λ k c is. absurd (let never : ⊥ = cc in never) }
+
+  grows : (a : A) (bs : List B) (last : A) → each add a bs ≡ Ok last → Grown list From a bs last
+  grows a [] last is = record { all = []; whole = append-nil (list a) ∙ ap list (same_ok a last is); are = none_from }
+  grows a (b ∷ bs) last is =
+      let c : Came (add a b) (λ next. each add next bs) last = came (add a b) (λ next. each add next bs) last is in
+      let s : Adds list From a b c.value = step a b c.value c.first in
+      let g : Grown list From c.value bs last = grows c.value bs last c.rest in
+      record {
+        all = s.one ∷ g.all;
+        whole = sym (append_assoc (list a) (s.one ∷ []) g.all) ∙ ap (λ (xs : List C). xs ++ g.all) s.grown ∙ g.whole;
+        are = one_more_from b bs s.one g.all s.from g.are;
+      }
+
+  -- from nothing on, the list is what came from the items
+  pub all_from : (a : A) (bs : List B) (last : A) → list a ≡ [] → each add a bs ≡ Ok last → AreFrom From bs (list last)
+  all_from a bs last none is =
+      let g : Grown list From a bs last = grows a bs last is in
+      subst (AreFrom From bs) (ap (λ (xs : List C). xs ++ g.all) (sym none) ∙ g.whole) g.are
+
+-- the table of an item
+is_table : (key : List ℕ) (place : ℕ) (d : Data) (table : Members) → item_table key place d ≡ Ok table → as_table d ≡ Some table
+is_table key place d table is = told_some (item_path key place) (as_table d) table is
+
+is_member : (path : List ℕ) (table : Members) (key : List ℕ) (d : Data) → required path table key ≡ Ok d → get_member key table ≡ Some d
+is_member path table key d is = told_some (path ++ key) (get_member key table) d is
+
+abbrev ItemText : List ℕ → Data → List ℕ → Type 0
+ItemText key d text = option_and_then (λ item. text_at item key) (as_table d) ≡ Some text
+
+-- a name that is read
+pub record IsNewName (known : List (List ℕ)) (d : Data) (next : List (List ℕ)) : Type 0 where
+  pub text : List ℕ
+  pub is_text : as_str d ≡ Some text
+  pub grown : known ++ text ∷ [] ≡ next
+
+new_name : (known : List (List ℕ)) (d : Data) (next : List (List ℕ)) → with_name known d ≡ Some next → IsNewName known d next
+new_name known d next is =
+    let f = found (as_str d) (with_text known) next is in
+    let t = cond_some (is_name f.value && not (list_any (bytes_eq f.value) known)) (known ++ f.value ∷ []) next f.rest in
+    record { text = f.value; is_text = f.first; grown = t.1 }
+
+item_text_is : (key : List ℕ) (d name : Data) (item : Members) (text : List ℕ) → as_table d ≡ Some item → get_member key item ≡ Some name → as_str name ≡ Some text
+    → ItemText key d text
+item_text_is key d name item text is member says =
+    ap (option_and_then (λ (m : Members). text_at m key)) is ∙ ap (option_and_then as_str) member ∙ says
+
+-- types
+
+pub record IsTypeFrom (d : Data) (t : TypeOf) : Type 0 where
+  pub item : Members
+  pub is : as_table d ≡ Some item
+  pub spelled : IsSpelled item t
+
+type_from : (types : TypesOf) (d : Data) (next : TypesOf) → with_type types d ≡ Ok next → Adds (λ (x : TypesOf). x.list) IsTypeFrom types d next
+type_from types d next is =
+    let path : List ℕ = keys_path (codes "type") (length types.names) in
+    let a = came (item_table (codes "type") (length types.names) d) _ next is in
+    let b = came (required path a.value (codes "name")) _ next a.rest in
+    let c = came (told (path ++ codes "name") (with_name types.names b.value)) _ next b.rest in
+    let e = came (type_of path a.value (length types.names) (name_at c.value (length types.names))) _ next c.rest in
+    record {
+      one = e.value;
+      grown = ap (λ (x : TypesOf). x.list) (same_ok (record { names = c.value; list = types.list ++ e.value ∷ [] }) next e.rest);
+      from = record {
+        item = a.value;
+        is = is_table (codes "type") (length types.names) d a.value a.first;
+        spelled = type_spelled path a.value (length types.names) (name_at c.value (length types.names)) e.value e.first;
+      };
+    }
+
+type_name_from : (types : TypesOf) (d : Data) (next : TypesOf) → with_type types d ≡ Ok next → Adds (λ (x : TypesOf). x.names) (ItemText (codes "name")) types d next
+type_name_from types d next is =
+    let path : List ℕ = keys_path (codes "type") (length types.names) in
+    let a = came (item_table (codes "type") (length types.names) d) _ next is in
+    let b = came (required path a.value (codes "name")) _ next a.rest in
+    let c = came (told (path ++ codes "name") (with_name types.names b.value)) _ next b.rest in
+    let e = came (type_of path a.value (length types.names) (name_at c.value (length types.names))) _ next c.rest in
+    let n : IsNewName types.names b.value c.value = new_name types.names b.value c.value (told_some (path ++ codes "name") (with_name types.names b.value) c.value c.first) in
+    record {
+      one = n.text;
+      grown = n.grown ∙ ap (λ (x : TypesOf). x.names) (same_ok (record { names = c.value; list = types.list ++ e.value ∷ [] }) next e.rest);
+      from = item_text_is (codes "name") d b.value a.value n.text (is_table (codes "type") (length types.names) d a.value a.first)
+          (is_member path a.value (codes "name") b.value b.first) n.is_text;
+    }
+
+-- objects
+
+object_name_from : (types : List (List ℕ)) (objects : ObjectsOf) (d : Data) (next : ObjectsOf) → with_object types objects d ≡ Ok next
+    → Adds (λ (x : ObjectsOf). x.names) (ItemText (codes "name")) objects d next
+object_name_from types objects d next is =
+    let path : List ℕ = keys_path (codes "object") (length objects.names) in
+    let a = came (item_table (codes "object") (length objects.names) d) _ next is in
+    let b = came (required path a.value (codes "name")) _ next a.rest in
+    let c = came (told (path ++ codes "name") (with_name objects.names b.value)) _ next b.rest in
+    let e = came (required path a.value (codes "type")) _ next c.rest in
+    let f = came (told (path ++ codes "type") (name_among types e.value)) _ next e.rest in
+    let g = came (no_others path a.value object_keys) _ next f.rest in
+    let n : IsNewName objects.names b.value c.value = new_name objects.names b.value c.value (told_some (path ++ codes "name") (with_name objects.names b.value) c.value c.first) in
+    record {
+      one = n.text;
+      grown = n.grown ∙ ap (λ (x : ObjectsOf). x.names) (same_ok (record { names = c.value; kinds = objects.kinds ++ f.value ∷ [] }) next g.rest);
+      from = item_text_is (codes "name") d b.value a.value n.text (is_table (codes "object") (length objects.names) d a.value a.first)
+          (is_member path a.value (codes "name") b.value b.first) n.is_text;
+    }
+
+abbrev IsTypeNamed : List (List ℕ) → Data → ℕ → Type 0
+IsTypeNamed types d number = option_and_then (λ item. text_at item (codes "type")) (as_table d) ≡ slice_get types number
+
+object_type_from : (types : List (List ℕ)) (objects : ObjectsOf) (d : Data) (next : ObjectsOf) → with_object types objects d ≡ Ok next
+    → Adds (λ (x : ObjectsOf). x.kinds) (IsTypeNamed types) objects d next
+object_type_from types objects d next is =
+    let path : List ℕ = keys_path (codes "object") (length objects.names) in
+    let a = came (item_table (codes "object") (length objects.names) d) _ next is in
+    let b = came (required path a.value (codes "name")) _ next a.rest in
+    let c = came (told (path ++ codes "name") (with_name objects.names b.value)) _ next b.rest in
+    let e = came (required path a.value (codes "type")) _ next c.rest in
+    let f = came (told (path ++ codes "type") (name_among types e.value)) _ next e.rest in
+    let g = came (no_others path a.value object_keys) _ next f.rest in
+    let n = found (as_str e.value) (number_of types) f.value (told_some (path ++ codes "type") (name_among types e.value) f.value f.first) in
+    record {
+      one = f.value;
+      grown = ap (λ (x : ObjectsOf). x.kinds) (same_ok (record { names = c.value; kinds = objects.kinds ++ f.value ∷ [] }) next g.rest);
+      from = item_text_is (codes "type") d e.value a.value n.value (is_table (codes "object") (length objects.names) d a.value a.first)
+          (is_member path a.value (codes "type") e.value e.first) n.first
+          ∙ sym (place_at types n.value f.value n.rest);
+    }
+
+-- plans
+
+weights_in_order : (path : List ℕ) (table : Members) (sites : ℕ) (ws : List ℕ) → weights path table sites ≡ Ok ws
+    → map (number_between 0 greatest_weight) (array_at table (codes "weights")) ≡ map Some ws
+weights_in_order path table sites ws is =
+    let c = came (items path table (codes "weights") sites sites) (λ ds. told (path ++ codes "weights") (read_each with_weight [] ds)) ws is in
+    ap (map (number_between 0 greatest_weight)) (items_are path table (codes "weights") sites sites c.value c.first)
+    ∙ in_order (number_between 0 greatest_weight) with_weight
+    (λ so_far d next more. let m = mapped (number_between 0 greatest_weight d) (λ w. so_far ++ w ∷ []) next more in (m.value, m.first, m.rest))
+    c.value ws (told_some (path ++ codes "weights") (read_each with_weight [] c.value) ws c.rest)
+
+weights_of : (path : List ℕ) (table : Members) (store : StoreOf) (plan : Plan) → plan_of path table store ≡ Ok plan
+    → map (number_between 0 greatest_weight) (array_at table (codes "weights")) ≡ map Some plan.weights
+weights_of path table store plan is =
+    let a = came (weights path table store.sites) _ plan is in
+    let b = came (needs path table store (codes "initial") Initial) _ plan a.rest in
+    let c = came (needs path table store (codes "final") Final) _ plan b.rest in
+    let d = came (no_others path table epoch_keys) _ plan c.rest in
+    subst (λ (p : Plan). map (number_between 0 greatest_weight) (array_at table (codes "weights")) ≡ map Some p.weights)
+    (same_ok (record { weights = a.value; initial = b.value; last = c.value }) plan d.rest) (weights_in_order path table store.sites a.value a.first)
+
+pub record IsPlanFrom (store : StoreOf) (d : Data) (plan : Plan) : Type 0 where
+  pub item : Members
+  pub is : as_table d ≡ Some item
+  pub weights : map (number_between 0 greatest_weight) (array_at item (codes "weights")) ≡ map Some plan.weights
+  pub initial : AreListed store Initial (array_at item (codes "initial")) plan.initial
+  pub last : AreListed store Final (array_at item (codes "final")) plan.last
+
+abbrev plans_list : List Plan → List Plan
+plans_list plans = plans
+
+plan_from : (store : StoreOf) (plans : List Plan) (d : Data) (next : List Plan) → with_plan store plans d ≡ Ok next → Adds plans_list (IsPlanFrom store) plans d next
+plan_from store plans d next is =
+    let path : List ℕ = keys_path (codes "epoch") (length plans) in
+    let a = came (item_table (codes "epoch") (length plans) d) _ next is in
+    let b = came (plan_of path a.value store) _ next a.rest in
+    let both = plan_listed path a.value store b.value b.first in
+    record {
+      one = b.value;
+      grown = same_ok (plans ++ b.value ∷ []) next b.rest;
+      from = record {
+        item = a.value;
+        is = is_table (codes "epoch") (length plans) d a.value a.first;
+        weights = weights_of path a.value store b.value b.first;
+        initial = both.0;
+        last = both.1;
+      };
+    }
+
+-- the arrays of a document
+
+pub types_from : (path : List ℕ) (table : Members) (types : TypesOf) → types_of path table ≡ Ok types
+    → AreFrom IsTypeFrom (array_at table (codes "type")) types.list × AreFrom (ItemText (codes "name")) (array_at table (codes "type")) types.names
+types_from path table types is =
+    let c = came (items path table (codes "type") 1 most_types) _ types is in
+    let array : array_at table (codes "type") ≡ c.value = items_are path table (codes "type") 1 most_types c.value c.first in
+    subst (λ (ds : List Data). AreFrom IsTypeFrom ds types.list × AreFrom (ItemText (codes "name")) ds types.names) (sym array) (
+      all_from with_type (λ (x : TypesOf). x.list) IsTypeFrom type_from (record { names = []; list = [] }) c.value types refl c.rest,
+      all_from with_type (λ (x : TypesOf). x.names) (ItemText (codes "name")) type_name_from (record { names = []; list = [] }) c.value types refl c.rest,
+    )
+
+pub objects_from : (path : List ℕ) (table : Members) (types : TypesOf) (objects : ObjectsOf) → objects_of path table types ≡ Ok objects
+    → AreFrom (ItemText (codes "name")) (array_at table (codes "object")) objects.names × AreFrom (IsTypeNamed types.names) (array_at table (codes "object")) objects.kinds
+objects_from path table types objects is =
+    let c = came (items path table (codes "object") 1 most_objects) _ objects is in
+    let array : array_at table (codes "object") ≡ c.value = items_are path table (codes "object") 1 most_objects c.value c.first in
+    subst (λ (ds : List Data). AreFrom (ItemText (codes "name")) ds objects.names × AreFrom (IsTypeNamed types.names) ds objects.kinds) (sym array) (
+      all_from (with_object types.names) (λ (x : ObjectsOf). x.names) (ItemText (codes "name")) (object_name_from types.names) (record { names = []; kinds = [] }) c.value objects refl c.rest,
+      all_from (with_object types.names) (λ (x : ObjectsOf). x.kinds) (IsTypeNamed types.names) (object_type_from types.names) (record { names = []; kinds = [] }) c.value objects refl c.rest,
+    )
+
+pub plans_from : (path : List ℕ) (table : Members) (store : StoreOf) (plans : List Plan) → plans_of path table store ≡ Ok plans
+    → AreFrom (IsPlanFrom store) (array_at table (codes "epoch")) plans
+plans_from path table store plans is =
+    let c = came (items path table (codes "epoch") 1 most_epochs) _ plans is in
+    let array : array_at table (codes "epoch") ≡ c.value = items_are path table (codes "epoch") 1 most_epochs c.value c.first in
+    subst (λ (ds : List Data). AreFrom (IsPlanFrom store) ds plans) (sym array)
+    (all_from (with_plan store) plans_list (IsPlanFrom store) (plan_from store) [] c.value plans refl c.rest)
+
+-- a number under a key
+number_told : (path : List ℕ) (table : Members) (key : List ℕ) (least most n : ℕ) → number path table key least most ≡ Ok n
+    → option_and_then (number_between least most) (get_member key table) ≡ Some n
+number_told path table key least most n is =
+    let c = came (required path table key) (λ d. told (path ++ key) (number_between least most d)) n is in
+    ap (option_and_then (number_between least most)) (is_member path table key c.value c.first) ∙ told_some (path ++ key) (number_between least most c.value) n c.rest
+
+-- all of a document
+pub draft_declared : (table : Members) (d : DraftOf) → draft_of table ≡ Ok d → IsDeclared table d.decl
+draft_declared table d is =
+    let a = came (number [] table (codes "sites") 1 most_sites) _ d is in
+    let b = came (number [] table (codes "clients") 1 most_clients) _ d a.rest in
+    let c = came (types_of [] table) _ d b.rest in
+    let e = came (objects_of [] table c.value) _ d c.rest in
+    let f = came (plans_of [] table (record { sites = a.value; types = c.value; objects = e.value })) _ d e.rest in
+    let g = came (no_others [] table keys) _ d f.rest in
+    let t = types_from [] table c.value c.first in
+    let o = objects_from [] table c.value e.value e.first in
+    let p : AreFrom (IsPlanFrom (record { sites = a.value; types = c.value; objects = e.value })) (array_at table (codes "epoch")) f.value =
+    plans_from [] table (record { sites = a.value; types = c.value; objects = e.value }) f.value f.first in
+    subst (λ (x : DraftOf). IsDeclared table x.decl) (same_ok (draft a.value b.value c.value e.value f.value) d g.rest) (record {
+      sites = number_told [] table (codes "sites") 1 most_sites a.value a.first;
+      clients = number_told [] table (codes "clients") 1 most_clients b.value b.first;
+      types = c.value;
+      objects = e.value;
+      kinds = refl;
+      kind_names = refl;
+      object_kinds = refl;
+      object_names = refl;
+      so_many_types = t.0.long;
+      so_many_objects = o.0.long;
+      so_many_epochs = p.long;
+      type_at = λ number x at.
+          let i : IsFrom IsTypeFrom (array_at table (codes "type")) number x = t.0.each_is number x at in
+          record { item = i.from.item; at = ap (option_and_then as_table) i.at ∙ i.from.is; spelled = i.from.spelled };
+      type_name_at = λ number name at.
+          let i : IsFrom (ItemText (codes "name")) (array_at table (codes "type")) number name = t.1.each_is number name at in
+          ap (λ (x : Option Data). option_and_then (λ item. text_at item (codes "name")) (option_and_then as_table x)) i.at ∙ i.from;
+      object_name_at = λ object name at.
+          let i : IsFrom (ItemText (codes "name")) (array_at table (codes "object")) object name = o.0.each_is object name at in
+          ap (λ (x : Option Data). option_and_then (λ item. text_at item (codes "name")) (option_and_then as_table x)) i.at ∙ i.from;
+      object_type_at = λ object number at.
+          let i : IsFrom (IsTypeNamed c.value.names) (array_at table (codes "object")) object number = o.1.each_is object number at in
+          ap (λ (x : Option Data). option_and_then (λ item. text_at item (codes "type")) (option_and_then as_table x)) i.at ∙ i.from;
+      plan_at = λ place plan at.
+          let i : IsFrom (IsPlanFrom (record { sites = a.value; types = c.value; objects = e.value })) (array_at table (codes "epoch")) place plan = p.each_is place plan at in
+          record { item = i.from.item; at = ap (option_and_then as_table) i.at ∙ i.from.is; weights = i.from.weights; initial = i.from.initial; last = i.from.last };
+    })
+
+pub accepted_declared : (bytes : List ℕ) (table : Members) (decl : Declaration) → document_of bytes ≡ Ok table → accepted bytes ≡ Ok decl → IsDeclared table decl
+accepted_declared bytes table decl document is =
+    let a = came (document_of bytes) declared decl is in
+    let one : (let x : Answer Members = Ok table in x) ≡ Ok a.value = sym document ∙ a.first in
+    let same : a.value ≡ table = sym (same_ok table a.value one) in
+    let b = came (draft_of a.value) _ decl a.rest in
+    let c = came (all_certified 0 b.value.decl.kind_names b.value.decl.kinds b.value.triples) _ decl b.rest in
+    let e = came (all_admitted b.value.decl 1 b.value.decl.plans) _ decl c.rest in
+    subst (λ (t : Members). IsDeclared t decl) same (subst (IsDeclared a.value) (same_ok b.value.decl decl e.rest) (draft_declared a.value b.value b.first))
