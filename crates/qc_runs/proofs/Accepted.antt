@@ -1,19 +1,28 @@
 -- The declarations of the runs keep the rules: their relations are exact by certificates, and their quorums meet.
-use Rattle.std.proofs.Common.{◌≡◌, ◌<◌, ◌≤◌, ℕ, zero, suc, List, [], ◌∷◌, length, Option, Some, None, option_map, refl, subst, arith, slice_get}
+use Rattle.std.proofs.Common.{◌≡◌, ◌<◌, ◌≤◌, ℕ, zero, suc, List, [], ◌∷◌, length, map, Option, Some, None, option_map, refl, subst, arith, slice_get}
+use Rattle.std.specs.Prelude.{All, codes, option_and_then, take}
+use Rattle.std.specs.List.{list_all}
+use Rattle.std.proofs.lemmas.List.Elements.{All-cons, All-nil}
 use Rattle.qc_cert.proofs.Faultless.{inductive}
 use Rattle.qc_cert.proofs.Walk.{exact}
 use Rattle.qc_cert.specs.Inductive.{triple}
 use Rattle.qc_cert.specs.declared.triple.Triple.{Triple}
 use Rattle.qc_decl.proofs.BuiltInRules.{three_accepted}
-use Rattle.qc_decl.specs.Accepted.{IsAccepted, IsGood, IsRight}
-use Rattle.qc_decl.specs.One.{register_kind}
+use Rattle.qc_decl.proofs.Places.{all_differ, differ}
+use Rattle.qc_decl.specs.Accepted.{AreThresholds, HasNames, HasThresholds, IsAccepted, IsGood, IsRight}
+use Rattle.qc_decl.specs.Limits.{greatest_threshold, greatest_weight, most_epochs, most_objects, most_sites}
+use Rattle.qc_decl.specs.Lookup.{kind_at}
+use Rattle.qc_decl.specs.Names.{AreNames, is_name}
+use Rattle.qc_decl.specs.One.{register_kind, register_names}
 use Rattle.qc_decl.specs.declared.declaration.Declaration.{Declaration}
+use Rattle.qc_decl.specs.declared.declaration.KindNames.{KindNames}
 use Rattle.qc_plan.proofs.Faultless as plan_proofs
 use Rattle.qc_plan.specs.Faults.{fault_of}
 use Rattle.qc_plan.specs.declared.fault.PlanFault.{PlanFault}
 use Rattle.qc_plan.specs.declared.plan.Plan.{Plan}
-use Rattle.qc_runs.proofs.Finding.{at_most, below, both, found, same_number}
-use Rattle.qc_runs.specs.Settings.{latch, latch_kind, latched, moved, pair, store, three_twice, ticket, ticket_kind, ticketed}
+use Rattle.qc_runs.proofs.Finding.{at_most, below, both, found, is_true, same_number}
+use Rattle.qc_runs.specs.Settings.{latch, latch_kind, latch_names, latched, moved, pair, store, three_twice, ticket, ticket_kind, ticket_names, ticketed}
+use Rattle.qc_table.specs.Rules.{events_of}
 use Rattle.qc_table.specs.Sound.{IsSound}
 use Rattle.qc_table.specs.declared.kind.Kind.{Kind}
 
@@ -61,28 +70,169 @@ each_place {A = A} P look (y ∷ ys) = option_map made (both (look y) (each_plac
     made f zero x e = let same : y ≡ x = cc in subst P same f.0
     made f (suc place) x e = f.1 place x e
 
-abbrev store_accepted : (actors : ℕ) (kind : Kind) (objects : List ℕ) (plans : List Plan) → IsRight kind → Option (IsAccepted (store actors kind objects plans))
-store_accepted actors kind objects plans right = option_map made (both (below 0 actors) (both (at_most actors 16) (both (below 0 (length plans)) (both (each_place (λ n. n < 1) (λ n. below n 1) objects) (each_place (IsGood (store actors kind objects plans)) (good_plan (store actors kind objects plans)) plans)))))
+-- what holds of each item of a list
+abbrev each_item : {A : Type 0} (P : A → Type 0) → ((x : A) → Option (P x)) → (xs : List A) → Option (All P xs)
+each_item P look [] = Some (All-nil P)
+each_item P look (x ∷ xs) = option_map made (both (look x) (each_item P look xs))
   where
-    the_kind : (number : ℕ) (k : Kind) → slice_get (kind ∷ []) number ≡ Some k → IsRight k
-    the_kind zero k is = let same : kind ≡ k = cc in subst IsRight same right
-    the_kind (suc number) k is = absurd (let never : ⊥ = cc in never)
+    made : P x × All P xs → All P (x ∷ xs)
+    made f = All-cons P x xs f.0 f.1
 
-    made : (0 < actors) × ((actors ≤ 16) × ((0 < length plans) × (((place n : ℕ) → slice_get objects place ≡ Some n → n < 1) × ((place : ℕ) (plan : Plan) → slice_get plans place ≡ Some plan → IsGood (store actors kind objects plans) plan))))
-        → IsAccepted (store actors kind objects plans)
-    made f = record { has_site = f.0; sites = (f.1).0; has_client = f.0; clients = (f.1).0; has_epoch = ((f.1).1).0; typed = (((f.1).1).1).0; right = the_kind; good = (((f.1).1).1).1 }
+-- names are found to be well formed and different
+abbrev names_found : (many : ℕ) (names : List (List ℕ)) → Option (AreNames many names)
+names_found many names = option_map made (both (same_number (length names) many) (both (is_true (list_all is_name names)) (is_true (differ names))))
+  where
+    made : (length names ≡ many) × ((list_all is_name names ≡ true) × (differ names ≡ true)) → AreNames many names
+    made f = record { count = f.0; formed = (f.1).0; distinct = all_differ names (f.1).1 }
+
+abbrev parts_found : (kind : Kind) (names : KindNames) → Option (HasNames kind names)
+parts_found kind names = option_map made (both (names_found kind.table.states names.states) (both (names_found kind.table.invs names.invs) (names_found kind.table.resps names.resps)))
+  where
+    made : AreNames kind.table.states names.states × (AreNames kind.table.invs names.invs × AreNames kind.table.resps names.resps) → HasNames kind names
+    made f = record { states = f.0; invs = (f.1).0; resps = (f.1).1 }
+
+abbrev IsThreshold : ℕ → Type 0
+IsThreshold n = n ≤ greatest_threshold
+
+abbrev IsWeight : ℕ → Type 0
+IsWeight n = n ≤ greatest_weight
+
+-- a declaration of one type
+module _ (actors : ℕ) (kind : Kind) (names : KindNames) (objects : List ℕ) (plans : List Plan) where
+  abbrev decl : Declaration
+  decl = store actors kind names objects plans
+
+  abbrev AreTyped : Type 0
+  AreTyped = (object number : ℕ) → slice_get objects object ≡ Some number → number < 1
+
+  -- so each object is of that type
+  is_kind : AreTyped → (object : ℕ) (k : Kind) → kind_at decl object ≡ Some k → kind ≡ k
+  is_kind typed object k is = by (slice_get objects object) (typed object) is
+    where
+      by : (o : Option ℕ) → ((number : ℕ) → o ≡ Some number → number < 1) → option_and_then (slice_get (kind ∷ [])) o ≡ Some k → kind ≡ k
+      by None few is = absurd (let never : ⊥ = cc in never)
+      by (Some zero) few is = cc
+      by (Some (suc number)) few is = absurd (let less : suc number < 1 = few (suc number) refl in omega arith)
+
+  -- lists of thresholds are found to be one for each object, with one number for each place
+  abbrev thresholds_found : AreTyped → (places : Kind → ℕ) (lists : List (List ℕ)) → Option (AreThresholds decl places lists)
+  thresholds_found typed places lists =
+      option_map made (both (same_number (length lists) (length objects)) (both
+          (each_place (λ (list : List ℕ). length list ≡ places kind) (λ list. same_number (length list) (places kind)) lists)
+          (each_item (All IsThreshold) (each_item IsThreshold (λ n. at_most n greatest_threshold)) lists)))
+    where
+      made : (length lists ≡ length objects)
+          × (((place : ℕ) (list : List ℕ) → slice_get lists place ≡ Some list → length list ≡ places kind) × All (All IsThreshold) lists)
+          → AreThresholds decl places lists
+      made f = record {
+        objects = f.0;
+        each_is = λ object k list at of. subst (λ (k : Kind). length list ≡ places k) (is_kind typed object k at) ((f.1).0 object list of);
+        numbers = (f.1).1;
+      }
+
+  abbrev all_thresholds_found : AreTyped → (plan : Plan) → Option (HasThresholds decl plan)
+  all_thresholds_found typed plan =
+      option_map made (both (each_item IsWeight (λ n. at_most n greatest_weight) plan.weights) (both
+          (thresholds_found typed (λ k. k.table.invs) plan.initial) (thresholds_found typed (λ k. length (events_of k.table.rows)) plan.last)))
+    where
+      made : All IsWeight plan.weights × (AreThresholds decl (λ k. k.table.invs) plan.initial
+          × AreThresholds decl (λ k. length (events_of k.table.rows)) plan.last) → HasThresholds decl plan
+      made f = record { weights = f.0; initial = (f.1).0; last = (f.1).1 }
+
+  -- the counts of actors, objects and epochs
+  record AreFew : Type 0 where
+    some_actor : 0 < actors
+    few_actors : actors ≤ most_sites
+    some_object : 0 < length objects
+    few_objects : length objects ≤ most_objects
+    some_epoch : 0 < length plans
+    few_epochs : length plans ≤ most_epochs
+
+  abbrev few_found : Option AreFew
+  few_found = option_map made (both (both (below 0 actors) (at_most actors most_sites)) (both
+      (both (below 0 (length objects)) (at_most (length objects) most_objects)) (both (below 0 (length plans)) (at_most (length plans) most_epochs))))
+    where
+      made : ((0 < actors) × (actors ≤ most_sites)) × (((0 < length objects) × (length objects ≤ most_objects)) × ((0 < length plans) × (length plans ≤ most_epochs)))
+          → AreFew
+      made f = record {
+        some_actor = (f.0).0; few_actors = (f.0).1; some_object = ((f.1).0).0; few_objects = ((f.1).0).1; some_epoch = ((f.1).1).0; few_epochs = ((f.1).1).1;
+      }
+
+  -- the names of the type, of its parts and of the objects
+  record AreNamed : Type 0 where
+    type_name : AreNames 1 (names.name ∷ [])
+    parts : HasNames kind names
+    object_names : AreNames (length objects) (take (length objects) (codes "x" ∷ codes "y" ∷ []))
+
+  abbrev named_found : Option AreNamed
+  named_found = option_map made (both (names_found 1 (names.name ∷ [])) (both (parts_found kind names)
+      (names_found (length objects) (take (length objects) (codes "x" ∷ codes "y" ∷ [])))))
+    where
+      made : AreNames 1 (names.name ∷ []) × (HasNames kind names × AreNames (length objects) (take (length objects) (codes "x" ∷ codes "y" ∷ []))) → AreNamed
+      made f = record { type_name = f.0; parts = (f.1).0; object_names = (f.1).1 }
+
+  -- each plan is good, and lists its thresholds
+  abbrev plans_found : AreTyped → Option (((place : ℕ) (plan : Plan) → slice_get plans place ≡ Some plan → IsGood decl plan)
+      × ((place : ℕ) (plan : Plan) → slice_get plans place ≡ Some plan → HasThresholds decl plan))
+  plans_found typed = both (each_place (IsGood decl) (good_plan decl) plans) (each_place (HasThresholds decl) (all_thresholds_found typed) plans)
+
+  accepted_by : AreFew → AreNamed → AreTyped → IsRight kind → ((place : ℕ) (plan : Plan) → slice_get plans place ≡ Some plan → IsGood decl plan)
+      → ((place : ℕ) (plan : Plan) → slice_get plans place ≡ Some plan → HasThresholds decl plan) → IsAccepted decl
+  accepted_by few named typed right good listed = record {
+    has_site = few.some_actor;
+    sites = few.few_actors;
+    has_client = few.some_actor;
+    clients = few.few_actors;
+    has_type = omega arith;
+    types = omega arith;
+    has_object = few.some_object;
+    objects = few.few_objects;
+    has_epoch = few.some_epoch;
+    epochs = few.few_epochs;
+    typed = typed;
+    right = the_kind;
+    good = good;
+    thresholds = listed;
+    type_names = named.type_name;
+    object_names = named.object_names;
+    names = the_names;
+  }
+    where
+      the_kind : (number : ℕ) (k : Kind) → slice_get (kind ∷ []) number ≡ Some k → IsRight k
+      the_kind zero k is = let same : kind ≡ k = cc in subst IsRight same right
+      the_kind (suc number) k is = absurd (let never : ⊥ = cc in never)
+
+      the_names : (number : ℕ) (k : Kind) (ns : KindNames) → slice_get (kind ∷ []) number ≡ Some k → slice_get (names ∷ []) number ≡ Some ns → HasNames k ns
+      the_names zero k ns at of =
+          let same : kind ≡ k = cc in
+          let one : names ≡ ns = cc in
+          subst (λ (k : Kind). HasNames k ns) same (subst (HasNames kind) one named.parts)
+      the_names (suc number) k ns at of = absurd (let never : ⊥ = cc in never)
+
+  abbrev store_accepted : IsRight kind → (typed : AreTyped) → Option (IsAccepted decl)
+  store_accepted right typed = option_map made (both few_found (both named_found (plans_found typed)))
+    where
+      made : AreFew × (AreNamed × (((place : ℕ) (plan : Plan) → slice_get plans place ≡ Some plan → IsGood decl plan)
+          × ((place : ℕ) (plan : Plan) → slice_get plans place ≡ Some plan → HasThresholds decl plan))) → IsAccepted decl
+      made f = accepted_by f.0 (f.1).0 typed right ((f.1).1).0 ((f.1).1).1
+
+one_object : (object number : ℕ) → slice_get (0 ∷ []) object ≡ Some number → number < 1
+one_object = found (each_place (λ n. n < 1) (λ n. below n 1) (0 ∷ [])) refl
+
+two_objects : (object number : ℕ) → slice_get (0 ∷ 0 ∷ []) object ≡ Some number → number < 1
+two_objects = found (each_place (λ n. n < 1) (λ n. below n 1) (0 ∷ 0 ∷ [])) refl
 
 pub moved_accepted : IsAccepted moved
-moved_accepted = found (store_accepted 3 register_kind (0 ∷ []) moved.plans register_right) refl
+moved_accepted = found (store_accepted 3 register_kind register_names (0 ∷ []) moved.plans register_right one_object) refl
 
 pub pair_accepted : IsAccepted pair
-pair_accepted = found (store_accepted 2 register_kind (0 ∷ 0 ∷ []) pair.plans register_right) refl
+pair_accepted = found (store_accepted 2 register_kind register_names (0 ∷ 0 ∷ []) pair.plans register_right two_objects) refl
 
 pub latched_accepted : IsAccepted latched
-latched_accepted = found (store_accepted 2 latch_kind (0 ∷ []) latched.plans latch_right) refl
+latched_accepted = found (store_accepted 2 latch_kind latch_names (0 ∷ []) latched.plans latch_right one_object) refl
 
 pub ticketed_accepted : IsAccepted ticketed
-ticketed_accepted = found (store_accepted 1 ticket_kind (0 ∷ []) ticketed.plans ticket_right) refl
+ticketed_accepted = found (store_accepted 1 ticket_kind ticket_names (0 ∷ []) ticketed.plans ticket_right one_object) refl
 
 pub three_twice_accepted : IsAccepted three_twice
-three_twice_accepted = found (store_accepted 3 register_kind (0 ∷ []) three_twice.plans register_right) refl
+three_twice_accepted = found (store_accepted 3 register_kind register_names (0 ∷ []) three_twice.plans register_right one_object) refl

@@ -1,38 +1,39 @@
 -- The declarations of the runs, beside the built-in ones.
-use Rattle.std.specs.Prelude.{ℕ, List, [], ◌∷◌, codes}
-use Rattle.qc_decl.specs.One.{register_kind, register_plan, row}
+use Rattle.std.specs.Prelude.{ℕ, List, [], ◌∷◌, codes, length, take}
+use Rattle.qc_decl.specs.One.{register_kind, register_names, register_plan, row}
 use Rattle.qc_decl.specs.declared.declaration.Declaration.{Declaration}
+use Rattle.qc_decl.specs.declared.declaration.KindNames.{KindNames}
 use Rattle.qc_plan.specs.declared.plan.Plan.{Plan}
 use Rattle.qc_table.specs.Depends.{relation_of}
 use Rattle.qc_table.specs.Rules.{Rules}
 use Rattle.qc_table.specs.declared.kind.Kind.{Kind}
 
--- so many sites and objects of one type, with a plan for each epoch
-abbrev pub store : ℕ → Kind → List ℕ → List Plan → Declaration
-store actors kind objects plans = record {
+-- so many sites, and objects of one type, with a plan for each epoch; two objects at most have names
+abbrev pub store : ℕ → Kind → KindNames → List ℕ → List Plan → Declaration
+store actors kind names objects plans = record {
   sites = actors;
   clients = actors;
   kinds = kind ∷ [];
   objects = objects;
   plans = plans;
-  kind_names = [];
-  object_names = [];
+  kind_names = names ∷ [];
+  object_names = take (length objects) (codes "x" ∷ codes "y" ∷ []);
 }
 
 -- a register that moves from the first site to the second and the third
 abbrev pub moved : Declaration
-moved = store 3 register_kind (0 ∷ []) (register_plan (1 ∷ 0 ∷ 0 ∷ []) 1 ∷ register_plan (0 ∷ 1 ∷ 0 ∷ []) 1 ∷ register_plan (0 ∷ 0 ∷ 1 ∷ []) 1 ∷ [])
+moved = store 3 register_kind register_names (0 ∷ []) (register_plan (1 ∷ 0 ∷ 0 ∷ []) 1 ∷ register_plan (0 ∷ 1 ∷ 0 ∷ []) 1 ∷ register_plan (0 ∷ 0 ∷ 1 ∷ []) 1 ∷ [])
 
 -- the built-in register at three sites, two of which are each quorum, with a second epoch
 abbrev pub three_twice : Declaration
-three_twice = store 3 register_kind (0 ∷ []) (register_plan (1 ∷ 1 ∷ 1 ∷ []) 2 ∷ register_plan (1 ∷ 1 ∷ 1 ∷ []) 2 ∷ [])
+three_twice = store 3 register_kind register_names (0 ∷ []) (register_plan (1 ∷ 1 ∷ 1 ∷ []) 2 ∷ register_plan (1 ∷ 1 ∷ 1 ∷ []) 2 ∷ [])
 
 -- Of two registers at two sites an event is written at either site, and read at both; so the close needs both.
 abbrev pub pair_plan : Plan
 pair_plan = record { weights = 1 ∷ 1 ∷ []; initial = (2 ∷ 0 ∷ 0 ∷ []) ∷ (2 ∷ 0 ∷ 0 ∷ []) ∷ []; last = (0 ∷ 0 ∷ 1 ∷ 1 ∷ []) ∷ (0 ∷ 0 ∷ 1 ∷ 1 ∷ []) ∷ [] }
 
 abbrev pub pair : Declaration
-pair = store 2 register_kind (0 ∷ 0 ∷ []) (pair_plan ∷ pair_plan ∷ [])
+pair = store 2 register_kind register_names (0 ∷ 0 ∷ []) (pair_plan ∷ pair_plan ∷ [])
 
 -- A latch is armed, fired and looked at. Firing it has an effect where it is armed, and is answered ok in any case; a look tells
 -- whether it has fired. So Fire depends on Arm:ok and Look on Fire:ok, and a log that has a Fire without its Arm misleads.
@@ -48,9 +49,17 @@ latch = record {
 abbrev pub latch_kind : Kind
 latch_kind = record { table = latch; relation = relation_of (record { inv = 1; event = 0 } ∷ record { inv = 2; event = 1 } ∷ []) }
 
+abbrev pub latch_names : KindNames
+latch_names = record {
+  name = codes "latch";
+  states = codes "idle" ∷ codes "armed" ∷ codes "fired" ∷ [];
+  invs = codes "Arm" ∷ codes "Fire" ∷ codes "Look" ∷ [];
+  resps = codes "ok" ∷ codes "no" ∷ codes "yes" ∷ [];
+}
+
 -- at two sites Arm is appended at one and read at both, Fire is appended at both and read at one
 abbrev pub latched : Declaration
-latched = store 2 latch_kind (0 ∷ []) (record { weights = 1 ∷ 1 ∷ []; initial = (0 ∷ 2 ∷ 1 ∷ []) ∷ []; last = (1 ∷ 2 ∷ 0 ∷ 0 ∷ []) ∷ [] } ∷ [])
+latched = store 2 latch_kind latch_names (0 ∷ []) (record { weights = 1 ∷ 1 ∷ []; initial = (0 ∷ 2 ∷ 1 ∷ []) ∷ []; last = (1 ∷ 2 ∷ 0 ∷ 0 ∷ []) ∷ [] } ∷ [])
 
 -- a ticket can be taken once: then Take has no response
 abbrev pub ticket : Rules
@@ -59,5 +68,8 @@ ticket = record { states = 2; invs = 1; resps = 1; start = 0; rows = row 0 0 0 1
 abbrev pub ticket_kind : Kind
 ticket_kind = record { table = ticket; relation = relation_of (record { inv = 0; event = 0 } ∷ []) }
 
+abbrev pub ticket_names : KindNames
+ticket_names = record { name = codes "ticket"; states = codes "free" ∷ codes "taken" ∷ []; invs = codes "Take" ∷ []; resps = codes "ok" ∷ [] }
+
 abbrev pub ticketed : Declaration
-ticketed = store 1 ticket_kind (0 ∷ []) (record { weights = 1 ∷ []; initial = (1 ∷ []) ∷ []; last = (1 ∷ []) ∷ [] } ∷ [])
+ticketed = store 1 ticket_kind ticket_names (0 ∷ []) (record { weights = 1 ∷ []; initial = (1 ∷ []) ∷ []; last = (1 ∷ []) ∷ [] } ∷ [])
