@@ -1,5 +1,6 @@
 //! Calls over the fakes: the printed texts are from outside.
 
+mod answers;
 mod declarations;
 mod ends;
 mod runs;
