@@ -12,6 +12,7 @@ use Rattle.qc_plan.proofs.Faultless as plan_proofs
 use Rattle.qc_plan.specs.Faults.{fault_of}
 use Rattle.qc_plan.specs.declared.fault.PlanFault.{PlanFault}
 use Rattle.qc_plan.specs.declared.plan.Plan.{Plan}
+use Rattle.qc_runs.proofs.Cases.{none_some, one_some}
 use Rattle.qc_runs.proofs.Finding.{at_most, below, both, found, same_number}
 use Rattle.qc_runs.specs.Settings.{latch, latch_kind, latched, moved, pair, store, three_twice, ticket, ticket_kind, ticketed}
 use Rattle.qc_table.specs.Sound.{IsSound}
@@ -54,19 +55,19 @@ good_plan decl plan = option_map made (both (same_number (length plan.weights) d
 
 -- what holds of each place of a list
 abbrev each_place : {A : Type 0} (P : A → Type 0) → ((x : A) → Option (P x)) → (xs : List A) → Option ((place : ℕ) (x : A) → slice_get xs place ≡ Some x → P x)
-each_place {A = A} P look [] = Some (λ place x e. absurd (let never : ⊥ = cc in never))
+each_place {A = A} P look [] = Some (λ place x e. absurd (none_some e))
 each_place {A = A} P look (y ∷ ys) = option_map made (both (look y) (each_place P look ys))
   where
     made : P y × ((place : ℕ) (x : A) → slice_get ys place ≡ Some x → P x) → (place : ℕ) (x : A) → slice_get (y ∷ ys) place ≡ Some x → P x
-    made f zero x e = let same : y ≡ x = cc in subst P same f.0
+    made f zero x e = subst P (one_some e) f.0
     made f (suc place) x e = f.1 place x e
 
 abbrev store_accepted : (actors : ℕ) (kind : Kind) (objects : List ℕ) (plans : List Plan) → IsRight kind → Option (IsAccepted (store actors kind objects plans))
 store_accepted actors kind objects plans right = option_map made (both (below 0 actors) (both (at_most actors 16) (both (below 0 (length plans)) (both (each_place (λ n. n < 1) (λ n. below n 1) objects) (each_place (IsGood (store actors kind objects plans)) (good_plan (store actors kind objects plans)) plans)))))
   where
     the_kind : (number : ℕ) (k : Kind) → slice_get (kind ∷ []) number ≡ Some k → IsRight k
-    the_kind zero k is = let same : kind ≡ k = cc in subst IsRight same right
-    the_kind (suc number) k is = absurd (let never : ⊥ = cc in never)
+    the_kind zero k is = subst IsRight (one_some is) right
+    the_kind (suc number) k is = absurd (none_some is)
 
     made : (0 < actors) × ((actors ≤ 16) × ((0 < length plans) × (((place n : ℕ) → slice_get objects place ≡ Some n → n < 1) × ((place : ℕ) (plan : Plan) → slice_get plans place ≡ Some plan → IsGood (store actors kind objects plans) plan))))
         → IsAccepted (store actors kind objects plans)

@@ -13,6 +13,7 @@ use Rattle.qc_protocol.specs.Asked.{Guard, Asked, AnswersFromView, InvocationIsD
 use Rattle.qc_protocol.specs.Guards.{IsAppendOfBy, IsExecutedFromBy, IsShown, MayCommitBy, op_of, own_on, read_lock}
 use Rattle.qc_protocol.specs.Site.{Item, Lock, Own}
 use Rattle.qc_protocol.specs.State.{AppendRequest, Granted, State, Status, NotBegun, Active, Voting, Pending, Committed, Aborted, YesVote}
+use Rattle.qc_runs.proofs.Cases.{none_some, one_some}
 use Rattle.qc_runs.proofs.Alike.{same_item, same_line, same_list, same_op, same_own, same_vote}
 use Rattle.qc_runs.proofs.Answered.{answered}
 use Rattle.qc_runs.proofs.Finding.{asked, below, both, every, member, same_number, where_same_tx}
@@ -31,11 +32,11 @@ is_new NotBegun = Some refl
 is_new _ = None
 
 abbrev declared : (o : Option Kind) (inv : ℕ) → Option ((kind : Kind) → o ≡ Some kind → inv < kind.table.invs)
-declared None inv = Some (λ kind e. absurd (let never : ⊥ = cc in never))
+declared None inv = Some (λ kind e. absurd (none_some e))
 declared (Some k) inv = option_map by (below inv k.table.invs)
   where
     by : inv < k.table.invs → (kind : Kind) → Some k ≡ Some kind → inv < kind.table.invs
-    by e kind f = let same : k ≡ kind = cc in subst (λ (x : Kind). inv < x.table.invs) same e
+    by e kind f = subst (λ (x : Kind). inv < x.table.invs) (one_some f) e
 
 abbrev pub executed_from : (ask : Guard → Bool) (decl : Declaration) (epoch : ℕ) (counted : List Granted) (executed : List Executed) (tx : TxId) (d : Executed)
     → Option (IsExecutedFromBy ask decl epoch counted executed tx d)

@@ -16,6 +16,7 @@ use Rattle.qc_protocol.specs.Asked.{Guard, Asked, DecidesByPlan, DecidesFromSnap
 use Rattle.qc_protocol.specs.Guards.{IsMerged, IsResolvedBy, MayDecideBy}
 use Rattle.qc_protocol.specs.Site.{Item, Lock, Own, Promise, epoch_from, site_after}
 use Rattle.qc_protocol.specs.State.{Decision, Snapshot, State, Verdict}
+use Rattle.qc_runs.proofs.Cases.{lock_own, one_own}
 use Rattle.qc_runs.proofs.Alike.{same_item, same_line, same_snapshot, same_verdict}
 use Rattle.qc_runs.proofs.Finding.{IsFound, asked, at_most, both, every, found, member, same_number, some}
 
@@ -67,11 +68,11 @@ abbrev IsLineIn : Stamp → Promise → List Line → Item → Type 0
 IsLineIn stamp p log x = (o : OwnLine) → x ≡ Own o → In (committed_line stamp p.tx o) log
 
 abbrev line_in : (stamp : Stamp) (p : Promise) (log : List Line) (x : Item) → Option (IsLineIn stamp p log x)
-line_in stamp p log (Lock l) = Some (λ o e. absurd (let never : ⊥ = cc in never))
+line_in stamp p log (Lock l) = Some (λ o e. absurd (lock_own e))
 line_in stamp p log (Own q) = option_map made (member same_line (committed_line stamp p.tx q) log)
   where
     made : In (committed_line stamp p.tx q) log → IsLineIn stamp p log (Own q)
-    made h o e = let same : q ≡ o = cc in subst (λ (x : OwnLine). In (committed_line stamp p.tx x) log) same h
+    made h o e = subst (λ (x : OwnLine). In (committed_line stamp p.tx x) log) (one_own e) h
 
 abbrev lines_in : (stamp : Stamp) (p : Promise) (log : List Line) → Option ((o : OwnLine) → In (Own o) p.items → In (committed_line stamp p.tx o) log)
 lines_in stamp p log = option_map made (every (IsLineIn stamp p log) (line_in stamp p log) p.items)

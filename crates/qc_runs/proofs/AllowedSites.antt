@@ -14,6 +14,7 @@ use Rattle.qc_protocol.specs.Guards.{Conflict, IsRequested, MayGrantBy, MaySnaps
 use Rattle.qc_protocol.specs.Names.{same_tx}
 use Rattle.qc_protocol.specs.Site.{Deed, DoneRecord, Grants, Prepares, LearnsCommit, LearnsAbort, Closes, Installs, Rises, Held, Item, Lock, Own, done_records, empty_site, epoch_from, items_of, shut_from, site_after}
 use Rattle.qc_protocol.specs.State.{AppendRequest, Granted, Snapshot}
+use Rattle.qc_runs.proofs.Cases.{IsInstall, one_clock}
 use Rattle.qc_runs.proofs.Alike.{same_append, same_item, same_line, same_list}
 use Rattle.qc_runs.proofs.Finding.{asked, at_most, both, every, is_false, is_true, member, same_number, where_same}
 
@@ -22,13 +23,13 @@ abbrev HasPassed : ℕ → Deed → Type 0
 HasPassed clock d = (k c : ℕ) (log : List Line) → Installs k c log ≡ d → c ≤ clock
 
 abbrev passed : (clock : ℕ) (d : Deed) → Option (HasPassed clock d)
-passed clock (Installs j d more) = option_map (λ (e : d ≤ clock). λ (k c : ℕ) (log : List Line) (same : Installs k c log ≡ Installs j d more). let is : c ≡ d = cc in subst (λ (x : ℕ). x ≤ clock) (sym is) e) (at_most d clock)
-passed clock (Grants t xs v) = Some (λ k c log e. absurd (let never : ⊥ = cc in never))
-passed clock (Prepares t) = Some (λ k c log e. absurd (let never : ⊥ = cc in never))
-passed clock (LearnsCommit t s) = Some (λ k c log e. absurd (let never : ⊥ = cc in never))
-passed clock (LearnsAbort t) = Some (λ k c log e. absurd (let never : ⊥ = cc in never))
-passed clock Closes = Some (λ k c log e. absurd (let never : ⊥ = cc in never))
-passed clock Rises = Some (λ k c log e. absurd (let never : ⊥ = cc in never))
+passed clock (Installs j d more) = option_map (λ (e : d ≤ clock). λ (k c : ℕ) (log : List Line) (same : Installs k c log ≡ Installs j d more). subst (λ (x : ℕ). x ≤ clock) (sym (one_clock same)) e) (at_most d clock)
+passed clock (Grants t xs v) = Some (λ k c log e. absurd (subst IsInstall e tt))
+passed clock (Prepares t) = Some (λ k c log e. absurd (subst IsInstall e tt))
+passed clock (LearnsCommit t s) = Some (λ k c log e. absurd (subst IsInstall e tt))
+passed clock (LearnsAbort t) = Some (λ k c log e. absurd (subst IsInstall e tt))
+passed clock Closes = Some (λ k c log e. absurd (subst IsInstall e tt))
+passed clock Rises = Some (λ k c log e. absurd (subst IsInstall e tt))
 
 abbrev installs_passed : (deeds : List Deed) (clock : ℕ) → Option ((k c : ℕ) (log : List Line) → In (Installs k c log) deeds → c ≤ clock)
 installs_passed deeds clock = option_map made (every (HasPassed clock) (passed clock) deeds)

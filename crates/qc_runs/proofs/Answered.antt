@@ -8,6 +8,7 @@ use Rattle.qc_entry.specs.Line.{line_cmp}
 use Rattle.qc_entry.specs.declared.line.Line.{Line}
 use Rattle.qc_onecopy.specs.Executed.{Executed, IsAnswered, IsLineBefore, Replies, events_seen, kind_at}
 use Rattle.qc_onecopy.specs.Lists.{IsBeforeAll, IsOrdered}
+use Rattle.qc_runs.proofs.Cases.{none_some, one_some}
 use Rattle.qc_runs.proofs.Alike.{same_option}
 use Rattle.qc_runs.proofs.Finding.{both, every, is_true, is_false, same_number}
 use Rattle.qc_table.specs.Rules.{event, event_number, events_of}
@@ -45,11 +46,11 @@ replies kind history inv None = no_reply kind history inv
 replies kind history inv (Some resp) = is_true (allows kind history inv resp)
 
 abbrev numbered : (kind : Kind) (inv number : ℕ) (o : Option ℕ) → Option ((resp : ℕ) → o ≡ Some resp → event_number (events_of kind.table.rows) (event inv resp) ≡ Some number)
-numbered kind inv number None = Some (λ resp e. absurd (let never : ⊥ = cc in never))
+numbered kind inv number None = Some (λ resp e. absurd (none_some e))
 numbered kind inv number (Some r) = option_map by (same_option same_number (event_number (events_of kind.table.rows) (event inv r)) (Some number))
   where
     by : event_number (events_of kind.table.rows) (event inv r) ≡ Some number → (resp : ℕ) → Some r ≡ Some resp → event_number (events_of kind.table.rows) (event inv resp) ≡ Some number
-    by e resp f = let same : r ≡ resp = cc in subst (λ (x : ℕ). event_number (events_of kind.table.rows) (event inv x) ≡ Some number) same e
+    by e resp f = subst (λ (x : ℕ). event_number (events_of kind.table.rows) (event inv x) ≡ Some number) (one_some f) e
 
 abbrev line_before : (l m : Line) → Option (IsLineBefore l m)
 line_before l m = by (line_cmp l m) refl

@@ -21,5 +21,8 @@ two_epochs_commit = record { accepted = three_twice_accepted; run = found (run_o
 pub conflict_is_refused : IsRefused three (written ++ given_up) conflict
 conflict_is_refused h = (h.2).free first (Lock (record { object = 0; inv = 0 })) (Own first_line) (inl refl) (inl refl) other (refl, refl)
   where
+    apart : ◌≡◌ {A = ℕ} 0 1 → ⊥
+    apart e = omega arith
+
     other : first ≡ second → ⊥
-    other e = let c : first.client ≡ second.client = ap (λ (t : TxId). t.client) e in let d : 0 ≡ 1 = c in omega arith
+    other e = apart (ap (λ (t : TxId). t.client) e)

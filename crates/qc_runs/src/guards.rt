@@ -19,7 +19,8 @@ pub fn guards_have_places_of_their_own()
 /// Every run of the protocol keeps each guarantee.
 #[tactic(auto, using(crate::proofs::Kept::kept))]
 pub fn runs_keep_the_guarantees()
-    ensures { (guarantee : Guarantee) (decl : Declaration) (acts : List Act) → IsAccepted decl → IsRun decl acts → Holds guarantee decl acts }
+    ensures { (guarantee : Guarantee) (decl : Declaration) (acts : List Act) → IsAccepted decl → IsRun decl acts
+        → Holds guarantee decl acts }
 {}
 
 /// Without a guard some run breaks a guarantee. One guard is kept for its
