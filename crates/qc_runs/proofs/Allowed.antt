@@ -1,7 +1,6 @@
 -- Each act is found to be allowed, where these guards are asked; and so a story is found to be a run.
-use Rattle.std.proofs.Common.{◌≡◌, ℕ, suc, ◌<◌, ◌≤◌, Bool, true, false, ◌⊎◌, inl, inr, IsSome, List, [], ◌∷◌, Option, Some, None, is_some, option_map, refl, sym, ap, subst}
+use Rattle.std.proofs.Common.{◌≡◌, ℕ, ◌≤◌, Bool, true, false, ◌⊎◌, inl, inr, IsSome, List, [], ◌∷◌, Option, Some, None, option_map, refl, subst}
 use Rattle.qc_stamp.specs.declared.stamp.TxId.{TxId}
-use Rattle.qc_entry.specs.declared.line.Line.{Line}
 use Rattle.qc_entry.specs.declared.record.Commit.{Commit as CommitRecord}
 use Rattle.qc_plan.specs.declared.plan.Plan.{Plan}
 use Rattle.qc_decl.specs.Lookup.{append_need_of, plan_in}
@@ -11,14 +10,14 @@ use Rattle.qc_onecopy.specs.Lists.{In}
 use Rattle.qc_protocol.specs.Acts.{Act, Begin, Choose, SendAppend, Execute, ExecuteAbsent, Grant, Count, Prepare, Vote, PrepareLost, Commit, CommitUnknown, Recover, Abort, RiseClient, Announce, Learn, Rise, Close, TakeSnapshot, Decide, Install, state}
 use Rattle.qc_protocol.specs.Asked.{Guard, Asked, BeginsOnce, BeginsInPlannedEpoch, OperatesWhileActive, ChoosesOneAtATime, ChosenHasResponse, AppendsWhatIsChosen, AppendQuorumIsMet, AbsentHasNoResponse, GrantTellsDeeds, GrantTellsLife, GrantsWhatWasRequested, CountsWhatWasGranted, CountsWhileActive, CountsInItsEpoch, PreparesOnce, PreparesWhenExecuted, VotesWhenAsked, VotesInGrantedLife, RecordsPrepareWhenAsked, AbortsBeforeRecord, RisesWithNoneRunning, RisesPastRecords, LearnsWhatWasAnnounced, SnapshotTellsDeeds, InstallsWhatWasDecided, InstallsLaterEpoch}
 use Rattle.qc_protocol.specs.Guards.{HasQuorum, HasRecord, IsAllowedBy, IsAppendOfBy, IsLive, IsRunBy, MayPrepare}
-use Rattle.qc_protocol.specs.Site.{Item, Lock, Own, epoch_from}
+use Rattle.qc_protocol.specs.Site.{Item, Own, epoch_from}
 use Rattle.qc_protocol.specs.State.{AppendRequest, Granted, State, Status, NotBegun, Active, Voting, Pending, Committed, Aborted}
 use Rattle.qc_runs.proofs.Alike.{same_decision, same_deed, same_granted, same_list, same_verdict}
-use Rattle.qc_runs.proofs.AllowedClients.{append_of, executed_from, is_active, is_new, is_voting, may_commit}
+use Rattle.qc_runs.proofs.AllowedClients.{append_of, executed_from, is_active, is_new, may_commit}
 use Rattle.qc_runs.proofs.AllowedDecisions.{may_decide}
 use Rattle.qc_runs.proofs.AllowedSites.{may_grant, may_snapshot, requested}
-use Rattle.qc_runs.proofs.Begun.{IsNewOrBegun, begun, new_or_begun}
-use Rattle.qc_runs.proofs.Finding.{asked, at_most, below, both, every, found, member, same_number, where_same, where_same_tx}
+use Rattle.qc_runs.proofs.Begun.{begun, new_or_begun}
+use Rattle.qc_runs.proofs.Finding.{asked, at_most, below, both, every, member, same_number, where_same, where_same_tx}
 use Rattle.qc_runs.proofs.Quorums.{quorum}
 use Rattle.qc_runs.specs.Moves.{Move, acts_from, acts_of}
 

@@ -1,5 +1,5 @@
 -- What a client does is found to be allowed: it executes from a view, sends Appends, writes its commit record.
-use Rattle.std.proofs.Common.{◌≡◌, ℕ, zero, suc, arith, ◌<◌, Bool, ◌⊎◌, inl, inr, List, [], ◌∷◌, map, length, Option, Some, None, option_map, refl, sym, ap, subst}
+use Rattle.std.proofs.Common.{◌≡◌, ℕ, zero, suc, arith, ◌<◌, Bool, ◌⊎◌, inl, inr, List, map, length, Option, Some, None, option_map, refl, subst}
 use Rattle.qc_stamp.specs.declared.stamp.TxId.{TxId}
 use Rattle.qc_entry.specs.declared.line.Line.{Line}
 use Rattle.qc_entry.specs.declared.line.OwnLine.{OwnLine}
@@ -9,10 +9,10 @@ use Rattle.qc_decl.specs.declared.declaration.Declaration.{Declaration}
 use Rattle.qc_decl.specs.Lookup.{append_need_of, read_need_of}
 use Rattle.qc_onecopy.specs.Executed.{Executed, kind_at, own_line}
 use Rattle.qc_onecopy.specs.Lists.{In}
-use Rattle.qc_protocol.specs.Asked.{Guard, Asked, AnswersFromView, InvocationIsDeclared, OperationsAreNumbered, OwnLinesAreKept, ViewWasShown, ViewIsWhole, ReadQuorumIsMet, AppendCarriesView, AppendCarriesOnlyOwnLines, AppendCarriesEarlierLines, CommitsWhenVoting, AllHaveVoted, StampIsItsClients, StampPassesClock, RecordHasOperations}
+use Rattle.qc_protocol.specs.Asked.{Guard, AnswersFromView, InvocationIsDeclared, OperationsAreNumbered, OwnLinesAreKept, ViewWasShown, ViewIsWhole, ReadQuorumIsMet, AppendCarriesView, AppendCarriesOnlyOwnLines, AppendCarriesEarlierLines, CommitsWhenVoting, AllHaveVoted, StampIsItsClients, StampPassesClock, RecordHasOperations}
 use Rattle.qc_protocol.specs.Guards.{IsAppendOfBy, IsExecutedFromBy, IsShown, MayCommitBy, op_of, own_on, read_lock}
 use Rattle.qc_protocol.specs.Site.{Item, Lock, Own}
-use Rattle.qc_protocol.specs.State.{AppendRequest, Granted, State, Status, NotBegun, Active, Voting, Pending, Committed, Aborted, YesVote}
+use Rattle.qc_protocol.specs.State.{AppendRequest, Granted, State, Status, NotBegun, Active, Voting, YesVote}
 use Rattle.qc_runs.proofs.Cases.{none_some, one_some}
 use Rattle.qc_runs.proofs.Alike.{same_item, same_line, same_list, same_op, same_own, same_vote}
 use Rattle.qc_runs.proofs.Answered.{answered}

@@ -1,5 +1,5 @@
 -- What a site tells is found to be allowed: grants and snapshots.
-use Rattle.std.proofs.Common.{◌≡◌, ◌≢◌, ℕ, ◌≤◌, Bool, true, false, cond, ◌⊎◌, inl, inr, IsTrue, List, [], ◌∷◌, Option, Some, None, option_map, refl, sym, ap, ◌∙◌, subst, true≢false}
+use Rattle.std.proofs.Common.{◌≡◌, ◌≢◌, ℕ, ◌≤◌, Bool, true, false, cond, inl, inr, IsTrue, List, [], ◌∷◌, Option, Some, None, option_map, refl, sym, ◌∙◌, subst, true≢false}
 use Rattle.qc_stamp.specs.declared.stamp.Stamp.{Stamp}
 use Rattle.qc_stamp.specs.declared.stamp.TxId.{TxId}
 use Rattle.qc_entry.specs.declared.line.Line.{Line}
@@ -9,13 +9,13 @@ use Rattle.qc_decl.specs.declared.declaration.Declaration.{Declaration}
 use Rattle.qc_onecopy.specs.Executed.{depends_at}
 use Rattle.qc_onecopy.specs.Lists.{In}
 use Rattle.qc_protocol.proofs.Names.{tx_is}
-use Rattle.qc_protocol.specs.Asked.{Guard, Asked, GrantTellsEpoch, GrantsUnlessClosed, GrantPassesInstalls, GrantsWithoutConflict, GrantPassesDone, GrantPassesLines, SnapshotIsOfClosed, SnapshotPassesDone, SnapshotPassesInstalls}
+use Rattle.qc_protocol.specs.Asked.{Guard, GrantTellsEpoch, GrantsUnlessClosed, GrantPassesInstalls, GrantsWithoutConflict, GrantPassesDone, GrantPassesLines, SnapshotIsOfClosed, SnapshotPassesDone, SnapshotPassesInstalls}
 use Rattle.qc_protocol.specs.Guards.{Conflict, IsRequested, MayGrantBy, MaySnapshotBy}
 use Rattle.qc_protocol.specs.Names.{same_tx}
 use Rattle.qc_protocol.specs.Site.{Deed, DoneRecord, Grants, Prepares, LearnsCommit, LearnsAbort, Closes, Installs, Rises, Held, Item, Lock, Own, done_records, empty_site, epoch_from, items_of, shut_from, site_after}
 use Rattle.qc_protocol.specs.State.{AppendRequest, Granted, Snapshot}
 use Rattle.qc_runs.proofs.Cases.{IsInstall, one_clock}
-use Rattle.qc_runs.proofs.Alike.{same_append, same_item, same_line, same_list}
+use Rattle.qc_runs.proofs.Alike.{same_append}
 use Rattle.qc_runs.proofs.Finding.{asked, at_most, both, every, is_false, is_true, member, same_number, where_same}
 
 -- an Install has a clock that is passed

@@ -1,5 +1,5 @@
 -- An operation that is answered from its view: its reply is one that the view and its own lines allow.
-use Rattle.std.proofs.Common.{◌≡◌, ℕ, ◌==◌, ◌&&◌, Bool, true, false, cond, List, [], ◌∷◌, Option, Some, None, find, is_some, option_map, option_and_then, refl, sym, ap, ◌∙◌, subst}
+use Rattle.std.proofs.Common.{◌≡◌, ℕ, ◌==◌, Bool, true, false, List, [], ◌∷◌, Option, Some, None, is_some, option_map, option_and_then, refl, ap, ◌∙◌, subst}
 use Rattle.std.specs.declared.cmp.Ordering.{Ordering}
 use Rattle.std.specs.declared.cmp.Ordering.TheVariants.{Less, Equal, Greater}
 use Rattle.qc_cert.specs.Views.{allows, state_after}
@@ -7,12 +7,12 @@ use Rattle.qc_decl.specs.declared.declaration.Declaration.{Declaration}
 use Rattle.qc_entry.specs.Line.{line_cmp}
 use Rattle.qc_entry.specs.declared.line.Line.{Line}
 use Rattle.qc_onecopy.specs.Executed.{Executed, IsAnswered, IsLineBefore, Replies, events_seen, kind_at}
-use Rattle.qc_onecopy.specs.Lists.{IsBeforeAll, IsOrdered}
+use Rattle.qc_onecopy.specs.Lists.{IsOrdered}
 use Rattle.qc_runs.proofs.Cases.{none_some, one_some}
 use Rattle.qc_runs.proofs.Alike.{same_option}
-use Rattle.qc_runs.proofs.Finding.{both, every, is_true, is_false, same_number}
+use Rattle.qc_runs.proofs.Finding.{both, every, is_true, same_number}
 use Rattle.qc_table.specs.Rules.{event, event_number, events_of}
-use Rattle.qc_table.specs.Run.{is_row_of, next_in}
+use Rattle.qc_table.specs.Run.{next_in}
 use Rattle.qc_table.specs.declared.kind.Kind.{Kind}
 use Rattle.qc_table.specs.declared.row.Row.{Row}
 

@@ -1,8 +1,5 @@
 -- Each guard but one is needed, and no two have one place in the list of all.
-use Rattle.std.proofs.Common.{◌≡◌, ◌≢◌, List, ◌∷◌, Some, refl, slice_get, subst}
-use Rattle.qc_decl.specs.Accepted.{IsAccepted}
-use Rattle.qc_decl.specs.declared.declaration.Declaration.{Declaration}
-use Rattle.qc_protocol.specs.Acts.{Act}
+use Rattle.std.proofs.Common.{◌≡◌, ◌≢◌, Some, refl, slice_get}
 use Rattle.qc_protocol.specs.Asked.{Guard, BeginsOnce, BeginsInPlannedEpoch, OperatesWhileActive, ChoosesOneAtATime, AnswersFromView, InvocationIsDeclared, OperationsAreNumbered, OwnLinesAreKept, ViewWasShown, ViewIsWhole, ReadQuorumIsMet, ChosenHasResponse, AbsentHasNoResponse, AppendsWhatIsChosen, AppendCarriesView, AppendCarriesOnlyOwnLines, AppendCarriesEarlierLines, AppendQuorumIsMet, GrantTellsDeeds, GrantTellsLife, GrantTellsEpoch, GrantsUnlessClosed, GrantPassesInstalls, GrantsWithoutConflict, GrantPassesDone, GrantPassesLines, GrantsWhatWasRequested, CountsWhatWasGranted, CountsWhileActive, CountsInItsEpoch, PreparesOnce, PreparesWhenExecuted, VotesWhenAsked, VotesInGrantedLife, RecordsPrepareWhenAsked, CommitsWhenVoting, AllHaveVoted, StampIsItsClients, StampPassesClock, RecordHasOperations, AbortsBeforeRecord, RisesWithNoneRunning, RisesPastRecords, LearnsWhatWasAnnounced, SnapshotTellsDeeds, SnapshotIsOfClosed, SnapshotPassesDone, SnapshotPassesInstalls, DecidesByPlan, DecidesFromSnapshots, DecidesNextEpoch, ClosesEnough, ClosedSitesAnswered, ResolvesPrepared, MergesEveryEntry, DecidePassesCommitted, MergesLogs, MergesOnlyCommitted, DecidePassesSnapshots, InstallsWhatWasDecided, InstallsLaterEpoch}
 use Rattle.qc_runs.proofs.WrongOperations.{absent_operations_appended, epochs_without_a_plan, lines_left_out_of_views, operations_after_prepare, operations_with_other_numbers, own_writes_forgotten, reads_without_locks, replies_that_no_view_allows, transactions_that_begin_twice, two_operations_at_once, views_made_up, writes_without_an_append}
 use Rattle.qc_runs.proofs.WrongAppends.{appends_of_nothing_chosen, appends_of_other_lines, earlier_lines_not_sent_along, quorums_that_do_not_meet, views_not_sent_along}

@@ -1,5 +1,5 @@
 -- Facts that are looked for: an answer is the proof of the fact, or none.
-use Rattle.std.proofs.Common.{◌≡◌, ℕ, ◌≤◌, ◌<◌, suc, ◌==◌, leb, Bool, true, false, List, [], ◌∷◌, Option, Some, None, IsTrue, is_some, ◌⊎◌, inl, inr, refl, sym, ap, ◌∙◌, subst, eqb-true, leb-true, true≢false}
+use Rattle.std.proofs.Common.{◌≡◌, ℕ, ◌≤◌, ◌<◌, suc, ◌==◌, leb, Bool, true, false, List, [], ◌∷◌, Option, Some, None, is_some, inl, inr, refl, sym, ◌∙◌, subst, eqb-true, leb-true, true≢false}
 use Rattle.std.proofs.lemmas.Bool.{eqb-false}
 use Rattle.qc_onecopy.specs.Lists.{In}
 use Rattle.qc_protocol.proofs.Names.{tx_test}

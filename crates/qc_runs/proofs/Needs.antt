@@ -1,5 +1,5 @@
 -- A guard is needed, as a story shows: a run without the guard, after which a guarantee is broken.
-use Rattle.std.proofs.Common.{◌≡◌, Bool, true, List, Option, is_some}
+use Rattle.std.proofs.Common.{◌≡◌, true, List, Option, is_some}
 use Rattle.qc_decl.specs.Accepted.{IsAccepted}
 use Rattle.qc_decl.specs.declared.declaration.Declaration.{Declaration}
 use Rattle.qc_protocol.specs.Acts.{Act}

@@ -1,5 +1,5 @@
 -- The two runs are runs, with their records, and the conflict of the first is refused.
-use Rattle.std.proofs.Common.{◌≡◌, ℕ, refl, [], ◌∷◌, ◌++◌, inl, ap, arith}
+use Rattle.std.proofs.Common.{◌≡◌, ℕ, refl, ◌++◌, inl, ap, arith}
 use Rattle.qc_decl.proofs.BuiltInRules.{three_accepted}
 use Rattle.qc_decl.specs.One.{three}
 use Rattle.qc_protocol.specs.Asked.{every_guard}

@@ -1,5 +1,5 @@
 -- Events that are appended wrongly. Each run is one without the guard that its law names.
-use Rattle.std.proofs.Common.{refl, List, [], ◌∷◌, ◌++◌}
+use Rattle.std.proofs.Common.{refl, [], ◌∷◌, ◌++◌}
 use Rattle.qc_decl.proofs.BuiltInRules.{one_accepted, three_accepted}
 use Rattle.qc_decl.specs.One.{one, three}
 use Rattle.qc_onecopy.specs.Executed.{own_line}

@@ -1,5 +1,5 @@
 -- Votes, records and verdicts that are given wrongly. Each run is one without the guard that its law names.
-use Rattle.std.proofs.Common.{refl, List, [], ◌∷◌, ◌++◌, Some}
+use Rattle.std.proofs.Common.{refl, [], ◌∷◌, ◌++◌, Some}
 use Rattle.qc_decl.proofs.BuiltInRules.{one_accepted}
 use Rattle.qc_decl.specs.One.{one}
 use Rattle.qc_protocol.specs.Acts.{Commit, Learn}

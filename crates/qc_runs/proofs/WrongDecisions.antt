@@ -1,5 +1,5 @@
 -- Epochs that are decided and installed wrongly. Each run is one without the guard that its law names.
-use Rattle.std.proofs.Common.{refl, List, [], ◌∷◌, ◌++◌, take}
+use Rattle.std.proofs.Common.{refl, [], ◌∷◌, ◌++◌, take}
 use Rattle.qc_protocol.specs.Acts.{Decide}
 use Rattle.qc_protocol.specs.Asked.{DecidesByPlan, DecidesFromSnapshots, DecidesNextEpoch, ClosesEnough, ClosedSitesAnswered, ResolvesPrepared, MergesEveryEntry, DecidePassesCommitted, MergesLogs, MergesOnlyCommitted, DecidePassesSnapshots, InstallsWhatWasDecided, InstallsLaterEpoch}
 use Rattle.qc_runs.proofs.Accepted.{moved_accepted, pair_accepted}

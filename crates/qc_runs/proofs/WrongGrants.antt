@@ -1,5 +1,5 @@
 -- Grants that sites give, and clients count, wrongly. Each run is one without the guard that its law names.
-use Rattle.std.proofs.Common.{refl, List, [], ◌∷◌, ◌++◌}
+use Rattle.std.proofs.Common.{refl, [], ◌∷◌, ◌++◌}
 use Rattle.qc_decl.proofs.BuiltInRules.{one_accepted}
 use Rattle.qc_decl.specs.One.{one}
 use Rattle.qc_protocol.specs.Acts.{Grant, Count}

@@ -1,5 +1,5 @@
 -- Snapshots that are sent wrongly. Each run is one without the guard that its law names.
-use Rattle.std.proofs.Common.{refl, List, [], ◌∷◌, ◌++◌}
+use Rattle.std.proofs.Common.{refl, [], ◌∷◌, ◌++◌}
 use Rattle.qc_protocol.specs.Acts.{TakeSnapshot}
 use Rattle.qc_protocol.specs.Asked.{SnapshotTellsDeeds, SnapshotIsOfClosed, SnapshotPassesDone, SnapshotPassesInstalls}
 use Rattle.qc_protocol.specs.Site.{Closes}
