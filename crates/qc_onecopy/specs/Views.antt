@@ -1,11 +1,13 @@
 -- What must be known of the committed transactions' operations, so that they are those of one copy of each object. It
 -- knows no sites, locks, epochs, lives or messages.
-use Rattle.std.specs.Prelude.{◌≡◌, ◌≢◌, ◌<◌, IsTrue, ◌⊎◌, List, IsSome}
+use Rattle.std.specs.Prelude.{◌≡◌, ◌≢◌, ℕ, ◌<◌, ◌==◌, Bool, IsTrue, ◌⊎◌, if◌then◌else◌, List, [], ◌∷◌, ◌++◌, map, Option, Some, None, IsSome}
+use Rattle.qc_table.specs.declared.kind.Kind.{Kind}
+use Rattle.qc_cert.specs.Views.{IsView, picked}
 use Rattle.qc_entry.specs.declared.line.Line.{Line}
 use Rattle.qc_entry.specs.declared.line.OwnLine.{OwnLine}
 use Rattle.qc_decl.specs.declared.declaration.Declaration.{Declaration}
 use Rattle.qc_onecopy.specs.Lists.{In, IsOrdered}
-use Rattle.qc_onecopy.specs.Executed.{Placed, IsAnswered, IsEarlier, IsOwnBefore, depends_at, line_of, own_line}
+use Rattle.qc_onecopy.specs.Executed.{Placed, IsAnswered, IsEarlier, IsOwnBefore, depends_at, events_seen, kind_at, line_of, own_line}
 
 -- the second is a later operation of the first one's transaction, on the same object
 pub record IsNext (a b : Placed) : Type 0 where
@@ -57,3 +59,26 @@ pub record AreFromViews (decl : Declaration) (all : List Placed) : Type 0 where
   -- a transaction's view of an object only grows
   pub grows : (a b : Placed) (l : Line) → In a all → In b all → IsNext a b → In l a.operation.view
       → In l b.operation.view
+
+-- the line of an operation that has a response
+abbrev pub lines_of : Option ℕ → Line → List Line
+lines_of None l = []
+lines_of (Some resp) l = l ∷ []
+
+-- the lines of the operations on an object, in their order
+abbrev pub lines_on : ℕ → List Placed → List Line
+lines_on object [] = []
+lines_on object (b ∷ bs) =
+    (if b.operation.op.object == object then lines_of b.operation.op.resp (line_of b) else []) ++ lines_on object bs
+
+-- their events, a history of the object
+abbrev pub history_of : ℕ → List Placed → List ℕ
+history_of object bs = map (λ (l : Line). l.event) (lines_on object bs)
+
+-- what an operation was answered from is what a view, in the sense of certificates, picks from the history before it
+pub record IsFromView (decl : Declaration) (before : List Placed) (b : Placed) : Type 0 where
+  pub kind : Kind
+  pub typed : kind_at decl b.operation.op.object ≡ Some kind
+  pub set : ℕ → Bool
+  pub view : IsView kind (history_of b.operation.op.object before) b.operation.op.inv set
+  pub picks : picked set (history_of b.operation.op.object before) ≡ events_seen b.operation

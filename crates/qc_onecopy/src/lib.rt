@@ -17,5 +17,7 @@ mod states;
 #[cfg(test)]
 mod tests;
 
-pub use laws::{records_are_sorted, replays_are_one_copy, views_are_one_copy};
+pub use laws::{
+    answers_are_from_views, records_are_sorted, replays_are_one_copy, views_are_one_copy,
+};
 pub use states::replay;

@@ -21,7 +21,7 @@ use Rattle.qc_protocol.proofs.CommittedViews.{wl, ll, whose, right, own, own_sor
 use Rattle.qc_protocol.proofs.Ordering.{ordered}
 
 module _ (decl : Declaration) (accepted : IsAccepted decl) (acts : List Act) (run : IsRun decl acts) (L : List CommitRecord) (rising : IsOrdered IsStampedBefore L) (all : (c : CommitRecord) → In c L ↔ In c (state acts).records) where
-  from_views : AreFromViews decl (placed (state acts).executed L)
+  pub from_views : AreFromViews decl (placed (state acts).executed L)
   from_views = record {
     ordered = placed_ordered (state acts).executed L (ll decl accepted acts run L rising all).order rising;
     answered = λ b h. (right decl accepted acts run L rising all b (whose decl accepted acts run L rising all b h)).answered;

@@ -30,7 +30,9 @@ pub use held::{
     counted_grants_are_held, granted_items_are_held, held_lines_are_one_an_operation,
     plain_runs_have_one_life_and_epoch, stamps_pass_what_was_counted, votes_are_never_stale,
 };
-pub use logs::{dependent_operations_are_ordered, logs_are_closed, logs_hold_operations};
+pub use logs::{
+    dependent_operations_are_ordered, logs_are_closed, logs_hold_operations, runs_answer_from_views,
+};
 pub use records::{
     records_are_apart, records_follow_what_was_seen, records_in_order_are_one_copy,
     runs_are_one_copy, verdicts_agree,

@@ -1,11 +1,14 @@
 //! The logs and views of every run: they hold what committed, and are closed.
 
-ghost use Rattle.std.specs.Prelude.{◌≡◌, ◌≢◌, ◌<◌, IsTrue, ◌⊎◌, List, IsSome};
+ghost use Rattle.std.specs.Prelude.{◌++◌, ◌∷◌, ◌≡◌, ◌≢◌, ◌<◌, IsTrue, ◌⊎◌, List, IsSome};
 ghost use Rattle.qc_entry.specs.declared.line.Line.{Line};
 ghost use Rattle.qc_entry.specs.declared.record.Commit.{Commit as CommitRecord};
 ghost use Rattle.qc_decl.specs.declared.declaration.Declaration.{Declaration};
 ghost use Rattle.qc_decl.specs.Accepted.{IsAccepted};
-ghost use Rattle.qc_onecopy.specs.Executed.{Executed, committed_line, depends_at, own_line};
+ghost use Rattle.qc_onecopy.specs.Views.{IsFromView};
+ghost use Rattle.qc_onecopy.specs.Committed.{sorted};
+ghost use Rattle.qc_protocol.specs.Placed.{placed};
+ghost use Rattle.qc_onecopy.specs.Executed.{Executed, Placed, committed_line, depends_at, own_line};
 ghost use Rattle.qc_onecopy.specs.Lists.{In};
 ghost use Rattle.qc_onecopy.specs.Logged.{IsClosedLog, IsLogged};
 ghost use Rattle.qc_protocol.specs.Acts.{Act, state};
@@ -35,4 +38,12 @@ pub fn dependent_operations_are_ordered()
         → In a ((state acts).executed c.tx) → In b ((state acts).executed d.tx) → c.stamp ≢ d.stamp
         → a.op.object ≡ b.op.object → IsSome a.op.resp → IsTrue (depends_at decl b.op.object b.op.inv a.event)
         → In (committed_line c.stamp c.tx (own_line a)) b.view ⊎ (d.stamp.clock < c.stamp.clock) }
+{}
+
+/// Each operation of a record was answered from a view, in the sense of
+/// certificates, of the lines of its object in the records' order before it.
+pub fn runs_answer_from_views()
+    ensures { (decl : Declaration) (acts : List Act) (before after : List Placed) (b : Placed) → IsAccepted decl
+        → IsRun decl acts → before ++ b ∷ after ≡ placed (state acts).executed (sorted (state acts).records)
+        → IsFromView decl before b }
 {}
