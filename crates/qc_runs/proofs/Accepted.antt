@@ -13,8 +13,8 @@ use Rattle.qc_plan.specs.Faults.{fault_of}
 use Rattle.qc_plan.specs.declared.fault.PlanFault.{PlanFault}
 use Rattle.qc_plan.specs.declared.plan.Plan.{Plan}
 use Rattle.qc_runs.proofs.Cases.{none_some, one_some}
-use Rattle.qc_runs.proofs.Finding.{at_most, below, both, found, same_number}
-use Rattle.qc_runs.specs.Settings.{latch, latch_kind, latched, moved, pair, store, three_twice, ticket, ticket_kind, ticketed}
+use Rattle.qc_runs.proofs.Finding.{at_most, below, both, proof_of, same_number}
+use Rattle.qc_runs.specs.Settings.{latch, latch_kind, latch_store, moving_register, two_registers, store, three_in_two_epochs, ticket, ticket_kind, ticket_store}
 use Rattle.qc_table.specs.Sound.{IsSound}
 use Rattle.qc_table.specs.declared.kind.Kind.{Kind}
 
@@ -73,17 +73,17 @@ store_accepted actors kind objects plans right = option_map made (both (below 0 
         → IsAccepted (store actors kind objects plans)
     made f = record { has_site = f.0; sites = (f.1).0; has_client = f.0; clients = (f.1).0; has_epoch = ((f.1).1).0; typed = (((f.1).1).1).0; right = the_kind; good = (((f.1).1).1).1 }
 
-pub moved_accepted : IsAccepted moved
-moved_accepted = found (store_accepted 3 register_kind (0 ∷ []) moved.plans register_right) refl
+pub moving_register_accepted : IsAccepted moving_register
+moving_register_accepted = proof_of (store_accepted 3 register_kind (0 ∷ []) moving_register.plans register_right) refl
 
-pub pair_accepted : IsAccepted pair
-pair_accepted = found (store_accepted 2 register_kind (0 ∷ 0 ∷ []) pair.plans register_right) refl
+pub two_registers_accepted : IsAccepted two_registers
+two_registers_accepted = proof_of (store_accepted 2 register_kind (0 ∷ 0 ∷ []) two_registers.plans register_right) refl
 
-pub latched_accepted : IsAccepted latched
-latched_accepted = found (store_accepted 2 latch_kind (0 ∷ []) latched.plans latch_right) refl
+pub latch_store_accepted : IsAccepted latch_store
+latch_store_accepted = proof_of (store_accepted 2 latch_kind (0 ∷ []) latch_store.plans latch_right) refl
 
-pub ticketed_accepted : IsAccepted ticketed
-ticketed_accepted = found (store_accepted 1 ticket_kind (0 ∷ []) ticketed.plans ticket_right) refl
+pub ticket_store_accepted : IsAccepted ticket_store
+ticket_store_accepted = proof_of (store_accepted 1 ticket_kind (0 ∷ []) ticket_store.plans ticket_right) refl
 
-pub three_twice_accepted : IsAccepted three_twice
-three_twice_accepted = found (store_accepted 3 register_kind (0 ∷ []) three_twice.plans register_right) refl
+pub three_in_two_epochs_accepted : IsAccepted three_in_two_epochs
+three_in_two_epochs_accepted = proof_of (store_accepted 3 register_kind (0 ∷ []) three_in_two_epochs.plans register_right) refl

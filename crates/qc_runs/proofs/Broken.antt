@@ -42,9 +42,9 @@ no_row o e n f = none_some (sym e ∙ f)
 pub row_is : (o : Option ℕ) (n m : ℕ) → o ≡ Some n → o ≡ Some m → m ≡ n
 row_is o n m e f = one_some (sym f ∙ e)
 
-abbrev told_wrongly : (decl : Declaration) (states : ℕ → ℕ) (object inv resp : ℕ) (ops : List Op) → ((after : ℕ → ℕ) → Option (Walks decl after ops → ⊥))
+abbrev wrong_reply : (decl : Declaration) (states : ℕ → ℕ) (object inv resp : ℕ) (ops : List Op) → ((after : ℕ → ℕ) → Option (Walks decl after ops → ⊥))
     → Option (Goes decl states object inv (Some resp) (λ after. Walks decl after ops) → ⊥)
-told_wrongly decl states object inv resp ops rest = by (step_at decl object (states object) (event inv resp)) refl
+wrong_reply decl states object inv resp ops rest = by (step_at decl object (states object) (event inv resp)) refl
   where
     more : (n : ℕ) → step_at decl object (states object) (event inv resp) ≡ Some n → (Walks decl (updated states object n) ops → ⊥) → Goes decl states object inv (Some resp) (λ after. Walks decl after ops) → ⊥
     more n e f h = f (subst (λ (m : ℕ). Walks decl (updated states object m) ops) (row_is (step_at decl object (states object) (event inv resp)) n h.0 e h.1) h.2)
@@ -61,9 +61,9 @@ has_reply decl states object inv resp = by (step_at decl object (states object) 
     by None e = None
     by (Some n) e = Some (λ h. no_row (step_at decl object (states object) (event inv resp)) (h resp) n e)
 
-abbrev found_absent : (decl : Declaration) (states : ℕ → ℕ) (object inv : ℕ) (ops : List Op) → ((after : ℕ → ℕ) → Option (Walks decl after ops → ⊥))
+abbrev wrong_absence : (decl : Declaration) (states : ℕ → ℕ) (object inv : ℕ) (ops : List Op) → ((after : ℕ → ℕ) → Option (Walks decl after ops → ⊥))
     → Option (Goes decl states object inv None (λ after. Walks decl after ops) → ⊥)
-found_absent decl states object inv ops rest =
+wrong_absence decl states object inv ops rest =
     or_else (option_map here (or_else (has_reply decl states object inv 0) (or_else (has_reply decl states object inv 1) (has_reply decl states object inv 2)))) (option_map later (rest states))
   where
     here : (((r : ℕ) → step_at decl object (states object) (event inv r) ≡ None) → ⊥) → Goes decl states object inv None (λ after. Walks decl after ops) → ⊥
@@ -74,8 +74,8 @@ found_absent decl states object inv ops rest =
 
 abbrev goes_wrong : (decl : Declaration) (states : ℕ → ℕ) (object inv : ℕ) (resp : Option ℕ) (ops : List Op) → ((after : ℕ → ℕ) → Option (Walks decl after ops → ⊥))
     → Option (Goes decl states object inv resp (λ after. Walks decl after ops) → ⊥)
-goes_wrong decl states object inv None ops rest = found_absent decl states object inv ops rest
-goes_wrong decl states object inv (Some resp) ops rest = told_wrongly decl states object inv resp ops rest
+goes_wrong decl states object inv None ops rest = wrong_absence decl states object inv ops rest
+goes_wrong decl states object inv (Some resp) ops rest = wrong_reply decl states object inv resp ops rest
 
 abbrev no_walk : (decl : Declaration) (states : ℕ → ℕ) (ops : List Op) → Option (Walks decl states ops → ⊥)
 no_walk decl states [] = None

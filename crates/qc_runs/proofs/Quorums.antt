@@ -11,7 +11,7 @@ use Rattle.qc_protocol.specs.Site.{Item, Lock, Own, site_after}
 use Rattle.qc_protocol.specs.State.{Granted}
 use Rattle.qc_runs.proofs.Cases.{one_lock, own_lock}
 use Rattle.qc_runs.proofs.Alike.{alike_tx, same_item, same_line}
-use Rattle.qc_runs.proofs.Finding.{IsFound, at_most, both, every, found, member, same_number, some, where_same, where_same_tx}
+use Rattle.qc_runs.proofs.Finding.{IsFound, at_most, both, every, proof_of, member, same_number, some, where_same, where_same_tx}
 
 abbrev IsGrantOf : TxId → ℕ → Item → Granted → Type 0
 IsGrantOf tx site item g = (g.tx ≡ tx) × ((g.site ≡ site) × In item g.items)
@@ -26,7 +26,7 @@ abbrev pub quorum : (decl : Declaration) (epoch : ℕ) (counted : List Granted) 
 quorum decl epoch counted tx item need = option_map made (at_most need (weight (λ site. is_some (has_granted counted tx item site)) (weights_of decl epoch)))
   where
     made : need ≤ weight (λ site. is_some (has_granted counted tx item site)) (weights_of decl epoch) → HasQuorum decl epoch counted tx item need
-    made e = record { sites = λ site. is_some (has_granted counted tx item site); enough = e; each = λ site t. found (has_granted counted tx item site) t }
+    made e = record { sites = λ site. is_some (has_granted counted tx item site); enough = e; each = λ site t. proof_of (has_granted counted tx item site) t }
 
 -- a lock on an object
 abbrev IsLockOn : ℕ → Item → Type 0

@@ -59,8 +59,8 @@ abbrev pub begins : TxId → ℕ → Move
 begins tx epoch now = Begin tx epoch
 
 -- a site's grant of items and a view to a transaction
-abbrev pub granted : TxId → ℕ → List Item → List Line → State → Granted
-granted tx site items view now = record {
+abbrev pub grant_of : TxId → ℕ → List Item → List Line → State → Granted
+grant_of tx site items view now = record {
   tx = tx;
   site = site;
   epoch = epoch_from 1 (now.deeds site);
@@ -74,27 +74,27 @@ granted tx site items view now = record {
 abbrev pub lock : ℕ → ℕ → List Item
 lock object inv = Lock (record { object = object; inv = inv }) ∷ []
 
-abbrev pub read_granted : TxId → ℕ → ℕ → ℕ → State → Granted
-read_granted tx site object inv now = granted tx site (lock object inv) [] now
+abbrev pub read_grant : TxId → ℕ → ℕ → ℕ → State → Granted
+read_grant tx site object inv now = grant_of tx site (lock object inv) [] now
 
 -- the last Append of the transaction
 abbrev pub last_append : TxId → State → AppendRequest
 last_append tx now =
     first_of (λ (s : AppendRequest). same_tx s.tx tx) (record { tx = tx; items = []; view = [] }) now.appends
 
-abbrev pub append_granted : TxId → ℕ → State → Granted
-append_granted tx site now = let s : AppendRequest = last_append tx now in granted tx site s.items s.view now
+abbrev pub append_grant : TxId → ℕ → State → Granted
+append_grant tx site now = let s : AppendRequest = last_append tx now in grant_of tx site s.items s.view now
 
 abbrev pub grants_read : TxId → ℕ → ℕ → ℕ → Move
-grants_read tx site object inv now = Grant (read_granted tx site object inv now)
+grants_read tx site object inv now = Grant (read_grant tx site object inv now)
 
 abbrev pub grants_append : TxId → ℕ → Move
-grants_append tx site now = Grant (append_granted tx site now)
+grants_append tx site now = Grant (append_grant tx site now)
 
 -- the client counts the last grant of the site
 abbrev pub counts : TxId → ℕ → Move
 counts tx site now =
-    Count (first_of (λ (g : Granted). same_tx g.tx tx && (g.site == site)) (granted tx site [] [] now) now.granted)
+    Count (first_of (λ (g : Granted). same_tx g.tx tx && (g.site == site)) (grant_of tx site [] [] now) now.granted)
 
 abbrev pub locks_object : Item → ℕ → Bool
 locks_object (Lock l) object = l.object == object

@@ -21,25 +21,26 @@ store actors kind objects plans = record {
 }
 
 -- a register that moves from the first site to the second and the third
-abbrev pub moved : Declaration
-moved =
+abbrev pub moving_register : Declaration
+moving_register =
     store 3 register_kind (0 ∷ [])
     (register_plan (1 ∷ 0 ∷ 0 ∷ []) 1 ∷ register_plan (0 ∷ 1 ∷ 0 ∷ []) 1 ∷ register_plan (0 ∷ 0 ∷ 1 ∷ []) 1 ∷ [])
 
 -- the built-in register at three sites, two of which are each quorum, with a second epoch
-abbrev pub three_twice : Declaration
-three_twice = store 3 register_kind (0 ∷ []) (register_plan (1 ∷ 1 ∷ 1 ∷ []) 2 ∷ register_plan (1 ∷ 1 ∷ 1 ∷ []) 2 ∷ [])
+abbrev pub three_in_two_epochs : Declaration
+three_in_two_epochs =
+    store 3 register_kind (0 ∷ []) (register_plan (1 ∷ 1 ∷ 1 ∷ []) 2 ∷ register_plan (1 ∷ 1 ∷ 1 ∷ []) 2 ∷ [])
 
 -- Of two registers at two sites an event is written at either site, and read at both; so the close needs both.
-abbrev pub pair_plan : Plan
-pair_plan = record {
+abbrev pub two_registers_plan : Plan
+two_registers_plan = record {
   weights = 1 ∷ 1 ∷ [];
   initial = (2 ∷ 0 ∷ 0 ∷ []) ∷ (2 ∷ 0 ∷ 0 ∷ []) ∷ [];
   last = (0 ∷ 0 ∷ 1 ∷ 1 ∷ []) ∷ (0 ∷ 0 ∷ 1 ∷ 1 ∷ []) ∷ [];
 }
 
-abbrev pub pair : Declaration
-pair = store 2 register_kind (0 ∷ 0 ∷ []) (pair_plan ∷ pair_plan ∷ [])
+abbrev pub two_registers : Declaration
+two_registers = store 2 register_kind (0 ∷ 0 ∷ []) (two_registers_plan ∷ two_registers_plan ∷ [])
 
 -- A latch is armed, fired and looked at. Firing it has an effect where it is armed, and is answered ok in any case; a
 -- look tells whether it has fired. So Fire depends on Arm:ok and Look on Fire:ok, and a log that has a Fire without
@@ -72,8 +73,8 @@ latch_kind = record {
 abbrev pub latch_plan : Plan
 latch_plan = record { weights = 1 ∷ 1 ∷ []; initial = (0 ∷ 2 ∷ 1 ∷ []) ∷ []; last = (1 ∷ 2 ∷ 0 ∷ 0 ∷ []) ∷ [] }
 
-abbrev pub latched : Declaration
-latched = store 2 latch_kind (0 ∷ []) (latch_plan ∷ [])
+abbrev pub latch_store : Declaration
+latch_store = store 2 latch_kind (0 ∷ []) (latch_plan ∷ [])
 
 -- a ticket can be taken once: then Take has no response
 abbrev pub ticket : Rules
@@ -82,6 +83,6 @@ ticket = record { states = 2; invs = 1; resps = 1; start = 0; rows = row 0 0 0 1
 abbrev pub ticket_kind : Kind
 ticket_kind = record { table = ticket; relation = relation_of (record { inv = 0; event = 0 } ∷ []) }
 
-abbrev pub ticketed : Declaration
-ticketed =
+abbrev pub ticket_store : Declaration
+ticket_store =
     store 1 ticket_kind (0 ∷ []) (record { weights = 1 ∷ []; initial = (1 ∷ []) ∷ []; last = (1 ∷ []) ∷ [] } ∷ [])

@@ -17,7 +17,7 @@ pub fn guards_have_places_of_their_own()
 {}
 
 /// Every run of the protocol keeps each guarantee.
-#[tactic(auto, using(crate::proofs::Kept::kept))]
+#[tactic(auto, using(crate::proofs::Kept::keeps))]
 pub fn runs_keep_the_guarantees()
     ensures { (guarantee : Guarantee) (decl : Declaration) (acts : List Act) → IsAccepted decl → IsRun decl acts
         → Holds guarantee decl acts }
