@@ -8,9 +8,8 @@ use Rattle.std.specs.declared.cmp.Ordering.TheVariants.{Less, Equal, Greater}
 use Rattle.qc_stamp.specs.declared.stamp.Stamp.{Stamp}
 use Rattle.qc_stamp.specs.declared.stamp.TxId.{TxId}
 use Rattle.qc_stamp.specs.Order.{stamp_cmp, tx_cmp}
-use Rattle.qc_stamp.proofs.Orders.{stamp_order, tx_order}
+use Rattle.qc_stamp.proofs.Orders.{nat_apart, stamp_order, tx_order}
 use Rattle.qc_entry.specs.declared.line.Line.{Line}
-use Rattle.qc_entry.specs.Line.{line_cmp}
 use Rattle.qc_entry.proofs.Orders.{line_order}
 use Rattle.qc_onecopy.specs.Executed.{Placed, IsEarlier, IsLineBefore, line_of}
 
@@ -19,9 +18,6 @@ nat_less a b l = grind (arith, nat_tests)
 
 less_nat : (a b : ℕ) → nat_cmp a b ≡ Less → a < b
 less_nat a b h = grind (arith, nat_tests)
-
-equal_nat : (a b : ℕ) → nat_cmp a b ≡ Equal → a ≡ b
-equal_nat a b h = grind (arith, nat_tests)
 
 first_less : (a b : Ordering) → a ≡ Less → ordering_then a b ≡ Less
 first_less a b h = rw h refl
@@ -43,16 +39,10 @@ stamp_clocks a b h = by (then_less (nat_cmp a.clock b.clock) (nat_cmp a.client b
   where
     by : ((nat_cmp a.clock b.clock ≡ Less) ⊎ ((nat_cmp a.clock b.clock ≡ Equal) × (nat_cmp a.client b.client ≡ Less))) → a.clock ≤ b.clock
     by (inl l) = let x : a.clock < b.clock = less_nat a.clock b.clock l in omega arith
-    by (inr e) = let x : a.clock ≡ b.clock = equal_nat a.clock b.clock e.0 in omega arith
+    by (inr e) = let x : a.clock ≡ b.clock = nat_apart a.clock b.clock e.0 in omega arith
 
 pub not_stamp_less : (a : Stamp) → stamp_cmp a a ≡ Less → ⊥
 not_stamp_less a h = let t : stamp_cmp a a ≡ Equal = tied_itself stamp_order.total a in let never : ⊥ = cc (h, t) in never
-
-pub stamp_trans : (a b c : Stamp) → stamp_cmp a b ≡ Less → stamp_cmp b c ≡ Less → stamp_cmp a c ≡ Less
-stamp_trans = stamp_order.total.trans
-
-pub not_line_less : (l : Line) → IsLineBefore l l → ⊥
-not_line_less l h = let t : line_cmp l l ≡ Equal = tied_itself line_order.total l in let never : ⊥ = cc (h, t) in never
 
 pub line_trans : (l m n : Line) → IsLineBefore l m → IsLineBefore m n → IsLineBefore l n
 line_trans = line_order.total.trans

@@ -14,7 +14,8 @@ use Rattle.qc_onecopy.specs.Lists.{In, IsOrdered}
 use Rattle.qc_onecopy.specs.Executed.{Placed, IsAnswered, IsEarlier, IsLineBefore, IsOwnBefore, depends_at, events_seen, kind_at, line_of, own_line, committed_line}
 use Rattle.qc_onecopy.specs.Views.{AreFromViews, IsFromView, IsNext, lines_on}
 use Rattle.qc_onecopy.proofs.Lists.{compared, in_left, in_map, in_right, in_split, map_in, ordered-append, ordered_across, ordered_left}
-use Rattle.qc_onecopy.proofs.Orders.{clock_less, earlier_clocks, earlier_line, line_trans, not_line_less, not_stamp_less, op_first, stamp_first}
+use Rattle.qc_onecopy.proofs.Orders.{clock_less, earlier_clocks, earlier_line, line_trans, not_stamp_less, op_first, stamp_first}
+use Rattle.qc_entry.proofs.Members.{not_below}
 use Rattle.qc_onecopy.proofs.Sorted.{Picks, in_at, ordered_at, picked-map, picks}
 use Rattle.qc_onecopy.proofs.Lines.{line_from, line_in, lines_ordered, number_of_line, depends_is, from_map}
 
@@ -35,10 +36,10 @@ module _ (decl : Declaration) (all : List Placed) (v : AreFromViews decl all) wh
     in_front c h l = elim (in_split c pre (b ∷ post) (subst (λ (x : List Placed). In c x) (sym split) h)) [
       | inl here ↦ here
       | inr there ↦ elim there [
-        | inl same ↦ absurd (not_line_less (line_of b) (subst (λ (x : Placed). IsLineBefore (line_of x) (line_of b)) same l))
+        | inl same ↦ absurd (not_below (line_of b) (subst (λ (x : Placed). IsLineBefore (line_of x) (line_of b)) same l))
         | inr later ↦
             let m : IsLineBefore (line_of b) (line_of c) = earlier_line b c (ordered_across IsEarlier (pre ++ b ∷ []) post (subst (λ (x : List Placed). IsOrdered IsEarlier x) (sym (append_assoc pre (b ∷ []) post)) order) b c (in_right b pre (b ∷ []) (inl refl)) later) in
-            absurd (not_line_less (line_of c) (line_trans (line_of c) (line_of b) (line_of c) l m))
+            absurd (not_below (line_of c) (line_trans (line_of c) (line_of b) (line_of c) l m))
       ]
     ]
 
@@ -149,8 +150,8 @@ module _ (decl : Declaration) (all : List Placed) (v : AreFromViews decl all) wh
     front : IsOrdered IsEarlier pre
     front = ordered_left IsEarlier pre (b ∷ post) order
 
-    chosen : Picks IsLineBefore not_line_less line_trans (lines_on b.operation.op.object pre) (b.operation.view ++ map (λ (x : OwnLine). committed_line b.stamp b.tx x) b.operation.own)
-    chosen = picks IsLineBefore not_line_less line_trans (lines_on b.operation.op.object pre) (b.operation.view ++ map (λ (x : OwnLine). committed_line b.stamp b.tx x) b.operation.own)
+    chosen : Picks IsLineBefore not_below line_trans (lines_on b.operation.op.object pre) (b.operation.view ++ map (λ (x : OwnLine). committed_line b.stamp b.tx x) b.operation.own)
+    chosen = picks IsLineBefore not_below line_trans (lines_on b.operation.op.object pre) (b.operation.view ++ map (λ (x : OwnLine). committed_line b.stamp b.tx x) b.operation.own)
         (lines_ordered b.operation.op.object pre front) log_ordered
         (λ l h. let r = origin l h in subst (λ (x : Line). In x (lines_on b.operation.op.object pre)) (sym r.is) (line_in b.operation.op.object pre r.by r.listed r.object r.some))
 
@@ -160,10 +161,10 @@ module _ (decl : Declaration) (all : List Placed) (v : AreFromViews decl all) wh
     -- the order of two operations by the order of their lines
     in_order : (c y : Placed) → In c pre → In y pre → IsLineBefore (line_of c) (line_of y) → IsEarlier c y
     in_order c y hc hy l = elim (compared IsEarlier pre front c y hc hy) [
-      | inl same ↦ absurd (not_line_less (line_of y) (subst (λ (x : Placed). IsLineBefore (line_of x) (line_of y)) same l))
+      | inl same ↦ absurd (not_below (line_of y) (subst (λ (x : Placed). IsLineBefore (line_of x) (line_of y)) same l))
       | inr rest ↦ elim rest [
         | inl is ↦ is
-        | inr back ↦ absurd (not_line_less (line_of c) (line_trans (line_of c) (line_of y) (line_of c) l (earlier_line y c back)))
+        | inr back ↦ absurd (not_below (line_of c) (line_trans (line_of c) (line_of y) (line_of c) l (earlier_line y c back)))
       ]
     ]
 
@@ -174,7 +175,7 @@ module _ (decl : Declaration) (all : List Placed) (v : AreFromViews decl all) wh
           let x = from_map (lines_on b.operation.op.object pre) q f qf in
           let ry = origin y.0 (chosen.holds p y.0 y.1 here) in
           let rx = line_from b.operation.op.object pre x.0 (in_at (lines_on b.operation.op.object pre) q x.0 x.1) in
-          let before : IsLineBefore x.0 y.0 = ordered_at IsLineBefore not_line_less line_trans (lines_on b.operation.op.object pre) (lines_ordered b.operation.op.object pre front) q p x.0 y.0 x.1 y.1 l in
+          let before : IsLineBefore x.0 y.0 = ordered_at IsLineBefore not_below line_trans (lines_on b.operation.op.object pre) (lines_ordered b.operation.op.object pre front) q p x.0 y.0 x.1 y.1 l in
           let here_before : IsLineBefore (line_of rx.by) (line_of ry.by) = subst (λ (z : Line). IsLineBefore z (line_of ry.by)) rx.is (subst (λ (z : Line). IsLineBefore x.0 z) ry.is before) in
           let ay = v.answered ry.by (earlier ry.by ry.listed).0 in
           let kinds : Some a.kind ≡ Some ay.kind = sym a.typed ∙ sym (ap (kind_at decl) ry.object) ∙ ay.typed in

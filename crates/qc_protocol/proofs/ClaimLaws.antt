@@ -24,7 +24,8 @@ use Rattle.qc_onecopy.specs.Views.{IsNext}
 use Rattle.qc_onecopy.specs.Logged.{IsClosedLog, IsLogged, event_at, line_depends}
 use Rattle.qc_onecopy.proofs.Committed.{sorts}
 use Rattle.qc_onecopy.proofs.Lists.{compared}
-use Rattle.qc_onecopy.proofs.Orders.{earlier_line, line_clocks, line_trans, not_line_less, not_stamp_less}
+use Rattle.qc_onecopy.proofs.Orders.{earlier_line, line_clocks, line_trans, not_stamp_less}
+use Rattle.qc_entry.proofs.Members.{not_below}
 use Rattle.qc_onecopy.proofs.Runs.{inv_is, table_is}
 use Rattle.qc_protocol.specs.State.{Committed, Aborted, Granted, Verdict}
 use Rattle.qc_protocol.specs.Guards.{Shows, MayCommit, op_of, IsRun}
@@ -281,7 +282,7 @@ module _ (decl : Declaration) (accepted : IsAccepted decl) where
         ]
 
         by : (place dm.commit dm.operation ≡ place f.commit f.operation) ⊎ (IsEarlier (place dm.commit dm.operation) (place f.commit f.operation) ⊎ IsEarlier (place f.commit f.operation) (place dm.commit dm.operation)) → In (line_of (place dm.commit dm.operation)) log
-        by (inl same) = absurd (not_line_less (line_of (place f.commit f.operation)) (subst (λ (x : Placed). IsLineBefore (line_of x) (line_of (place f.commit f.operation))) same lines))
+        by (inl same) = absurd (not_below (line_of (place f.commit f.operation)) (subst (λ (x : Placed). IsLineBefore (line_of x) (line_of (place f.commit f.operation))) same lines))
         by (inr (inl (inl less))) = apart_from (λ same. not_stamp_less f.commit.stamp (subst (λ (x : Stamp). stamp_cmp x f.commit.stamp ≡ Less) same less))
         by (inr (inl (inr later))) = mine (record { stamp = later.0; tx = later.1; number = later.2; object = object })
-        by (inr (inr back)) = absurd (not_line_less (line_of (place dm.commit dm.operation)) (line_trans (line_of (place dm.commit dm.operation)) (line_of (place f.commit f.operation)) (line_of (place dm.commit dm.operation)) lines (earlier_line (place f.commit f.operation) (place dm.commit dm.operation) back)))
+        by (inr (inr back)) = absurd (not_below (line_of (place dm.commit dm.operation)) (line_trans (line_of (place dm.commit dm.operation)) (line_of (place f.commit f.operation)) (line_of (place dm.commit dm.operation)) lines (earlier_line (place f.commit f.operation) (place dm.commit dm.operation) back)))

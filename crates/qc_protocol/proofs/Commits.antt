@@ -13,10 +13,6 @@ use Rattle.qc_protocol.proofs.Names.{put_case, put_here}
 use Rattle.qc_protocol.proofs.Statuses.{Moves, voting_no_outcome, pending_no_outcome}
 
 module _ (decl : Declaration) where
-  -- a new record, written or pending
-  new_clock : State → CommitRecord → ℕ → ℕ
-  new_clock w c = put w.clock c.tx.client c.stamp.clock
-
   new_clocks : (w : State) (c : CommitRecord) → MayCommit w c → (client : ℕ) → w.clock client ≤ put w.clock c.tx.client c.stamp.clock client
   new_clocks w c may client = put_case (λ (n : ℕ). w.clock client ≤ n) w.clock c.tx.client c.stamp.clock client
       (λ e. let x : w.clock c.tx.client < c.stamp.clock = may.above in let y : w.clock client ≡ w.clock c.tx.client = ap w.clock e in omega arith) (λ ne. omega arith)

@@ -67,9 +67,6 @@ pub outcome_keeps_life : (tx : TxId) (o : Option Stamp) → KeepsLife (deed_of_o
 outcome_keeps_life tx None = tt
 outcome_keeps_life tx (Some c) = tt
 
-active_has_no_record : (c : CommitRecord) → HasRecord Active c → ⊥
-active_has_no_record c h = h
-
 pub committed_record : (s : Status) (c : CommitRecord) → s ≡ Committed c → HasRecord s c
 committed_record s c e = subst (λ (x : Status). HasRecord x c) (sym e) refl
 

@@ -30,12 +30,6 @@ committed_line_in tx stamp (Own o ∷ xs) l (inl same) = record { own = o; liste
 committed_line_in tx stamp (Own o ∷ xs) l (inr h) = let r = committed_line_in tx stamp xs l h in record { own = r.own; listed = inr r.listed; is = r.is }
 
 module _ (decl : Declaration) (status : TxId → Status) (executed : TxId → List Executed) (chosen : TxId → Option Executed) where
-  abbrev pub Founded : List Line → Line → Type 0
-  Founded log l = IsClosedAt decl status executed log l
-
-  abbrev pub Owned : TxId → List Line → List Item → OwnLine → Type 0
-  Owned tx log items o = IsOwnClosedAt decl executed chosen tx log items o
-
   pub wider : (a b : List Line) (l : Line) → ((m : Line) → In m a → In m b) → IsClosedAt decl status executed a l → IsClosedAt decl status executed b l
   wider a b l sub f = record { commit = f.commit; committed = f.committed; operation = f.operation; listed = f.listed; some = f.some; is = f.is; view = λ m h. sub m (f.view m h); own = λ o h n. sub (committed_line l.stamp l.tx o) (f.own o h n) }
 
@@ -104,9 +98,6 @@ module _ (decl : Declaration) (status : TxId → Status) (executed : TxId → Li
       by : (b : Bool) → same_tx tx u ≡ b → (o : OwnLine) → In (Own o) (items_of tx (without_tx u s.held)) → IsOwnClosedAt decl executed chosen tx log (items_of tx (without_tx u s.held)) o
       by true e = let same : tx ≡ u = tx_is tx u e in no_own_closed tx log (items_of tx (without_tx u s.held)) (ap (λ (t : TxId). items_of t (without_tx u s.held)) same ∙ items_of-dropped u s.held)
       by false e = subst (λ (xs : List Item). (o : OwnLine) → In (Own o) xs → IsOwnClosedAt decl executed chosen tx log xs o) (sym (items_of-kept u tx s.held e)) (a tx)
-
-  abbrev pub Good : Site → Type 0
-  Good s = IsSiteClosed decl status executed chosen s
 
   grants_keep : (s : Site) (tx : TxId) (items : List Item) (view : List Line) → IsAppendClosed decl status executed chosen tx items view → IsSiteClosed decl status executed chosen s → IsSiteClosed decl status executed chosen (after_deed s (Grants tx items view))
   grants_keep s tx items view ok w = record {

@@ -107,9 +107,6 @@ module _ (decl : Declaration) where
   pending_no_outcome c None h = h
   pending_no_outcome c (Some s) h = h
 
-  is_status : {s t : Status} → s ≡ t → (P : Status → Type 0) → P s → P t
-  is_status e P h = subst P e h
-
   pub begin_moves : (w : State) (tx : TxId) (epoch : ℕ) → w.status tx ≡ NotBegun → ((plan : Plan) × (plan_in decl epoch ≡ Some plan)) → Moves w tx Active w.clock w.records (put_tx w.epoch tx epoch)
   begin_moves w tx epoch e plan = record {
     same_epoch = λ u alive. put_tx_case (λ (x : ℕ). w.epoch u ≡ x) w.epoch tx epoch u (λ same. absurd (alive (ap w.status same ∙ e))) (λ ne. refl);

@@ -21,7 +21,7 @@ pub data Guard : Type 0 where
   -- its event is appended
   AppendsWhatIsChosen : Guard  -- an Append is of the operation that is chosen
   AppendCarriesView : Guard  -- an Append carries the operation's whole view
-  AppendCarriesOnlyOwnLines : Guard  -- an Append's lines are its operation's and those of its transaction's earlier ones
+  AppendCarriesOnlyOwnLines : Guard  -- an Append's lines are its operation's and its transaction's earlier ones
   AppendCarriesEarlierLines : Guard  -- an Append has the lines of earlier operations whose event has a final threshold
   AppendQuorumIsMet : Guard  -- sites of the final threshold granted the event's line
   -- a site grants

@@ -1,4 +1,5 @@
--- What counted grants show of the sites' logs, and where they are of sites that weigh enough (weighted voting, Gifford 1979).
+-- What counted grants show of the sites' logs, and where they are of sites that weigh enough (weighted voting, Gifford
+-- 1979).
 use Rattle.std.specs.Prelude.{◌≡◌, ℕ, ◌≤◌, Bool, IsTrue, ◌==◌, ◌&&◌, if◌then◌else◌, List, [], ◌∷◌, ◌++◌, is_some}
 use Rattle.std.specs.Option.{option_map_or}
 use Rattle.qc_stamp.specs.declared.stamp.TxId.{TxId}

@@ -1,28 +1,29 @@
 -- The declarations of the runs keep the rules: their relations are exact by certificates, and their quorums meet.
-use Rattle.std.proofs.Common.{◌≡◌, ◌<◌, ◌≤◌, ℕ, zero, suc, List, [], ◌∷◌, length, map, Option, Some, None, option_map, refl, subst, arith, slice_get}
-use Rattle.std.specs.Prelude.{All, codes, option_and_then, take}
-use Rattle.std.specs.List.{list_all}
-use Rattle.std.proofs.lemmas.List.Elements.{All-cons, All-nil}
+use Rattle.std.proofs.Common.{◌≡◌, ◌<◌, ◌≤◌, ℕ, zero, suc, List, [], ◌∷◌, length, Option, Some, None, option_map, refl, subst, arith, slice_get}
 use Rattle.qc_cert.proofs.Faultless.{inductive}
 use Rattle.qc_cert.proofs.Walk.{exact}
 use Rattle.qc_cert.specs.Inductive.{triple}
 use Rattle.qc_cert.specs.declared.triple.Triple.{Triple}
 use Rattle.qc_decl.proofs.BuiltInRules.{three_accepted}
-use Rattle.qc_decl.proofs.Places.{all_differ, differ}
 use Rattle.qc_decl.specs.Accepted.{AreThresholds, HasNames, HasThresholds, IsAccepted, IsGood, IsRight}
+use Rattle.qc_decl.proofs.Places.{all_differ, differ}
 use Rattle.qc_decl.specs.Limits.{greatest_threshold, greatest_weight, most_epochs, most_objects, most_sites}
 use Rattle.qc_decl.specs.Lookup.{kind_at}
 use Rattle.qc_decl.specs.Names.{AreNames, is_name}
+use Rattle.qc_decl.specs.declared.declaration.KindNames.{KindNames}
+use Rattle.qc_table.specs.Rules.{events_of}
+use Rattle.std.specs.Prelude.{All, codes, option_and_then, take}
+use Rattle.std.specs.List.{list_all}
+use Rattle.std.proofs.lemmas.List.Elements.{All-cons, All-nil}
 use Rattle.qc_decl.specs.One.{register_kind, register_names}
 use Rattle.qc_decl.specs.declared.declaration.Declaration.{Declaration}
-use Rattle.qc_decl.specs.declared.declaration.KindNames.{KindNames}
 use Rattle.qc_plan.proofs.Faultless as plan_proofs
 use Rattle.qc_plan.specs.Faults.{fault_of}
 use Rattle.qc_plan.specs.declared.fault.PlanFault.{PlanFault}
 use Rattle.qc_plan.specs.declared.plan.Plan.{Plan}
-use Rattle.qc_runs.proofs.Finding.{at_most, below, both, found, is_true, same_number}
-use Rattle.qc_runs.specs.Settings.{latch, latch_kind, latch_names, latched, moved, pair, store, three_twice, ticket, ticket_kind, ticket_names, ticketed}
-use Rattle.qc_table.specs.Rules.{events_of}
+use Rattle.qc_runs.proofs.Cases.{none_some, one_some}
+use Rattle.qc_runs.proofs.Finding.{at_most, below, both, is_true, proof_of, same_number}
+use Rattle.qc_runs.specs.Settings.{latch, latch_kind, latch_names, latch_store, moving_register, two_registers, store, three_in_two_epochs, ticket, ticket_kind, ticket_names, ticket_store}
 use Rattle.qc_table.specs.Sound.{IsSound}
 use Rattle.qc_table.specs.declared.kind.Kind.{Kind}
 
@@ -63,11 +64,11 @@ good_plan decl plan = option_map made (both (same_number (length plan.weights) d
 
 -- what holds of each place of a list
 abbrev each_place : {A : Type 0} (P : A → Type 0) → ((x : A) → Option (P x)) → (xs : List A) → Option ((place : ℕ) (x : A) → slice_get xs place ≡ Some x → P x)
-each_place {A = A} P look [] = Some (λ place x e. absurd (let never : ⊥ = cc in never))
+each_place {A = A} P look [] = Some (λ place x e. absurd (none_some e))
 each_place {A = A} P look (y ∷ ys) = option_map made (both (look y) (each_place P look ys))
   where
     made : P y × ((place : ℕ) (x : A) → slice_get ys place ≡ Some x → P x) → (place : ℕ) (x : A) → slice_get (y ∷ ys) place ≡ Some x → P x
-    made f zero x e = let same : y ≡ x = cc in subst P same f.0
+    made f zero x e = subst P (one_some e) f.0
     made f (suc place) x e = f.1 place x e
 
 -- what holds of each item of a list
@@ -210,29 +211,29 @@ module _ (actors : ℕ) (kind : Kind) (names : KindNames) (objects : List ℕ) (
       the_names (suc number) k ns at of = absurd (let never : ⊥ = cc in never)
 
   abbrev store_accepted : IsRight kind → (typed : AreTyped) → Option (IsAccepted decl)
-  store_accepted right typed = option_map made (both few_found (both named_found (plans_found typed)))
+  store_accepted right typed = option_map made (both few_proof_of (both named_proof_of (plans_found typed)))
     where
       made : AreFew × (AreNamed × (((place : ℕ) (plan : Plan) → slice_get plans place ≡ Some plan → IsGood decl plan)
           × ((place : ℕ) (plan : Plan) → slice_get plans place ≡ Some plan → HasThresholds decl plan))) → IsAccepted decl
       made f = accepted_by f.0 (f.1).0 typed right ((f.1).1).0 ((f.1).1).1
 
 one_object : (object number : ℕ) → slice_get (0 ∷ []) object ≡ Some number → number < 1
-one_object = found (each_place (λ n. n < 1) (λ n. below n 1) (0 ∷ [])) refl
+one_object = proof_of (each_place (λ n. n < 1) (λ n. below n 1) (0 ∷ [])) refl
 
 two_objects : (object number : ℕ) → slice_get (0 ∷ 0 ∷ []) object ≡ Some number → number < 1
-two_objects = found (each_place (λ n. n < 1) (λ n. below n 1) (0 ∷ 0 ∷ [])) refl
+two_objects = proof_of (each_place (λ n. n < 1) (λ n. below n 1) (0 ∷ 0 ∷ [])) refl
 
-pub moved_accepted : IsAccepted moved
-moved_accepted = found (store_accepted 3 register_kind register_names (0 ∷ []) moved.plans register_right one_object) refl
+pub moving_register_accepted : IsAccepted moving_register
+moving_register_accepted = proof_of (store_accepted 3 register_kind register_names (0 ∷ []) moving_register.plans register_right one_object) refl
 
-pub pair_accepted : IsAccepted pair
-pair_accepted = found (store_accepted 2 register_kind register_names (0 ∷ 0 ∷ []) pair.plans register_right two_objects) refl
+pub two_registers_accepted : IsAccepted two_registers
+two_registers_accepted = proof_of (store_accepted 2 register_kind register_names (0 ∷ 0 ∷ []) two_registers.plans register_right two_objects) refl
 
-pub latched_accepted : IsAccepted latched
-latched_accepted = found (store_accepted 2 latch_kind latch_names (0 ∷ []) latched.plans latch_right one_object) refl
+pub latch_store_accepted : IsAccepted latch_store
+latch_store_accepted = proof_of (store_accepted 2 latch_kind latch_names (0 ∷ []) latch_store.plans latch_right one_object) refl
 
-pub ticketed_accepted : IsAccepted ticketed
-ticketed_accepted = found (store_accepted 1 ticket_kind ticket_names (0 ∷ []) ticketed.plans ticket_right one_object) refl
+pub ticket_store_accepted : IsAccepted ticket_store
+ticket_store_accepted = proof_of (store_accepted 1 ticket_kind ticket_names (0 ∷ []) ticket_store.plans ticket_right one_object) refl
 
-pub three_twice_accepted : IsAccepted three_twice
-three_twice_accepted = found (store_accepted 3 register_kind register_names (0 ∷ []) three_twice.plans register_right one_object) refl
+pub three_in_two_epochs_accepted : IsAccepted three_in_two_epochs
+three_in_two_epochs_accepted = proof_of (store_accepted 3 register_kind register_names (0 ∷ []) three_in_two_epochs.plans register_right one_object) refl

@@ -1,7 +1,6 @@
 -- Each act is found to be allowed, where these guards are asked; and so a story is found to be a run.
-use Rattle.std.proofs.Common.{◌≡◌, ℕ, suc, ◌<◌, ◌≤◌, Bool, true, false, ◌⊎◌, inl, inr, IsSome, List, [], ◌∷◌, Option, Some, None, is_some, option_map, refl, sym, ap, subst}
+use Rattle.std.proofs.Common.{◌≡◌, ℕ, ◌≤◌, Bool, true, false, ◌⊎◌, inl, inr, IsSome, List, [], ◌∷◌, Option, Some, None, option_map, refl, subst}
 use Rattle.qc_stamp.specs.declared.stamp.TxId.{TxId}
-use Rattle.qc_entry.specs.declared.line.Line.{Line}
 use Rattle.qc_entry.specs.declared.record.Commit.{Commit as CommitRecord}
 use Rattle.qc_plan.specs.declared.plan.Plan.{Plan}
 use Rattle.qc_decl.specs.Lookup.{append_need_of, plan_in}
@@ -11,14 +10,14 @@ use Rattle.qc_onecopy.specs.Lists.{In}
 use Rattle.qc_protocol.specs.Acts.{Act, Begin, Choose, SendAppend, Execute, ExecuteAbsent, Grant, Count, Prepare, Vote, PrepareLost, Commit, CommitUnknown, Recover, Abort, RiseClient, Announce, Learn, Rise, Close, TakeSnapshot, Decide, Install, state}
 use Rattle.qc_protocol.specs.Asked.{Guard, Asked, BeginsOnce, BeginsInPlannedEpoch, OperatesWhileActive, ChoosesOneAtATime, ChosenHasResponse, AppendsWhatIsChosen, AppendQuorumIsMet, AbsentHasNoResponse, GrantTellsDeeds, GrantTellsLife, GrantsWhatWasRequested, CountsWhatWasGranted, CountsWhileActive, CountsInItsEpoch, PreparesOnce, PreparesWhenExecuted, VotesWhenAsked, VotesInGrantedLife, RecordsPrepareWhenAsked, AbortsBeforeRecord, RisesWithNoneRunning, RisesPastRecords, LearnsWhatWasAnnounced, SnapshotTellsDeeds, InstallsWhatWasDecided, InstallsLaterEpoch}
 use Rattle.qc_protocol.specs.Guards.{HasQuorum, HasRecord, IsAllowedBy, IsAppendOfBy, IsLive, IsRunBy, MayPrepare}
-use Rattle.qc_protocol.specs.Site.{Item, Lock, Own, epoch_from}
+use Rattle.qc_protocol.specs.Site.{Item, Own, epoch_from}
 use Rattle.qc_protocol.specs.State.{AppendRequest, Granted, State, Status, NotBegun, Active, Voting, Pending, Committed, Aborted}
 use Rattle.qc_runs.proofs.Alike.{same_decision, same_deed, same_granted, same_list, same_verdict}
-use Rattle.qc_runs.proofs.AllowedClients.{append_of, executed_from, is_active, is_new, is_voting, may_commit}
+use Rattle.qc_runs.proofs.AllowedClients.{append_of, executed_from, is_active, is_new, may_commit}
 use Rattle.qc_runs.proofs.AllowedDecisions.{may_decide}
-use Rattle.qc_runs.proofs.AllowedSites.{may_grant, may_snapshot, requested}
-use Rattle.qc_runs.proofs.Begun.{IsNewOrBegun, begun, new_or_begun}
-use Rattle.qc_runs.proofs.Finding.{asked, at_most, below, both, every, found, member, same_number, where_same, where_same_tx}
+use Rattle.qc_runs.proofs.AllowedSites.{may_grant, may_snapshot, is_requested}
+use Rattle.qc_runs.proofs.Begun.{begun, new_or_begun}
+use Rattle.qc_runs.proofs.Finding.{where_asked, at_most, below, both, every, member, same_number, where_same, where_same_tx}
 use Rattle.qc_runs.proofs.Quorums.{quorum}
 use Rattle.qc_runs.specs.Moves.{Move, acts_from, acts_of}
 
@@ -34,9 +33,9 @@ abbrev some_told : (o : Option ℕ) → Option (IsSome o)
 some_told None = None
 some_told (Some r) = Some refl
 
-abbrev planned : (o : Option Plan) → Option ((plan : Plan) × (o ≡ Some plan))
-planned None = None
-planned (Some plan) = Some (plan, refl)
+abbrev has_plan : (o : Option Plan) → Option ((plan : Plan) × (o ≡ Some plan))
+has_plan None = None
+has_plan (Some plan) = Some (plan, refl)
 
 abbrev pending : (s : Status) → Option ((c : CommitRecord) × (s ≡ Pending c))
 pending (Pending c) = Some (c, refl)
@@ -64,23 +63,23 @@ not_live (Committed c) = Some (λ x. x)
 not_live Aborted = Some (λ x. x)
 
 -- an operation for an Append of what wasn't chosen
-abbrev pretended : AppendRequest → Executed
-pretended s = by s.items
+abbrev stand_in : AppendRequest → Executed
+stand_in s = by s.items
   where
     by : List Item → Executed
     by (Own o ∷ xs) = record { number = o.op; op = record { object = o.object; inv = 0; resp = None }; event = o.event; view = s.view; own = [] }
     by _ = record { number = 0; op = record { object = 0; inv = 0; resp = None }; event = 0; view = s.view; own = [] }
 
-abbrev sent : (ask : Guard → Bool) (decl : Declaration) (now : State) (s : AppendRequest) (is : Bool) (o : Option Executed) → now.chosen s.tx ≡ o
+abbrev may_append : (ask : Guard → Bool) (decl : Declaration) (now : State) (s : AppendRequest) (is : Bool) (o : Option Executed) → now.chosen s.tx ≡ o
     → Option ((operation : Executed) × Asked is (now.chosen s.tx ≡ Some operation) × IsAppendOfBy ask decl (now.epoch s.tx) operation s)
-sent ask decl now s true None e = None
-sent ask decl now s true (Some d) e = option_map (λ f. (d, e, f)) (append_of ask decl (now.epoch s.tx) d s)
-sent ask decl now s false o e = option_map (λ f. (pretended s, tt, f)) (append_of ask decl (now.epoch s.tx) (pretended s) s)
+may_append ask decl now s true None e = None
+may_append ask decl now s true (Some d) e = option_map (λ f. (d, e, f)) (append_of ask decl (now.epoch s.tx) d s)
+may_append ask decl now s false o e = option_map (λ f. (stand_in s, tt, f)) (append_of ask decl (now.epoch s.tx) (stand_in s) s)
 
-abbrev executed : (ask : Guard → Bool) (decl : Declaration) (now : State) (tx : TxId) (o : Option Executed) → now.chosen tx ≡ o
+abbrev may_execute : (ask : Guard → Bool) (decl : Declaration) (now : State) (tx : TxId) (o : Option Executed) → now.chosen tx ≡ o
     → Option ((operation : Executed) × (now.chosen tx ≡ Some operation) × Asked (ask AppendQuorumIsMet) (HasQuorum decl (now.epoch tx) now.counted tx (Own (own_line operation)) (append_need_of decl (now.epoch tx) operation.op.object operation.event)))
-executed ask decl now tx None e = None
-executed ask decl now tx (Some d) e = option_map (λ f. (d, e, f)) (asked (ask AppendQuorumIsMet) (quorum decl (now.epoch tx) now.counted tx (Own (own_line d)) (append_need_of decl (now.epoch tx) d.op.object d.event)))
+may_execute ask decl now tx None e = None
+may_execute ask decl now tx (Some d) e = option_map (λ f. (d, e, f)) (where_asked (ask AppendQuorumIsMet) (quorum decl (now.epoch tx) now.counted tx (Own (own_line d)) (append_need_of decl (now.epoch tx) d.op.object d.event)))
 
 -- what concerns all of a client's transactions is found among those that have begun
 abbrev none_runs : (acts : List Act) (client : ℕ) → Option ((tx : TxId) → tx.client ≡ client → IsLive ((state acts).status tx) → ⊥)
@@ -104,52 +103,52 @@ past_records acts client clock = option_map made (every (λ (tx : TxId). tx.clie
         → (tx : TxId) (c : CommitRecord) → tx.client ≡ client → HasRecord ((state acts).status tx) c → c.stamp.clock ≤ clock
     made f tx c e has = elim (new_or_begun acts tx) [ inl new ↦ absurd (subst (λ (s : Status). HasRecord s c) new has) | inr h ↦ f tx h e c has ]
 
-abbrev pub allowed : (ask : Guard → Bool) (decl : Declaration) (acts : List Act) (a : Act) → Option (IsAllowedBy ask decl (state acts) a)
-allowed ask decl acts (Begin tx epoch) = let now = state acts in both (asked (ask BeginsOnce) (is_new (now.status tx))) (asked (ask BeginsInPlannedEpoch) (planned (plan_in decl epoch)))
-allowed ask decl acts (Choose tx d) =
+abbrev pub is_allowed : (ask : Guard → Bool) (decl : Declaration) (acts : List Act) (a : Act) → Option (IsAllowedBy ask decl (state acts) a)
+is_allowed ask decl acts (Begin tx epoch) = let now = state acts in both (where_asked (ask BeginsOnce) (is_new (now.status tx))) (where_asked (ask BeginsInPlannedEpoch) (has_plan (plan_in decl epoch)))
+is_allowed ask decl acts (Choose tx d) =
     let now = state acts in
     option_map (λ f. (f.0, (f.1).0, ((f.1).1).0, ((f.1).1).1))
-    (both (asked (ask OperatesWhileActive) (is_active (now.status tx))) (both (asked (ask ChoosesOneAtATime) (none_chosen (now.chosen tx)))
-    (both (executed_from ask decl (now.epoch tx) now.counted (now.executed tx) tx d) (asked (ask ChosenHasResponse) (some_told d.op.resp)))))
-allowed ask decl acts (SendAppend s) = let now = state acts in sent ask decl now s (ask AppendsWhatIsChosen) (now.chosen s.tx) refl
-allowed ask decl acts (Execute tx) = let now = state acts in both (asked (ask OperatesWhileActive) (is_active (now.status tx))) (executed ask decl now tx (now.chosen tx) refl)
-allowed ask decl acts (ExecuteAbsent tx d) =
+    (both (where_asked (ask OperatesWhileActive) (is_active (now.status tx))) (both (where_asked (ask ChoosesOneAtATime) (none_chosen (now.chosen tx)))
+    (both (executed_from ask decl (now.epoch tx) now.counted (now.executed tx) tx d) (where_asked (ask ChosenHasResponse) (some_told d.op.resp)))))
+is_allowed ask decl acts (SendAppend s) = let now = state acts in may_append ask decl now s (ask AppendsWhatIsChosen) (now.chosen s.tx) refl
+is_allowed ask decl acts (Execute tx) = let now = state acts in both (where_asked (ask OperatesWhileActive) (is_active (now.status tx))) (may_execute ask decl now tx (now.chosen tx) refl)
+is_allowed ask decl acts (ExecuteAbsent tx d) =
     let now = state acts in
     option_map (λ f. (f.0, (f.1).0, ((f.1).1).0, ((f.1).1).1))
-    (both (asked (ask OperatesWhileActive) (is_active (now.status tx))) (both (asked (ask ChoosesOneAtATime) (none_chosen (now.chosen tx)))
-    (both (executed_from ask decl (now.epoch tx) now.counted (now.executed tx) tx d) (asked (ask AbsentHasNoResponse) (none_told d.op.resp)))))
-allowed ask decl acts (Grant g) =
+    (both (where_asked (ask OperatesWhileActive) (is_active (now.status tx))) (both (where_asked (ask ChoosesOneAtATime) (none_chosen (now.chosen tx)))
+    (both (executed_from ask decl (now.epoch tx) now.counted (now.executed tx) tx d) (where_asked (ask AbsentHasNoResponse) (none_told d.op.resp)))))
+is_allowed ask decl acts (Grant g) =
     let now = state acts in
     option_map (λ f. (f.0, (f.1).0, ((f.1).1).0, ((f.1).1).1))
-    (both (asked (ask GrantTellsDeeds) (same_list same_deed g.before (now.deeds g.site))) (both (asked (ask GrantTellsLife) (same_number g.life (now.life g.site)))
-    (both (may_grant ask decl g) (asked (ask GrantsWhatWasRequested) (requested now.appends g)))))
-allowed ask decl acts (Count g) =
+    (both (where_asked (ask GrantTellsDeeds) (same_list same_deed g.before (now.deeds g.site))) (both (where_asked (ask GrantTellsLife) (same_number g.life (now.life g.site)))
+    (both (may_grant ask decl g) (where_asked (ask GrantsWhatWasRequested) (is_requested now.appends g)))))
+is_allowed ask decl acts (Count g) =
     let now = state acts in
     option_map (λ f. (f.0, (f.1).0, (f.1).1))
-    (both (asked (ask CountsWhatWasGranted) (member same_granted g now.granted)) (both (asked (ask CountsWhileActive) (is_active (now.status g.tx))) (asked (ask CountsInItsEpoch) (same_number g.epoch (now.epoch g.tx)))))
-allowed ask decl acts (Prepare tx) = let now = state acts in both (asked (ask PreparesOnce) (is_active (now.status tx))) (asked (ask PreparesWhenExecuted) (none_chosen (now.chosen tx)))
-allowed ask decl acts (Vote site tx) =
+    (both (where_asked (ask CountsWhatWasGranted) (member same_granted g now.granted)) (both (where_asked (ask CountsWhileActive) (is_active (now.status g.tx))) (where_asked (ask CountsInItsEpoch) (same_number g.epoch (now.epoch g.tx)))))
+is_allowed ask decl acts (Prepare tx) = let now = state acts in both (where_asked (ask PreparesOnce) (is_active (now.status tx))) (where_asked (ask PreparesWhenExecuted) (none_chosen (now.chosen tx)))
+is_allowed ask decl acts (Vote site tx) =
     let now = state acts in
-    both (asked (ask VotesWhenAsked) (may_prepare (now.status tx)))
-    (asked (ask VotesInGrantedLife) (every (λ (g : Granted). g.tx ≡ tx → g.site ≡ site → g.life ≡ now.life site) (λ g. where_same_tx g.tx tx (where_same g.site site (same_number g.life (now.life site)))) now.counted))
-allowed ask decl acts (PrepareLost site tx) = let now = state acts in asked (ask RecordsPrepareWhenAsked) (may_prepare (now.status tx))
-allowed ask decl acts (Commit c) = may_commit ask (state acts) c
-allowed ask decl acts (CommitUnknown c) = may_commit ask (state acts) c
-allowed ask decl acts (Recover tx with_record) = let now = state acts in pending (now.status tx)
-allowed ask decl acts (Abort tx) = let now = state acts in asked (ask AbortsBeforeRecord) (running (now.status tx))
-allowed ask decl acts (RiseClient client clock) = both (asked (ask RisesWithNoneRunning) (none_runs acts client)) (asked (ask RisesPastRecords) (past_records acts client clock))
-allowed ask decl acts (Announce tx) = Some tt
-allowed ask decl acts (Learn site v) = let now = state acts in asked (ask LearnsWhatWasAnnounced) (member same_verdict v now.verdicts)
-allowed ask decl acts (Rise site) = Some tt
-allowed ask decl acts (Close site) = Some tt
-allowed ask decl acts (TakeSnapshot s) = let now = state acts in both (asked (ask SnapshotTellsDeeds) (same_list same_deed s.before (now.deeds s.site))) (may_snapshot ask s)
-allowed ask decl acts (Decide d) = may_decide ask decl (state acts) d
-allowed ask decl acts (Install site d) =
-    let now = state acts in both (asked (ask InstallsWhatWasDecided) (member same_decision d now.decided)) (asked (ask InstallsLaterEpoch) (below (epoch_from 1 (now.deeds site)) d.epoch))
+    both (where_asked (ask VotesWhenAsked) (may_prepare (now.status tx)))
+    (where_asked (ask VotesInGrantedLife) (every (λ (g : Granted). g.tx ≡ tx → g.site ≡ site → g.life ≡ now.life site) (λ g. where_same_tx g.tx tx (where_same g.site site (same_number g.life (now.life site)))) now.counted))
+is_allowed ask decl acts (PrepareLost site tx) = let now = state acts in where_asked (ask RecordsPrepareWhenAsked) (may_prepare (now.status tx))
+is_allowed ask decl acts (Commit c) = may_commit ask (state acts) c
+is_allowed ask decl acts (CommitUnknown c) = may_commit ask (state acts) c
+is_allowed ask decl acts (Recover tx with_record) = let now = state acts in pending (now.status tx)
+is_allowed ask decl acts (Abort tx) = let now = state acts in where_asked (ask AbortsBeforeRecord) (running (now.status tx))
+is_allowed ask decl acts (RiseClient client clock) = both (where_asked (ask RisesWithNoneRunning) (none_runs acts client)) (where_asked (ask RisesPastRecords) (past_records acts client clock))
+is_allowed ask decl acts (Announce tx) = Some tt
+is_allowed ask decl acts (Learn site v) = let now = state acts in where_asked (ask LearnsWhatWasAnnounced) (member same_verdict v now.verdicts)
+is_allowed ask decl acts (Rise site) = Some tt
+is_allowed ask decl acts (Close site) = Some tt
+is_allowed ask decl acts (TakeSnapshot s) = let now = state acts in both (where_asked (ask SnapshotTellsDeeds) (same_list same_deed s.before (now.deeds s.site))) (may_snapshot ask s)
+is_allowed ask decl acts (Decide d) = may_decide ask decl (state acts) d
+is_allowed ask decl acts (Install site d) =
+    let now = state acts in both (where_asked (ask InstallsWhatWasDecided) (member same_decision d now.decided)) (where_asked (ask InstallsLaterEpoch) (below (epoch_from 1 (now.deeds site)) d.epoch))
 
 abbrev run_from : (ask : Guard → Bool) (decl : Declaration) (older : List Act) (story : List Move) → Option (IsRunBy ask decl older) → Option (IsRunBy ask decl (acts_from older story))
 run_from ask decl older [] run = run
-run_from ask decl older (m ∷ ms) run = run_from ask decl (m (state older) ∷ older) ms (both (allowed ask decl older (m (state older))) run)
+run_from ask decl older (m ∷ ms) run = run_from ask decl (m (state older) ∷ older) ms (both (is_allowed ask decl older (m (state older))) run)
 
 -- a story is a run where these guards are asked
 abbrev pub run_of : (ask : Guard → Bool) (decl : Declaration) (story : List Move) → Option (IsRunBy ask decl (acts_of story))

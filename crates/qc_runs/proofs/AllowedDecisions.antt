@@ -1,5 +1,5 @@
 -- A Decide is found to be allowed.
-use Rattle.std.proofs.Common.{◌≡◌, ℕ, zero, suc, ◌+◌, ◌<◌, ◌≤◌, max, Bool, true, false, IsTrue, ◌⊎◌, inl, inr, List, [], ◌∷◌, Option, Some, None, is_some, option_map, refl, sym, ap, ◌∙◌, subst, arith}
+use Rattle.std.proofs.Common.{◌≡◌, ℕ, zero, suc, ◌≤◌, max, Bool, true, false, IsTrue, ◌⊎◌, inl, inr, List, [], Option, Some, None, is_some, option_map, refl, subst, arith}
 use Rattle.qc_stamp.specs.declared.stamp.Stamp.{Stamp}
 use Rattle.qc_entry.specs.declared.line.Line.{Line}
 use Rattle.qc_entry.specs.declared.line.OwnLine.{OwnLine}
@@ -16,8 +16,9 @@ use Rattle.qc_protocol.specs.Asked.{Guard, Asked, DecidesByPlan, DecidesFromSnap
 use Rattle.qc_protocol.specs.Guards.{IsMerged, IsResolvedBy, MayDecideBy}
 use Rattle.qc_protocol.specs.Site.{Item, Lock, Own, Promise, epoch_from, site_after}
 use Rattle.qc_protocol.specs.State.{Decision, Snapshot, State, Verdict}
+use Rattle.qc_runs.proofs.Cases.{lock_own, one_own}
 use Rattle.qc_runs.proofs.Alike.{same_item, same_line, same_snapshot, same_verdict}
-use Rattle.qc_runs.proofs.Finding.{IsFound, asked, at_most, both, every, found, member, same_number, some}
+use Rattle.qc_runs.proofs.Finding.{IsFound, where_asked, at_most, both, every, proof_of, member, same_number, some}
 
 abbrev pub no_plan : Plan
 no_plan = record { weights = []; initial = []; last = [] }
@@ -38,8 +39,8 @@ plan_for true decl (suc epoch) = by (plan_in decl epoch) refl
 abbrev close_weight_of : Plan → ℕ
 close_weight_of plan = max (closing_needs (total plan.weights) plan.initial) (closing_needs (total plan.weights) plan.last)
 
-abbrev closing : (plan : Plan) (sites_weight : ℕ) → Option (Closing plan sites_weight)
-closing plan sites_weight = option_map made (at_most (close_weight_of plan) sites_weight)
+abbrev does_close : (plan : Plan) (sites_weight : ℕ) → Option (Closing plan sites_weight)
+does_close plan sites_weight = option_map made (at_most (close_weight_of plan) sites_weight)
   where
     made : close_weight_of plan ≤ sites_weight → Closing plan sites_weight
     made e = record {
@@ -58,20 +59,20 @@ abbrev closed_sites : Bool → List Snapshot → ℕ → Bool
 closed_sites true snapshots site = is_some (of_site snapshots site)
 closed_sites false snapshots site = true
 
-pub each_answered : (is : Bool) (snapshots : List Snapshot) → Asked is ((site : ℕ) → IsTrue (closed_sites is snapshots site) → (s : Snapshot) × In s snapshots × (s.site ≡ site))
-each_answered true snapshots = λ site t. (let f = found (of_site snapshots site) t in (f.item, f.stands, f.holds))
-each_answered false snapshots = tt
+pub each_sent : (is : Bool) (snapshots : List Snapshot) → Asked is ((site : ℕ) → IsTrue (closed_sites is snapshots site) → (s : Snapshot) × In s snapshots × (s.site ≡ site))
+each_sent true snapshots = λ site t. (let f = proof_of (of_site snapshots site) t in (f.item, f.stands, f.holds))
+each_sent false snapshots = tt
 
 -- the line of an item is in a log
 abbrev IsLineIn : Stamp → Promise → List Line → Item → Type 0
 IsLineIn stamp p log x = (o : OwnLine) → x ≡ Own o → In (committed_line stamp p.tx o) log
 
 abbrev line_in : (stamp : Stamp) (p : Promise) (log : List Line) (x : Item) → Option (IsLineIn stamp p log x)
-line_in stamp p log (Lock l) = Some (λ o e. absurd (let never : ⊥ = cc in never))
+line_in stamp p log (Lock l) = Some (λ o e. absurd (lock_own e))
 line_in stamp p log (Own q) = option_map made (member same_line (committed_line stamp p.tx q) log)
   where
     made : In (committed_line stamp p.tx q) log → IsLineIn stamp p log (Own q)
-    made h o e = let same : q ≡ o = cc in subst (λ (x : OwnLine). In (committed_line stamp p.tx x) log) same h
+    made h o e = subst (λ (x : OwnLine). In (committed_line stamp p.tx x) log) (one_own e) h
 
 abbrev lines_in : (stamp : Stamp) (p : Promise) (log : List Line) → Option ((o : OwnLine) → In (Own o) p.items → In (committed_line stamp p.tx o) log)
 lines_in stamp p log = option_map made (every (IsLineIn stamp p log) (line_in stamp p log) p.items)
@@ -90,20 +91,20 @@ commit_of ask d p v = by v.stamp
   where
     by : Option Stamp → Option (IsCommitOf ask d p v)
     by None = None
-    by (Some stamp) = option_map (λ f. (stamp, f.0, (f.1).0, (f.1).1)) (both (same_verdict v (record { tx = p.tx; stamp = Some stamp })) (both (asked (ask MergesEveryEntry) (lines_in stamp p d.log)) (asked (ask DecidePassesCommitted) (at_most stamp.clock d.clock))))
+    by (Some stamp) = option_map (λ f. (stamp, f.0, (f.1).0, (f.1).1)) (both (same_verdict v (record { tx = p.tx; stamp = Some stamp })) (both (where_asked (ask MergesEveryEntry) (lines_in stamp p d.log)) (where_asked (ask DecidePassesCommitted) (at_most stamp.clock d.clock))))
 
-abbrev resolved : (ask : Guard → Bool) (verdicts : List Verdict) (d : Decision) (p : Promise) → Option (IsResolvedBy ask verdicts d p)
-resolved ask verdicts d p = by (some (IsCommitOf ask d p) (commit_of ask d p) verdicts) (member same_verdict (record { tx = p.tx; stamp = None }) verdicts)
+abbrev is_resolved : (ask : Guard → Bool) (verdicts : List Verdict) (d : Decision) (p : Promise) → Option (IsResolvedBy ask verdicts d p)
+is_resolved ask verdicts d p = by (some (IsCommitOf ask d p) (commit_of ask d p) verdicts) (member same_verdict (record { tx = p.tx; stamp = None }) verdicts)
   where
     by : Option (IsFound (IsCommitOf ask d p) verdicts) → Option (In (record { tx = p.tx; stamp = None }) verdicts) → Option (IsResolvedBy ask verdicts d p)
     by (Some f) o = let c = f.holds in Some (inl (c.0, subst (λ (v : Verdict). In v verdicts) c.1 f.stands, c.2, c.3))
     by None (Some h) = Some (inr h)
     by None None = None
 
-abbrev all_resolved : (ask : Guard → Bool) (verdicts : List Verdict) (d : Decision)
+abbrev are_resolved : (ask : Guard → Bool) (verdicts : List Verdict) (d : Decision)
     → Option ((s : Snapshot) (p : Promise) → In s d.snapshots → In p (site_after s.before).prepared → IsResolvedBy ask verdicts d p)
-all_resolved ask verdicts d = option_map (λ (f : (s : Snapshot) → In s d.snapshots → (p : Promise) → In p (site_after s.before).prepared → IsResolvedBy ask verdicts d p). λ s p hs hp. f s hs p hp)
-    (every (λ (s : Snapshot). (p : Promise) → In p (site_after s.before).prepared → IsResolvedBy ask verdicts d p) (λ s. every (IsResolvedBy ask verdicts d) (resolved ask verdicts d) (site_after s.before).prepared) d.snapshots)
+are_resolved ask verdicts d = option_map (λ (f : (s : Snapshot) → In s d.snapshots → (p : Promise) → In p (site_after s.before).prepared → IsResolvedBy ask verdicts d p). λ s p hs hp. f s hs p hp)
+    (every (λ (s : Snapshot). (p : Promise) → In p (site_after s.before).prepared → IsResolvedBy ask verdicts d p) (λ s. every (IsResolvedBy ask verdicts d) (is_resolved ask verdicts d) (site_after s.before).prepared) d.snapshots)
 
 abbrev all_logs : (d : Decision) → Option ((s : Snapshot) (l : Line) → In s d.snapshots → In l (site_after s.before).volatile → In l d.log)
 all_logs d = option_map (λ (f : (s : Snapshot) → In s d.snapshots → (l : Line) → In l (site_after s.before).volatile → In l d.log). λ s l hs hl. f s hs l hl)
@@ -130,8 +131,8 @@ from verdicts l s = by (member same_line l (site_after s.before).volatile) (some
     by None (Some f) = Some (inr f)
     by None None = None
 
-abbrev merged : (verdicts : List Verdict) (d : Decision) (l : Line) → Option (IsMerged verdicts d l)
-merged verdicts d l = option_map made (some (IsFrom verdicts l) (from verdicts l) d.snapshots)
+abbrev is_merged : (verdicts : List Verdict) (d : Decision) (l : Line) → Option (IsMerged verdicts d l)
+is_merged verdicts d l = option_map made (some (IsFrom verdicts l) (from verdicts l) d.snapshots)
   where
     made : IsFound (IsFrom verdicts l) d.snapshots → IsMerged verdicts d l
     made f = record {
@@ -149,11 +150,11 @@ may_decide ask decl now d = by (plan_for (ask DecidesByPlan) decl d.epoch)
     by : Option ((plan : Plan) × IsPlanFor (ask DecidesByPlan) decl d.epoch plan) → Option (MayDecideBy ask decl now d)
     by None = None
     by (Some p) =
-        option_map (λ f. record { plan = p.0; planned = p.1; epochs = f.0; sites = sites; closes = (f.1).0; each = each_answered (ask ClosedSitesAnswered) d.snapshots; resolved = ((f.1).1).0; logs = (((f.1).1).1).0; merged = ((((f.1).1).1).1).0; clocks = ((((f.1).1).1).1).1 })
+        option_map (λ f. record { plan = p.0; planned = p.1; epochs = f.0; sites = sites; closes = (f.1).0; each = each_sent (ask ClosedSitesAnswered) d.snapshots; resolved = ((f.1).1).0; logs = (((f.1).1).1).0; merged = ((((f.1).1).1).1).0; clocks = ((((f.1).1).1).1).1 })
         (both (every (λ (s : Snapshot). Asked (ask DecidesFromSnapshots) (In s now.snapshots) × Asked (ask DecidesNextEpoch) (d.epoch ≡ suc (epoch_from 1 s.before)))
-        (λ s. both (asked (ask DecidesFromSnapshots) (member same_snapshot s now.snapshots)) (asked (ask DecidesNextEpoch) (same_number d.epoch (suc (epoch_from 1 s.before))))) d.snapshots)
-        (both (asked (ask ClosesEnough) (closing (p.0) (weight sites (p.0).weights)))
-        (both (asked (ask ResolvesPrepared) (all_resolved ask now.verdicts d))
-        (both (asked (ask MergesLogs) (all_logs d))
-        (both (asked (ask MergesOnlyCommitted) (every (IsMerged now.verdicts d) (merged now.verdicts d) d.log))
-        (asked (ask DecidePassesSnapshots) (every (λ (s : Snapshot). s.clock ≤ d.clock) (λ s. at_most s.clock d.clock) d.snapshots)))))))
+        (λ s. both (where_asked (ask DecidesFromSnapshots) (member same_snapshot s now.snapshots)) (where_asked (ask DecidesNextEpoch) (same_number d.epoch (suc (epoch_from 1 s.before))))) d.snapshots)
+        (both (where_asked (ask ClosesEnough) (does_close (p.0) (weight sites (p.0).weights)))
+        (both (where_asked (ask ResolvesPrepared) (are_resolved ask now.verdicts d))
+        (both (where_asked (ask MergesLogs) (all_logs d))
+        (both (where_asked (ask MergesOnlyCommitted) (every (IsMerged now.verdicts d) (is_merged now.verdicts d) d.log))
+        (where_asked (ask DecidePassesSnapshots) (every (λ (s : Snapshot). s.clock ≤ d.clock) (λ s. at_most s.clock d.clock) d.snapshots)))))))

@@ -1,5 +1,5 @@
 -- What a site tells is found to be allowed: grants and snapshots.
-use Rattle.std.proofs.Common.{◌≡◌, ◌≢◌, ℕ, ◌≤◌, Bool, true, false, cond, ◌⊎◌, inl, inr, IsTrue, List, [], ◌∷◌, Option, Some, None, option_map, refl, sym, ap, ◌∙◌, subst, true≢false}
+use Rattle.std.proofs.Common.{◌≡◌, ◌≢◌, ℕ, ◌≤◌, Bool, true, false, cond, inl, inr, IsTrue, List, [], ◌∷◌, Option, Some, None, option_map, refl, sym, ◌∙◌, subst, true≢false}
 use Rattle.qc_stamp.specs.declared.stamp.Stamp.{Stamp}
 use Rattle.qc_stamp.specs.declared.stamp.TxId.{TxId}
 use Rattle.qc_entry.specs.declared.line.Line.{Line}
@@ -9,35 +9,36 @@ use Rattle.qc_decl.specs.declared.declaration.Declaration.{Declaration}
 use Rattle.qc_onecopy.specs.Executed.{depends_at}
 use Rattle.qc_onecopy.specs.Lists.{In}
 use Rattle.qc_protocol.proofs.Names.{tx_is}
-use Rattle.qc_protocol.specs.Asked.{Guard, Asked, GrantTellsEpoch, GrantsUnlessClosed, GrantPassesInstalls, GrantsWithoutConflict, GrantPassesDone, GrantPassesLines, SnapshotIsOfClosed, SnapshotPassesDone, SnapshotPassesInstalls}
+use Rattle.qc_protocol.specs.Asked.{Guard, GrantTellsEpoch, GrantsUnlessClosed, GrantPassesInstalls, GrantsWithoutConflict, GrantPassesDone, GrantPassesLines, SnapshotIsOfClosed, SnapshotPassesDone, SnapshotPassesInstalls}
 use Rattle.qc_protocol.specs.Guards.{Conflict, IsRequested, MayGrantBy, MaySnapshotBy}
 use Rattle.qc_protocol.specs.Names.{same_tx}
 use Rattle.qc_protocol.specs.Site.{Deed, DoneRecord, Grants, Prepares, LearnsCommit, LearnsAbort, Closes, Installs, Rises, Held, Item, Lock, Own, done_records, empty_site, epoch_from, items_of, shut_from, site_after}
 use Rattle.qc_protocol.specs.State.{AppendRequest, Granted, Snapshot}
-use Rattle.qc_runs.proofs.Alike.{same_append, same_item, same_line, same_list}
-use Rattle.qc_runs.proofs.Finding.{asked, at_most, both, every, is_false, is_true, member, same_number, where_same}
+use Rattle.qc_runs.proofs.Cases.{IsInstall, one_clock}
+use Rattle.qc_runs.proofs.Alike.{same_append}
+use Rattle.qc_runs.proofs.Finding.{where_asked, at_most, both, every, is_false, is_true, member, same_number, where_same}
 
 -- an Install has a clock that is passed
 abbrev HasPassed : ℕ → Deed → Type 0
 HasPassed clock d = (k c : ℕ) (log : List Line) → Installs k c log ≡ d → c ≤ clock
 
-abbrev passed : (clock : ℕ) (d : Deed) → Option (HasPassed clock d)
-passed clock (Installs j d more) = option_map (λ (e : d ≤ clock). λ (k c : ℕ) (log : List Line) (same : Installs k c log ≡ Installs j d more). let is : c ≡ d = cc in subst (λ (x : ℕ). x ≤ clock) (sym is) e) (at_most d clock)
-passed clock (Grants t xs v) = Some (λ k c log e. absurd (let never : ⊥ = cc in never))
-passed clock (Prepares t) = Some (λ k c log e. absurd (let never : ⊥ = cc in never))
-passed clock (LearnsCommit t s) = Some (λ k c log e. absurd (let never : ⊥ = cc in never))
-passed clock (LearnsAbort t) = Some (λ k c log e. absurd (let never : ⊥ = cc in never))
-passed clock Closes = Some (λ k c log e. absurd (let never : ⊥ = cc in never))
-passed clock Rises = Some (λ k c log e. absurd (let never : ⊥ = cc in never))
+abbrev has_passed : (clock : ℕ) (d : Deed) → Option (HasPassed clock d)
+has_passed clock (Installs j d more) = option_map (λ (e : d ≤ clock). λ (k c : ℕ) (log : List Line) (same : Installs k c log ≡ Installs j d more). subst (λ (x : ℕ). x ≤ clock) (sym (one_clock same)) e) (at_most d clock)
+has_passed clock (Grants t xs v) = Some (λ k c log e. absurd (subst IsInstall e tt))
+has_passed clock (Prepares t) = Some (λ k c log e. absurd (subst IsInstall e tt))
+has_passed clock (LearnsCommit t s) = Some (λ k c log e. absurd (subst IsInstall e tt))
+has_passed clock (LearnsAbort t) = Some (λ k c log e. absurd (subst IsInstall e tt))
+has_passed clock Closes = Some (λ k c log e. absurd (subst IsInstall e tt))
+has_passed clock Rises = Some (λ k c log e. absurd (subst IsInstall e tt))
 
-abbrev installs_passed : (deeds : List Deed) (clock : ℕ) → Option ((k c : ℕ) (log : List Line) → In (Installs k c log) deeds → c ≤ clock)
-installs_passed deeds clock = option_map made (every (HasPassed clock) (passed clock) deeds)
+abbrev passes_installs_of : (deeds : List Deed) (clock : ℕ) → Option ((k c : ℕ) (log : List Line) → In (Installs k c log) deeds → c ≤ clock)
+passes_installs_of deeds clock = option_map made (every (HasPassed clock) (has_passed clock) deeds)
   where
     made : ((d : Deed) → In d deeds → HasPassed clock d) → (k c : ℕ) (log : List Line) → In (Installs k c log) deeds → c ≤ clock
     made f k c log h = f (Installs k c log) h k c log refl
 
-abbrev done_passed : (deeds : List Deed) (clock : ℕ) → Option ((u : TxId) (stamp : Stamp) → In (record { tx = u; stamp = stamp }) (done_records empty_site deeds) → stamp.clock ≤ clock)
-done_passed deeds clock = option_map made (every (λ (d : DoneRecord). d.stamp.clock ≤ clock) (λ d. at_most d.stamp.clock clock) (done_records empty_site deeds))
+abbrev passes_done_of : (deeds : List Deed) (clock : ℕ) → Option ((u : TxId) (stamp : Stamp) → In (record { tx = u; stamp = stamp }) (done_records empty_site deeds) → stamp.clock ≤ clock)
+passes_done_of deeds clock = option_map made (every (λ (d : DoneRecord). d.stamp.clock ≤ clock) (λ d. at_most d.stamp.clock clock) (done_records empty_site deeds))
   where
     made : ((d : DoneRecord) → In d (done_records empty_site deeds) → d.stamp.clock ≤ clock) → (u : TxId) (stamp : Stamp) → In (record { tx = u; stamp = stamp }) (done_records empty_site deeds) → stamp.clock ≤ clock
     made f u stamp h = f (record { tx = u; stamp = stamp }) h
@@ -91,25 +92,25 @@ free decl g = option_map made (every (IsFreeOf decl g.tx g.items) (free_of decl 
 abbrev pub may_grant : (ask : Guard → Bool) (decl : Declaration) (g : Granted) → Option (MayGrantBy ask decl g)
 may_grant ask decl g =
     option_map (λ f. record { current = f.0; unshut = (f.1).0; passes_installs = ((f.1).1).0; free = (((f.1).1).1).0; passes_done = ((((f.1).1).1).1).0; passes_lines = ((((f.1).1).1).1).1 })
-    (both (asked (ask GrantTellsEpoch) (same_number (epoch_from 1 g.before) g.epoch))
-    (both (asked (ask GrantsUnlessClosed) (is_false (shut_from false g.before)))
-    (both (asked (ask GrantPassesInstalls) (installs_passed g.before g.clock))
-    (both (asked (ask GrantsWithoutConflict) (free decl g))
-    (both (asked (ask GrantPassesDone) (done_passed g.before g.clock))
-    (asked (ask GrantPassesLines) (every (λ (l : Line). l.stamp.clock ≤ g.clock) (λ l. at_most l.stamp.clock g.clock) (site_after g.before).volatile)))))))
+    (both (where_asked (ask GrantTellsEpoch) (same_number (epoch_from 1 g.before) g.epoch))
+    (both (where_asked (ask GrantsUnlessClosed) (is_false (shut_from false g.before)))
+    (both (where_asked (ask GrantPassesInstalls) (passes_installs_of g.before g.clock))
+    (both (where_asked (ask GrantsWithoutConflict) (free decl g))
+    (both (where_asked (ask GrantPassesDone) (passes_done_of g.before g.clock))
+    (where_asked (ask GrantPassesLines) (every (λ (l : Line). l.stamp.clock ≤ g.clock) (λ l. at_most l.stamp.clock g.clock) (site_after g.before).volatile)))))))
 
 abbrev pub may_snapshot : (ask : Guard → Bool) (s : Snapshot) → Option (MaySnapshotBy ask s)
 may_snapshot ask s =
     option_map (λ f. record { shut = f.0; passes_done = (f.1).0; passes_installs = (f.1).1 })
-    (both (asked (ask SnapshotIsOfClosed) (is_true (shut_from false s.before)))
-    (both (asked (ask SnapshotPassesDone) (done_passed s.before s.clock)) (asked (ask SnapshotPassesInstalls) (installs_passed s.before s.clock))))
+    (both (where_asked (ask SnapshotIsOfClosed) (is_true (shut_from false s.before)))
+    (both (where_asked (ask SnapshotPassesDone) (passes_done_of s.before s.clock)) (where_asked (ask SnapshotPassesInstalls) (passes_installs_of s.before s.clock))))
 
 abbrev a_read : (items : List Item) (view : List Line) → Option ((lock : ReadLock) × (items ≡ Lock lock ∷ []) × (view ≡ []))
 a_read (Lock l ∷ []) [] = Some (l, refl, refl)
 a_read _ _ = None
 
-abbrev pub requested : (appends : List AppendRequest) (g : Granted) → Option (IsRequested appends g)
-requested appends g = by (a_read g.items g.view) (member same_append (record { tx = g.tx; items = g.items; view = g.view }) appends)
+abbrev pub is_requested : (appends : List AppendRequest) (g : Granted) → Option (IsRequested appends g)
+is_requested appends g = by (a_read g.items g.view) (member same_append (record { tx = g.tx; items = g.items; view = g.view }) appends)
   where
     by : Option ((lock : ReadLock) × (g.items ≡ Lock lock ∷ []) × (g.view ≡ [])) → Option (In (record { tx = g.tx; items = g.items; view = g.view }) appends) → Option (IsRequested appends g)
     by (Some r) o = Some (inl r)

@@ -1,5 +1,5 @@
 -- The transactions that acts are of: of any other nothing has begun.
-use Rattle.std.proofs.Common.{◌≡◌, ◌≢◌, ◌⊎◌, inl, inr, List, [], ◌∷◌, refl}
+use Rattle.std.proofs.Common.{◌≡◌, ◌⊎◌, inl, inr, List, [], ◌∷◌, refl}
 use Rattle.qc_stamp.specs.declared.stamp.TxId.{TxId}
 use Rattle.qc_onecopy.specs.Lists.{In}
 use Rattle.qc_protocol.proofs.Names.{put_tx_case}

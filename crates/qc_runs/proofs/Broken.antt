@@ -16,6 +16,7 @@ use Rattle.qc_protocol.specs.Claims.{HasEarlier, IsVerdictOf, OfSite}
 use Rattle.qc_protocol.specs.Guards.{Shows}
 use Rattle.qc_protocol.specs.Site.{site_after}
 use Rattle.qc_protocol.specs.State.{Granted, State, Verdict}
+use Rattle.qc_runs.proofs.Cases.{none_some, one_some}
 use Rattle.qc_runs.proofs.Alike.{alike_tx, same_stamp}
 use Rattle.qc_runs.proofs.Finding.{IsFound, at_most, both, every, some, where_same_tx}
 use Rattle.qc_runs.proofs.Quorums.{shows}
@@ -36,14 +37,14 @@ or_else None o = o
 
 -- no one copy goes on with this operation
 pub no_row : (o : Option ℕ) → o ≡ None → (n : ℕ) → o ≡ Some n → ⊥
-no_row o e n f = let x : None ≡ Some n = sym e ∙ f in let never : ⊥ = cc in never
+no_row o e n f = none_some (sym e ∙ f)
 
 pub row_is : (o : Option ℕ) (n m : ℕ) → o ≡ Some n → o ≡ Some m → m ≡ n
-row_is o n m e f = let x : Some m ≡ Some n = sym f ∙ e in cc
+row_is o n m e f = one_some (sym f ∙ e)
 
-abbrev told_wrongly : (decl : Declaration) (states : ℕ → ℕ) (object inv resp : ℕ) (ops : List Op) → ((after : ℕ → ℕ) → Option (Walks decl after ops → ⊥))
+abbrev wrong_reply : (decl : Declaration) (states : ℕ → ℕ) (object inv resp : ℕ) (ops : List Op) → ((after : ℕ → ℕ) → Option (Walks decl after ops → ⊥))
     → Option (Goes decl states object inv (Some resp) (λ after. Walks decl after ops) → ⊥)
-told_wrongly decl states object inv resp ops rest = by (step_at decl object (states object) (event inv resp)) refl
+wrong_reply decl states object inv resp ops rest = by (step_at decl object (states object) (event inv resp)) refl
   where
     more : (n : ℕ) → step_at decl object (states object) (event inv resp) ≡ Some n → (Walks decl (updated states object n) ops → ⊥) → Goes decl states object inv (Some resp) (λ after. Walks decl after ops) → ⊥
     more n e f h = f (subst (λ (m : ℕ). Walks decl (updated states object m) ops) (row_is (step_at decl object (states object) (event inv resp)) n h.0 e h.1) h.2)
@@ -60,9 +61,9 @@ has_reply decl states object inv resp = by (step_at decl object (states object) 
     by None e = None
     by (Some n) e = Some (λ h. no_row (step_at decl object (states object) (event inv resp)) (h resp) n e)
 
-abbrev found_absent : (decl : Declaration) (states : ℕ → ℕ) (object inv : ℕ) (ops : List Op) → ((after : ℕ → ℕ) → Option (Walks decl after ops → ⊥))
+abbrev wrong_absence : (decl : Declaration) (states : ℕ → ℕ) (object inv : ℕ) (ops : List Op) → ((after : ℕ → ℕ) → Option (Walks decl after ops → ⊥))
     → Option (Goes decl states object inv None (λ after. Walks decl after ops) → ⊥)
-found_absent decl states object inv ops rest =
+wrong_absence decl states object inv ops rest =
     or_else (option_map here (or_else (has_reply decl states object inv 0) (or_else (has_reply decl states object inv 1) (has_reply decl states object inv 2)))) (option_map later (rest states))
   where
     here : (((r : ℕ) → step_at decl object (states object) (event inv r) ≡ None) → ⊥) → Goes decl states object inv None (λ after. Walks decl after ops) → ⊥
@@ -73,8 +74,8 @@ found_absent decl states object inv ops rest =
 
 abbrev goes_wrong : (decl : Declaration) (states : ℕ → ℕ) (object inv : ℕ) (resp : Option ℕ) (ops : List Op) → ((after : ℕ → ℕ) → Option (Walks decl after ops → ⊥))
     → Option (Goes decl states object inv resp (λ after. Walks decl after ops) → ⊥)
-goes_wrong decl states object inv None ops rest = found_absent decl states object inv ops rest
-goes_wrong decl states object inv (Some resp) ops rest = told_wrongly decl states object inv resp ops rest
+goes_wrong decl states object inv None ops rest = wrong_absence decl states object inv ops rest
+goes_wrong decl states object inv (Some resp) ops rest = wrong_reply decl states object inv resp ops rest
 
 abbrev no_walk : (decl : Declaration) (states : ℕ → ℕ) (ops : List Op) → Option (Walks decl states ops → ⊥)
 no_walk decl states [] = None
@@ -124,8 +125,8 @@ other_event decl ops place object number = by (slice_get ops place) refl
       where
         the_event : (h : IsOperation decl ops (suc place) object number) → event_at decl op.object op.inv resp ≡ Some number
         the_event h =
-            let same : op ≡ h.operation = (let x : Some op ≡ Some h.operation = sym e ∙ placed h in cc) in
-            let told : resp ≡ h.resp = (let x : Some resp ≡ Some h.resp = sym f ∙ ap (λ (p : Op). p.resp) same ∙ h.responded in cc) in
+            let same : op ≡ h.operation = one_some (sym e ∙ placed h) in
+            let told : resp ≡ h.resp = one_some (sym f ∙ ap (λ (p : Op). p.resp) same ∙ h.responded) in
             subst (λ (r : ℕ). event_at decl op.object op.inv r ≡ Some number) (sym told) (subst (λ (p : Op). event_at decl p.object p.inv h.resp ≡ Some number) (sym same) h.is_event)
 
         by_event : (p : Option ℕ) → event_at decl op.object op.inv resp ≡ p → Option (IsOperation decl ops (suc place) object number → ⊥)
@@ -133,11 +134,11 @@ other_event decl ops place object number = by (slice_get ops place) refl
         by_event (Some n) k = option_map (λ (different : n ≡ number → ⊥). λ (h : IsOperation decl ops (suc place) object number). different (sym (row_is (event_at decl op.object op.inv resp) n number k (the_event h)))) (other_number n number)
 
     of_resp : (op : Op) (o : Option ℕ) → slice_get ops place ≡ Some op → op.resp ≡ o → Option (IsOperation decl ops (suc place) object number → ⊥)
-    of_resp op None e f = Some (λ h. (let same : op ≡ h.operation = (let x : Some op ≡ Some h.operation = sym e ∙ placed h in cc) in no_row op.resp f h.resp (ap (λ (p : Op). p.resp) same ∙ h.responded)))
+    of_resp op None e f = Some (λ h. no_row op.resp f h.resp (ap (λ (p : Op). p.resp) (one_some (sym e ∙ placed h)) ∙ h.responded))
     of_resp op (Some resp) e f = of_event op resp (event_at decl op.object op.inv resp) e f refl
 
     by : (o : Option Op) → slice_get ops place ≡ o → Option (IsOperation decl ops (suc place) object number → ⊥)
-    by None e = Some (λ h. (let x : None ≡ Some h.operation = sym e ∙ placed h in let never : ⊥ = cc in never))
+    by None e = Some (λ h. none_some (sym e ∙ placed h))
     by (Some op) e = of_resp op op.resp e refl
 
 abbrev not_operation : (decl : Declaration) (ops : List Op) (number object of_event : ℕ) → Option (IsOperation decl ops number object of_event → ⊥)

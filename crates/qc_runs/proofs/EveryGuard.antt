@@ -1,9 +1,7 @@
--- Each guard but one is needed, and no two have one place in the list of all.
-use Rattle.std.proofs.Common.{◌≡◌, ◌≢◌, List, ◌∷◌, Some, refl, slice_get, subst}
-use Rattle.qc_decl.specs.Accepted.{IsAccepted}
-use Rattle.qc_decl.specs.declared.declaration.Declaration.{Declaration}
-use Rattle.qc_protocol.specs.Acts.{Act}
+-- Each guard but one is needed, and a machine without a guard asks all others.
+use Rattle.std.proofs.Common.{◌≡◌, ◌≢◌, ◌↔◌, ℕ, ◌==◌, Bool, true, false, not, Some, refl, sym, ap, ◌∙◌, slice_get, eqb-true, eq-eqb, true≢false}
 use Rattle.qc_protocol.specs.Asked.{Guard, BeginsOnce, BeginsInPlannedEpoch, OperatesWhileActive, ChoosesOneAtATime, AnswersFromView, InvocationIsDeclared, OperationsAreNumbered, OwnLinesAreKept, ViewWasShown, ViewIsWhole, ReadQuorumIsMet, ChosenHasResponse, AbsentHasNoResponse, AppendsWhatIsChosen, AppendCarriesView, AppendCarriesOnlyOwnLines, AppendCarriesEarlierLines, AppendQuorumIsMet, GrantTellsDeeds, GrantTellsLife, GrantTellsEpoch, GrantsUnlessClosed, GrantPassesInstalls, GrantsWithoutConflict, GrantPassesDone, GrantPassesLines, GrantsWhatWasRequested, CountsWhatWasGranted, CountsWhileActive, CountsInItsEpoch, PreparesOnce, PreparesWhenExecuted, VotesWhenAsked, VotesInGrantedLife, RecordsPrepareWhenAsked, CommitsWhenVoting, AllHaveVoted, StampIsItsClients, StampPassesClock, RecordHasOperations, AbortsBeforeRecord, RisesWithNoneRunning, RisesPastRecords, LearnsWhatWasAnnounced, SnapshotTellsDeeds, SnapshotIsOfClosed, SnapshotPassesDone, SnapshotPassesInstalls, DecidesByPlan, DecidesFromSnapshots, DecidesNextEpoch, ClosesEnough, ClosedSitesAnswered, ResolvesPrepared, MergesEveryEntry, DecidePassesCommitted, MergesLogs, MergesOnlyCommitted, DecidePassesSnapshots, InstallsWhatWasDecided, InstallsLaterEpoch}
+use Rattle.qc_runs.proofs.Cases.{one_some}
 use Rattle.qc_runs.proofs.WrongOperations.{absent_operations_appended, epochs_without_a_plan, lines_left_out_of_views, operations_after_prepare, operations_with_other_numbers, own_writes_forgotten, reads_without_locks, replies_that_no_view_allows, transactions_that_begin_twice, two_operations_at_once, views_made_up, writes_without_an_append}
 use Rattle.qc_runs.proofs.WrongAppends.{appends_of_nothing_chosen, appends_of_other_lines, earlier_lines_not_sent_along, quorums_that_do_not_meet, views_not_sent_along}
 use Rattle.qc_runs.proofs.WrongGrants.{grant_clocks_below_a_done_record, grant_clocks_below_a_line, grant_clocks_below_an_install, grants_counted_before_the_begin, grants_made_up, grants_of_another_epoch, grants_of_closed_sites, grants_that_name_a_later_epoch, grants_that_name_a_later_life, grants_that_nobody_asked_for, grants_that_show_an_older_log, writes_past_a_read_lock}
@@ -11,9 +9,9 @@ use Rattle.qc_runs.proofs.WrongCommits.{aborts_after_the_record, clients_that_fo
 use Rattle.qc_runs.proofs.WrongSnapshots.{snapshot_clocks_below_a_done_record, snapshot_clocks_below_an_install, snapshots_of_an_older_log, snapshots_of_open_sites}
 use Rattle.qc_runs.proofs.WrongDecisions.{closes_by_another_plan, closes_of_silent_sites, closes_too_few_sites, decide_clocks_below_a_committed_stamp, decide_clocks_below_a_snapshot, decides_without_the_prepared, installs_made_up, installs_of_the_same_epoch, logs_not_merged, merges_of_lines_made_up, merges_of_one_entry_for_several, snapshots_made_up, snapshots_of_an_older_epoch}
 use Rattle.qc_runs.specs.Guarantees.{Guarantee, LastRecordFollowsSeen, LogsHoldOperations, RecordsAreApart, RecordsAreOneCopy, VerdictsAgree}
-use Rattle.qc_runs.specs.Needed.{IsNeeded, guards, place_of}
+use Rattle.qc_runs.specs.Needed.{IsNeeded, every_guard_but, guards, place_of}
 
-pub stands : (guard : Guard) → slice_get guards (place_of guard) ≡ Some guard
+stands : (guard : Guard) → slice_get guards (place_of guard) ≡ Some guard
 stands BeginsOnce = refl
 stands BeginsInPlannedEpoch = refl
 stands OperatesWhileActive = refl
@@ -75,6 +73,17 @@ stands MergesOnlyCommitted = refl
 stands DecidePassesSnapshots = refl
 stands InstallsWhatWasDecided = refl
 stands InstallsLaterEpoch = refl
+
+same_place : (one guard : Guard) → place_of guard ≡ place_of one → guard ≡ one
+same_place one guard e =
+    let found : Some guard ≡ Some one = sym (stands guard) ∙ ap (λ (n : ℕ). slice_get guards n) e ∙ stands one in one_some found
+
+pub left_out : (one guard : Guard) → (every_guard_but one guard ≡ false) ↔ (guard ≡ one)
+left_out one guard = (by (place_of guard == place_of one) refl, λ e. ap not (eq-eqb (place_of guard) (place_of one) (ap place_of e)))
+  where
+    by : (t : Bool) → (place_of guard == place_of one) ≡ t → not (place_of guard == place_of one) ≡ false → guard ≡ one
+    by true e f = same_place one guard (eqb-true (place_of guard) (place_of one) e)
+    by false e f = absurd (true≢false (sym (ap not e) ∙ f))
 
 pub some_is_broken : (guard : Guard) → guard ≢ InvocationIsDeclared → (guarantee : Guarantee) × IsNeeded guard guarantee
 some_is_broken BeginsOnce other = (RecordsAreApart, transactions_that_begin_twice)

@@ -1,5 +1,5 @@
 -- Facts that are looked for: an answer is the proof of the fact, or none.
-use Rattle.std.proofs.Common.{◌≡◌, ℕ, ◌≤◌, ◌<◌, suc, ◌==◌, leb, Bool, true, false, List, [], ◌∷◌, Option, Some, None, IsTrue, is_some, ◌⊎◌, inl, inr, refl, sym, ap, ◌∙◌, subst, eqb-true, leb-true, true≢false}
+use Rattle.std.proofs.Common.{◌≡◌, ℕ, ◌≤◌, ◌<◌, suc, ◌==◌, leb, Bool, true, false, List, [], ◌∷◌, Option, Some, None, is_some, inl, inr, refl, sym, ◌∙◌, subst, eqb-true, leb-true, true≢false}
 use Rattle.std.proofs.lemmas.Bool.{eqb-false}
 use Rattle.qc_onecopy.specs.Lists.{In}
 use Rattle.qc_protocol.proofs.Names.{tx_test}
@@ -8,9 +8,9 @@ use Rattle.qc_protocol.specs.Names.{same_tx}
 use Rattle.qc_stamp.specs.declared.stamp.TxId.{TxId}
 
 -- a fact that was found
-pub found : {P : Type 0} (o : Option P) → is_some o ≡ true → P
-found (Some p) e = p
-found None e = absurd (true≢false (sym e))
+pub proof_of : {P : Type 0} (o : Option P) → is_some o ≡ true → P
+proof_of (Some p) e = p
+proof_of None e = absurd (true≢false (sym e))
 
 abbrev pub both : {P Q : Type 0} → Option P → Option Q → Option (P × Q)
 both (Some p) (Some q) = Some (p, q)
@@ -18,9 +18,9 @@ both (Some p) None = None
 both None (Some q) = None
 both None None = None
 
-abbrev pub asked : {P : Type 0} (is : Bool) → Option P → Option (Asked is P)
-asked true o = o
-asked false o = Some tt
+abbrev pub where_asked : {P : Type 0} (is : Bool) → Option P → Option (Asked is P)
+where_asked true o = o
+where_asked false o = Some tt
 
 abbrev pub is_true : (b : Bool) → Option (b ≡ true)
 is_true true = Some refl

@@ -9,12 +9,12 @@ use Rattle.qc_protocol.specs.Claims.{FollowsSeen}
 use Rattle.qc_protocol.specs.Guards.{IsRun}
 use Rattle.qc_runs.specs.Guarantees.{Guarantee, Holds, LastRecordFollowsSeen, LogsHoldOperations, RecordsAreApart, RecordsAreOneCopy, VerdictsAgree}
 
-followed : (decl : Declaration) → IsAccepted decl → (commit : CommitRecord) (older : List Act) → IsRun decl (Commit commit ∷ older) → FollowsSeen (state older) commit
-followed decl accepted commit older run = follows decl accepted older run.1 commit run.0
+follows_seen : (decl : Declaration) → IsAccepted decl → (commit : CommitRecord) (older : List Act) → IsRun decl (Commit commit ∷ older) → FollowsSeen (state older) commit
+follows_seen decl accepted commit older run = follows decl accepted older run.1 commit run.0
 
-pub kept : (guarantee : Guarantee) (decl : Declaration) (acts : List Act) → IsAccepted decl → IsRun decl acts → Holds guarantee decl acts
-kept RecordsAreOneCopy decl acts accepted run = one_copy decl accepted acts run
-kept RecordsAreApart decl acts accepted run = apart decl accepted acts run
-kept LogsHoldOperations decl acts accepted run = λ log is line h. logs_hold_operations decl accepted acts run log is line h
-kept VerdictsAgree decl acts accepted run = λ verdict h. verdicts_agree decl accepted acts run verdict h
-kept LastRecordFollowsSeen decl acts accepted run = λ commit older e. followed decl accepted commit older (subst (IsRun decl) e run)
+pub keeps : (guarantee : Guarantee) (decl : Declaration) (acts : List Act) → IsAccepted decl → IsRun decl acts → Holds guarantee decl acts
+keeps RecordsAreOneCopy decl acts accepted run = one_copy decl accepted acts run
+keeps RecordsAreApart decl acts accepted run = apart decl accepted acts run
+keeps LogsHoldOperations decl acts accepted run = λ log is line h. logs_hold_operations decl accepted acts run log is line h
+keeps VerdictsAgree decl acts accepted run = λ verdict h. verdicts_agree decl accepted acts run verdict h
+keeps LastRecordFollowsSeen decl acts accepted run = λ commit older e. follows_seen decl accepted commit older (subst (IsRun decl) e run)

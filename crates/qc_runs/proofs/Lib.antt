@@ -1,3 +1,4 @@
+pub mod Cases
 pub mod Finding
 pub mod Alike
 pub mod Answered

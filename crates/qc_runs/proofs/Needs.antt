@@ -1,17 +1,17 @@
 -- A guard is needed, as a story shows: a run without the guard, after which a guarantee is broken.
-use Rattle.std.proofs.Common.{◌≡◌, Bool, true, List, Option, is_some}
+use Rattle.std.proofs.Common.{◌≡◌, true, List, Option, is_some}
 use Rattle.qc_decl.specs.Accepted.{IsAccepted}
 use Rattle.qc_decl.specs.declared.declaration.Declaration.{Declaration}
 use Rattle.qc_protocol.specs.Acts.{Act}
 use Rattle.qc_protocol.specs.Asked.{Guard}
 use Rattle.qc_runs.proofs.Allowed.{run_of}
-use Rattle.qc_runs.proofs.Finding.{found}
+use Rattle.qc_runs.proofs.Finding.{proof_of}
 use Rattle.qc_runs.specs.Guarantees.{Guarantee, Holds}
 use Rattle.qc_runs.specs.Moves.{Move, acts_of}
 use Rattle.qc_runs.specs.Needed.{IsNeeded, every_guard_but}
 
-pub needed : (guard : Guard) (guarantee : Guarantee) (decl : Declaration) → IsAccepted decl
+pub shows_need : (guard : Guard) (guarantee : Guarantee) (decl : Declaration) → IsAccepted decl
     → (broken : (d : Declaration) (acts : List Act) → Option (Holds guarantee d acts → ⊥)) (story : List Move)
     → is_some (run_of (every_guard_but guard) decl story) ≡ true → is_some (broken decl (acts_of story)) ≡ true → IsNeeded guard guarantee
-needed guard guarantee decl accepted broken story run shown =
-    record { decl = decl; accepted = accepted; acts = acts_of story; run = found (run_of (every_guard_but guard) decl story) run; broken = found (broken decl (acts_of story)) shown }
+shows_need guard guarantee decl accepted broken story run shown =
+    record { decl = decl; accepted = accepted; acts = acts_of story; run = proof_of (run_of (every_guard_but guard) decl story) run; broken = proof_of (broken decl (acts_of story)) shown }

@@ -1,5 +1,5 @@
 -- Quorums and views that are found among counted grants.
-use Rattle.std.proofs.Common.{◌≡◌, ℕ, ◌≤◌, Bool, true, IsTrue, List, [], ◌∷◌, Option, Some, None, is_some, option_map, refl, sym, ap, ◌∙◌, subst}
+use Rattle.std.proofs.Common.{◌≡◌, ℕ, ◌≤◌, List, Option, Some, None, is_some, option_map, refl, ap, ◌∙◌, subst}
 use Rattle.qc_stamp.specs.declared.stamp.TxId.{TxId}
 use Rattle.qc_entry.specs.declared.line.Line.{Line}
 use Rattle.qc_entry.specs.declared.line.ReadLock.{ReadLock}
@@ -9,8 +9,9 @@ use Rattle.qc_plan.specs.Weights.{weight}
 use Rattle.qc_protocol.specs.Guards.{HasGranted, HasQuorum, IsShown, Shows, weights_of}
 use Rattle.qc_protocol.specs.Site.{Item, Lock, Own, site_after}
 use Rattle.qc_protocol.specs.State.{Granted}
+use Rattle.qc_runs.proofs.Cases.{one_lock, own_lock}
 use Rattle.qc_runs.proofs.Alike.{alike_tx, same_item, same_line}
-use Rattle.qc_runs.proofs.Finding.{IsFound, at_most, both, every, found, member, same_number, some, where_same, where_same_tx}
+use Rattle.qc_runs.proofs.Finding.{IsFound, at_most, both, every, proof_of, member, same_number, some, where_same, where_same_tx}
 
 abbrev IsGrantOf : TxId → ℕ → Item → Granted → Type 0
 IsGrantOf tx site item g = (g.tx ≡ tx) × ((g.site ≡ site) × In item g.items)
@@ -25,7 +26,7 @@ abbrev pub quorum : (decl : Declaration) (epoch : ℕ) (counted : List Granted) 
 quorum decl epoch counted tx item need = option_map made (at_most need (weight (λ site. is_some (has_granted counted tx item site)) (weights_of decl epoch)))
   where
     made : need ≤ weight (λ site. is_some (has_granted counted tx item site)) (weights_of decl epoch) → HasQuorum decl epoch counted tx item need
-    made e = record { sites = λ site. is_some (has_granted counted tx item site); enough = e; each = λ site t. found (has_granted counted tx item site) t }
+    made e = record { sites = λ site. is_some (has_granted counted tx item site); enough = e; each = λ site t. proof_of (has_granted counted tx item site) t }
 
 -- a lock on an object
 abbrev IsLockOn : ℕ → Item → Type 0
@@ -55,11 +56,11 @@ abbrev IsSeenBy : ℕ → List Line → List Line → Item → Type 0
 IsSeenBy object lines view x = (k : ReadLock) → x ≡ Lock k → (l : Line) → In l lines → k.object ≡ l.object → l.object ≡ object → In l view
 
 abbrev seen_by_item : (object : ℕ) (lines view : List Line) (x : Item) → Option (IsSeenBy object lines view x)
-seen_by_item object lines view (Own o) = Some (λ k e. absurd (let never : ⊥ = cc in never))
+seen_by_item object lines view (Own o) = Some (λ k e. absurd (own_lock e))
 seen_by_item object lines view (Lock k) = option_map made (every (λ (l : Line). k.object ≡ l.object → l.object ≡ object → In l view) (λ l. where_same k.object l.object (where_same l.object object (member same_line l view))) lines)
   where
     made : ((l : Line) → In l lines → k.object ≡ l.object → l.object ≡ object → In l view) → IsSeenBy object lines view (Lock k)
-    made f j e l h a b = let same : k ≡ j = cc in f l h (ap (λ (x : ReadLock). x.object) same ∙ a) b
+    made f j e l h a b = f l h (ap (λ (x : ReadLock). x.object) (one_lock e) ∙ a) b
 
 -- and what a grant of the transaction shows
 abbrev IsSeenOf : TxId → ℕ → List Line → Granted → Type 0

@@ -1,21 +1,21 @@
 -- Snapshots that are sent wrongly. Each run is one without the guard that its law names.
-use Rattle.std.proofs.Common.{refl, List, [], ◌∷◌, ◌++◌}
+use Rattle.std.proofs.Common.{refl, [], ◌∷◌, ◌++◌}
 use Rattle.qc_protocol.specs.Acts.{TakeSnapshot}
 use Rattle.qc_protocol.specs.Asked.{SnapshotTellsDeeds, SnapshotIsOfClosed, SnapshotPassesDone, SnapshotPassesInstalls}
 use Rattle.qc_protocol.specs.Site.{Closes}
-use Rattle.qc_runs.proofs.Accepted.{moved_accepted}
+use Rattle.qc_runs.proofs.Accepted.{moving_register_accepted}
 use Rattle.qc_runs.proofs.Broken.{not_one_copy}
-use Rattle.qc_runs.proofs.Needs.{needed}
+use Rattle.qc_runs.proofs.Needs.{shows_need}
 use Rattle.qc_runs.specs.Guarantees.{RecordsAreOneCopy}
 use Rattle.qc_runs.specs.Moves.{closes, decides, installs, snapshot, tells}
 use Rattle.qc_runs.specs.Needed.{IsNeeded}
-use Rattle.qc_runs.specs.Settings.{moved}
+use Rattle.qc_runs.specs.Settings.{moving_register}
 use Rattle.qc_runs.specs.Stories.{ends_at, first, moves_to, reads_only, reads_zero, second, writes}
 
 -- A site that closes tells nothing of a write that it has.
 pub snapshots_of_an_older_log : IsNeeded SnapshotTellsDeeds RecordsAreOneCopy
 snapshots_of_an_older_log =
-    needed SnapshotTellsDeeds RecordsAreOneCopy moved moved_accepted not_one_copy
+    shows_need SnapshotTellsDeeds RecordsAreOneCopy moving_register moving_register_accepted not_one_copy
     (writes first 1 (0 ∷ []) ++ closes 0 ∷ (λ now. TakeSnapshot (record { site = 0; clock = 0; before = Closes ∷ [] }))
     ∷ decides 2 (0 ∷ []) ∷ installs 1 2 ∷ reads_only second 2 reads_zero (1 ∷ []))
     refl refl
@@ -23,7 +23,7 @@ snapshots_of_an_older_log =
 -- A site tells what it has while it is open, and then grants a write.
 pub snapshots_of_open_sites : IsNeeded SnapshotIsOfClosed RecordsAreOneCopy
 snapshots_of_open_sites =
-    needed SnapshotIsOfClosed RecordsAreOneCopy moved moved_accepted not_one_copy
+    shows_need SnapshotIsOfClosed RecordsAreOneCopy moving_register moving_register_accepted not_one_copy
     (tells 0 ∷ decides 2 (0 ∷ []) ∷ installs 1 2 ∷ writes first 1 (0 ∷ []) ++ reads_only second 2 reads_zero (1 ∷ []))
     refl refl
 
@@ -31,7 +31,7 @@ snapshots_of_open_sites =
 -- stamped below it.
 pub snapshot_clocks_below_a_done_record : IsNeeded SnapshotPassesDone RecordsAreOneCopy
 snapshot_clocks_below_a_done_record =
-    needed SnapshotPassesDone RecordsAreOneCopy moved moved_accepted not_one_copy
+    shows_need SnapshotPassesDone RecordsAreOneCopy moving_register moving_register_accepted not_one_copy
     (reads_only second 1 reads_zero (0 ∷ []) ++ ends_at second (0 ∷ []) ++ closes 0 ∷ (λ now. TakeSnapshot (record (snapshot 0 now) { clock = 0 }))
     ∷ decides 2 (0 ∷ []) ∷ installs 1 2 ∷ writes first 2 (1 ∷ []))
     refl refl
@@ -39,7 +39,7 @@ snapshot_clocks_below_a_done_record =
 -- The same by way of a third epoch: the second site forgets the clock that it installed.
 pub snapshot_clocks_below_an_install : IsNeeded SnapshotPassesInstalls RecordsAreOneCopy
 snapshot_clocks_below_an_install =
-    needed SnapshotPassesInstalls RecordsAreOneCopy moved moved_accepted not_one_copy
+    shows_need SnapshotPassesInstalls RecordsAreOneCopy moving_register moving_register_accepted not_one_copy
     (reads_only second 1 reads_zero (0 ∷ []) ++ ends_at second (0 ∷ []) ++ moves_to 2 0 1
     ++ closes 1 ∷ (λ now. TakeSnapshot (record (snapshot 1 now) { clock = 0 })) ∷ decides 3 (1 ∷ []) ∷ installs 2 3 ∷ writes first 3 (2 ∷ []))
     refl refl

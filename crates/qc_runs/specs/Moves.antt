@@ -1,21 +1,19 @@
--- Moves, of which the runs here are told: a move is an act that takes from the state what its doer would tell. A site's grant shows
--- what the site did, with the least clock that passes it; a client chooses with all that it was shown; a snapshot, a decision and a
--- commit record are made as the protocol makes them. A run that does otherwise changes a move by hand.
-use Rattle.std.specs.Prelude.{ℕ, suc, max, Bool, true, false, ◌==◌, ◌&&◌, if◌then◌else◌, List, [], ◌∷◌, ◌++◌, map, flat_map, filter, fold, length, Option, Some, None, unwrap_or, find, option_to_list}
+-- Moves, of which the runs here are told: a move is an act that takes from the state what its doer would tell. A
+-- site's grant shows what the site did, with the least clock that passes it; a client chooses with all that it was
+-- shown; a snapshot, a decision and a commit record are made as the protocol makes them. A run that does otherwise
+-- changes a move by hand.
+use Rattle.std.specs.Prelude.{ℕ, suc, max, Bool, false, ◌==◌, ◌&&◌, if◌then◌else◌, List, [], ◌∷◌, ◌++◌, map, flat_map, filter, fold, length, Option, None, unwrap_or, find, option_to_list}
 use Rattle.std.specs.List.{list_any}
 use Rattle.qc_stamp.specs.declared.stamp.Stamp.{Stamp}
 use Rattle.qc_stamp.specs.declared.stamp.TxId.{TxId}
-use Rattle.qc_entry.specs.Line.{line_cmp}
-use Rattle.qc_entry.specs.Log.{by_order, union}
+use Rattle.qc_entry.specs.Log.{union}
 use Rattle.qc_entry.specs.declared.line.Line.{Line}
-use Rattle.qc_entry.specs.declared.line.Op.{Op}
-use Rattle.qc_entry.specs.declared.line.ReadLock.{ReadLock}
 use Rattle.qc_entry.specs.declared.record.Commit.{Commit as CommitRecord}
 use Rattle.qc_onecopy.specs.Executed.{Executed, own_line}
 use Rattle.qc_protocol.specs.Acts.{Act, Begin, Choose, SendAppend, Execute, ExecuteAbsent, Grant, Count, Prepare, Vote, PrepareLost, Commit, CommitUnknown, Recover, Abort, RiseClient, Announce, Learn, Rise, Close, TakeSnapshot, Decide, Install, state}
 use Rattle.qc_protocol.specs.Guards.{op_of, own_on}
 use Rattle.qc_protocol.specs.Names.{same_tx}
-use Rattle.qc_protocol.specs.Site.{Deed, Installs, DoneRecord, Item, Lock, Own, Promise, Site, done_records, empty_site, epoch_from, site_after, stamped_lines}
+use Rattle.qc_protocol.specs.Site.{Deed, Installs, DoneRecord, Item, Lock, Own, Promise, done_records, empty_site, epoch_from, site_after, stamped_lines}
 use Rattle.qc_protocol.specs.State.{AppendRequest, Decision, Granted, Snapshot, State, Verdict}
 
 abbrev pub Move : Type 0
@@ -61,8 +59,8 @@ abbrev pub begins : TxId → ℕ → Move
 begins tx epoch now = Begin tx epoch
 
 -- a site's grant of items and a view to a transaction
-abbrev pub granted : TxId → ℕ → List Item → List Line → State → Granted
-granted tx site items view now = record {
+abbrev pub grant_of : TxId → ℕ → List Item → List Line → State → Granted
+grant_of tx site items view now = record {
   tx = tx;
   site = site;
   epoch = epoch_from 1 (now.deeds site);
@@ -76,25 +74,27 @@ granted tx site items view now = record {
 abbrev pub lock : ℕ → ℕ → List Item
 lock object inv = Lock (record { object = object; inv = inv }) ∷ []
 
-abbrev pub read_granted : TxId → ℕ → ℕ → ℕ → State → Granted
-read_granted tx site object inv now = granted tx site (lock object inv) [] now
+abbrev pub read_grant : TxId → ℕ → ℕ → ℕ → State → Granted
+read_grant tx site object inv now = grant_of tx site (lock object inv) [] now
 
 -- the last Append of the transaction
 abbrev pub last_append : TxId → State → AppendRequest
-last_append tx now = first_of (λ (s : AppendRequest). same_tx s.tx tx) (record { tx = tx; items = []; view = [] }) now.appends
+last_append tx now =
+    first_of (λ (s : AppendRequest). same_tx s.tx tx) (record { tx = tx; items = []; view = [] }) now.appends
 
-abbrev pub append_granted : TxId → ℕ → State → Granted
-append_granted tx site now = let s : AppendRequest = last_append tx now in granted tx site s.items s.view now
+abbrev pub append_grant : TxId → ℕ → State → Granted
+append_grant tx site now = let s : AppendRequest = last_append tx now in grant_of tx site s.items s.view now
 
 abbrev pub grants_read : TxId → ℕ → ℕ → ℕ → Move
-grants_read tx site object inv now = Grant (read_granted tx site object inv now)
+grants_read tx site object inv now = Grant (read_grant tx site object inv now)
 
 abbrev pub grants_append : TxId → ℕ → Move
-grants_append tx site now = Grant (append_granted tx site now)
+grants_append tx site now = Grant (append_grant tx site now)
 
 -- the client counts the last grant of the site
 abbrev pub counts : TxId → ℕ → Move
-counts tx site now = Count (first_of (λ (g : Granted). same_tx g.tx tx && (g.site == site)) (granted tx site [] [] now) now.granted)
+counts tx site now =
+    Count (first_of (λ (g : Granted). same_tx g.tx tx && (g.site == site)) (grant_of tx site [] [] now) now.granted)
 
 abbrev pub locks_object : Item → ℕ → Bool
 locks_object (Lock l) object = l.object == object
@@ -155,7 +155,11 @@ prepares_unheard tx site now = PrepareLost site tx
 
 -- the commit record, with the least stamp above the client's clock
 abbrev pub record_of : TxId → State → CommitRecord
-record_of tx now = record { stamp = record { clock = suc (now.clock tx.client); client = tx.client }; tx = tx; ops = map op_of (now.executed tx) }
+record_of tx now = record {
+  stamp = record { clock = suc (now.clock tx.client); client = tx.client };
+  tx = tx;
+  ops = map op_of (now.executed tx);
+}
 
 abbrev pub commits : TxId → Move
 commits tx now = Commit (record_of tx now)
@@ -177,7 +181,8 @@ announces tx now = Announce tx
 
 -- the site takes the last verdict of the transaction
 abbrev pub learns : TxId → ℕ → Move
-learns tx site now = Learn site (first_of (λ (v : Verdict). same_tx v.tx tx) (record { tx = tx; stamp = None }) now.verdicts)
+learns tx site now =
+    Learn site (first_of (λ (v : Verdict). same_tx v.tx tx) (record { tx = tx; stamp = None }) now.verdicts)
 
 abbrev pub rises : ℕ → Move
 rises site now = Rise site
@@ -186,29 +191,39 @@ abbrev pub closes : ℕ → Move
 closes site now = Close site
 
 abbrev pub snapshot : ℕ → State → Snapshot
-snapshot site now = record { site = site; clock = greatest (done_clocks (now.deeds site) ++ flat_map install_clock (now.deeds site)); before = now.deeds site }
+snapshot site now = record {
+  site = site;
+  clock = greatest (done_clocks (now.deeds site) ++ flat_map install_clock (now.deeds site));
+  before = now.deeds site;
+}
 
 abbrev pub tells : ℕ → Move
 tells site now = TakeSnapshot (snapshot site now)
 
 -- the last snapshot of each of the sites
 abbrev pub snapshots_of : List ℕ → State → List Snapshot
-snapshots_of sites now = map (λ site. first_of (λ (s : Snapshot). s.site == site) (snapshot site now) now.snapshots) sites
+snapshots_of sites now =
+    map (λ site. first_of (λ (s : Snapshot). s.site == site) (snapshot site now) now.snapshots) sites
 
 -- the stamps that verdicts gave a prepared transaction
 abbrev pub stamps_of : List Verdict → Promise → List Stamp
 stamps_of verdicts p = flat_map (λ (v : Verdict). if same_tx v.tx p.tx then option_to_list v.stamp else []) verdicts
 
+-- the own lines of a prepared transaction, with these stamps
+abbrev pub promised_lines : List Verdict → Promise → List Line
+promised_lines verdicts p = flat_map (λ (stamp : Stamp). stamped_lines p.tx stamp p.items) (stamps_of verdicts p)
+
+abbrev pub promised_clocks : List Verdict → Promise → List ℕ
+promised_clocks verdicts p = map (λ (stamp : Stamp). stamp.clock) (stamps_of verdicts p)
+
 -- the lines of a snapshot: its log, and the own lines of what is prepared there and committed
 abbrev pub merged_lines : List Verdict → Snapshot → List Line
 merged_lines verdicts s =
-    let site : Site = site_after s.before in
-    site.volatile ++ flat_map (λ (p : Promise). flat_map (λ (stamp : Stamp). stamped_lines p.tx stamp p.items) (stamps_of verdicts p)) site.prepared
+    (site_after s.before).volatile ++ flat_map (promised_lines verdicts) (site_after s.before).prepared
 
 -- the clocks that a snapshot brings
 abbrev pub merged_clocks : List Verdict → Snapshot → List ℕ
-merged_clocks verdicts s =
-    s.clock ∷ flat_map (λ (p : Promise). map (λ (stamp : Stamp). stamp.clock) (stamps_of verdicts p)) (site_after s.before).prepared
+merged_clocks verdicts s = s.clock ∷ flat_map (promised_clocks verdicts) (site_after s.before).prepared
 
 -- the decision of an epoch from the last snapshots of the sites
 abbrev pub decision : ℕ → List ℕ → State → Decision
@@ -226,4 +241,5 @@ decides epoch sites now = Decide (decision epoch sites now)
 
 -- the site installs the last decision of the epoch
 abbrev pub installs : ℕ → ℕ → Move
-installs site epoch now = Install site (first_of (λ (d : Decision). d.epoch == epoch) (decision epoch [] now) now.decided)
+installs site epoch now =
+    Install site (first_of (λ (d : Decision). d.epoch == epoch) (decision epoch [] now) now.decided)

@@ -81,8 +81,8 @@ abbrev pub takes_none : Call
 takes_none = record { inv = 0; resp = None; event = 0 }
 
 -- grants of the chosen operation's Append, counted
-abbrev pub appended : TxId → List ℕ → List Move
-appended tx sites = flat_map (λ site. grants_append tx site ∷ counts tx site ∷ []) sites
+abbrev pub appends_at : TxId → List ℕ → List Move
+appends_at tx sites = flat_map (λ site. grants_append tx site ∷ counts tx site ∷ []) sites
 
 -- second transactions of the first and the second client
 abbrev pub second_again : TxId
@@ -95,8 +95,8 @@ abbrev pub stamp_of : ℕ → ℕ → Stamp
 stamp_of clock client = record { clock = clock; client = client }
 
 -- a write that nobody executed: as a line, and as a first and a second own line
-abbrev pub made_up : Line
-made_up = record { stamp = stamp_of 1 0; tx = first; op = 1; object = 0; event = 3 }
+abbrev pub invented_line : Line
+invented_line = record { stamp = stamp_of 1 0; tx = first; op = 1; object = 0; event = 3 }
 
 abbrev pub first_line : OwnLine
 first_line = record { op = 1; object = 0; event = 3 }

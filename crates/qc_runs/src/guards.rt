@@ -1,25 +1,25 @@
 //! Every guard, but one that is kept for its plainness, is needed.
 
-ghost use Rattle.std.specs.Prelude.{◌≡◌, ◌≢◌, List, Some, slice_get};
+ghost use Rattle.std.specs.Prelude.{◌≡◌, ◌≢◌, ◌↔◌, List, false};
 ghost use Rattle.qc_decl.specs.declared.declaration.Declaration.{Declaration};
 ghost use Rattle.qc_decl.specs.Accepted.{IsAccepted};
 ghost use Rattle.qc_protocol.specs.Acts.{Act};
 ghost use Rattle.qc_protocol.specs.Asked.{Guard, InvocationIsDeclared};
 ghost use Rattle.qc_protocol.specs.Guards.{IsRun};
 ghost use Rattle.qc_runs.specs.Guarantees.{Guarantee, Holds};
-ghost use Rattle.qc_runs.specs.Needed.{IsNeeded, guards, place_of};
+ghost use Rattle.qc_runs.specs.Needed.{IsNeeded, every_guard_but};
 
-/// No two guards have one place, so a machine without one of them asks all
-/// others.
-#[tactic(auto, using(crate::proofs::EveryGuard::stands))]
-pub fn guards_have_places_of_their_own()
-    ensures { (guard : Guard) → slice_get guards (place_of guard) ≡ Some guard }
+/// A machine without a guard asks all others.
+#[tactic(auto, using(crate::proofs::EveryGuard::left_out))]
+pub fn one_guard_is_left_out()
+    ensures { (one guard : Guard) → (every_guard_but one guard ≡ false) ↔ (guard ≡ one) }
 {}
 
 /// Every run of the protocol keeps each guarantee.
-#[tactic(auto, using(crate::proofs::Kept::kept))]
+#[tactic(auto, using(crate::proofs::Kept::keeps))]
 pub fn runs_keep_the_guarantees()
-    ensures { (guarantee : Guarantee) (decl : Declaration) (acts : List Act) → IsAccepted decl → IsRun decl acts → Holds guarantee decl acts }
+    ensures { (guarantee : Guarantee) (decl : Declaration) (acts : List Act) → IsAccepted decl → IsRun decl acts
+        → Holds guarantee decl acts }
 {}
 
 /// Without a guard some run breaks a guarantee. One guard is kept for its

@@ -48,9 +48,7 @@ pub use grants::{
     grants_that_nobody_asked_for, grants_that_show_an_older_log, reads_past_a_write,
     writes_past_a_read_lock,
 };
-pub use guards::{
-    every_guard_is_needed, guards_have_places_of_their_own, runs_keep_the_guarantees,
-};
+pub use guards::{every_guard_is_needed, one_guard_is_left_out, runs_keep_the_guarantees};
 pub use operations::{
     absent_operations_appended, epochs_without_a_plan, lines_left_out_of_views,
     operations_after_prepare, operations_with_other_numbers, own_writes_forgotten,

@@ -3,8 +3,8 @@
 
 ghost use Rattle.std.specs.Prelude.{◌++◌};
 ghost use Rattle.qc_decl.specs.One.{three};
-ghost use Rattle.qc_runs.specs.Settings.{three_twice};
-ghost use Rattle.qc_runs.specs.Witnesses.{Commits, IsRefused, conflict, given_up, one_epoch, one_epoch_records, two_epochs, two_epochs_records, written};
+ghost use Rattle.qc_runs.specs.Settings.{three_in_two_epochs};
+ghost use Rattle.qc_runs.specs.Witnesses.{Commits, IsRefused, conflict, one_epoch, one_epoch_records, two_epochs, two_epochs_records, read_under_way, write_under_way};
 
 /// Two clients, in one epoch: a conflict, a client that falls with its commit
 /// record pending and rises with it, a site that falls between its vote and
@@ -18,7 +18,7 @@ pub fn one_epoch_commits()
 /// holds the first client's write.
 #[tactic(auto, using(crate::proofs::WitnessRuns::conflict_is_refused))]
 pub fn conflict_is_refused()
-    ensures { IsRefused three (written ++ given_up) conflict }
+    ensures { IsRefused three (write_under_way ++ read_under_way) conflict }
 {}
 
 /// Over two epochs: what was prepared at a site as it closed is read in the new
@@ -26,5 +26,5 @@ pub fn conflict_is_refused()
 /// decided.
 #[tactic(auto, using(crate::proofs::WitnessRuns::two_epochs_commit))]
 pub fn two_epochs_commit()
-    ensures { Commits three_twice two_epochs two_epochs_records }
+    ensures { Commits three_in_two_epochs two_epochs two_epochs_records }
 {}
