@@ -211,7 +211,7 @@ module _ (actors : ℕ) (kind : Kind) (names : KindNames) (objects : List ℕ) (
       the_names (suc number) k ns at of = absurd (let never : ⊥ = cc in never)
 
   abbrev store_accepted : IsRight kind → (typed : AreTyped) → Option (IsAccepted decl)
-  store_accepted right typed = option_map made (both few_proof_of (both named_proof_of (plans_found typed)))
+  store_accepted right typed = option_map made (both few_found (both named_found (plans_found typed)))
     where
       made : AreFew × (AreNamed × (((place : ℕ) (plan : Plan) → slice_get plans place ≡ Some plan → IsGood decl plan)
           × ((place : ℕ) (plan : Plan) → slice_get plans place ≡ Some plan → HasThresholds decl plan))) → IsAccepted decl
