@@ -1,11 +1,11 @@
--- The limits, each once: how much there may be of each thing. `src/limits.rt` has the same numbers for code, and a law says
--- that both agree.
+-- The limits, each once: how much there may be of each thing. Those of types, certificates and plans stand in the crates
+-- that test them, and are handed on. `src/limits.rt` has the same numbers for code, and laws say that both agree.
 use Rattle.std.specs.Prelude.{ℕ}
+pub use Rattle.qc_table.specs.Limits.{most_events, most_invocations, most_responses, most_rows, most_states}
+pub use Rattle.qc_cert.specs.Limits.{most_triples}
+pub use Rattle.qc_plan.specs.Limits.{most_sites}
 
 -- Of a declaration.
-
-abbrev pub most_sites : ℕ
-most_sites = 16
 
 abbrev pub most_clients : ℕ
 most_clients = 16
@@ -19,27 +19,7 @@ most_objects = 16
 abbrev pub most_epochs : ℕ
 most_epochs = 8
 
--- Of a type.
-
-abbrev pub most_states : ℕ
-most_states = 64
-
-abbrev pub most_invocations : ℕ
-most_invocations = 32
-
-abbrev pub most_responses : ℕ
-most_responses = 32
-
-abbrev pub most_events : ℕ
-most_events = 64
-
-abbrev pub most_rows : ℕ
-most_rows = 131072
-
-abbrev pub most_triples : ℕ
-most_triples = 65536
-
--- triples with the same two states
+-- triples of a type with the same two states
 abbrev pub most_alike_triples : ℕ
 most_alike_triples = 1024
 

@@ -1,12 +1,14 @@
-//! The limits, each once: how much there may be of each thing.
+//! The limits, each once: how much there may be of each thing. Those of types,
+//! certificates and plans stand in the crates that test them, and are handed on.
 //! `specs/Limits.antt` has the same numbers for definitions, and the law at the
-//! end says that both agree.
+//! end says that both agree; the crates below have such a law of their own.
 
 ghost use Rattle.std.specs.Prelude.{◌≡◌};
 ghost use Rattle.qc_decl.specs.Limits as limits;
 
-/// The most sites.
-pub const MOST_SITES: u8 = 16;
+pub use qc_cert::MOST_TRIPLES;
+pub use qc_plan::MOST_SITES;
+pub use qc_table::{MOST_EVENTS, MOST_INVOCATIONS, MOST_RESPONSES, MOST_ROWS, MOST_STATES};
 
 /// The most clients.
 pub const MOST_CLIENTS: u8 = 16;
@@ -19,24 +21,6 @@ pub const MOST_OBJECTS: usize = 16;
 
 /// The most epochs.
 pub const MOST_EPOCHS: usize = 8;
-
-/// The most states of a type.
-pub const MOST_STATES: usize = 64;
-
-/// The most invocations of a type.
-pub const MOST_INVOCATIONS: usize = 32;
-
-/// The most responses of a type.
-pub const MOST_RESPONSES: usize = 32;
-
-/// The most events of a type.
-pub const MOST_EVENTS: usize = 64;
-
-/// The most rows of a type.
-pub const MOST_ROWS: usize = 131_072;
-
-/// The most triples of a type.
-pub const MOST_TRIPLES: usize = 65_536;
 
 /// The most triples with the same two states.
 pub const MOST_ALIKE_TRIPLES: u16 = 1_024;
@@ -76,17 +60,10 @@ pub const MOST_CARRIED_LINES: u32 = 8_388_608;
 
 /// The limits of the code are those of the definitions.
 pub fn limits_are_as_defined()
-    ensures sites { MOST_SITES ≡ limits.most_sites }
     ensures clients { MOST_CLIENTS ≡ limits.most_clients }
     ensures types { MOST_TYPES ≡ limits.most_types }
     ensures objects { MOST_OBJECTS ≡ limits.most_objects }
     ensures epochs { MOST_EPOCHS ≡ limits.most_epochs }
-    ensures states { MOST_STATES ≡ limits.most_states }
-    ensures invocations { MOST_INVOCATIONS ≡ limits.most_invocations }
-    ensures responses { MOST_RESPONSES ≡ limits.most_responses }
-    ensures events { MOST_EVENTS ≡ limits.most_events }
-    ensures rows { MOST_ROWS ≡ limits.most_rows }
-    ensures triples { MOST_TRIPLES ≡ limits.most_triples }
     ensures alike_triples { MOST_ALIKE_TRIPLES ≡ limits.most_alike_triples }
     ensures name { LONGEST_NAME ≡ limits.longest_name }
     ensures digits { MOST_DIGITS ≡ limits.most_digits }
