@@ -1,0 +1,69 @@
+//! Certificates of six types, and wrong ones of each.
+
+mod samples;
+
+use qc_cert::{CertFault, MOST_TRIPLES, Triple, check};
+use qc_table::{Kind, Pair, Relation, Row, Table};
+use std::alloc::{AllocError, Global};
+
+/// The most rows of a type here.
+const MOST_ROWS: usize = 100;
+
+/// A type with this many states, invocations and responses, which starts in
+/// state 0. A row is a state, an invocation, a response and the state after; a
+/// pair is an invocation and an event on which it depends.
+fn kind(
+    alloc: Global,
+    (states, invs, resps): (u8, u8, u8),
+    rows: &[(u8, u8, u8, u8)],
+    pairs: &[(u8, u8)],
+) -> Option<Kind> {
+    if !(1..=64).contains(&states) || !(1..=32).contains(&invs) || !(1..=32).contains(&resps) {
+        return None;
+    }
+    let rows = rows_of(alloc, rows).ok()?;
+    if rows.len() > MOST_ROWS {
+        return None;
+    }
+    Some(Kind {
+        table: Table::new(alloc, states, invs, resps, 0, &rows).ok()?,
+        relation: relation(alloc, pairs)?,
+    })
+}
+
+/// These rows.
+fn rows_of(alloc: Global, rows: &[(u8, u8, u8, u8)]) -> Result<Vec<Row>, AllocError> {
+    let row = |(state, inv, resp, next)| Row {
+        state,
+        inv,
+        resp,
+        next,
+    };
+    rows.iter().copied().map(row).collect(alloc)
+}
+
+/// The relation of these pairs.
+fn relation(alloc: Global, pairs: &[(u8, u8)]) -> Option<Relation> {
+    let pair = |(inv, event)| Pair { inv, event };
+    let pairs: Vec<Pair> = pairs.iter().copied().map(pair).collect(alloc).ok()?;
+    if !pairs.iter().all(|pair| pair.inv < 32 && pair.event < 64) {
+        return None;
+    }
+    Some(Relation::new(&pairs))
+}
+
+/// What `check` finds wrong with a list, or the word that it isn't one of the
+/// type's states.
+fn fault(alloc: Global, kind: &Kind, list: &[Triple]) -> Result<Option<CertFault>, &'static str> {
+    let states = kind.table.states();
+    if list.len() > MOST_TRIPLES {
+        return Err("too many triples");
+    }
+    if !list
+        .iter()
+        .all(|triple| triple.view < states && triple.log < states)
+    {
+        return Err("a triple of other states");
+    }
+    Ok(check(alloc, kind, list).err())
+}

@@ -1,0 +1,344 @@
+//! Certificates that were worked out by hand.
+//!
+//! The faults of wrong ones are worked out from the rules. Where one triple is
+//! left out of a list, the first one that leads to it is at fault, by the
+//! first event that does; where a pair is left out of a relation, the first
+//! triple that leaves out no more than the events of such pairs, and whose
+//! states differ for that invocation.
+
+use super::{fault, kind};
+use qc_cert::{CertFault, Triple};
+use qc_table::Kind;
+use std::alloc::{AllocError, Global};
+use std::process::Abort;
+use std::test::Fail;
+
+/// These triples: the view's state, the log's state, the events left out.
+fn list(alloc: Global, triples: &[(u8, u8, u64)]) -> Result<Vec<Triple>, AllocError> {
+    let triple = |(view, log, out)| Triple { view, log, out };
+    triples.iter().copied().map(triple).collect(alloc)
+}
+
+/// One triple for each two states, in their order, that leaves out these.
+fn grid(alloc: Global, states: u8, outs: &[u64]) -> Result<Vec<Triple>, AllocError> {
+    let mut triples = Vec::new(alloc);
+    for (number, out) in (0..u8::MAX).zip(outs.iter()) {
+        triples.push(Triple {
+            view: number.checked_div(states).unwrap_or(0),
+            log: number.checked_rem(states).unwrap_or(0),
+            out: *out,
+        })?;
+    }
+    Ok(triples)
+}
+
+/// The items but the one at this place.
+fn without<T: Copy + Drop>(alloc: Global, items: &[T], place: usize) -> Result<Vec<T>, AllocError> {
+    let mut rest = Vec::new(alloc);
+    for (k, item) in items.iter().enumerate() {
+        if k != place {
+            rest.push(*item)?;
+        }
+    }
+    Ok(rest)
+}
+
+fn left_out(triple: u32, event: u8) -> Option<CertFault> {
+    Some(CertFault::Uncovered {
+        triple,
+        event,
+        taken: false,
+    })
+}
+
+fn taken(triple: u32, event: u8) -> Option<CertFault> {
+    Some(CertFault::Uncovered {
+        triple,
+        event,
+        taken: true,
+    })
+}
+
+fn unequal(triple: u32, inv: u8, resp: u8) -> Option<CertFault> {
+    Some(CertFault::Unequal { triple, inv, resp })
+}
+
+/// A register over 0 and 1: invocations R, W0 and W1, responses 0, 1 and ok.
+/// Its events are R:0, R:1, W0:ok and W1:ok.
+const REGISTER_ROWS: [(u8, u8, u8, u8); 6] = [
+    (0, 0, 0, 0),
+    (1, 0, 1, 1),
+    (0, 1, 2, 0),
+    (1, 1, 2, 0),
+    (0, 2, 2, 1),
+    (1, 2, 2, 1),
+];
+
+fn register(alloc: Global, pairs: &[(u8, u8)]) -> Option<Kind> {
+    kind(alloc, (2, 3, 3), &REGISTER_ROWS, pairs)
+}
+
+/// R depends on what is written.
+const REGISTER_PAIRS: [(u8, u8); 2] = [(0, 2), (0, 3)];
+
+/// What is wrong with these triples.
+fn found(
+    alloc: Global,
+    kind: &Kind,
+    triples: &[(u8, u8, u64)],
+) -> Result<Option<CertFault>, &'static str> {
+    match list(alloc, triples) {
+        Ok(list) => fault(alloc, kind, &list),
+        Err(_) => Err("no memory"),
+    }
+}
+
+#[test]
+fn registers(rt: HostRuntime) -> Result<(), Fail> {
+    let alloc = rt.alloc();
+    let register = register(alloc, &REGISTER_PAIRS).ok_or("no type")?;
+    let whole = [(0, 0, 0), (0, 1, 8), (1, 1, 0), (1, 0, 4)];
+    assert_eq!(rt; found(alloc, &register, &whole)?, None);
+    assert_eq!(rt; found(alloc, &register, &[])?, Some(CertFault::NoStart));
+    assert_eq!(rt; found(alloc, &register, &[(0, 0, 0)])?, left_out(0, 3));
+    let two = [(0, 0, 0), (0, 1, 8)];
+    assert_eq!(rt; found(alloc, &register, &two)?, taken(0, 3));
+    let three = [(0, 0, 0), (0, 1, 8), (1, 1, 0)];
+    assert_eq!(rt; found(alloc, &register, &three)?, left_out(2, 2));
+    Ok(())
+}
+
+/// A triple that leaves out more covers none that leaves out less: not the
+/// start, nor what follows from it by W1:ok, left out or taken.
+#[test]
+fn registers_that_leave_out_more(rt: HostRuntime) -> Result<(), Fail> {
+    let alloc = rt.alloc();
+    let register = register(alloc, &REGISTER_PAIRS).ok_or("no type")?;
+    let cases = [
+        (
+            [(0, 0, 4), (0, 1, 8), (1, 1, 0), (1, 0, 4)],
+            Some(CertFault::NoStart),
+        ),
+        (
+            [(0, 0, 0), (0, 1, 12), (1, 1, 0), (1, 0, 4)],
+            left_out(0, 3),
+        ),
+        ([(0, 0, 0), (0, 1, 8), (1, 1, 1), (1, 0, 4)], taken(0, 3)),
+    ];
+    for (triples, first) in cases {
+        assert_eq!(rt; found(alloc, &register, &triples)?, first, "{triples:?}");
+    }
+    Ok(())
+}
+
+/// The order of a triple's faults, where nothing depends on anything: in the
+/// first list R is unequal too, and in the third the second triple is.
+#[test]
+fn faults_in_their_order(rt: HostRuntime) -> Result<(), Fail> {
+    let alloc = rt.alloc();
+    let register = register(alloc, &[]).ok_or("no type")?;
+    let cases = [
+        ([(1, 0, 0), (0, 0, 0), (0, 1, 0)], left_out(0, 3)),
+        ([(0, 0, 0), (0, 1, 0), (1, 1, 0)], unequal(1, 0, 0)),
+        ([(0, 0, 0), (0, 1, 0), (1, 0, 0)], taken(0, 3)),
+        ([(0, 1, 0), (0, 0, 0), (1, 0, 0)], unequal(0, 0, 0)),
+    ];
+    for (triples, first) in cases {
+        assert_eq!(rt; found(alloc, &register, &triples)?, first, "{triples:?}");
+    }
+    Ok(())
+}
+
+/// A flag: TAS answers whether it was set, and sets it; Reset answers ok. Its
+/// events are TAS:0, TAS:1 and Reset:ok. A test that misses a Reset takes a
+/// flag that isn't set for one that is.
+#[test]
+fn flags(rt: HostRuntime) -> Result<(), Fail> {
+    let alloc = rt.alloc();
+    let rows = [(0, 0, 0, 1), (1, 0, 1, 1), (0, 1, 2, 0), (1, 1, 2, 0)];
+    let triples = [(0, 0, 0), (0, 1, 1), (1, 1, 0), (1, 0, 4)];
+    let flag = kind(alloc, (2, 2, 3), &rows, &[(0, 0), (0, 2)]).ok_or("no type")?;
+    assert_eq!(rt; found(alloc, &flag, &triples)?, None);
+    let misses = kind(alloc, (2, 2, 3), &rows, &[(0, 0)]).ok_or("no type")?;
+    assert_eq!(rt; found(alloc, &misses, &triples)?, unequal(3, 0, 0));
+    Ok(())
+}
+
+/// A slot for one item: Put answers ok where it is empty, and Get answers item
+/// where it is full. Each depends on both events.
+#[test]
+fn slots(rt: HostRuntime) -> Result<(), Fail> {
+    let alloc = rt.alloc();
+    let rows = [(0, 0, 0, 1), (1, 1, 1, 0)];
+    let triples = [(0, 0, 0), (1, 1, 0), (0, 1, 1), (1, 0, 2)];
+    let slot = kind(alloc, (2, 2, 2), &rows, &[(0, 0), (0, 1), (1, 0), (1, 1)]).ok_or("no type")?;
+    assert_eq!(rt; found(alloc, &slot, &triples)?, None);
+    Ok(())
+}
+
+/// A type with a certificate and what is wrong without a part of either.
+#[derive(Drop)]
+struct Sample<'a> {
+    counts: (u8, u8, u8),
+    rows: &'a [(u8, u8, u8, u8)],
+    pairs: &'a [(u8, u8)],
+    /// What the triple of each two states leaves out, in their order.
+    outs: &'a [u64],
+    /// The place of a triple, and what is wrong without it.
+    triples: [(usize, Option<CertFault>); 3],
+    /// The place of a pair, and what is wrong without it.
+    pair: (usize, Option<CertFault>),
+}
+
+/// The certificate is accepted, and without any of these parts refused.
+fn try_sample(rt: &impl Abort, alloc: Global, sample: &Sample) -> Result<(), Fail> {
+    let whole = grid(alloc, sample.counts.0, sample.outs)?;
+    let good = kind(alloc, sample.counts, sample.rows, sample.pairs).ok_or("no type")?;
+    assert_eq!(rt; fault(alloc, &good, &whole)?, None);
+    for (place, first) in sample.triples {
+        let list = without(alloc, &whole, place)?;
+        assert_eq!(rt;
+            fault(alloc, &good, &list)?,
+            first,
+            "without triple {place}"
+        );
+    }
+    let (place, first) = sample.pair;
+    let pairs = without(alloc, sample.pairs, place)?;
+    let misses = kind(alloc, sample.counts, sample.rows, &pairs).ok_or("no type")?;
+    assert_eq!(rt;
+        fault(alloc, &misses, &whole)?,
+        first,
+        "without pair {place}"
+    );
+    Ok(())
+}
+
+/// A queue for two items a and b: its states are empty, a, b, aa, ab, ba and
+/// bb, its invocations put a, put b, and take, and its events put a, put b,
+/// take a and take b. All of them depend on all, since a put is legal where
+/// there is room.
+#[test]
+fn queues(rt: HostRuntime) -> Result<(), Fail> {
+    let sample = Sample {
+        counts: (7, 3, 3),
+        rows: &[
+            (0, 0, 0, 1),
+            (0, 1, 0, 2),
+            (1, 0, 0, 3),
+            (1, 1, 0, 4),
+            (1, 2, 1, 0),
+            (2, 0, 0, 5),
+            (2, 1, 0, 6),
+            (2, 2, 2, 0),
+            (3, 2, 1, 1),
+            (4, 2, 1, 2),
+            (5, 2, 2, 1),
+            (6, 2, 2, 2),
+        ],
+        pairs: &[
+            (0, 0),
+            (0, 1),
+            (0, 2),
+            (0, 3),
+            (1, 0),
+            (1, 1),
+            (1, 2),
+            (1, 3),
+            (2, 0),
+            (2, 1),
+            (2, 2),
+            (2, 3),
+        ],
+        outs: &[
+            0, 1, 2, 1, 3, 3, 2, 4, 0, 6, 1, 2, 7, 6, 8, 9, 0, 9, 11, 1, 2, 4, 4, 6, 0, 6, 7, 6,
+            12, 13, 4, 13, 0, 5, 6, 12, 8, 14, 9, 10, 0, 14, 8, 9, 8, 9, 11, 9, 0,
+        ],
+        triples: [
+            (0, Some(CertFault::NoStart)),
+            (19, left_out(16, 0)),
+            (48, taken(16, 1)),
+        ],
+        pair: (11, unequal(14, 2, 2)),
+    };
+    try_sample(&rt, rt.alloc(), &sample)
+}
+
+/// A counter from 0 to 3: inc and dec answer ok, or no where they can't, and
+/// read answers the count. Its events are inc ok, dec no, read 0, dec ok, read
+/// 1, read 2, inc no and read 3.
+#[test]
+fn counters(rt: HostRuntime) -> Result<(), Fail> {
+    let sample = Sample {
+        counts: (4, 3, 6),
+        rows: &[
+            (0, 0, 0, 1),
+            (0, 1, 1, 0),
+            (0, 2, 2, 0),
+            (1, 0, 0, 2),
+            (1, 1, 0, 0),
+            (1, 2, 3, 1),
+            (2, 0, 0, 3),
+            (2, 1, 0, 1),
+            (2, 2, 4, 2),
+            (3, 0, 1, 3),
+            (3, 1, 0, 2),
+            (3, 2, 5, 3),
+        ],
+        pairs: &[(0, 0), (0, 3), (1, 0), (1, 3), (2, 0), (2, 3)],
+        outs: &[0, 1, 1, 1, 8, 0, 1, 1, 8, 8, 0, 1, 8, 8, 8, 0],
+        triples: [
+            (0, Some(CertFault::NoStart)),
+            (12, left_out(12, 3)),
+            (15, taken(10, 0)),
+        ],
+        pair: (5, unequal(4, 2, 2)),
+    };
+    try_sample(&rt, rt.alloc(), &sample)
+}
+
+/// A set of two items: its states are empty, a, b and both, its invocations
+/// add a, add b, drop a, drop b, has a and has b, its responses ok, yes and
+/// no. Its events are the four with ok, and has a no, has b no, has a yes and
+/// has b yes. Only has depends on anything: on what adds or drops its item.
+#[test]
+fn sets(rt: HostRuntime) -> Result<(), Fail> {
+    let sample = Sample {
+        counts: (4, 6, 3),
+        rows: &[
+            (0, 0, 0, 1),
+            (0, 1, 0, 2),
+            (0, 2, 0, 0),
+            (0, 3, 0, 0),
+            (0, 4, 2, 0),
+            (0, 5, 2, 0),
+            (1, 0, 0, 1),
+            (1, 1, 0, 3),
+            (1, 2, 0, 0),
+            (1, 3, 0, 1),
+            (1, 4, 1, 1),
+            (1, 5, 2, 1),
+            (2, 0, 0, 3),
+            (2, 1, 0, 2),
+            (2, 2, 0, 2),
+            (2, 3, 0, 0),
+            (2, 4, 2, 2),
+            (2, 5, 1, 2),
+            (3, 0, 0, 3),
+            (3, 1, 0, 3),
+            (3, 2, 0, 2),
+            (3, 3, 0, 1),
+            (3, 4, 1, 3),
+            (3, 5, 1, 3),
+        ],
+        pairs: &[(4, 0), (4, 2), (5, 1), (5, 3)],
+        outs: &[0, 1, 2, 3, 4, 0, 6, 2, 8, 9, 0, 1, 12, 8, 4, 0],
+        triples: [
+            (0, Some(CertFault::NoStart)),
+            (3, left_out(1, 1)),
+            (11, taken(1, 1)),
+        ],
+        pair: (3, unequal(8, 5, 1)),
+    };
+    try_sample(&rt, rt.alloc(), &sample)
+}
