@@ -26,7 +26,8 @@ is_for from to ordinal link = (matches link.from from && matches link.to to) && 
 -- the first rule that is for the message decides; it passes where there is none
 abbrev pub by_rules : List Link → ℕ → ℕ → ℕ → Fate
 by_rules [] from to ordinal = fates.Pass
-by_rules (link ∷ links) from to ordinal = if is_for from to ordinal link then fate_of link.rule else by_rules links from to ordinal
+by_rules (link ∷ links) from to ordinal =
+    if is_for from to ordinal link then fate_of link.rule else by_rules links from to ordinal
 
 -- between actors that are cut from each other a message is dropped
 abbrev pub fate : List Link → List Bool → ℕ → ℕ → ℕ → Fate

@@ -70,7 +70,8 @@ impl LinkPlan {
         ordinal: Option<u32>,
         rule: Rule,
     ) -> Result<(), OutOfMemory>
-        ensures ok { OnOk result (self.new ≡ self.old ++ record { from = from; to = to; ordinal = ordinal; rule = rule } ∷ []) }
+        ensures ok { OnOk result
+            (self.new ≡ self.old ++ record { from = from; to = to; ordinal = ordinal; rule = rule } ∷ []) }
         ensures err { OnErr result (self.new ≡ self.old) }
     {
         let pattern = (from, to, ordinal);
@@ -114,7 +115,8 @@ impl LinkPlan {
 
     /// How many come before the first with this sender.
     fn first_from(&self, from: Option<u8>, to: u8, ordinal: u32) -> usize
-        ensures { result ≡ first (λ (l : Link). (option_eq nat_eq from l.from && matches l.to to) && matches l.ordinal ordinal) self.now }
+        ensures { result
+            ≡ first (λ l. (option_eq nat_eq from l.from && matches l.to to) && matches l.ordinal ordinal) self.now }
     {
         self.first_to(from, None, ordinal)
             .min(self.first_to(from, Some(to), ordinal))
@@ -122,7 +124,8 @@ impl LinkPlan {
 
     /// How many come before the first with this sender and receiver.
     fn first_to(&self, from: Option<u8>, to: Option<u8>, ordinal: u32) -> usize
-        ensures { result ≡ first (λ (l : Link). (option_eq nat_eq from l.from && option_eq nat_eq to l.to) && matches l.ordinal ordinal) self.now }
+        ensures { result ≡ first
+            (λ l. (option_eq nat_eq from l.from && option_eq nat_eq to l.to) && matches l.ordinal ordinal) self.now }
     {
         self.first_of((from, to, None))
             .min(self.first_of((from, to, Some(ordinal))))

@@ -16,7 +16,8 @@ In x [] = ⊥
 In x (y ∷ ys) = (x ≡ y) ⊎ In x ys
 
 -- another transaction holds an own line of the object on whose event the invocation depends
-pub record IsReadConflict (relation : List ℕ) (held : List Held) (tx : TxId) (object inv : ℕ) (clash : Clash) : Type 0 where
+pub record IsReadConflict (relation : List ℕ) (held : List Held) (tx : TxId) (object inv : ℕ) (clash : Clash)
+    : Type 0 where
   pub holder : Held
   pub line : OwnLine
   pub holds : In holder held
@@ -27,7 +28,8 @@ pub record IsReadConflict (relation : List ℕ) (held : List Held) (tx : TxId) (
   pub told : clash ≡ record { holder = holder.tx; inv = inv; event = line.event }
 
 -- another transaction holds a read lock of a given line's object, and its invocation depends on the line's event
-pub record IsAppendConflict (relation : List ℕ) (held : List Held) (tx : TxId) (own : List OwnLine) (clash : Clash) : Type 0 where
+pub record IsAppendConflict (relation : List ℕ) (held : List Held) (tx : TxId) (own : List OwnLine) (clash : Clash)
+    : Type 0 where
   pub line : OwnLine
   pub holder : Held
   pub lock : ReadLock
@@ -42,4 +44,5 @@ pub record IsAppendConflict (relation : List ℕ) (held : List Held) (tx : TxId)
 -- the answer is the smallest conflict, by holder, invocation and event, and none just where there is no conflict
 abbrev pub IsSmallest : (Clash → Type 0) → Option Clash → Type 0
 IsSmallest IsConflict None = (clash : Clash) → IsConflict clash → ⊥
-IsSmallest IsConflict (Some least) = IsConflict least × ((clash : Clash) → IsConflict clash → clash_cmp least clash ≡ Greater → ⊥)
+IsSmallest IsConflict (Some least) =
+    IsConflict least × ((clash : Clash) → IsConflict clash → clash_cmp least clash ≡ Greater → ⊥)

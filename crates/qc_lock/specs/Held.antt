@@ -1,5 +1,6 @@
 -- What unfinished transactions hold: an entry for each, in the order in which they came to hold something.
-use Rattle.std.specs.Prelude.{Bool, ◌==◌, ◌&&◌, not, if◌then◌else◌, List, [], ◌∷◌, length, fold, filter, Option, is_some, unwrap_or}
+use Rattle.std.specs.Prelude.{Bool, ◌==◌, ◌&&◌, not, if◌then◌else◌, Option, is_some, unwrap_or}
+use Rattle.std.specs.Prelude.{List, [], ◌∷◌, length, fold, filter}
 use Rattle.std.specs.List.{find, list_any}
 use Rattle.std.specs.Ordering.{nat_cmp, on, then_cmp}
 use Rattle.std.specs.declared.cmp.Ordering.{Ordering}
@@ -68,9 +69,10 @@ with_entry (h ∷ hs) entry = if same_tx h.tx entry.tx then entry ∷ hs else (h
 -- the transaction holds these locks and own lines too, if there are any
 abbrev pub with_held : List Held → TxId → List ReadLock → List OwnLine → List Held
 with_held held tx locks own =
+    let entry : Held = held_of held tx in
     if (length locks == 0) && (length own == 0)
     then held
-    else with_entry held (record { tx = tx; locks = with_locks (held_of held tx).locks locks; own = with_owns (held_of held tx).own own })
+    else with_entry held (record { tx = tx; locks = with_locks entry.locks locks; own = with_owns entry.own own })
 
 -- the transaction holds nothing
 abbrev pub without_held : List Held → TxId → List Held

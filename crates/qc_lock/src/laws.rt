@@ -36,7 +36,8 @@ pub fn granted_reads_conflict_with_nothing()
 /// Where an append is granted, no invocation of a read lock of a line's object
 /// that another transaction holds depends on the line's event.
 pub fn granted_appends_conflict_with_nothing()
-    ensures { (relation : List ℕ) (held : List Held) (tx : TxId) (own : List OwnLine) (line : OwnLine) (holder : Held) (lock : ReadLock)
+    ensures { (relation : List ℕ) (held : List Held) (tx : TxId) (own : List OwnLine)
+        (line : OwnLine) (holder : Held) (lock : ReadLock)
         → append_clash relation held tx own ≡ None
         → In line own → In holder held → same_tx holder.tx tx ≡ false → In lock holder.locks → lock.object ≡ line.object
         → depends relation lock.inv line.event ≡ false }

@@ -3,7 +3,8 @@
 ghost use Rattle.std.specs.Prelude.{◌≡◌, ◌<◌, ◌+◌, false, None, Some, [], ◌∷◌, length, IfErr, OnOk, OnErr};
 ghost use Rattle.qc_lock.specs.declared.clash.LockFault.TheVariants.{OutOfMemory};
 ghost use Rattle.qc_lock.specs.Clash.{read_clash, append_clash, IsTold};
-ghost use Rattle.qc_lock.specs.Held.{lock_cmp, own_cmp, held_of, has_lock, is_held, with_entry, with_held, without_held};
+ghost use Rattle.qc_lock.specs.Held.{lock_cmp, own_cmp, held_of, has_lock, is_held};
+ghost use Rattle.qc_lock.specs.Held.{with_entry, with_held, without_held};
 ghost use Rattle.qc_lock.specs.Sound.{Ascends, IsSound};
 
 use crate::clash::{self, LockFault};
@@ -81,7 +82,8 @@ impl Locks {
         ensures ok { OnOk result (self.new ≡ with_held self.old tx (record { object = object; inv = inv } ∷ []) []) }
         ensures told { IfErr result (λ e. IsTold e (read_clash kind.now.relation self.old tx object inv)) }
         ensures err { OnErr result (self.new ≡ self.old) }
-        ensures memory { result ≡ Err OutOfMemory → has_lock self.old tx (record { object = object; inv = inv }) ≡ false }
+        ensures memory { result ≡ Err OutOfMemory
+            → has_lock self.old tx (record { object = object; inv = inv }) ≡ false }
     {
         if let Some(clash) = clash::read_clash(
             self.held.as_slice(),

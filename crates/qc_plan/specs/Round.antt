@@ -1,5 +1,7 @@
 -- A round over sites: whom it asks, what came of the requests, and what it comes to (weighted voting, Gifford 1979).
-use Rattle.std.specs.Prelude.{ℕ, zero, suc, ◌-◌, ◌==◌, ◌&&◌, ◌||◌, nat_lt, nat_le, Bool, true, false, if◌then◌else◌, List, [], ◌∷◌, ◌++◌, Option, Some, None, drop, take, filter, length, is_some, unwrap_or, slice_index}
+use Rattle.std.specs.Prelude.{ℕ, zero, suc, ◌-◌, ◌==◌, ◌&&◌, ◌||◌, nat_lt, nat_le, Bool, true, false, if◌then◌else◌}
+use Rattle.std.specs.Prelude.{List, [], ◌∷◌, ◌++◌, drop, take, filter, length, slice_index}
+use Rattle.std.specs.Prelude.{Option, Some, None, is_some, unwrap_or}
 use Rattle.std.specs.List.{list_any, list_all, range_with_len}
 use Rattle.std.specs.Option.{option_or}
 use Rattle.qc_plan.specs.Weights.{weight}
@@ -31,7 +33,8 @@ cyclic sites from = range_with_len from (sites - from) ++ range_with_len 0 from
 
 -- a round in which nobody was asked yet
 abbrev pub start : List ℕ → ℕ → ℕ → RoundState
-start weights from need = record { weights = weights; need = need; asked = []; rest = weighing weights (cyclic (length weights) from) }
+start weights from need =
+    record { weights = weights; need = need; asked = []; rest = weighing weights (cyclic (length weights) from) }
 
 -- the asked sites, and those of them that granted, as sets
 
@@ -115,7 +118,7 @@ next_site r = if may_ask r then first r.rest else None
 -- the round once the first site of a rest is asked
 abbrev pub asking_first : RoundState → List ℕ → RoundState
 asking_first r [] = r
-asking_first r (site ∷ rest) = record { weights = r.weights; need = r.need; asked = r.asked ++ record { site = site; standing = None } ∷ []; rest = rest }
+asking_first r (site ∷ rest) = record r { asked = r.asked ++ record { site = site; standing = None } ∷ []; rest = rest }
 
 -- the round once the next site is asked, if there is one
 abbrev pub asking_next : RoundState → RoundState
@@ -130,10 +133,13 @@ place_in site (a ∷ rest) = if a.site == site then 0 else suc (place_in site re
 
 abbrev pub note_in : ℕ → Standing → List Asked → List Asked
 note_in site standing [] = []
-note_in site standing (a ∷ rest) = if a.site == site then record { site = site; standing = Some standing } ∷ rest else a ∷ note_in site standing rest
+note_in site standing (a ∷ rest) =
+    if a.site == site
+    then record { site = site; standing = Some standing } ∷ rest
+    else a ∷ note_in site standing rest
 
 abbrev pub note : RoundState → ℕ → Standing → RoundState
-note r site standing = record { weights = r.weights; need = r.need; asked = note_in site standing r.asked; rest = r.rest }
+note r site standing = record r { asked = note_in site standing r.asked }
 
 -- all sites to be asked now: the smallest prefix that, with those asked, weighs what is needed; then one further site
 
@@ -154,7 +160,8 @@ wanted r =
 -- the round once these are asked, one after another
 abbrev pub asking_all : RoundState → List ℕ → RoundState
 asking_all r [] = r
-asking_all r (site ∷ sites) = asking_all (record { weights = r.weights; need = r.need; asked = r.asked ++ record { site = site; standing = None } ∷ []; rest = drop 1 r.rest }) sites
+asking_all r (site ∷ sites) =
+    asking_all (record r { asked = r.asked ++ record { site = site; standing = None } ∷ []; rest = drop 1 r.rest }) sites
 
 -- asking until no site is to be asked, so many times at most: the sites, and the round then
 

@@ -3,7 +3,8 @@
 ghost use Rattle.std.specs.Prelude.{◌≡◌, ◌-◌, ◌≤◌, ◌++◌, length, map, OnOk};
 ghost use Rattle.std.specs.List.{range_with_len};
 ghost use Rattle.qc_plan.specs.declared.standing.Asked.{Asked};
-ghost use Rattle.qc_plan.specs.Round.{is_granted, is_asked, has_granted, all_noted, first_closed, first_clash, refusal, place_in, weighing};
+ghost use Rattle.qc_plan.specs.Round.{is_granted, is_asked, has_granted, all_noted, place_in, weighing};
+ghost use Rattle.qc_plan.specs.Round.{first_closed, first_clash, refusal};
 ghost use Rattle.qc_plan.specs.Weights.{weight};
 
 use crate::standing::{Asked, Standing, Verdict};

@@ -34,7 +34,12 @@ impl Model for Round {
 
     ghost Value = { RoundState };
 
-    ghost view = { λ r. record { weights = r.weights; need = r.need; asked = take r.asked r.sites.items; rest = map (λ (a : Asked). a.site) (drop r.asked r.sites.items) } };
+    ghost view = { λ r. record {
+      weights = r.weights;
+      need = r.need;
+      asked = take r.asked r.sites.items;
+      rest = map (λ (a : Asked). a.site) (drop r.asked r.sites.items);
+    } };
 
     ghost invariant = { λ r. (length r.weights ≤ 16) × (r.asked ≤ length r.sites.items) };
 }

@@ -15,7 +15,8 @@ ghost use Rattle.qc_table.specs.declared.kind.Kind.{Kind};
 /// met append round for the other have a site in common that granted both
 /// (Herlihy 1986).
 pub fn met_rounds_share_a_site()
-    ensures { (plan : Plan) (kinds : List Kind) (objects : List ℕ) (object number : ℕ) (kind : Kind) (inv event : ℕ) (reads appends : RoundState)
+    ensures { (plan : Plan) (kinds : List Kind) (objects : List ℕ) (object number : ℕ) (kind : Kind)
+        (inv event : ℕ) (reads appends : RoundState)
         → IsAdmitted plan kinds objects → slice_get objects object ≡ Some number → slice_get kinds number ≡ Some kind
         → inv < kind.table.invs → event < length (events_of kind.table.rows) → IsTrue (depends kind.relation inv event)
         → reads.weights ≡ plan.weights → reads.need ≡ need_of plan.initial object inv → verdict reads ≡ Met
@@ -26,5 +27,6 @@ pub fn met_rounds_share_a_site()
 /// To ask until no site is to be asked gives just the sites that are wanted,
 /// and the round in which they are asked.
 pub fn sites_are_asked_one_by_one()
-    ensures { (turns : ℕ) (r : RoundState) → length r.rest ≤ turns → asking_in_turn turns r ≡ (wanted r, asking_all r (wanted r)) }
+    ensures { (turns : ℕ) (r : RoundState) → length r.rest ≤ turns
+        → asking_in_turn turns r ≡ (wanted r, asking_all r (wanted r)) }
 {}
