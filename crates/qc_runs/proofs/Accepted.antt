@@ -14,7 +14,7 @@ use Rattle.qc_plan.specs.declared.fault.PlanFault.{PlanFault}
 use Rattle.qc_plan.specs.declared.plan.Plan.{Plan}
 use Rattle.qc_runs.proofs.Cases.{none_some, one_some}
 use Rattle.qc_runs.proofs.Finding.{at_most, below, both, proof_of, same_number}
-use Rattle.qc_runs.specs.Settings.{latch, latch_kind, latch_store, moving_register, two_registers, store, three_in_two_epochs, ticket, ticket_kind, ticket_store}
+use Rattle.qc_runs.specs.Settings.{extra_kind, extra_store, latch, latch_kind, latch_store, moving_register, two_registers, store, three_in_two_epochs, ticket, ticket_kind, ticket_store}
 use Rattle.qc_table.specs.Sound.{IsSound}
 use Rattle.qc_table.specs.declared.kind.Kind.{Kind}
 
@@ -87,3 +87,13 @@ ticket_store_accepted = proof_of (store_accepted 1 ticket_kind (0 ∷ []) ticket
 
 pub three_in_two_epochs_accepted : IsAccepted three_in_two_epochs
 three_in_two_epochs_accepted = proof_of (store_accepted 3 register_kind (0 ∷ []) three_in_two_epochs.plans register_right) refl
+
+register_triples : List Triple
+register_triples = triple 0 0 0 ∷ triple 0 1 8 ∷ triple 1 1 0 ∷ triple 1 0 4 ∷ []
+
+extra_right : IsRight extra_kind
+unfolding register_triples
+extra_right = record { sound = register_right.sound; exact = exact extra_kind register_triples (inductive extra_kind register_triples register_right.sound refl) }
+
+pub extra_store_accepted : IsAccepted extra_store
+extra_store_accepted = proof_of (store_accepted 1 extra_kind (0 ∷ []) extra_store.plans extra_right) refl
