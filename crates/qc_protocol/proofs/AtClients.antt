@@ -1,5 +1,5 @@
 -- Acts of a client that leave its transaction's status: it counts a grant, and executes an operation.
-use Rattle.std.proofs.Common.{◌≡◌, ◌≢◌, ℕ, ◌≤◌, inl, inr, List, ◌∷◌, map, Option, sym, ap, ◌∙◌, subst, arith}
+use Rattle.std.proofs.Common.{Some, None, ◌≡◌, ◌≢◌, ℕ, ◌≤◌, inl, inr, List, ◌∷◌, map, Option, sym, ap, ◌∙◌, subst, arith}
 use Rattle.std.specs.Prelude.{max}
 use Rattle.qc_stamp.specs.declared.stamp.TxId.{TxId}
 use Rattle.qc_decl.specs.declared.declaration.Declaration.{Declaration}
@@ -9,12 +9,24 @@ use Rattle.qc_onecopy.proofs.Lists.{in_left, in_right}
 use Rattle.qc_protocol.specs.Names.{put}
 use Rattle.qc_protocol.specs.Site.{Deed, Grants, Prepares}
 use Rattle.qc_protocol.specs.State.{Status, NotBegun, Active, Voting, Granted, AppendRequest, State}
+use Rattle.qc_entry.specs.declared.record.Commit.{Commit as CommitRecord}
 use Rattle.qc_protocol.specs.Acts.{Count, after_act}
-use Rattle.qc_protocol.specs.Guards.{MayPrepare, op_of, IsAllowed}
+use Rattle.qc_protocol.specs.Guards.{HasRecord, MayPrepare, op_of, IsAllowed}
 use Rattle.qc_protocol.specs.StateLaws.{GrantedLaw, CountedLaw, StateLaws}
 use Rattle.qc_protocol.proofs.Names.{put_case, put_here}
 use Rattle.qc_protocol.proofs.Deeds.{calm_all}
 use Rattle.qc_protocol.proofs.Outcomes.{active_mild, not_active}
+
+-- a transaction isn't voted on, and has no record
+pub record IsUnderWay (s : Status) : Type 0 where
+  pub unvoted : s ≢ Voting
+  pub unrecorded : (c : CommitRecord) → HasRecord s c → ⊥
+
+pub active_under_way : (s : Status) → s ≡ Active → IsUnderWay s
+active_under_way s e = record {
+  unvoted = λ v. (let x : Active ≡ Voting = sym e ∙ v in absurd (let never : ⊥ = cc in never));
+  unrecorded = λ c h. subst (λ (x : Status). HasRecord x c) e h;
+}
 
 module _ (decl : Declaration) where
   pub count_keeps : (w : State) (g : Granted) → IsAllowed decl w (Count g) → StateLaws decl w → StateLaws decl (after_act w (Count g))
@@ -93,7 +105,14 @@ module _ (decl : Declaration) where
       }
 
   -- an operation is chosen, or executed: the transaction is active
-  pub executes : (w : State) (tx : TxId) (executed : TxId → List Executed) (chosen : TxId → Option Executed) (appends : List AppendRequest) → w.status tx ≡ Active → ((t : TxId) → (t ≢ tx) → w.executed t ≡ executed t) → ((t : TxId) → (t ≢ tx) → w.chosen t ≡ chosen t)
+  -- one with a chosen operation
+  pub chosen_under_way : (w : State) (tx : TxId) (operation : Executed) → w.chosen tx ≡ Some operation → StateLaws decl w → IsUnderWay (w.status tx)
+  chosen_under_way w tx operation is l = record {
+    unvoted = λ v. (let x : None ≡ Some operation = sym (l.quiet tx v) ∙ is in absurd (let never : ⊥ = cc in never));
+    unrecorded = λ c h. (let x : None ≡ Some operation = sym ((l.record_of tx c h).none_chosen) ∙ is in absurd (let never : ⊥ = cc in never));
+  }
+
+  pub executes : (w : State) (tx : TxId) (executed : TxId → List Executed) (chosen : TxId → Option Executed) (appends : List AppendRequest) → IsUnderWay (w.status tx) → ((t : TxId) → (t ≢ tx) → w.executed t ≡ executed t) → ((t : TxId) → (t ≢ tx) → w.chosen t ≡ chosen t)
       → StateLaws decl w → StateLaws decl (record w { executed = executed; chosen = chosen; appends = appends })
   executes w tx executed chosen appends e same_executed same_chosen l = record {
     verdicts = l.verdicts;
@@ -106,8 +125,8 @@ module _ (decl : Declaration) where
     begun = l.begun;
     passed = l.passed;
     seen_by = l.seen_by;
-    quiet = λ t v. sym (same_chosen t (λ same. let x : Active ≡ Voting = sym e ∙ ap w.status (sym same) ∙ v in absurd (let never : ⊥ = cc in never))) ∙ l.quiet t v;
-    record_of = λ t c h. (let r = l.record_of t c h in let ne : t ≢ tx = not_active w.status tx t c e h in record {
+    quiet = λ t v. sym (same_chosen t (λ same. e.unvoted (ap w.status (sym same) ∙ v))) ∙ l.quiet t v;
+    record_of = λ t c h. (let r = l.record_of t c h in let ne : t ≢ tx = (λ same. e.unrecorded c (subst (λ (x : TxId). HasRecord (w.status x) c) same h)) in record {
       named = r.named;
       client = r.client;
       low = r.low;

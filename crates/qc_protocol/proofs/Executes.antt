@@ -18,12 +18,12 @@ use Rattle.qc_protocol.proofs.Grows.{Grows, closed_at_more, carry}
 
 module _ (decl : Declaration) where
   -- an operation is new_executed
-  pub execute_keeps : (w : State) (tx : TxId) (operation : Executed) → w.status tx ≡ Active → ((d : Executed) → w.chosen tx ≡ Some d → d ≡ operation) → IsNextOperation (w.executed tx) operation → IsAnsweredFromQuorum decl (w.epoch tx) w.counted tx operation
+  pub execute_keeps : (w : State) (tx : TxId) (operation : Executed) → w.status tx ≢ NotBegun → ((d : Executed) → w.chosen tx ≡ Some d → d ≡ operation) → IsNextOperation (w.executed tx) operation → IsAnsweredFromQuorum decl (w.epoch tx) w.counted tx operation
       → (IsSome operation.op.resp → HasQuorum decl (w.epoch tx) w.counted tx (Own (own_line operation)) (append_need_of decl (w.epoch tx) operation.op.object operation.event))
       → ((m : Line) → In m operation.view → IsClosedAt decl w.status w.executed operation.view m)
       → LogLaws decl w → LogLaws decl (record w { executed = put_tx w.executed tx (w.executed tx ++ operation ∷ []); chosen = put_tx w.chosen tx None })
-  execute_keeps w tx operation is_open only next right met views l = carry decl w w.status (put_tx w.executed tx (w.executed tx ++ operation ∷ [])) (put_tx w.chosen tx None) w.clock w.seen_by w.records w.counted w.epoch g
-      order still (λ t d h. elim (was t d h) [ inl k ↦ l.begun t d k | inr is ↦ (λ e. let x : Active ≡ NotBegun = sym is_open ∙ ap w.status (sym is.0) ∙ e in cc) ]) (λ t d h. rights t d (was t d h)) written (λ t d m h i. closed_at_more decl w.status w.status w.executed (put_tx w.executed tx (w.executed tx ++ operation ∷ [])) w.chosen (put_tx w.chosen tx None) g d.view m (seen t d m (was t d h) i)) l
+  execute_keeps w tx operation begun only next right met views l = carry decl w w.status (put_tx w.executed tx (w.executed tx ++ operation ∷ [])) (put_tx w.chosen tx None) w.clock w.seen_by w.records w.counted w.epoch g
+      order still (λ t d h. elim (was t d h) [ inl k ↦ l.begun t d k | inr is ↦ (λ e. begun (ap w.status (sym is.0) ∙ e)) ]) (λ t d h. rights t d (was t d h)) written (λ t d m h i. closed_at_more decl w.status w.status w.executed (put_tx w.executed tx (w.executed tx ++ operation ∷ [])) w.chosen (put_tx w.chosen tx None) g d.view m (seen t d m (was t d h) i)) l
     where
       new_executed : TxId → List Executed
       new_executed = put_tx w.executed tx (w.executed tx ++ operation ∷ [])

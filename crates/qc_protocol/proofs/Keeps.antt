@@ -16,7 +16,7 @@ use Rattle.qc_protocol.proofs.Installed.{made_more}
 use Rattle.qc_protocol.proofs.Statuses.{Moves, moved, begin_moves, prepare_moves, abort_moves}
 use Rattle.qc_protocol.proofs.Commits.{commit_moves, commit_unknown_moves, recover_moves}
 use Rattle.qc_protocol.proofs.AtSites.{granted_more, counted_more, at_sites, grant_keeps, vote_keeps, learn_keeps, rise_keeps, close_keeps}
-use Rattle.qc_protocol.proofs.AtClients.{count_keeps, executes}
+use Rattle.qc_protocol.proofs.AtClients.{active_under_way, chosen_under_way, count_keeps, executes}
 
 module _ (decl : Declaration) where
   put_other : {A : Type 0} (f : TxId → A) (k : TxId) (v : A) (t : TxId) → (t ≢ k) → f t ≡ put_tx f k v t
@@ -24,10 +24,10 @@ module _ (decl : Declaration) where
 
   pub keeps : (w : State) (a : Act) → IsAllowed decl w a → StateLaws decl w → StateLaws decl (after_act w a)
   keeps w (Begin tx epoch) ok l = moved decl w tx Active w.clock w.records (put_tx w.epoch tx epoch) (begin_moves decl w tx epoch ok.0 ok.1) l
-  keeps w (Choose tx operation) ok l = executes decl w tx w.executed (put_tx w.chosen tx (Some operation)) w.appends ok.0 (λ t ne. refl) (put_other w.chosen tx (Some operation)) l
+  keeps w (Choose tx operation) ok l = executes decl w tx w.executed (put_tx w.chosen tx (Some operation)) w.appends (active_under_way (w.status tx) ok.0) (λ t ne. refl) (put_other w.chosen tx (Some operation)) l
   keeps w (SendAppend s) ok l = record { verdicts = l.verdicts; deeds = l.deeds; granted = l.granted; facts = l.facts; known = l.known; counted = l.counted; votes = l.votes; begun = l.begun; passed = l.passed; seen_by = l.seen_by; quiet = l.quiet; record_of = l.record_of; apart = l.apart; written = l.written; writes = l.writes; counts_epoch = l.counts_epoch; planned = l.planned; installed = l.installed; rising = l.rising; snapped = l.snapped; answers = l.answers; made = l.made }
-  keeps w (Execute tx) ok l = executes decl w tx (put_tx w.executed tx (w.executed tx ++ chosen_list (w.chosen tx))) (put_tx w.chosen tx None) w.appends ok.0 (put_other w.executed tx (w.executed tx ++ chosen_list (w.chosen tx))) (put_other w.chosen tx None) l
-  keeps w (ExecuteAbsent tx operation) ok l = executes decl w tx (put_tx w.executed tx (w.executed tx ++ operation ∷ [])) (put_tx w.chosen tx None) w.appends ok.0 (put_other w.executed tx (w.executed tx ++ operation ∷ [])) (put_other w.chosen tx None) l
+  keeps w (Execute tx) ok l = executes decl w tx (put_tx w.executed tx (w.executed tx ++ chosen_list (w.chosen tx))) (put_tx w.chosen tx None) w.appends (chosen_under_way decl w tx ok.0 ok.1 l) (put_other w.executed tx (w.executed tx ++ chosen_list (w.chosen tx))) (put_other w.chosen tx None) l
+  keeps w (ExecuteAbsent tx operation) ok l = executes decl w tx (put_tx w.executed tx (w.executed tx ++ operation ∷ [])) (put_tx w.chosen tx None) w.appends (active_under_way (w.status tx) ok.0) (put_other w.executed tx (w.executed tx ++ operation ∷ [])) (put_other w.chosen tx None) l
   keeps w (Grant g) ok l = grant_keeps decl w g ok l
   keeps w (Count g) ok l = count_keeps decl w g ok l
   keeps w (Prepare tx) ok l = moved decl w tx Voting w.clock w.records w.epoch (prepare_moves decl w tx ok.0 ok.1 l) l

@@ -40,13 +40,13 @@ module _ (decl : Declaration) where
     decided = l.decided;
   }
   keeps_logs accepted w (Execute tx) ok wl l =
-      let d : Executed = ok.1.0 in
-      let is : w.chosen tx ≡ Some ok.1.0 = ok.1.1 in
-      let n = l.next tx ok.1.0 is in
+      let d : Executed = ok.0 in
+      let is : w.chosen tx ≡ Some ok.0 = ok.1 in
+      let n = l.next tx ok.0 is in
       subst (λ (o : Option Executed). LogLaws decl (record w { executed = put_tx w.executed tx (w.executed tx ++ chosen_list o); chosen = put_tx w.chosen tx None })) (sym is)
-      (execute_keeps decl w tx ok.1.0 ok.0 (λ e h. let x : Some ok.1.0 ≡ Some e = sym is ∙ h in cc) n.0 (l.right tx ok.1.0 (inr is)) (λ s. ok.1.2) (λ m h. l.views tx ok.1.0 m (inr is) h) l)
+      (execute_keeps decl w tx ok.0 (l.begun tx ok.0 (inr is)) (λ e h. let x : Some ok.0 ≡ Some e = sym is ∙ h in cc) n.0 (l.right tx ok.0 (inr is)) (λ s. ok.2) (λ m h. l.views tx ok.0 m (inr is) h) l)
   keeps_logs accepted w (ExecuteAbsent tx operation) ok wl l =
-      execute_keeps decl w tx operation ok.0 (λ e h. let x : None ≡ Some e = sym ok.1 ∙ h in absurd (let never : ⊥ = cc in never)) (next_operation decl w tx operation ok.2 l) (answered_from_quorum decl w tx operation ok.2)
+      execute_keeps decl w tx operation (λ e. let x : Active ≡ NotBegun = sym ok.0 ∙ e in cc) (λ e h. let x : None ≡ Some e = sym ok.1 ∙ h in absurd (let never : ⊥ = cc in never)) (next_operation decl w tx operation ok.2 l) (answered_from_quorum decl w tx operation ok.2)
       (λ s. absurd (none_some decl operation.op.resp ok.3 s)) (λ m h. view_closed decl w tx operation ok.2 wl l m h) l
   keeps_logs accepted w (Grant g) ok wl l = at_site decl w g.site (Grants g.tx g.items g.view) w.life (g ∷ w.granted) w.votes (grant_ready decl w g ok.3 l)
       (λ h i. elim i [

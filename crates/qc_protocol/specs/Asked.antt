@@ -7,7 +7,7 @@ pub data Guard : Type 0 where
   BeginsOnce : Guard  -- a transaction begins once
   BeginsInPlannedEpoch : Guard  -- a transaction begins in an epoch that has a plan
   -- an operation is chosen, or answered absent
-  OperatesWhileActive : Guard  -- a transaction's operations are chosen and executed while it is active
+  OperatesWhileActive : Guard  -- an operation is chosen, or answered absent, while its transaction is active
   ChoosesOneAtATime : Guard  -- an operation is chosen where no other is chosen and not yet executed
   AnswersFromView : Guard  -- an operation's reply is one that its view and its own lines allow
   InvocationIsDeclared : Guard  -- an operation's invocation is one of its object's type

@@ -195,11 +195,10 @@ IsAllowedBy ask decl now (SendAppend s) =
     × IsAppendOfBy ask decl (now.epoch s.tx) operation s
 -- what is chosen is executed where sites of the final threshold granted its line
 IsAllowedBy ask decl now (Execute tx) =
-    Asked (ask OperatesWhileActive) (now.status tx ≡ Active)
-    × ((operation : Executed) × (now.chosen tx ≡ Some operation)
+    (operation : Executed) × (now.chosen tx ≡ Some operation)
     × Asked (ask AppendQuorumIsMet)
     (HasQuorum decl (now.epoch tx) now.counted tx (Own (own_line operation))
-    (append_need_of decl (now.epoch tx) operation.op.object operation.event)))
+    (append_need_of decl (now.epoch tx) operation.op.object operation.event))
 -- an active transaction that has chosen nothing finds no response where its view allows none
 IsAllowedBy ask decl now (ExecuteAbsent tx operation) =
     Asked (ask OperatesWhileActive) (now.status tx ≡ Active)

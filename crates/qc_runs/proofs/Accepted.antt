@@ -23,7 +23,7 @@ use Rattle.qc_plan.specs.declared.fault.PlanFault.{PlanFault}
 use Rattle.qc_plan.specs.declared.plan.Plan.{Plan}
 use Rattle.qc_runs.proofs.Cases.{none_some, one_some}
 use Rattle.qc_runs.proofs.Finding.{at_most, below, both, is_true, proof_of, same_number}
-use Rattle.qc_runs.specs.Settings.{latch, latch_kind, latch_names, latch_store, moving_register, two_registers, store, three_in_two_epochs, ticket, ticket_kind, ticket_names, ticket_store}
+use Rattle.qc_runs.specs.Settings.{extra_kind, extra_store, latch, latch_kind, latch_names, latch_store, moving_register, two_registers, store, three_in_two_epochs, ticket, ticket_kind, ticket_names, ticket_store}
 use Rattle.qc_table.specs.Sound.{IsSound}
 use Rattle.qc_table.specs.declared.kind.Kind.{Kind}
 

@@ -111,7 +111,7 @@ is_allowed ask decl acts (Choose tx d) =
     (both (where_asked (ask OperatesWhileActive) (is_active (now.status tx))) (both (where_asked (ask ChoosesOneAtATime) (none_chosen (now.chosen tx)))
     (both (executed_from ask decl (now.epoch tx) now.counted (now.executed tx) tx d) (where_asked (ask ChosenHasResponse) (some_told d.op.resp)))))
 is_allowed ask decl acts (SendAppend s) = let now = state acts in may_append ask decl now s (ask AppendsWhatIsChosen) (now.chosen s.tx) refl
-is_allowed ask decl acts (Execute tx) = let now = state acts in both (where_asked (ask OperatesWhileActive) (is_active (now.status tx))) (may_execute ask decl now tx (now.chosen tx) refl)
+is_allowed ask decl acts (Execute tx) = let now = state acts in may_execute ask decl now tx (now.chosen tx) refl
 is_allowed ask decl acts (ExecuteAbsent tx d) =
     let now = state acts in
     option_map (λ f. (f.0, (f.1).0, ((f.1).1).0, ((f.1).1).1))

@@ -4,10 +4,11 @@ use Rattle.qc_entry.specs.declared.record.Commit.{Commit as CommitRecord}
 use Rattle.qc_decl.specs.Accepted.{IsAccepted}
 use Rattle.qc_decl.specs.declared.declaration.Declaration.{Declaration}
 use Rattle.qc_protocol.proofs.ClaimLaws.{apart, follows, logs_hold_operations, one_copy, verdicts_agree}
+use Rattle.qc_protocol.proofs.OrderingLaw.{dependents}
 use Rattle.qc_protocol.specs.Acts.{Act, Commit, state}
 use Rattle.qc_protocol.specs.Claims.{FollowsSeen}
 use Rattle.qc_protocol.specs.Guards.{IsRun}
-use Rattle.qc_runs.specs.Guarantees.{Guarantee, Holds, LastRecordFollowsSeen, LogsHoldOperations, RecordsAreApart, RecordsAreOneCopy, VerdictsAgree}
+use Rattle.qc_runs.specs.Guarantees.{Guarantee, Holds, LastRecordFollowsSeen, LogsHoldOperations, OperationsAreOrdered, RecordsAreApart, RecordsAreOneCopy, VerdictsAgree}
 
 follows_seen : (decl : Declaration) → IsAccepted decl → (commit : CommitRecord) (older : List Act) → IsRun decl (Commit commit ∷ older) → FollowsSeen (state older) commit
 follows_seen decl accepted commit older run = follows decl accepted older run.1 commit run.0
@@ -18,3 +19,4 @@ keeps RecordsAreApart decl acts accepted run = apart decl accepted acts run
 keeps LogsHoldOperations decl acts accepted run = λ log is line h. logs_hold_operations decl accepted acts run log is line h
 keeps VerdictsAgree decl acts accepted run = λ verdict h. verdicts_agree decl accepted acts run verdict h
 keeps LastRecordFollowsSeen decl acts accepted run = λ commit older e. follows_seen decl accepted commit older (subst (IsRun decl) e run)
+keeps OperationsAreOrdered decl acts accepted run = λ c d earlier later. dependents decl accepted acts run c d earlier later

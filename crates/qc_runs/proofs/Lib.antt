@@ -9,6 +9,7 @@ pub mod AllowedDecisions
 pub mod Begun
 pub mod Allowed
 pub mod Broken
+pub mod Disorder
 pub mod Accepted
 pub mod Needs
 pub mod WrongOperations

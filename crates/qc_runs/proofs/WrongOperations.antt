@@ -3,15 +3,16 @@ use Rattle.std.proofs.Common.{refl, [], ◌∷◌, ◌++◌}
 use Rattle.qc_decl.proofs.BuiltInRules.{one_accepted, three_accepted}
 use Rattle.qc_decl.specs.One.{one, three}
 use Rattle.qc_protocol.specs.Acts.{Choose}
-use Rattle.qc_protocol.specs.Asked.{BeginsOnce, BeginsInPlannedEpoch, OperatesWhileActive, ChoosesOneAtATime, AnswersFromView, OperationsAreNumbered, OwnLinesAreKept, ViewWasShown, ViewIsWhole, ReadQuorumIsMet, ChosenHasResponse, AbsentHasNoResponse}
-use Rattle.qc_runs.proofs.Accepted.{ticket_store_accepted}
+use Rattle.qc_protocol.specs.Asked.{InvocationIsDeclared, BeginsOnce, BeginsInPlannedEpoch, OperatesWhileActive, ChoosesOneAtATime, AnswersFromView, OperationsAreNumbered, OwnLinesAreKept, ViewWasShown, ViewIsWhole, ReadQuorumIsMet, ChosenHasResponse, AbsentHasNoResponse}
+use Rattle.qc_runs.proofs.Accepted.{extra_store_accepted, ticket_store_accepted}
 use Rattle.qc_runs.proofs.Broken.{not_apart, not_one_copy, wrong_log}
+use Rattle.qc_runs.proofs.Disorder.{not_ordered}
 use Rattle.qc_runs.proofs.Needs.{shows_need}
-use Rattle.qc_runs.specs.Guarantees.{LogsHoldOperations, RecordsAreApart, RecordsAreOneCopy}
+use Rattle.qc_runs.specs.Guarantees.{LogsHoldOperations, OperationsAreOrdered, RecordsAreApart, RecordsAreOneCopy}
 use Rattle.qc_runs.specs.Moves.{begins, chooses, commits, counts, executes, finds_absent, grants_append, operation, prepares, sends, votes}
 use Rattle.qc_runs.specs.Needed.{IsNeeded}
-use Rattle.qc_runs.specs.Settings.{ticket_store}
-use Rattle.qc_runs.specs.Stories.{commits_at, ends_at, first, locks, invented_line, operates, reads_one, reads_only, reads_zero, second, takes, takes_none, writes, writes_one, writes_zero}
+use Rattle.qc_runs.specs.Settings.{extra_store, ticket_store}
+use Rattle.qc_runs.specs.Stories.{asks_the_unknown, commits_at, ends_at, first, locks, invented_line, operates, reads_one, reads_only, reads_zero, second, takes, takes_none, writes, writes_one, writes_zero}
 
 -- A transaction begins again after its commit, and commits again.
 pub transactions_that_begin_twice : IsNeeded BeginsOnce RecordsAreApart
@@ -47,6 +48,14 @@ pub replies_that_no_view_allows : IsNeeded AnswersFromView RecordsAreOneCopy
 replies_that_no_view_allows =
     shows_need AnswersFromView RecordsAreOneCopy one one_accepted not_one_copy
     (reads_only second 1 reads_one (0 ∷ []))
+    refl refl
+
+-- An invocation that the register lacks, but its relation names, is answered absent without a look at the write on which
+-- it depends.
+pub invocations_that_a_type_lacks : IsNeeded InvocationIsDeclared OperationsAreOrdered
+invocations_that_a_type_lacks =
+    shows_need InvocationIsDeclared OperationsAreOrdered extra_store extra_store_accepted not_ordered
+    (writes first 1 (0 ∷ []) ++ begins second 1 ∷ finds_absent second 0 asks_the_unknown ∷ commits_at second [])
     refl refl
 
 -- A first operation calls itself the seventh, and so does its line.

@@ -1,9 +1,10 @@
 -- What the protocol guarantees of all that was done.
-use Rattle.std.specs.Prelude.{◌≡◌, List, ◌∷◌}
+use Rattle.std.specs.Prelude.{◌≡◌, ◌≢◌, ◌<◌, ◌⊎◌, IsSome, IsTrue, List, ◌∷◌}
 use Rattle.qc_decl.specs.declared.declaration.Declaration.{Declaration}
 use Rattle.qc_entry.specs.declared.line.Line.{Line}
 use Rattle.qc_entry.specs.declared.record.Commit.{Commit as CommitRecord}
 use Rattle.qc_onecopy.specs.Committed.{AreApart, sorted}
+use Rattle.qc_onecopy.specs.Executed.{Executed, committed_line, depends_at, own_line}
 use Rattle.qc_onecopy.specs.Lists.{In}
 use Rattle.qc_onecopy.specs.Logged.{IsLogged}
 use Rattle.qc_onecopy.specs.OneCopy.{OneCopy}
@@ -17,6 +18,7 @@ pub data Guarantee : Type 0 where
   LogsHoldOperations : Guarantee
   VerdictsAgree : Guarantee
   LastRecordFollowsSeen : Guarantee
+  OperationsAreOrdered : Guarantee
 
 -- what a guarantee says of acts, newest first
 abbrev pub Holds : Guarantee → Declaration → List Act → Type 0
@@ -33,3 +35,11 @@ Holds VerdictsAgree decl acts =
 -- what its client had learned of as the last record was written has records with smaller clocks
 Holds LastRecordFollowsSeen decl acts =
     (commit : CommitRecord) (older : List Act) → acts ≡ Commit commit ∷ older → FollowsSeen (state older) commit
+-- where the invocation of a committed operation depends on the event of another transaction's, its view has the line of
+-- this, or its stamp is smaller
+Holds OperationsAreOrdered decl acts =
+    (c d : CommitRecord) (earlier later : Executed) → In c (state acts).records → In d (state acts).records
+    → In earlier ((state acts).executed c.tx) → In later ((state acts).executed d.tx) → c.stamp ≢ d.stamp
+    → earlier.op.object ≡ later.op.object → IsSome earlier.op.resp
+    → IsTrue (depends_at decl later.op.object later.op.inv earlier.event)
+    → In (committed_line c.stamp c.tx (own_line earlier)) later.view ⊎ (d.stamp.clock < c.stamp.clock)

@@ -52,8 +52,8 @@ abbrev pub site_clock : List Deed → ℕ
 site_clock deeds = greatest (done_clocks deeds ++ line_clocks deeds ++ flat_map install_clock deeds)
 
 -- the first that passes a test
-abbrev pub first_of : {A : Type 0} → (A → Bool) → A → List A → A
-first_of test none xs = unwrap_or (find test xs) none
+abbrev pub first_where : {A : Type 0} → (A → Bool) → A → List A → A
+first_where test none xs = unwrap_or (find test xs) none
 
 abbrev pub begins : TxId → ℕ → Move
 begins tx epoch now = Begin tx epoch
@@ -80,7 +80,7 @@ read_grant tx site object inv now = grant_of tx site (lock object inv) [] now
 -- the last Append of the transaction
 abbrev pub last_append : TxId → State → AppendRequest
 last_append tx now =
-    first_of (λ (s : AppendRequest). same_tx s.tx tx) (record { tx = tx; items = []; view = [] }) now.appends
+    first_where (λ (s : AppendRequest). same_tx s.tx tx) (record { tx = tx; items = []; view = [] }) now.appends
 
 abbrev pub append_grant : TxId → ℕ → State → Granted
 append_grant tx site now = let s : AppendRequest = last_append tx now in grant_of tx site s.items s.view now
@@ -94,7 +94,7 @@ grants_append tx site now = Grant (append_grant tx site now)
 -- the client counts the last grant of the site
 abbrev pub counts : TxId → ℕ → Move
 counts tx site now =
-    Count (first_of (λ (g : Granted). same_tx g.tx tx && (g.site == site)) (grant_of tx site [] [] now) now.granted)
+    Count (first_where (λ (g : Granted). same_tx g.tx tx && (g.site == site)) (grant_of tx site [] [] now) now.granted)
 
 abbrev pub locks_object : Item → ℕ → Bool
 locks_object (Lock l) object = l.object == object
@@ -182,7 +182,7 @@ announces tx now = Announce tx
 -- the site takes the last verdict of the transaction
 abbrev pub learns : TxId → ℕ → Move
 learns tx site now =
-    Learn site (first_of (λ (v : Verdict). same_tx v.tx tx) (record { tx = tx; stamp = None }) now.verdicts)
+    Learn site (first_where (λ (v : Verdict). same_tx v.tx tx) (record { tx = tx; stamp = None }) now.verdicts)
 
 abbrev pub rises : ℕ → Move
 rises site now = Rise site
@@ -203,7 +203,7 @@ tells site now = TakeSnapshot (snapshot site now)
 -- the last snapshot of each of the sites
 abbrev pub snapshots_of : List ℕ → State → List Snapshot
 snapshots_of sites now =
-    map (λ site. first_of (λ (s : Snapshot). s.site == site) (snapshot site now) now.snapshots) sites
+    map (λ site. first_where (λ (s : Snapshot). s.site == site) (snapshot site now) now.snapshots) sites
 
 -- the stamps that verdicts gave a prepared transaction
 abbrev pub stamps_of : List Verdict → Promise → List Stamp
@@ -242,4 +242,4 @@ decides epoch sites now = Decide (decision epoch sites now)
 -- the site installs the last decision of the epoch
 abbrev pub installs : ℕ → ℕ → Move
 installs site epoch now =
-    Install site (first_of (λ (d : Decision). d.epoch == epoch) (decision epoch [] now) now.decided)
+    Install site (first_where (λ (d : Decision). d.epoch == epoch) (decision epoch [] now) now.decided)

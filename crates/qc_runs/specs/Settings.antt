@@ -1,8 +1,7 @@
 -- The declarations of the runs, beside the built-in ones.
-use Rattle.std.specs.Prelude.{ℕ, List, [], ◌∷◌, ◌++◌, codes, length, take}
-use Rattle.qc_decl.specs.One.{register_kind, register_names, register_plan, row}
+use Rattle.std.specs.Prelude.{ℕ, List, [], ◌∷◌, ◌++◌}
+use Rattle.qc_decl.specs.One.{register, register_kind, register_pairs, register_plan, row}
 use Rattle.qc_decl.specs.declared.declaration.Declaration.{Declaration}
-use Rattle.qc_decl.specs.declared.declaration.KindNames.{KindNames}
 use Rattle.qc_plan.specs.declared.plan.Plan.{Plan}
 use Rattle.qc_table.specs.Depends.{relation_of}
 use Rattle.qc_table.specs.Rules.{Rules}
@@ -98,3 +97,10 @@ ticket_names = record { name = codes "ticket"; states = codes "free" ∷ codes "
 abbrev pub ticket_store : Declaration
 ticket_store =
     store 1 ticket_kind ticket_names (0 ∷ []) (record { weights = 1 ∷ []; initial = (1 ∷ []) ∷ []; last = (1 ∷ []) ∷ [] } ∷ [])
+
+-- a register whose relation names an invocation that the type lacks, as dependent on the write of 1
+abbrev pub extra_kind : Kind
+extra_kind = record { table = register; relation = relation_of (record { inv = 7; event = 3 } ∷ register_pairs) }
+
+abbrev pub extra_store : Declaration
+extra_store = store 1 extra_kind (0 ∷ []) (register_plan (1 ∷ []) 1 ∷ [])

@@ -64,6 +64,10 @@ reads_only tx epoch call sites = begins tx epoch ∷ reads tx 0 call sites ++ co
 abbrev pub moves_to : ℕ → ℕ → ℕ → List Move
 moves_to epoch from to = closes from ∷ tells from ∷ decides epoch (from ∷ []) ∷ installs to epoch ∷ []
 
+-- an invocation that the register lacks
+abbrev pub asks_the_unknown : Call
+asks_the_unknown = record { inv = 7; resp = None; event = 0 }
+
 -- the calls of a latch, and of a ticket
 abbrev pub arms : Call
 arms = record { inv = 0; resp = Some 0; event = 0 }

@@ -1,10 +1,10 @@
-//! Every guard, but one that is kept for its plainness, is needed.
+//! Every guard is needed.
 
-ghost use Rattle.std.specs.Prelude.{◌≡◌, ◌≢◌, ◌↔◌, List, false};
+ghost use Rattle.std.specs.Prelude.{◌≡◌, ◌↔◌, List, false};
 ghost use Rattle.qc_decl.specs.declared.declaration.Declaration.{Declaration};
 ghost use Rattle.qc_decl.specs.Accepted.{IsAccepted};
 ghost use Rattle.qc_protocol.specs.Acts.{Act};
-ghost use Rattle.qc_protocol.specs.Asked.{Guard, InvocationIsDeclared};
+ghost use Rattle.qc_protocol.specs.Asked.{Guard};
 ghost use Rattle.qc_protocol.specs.Guards.{IsRun};
 ghost use Rattle.qc_runs.specs.Guarantees.{Guarantee, Holds};
 ghost use Rattle.qc_runs.specs.Needed.{IsNeeded, every_guard_but};
@@ -22,10 +22,8 @@ pub fn runs_keep_the_guarantees()
         → Holds guarantee decl acts }
 {}
 
-/// Without a guard some run breaks a guarantee. One guard is kept for its
-/// plainness: an invocation that its type lacks has no response in any state,
-/// so it is answered absent whatever its view is.
+/// Without a guard, any of them, some run breaks a guarantee.
 #[tactic(auto, using(crate::proofs::EveryGuard::some_is_broken))]
 pub fn every_guard_is_needed()
-    ensures { (guard : Guard) → guard ≢ InvocationIsDeclared → (guarantee : Guarantee) × IsNeeded guard guarantee }
+    ensures { (guard : Guard) → (guarantee : Guarantee) × IsNeeded guard guarantee }
 {}

@@ -7,7 +7,7 @@
 //! fact of each guard, and answers with its proof or with none.
 //!
 //! 1. The machine isn't vacuous: transactions commit in it.
-//! 2. Each guard but one is needed: without it, some run breaks a guarantee.
+//! 2. Each guard is needed: without it, some run breaks a guarantee.
 //! 3. Every run keeps each guarantee.
 //!
 //! There is no code here. The must-fail edits turn definitions. Nothing stands
@@ -50,9 +50,9 @@ pub use grants::{
 };
 pub use guards::{every_guard_is_needed, one_guard_is_left_out, runs_keep_the_guarantees};
 pub use operations::{
-    absent_operations_appended, epochs_without_a_plan, lines_left_out_of_views,
-    operations_after_prepare, operations_with_other_numbers, own_writes_forgotten,
-    reads_at_too_few_sites, reads_without_locks, replies_that_no_view_allows,
+    absent_operations_appended, epochs_without_a_plan, invocations_that_a_type_lacks,
+    lines_left_out_of_views, operations_after_prepare, operations_with_other_numbers,
+    own_writes_forgotten, reads_at_too_few_sites, reads_without_locks, replies_that_no_view_allows,
     transactions_that_begin_twice, two_operations_at_once, views_made_up, writes_without_an_append,
 };
 pub use snapshots::{

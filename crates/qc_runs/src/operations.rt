@@ -1,8 +1,8 @@
 //! Operations that are begun, chosen and answered wrongly. Each law is of a
 //! guard, and is shown by a run without it.
 
-ghost use Rattle.qc_protocol.specs.Asked.{BeginsOnce, BeginsInPlannedEpoch, OperatesWhileActive, ChoosesOneAtATime, AnswersFromView, OperationsAreNumbered, OwnLinesAreKept, ViewWasShown, ViewIsWhole, ReadQuorumIsMet, ChosenHasResponse, AbsentHasNoResponse};
-ghost use Rattle.qc_runs.specs.Guarantees.{LogsHoldOperations, RecordsAreApart, RecordsAreOneCopy};
+ghost use Rattle.qc_protocol.specs.Asked.{BeginsOnce, BeginsInPlannedEpoch, OperatesWhileActive, ChoosesOneAtATime, AnswersFromView, InvocationIsDeclared, OperationsAreNumbered, OwnLinesAreKept, ViewWasShown, ViewIsWhole, ReadQuorumIsMet, ChosenHasResponse, AbsentHasNoResponse};
+ghost use Rattle.qc_runs.specs.Guarantees.{LogsHoldOperations, OperationsAreOrdered, RecordsAreApart, RecordsAreOneCopy};
 ghost use Rattle.qc_runs.specs.Needed.{IsNeeded};
 
 /// A transaction begins again after its commit, and commits again.
@@ -35,6 +35,13 @@ pub fn two_operations_at_once()
 #[tactic(auto, using(crate::proofs::WrongOperations::replies_that_no_view_allows))]
 pub fn replies_that_no_view_allows()
     ensures { IsNeeded AnswersFromView RecordsAreOneCopy }
+{}
+
+/// An invocation that the register lacks, but its relation names, is answered
+/// absent without a look at the write on which it depends.
+#[tactic(auto, using(crate::proofs::WrongOperations::invocations_that_a_type_lacks))]
+pub fn invocations_that_a_type_lacks()
+    ensures { IsNeeded InvocationIsDeclared OperationsAreOrdered }
 {}
 
 /// A first operation calls itself the seventh, and so does its line.
