@@ -11,7 +11,7 @@ use Rattle.qc_stamp.specs.declared.stamp.TxId.{TxId}
 use Rattle.qc_stamp.proofs.Orders.{tx_order}
 use Rattle.qc_entry.specs.declared.line.OwnLine.{OwnLine}
 use Rattle.qc_entry.specs.declared.line.ReadLock.{ReadLock}
-use Rattle.qc_entry.specs.Log.{by_order}
+use Rattle.qc_list.specs.Order.{by_order}
 use Rattle.qc_table.specs.Depends.{depends}
 use Rattle.qc_lock.specs.declared.clash.Clash.{Clash}
 use Rattle.qc_lock.specs.declared.held.Held.{Held}

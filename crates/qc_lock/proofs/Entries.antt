@@ -9,7 +9,7 @@ use Rattle.std.specs.declared.cmp.Ordering.{Ordering}
 use Rattle.std.specs.declared.cmp.Ordering.TheVariants.{Less, Equal, Greater}
 use Rattle.qc_entry.specs.declared.line.OwnLine.{OwnLine}
 use Rattle.qc_entry.specs.declared.line.ReadLock.{ReadLock}
-use Rattle.qc_entry.specs.Log.{by_order}
+use Rattle.qc_list.specs.Order.{by_order}
 use Rattle.qc_lock.specs.Held.{same_tx, lock_cmp, own_cmp, inserted, with_locks, with_owns, entry_of, held_of, with_entry, with_held, without_held}
 use Rattle.qc_lock.specs.Sound.{IsApart, IsSingle, AreFull}
 

@@ -10,7 +10,7 @@ use Rattle.std.proofs.lemmas.Cmp.{then_total, on_total, nat_cmp_total}
 use Rattle.qc_stamp.specs.declared.stamp.TxId.{TxId}
 use Rattle.qc_entry.specs.declared.line.OwnLine.{OwnLine}
 use Rattle.qc_entry.specs.declared.line.ReadLock.{ReadLock}
-use Rattle.qc_entry.specs.Log.{by_order}
+use Rattle.qc_list.specs.Order.{by_order}
 use Rattle.qc_lock.specs.declared.held.Held.{Held}
 use Rattle.qc_lock.specs.Held.{same_tx, same_lock, has_lock, lock_cmp, own_cmp, inserted, with_lock, with_locks, with_owns, with_held, entry_of, held_of, with_entry, without_held}
 use Rattle.qc_lock.specs.Sound.{IsLow, Ascends, AreSorted, IsSound}

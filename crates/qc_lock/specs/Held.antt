@@ -7,7 +7,7 @@ use Rattle.std.specs.declared.cmp.Ordering.{Ordering}
 use Rattle.qc_stamp.specs.declared.stamp.TxId.{TxId}
 use Rattle.qc_entry.specs.declared.line.OwnLine.{OwnLine}
 use Rattle.qc_entry.specs.declared.line.ReadLock.{ReadLock}
-use Rattle.qc_entry.specs.Log.{by_order}
+pub use Rattle.qc_list.specs.Order.{inserted}
 use Rattle.qc_lock.specs.declared.held.Held.{Held}
 
 -- whether two names are of one transaction
@@ -25,11 +25,6 @@ lock_cmp = then_cmp (on (λ l. l.object) nat_cmp) (on (λ l. l.inv) nat_cmp)
 -- own lines by operation
 abbrev pub own_cmp : OwnLine → OwnLine → Ordering
 own_cmp = on (λ o. o.op) nat_cmp
-
--- the item at its place among ascending items, instead of one that ties with it
-abbrev pub inserted : {A : Type 0} → (A → A → Ordering) → List A → A → List A
-inserted cmp [] x = x ∷ []
-inserted cmp (y ∷ ys) x = by_order (cmp x y) (x ∷ y ∷ ys) (x ∷ ys) (y ∷ inserted cmp ys x)
 
 abbrev pub with_lock : List ReadLock → ReadLock → List ReadLock
 with_lock locks lock = inserted lock_cmp locks lock

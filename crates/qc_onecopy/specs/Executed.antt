@@ -14,11 +14,8 @@ use Rattle.qc_table.specs.Depends.{depends}
 use Rattle.qc_table.specs.Rules.{event, event_number, events_of}
 use Rattle.qc_cert.specs.Views.{allows}
 use Rattle.qc_decl.specs.declared.declaration.Declaration.{Declaration}
+pub use Rattle.qc_decl.specs.Lookup.{kind_at}
 use Rattle.qc_onecopy.specs.Lists.{IsOrdered}
-
--- the type of an object
-abbrev pub kind_at : Declaration → ℕ → Option Kind
-kind_at decl object = option_and_then (slice_get decl.kinds) (slice_get decl.objects object)
 
 -- whether an invocation of the object depends on the event of this number
 abbrev pub depends_at : Declaration → ℕ → ℕ → ℕ → Bool
