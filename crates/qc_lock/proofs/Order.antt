@@ -10,37 +10,12 @@ use Rattle.std.proofs.lemmas.Cmp.{then_total, on_total, nat_cmp_total}
 use Rattle.qc_stamp.specs.declared.stamp.TxId.{TxId}
 use Rattle.qc_entry.specs.declared.line.OwnLine.{OwnLine}
 use Rattle.qc_entry.specs.declared.line.ReadLock.{ReadLock}
-use Rattle.qc_list.specs.Order.{by_order}
+use Rattle.qc_list.specs.Order.{Ascends, IsBelowAll, by_order, inserted}
+use Rattle.qc_list.proofs.Order.{ascends-inserted}
 use Rattle.qc_lock.specs.declared.held.Held.{Held}
-use Rattle.qc_lock.specs.Held.{same_tx, same_lock, has_lock, lock_cmp, own_cmp, inserted, with_lock, with_locks, with_owns, with_held, entry_of, held_of, with_entry, without_held}
-use Rattle.qc_lock.specs.Sound.{IsLow, Ascends, AreSorted, IsSound}
+use Rattle.qc_lock.specs.Held.{same_tx, same_lock, has_lock, lock_cmp, own_cmp, with_lock, with_locks, with_owns, with_held, entry_of, held_of, with_entry, without_held}
+use Rattle.qc_lock.specs.Sound.{AreSorted, IsSound}
 use Rattle.qc_lock.proofs.Entries.{and_first, and_second, tx_apart, single-put, single-filter, full-put, full-filter}
-
--- insertion
-
-low_trans : {A : Type 0} (cmp : A → A → Ordering) (total : IsTotalOrder cmp) (x y : A) (ys : List A) → cmp x y ≡ Less → IsLow cmp y ys → IsLow cmp x ys
-low_trans cmp total x y [] less low = tt
-low_trans cmp total x y (z ∷ zs) less low = (total.trans x y z less low.0, low_trans cmp total x y zs less low.1)
-
-low_same : {A : Type 0} (cmp : A → A → Ordering) (total : IsTotalOrder cmp) (x y : A) (ys : List A) → cmp x y ≡ Equal → IsLow cmp y ys → IsLow cmp x ys
-low_same cmp total x y [] equal low = tt
-low_same cmp total x y (z ∷ zs) equal low = (total.congr x y z equal ∙ low.0, low_same cmp total x y zs equal low.1)
-
-low-inserted : {A : Type 0} (cmp : A → A → Ordering) (x y : A) (ys : List A) → cmp x y ≡ Less → IsLow cmp x ys → IsLow cmp x (inserted cmp ys y)
-low-inserted cmp x y [] less low = (less, tt)
-low-inserted {A = A} cmp x y (z ∷ zs) less low = by (cmp y z) (low-inserted cmp x y zs less low.1) where
-  by : (order : Ordering) → IsLow cmp x (inserted cmp zs y) → IsLow cmp x (by_order order (y ∷ z ∷ zs) (y ∷ zs) (z ∷ inserted cmp zs y))
-  by Less rest = (less, low)
-  by Equal rest = (less, low.1)
-  by Greater rest = (low.0, rest)
-
-ascends-inserted : {A : Type 0} (cmp : A → A → Ordering) (total : IsTotalOrder cmp) (ys : List A) (x : A) → Ascends cmp ys → Ascends cmp (inserted cmp ys x)
-ascends-inserted cmp total [] x ascends = (tt, tt)
-ascends-inserted {A = A} cmp total (y ∷ ys) x ascends = by (cmp x y) refl (ascends-inserted cmp total ys x ascends.1) where
-  by : (order : Ordering) → cmp x y ≡ order → Ascends cmp (inserted cmp ys x) → Ascends cmp (by_order order (x ∷ y ∷ ys) (x ∷ ys) (y ∷ inserted cmp ys x))
-  by Less is rest = ((is, low_trans cmp total x y ys is ascends.0), ascends)
-  by Equal is rest = (low_same cmp total x y ys is ascends.0, ascends.1)
-  by Greater is rest = (low-inserted cmp y x ys (total.antisymm y x ∙ ap ordering_reverse is) ascends.0, rest)
 
 lock_total : IsTotalOrder lock_cmp
 lock_total = then_total (on_total (λ (l : ReadLock). l.object) nat_cmp_total) (on_total (λ (l : ReadLock). l.inv) nat_cmp_total)
@@ -97,7 +72,7 @@ lock_is a b h =
     let inv : a.inv ≡ b.inv = eqb-true a.inv b.inv (and_second (a.object == b.object) (a.inv == b.inv) h) in
     λ i. record { object = object i; inv = inv i }
 
-low-any : (x lock : ReadLock) (ls : List ReadLock) → IsLow lock_cmp x ls → list_any (λ l. same_lock l lock) ls ≡ true → lock_cmp x lock ≡ Less
+low-any : (x lock : ReadLock) (ls : List ReadLock) → IsBelowAll lock_cmp x ls → list_any (λ l. same_lock l lock) ls ≡ true → lock_cmp x lock ≡ Less
 low-any x lock [] low member = absurd (let never : ⊥ = cc in never)
 low-any x lock (l ∷ ls) low member = by (same_lock l lock) refl (low-any x lock ls low.1) member where
   by : (t : Bool) → same_lock l lock ≡ t → (list_any (λ k. same_lock k lock) ls ≡ true → lock_cmp x lock ≡ Less) → (t || list_any (λ k. same_lock k lock) ls) ≡ true → lock_cmp x lock ≡ Less

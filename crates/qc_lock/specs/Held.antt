@@ -8,11 +8,8 @@ use Rattle.qc_stamp.specs.declared.stamp.TxId.{TxId}
 use Rattle.qc_entry.specs.declared.line.OwnLine.{OwnLine}
 use Rattle.qc_entry.specs.declared.line.ReadLock.{ReadLock}
 pub use Rattle.qc_list.specs.Order.{inserted}
+pub use Rattle.qc_stamp.specs.Order.{same_tx}
 use Rattle.qc_lock.specs.declared.held.Held.{Held}
-
--- whether two names are of one transaction
-abbrev pub same_tx : TxId → TxId → Bool
-same_tx a b = (a.client == b.client) && ((a.life == b.life) && (a.number == b.number))
 
 -- whether two locks are the same
 abbrev pub same_lock : ReadLock → ReadLock → Bool

@@ -1,20 +1,9 @@
 -- What holds of all that is held: each transaction has one entry, which holds something, each thing once.
 use Rattle.std.specs.Prelude.{◌≡◌, ◌+◌, ◌<◌, false, List, [], ◌∷◌, length}
-use Rattle.std.specs.declared.cmp.Ordering.{Ordering}
-use Rattle.std.specs.declared.cmp.Ordering.TheVariants.{Less}
+use Rattle.qc_list.specs.Order.{Ascends}
 use Rattle.qc_stamp.specs.declared.stamp.TxId.{TxId}
 use Rattle.qc_lock.specs.declared.held.Held.{Held}
 use Rattle.qc_lock.specs.Held.{same_tx, lock_cmp, own_cmp}
-
--- the item comes before each of the items
-abbrev pub IsLow : {A : Type 0} → (A → A → Ordering) → A → List A → Type 0
-IsLow cmp x [] = Unit {0}
-IsLow cmp x (y ∷ ys) = (cmp x y ≡ Less) × IsLow cmp x ys
-
--- the items stand in order, each once
-abbrev pub Ascends : {A : Type 0} → (A → A → Ordering) → List A → Type 0
-Ascends cmp [] = Unit {0}
-Ascends cmp (x ∷ xs) = IsLow cmp x xs × Ascends cmp xs
 
 -- the locks and own lines of each entry ascend
 abbrev pub AreSorted : List Held → Type 0

@@ -5,7 +5,8 @@ ghost use Rattle.qc_lock.specs.declared.clash.LockFault.TheVariants.{OutOfMemory
 ghost use Rattle.qc_lock.specs.Clash.{read_clash, append_clash, IsTold};
 ghost use Rattle.qc_lock.specs.Held.{lock_cmp, own_cmp, held_of, has_lock, is_held};
 ghost use Rattle.qc_lock.specs.Held.{with_entry, with_held, without_held};
-ghost use Rattle.qc_lock.specs.Sound.{Ascends, IsSound};
+ghost use Rattle.qc_list.specs.Order.{Ascends};
+ghost use Rattle.qc_lock.specs.Sound.{IsSound};
 
 use crate::clash::{self, LockFault};
 use crate::held::{self, Held};

@@ -2,7 +2,8 @@ use Rattle.std.proofs.Common.{◌≡◌, ◌==◌, ◌&&◌, ◌<◌, ◌+◌, B
 use Rattle.qc_entry.specs.declared.line.OwnLine.{OwnLine}
 use Rattle.qc_entry.specs.declared.line.ReadLock.{ReadLock}
 use Rattle.qc_lock.specs.Held.{lock_cmp, own_cmp, with_locks, with_owns}
-use Rattle.qc_lock.specs.Sound.{Ascends, AreSorted}
+use Rattle.qc_lock.specs.Sound.{AreSorted}
+use Rattle.qc_list.specs.Order.{Ascends}
 use Rattle.qc_lock.proofs.Entries.{entry_some}
 use Rattle.qc_lock.proofs.Order.{sorted-find, ascends-locks, ascends-owns}
 use Rattle.qc_lock.proofs.locks.Locks.add.Goals as goal
