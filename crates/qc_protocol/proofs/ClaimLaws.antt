@@ -16,7 +16,8 @@ use Rattle.qc_table.specs.Rules.{Rules, event, event_number, events_of}
 use Rattle.qc_cert.specs.Views.{inv_of}
 use Rattle.qc_decl.specs.declared.declaration.Declaration.{Declaration}
 use Rattle.qc_decl.specs.Accepted.{IsAccepted}
-use Rattle.qc_onecopy.specs.Lists.{In, IsOrdered}
+use Rattle.qc_onecopy.specs.Lists.{IsOrdered}
+use Rattle.qc_list.specs.Members.{In}
 use Rattle.qc_onecopy.specs.OneCopy.{OneCopy}
 use Rattle.qc_onecopy.specs.Committed.{AreApart, IsStampedBefore, sorted}
 use Rattle.qc_onecopy.specs.Executed.{Executed, IsAnswered, IsEarlier, IsLineBefore, Placed, line_of, depends_at, own_line, committed_line}

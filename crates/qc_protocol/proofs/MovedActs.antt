@@ -10,10 +10,10 @@ use Rattle.qc_entry.specs.declared.record.Commit.{Commit as CommitRecord}
 use Rattle.qc_table.specs.declared.kind.Kind.{Kind}
 use Rattle.qc_table.specs.Rules.{event, event_number, events_of}
 use Rattle.qc_decl.specs.One.{three, register_kind, register_plan}
-use Rattle.qc_onecopy.specs.Lists.{In}
+use Rattle.qc_list.specs.Members.{In}
 use Rattle.qc_onecopy.specs.Executed.{Executed, kind_at, own_line}
 use Rattle.qc_protocol.specs.Site.{Item, Closes, Lock, Own, Grants, Prepares, LearnsCommit, Deed, Installs, epoch_from, shut_from, DoneRecord, empty_site, items_of, done_records, site_after}
-use Rattle.qc_protocol.specs.Names.{same_tx}
+use Rattle.qc_stamp.specs.Order.{same_tx}
 use Rattle.qc_plan.specs.declared.plan.Plan.{Plan}
 use Rattle.qc_decl.specs.declared.declaration.Declaration.{Declaration}
 use Rattle.qc_protocol.specs.Acts.{TakeSnapshot, Decide, Install, Close, Act, Begin, Choose, SendAppend, Execute, Grant, Count, Prepare, Vote, Commit, Announce, Learn}

@@ -9,7 +9,7 @@ use Rattle.qc_table.specs.Rules.{events_of}
 use Rattle.qc_plan.specs.Weights.{weight}
 use Rattle.qc_decl.specs.declared.declaration.Declaration.{Declaration}
 use Rattle.qc_decl.specs.Lookup.{append_need_of, read_need_of}
-use Rattle.qc_onecopy.specs.Lists.{In}
+use Rattle.qc_list.specs.Members.{In}
 use Rattle.qc_onecopy.specs.Executed.{Executed, IsAnswered, depends_at, kind_at, own_line, committed_line}
 use Rattle.qc_protocol.specs.Site.{Item, Lock, Own, Promise, Site, items_of, site_after}
 use Rattle.qc_protocol.specs.State.{Status, NotBegun, Committed, Decision, Granted, AppendRequest, Snapshot, State}

@@ -8,7 +8,7 @@ use Rattle.qc_table.specs.declared.kind.Kind.{Kind}
 use Rattle.qc_decl.specs.declared.declaration.Declaration.{Declaration}
 use Rattle.qc_decl.specs.Lookup.{append_need_of, read_need_of}
 use Rattle.qc_onecopy.specs.Executed.{Executed, kind_at, own_line}
-use Rattle.qc_onecopy.specs.Lists.{In}
+use Rattle.qc_list.specs.Members.{In}
 use Rattle.qc_protocol.specs.Asked.{Guard, AnswersFromView, InvocationIsDeclared, OperationsAreNumbered, OwnLinesAreKept, ViewWasShown, ViewIsWhole, ReadQuorumIsMet, AppendCarriesView, AppendCarriesOnlyOwnLines, AppendCarriesEarlierLines, CommitsWhenVoting, AllHaveVoted, StampIsItsClients, StampPassesClock, RecordHasOperations}
 use Rattle.qc_protocol.specs.Guards.{IsAppendOfBy, IsExecutedFromBy, IsShown, MayCommitBy, op_of, own_on, read_lock}
 use Rattle.qc_protocol.specs.Site.{Item, Lock, Own}

@@ -1,19 +1,12 @@
 -- What the shelf answered for the files that a call names.
 use Rattle.std.specs.Prelude.{◌≡◌, ℕ, Bool, false, ◌==◌, ◌||◌, is_ok, List, [], ◌∷◌, Option, None, Some, Err}
 use Rattle.std.specs.Prelude.{if◌then◌else◌}
+pub use Rattle.qc_decl.specs.Limits.{most_declaration_bytes, most_script_bytes}
 use Rattle.qc_outside.specs.Causes.{Rose}
 use Rattle.qc_outside.specs.Shelf.{Answer, Files, IsAnswer}
 use Rattle.qc_outside.specs.declared.shelf.ShelfFault.TheVariants as faults
 use Rattle.qc_top.specs.Words.{AskedOf}
 use Rattle.qc_top.specs.declared.answers.Answers.{Answers}
-
--- the most bytes of a declaration's file, and of a script's
-
-abbrev pub most_declaration_bytes : ℕ
-most_declaration_bytes = 4194304
-
-abbrev pub most_script_bytes : ℕ
-most_script_bytes = 1048576
 
 -- a name that begins with `@` (64) is no file's
 abbrev pub is_built_in : List ℕ → Bool

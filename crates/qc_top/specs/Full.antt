@@ -2,6 +2,7 @@
 use Rattle.std.specs.Prelude.{◌≡◌, ℕ, ◌<◌, ◌≤◌, ◌-◌, ◌^◌, min, Bool, true, false, List, [], ◌∷◌, Option, Some, None}
 use Rattle.std.specs.Prelude.{length, if◌then◌else◌}
 use Rattle.std.specs.List.{list_any}
+use Rattle.qc_decl.specs.Limits.{most_carried_lines, most_committed_operations, most_steps}
 use Rattle.qc_msg.specs.Counts.{operations_of, carried_of}
 use Rattle.qc_msg.specs.Steps.{Entry}
 use Rattle.qc_msg.specs.declared.step.Step.{Step}
@@ -12,9 +13,9 @@ use Rattle.qc_msg.specs.declared.step.What.TheVariants.{Steps, Operations, Carri
 -- the limits of a run
 
 abbrev pub limit_of : What → ℕ
-limit_of Steps = 262144
-limit_of Operations = 1024
-limit_of Carried = 8388608
+limit_of Steps = most_steps
+limit_of Operations = most_committed_operations
+limit_of Carried = most_carried_lines
 
 -- the number that is told of a quantity: itself, and at most what 32 bits hold where it isn't the steps
 abbrev pub number_of : What → List Entry → ℕ
@@ -25,13 +26,13 @@ number_of Carried h = min (carried_of h) (2 ^ 32 - 1)
 -- the quantities that are tested before this one are below their limits
 abbrev pub IsFirst : What → List Entry → Type 0
 IsFirst Steps h = Unit {0}
-IsFirst Operations h = length h < 262144
-IsFirst Carried h = (length h < 262144) × (operations_of h < 1024)
+IsFirst Operations h = length h < most_steps
+IsFirst Carried h = (length h < most_steps) × (operations_of h < most_committed_operations)
 
 pub record IsBelow (h : List Entry) : Type 0 where
-  pub steps : length h < 262144
-  pub operations : operations_of h < 1024
-  pub carried : carried_of h < 8388608
+  pub steps : length h < most_steps
+  pub operations : operations_of h < most_committed_operations
+  pub carried : carried_of h < most_carried_lines
 
 -- a quantity reached its limit, the first of those that did, and this is its number
 pub record HasReached (what : What) (number : ℕ) (h : List Entry) : Type 0 where

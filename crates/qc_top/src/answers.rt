@@ -6,14 +6,9 @@ ghost use Rattle.qc_top.specs.Answers.{AreAnswers, IsAnswerFor, IsCounted, decl_
 ghost use Rattle.qc_top.specs.Words.{asked_in};
 
 use crate::words::Asked;
+use qc_decl::{MOST_DECLARATION_BYTES, MOST_SCRIPT_BYTES};
 use qc_list::List;
 use qc_outside::{Shelf, ShelfFault};
-
-/// The most bytes of a declaration's file.
-const MOST_DECLARATION_BYTES: u32 = 4_194_304;
-
-/// The most bytes of a script's file.
-const MOST_SCRIPT_BYTES: u32 = 1_048_576;
 
 /// A file's bytes, or why there are none.
 pub type Answer = Result<List<u8>, ShelfFault>;

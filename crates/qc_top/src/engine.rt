@@ -8,6 +8,7 @@
 //! inputs, and that the loop's state is what this run shows.
 
 ghost use Rattle.std.specs.Prelude.{◌≡◌, ◌<◌, ◌+◌, ◌^◌, ◌++◌, [], ◌∷◌, true, false, IfOk, OnOk, OnErr, length, Ok};
+ghost use Rattle.qc_decl.specs.Limits.{most_steps};
 ghost use Rattle.qc_core.specs.Conduct.{IsRun};
 ghost use Rattle.qc_core.specs.Whole.{IsWhole};
 ghost use Rattle.qc_script.specs.Ready.{asked_of};
@@ -16,7 +17,7 @@ ghost use Rattle.qc_top.specs.Engine.{AsksFirst};
 ghost use Rattle.qc_top.specs.At.{IsAt, IsQuiet, IsCallable, IsNext, IsEnd, IsPosted, IsLater};
 ghost use Rattle.qc_top.specs.Full.{IsBelow, IsReached, before_last_event};
 
-use qc_decl::Declaration;
+use qc_decl::{Declaration, MOST_CARRIED_LINES, MOST_COMMITTED_OPERATIONS, MOST_STEPS};
 use qc_front::Front;
 use qc_list::{Marked, OutOfMemory};
 use qc_msg::{Command, Envelope, History, Input, Step, Turn, What};
@@ -24,15 +25,6 @@ use qc_script::{CommandLine, Script};
 use qc_site::Site;
 use std::alloc::Global;
 use std::collections::VecDeque;
-
-/// The most steps of a run.
-const MOST_STEPS: u64 = 262_144;
-
-/// The most committed operations with a response of a run.
-const MOST_OPERATIONS: u32 = 1_024;
-
-/// The most lines that a run's messages carry.
-const MOST_CARRIED: u32 = 8_388_608;
 
 /// The site's number.
 const SITE: u8 = 0;
@@ -148,7 +140,7 @@ impl Engine {
     ) -> Result<(), OutOfMemory>
         requires at { IsAt decl.now script.now self.old }
         requires next { 0 < length self.old.site_box.items }
-        requires below { length self.old.history < 262144 }
+        requires below { length self.old.history < most_steps }
         ensures ok { OnOk result (IsLater decl.now script.now self.old self.new) }
         ensures err { OnErr result (self.new.history ≡ self.old.history) }
     {
@@ -176,7 +168,7 @@ impl Engine {
     ) -> Result<(), OutOfMemory>
         requires at { IsAt decl.now script.now self.old }
         requires next { 0 < length self.old.front_box.items }
-        requires below { length self.old.history < 262144 }
+        requires below { length self.old.history < most_steps }
         ensures ok { OnOk result (IsLater decl.now script.now self.old self.new) }
         ensures err { OnErr result (self.new.history ≡ self.old.history) }
     {
@@ -207,7 +199,7 @@ impl Engine {
     ) -> Result<(), OutOfMemory>
         requires at { IsAt decl.now script.now self.old }
         requires next { IsCallable self.old }
-        requires below { length self.old.history < 262144 }
+        requires below { length self.old.history < most_steps }
         ensures ok { OnOk result (IsLater decl.now script.now self.old self.new) }
         ensures err { OnErr result (self.new.history ≡ self.old.history) }
     {
@@ -231,7 +223,7 @@ impl Engine {
         requires at { IsAt decl.now script.now self.old }
         requires quiet { IsQuiet self.old }
         requires next { self.old.last_phase < length script.now.phases }
-        requires below { length self.old.history < 262144 }
+        requires below { length self.old.history < most_steps }
         ensures ok { OnOk result (IsLater decl.now script.now self.old self.new) }
         ensures err { OnErr result (self.new.history ≡ self.old.history) }
     {
@@ -285,7 +277,7 @@ impl Engine {
         script: &Script,
     ) -> Result<bool, OutOfMemory>
         requires at { IsAt decl.now script.now self.old }
-        requires below { length self.old.history < 262144 }
+        requires below { length self.old.history < most_steps }
         ensures more { result ≡ Ok true → IsLater decl.now script.now self.old self.new }
         ensures end { result ≡ Ok false → IsNext script.now self.new Next.Nothing }
         ensures same { result ≡ Ok false → self.new ≡ self.old }
@@ -310,10 +302,10 @@ impl Engine {
         if history.steps() >= MOST_STEPS {
             return Some((What::Steps, history.steps()));
         }
-        if history.operations() >= MOST_OPERATIONS {
+        if history.operations() >= MOST_COMMITTED_OPERATIONS {
             return Some((What::Operations, u64::from(history.operations())));
         }
-        if history.carried() >= MOST_CARRIED {
+        if history.carried() >= MOST_CARRIED_LINES {
             return Some((What::Carried, u64::from(history.carried())));
         }
         None
