@@ -1,5 +1,6 @@
 -- A client's state, and its simplest changes.
 use Rattle.std.specs.Prelude.{ℕ, ◌+◌, ◌==◌, Bool, false, [], Option, Some, None, max}
+use Rattle.qc_decl.specs.Limits.{most_transaction_operations}
 use Rattle.qc_front.specs.declared.begun.Begun.{Begun}
 use Rattle.qc_front.specs.declared.front.Front.{Front}
 use Rattle.qc_front.specs.declared.round.Round.{Round}
@@ -13,7 +14,7 @@ first_epoch = 1
 
 -- the most operations of a transaction
 abbrev pub most_operations : ℕ
-most_operations = 16
+most_operations = most_transaction_operations
 
 -- a client at the beginning
 abbrev pub new_front : ℕ → Front

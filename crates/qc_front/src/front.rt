@@ -20,9 +20,6 @@ use std::alloc::Global;
 /// The epoch that everything begins in.
 pub const FIRST_EPOCH: u8 = 1;
 
-/// The most operations of a transaction.
-pub const MOST_OPERATIONS: usize = 16;
-
 /// A client's state.
 #[derive(Drop)]
 pub struct Front {

@@ -28,7 +28,7 @@ mod turns;
 mod view;
 
 pub use begun::Begun;
-pub use front::{FIRST_EPOCH, Front, MOST_OPERATIONS};
+pub use front::{FIRST_EPOCH, Front};
 pub use laws::{
     answers_go_on, commands_are_numbered, commands_go_on, commands_stay_within,
     messages_are_numbered, messages_stay_within, operations_have_room,

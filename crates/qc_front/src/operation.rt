@@ -8,11 +8,11 @@ ghost use Rattle.qc_front.specs.Operation.{op_of, with_op, with_line, absent, re
 ghost use Rattle.qc_front.specs.State.{most_operations, passed};
 
 use crate::begun::Begun;
-use crate::front::{FIRST_EPOCH, Front, MOST_OPERATIONS};
+use crate::front::{FIRST_EPOCH, Front};
 use crate::round::Round;
 use crate::turns::{asking, quiet, telling};
 use crate::view::response;
-use qc_decl::Declaration;
+use qc_decl::{Declaration, MOST_TRANSACTION_OPERATIONS};
 use qc_entry::{Log, Op};
 use qc_list::OutOfMemory;
 use qc_msg::{Message, Reply, Turn};
@@ -84,7 +84,7 @@ impl Front {
         let Some(begun) = &self.begun else {
             return Ok(telling(alloc, Reply::NoTransaction));
         };
-        if begun.ops.items().len() >= MOST_OPERATIONS {
+        if begun.ops.items().len() >= MOST_TRANSACTION_OPERATIONS {
             return Ok(telling(alloc, Reply::TooLong));
         }
         let begun = begun.copy()?;

@@ -8,6 +8,7 @@ use Rattle.qc_entry.specs.declared.line.OwnLine.{OwnLine}
 use Rattle.qc_entry.specs.declared.line.ReadLock.{ReadLock}
 use Rattle.qc_entry.specs.declared.record.Prepared.{Prepared}
 use Rattle.qc_entry.specs.Log.{union, of_object, without}
+use Rattle.qc_decl.specs.Limits.{most_record_bytes}
 use Rattle.qc_msg.specs.declared.message.Message.{Message}
 use Rattle.qc_msg.specs.declared.message.Message.TheVariants.{Read, Append, Prepare, Granted, Stale, Yes, Decision}
 use Rattle.qc_msg.specs.declared.message.Outcome.{Outcome}
@@ -46,7 +47,7 @@ prepare_length p = 18 + 2 * length p.locks + 3 * length p.own + 20 * length p.li
 
 -- the most bytes of a record's body
 abbrev pub most_body : ℕ
-most_body = 65536
+most_body = most_record_bytes
 
 -- what the site would promise: all that the transaction holds, and the lines that no record gives yet
 abbrev pub promise_of : SiteState → TxId → ℕ → Prepared

@@ -7,14 +7,12 @@ ghost use Rattle.qc_site.specs.Conduct.{prepare_length, most_body, promise_of, p
 use crate::Site;
 use crate::held::{Held, held_of, is_held};
 use crate::turn::{answer, one_message};
+use qc_decl::MOST_RECORD_BYTES;
 use qc_entry::Prepared;
 use qc_list::OutOfMemory;
 use qc_msg::{Message, Record, Turn};
 use qc_stamp::TxId;
 use std::alloc::Global;
-
-/// The most bytes of a record's body.
-const MOST_BODY: usize = 65_536;
 
 /// Whether the promise's record fits a journal's record.
 fn fits(promise: &Prepared) -> bool
@@ -24,7 +22,7 @@ fn fits(promise: &Prepared) -> bool
     let own = promise.own.items().len().saturating_mul(3);
     let lines = promise.lines.lines().len().saturating_mul(20);
     let length = locks.saturating_add(own).saturating_add(lines);
-    length.saturating_add(18) <= MOST_BODY
+    length.saturating_add(18) <= MOST_RECORD_BYTES
 }
 
 /// The promise of a transaction, if the site has made one.
