@@ -12,6 +12,7 @@ use Rattle.qc_protocol.specs.Acts.{Act, Commit, state}
 use Rattle.qc_protocol.specs.Claims.{FollowsSeen, IsLogOf, IsVerdictOf}
 use Rattle.qc_protocol.specs.State.{Verdict}
 
+-- the guarantees by name; `Holds` says what each is
 pub data Guarantee : Type 0 where
   RecordsAreOneCopy : Guarantee
   RecordsAreApart : Guarantee

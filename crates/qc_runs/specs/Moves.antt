@@ -16,6 +16,7 @@ use Rattle.qc_stamp.specs.Order.{same_tx}
 use Rattle.qc_protocol.specs.Site.{Deed, Installs, DoneRecord, Item, Lock, Own, Promise, done_records, empty_site, epoch_from, site_after, stamped_lines}
 use Rattle.qc_protocol.specs.State.{AppendRequest, Decision, Granted, Snapshot, State, Verdict}
 
+-- an act, made from the state
 abbrev pub Move : Type 0
 Move = State → Act
 
@@ -38,16 +39,20 @@ pub record Call : Type 0 where
 abbrev pub done_clocks : List Deed → List ℕ
 done_clocks deeds = map (λ (d : DoneRecord). d.stamp.clock) (done_records empty_site deeds)
 
+-- of the lines of its log
 abbrev pub line_clocks : List Deed → List ℕ
 line_clocks deeds = map (λ (l : Line). l.stamp.clock) (site_after deeds).volatile
 
+-- of an Install record
 abbrev pub install_clock : Deed → List ℕ
 install_clock (Installs k c log) = c ∷ []
 install_clock _ = []
 
+-- the greatest of clocks, 0 where there is none
 abbrev pub greatest : List ℕ → ℕ
 greatest clocks = fold max 0 clocks
 
+-- the least clock that has passed all of these
 abbrev pub site_clock : List Deed → ℕ
 site_clock deeds = greatest (done_clocks deeds ++ line_clocks deeds ++ flat_map install_clock deeds)
 
@@ -55,6 +60,7 @@ site_clock deeds = greatest (done_clocks deeds ++ line_clocks deeds ++ flat_map 
 abbrev pub first_where : {A : Type 0} → (A → Bool) → A → List A → A
 first_where test none xs = unwrap_or (find test xs) none
 
+-- the transaction begins in an epoch
 abbrev pub begins : TxId → ℕ → Move
 begins tx epoch now = Begin tx epoch
 
@@ -71,9 +77,11 @@ grant_of tx site items view now = record {
   view = view;
 }
 
+-- a read lock of an object and an invocation, as what is granted
 abbrev pub lock : ℕ → ℕ → List Item
 lock object inv = Lock (record { object = object; inv = inv }) ∷ []
 
+-- a site's grant of a read lock
 abbrev pub read_grant : TxId → ℕ → ℕ → ℕ → State → Granted
 read_grant tx site object inv now = grant_of tx site (lock object inv) [] now
 
@@ -82,12 +90,15 @@ abbrev pub last_append : TxId → State → AppendRequest
 last_append tx now =
     first_where (λ (s : AppendRequest). same_tx s.tx tx) (record { tx = tx; items = []; view = [] }) now.appends
 
+-- a site's grant of the transaction's last Append
 abbrev pub append_grant : TxId → ℕ → State → Granted
 append_grant tx site now = let s : AppendRequest = last_append tx now in grant_of tx site s.items s.view now
 
+-- the site grants a read lock
 abbrev pub grants_read : TxId → ℕ → ℕ → ℕ → Move
 grants_read tx site object inv now = Grant (read_grant tx site object inv now)
 
+-- the site grants the transaction's last Append
 abbrev pub grants_append : TxId → ℕ → Move
 grants_append tx site now = Grant (append_grant tx site now)
 
@@ -96,6 +107,7 @@ abbrev pub counts : TxId → ℕ → Move
 counts tx site now =
     Count (first_where (λ (g : Granted). same_tx g.tx tx && (g.site == site)) (grant_of tx site [] [] now) now.granted)
 
+-- whether an item is a read lock on the object
 abbrev pub locks_object : Item → ℕ → Bool
 locks_object (Lock l) object = l.object == object
 locks_object (Own o) object = false
@@ -107,12 +119,15 @@ shown_by tx object g =
     then filter (λ (l : Line). l.object == object) (site_after g.before).volatile
     else []
 
+-- lines in order, with one more
 abbrev pub with_line : List Line → Line → List Line
 with_line lines l = union (l ∷ []) lines
 
+-- all that it was shown of the object, in order and each line once
 abbrev pub view_of : TxId → ℕ → State → List Line
 view_of tx object now = fold with_line [] (flat_map (shown_by tx object) now.counted)
 
+-- the next operation of the transaction, answered so from all that it was shown
 abbrev pub operation : TxId → ℕ → Call → State → Executed
 operation tx object call now = record {
   number = suc (length (now.executed tx));
@@ -122,9 +137,11 @@ operation tx object call now = record {
   own = own_on (now.executed tx) object;
 }
 
+-- the transaction chooses it
 abbrev pub chooses : TxId → ℕ → Call → Move
 chooses tx object call now = Choose tx (operation tx object call now)
 
+-- the transaction executes it with no append
 abbrev pub finds_absent : TxId → ℕ → Call → Move
 finds_absent tx object call now = ExecuteAbsent tx (operation tx object call now)
 
@@ -132,24 +149,31 @@ finds_absent tx object call now = ExecuteAbsent tx (operation tx object call now
 abbrev pub append_of : TxId → Executed → AppendRequest
 append_of tx d = record { tx = tx; items = map Own d.own ++ Own (own_line d) ∷ []; view = d.view }
 
+-- an operation for where none is chosen
 abbrev pub nothing : Executed
 nothing = record { number = 0; op = record { object = 0; inv = 0; resp = None }; event = 0; view = []; own = [] }
 
+-- the Append of what the transaction has chosen
 abbrev pub chosen_append : TxId → State → AppendRequest
 chosen_append tx now = append_of tx (unwrap_or (now.chosen tx) nothing)
 
+-- its client sends this Append
 abbrev pub sends : TxId → Move
 sends tx now = SendAppend (chosen_append tx now)
 
+-- what is chosen is executed
 abbrev pub executes : TxId → Move
 executes tx now = Execute tx
 
+-- its client sends Prepare
 abbrev pub prepares : TxId → Move
 prepares tx now = Prepare tx
 
+-- the site votes Yes
 abbrev pub votes : TxId → ℕ → Move
 votes tx site now = Vote site tx
 
+-- the site writes a Prepare record, and no Yes is sent
 abbrev pub prepares_unheard : TxId → ℕ → Move
 prepares_unheard tx site now = PrepareLost site tx
 
@@ -161,21 +185,27 @@ record_of tx now = record {
   ops = map op_of (now.executed tx);
 }
 
+-- its client writes its record
 abbrev pub commits : TxId → Move
 commits tx now = Commit (record_of tx now)
 
+-- its client falls as it writes its record
 abbrev pub falls_committing : TxId → Move
 falls_committing tx now = CommitUnknown (record_of tx now)
 
+-- its client reads its records again: with this one, or without
 abbrev pub recovers : TxId → Bool → Move
 recovers tx with_record now = Recover tx with_record
 
+-- its client gives it up
 abbrev pub aborts : TxId → Move
 aborts tx now = Abort tx
 
+-- a client rises with this clock
 abbrev pub rises_at : ℕ → ℕ → Move
 rises_at client clock now = RiseClient client clock
 
+-- its client tells how it ended
 abbrev pub announces : TxId → Move
 announces tx now = Announce tx
 
@@ -184,12 +214,15 @@ abbrev pub learns : TxId → ℕ → Move
 learns tx site now =
     Learn site (first_where (λ (v : Verdict). same_tx v.tx tx) (record { tx = tx; stamp = None }) now.verdicts)
 
+-- a site falls and rises
 abbrev pub rises : ℕ → Move
 rises site now = Rise site
 
+-- a site writes its Close record
 abbrev pub closes : ℕ → Move
 closes site now = Close site
 
+-- what a site tells that is closed, with the least clock that has passed its Done and Install records
 abbrev pub snapshot : ℕ → State → Snapshot
 snapshot site now = record {
   site = site;
@@ -197,6 +230,7 @@ snapshot site now = record {
   before = now.deeds site;
 }
 
+-- the site sends it
 abbrev pub tells : ℕ → Move
 tells site now = TakeSnapshot (snapshot site now)
 
@@ -213,6 +247,7 @@ stamps_of verdicts p = flat_map (λ (v : Verdict). if same_tx v.tx p.tx then opt
 abbrev pub promised_lines : List Verdict → Promise → List Line
 promised_lines verdicts p = flat_map (λ (stamp : Stamp). stamped_lines p.tx stamp p.items) (stamps_of verdicts p)
 
+-- the clocks of these stamps
 abbrev pub promised_clocks : List Verdict → Promise → List ℕ
 promised_clocks verdicts p = map (λ (stamp : Stamp). stamp.clock) (stamps_of verdicts p)
 
@@ -236,6 +271,7 @@ decision epoch sites now =
       snapshots = snapshots;
     }
 
+-- the administrator writes this decision
 abbrev pub decides : ℕ → List ℕ → Move
 decides epoch sites now = Decide (decision epoch sites now)
 

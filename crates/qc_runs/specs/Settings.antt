@@ -39,6 +39,7 @@ two_registers_plan = record {
   last = (0 ∷ 0 ∷ 1 ∷ 1 ∷ []) ∷ (0 ∷ 0 ∷ 1 ∷ 1 ∷ []) ∷ [];
 }
 
+-- the two registers, in two epochs with this plan
 abbrev pub two_registers : Declaration
 two_registers = store 2 register_kind register_names (0 ∷ 0 ∷ []) (two_registers_plan ∷ two_registers_plan ∷ [])
 
@@ -48,12 +49,15 @@ two_registers = store 2 register_kind register_names (0 ∷ 0 ∷ []) (two_regis
 abbrev pub arm_rows : List Row
 arm_rows = row 0 0 0 1 ∷ row 1 0 0 1 ∷ row 2 0 0 2 ∷ []
 
+-- Fire: an armed latch has fired, any other stays
 abbrev pub fire_rows : List Row
 fire_rows = row 0 1 0 0 ∷ row 1 1 0 2 ∷ row 2 1 0 2 ∷ []
 
+-- Look: whether it has fired
 abbrev pub look_rows : List Row
 look_rows = row 0 2 1 0 ∷ row 1 2 1 1 ∷ row 2 2 2 2 ∷ []
 
+-- unarmed, armed and fired are the states 0, 1 and 2
 abbrev pub latch : Rules
 latch = record {
   states = 3;
@@ -63,6 +67,7 @@ latch = record {
   rows = arm_rows ++ fire_rows ++ look_rows;
 }
 
+-- Fire depends on Arm:ok, and Look on Fire:ok
 abbrev pub latch_kind : Kind
 latch_kind = record {
   table = latch;
@@ -81,6 +86,7 @@ latch_names = record {
   resps = codes "ok" ∷ codes "no" ∷ codes "yes" ∷ [];
 }
 
+-- the latch at two sites
 abbrev pub latch_store : Declaration
 latch_store = store 2 latch_kind latch_names (0 ∷ []) (latch_plan ∷ [])
 
@@ -88,12 +94,14 @@ latch_store = store 2 latch_kind latch_names (0 ∷ []) (latch_plan ∷ [])
 abbrev pub ticket : Rules
 ticket = record { states = 2; invs = 1; resps = 1; start = 0; rows = row 0 0 0 1 ∷ [] }
 
+-- Take depends on Take:ok
 abbrev pub ticket_kind : Kind
 ticket_kind = record { table = ticket; relation = relation_of (record { inv = 0; event = 0 } ∷ []) }
 
 abbrev pub ticket_names : KindNames
 ticket_names = record { name = codes "ticket"; states = codes "free" ∷ codes "taken" ∷ []; invs = codes "Take" ∷ []; resps = codes "ok" ∷ [] }
 
+-- the ticket at one site
 abbrev pub ticket_store : Declaration
 ticket_store =
     store 1 ticket_kind ticket_names (0 ∷ []) (record { weights = 1 ∷ []; initial = (1 ∷ []) ∷ []; last = (1 ∷ []) ∷ [] } ∷ [])
@@ -102,5 +110,6 @@ ticket_store =
 abbrev pub extra_kind : Kind
 extra_kind = record { table = register; relation = relation_of (record { inv = 7; event = 3 } ∷ register_pairs) }
 
+-- this register at one site
 abbrev pub extra_store : Declaration
 extra_store = store 1 extra_kind (0 ∷ []) (register_plan (1 ∷ []) 1 ∷ [])

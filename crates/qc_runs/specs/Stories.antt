@@ -10,9 +10,11 @@ use Rattle.qc_runs.specs.Moves.{Call, Move, announces, begins, chooses, closes, 
 abbrev pub first : TxId
 first = record { client = 0; life = 1; number = 1 }
 
+-- of the second client
 abbrev pub second : TxId
 second = record { client = 1; life = 1; number = 1 }
 
+-- of the third client
 abbrev pub third : TxId
 third = record { client = 2; life = 1; number = 1 }
 
@@ -20,12 +22,15 @@ third = record { client = 2; life = 1; number = 1 }
 abbrev pub reads_zero : Call
 reads_zero = record { inv = 0; resp = Some 0; event = 0 }
 
+-- R is told 1
 abbrev pub reads_one : Call
 reads_one = record { inv = 0; resp = Some 1; event = 1 }
 
+-- W0 is told ok
 abbrev pub writes_zero : Call
 writes_zero = record { inv = 1; resp = Some 2; event = 2 }
 
+-- W1 is told ok
 abbrev pub writes_one : Call
 writes_one = record { inv = 2; resp = Some 2; event = 3 }
 
@@ -72,15 +77,19 @@ asks_the_unknown = record { inv = 7; resp = None; event = 0 }
 abbrev pub arms : Call
 arms = record { inv = 0; resp = Some 0; event = 0 }
 
+-- Fire is told ok
 abbrev pub fires : Call
 fires = record { inv = 1; resp = Some 0; event = 1 }
 
+-- Look is told that it has not fired
 abbrev pub looks_unfired : Call
 looks_unfired = record { inv = 2; resp = Some 1; event = 2 }
 
+-- Take is told ok
 abbrev pub takes : Call
 takes = record { inv = 0; resp = Some 0; event = 0 }
 
+-- Take has no response
 abbrev pub takes_none : Call
 takes_none = record { inv = 0; resp = None; event = 0 }
 
@@ -92,9 +101,11 @@ appends_at tx sites = flat_map (λ site. grants_append tx site ∷ counts tx sit
 abbrev pub second_again : TxId
 second_again = record { client = 1; life = 1; number = 2 }
 
+-- of the first client
 abbrev pub first_again : TxId
 first_again = record { client = 0; life = 1; number = 2 }
 
+-- the stamp of a clock and a client
 abbrev pub stamp_of : ℕ → ℕ → Stamp
 stamp_of clock client = record { clock = clock; client = client }
 
@@ -102,8 +113,10 @@ stamp_of clock client = record { clock = clock; client = client }
 abbrev pub invented_line : Line
 invented_line = record { stamp = stamp_of 1 0; tx = first; op = 1; object = 0; event = 3 }
 
+-- the same as an own line, the first of its transaction
 abbrev pub first_line : OwnLine
 first_line = record { op = 1; object = 0; event = 3 }
 
+-- an own line of a second operation, a write of 0
 abbrev pub second_line : OwnLine
 second_line = record { op = 2; object = 0; event = 2 }

@@ -22,12 +22,15 @@ pub record Commits (decl : Declaration) (story : List Move) (records : List Comm
 abbrev pub IsRefused : Declaration → List Move → Move → Type 0
 IsRefused decl story move = IsAllowed decl (state (acts_of story)) (move (state (acts_of story))) → ⊥
 
+-- the record of a transaction with this clock and these operations
 abbrev pub commit_record : TxId → ℕ → List Op → CommitRecord
 commit_record tx clock ops = record { stamp = stamp_of clock tx.client; tx = tx; ops = ops }
 
+-- W1 was told ok
 abbrev pub one_written : Op
 one_written = record { object = 0; inv = 2; resp = Some 2 }
 
+-- R was told 1
 abbrev pub one_read : Op
 one_read = record { object = 0; inv = 0; resp = Some 1 }
 
@@ -41,6 +44,7 @@ write_under_way =
 abbrev pub conflict : Move
 conflict = grants_read second 1 0 0
 
+-- a read of another transaction, with the lock of the third site
 abbrev pub read_under_way : List Move
 read_under_way = begins second 1 ∷ locks second (2 ∷ []) 0 0
 
@@ -57,6 +61,7 @@ one_epoch =
     ++ commits_at second_again (1 ∷ 2 ∷ []) ++ ends_at second_again (1 ∷ 2 ∷ [])
     ++ grants_append first 2 ∷ learns first 2 ∷ learns first 0 ∷ []
 
+-- the two records of that run
 abbrev pub one_epoch_records : List CommitRecord
 one_epoch_records = commit_record first 1 (one_written ∷ []) ∷ commit_record second_again 2 (one_read ∷ []) ∷ []
 
@@ -72,6 +77,7 @@ two_epochs =
     ++ installs 1 2 ∷ installs 2 2 ∷ begins second 2 ∷ reads second 0 reads_one (1 ∷ 2 ∷ [])
     ++ commits_at second (1 ∷ 2 ∷ [])
 
+-- the three records of that run
 abbrev pub two_epochs_records : List CommitRecord
 two_epochs_records =
     commit_record first 1 (one_written ∷ []) ∷ commit_record third 1 [] ∷ commit_record second 2 (one_read ∷ []) ∷ []
