@@ -5,7 +5,7 @@ use Rattle.std.specs.Prelude.{nat_lt}
 use Rattle.qc_stamp.specs.declared.stamp.Stamp.{Stamp}
 use Rattle.qc_entry.specs.declared.line.Line.{Line}
 use Rattle.qc_decl.specs.One.{register_plan}
-use Rattle.qc_onecopy.specs.Lists.{In}
+use Rattle.qc_list.specs.Members.{In}
 use Rattle.qc_onecopy.specs.Committed.{sorted}
 use Rattle.qc_onecopy.specs.Executed.{own_line, committed_line}
 use Rattle.qc_protocol.specs.Site.{Promise, Own, Installs, epoch_from, DoneRecord, site_after}
