@@ -39,5 +39,6 @@ pub fn replays_are_one_copy()
 /// stamp before those of the records after it.
 pub fn records_are_sorted()
     ensures { (records : List Commit) → AreApart records
-        → IsOrdered IsStampedBefore (sorted records) × ((commit : Commit) → In commit (sorted records) ↔ In commit records) }
+        → IsOrdered IsStampedBefore (sorted records)
+        × ((commit : Commit) → In commit (sorted records) ↔ In commit records) }
 {}

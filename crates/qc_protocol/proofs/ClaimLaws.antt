@@ -1,4 +1,5 @@
--- Records, logs and verdicts of every run.
+-- Records, logs and verdicts of every run: records are apart, logs hold just their operations and are closed, verdicts agree,
+-- and a record follows what its client had seen.
 use Rattle.std.proofs.Common.{◌≡◌, ◌≢◌, ℕ, zero, suc, ◌<◌, ◌≤◌, ◌+◌, false, IsTrue, ◌⊎◌, ◌↔◌, inl, inr, List, [], ◌∷◌, ◌++◌, map, length, slice_get, Option, Some, None, IsSome, refl, sym, ap, ◌∙◌, subst, arith}
 use Rattle.std.specs.Prelude.{option_and_then}
 use Rattle.std.specs.Option.{option_map_or}

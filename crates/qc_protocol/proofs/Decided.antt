@@ -1,4 +1,5 @@
--- What a decided log and clock have of the transactions of earlier epochs.
+-- What a decided log and clock have of the transactions of earlier epochs: the sites that closed an epoch meet each of its
+-- quorums, so the log has each committed line on which something depends, or the clock has passed the reader's stamp.
 use Rattle.std.proofs.Common.{◌≡◌, ◌≢◌, ℕ, zero, suc, ◌<◌, ◌≤◌, Bool, true, false, IsTrue, ◌⊎◌, inl, inr, List, [], ◌∷◌, ◌++◌, length, Some, None, IsSome, refl, sym, ap, ◌∙◌, subst, arith, append-nil}
 use Rattle.std.proofs.lemmas.Bool.{cases_eq}
 use Rattle.qc_stamp.specs.declared.stamp.Stamp.{Stamp}

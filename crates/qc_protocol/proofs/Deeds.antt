@@ -1,4 +1,4 @@
--- One more deed after a grant.
+-- One more deed after a grant: which deeds leave what a transaction holds, and which keep that it is prepared or done.
 use Rattle.std.proofs.Common.{◌≡◌, ◌≢◌, Bool, true, false, IsTrue, ◌||◌, inl, inr, List, [], ◌∷◌, ◌++◌, refl, ap}
 use Rattle.qc_list.specs.Members.{In}
 use Rattle.qc_stamp.specs.declared.stamp.TxId.{TxId}

@@ -1,4 +1,5 @@
--- Installs among deeds.
+-- Installs among the deeds of a site: its epoch only grows, and a site that closed with a transaction prepared tells so, or its
+-- Done.
 use Rattle.std.proofs.Common.{◌≡◌, ℕ, ◌<◌, ◌≤◌, Bool, true, false, ◌||◌, ◌⊎◌, inl, inr, List, [], ◌∷◌, ◌++◌, refl, sym, ap, ◌∙◌, subst, arith}
 use Rattle.std.proofs.lemmas.Bool.{cases_eq}
 use Rattle.qc_stamp.specs.declared.stamp.TxId.{TxId}

@@ -1,4 +1,5 @@
--- The ordering lemma, in every state that a run reaches.
+-- The ordering lemma at a shared site: of two counted grants that conflict, the Done of the earlier one's transaction stands
+-- before the later one, so its line is there, or its stamp is smaller (two-phase locking; Lamport 1978).
 use Rattle.std.proofs.Common.{◌≡◌, ◌≢◌, ℕ, ◌<◌, ◌≤◌, Bool, true, false, cond, IsTrue, ◌||◌, ◌⊎◌, inl, inr, List, [], ◌∷◌, ◌++◌, Option, Some, None, IsSome, refl, sym, ap, ◌∙◌, subst, arith, true≢false, append_assoc}
 use Rattle.qc_stamp.specs.declared.stamp.Stamp.{Stamp}
 use Rattle.qc_stamp.specs.declared.stamp.TxId.{TxId}

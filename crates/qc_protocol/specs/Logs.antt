@@ -112,7 +112,8 @@ pub record LogLaws (decl : Declaration) (now : State) : Type 0 where
   pub right : (tx : TxId) (d : Executed) → IsExecutedOrChosen (now.executed tx) (now.chosen tx) d
       → IsAnsweredFromQuorum decl (now.epoch tx) now.counted tx d
   pub written : (tx : TxId) (d : Executed) → In d (now.executed tx) → IsSome d.op.resp
-      → HasQuorum decl (now.epoch tx) now.counted tx (Own (own_line d)) (append_need_of decl (now.epoch tx) d.op.object d.event)
+      → HasQuorum decl (now.epoch tx) now.counted tx (Own (own_line d))
+      (append_need_of decl (now.epoch tx) d.op.object d.event)
   pub views : (tx : TxId) (d : Executed) (l : Line) → IsExecutedOrChosen (now.executed tx) (now.chosen tx) d
       → In l d.view → IsClosedAt decl now.status now.executed d.view l
   pub appends : (s : AppendRequest) → In s now.appends

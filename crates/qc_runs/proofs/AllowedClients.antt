@@ -80,7 +80,7 @@ abbrev pub may_commit : (ask : Guard → Bool) (now : State) (c : CommitRecord) 
 may_commit ask now c =
     option_map (λ f. record { voting = f.0; votes = (f.1).0; client = ((f.1).1).0; above = (((f.1).1).1).0; ops = (((f.1).1).1).1 })
     (both (where_asked (ask CommitsWhenVoting) (is_voting (now.status c.tx)))
-    (both (where_asked (ask AllHaveVoted) (every (λ (g : Granted). g.tx ≡ c.tx → In {A = YesVote} (record { tx = c.tx; site = g.site }) now.votes) (λ g. where_same_tx g.tx c.tx (member same_vote (record { tx = c.tx; site = g.site }) now.votes)) now.counted))
+    (both (where_asked (ask AllHaveVoted) (every (λ (g : Granted). g.tx ≡ c.tx → In {X = YesVote} (record { tx = c.tx; site = g.site }) now.votes) (λ g. where_same_tx g.tx c.tx (member same_vote (record { tx = c.tx; site = g.site }) now.votes)) now.counted))
     (both (where_asked (ask StampIsItsClients) (same_number c.stamp.client c.tx.client))
     (both (where_asked (ask StampPassesClock) (below (now.clock c.tx.client) c.stamp.clock))
     (where_asked (ask RecordHasOperations) (same_list same_op c.ops (map op_of (now.executed c.tx))))))))

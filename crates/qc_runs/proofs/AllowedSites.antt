@@ -75,8 +75,8 @@ pub held_by : (u : TxId) (y : Item) (hs : List Held) → In y (items_of u hs) �
 held_by u y [] h = absurd h
 held_by u y (x ∷ xs) h = by (same_tx u x.tx) refl (held_by u y xs) h
   where
-    by : (t : Bool) → same_tx u x.tx ≡ t → (In y (items_of u xs) → In {A = Held} (record { tx = u; item = y }) xs)
-        → In y (cond t (x.item ∷ items_of u xs) (items_of u xs)) → In {A = Held} (record { tx = u; item = y }) (x ∷ xs)
+    by : (t : Bool) → same_tx u x.tx ≡ t → (In y (items_of u xs) → In {X = Held} (record { tx = u; item = y }) xs)
+        → In y (cond t (x.item ∷ items_of u xs) (items_of u xs)) → In {X = Held} (record { tx = u; item = y }) (x ∷ xs)
     by true e f (inl same) = inl (λ i. record { tx = same_tx_is u x.tx e i; item = same i })
     by true e f (inr later) = inr (f later)
     by false e f later = inr (f later)
