@@ -1,12 +1,10 @@
 -- What the tests of a list of triples tell: sets within each other and apart, cover, searches that find nothing.
-use Rattle.std.proofs.Common.{◌≡◌, ℕ, zero, suc, ◌<◌, ◌≤◌, ⊎_elim, min, Bool, true, false, IsTrue, List, [], ◌∷◌, Option, Some, None, slice_get, bit_and, refl, sym, ap, ◌∙◌, arith}
+use Rattle.std.proofs.Common.{◌≡◌, ℕ, zero, suc, min, Bool, true, false, IsTrue, List, [], ◌∷◌, Some, slice_get, bit_and, refl, sym, ap, ◌∙◌, arith}
 use Rattle.std.specs.Prelude.{◌↔◌, ◌==◌, ◌&&◌, ◌||◌}
 use Rattle.std.specs.Int.{bit_at}
-use Rattle.std.specs.Option.{option_or}
-use Rattle.std.proofs.lemmas.Bool.{eqb-true, eqb-false, eq-eqb, and_from, or_left, or_right, true≢false, cases_lt}
+use Rattle.std.proofs.lemmas.Bool.{eqb-true, eqb-false, eq-eqb, and_from, and_parts, or_left, or_right, true≢false}
 use Rattle.std.proofs.lemmas.Nat.Bits.{bit_at_and, bit_at-lt, bit_at-zero, same_from_bits}
 use Rattle.qc_table.specs.Depends.{depended}
-use Rattle.qc_table.specs.First.{first_below}
 use Rattle.qc_table.specs.Sets.{IsWithin, is_within}
 use Rattle.qc_table.specs.declared.kind.Kind.{Kind}
 use Rattle.qc_cert.specs.Faults.{covers, is_covered, is_free}
@@ -53,16 +51,12 @@ true_free kind inv out free =
         let apart : (bit_at out k ≡ 1) → ⊥ = eqb-false (bit_at out k) 1 h in
         omega (arith, bit_at-lt out k)
 
-and_both : (a b : Bool) → (a && b) ≡ true → (a ≡ true) × (b ≡ true)
-and_both true b e = (refl, e)
-and_both false b e = absurd (true≢false (sym e))
-
 -- `covers` tells cover
 pub covers_is : (a b : Triple) → IsTrue (covers a b) ↔ Covers a b
 covers_is a b = (
   λ t.
-      let one : ((a.view == b.view) ≡ true) × (((a.log == b.log) && is_within a.out b.out) ≡ true) = and_both (a.view == b.view) ((a.log == b.log) && is_within a.out b.out) t in
-      let two : ((a.log == b.log) ≡ true) × (is_within a.out b.out ≡ true) = and_both (a.log == b.log) (is_within a.out b.out) one.1 in
+      let one : ((a.view == b.view) ≡ true) × (((a.log == b.log) && is_within a.out b.out) ≡ true) = and_parts (a.view == b.view) ((a.log == b.log) && is_within a.out b.out) t in
+      let two : ((a.log == b.log) ≡ true) × (is_within a.out b.out ≡ true) = and_parts (a.log == b.log) (is_within a.out b.out) one.1 in
       record { view = eqb-true a.view b.view one.0; log = eqb-true a.log b.log two.0; out = within_true a.out b.out two.1 },
   λ c. and_from (a.view == b.view) ((a.log == b.log) && is_within a.out b.out) (eq-eqb a.view b.view c.view)
       (and_from (a.log == b.log) (is_within a.out b.out) (eq-eqb a.log b.log c.log) (true_within a.out b.out c.out)),
@@ -84,23 +78,3 @@ any_at (x ∷ list) t (suc place) a at c = or_right (covers x t) (is_covered lis
 
 pub true_covered : (list : List Triple) (t : Triple) → IsCovered list t → is_covered list t ≡ true
 true_covered list t c = any_at list t c.place c.by c.listed ((covers_is c.by t).1 c.covers)
-
--- neither of two answers
-pub neither : {A : Type 0} (o p : Option A) → option_or o p ≡ None → (o ≡ None) × (p ≡ None)
-neither None p none = (refl, none)
-neither (Some x) p none = absurd (let never : ⊥ = cc in never)
-
-pub nor : {A : Type 0} (o p : Option A) → o ≡ None → p ≡ None → option_or o p ≡ None
-nor None p first second = second
-nor (Some x) p first second = first
-
--- a search that finds nothing
-pub none_below : {A : Type 0} (n : ℕ) (answer : ℕ → Option A) → first_below n answer ≡ None → (k : ℕ) → k < n → answer k ≡ None
-none_below zero answer none k less = absurd (omega arith)
-none_below (suc n) answer none k less =
-    let both : (first_below n answer ≡ None) × (answer n ≡ None) = neither (first_below n answer) (answer n) none in
-    ⊎_elim (λ (below : k < n). none_below n answer both.0 k below) (λ (past : n ≤ k). let last : k ≡ n = omega arith in ap answer last ∙ both.1) (cases_lt k n)
-
-pub below_none : {A : Type 0} (n : ℕ) (answer : ℕ → Option A) → ((k : ℕ) → k < n → answer k ≡ None) → first_below n answer ≡ None
-below_none zero answer none = refl
-below_none (suc n) answer none = nor (first_below n answer) (answer n) (below_none n answer (λ k less. none k (omega arith))) (none n (omega arith))

@@ -4,14 +4,15 @@ use Rattle.std.specs.Prelude.{is_some, ◌==◌, option_and_then}
 use Rattle.std.specs.Option.{option_or}
 use Rattle.std.proofs.lemmas.Bool.{eqb-true, eq-eqb, true≢false}
 use Rattle.std.proofs.lemmas.Option.{slice_get_within}
-use Rattle.qc_table.specs.First.{first_below}
+use Rattle.qc_list.specs.Search.{first_below}
+use Rattle.qc_list.proofs.Search.{none_parts, none_from, none_below, below_none}
 use Rattle.qc_table.specs.Rules.{event, events_of}
 use Rattle.qc_table.specs.Run.{step_of}
 use Rattle.qc_table.specs.Sets.{with_member}
 use Rattle.qc_table.specs.Sound.{IsSound}
 use Rattle.qc_table.specs.declared.kind.Kind.{Kind}
-use Rattle.qc_cert.proofs.Named.{allowed_within}
-use Rattle.qc_cert.proofs.Computed.{free_true, true_free, covered_true, true_covered, neither, nor, none_below, below_none}
+use Rattle.qc_table.proofs.Named.{allowed_within}
+use Rattle.qc_cert.proofs.Computed.{free_true, true_free, covered_true, true_covered}
 use Rattle.qc_cert.proofs.Walk.{IsStep, step_is}
 use Rattle.qc_cert.specs.Faults.{is_covered, is_free, unless_covered, left_out_fault, unequal_fault, taken_fault, inv_fault, triple_fault, triples_fault, fault_of}
 use Rattle.qc_cert.specs.Inductive.{triple, IsCovered, IsFree, is_allowed, IsInductive}
@@ -78,14 +79,14 @@ at_none : (kind : Kind) (list : List Triple) (from : ℕ) (ts : List Triple) →
 at_none kind list from [] none k t at = absurd (let never : ⊥ = cc in never)
 at_none kind list from (x ∷ ts) none zero t at =
     let same : x ≡ t = cc in
-    (from, ap (triple_fault kind list from) (sym same) ∙ (neither (triple_fault kind list from x) (triples_fault kind list (suc from) ts) none).0)
-at_none kind list from (x ∷ ts) none (suc k) t at = at_none kind list (suc from) ts (neither (triple_fault kind list from x) (triples_fault kind list (suc from) ts) none).1 k t at
+    (from, ap (triple_fault kind list from) (sym same) ∙ (none_parts (triple_fault kind list from x) (triples_fault kind list (suc from) ts) none).0)
+at_none kind list from (x ∷ ts) none (suc k) t at = at_none kind list (suc from) ts (none_parts (triple_fault kind list from x) (triples_fault kind list (suc from) ts) none).1 k t at
 
 none_at : (kind : Kind) (list : List Triple) (from : ℕ) (ts : List Triple) → ((k place : ℕ) (t : Triple) → slice_get ts k ≡ Some t → triple_fault kind list place t ≡ None)
     → triples_fault kind list from ts ≡ None
 none_at kind list from [] none = refl
 none_at kind list from (x ∷ ts) none =
-    nor (triple_fault kind list from x) (triples_fault kind list (suc from) ts) (none 0 from x refl) (none_at kind list (suc from) ts (λ k place t at. none (suc k) place t at))
+    none_from (triple_fault kind list from x) (triples_fault kind list (suc from) ts) (none 0 from x refl) (none_at kind list (suc from) ts (λ k place t at. none (suc k) place t at))
 
 -- what a triple without a fault is
 record IsFaultless (kind : Kind) (list : List Triple) (t : Triple) : Type 0 where
@@ -102,9 +103,9 @@ record IsEven (kind : Kind) (list : List Triple) (place : ℕ) (t : Triple) (inv
 even : (kind : Kind) (list : List Triple) (place : ℕ) (t : Triple) (inv : ℕ) → triple_fault kind list place t ≡ None → inv < kind.table.invs → IsFree kind inv t.out → IsEven kind list place t inv
 even kind list place t inv none within free =
     let all : first_below kind.table.invs (inv_fault kind list place t) ≡ None =
-    (neither (first_below (length (events_of kind.table.rows)) (left_out_fault kind list place t)) (first_below kind.table.invs (inv_fault kind list place t)) none).1 in
+    (none_parts (first_below (length (events_of kind.table.rows)) (left_out_fault kind list place t)) (first_below kind.table.invs (inv_fault kind list place t)) none).1 in
     let own : inv_fault kind list place t inv ≡ None = none_below kind.table.invs (inv_fault kind list place t) all inv within in
-    let both = neither (first_below kind.table.resps (unequal_fault kind place t inv)) (first_below (length (events_of kind.table.rows)) (taken_fault kind list place t inv))
+    let both = none_parts (first_below kind.table.resps (unequal_fault kind place t inv)) (first_below (length (events_of kind.table.rows)) (taken_fault kind list place t inv))
     (rw (true_free kind inv t.out free) at own) in
     record { responses = both.0; events = both.1 }
 
@@ -112,7 +113,7 @@ none_faultless : (kind : Kind) (list : List Triple) (place : ℕ) (t : Triple) �
 none_faultless kind list place t sound none = record {
   left_out = λ e h s.
       let all : first_below (length (events_of kind.table.rows)) (left_out_fault kind list place t) ≡ None =
-      (neither (first_below (length (events_of kind.table.rows)) (left_out_fault kind list place t)) (first_below kind.table.invs (inv_fault kind list place t)) none).0 in
+      (none_parts (first_below (length (events_of kind.table.rows)) (left_out_fault kind list place t)) (first_below kind.table.invs (inv_fault kind list place t)) none).0 in
       let own : left_out_fault kind list place t e ≡ None = none_below (length (events_of kind.table.rows)) (left_out_fault kind list place t) all e (number_within kind t.log e h s) in
       none_covered list (Uncovered place e false) (triple t.view h (with_member t.out e)) (rw s at own);
   equal = λ inv resp free.
@@ -133,7 +134,7 @@ none_faultless kind list place t sound none = record {
 pub inductive : (kind : Kind) (list : List Triple) → IsSound kind.table → fault_of kind list ≡ None → IsInductive kind list
 inductive kind list sound none =
     let both : (unless_covered list NoStart (triple kind.table.start kind.table.start 0) ≡ None) × (triples_fault kind list 0 list ≡ None) =
-    neither (unless_covered list NoStart (triple kind.table.start kind.table.start 0)) (triples_fault kind list 0 list) none in
+    none_parts (unless_covered list NoStart (triple kind.table.start kind.table.start 0)) (triples_fault kind list 0 list) none in
     let good : (k : ℕ) (t : Triple) → slice_get list k ≡ Some t → IsFaultless kind list t = λ k t at.
     let p = at_none kind list 0 list both.1 k t at in
     none_faultless kind list p.0 t sound p.1 in
@@ -162,17 +163,17 @@ inv_none kind list k place t inv ind at = by (is_free kind inv t.out) refl
     by false is = refl
     by true is =
         let free : IsFree kind inv t.out = free_true kind inv t.out is in
-        nor (first_below kind.table.resps (unequal_fault kind place t inv)) (first_below (length (events_of kind.table.rows)) (taken_fault kind list place t inv))
+        none_from (first_below kind.table.resps (unequal_fault kind place t inv)) (first_below (length (events_of kind.table.rows)) (taken_fault kind list place t inv))
         (below_none kind.table.resps (unequal_fault kind place t inv) (λ resp less. equal_none kind place t inv resp (ind.equal k t inv resp at free)))
         (below_none (length (events_of kind.table.rows)) (taken_fault kind list place t inv) (λ e less. taken free e (inv_of kind e == inv) refl))
 
 -- an inductive list has no fault
 pub faultless : (kind : Kind) (list : List Triple) → IsInductive kind list → fault_of kind list ≡ None
 faultless kind list ind =
-    nor (unless_covered list NoStart (triple kind.table.start kind.table.start 0)) (triples_fault kind list 0 list)
+    none_from (unless_covered list NoStart (triple kind.table.start kind.table.start 0)) (triples_fault kind list 0 list)
     (covered_none list NoStart (triple kind.table.start kind.table.start 0) ind.begun)
     (none_at kind list 0 list (λ k place t at.
-    nor (first_below (length (events_of kind.table.rows)) (left_out_fault kind list place t)) (first_below kind.table.invs (inv_fault kind list place t))
+    none_from (first_below (length (events_of kind.table.rows)) (left_out_fault kind list place t)) (first_below kind.table.invs (inv_fault kind list place t))
     (below_none (length (events_of kind.table.rows)) (left_out_fault kind list place t) (λ e less.
     nothing_of (λ h. unless_covered list (Uncovered place e false) (triple t.view h (with_member t.out e))) (step_of kind.table.rows t.log e) (λ h s.
     covered_none list (Uncovered place e false) (triple t.view h (with_member t.out e)) (ind.left_out k t e h at s))))

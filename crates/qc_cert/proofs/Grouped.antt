@@ -1,21 +1,13 @@
 -- Groups have what a search for a covering triple looks at.
-use Rattle.std.proofs.Common.{◌≡◌, ℕ, suc, ◌<◌, ◌≤◌, ◌⊎◌, Bool, true, false, cond, List, [], ◌∷◌, All, length, get_or, refl, sym, ap, ◌∙◌, inl, inr, suc-le-suc, zero-lt-suc, arith}
+use Rattle.std.proofs.Common.{◌≡◌, suc, ◌<◌, ◌≤◌, ◌⊎◌, Bool, true, false, cond, List, [], ◌∷◌, All, length, get_or, refl, sym, ap, ◌∙◌, inl, inr, suc-le-suc, zero-lt-suc, arith}
 use Rattle.std.specs.Prelude.{◌==◌, ◌&&◌, ◌||◌}
 use Rattle.std.specs.List.{list_any}
-use Rattle.std.proofs.lemmas.Bool.{eqb-true, eq-eqb}
+use Rattle.std.proofs.lemmas.Bool.{eqb-true, eq-eqb, ne_eqb}
 use Rattle.std.proofs.lemmas.List.Folds.{list_any_none}
 use Rattle.qc_cert.specs.Faults.{covers, is_covered}
 use Rattle.qc_cert.specs.Groups.{AreStates, place_of, outs_at}
 use Rattle.qc_cert.specs.declared.triple.Triple.{Triple}
 use Rattle.qc_table.specs.Sets.{is_within}
-
--- different numbers
-differs : (a b : ℕ) → (a ≡ b → ⊥) → (a == b) ≡ false
-differs a b ne = by (a == b) refl
-  where
-    by : (v : Bool) → (a == b) ≡ v → v ≡ false
-    by true e = absurd (ne (eqb-true a b e))
-    by false e = refl
 
 -- of a list's first triple
 head_of : (t : Triple) (ts : List Triple) → All AreStates (t ∷ ts) → AreStates t
@@ -64,5 +56,5 @@ uncovered_past list t all past = list_any_none (λ a. covers a t) list (λ k d l
     logs true true b e = absurd (let never : ⊥ = cc in never)
 
     by : (a : Triple) → AreStates a → (64 ≤ t.view) ⊎ (64 ≤ t.log) → covers a t ≡ false
-    by a states (inl v) = rw (differs a.view t.view (λ (e : a.view ≡ t.view). let n : a.view < 64 = states.0 in omega arith)) refl
-    by a states (inr v) = logs (a.view == t.view) (a.log == t.log) (is_within a.out t.out) (differs a.log t.log (λ (e : a.log ≡ t.log). let n : a.log < 64 = states.1 in omega arith))
+    by a states (inl v) = rw (ne_eqb a.view t.view (λ (e : a.view ≡ t.view). let n : a.view < 64 = states.0 in omega arith)) refl
+    by a states (inr v) = logs (a.view == t.view) (a.log == t.log) (is_within a.out t.out) (ne_eqb a.log t.log (λ (e : a.log ≡ t.log). let n : a.log < 64 = states.1 in omega arith))

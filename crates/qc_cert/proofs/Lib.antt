@@ -2,6 +2,4 @@ pub mod Allowed
 pub mod Computed
 pub mod Faultless
 pub mod Grouped
-pub mod Named
-pub mod Search
 pub mod Walk

@@ -11,8 +11,9 @@ pub record StandsOutside (history : List ℕ) (set : ℕ → Bool) (e : ℕ) : T
   pub stands : slice_get history position ≡ Some e
   pub outside : set position ≡ false
 
--- Some triple of the list has, as its view, the state that the picked events lead to, so they are a legal history; as its log,
--- the state that the whole history leads to; and it leaves out only events that stand at positions outside the set.
+-- Some triple of the list has, as its view, the state that the picked events lead to, so they are a legal history; as
+-- its log, the state that the whole history leads to; and it leaves out only events that stand at positions outside
+-- the set.
 pub record IsAccountedFor (kind : Kind) (list : List Triple) (history : List ℕ) (set : ℕ → Bool) : Type 0 where
   pub place : ℕ
   pub by : Triple

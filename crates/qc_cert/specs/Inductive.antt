@@ -8,7 +8,8 @@ use Rattle.qc_table.specs.Run.{next_in, step_of}
 use Rattle.qc_table.specs.Sets.{has, with_member, IsWithin}
 use Rattle.qc_table.specs.declared.kind.Kind.{Kind}
 
--- A triple says: where the log's events lead to the state `log`, and those that the view has lead to `view`, the events left out are among `out`.
+-- A triple says: where the log's events lead to the state `log`, and those that the view has lead to `view`, the events
+-- left out are among `out`.
 abbrev pub triple : ℕ → ℕ → ℕ → Triple
 triple view log out = record { view = view; log = log; out = out }
 
@@ -33,14 +34,16 @@ IsFree kind inv out = (e : ℕ) → IsTrue (has out e) → depends kind.relation
 abbrev pub is_allowed : Kind → ℕ → ℕ → ℕ → Bool
 is_allowed kind state inv resp = is_some (next_in kind.table.rows state (event inv resp))
 
--- A list is inductive where the start is covered, and what each of its triples may become by one event more is covered too:
--- an event that the view leaves out, and one that both take. An invocation that depends on nothing left out has to have the
--- same legal responses in both states.
+-- A list is inductive where the start is covered, and what each of its triples may become by one event more is covered
+-- too: an event that the view leaves out, and one that both take. An invocation that depends on nothing left out has to
+-- have the same legal responses in both states.
 pub record IsInductive (kind : Kind) (list : List Triple) : Type 0 where
   pub begun : IsCovered list (triple kind.table.start kind.table.start 0)
-  pub left_out : (place : ℕ) (t : Triple) (e h : ℕ) → slice_get list place ≡ Some t → step_of kind.table.rows t.log e ≡ Some h
+  pub left_out : (place : ℕ) (t : Triple) (e h : ℕ) → slice_get list place ≡ Some t
+      → step_of kind.table.rows t.log e ≡ Some h
       → IsCovered list (triple t.view h (with_member t.out e))
   pub equal : (place : ℕ) (t : Triple) (inv resp : ℕ) → slice_get list place ≡ Some t → IsFree kind inv t.out
       → is_allowed kind t.view inv resp ≡ is_allowed kind t.log inv resp
   pub taken : (place : ℕ) (t : Triple) (e g h : ℕ) → slice_get list place ≡ Some t → IsFree kind (inv_of kind e) t.out
-      → step_of kind.table.rows t.view e ≡ Some g → step_of kind.table.rows t.log e ≡ Some h → IsCovered list (triple g h t.out)
+      → step_of kind.table.rows t.view e ≡ Some g → step_of kind.table.rows t.log e ≡ Some h
+      → IsCovered list (triple g h t.out)

@@ -2,4 +2,5 @@ pub mod Covered
 pub mod Faults
 pub mod Groups
 pub mod Inductive
+pub mod Limits
 pub mod Views

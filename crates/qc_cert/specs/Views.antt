@@ -1,6 +1,8 @@
--- Closed sets of positions of a history, views, and exact relations: what a relation is to give, for every legal history.
--- The idea is Herlihy's (1986). Sets of positions, and exactness in both directions, are this project's own words for it.
-use Rattle.std.specs.Prelude.{◌≡◌, ℕ, suc, ◌<◌, Bool, IsTrue, List, [], ◌∷◌, Option, Some, is_some, if◌then◌else◌, slice_get, option_and_then}
+-- Closed sets of positions of a history, views, and exact relations: what a relation is to give, for every legal
+-- history. The idea is Herlihy's (1986). Sets of positions, and exactness in both directions, are this project's own
+-- words for it.
+use Rattle.std.specs.Prelude.{◌≡◌, ℕ, suc, ◌<◌, Bool, IsTrue, List, [], ◌∷◌, Option, Some, is_some}
+use Rattle.std.specs.Prelude.{if◌then◌else◌, slice_get, option_and_then}
 use Rattle.std.specs.Option.{option_map_or}
 use Rattle.qc_table.specs.Depends.{depends}
 use Rattle.qc_table.specs.Rules.{event, events_of}
@@ -21,9 +23,11 @@ IsLegalFor kind history = IsLegal (step_of kind.table.rows) kind.table.start his
 
 -- whether the history may go on with this response to the invocation
 abbrev pub allows : Kind → List ℕ → ℕ → ℕ → Bool
-allows kind history inv resp = is_some (option_and_then (λ state. next_in kind.table.rows state (event inv resp)) (state_after kind history))
+allows kind history inv resp =
+    is_some (option_and_then (λ state. next_in kind.table.rows state (event inv resp)) (state_after kind history))
 
--- A set of positions is closed where it has, with each position, each earlier one on whose event the invocation there depends.
+-- A set of positions is closed where it has, with each position, each earlier one on whose event the invocation there
+-- depends.
 abbrev pub IsClosed : Kind → List ℕ → (ℕ → Bool) → Type 0
 IsClosed kind history set =
     (p q e f : ℕ) → slice_get history p ≡ Some e → slice_get history q ≡ Some f → q < p

@@ -1,22 +1,22 @@
 //! A list of triples, grouped by their two states.
 
-ghost use Rattle.std.specs.Prelude.{◌≡◌, ℕ, ◌<◌, ◌++◌, [], ◌∷◌, All, IfOk, OnOk, length, slice_index_or, slice_set};
+ghost use Rattle.std.specs.Prelude.{◌≡◌, ℕ, ◌*◌, ◌<◌, ◌++◌, [], ◌∷◌, All, IfOk, OnOk, length, slice_index_or};
+ghost use Rattle.std.specs.Prelude.{slice_set};
 ghost use Rattle.std.specs.List.{list_any};
 ghost use Rattle.qc_cert.specs.Faults.{is_covered};
 ghost use Rattle.qc_cert.specs.Groups.{AreStates, outs_at, place_of};
 ghost use Rattle.qc_cert.specs.declared.triple.Triple.{Triple};
 ghost use Rattle.qc_table.specs.Sets.{is_within};
+ghost use Rattle.qc_table.specs.Limits.{most_states};
 
 use crate::triple::Triple;
 use qc_list::OutOfMemory;
+use qc_table::MOST_STATES;
 use std::alloc::Global;
 use std::marker::Model;
 
-/// States are below this.
-const STATES: u8 = 64;
-
 /// How many groups there are: one for each two states.
-const GROUPS: usize = 4096;
+const GROUPS: usize = MOST_STATES * MOST_STATES;
 
 /// The events that the triples with the same two states leave out, in the
 /// list's order.
@@ -81,7 +81,7 @@ impl<'a> Model for Grouped<'a> {
 }
 
 impl<'a> Grouped<'a> {
-    /// The list of these triples, each of two states below 64.
+    /// The list of these triples, each of two states below the most states.
     pub(crate) fn new(alloc: Global, list: &'a [Triple]) -> Result<Grouped<'a>, OutOfMemory>
         requires { All AreStates list.now }
         ensures { IfOk result (λ g. g ≡ list.now) }
@@ -103,7 +103,7 @@ impl<'a> Grouped<'a> {
         ensures { result ≡ is_covered self.now triple.now }
     {
         let groups = self.groups.as_slice();
-        if triple.view >= STATES || triple.log >= STATES {
+        if triple.view as usize >= MOST_STATES || triple.log as usize >= MOST_STATES {
             return false;
         }
         groups[place(triple.view, triple.log)].covers(triple.out)
@@ -112,17 +112,17 @@ impl<'a> Grouped<'a> {
 
 /// The number of the group of two states.
 fn place(view: u8, log: u8) -> usize
-    requires view { view < 64 }
-    requires log { log < 64 }
+    requires view { view < most_states }
+    requires log { log < most_states }
     ensures place { result ≡ place_of view log }
-    ensures within { result < 4096 }
+    ensures within { result < most_states * most_states }
 {
-    view as usize * STATES as usize + log as usize
+    view as usize * MOST_STATES + log as usize
 }
 
 /// The groups of no triple.
 fn empty_groups(alloc: Global) -> Result<Vec<Group>, OutOfMemory>
-    ensures all { IfOk result (λ v. length v.items ≡ 4096) }
+    ensures all { IfOk result (λ v. length v.items ≡ most_states * most_states) }
     ensures empty { IfOk result (λ v. (place : ℕ) → slice_index_or v.items place [] ≡ []) }
 {
     let mut groups = Vec::new(alloc);
@@ -134,10 +134,10 @@ fn empty_groups(alloc: Global) -> Result<Vec<Group>, OutOfMemory>
 
 /// Adds triples to empty groups.
 fn add_triples(groups: &mut [Group], list: &[Triple]) -> Result<(), OutOfMemory>
-    requires all { length groups.old ≡ 4096 }
+    requires all { length groups.old ≡ most_states * most_states }
     requires empty { (place : ℕ) → slice_index_or groups.old place [] ≡ [] }
     requires states { All AreStates list.now }
-    ensures all { length groups.new ≡ 4096 }
+    ensures all { length groups.new ≡ most_states * most_states }
     ensures outs { OnOk result ((place : ℕ) → slice_index_or groups.new place [] ≡ outs_at list.now place) }
 {
     'triples: for triple in list {
@@ -148,10 +148,11 @@ fn add_triples(groups: &mut [Group], list: &[Triple]) -> Result<(), OutOfMemory>
 
 /// Adds a triple to its group.
 fn add_triple(groups: &mut [Group], triple: &Triple) -> Result<(), OutOfMemory>
-    requires all { length groups.old ≡ 4096 }
+    requires all { length groups.old ≡ most_states * most_states }
     requires states { AreStates triple.now }
-    ensures all { length groups.new ≡ 4096 }
-    ensures added { OnOk result (let place = place_of triple.now.view triple.now.log in groups.new ≡ slice_set groups.old place (slice_index_or groups.old place [] ++ triple.now.out ∷ [])) }
+    ensures all { length groups.new ≡ most_states * most_states }
+    ensures added { OnOk result (let place = place_of triple.now.view triple.now.log in
+        groups.new ≡ slice_set groups.old place (slice_index_or groups.old place [] ++ triple.now.out ∷ [])) }
 {
     groups[place(triple.view, triple.log)].push(triple.out)
 }

@@ -38,9 +38,9 @@ pub fn inductive_lists_have_no_fault()
     ensures { (kind : Kind) (list : List Triple) → IsInductive kind list → fault_of kind list ≡ None }
 {}
 
-/// `Triple::covers` answers that a triple covers another just where it does:
-/// their states are the same, and each event that the one leaves out is left
-/// out by the other.
+/// The test `covers` is true just where a triple covers another: their states
+/// are the same, and each event that the one leaves out is left out by the
+/// other.
 pub fn covers_is_cover()
     ensures { (a b : Triple) → IsTrue (covers a b) ↔ Covers a b }
 {}

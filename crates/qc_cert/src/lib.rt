@@ -4,14 +4,20 @@
 //! the history that has what its invocation depends on, is as legal as one
 //! computed from the whole. A certificate is a list of triples that shows a
 //! relation exact by rules that are checked state by state.
+//!
+//! 1. A list that is accepted is inductive, and its type's relation is exact.
+//! 2. A list that isn't inductive is refused with its first fault, and only
+//!    want of memory refuses another.
+//!
+//! `qc_accept` checks each declared type's certificate; the laws on replies
+//! rest on exactness.
 #![tactic(auto)]
 
 mod fault;
 mod groups;
 mod laws;
+mod limits;
 mod rules;
-#[cfg(test)]
-mod tests;
 mod triple;
 
 pub use fault::CertFault;
@@ -19,5 +25,6 @@ pub use laws::{
     closed_sets_are_covered, covers_is_cover, inductive_lists_have_no_fault,
     inductive_lists_make_relations_exact, no_fault_is_inductive,
 };
+pub use limits::{MOST_TRIPLES, limit_of_triples_is_as_defined};
 pub use rules::check;
 pub use triple::Triple;

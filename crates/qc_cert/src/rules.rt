@@ -1,12 +1,15 @@
 //! The rules that make a list of triples a certificate.
 
 ghost use Rattle.std.specs.Prelude.{◌≡◌, ◌≤◌, ◌<◌, ◌↔◌, All, None, IfErr, OnOk, IsBitSet, IsTrue, length};
-ghost use Rattle.qc_cert.specs.Faults.{IsTold, fault_of, inv_fault, left_out_fault, taken_fault, triple_fault, triples_fault, unequal_fault, unless_covered};
+ghost use Rattle.qc_cert.specs.Faults.{IsTold, fault_of, inv_fault, left_out_fault, taken_fault};
+ghost use Rattle.qc_cert.specs.Faults.{triple_fault, triples_fault, unequal_fault, unless_covered};
 ghost use Rattle.qc_cert.specs.Inductive.{IsInductive};
 ghost use Rattle.qc_cert.specs.Views.{inv_of, IsExact};
 ghost use Rattle.qc_cert.specs.declared.triple.Triple.{Triple};
-ghost use Rattle.qc_table.specs.First.{first_below};
+ghost use Rattle.qc_list.specs.Search.{first_below};
 ghost use Rattle.qc_table.specs.Rules.{events_of};
+ghost use Rattle.qc_table.specs.Limits.{most_events, most_responses};
+ghost use Rattle.qc_cert.specs.Limits.{most_triples};
 
 use crate::fault::CertFault;
 use crate::groups::Grouped;
@@ -26,8 +29,9 @@ use std::alloc::Global;
 /// accepted shows that the type's relation is exact. The walk takes up to
 /// 4 MB beside the list.
 pub fn check(alloc: Global, kind: &Kind, list: &[Triple]) -> Result<(), CertFault>
-    requires few { length list.now ≤ 65536 }
-    requires states { All (λ (t : Triple). (t.view < kind.now.table.states) × (t.log < kind.now.table.states)) list.now }
+    requires few { length list.now ≤ most_triples }
+    requires states { All (λ (t : Triple).
+        (t.view < kind.now.table.states) × (t.log < kind.now.table.states)) list.now }
     ensures ok { OnOk result (fault_of kind.now list.now ≡ None) }
     ensures err { IfErr result (λ e. IsTold e (fault_of kind.now list.now)) }
     ensures inductive { OnOk result (IsInductive kind.now list.now) }
@@ -43,7 +47,7 @@ pub fn check(alloc: Global, kind: &Kind, list: &[Triple]) -> Result<(), CertFaul
 
 /// The first fault of a list.
 fn first_fault(kind: &Kind, triples: &Grouped) -> Option<CertFault>
-    requires { length triples.now ≤ 65536 }
+    requires { length triples.now ≤ most_triples }
     ensures { result ≡ fault_of kind.now triples.now }
 {
     let start = kind.table.start();
@@ -71,7 +75,7 @@ fn unless_covered(triples: &Grouped, fault: CertFault, triple: &Triple) -> Optio
 
 /// The first fault of the triples.
 fn of_triples(kind: &Kind, triples: &Grouped) -> Option<CertFault>
-    requires { length triples.now ≤ 65536 }
+    requires { length triples.now ≤ most_triples }
     ensures { result ≡ triples_fault kind.now triples.now 0 triples.now }
 {
     for (place, triple) in triples.list().iter().enumerate() {
@@ -95,7 +99,8 @@ fn of_triple(kind: &Kind, triples: &Grouped, place: u32, triple: &Triple) -> Opt
 
 /// The first fault of a triple's events left out.
 fn of_left_out(kind: &Kind, triples: &Grouped, place: u32, triple: &Triple) -> Option<CertFault>
-    ensures { result ≡ first_below (length (events_of kind.now.table.rows)) (left_out_fault kind.now triples.now place triple.now) }
+    ensures { result ≡ first_below (length (events_of kind.now.table.rows))
+        (left_out_fault kind.now triples.now place triple.now) }
 {
     let events = kind.table.events().len();
     for event in 0..events {
@@ -115,7 +120,7 @@ fn left_out(
     triple: &Triple,
     event: u8,
 ) -> Option<CertFault>
-    requires { event < 64 }
+    requires { event < most_events }
     ensures { result ≡ left_out_fault kind.now triples.now place triple.now event }
 {
     let log = kind.table.step(triple.log, event)?;
@@ -184,7 +189,7 @@ fn of_responses(kind: &Kind, place: u32, triple: &Triple, inv: u8) -> Option<Cer
 
 /// Whether a response is among these.
 fn has(responses: u32, resp: u8) -> bool
-    requires { resp < 32 }
+    requires { resp < most_responses }
     ensures { IsTrue result ↔ IsBitSet responses resp }
 {
     responses & 1 << resp != 0
@@ -199,7 +204,8 @@ fn of_taken(
     triple: &Triple,
     inv: u8,
 ) -> Option<CertFault>
-    ensures { result ≡ first_below (length (events_of kind.now.table.rows)) (taken_fault kind.now triples.now place triple.now inv) }
+    ensures { result ≡ first_below (length (events_of kind.now.table.rows))
+        (taken_fault kind.now triples.now place triple.now inv) }
 {
     let events = kind.table.events().len();
     for event in 0..events {

@@ -45,8 +45,9 @@ use Rattle.qc_script.specs.Asked.{AsksOnly}
 use Rattle.qc_onecopy.specs.Committed.{AreApart}
 use Rattle.qc_core.specs.Atomic.{AreTold, Atomic, HasBefore}
 use Rattle.qc_core.specs.Bounds.{front_at, site_at}
-use Rattle.qc_onecopy.specs.Lists.{In}
 use Rattle.qc_core.specs.Committed.{commit_by, commit_in, written}
+use Rattle.qc_list.specs.Members.{In}
+use Rattle.qc_list.proofs.Members.{every-append, every-In}
 use Rattle.qc_core.specs.Conduct.{IsLawful, IsRun}
 use Rattle.qc_core.specs.Deals.{deal, dealing, deals, endings, no_dealing}
 use Rattle.qc_core.specs.Kept.{Kept}
@@ -55,7 +56,6 @@ use Rattle.qc_core.specs.Seen.{no_sight, seen, sight}
 use Rattle.qc_core.proofs.ActsGrow.{acts-other, acts-phase, acts-posted, acts-taken}
 use Rattle.qc_core.proofs.Fronts.{runs}
 use Rattle.qc_core.proofs.Ledger.{IsDead, IsEnd, rising_apart}
-use Rattle.qc_core.proofs.Members.{every-append, every-in}
 use Rattle.qc_core.proofs.OrderLaw.{Law, law}
 use Rattle.qc_core.proofs.ObjectTypes.{Fits, accepted_fits}
 use Rattle.qc_core.proofs.Others.{NoOthers, all_to, asked_alone, first_apart, never_ready, none_to, second_apart, still_quiet}
@@ -483,12 +483,12 @@ atomic_of decl h fair unseen = record {
   told = subst (λ (cs : List Commit). AreTold (single decl) cs h) (sym fair.sorted)
       (record {
         committed = λ k tx stamp l m.
-            every-in (IsEnd (written (single decl) h) fair.last tx) (replies.Committed stamp) _ (fair.ends tx) (told_first decl h k tx (replies.Committed stamp) unseen m);
+            every-In (IsEnd (written (single decl) h) fair.last tx) (replies.Committed stamp) _ (fair.ends tx) (told_first decl h k tx (replies.Committed stamp) unseen m);
         aborted = λ k tx why c l m.
-            let dead : IsDead (written (single decl) h) fair.last tx = every-in (IsEnd (written (single decl) h) fair.last tx) (replies.Aborted why) _ (fair.ends tx) (told_first decl h k tx (replies.Aborted why) unseen m) in
+            let dead : IsDead (written (single decl) h) fair.last tx = every-In (IsEnd (written (single decl) h) fair.last tx) (replies.Aborted why) _ (fair.ends tx) (told_first decl h k tx (replies.Aborted why) unseen m) in
             dead.apart c;
         dropped = λ k tx c l m.
-            let dead : IsDead (written (single decl) h) fair.last tx = every-in (IsEnd (written (single decl) h) fair.last tx) replies.Dropped _ (fair.ends tx) (told_first decl h k tx replies.Dropped unseen m) in
+            let dead : IsDead (written (single decl) h) fair.last tx = every-In (IsEnd (written (single decl) h) fair.last tx) replies.Dropped _ (fair.ends tx) (told_first decl h k tx replies.Dropped unseen m) in
             dead.apart c;
         each = λ c m. subst (λ (k : ℕ). In (replies.Committed c.stamp) (endings (single decl) h k c.tx)) (sym (fair.client c m)) (fair.each c m);
       });

@@ -13,9 +13,10 @@ use Rattle.qc_entry.specs.declared.line.Line.{Line}
 use Rattle.qc_entry.specs.declared.line.Op.{Op}
 use Rattle.qc_entry.specs.declared.line.OwnLine.{OwnLine}
 use Rattle.qc_entry.specs.Line.{IsAscending}
-use Rattle.qc_entry.specs.Log.{In as LineIn, of_object, union}
-use Rattle.qc_entry.proofs.Members.{filter-union, kept, passed, union-absorbs, was_in}
-use Rattle.qc_entry.proofs.Parts.{ascending-of_object}
+use Rattle.qc_entry.specs.Log.{of_object, union}
+use Rattle.qc_list.specs.Members.{In as LineIn}
+use Rattle.qc_list.proofs.Members.{In-filter, In-passes, In-unfiltered, every-append, every-weaker}
+use Rattle.qc_entry.proofs.Members.{ascending-of_object, filter-union, union-absorbs}
 use Rattle.qc_entry.proofs.Union.{ascending-union, union-nil}
 use Rattle.qc_front.specs.declared.begun.Begun.{Begun}
 use Rattle.qc_front.specs.Operation.{joined, op_of, with_event, with_op}
@@ -34,7 +35,6 @@ use Rattle.qc_onecopy.specs.Logged.{IsOperation, event_at}
 use Rattle.qc_onecopy.specs.OneCopy.{start_at, step_at, updated}
 use Rattle.qc_core.proofs.Faithful.{IsRead, faithful, same_next}
 use Rattle.qc_core.proofs.Histories.{IsFree, IsUnread, reach_events, unread_events}
-use Rattle.qc_core.proofs.Members.{every-append, every-weaker}
 use Rattle.qc_core.proofs.ObjectTypes.{Fits, IsTyped, asks, inv_within, table_is, typed_or_not, weighted}
 use Rattle.qc_core.proofs.Own.{IsSorted, sorted-more}
 use Rattle.qc_core.proofs.Views.{Owns, answer_numbered, line_events as own_line_events, owns-absent, owns-event}
@@ -93,9 +93,6 @@ Answers decl after object inv (Some e) = IsAnswer decl after object inv e
 some_next : (o : Option ℕ) → is_some o ≡ true → (next : ℕ) × (o ≡ Some next)
 some_next None is = absurd (let never : ⊥ = cc in never)
 some_next (Some next) is = (next, refl)
-
-no_more : (o : Option ℕ) → o ≡ None → is_some o ≡ false
-no_more o is = ap is_some is
 
 -- on an object of a type
 module _ (decl : Declaration) (fits : Fits decl) (committed : List Op) (before : ℕ → ℕ) (log : List Line) (b : Begun) (d : Doing decl before log b) (follows : Follows decl committed before log)
@@ -251,7 +248,7 @@ of_another (l ∷ ls) object other apart = by (l.object == object) refl (of_anot
 
 -- the log has these lines already
 pub absorbed : (log : List Line) (object : ℕ) → IsAscending log → union log (of_object log object) ≡ log
-absorbed log object up = union-absorbs log (of_object log object) up (ascending-of_object log object up) (λ l member. was_in (λ (x : Line). x.object == object) l log member)
+absorbed log object up = union-absorbs log (of_object log object) up (ascending-of_object log object up) (λ l member. In-unfiltered (λ (x : Line). x.object == object) l log member)
 
 -- the view adds nothing to the log
 pub view_absorbed : (decl : Declaration) (before : ℕ → ℕ) (log : List Line) (b : Begun) → Doing decl before log b → IsAscending log → (object : ℕ) → union log (of_object b.view object) ≡ log
@@ -274,9 +271,9 @@ module _ (decl : Declaration) (before : ℕ → ℕ) (log : List Line) (b : Begu
     where
       among : (l : Line) → LineIn l (of_object (of_object log object) other) → LineIn l (of_object log other)
       among l member =
-          let m : LineIn l (of_object log object) = was_in (λ (x : Line). x.object == other) l (of_object log object) member in
-          let on : (l.object == other) ≡ true = passed (λ (x : Line). x.object == other) l (of_object log object) member in
-          kept (λ (x : Line). x.object == other) l log (was_in (λ (x : Line). x.object == object) l log m) on
+          let m : LineIn l (of_object log object) = In-unfiltered (λ (x : Line). x.object == other) l (of_object log object) member in
+          let on : (l.object == other) ≡ true = In-passes (λ (x : Line). x.object == other) l (of_object log object) member in
+          In-filter (λ (x : Line). x.object == other) l log (In-unfiltered (λ (x : Line). x.object == object) l log m) on
 
   gained : (other : ℕ) → of_object b.view other ≡ [] → of_object (union b.view (of_object log object)) other ≡ of_object (of_object log object) other
   gained other none = parts other ∙ ap (λ (v : List Line). union v (of_object (of_object log object) other)) none

@@ -28,11 +28,11 @@ use Rattle.qc_msg.specs.declared.step.Command.TheVariants as commands
 use Rattle.qc_msg.specs.declared.step.Reply.{Reply}
 use Rattle.qc_msg.specs.declared.step.Reply.TheVariants as replies
 use Rattle.qc_msg.specs.declared.step.Why.TheVariants.{Forgot}
-use Rattle.qc_msg.specs.Lives.{first_life}
+use Rattle.qc_stamp.specs.Lives.{first_life}
+use Rattle.qc_stamp.proofs.Orders.{same_tx_itself}
 use Rattle.qc_onecopy.specs.Logged.{event_at}
 use Rattle.qc_core.proofs.Views.{Owns, answer_first, answer_none, answer_numbered, owns-absent, owns-event}
 use Rattle.qc_core.specs.Deals.{is_begun, operation}
-use Rattle.qc_site.proofs.Entries.{same_self}
 use Rattle.qc_stamp.specs.declared.stamp.TxId.{TxId}
 use Rattle.qc_core.specs.Due.{Account, Calls, IsCommitted, IsDue, IsPromise, NeedsBegun, Takes, Tells, Writes, account_at, is_on, is_to_execute, rounds}
 use Rattle.qc_core.proofs.Accounts.{Agrees, IsPromising, Matches, Serves, Telling, both_by, tells_by}
@@ -85,7 +85,7 @@ module _ (decl : Declaration) (client : ℕ) where
 
   -- the begun transaction is the account's
   names_it : (d : Account) (f : Front) (b : Begun) → Of d f (Some b) → is_begun b.tx d.begun ≡ true
-  names_it d f b k = subst (λ (o : Option TxId). is_begun b.tx o ≡ true) (sym k.begun_is) (same_self b.tx)
+  names_it d f b k = subst (λ (o : Option TxId). is_begun b.tx o ≡ true) (sym k.begun_is) (same_tx_itself b.tx)
 
   absent_tells : (d : Account) (f : Front) (b : Begun) (object inv : ℕ) → Of d f (Some b) → Executes d object inv → answer_of decl b object inv ≡ None → rounds (read_need_of decl first_epoch object inv) ≤ d.reads
       → Telling decl client d (absent f b object inv)

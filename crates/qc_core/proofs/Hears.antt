@@ -20,7 +20,7 @@ use Rattle.qc_msg.specs.declared.message.Message.{Message}
 use Rattle.qc_msg.specs.declared.message.Message.TheVariants.{Granted, Stale, Yes}
 use Rattle.qc_msg.specs.declared.step.Reply.TheVariants.{Aborted}
 use Rattle.qc_msg.specs.declared.step.Why.TheVariants.{Forgot}
-use Rattle.qc_msg.specs.Lives.{first_life}
+use Rattle.qc_stamp.specs.Lives.{first_life}
 use Rattle.qc_site.specs.Site.{SiteState}
 use Rattle.qc_core.specs.Acts.{Takes}
 use Rattle.qc_core.specs.Deals.{Dealing}

@@ -9,10 +9,11 @@ use Rattle.qc_entry.specs.declared.record.Prepared.{Prepared}
 use Rattle.qc_msg.specs.declared.message.Message.TheVariants.{Stale, Yes}
 use Rattle.qc_site.specs.declared.held.Held.{Held}
 use Rattle.qc_site.specs.Conduct.{is_prepared, most_body, prepare_length, prepared_of, prepares, promise_of, promises, without_prepared}
-use Rattle.qc_site.specs.Held.{held_of, holding_lock, holding_owns, is_held, same_tx, with_entry, with_lock, with_owns, without_held}
+use Rattle.qc_site.specs.Held.{held_of, holding_lock, holding_owns, is_held, with_entry, with_lock, with_owns, without_held}
+use Rattle.qc_stamp.specs.Order.{same_tx}
+use Rattle.qc_stamp.proofs.Orders.{same_tx_itself}
+use Rattle.qc_list.specs.Members.{In}
 use Rattle.qc_site.specs.Site.{SiteMove, SiteState, answer, moved}
-use Rattle.qc_site.proofs.Entries.{same_self}
-use Rattle.qc_onecopy.specs.Lists.{In}
 use Rattle.qc_core.proofs.Own.{IsSorted, with_owns-more}
 
 abbrev pub entry : TxId → List ReadLock → List OwnLine → Held
@@ -25,11 +26,11 @@ HoldsBy false held tx own = (held ≡ []) × (own ≡ [])
 
 -- what the transaction holds
 held_is : (tx : TxId) (locks : List ReadLock) (own : List OwnLine) → held_of (entry tx locks own ∷ []) tx ≡ entry tx locks own
-held_is tx locks own = rw (same_self tx) refl
+held_is tx locks own = rw (same_tx_itself tx) refl
 
 put_is : (tx : TxId) (locks : List ReadLock) (own : List OwnLine) (e : Held) → e.tx ≡ tx → with_entry (entry tx locks own ∷ []) e ≡ e ∷ []
 put_is tx locks own e same =
-    ap (λ (t : Bool). cond t (e ∷ []) (entry tx locks own ∷ e ∷ [])) (subst (λ (u : TxId). same_tx tx u ≡ true) (sym same) (same_self tx))
+    ap (λ (t : Bool). cond t (e ∷ []) (entry tx locks own ∷ e ∷ [])) (subst (λ (u : TxId). same_tx tx u ≡ true) (sym same) (same_tx_itself tx))
 
 pub hold_lock : (asked : Bool) (held : List Held) (tx : TxId) (own : List OwnLine) (lock : ReadLock) → HoldsBy asked held tx own → HoldsBy true (holding_lock held tx lock) tx own
 hold_lock true held tx own lock holds = (
@@ -74,7 +75,7 @@ hold_owns false held tx own others y sorted among holds = (
 
 -- a decision frees what is held
 pub freed : (held : List Held) (tx : TxId) (own : List OwnLine) → HoldsBy true held tx own → without_held held tx ≡ []
-freed held tx own holds = ap (λ (h : List Held). without_held h tx) holds.1 ∙ ap (λ (t : Bool). cond (not t) (entry tx holds.0 own ∷ []) []) (same_self tx)
+freed held tx own holds = ap (λ (h : List Held). without_held h tx) holds.1 ∙ ap (λ (t : Bool). cond (not t) (entry tx holds.0 own ∷ []) []) (same_tx_itself tx)
 
 -- the one promise is of the transaction's own lines
 abbrev pub IsPromised : List Prepared → TxId → List OwnLine → Type 0
@@ -83,13 +84,13 @@ IsPromised prepared tx own = (p : Prepared) × (prepared ≡ p ∷ []) × (p.tx 
 pub promise_found : (prepared : List Prepared) (tx : TxId) (own : List OwnLine) (is : IsPromised prepared tx own) → prepared_of prepared tx ≡ Some is.0
 promise_found prepared tx own is =
     ap (λ (ps : List Prepared). prepared_of ps tx) is.1
-    ∙ ap (λ (t : Bool). cond t (Some is.0) None) (subst (λ (u : TxId). same_tx u tx ≡ true) (sym is.2) (same_self tx))
+    ∙ ap (λ (t : Bool). cond t (Some is.0) None) (subst (λ (u : TxId). same_tx u tx ≡ true) (sym is.2) (same_tx_itself tx))
 
 pub unpromised : (prepared : List Prepared) (tx : TxId) (own : List OwnLine) → (prepared ≡ []) ⊎ IsPromised prepared tx own → without_prepared prepared tx ≡ []
 unpromised prepared tx own (inl none) = ap (λ (ps : List Prepared). without_prepared ps tx) none
 unpromised prepared tx own (inr is) =
     ap (λ (ps : List Prepared). without_prepared ps tx) is.1
-    ∙ ap (λ (t : Bool). cond (not t) (is.0 ∷ []) []) (subst (λ (u : TxId). same_tx u tx ≡ true) (sym is.2) (same_self tx))
+    ∙ ap (λ (t : Bool). cond (not t) (is.0 ∷ []) []) (subst (λ (u : TxId). same_tx u tx ≡ true) (sym is.2) (same_tx_itself tx))
 
 -- how the site answers a Prepare: it promises the own lines, or it doesn't promise
 

@@ -8,21 +8,20 @@ use Rattle.std.proofs.lemmas.List.{append-nil}
 use Rattle.std.proofs.lemmas.List.Sums.{fold-append}
 use Rattle.qc_stamp.specs.declared.stamp.Stamp.{Stamp}
 use Rattle.qc_stamp.specs.declared.stamp.TxId.{TxId}
-use Rattle.qc_stamp.specs.Order.{stamp_cmp}
+use Rattle.qc_stamp.specs.Order.{stamp_cmp, same_tx}
 use Rattle.qc_entry.specs.declared.line.Op.{Op}
 use Rattle.qc_entry.specs.declared.record.Commit.{Commit}
 use Rattle.qc_msg.specs.declared.step.Command.{Command}
 use Rattle.qc_msg.specs.declared.step.Reply.{Reply}
 use Rattle.qc_msg.specs.declared.step.Reply.TheVariants.{Already, Began, NoTransaction, TooLong, Absent, Response, Aborted, Committed, Dropped}
-use Rattle.qc_site.specs.Held.{same_tx}
-use Rattle.qc_site.proofs.Entries.{same_self, tx_apart}
+use Rattle.qc_stamp.proofs.Orders.{same_tx_itself, same_tx_is}
+use Rattle.qc_list.specs.Members.{In}
+use Rattle.qc_list.proofs.Members.{In-first, In-last, In-more, every-append, every-In, every-weaker}
 use Rattle.qc_core.specs.Acts.{Act, Calls}
 use Rattle.qc_onecopy.specs.Committed.{AreApart}
 use Rattle.qc_core.specs.Atomic.{HasCommit}
-use Rattle.qc_onecopy.specs.Lists.{In}
 use Rattle.qc_onecopy.specs.Committed.{commit_cmp, with_commit}
 use Rattle.qc_core.specs.Deals.{Dealing, deal, dealt, ended, is_begun, operation}
-use Rattle.qc_core.proofs.Members.{In-first, In-last, In-more, every-append, every-in, every-weaker}
 
 -- the one client's transactions, by their numbers
 abbrev pub tx_of : ℕ → TxId
@@ -32,7 +31,7 @@ pub apart_by_number : (a b : TxId) → (a.number ≡ b.number → ⊥) → same_
 apart_by_number a b apart = by (same_tx a b) refl
   where
     by : (t : Bool) → same_tx a b ≡ t → same_tx a b ≡ false
-    by true is = absurd (apart (ap (λ (t : TxId). t.number) (tx_apart a b is)))
+    by true is = absurd (apart (ap (λ (t : TxId). t.number) (same_tx_is a b is)))
     by false is = is
 
 -- records in order
@@ -98,8 +97,8 @@ stamps-more cs clock last d k n s below later next le le' =
 compared : (cs : List Commit) (c d : Commit) → IsRising cs → In c cs → In d cs → (c ≡ d) ⊎ (IsEarlier c d ⊎ IsEarlier d c)
 compared [] c d rising first second = absurd first
 compared (x ∷ cs) c d rising (inl a) (inl b) = inl (a ∙ sym b)
-compared (x ∷ cs) c d rising (inl a) (inr second) = inr (inl (subst (λ (v : Commit). IsEarlier v d) (sym a) (every-in (IsEarlier x) d cs rising.0 second)))
-compared (x ∷ cs) c d rising (inr first) (inl b) = inr (inr (subst (λ (v : Commit). IsEarlier v c) (sym b) (every-in (IsEarlier x) c cs rising.0 first)))
+compared (x ∷ cs) c d rising (inl a) (inr second) = inr (inl (subst (λ (v : Commit). IsEarlier v d) (sym a) (every-In (IsEarlier x) d cs rising.0 second)))
+compared (x ∷ cs) c d rising (inr first) (inl b) = inr (inr (subst (λ (v : Commit). IsEarlier v c) (sym b) (every-In (IsEarlier x) c cs rising.0 first)))
 compared (x ∷ cs) c d rising (inr first) (inr second) = compared cs c d rising.1 first second
 
 pub rising_apart : (cs : List Commit) → IsRising cs → AreApart cs
@@ -126,7 +125,7 @@ IsNow last count (Some tx) = (tx ≡ tx_of count) × (last < count)
 -- no record is of the begun transaction
 pub not_now : (cs : List Commit) (clock last count : ℕ) (tx : TxId) (c : Commit) → Stamps cs clock last → IsNow last count (Some tx) → In c cs → same_tx tx c.tx ≡ false
 not_now cs clock last count tx c s now member =
-    let n : c.tx.number ≤ last = (every-in (IsBelow clock last) c cs s.below member).number in
+    let n : c.tx.number ≤ last = (every-In (IsBelow clock last) c cs s.below member).number in
     let m : tx.number ≡ count = ap (λ (t : TxId). t.number) now.0 in
     let l : last < count = now.1 in
     apart_by_number tx c.tx (λ e. omega arith)
@@ -177,7 +176,7 @@ module _ (cs : List Commit) (clock last count : ℕ) (t : TxId) (ops : List Op) 
   own_ops : (resp : Option ℕ) (op : Op) → ((tx : TxId) → operation (dl tx).asked resp ≡ op ∷ []) → (dealt t (dl t) resp).ops ≡ ops ++ op ∷ []
   own_ops resp op asked =
       ap (λ (v : Option TxId). (dl t).ops ++ cond (is_begun t v) (operation (dl t).asked resp) []) (b.begun t)
-      ∙ ap (λ (v : Bool). (dl t).ops ++ cond v (operation (dl t).asked resp) []) (same_self t)
+      ∙ ap (λ (v : Bool). (dl t).ops ++ cond v (operation (dl t).asked resp) []) (same_tx_itself t)
       ∙ ap (λ (v : List Op). v ++ operation (dl t).asked resp) (b.dealing t refl)
       ∙ ap (λ (v : List Op). ops ++ v) (asked t)
 
@@ -216,7 +215,7 @@ module _ (cs : List Commit) (clock last count : ℕ) (t : TxId) (ops : List Op) 
   own_end : (reply : Reply) → In reply (ended t (dl t) reply).ends
   own_end reply =
       subst (λ (v : Option TxId). In reply ((dl t).ends ++ cond (is_begun t v) (reply ∷ []) [])) (sym (b.begun t))
-      (subst (λ (v : Bool). In reply ((dl t).ends ++ cond v (reply ∷ []) [])) (sym (same_self t)) (In-last reply (dl t).ends))
+      (subst (λ (v : Bool). In reply ((dl t).ends ++ cond v (reply ∷ []) [])) (sym (same_tx_itself t)) (In-last reply (dl t).ends))
 
   -- without a record
   gone : IsDead cs count t
@@ -224,7 +223,7 @@ module _ (cs : List Commit) (clock last count : ℕ) (t : TxId) (ops : List Op) 
     number = let m : t.number ≡ count = ap (λ (x : TxId). x.number) now.0 in omega arith;
     apart = λ c member same.
         let no : same_tx t c.tx ≡ false = not_now cs clock last count t c s now member in
-        let yes : same_tx t c.tx ≡ true = subst (λ (v : TxId). same_tx t v ≡ true) (sym same) (same_self t) in
+        let yes : same_tx t c.tx ≡ true = subst (λ (v : TxId). same_tx t v ≡ true) (sym same) (same_tx_itself t) in
         let never : ⊥ = cc in never;
   }
 
@@ -250,7 +249,7 @@ module _ (cs : List Commit) (clock last count : ℕ) (t : TxId) (ops : List Op) 
     dealt = λ c m. b.dealt c m;
     each = λ c m. kept_end c.tx reply (Committed c.stamp) (b.each c m);
     ends = λ tx. more_ends tx reply (IsEnd cs count tx) (every-weaker (IsEnd cs last tx) (IsEnd cs count tx) (end-later tx) (dl tx).ends (b.ends tx))
-        (λ is. plain tx (subst (IsDead cs count) (tx_apart t tx is) gone));
+        (λ is. plain tx (subst (IsDead cs count) (same_tx_is t tx is) gone));
   }
 
   -- with a record
@@ -297,7 +296,7 @@ module _ (cs : List Commit) (clock last count : ℕ) (t : TxId) (ops : List Op) 
     each = λ c m. each_by c (In-more c (new stamp) cs m);
     ends = λ tx. more_ends tx (Committed stamp) (IsEnd (cs ++ new stamp ∷ []) count tx)
         (every-weaker (IsEnd cs last tx) (IsEnd (cs ++ new stamp ∷ []) count tx) (end-more stamp tx) (dl tx).ends (b.ends tx))
-        (λ is. record { commit = new stamp; listed = In-last (new stamp) cs; named = tx_apart t tx is; stamped = refl });
+        (λ is. record { commit = new stamp; listed = In-last (new stamp) cs; named = same_tx_is t tx is; stamped = refl });
   }
     where
       dealt_by : (c : Commit) → In c cs ⊎ (c ≡ new stamp) → (dl c.tx).ops ≡ c.ops

@@ -11,7 +11,6 @@ pub mod ServedLaw
 pub mod WholeLaw
 mod Row
 pub mod ActsGrow
-pub mod Members
 pub mod Ledger
 pub mod Sights
 pub mod ObjectTypes

@@ -42,7 +42,7 @@ use Rattle.qc_core.proofs.Doings.{Doing, IsAnswer, IsDone, doing-absent, doing-a
 use Rattle.qc_core.proofs.Histories.{events-append}
 use Rattle.qc_core.proofs.Holding.{Answers as SiteAnswers, HoldsBy, IsPromised, Promises, freed, hold_lock, hold_owns, prepare_answers, promise_found, unpromised}
 use Rattle.qc_core.proofs.Ledger.{Book, IsBelow, IsNow, Stamps, book-committed, book-dealt, stamps-le, stamps-more, tx_of}
-use Rattle.qc_core.proofs.Members.{In-first, In-last, every-append, every-in, every-weaker}
+use Rattle.qc_list.proofs.Members.{In-first, In-last, every-append, every-In, every-weaker}
 use Rattle.qc_core.proofs.ObjectTypes.{weighted}
 use Rattle.qc_core.proofs.Own.{IsSorted, every-filter, lines_of-sorted, log_more, sorted-filter, sorted-more, stamped_ascend, stamped_events, weighing, weighing_on}
 use Rattle.qc_core.proofs.Sense.{Copied, HasRead, IsLife, LifeBy, Resting, Settled, single, copied-same, messages}
@@ -307,7 +307,7 @@ module _ (decl : Declaration) (cs : List Commit) (clock last count : ℕ) (b : B
 
   below_stamp : (l : Line) → IsLogged decl cs l → l.stamp.clock < stamp.clock
   below_stamp l is =
-      let le : is.commit.stamp.clock ≤ clock = (every-in (IsBelow clock last) is.commit cs stamps.below is.listed).clock in
+      let le : is.commit.stamp.clock ≤ clock = (every-In (IsBelow clock last) is.commit cs stamps.below is.listed).clock in
       let e : l.stamp.clock ≡ is.commit.stamp.clock = ap (λ (x : Stamp). x.clock) is.stamped in
       omega arith
 

@@ -1,9 +1,7 @@
 -- An object's type, and what holds of it in an accepted declaration.
-use Rattle.std.proofs.Common.{◌≡◌, ◌<◌, ◌≤◌, ℕ, ◌+◌, ◌==◌, Bool, true, false, cond, List, [], ◌∷◌, length, Option, Some, None, ◌⊎◌, inl, inr, refl, sym, ap, subst, ◌∙◌, arith, slice_get}
-use Rattle.std.specs.Prelude.{◌||◌, IsSome, IsTrue, find, nat_le, nat_lt, option_and_then, option_map, position}
-use Rattle.std.specs.List.{list_any}
+use Rattle.std.proofs.Common.{◌≡◌, ◌<◌, ◌≤◌, ℕ, ◌+◌, Bool, true, List, [], ◌∷◌, length, Option, Some, None, ◌⊎◌, inl, inr, refl, sym, ap, subst, ◌∙◌, arith, slice_get}
+use Rattle.std.specs.Prelude.{IsSome, IsTrue, nat_lt, option_and_then, option_map}
 use Rattle.std.specs.Option.{option_map_or}
-use Rattle.std.proofs.lemmas.Bool.{and_parts, leb-false}
 use Rattle.std.proofs.lemmas.Bool.Decides.{nat_tests}
 use Rattle.qc_decl.specs.declared.declaration.Declaration.{Declaration}
 use Rattle.qc_decl.specs.Accepted.{IsAccepted, IsRight}
@@ -14,15 +12,11 @@ use Rattle.qc_plan.specs.Admitted.{IsAdmitted}
 use Rattle.qc_plan.specs.Need.{need_of}
 use Rattle.qc_plan.specs.Weights.{total}
 use Rattle.qc_table.specs.declared.kind.Kind.{Kind}
-use Rattle.qc_table.specs.declared.row.Event.{Event}
-use Rattle.qc_table.specs.declared.row.Row.{Row}
 use Rattle.qc_table.specs.Depends.{depends}
-use Rattle.qc_table.specs.Faults.{first_repeat, is_unknown, ranked}
-use Rattle.qc_table.specs.Rules.{Rules, event, event_of, events_of, same_event}
-use Rattle.qc_table.specs.Run.{is_row_of, next_in}
+use Rattle.qc_table.specs.Rules.{Rules, event, events_of}
+use Rattle.qc_table.specs.Run.{next_in}
 use Rattle.qc_table.specs.Sound.{IsSound}
-use Rattle.qc_table.proofs.Numbered.{same_is}
-use Rattle.qc_table.proofs.Places.{position_none}
+use Rattle.qc_table.proofs.Named.{allowed_within}
 
 -- the object is of this type
 pub record IsTyped (decl : Declaration) (object : ℕ) (kind : Kind) : Type 0 where
@@ -88,42 +82,6 @@ accepted_fits decl a = record {
       (good.initial_light object inv) (good.last_light object e) (good.meets object t.number kind inv e t.of t.is within numbered depending));
 }
 
--- invocations of a sound table's rows are within its count
-
-unranked : (unknown repeated : Option ℕ) (many : Bool) → ranked unknown repeated many ≡ None → unknown ≡ None
-unranked (Some row) repeated many e = absurd (let never : ⊥ = cc in never)
-unranked None repeated many e = refl
-
-known : (a b c : Bool) → (a || (b || c)) ≡ false → b ≡ false
-known false false c e = refl
-known false true c e = absurd (let never : ⊥ = cc in never)
-known true b c e = absurd (let never : ⊥ = cc in never)
-
-none_unknown : (rules : Rules) → IsSound rules → list_any (is_unknown rules.states rules.invs rules.resps) rules.rows ≡ false
-none_unknown rules sound =
-    position_none (is_unknown rules.states rules.invs rules.resps) rules.rows
-    (unranked (position (is_unknown rules.states rules.invs rules.resps) rules.rows) (first_repeat rules.rows) (nat_lt 64 (length (events_of rules.rows))) sound.faultless)
-
-row_within : (states invs resps : ℕ) (rows : List Row) (state inv resp : ℕ) → list_any (is_unknown states invs resps) rows ≡ false → IsSome (next_in rows state (event inv resp)) → inv < invs
-row_within states invs resps [] state inv resp none legal = absurd (let never : ⊥ = cc in never)
-row_within states invs resps (row ∷ rows) state inv resp none legal = at (is_unknown states invs resps row) refl none (row_within states invs resps rows state inv resp)
-  where
-    here : is_unknown states invs resps row ≡ false → is_row_of state (event inv resp) row ≡ true → inv < invs
-    here low is =
-        let same : event_of row ≡ event inv resp = same_is (event_of row) (event inv resp) (and_parts (row.state == state) (same_event (event_of row) (event inv resp)) is).1 in
-        let one : row.inv ≡ inv = ap (λ (e : Event). e.inv) same in
-        let within : row.inv < invs = leb-false invs row.inv (known (nat_le states row.state) (nat_le invs row.inv) (nat_le resps row.resp || nat_le states row.next) low) in
-        omega arith
-
-    by : is_unknown states invs resps row ≡ false → (IsSome (next_in rows state (event inv resp)) → inv < invs) → (t : Bool) → is_row_of state (event inv resp) row ≡ t
-        → IsSome (option_map (λ (r : Row). r.next) (cond t (Some row) (find (is_row_of state (event inv resp)) rows))) → inv < invs
-    by low rest true is found = here low is
-    by low rest false is found = rest found
-
-    at : (t : Bool) → is_unknown states invs resps row ≡ t → (t || list_any (is_unknown states invs resps) rows) ≡ false
-        → (list_any (is_unknown states invs resps) rows ≡ false → IsSome (next_in rows state (event inv resp)) → inv < invs) → inv < invs
-    at true low e rest = absurd (let never : ⊥ = cc in never)
-    at false low e rest = by low (rest e) (is_row_of state (event inv resp) row) refl legal
-
+-- an invocation that a sound table's rows allow is within its count
 pub inv_within : (rules : Rules) (state inv resp : ℕ) → IsSound rules → IsSome (next_in rules.rows state (event inv resp)) → inv < rules.invs
-inv_within rules state inv resp sound legal = row_within rules.states rules.invs rules.resps rules.rows state inv resp (none_unknown rules sound) legal
+inv_within rules state inv resp sound legal = (allowed_within rules state inv resp sound legal).0

@@ -14,15 +14,16 @@ use Rattle.qc_stamp.specs.declared.stamp.TxId.{TxId}
 use Rattle.qc_stamp.proofs.Orders.{stamp_order, tx_order}
 use Rattle.qc_entry.specs.declared.line.Line.{Line}
 use Rattle.qc_entry.specs.declared.line.OwnLine.{OwnLine}
-use Rattle.qc_entry.specs.Line.{IsAscending, IsBelowAll, line_cmp}
+use Rattle.qc_entry.specs.Line.{IsAscending, line_cmp}
+use Rattle.qc_list.specs.Order.{IsBelowAll}
 use Rattle.qc_entry.specs.Log.{of_object, union}
 use Rattle.qc_entry.proofs.Union.{append-union, union-after, union-nil}
 use Rattle.qc_decl.specs.declared.declaration.Declaration.{Declaration}
 use Rattle.qc_front.specs.View.{own_on, own_weighing, weighs}
 use Rattle.qc_site.specs.Conduct.{lines_of, stamped, with_stamped}
 use Rattle.qc_site.specs.Held.{with_own, with_owns}
-use Rattle.qc_onecopy.specs.Lists.{In}
-use Rattle.qc_core.proofs.Members.{every-append, every-in, every-weaker}
+use Rattle.qc_list.specs.Members.{In}
+use Rattle.qc_list.proofs.Members.{every-append, every-In, every-weaker}
 use Rattle.qc_core.proofs.ObjectTypes.{weighted}
 use Rattle.qc_core.proofs.Views.{line_events}
 
@@ -105,7 +106,7 @@ equal b = grind (arith, nat_tests)
 with_own-again : (own : List OwnLine) (o : OwnLine) → IsSorted own → In o own → with_own own o ≡ own
 with_own-again [] o sorted member = absurd member
 with_own-again (p ∷ ps) o sorted (inl same) = rw (ap (λ (x : OwnLine). nat_cmp x.op p.op) same ∙ equal p) (ap (λ (x : OwnLine). x ∷ ps) same)
-with_own-again (p ∷ ps) o sorted (inr member) = rw (greater p o (every-in (λ (x : OwnLine). p.op < x.op) o ps sorted.0 member)) (ap (λ (v : List OwnLine). p ∷ v) (with_own-again ps o sorted.1 member))
+with_own-again (p ∷ ps) o sorted (inr member) = rw (greater p o (every-In (λ (x : OwnLine). p.op < x.op) o ps sorted.0 member)) (ap (λ (v : List OwnLine). p ∷ v) (with_own-again ps o sorted.1 member))
 
 with_owns-again : (own others : List OwnLine) → IsSorted own → ((o : OwnLine) → In o others → In o own) → fold with_own own others ≡ own
 with_owns-again own [] sorted among = refl
@@ -174,7 +175,7 @@ pub stamped_ascend : (stamp : Stamp) (tx : TxId) (own : List OwnLine) → IsSort
 stamped_ascend stamp tx [] sorted = tt
 stamped_ascend stamp tx (o ∷ os) sorted = (below os sorted.0, stamped_ascend stamp tx os sorted.1)
   where
-    below : (xs : List OwnLine) → Every (λ (p : OwnLine). o.op < p.op) xs → IsBelowAll (stamped stamp tx o) (map (stamped stamp tx) xs)
+    below : (xs : List OwnLine) → Every (λ (p : OwnLine). o.op < p.op) xs → IsBelowAll line_cmp (stamped stamp tx o) (map (stamped stamp tx) xs)
     below [] every = tt
     below (x ∷ xs) every = (line_less stamp tx o x every.0, below xs every.1)
 

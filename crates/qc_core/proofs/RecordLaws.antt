@@ -5,8 +5,8 @@ use Rattle.std.specs.declared.cmp.Ordering.TheVariants.{Less}
 use Rattle.qc_stamp.specs.Order.{stamp_cmp}
 use Rattle.qc_entry.specs.declared.line.Line.{Line}
 use Rattle.qc_entry.specs.declared.record.Commit.{Commit}
-use Rattle.qc_entry.specs.Log.{In as LineIn}
-use Rattle.qc_entry.proofs.Every.{every-In, every-from_In}
+use Rattle.qc_list.specs.Members.{In as LineIn}
+use Rattle.qc_list.proofs.Members.{every-In, every-from_In, every-weaker}
 use Rattle.qc_decl.specs.declared.declaration.Declaration.{Declaration}
 use Rattle.qc_decl.specs.Accepted.{IsAccepted}
 use Rattle.qc_decl.specs.Actors.{client_actor}
@@ -24,7 +24,6 @@ use Rattle.qc_core.specs.Conduct.{IsRun}
 use Rattle.qc_onecopy.specs.Logged.{IsLogged}
 use Rattle.qc_core.proofs.AtomicLaw.{StandAt, Standing, first_alone, same_single, standing}
 use Rattle.qc_core.proofs.Ledger.{IsEarlier, IsRising, clock_less}
-use Rattle.qc_core.proofs.Members.{every-weaker}
 use Rattle.qc_core.proofs.ObjectTypes.{Fits, accepted_fits}
 use Rattle.qc_core.proofs.Others.{NoOthers}
 use Rattle.qc_core.proofs.Sense.{single, caught}

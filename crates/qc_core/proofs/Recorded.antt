@@ -15,10 +15,10 @@ use Rattle.qc_msg.specs.declared.step.Step.TheVariants.{Phase, Called, Got, Sent
 use Rattle.qc_msg.specs.Steps.{Entry, own}
 use Rattle.qc_msg.proofs.Growth.{own-append}
 use Rattle.qc_script.specs.declared.script.Script.{Script}
-use Rattle.qc_site.specs.Held.{same_tx}
-use Rattle.qc_site.proofs.Entries.{same_self}
+use Rattle.qc_stamp.specs.Order.{same_tx}
+use Rattle.qc_stamp.proofs.Orders.{same_tx_itself}
+use Rattle.qc_list.specs.Members.{In}
 use Rattle.qc_script.specs.Asked.{AsksOnly}
-use Rattle.qc_onecopy.specs.Lists.{In}
 use Rattle.qc_core.specs.Committed.{commit_by, commit_in, committed, written}
 use Rattle.qc_core.specs.Conduct.{IsRun}
 use Rattle.qc_core.specs.Order.{EachAfter}
@@ -64,7 +64,7 @@ written_here decl before e c first is client = by (is_client (single decl) e.act
     of_step (Wrote (records.Commit d)) same =
         let here : d ≡ c = cc in
         subst (λ (v : Commit). cond (same_tx v.tx c.tx) (Committed v.stamp) (status (single decl) before c.tx) ≡ Committed c.stamp) (sym here)
-        (ap (λ (t : Bool). cond t (Committed c.stamp) (status (single decl) before c.tx)) (same_self c.tx))
+        (ap (λ (t : Bool). cond t (Committed c.stamp) (status (single decl) before c.tx)) (same_tx_itself c.tx))
     of_step (Wrote (records.Prepare p)) same = absurd (let never : ⊥ = cc in never)
     of_step (Wrote (records.Done u clock)) same = absurd (let never : ⊥ = cc in never)
     of_step (Phase k) same = absurd (let never : ⊥ = cc in never)

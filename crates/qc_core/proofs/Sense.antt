@@ -23,7 +23,7 @@ use Rattle.qc_msg.specs.declared.step.Command.TheVariants.{Do}
 use Rattle.qc_msg.specs.declared.step.Posting.{Posting}
 use Rattle.qc_msg.specs.declared.step.Record.{Record}
 use Rattle.qc_msg.specs.declared.step.Record.TheVariants as records
-use Rattle.qc_msg.specs.Lives.{first_life}
+use Rattle.qc_stamp.specs.Lives.{first_life}
 use Rattle.qc_msg.specs.Mail.{addressed, envelopes, sendings}
 use Rattle.qc_site.specs.Conduct.{site_on}
 use Rattle.qc_site.specs.Site.{SiteState}

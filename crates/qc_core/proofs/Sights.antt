@@ -8,15 +8,15 @@ use Rattle.qc_entry.specs.declared.line.Op.{Op}
 use Rattle.qc_entry.specs.declared.record.Commit.{Commit}
 use Rattle.qc_msg.specs.declared.message.Message.TheVariants.{Granted, Stale, Yes}
 use Rattle.qc_msg.specs.declared.step.Reply.TheVariants.{Began, Committed}
-use Rattle.qc_site.specs.Held.{same_tx}
-use Rattle.qc_site.proofs.Entries.{same_self}
+use Rattle.qc_stamp.specs.Order.{same_tx}
+use Rattle.qc_stamp.proofs.Orders.{same_tx_itself}
+use Rattle.qc_list.specs.Members.{In}
+use Rattle.qc_list.proofs.Members.{In-first, In-last, In-more, every-append, every-In, every-weaker}
 use Rattle.qc_core.specs.Acts.{Act, Takes, Sends, Tells}
 use Rattle.qc_core.specs.Atomic.{HasBefore}
-use Rattle.qc_onecopy.specs.Lists.{In}
 use Rattle.qc_core.specs.Deals.{is_begun}
 use Rattle.qc_core.specs.Seen.{Sight, answered, begun_list, sees, sight, waits}
 use Rattle.qc_core.proofs.Ledger.{IsBelow, Stamps, apart_by_number, clock_less, tx_of}
-use Rattle.qc_core.proofs.Members.{In-first, In-last, In-more, every-append, every-in, every-weaker}
 
 -- a record of the transaction
 pub record HasRecord (commits : List Commit) (tx : TxId) : Type 0 where
@@ -99,10 +99,10 @@ vision-began cs clock last count si s le v = record {
   known = λ tx. v.known tx;
   seeing = λ tx e.
       let same : tx_of (count + 1) ≡ tx = cc in
-      let yes : same_tx (tx_of (count + 1)) tx ≡ true = subst (λ (u : TxId). same_tx (tx_of (count + 1)) u ≡ true) same (same_self (tx_of (count + 1))) in
+      let yes : same_tx (tx_of (count + 1)) tx ≡ true = subst (λ (u : TxId). same_tx (tx_of (count + 1)) u ≡ true) same (same_tx_itself (tx_of (count + 1))) in
       subst (λ (t : Bool). Every (HasRecord cs) (cond t (si tx).known (si tx).seen)) (sym yes) (v.known tx);
   seen = λ c tx m.
-      let n : c.tx.number ≤ last = (every-in (IsBelow clock last) c cs s.below m).number in
+      let n : c.tx.number ≤ last = (every-In (IsBelow clock last) c cs s.below m).number in
       let no : same_tx (tx_of (count + 1)) c.tx ≡ false = apart_by_number (tx_of (count + 1)) c.tx (λ e. omega arith) in
       subst (λ (t : Bool). In tx (cond t (si c.tx).known (si c.tx).seen) → tx ≢ c.tx → HasBefore cs tx c.stamp) (sym no) (v.seen c tx m);
 }
@@ -130,11 +130,11 @@ vision-committed cs clock last t ops stamp si s later v = record {
 
     before : (tx : TxId) → HasRecord cs tx → HasBefore (cs ++ new ∷ []) tx stamp
     before tx is =
-        let n : is.commit.stamp.clock ≤ clock = (every-in (IsBelow clock last) is.commit cs s.below is.listed).clock in
+        let n : is.commit.stamp.clock ≤ clock = (every-In (IsBelow clock last) is.commit cs s.below is.listed).clock in
         record { commit = is.commit; listed = In-first is.commit cs (new ∷ []) is.listed; named = is.named; before = clock_less is.commit.stamp stamp (omega arith) }
 
     by : (c : Commit) (tx : TxId) → In c cs ⊎ (c ≡ new) → In tx (si c.tx).seen → tx ≢ c.tx → HasBefore (cs ++ new ∷ []) tx c.stamp
     by c tx (inl member) = λ among other. before-more cs new tx c.stamp (v.seen c tx member among other)
     by c tx (inr is) =
         subst (λ (d : Commit). In tx (si d.tx).seen → tx ≢ d.tx → HasBefore (cs ++ new ∷ []) tx d.stamp) (sym is)
-        (λ among other. before tx (every-in (HasRecord cs) tx (si t).seen (v.seeing t refl) among))
+        (λ among other. before tx (every-In (HasRecord cs) tx (si t).seen (v.seeing t refl) among))

@@ -23,8 +23,9 @@ use Rattle.qc_site.specs.Conduct.{site_on}
 use Rattle.qc_site.specs.Site.{SiteMove, SiteState}
 use Rattle.qc_core.specs.Acts.{Act, Calls, Takes}
 use Rattle.qc_core.specs.Atomic.{HasBefore}
-use Rattle.qc_onecopy.specs.Lists.{In}
 use Rattle.qc_onecopy.specs.Committed.{with_commit}
+use Rattle.qc_list.specs.Members.{In}
+use Rattle.qc_list.proofs.Members.{every-append, every-In}
 use Rattle.qc_core.specs.Deals.{Dealing, deal, no_dealing}
 use Rattle.qc_onecopy.specs.Logged.{IsLogged}
 use Rattle.qc_onecopy.specs.OneCopy.{OneCopy, operations, start_at}
@@ -33,7 +34,6 @@ use Rattle.qc_core.proofs.ActsGrow.{posted_acts}
 use Rattle.qc_core.proofs.Answers.{to_sender}
 use Rattle.qc_core.proofs.Hears.{Heard, message_settles}
 use Rattle.qc_core.proofs.Ledger.{Book, IsBelow, IsEnd, IsRising, Stamps, book-called, deals_on}
-use Rattle.qc_core.proofs.Members.{every-append, every-in}
 use Rattle.qc_core.proofs.Moves.{front}
 use Rattle.qc_core.proofs.ObjectTypes.{Fits}
 use Rattle.qc_core.proofs.Sense.{Comes, Copied, Sense, Settled, after_posting, single, caught, messages, name_of, ops_of, replies, to_site, with_record}
@@ -67,7 +67,7 @@ fair_of decl cs clock last count now ops dl si log s b v c = record {
   last = last;
   rising = s.rising;
   sorted = s.sorted;
-  client = λ d m. ap (λ (t : TxId). t.client) (every-in (IsBelow clock last) d cs s.below m).named;
+  client = λ d m. ap (λ (t : TxId). t.client) (every-In (IsBelow clock last) d cs s.below m).named;
   one_copy = reach-walks decl (start_at decl) (operations cs) c.before c.follows.walked;
   dealt = b.dealt;
   seen = v.seen;

@@ -28,7 +28,7 @@ use Rattle.qc_script.specs.declared.script.Script.{Script}
 use Rattle.qc_script.specs.Ready.{phase_of}
 use Rattle.qc_script.specs.Runs.{Runs, begins, takes, posts, phase}
 use Rattle.qc_script.proofs.Found.{ready-sent}
-use Rattle.qc_site.specs.Held.{same_tx}
+use Rattle.qc_stamp.specs.Order.{same_tx}
 use Rattle.qc_core.specs.Bounds.{front_at}
 use Rattle.qc_core.specs.Conduct.{IsLawful, IsRun}
 use Rattle.qc_core.specs.Order.{EachAfter}

@@ -28,8 +28,8 @@ use Rattle.qc_msg.specs.declared.step.Step.{Step}
 use Rattle.qc_msg.specs.declared.step.Why.{Why}
 use Rattle.qc_msg.specs.declared.step.Why.TheVariants.{Forgot}
 use Rattle.qc_msg.specs.Steps.{posted}
-use Rattle.qc_site.specs.Held.{same_tx}
-use Rattle.qc_site.proofs.Entries.{same_self, tx_apart}
+use Rattle.qc_stamp.specs.Order.{same_tx}
+use Rattle.qc_stamp.proofs.Orders.{same_tx_itself, same_tx_is}
 use Rattle.qc_core.specs.Status.{Status, Unborn, Begun as IsBegun, Committed, Dead, IsRight, given_up, status_at}
 use Rattle.qc_core.proofs.Ledger.{apart_by_number}
 use Rattle.qc_core.proofs.Sense.{name_of}
@@ -70,13 +70,13 @@ module _ (decl : Declaration) (st : TxId → Status) where
   begins_goes : (f : Front) (b : Option Begun) → f.begun ≡ b → Known st f.client f.count (name_of f.begun) → Goes st (begins f b)
   begins_goes f (Some b) is k = record { right = λ n tx. (tt, tt); known = λ n. k }
   begins_goes f None is k = record {
-    right = λ n tx. ((λ same. subst (λ (u : TxId). st u ≡ Unborn) (tx_apart (next_tx f) tx same) (k.unborn (f.count + 1) (omega arith))), tt);
+    right = λ n tx. ((λ same. subst (λ (u : TxId). st u ≡ Unborn) (same_tx_is (next_tx f) tx same) (k.unborn (f.count + 1) (omega arith))), tt);
     known = λ n.
         record {
           unborn = λ j l. ap (λ (t : Bool). cond t IsBegun (st (tx_at f.client j))) (apart_by_number (next_tx f) (tx_at f.client j) (λ e. omega arith)) ∙ k.unborn j (omega arith);
           begun = λ tx e.
               let same : next_tx f ≡ tx = cc in
-              subst (λ (u : TxId). cond (same_tx (next_tx f) u) IsBegun (st u) ≡ IsBegun) same (ap (λ (t : Bool). cond t IsBegun (st (next_tx f))) (same_self (next_tx f)));
+              subst (λ (u : TxId). cond (same_tx (next_tx f) u) IsBegun (st u) ≡ IsBegun) same (ap (λ (t : Bool). cond t IsBegun (st (next_tx f))) (same_tx_itself (next_tx f)));
           named = λ tx e. let same : next_tx f ≡ tx = cc in sym same;
         };
   }
@@ -101,7 +101,7 @@ module _ (decl : Declaration) (st : TxId → Status) where
       apart_by_number b.tx (tx_at f.client j) (λ same. omega arith)
 
   is_begun : (f : Front) (b : Begun) → Known st f.client f.count (Some b.tx) → (tx : TxId) → same_tx b.tx tx ≡ true → st tx ≡ IsBegun
-  is_begun f b k tx same = subst (λ (u : TxId). st u ≡ IsBegun) (tx_apart b.tx tx same) (k.begun b.tx refl)
+  is_begun f b k tx same = subst (λ (u : TxId). st u ≡ IsBegun) (same_tx_is b.tx tx same) (k.begun b.tx refl)
 
   -- it commits
 

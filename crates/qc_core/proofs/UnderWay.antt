@@ -76,11 +76,11 @@ same_served decl a m n o p sb sc b c so sp t u em eo esb eb eso et is =
 
 -- the client takes an input
 
-idle_of : (round : Round) → runs round ≡ true → is_idle round ≡ false
-idle_of Idle running = absurd (let never : ⊥ = cc in never)
-idle_of (Reading object inv) running = refl
-idle_of (Appending object inv event) running = refl
-idle_of Voting running = refl
+not_idle : (round : Round) → runs round ≡ true → is_idle round ≡ false
+not_idle Idle running = absurd (let never : ⊥ = cc in never)
+not_idle (Reading object inv) running = refl
+not_idle (Appending object inv event) running = refl
+not_idle Voting running = refl
 
 idle_round : (round : Round) → runs round ≡ false → round ≡ Idle
 idle_round Idle idle = refl
@@ -91,7 +91,7 @@ idle_round Voting idle = absurd (let never : ⊥ = cc in never)
 -- its command goes on
 went_on : (decl : Declaration) (a : ℕ) (m : FrontMove) (site_box box : List Envelope) (site_open : Option Bool) (site_turn : Turn) → GoesOn decl m → IsServed decl m a (Some true) site_box box site_open site_turn
 went_on decl a m site_box box site_open site_turn goes running =
-    let asks : Asks decl m = goes.asks (idle_of m.front.round running) in
+    let asks : Asks decl m = goes.asks (not_idle m.front.round running) in
     subst (λ (v : Option ℕ). Served decl v m a (Some true) site_box box site_open site_turn) (sym asks.unnumbered) (refl, asks)
 
 pub called_served : (decl : Declaration) (a : ℕ) (front : Front) (command : Command) (site_box box : List Envelope) (site_open : Option Bool) (site_turn : Turn)

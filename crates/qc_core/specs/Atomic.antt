@@ -9,7 +9,7 @@ use Rattle.qc_decl.specs.declared.declaration.Declaration.{Declaration}
 use Rattle.qc_msg.specs.declared.step.Reply.TheVariants.{Aborted, Committed, Dropped}
 use Rattle.qc_msg.specs.declared.step.Why.{Why}
 use Rattle.qc_msg.specs.Steps.{Entry}
-use Rattle.qc_onecopy.specs.Lists.{In}
+use Rattle.qc_list.specs.Members.{In}
 use Rattle.qc_core.specs.Committed.{committed}
 use Rattle.qc_core.specs.Deals.{deals, endings}
 use Rattle.qc_onecopy.specs.Committed.{AreApart}

@@ -9,7 +9,7 @@ use Rattle.qc_msg.specs.declared.step.Command.TheVariants.{Do}
 use Rattle.qc_msg.specs.declared.step.Reply.{Reply}
 use Rattle.qc_msg.specs.declared.step.Reply.TheVariants.{Absent, Aborted, Began, Committed, Dropped, Response}
 use Rattle.qc_msg.specs.Steps.{Entry}
-use Rattle.qc_site.specs.Held.{same_tx}
+use Rattle.qc_stamp.specs.Order.{same_tx}
 use Rattle.qc_core.specs.Acts.{Act, Calls, Tells, acts}
 
 -- a client's dealings in one transaction, so far

@@ -24,7 +24,7 @@ use Rattle.qc_msg.specs.declared.step.Step.{Step}
 use Rattle.qc_msg.specs.declared.step.Step.TheVariants.{Called, Got, Wrote, Sent, Told}
 use Rattle.qc_msg.specs.declared.step.Why.{Why}
 use Rattle.qc_msg.specs.declared.step.Why.TheVariants.{Forgot}
-use Rattle.qc_msg.specs.Lives.{first_life}
+use Rattle.qc_stamp.specs.Lives.{first_life}
 use Rattle.qc_msg.specs.Mail.{envelope_of}
 use Rattle.qc_msg.specs.Steps.{Entry}
 use Rattle.qc_table.specs.Rules.{Rules}

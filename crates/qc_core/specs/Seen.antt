@@ -10,7 +10,7 @@ use Rattle.qc_msg.specs.declared.message.Message.TheVariants.{Granted, Stale, Ye
 use Rattle.qc_msg.specs.declared.step.Reply.{Reply}
 use Rattle.qc_msg.specs.declared.step.Reply.TheVariants.{Aborted, Began, Committed, Dropped}
 use Rattle.qc_msg.specs.Steps.{Entry}
-use Rattle.qc_site.specs.Held.{same_tx}
+use Rattle.qc_stamp.specs.Order.{same_tx}
 use Rattle.qc_core.specs.Acts.{Act, Sends, Takes, Tells, acts}
 use Rattle.qc_core.specs.Deals.{is_begun}
 

@@ -11,7 +11,7 @@ use Rattle.qc_msg.specs.declared.step.Reply.TheVariants as replies
 use Rattle.qc_msg.specs.declared.step.Step.{Step}
 use Rattle.qc_msg.specs.declared.step.Step.TheVariants.{Sent, Told, Wrote}
 use Rattle.qc_msg.specs.Steps.{Entry, own}
-use Rattle.qc_site.specs.Held.{same_tx}
+use Rattle.qc_stamp.specs.Order.{same_tx}
 
 pub data Status : Type 0 where
   Unborn : Status

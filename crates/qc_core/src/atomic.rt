@@ -7,7 +7,7 @@ ghost use Rattle.qc_script.specs.Asked.{AsksOnly};
 ghost use Rattle.qc_core.specs.Atomic.{Atomic};
 ghost use Rattle.qc_core.specs.Bounds.{site_at};
 ghost use Rattle.qc_core.specs.Committed.{AreRising, committed, written};
-ghost use Rattle.qc_onecopy.specs.Lists.{In};
+ghost use Rattle.qc_list.specs.Members.{In};
 ghost use Rattle.qc_core.specs.Conduct.{IsRun};
 ghost use Rattle.qc_core.specs.Kept.{Kept};
 ghost use Rattle.qc_onecopy.specs.Logged.{IsLogged};

@@ -3,5 +3,4 @@ pub mod Every
 pub mod Union
 pub mod Without
 pub mod Members
-pub mod Parts
 pub mod Walks

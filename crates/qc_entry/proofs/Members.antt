@@ -1,53 +1,26 @@
--- Ascending lists are settled by their members: filters, unions and differences.
-use Rattle.std.proofs.Common.{◌≡◌, ◌⊎◌, ◌↔◌, inl, inr, List, [], ◌∷◌, Bool, true, false, cond, refl, sym, ap, ◌∙◌, subst}
+-- Ascending lists are settled by their members: so unions commute, associate and absorb, and a filter of a union is the
+-- union of the filters. Front ends join the logs that sites send them; over several sites these come in any order.
+use Rattle.std.proofs.Common.{◌≡◌, ℕ, ◌⊎◌, inl, inr, List, [], ◌∷◌, Bool, true, refl, sym, ap, ◌∙◌, subst}
 use Rattle.std.proofs.lemmas.Cmp.{tied_itself}
 use Rattle.std.specs.List.{filter}
-use Rattle.std.specs.Ordering.{is_eq}
-use Rattle.std.specs.Prelude.{not, ◌||◌}
-use Rattle.std.specs.declared.cmp.Ordering.{Ordering}
-use Rattle.std.specs.declared.cmp.Ordering.TheVariants.{Less, Equal, Greater}
+use Rattle.std.specs.declared.cmp.Ordering.TheVariants.{Less, Equal}
 use Rattle.qc_entry.specs.declared.line.Line.{Line}
-use Rattle.qc_entry.specs.Line.{line_cmp, IsBelowAll, IsAscending}
-use Rattle.qc_entry.specs.Log.{In, union, by_order, without, has_line}
+use Rattle.qc_entry.specs.Line.{line_cmp, IsAscending}
+use Rattle.qc_list.specs.Order.{IsBelowAll}
+use Rattle.qc_entry.specs.Log.{of_object, union}
+use Rattle.qc_list.specs.Members.{In}
+use Rattle.qc_list.specs.Order.{by_order}
+use Rattle.qc_list.proofs.Members.{every-In, In-filter, In-passes, In-unfiltered}
 use Rattle.qc_entry.proofs.Orders.{line_order}
-use Rattle.qc_entry.proofs.Every.{every-In, ascending-filter}
+use Rattle.qc_list.proofs.Order.{ascends-filter}
 use Rattle.qc_entry.proofs.Union.{in_first, in_second, in_either, ascending-union}
-
--- a filter's lines are those of the list that pass the test
-pub kept : (test : Line → Bool) (l : Line) (xs : List Line) → In l xs → test l ≡ true → In l (filter test xs)
-kept test l [] member passes = absurd member
-kept test l (x ∷ xs) member passes = by (test x) refl (λ in_xs. kept test l xs in_xs passes) member where
-  by : (b : Bool) → test x ≡ b → (In l xs → In l (filter test xs)) → In l (x ∷ xs) → In l (cond b (x ∷ filter test xs) (filter test xs))
-  by true is rest (inl same) = inl same
-  by true is rest (inr in_xs) = inr (rest in_xs)
-  by false is rest (inl same) = absurd (let never : ⊥ = cc (passes, is, ap test same) in never)
-  by false is rest (inr in_xs) = rest in_xs
-
-pub was_in : (test : Line → Bool) (l : Line) (xs : List Line) → In l (filter test xs) → In l xs
-was_in test l [] member = member
-was_in test l (x ∷ xs) member = by (test x) (was_in test l xs) member where
-  by : (b : Bool) → (In l (filter test xs) → In l xs) → In l (cond b (x ∷ filter test xs) (filter test xs)) → In l (x ∷ xs)
-  by true rest (inl same) = inl same
-  by true rest (inr later) = inr (rest later)
-  by false rest later = inr (rest later)
-
-pub passed : (test : Line → Bool) (l : Line) (xs : List Line) → In l (filter test xs) → test l ≡ true
-passed test l [] member = absurd member
-passed test l (x ∷ xs) member = by (test x) refl (passed test l xs) member where
-  by : (b : Bool) → test x ≡ b → (In l (filter test xs) → test l ≡ true) → In l (cond b (x ∷ filter test xs) (filter test xs)) → test l ≡ true
-  by true is rest (inl same) = ap test same ∙ is
-  by true is rest (inr later) = rest later
-  by false is rest later = rest later
-
-pub In-filter : (test : Line → Bool) (l : Line) (xs : List Line) → In l (filter test xs) ↔ (In l xs × (test l ≡ true))
-In-filter test l xs = (λ member. (was_in test l xs member, passed test l xs member), λ both. kept test l xs both.0 both.1)
 
 -- no line is below itself
 pub not_below : (l : Line) → line_cmp l l ≡ Less → ⊥
 not_below l less = let tied : line_cmp l l ≡ Equal = tied_itself line_order.total l in let never : ⊥ = cc (less, tied) in never
 
 -- a line that is below all lines of a list is not one of them
-pub not_among : (x : Line) (xs : List Line) → IsBelowAll x xs → In x xs → ⊥
+pub not_among : (x : Line) (xs : List Line) → IsBelowAll line_cmp x xs → In x xs → ⊥
 not_among x xs low member = not_below x (every-In (λ y. line_cmp x y ≡ Less) x xs low member)
 
 first_same : (x : Line) (xs : List Line) (y : Line) (ys : List Line) → IsAscending (x ∷ xs) → IsAscending (y ∷ ys) → In x (y ∷ ys) → In y (x ∷ xs) → x ≡ y
@@ -59,7 +32,7 @@ first_same x xs y ys a b (inr here) (inr there) =
     absurd (not_below x (line_order.total.trans x y x more less))
 
 -- a line behind the first of one list is behind the first, if that is the same, of the other
-behind : (x : Line) (xs : List Line) (y : Line) (ys : List Line) → x ≡ y → IsBelowAll x xs → (l : Line) → In l xs → In l (y ∷ ys) → In l ys
+behind : (x : Line) (xs : List Line) (y : Line) (ys : List Line) → x ≡ y → IsBelowAll line_cmp x xs → (l : Line) → In l xs → In l (y ∷ ys) → In l ys
 behind x xs y ys heads low l member (inr later) = later
 behind x xs y ys heads low l member (inl same) =
     absurd (not_among x xs low (subst (λ z. In z xs) (same ∙ sym heads) member))
@@ -136,48 +109,18 @@ union-absorbs xs ys a b within =
 pub filter-union : (test : Line → Bool) (xs ys : List Line) → IsAscending xs → IsAscending ys → filter test (union xs ys) ≡ union (filter test xs) (filter test ys)
 filter-union test xs ys a b =
     ascending-same (filter test (union xs ys)) (union (filter test xs) (filter test ys))
-    (ascending-filter test (union xs ys) (ascending-union xs ys a b))
-    (ascending-union (filter test xs) (filter test ys) (ascending-filter test xs a) (ascending-filter test ys b))
-    (λ l member. in_union l (filter test xs) (filter test ys) (there l (passed test l (union xs ys) member) (in_either l xs ys (was_in test l (union xs ys) member))))
+    (ascends-filter line_cmp test (union xs ys) (ascending-union xs ys a b))
+    (ascending-union (filter test xs) (filter test ys) (ascends-filter line_cmp test xs a) (ascends-filter line_cmp test ys b))
+    (λ l member. in_union l (filter test xs) (filter test ys) (there l (In-passes test l (union xs ys) member) (in_either l xs ys (In-unfiltered test l (union xs ys) member))))
     (λ l member. back l (in_either l (filter test xs) (filter test ys) member)) where
       there : (l : Line) → test l ≡ true → In l xs ⊎ In l ys → In l (filter test xs) ⊎ In l (filter test ys)
-      there l passes (inl member) = inl (kept test l xs member passes)
-      there l passes (inr member) = inr (kept test l ys member passes)
+      there l passes (inl member) = inl (In-filter test l xs member passes)
+      there l passes (inr member) = inr (In-filter test l ys member passes)
 
       back : (l : Line) → In l (filter test xs) ⊎ In l (filter test ys) → In l (filter test (union xs ys))
-      back l (inl member) = kept test l (union xs ys) (in_first l xs ys (was_in test l xs member)) (passed test l xs member)
-      back l (inr member) = kept test l (union xs ys) (in_second l xs ys (was_in test l ys member)) (passed test l ys member)
+      back l (inl member) = In-filter test l (union xs ys) (in_first l xs ys (In-unfiltered test l xs member)) (In-passes test l xs member)
+      back l (inr member) = In-filter test l (union xs ys) (in_second l xs ys (In-unfiltered test l ys member)) (In-passes test l ys member)
 
--- the test for a member tells of members
-pub has-In : (ys : List Line) (l : Line) → In l ys → has_line ys l ≡ true
-has-In [] l member = absurd member
-has-In (y ∷ ys) l (inl same) =
-    let tied : line_cmp y l ≡ Equal = subst (λ z. line_cmp z l ≡ Equal) same (tied_itself line_order.total l) in
-    ap (λ order. is_eq order || has_line ys l) tied
-has-In (y ∷ ys) l (inr member) =
-    rw (has-In ys l member) (either (is_eq (line_cmp y l))) where
-      either : (b : Bool) → (b || true) ≡ true
-      either true = refl
-      either false = refl
-
-pub In-has : (ys : List Line) (l : Line) → has_line ys l ≡ true → In l ys
-In-has [] l has = absurd (let never : ⊥ = cc in never)
-In-has (y ∷ ys) l has = by (line_cmp y l) refl (In-has ys l) has where
-  by : (order : Ordering) → line_cmp y l ≡ order → (has_line ys l ≡ true → In l ys) → (is_eq order || has_line ys l) ≡ true → In l (y ∷ ys)
-  by Less is rest has = inr (rest has)
-  by Equal is rest has = inl (sym (line_order.apart y l is))
-  by Greater is rest has = inr (rest has)
-
--- a difference's lines are those of the first list that the second lacks
-pub In-without : (l : Line) (xs ys : List Line) → In l (without xs ys) ↔ (In l xs × ¬ In l ys)
-In-without l xs ys = (λ member. (was_in test l xs member, λ other. refused (has_line ys l) (passed test l xs member) (has-In ys l other)), λ both. kept test l xs both.0 (lacked (has_line ys l) refl both.1)) where
-  test : Line → Bool
-  test k = not (has_line ys k)
-
-  refused : (b : Bool) → not b ≡ true → b ≡ true → ⊥
-  refused true fails is = let never : ⊥ = cc in never
-  refused false fails is = let never : ⊥ = cc in never
-
-  lacked : (b : Bool) → has_line ys l ≡ b → (In l ys → ⊥) → not b ≡ true
-  lacked true is none = absurd (none (In-has ys l is))
-  lacked false is none = refl
+-- the lines of one object ascend
+pub ascending-of_object : (xs : List Line) (object : ℕ) → IsAscending xs → IsAscending (of_object xs object)
+ascending-of_object xs object ascending = ascends-filter line_cmp _ xs ascending

@@ -4,10 +4,14 @@ use Rattle.std.specs.List.{AllByRecursion as Every, slice_get}
 use Rattle.std.specs.declared.cmp.Ordering.{Ordering}
 use Rattle.std.specs.declared.cmp.Ordering.TheVariants.{Less, Equal, Greater}
 use Rattle.qc_entry.specs.declared.line.Line.{Line}
-use Rattle.qc_entry.specs.Line.{line_cmp, IsBelowAll, IsAscending}
-use Rattle.qc_entry.specs.Log.{In, IsUnion, union, union_from, by_order}
+use Rattle.qc_entry.specs.Line.{line_cmp, IsAscending}
+use Rattle.qc_list.specs.Order.{IsBelowAll}
+use Rattle.qc_entry.specs.Log.{IsUnion, union, union_from}
+use Rattle.qc_list.specs.Members.{In}
+use Rattle.qc_list.specs.Order.{by_order}
+use Rattle.qc_list.proofs.Members.{every-In, every-from_In}
 use Rattle.qc_entry.proofs.Orders.{line_order, above}
-use Rattle.qc_entry.proofs.Every.{every-In, every-from_In, below_trans}
+use Rattle.qc_list.proofs.Order.{below_trans}
 
 pub union-nil : (xs : List Line) → union xs [] ≡ xs
 union-nil [] = refl
@@ -32,17 +36,17 @@ pub every-union : (P : Line → Type 0) (xs ys : List Line) → Every P xs → E
 every-union P [] ys pxs pys = pys
 every-union P (x ∷ xs) ys pxs pys = every-union_from P x xs (union xs) (λ zs pzs. every-union P xs zs pxs.1 pzs) ys pxs.0 pxs.1 pys
 
-ascending-union_from : (x : Line) (xs : List Line) → IsBelowAll x xs → IsAscending xs → ((zs : List Line) → IsAscending zs → IsAscending (union xs zs)) → (ys : List Line) → IsAscending ys → IsAscending (union (x ∷ xs) ys)
+ascending-union_from : (x : Line) (xs : List Line) → IsBelowAll line_cmp x xs → IsAscending xs → ((zs : List Line) → IsAscending zs → IsAscending (union xs zs)) → (ys : List Line) → IsAscending ys → IsAscending (union (x ∷ xs) ys)
 ascending-union_from x xs low ascending step [] ys_ascending = (low, ascending)
 ascending-union_from x xs low ascending step (y ∷ ys) ys_ascending = by (line_cmp x y) refl (ascending-union_from x xs low ascending step ys ys_ascending.1) where
   by : (order : Ordering) → line_cmp x y ≡ order → IsAscending (union (x ∷ xs) ys) → IsAscending (by_order order (x ∷ union xs (y ∷ ys)) (x ∷ union xs ys) (y ∷ union (x ∷ xs) ys))
-  by Less is rest = (every-union (λ l. line_cmp x l ≡ Less) xs (y ∷ ys) low (is, below_trans x y ys is ys_ascending.0), step (y ∷ ys) ys_ascending)
+  by Less is rest = (every-union (λ l. line_cmp x l ≡ Less) xs (y ∷ ys) low (is, below_trans line_cmp line_order.total x y ys is ys_ascending.0), step (y ∷ ys) ys_ascending)
   by Equal is rest =
       let same : y ≡ x = sym (line_order.apart x y is) in
-      (every-union (λ l. line_cmp x l ≡ Less) xs ys low (subst (λ l. IsBelowAll l ys) same ys_ascending.0), step ys ys_ascending.1)
+      (every-union (λ l. line_cmp x l ≡ Less) xs ys low (subst (λ l. IsBelowAll line_cmp l ys) same ys_ascending.0), step ys ys_ascending.1)
   by Greater is rest =
       let less : line_cmp y x ≡ Less = above x y is in
-      (every-union (λ l. line_cmp y l ≡ Less) (x ∷ xs) ys (less, below_trans y x xs less low) ys_ascending.0, rest)
+      (every-union (λ l. line_cmp y l ≡ Less) (x ∷ xs) ys (less, below_trans line_cmp line_order.total y x xs less low) ys_ascending.0, rest)
 
 -- the union of ascending lists ascends
 pub ascending-union : (xs ys : List Line) → IsAscending xs → IsAscending ys → IsAscending (union xs ys)

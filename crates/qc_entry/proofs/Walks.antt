@@ -1,11 +1,13 @@
 -- Two sorted lists, walked side by side.
-use Rattle.std.proofs.Common.{◌≡◌, ◌⊎◌, inl, inr, ℕ, ◌+◌, zero, suc, ◌<◌, ◌≤◌, ◌-◌, length, take, List, [], ◌∷◌, ◌++◌, drop, get_or, sym, ap, ◌∙◌, subst, arith, add-one, drop-cons, append_assoc}
+use Rattle.std.proofs.Common.{◌≡◌, ◌⊎◌, inl, inr, ℕ, ◌+◌, ◌<◌, ◌≤◌, ◌-◌, length, take, List, [], ◌∷◌, ◌++◌, drop, get_or, sym, ap, ◌∙◌, subst, arith, add-one, drop-cons, append_assoc}
 use Rattle.std.proofs.Math.ListN.{drop_of_length-le}
 use Rattle.std.proofs.Math.Seq.{take-length}
 use Rattle.std.proofs.lemmas.List.{append-nil, length-drop}
 use Rattle.std.specs.declared.cmp.Ordering.TheVariants.{Less, Equal, Greater}
 use Rattle.qc_entry.specs.declared.line.Line.{Line}
-use Rattle.qc_entry.specs.Line.{line_cmp, IsBelowAll, IsAscending}
+use Rattle.qc_entry.specs.Line.{line_cmp, IsAscending}
+use Rattle.qc_list.proofs.Order.{ascends-drop}
+use Rattle.qc_list.specs.Order.{IsBelowAll}
 use Rattle.qc_entry.specs.Log.{union, without}
 use Rattle.qc_entry.proofs.Union.{union-nil}
 use Rattle.qc_entry.proofs.Without.{without-nil, without-Less, without-Equal, without-Greater}
@@ -15,12 +17,6 @@ pub record IsWalk (made : List Line → List Line → List Line) (a b : List Lin
   pub first : i ≤ length a
   pub second : j ≤ length b
   pub whole : out ++ made (drop i a) (drop j b) ≡ made a b
-
--- the end of an ascending list ascends
-pub ascending-drop : (i : ℕ) (xs : List Line) → IsAscending xs → IsAscending (drop i xs)
-ascending-drop zero xs ascending = ascending
-ascending-drop (suc i) [] ascending = tt
-ascending-drop (suc i) (x ∷ xs) ascending = ascending-drop i xs ascending.1
 
 -- a list from a place on: the line there, and the rest
 pub from-place : (xs : List Line) (i : ℕ) (d : Line) → i < length xs → drop i xs ≡ get_or xs i d ∷ drop (i + 1) xs
@@ -32,9 +28,9 @@ placed P a b i j d e in_a in_b holds =
     subst (λ xs. P xs (drop j b)) (sym (from-place a i d in_a)) (subst (P (get_or a i d ∷ drop (i + 1) a)) (sym (from-place b j e in_b)) holds)
 
 -- the line at a place of an ascending list is below the rest
-pub low-at : (xs : List Line) (i : ℕ) (d : Line) → IsAscending xs → i < length xs → IsBelowAll (get_or xs i d) (drop (i + 1) xs)
+pub low-at : (xs : List Line) (i : ℕ) (d : Line) → IsAscending xs → i < length xs → IsBelowAll line_cmp (get_or xs i d) (drop (i + 1) xs)
 low-at xs i d ascending inside =
-    let whole : IsAscending (get_or xs i d ∷ drop (i + 1) xs) = subst IsAscending (from-place xs i d inside) (ascending-drop i xs ascending) in
+    let whole : IsAscending (get_or xs i d ∷ drop (i + 1) xs) = subst IsAscending (from-place xs i d inside) (ascends-drop line_cmp i xs ascending) in
     whole.0
 
 -- a list from a place on, as a slice to its end

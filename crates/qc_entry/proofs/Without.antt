@@ -4,13 +4,14 @@ use Rattle.std.proofs.lemmas.Cmp.{tied_itself}
 use Rattle.std.specs.declared.cmp.Ordering.TheVariants.{Less, Equal, Greater}
 use Rattle.std.specs.Prelude.{not}
 use Rattle.qc_entry.specs.declared.line.Line.{Line}
-use Rattle.qc_entry.specs.Line.{line_cmp, IsBelowAll}
+use Rattle.qc_entry.specs.Line.{line_cmp}
+use Rattle.qc_list.specs.Order.{IsBelowAll}
 use Rattle.qc_entry.specs.Log.{has_line, without}
 use Rattle.qc_entry.proofs.Orders.{line_order, above, below}
-use Rattle.qc_entry.proofs.Every.{below_trans}
+use Rattle.qc_list.proofs.Order.{below_trans}
 
 -- a line below all of a list is not among them
-pub absent : (x : Line) (ys : List Line) → IsBelowAll x ys → has_line ys x ≡ false
+pub absent : (x : Line) (ys : List Line) → IsBelowAll line_cmp x ys → has_line ys x ≡ false
 absent x [] low = refl
 absent x (y ∷ ys) low = rw (below x y low.0) (absent x ys low.1)
 
@@ -20,24 +21,24 @@ without-nil [] = refl
 without-nil (x ∷ xs) = ap (λ zs. x ∷ zs) (without-nil xs)
 
 -- a line below all of the first list takes nothing away
-pub without-below : (xs : List Line) (y : Line) (ys : List Line) → IsBelowAll y xs → without xs (y ∷ ys) ≡ without xs ys
+pub without-below : (xs : List Line) (y : Line) (ys : List Line) → IsBelowAll line_cmp y xs → without xs (y ∷ ys) ≡ without xs ys
 without-below [] y ys low = refl
 without-below (x ∷ xs) y ys low = rw low.0 (ap (λ zs. cond (not (has_line ys x)) (x ∷ zs) zs) (without-below xs y ys low.1))
 
 -- the first line stays where it is below all others
-pub without-Less : (x : Line) (xs : List Line) (y : Line) (ys : List Line) → line_cmp x y ≡ Less → IsBelowAll y ys → without (x ∷ xs) (y ∷ ys) ≡ x ∷ without xs (y ∷ ys)
+pub without-Less : (x : Line) (xs : List Line) (y : Line) (ys : List Line) → line_cmp x y ≡ Less → IsBelowAll line_cmp y ys → without (x ∷ xs) (y ∷ ys) ≡ x ∷ without xs (y ∷ ys)
 without-Less x xs y ys less low =
-    ap (λ has. cond (not has) (x ∷ without xs (y ∷ ys)) (without xs (y ∷ ys))) (absent x (y ∷ ys) (less, below_trans x y ys less low))
+    ap (λ has. cond (not has) (x ∷ without xs (y ∷ ys)) (without xs (y ∷ ys))) (absent x (y ∷ ys) (less, below_trans line_cmp line_order.total x y ys less low))
 
 -- the first line goes where it is the first of the others
-pub without-Equal : (x : Line) (xs : List Line) (y : Line) (ys : List Line) → line_cmp x y ≡ Equal → IsBelowAll x xs → without (x ∷ xs) (y ∷ ys) ≡ without xs ys
+pub without-Equal : (x : Line) (xs : List Line) (y : Line) (ys : List Line) → line_cmp x y ≡ Equal → IsBelowAll line_cmp x xs → without (x ∷ xs) (y ∷ ys) ≡ without xs ys
 without-Equal x xs y ys equal low =
     let same : x ≡ y = line_order.apart x y equal in
     let found : line_cmp y x ≡ Equal = subst (λ l. line_cmp l x ≡ Equal) same (tied_itself line_order.total x) in
-    rw found (without-below xs y ys (subst (λ l. IsBelowAll l xs) same low))
+    rw found (without-below xs y ys (subst (λ l. IsBelowAll line_cmp l xs) same low))
 
 -- the first of the others takes nothing away where it is below the first line
-pub without-Greater : (x : Line) (xs : List Line) (y : Line) (ys : List Line) → line_cmp x y ≡ Greater → IsBelowAll x xs → without (x ∷ xs) (y ∷ ys) ≡ without (x ∷ xs) ys
+pub without-Greater : (x : Line) (xs : List Line) (y : Line) (ys : List Line) → line_cmp x y ≡ Greater → IsBelowAll line_cmp x xs → without (x ∷ xs) (y ∷ ys) ≡ without (x ∷ xs) ys
 without-Greater x xs y ys greater low =
     let less : line_cmp y x ≡ Less = above x y greater in
-    without-below (x ∷ xs) y ys (less, below_trans y x xs less low)
+    without-below (x ∷ xs) y ys (less, below_trans line_cmp line_order.total y x xs less low)

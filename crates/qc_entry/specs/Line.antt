@@ -1,8 +1,8 @@
 -- The order of lines, and lists of lines in that order.
-use Rattle.std.specs.Prelude.{◌≡◌, List, [], ◌∷◌}
+use Rattle.std.specs.Prelude.{List}
 use Rattle.std.specs.Ordering.{nat_cmp, on, then_cmp}
 use Rattle.std.specs.declared.cmp.Ordering.{Ordering}
-use Rattle.std.specs.declared.cmp.Ordering.TheVariants.{Less}
+use Rattle.qc_list.specs.Order.{Ascends}
 use Rattle.qc_entry.specs.declared.line.Line.{Line}
 use Rattle.qc_stamp.specs.Order.{stamp_cmp, tx_cmp}
 
@@ -14,12 +14,6 @@ line_cmp =
     (then_cmp (on (λ l. l.op) nat_cmp)
     (then_cmp (on (λ l. l.object) nat_cmp) (on (λ l. l.event) nat_cmp))))
 
--- the line comes before each of the lines
-abbrev pub IsBelowAll : Line → List Line → Type 0
-IsBelowAll x [] = Unit {0}
-IsBelowAll x (y ∷ ys) = (line_cmp x y ≡ Less) × IsBelowAll x ys
-
 -- the lines stand in order, each once
 abbrev pub IsAscending : List Line → Type 0
-IsAscending [] = Unit {0}
-IsAscending (x ∷ xs) = IsBelowAll x xs × IsAscending xs
+IsAscending lines = Ascends line_cmp lines

@@ -1,19 +1,13 @@
 -- What the calls of a log give.
-use Rattle.std.specs.Prelude.{◌≡◌, ◌↔◌, ◌⊎◌, ℕ, Bool, List, [], ◌∷◌, ◌==◌, filter, not}
+use Rattle.std.specs.Prelude.{◌↔◌, ◌⊎◌, ℕ, Bool, List, [], ◌∷◌, ◌==◌, filter, not}
 use Rattle.std.specs.List.{list_any}
 use Rattle.std.specs.Ordering.{is_eq, is_lt}
-use Rattle.std.specs.declared.cmp.Ordering.{Ordering}
-use Rattle.std.specs.declared.cmp.Ordering.TheVariants.{Less, Equal, Greater}
+use Rattle.qc_list.specs.Members.{In}
+use Rattle.qc_list.specs.Order.{by_order}
 use Rattle.qc_entry.specs.declared.line.Line.{Line}
 use Rattle.qc_entry.specs.Line.{line_cmp, IsAscending}
 use Rattle.qc_stamp.specs.declared.stamp.Stamp.{Stamp}
 use Rattle.qc_stamp.specs.Order.{stamp_cmp}
-
--- the choice of the line that comes first, or of one where both are the same
-abbrev pub by_order : {A : Type 0} → Ordering → A → A → A → A
-by_order Less first both second = first
-by_order Equal first both second = both
-by_order Greater first both second = second
 
 -- the merge of x, before a rest that merges by itself, with a list
 abbrev pub union_from : Line → List Line → (List Line → List Line) → List Line → List Line
@@ -40,11 +34,6 @@ has_line lines line = list_any (λ l. is_eq (line_cmp l line)) lines
 -- the lines of the first list that aren't among the second
 abbrev pub without : List Line → List Line → List Line
 without lines others = filter (λ l. not (has_line others l)) lines
-
--- membership, by recursion
-abbrev pub In : Line → List Line → Type 0
-In x [] = ⊥
-In x (y ∷ ys) = (x ≡ y) ⊎ In x ys
 
 -- a list is sorted and has just the lines of either list
 pub record IsUnion (xs ys zs : List Line) : Type 0 where

@@ -13,8 +13,8 @@ use crate::round::Round;
 use crate::turns::{quiet, telling};
 use qc_decl::Declaration;
 use qc_list::OutOfMemory;
-use qc_msg::{Command, FIRST_LIFE, Input, Message, Reply, Turn};
-use qc_stamp::{Clock, TxId};
+use qc_msg::{Command, Input, Message, Reply, Turn};
+use qc_stamp::{Clock, FIRST_LIFE, TxId};
 use std::alloc::Global;
 
 /// The epoch that everything begins in.

@@ -1,8 +1,11 @@
-//! The ground floor: lists and texts that contracts see as plain lists, and
-//! the entry of a history.
+//! The ground floor: lists and texts that contracts see as plain lists, the
+//! entry of a history, and the words that several crates cite of lists.
 //!
-//! No type whose value a definition gives holds a bare `Vec` or `String`; it
-//! holds one of these, so that definitions and code speak of the same value.
+//! 1. No type whose value a definition gives holds a bare `Vec` or `String`; it
+//!    holds one of these, so that definitions and code speak of the same value.
+//! 2. What is said of members of lists, of lists in an order and of searches by
+//!    number stands here once, in `specs/`, with its lemmas in `proofs/`.
+//!
 //! Every other crate stands on this one.
 #![tactic(auto)]
 

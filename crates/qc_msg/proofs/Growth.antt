@@ -231,6 +231,7 @@ deeds-none_own a ms (e ∷ k) none = by_actor (e.actor == a) none (deeds-none_ow
     by_actor true h rest = absurd (let never : ⊥ = cc in never)
     by_actor false h rest = rest h
 
+-- an actor that makes no step keeps its deeds: runs over several actors will say so of all that don't move
 pub same_deeds : (a : ℕ) (ms : List Envelope) (h k : List Entry) → own a (h ++ k) ≡ own a h → deeds a ms (h ++ k) ≡ deeds a ms h
 same_deeds a ms h k same =
     let none : own a k ≡ [] = nothing_more (own a h) (own a k) (sym (own-append a h k) ∙ same) in
@@ -283,14 +284,7 @@ pub fold-told : {B : Type 0} (f : B → Entry → B) (a : ℕ) → IgnoresTold f
 fold-told f a ignores b None = refl
 fold-told f a ignores b (Some reply) = ignores b reply
 
--- what is left of a turn: the record, the messages, the reply, or nothing
-
-pub fold-posted_wrote : {B : Type 0} (f : B → Entry → B) (a : ℕ) → IgnoresSent f a → IgnoresTold f a → (b : B) (n : ℕ) (turn : Turn) → fold f b (by a (posted n turn)) ≡ fold f b (by a (wrote turn.write))
-fold-posted_wrote f a sent heard_of b n turn =
-    let w = fold f b (by a (wrote turn.write)) in
-    fold-posted f b a n turn
-    ∙ fold-told f a heard_of (fold f w (by a (sents n turn.sends))) turn.told
-    ∙ fold-sents f a sent w n turn.sends
+-- what is left of a turn: the messages, the reply, or nothing
 
 pub fold-posted_sents : {B : Type 0} (f : B → Entry → B) (a : ℕ) → IgnoresWrote f a → IgnoresTold f a → (b : B) (n : ℕ) (turn : Turn) → fold f b (by a (posted n turn)) ≡ fold f b (by a (sents n turn.sends))
 fold-posted_sents f a record_of heard_of b n turn =

@@ -1,10 +1,10 @@
 -- Which messages were sent, as more are sent.
-use Rattle.std.proofs.Common.{◌≡◌, ℕ, zero, suc, ◌+◌, ◌==◌, Bool, true, false, cond, List, [], ◌∷◌, ◌++◌, length, drop, Some, slice_get, refl, ap, subst, ◌∙◌, arith, append_assoc, length-append}
+use Rattle.std.proofs.Common.{◌≡◌, ℕ, zero, suc, ◌+◌, ◌==◌, Bool, true, false, cond, List, [], ◌∷◌, ◌++◌, length, drop, Some, slice_get, refl, subst, arith, append_assoc, length-append}
 use Rattle.std.proofs.lemmas.Bool.{eqb-true}
 use Rattle.qc_msg.specs.declared.message.Envelope.{Envelope}
 use Rattle.qc_msg.specs.declared.step.Given.TheVariants as given
 use Rattle.qc_msg.specs.declared.step.Posting.{Posting}
-use Rattle.qc_msg.specs.Mail.{AllSent, AllTo, WasSentTo, addressed, envelopes}
+use Rattle.qc_msg.specs.Mail.{AllSent, AllTo, addressed, envelopes}
 
 -- what is found in a list is found in a longer one
 pub slice_get-append : {X : Type 0} (xs ys : List X) (n : ℕ) (x : X) → slice_get xs n ≡ Some x → slice_get (xs ++ ys) n ≡ Some x
@@ -75,7 +75,3 @@ AllTo-addressed a (e ∷ es) = by_receiver (e.to == a) refl (AllTo-addressed a e
     by_receiver : (taken : Bool) → (e.to == a) ≡ taken → AllTo a (addressed a es) → AllTo a (cond taken (e ∷ addressed a es) (addressed a es))
     by_receiver true same rest = (eqb-true e.to a same, rest)
     by_receiver false same rest = rest
-
--- the input that takes a message that was sent
-pub WasSentTo-got : (a : ℕ) (ms : List Envelope) (e : Envelope) → e.to ≡ a → slice_get ms e.number ≡ Some e → WasSentTo a ms (given.Got e.from e.number e.message)
-WasSentTo-got a ms e to sent = sent ∙ ap (λ (k : ℕ). Some (record { number = e.number; from = e.from; to = k; message = e.message })) to

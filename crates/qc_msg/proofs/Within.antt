@@ -1,13 +1,11 @@
 -- Clocks that are within a bound: also within a greater one, and in what lists are made of.
-use Rattle.std.proofs.Common.{◌≡◌, ℕ, zero, suc, ◌+◌, ◌==◌, ◌≤◌, Bool, true, false, not, cond, List, [], ◌∷◌, ◌++◌, filter, drop, Option, Some, None, slice_get, subst, arith}
+use Rattle.std.proofs.Common.{◌≡◌, ℕ, zero, suc, ◌+◌, ◌==◌, ◌≤◌, Bool, true, false, cond, List, [], ◌∷◌, ◌++◌, filter, drop, Option, Some, None, slice_get, subst, arith}
 use Rattle.std.specs.declared.cmp.Ordering.{Ordering}
 use Rattle.std.specs.declared.cmp.Ordering.TheVariants.{Less, Equal, Greater}
 use Rattle.qc_entry.specs.declared.line.Line.{Line}
 use Rattle.qc_entry.specs.Line.{line_cmp}
-use Rattle.qc_entry.specs.Log.{by_order, has_line, of_object, since_stamp, union, union_from, without}
-use Rattle.qc_stamp.specs.declared.stamp.Stamp.{Stamp}
-use Rattle.qc_stamp.specs.Order.{stamp_cmp}
-use Rattle.std.specs.Ordering.{is_lt}
+use Rattle.qc_entry.specs.Log.{of_object, union, union_from}
+use Rattle.qc_list.specs.Order.{by_order}
 use Rattle.qc_msg.specs.declared.message.Outcome.{Outcome}
 use Rattle.qc_msg.specs.declared.message.Outcome.TheVariants.{Aborted, Committed}
 use Rattle.qc_msg.specs.declared.message.Message.{Message}
@@ -102,12 +100,6 @@ LinesWithin-filter bound test (line ∷ lines) within = chosen (test line) (Line
 
 pub LinesWithin-of_object : (bound : ℕ) (lines : List Line) (object : ℕ) → LinesWithin bound lines → LinesWithin bound (of_object lines object)
 LinesWithin-of_object bound lines object within = LinesWithin-filter bound (λ (l : Line). l.object == object) lines within
-
-pub LinesWithin-since : (bound : ℕ) (lines : List Line) (stamp : Stamp) → LinesWithin bound lines → LinesWithin bound (since_stamp lines stamp)
-LinesWithin-since bound lines stamp within = LinesWithin-filter bound (λ (l : Line). is_lt (stamp_cmp stamp l.stamp)) lines within
-
-pub LinesWithin-without : (bound : ℕ) (lines others : List Line) → LinesWithin bound lines → LinesWithin bound (without lines others)
-LinesWithin-without bound lines others within = LinesWithin-filter bound (λ (l : Line). not (has_line others l)) lines within
 
 -- messages
 

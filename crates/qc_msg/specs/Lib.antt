@@ -2,4 +2,3 @@ pub mod Steps
 pub mod Mail
 pub mod Counts
 pub mod Within
-pub mod Lives

@@ -16,7 +16,7 @@ mod step;
 mod tests;
 
 pub use history::History;
-pub use message::{Envelope, FIRST_LIFE, Message, Outcome};
+pub use message::{Envelope, Message, Outcome};
 pub use step::{
     Command, Entry, Given, Input, Posting, Record, Reply, Sends, Step, Turn, What, Why,
 };

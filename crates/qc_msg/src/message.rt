@@ -6,9 +6,6 @@ use qc_entry::{Log, Owns};
 use qc_list::OutOfMemory;
 use qc_stamp::{Stamp, TxId};
 
-/// The life of an actor that has never fallen.
-pub const FIRST_LIFE: u32 = 1;
-
 /// How a transaction ended (presumed abort).
 #[derive(Clone, Copy, Debug, PartialEq, Eq)]
 pub enum Outcome {

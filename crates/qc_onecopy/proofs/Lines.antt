@@ -7,9 +7,11 @@ use Rattle.qc_table.specs.Rules.{event, event_number, events_of}
 use Rattle.qc_cert.specs.Views.{inv_of}
 use Rattle.qc_decl.specs.declared.declaration.Declaration.{Declaration}
 use Rattle.qc_onecopy.specs.Views.{lines_of, lines_on}
-use Rattle.qc_onecopy.specs.Lists.{In, IsOrdered}
+use Rattle.qc_list.specs.Members.{In}
+use Rattle.qc_onecopy.specs.Lists.{IsOrdered}
 use Rattle.qc_onecopy.specs.Executed.{Placed, IsEarlier, IsLineBefore, depends_at, kind_at, line_of}
-use Rattle.qc_onecopy.proofs.Lists.{in_left, in_right, in_split, ordered-append}
+use Rattle.qc_list.proofs.Members.{In-first, In-second}
+use Rattle.qc_onecopy.proofs.Lists.{in_split, ordered-append}
 use Rattle.qc_onecopy.proofs.Orders.{earlier_line}
 use Rattle.qc_onecopy.proofs.Runs.{inv_is}
 
@@ -45,9 +47,9 @@ line_in o [] b h e s = absurd h
 line_in o (c ∷ cs) b (inl same) e s =
     let there : (c.operation.op.object == o) ≡ true = eq-eqb c.operation.op.object o (subst (λ (x : Placed). x.operation.op.object ≡ o) same e) in
     subst (λ (x : Placed). In (line_of x) (lines_on o (c ∷ cs))) (sym same)
-    (in_left (line_of c) (cond (c.operation.op.object == o) (lines_of c.operation.op.resp (line_of c)) []) (lines_on o cs)
+    (In-first (line_of c) (cond (c.operation.op.object == o) (lines_of c.operation.op.resp (line_of c)) []) (lines_on o cs)
     (subst (λ (t : Bool). In (line_of c) (cond t (lines_of c.operation.op.resp (line_of c)) [])) (sym there) (in_lines c.operation.op.resp (line_of c) (subst (λ (x : Placed). IsSome x.operation.op.resp) same s))))
-line_in o (c ∷ cs) b (inr h) e s = in_right (line_of b) (cond (c.operation.op.object == o) (lines_of c.operation.op.resp (line_of c)) []) (lines_on o cs) (line_in o cs b h e s)
+line_in o (c ∷ cs) b (inr h) e s = In-second (line_of b) (cond (c.operation.op.object == o) (lines_of c.operation.op.resp (line_of c)) []) (lines_on o cs) (line_in o cs b h e s)
 
 pub lines_on-append : (o : ℕ) (xs ys : List Placed) → lines_on o (xs ++ ys) ≡ lines_on o xs ++ lines_on o ys
 lines_on-append o [] ys = refl

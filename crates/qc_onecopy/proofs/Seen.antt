@@ -10,10 +10,12 @@ use Rattle.qc_entry.specs.declared.line.OwnLine.{OwnLine}
 use Rattle.qc_table.specs.Depends.{depends}
 use Rattle.qc_cert.specs.Views.{IsView, inv_of, picked}
 use Rattle.qc_decl.specs.declared.declaration.Declaration.{Declaration}
-use Rattle.qc_onecopy.specs.Lists.{In, IsOrdered}
+use Rattle.qc_list.specs.Members.{In}
+use Rattle.qc_onecopy.specs.Lists.{IsOrdered}
 use Rattle.qc_onecopy.specs.Executed.{Placed, IsAnswered, IsEarlier, IsLineBefore, IsOwnBefore, depends_at, events_seen, kind_at, line_of, own_line, committed_line}
 use Rattle.qc_onecopy.specs.Views.{AreFromViews, IsFromView, IsNext, lines_on}
-use Rattle.qc_onecopy.proofs.Lists.{compared, in_left, in_map, in_right, in_split, map_in, ordered-append, ordered_across, ordered_left}
+use Rattle.qc_list.proofs.Members.{In-first, In-second}
+use Rattle.qc_onecopy.proofs.Lists.{compared, in_map, in_split, map_in, ordered-append, ordered_across, ordered_left}
 use Rattle.qc_onecopy.proofs.Orders.{clock_less, earlier_clocks, earlier_line, line_trans, not_stamp_less, op_first, stamp_first}
 use Rattle.qc_entry.proofs.Members.{not_below}
 use Rattle.qc_onecopy.proofs.Sorted.{Picks, in_at, ordered_at, picked-map, picks}
@@ -23,13 +25,13 @@ module _ (decl : Declaration) (all : List Placed) (v : AreFromViews decl all) wh
   -- one operation, and those before it
   module _ (pre : List Placed) (b : Placed) (post : List Placed) (split : pre ++ b ∷ post ≡ all) where
     pub listed : In b all
-    listed = subst (λ (l : List Placed). In b l) split (in_right b pre (b ∷ post) (inl refl))
+    listed = subst (λ (l : List Placed). In b l) split (In-second b pre (b ∷ post) (inl refl))
 
     order : IsOrdered IsEarlier (pre ++ b ∷ post)
     order = subst (λ (l : List Placed). IsOrdered IsEarlier l) (sym split) v.ordered
 
     earlier : (c : Placed) → In c pre → In c all × IsEarlier c b
-    earlier c h = (subst (λ (l : List Placed). In c l) split (in_left c pre (b ∷ post) h), ordered_across IsEarlier pre (b ∷ post) order c b h (inl refl))
+    earlier c h = (subst (λ (l : List Placed). In c l) split (In-first c pre (b ∷ post) h), ordered_across IsEarlier pre (b ∷ post) order c b h (inl refl))
 
     -- what comes before it stands in front of it
     in_front : (c : Placed) → In c all → IsLineBefore (line_of c) (line_of b) → In c pre
@@ -38,7 +40,7 @@ module _ (decl : Declaration) (all : List Placed) (v : AreFromViews decl all) wh
       | inr there ↦ elim there [
         | inl same ↦ absurd (not_below (line_of b) (subst (λ (x : Placed). IsLineBefore (line_of x) (line_of b)) same l))
         | inr later ↦
-            let m : IsLineBefore (line_of b) (line_of c) = earlier_line b c (ordered_across IsEarlier (pre ++ b ∷ []) post (subst (λ (x : List Placed). IsOrdered IsEarlier x) (sym (append_assoc pre (b ∷ []) post)) order) b c (in_right b pre (b ∷ []) (inl refl)) later) in
+            let m : IsLineBefore (line_of b) (line_of c) = earlier_line b c (ordered_across IsEarlier (pre ++ b ∷ []) post (subst (λ (x : List Placed). IsOrdered IsEarlier x) (sym (append_assoc pre (b ∷ []) post)) order) b c (In-second b pre (b ∷ []) (inl refl)) later) in
             absurd (not_below (line_of c) (line_trans (line_of c) (line_of b) (line_of c) l m))
       ]
     ]
@@ -95,7 +97,7 @@ module _ (decl : Declaration) (all : List Placed) (v : AreFromViews decl all) wh
     own_in c h n s =
         let there = in_map (λ (x : OwnLine). committed_line b.stamp b.tx x) (own_line c.operation) b.operation.own (v.own_all c b (earlier c h).0 listed n s) in
         let is : committed_line b.stamp b.tx (own_line c.operation) ≡ line_of c = ap (λ x. committed_line x b.tx (own_line c.operation)) (sym n.stamp) ∙ ap (λ x. committed_line c.stamp x (own_line c.operation)) (sym n.tx) in
-        in_right (line_of c) b.operation.view (map (λ (x : OwnLine). committed_line b.stamp b.tx x) b.operation.own) (subst (λ (l : Line). In l (map (λ (x : OwnLine). committed_line b.stamp b.tx x) b.operation.own)) is there)
+        In-second (line_of c) b.operation.view (map (λ (x : OwnLine). committed_line b.stamp b.tx x) b.operation.own) (subst (λ (l : Line). In l (map (λ (x : OwnLine). committed_line b.stamp b.tx x) b.operation.own)) is there)
 
     own_ordered : (os : List OwnLine) → IsOrdered IsOwnBefore os → IsOrdered IsLineBefore (map (λ (x : OwnLine). committed_line b.stamp b.tx x) os)
     own_ordered [] ord = tt
@@ -120,7 +122,7 @@ module _ (decl : Declaration) (all : List Placed) (v : AreFromViews decl all) wh
       where
         by : IsEarlier c b → In (line_of c) (b.operation.view ++ map (λ (x : OwnLine). committed_line b.stamp b.tx x) b.operation.own)
         by (inl less) = elim (v.ordering c b (earlier c h).0 listed (λ same. not_stamp_less b.stamp (subst (λ (z : Stamp). stamp_cmp z b.stamp ≡ Less) same less)) e s d) [
-          | inl there ↦ in_left (line_of c) b.operation.view (map (λ (x : OwnLine). committed_line b.stamp b.tx x) b.operation.own) there
+          | inl there ↦ In-first (line_of c) b.operation.view (map (λ (x : OwnLine). committed_line b.stamp b.tx x) b.operation.own) there
           | inr wrong ↦ let le : c.stamp.clock ≤ b.stamp.clock = earlier_clocks c b (inl less) in absurd (omega arith)
         ]
         by (inr mine) = own_in c h (record { stamp = mine.0; tx = mine.1; number = mine.2; object = e }) s
@@ -132,7 +134,7 @@ module _ (decl : Declaration) (all : List Placed) (v : AreFromViews decl all) wh
     closed c y hc hy whose ey ec s (inr mine) d =
         let n : IsNext c y = record { stamp = mine.0; tx = mine.1; number = mine.2; object = ec ∙ sym ey } in
         elim whose [
-          | inl there ↦ in_left (line_of c) b.operation.view (map (λ (x : OwnLine). committed_line b.stamp b.tx x) b.operation.own) (v.closed_own c y b (earlier c hc).0 (earlier y hy).0 listed there n s d)
+          | inl there ↦ In-first (line_of c) b.operation.view (map (λ (x : OwnLine). committed_line b.stamp b.tx x) b.operation.own) (v.closed_own c y b (earlier c hc).0 (earlier y hy).0 listed there n s d)
           | inr next ↦
               let m : c.operation.number < y.operation.number = mine.2 in
               let k : y.operation.number < b.operation.number = next.number in
@@ -142,8 +144,8 @@ module _ (decl : Declaration) (all : List Placed) (v : AreFromViews decl all) wh
         elim (v.ordering c y (earlier c hc).0 (earlier y hy).0 (λ same. not_stamp_less y.stamp (subst (λ (z : Stamp). stamp_cmp z y.stamp ≡ Less) same less)) (ec ∙ sym ey) s d) [
           | inr wrong ↦ let le : c.stamp.clock ≤ y.stamp.clock = earlier_clocks c y (inl less) in absurd (omega arith)
           | inl there ↦ elim whose [
-            | inl inside ↦ in_left (line_of c) b.operation.view (map (λ (x : OwnLine). committed_line b.stamp b.tx x) b.operation.own) (v.closed y b (line_of c) (earlier y hy).0 listed inside there)
-            | inr next ↦ in_left (line_of c) b.operation.view (map (λ (x : OwnLine). committed_line b.stamp b.tx x) b.operation.own) (v.grows y b (line_of c) (earlier y hy).0 listed next there)
+            | inl inside ↦ In-first (line_of c) b.operation.view (map (λ (x : OwnLine). committed_line b.stamp b.tx x) b.operation.own) (v.closed y b (line_of c) (earlier y hy).0 listed inside there)
+            | inr next ↦ In-first (line_of c) b.operation.view (map (λ (x : OwnLine). committed_line b.stamp b.tx x) b.operation.own) (v.grows y b (line_of c) (earlier y hy).0 listed next there)
           ]
         ]
 

@@ -10,7 +10,7 @@ use Rattle.qc_table.specs.Rules.{Rules, event, event_number, events_of}
 use Rattle.qc_table.specs.declared.kind.Kind.{Kind}
 use Rattle.qc_table.specs.Depends.{depends}
 use Rattle.qc_cert.specs.Views.{inv_of}
-use Rattle.qc_onecopy.specs.Lists.{In}
+use Rattle.qc_list.specs.Members.{In}
 use Rattle.qc_onecopy.specs.Executed.{IsLineBefore, kind_at}
 
 -- the number of the event of an invocation and a response, in an object's type

@@ -6,7 +6,8 @@ use Rattle.qc_cert.specs.Views.{IsView, picked}
 use Rattle.qc_entry.specs.declared.line.Line.{Line}
 use Rattle.qc_entry.specs.declared.line.OwnLine.{OwnLine}
 use Rattle.qc_decl.specs.declared.declaration.Declaration.{Declaration}
-use Rattle.qc_onecopy.specs.Lists.{In, IsOrdered}
+use Rattle.qc_list.specs.Members.{In}
+use Rattle.qc_onecopy.specs.Lists.{IsOrdered}
 use Rattle.qc_onecopy.specs.Executed.{Placed, IsAnswered, IsEarlier, IsOwnBefore, depends_at, events_seen, kind_at, line_of, own_line}
 
 -- the second is a later operation of the first one's transaction, on the same object

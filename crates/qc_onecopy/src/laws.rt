@@ -7,7 +7,8 @@ ghost use Rattle.qc_decl.specs.declared.declaration.Declaration.{Declaration};
 ghost use Rattle.qc_entry.specs.declared.record.Commit.{Commit};
 ghost use Rattle.qc_onecopy.specs.Committed.{AreApart, IsStampedBefore, sorted};
 ghost use Rattle.qc_onecopy.specs.Executed.{Placed, kind_at};
-ghost use Rattle.qc_onecopy.specs.Lists.{In, IsOrdered};
+ghost use Rattle.qc_list.specs.Members.{In};
+ghost use Rattle.qc_onecopy.specs.Lists.{IsOrdered};
 ghost use Rattle.qc_onecopy.specs.OneCopy.{OneCopy, Walks, start_at};
 ghost use Rattle.qc_onecopy.specs.Replay.{replay};
 ghost use Rattle.qc_onecopy.specs.Views.{AreFromViews, IsFromView};
@@ -38,5 +39,6 @@ pub fn replays_are_one_copy()
 /// stamp before those of the records after it.
 pub fn records_are_sorted()
     ensures { (records : List Commit) → AreApart records
-        → IsOrdered IsStampedBefore (sorted records) × ((commit : Commit) → In commit (sorted records) ↔ In commit records) }
+        → IsOrdered IsStampedBefore (sorted records)
+        × ((commit : Commit) → In commit (sorted records) ↔ In commit records) }
 {}

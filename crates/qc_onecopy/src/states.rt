@@ -55,7 +55,8 @@ fn start_of(decl: &Declaration, kind: u8) -> u8
 
 /// Takes the steps of operations, or answers `false` where one is missing.
 fn replay_ops(decl: &Declaration, states: &mut [u8], ops: &[Op]) -> bool
-    ensures { MatchBool result (fold (replayed decl.now) (Some states.old) ops.now ≡ Some states.new) (fold (replayed decl.now) (Some states.old) ops.now ≡ None) }
+    ensures { MatchBool result (fold (replayed decl.now) (Some states.old) ops.now ≡ Some states.new)
+        (fold (replayed decl.now) (Some states.old) ops.now ≡ None) }
 {
     'ops: for op in ops {
         if !replay_op(decl, states, op) {
@@ -67,7 +68,8 @@ fn replay_ops(decl: &Declaration, states: &mut [u8], ops: &[Op]) -> bool
 
 /// Takes the step of an operation, or answers `false` where there is none.
 fn replay_op(decl: &Declaration, states: &mut [u8], op: &Op) -> bool
-    ensures { MatchBool result (states_after decl.now states.old op.now ≡ Some states.new) (states_after decl.now states.old op.now ≡ None) }
+    ensures { MatchBool result (states_after decl.now states.old op.now ≡ Some states.new)
+        (states_after decl.now states.old op.now ≡ None) }
 {
     let object = op.object as usize;
     let Some(table) = decl.table(op.object) else {

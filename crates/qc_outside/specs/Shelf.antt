@@ -1,5 +1,6 @@
 -- The files of a shelf, and what a call may answer of them.
-use Rattle.std.specs.Prelude.{◌≡◌, ℕ, ◌<◌, ◌≤◌, List, map, length, find, bytes_eq, Option, Some, None, option_map, MatchOption, Result, Err, Vec}
+use Rattle.std.specs.Prelude.{◌≡◌, ℕ, ◌<◌, ◌≤◌, List, map, length, find, bytes_eq, Option, Some, None}
+use Rattle.std.specs.Prelude.{option_map, MatchOption, Result, Err, Vec}
 use Rattle.std.specs.declared.alloc.Global.{Global}
 use Rattle.qc_outside.specs.Causes.{Rose}
 use Rattle.qc_outside.specs.declared.shelf.ShelfFault.{ShelfFault}

@@ -1,12 +1,18 @@
 //! The outside, as traits: a shelf of files, a sink for text, disks on a rack,
 //! and a gate that a worker passes.
 //!
-//! Each trait states what its calls mean where an implementation tells what it
-//! holds, and keeps a count of faults that never falls: a call answers `Failed`
-//! only where the count rose. So a run's fault is always the outside's own.
-//! Who cannot know what the outside holds, as a real file, tells nothing.
-//! Fakes in memory stand beside the traits. The top call takes one of each, and
-//! the program brings the real ones.
+//! 1. Each trait states what its calls mean where an implementation tells what
+//!    it holds. Who cannot know what the outside holds, as a real file, tells
+//!    nothing.
+//! 2. A count of faults never falls, and a call answers `Failed` only where the
+//!    count rose, or had come to the most that 64 bits hold. So a run's fault is
+//!    the outside's own.
+//! 3. Where memory was wanting a count stands, and a shelf and a sink are as
+//!    they were.
+//!
+//! Fakes in memory stand beside the traits: tests and laws on whole calls use
+//! them. `qc_top` takes one of each, `qc_report` words their faults, and the
+//! program brings the real ones.
 #![tactic(auto)]
 
 mod calls;

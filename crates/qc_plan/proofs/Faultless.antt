@@ -3,7 +3,7 @@ use Rattle.std.proofs.Common.{◌≡◌, ℕ, ◌+◌, ◌<◌, ◌≤◌, Bool,
 use Rattle.std.specs.Prelude.{◌==◌, ◌&&◌, nat_lt, slice_get, option_and_then, IsTrue}
 use Rattle.std.specs.List.{list_any}
 use Rattle.std.specs.Option.{option_or}
-use Rattle.std.proofs.lemmas.Bool.{eqb-false, leb-false, lt-leb, ne_eqb}
+use Rattle.std.proofs.lemmas.Bool.{eqb-false, leb-false, lt-leb, ne_eqb, or_from, or_parts}
 use Rattle.std.proofs.lemmas.Option.{slice_get_within}
 use Rattle.qc_plan.specs.Admitted.{IsAdmitted}
 use Rattle.qc_plan.specs.Faults.{can_miss, fault_of, heavy_fault, is_heavy, kind_fault, object_fault, pair_fault}
@@ -12,11 +12,11 @@ use Rattle.qc_plan.specs.Weights.{total}
 use Rattle.qc_plan.specs.declared.fault.PlanFault.TheVariants.{NoWeight, TooHeavy, CanMiss}
 use Rattle.qc_plan.specs.declared.plan.Plan.{Plan}
 use Rattle.qc_table.specs.Depends.{depends}
-use Rattle.qc_table.specs.First.{first_below}
+use Rattle.qc_list.specs.Search.{first_below}
+use Rattle.qc_list.proofs.Search.{below_none, none_from, none_below, none_parts}
 use Rattle.qc_table.specs.Rules.{events_of}
 use Rattle.qc_table.specs.declared.kind.Kind.{Kind}
-use Rattle.qc_plan.proofs.Below.{below_none, both_none, none_below, split_none}
-use Rattle.qc_plan.proofs.Heaviness.{all_light, both_false, none_heavy, split_false}
+use Rattle.qc_plan.proofs.Heaviness.{all_light, none_heavy}
 
 -- no fault means that the test of it failed
 passed : {A : Type 0} (b : Bool) (fault : A) (rest : Option A) → cond b (Some fault) rest ≡ None → (b ≡ false) × (rest ≡ None)
@@ -59,13 +59,13 @@ module _ (plan : Plan) (kinds : List Kind) (objects : List ℕ) where
       let weighed : ((total plan.weights == 0) ≡ false) × (option_or (first_below (length objects) (heavy_fault plan)) (first_below (length objects) (object_fault plan kinds objects)) ≡ None) =
       passed (total plan.weights == 0) NoWeight (option_or (first_below (length objects) (heavy_fault plan)) (first_below (length objects) (object_fault plan kinds objects))) e in
       let none : (first_below (length objects) (heavy_fault plan) ≡ None) × (first_below (length objects) (object_fault plan kinds objects) ≡ None) =
-      split_none (first_below (length objects) (heavy_fault plan)) (first_below (length objects) (object_fault plan kinds objects)) weighed.1 in
+      none_parts (first_below (length objects) (heavy_fault plan)) (first_below (length objects) (object_fault plan kinds objects)) weighed.1 in
       record {
         weighs = (let apart : total plan.weights ≡ 0 → ⊥ = eqb-false (total plan.weights) 0 weighed.0 in omega arith);
         initial_light = all_light (total plan.weights) plan.initial (length objects) initial
-            (λ object l. (split_false (list_any (nat_lt (total plan.weights)) (get_or plan.initial object [])) (list_any (nat_lt (total plan.weights)) (get_or plan.last object [])) (light_at none.0 object l)).0);
+            (λ object l. (or_parts (list_any (nat_lt (total plan.weights)) (get_or plan.initial object [])) (list_any (nat_lt (total plan.weights)) (get_or plan.last object [])) (light_at none.0 object l)).0);
         last_light = all_light (total plan.weights) plan.last (length objects) last
-            (λ object l. (split_false (list_any (nat_lt (total plan.weights)) (get_or plan.initial object [])) (list_any (nat_lt (total plan.weights)) (get_or plan.last object [])) (light_at none.0 object l)).1);
+            (λ object l. (or_parts (list_any (nat_lt (total plan.weights)) (get_or plan.initial object [])) (list_any (nat_lt (total plan.weights)) (get_or plan.last object [])) (light_at none.0 object l)).1);
         meets = met_at none.1;
       }
 
@@ -94,9 +94,9 @@ module _ (plan : Plan) (kinds : List Kind) (objects : List ℕ) where
       let weighs : 0 < total plan.weights = a.weighs in
       failed (total plan.weights == 0) NoWeight (option_or (first_below (length objects) (heavy_fault plan)) (first_below (length objects) (object_fault plan kinds objects)))
       (ne_eqb (total plan.weights) 0 (λ e. omega arith))
-      (both_none (first_below (length objects) (heavy_fault plan)) (first_below (length objects) (object_fault plan kinds objects))
+      (none_from (first_below (length objects) (heavy_fault plan)) (first_below (length objects) (object_fault plan kinds objects))
       (below_none (length objects) (heavy_fault plan)
       (λ object l. failed (is_heavy plan object) (TooHeavy object) None
-      (both_false (list_any (nat_lt (total plan.weights)) (get_or plan.initial object [])) (list_any (nat_lt (total plan.weights)) (get_or plan.last object []))
+      (or_from (list_any (nat_lt (total plan.weights)) (get_or plan.initial object [])) (list_any (nat_lt (total plan.weights)) (get_or plan.last object []))
       (none_heavy (total plan.weights) plan.initial a.initial_light object) (none_heavy (total plan.weights) plan.last a.last_light object)) refl))
       (below_none (length objects) (object_fault plan kinds objects) (λ object l. object_none a object)))

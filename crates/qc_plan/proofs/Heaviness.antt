@@ -1,25 +1,10 @@
 -- Thresholds above the weight of all sites.
-use Rattle.std.proofs.Common.{◌≡◌, ℕ, zero, suc, ◌<◌, ◌≤◌, Bool, true, false, List, [], ◌∷◌, None, length, get_or, refl, ap, subst, ⊎_elim, arith}
-use Rattle.std.specs.Prelude.{◌||◌, nat_lt, slice_get, unwrap_or}
+use Rattle.std.proofs.Common.{◌≡◌, ℕ, zero, suc, ◌<◌, ◌≤◌, false, List, [], ◌∷◌, None, length, get_or, refl, ap, subst, ⊎_elim, arith}
+use Rattle.std.specs.Prelude.{nat_lt, slice_get, unwrap_or}
 use Rattle.std.specs.List.{list_any}
-use Rattle.std.proofs.lemmas.Bool.{cases_lt, ltb-false, le-ltb}
+use Rattle.std.proofs.lemmas.Bool.{cases_lt, ltb-false, le-ltb, or_from, or_parts}
 use Rattle.std.proofs.lemmas.Option.{slice_get_past, unwrap_or-slice_get}
 use Rattle.qc_plan.specs.Need.{need_of}
-
-or_left : (a b : Bool) → (a || b) ≡ false → a ≡ false
-or_left true b e = e
-or_left false b e = refl
-
-or_right : (a b : Bool) → (a || b) ≡ false → b ≡ false
-or_right true b e = absurd (cc)
-or_right false b e = e
-
-pub split_false : (a b : Bool) → (a || b) ≡ false → (a ≡ false) × (b ≡ false)
-split_false a b e = (or_left a b e, or_right a b e)
-
-pub both_false : (a b : Bool) → a ≡ false → b ≡ false → (a || b) ≡ false
-both_false true b p q = p
-both_false false b p q = q
 
 -- the threshold at a place of a list, and 0 where there is none
 abbrev pub need_in : List ℕ → ℕ → ℕ
@@ -28,13 +13,13 @@ need_in list place = unwrap_or (slice_get list place) 0
 -- where no threshold of a list is above all weight, each is light
 light_in : (all : ℕ) (list : List ℕ) → list_any (nat_lt all) list ≡ false → (place : ℕ) → need_in list place ≤ all
 light_in all [] e place = omega arith
-light_in all (need ∷ list) e zero = ltb-false all need (or_left (nat_lt all need) (list_any (nat_lt all) list) e)
-light_in all (need ∷ list) e (suc place) = light_in all list (or_right (nat_lt all need) (list_any (nat_lt all) list) e) place
+light_in all (need ∷ list) e zero = ltb-false all need (or_parts (nat_lt all need) (list_any (nat_lt all) list) e).0
+light_in all (need ∷ list) e (suc place) = light_in all list (or_parts (nat_lt all need) (list_any (nat_lt all) list) e).1 place
 
 -- and the other way round
 none_above : (all : ℕ) (list : List ℕ) → ((place : ℕ) → need_in list place ≤ all) → list_any (nat_lt all) list ≡ false
 none_above all [] light = refl
-none_above all (need ∷ list) light = both_false (nat_lt all need) (list_any (nat_lt all) list) (le-ltb all need (light zero)) (none_above all list (λ place. light (suc place)))
+none_above all (need ∷ list) light = or_from (nat_lt all need) (list_any (nat_lt all) list) (le-ltb all need (light zero)) (none_above all list (λ place. light (suc place)))
 
 -- an object's thresholds stand in its list
 need_at : (needs : List (List ℕ)) (object place : ℕ) → need_of needs object place ≡ need_in (get_or needs object []) place

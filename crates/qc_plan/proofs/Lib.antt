@@ -1,4 +1,3 @@
-pub mod Below
 pub mod Faultless
 pub mod Heaviness
 pub mod Least

@@ -13,16 +13,20 @@ pub record IsAdmitted (plan : Plan) (kinds : List Kind) (objects : List ℕ) : T
   pub weighs : 0 < total plan.weights
   pub initial_light : (object inv : ℕ) → need_of plan.initial object inv ≤ total plan.weights
   pub last_light : (object event : ℕ) → need_of plan.last object event ≤ total plan.weights
-  pub meets : (object number : ℕ) (kind : Kind) (inv event : ℕ) → slice_get objects object ≡ Some number → slice_get kinds number ≡ Some kind
+  pub meets : (object number : ℕ) (kind : Kind) (inv event : ℕ)
+      → slice_get objects object ≡ Some number → slice_get kinds number ≡ Some kind
       → inv < kind.table.invs → event < length (events_of kind.table.rows) → IsTrue (depends kind.relation inv event)
       → total plan.weights < need_of plan.initial object inv + need_of plan.last object event
 
--- sites of this weight meet every quorum
+-- this weight adds with each threshold above 0 to more than all weight, so sites of it meet every such quorum
 pub record Closes (plan : Plan) (weight : ℕ) : Type 0 where
-  pub initial : (object inv : ℕ) → 0 < need_of plan.initial object inv → total plan.weights < weight + need_of plan.initial object inv
-  pub last : (object event : ℕ) → 0 < need_of plan.last object event → total plan.weights < weight + need_of plan.last object event
+  pub initial : (object inv : ℕ) → 0 < need_of plan.initial object inv
+      → total plan.weights < weight + need_of plan.initial object inv
+  pub last : (object event : ℕ) → 0 < need_of plan.last object event
+      → total plan.weights < weight + need_of plan.last object event
 
--- the least such weight, which is 0 where no threshold is above 0
+-- the least such weight, which is 0 where no threshold is above 0; where not each weight is that of a set of sites,
+-- lighter sites may meet every quorum too
 pub record IsCloseWeight (plan : Plan) (weight : ℕ) : Type 0 where
   pub closes : Closes plan weight
   pub least : (lighter : ℕ) → Closes plan lighter → weight ≤ lighter

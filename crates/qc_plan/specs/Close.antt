@@ -1,7 +1,7 @@
--- The close weight, computed.
+-- The close weight, computed: the least that adds with each threshold above 0 to more than all weight.
 use Rattle.std.specs.Prelude.{ℕ, ◌+◌, ◌-◌, ◌==◌, List, if◌then◌else◌, fold, max}
 
--- the least weight that adds to this threshold to more than all weight, and 0 where the threshold is 0
+-- the least weight that adds with this threshold to more than all weight, and 0 where the threshold is 0
 abbrev pub closing : ℕ → ℕ → ℕ
 closing all need = if need == 0 then 0 else all + 1 - need
 

@@ -1,5 +1,6 @@
 pub mod Admitted
 pub mod Close
 pub mod Faults
+pub mod Limits
 pub mod Need
 pub mod Weights

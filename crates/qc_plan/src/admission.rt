@@ -3,10 +3,12 @@
 ghost use Rattle.std.specs.Prelude.{◌≡◌, ◌≤◌, [], length, nat_lt, get_or, slice_get, option_and_then, OnOk};
 ghost use Rattle.std.specs.List.{list_any};
 ghost use Rattle.qc_plan.specs.Admitted.{IsAdmitted};
-ghost use Rattle.qc_plan.specs.Faults.{answer_of, fault_of, heavy_fault, is_heavy, object_fault, kind_fault, pair_fault, can_miss};
+ghost use Rattle.qc_plan.specs.Faults.{answer_of, fault_of, heavy_fault, is_heavy, object_fault, kind_fault};
+ghost use Rattle.qc_plan.specs.Faults.{pair_fault, can_miss};
 ghost use Rattle.qc_plan.specs.Weights.{total};
-ghost use Rattle.qc_table.specs.First.{first_below};
+ghost use Rattle.qc_list.specs.Search.{first_below};
 ghost use Rattle.qc_table.specs.Rules.{events_of};
+ghost use Rattle.qc_plan.specs.Limits.{most_numbers, most_sites};
 
 use crate::fault::PlanFault;
 use crate::plan::{Needs, Plan};
@@ -14,14 +16,14 @@ use crate::quorum::total;
 use qc_table::Kind;
 
 /// Whether a plan is admitted for these types and the objects' types, given
-/// by their numbers. There are at most 16 sites and 256 objects, and the plan
-/// lists thresholds for no more objects than there are; a threshold that it
-/// doesn't list is 0. The first fault is told: no weight; then the first
+/// by their numbers. Sites and objects keep to their limits, and the plan lists
+/// thresholds for no more objects than there are; a threshold that it doesn't
+/// list is 0. The first fault is told: no weight; then the first
 /// object with a threshold above the weight of all sites; then the first
 /// object, invocation and event whose quorums can miss each other.
 pub fn admit(plan: &Plan, kinds: &[Kind], objects: &[u8]) -> Result<(), PlanFault>
-    requires sites { length plan.now.weights ≤ 16 }
-    requires objects { length objects.now ≤ 256 }
+    requires sites { length plan.now.weights ≤ most_sites }
+    requires objects { length objects.now ≤ most_numbers }
     requires initial { length plan.now.initial ≤ length objects.now }
     requires last { length plan.now.last ≤ length objects.now }
     ensures told { result ≡ answer_of (fault_of plan.now kinds.now objects.now) }
@@ -35,8 +37,8 @@ pub fn admit(plan: &Plan, kinds: &[Kind], objects: &[u8]) -> Result<(), PlanFaul
 
 /// What is wrong with the plan.
 fn first_fault(plan: &Plan, kinds: &[Kind], objects: &[u8]) -> Option<PlanFault>
-    requires sites { length plan.now.weights ≤ 16 }
-    requires objects { length objects.now ≤ 256 }
+    requires sites { length plan.now.weights ≤ most_sites }
+    requires objects { length objects.now ≤ most_numbers }
     ensures { result ≡ fault_of plan.now kinds.now objects.now }
 {
     let all = total(plan.weights.items());
@@ -49,7 +51,7 @@ fn first_fault(plan: &Plan, kinds: &[Kind], objects: &[u8]) -> Option<PlanFault>
 /// The first object with a threshold above the weight of all sites.
 fn first_heavy(plan: &Plan, all: u16, objects: usize) -> Option<PlanFault>
     requires all { all ≡ total plan.now.weights }
-    requires objects { objects ≤ 256 }
+    requires objects { objects ≤ most_numbers }
     ensures { result ≡ first_below objects (heavy_fault plan.now) }
 {
     for object in 0..objects {
@@ -83,7 +85,7 @@ fn any_above(needs: &Needs, all: u16, object: usize) -> bool
 /// The first object, invocation and event that can miss each other.
 fn first_miss(plan: &Plan, all: u16, kinds: &[Kind], objects: &[u8]) -> Option<PlanFault>
     requires all { all ≡ total plan.now.weights }
-    requires objects { length objects.now ≤ 256 }
+    requires objects { length objects.now ≤ most_numbers }
     ensures { result ≡ first_below (length objects.now) (object_fault plan.now kinds.now objects.now) }
 {
     for (object, number) in objects.iter().enumerate() {

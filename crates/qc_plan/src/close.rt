@@ -3,25 +3,26 @@
 ghost use Rattle.std.specs.Prelude.{◌≡◌, ◌≤◌, length};
 ghost use Rattle.qc_plan.specs.Admitted.{IsCloseWeight};
 ghost use Rattle.qc_plan.specs.Close.{closing, closing_list, closing_needs};
+ghost use Rattle.qc_plan.specs.Limits.{most_sites, most_weight};
 
 use crate::plan::{Needs, Plan};
 use crate::quorum::total;
 
-/// The least weight of sites that share a site with every quorum of the plan
-/// whose threshold is above 0, and 0 where no threshold is above 0. It is at
-/// most the weight of all sites, which is at most 4,080.
+/// The least weight that adds with each threshold above 0 of the plan to more
+/// than the weight of all sites, and 0 where no threshold is above 0. Sites of
+/// this weight share a site with every quorum of such a threshold.
 pub fn close_weight(plan: &Plan) -> u16
-    requires { length plan.now.weights ≤ 16 }
+    requires { length plan.now.weights ≤ most_sites }
     ensures { IsCloseWeight plan.now result }
 {
     let all = total(plan.weights.items());
     closing_needs(&plan.initial, all).max(closing_needs(&plan.last, all))
 }
 
-/// The least weight of sites that share a site with the quorums of these
-/// thresholds.
+/// The least weight that adds with each of these thresholds above 0 to more
+/// than all weight.
 fn closing_needs(needs: &Needs, all: u16) -> u16
-    requires { all ≤ 4080 }
+    requires { all ≤ most_weight }
     ensures { result ≡ closing_needs all needs.now }
 {
     let mut most = 0;
@@ -33,7 +34,7 @@ fn closing_needs(needs: &Needs, all: u16) -> u16
 
 /// The same of one object's thresholds.
 fn closing_list(list: &[u16], all: u16) -> u16
-    requires { all ≤ 4080 }
+    requires { all ≤ most_weight }
     ensures { result ≡ closing_list all list.now }
 {
     let mut most = 0;
@@ -43,10 +44,10 @@ fn closing_list(list: &[u16], all: u16) -> u16
     most
 }
 
-/// The least weight of sites that share a site with each set whose weight
-/// reaches this threshold, and 0 where the threshold is 0.
+/// The least weight that adds with this threshold to more than all weight, and
+/// 0 where the threshold is 0.
 fn closing(need: u16, all: u16) -> u16
-    requires { all ≤ 4080 }
+    requires { all ≤ most_weight }
     ensures { result ≡ closing all need }
 {
     if need == 0 {

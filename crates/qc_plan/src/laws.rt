@@ -21,10 +21,12 @@ pub fn faultless_plans_are_admitted()
 /// Where an invocation depends on an event, each initial quorum of the one
 /// shares a site with each final quorum of the other (Herlihy 1986).
 pub fn dependent_quorums_meet()
-    ensures { (plan : Plan) (kinds : List Kind) (objects : List ℕ) (object number : ℕ) (kind : Kind) (inv event : ℕ) (a b : ℕ → Bool)
+    ensures { (plan : Plan) (kinds : List Kind) (objects : List ℕ) (object number : ℕ) (kind : Kind) (inv event : ℕ)
+        (a b : ℕ → Bool)
         → IsAdmitted plan kinds objects → slice_get objects object ≡ Some number → slice_get kinds number ≡ Some kind
         → inv < kind.table.invs → event < length (events_of kind.table.rows) → IsTrue (depends kind.relation inv event)
-        → need_of plan.initial object inv ≤ weight a plan.weights → need_of plan.last object event ≤ weight b plan.weights
+        → need_of plan.initial object inv ≤ weight a plan.weights
+        → need_of plan.last object event ≤ weight b plan.weights
         → IsShared plan.weights a b }
 {}
 

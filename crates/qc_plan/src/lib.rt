@@ -5,19 +5,25 @@
 //! each event of each object, for its final quorum (Herlihy 1986; weighted
 //! voting, Gifford 1979).
 //!
-//! A plan is admitted where each initial quorum of an invocation shares a site
-//! with each final quorum of an event on which the invocation depends. Sites
-//! of the close weight share a site with every quorum of the plan.
+//! 1. A plan is admitted where each initial quorum of an invocation shares a
+//!    site with each final quorum of an event on which the invocation depends.
+//! 2. The close weight is the least that adds with each threshold above 0 to
+//!    more than all weight. So sites of that weight share a site with every
+//!    quorum of such a threshold. Lighter ones may do so too: with the weights
+//!    2, 2 and 2 and the threshold 3 it is 4, though 3 would do.
+//!
+//! `qc_accept` admits the plan of each declared epoch, and front ends read its
+//! thresholds. `initial_met`, `final_met` and the close weight have no caller
+//! yet: front ends over several sites and changes of epochs will ask them.
 #![tactic(auto)]
 
 mod admission;
 mod close;
 mod fault;
 mod laws;
+mod limits;
 mod plan;
 mod quorum;
-#[cfg(test)]
-mod tests;
 
 pub use admission::admit;
 pub use close::close_weight;
@@ -26,5 +32,6 @@ pub use laws::{
     closing_sites_meet_every_quorum, dependent_quorums_meet, faultless_plans_are_admitted,
     unread_invocations_are_independent, unwritten_events_are_ignored,
 };
+pub use limits::{MOST_SITES, limit_of_sites_is_as_defined};
 pub use plan::{Needs, Plan, Weights};
 pub use quorum::{final_met, initial_met};

@@ -4,13 +4,14 @@ ghost use Rattle.std.specs.Prelude.{◌≡◌, ◌<◌, ◌≤◌, length, nat_l
 ghost use Rattle.qc_plan.specs.Need.{need_of};
 ghost use Rattle.qc_plan.specs.Weights.{weight, total};
 ghost use Rattle.qc_table.specs.Sets.{has};
+ghost use Rattle.qc_plan.specs.Limits.{most_sites, most_weight};
 
 use crate::plan::Plan;
 
 /// Whether the sites, bit k for site k, are an initial quorum of an invocation
 /// of an object: whether their weight reaches its threshold.
 pub fn initial_met(plan: &Plan, object: u8, inv: u8, sites: u16) -> bool
-    requires { length plan.now.weights ≤ 16 }
+    requires { length plan.now.weights ≤ most_sites }
     ensures { result ≡ nat_le (need_of plan.now.initial object inv) (weight (has sites) plan.now.weights) }
 {
     plan.read_need(object, inv) <= weight(plan.weights.items(), sites)
@@ -19,7 +20,7 @@ pub fn initial_met(plan: &Plan, object: u8, inv: u8, sites: u16) -> bool
 /// Whether the sites, bit k for site k, are a final quorum of an event of an
 /// object: whether their weight reaches its threshold.
 pub fn final_met(plan: &Plan, object: u8, event: u8, sites: u16) -> bool
-    requires { length plan.now.weights ≤ 16 }
+    requires { length plan.now.weights ≤ most_sites }
     ensures { result ≡ nat_le (need_of plan.now.last object event) (weight (has sites) plan.now.weights) }
 {
     plan.append_need(object, event) <= weight(plan.weights.items(), sites)
@@ -27,7 +28,7 @@ pub fn final_met(plan: &Plan, object: u8, event: u8, sites: u16) -> bool
 
 /// The weight of the sites of a set.
 fn weight(weights: &[u8], sites: u16) -> u16
-    requires { length weights.now ≤ 16 }
+    requires { length weights.now ≤ most_sites }
     ensures { result ≡ weight (has sites) weights.now }
 {
     let mut sum = 0;
@@ -41,7 +42,7 @@ fn weight(weights: &[u8], sites: u16) -> u16
 
 /// Whether a site is in the set.
 fn has(sites: u16, site: usize) -> bool
-    requires { site < 16 }
+    requires { site < most_sites }
     ensures { result ≡ has sites site }
 {
     (sites >> site) & 1 == 1
@@ -49,9 +50,9 @@ fn has(sites: u16, site: usize) -> bool
 
 /// The weight of all sites.
 pub(crate) fn total(weights: &[u8]) -> u16
-    requires { length weights.now ≤ 16 }
+    requires { length weights.now ≤ most_sites }
     ensures total { result ≡ total weights.now }
-    ensures few { result ≤ 4080 }
+    ensures few { result ≤ most_weight }
 {
     let mut sum = 0;
     for weight in weights {

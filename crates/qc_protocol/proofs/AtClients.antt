@@ -3,9 +3,9 @@ use Rattle.std.proofs.Common.{Some, None, ◌≡◌, ◌≢◌, ℕ, ◌≤◌, 
 use Rattle.std.specs.Prelude.{max}
 use Rattle.qc_stamp.specs.declared.stamp.TxId.{TxId}
 use Rattle.qc_decl.specs.declared.declaration.Declaration.{Declaration}
-use Rattle.qc_onecopy.specs.Lists.{In}
+use Rattle.qc_list.specs.Members.{In}
 use Rattle.qc_onecopy.specs.Executed.{Executed}
-use Rattle.qc_onecopy.proofs.Lists.{in_left, in_right}
+use Rattle.qc_list.proofs.Members.{In-first, In-second}
 use Rattle.qc_protocol.specs.Names.{put}
 use Rattle.qc_protocol.specs.Site.{Deed, Grants, Prepares}
 use Rattle.qc_protocol.specs.State.{Status, NotBegun, Active, Voting, Granted, AppendRequest, State}
@@ -93,13 +93,13 @@ module _ (decl : Declaration) where
       never_prepares a = subst (λ (s : Status). MayPrepare s) ok.1 a
 
       behind : (d : Deed) → In d k.post → In d (w.deeds g.site)
-      behind d h = subst (λ (ds : List Deed). In d ds) (sym k.split) (in_right d g.before (Grants g.tx g.items g.view ∷ k.post) (inr h))
+      behind d h = subst (λ (ds : List Deed). In d ds) (sym k.split) (In-second d g.before (Grants g.tx g.items g.view ∷ k.post) (inr h))
 
       new : CountedLaw (w.deeds g.site) (w.life g.site) (w.status g.tx) w.votes g
       new = record {
         post = k.post;
         split = k.split;
-        fresh = λ h. never_prepares (l.deeds g.site (Prepares g.tx) (subst (λ (ds : List Deed). In (Prepares g.tx) ds) (sym k.split) (in_left (Prepares g.tx) g.before (Grants g.tx g.items g.view ∷ k.post) h)));
+        fresh = λ h. never_prepares (l.deeds g.site (Prepares g.tx) (subst (λ (ds : List Deed). In (Prepares g.tx) ds) (sym k.split) (In-first (Prepares g.tx) g.before (Grants g.tx g.items g.view ∷ k.post) h)));
         unvoted = λ alive e. calm_all g.tx k.post (k.calm e) (λ d h. active_mild w.status g.tx ok.1 d (l.deeds g.site d (behind d h))) (λ h. never_prepares (l.deeds g.site (Prepares g.tx) (behind (Prepares g.tx) h)));
         voted = λ alive v. absurd (never_prepares (l.votes (record { tx = g.tx; site = g.site }) v));
       }

@@ -3,15 +3,17 @@ use Rattle.std.proofs.Common.{◌≡◌, ◌≢◌, ℕ, suc, ◌==◌, Bool, tr
 use Rattle.qc_stamp.specs.declared.stamp.Stamp.{Stamp}
 use Rattle.qc_stamp.specs.declared.stamp.TxId.{TxId}
 use Rattle.qc_decl.specs.declared.declaration.Declaration.{Declaration}
-use Rattle.qc_onecopy.specs.Lists.{In}
+use Rattle.qc_list.specs.Members.{In}
 use Rattle.qc_onecopy.proofs.Lists.{in_split}
-use Rattle.qc_protocol.specs.Names.{same_tx, put}
+use Rattle.qc_stamp.specs.Order.{same_tx}
+use Rattle.qc_protocol.specs.Names.{put}
 use Rattle.qc_protocol.specs.Site.{Deed, Grants, Prepares, LearnsCommit, LearnsAbort, Closes, Installs, Rises, epoch_from}
 use Rattle.qc_protocol.specs.State.{Aborted, Granted, YesVote, Verdict, State}
 use Rattle.qc_protocol.specs.Acts.{Grant, Vote, Learn, Rise, Close, deed_of_outcome, deed_of, after_act}
 use Rattle.qc_protocol.specs.Guards.{MayPrepare, MayGrant, IsAllowed}
 use Rattle.qc_protocol.specs.StateLaws.{IsOutcome, AgreesWithStatus, KeepsLife, HasRisingEpochs, GrantedLaw, CountedLaw, HasDecision, StateLaws}
-use Rattle.qc_protocol.proofs.Names.{put_case, tx_is, tx_test}
+use Rattle.qc_stamp.proofs.Orders.{same_tx_is}
+use Rattle.qc_protocol.proofs.Names.{put_case, tx_test}
 use Rattle.qc_protocol.proofs.Deeds.{IsCalm}
 use Rattle.qc_protocol.proofs.Counted.{granted_after, granted_rises, granted_closes, counted_calm, counted_borne, counted_rises, counted_closes, counted_vote, counted_other}
 use Rattle.qc_protocol.proofs.Outcomes.{outcome_commit, outcome_aborted, outcome_agrees, outcome_keeps_life, committed_record}
@@ -112,7 +114,7 @@ module _ (decl : Declaration) where
     where
       here : (g : Granted) → In g w.counted → g.site ≡ site → (b : Bool) → same_tx g.tx tx ≡ b → CountedLaw (w.deeds g.site ++ Prepares tx ∷ []) (w.life g.site) (w.status g.tx) (record { tx = tx; site = site } ∷ w.votes) g
       here g h same true e =
-          let its : g.tx ≡ tx = tx_is g.tx tx e in
+          let its : g.tx ≡ tx = same_tx_is g.tx tx e in
           let life : w.life g.site ≡ g.life = subst (λ (s : ℕ). w.life s ≡ g.life) (sym same) (sym (ok.1 g h its same)) in
           subst (λ (t : TxId). CountedLaw (w.deeds g.site ++ Prepares t ∷ []) (w.life g.site) (w.status g.tx) (record { tx = tx; site = site } ∷ w.votes) g) its
           (counted_vote (w.deeds g.site) (w.life g.site) (w.status g.tx) w.votes g (record { tx = tx; site = site }) life (l.counted g h))
@@ -148,7 +150,7 @@ module _ (decl : Declaration) where
           ((l.record_of g.tx k.0 (committed_record (w.status g.tx) k.0 k.1)).agreed g h refl).0 (l.counted g h)
 
       seen_by : (g : Granted) → In g w.counted → (b : Bool) → same_tx t.tx g.tx ≡ b → CountedLaw (w.deeds g.site ++ deed_of t ∷ []) (w.life g.site) (w.status g.tx) w.votes g
-      seen_by g h true e = mine g h (tx_is t.tx g.tx e) t.stamp (l.verdicts t ok)
+      seen_by g h true e = mine g h (same_tx_is t.tx g.tx e) t.stamp (l.verdicts t ok)
       seen_by g h false e = counted_calm (w.deeds g.site) (w.life g.site) (w.status g.tx) w.votes g (deed_of t) (λ alive. other g t.stamp (λ same. let x : same_tx t.tx g.tx ≡ true = tx_test t.tx g.tx same in absurd (cc))) (l.counted g h)
 
   by_site : (w : State) (site : ℕ) (d : Deed) (P : List Deed → ℕ → Type 0) (s : ℕ) → (s ≡ site → P (w.deeds site ++ d ∷ []) (suc (w.life site))) → ((s ≢ site) → P (w.deeds s) (w.life s))

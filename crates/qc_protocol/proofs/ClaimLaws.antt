@@ -1,4 +1,5 @@
--- Records, logs and verdicts of every run.
+-- Records, logs and verdicts of every run: records are apart, logs hold just their operations and are closed, verdicts agree,
+-- and a record follows what its client had seen.
 use Rattle.std.proofs.Common.{◌≡◌, ◌≢◌, ℕ, zero, suc, ◌<◌, ◌≤◌, ◌+◌, false, IsTrue, ◌⊎◌, ◌↔◌, inl, inr, List, [], ◌∷◌, ◌++◌, map, length, slice_get, Option, Some, None, IsSome, refl, sym, ap, ◌∙◌, subst, arith}
 use Rattle.std.specs.Prelude.{option_and_then}
 use Rattle.std.specs.Option.{option_map_or}
@@ -16,7 +17,8 @@ use Rattle.qc_table.specs.Rules.{Rules, event, event_number, events_of}
 use Rattle.qc_cert.specs.Views.{inv_of}
 use Rattle.qc_decl.specs.declared.declaration.Declaration.{Declaration}
 use Rattle.qc_decl.specs.Accepted.{IsAccepted}
-use Rattle.qc_onecopy.specs.Lists.{In, IsOrdered}
+use Rattle.qc_list.specs.Members.{In}
+use Rattle.qc_onecopy.specs.Lists.{IsOrdered}
 use Rattle.qc_onecopy.specs.OneCopy.{OneCopy}
 use Rattle.qc_onecopy.specs.Committed.{AreApart, IsStampedBefore, sorted}
 use Rattle.qc_onecopy.specs.Executed.{Executed, IsAnswered, IsEarlier, IsLineBefore, Placed, line_of, depends_at, own_line, committed_line}

@@ -11,7 +11,8 @@ use Rattle.qc_table.specs.Rules.{events_of}
 use Rattle.qc_decl.specs.declared.declaration.Declaration.{Declaration}
 use Rattle.qc_decl.specs.Accepted.{IsAccepted}
 use Rattle.qc_decl.specs.Lookup.{plan_in}
-use Rattle.qc_onecopy.specs.Lists.{In, IsOrdered}
+use Rattle.qc_list.specs.Members.{In}
+use Rattle.qc_onecopy.specs.Lists.{IsOrdered}
 use Rattle.qc_onecopy.specs.Committed.{IsStampedBefore}
 use Rattle.qc_onecopy.specs.Executed.{Executed, Placed, IsOwnBefore, depends_at, kind_at, line_of, own_line, committed_line}
 use Rattle.qc_onecopy.specs.Views.{HasLine, HasOwn, IsNext}

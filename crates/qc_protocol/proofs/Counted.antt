@@ -1,7 +1,7 @@
 -- What a site did since it granted: each deed more keeps what is known of a grant that the client counted.
 -- A counted grant lasts (the held law): its items are held until the transaction is decided, or they are prepared.
 use Rattle.std.proofs.Common.{◌≡◌, ◌≢◌, ℕ, suc, ◌≤◌, false, inl, inr, List, [], ◌∷◌, ◌++◌, ap, ◌∙◌, arith, append_assoc}
-use Rattle.qc_onecopy.specs.Lists.{In}
+use Rattle.qc_list.specs.Members.{In}
 use Rattle.qc_protocol.specs.Site.{Deed, Grants, Prepares, Closes, Rises}
 use Rattle.qc_protocol.specs.State.{Status, Aborted, Granted, YesVote}
 use Rattle.qc_protocol.specs.StateLaws.{KeepsLife, GrantedLaw, CountedLaw}

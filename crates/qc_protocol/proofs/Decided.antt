@@ -1,4 +1,5 @@
--- What a decided log and clock have of the transactions of earlier epochs.
+-- What a decided log and clock have of the transactions of earlier epochs: the sites that closed an epoch meet each of its
+-- quorums, so the log has each committed line on which something depends, or the clock has passed the reader's stamp.
 use Rattle.std.proofs.Common.{◌≡◌, ◌≢◌, ℕ, zero, suc, ◌<◌, ◌≤◌, Bool, true, false, IsTrue, ◌⊎◌, inl, inr, List, [], ◌∷◌, ◌++◌, length, Some, None, IsSome, refl, sym, ap, ◌∙◌, subst, arith, append-nil}
 use Rattle.std.proofs.lemmas.Bool.{cases_eq}
 use Rattle.qc_stamp.specs.declared.stamp.Stamp.{Stamp}
@@ -13,9 +14,9 @@ use Rattle.qc_plan.specs.Weights.{weight}
 use Rattle.qc_decl.specs.declared.declaration.Declaration.{Declaration}
 use Rattle.qc_decl.specs.Accepted.{IsAccepted}
 use Rattle.qc_decl.specs.Lookup.{append_need_of, plan_in, read_need_of}
-use Rattle.qc_onecopy.specs.Lists.{In}
+use Rattle.qc_list.specs.Members.{In}
 use Rattle.qc_onecopy.specs.Executed.{Executed, depends_at, kind_at, own_line, committed_line}
-use Rattle.qc_onecopy.proofs.Lists.{in_left, in_right}
+use Rattle.qc_list.proofs.Members.{In-first, In-second}
 use Rattle.qc_protocol.specs.Site.{Item, Lock, Own, Promise, Deed, Grants, LearnsCommit, Installs, Site, after_deed, site_from, site_after, empty_site, done_records, epoch_from, shut_from}
 use Rattle.qc_protocol.specs.SiteLaws.{HasDone, HaveNoInstall, IsPreparedWith, SparesUntilDone}
 use Rattle.qc_protocol.specs.State.{Status, NotBegun, Committed, Decision, Granted, Snapshot}
@@ -114,8 +115,8 @@ module _ (decl : Declaration) (accepted : IsAccepted decl) (acts : List Act) (ru
   done_stamp g c sn sg p d =
       stamp_of decl acts run g.tx c sg g.site d.stamp
       (subst (λ (ds : List Deed). In (LearnsCommit g.tx d.stamp) ds) (sym (p.within ∙ ap (λ (ds : List Deed). ds ++ p.later) p.is))
-      (in_left (LearnsCommit g.tx d.stamp) (g.before ++ Grants g.tx g.items g.view ∷ p.since) p.later
-      (in_right (LearnsCommit g.tx d.stamp) g.before (Grants g.tx g.items g.view ∷ p.since) (inr (ended decl acts run p.since g.tx d)))))
+      (In-first (LearnsCommit g.tx d.stamp) (g.before ++ Grants g.tx g.items g.view ∷ p.since) p.later
+      (In-second (LearnsCommit g.tx d.stamp) g.before (Grants g.tx g.items g.view ∷ p.since) (inr (ended decl acts run p.since g.tx d)))))
 
   -- the verdict on a committed transaction that a snapshot had prepared
   verdict : (tx : TxId) (c : CommitRecord) (d : Decision) (p : Promise) → (state acts).status tx ≡ Committed c → p.tx ≡ tx → IsResolved (state acts).verdicts d p
@@ -143,7 +144,7 @@ module _ (decl : Declaration) (accepted : IsAccepted decl) (acts : List Act) (ru
   pub of_epoch : (site k : ℕ) (before later : List Deed) → (state acts).deeds site ≡ before ++ later → epoch_from 1 before ≡ k → 1 < k → IsOfEpoch before k
   of_epoch site k before later split epoch less =
       let i = installed before empty_site 1 k (record { less = λ l h. h; prepared = λ p h. h }) (rising-left before later 1 (subst (λ (ds : List Deed). HasRisingEpochs 1 ds) split (wl.rising site))) epoch less in
-      let d = wl.installed site k i.clock i.log (subst (λ (ds : List Deed). In (Installs k i.clock i.log) ds) (sym split) (in_left (Installs k i.clock i.log) before later i.stands)) in
+      let d = wl.installed site k i.clock i.log (subst (λ (ds : List Deed). In (Installs k i.clock i.log) ds) (sym split) (In-first (Installs k i.clock i.log) before later i.stands)) in
       record {
         by = d.by;
         stands = d.stands;

@@ -1,9 +1,10 @@
--- One more deed after a grant.
+-- One more deed after a grant: which deeds leave what a transaction holds, and which keep that it is prepared or done.
 use Rattle.std.proofs.Common.{◌≡◌, ◌≢◌, Bool, true, false, IsTrue, ◌||◌, inl, inr, List, [], ◌∷◌, ◌++◌, refl, ap}
-use Rattle.qc_onecopy.specs.Lists.{In}
+use Rattle.qc_list.specs.Members.{In}
 use Rattle.qc_stamp.specs.declared.stamp.TxId.{TxId}
-use Rattle.qc_protocol.specs.Names.{same_tx}
-use Rattle.qc_protocol.proofs.Names.{tx_is, tx_test}
+use Rattle.qc_stamp.specs.Order.{same_tx}
+use Rattle.qc_stamp.proofs.Orders.{same_tx_is}
+use Rattle.qc_protocol.proofs.Names.{tx_test}
 use Rattle.qc_protocol.specs.Site.{Deed, Grants, Prepares, LearnsCommit, LearnsAbort, Closes, Installs, Rises}
 use Rattle.qc_protocol.specs.SiteLaws.{SparesUntilDone}
 use Rattle.qc_protocol.specs.StateLaws.{KeepsLife, IsPreparedOrDone}
@@ -141,7 +142,7 @@ calm_all tx (Grants t items view ∷ ds) n c p = calm_all tx ds n (λ d h. c d (
 calm_all tx (Prepares t ∷ ds) n c p = by (same_tx tx t) refl (calm_all tx ds n (λ d h. c d (inr h)) (λ h. p (inr h)))
   where
     by : (b : Bool) → same_tx tx t ≡ b → SparesUntilDone tx false ds → SparesUntilDone tx (same_tx tx t) ds
-    by true e ih = absurd (p (inl (ap (λ (x : TxId). Prepares x) (tx_is tx t e))))
+    by true e ih = absurd (p (inl (ap (λ (x : TxId). Prepares x) (same_tx_is tx t e))))
     by false e ih = rw e ih
 calm_all tx (LearnsCommit t stamp ∷ ds) n c p = (c (LearnsCommit t stamp) (inl refl), calm_all tx ds n (λ d h. c d (inr h)) (λ h. p (inr h)))
 calm_all tx (LearnsAbort t ∷ ds) n c p = (c (LearnsAbort t) (inl refl), calm_all tx ds n (λ d h. c d (inr h)) (λ h. p (inr h)))

@@ -1,10 +1,11 @@
--- Installs among deeds.
+-- Installs among the deeds of a site: its epoch only grows, and a site that closed with a transaction prepared tells so, or its
+-- Done.
 use Rattle.std.proofs.Common.{◌≡◌, ℕ, ◌<◌, ◌≤◌, Bool, true, false, ◌||◌, ◌⊎◌, inl, inr, List, [], ◌∷◌, ◌++◌, refl, sym, ap, ◌∙◌, subst, arith}
 use Rattle.std.proofs.lemmas.Bool.{cases_eq}
 use Rattle.qc_stamp.specs.declared.stamp.TxId.{TxId}
 use Rattle.qc_entry.specs.declared.line.Line.{Line}
-use Rattle.qc_onecopy.specs.Lists.{In}
-use Rattle.qc_protocol.specs.Names.{same_tx}
+use Rattle.qc_list.specs.Members.{In}
+use Rattle.qc_stamp.specs.Order.{same_tx}
 use Rattle.qc_protocol.specs.Site.{Item, Deed, Grants, Prepares, LearnsCommit, LearnsAbort, Closes, Installs, Rises, Site, site_from, after_deed, epoch_from, shut_from}
 use Rattle.qc_protocol.specs.SiteLaws.{HasDone, HaveNoInstall, Holds, IsPreparedWith, SiteLaws, Spares, SparesUntilDone, is_prepared_after}
 use Rattle.qc_protocol.specs.StateLaws.{HasRisingEpochs, IsPreparedOrDone}

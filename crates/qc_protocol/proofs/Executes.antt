@@ -4,9 +4,10 @@ use Rattle.qc_stamp.specs.declared.stamp.TxId.{TxId}
 use Rattle.qc_entry.specs.declared.line.Line.{Line}
 use Rattle.qc_decl.specs.declared.declaration.Declaration.{Declaration}
 use Rattle.qc_decl.specs.Lookup.{append_need_of}
-use Rattle.qc_onecopy.specs.Lists.{In}
+use Rattle.qc_list.specs.Members.{In}
 use Rattle.qc_onecopy.specs.Executed.{Executed, own_line}
-use Rattle.qc_onecopy.proofs.Lists.{in_left, in_right, in_split}
+use Rattle.qc_list.proofs.Members.{In-first, In-second}
+use Rattle.qc_onecopy.proofs.Lists.{in_split}
 use Rattle.qc_protocol.specs.Names.{put_tx}
 use Rattle.qc_protocol.specs.Site.{Own}
 use Rattle.qc_protocol.specs.State.{NotBegun, Active, State}
@@ -29,7 +30,7 @@ module _ (decl : Declaration) where
       new_executed = put_tx w.executed tx (w.executed tx ++ operation ∷ [])
 
       stays : (t : TxId) (d : Executed) → In d (w.executed t) → In d (put_tx w.executed tx (w.executed tx ++ operation ∷ []) t)
-      stays t d h = put_tx_case (λ (ds : List Executed). In d ds) w.executed tx (w.executed tx ++ operation ∷ []) t (λ e. in_left d (w.executed tx) (operation ∷ []) (subst (λ (x : TxId). In d (w.executed x)) e h)) (λ ne. h)
+      stays t d h = put_tx_case (λ (ds : List Executed). In d ds) w.executed tx (w.executed tx ++ operation ∷ []) t (λ e. In-first d (w.executed tx) (operation ∷ []) (subst (λ (x : TxId). In d (w.executed x)) e h)) (λ ne. h)
 
       g : Grows w.status w.status w.executed (put_tx w.executed tx (w.executed tx ++ operation ∷ [])) w.chosen (put_tx w.chosen tx None)
       g = record {
@@ -38,7 +39,7 @@ module _ (decl : Declaration) where
         known = λ t d h. elim h [
           | inl k ↦ inl (stays t d k)
           | inr k ↦ put_tx_both t (λ ds o. IsExecutedOrChosen ds o d)
-              (λ e. inl (in_right d (w.executed tx) (operation ∷ []) (inl (only d (subst (λ (x : TxId). w.chosen x ≡ Some d) e k)))))
+              (λ e. inl (In-second d (w.executed tx) (operation ∷ []) (inl (only d (subst (λ (x : TxId). w.chosen x ≡ Some d) e k)))))
               (λ ne. inr k)
         ];
       }

@@ -4,7 +4,7 @@ use Rattle.std.proofs.lemmas.List.{append_cancel_left}
 use Rattle.qc_entry.specs.declared.line.Line.{Line}
 use Rattle.qc_entry.specs.declared.record.Commit.{Commit as CommitRecord}
 use Rattle.qc_decl.specs.declared.declaration.Declaration.{Declaration}
-use Rattle.qc_onecopy.specs.Lists.{In}
+use Rattle.qc_list.specs.Members.{In}
 use Rattle.qc_protocol.specs.Site.{Closes, Deed, Grants, Installs, Item, LearnsAbort, LearnsCommit, Prepares, Rises, Site, after_deed, empty_site, items_of, site_after, site_from}
 use Rattle.qc_protocol.specs.SiteLaws.{HaveNoInstall, SparesUntilDone}
 use Rattle.qc_protocol.specs.State.{Aborted, Granted}

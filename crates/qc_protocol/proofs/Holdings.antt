@@ -5,9 +5,10 @@ use Rattle.qc_stamp.specs.declared.stamp.TxId.{TxId}
 use Rattle.qc_entry.specs.declared.line.OwnLine.{OwnLine}
 use Rattle.qc_decl.specs.declared.declaration.Declaration.{Declaration}
 use Rattle.qc_decl.specs.Accepted.{IsAccepted}
-use Rattle.qc_onecopy.specs.Lists.{In}
+use Rattle.qc_list.specs.Members.{In}
 use Rattle.qc_onecopy.specs.Executed.{Executed, own_line}
-use Rattle.qc_onecopy.proofs.Lists.{in_right, in_split}
+use Rattle.qc_list.proofs.Members.{In-second}
+use Rattle.qc_onecopy.proofs.Lists.{in_split}
 use Rattle.qc_protocol.specs.Site.{Item, Own, Deed, Grants, LearnsCommit, Site, site_from, after_deed, empty_site, epoch_from, items_of, site_after}
 use Rattle.qc_protocol.specs.SiteLaws.{HaveNoInstall}
 use Rattle.qc_protocol.specs.State.{Status, Voting, Aborted, Granted}
@@ -74,6 +75,6 @@ module _ (decl : Declaration) (accepted : IsAccepted decl) (acts : List Act) (ru
       elim (held_or_done k.post g.tx item (after_deed (site_after g.before) (Grants g.tx g.items g.view)) (holds_granted g item k.fresh hi) (k.unvoted alive life) none) [
         | inl held ↦ subst (λ (x : Site). In item (items_of g.tx x.held)) (sym eq) held
         | inr d ↦
-            let all : In (LearnsCommit g.tx d.stamp) ((state acts).deeds g.site) = subst (λ (ds : List Deed). In (LearnsCommit g.tx d.stamp) ds) (sym k.split) (in_right (LearnsCommit g.tx d.stamp) g.before (Grants g.tx g.items g.view ∷ k.post) (inr (ended decl acts run k.post g.tx d))) in
+            let all : In (LearnsCommit g.tx d.stamp) ((state acts).deeds g.site) = subst (λ (ds : List Deed). In (LearnsCommit g.tx d.stamp) ds) (sym k.split) (In-second (LearnsCommit g.tx d.stamp) g.before (Grants g.tx g.items g.view ∷ k.post) (inr (ended decl acts run k.post g.tx d))) in
             absurd (subst (λ (s : Status). IsOutcome s (Some d.stamp)) voting (wl.deeds g.site (LearnsCommit g.tx d.stamp) all))
       ]

@@ -4,7 +4,7 @@ use Rattle.qc_stamp.specs.declared.stamp.Stamp.{Stamp}
 use Rattle.qc_stamp.specs.declared.stamp.TxId.{TxId}
 use Rattle.qc_entry.specs.declared.line.Line.{Line}
 use Rattle.qc_decl.specs.declared.declaration.Declaration.{Declaration}
-use Rattle.qc_onecopy.specs.Lists.{In}
+use Rattle.qc_list.specs.Members.{In}
 use Rattle.qc_protocol.specs.Site.{Deed, Grants, Prepares, LearnsCommit, LearnsAbort, Closes, Installs, Rises, Promise, epoch_from}
 use Rattle.qc_protocol.specs.State.{Decision, Snapshot, Verdict}
 use Rattle.qc_protocol.specs.Acts.{deed_of_outcome}

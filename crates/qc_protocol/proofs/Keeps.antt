@@ -2,8 +2,9 @@
 use Rattle.std.proofs.Common.{◌≡◌, ◌≢◌, ℕ, ◌≤◌, inl, inr, List, [], ◌∷◌, ◌++◌, Some, None, refl, sym, ap, ◌∙◌, subst, append-nil}
 use Rattle.qc_stamp.specs.declared.stamp.TxId.{TxId}
 use Rattle.qc_decl.specs.declared.declaration.Declaration.{Declaration}
-use Rattle.qc_onecopy.specs.Lists.{In}
-use Rattle.qc_onecopy.proofs.Lists.{in_right, in_split}
+use Rattle.qc_list.specs.Members.{In}
+use Rattle.qc_list.proofs.Members.{In-second}
+use Rattle.qc_onecopy.proofs.Lists.{in_split}
 use Rattle.qc_protocol.specs.Names.{put, put_tx}
 use Rattle.qc_protocol.specs.Site.{Deed, Prepares, Installs}
 use Rattle.qc_protocol.specs.State.{Status, Active, Voting, Pending, Committed, Aborted, Decision, Granted, Snapshot, State}
@@ -95,7 +96,7 @@ module _ (decl : Declaration) where
     rising = l.rising;
     snapped = l.snapped;
     answers = l.answers;
-    made = λ d h. made_more decl w.snapshots w.verdicts w.snapshots (verdict_of tx (w.status tx) ++ w.verdicts) d (λ s i. i) (λ v i. in_right v (verdict_of tx (w.status tx)) w.verdicts i) (l.made d h);
+    made = λ d h. made_more decl w.snapshots w.verdicts w.snapshots (verdict_of tx (w.status tx) ++ w.verdicts) d (λ s i. i) (λ v i. In-second v (verdict_of tx (w.status tx)) w.verdicts i) (l.made d h);
   }
   keeps w (Learn site t) ok l = learn_keeps decl w site t ok l
   keeps w (Rise site) ok l = rise_keeps decl w site l

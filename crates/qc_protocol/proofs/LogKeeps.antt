@@ -4,7 +4,7 @@ use Rattle.std.specs.Prelude.{max}
 use Rattle.qc_decl.specs.declared.declaration.Declaration.{Declaration}
 use Rattle.qc_decl.specs.Accepted.{IsAccepted}
 use Rattle.qc_decl.specs.Lookup.{append_need_of}
-use Rattle.qc_onecopy.specs.Lists.{In}
+use Rattle.qc_list.specs.Members.{In}
 use Rattle.qc_onecopy.specs.Executed.{Executed, own_line}
 use Rattle.qc_protocol.specs.Names.{put, put_tx}
 use Rattle.qc_protocol.specs.Site.{Own, Installs, Deed, Grants, Prepares, Closes, Rises, site_after}

@@ -6,7 +6,7 @@ use Rattle.qc_entry.specs.declared.line.Line.{Line}
 use Rattle.qc_entry.specs.declared.line.OwnLine.{OwnLine}
 use Rattle.qc_entry.specs.declared.record.Commit.{Commit as CommitRecord}
 use Rattle.qc_decl.specs.declared.declaration.Declaration.{Declaration}
-use Rattle.qc_onecopy.specs.Lists.{In}
+use Rattle.qc_list.specs.Members.{In}
 use Rattle.qc_onecopy.specs.Executed.{Executed, committed_line}
 use Rattle.qc_protocol.specs.Site.{Item, Lock, Own, Promise, site_after}
 use Rattle.qc_protocol.specs.State.{Status, Decision, NotBegun, Pending, Committed, Aborted, Granted, State}

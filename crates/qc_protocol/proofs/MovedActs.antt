@@ -10,10 +10,10 @@ use Rattle.qc_entry.specs.declared.record.Commit.{Commit as CommitRecord}
 use Rattle.qc_table.specs.declared.kind.Kind.{Kind}
 use Rattle.qc_table.specs.Rules.{event, event_number, events_of}
 use Rattle.qc_decl.specs.One.{three, register_kind, register_plan}
-use Rattle.qc_onecopy.specs.Lists.{In}
+use Rattle.qc_list.specs.Members.{In}
 use Rattle.qc_onecopy.specs.Executed.{Executed, kind_at, own_line}
 use Rattle.qc_protocol.specs.Site.{Item, Closes, Lock, Own, Grants, Prepares, LearnsCommit, Deed, Installs, epoch_from, shut_from, DoneRecord, empty_site, items_of, done_records, site_after}
-use Rattle.qc_protocol.specs.Names.{same_tx}
+use Rattle.qc_stamp.specs.Order.{same_tx}
 use Rattle.qc_plan.specs.declared.plan.Plan.{Plan}
 use Rattle.qc_decl.specs.declared.declaration.Declaration.{Declaration}
 use Rattle.qc_protocol.specs.Acts.{TakeSnapshot, Decide, Install, Close, Act, Begin, Choose, SendAppend, Execute, Grant, Count, Prepare, Vote, Commit, Announce, Learn}
@@ -196,12 +196,12 @@ differ e = apart (ap client_of e)
     apart : (zero ≡ suc zero) → ⊥
     apart c = omega arith
 
-pub votes_a : (g : Granted) → In g (w1 ∷ w0 ∷ []) → g.tx ≡ a → In {A = YesVote} (record { tx = a; site = g.site }) (record { tx = a; site = 1 } ∷ record { tx = a; site = 0 } ∷ [])
+pub votes_a : (g : Granted) → In g (w1 ∷ w0 ∷ []) → g.tx ≡ a → In {X = YesVote} (record { tx = a; site = g.site }) (record { tx = a; site = 1 } ∷ record { tx = a; site = 0 } ∷ [])
 votes_a g (inl same) e = inl (ap (λ (x : Granted). record { tx = a; site = x.site }) same)
 votes_a g (inr (inl same)) e = inr (inl (ap (λ (x : Granted). record { tx = a; site = x.site }) same))
 votes_a g (inr (inr never)) e = absurd never
 
-pub votes_b : (g : Granted) → In g (r2 ∷ r1 ∷ w1 ∷ w0 ∷ []) → g.tx ≡ b → In {A = YesVote} (record { tx = b; site = g.site }) (record { tx = b; site = 2 } ∷ record { tx = b; site = 1 } ∷ record { tx = a; site = 1 } ∷ record { tx = a; site = 0 } ∷ [])
+pub votes_b : (g : Granted) → In g (r2 ∷ r1 ∷ w1 ∷ w0 ∷ []) → g.tx ≡ b → In {X = YesVote} (record { tx = b; site = g.site }) (record { tx = b; site = 2 } ∷ record { tx = b; site = 1 } ∷ record { tx = a; site = 1 } ∷ record { tx = a; site = 0 } ∷ [])
 votes_b g (inl same) e = inl (ap (λ (x : Granted). record { tx = b; site = x.site }) same)
 votes_b g (inr (inl same)) e = inr (inl (ap (λ (x : Granted). record { tx = b; site = x.site }) same))
 votes_b g (inr (inr (inl same))) e = absurd (differ (ap (λ (y : Granted). y.tx) (sym same) ∙ e))

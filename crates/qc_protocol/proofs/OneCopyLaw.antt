@@ -5,7 +5,8 @@ use Rattle.qc_entry.specs.declared.line.Op.{Op}
 use Rattle.qc_entry.specs.declared.record.Commit.{Commit as CommitRecord}
 use Rattle.qc_decl.specs.declared.declaration.Declaration.{Declaration}
 use Rattle.qc_decl.specs.Accepted.{IsAccepted}
-use Rattle.qc_onecopy.specs.Lists.{In, IsOrdered}
+use Rattle.qc_list.specs.Members.{In}
+use Rattle.qc_onecopy.specs.Lists.{IsOrdered}
 use Rattle.qc_onecopy.specs.Committed.{IsStampedBefore}
 use Rattle.qc_onecopy.specs.OneCopy.{OneCopy, Walks, operations, start_at}
 use Rattle.qc_onecopy.specs.Executed.{Executed, Placed}

@@ -1,4 +1,5 @@
--- The ordering lemma, in every state that a run reaches.
+-- The ordering lemma at a shared site: of two counted grants that conflict, the Done of the earlier one's transaction stands
+-- before the later one, so its line is there, or its stamp is smaller (two-phase locking; Lamport 1978).
 use Rattle.std.proofs.Common.{◌≡◌, ◌≢◌, ℕ, ◌<◌, ◌≤◌, Bool, true, false, cond, IsTrue, ◌||◌, ◌⊎◌, inl, inr, List, [], ◌∷◌, ◌++◌, Option, Some, None, IsSome, refl, sym, ap, ◌∙◌, subst, arith, true≢false, append_assoc}
 use Rattle.qc_stamp.specs.declared.stamp.Stamp.{Stamp}
 use Rattle.qc_stamp.specs.declared.stamp.TxId.{TxId}
@@ -6,17 +7,18 @@ use Rattle.qc_entry.specs.declared.line.OwnLine.{OwnLine}
 use Rattle.qc_entry.specs.declared.line.ReadLock.{ReadLock}
 use Rattle.qc_entry.specs.declared.record.Commit.{Commit as CommitRecord}
 use Rattle.qc_decl.specs.declared.declaration.Declaration.{Declaration}
-use Rattle.qc_onecopy.specs.Lists.{In}
+use Rattle.qc_list.specs.Members.{In}
 use Rattle.qc_onecopy.specs.Executed.{depends_at, committed_line}
-use Rattle.qc_onecopy.proofs.Lists.{in_left, in_right}
-use Rattle.qc_protocol.specs.Names.{same_tx}
+use Rattle.qc_list.proofs.Members.{In-first, In-second}
+use Rattle.qc_stamp.specs.Order.{same_tx}
 use Rattle.qc_protocol.specs.Site.{Item, Lock, Own, Promise, Deed, Grants, Prepares, LearnsCommit, LearnsAbort, Closes, Installs, Rises, Site, each_held, items_of, promise_of, after_prepare, after_commit, after_deed, site_from, site_after, empty_site, done_record, done_records, epoch_from}
 use Rattle.qc_protocol.specs.SiteLaws.{SiteLaws, Holds, SparesUntilDone, HaveNoInstall, HasDone}
 use Rattle.qc_protocol.specs.State.{Status, Committed, Aborted, Granted}
 use Rattle.qc_protocol.specs.Acts.{Act, state}
 use Rattle.qc_protocol.specs.Guards.{IsRun}
 use Rattle.qc_protocol.specs.StateLaws.{IsOutcome, HasRisingEpochs, CountedLaw, StateLaws}
-use Rattle.qc_protocol.proofs.Names.{tx_is, tx_test}
+use Rattle.qc_stamp.proofs.Orders.{same_tx_is}
+use Rattle.qc_protocol.proofs.Names.{tx_test}
 use Rattle.qc_protocol.proofs.SiteLists.{items_of-append, items_of-each_held, in_dropped, not_found}
 use Rattle.qc_protocol.proofs.SiteOrder.{after_append, held_or_done, held_or_logged, laws_after}
 use Rattle.qc_protocol.proofs.Epochs.{epoch-append, none_between, rising-left, rising-right}
@@ -105,14 +107,14 @@ find_none tx [] h = refl
 find_none tx (p ∷ ps) h = by (same_tx tx p.tx) refl (find_none tx ps (λ q k. h q (inr k)))
   where
     by : (b : Bool) → same_tx tx p.tx ≡ b → promise_of tx ps ≡ None → cond b (Some p) (promise_of tx ps) ≡ None
-    by true e ih = absurd (h p (inl refl) (sym (tx_is tx p.tx e)))
+    by true e ih = absurd (h p (inl refl) (sym (same_tx_is tx p.tx e)))
     by false e ih = ih
 
 -- what a fresh grant holds
 pub holds_granted : (g : Granted) (item : Item) → (In (Prepares g.tx) g.before → ⊥) → In item g.items → Holds false g.tx item (after_deed (site_after g.before) (Grants g.tx g.items g.view))
 holds_granted g item fresh h = record {
   held = subst (λ (xs : List Item). In item xs) (sym (items_of-append g.tx (each_held g.tx g.items) (site_after g.before).held))
-      (in_left item (items_of g.tx (each_held g.tx g.items)) (items_of g.tx (site_after g.before).held) (subst (λ (xs : List Item). In item xs) (sym (items_of-each_held g.tx g.items)) h));
+      (In-first item (items_of g.tx (each_held g.tx g.items)) (items_of g.tx (site_after g.before).held) (subst (λ (xs : List Item). In item xs) (sym (items_of-each_held g.tx g.items)) h));
   phase = find_none g.tx (site_after g.before).prepared (none_after g.tx g.before empty_site fresh (λ p k. absurd k) (λ p k. absurd k));
 }
 
@@ -121,10 +123,10 @@ in_done_record tx stamp None h = absurd (cc)
 in_done_record tx stamp (Some p) h = inl refl
 
 done_at : (xs : List Deed) (tx : TxId) (stamp : Stamp) (ys : List Deed) (s : Site) → IsSome (promise_of tx (site_from s xs).prepared) → In (record { tx = tx; stamp = stamp }) (done_records s (xs ++ LearnsCommit tx stamp ∷ ys))
-done_at [] tx stamp ys s h = in_left (record { tx = tx; stamp = stamp }) (done_record tx stamp (promise_of tx s.prepared)) (done_records (after_deed s (LearnsCommit tx stamp)) ys) (in_done_record tx stamp (promise_of tx s.prepared) h)
+done_at [] tx stamp ys s h = In-first (record { tx = tx; stamp = stamp }) (done_record tx stamp (promise_of tx s.prepared)) (done_records (after_deed s (LearnsCommit tx stamp)) ys) (in_done_record tx stamp (promise_of tx s.prepared) h)
 done_at (Grants t items view ∷ ds) tx stamp ys s h = done_at ds tx stamp ys (after_deed s (Grants t items view)) h
 done_at (Prepares t ∷ ds) tx stamp ys s h = done_at ds tx stamp ys (after_deed s (Prepares t)) h
-done_at (LearnsCommit t c ∷ ds) tx stamp ys s h = in_right (record { tx = tx; stamp = stamp }) (done_record t c (promise_of t s.prepared)) (done_records (after_deed s (LearnsCommit t c)) (ds ++ LearnsCommit tx stamp ∷ ys)) (done_at ds tx stamp ys (after_deed s (LearnsCommit t c)) h)
+done_at (LearnsCommit t c ∷ ds) tx stamp ys s h = In-second (record { tx = tx; stamp = stamp }) (done_record t c (promise_of t s.prepared)) (done_records (after_deed s (LearnsCommit t c)) (ds ++ LearnsCommit tx stamp ∷ ys)) (done_at ds tx stamp ys (after_deed s (LearnsCommit t c)) h)
 done_at (LearnsAbort t ∷ ds) tx stamp ys s h = done_at ds tx stamp ys (after_deed s (LearnsAbort t)) h
 done_at (Closes ∷ ds) tx stamp ys s h = done_at ds tx stamp ys (after_deed s Closes) h
 done_at (Installs k c log ∷ ds) tx stamp ys s h = done_at ds tx stamp ys (after_deed s (Installs k c log)) h
@@ -164,7 +166,7 @@ module _ (decl : Declaration) (acts : List Act) (run : IsRun decl acts) where
   spared g c h e k = (k.voted (λ d. let x : Committed c ≡ Aborted = sym e ∙ d in absurd (cc)) (committed_yes g.tx c e g h refl).0).0
 
   pub ended : (ds : List Deed) (tx : TxId) (d : HasDone tx false ds) → In (LearnsCommit tx d.stamp) ds
-  ended ds tx d = subst (λ (x : List Deed). In (LearnsCommit tx d.stamp) x) (sym d.split) (in_right (LearnsCommit tx d.stamp) d.before (LearnsCommit tx d.stamp ∷ d.after) (inl refl))
+  ended ds tx d = subst (λ (x : List Deed). In (LearnsCommit tx d.stamp) x) (sym d.split) (In-second (LearnsCommit tx d.stamp) d.before (LearnsCommit tx d.stamp ∷ d.after) (inl refl))
 
   -- v's read lock and u's own line at one site
   pub ordering : (gv gu : Granted) (lock : ReadLock) (own : OwnLine) (cv cu : CommitRecord) → In gv (state acts).counted → In gu (state acts).counted → gv.site ≡ gu.site → gv.epoch ≡ gu.epoch → gu.tx ≢ gv.tx
@@ -201,8 +203,8 @@ module _ (decl : Declaration) (acts : List Act) (run : IsRun decl acts) where
           (between gv.before (Grants gv.tx gv.items gv.view) m gv.epoch (subst (λ (ds : List Deed). HasRisingEpochs 1 ds) b (rising-left gu.before (Grants gu.tx gu.items gu.view ∷ ku.post) 1 (subst (λ (ds : List Deed). HasRisingEpochs 1 ds) ku.split (l.rising gu.site)))) tt fv (ap (epoch_from 1) (sym b) ∙ fu ∙ sym epochs))) [
             | inl held ↦ absurd ((l.facts gu (l.known gu hu)).free gv.tx (Own own) (Lock lock) owns (subst (λ (x : Site). In (Lock lock) (items_of gv.tx x.held)) (sym eq) held) (λ x. ne (sym x)) (on, dep))
             | inr d ↦
-                let inside : In (LearnsCommit gv.tx d.stamp) gu.before = subst (λ (ds : List Deed). In (LearnsCommit gv.tx d.stamp) ds) (sym b) (in_right (LearnsCommit gv.tx d.stamp) gv.before (Grants gv.tx gv.items gv.view ∷ m) (inr (ended m gv.tx d))) in
-                let all : In (LearnsCommit gv.tx d.stamp) ((state acts).deeds gu.site) = subst (λ (ds : List Deed). In (LearnsCommit gv.tx d.stamp) ds) (sym ku.split) (in_left (LearnsCommit gv.tx d.stamp) gu.before (Grants gu.tx gu.items gu.view ∷ ku.post) inside) in
+                let inside : In (LearnsCommit gv.tx d.stamp) gu.before = subst (λ (ds : List Deed). In (LearnsCommit gv.tx d.stamp) ds) (sym b) (In-second (LearnsCommit gv.tx d.stamp) gv.before (Grants gv.tx gv.items gv.view ∷ m) (inr (ended m gv.tx d))) in
+                let all : In (LearnsCommit gv.tx d.stamp) ((state acts).deeds gu.site) = subst (λ (ds : List Deed). In (LearnsCommit gv.tx d.stamp) ds) (sym ku.split) (In-first (LearnsCommit gv.tx d.stamp) gu.before (Grants gu.tx gu.items gu.view ∷ ku.post) inside) in
                 let is : cv.stamp.clock ≡ d.stamp.clock = ap (λ (s : Stamp). s.clock) (stamp_of gv.tx cv sv gu.site d.stamp all) in
                 let done_there : In (record { tx = gv.tx; stamp = d.stamp }) (done_records empty_site gu.before) = subst (λ (ds : List Deed). In (record { tx = gv.tx; stamp = d.stamp }) (done_records empty_site ds)) (sym b) (first_done_recorded gv (Lock lock) m (holds_granted gv (Lock lock) kv.fresh locks) d) in
                 let low : d.stamp.clock ≤ gu.clock = (l.facts gu (l.known gu hu)).passes_done gv.tx d.stamp done_there in
@@ -215,8 +217,8 @@ module _ (decl : Declaration) (acts : List Act) (run : IsRun decl acts) where
       u_first m b s =
           let um : SparesUntilDone gu.tx false m = spares_front gu.tx m (Grants gv.tx gv.items gv.view) kv.post false (subst (λ (ds : List Deed). SparesUntilDone gu.tx false ds) s (spared gu cu hu su ku)) in
           let eq : site_after gv.before ≡ site_from (after_deed (site_after gu.before) (Grants gu.tx gu.items gu.view)) m = ap (λ (ds : List Deed). site_after ds) b ∙ after_append gu.before (Grants gu.tx gu.items gu.view ∷ m) empty_site in
-          let within : (d : Deed) → In d m → In d gv.before = λ d h. subst (λ (ds : List Deed). In d ds) (sym b) (in_right d gu.before (Grants gu.tx gu.items gu.view ∷ m) (inr h)) in
-          let all : (d : Deed) → In d m → In d ((state acts).deeds gv.site) = λ d h. subst (λ (ds : List Deed). In d ds) (sym kv.split) (in_left d gv.before (Grants gv.tx gv.items gv.view ∷ kv.post) (within d h)) in
+          let within : (d : Deed) → In d m → In d gv.before = λ d h. subst (λ (ds : List Deed). In d ds) (sym b) (In-second d gu.before (Grants gu.tx gu.items gu.view ∷ m) (inr h)) in
+          let all : (d : Deed) → In d m → In d ((state acts).deeds gv.site) = λ d h. subst (λ (ds : List Deed). In d ds) (sym kv.split) (In-first d gv.before (Grants gv.tx gv.items gv.view ∷ kv.post) (within d h)) in
           elim (held_or_logged m gu.tx own (after_deed (site_after gu.before) (Grants gu.tx gu.items gu.view))
           (laws_after (Grants gu.tx gu.items gu.view ∷ []) (site_after gu.before) (site_laws gu.before))
           (holds_granted gu (Own own) ku.fresh owns) um

@@ -10,7 +10,8 @@ use Rattle.qc_plan.specs.Weights.{weight}
 use Rattle.qc_decl.specs.declared.declaration.Declaration.{Declaration}
 use Rattle.qc_decl.specs.Accepted.{IsAccepted}
 use Rattle.qc_decl.specs.Lookup.{append_need_of, read_need_of}
-use Rattle.qc_onecopy.specs.Lists.{In, IsOrdered}
+use Rattle.qc_list.specs.Members.{In}
+use Rattle.qc_onecopy.specs.Lists.{IsOrdered}
 use Rattle.qc_onecopy.specs.Committed.{IsStampedBefore}
 use Rattle.qc_onecopy.specs.Executed.{Placed, depends_at, line_of, own_line, committed_line}
 use Rattle.qc_protocol.specs.Site.{Grants, site_after}

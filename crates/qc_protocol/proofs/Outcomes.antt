@@ -3,7 +3,7 @@ use Rattle.std.proofs.Common.{◌≡◌, ◌≢◌, inl, inr, [], ◌∷◌, Opt
 use Rattle.qc_stamp.specs.declared.stamp.Stamp.{Stamp}
 use Rattle.qc_stamp.specs.declared.stamp.TxId.{TxId}
 use Rattle.qc_entry.specs.declared.record.Commit.{Commit as CommitRecord}
-use Rattle.qc_onecopy.specs.Lists.{In}
+use Rattle.qc_list.specs.Members.{In}
 use Rattle.qc_protocol.specs.Names.{put_tx}
 use Rattle.qc_protocol.specs.Site.{Deed, Grants, Prepares, LearnsCommit, LearnsAbort, Closes, Installs, Rises}
 use Rattle.qc_protocol.specs.State.{Status, NotBegun, Active, Voting, Pending, Committed, Aborted, Verdict}

@@ -3,9 +3,10 @@ use Rattle.std.proofs.Common.{◌≡◌, ℕ, ◌==◌, Bool, true, false, cond,
 use Rattle.std.specs.Prelude.{◌&&◌, is_some}
 use Rattle.qc_entry.specs.declared.line.OwnLine.{OwnLine}
 use Rattle.qc_decl.specs.declared.declaration.Declaration.{Declaration}
-use Rattle.qc_onecopy.specs.Lists.{In}
+use Rattle.qc_list.specs.Members.{In}
 use Rattle.qc_onecopy.specs.Executed.{Executed, own_line}
-use Rattle.qc_onecopy.proofs.Lists.{in_left, in_split}
+use Rattle.qc_list.proofs.Members.{In-first}
+use Rattle.qc_onecopy.proofs.Lists.{in_split}
 use Rattle.qc_protocol.specs.Guards.{own_on}
 use Rattle.qc_protocol.specs.Logs.{AreInOrder}
 
@@ -45,6 +46,6 @@ module _ (decl : Declaration) where
   pub own_among : (ds earlier : List Executed) (b : Executed) (p : OwnLine) → AreInOrder earlier ds → In b ds → In p b.own → In p (own_on (earlier ++ ds) b.op.object)
   own_among [] earlier b p ord h i = absurd h
   own_among (e ∷ es) earlier b p ord (inl is) i =
-      subst (λ (os : List OwnLine). In p os) (sym (own_on-append earlier (e ∷ es) b.op.object)) (in_left p (own_on earlier b.op.object) (own_on (e ∷ es) b.op.object)
+      subst (λ (os : List OwnLine). In p os) (sym (own_on-append earlier (e ∷ es) b.op.object)) (In-first p (own_on earlier b.op.object) (own_on (e ∷ es) b.op.object)
       (subst (λ (os : List OwnLine). In p os) (ap (λ (x : Executed). x.own) is ∙ ord.0.own ∙ ap (λ (x : Executed). own_on earlier x.op.object) (sym is)) i))
   own_among (e ∷ es) earlier b p ord (inr h) i = subst (λ (l : List Executed). In p (own_on l b.op.object)) (append_assoc earlier (e ∷ []) es) (own_among es (earlier ++ e ∷ []) b p ord.1 h i)

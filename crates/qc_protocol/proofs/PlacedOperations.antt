@@ -10,10 +10,12 @@ use Rattle.qc_stamp.specs.Order.{stamp_cmp}
 use Rattle.qc_entry.specs.declared.line.OwnLine.{OwnLine}
 use Rattle.qc_entry.specs.declared.record.Commit.{Commit as CommitRecord}
 use Rattle.qc_decl.specs.declared.declaration.Declaration.{Declaration}
-use Rattle.qc_onecopy.specs.Lists.{In, IsOrdered}
+use Rattle.qc_list.specs.Members.{In}
+use Rattle.qc_onecopy.specs.Lists.{IsOrdered}
 use Rattle.qc_onecopy.specs.Committed.{IsStampedBefore}
 use Rattle.qc_onecopy.specs.Executed.{Executed, Placed, IsEarlier, IsOwnBefore, own_line}
-use Rattle.qc_onecopy.proofs.Lists.{in_left, in_map, in_right, in_split, map_in, ordered-append}
+use Rattle.qc_list.proofs.Members.{In-first, In-second}
+use Rattle.qc_onecopy.proofs.Lists.{in_map, in_split, map_in, ordered-append}
 use Rattle.qc_protocol.specs.Placed.{place, placed}
 use Rattle.qc_protocol.specs.Guards.{own_on}
 use Rattle.qc_protocol.specs.Logs.{AreInOrder}
@@ -40,8 +42,8 @@ of_placed executed (c ∷ cs) p h = elim (in_split p (map (λ (d : Executed). pl
 pub placed_of : (executed : TxId → List Executed) (L : List CommitRecord) (c : CommitRecord) (d : Executed) → In c L → In d (executed c.tx) → In (place c d) (placed executed L)
 placed_of executed [] c d h i = absurd h
 placed_of executed (e ∷ es) c d (inl same) i = subst (λ (x : CommitRecord). In (place c d) (map (λ (y : Executed). place x y) (executed x.tx) ++ placed executed es)) same
-    (in_left (place c d) (map (λ (y : Executed). place c y) (executed c.tx)) (placed executed es) (in_map (λ (y : Executed). place c y) d (executed c.tx) i))
-placed_of executed (e ∷ es) c d (inr h) i = in_right (place c d) (map (λ (y : Executed). place e y) (executed e.tx)) (placed executed es) (placed_of executed es c d h i)
+    (In-first (place c d) (map (λ (y : Executed). place c y) (executed c.tx)) (placed executed es) (in_map (λ (y : Executed). place c y) d (executed c.tx) i))
+placed_of executed (e ∷ es) c d (inr h) i = In-second (place c d) (map (λ (y : Executed). place e y) (executed e.tx)) (placed executed es) (placed_of executed es c d h i)
 
 -- they stand in order
 one_ordered : (c : CommitRecord) (ds earlier : List Executed) → AreInOrder earlier ds → IsOrdered IsEarlier (map (λ (d : Executed). place c d) ds)

@@ -2,9 +2,10 @@
 use Rattle.std.proofs.Common.{◌≡◌, ℕ, suc, ◌<◌, ◌≤◌, ◌==◌, Bool, true, cond, inl, inr, List, [], ◌∷◌, ◌++◌, length, Option, Some, None, IsSome, refl, sym, ap, subst, arith, append_assoc, append-nil, eq-eqb}
 use Rattle.std.specs.Prelude.{◌&&◌, is_some}
 use Rattle.std.proofs.lemmas.List.{length-append}
-use Rattle.qc_onecopy.specs.Lists.{In}
+use Rattle.qc_list.specs.Members.{In}
 use Rattle.qc_onecopy.specs.Executed.{Executed, own_line}
-use Rattle.qc_onecopy.proofs.Lists.{in_left, in_right, in_split}
+use Rattle.qc_list.proofs.Members.{In-first, In-second}
+use Rattle.qc_onecopy.proofs.Lists.{in_split}
 use Rattle.qc_protocol.specs.Guards.{own_on}
 use Rattle.qc_protocol.specs.Logs.{AreInOrder, IsNextOperation}
 
@@ -37,7 +38,7 @@ at_from (e ∷ es) earlier o front small d (inl same) = subst (λ (x : Executed)
   before = earlier;
   next = o.0;
   order = front;
-  listed = λ a h. (in_left a earlier (e ∷ es) h, (let x : a.number ≤ length earlier = small a h in let y : e.number ≡ suc (length earlier) = o.0.numbered in omega arith));
+  listed = λ a h. (In-first a earlier (e ∷ es) h, (let x : a.number ≤ length earlier = small a h in let y : e.number ≡ suc (length earlier) = o.0.numbered in omega arith));
   all = λ a h l. elim (in_split a earlier (e ∷ es) h) [
     | inl there ↦ there
     | inr here ↦ elim here [
@@ -76,6 +77,6 @@ own_in (d ∷ ds) a object (inl same) e s =
     let t : (a.op.object == object) ≡ true = eq-eqb a.op.object object e in
     let u : is_some a.op.resp ≡ true = is_some_of a.op.resp s in
     subst (λ (x : Executed). In (own_line a) (cond ((x.op.object == object) && is_some x.op.resp) (own_line x ∷ []) [] ++ own_on ds object)) same
-    (in_left (own_line a) (cond ((a.op.object == object) && is_some a.op.resp) (own_line a ∷ []) []) (own_on ds object)
+    (In-first (own_line a) (cond ((a.op.object == object) && is_some a.op.resp) (own_line a ∷ []) []) (own_on ds object)
     (subst (λ (b : Bool). In (own_line a) (cond (b && is_some a.op.resp) (own_line a ∷ []) [])) (sym t) (subst (λ (b : Bool). In (own_line a) (cond b (own_line a ∷ []) [])) (sym u) (inl refl))))
-own_in (d ∷ ds) a object (inr h) e s = in_right (own_line a) (cond ((d.op.object == object) && is_some d.op.resp) (own_line d ∷ []) []) (own_on ds object) (own_in ds a object h e s)
+own_in (d ∷ ds) a object (inr h) e s = In-second (own_line a) (cond ((d.op.object == object) && is_some d.op.resp) (own_line d ∷ []) []) (own_on ds object) (own_in ds a object h e s)

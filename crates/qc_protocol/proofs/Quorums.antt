@@ -1,4 +1,5 @@
--- What an accepted declaration gives of the first epoch's plan and of its types.
+-- What an accepted declaration gives: relations are exact, and quorums of an invocation and an event on which it depends
+-- meet in each epoch (weighted voting, Gifford 1979; Herlihy 1986).
 use Rattle.std.proofs.Common.{◌≡◌, ℕ, suc, ◌<◌, ◌≤◌, ◌+◌, ◌==◌, Bool, true, cond, false, IsTrue, List, [], ◌∷◌, length, slice_get, Option, Some, None, refl, ap, subst, arith}
 use Rattle.std.specs.Prelude.{option_and_then, ◌-◌}
 use Rattle.std.specs.Option.{option_map_or}

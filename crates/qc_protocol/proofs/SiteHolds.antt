@@ -1,11 +1,12 @@
 -- The held law at one site: what is granted stays held while the deeds spare the transaction.
 use Rattle.std.proofs.Common.{◌≡◌, ◌≢◌, Bool, true, false, cond, ◌||◌, inl, inr, List, [], ◌∷◌, Option, Some, None, refl, sym, ◌∙◌, subst, true≢false}
-use Rattle.qc_onecopy.specs.Lists.{In}
+use Rattle.qc_list.specs.Members.{In}
 use Rattle.qc_stamp.specs.declared.stamp.Stamp.{Stamp}
 use Rattle.qc_stamp.specs.declared.stamp.TxId.{TxId}
-use Rattle.qc_onecopy.proofs.Lists.{in_left, in_right}
-use Rattle.qc_protocol.specs.Names.{same_tx}
-use Rattle.qc_protocol.proofs.Names.{tx_is, tx_test}
+use Rattle.qc_list.proofs.Members.{In-first, In-second}
+use Rattle.qc_stamp.specs.Order.{same_tx}
+use Rattle.qc_stamp.proofs.Orders.{same_tx_is}
+use Rattle.qc_protocol.proofs.Names.{tx_test}
 use Rattle.qc_protocol.specs.Site.{Item, Held, Promise, Deed, Grants, Prepares, LearnsCommit, LearnsAbort, Closes, Installs, Rises, Site, each_held, items_of, without_tx, without_promise, promise_of, held_by_promises, after_prepare, after_commit, after_deed, site_from}
 use Rattle.qc_protocol.specs.SiteLaws.{Spares, is_prepared_after, IsPromiseWith, Phase, Holds}
 use Rattle.qc_protocol.proofs.SiteLists.{items_of-append, items_of-each_held, items_of-kept, in_dropped, dropped_in, not_found}
@@ -14,7 +15,7 @@ not_same : (u tx : TxId) → (u ≢ tx) → same_tx u tx ≡ false
 not_same u tx ne = by (same_tx u tx) refl
   where
     by : (b : Bool) → same_tx u tx ≡ b → b ≡ false
-    by true e = absurd (ne (tx_is u tx e))
+    by true e = absurd (ne (same_tx_is u tx e))
     by false e = refl
 
 not_same_back : (u tx : TxId) → (u ≢ tx) → same_tx tx u ≡ false
@@ -27,11 +28,11 @@ held_by tx item p (q ∷ qs) (inl same) e i =
     let its : q.tx ≡ tx = subst (λ (x : Promise). x.tx ≡ tx) same e in
     let there : In item q.items = subst (λ (x : Promise). In item x.items) same i in
     subst (λ (xs : List Item). In item xs) (sym (items_of-append tx (each_held q.tx q.items) (held_by_promises qs)))
-    (in_left item (items_of tx (each_held q.tx q.items)) (items_of tx (held_by_promises qs))
+    (In-first item (items_of tx (each_held q.tx q.items)) (items_of tx (held_by_promises qs))
     (subst (λ (t : TxId). In item (items_of t (each_held q.tx q.items))) its (subst (λ (xs : List Item). In item xs) (sym (items_of-each_held q.tx q.items)) there)))
 held_by tx item p (q ∷ qs) (inr h) e i =
     subst (λ (xs : List Item). In item xs) (sym (items_of-append tx (each_held q.tx q.items) (held_by_promises qs)))
-    (in_right item (items_of tx (each_held q.tx q.items)) (items_of tx (held_by_promises qs)) (held_by tx item p qs h e i))
+    (In-second item (items_of tx (each_held q.tx q.items)) (items_of tx (held_by_promises qs)) (held_by tx item p qs h e i))
 
 still_held : (tx u : TxId) (item : Item) (hs : List Held) → (u ≢ tx) → In item (items_of tx hs) → In item (items_of tx (without_tx u hs))
 still_held tx u item hs ne h = subst (λ (xs : List Item). In item xs) (sym (items_of-kept u tx hs (not_same_back u tx ne))) h
@@ -69,7 +70,7 @@ phase_lost false tx u item prepared promises ne w = other_dropped tx u prepared 
 phase_new : (is b : Bool) (tx u : TxId) (item : Item) (items : List Item) (prepared promises : List Promise) → same_tx tx u ≡ b → promise_of u prepared ≡ None → (tx ≡ u → In item items) → Phase is tx item prepared promises
     → Phase (is || b) tx item (record { tx = u; items = items } ∷ prepared) (record { tx = u; items = items } ∷ without_promise u promises)
 phase_new true true tx u item items prepared promises e none its w =
-    let same : w.by.tx ≡ u = w.its ∙ tx_is tx u e in
+    let same : w.by.tx ≡ u = w.its ∙ same_tx_is tx u e in
     absurd (true≢false (sym (tx_test u w.by.tx (sym same)) ∙ not_found u prepared none w.by w.stands))
 phase_new true false tx u item items prepared promises e none its w =
     let other : same_tx u w.by.tx ≡ false = not_found u prepared none w.by w.stands in
@@ -84,7 +85,7 @@ phase_new true false tx u item items prepared promises e none its w =
       ];
     }
 phase_new false true tx u item items prepared promises e none its w =
-    let same : tx ≡ u = tx_is tx u e in
+    let same : tx ≡ u = same_tx_is tx u e in
     record {
       by = record { tx = u; items = items };
       stands = inl refl;
@@ -100,7 +101,7 @@ phase_new false false tx u item items prepared promises e none its w = rw e w
 -- an old record of u stays
 phase_same : (is b : Bool) (tx u : TxId) (item : Item) (prepared promises : List Promise) (p : Promise) → same_tx tx u ≡ b → promise_of u prepared ≡ Some p → Phase is tx item prepared promises → Phase (is || b) tx item prepared promises
 phase_same true b tx u item prepared promises p e some w = w
-phase_same false true tx u item prepared promises p e some w = let same : tx ≡ u = tx_is tx u e in let none : promise_of u prepared ≡ None = subst (λ (t : TxId). promise_of t prepared ≡ None) same w in absurd (cc)
+phase_same false true tx u item prepared promises p e some w = let same : tx ≡ u = same_tx_is tx u e in let none : promise_of u prepared ≡ None = subst (λ (t : TxId). promise_of t prepared ≡ None) same w in absurd (cc)
 phase_same false false tx u item prepared promises p e some w = w
 
 holds_after_prepare : (is : Bool) (tx u : TxId) (item : Item) (s : Site) (o : Option Promise) → promise_of u s.prepared ≡ o → Holds is tx item s → Holds (is || same_tx tx u) tx item (after_prepare u o s)
@@ -118,7 +119,7 @@ pub held_after : (ds : List Deed) (is : Bool) (tx : TxId) (item : Item) (s : Sit
 held_after [] is tx item s w sp = w
 held_after (Grants u items view ∷ ds) is tx item s w sp =
     held_after ds is tx item (after_deed s (Grants u items view)) (record {
-      held = subst (λ (xs : List Item). In item xs) (sym (items_of-append tx (each_held u items) s.held)) (in_right item (items_of tx (each_held u items)) (items_of tx s.held) w.held);
+      held = subst (λ (xs : List Item). In item xs) (sym (items_of-append tx (each_held u items) s.held)) (In-second item (items_of tx (each_held u items)) (items_of tx s.held) w.held);
       phase = w.phase;
     }) sp
 held_after (Prepares u ∷ ds) is tx item s w sp = held_after ds (is || same_tx tx u) tx item (after_deed s (Prepares u)) (holds_after_prepare is tx u item s (promise_of u s.prepared) refl w) sp

@@ -1,9 +1,10 @@
 -- Members of joined and dropped lists.
 use Rattle.std.proofs.Common.{◌≡◌, Bool, true, false, cond, ◌⊎◌, inl, inr, List, [], ◌∷◌, ◌++◌, Some, None, refl, sym, ap, ◌∙◌, subst, true≢false}
-use Rattle.qc_onecopy.specs.Lists.{In}
+use Rattle.qc_list.specs.Members.{In}
 use Rattle.qc_stamp.specs.declared.stamp.TxId.{TxId}
-use Rattle.qc_protocol.specs.Names.{same_tx}
-use Rattle.qc_protocol.proofs.Names.{tx_is, tx_test}
+use Rattle.qc_stamp.specs.Order.{same_tx}
+use Rattle.qc_stamp.proofs.Orders.{same_tx_is}
+use Rattle.qc_protocol.proofs.Names.{tx_test}
 use Rattle.qc_protocol.specs.Site.{Item, Held, Promise, each_held, items_of, without_tx, without_promise, promise_of}
 
 pub items_of-append : (tx : TxId) (xs ys : List Held) → items_of tx (xs ++ ys) ≡ items_of tx xs ++ items_of tx ys
@@ -37,8 +38,8 @@ items_of-kept tx u (h ∷ hs) ne = by (same_tx tx h.tx) (same_tx u h.tx) refl re
     by : (a b : Bool) → same_tx tx h.tx ≡ a → same_tx u h.tx ≡ b → items_of u (without_tx tx hs) ≡ items_of u hs
         → items_of u (cond a (without_tx tx hs) (h ∷ without_tx tx hs)) ≡ cond b (h.item ∷ items_of u hs) (items_of u hs)
     by true true p q ih =
-        let x : tx ≡ h.tx = tx_is tx h.tx p in
-        let y : u ≡ h.tx = tx_is u h.tx q in
+        let x : tx ≡ h.tx = same_tx_is tx h.tx p in
+        let y : u ≡ h.tx = same_tx_is u h.tx q in
         absurd (true≢false (sym (tx_test u tx (y ∙ sym x)) ∙ ne))
     by true false p q ih = ih
     by false true p q ih = rw q (ap (λ (l : List Item). h.item ∷ l) ih)
@@ -68,7 +69,7 @@ found tx [] p e = absurd (cc)
 found tx (q ∷ qs) p e = by (same_tx tx q.tx) refl (found tx qs p) e
   where
     by : (b : Bool) → same_tx tx q.tx ≡ b → (promise_of tx qs ≡ Some p → In p qs × (p.tx ≡ tx)) → cond b (Some q) (promise_of tx qs) ≡ Some p → In p (q ∷ qs) × (p.tx ≡ tx)
-    by true e ih h = let same : p ≡ q = cc in (inl same, subst (λ (x : Promise). x.tx ≡ tx) (sym same) (sym (tx_is tx q.tx e)))
+    by true e ih h = let same : p ≡ q = cc in (inl same, subst (λ (x : Promise). x.tx ≡ tx) (sym same) (sym (same_tx_is tx q.tx e)))
     by false e ih h = let r = ih h in (inr r.0, r.1)
 
 pub not_found : (tx : TxId) (ps : List Promise) → promise_of tx ps ≡ None → (p : Promise) → In p ps → same_tx tx p.tx ≡ false

@@ -1,13 +1,14 @@
 -- The ordering lemma at one site: what was granted is held still, or a Done of its transaction stands between, and then its line is in the log.
 use Rattle.std.proofs.Common.{◌≡◌, Bool, true, false, ◌||◌, ◌⊎◌, inl, inr, List, [], ◌∷◌, ◌++◌, Option, Some, None, refl, sym, ap, ◌∙◌, subst, true≢false}
-use Rattle.qc_onecopy.specs.Lists.{In}
+use Rattle.qc_list.specs.Members.{In}
 use Rattle.qc_stamp.specs.declared.stamp.Stamp.{Stamp}
 use Rattle.qc_stamp.specs.declared.stamp.TxId.{TxId}
 use Rattle.qc_entry.specs.declared.line.Line.{Line}
 use Rattle.qc_entry.specs.declared.line.OwnLine.{OwnLine}
 use Rattle.qc_onecopy.specs.Executed.{committed_line}
-use Rattle.qc_onecopy.proofs.Lists.{in_left, in_right, in_split}
-use Rattle.qc_protocol.specs.Names.{same_tx}
+use Rattle.qc_list.proofs.Members.{In-first, In-second}
+use Rattle.qc_onecopy.proofs.Lists.{in_split}
+use Rattle.qc_stamp.specs.Order.{same_tx}
 use Rattle.qc_protocol.proofs.Names.{tx_test, tx_cases}
 use Rattle.qc_protocol.specs.Site.{Item, Lock, Own, Promise, Deed, Grants, Prepares, LearnsCommit, LearnsAbort, Closes, Installs, Rises, Site, items_of, without_promise, promise_of, stamped_lines, after_prepare, after_commit, after_deed, site_from}
 use Rattle.qc_protocol.specs.SiteLaws.{Spares, SparesUntilDone, HaveNoInstall, HasDone, is_prepared_after, SiteLaws, Holds, IsLoggedAtDone}
@@ -66,12 +67,12 @@ prepare_keeps_line s tx None e w = record { less = λ l h. h; prepared = prepare
 commit_keeps_line : (s : Site) (tx : TxId) (stamp : Stamp) (o : Option Promise) → SiteLaws s → SiteLaws (after_commit tx stamp o s)
 commit_keeps_line s tx stamp None w = record { less = w.less; prepared = w.prepared }
 commit_keeps_line s tx stamp (Some p) w = record {
-  less = λ l h. elim (in_split l (stamped_lines tx stamp p.items) s.stable h) [ inl a ↦ in_left l (stamped_lines tx stamp p.items) s.volatile a | inr b ↦ in_right l (stamped_lines tx stamp p.items) s.volatile (w.less l b) ];
+  less = λ l h. elim (in_split l (stamped_lines tx stamp p.items) s.stable h) [ inl a ↦ In-first l (stamped_lines tx stamp p.items) s.volatile a | inr b ↦ In-second l (stamped_lines tx stamp p.items) s.volatile (w.less l b) ];
   prepared = λ q h. (let r = in_dropped q tx s.prepared h in dropped_in q tx s.promises (w.prepared q r.0) r.1);
 }
 
 pub keeps : (s : Site) (d : Deed) → SiteLaws s → SiteLaws (after_deed s d)
-keeps s (Grants tx items view) w = record { less = λ l h. in_right l view s.volatile (w.less l h); prepared = w.prepared }
+keeps s (Grants tx items view) w = record { less = λ l h. In-second l view s.volatile (w.less l h); prepared = w.prepared }
 keeps s (Prepares tx) w = prepare_keeps_line s tx (promise_of tx s.prepared) refl w
 keeps s (LearnsCommit tx stamp) w = commit_keeps_line s tx stamp (promise_of tx s.prepared) w
 keeps s (LearnsAbort tx) w = record { less = w.less; prepared = λ p h. w.prepared p (in_dropped p tx s.prepared h).0 }
@@ -85,7 +86,7 @@ laws_after (d ∷ ds) s w = laws_after ds (after_deed s d) (keeps s d w)
 
 commit_keeps : (tx : TxId) (stamp : Stamp) (o : Option Promise) (s : Site) (l : Line) → In l s.stable → In l (after_commit tx stamp o s).stable
 commit_keeps tx stamp None s l h = h
-commit_keeps tx stamp (Some p) s l h = in_right l (stamped_lines tx stamp p.items) s.stable h
+commit_keeps tx stamp (Some p) s l h = In-second l (stamped_lines tx stamp p.items) s.stable h
 
 prepare_keeps : (tx : TxId) (o : Option Promise) (s : Site) (l : Line) → SiteLaws s → In l s.stable → In l (after_prepare tx o s).stable
 prepare_keeps tx None s l w h = w.less l h
@@ -110,7 +111,7 @@ logged tx stamp own s w h = by (promise_of tx s.prepared) refl
     by None e = absurd (true≢false (sym (tx_test tx h.phase.by.tx (sym h.phase.its)) ∙ not_found tx s.prepared e h.phase.by h.phase.stands))
     by (Some p) e =
         let f = found tx s.prepared p e in
-        in_left (committed_line stamp tx own) (stamped_lines tx stamp p.items) s.stable (in_stamped tx stamp own p.items (h.phase.each p (w.prepared p f.0) f.1))
+        In-first (committed_line stamp tx own) (stamped_lines tx stamp p.items) s.stable (in_stamped tx stamp own p.items (h.phase.each p (w.prepared p f.0) f.1))
 
 -- after the first Done the line is in the log
 pub logged_from : (ds : List Deed) (tx : TxId) (own : OwnLine) (s : Site) → SiteLaws s → Holds false tx (Own own) s → HaveNoInstall ds → HasDone tx false ds → IsLoggedAtDone tx own ds s

@@ -6,14 +6,15 @@ use Rattle.qc_entry.specs.declared.line.Line.{Line}
 use Rattle.qc_entry.specs.declared.line.OwnLine.{OwnLine}
 use Rattle.qc_entry.specs.declared.record.Commit.{Commit as CommitRecord}
 use Rattle.qc_decl.specs.declared.declaration.Declaration.{Declaration}
-use Rattle.qc_onecopy.specs.Lists.{In}
+use Rattle.qc_list.specs.Members.{In}
 use Rattle.qc_onecopy.specs.Executed.{Executed, own_line, committed_line}
-use Rattle.qc_onecopy.proofs.Lists.{in_left, in_right, in_split}
-use Rattle.qc_protocol.specs.Names.{same_tx}
+use Rattle.qc_list.proofs.Members.{In-first, In-second}
+use Rattle.qc_onecopy.proofs.Lists.{in_split}
+use Rattle.qc_stamp.specs.Order.{same_tx}
 use Rattle.qc_protocol.specs.Site.{Item, Lock, Own, Promise, Deed, Grants, Prepares, LearnsCommit, LearnsAbort, Closes, Installs, Rises, Site, each_held, items_of, without_tx, without_promise, promise_of, held_by_promises, stamped_lines, after_prepare, after_commit, after_deed}
 use Rattle.qc_protocol.specs.State.{Status, Committed}
 use Rattle.qc_protocol.specs.Logs.{IsExecutedOrChosen, IsClosedAt, IsOwnClosedAt, IsAppendClosed, IsSiteClosed}
-use Rattle.qc_protocol.proofs.Names.{tx_is}
+use Rattle.qc_stamp.proofs.Orders.{same_tx_is}
 use Rattle.qc_protocol.proofs.SiteLists.{items_of-append, items_of-each_held, items_of-other, items_of-dropped, items_of-kept, in_dropped, dropped_in, found, not_found}
 use Rattle.qc_protocol.proofs.SiteOrder.{in_stamped}
 
@@ -42,7 +43,7 @@ module _ (decl : Declaration) (status : TxId → Status) (executed : TxId → Li
       → (l : Line) → In l (stamped_lines tx stamp items ++ log) → IsClosedAt decl status executed (stamped_lines tx stamp items ++ log) l
   joins tx c stamp items log committed same none_chosen own_closed closed_at l h = elim (in_split l (stamped_lines tx stamp items) log h) [
     | inl new ↦ let s = committed_line_in tx stamp items l new in subst (λ (x : Line). IsClosedAt decl status executed (stamped_lines tx stamp items ++ log) x) (sym s.is) (one s.own s.listed)
-    | inr old ↦ wider log (stamped_lines tx stamp items ++ log) l (λ m k. in_right m (stamped_lines tx stamp items) log k) (closed_at l old)
+    | inr old ↦ wider log (stamped_lines tx stamp items ++ log) l (λ m k. In-second m (stamped_lines tx stamp items) log k) (closed_at l old)
   ]
     where
       executed_one : (d : Executed) → IsExecutedOrChosen (executed tx) (chosen tx) d → In d (executed tx)
@@ -59,8 +60,8 @@ module _ (decl : Declaration) (status : TxId → Status) (executed : TxId → Li
             listed = executed_one f.operation f.known;
             some = f.some;
             is = ap (λ (x : OwnLine). committed_line stamp tx x) f.is ∙ ap (λ (x : Stamp). committed_line x tx (own_line f.operation)) (sym same);
-            view = λ m i. in_right m (stamped_lines tx stamp items) log (f.view m i);
-            own = λ p i n. in_left (committed_line stamp tx p) (stamped_lines tx stamp items) log (in_stamped tx stamp p items (f.own p i n));
+            view = λ m i. In-second m (stamped_lines tx stamp items) log (f.view m i);
+            own = λ p i n. In-first (committed_line stamp tx p) (stamped_lines tx stamp items) log (in_stamped tx stamp p items (f.own p i n));
           }
 
   no_own_closed : (tx : TxId) (log : List Line) (items : List Item) → items ≡ [] → (o : OwnLine) → In (Own o) items → IsOwnClosedAt decl executed chosen tx log items o
@@ -70,8 +71,8 @@ module _ (decl : Declaration) (status : TxId → Status) (executed : TxId → Li
   both_own_closed : (tx : TxId) (log : List Line) (xs ys : List Item) → ((o : OwnLine) → In (Own o) xs → IsOwnClosedAt decl executed chosen tx log xs o) → ((o : OwnLine) → In (Own o) ys → IsOwnClosedAt decl executed chosen tx log ys o)
       → (o : OwnLine) → In (Own o) (xs ++ ys) → IsOwnClosedAt decl executed chosen tx log (xs ++ ys) o
   both_own_closed tx log xs ys a b o h = elim (in_split (Own o) xs ys h) [
-    | inl x ↦ wider_own tx log log xs (xs ++ ys) o (λ m k. k) (λ i k. in_left i xs ys k) (a o x)
-    | inr y ↦ wider_own tx log log ys (xs ++ ys) o (λ m k. k) (λ i k. in_right i xs ys k) (b o y)
+    | inl x ↦ wider_own tx log log xs (xs ++ ys) o (λ m k. k) (λ i k. In-first i xs ys k) (a o x)
+    | inr y ↦ wider_own tx log log ys (xs ++ ys) o (λ m k. k) (λ i k. In-second i xs ys k) (b o y)
   ]
 
   each_own_closed : (tx u : TxId) (log : List Line) (items : List Item) → ((o : OwnLine) → In (Own o) items → IsOwnClosedAt decl executed chosen u log items o)
@@ -79,7 +80,7 @@ module _ (decl : Declaration) (status : TxId → Status) (executed : TxId → Li
   each_own_closed tx u log items a = by (same_tx tx u) refl
     where
       by : (b : Bool) → same_tx tx u ≡ b → (o : OwnLine) → In (Own o) (items_of tx (each_held u items)) → IsOwnClosedAt decl executed chosen tx log (items_of tx (each_held u items)) o
-      by true e = let same : u ≡ tx = sym (tx_is tx u e) in
+      by true e = let same : u ≡ tx = sym (same_tx_is tx u e) in
           subst (λ (t : TxId). (o : OwnLine) → In (Own o) (items_of t (each_held u items)) → IsOwnClosedAt decl executed chosen t log (items_of t (each_held u items)) o) same
           (subst (λ (xs : List Item). (o : OwnLine) → In (Own o) xs → IsOwnClosedAt decl executed chosen u log xs o) (sym (items_of-each_held u items)) a)
       by false e = no_own_closed tx log (items_of tx (each_held u items)) (items_of-other tx u items e)
@@ -96,21 +97,21 @@ module _ (decl : Declaration) (status : TxId → Status) (executed : TxId → Li
   after_drop s u log a tx = by (same_tx tx u) refl
     where
       by : (b : Bool) → same_tx tx u ≡ b → (o : OwnLine) → In (Own o) (items_of tx (without_tx u s.held)) → IsOwnClosedAt decl executed chosen tx log (items_of tx (without_tx u s.held)) o
-      by true e = let same : tx ≡ u = tx_is tx u e in no_own_closed tx log (items_of tx (without_tx u s.held)) (ap (λ (t : TxId). items_of t (without_tx u s.held)) same ∙ items_of-dropped u s.held)
+      by true e = let same : tx ≡ u = same_tx_is tx u e in no_own_closed tx log (items_of tx (without_tx u s.held)) (ap (λ (t : TxId). items_of t (without_tx u s.held)) same ∙ items_of-dropped u s.held)
       by false e = subst (λ (xs : List Item). (o : OwnLine) → In (Own o) xs → IsOwnClosedAt decl executed chosen tx log xs o) (sym (items_of-kept u tx s.held e)) (a tx)
 
   grants_keep : (s : Site) (tx : TxId) (items : List Item) (view : List Line) → IsAppendClosed decl status executed chosen tx items view → IsSiteClosed decl status executed chosen s → IsSiteClosed decl status executed chosen (after_deed s (Grants tx items view))
   grants_keep s tx items view ok w = record {
-    less = λ l h. in_right l view s.volatile (w.less l h);
+    less = λ l h. In-second l view s.volatile (w.less l h);
     volatile = λ l h. elim (in_split l view s.volatile h) [
-      | inl new ↦ wider view (view ++ s.volatile) l (λ m k. in_left m view s.volatile k) (ok.closed_at l new)
-      | inr old ↦ wider s.volatile (view ++ s.volatile) l (λ m k. in_right m view s.volatile k) (w.volatile l old)
+      | inl new ↦ wider view (view ++ s.volatile) l (λ m k. In-first m view s.volatile k) (ok.closed_at l new)
+      | inr old ↦ wider s.volatile (view ++ s.volatile) l (λ m k. In-second m view s.volatile k) (w.volatile l old)
     ];
     stable = w.stable;
     own_closed = λ u. subst (λ (xs : List Item). (o : OwnLine) → In (Own o) xs → IsOwnClosedAt decl executed chosen u (view ++ s.volatile) xs o) (sym (items_of-append u (each_held tx items) s.held))
         (both_own_closed u (view ++ s.volatile) (items_of u (each_held tx items)) (items_of u s.held)
-        (each_own_closed u tx (view ++ s.volatile) items (λ o h. wider_own tx view (view ++ s.volatile) items items o (λ m k. in_left m view s.volatile k) (λ x k. k) (ok.own_closed o h)))
-        (λ o h. wider_own u s.volatile (view ++ s.volatile) (items_of u s.held) (items_of u s.held) o (λ m k. in_right m view s.volatile k) (λ x k. k) (w.own_closed u o h)));
+        (each_own_closed u tx (view ++ s.volatile) items (λ o h. wider_own tx view (view ++ s.volatile) items items o (λ m k. In-first m view s.volatile k) (λ x k. k) (ok.own_closed o h)))
+        (λ o h. wider_own u s.volatile (view ++ s.volatile) (items_of u s.held) (items_of u s.held) o (λ m k. In-second m view s.volatile k) (λ x k. k) (w.own_closed u o h)));
     prepared = w.prepared;
     promised = w.promised;
   }
@@ -135,12 +136,12 @@ module _ (decl : Declaration) (status : TxId → Status) (executed : TxId → Li
       let mine : (o : OwnLine) → In (Own o) p.items → IsOwnClosedAt decl executed chosen tx s.stable p.items o = λ o h. subst (λ (t : TxId). IsOwnClosedAt decl executed chosen t s.stable p.items o) f.1 (w.promised p o (w.prepared p f.0) h) in
       let new : List Line = stamped_lines tx stamp p.items in
       record {
-        less = λ l h. elim (in_split l (stamped_lines tx stamp p.items) s.stable h) [ inl a ↦ in_left l (stamped_lines tx stamp p.items) s.volatile a | inr b ↦ in_right l (stamped_lines tx stamp p.items) s.volatile (w.less l b) ];
+        less = λ l h. elim (in_split l (stamped_lines tx stamp p.items) s.stable h) [ inl a ↦ In-first l (stamped_lines tx stamp p.items) s.volatile a | inr b ↦ In-second l (stamped_lines tx stamp p.items) s.volatile (w.less l b) ];
         volatile = joins tx c stamp p.items s.volatile committed same none_chosen (λ o h. wider_own tx s.stable s.volatile p.items p.items o w.less (λ x k. k) (mine o h)) w.volatile;
         stable = joins tx c stamp p.items s.stable committed same none_chosen mine w.stable;
-        own_closed = λ u o h. wider_own u s.volatile (stamped_lines tx stamp p.items ++ s.volatile) (items_of u (without_tx tx s.held)) (items_of u (without_tx tx s.held)) o (λ m k. in_right m (stamped_lines tx stamp p.items) s.volatile k) (λ x k. k) (after_drop s tx s.volatile w.own_closed u o h);
+        own_closed = λ u o h. wider_own u s.volatile (stamped_lines tx stamp p.items ++ s.volatile) (items_of u (without_tx tx s.held)) (items_of u (without_tx tx s.held)) o (λ m k. In-second m (stamped_lines tx stamp p.items) s.volatile k) (λ x k. k) (after_drop s tx s.volatile w.own_closed u o h);
         prepared = λ q h. (let r = in_dropped q tx s.prepared h in dropped_in q tx s.promises (w.prepared q r.0) r.1);
-        promised = λ q o h i. wider_own q.tx s.stable (stamped_lines tx stamp p.items ++ s.stable) q.items q.items o (λ m k. in_right m (stamped_lines tx stamp p.items) s.stable k) (λ x k. k) (w.promised q o (in_dropped q tx s.promises h).0 i);
+        promised = λ q o h i. wider_own q.tx s.stable (stamped_lines tx stamp p.items ++ s.stable) q.items q.items o (λ m k. In-second m (stamped_lines tx stamp p.items) s.stable k) (λ x k. k) (w.promised q o (in_dropped q tx s.promises h).0 i);
       }
 
   -- what a deed brings: an Append's part, a verdict

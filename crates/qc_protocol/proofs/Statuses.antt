@@ -1,11 +1,11 @@
--- Acts that move the status of a transaction: begin, prepare, abort, commit, recover. Stamps stay distinct (Lamport 1978: a stamp is above
--- the client's clock, and carries the client).
+-- Acts that move the status of a transaction, and what a move must keep: an outcome is final, and commit records stay
+-- apart (Lamport 1978: a stamp is above the client's clock, and has the client's number).
 use Rattle.std.proofs.Common.{◌≡◌, ◌≢◌, ℕ, ◌≤◌, ◌⊎◌, inl, inr, List, Option, Some, None, refl, sym, ap, ◌∙◌, subst, arith}
 use Rattle.qc_stamp.specs.declared.stamp.Stamp.{Stamp}
 use Rattle.qc_stamp.specs.declared.stamp.TxId.{TxId}
 use Rattle.qc_entry.specs.declared.record.Commit.{Commit as CommitRecord}
 use Rattle.qc_decl.specs.declared.declaration.Declaration.{Declaration}
-use Rattle.qc_onecopy.specs.Lists.{In}
+use Rattle.qc_list.specs.Members.{In}
 use Rattle.qc_protocol.specs.Names.{put_tx}
 use Rattle.qc_plan.specs.declared.plan.Plan.{Plan}
 use Rattle.qc_decl.specs.Lookup.{plan_in}

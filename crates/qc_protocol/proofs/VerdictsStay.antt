@@ -1,7 +1,7 @@
 -- A verdict that was sent stays sent, whatever happens next.
 use Rattle.std.proofs.Common.{List, [], ◌∷◌, ◌++◌}
-use Rattle.qc_onecopy.specs.Lists.{In}
-use Rattle.qc_onecopy.proofs.Lists.{in_right}
+use Rattle.qc_list.specs.Members.{In}
+use Rattle.qc_list.proofs.Members.{In-second}
 use Rattle.qc_protocol.specs.State.{State, Verdict}
 use Rattle.qc_protocol.specs.Acts.{Abort, Act, Announce, Begin, Choose, Close, Commit, CommitUnknown, Count, Decide, Execute, ExecuteAbsent, Grant, Install, Learn, Prepare, PrepareLost, Recover, Rise, RiseClient, SendAppend, TakeSnapshot, Vote, after_act, state, verdict_of}
 
@@ -21,7 +21,7 @@ one_more now (CommitUnknown c) v h = h
 one_more now (Recover tx with_record) v h = h
 one_more now (Abort tx) v h = h
 one_more now (RiseClient client clock) v h = h
-one_more now (Announce tx) v h = in_right v (verdict_of tx (now.status tx)) now.verdicts h
+one_more now (Announce tx) v h = In-second v (verdict_of tx (now.status tx)) now.verdicts h
 one_more now (Learn site t) v h = h
 one_more now (Rise site) v h = h
 one_more now (Close site) v h = h

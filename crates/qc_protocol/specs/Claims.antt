@@ -4,7 +4,7 @@ use Rattle.qc_stamp.specs.declared.stamp.Stamp.{Stamp}
 use Rattle.qc_stamp.specs.declared.stamp.TxId.{TxId}
 use Rattle.qc_entry.specs.declared.line.Line.{Line}
 use Rattle.qc_entry.specs.declared.record.Commit.{Commit as CommitRecord}
-use Rattle.qc_onecopy.specs.Lists.{In}
+use Rattle.qc_list.specs.Members.{In}
 use Rattle.qc_protocol.specs.Site.{site_after}
 use Rattle.qc_protocol.specs.State.{AppendRequest, Decision, Granted, Snapshot, State}
 use Rattle.qc_protocol.specs.Guards.{Shows}

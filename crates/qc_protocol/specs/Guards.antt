@@ -17,7 +17,7 @@ use Rattle.qc_plan.specs.Admitted.{Closes as Closing}
 use Rattle.qc_plan.specs.Weights.{weight}
 use Rattle.qc_decl.specs.declared.declaration.Declaration.{Declaration}
 use Rattle.qc_decl.specs.Lookup.{append_need_of, plan_in, read_need_of}
-use Rattle.qc_onecopy.specs.Lists.{In}
+use Rattle.qc_list.specs.Members.{In}
 use Rattle.qc_onecopy.specs.Executed.{Executed, IsAnswered, depends_at, kind_at, own_line, committed_line}
 pub use Rattle.qc_protocol.specs.Quorums.{HasGranted, HasQuorum, IsShown, Shows, own_on, read_lock, weights_of}
 use Rattle.qc_protocol.specs.Site.{Item, Lock, Own, Promise, Installs, epoch_from, shut_from, items_of, site_after, empty_site, done_records}

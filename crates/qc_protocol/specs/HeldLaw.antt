@@ -1,10 +1,10 @@
--- The held law and the clock law: what a site owes to a grant that was counted, and what a stamp has passed (two-phase locking, with
--- locks that outlive falls once they are prepared; Lamport 1978 on clocks).
+-- The held law and the clock law: what a site owes to a grant that was counted, and what a stamp has passed
+-- (two-phase locking, with locks that outlive falls once they are prepared; Lamport 1978 on clocks).
 use Rattle.std.specs.Prelude.{◌≡◌, ℕ, ◌<◌, ◌⊎◌, List, ◌∷◌, ◌++◌}
 use Rattle.qc_stamp.specs.declared.stamp.Stamp.{Stamp}
 use Rattle.qc_stamp.specs.declared.stamp.TxId.{TxId}
 use Rattle.qc_entry.specs.declared.line.Line.{Line}
-use Rattle.qc_onecopy.specs.Lists.{In}
+use Rattle.qc_list.specs.Members.{In}
 use Rattle.qc_protocol.specs.Site.{Deed, DoneRecord, Grants, Installs, LearnsCommit, done_records, empty_site, site_after}
 use Rattle.qc_protocol.specs.State.{Granted, State, YesVote}
 
@@ -14,7 +14,7 @@ IsSince now g since = now.deeds g.site ≡ g.before ++ Grants g.tx g.items g.vie
 
 -- the site has the life of the grant still, or it has voted
 abbrev pub IsBound : State → Granted → Type 0
-IsBound now g = (now.life g.site ≡ g.life) ⊎ In {A = YesVote} (record { tx = g.tx; site = g.site }) now.votes
+IsBound now g = (now.life g.site ≡ g.life) ⊎ In {X = YesVote} (record { tx = g.tx; site = g.site }) now.votes
 
 -- among these deeds is no verdict that the transaction committed, and no Install
 pub record AreBeforeDone (tx : TxId) (since : List Deed) : Type 0 where

@@ -9,7 +9,7 @@ use Rattle.qc_table.specs.Rules.{events_of}
 use Rattle.qc_plan.specs.Weights.{weight}
 use Rattle.qc_decl.specs.declared.declaration.Declaration.{Declaration}
 use Rattle.qc_decl.specs.Lookup.{append_need_of, read_need_of}
-use Rattle.qc_onecopy.specs.Lists.{In}
+use Rattle.qc_list.specs.Members.{In}
 use Rattle.qc_onecopy.specs.Executed.{Executed, IsAnswered, depends_at, kind_at, own_line, committed_line}
 use Rattle.qc_protocol.specs.Site.{Item, Lock, Own, Promise, Site, items_of, site_after}
 use Rattle.qc_protocol.specs.State.{Status, NotBegun, Committed, Decision, Granted, AppendRequest, Snapshot, State}
@@ -112,7 +112,8 @@ pub record LogLaws (decl : Declaration) (now : State) : Type 0 where
   pub right : (tx : TxId) (d : Executed) → IsExecutedOrChosen (now.executed tx) (now.chosen tx) d
       → IsAnsweredFromQuorum decl (now.epoch tx) now.counted tx d
   pub written : (tx : TxId) (d : Executed) → In d (now.executed tx) → IsSome d.op.resp
-      → HasQuorum decl (now.epoch tx) now.counted tx (Own (own_line d)) (append_need_of decl (now.epoch tx) d.op.object d.event)
+      → HasQuorum decl (now.epoch tx) now.counted tx (Own (own_line d))
+      (append_need_of decl (now.epoch tx) d.op.object d.event)
   pub views : (tx : TxId) (d : Executed) (l : Line) → IsExecutedOrChosen (now.executed tx) (now.chosen tx) d
       → In l d.view → IsClosedAt decl now.status now.executed d.view l
   pub appends : (s : AppendRequest) → In s now.appends

@@ -1,7 +1,7 @@
 -- Runs without falls, restarts and changes of quorums.
 use Rattle.std.specs.Prelude.{◌≡◌, ℕ, List, [], ◌∷◌}
 use Rattle.qc_stamp.specs.declared.stamp.TxId.{TxId}
-use Rattle.qc_onecopy.specs.Lists.{In}
+use Rattle.qc_list.specs.Members.{In}
 use Rattle.qc_protocol.specs.Site.{Deed, Grants, Prepares, LearnsCommit, LearnsAbort}
 use Rattle.qc_protocol.specs.Acts.{Act, TakeSnapshot, Begin, Decide, Install, RiseClient, Rise, Recover, Close, CommitUnknown, PrepareLost}
 use Rattle.qc_protocol.specs.State.{Granted, State}

@@ -11,7 +11,7 @@ use Rattle.qc_plan.specs.declared.plan.Plan.{Plan}
 use Rattle.qc_plan.specs.Weights.{weight}
 use Rattle.qc_decl.specs.declared.declaration.Declaration.{Declaration}
 use Rattle.qc_decl.specs.Lookup.{plan_in}
-use Rattle.qc_onecopy.specs.Lists.{In}
+use Rattle.qc_list.specs.Members.{In}
 use Rattle.qc_onecopy.specs.Executed.{Executed, own_line}
 use Rattle.qc_protocol.specs.Site.{Item, Lock, site_after}
 use Rattle.qc_protocol.specs.State.{Granted}

@@ -7,7 +7,7 @@ use Rattle.qc_entry.specs.declared.line.Line.{Line}
 use Rattle.qc_entry.specs.declared.line.OwnLine.{OwnLine}
 use Rattle.qc_entry.specs.declared.line.ReadLock.{ReadLock}
 use Rattle.qc_onecopy.specs.Executed.{committed_line}
-use Rattle.qc_protocol.specs.Names.{same_tx}
+use Rattle.qc_stamp.specs.Order.{same_tx}
 
 -- what a transaction holds
 pub data Item : Type 0 where

@@ -9,9 +9,9 @@ use Rattle.qc_plan.specs.Admitted.{Closes as Closing}
 use Rattle.qc_plan.specs.Weights.{weight}
 use Rattle.qc_plan.specs.declared.plan.Plan.{Plan}
 use Rattle.qc_decl.specs.Lookup.{plan_in}
-use Rattle.qc_onecopy.specs.Lists.{In}
+use Rattle.qc_list.specs.Members.{In}
 use Rattle.qc_onecopy.specs.Executed.{Executed}
-use Rattle.qc_protocol.specs.Names.{same_tx}
+use Rattle.qc_stamp.specs.Order.{same_tx}
 use Rattle.qc_protocol.specs.Site.{Promise, Deed, Grants, Prepares, LearnsCommit, LearnsAbort, Closes, Installs, Rises, epoch_from, site_after}
 use Rattle.qc_protocol.specs.SiteLaws.{SparesUntilDone}
 use Rattle.qc_protocol.specs.State.{Status, NotBegun, Voting, Committed, Aborted, Decision, Granted, Snapshot, YesVote, Verdict, State}

@@ -6,7 +6,7 @@ ghost use Rattle.qc_entry.specs.declared.line.OwnLine.{OwnLine};
 ghost use Rattle.qc_entry.specs.declared.record.Commit.{Commit as CommitRecord};
 ghost use Rattle.qc_decl.specs.declared.declaration.Declaration.{Declaration};
 ghost use Rattle.qc_decl.specs.Accepted.{IsAccepted};
-ghost use Rattle.qc_onecopy.specs.Lists.{In};
+ghost use Rattle.qc_list.specs.Members.{In};
 ghost use Rattle.qc_protocol.specs.Site.{Deed, Item, Own, epoch_from, shut_from, items_of, site_after};
 ghost use Rattle.qc_protocol.specs.State.{Granted, Voting, Aborted};
 ghost use Rattle.qc_protocol.specs.Acts.{Act, state};

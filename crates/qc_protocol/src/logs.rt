@@ -9,7 +9,7 @@ ghost use Rattle.qc_onecopy.specs.Views.{IsFromView};
 ghost use Rattle.qc_onecopy.specs.Committed.{sorted};
 ghost use Rattle.qc_protocol.specs.Placed.{placed};
 ghost use Rattle.qc_onecopy.specs.Executed.{Executed, Placed, committed_line, depends_at, own_line};
-ghost use Rattle.qc_onecopy.specs.Lists.{In};
+ghost use Rattle.qc_list.specs.Members.{In};
 ghost use Rattle.qc_onecopy.specs.Logged.{IsClosedLog, IsLogged};
 ghost use Rattle.qc_protocol.specs.Acts.{Act, state};
 ghost use Rattle.qc_protocol.specs.Guards.{IsRun};

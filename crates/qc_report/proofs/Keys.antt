@@ -7,7 +7,7 @@ use Rattle.std.specs.BTreeSet.{insert_key}
 use Rattle.std.proofs.lemmas.List.Sums.{fold-append}
 use Rattle.std.proofs.lemmas.List.Elements.{filter_map-append}
 use Rattle.qc_entry.specs.declared.record.Commit.{Commit}
-use Rattle.qc_entry.specs.Log.{by_order}
+use Rattle.qc_list.specs.Order.{by_order}
 use Rattle.qc_decl.specs.declared.declaration.Declaration.{Declaration}
 use Rattle.qc_msg.specs.Steps.{Entry}
 use Rattle.qc_onecopy.specs.Committed.{commit_cmp, with_commit}

@@ -6,7 +6,7 @@ use Rattle.qc_plan.specs.declared.plan.Plan.{Plan}
 use Rattle.qc_decl.specs.Lookup.{append_need_of, plan_in}
 use Rattle.qc_decl.specs.declared.declaration.Declaration.{Declaration}
 use Rattle.qc_onecopy.specs.Executed.{Executed, own_line}
-use Rattle.qc_onecopy.specs.Lists.{In}
+use Rattle.qc_list.specs.Members.{In}
 use Rattle.qc_protocol.specs.Acts.{Act, Begin, Choose, SendAppend, Execute, ExecuteAbsent, Grant, Count, Prepare, Vote, PrepareLost, Commit, CommitUnknown, Recover, Abort, RiseClient, Announce, Learn, Rise, Close, TakeSnapshot, Decide, Install, state}
 use Rattle.qc_protocol.specs.Asked.{Guard, Asked, BeginsOnce, BeginsInPlannedEpoch, OperatesWhileActive, ChoosesOneAtATime, ChosenHasResponse, AppendsWhatIsChosen, AppendQuorumIsMet, AbsentHasNoResponse, GrantTellsDeeds, GrantTellsLife, GrantsWhatWasRequested, CountsWhatWasGranted, CountsWhileActive, CountsInItsEpoch, PreparesOnce, PreparesWhenExecuted, VotesWhenAsked, VotesInGrantedLife, RecordsPrepareWhenAsked, AbortsBeforeRecord, RisesWithNoneRunning, RisesPastRecords, LearnsWhatWasAnnounced, SnapshotTellsDeeds, InstallsWhatWasDecided, InstallsLaterEpoch}
 use Rattle.qc_protocol.specs.Guards.{HasQuorum, HasRecord, IsAllowedBy, IsAppendOfBy, IsLive, IsRunBy, MayPrepare}

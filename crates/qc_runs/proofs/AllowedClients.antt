@@ -8,7 +8,7 @@ use Rattle.qc_table.specs.declared.kind.Kind.{Kind}
 use Rattle.qc_decl.specs.declared.declaration.Declaration.{Declaration}
 use Rattle.qc_decl.specs.Lookup.{append_need_of, read_need_of}
 use Rattle.qc_onecopy.specs.Executed.{Executed, kind_at, own_line}
-use Rattle.qc_onecopy.specs.Lists.{In}
+use Rattle.qc_list.specs.Members.{In}
 use Rattle.qc_protocol.specs.Asked.{Guard, AnswersFromView, InvocationIsDeclared, OperationsAreNumbered, OwnLinesAreKept, ViewWasShown, ViewIsWhole, ReadQuorumIsMet, AppendCarriesView, AppendCarriesOnlyOwnLines, AppendCarriesEarlierLines, CommitsWhenVoting, AllHaveVoted, StampIsItsClients, StampPassesClock, RecordHasOperations}
 use Rattle.qc_protocol.specs.Guards.{IsAppendOfBy, IsExecutedFromBy, IsShown, MayCommitBy, op_of, own_on, read_lock}
 use Rattle.qc_protocol.specs.Site.{Item, Lock, Own}
@@ -80,7 +80,7 @@ abbrev pub may_commit : (ask : Guard → Bool) (now : State) (c : CommitRecord) 
 may_commit ask now c =
     option_map (λ f. record { voting = f.0; votes = (f.1).0; client = ((f.1).1).0; above = (((f.1).1).1).0; ops = (((f.1).1).1).1 })
     (both (where_asked (ask CommitsWhenVoting) (is_voting (now.status c.tx)))
-    (both (where_asked (ask AllHaveVoted) (every (λ (g : Granted). g.tx ≡ c.tx → In {A = YesVote} (record { tx = c.tx; site = g.site }) now.votes) (λ g. where_same_tx g.tx c.tx (member same_vote (record { tx = c.tx; site = g.site }) now.votes)) now.counted))
+    (both (where_asked (ask AllHaveVoted) (every (λ (g : Granted). g.tx ≡ c.tx → In {X = YesVote} (record { tx = c.tx; site = g.site }) now.votes) (λ g. where_same_tx g.tx c.tx (member same_vote (record { tx = c.tx; site = g.site }) now.votes)) now.counted))
     (both (where_asked (ask StampIsItsClients) (same_number c.stamp.client c.tx.client))
     (both (where_asked (ask StampPassesClock) (below (now.clock c.tx.client) c.stamp.clock))
     (where_asked (ask RecordHasOperations) (same_list same_op c.ops (map op_of (now.executed c.tx))))))))

@@ -11,7 +11,7 @@ use Rattle.qc_plan.specs.declared.plan.Plan.{Plan}
 use Rattle.qc_decl.specs.Lookup.{plan_in}
 use Rattle.qc_decl.specs.declared.declaration.Declaration.{Declaration}
 use Rattle.qc_onecopy.specs.Executed.{committed_line}
-use Rattle.qc_onecopy.specs.Lists.{In}
+use Rattle.qc_list.specs.Members.{In}
 use Rattle.qc_protocol.specs.Asked.{Guard, Asked, DecidesByPlan, DecidesFromSnapshots, DecidesNextEpoch, ClosesEnough, ClosedSitesAnswered, ResolvesPrepared, MergesEveryEntry, DecidePassesCommitted, MergesLogs, MergesOnlyCommitted, DecidePassesSnapshots}
 use Rattle.qc_protocol.specs.Guards.{IsMerged, IsResolvedBy, MayDecideBy}
 use Rattle.qc_protocol.specs.Site.{Item, Lock, Own, Promise, epoch_from, site_after}

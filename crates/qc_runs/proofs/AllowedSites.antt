@@ -7,11 +7,11 @@ use Rattle.qc_entry.specs.declared.line.OwnLine.{OwnLine}
 use Rattle.qc_entry.specs.declared.line.ReadLock.{ReadLock}
 use Rattle.qc_decl.specs.declared.declaration.Declaration.{Declaration}
 use Rattle.qc_onecopy.specs.Executed.{depends_at}
-use Rattle.qc_onecopy.specs.Lists.{In}
-use Rattle.qc_protocol.proofs.Names.{tx_is}
+use Rattle.qc_list.specs.Members.{In}
+use Rattle.qc_stamp.proofs.Orders.{same_tx_is}
 use Rattle.qc_protocol.specs.Asked.{Guard, GrantTellsEpoch, GrantsUnlessClosed, GrantPassesInstalls, GrantsWithoutConflict, GrantPassesDone, GrantPassesLines, SnapshotIsOfClosed, SnapshotPassesDone, SnapshotPassesInstalls}
 use Rattle.qc_protocol.specs.Guards.{Conflict, IsRequested, MayGrantBy, MaySnapshotBy}
-use Rattle.qc_protocol.specs.Names.{same_tx}
+use Rattle.qc_stamp.specs.Order.{same_tx}
 use Rattle.qc_protocol.specs.Site.{Deed, DoneRecord, Grants, Prepares, LearnsCommit, LearnsAbort, Closes, Installs, Rises, Held, Item, Lock, Own, done_records, empty_site, epoch_from, items_of, shut_from, site_after}
 use Rattle.qc_protocol.specs.State.{AppendRequest, Granted, Snapshot}
 use Rattle.qc_runs.proofs.Cases.{IsInstall, one_clock}
@@ -64,7 +64,7 @@ abbrev free_item : (decl : Declaration) (tx : TxId) (h : Held) (x : Item) → Op
 free_item decl tx h x = by (same_tx h.tx tx) refl (no_conflict decl x h.item)
   where
     by : (t : Bool) → same_tx h.tx tx ≡ t → Option (Conflict decl x h.item → ⊥) → Option (h.tx ≢ tx → Conflict decl x h.item → ⊥)
-    by true e o = Some (λ ne c. ne (tx_is h.tx tx e))
+    by true e o = Some (λ ne c. ne (same_tx_is h.tx tx e))
     by false e (Some f) = Some (λ ne. f)
     by false e None = None
 
@@ -75,9 +75,9 @@ pub held_by : (u : TxId) (y : Item) (hs : List Held) → In y (items_of u hs) �
 held_by u y [] h = absurd h
 held_by u y (x ∷ xs) h = by (same_tx u x.tx) refl (held_by u y xs) h
   where
-    by : (t : Bool) → same_tx u x.tx ≡ t → (In y (items_of u xs) → In {A = Held} (record { tx = u; item = y }) xs)
-        → In y (cond t (x.item ∷ items_of u xs) (items_of u xs)) → In {A = Held} (record { tx = u; item = y }) (x ∷ xs)
-    by true e f (inl same) = inl (λ i. record { tx = tx_is u x.tx e i; item = same i })
+    by : (t : Bool) → same_tx u x.tx ≡ t → (In y (items_of u xs) → In {X = Held} (record { tx = u; item = y }) xs)
+        → In y (cond t (x.item ∷ items_of u xs) (items_of u xs)) → In {X = Held} (record { tx = u; item = y }) (x ∷ xs)
+    by true e f (inl same) = inl (λ i. record { tx = same_tx_is u x.tx e i; item = same i })
     by true e f (inr later) = inr (f later)
     by false e f later = inr (f later)
 

@@ -1,7 +1,7 @@
 -- The transactions that acts are of: of any other nothing has begun.
 use Rattle.std.proofs.Common.{◌≡◌, ◌⊎◌, inl, inr, List, [], ◌∷◌, refl}
 use Rattle.qc_stamp.specs.declared.stamp.TxId.{TxId}
-use Rattle.qc_onecopy.specs.Lists.{In}
+use Rattle.qc_list.specs.Members.{In}
 use Rattle.qc_protocol.proofs.Names.{put_tx_case}
 use Rattle.qc_protocol.specs.Acts.{Act, Begin, Choose, SendAppend, Execute, ExecuteAbsent, Grant, Count, Prepare, Vote, PrepareLost, Commit, CommitUnknown, Recover, Abort, RiseClient, Announce, Learn, Rise, Close, TakeSnapshot, Decide, Install, recover_status, state}
 use Rattle.qc_protocol.specs.Names.{put_tx}

@@ -8,7 +8,7 @@ use Rattle.qc_entry.specs.declared.line.Op.{Op}
 use Rattle.qc_entry.specs.declared.record.Commit.{Commit as CommitRecord}
 use Rattle.qc_decl.specs.declared.declaration.Declaration.{Declaration}
 use Rattle.qc_onecopy.specs.Committed.{AreApart, sorted}
-use Rattle.qc_onecopy.specs.Lists.{In}
+use Rattle.qc_list.specs.Members.{In}
 use Rattle.qc_onecopy.specs.Logged.{IsLogged, IsOperation, event_at}
 use Rattle.qc_onecopy.specs.OneCopy.{Goes, Walks, operations, start_at, step_at, updated}
 use Rattle.qc_protocol.specs.Acts.{Act, Commit, state}

@@ -5,7 +5,7 @@ use Rattle.qc_stamp.specs.declared.stamp.Stamp.{Stamp}
 use Rattle.qc_entry.specs.declared.line.Line.{Line}
 use Rattle.qc_entry.specs.declared.record.Commit.{Commit as CommitRecord}
 use Rattle.qc_onecopy.specs.Executed.{Executed, committed_line, depends_at, own_line}
-use Rattle.qc_onecopy.specs.Lists.{In}
+use Rattle.qc_list.specs.Members.{In}
 use Rattle.qc_protocol.specs.Acts.{Act, state}
 use Rattle.qc_protocol.specs.State.{State}
 use Rattle.qc_runs.proofs.Broken.{other_number}

@@ -1,10 +1,10 @@
 -- Facts that are looked for: an answer is the proof of the fact, or none.
 use Rattle.std.proofs.Common.{◌≡◌, ℕ, ◌≤◌, ◌<◌, suc, ◌==◌, leb, Bool, true, false, List, [], ◌∷◌, Option, Some, None, is_some, inl, inr, refl, sym, ◌∙◌, subst, eqb-true, leb-true, true≢false}
 use Rattle.std.proofs.lemmas.Bool.{eqb-false}
-use Rattle.qc_onecopy.specs.Lists.{In}
+use Rattle.qc_list.specs.Members.{In}
 use Rattle.qc_protocol.proofs.Names.{tx_test}
 use Rattle.qc_protocol.specs.Asked.{Asked}
-use Rattle.qc_protocol.specs.Names.{same_tx}
+use Rattle.qc_stamp.specs.Order.{same_tx}
 use Rattle.qc_stamp.specs.declared.stamp.TxId.{TxId}
 
 -- a fact that was found

@@ -4,7 +4,7 @@ use Rattle.qc_stamp.specs.declared.stamp.TxId.{TxId}
 use Rattle.qc_entry.specs.declared.line.Line.{Line}
 use Rattle.qc_entry.specs.declared.line.ReadLock.{ReadLock}
 use Rattle.qc_decl.specs.declared.declaration.Declaration.{Declaration}
-use Rattle.qc_onecopy.specs.Lists.{In}
+use Rattle.qc_list.specs.Members.{In}
 use Rattle.qc_plan.specs.Weights.{weight}
 use Rattle.qc_protocol.specs.Guards.{HasGranted, HasQuorum, IsShown, Shows, weights_of}
 use Rattle.qc_protocol.specs.Site.{Item, Lock, Own, site_after}

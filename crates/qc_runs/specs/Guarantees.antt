@@ -5,7 +5,7 @@ use Rattle.qc_entry.specs.declared.line.Line.{Line}
 use Rattle.qc_entry.specs.declared.record.Commit.{Commit as CommitRecord}
 use Rattle.qc_onecopy.specs.Committed.{AreApart, sorted}
 use Rattle.qc_onecopy.specs.Executed.{Executed, committed_line, depends_at, own_line}
-use Rattle.qc_onecopy.specs.Lists.{In}
+use Rattle.qc_list.specs.Members.{In}
 use Rattle.qc_onecopy.specs.Logged.{IsLogged}
 use Rattle.qc_onecopy.specs.OneCopy.{OneCopy}
 use Rattle.qc_protocol.specs.Acts.{Act, Commit, state}

@@ -12,7 +12,7 @@ use Rattle.qc_entry.specs.declared.record.Commit.{Commit as CommitRecord}
 use Rattle.qc_onecopy.specs.Executed.{Executed, own_line}
 use Rattle.qc_protocol.specs.Acts.{Act, Begin, Choose, SendAppend, Execute, ExecuteAbsent, Grant, Count, Prepare, Vote, PrepareLost, Commit, CommitUnknown, Recover, Abort, RiseClient, Announce, Learn, Rise, Close, TakeSnapshot, Decide, Install, state}
 use Rattle.qc_protocol.specs.Guards.{op_of, own_on}
-use Rattle.qc_protocol.specs.Names.{same_tx}
+use Rattle.qc_stamp.specs.Order.{same_tx}
 use Rattle.qc_protocol.specs.Site.{Deed, Installs, DoneRecord, Item, Lock, Own, Promise, done_records, empty_site, epoch_from, site_after, stamped_lines}
 use Rattle.qc_protocol.specs.State.{AppendRequest, Decision, Granted, Snapshot, State, Verdict}
 

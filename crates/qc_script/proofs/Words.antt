@@ -19,11 +19,6 @@ pub asked_more : (decl : Declaration) (verb : List ℕ) (words : List (List ℕ)
 asked_more decl verb [] some = absurd (omega arith)
 asked_more decl verb (word ∷ words) some = refl
 
--- a do has no more than two
-pub invoked_more : (decl : Declaration) (object inv : List ℕ) (words : List (List ℕ)) → 0 < length words → invoked_by decl (object ∷ inv ∷ words) ≡ Unknown
-invoked_more decl object inv [] some = absurd (omega arith)
-invoked_more decl object inv (word ∷ words) some = refl
-
 -- a line that is cut at its first space
 pub cut_at : (line : List ℕ) (place : ℕ) → place < length line → position (λ b. b == 32) line ≡ Some place
     → words_of line ≡ take place line ∷ words_of (take (length line - (place + 1)) (drop (place + 1) line))

@@ -1,49 +1,17 @@
 -- The entries of what is held, by transaction.
-use Rattle.std.proofs.Common.{◌≡◌, ◌<◌, ◌+◌, arith, length, ◌==◌, ◌&&◌, not, Bool, true, false, cond, List, [], ◌∷◌, filter, Option, Some, None, unwrap_or, refl, sym, ap, subst}
+use Rattle.std.proofs.Common.{◌≡◌, ◌<◌, ◌+◌, arith, length, ◌==◌, not, Bool, true, false, cond, List, [], ◌∷◌, filter, Option, Some, None, unwrap_or, refl, sym, ap, subst}
 use Rattle.std.specs.List.{find}
-use Rattle.std.proofs.lemmas.Bool.{eq-eqb, eqb-true}
 use Rattle.qc_stamp.specs.declared.stamp.TxId.{TxId}
+use Rattle.qc_stamp.proofs.Orders.{other_tx_sym, same_tx_is, same_tx_itself}
 use Rattle.qc_site.specs.declared.held.Held.{Held}
 use Rattle.std.specs.declared.cmp.Ordering.{Ordering}
 use Rattle.std.specs.declared.cmp.Ordering.TheVariants.{Less, Equal, Greater}
 use Rattle.qc_entry.specs.declared.line.OwnLine.{OwnLine}
 use Rattle.qc_entry.specs.declared.line.ReadLock.{ReadLock}
-use Rattle.qc_entry.specs.Log.{by_order}
-use Rattle.qc_site.specs.Held.{same_tx, lock_cmp, own_cmp, inserted, with_lock, with_own, with_owns, holding_lock, holding_owns, entry_of, held_of, with_entry, without_held}
+use Rattle.qc_list.specs.Order.{by_order, inserted}
+use Rattle.qc_stamp.specs.Order.{same_tx}
+use Rattle.qc_site.specs.Held.{lock_cmp, own_cmp, with_lock, with_own, with_owns, holding_lock, holding_owns, entry_of, held_of, with_entry, without_held}
 use Rattle.qc_site.specs.Laws.{IsApart, IsSingle, AreFull}
-
--- the test of names
-
-and_first : (x y : Bool) → (x && y) ≡ true → x ≡ true
-and_first true y h = refl
-and_first false y h = h
-
-and_second : (x y : Bool) → (x && y) ≡ true → y ≡ true
-and_second true y h = h
-and_second false y h = absurd (let never : ⊥ = cc in never)
-
-pub same_self : (tx : TxId) → same_tx tx tx ≡ true
-same_self tx =
-    let client : (tx.client == tx.client) ≡ true = eq-eqb tx.client tx.client refl in
-    let life : (tx.life == tx.life) ≡ true = eq-eqb tx.life tx.life refl in
-    let number : (tx.number == tx.number) ≡ true = eq-eqb tx.number tx.number refl in
-    rw (client, life, number) refl
-
-pub tx_apart : (a b : TxId) → same_tx a b ≡ true → a ≡ b
-tx_apart a b h =
-    let rest : ((a.life == b.life) && (a.number == b.number)) ≡ true = and_second (a.client == b.client) _ h in
-    let client : a.client ≡ b.client = eqb-true a.client b.client (and_first (a.client == b.client) _ h) in
-    let life : a.life ≡ b.life = eqb-true a.life b.life (and_first (a.life == b.life) (a.number == b.number) rest) in
-    let number : a.number ≡ b.number = eqb-true a.number b.number (and_second (a.life == b.life) (a.number == b.number) rest) in
-    λ i. record { client = client i; life = life i; number = number i }
-
-pub apart_sym : (a b : TxId) → same_tx a b ≡ false → same_tx b a ≡ false
-apart_sym a b h = by (same_tx b a) refl where
-  by : (t : Bool) → same_tx b a ≡ t → t ≡ false
-  by true is =
-      let same : same_tx a b ≡ true = subst (λ u. same_tx a u ≡ true) (sym (tx_apart b a is)) (same_self a) in
-      absurd (let never : ⊥ = cc in never)
-  by false is = refl
 
 -- none that passes a test is left where those that pass it are left out
 pub find-none : {A : Type 0} (p : A → Bool) (xs : List A) → find p (filter (λ x. not (p x)) xs) ≡ None
@@ -56,10 +24,10 @@ find-none {A = A} p (x ∷ xs) = by (p x) refl (find-none p xs) where
 -- an entry that was put
 
 pub entry-put : (held : List Held) (e : Held) → entry_of (with_entry held e) e.tx ≡ Some e
-entry-put [] e = rw (same_self e.tx) refl
+entry-put [] e = rw (same_tx_itself e.tx) refl
 entry-put (h ∷ hs) e = by (same_tx h.tx e.tx) refl (entry-put hs e) where
   by : (t : Bool) → same_tx h.tx e.tx ≡ t → entry_of (with_entry hs e) e.tx ≡ Some e → entry_of (cond t (e ∷ hs) (h ∷ with_entry hs e)) e.tx ≡ Some e
-  by true is rest = rw (same_self e.tx) refl
+  by true is rest = rw (same_tx_itself e.tx) refl
   by false is rest = rw is rest
 
 pub held-put : (held : List Held) (e : Held) → held_of (with_entry held e) e.tx ≡ e
@@ -70,7 +38,7 @@ entry-put_other [] e tx other = rw other refl
 entry-put_other (h ∷ hs) e tx other = by (same_tx h.tx e.tx) refl (entry-put_other hs e tx other) where
   by : (t : Bool) → same_tx h.tx e.tx ≡ t → entry_of (with_entry hs e) tx ≡ entry_of hs tx → entry_of (cond t (e ∷ hs) (h ∷ with_entry hs e)) tx ≡ entry_of (h ∷ hs) tx
   by true is rest =
-      let same : same_tx h.tx tx ≡ false = subst (λ u. same_tx u tx ≡ false) (sym (tx_apart h.tx e.tx is)) other in
+      let same : same_tx h.tx tx ≡ false = subst (λ u. same_tx u tx ≡ false) (sym (same_tx_is h.tx e.tx is)) other in
       rw (other, same) refl
   by false is rest = ap (λ (o : Option Held). cond (same_tx h.tx tx) (Some h) o) rest
 
@@ -87,7 +55,7 @@ entry-without_other [] tx other apart = refl
 entry-without_other (h ∷ hs) tx other apart = by (same_tx h.tx tx) refl (entry-without_other hs tx other apart) where
   by : (t : Bool) → same_tx h.tx tx ≡ t → entry_of (without_held hs tx) other ≡ entry_of hs other → entry_of (cond (not t) (h ∷ without_held hs tx) (without_held hs tx)) other ≡ entry_of (h ∷ hs) other
   by true is rest =
-      let same : same_tx h.tx other ≡ false = subst (λ u. same_tx u other ≡ false) (sym (tx_apart h.tx tx is)) apart in
+      let same : same_tx h.tx other ≡ false = subst (λ u. same_tx u other ≡ false) (sym (same_tx_is h.tx tx is)) apart in
       rw same rest
   by false is rest = ap (λ (o : Option Held). cond (same_tx h.tx other) (Some h) o) rest
 
@@ -107,8 +75,8 @@ pub single-put : (held : List Held) (e : Held) → IsSingle held → IsSingle (w
 single-put [] e single = (tt, tt)
 single-put (h ∷ hs) e single = by (same_tx h.tx e.tx) refl (single-put hs e single.1) where
   by : (t : Bool) → same_tx h.tx e.tx ≡ t → IsSingle (with_entry hs e) → IsSingle (cond t (e ∷ hs) (h ∷ with_entry hs e))
-  by true is rest = (subst (λ u. IsApart u hs) (tx_apart h.tx e.tx is) single.0, single.1)
-  by false is rest = (apart-put h.tx hs e (apart_sym h.tx e.tx is) single.0, rest)
+  by true is rest = (subst (λ u. IsApart u hs) (same_tx_is h.tx e.tx is) single.0, single.1)
+  by false is rest = (apart-put h.tx hs e (other_tx_sym h.tx e.tx is) single.0, rest)
 
 apart-filter : (tx : TxId) (test : Held → Bool) (held : List Held) → IsApart tx held → IsApart tx (filter test held)
 apart-filter tx test [] apart = tt

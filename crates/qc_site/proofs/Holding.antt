@@ -5,21 +5,22 @@ use Rattle.std.specs.declared.cmp.Ordering.TheVariants.{Less, Equal, Greater}
 use Rattle.std.specs.Ordering.{nat_cmp}
 use Rattle.qc_stamp.specs.declared.stamp.Stamp.{Stamp}
 use Rattle.qc_stamp.specs.declared.stamp.TxId.{TxId}
-use Rattle.qc_stamp.proofs.Orders.{nat_apart, first_Equal, second_Equal}
+use Rattle.qc_stamp.proofs.Orders.{nat_apart, first_Equal, second_Equal, same_tx_is}
 use Rattle.qc_entry.specs.declared.line.ReadLock.{ReadLock}
 use Rattle.qc_entry.specs.declared.record.Prepared.{Prepared}
-use Rattle.qc_entry.specs.Log.{by_order}
+use Rattle.qc_list.specs.Order.{by_order}
+use Rattle.qc_stamp.specs.Order.{same_tx}
 use Rattle.qc_msg.specs.declared.message.Message.{Message}
 use Rattle.qc_msg.specs.declared.message.Message.TheVariants.{Read, Append, Prepare, Granted, Stale, Yes, Decision}
 use Rattle.qc_msg.specs.declared.message.Outcome.{Outcome}
 use Rattle.qc_msg.specs.declared.message.Outcome.TheVariants.{Committed, Aborted}
 use Rattle.qc_site.specs.declared.held.Held.{Held}
-use Rattle.qc_site.specs.Held.{same_tx, lock_cmp, with_lock, with_owns, entry_of, is_held, held_of, with_entry, without_held}
+use Rattle.qc_site.specs.Held.{lock_cmp, with_lock, with_owns, entry_of, is_held, held_of, with_entry, without_held}
 use Rattle.qc_site.specs.Site.{SiteState}
 use Rattle.qc_site.specs.Conduct.{prepare_length, most_body, promise_of, prepared_of, is_prepared, without_prepared, joins, finishes, site_on}
 use Rattle.qc_site.specs.Laws.{IsLocked, HoldsLock, IsSingle, AreFull, decides}
 use Rattle.qc_site.proofs.Within.{branch}
-use Rattle.qc_site.proofs.Entries.{tx_apart, find-none, held-put, held-put_other, entry-without, held-without_other, single-put, single-filter, held_with_owns, full-filter, full_with_lock, full_with_owns}
+use Rattle.qc_site.proofs.Entries.{find-none, held-put, held-put_other, entry-without, held-without_other, single-put, single-filter, held_with_owns, full-filter, full_with_lock, full_with_owns}
 
 -- locks
 
@@ -51,12 +52,12 @@ locked-more (l ∷ ls) lock x member = by (lock_cmp lock l) refl (locked-more ls
 put_keeps : (held : List Held) (e : Held) (tx : TxId) (lock : ReadLock) → (same_tx e.tx tx ≡ true → IsLocked e.locks lock) → IsLocked (held_of held tx).locks lock → IsLocked (held_of (with_entry held e) tx).locks lock
 put_keeps held e tx lock here member = by (same_tx e.tx tx) refl where
   by : (t : Bool) → same_tx e.tx tx ≡ t → IsLocked (held_of (with_entry held e) tx).locks lock
-  by true is = subst (λ u. IsLocked (held_of (with_entry held e) u).locks lock) (tx_apart e.tx tx is) (subst (λ (h : Held). IsLocked h.locks lock) (sym (held-put held e)) (here is))
+  by true is = subst (λ u. IsLocked (held_of (with_entry held e) u).locks lock) (same_tx_is e.tx tx is) (subst (λ (h : Held). IsLocked h.locks lock) (sym (held-put held e)) (here is))
   by false is = subst (λ (h : Held). IsLocked h.locks lock) (sym (held-put_other held e tx is)) member
 
 -- a lock of the transaction is one of the same transaction by another spelling
 moved_lock : (held : List Held) (a b : TxId) (lock : ReadLock) → IsLocked (held_of held b).locks lock → same_tx a b ≡ true → IsLocked (held_of held a).locks lock
-moved_lock held a b lock member is = subst (λ u. IsLocked (held_of held u).locks lock) (sym (tx_apart a b is)) member
+moved_lock held a b lock member is = subst (λ u. IsLocked (held_of held u).locks lock) (sym (same_tx_is a b is)) member
 
 pub read_locks : (s : SiteState) (from number : ℕ) (tx : TxId) (epoch life : ℕ) (lock : ReadLock) → HoldsLock (site_on s from number (Read tx epoch life lock.object lock.inv)).site tx lock
 read_locks s from number tx epoch life lock =

@@ -1,9 +1,6 @@
 -- Sorted lists stay sorted.
-use Rattle.std.proofs.Common.{◌≡◌, ℕ, nat_le, not, Bool, true, false, cond, List, [], ◌∷◌, ◌++◌, fold, filter, Option, Some, None, unwrap_or, refl, ◌∙◌, ap}
+use Rattle.std.proofs.Common.{ℕ, nat_le, not, Bool, true, false, cond, List, [], ◌∷◌, ◌++◌, fold, filter, Option, Some, None, unwrap_or}
 use Rattle.std.specs.Cmp.{IsTotalOrder}
-use Rattle.std.specs.Ordering.{ordering_reverse}
-use Rattle.std.specs.declared.cmp.Ordering.{Ordering}
-use Rattle.std.specs.declared.cmp.Ordering.TheVariants.{Less, Equal, Greater}
 use Rattle.std.proofs.lemmas.Cmp.{then_total, on_total, nat_cmp_total}
 use Rattle.qc_stamp.specs.declared.stamp.Stamp.{Stamp}
 use Rattle.qc_stamp.specs.declared.stamp.TxId.{TxId}
@@ -12,47 +9,24 @@ use Rattle.qc_entry.specs.declared.line.OwnLine.{OwnLine}
 use Rattle.qc_entry.specs.declared.line.ReadLock.{ReadLock}
 use Rattle.qc_entry.specs.declared.record.Prepared.{Prepared}
 use Rattle.qc_entry.specs.Line.{IsAscending}
-use Rattle.qc_entry.specs.Log.{by_order, has_line}
+use Rattle.qc_entry.specs.Log.{has_line}
+use Rattle.qc_list.specs.Order.{Ascends}
+use Rattle.qc_list.proofs.Order.{ascends-filter, ascends-inserted}
+use Rattle.qc_stamp.specs.Order.{same_tx}
 use Rattle.qc_entry.proofs.Union.{ascending-union}
-use Rattle.qc_entry.proofs.Every.{ascending-filter}
+use Rattle.qc_entry.specs.Line.{line_cmp}
 use Rattle.qc_msg.specs.declared.message.Message.{Message}
 use Rattle.qc_msg.specs.declared.message.Message.TheVariants.{Read, Append, Prepare, Granted, Stale, Yes, Decision}
 use Rattle.qc_msg.specs.declared.message.Outcome.{Outcome}
 use Rattle.qc_msg.specs.declared.message.Outcome.TheVariants.{Committed, Aborted}
 use Rattle.qc_msg.specs.Mail.{Deed, Hears, Ordered, Sends}
 use Rattle.qc_site.specs.declared.held.Held.{Held}
-use Rattle.qc_site.specs.Held.{inserted, same_tx, lock_cmp, own_cmp, with_lock, with_own, with_owns, entry_of, is_held, held_of, with_entry}
+use Rattle.qc_site.specs.Held.{lock_cmp, own_cmp, with_lock, with_own, with_owns, entry_of, is_held, held_of, with_entry}
 use Rattle.qc_site.specs.Site.{SiteState, SiteMove, new_site, no_turn, moved}
 use Rattle.qc_site.specs.Conduct.{prepare_length, most_body, promise_of, prepared_of, is_prepared, prepares, dropped, stamped, with_stamped, lines_of, joins, finishes, site_on, site_does, site_after}
-use Rattle.qc_site.specs.Order.{IsLow, Ascends, AreSorted, ArePromisesSorted, SiteSorted, IsMessageSorted, AreDeedsSorted}
+use Rattle.qc_site.specs.Order.{AreSorted, ArePromisesSorted, SiteSorted, IsMessageSorted, AreDeedsSorted}
 use Rattle.qc_site.proofs.Within.{branch}
 use Rattle.qc_site.proofs.Entries.{held_with_owns}
-
--- insertion
-
-low_trans : {A : Type 0} (cmp : A → A → Ordering) (total : IsTotalOrder cmp) (x y : A) (ys : List A) → cmp x y ≡ Less → IsLow cmp y ys → IsLow cmp x ys
-low_trans cmp total x y [] less low = tt
-low_trans cmp total x y (z ∷ zs) less low = (total.trans x y z less low.0, low_trans cmp total x y zs less low.1)
-
-low_same : {A : Type 0} (cmp : A → A → Ordering) (total : IsTotalOrder cmp) (x y : A) (ys : List A) → cmp x y ≡ Equal → IsLow cmp y ys → IsLow cmp x ys
-low_same cmp total x y [] equal low = tt
-low_same cmp total x y (z ∷ zs) equal low = (total.congr x y z equal ∙ low.0, low_same cmp total x y zs equal low.1)
-
-low-inserted : {A : Type 0} (cmp : A → A → Ordering) (x y : A) (ys : List A) → cmp x y ≡ Less → IsLow cmp x ys → IsLow cmp x (inserted cmp ys y)
-low-inserted cmp x y [] less low = (less, tt)
-low-inserted {A = A} cmp x y (z ∷ zs) less low = by (cmp y z) (low-inserted cmp x y zs less low.1) where
-  by : (order : Ordering) → IsLow cmp x (inserted cmp zs y) → IsLow cmp x (by_order order (y ∷ z ∷ zs) (y ∷ zs) (z ∷ inserted cmp zs y))
-  by Less rest = (less, low)
-  by Equal rest = (less, low.1)
-  by Greater rest = (low.0, rest)
-
-ascends-inserted : {A : Type 0} (cmp : A → A → Ordering) (total : IsTotalOrder cmp) (ys : List A) (x : A) → Ascends cmp ys → Ascends cmp (inserted cmp ys x)
-ascends-inserted cmp total [] x ascends = (tt, tt)
-ascends-inserted {A = A} cmp total (y ∷ ys) x ascends = by (cmp x y) refl (ascends-inserted cmp total ys x ascends.1) where
-  by : (order : Ordering) → cmp x y ≡ order → Ascends cmp (inserted cmp ys x) → Ascends cmp (by_order order (x ∷ y ∷ ys) (x ∷ ys) (y ∷ inserted cmp ys x))
-  by Less is rest = ((is, low_trans cmp total x y ys is ascends.0), ascends)
-  by Equal is rest = (low_same cmp total x y ys is ascends.0, ascends.1)
-  by Greater is rest = (low-inserted cmp y x ys (total.antisymm y x ∙ ap ordering_reverse is) ascends.0, rest)
 
 lock_total : IsTotalOrder lock_cmp
 lock_total = then_total (on_total (λ (l : ReadLock). l.object) nat_cmp_total) (on_total (λ (l : ReadLock). l.inv) nat_cmp_total)
@@ -118,7 +92,7 @@ dropped-sorted s tx w = record {
 prepares-sorted : (s : SiteState) (from number : ℕ) (tx : TxId) (epoch : ℕ) → SiteSorted s → SiteSorted (prepares s from number tx epoch).site
 prepares-sorted s from number tx epoch w =
     let entry = sorted-find s.held tx w.held in
-    let lines : IsAscending (promise_of s tx epoch).lines = ascending-filter (λ (l : Line). not (has_line s.recorded l)) s.log w.log in
+    let lines : IsAscending (promise_of s tx epoch).lines = ascends-filter line_cmp (λ (l : Line). not (has_line s.recorded l)) s.log w.log in
     branch (λ m. SiteSorted m.site) (not (is_held s.held tx)) _ _ w
     (branch (λ m. SiteSorted m.site) (is_prepared s.prepared tx) _ _ w
     (branch (λ m. SiteSorted m.site) (nat_le (prepare_length (promise_of s tx epoch)) most_body) _ _

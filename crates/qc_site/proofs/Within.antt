@@ -13,7 +13,8 @@ use Rattle.qc_msg.specs.declared.message.Outcome.TheVariants.{Committed, Aborted
 use Rattle.qc_msg.specs.Mail.{Deed, Hears, Ordered, Sends}
 use Rattle.qc_msg.specs.Within.{LinesWithin, MessageWithin}
 use Rattle.qc_msg.proofs.Within.{LinesWithin-union, LinesWithin-filter, LinesWithin-of_object}
-use Rattle.qc_site.specs.Held.{same_tx, is_held}
+use Rattle.qc_site.specs.Held.{is_held}
+use Rattle.qc_stamp.specs.Order.{same_tx}
 use Rattle.qc_site.specs.Site.{SiteState, SiteMove, new_site, no_turn, answer, moved}
 use Rattle.qc_site.specs.Conduct.{latest, promise_of, promises, prepare_length, most_body, prepared_of, is_prepared, prepares, dropped, stamped, with_stamped, lines_of, joins, finishes, site_on, site_does, site_after}
 use Rattle.qc_site.specs.Within.{PromisesWithin, SiteWithin, MoveWithin, DeedsWithin}

@@ -14,10 +14,11 @@ use Rattle.qc_msg.specs.declared.message.Outcome.{Outcome}
 use Rattle.qc_msg.specs.declared.message.Outcome.TheVariants.{Committed, Aborted}
 use Rattle.qc_msg.specs.declared.step.Record.TheVariants as records
 use Rattle.qc_msg.specs.declared.step.Turn.{Turn}
-use Rattle.qc_msg.specs.Lives.{first_life}
+use Rattle.qc_stamp.specs.Lives.{first_life}
+use Rattle.qc_stamp.specs.Order.{same_tx}
 use Rattle.qc_msg.specs.Mail.{Deed, Ordered, Hears, Sends}
 use Rattle.qc_site.specs.declared.held.Held.{Held}
-use Rattle.qc_site.specs.Held.{same_tx, held_of, is_held, holding_lock, holding_owns, without_held}
+use Rattle.qc_site.specs.Held.{held_of, is_held, holding_lock, holding_owns, without_held}
 use Rattle.qc_site.specs.Site.{SiteState, SiteMove, new_site, no_turn, answer, moved}
 
 -- the greatest of a clock and those of the lines (Lamport 1978)

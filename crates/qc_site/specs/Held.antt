@@ -1,17 +1,14 @@
 -- What the unfinished transactions hold at a site.
-use Rattle.std.specs.Prelude.{Bool, ◌==◌, ◌&&◌, not, if◌then◌else◌, List, [], ◌∷◌, length, fold, filter, Option, is_some, unwrap_or}
+use Rattle.std.specs.Prelude.{Bool, ◌==◌, not, if◌then◌else◌, List, [], ◌∷◌, length, fold, filter, Option, is_some, unwrap_or}
 use Rattle.std.specs.List.{find}
 use Rattle.std.specs.Ordering.{nat_cmp, on, then_cmp}
 use Rattle.std.specs.declared.cmp.Ordering.{Ordering}
 use Rattle.qc_stamp.specs.declared.stamp.TxId.{TxId}
 use Rattle.qc_entry.specs.declared.line.OwnLine.{OwnLine}
 use Rattle.qc_entry.specs.declared.line.ReadLock.{ReadLock}
-use Rattle.qc_entry.specs.Log.{by_order}
+use Rattle.qc_list.specs.Order.{inserted}
+use Rattle.qc_stamp.specs.Order.{same_tx}
 use Rattle.qc_site.specs.declared.held.Held.{Held}
-
--- whether two names are of one transaction
-abbrev pub same_tx : TxId → TxId → Bool
-same_tx a b = (a.client == b.client) && ((a.life == b.life) && (a.number == b.number))
 
 -- locks by object, then invocation
 abbrev pub lock_cmp : ReadLock → ReadLock → Ordering
@@ -20,11 +17,6 @@ lock_cmp = then_cmp (on (λ l. l.object) nat_cmp) (on (λ l. l.inv) nat_cmp)
 -- own lines by operation
 abbrev pub own_cmp : OwnLine → OwnLine → Ordering
 own_cmp = on (λ o. o.op) nat_cmp
-
--- the item at its place among ascending items, instead of one that ties with it
-abbrev pub inserted : {A : Type 0} → (A → A → Ordering) → List A → A → List A
-inserted cmp [] x = x ∷ []
-inserted cmp (y ∷ ys) x = by_order (cmp x y) (x ∷ y ∷ ys) (x ∷ ys) (y ∷ inserted cmp ys x)
 
 abbrev pub with_lock : List ReadLock → ReadLock → List ReadLock
 with_lock locks lock = inserted lock_cmp locks lock

@@ -10,7 +10,8 @@ use Rattle.qc_msg.specs.declared.message.Message.TheVariants.{Append, Decision}
 use Rattle.qc_msg.specs.declared.message.Outcome.{Outcome}
 use Rattle.qc_msg.specs.declared.message.Outcome.TheVariants.{Committed, Aborted}
 use Rattle.qc_site.specs.declared.held.Held.{Held}
-use Rattle.qc_site.specs.Held.{same_tx, held_of}
+use Rattle.qc_site.specs.Held.{held_of}
+use Rattle.qc_stamp.specs.Order.{same_tx}
 use Rattle.qc_site.specs.Site.{SiteState}
 use Rattle.qc_site.specs.Conduct.{lines_of, prepared_of}
 

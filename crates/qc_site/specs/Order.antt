@@ -1,7 +1,6 @@
 -- What is sorted in a site: locks, own lines and lines.
-use Rattle.std.specs.Prelude.{◌≡◌, List, [], ◌∷◌}
-use Rattle.std.specs.declared.cmp.Ordering.{Ordering}
-use Rattle.std.specs.declared.cmp.Ordering.TheVariants.{Less}
+use Rattle.std.specs.Prelude.{List, [], ◌∷◌}
+use Rattle.qc_list.specs.Order.{Ascends}
 use Rattle.qc_entry.specs.declared.record.Prepared.{Prepared}
 use Rattle.qc_entry.specs.Line.{IsAscending}
 use Rattle.qc_msg.specs.declared.message.Message.{Message}
@@ -10,16 +9,6 @@ use Rattle.qc_msg.specs.Mail.{Deed, Hears, Ordered, Sends}
 use Rattle.qc_site.specs.declared.held.Held.{Held}
 use Rattle.qc_site.specs.Held.{lock_cmp, own_cmp}
 use Rattle.qc_site.specs.Site.{SiteState}
-
--- the item comes before each of the items
-abbrev pub IsLow : {A : Type 0} → (A → A → Ordering) → A → List A → Type 0
-IsLow cmp x [] = Unit {0}
-IsLow cmp x (y ∷ ys) = (cmp x y ≡ Less) × IsLow cmp x ys
-
--- the items stand in order, each once
-abbrev pub Ascends : {A : Type 0} → (A → A → Ordering) → List A → Type 0
-Ascends cmp [] = Unit {0}
-Ascends cmp (x ∷ xs) = IsLow cmp x xs × Ascends cmp xs
 
 -- the locks and own lines of each entry
 abbrev pub AreSorted : List Held → Type 0

@@ -4,7 +4,7 @@ ghost use Rattle.std.specs.Prelude.{◌≡◌, ◌≤◌, ◌↔◌, ◌⊎◌, 
 ghost use Rattle.qc_stamp.specs.declared.stamp.TxId.{TxId};
 ghost use Rattle.qc_entry.specs.declared.line.Line.{Line};
 ghost use Rattle.qc_entry.specs.declared.line.ReadLock.{ReadLock};
-ghost use Rattle.qc_entry.specs.Log.{In};
+ghost use Rattle.qc_list.specs.Members.{In};
 ghost use Rattle.qc_msg.specs.declared.message.Message.{Message};
 ghost use Rattle.qc_msg.specs.declared.message.Message.TheVariants.{Read, Decision};
 ghost use Rattle.qc_msg.specs.declared.message.Outcome.{Outcome};

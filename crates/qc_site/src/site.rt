@@ -10,8 +10,8 @@ use crate::turn::{answer, no_turn};
 use qc_decl::Declaration;
 use qc_entry::{Line, Log, Owns, Prepared, ReadLock};
 use qc_list::{List, OutOfMemory};
-use qc_msg::{FIRST_LIFE, Message, Turn};
-use qc_stamp::{Clock, TxId};
+use qc_msg::{Message, Turn};
+use qc_stamp::{Clock, FIRST_LIFE, TxId};
 use std::alloc::Global;
 use std::marker::Model;
 

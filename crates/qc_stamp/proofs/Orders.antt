@@ -1,5 +1,7 @@
--- The orders of stamps and transactions are total, and Equal only at one value.
-use Rattle.std.proofs.Common.{◌≡◌, ℕ, refl, arith}
+-- The orders of stamps and transactions are total, and Equal only at one value; the test of names tells equal names.
+use Rattle.std.proofs.Common.{◌≡◌, ℕ, Bool, true, false, refl, sym, subst, arith}
+use Rattle.std.specs.Prelude.{◌==◌, ◌&&◌}
+use Rattle.std.proofs.lemmas.Bool.{eq-eqb, eqb-true, and_parts}
 use Rattle.std.proofs.lemmas.Bool.Decides.{nat_tests}
 use Rattle.std.proofs.lemmas.Cmp.{then_total, on_total, nat_cmp_total}
 use Rattle.std.specs.Ordering.{nat_cmp, ordering_then}
@@ -7,7 +9,7 @@ use Rattle.std.specs.declared.cmp.Ordering.{Ordering}
 use Rattle.std.specs.declared.cmp.Ordering.TheVariants.{Less, Equal, Greater}
 use Rattle.qc_stamp.specs.declared.stamp.Stamp.{Stamp}
 use Rattle.qc_stamp.specs.declared.stamp.TxId.{TxId}
-use Rattle.qc_stamp.specs.Order.{IsOrder, stamp_cmp, tx_cmp}
+use Rattle.qc_stamp.specs.Order.{IsOrder, stamp_cmp, tx_cmp, same_tx}
 
 -- a pair of answers is Equal only where both are
 pub first_Equal : (a b : Ordering) → ordering_then a b ≡ Equal → a ≡ Equal
@@ -42,3 +44,26 @@ tx_order = record {
       let number : a.number ≡ b.number = nat_apart _ _ (second_Equal (nat_cmp a.life b.life) _ rest) in
       λ i. record { client = client i; life = life i; number = number i };
 }
+
+-- a name is of its own transaction
+pub same_tx_itself : (tx : TxId) → same_tx tx tx ≡ true
+same_tx_itself tx = rw (eq-eqb tx.client tx.client refl, eq-eqb tx.life tx.life refl, eq-eqb tx.number tx.number refl) refl
+
+-- names of one transaction are equal
+pub same_tx_is : (a b : TxId) → same_tx a b ≡ true → a ≡ b
+same_tx_is a b h =
+    let parts = and_parts (a.client == b.client) ((a.life == b.life) && (a.number == b.number)) h in
+    let rest = and_parts (a.life == b.life) (a.number == b.number) parts.1 in
+    let client : a.client ≡ b.client = eqb-true a.client b.client parts.0 in
+    let life : a.life ≡ b.life = eqb-true a.life b.life rest.0 in
+    let number : a.number ≡ b.number = eqb-true a.number b.number rest.1 in
+    λ i. record { client = client i; life = life i; number = number i }
+
+-- names of two transactions differ either way round
+pub other_tx_sym : (a b : TxId) → same_tx a b ≡ false → same_tx b a ≡ false
+other_tx_sym a b h = by (same_tx b a) refl where
+  by : (t : Bool) → same_tx b a ≡ t → t ≡ false
+  by true is =
+      let same : same_tx a b ≡ true = subst (λ u. same_tx a u ≡ true) (sym (same_tx_is b a is)) (same_tx_itself a) in
+      absurd (let never : ⊥ = cc in never)
+  by false is = refl

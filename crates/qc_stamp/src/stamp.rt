@@ -5,6 +5,9 @@ ghost use Rattle.qc_stamp.specs.Order.{stamp_cmp, tx_cmp};
 
 use std::cmp::Ordering;
 
+/// The life of an actor that has never fallen.
+pub const FIRST_LIFE: u32 = 1;
+
 /// A commit's stamp. Stamps are ordered by clock, then by the client's number.
 #[derive(Clone, Copy, Debug, PartialEq, Eq, PartialOrd, Ord)]
 pub struct Stamp {

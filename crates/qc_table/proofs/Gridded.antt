@@ -1,5 +1,5 @@
 -- A grid that was made of rows has what they give.
-use Rattle.std.proofs.Common.{◌≡◌, ◌≢◌, ℕ, ◌+◌, ◌<◌, ◌≤◌, Bool, true, false, cond, ltb, Option, Some, None, List, [], ◌∷◌, length, take, get_or, replicate, zero, suc, refl, sym, ap, ◌∙◌, arith}
+use Rattle.std.proofs.Common.{◌≡◌, ◌≢◌, ℕ, ◌+◌, ◌<◌, ◌≤◌, Bool, true, false, cond, ltb, Option, Some, None, List, [], ◌∷◌, length, take, get_or, refl, sym, ap, ◌∙◌, arith}
 use Rattle.std.specs.Prelude.{◌==◌, ◌&&◌, IfSome, option_map, option_and_then, find, slice_get}
 use Rattle.std.specs.Option.{option_or}
 use Rattle.std.proofs.lemmas.Bool.{eqb-true, eq-eqb, ltb-true, ltb-false}
@@ -121,23 +121,6 @@ grid_more grid rows events n d state k size l small few distinct ih =
     by (Some x) at =
         ap (λ b. option_or (next_in (take n rows) state x) (cond (((get_or rows n d).state == state) && b) (Some (get_or rows n d).next) None)) (sym (number_tells events (event_of (get_or rows n d)) x k distinct at))
         ∙ sym (next_more rows n d state x l)
-
-nones : (n place : ℕ) → let none : Option ℕ = None in get_or (replicate n none) place none ≡ none
-nones zero place = refl
-nones (suc n) zero = refl
-nones (suc n) (suc place) = nones n place
-
--- the empty grid has what no rows give
-pub grid_nothing : (events : List Event) (state k : ℕ) → grid_next (replicate 4096 None) state k ≡ step_by [] events state k
-grid_nothing events state k = by (ltb k 64) ∙ no_step (slice_get events k)
-  where
-    by : (b : Bool) → cond {A = Option ℕ} b (get_or (replicate 4096 None) (grid_place state k) None) None ≡ None
-    by true = nones 4096 (grid_place state k)
-    by false = refl
-
-    no_step : (o : Option Event) → None ≡ option_and_then (next_in [] state) o
-    no_step None = refl
-    no_step (Some e) = refl
 
 -- a grid stays as long as it is
 pub length_row : (grid : List (Option ℕ)) (row : Row) (o : Option ℕ) → length (with_row grid row o) ≡ length grid

@@ -4,6 +4,7 @@ pub mod Few
 pub mod Gridded
 pub mod Legal
 pub mod Lowest
+pub mod Named
 pub mod Numbered
 pub mod Places
 pub mod Related

@@ -1,8 +1,7 @@
 -- What the scan for the lowest response answers.
-use Rattle.std.proofs.Common.{◌≡◌, ◌≢◌, ℕ, ◌<◌, ◌≤◌, ◌⊎◌, Bool, true, false, cond, min, List, [], ◌∷◌, Option, Some, None, refl, sym, ap, ◌∙◌, inl, inr, ⊎_elim, eq-eqb, arith}
+use Rattle.std.proofs.Common.{◌≡◌, ℕ, ◌<◌, ◌≤◌, ◌⊎◌, Bool, true, false, cond, min, List, [], ◌∷◌, Option, Some, None, refl, sym, ap, ◌∙◌, inl, inr, ⊎_elim, eq-eqb, arith}
 use Rattle.std.specs.Prelude.{IsSome, ◌==◌, ◌&&◌, ◌||◌, fold}
-use Rattle.std.proofs.lemmas.Bool.{cases_lt}
-use Rattle.std.proofs.lemmas.Bool.Decides.{eqb_tells}
+use Rattle.std.proofs.lemmas.Bool.{cases_lt, or_from, or_left, or_right, ne_eqb}
 use Rattle.qc_table.specs.declared.row.Row.{Row}
 use Rattle.qc_table.specs.Rules.{event}
 use Rattle.qc_table.specs.Run.{next_in, lower, lowest_with, lowest_in}
@@ -27,21 +26,6 @@ here : (a b c : Bool) → (a && b) ≡ true → (a && (b && c)) ≡ c
 here true true c e = refl
 here true false c e = absurd (cc)
 here false b c e = absurd (cc)
-
-or_left : (a b : Bool) → a ≡ true → (a || b) ≡ true
-or_left true b e = refl
-or_left false b e = absurd (cc)
-
-or_right : (a b : Bool) → b ≡ true → (a || b) ≡ true
-or_right true b e = refl
-or_right false b e = e
-
-or_none : (a b : Bool) → a ≡ false → b ≡ false → (a || b) ≡ false
-or_none true b e f = absurd (cc)
-or_none false b e f = f
-
-differs : (a b : ℕ) → a ≢ b → (a == b) ≡ false
-differs a b ne = ⊎_elim (λ t. absurd (ne t.1)) (λ t. t.0) (eqb_tells a b)
 
 -- a row that isn't for this invocation changes nothing
 passed : (state inv : ℕ) (row : Row) (rows : List Row) (best result : Option ℕ)
@@ -72,8 +56,8 @@ counted state inv row rows best result fits s =
       illegal = λ e. absurd (let never : Some row.resp ≡ None = s.nothing e in let none : ⊥ = cc in none);
       legal = λ m e. inr (same m ∙ ⊎_elim (λ h. or_left (row.resp == m) (is_legal rows state (event inv m)) (eq-eqb row.resp m (let own : row.resp ≡ m = cc in own)))
           (λ h. or_right (row.resp == m) (is_legal rows state (event inv m)) h) (s.legal m e));
-      lowest = λ m k e l. same k ∙ or_none (row.resp == k) (is_legal rows state (event inv k))
-          (differs row.resp k (let within : m ≤ row.resp = s.below m row.resp e refl in omega arith)) (s.lowest m k e l);
+      lowest = λ m k e l. same k ∙ or_from (row.resp == k) (is_legal rows state (event inv k))
+          (ne_eqb row.resp k (let within : m ≤ row.resp = s.below m row.resp e refl in omega arith)) (s.lowest m k e l);
       below = λ m b e eb. absurd (let none : ⊥ = cc in none);
     }
     by (Some b) eo same s = let kept : (m : ℕ) → min b row.resp ≡ m → (best ≡ Some m) ⊎ (is_legal (row ∷ rows) state (event inv m) ≡ true) =
@@ -82,8 +66,8 @@ counted state inv row rows best result fits s =
           nothing = λ e. absurd (let never : Some (min b row.resp) ≡ None = s.nothing e in let none : ⊥ = cc in none);
           illegal = λ e. absurd (let never : Some (min b row.resp) ≡ None = s.nothing e in let none : ⊥ = cc in none);
           legal = λ m e. ⊎_elim (λ h. kept m (let least : min b row.resp ≡ m = cc in least)) (λ h. inr (same m ∙ or_right (row.resp == m) (is_legal rows state (event inv m)) h)) (s.legal m e);
-          lowest = λ m k e l. same k ∙ or_none (row.resp == k) (is_legal rows state (event inv k))
-              (differs row.resp k (let within : m ≤ min b row.resp = s.below m (min b row.resp) e refl in omega arith)) (s.lowest m k e l);
+          lowest = λ m k e l. same k ∙ or_from (row.resp == k) (is_legal rows state (event inv k))
+              (ne_eqb row.resp k (let within : m ≤ min b row.resp = s.below m (min b row.resp) e refl in omega arith)) (s.lowest m k e l);
           below = λ m c e eb. let own : b ≡ c = (let found : Some b ≡ Some c = sym eo ∙ eb in cc) in let within : m ≤ min b row.resp = s.below m (min b row.resp) e refl in omega arith;
         }
 

@@ -1,8 +1,8 @@
 -- A legal event has a number, and what `first_of` answers is the number of a legal event.
 use Rattle.std.proofs.Common.{◌≡◌, ℕ, ◌<◌, Bool, true, false, cond, List, [], ◌∷◌, ◌++◌, Option, Some, None, length, get_or, refl, sym, ap, ◌∙◌, subst}
-use Rattle.std.specs.Prelude.{IsSome, IfSome, option_and_then, ◌==◌, ◌&&◌, ◌||◌, fold, slice_get}
+use Rattle.std.specs.Prelude.{IsSome, IfSome, option_and_then, ◌==◌, ◌||◌, fold, slice_get}
 use Rattle.std.specs.List.{list_any}
-use Rattle.std.proofs.lemmas.Bool.{eqb-true, eq-eqb}
+use Rattle.std.proofs.lemmas.Bool.{and_parts, eqb-true, eq-eqb}
 use Rattle.std.proofs.lemmas.List.Folds.{list_any-append}
 use Rattle.std.proofs.lemmas.List.Quantifiers.{position-Some}
 use Rattle.std.proofs.lemmas.Option.{slice_get-get_or, slice_get_within}
@@ -14,19 +14,11 @@ use Rattle.qc_table.proofs.Legal.{is_legal, legal_cons}
 use Rattle.qc_table.proofs.Places.{position_none}
 use Rattle.qc_table.proofs.Lowest.{lowest_legal, none_lower}
 
-and_left : (a b : Bool) → (a && b) ≡ true → a ≡ true
-and_left true b e = refl
-and_left false b e = absurd (cc)
-
-and_right : (a b : Bool) → (a && b) ≡ true → b ≡ true
-and_right true b e = e
-and_right false b e = absurd (cc)
-
 -- the test finds equal events
 pub same_is : (a b : Event) → same_event a b ≡ true → a ≡ b
 same_is a b e =
-    let invs : a.inv ≡ b.inv = eqb-true a.inv b.inv (and_left (a.inv == b.inv) (a.resp == b.resp) e) in
-    let resps : a.resp ≡ b.resp = eqb-true a.resp b.resp (and_right (a.inv == b.inv) (a.resp == b.resp) e) in
+    let invs : a.inv ≡ b.inv = eqb-true a.inv b.inv (and_parts (a.inv == b.inv) (a.resp == b.resp) e).0 in
+    let resps : a.resp ≡ b.resp = eqb-true a.resp b.resp (and_parts (a.inv == b.inv) (a.resp == b.resp) e).1 in
     ap (λ i. event i a.resp) invs ∙ ap (event b.inv) resps
 
 -- and finds each event equal to itself
@@ -68,7 +60,7 @@ among_rows (row ∷ rows) events state e h = by (is_row_of state e row) refl (sy
         → (is_legal rows state e ≡ true → is_among e (fold (λ es r. with_event es (event_of r)) (with_event events (event_of row)) rows) ≡ true)
         → is_among e (fold (λ es r. with_event es (event_of r)) (with_event events (event_of row)) rows) ≡ true
     by true is h more =
-        let same : event_of row ≡ e = same_is (event_of row) e (and_right (row.state == state) (same_event (event_of row) e) is) in
+        let same : event_of row ≡ e = same_is (event_of row) e (and_parts (row.state == state) (same_event (event_of row) e) is).1 in
         among_more rows (with_event events (event_of row)) e (subst (λ x. is_among x (with_event events (event_of row)) ≡ true) same (among_with events (event_of row)))
     by false is h more = more h
 

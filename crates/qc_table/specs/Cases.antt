@@ -1,17 +1,19 @@
--- Which cases, a state with an invocation and a response, some rows have: for each state and invocation the set of the responses.
+-- Which cases, a state with an invocation and a response, some rows have: for each state and invocation the set of the
+-- responses.
 use Rattle.std.specs.Prelude.{ℕ, ◌+◌, ◌*◌, ◌<◌, Bool, List, replicate, set, get_or}
+use Rattle.qc_table.specs.Limits.{most_states, most_invocations, most_responses}
 use Rattle.qc_table.specs.declared.row.Row.{Row}
 use Rattle.qc_table.specs.Sets.{has, with_member}
 
 -- a row within the most states, invocations and responses of any table
 pub record IsSmall (row : Row) : Type 0 where
-  pub state : row.state < 64
-  pub inv : row.inv < 32
-  pub resp : row.resp < 32
+  pub state : row.state < most_states
+  pub inv : row.inv < most_invocations
+  pub resp : row.resp < most_responses
 
 -- where the set of a row's state and invocation stands
 abbrev pub case_place : Row → ℕ
-case_place row = row.state * 32 + row.inv
+case_place row = row.state * most_invocations + row.inv
 
 -- the set of a row's state and invocation
 abbrev pub case_set : List ℕ → Row → ℕ
@@ -27,4 +29,4 @@ with_case cases row = set cases (case_place row) (with_member (case_set cases ro
 
 -- no case
 abbrev pub no_cases : List ℕ
-no_cases = replicate 2048 0
+no_cases = replicate (most_states * most_invocations) 0

@@ -1,10 +1,11 @@
 -- Dependency relations: on which events an invocation depends (Herlihy 1986).
 use Rattle.std.specs.Prelude.{ℕ, Bool, ◌==◌, ◌&&◌, List, fold, replicate, set, get_or}
 use Rattle.std.specs.List.{list_any}
+use Rattle.qc_table.specs.Limits.{most_invocations}
 use Rattle.qc_table.specs.Sets.{has, with_member}
 use Rattle.qc_table.specs.declared.relation.Pair.{Pair}
 
--- a relation is the list of the sets of events on which the invocations 0 to 31 depend; this is the set of one of them
+-- a relation is the list of the sets of events on which each invocation depends; this is the set of one of them
 abbrev pub depended : List ℕ → ℕ → ℕ
 depended relation inv = get_or relation inv 0
 
@@ -18,7 +19,7 @@ with_pair relation pair = set relation pair.inv (with_member (depended relation 
 
 -- the relation of these pairs
 abbrev pub relation_of : List Pair → List ℕ
-relation_of pairs = fold with_pair (replicate 32 0) pairs
+relation_of pairs = fold with_pair (replicate most_invocations 0) pairs
 
 -- whether the pair is among these
 abbrev pub is_given : List Pair → ℕ → ℕ → Bool

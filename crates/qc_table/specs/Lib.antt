@@ -1,8 +1,8 @@
 pub mod Cases
 pub mod Depends
 pub mod Faults
-pub mod First
 pub mod Grid
+pub mod Limits
 pub mod Rules
 pub mod Run
 pub mod Sets

@@ -13,7 +13,8 @@ pub record Rules : Type 0 where
 
 -- the rules of these counts, this start and these rows
 abbrev pub rules_of : ℕ → ℕ → ℕ → ℕ → List Row → Rules
-rules_of states invs resps start rows = record { states = states; invs = invs; resps = resps; start = start; rows = rows }
+rules_of states invs resps start rows =
+    record { states = states; invs = invs; resps = resps; start = start; rows = rows }
 
 -- the event of an invocation and a response
 abbrev pub event : ℕ → ℕ → Event

@@ -1,4 +1,5 @@
-use Rattle.std.specs.Prelude.{◌≡◌, ℕ, ◌<◌, Bool, Option, Some, None, List, [], ◌∷◌, ◌==◌, ◌&&◌, if◌then◌else◌, min, fold, find, option_map, option_and_then, slice_get, IsSome}
+use Rattle.std.specs.Prelude.{◌≡◌, ℕ, ◌<◌, Bool, Option, Some, None, List, [], ◌∷◌, ◌==◌, ◌&&◌, if◌then◌else◌}
+use Rattle.std.specs.Prelude.{min, fold, find, option_map, option_and_then, slice_get, IsSome}
 use Rattle.qc_table.specs.declared.row.Row.{Row}
 use Rattle.qc_table.specs.declared.row.Event.{Event}
 use Rattle.qc_table.specs.Rules.{event, event_of, same_event, events_of, event_number}
@@ -30,7 +31,8 @@ lowest_in rows state inv = fold (lowest_with state inv) None rows
 
 -- the number of the event with the lowest legal response
 abbrev pub first_of : List Row → ℕ → ℕ → Option ℕ
-first_of rows state inv = option_and_then (λ resp. event_number (events_of rows) (event inv resp)) (lowest_in rows state inv)
+first_of rows state inv =
+    option_and_then (λ resp. event_number (events_of rows) (event inv resp)) (lowest_in rows state inv)
 
 -- the event of this number is one of the invocation, legal in this state, and no lower response is legal there
 pub record IsLowest (rows : List Row) (state inv number : ℕ) : Type 0 where

@@ -1,4 +1,5 @@
 use Rattle.std.specs.Prelude.{◌≡◌, ◌<◌, ◌≤◌, None}
+use Rattle.qc_table.specs.Limits.{most_states, most_invocations, most_responses}
 use Rattle.qc_table.specs.Rules.{Rules}
 use Rattle.qc_table.specs.Faults.{fault_of}
 
@@ -7,8 +8,8 @@ pub record IsSound (rules : Rules) : Type 0 where
   pub has_state : 0 < rules.states
   pub has_inv : 0 < rules.invs
   pub has_resp : 0 < rules.resps
-  pub states : rules.states ≤ 64
-  pub invs : rules.invs ≤ 32
-  pub resps : rules.resps ≤ 32
+  pub states : rules.states ≤ most_states
+  pub invs : rules.invs ≤ most_invocations
+  pub resps : rules.resps ≤ most_responses
   pub begins : rules.start < rules.states
   pub faultless : fault_of rules ≡ None

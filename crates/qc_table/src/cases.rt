@@ -3,9 +3,8 @@
 ghost use Rattle.std.specs.Prelude.{◌≡◌, not, IfOk};
 ghost use Rattle.qc_table.specs.Cases.{IsSmall, has_case, with_case, no_cases};
 
-use crate::relation::INVOCATIONS;
+use crate::limits::{MOST_INVOCATIONS, MOST_STATES};
 use crate::row::Row;
-use crate::rows::STATES;
 use qc_list::OutOfMemory;
 use std::alloc::Global;
 use std::marker::Model;
@@ -19,13 +18,14 @@ pub(crate) struct Cases {
 }
 
 impl Model for Cases {
-    ghost use Rattle.std.specs.Prelude.{List, ℕ, length, ◌≡◌};
+    ghost use Rattle.std.specs.Prelude.{List, ℕ, length, ◌≡◌, ◌*◌};
+    ghost use Rattle.qc_table.specs.Limits.{most_states, most_invocations};
 
     ghost Value = { List ℕ };
 
     ghost view = { λ c. c.responses.items };
 
-    ghost invariant = { λ c. length c.responses.items ≡ 2048 };
+    ghost invariant = { λ c. length c.responses.items ≡ most_states * most_invocations };
 }
 
 impl Cases {
@@ -34,7 +34,7 @@ impl Cases {
         ensures { IfOk result (λ cases. cases ≡ no_cases) }
     {
         Ok(Cases {
-            responses: vec![in alloc; 0; STATES * INVOCATIONS]?,
+            responses: vec![in alloc; 0; MOST_STATES * MOST_INVOCATIONS]?,
         })
     }
 
@@ -44,7 +44,7 @@ impl Cases {
         ensures missing { result ≡ not (has_case self.old row.now) }
         ensures added { self.new ≡ with_case self.old row.now }
     {
-        let place = row.state as usize * INVOCATIONS + row.inv as usize;
+        let place = row.state as usize * MOST_INVOCATIONS + row.inv as usize;
         let responses = self.responses[place];
         self.responses[place] = responses | 1 << row.resp;
         (responses >> row.resp) & 1 == 0

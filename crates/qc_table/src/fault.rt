@@ -14,7 +14,7 @@ pub enum TableFault {
     /// The row of this number, from 0, is the first that repeats the state,
     /// the invocation and the response of an earlier row.
     DuplicateRow { row: u32 },
-    /// The rows have more than 64 distinct events.
+    /// The rows have more distinct events than the limit.
     TooMany,
     /// Memory ran out.
     OutOfMemory,

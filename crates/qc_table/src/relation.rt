@@ -1,20 +1,19 @@
 //! Dependency relations.
 
 ghost use Rattle.std.specs.Prelude.{◌≡◌, ℕ, ◌<◌, All};
+ghost use Rattle.qc_table.specs.Limits.{most_events, most_invocations};
 ghost use Rattle.qc_table.specs.Depends.{depended, depends, with_pair, relation_of, is_given};
 ghost use Rattle.qc_table.specs.declared.relation.Pair.{Pair};
 
+use crate::limits::{MOST_EVENTS, MOST_INVOCATIONS};
 use std::marker::Model;
-
-/// How many invocations a table has at most.
-pub(crate) const INVOCATIONS: usize = 32;
 
 /// An invocation with an event on which it depends.
 #[derive(Clone, Copy, PartialEq, Eq, Debug)]
 pub struct Pair {
-    /// The invocation, below 32.
+    /// The invocation, below the most invocations.
     pub inv: u8,
-    /// The event's number, below 64.
+    /// The event's number, below the most events.
     pub event: u8,
 }
 
@@ -22,7 +21,7 @@ pub struct Pair {
 #[derive(Drop)]
 pub struct Relation {
     /// For each invocation the events on which it depends, bit k for event k.
-    depended: [u64; INVOCATIONS],
+    depended: [u64; MOST_INVOCATIONS],
 }
 
 impl Model for Relation {
@@ -36,12 +35,12 @@ impl Model for Relation {
 impl Relation {
     /// The relation of these pairs.
     pub fn new(pairs: &[Pair]) -> Relation
-        requires { All (λ (p : Pair). (p.inv < 32) × (p.event < 64)) pairs.now }
+        requires { All (λ (p : Pair). (p.inv < most_invocations) × (p.event < most_events)) pairs.now }
         ensures relation { result ≡ relation_of pairs.now }
         ensures given { (inv event : ℕ) → depends result inv event ≡ is_given pairs.now inv event }
     {
         let mut relation = Relation {
-            depended: [0; INVOCATIONS],
+            depended: [0; MOST_INVOCATIONS],
         };
         for pair in pairs {
             relation.add(*pair);
@@ -51,8 +50,8 @@ impl Relation {
 
     /// Adds a pair.
     fn add(&mut self, pair: Pair)
-        requires inv { pair.inv < 32 }
-        requires event { pair.event < 64 }
+        requires inv { pair.inv < most_invocations }
+        requires event { pair.event < most_events }
         ensures { self.new ≡ with_pair self.old pair }
     {
         let place = pair.inv as usize;
@@ -74,6 +73,6 @@ impl Relation {
         ensures { result ≡ depends self.now inv event }
     {
         let events = self.depended(inv);
-        event < 64 && (events >> event) & 1 == 1
+        (event as usize) < MOST_EVENTS && (events >> event) & 1 == 1
     }
 }

@@ -1,21 +1,17 @@
 //! What is read off a slice of rows.
 
 ghost use Rattle.std.specs.Prelude.{◌≡◌, None, ◌<◌, ◌≤◌, nat_lt, length, All, OnOk, IfOk, IfErr, IfSome, position};
+ghost use Rattle.qc_table.specs.Limits.{most_events, most_rows};
 ghost use Rattle.qc_table.specs.Cases.{IsSmall};
 ghost use Rattle.qc_table.specs.Faults.{is_unknown, first_repeat, ranked, IsTold};
 ghost use Rattle.qc_table.specs.Rules.{events_of, with_event, event_number};
 
 use crate::cases::Cases;
 use crate::fault::TableFault;
+use crate::limits::MOST_EVENTS;
 use crate::row::{Event, Row};
 use qc_list::{List, OutOfMemory};
 use std::alloc::Global;
-
-/// How many states a table has at most.
-pub(crate) const STATES: usize = 64;
-
-/// How many events a table has at most.
-pub(crate) const EVENTS: usize = 64;
 
 /// How many states, invocations and responses there are.
 #[derive(Clone, Copy)]
@@ -39,7 +35,7 @@ impl Counts {
 
 /// The number of the first row that names a number past its count.
 pub(crate) fn first_unknown(counts: Counts, rows: &[Row]) -> Option<u32>
-    requires { length rows.now ≤ 131072 }
+    requires { length rows.now ≤ most_rows }
     ensures { result ≡ position (is_unknown counts.states counts.invs counts.resps) rows.now }
 {
     let place = unknown_place(counts, rows)?;
@@ -57,7 +53,7 @@ fn unknown_place(counts: Counts, rows: &[Row]) -> Option<usize>
 /// The number of the first row with the state, the invocation and the
 /// response of an earlier one.
 pub(crate) fn first_repeated(alloc: Global, rows: &[Row]) -> Result<Option<u32>, OutOfMemory>
-    requires few { length rows.now ≤ 131072 }
+    requires few { length rows.now ≤ most_rows }
     requires small { All IsSmall rows.now }
     ensures { IfOk result (λ found. found ≡ first_repeat rows.now) }
 {
@@ -70,16 +66,16 @@ pub(crate) fn first_repeated(alloc: Global, rows: &[Row]) -> Result<Option<u32>,
     Ok(None)
 }
 
-/// The distinct events, in the order of their first rows, where there are at
-/// most 64.
+/// The distinct events, in the order of their first rows, where they keep to
+/// the limit.
 pub(crate) fn events(alloc: Global, rows: &[Row]) -> Result<List<Event>, TableFault>
-    ensures ok { IfOk result (λ events. (events ≡ events_of rows.now) × (length events ≤ 64)) }
-    ensures err { IfErr result (λ e. IsTold e (ranked None None (nat_lt 64 (length (events_of rows.now))))) }
+    ensures ok { IfOk result (λ events. (events ≡ events_of rows.now) × (length events ≤ most_events)) }
+    ensures err { IfErr result (λ e. IsTold e (ranked None None (nat_lt most_events (length (events_of rows.now))))) }
 {
     let mut events = List::new(alloc);
     for row in rows {
         add_event(&mut events, row.event())?;
-        if events.items().len() > EVENTS {
+        if events.items().len() > MOST_EVENTS {
             return Err(TableFault::TooMany);
         }
     }
@@ -98,7 +94,7 @@ fn add_event(events: &mut List<Event>, event: Event) -> Result<(), OutOfMemory>
 
 /// The number of an event.
 pub(crate) fn number(events: &[Event], event: Event) -> Option<u8>
-    requires { length events.now ≤ 64 }
+    requires { length events.now ≤ most_events }
     ensures { result ≡ event_number events.now event }
 {
     let place = place_of(events, event)?;

@@ -1,6 +1,8 @@
 //! A table.
 
-ghost use Rattle.std.specs.Prelude.{◌==◌, ◌&&◌, is_some, ◌≡◌, ℕ, ◌<◌, ◌≤◌, ◌↔◌, None, length, OnOk, IfOk, IfErr, IfSome, IsSome, IsBitSet};
+ghost use Rattle.std.specs.Prelude.{◌==◌, ◌&&◌, is_some, ◌≡◌, ℕ, ◌<◌, ◌≤◌, ◌↔◌, None, length, OnOk, IfOk};
+ghost use Rattle.std.specs.Prelude.{IfErr, IfSome, IsSome, IsBitSet};
+ghost use Rattle.qc_table.specs.Limits.{most_events, most_invocations, most_responses, most_rows, most_states};
 ghost use Rattle.qc_table.specs.Faults.{fault_of, IsTold};
 ghost use Rattle.qc_table.specs.Rules.{event, events_of, rules_of};
 ghost use Rattle.qc_table.specs.Run.{next_in, step_of, first_of, IsLowest};
@@ -42,9 +44,9 @@ impl Model for Table {
 }
 
 impl Table {
-    /// The table of these rows. There are 1 to 64 states, 1 to 32 invocations
-    /// and 1 to 32 responses, `start` is a state, and there are at most
-    /// 131,072 rows. A fault is told in the order of `TableFault`'s variants.
+    /// The table of these rows. There is at least one state, one invocation and
+    /// one response, each keeps to its limit, as the rows do, and `start` is a
+    /// state. A fault is told in the order of `TableFault`'s variants.
     pub fn new(
         alloc: Global,
         states: u8,
@@ -56,11 +58,11 @@ impl Table {
         requires has_state { 0 < states }
         requires has_inv { 0 < invs }
         requires has_resp { 0 < resps }
-        requires states { states ≤ 64 }
-        requires invs { invs ≤ 32 }
-        requires resps { resps ≤ 32 }
+        requires states { states ≤ most_states }
+        requires invs { invs ≤ most_invocations }
+        requires resps { resps ≤ most_responses }
         requires begins { start < states }
-        requires rows { length rows.now ≤ 131072 }
+        requires rows { length rows.now ≤ most_rows }
         ensures ok { IfOk result (λ t. t ≡ rules_of states invs resps start rows.now) }
         ensures faultless { OnOk result (fault_of (rules_of states invs resps start rows.now) ≡ None) }
         ensures err { IfErr result (λ e. IsTold e (fault_of (rules_of states invs resps start rows.now))) }
@@ -119,7 +121,7 @@ impl Table {
     /// number is its place here.
     pub fn events(&self) -> &[Event]
         ensures events { result.now ≡ events_of self.now.rows }
-        ensures few { length result.now ≤ 64 }
+        ensures few { length result.now ≤ most_events }
     {
         self.events.items()
     }
@@ -171,7 +173,7 @@ impl Table {
 
 /// The responses with one more.
 fn with_response(responses: u32, resp: u8) -> u32
-    requires { resp < 32 }
+    requires { resp < most_responses }
     ensures { result ≡ with_member responses resp }
 {
     responses | 1 << resp

@@ -6,7 +6,7 @@ use Rattle.std.proofs.lemmas.List.{append-nil}
 use Rattle.std.proofs.lemmas.List.Sums.{fold-append}
 use Rattle.qc_core.proofs.Answers.{GoesTo, to_sender}
 use Rattle.qc_core.proofs.AtomicLaw.{first_alone, same_single}
-use Rattle.qc_core.proofs.Members.{every-append}
+use Rattle.qc_list.proofs.Members.{every-append}
 use Rattle.qc_core.proofs.OrderLaw.{law}
 use Rattle.qc_core.proofs.Others.{first_apart, never_ready, none_to, second_apart, still_quiet}
 use Rattle.qc_core.proofs.Places.{slice_get-replicate}

@@ -1,5 +1,5 @@
 use Rattle.std.proofs.Common.{rules, ◌<◌, arith}
-use Rattle.qc_cert.proofs.Search.{first_found}
+use Rattle.qc_list.proofs.Search.{first_found}
 use Rattle.qc_cert.proofs.rules.of_invs.Goals as goal
 
 pub returns-then-is_some : goal.returns-then-is_some

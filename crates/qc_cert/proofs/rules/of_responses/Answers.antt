@@ -1,12 +1,12 @@
 use Rattle.std.proofs.Common.{rules, ◌<◌, sym, arith, subst}
 use Rattle.qc_cert.proofs.Allowed.{AreAllowed, equal_everywhere, unequal_here}
-use Rattle.qc_cert.proofs.Search.{first_found, first_none}
+use Rattle.qc_list.proofs.Search.{first_found, below_none}
 use Rattle.qc_cert.proofs.rules.of_responses.Goals as goal
 
 pub returns-then-view-log : goal.returns-then-view-log
 returns-then-view-log c =
     let log : AreAllowed c.args.kind.now c.args.triple.now.log c.args.inv c.responses-view.result = subst (AreAllowed c.args.kind.now c.args.triple.now.log c.args.inv) (sym c.if-view-log.true) c.responses-log.ensures in
-    sym (first_none c.args.kind.now.table.resps _ (equal_everywhere c.args.kind.now c.args.place c.args.triple.now c.args.inv c.responses-view.result c.responses-view.ensures log))
+    sym (below_none c.args.kind.now.table.resps _ (λ n less. equal_everywhere c.args.kind.now c.args.place c.args.triple.now c.args.inv c.responses-view.result c.responses-view.ensures log n))
 
 pub returns-then-has : goal.returns-then-has
 returns-then-has c =

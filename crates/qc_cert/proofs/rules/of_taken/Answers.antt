@@ -1,5 +1,5 @@
 use Rattle.std.proofs.Common.{rules, ◌<◌, length}
-use Rattle.qc_cert.proofs.Search.{first_found}
+use Rattle.qc_list.proofs.Search.{first_found}
 use Rattle.qc_table.specs.Rules.{events_of}
 use Rattle.qc_cert.proofs.rules.of_taken.Goals as goal
 

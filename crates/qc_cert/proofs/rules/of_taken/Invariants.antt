@@ -1,6 +1,6 @@
 use Rattle.std.proofs.Common.{◌≡◌, None}
 use Rattle.qc_cert.specs.Faults.{taken_fault}
-use Rattle.qc_table.specs.First.{first_below}
+use Rattle.qc_list.specs.Search.{first_below}
 use Rattle.qc_cert.proofs.rules.of_taken.Given as goal
 
 abbrev pub invariant-loop-event : goal.invariant-loop-event

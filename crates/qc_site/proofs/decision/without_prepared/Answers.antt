@@ -1,6 +1,6 @@
 use Rattle.std.proofs.Common.{rules, ◌∙◌, ap, not}
 use Rattle.std.proofs.lemmas.Fn.{filter_same}
-use Rattle.qc_site.specs.Held.{same_tx}
+use Rattle.qc_stamp.specs.Order.{same_tx}
 use Rattle.qc_site.specs.Conduct.{without_prepared}
 use Rattle.qc_site.proofs.decision.without_prepared.Goals as goal
 

@@ -1,6 +1,7 @@
 use Rattle.std.proofs.Common.{rules, ◌∙◌, ap, not}
 use Rattle.std.proofs.lemmas.Fn.{filter_same}
-use Rattle.qc_site.specs.Held.{same_tx, without_held}
+use Rattle.qc_site.specs.Held.{without_held}
+use Rattle.qc_stamp.specs.Order.{same_tx}
 use Rattle.qc_site.proofs.held.without_held.Goals as goal
 
 pub returns : goal.returns

@@ -6,13 +6,13 @@ use Rattle.qc_cert.specs.Groups.{outs_at, place_of}
 use Rattle.qc_cert.proofs.Grouped.{covered_in, uncovered_past}
 use Rattle.qc_table.specs.Sets.{is_within}
 use Rattle.qc_cert.proofs.groups.Grouped.covers.Goals as goal
-use Rattle.qc_cert.proofs.groups.Grouped.covers.Goals.{then-triple-ge-STATES-via-then-triple-ge-STATES, then-triple-ge-STATES-via-else-triple-ge-STATES+then-triple-ge-STATES-2}
+use Rattle.qc_cert.proofs.groups.Grouped.covers.Goals.{then-triple-ge-MOST_STATES-via-then-triple-ge-MOST_STATES, then-triple-ge-MOST_STATES-via-else-triple-ge-MOST_STATES+then-triple-ge-MOST_STATES-2}
 
-pub returns-then-triple-ge-STATES : goal.returns-then-triple-ge-STATES
-returns-then-triple-ge-STATES c =
-    let past : (64 ≤ c.args.triple.now.view) ⊎ (64 ≤ c.args.triple.now.log) = elim c.then-triple-ge-STATES.branch [
-      | then-triple-ge-STATES-via-then-triple-ge-STATES w ↦ inl w.if-triple-ge-STATES.true
-      | then-triple-ge-STATES-via-else-triple-ge-STATES+then-triple-ge-STATES-2 w ↦ inr w.if-triple-ge-STATES-2.true
+pub returns-then-triple-ge-MOST_STATES : goal.returns-then-triple-ge-MOST_STATES
+returns-then-triple-ge-MOST_STATES c =
+    let past : (64 ≤ c.args.triple.now.view) ⊎ (64 ≤ c.args.triple.now.log) = elim c.then-triple-ge-MOST_STATES.branch [
+      | then-triple-ge-MOST_STATES-via-then-triple-ge-MOST_STATES w ↦ inl w.if-triple-ge-MOST_STATES.true
+      | then-triple-ge-MOST_STATES-via-else-triple-ge-MOST_STATES+then-triple-ge-MOST_STATES-2 w ↦ inr w.if-triple-ge-MOST_STATES-2.true
     ] in
     sym (ap (λ ts. is_covered ts c.args.triple.now) (sym c.self.view_is) ∙ uncovered_past c.self.inside.list.now c.args.triple.now c.self.invariant.states past)
 
@@ -24,5 +24,5 @@ returns c =
     let group : c.index-groups-place.result ≡ outs_at c.self.inside.list.now (place_of c.args.triple.now.view c.args.triple.now.log) =
     get_or_read items c.place.result c.index-groups-place.result within read [] ∙ c.self.invariant.outs c.place.result ∙ ap (outs_at c.self.inside.list.now) c.place.ensures.place in
     c.covers.ensures ∙ ap (list_any (λ o. is_within o c.args.triple.now.out)) group
-    ∙ covered_in c.self.inside.list.now c.args.triple.now c.self.invariant.states c.if-triple-ge-STATES-2.false
+    ∙ covered_in c.self.inside.list.now c.args.triple.now c.self.invariant.states c.if-triple-ge-MOST_STATES-2.false
     ∙ ap (λ ts. is_covered ts c.args.triple.now) c.self.view_is

@@ -1,6 +1,0 @@
--- The lives of actors.
-use Rattle.std.specs.Prelude.{ℕ}
-
--- the life of an actor that has never fallen
-abbrev pub first_life : ℕ
-first_life = 1
