@@ -1,5 +1,5 @@
 -- Two committed operations are found to be out of order: one depends on the other, hasn't its line, and has no smaller stamp.
-use Rattle.std.proofs.Common.{◌≡◌, ◌≢◌, ℕ, ◌<◌, ◌≤◌, ◌⊎◌, inl, inr, IsSome, IsTrue, List, [], ◌∷◌, Option, Some, None, option_map, refl, ap, subst, arith}
+use Rattle.std.proofs.Common.{◌≡◌, ℕ, ◌<◌, ◌≤◌, ◌⊎◌, inl, inr, IsSome, IsTrue, List, [], ◌∷◌, Option, Some, None, option_map, refl, ap, subst, arith}
 use Rattle.qc_decl.specs.declared.declaration.Declaration.{Declaration}
 use Rattle.qc_stamp.specs.declared.stamp.Stamp.{Stamp}
 use Rattle.qc_entry.specs.declared.line.Line.{Line}
