@@ -1,5 +1,5 @@
 -- The declarations of the runs keep the rules: their relations are exact by certificates, and their quorums meet.
-use Rattle.std.proofs.Common.{◌≡◌, ◌<◌, ◌≤◌, ℕ, zero, suc, List, [], ◌∷◌, length, Option, Some, None, option_map, refl, subst, arith, slice_get}
+use Rattle.std.proofs.Common.{true, ◌≡◌, ◌<◌, ◌≤◌, ℕ, zero, suc, List, [], ◌∷◌, length, Option, Some, None, option_map, refl, subst, arith, slice_get}
 use Rattle.qc_cert.proofs.Faultless.{inductive}
 use Rattle.qc_cert.proofs.Walk.{exact}
 use Rattle.qc_cert.specs.Inductive.{triple}
@@ -237,3 +237,13 @@ ticket_store_accepted = proof_of (store_accepted 1 ticket_kind ticket_names (0 �
 
 pub three_in_two_epochs_accepted : IsAccepted three_in_two_epochs
 three_in_two_epochs_accepted = proof_of (store_accepted 3 register_kind register_names (0 ∷ []) three_in_two_epochs.plans register_right one_object) refl
+
+register_triples : List Triple
+register_triples = triple 0 0 0 ∷ triple 0 1 8 ∷ triple 1 1 0 ∷ triple 1 0 4 ∷ []
+
+extra_right : IsRight extra_kind
+unfolding register_triples
+extra_right = record { sound = register_right.sound; exact = exact extra_kind register_triples (inductive extra_kind register_triples register_right.sound refl) }
+
+pub extra_store_accepted : IsAccepted extra_store
+extra_store_accepted = proof_of (store_accepted 1 extra_kind register_names (0 ∷ []) extra_store.plans extra_right one_object) refl

@@ -1,7 +1,8 @@
 -- The declarations of the runs, beside the built-in ones.
-use Rattle.std.specs.Prelude.{ℕ, List, [], ◌∷◌, ◌++◌}
-use Rattle.qc_decl.specs.One.{register, register_kind, register_pairs, register_plan, row}
+use Rattle.std.specs.Prelude.{ℕ, List, [], ◌∷◌, ◌++◌, codes, length, take}
+use Rattle.qc_decl.specs.One.{register, register_kind, register_names, register_pairs, register_plan, row}
 use Rattle.qc_decl.specs.declared.declaration.Declaration.{Declaration}
+use Rattle.qc_decl.specs.declared.declaration.KindNames.{KindNames}
 use Rattle.qc_plan.specs.declared.plan.Plan.{Plan}
 use Rattle.qc_table.specs.Depends.{relation_of}
 use Rattle.qc_table.specs.Rules.{Rules}
@@ -112,4 +113,4 @@ extra_kind = record { table = register; relation = relation_of (record { inv = 7
 
 -- this register at one site
 abbrev pub extra_store : Declaration
-extra_store = store 1 extra_kind (0 ∷ []) (register_plan (1 ∷ []) 1 ∷ [])
+extra_store = store 1 extra_kind register_names (0 ∷ []) (register_plan (1 ∷ []) 1 ∷ [])
