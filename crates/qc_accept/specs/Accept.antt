@@ -1,8 +1,10 @@
 -- The declaration that bytes spell, or its first fault.
 --
--- The bytes are a TOML document. Its fields are read in the order of the keys and of the arrays; a type whose rows are no
--- table ends this. Then each type's triples have to show its relation exact, and then each epoch's plan has to be admitted.
-use Rattle.std.specs.Prelude.{◌≡◌, ℕ, ◌<◌, ◌≤◌, All, length, suc, List, [], ◌∷◌, ◌++◌, Option, Some, Ok, Err, if◌then◌else◌, codes, map, slice_get}
+-- The bytes are a TOML document. Its fields are read in the order of the keys and of the arrays; a type whose rows are
+-- no table ends this. Then each type's triples have to show its relation exact, and then each epoch's plan has to be
+-- admitted.
+use Rattle.std.specs.Prelude.{◌≡◌, ℕ, ◌<◌, ◌≤◌, All, length, suc, List, [], ◌∷◌, ◌++◌, Option, Some, Ok, Err}
+use Rattle.std.specs.Prelude.{if◌then◌else◌, codes, map, slice_get}
 use Rattle.std.specs.Option.{option_map_or}
 use Rattle.std.specs.Str.{is_utf8}
 use Rattle.toml.specs.Data.{Members}
@@ -33,7 +35,8 @@ use Rattle.qc_accept.specs.Types.{TypeOf, TypesOf, types_of, name_at}
 
 -- the document: UTF-8 that is TOML
 abbrev pub document_of : List ℕ → Answer Members
-document_of bytes = if is_utf8 bytes then option_map_or (λ t. Ok t) (parse_document bytes) (Err decl.NotToml) else Err decl.NotToml
+document_of bytes = if is_utf8 bytes then option_map_or (λ t. Ok t) (parse_document bytes) (Err decl.NotToml)
+    else Err decl.NotToml
 
 -- a declaration, with each type's triples
 pub record DraftOf : Type 0 where
@@ -81,7 +84,8 @@ draft_of table =
 -- the name of an event, `INV:RESP`
 abbrev pub event_name : KindNames → Rules → ℕ → List ℕ
 event_name names table number =
-    option_map_or (λ (e : Event). name_at names.invs e.inv ++ (codes ":" ++ name_at names.resps e.resp)) (slice_get (events_of table.rows) number) []
+    option_map_or (λ (e : Event). name_at names.invs e.inv ++ (codes ":" ++ name_at names.resps e.resp))
+    (slice_get (events_of table.rows) number) []
 
 -- the names that a certificate's fault has
 abbrev pub cert_names : KindNames → Kind → CertFault → List (List ℕ)
@@ -96,13 +100,15 @@ certified place names kind list =
 
 -- each list is one that can be checked against its type: few triples, of the type's states
 abbrev pub AreOfStates : Kind → List Triple → Type 0
-AreOfStates kind list = (length list ≤ most_triples) × All (λ (t : Triple). (t.view < kind.table.states) × (t.log < kind.table.states)) list
+AreOfStates kind list = (length list ≤ most_triples)
+    × All (λ (t : Triple). (t.view < kind.table.states) × (t.log < kind.table.states)) list
 
 pub record AreChecked (d : DraftOf) : Type 0 where
   pub few : length d.triples ≤ most_types
   pub names : length d.decl.kind_names ≡ length d.triples
   pub kinds : length d.decl.kinds ≡ length d.triples
-  pub states : (place : ℕ) (kind : Kind) (list : List Triple) → slice_get d.decl.kinds place ≡ Some kind → slice_get d.triples place ≡ Some list
+  pub states : (place : ℕ) (kind : Kind) (list : List Triple) → slice_get d.decl.kinds place ≡ Some kind
+      → slice_get d.triples place ≡ Some list
       → AreOfStates kind list
 
 -- the types from a place on
@@ -119,11 +125,13 @@ pair_names _ _ inv e = []
 abbrev pub plan_names : Declaration → PlanFault → List (List ℕ)
 plan_names d NoWeight = []
 plan_names d (TooHeavy object) = name_at d.object_names object ∷ []
-plan_names d (CanMiss object inv e) = name_at d.object_names object ∷ pair_names (names_of d object) (kind_at d object) inv e
+plan_names d (CanMiss object inv e) = name_at d.object_names object ∷ pair_names (names_of d object)
+    (kind_at d object) inv e
 
 abbrev pub admitted : Declaration → ℕ → Plan → Answer (Unit {0})
 admitted d epoch p =
-    option_map_or (λ fault. Err (decl.Plan epoch fault (plan_names d fault))) (plan.fault_of p d.kinds d.objects) (Ok tt)
+    option_map_or (λ fault. Err (decl.Plan epoch fault (plan_names d fault))) (plan.fault_of p d.kinds d.objects)
+    (Ok tt)
 
 -- a plan has no more weights than there may be sites, and thresholds for no more than the objects
 pub record IsShaped (d : Declaration) (p : Plan) : Type 0 where

@@ -18,7 +18,12 @@ certificate_of path table w events =
 
 -- the type of these words, rows and certificate
 abbrev pub type_with : WordsOf → Rules → Certificate → TypeOf
-type_with w rules c = record { words = w; events = events_of rules.rows; kind = record { table = rules; relation = c.relation }; triples = c.triples }
+type_with w rules c = record {
+  words = w;
+  events = events_of rules.rows;
+  kind = record { table = rules; relation = c.relation };
+  triples = c.triples;
+}
 
 abbrev pub rest_of : List ℕ → Members → WordsOf → Rules → Answer TypeOf
 rest_of path table w rules = certificate_of path table w (events_of rules.rows) >>= (λ c. Ok (type_with w rules c))

@@ -1,5 +1,6 @@
 -- The epochs of a declaration, each with its plan.
-use Rattle.std.specs.Prelude.{ℕ, ◌≤◌, All, zero, suc, Bool, ◌==◌, ◌&&◌, List, [], ◌∷◌, ◌++◌, length, Option, Some, None, Ok, if◌then◌else◌, codes, find, option_map, option_and_then}
+use Rattle.std.specs.Prelude.{ℕ, ◌≤◌, All, zero, suc, Bool, ◌==◌, ◌&&◌, List, [], ◌∷◌, ◌++◌, length, Option, Some, None}
+use Rattle.std.specs.Prelude.{Ok, if◌then◌else◌, codes, find, option_map, option_and_then}
 use Rattle.std.specs.List.{list_any}
 use Rattle.std.specs.Option.{option_map_or}
 use Rattle.toml.specs.Data.{Data, Members, as_str}
@@ -51,7 +52,8 @@ entry_in store side text =
     option_and_then (λ t.
     option_and_then (λ place.
     option_map (λ threshold. record { object = object; place = place; threshold = threshold })
-    (number_in ws.2)) (place_in side t ws.1)) (kind_of store.types store.objects object)) (number_of store.objects.names ws.0)) (three text)
+    (number_in ws.2)) (place_in side t ws.1)) (kind_of store.types store.objects object))
+    (number_of store.objects.names ws.0)) (three text)
 
 -- whether an entry is of this object and place
 abbrev pub is_at : ℕ → ℕ → EntryOf → Bool
@@ -59,7 +61,8 @@ is_at object place entry = (entry.object == object) && (entry.place == place)
 
 -- the entries, with one whose place none of them has
 abbrev pub with_entry : List EntryOf → EntryOf → Option (List EntryOf)
-with_entry entries entry = if list_any (is_at entry.object entry.place) entries then None else Some (entries ++ entry ∷ [])
+with_entry entries entry = if list_any (is_at entry.object entry.place) entries then None
+    else Some (entries ++ entry ∷ [])
 
 -- the entries, with the one that a value is
 abbrev pub with_item : StoreOf → Side → List EntryOf → Data → Option (List EntryOf)
@@ -100,7 +103,8 @@ with_weight so_far d = option_map (λ w. so_far ++ w ∷ []) (number_between 0 g
 
 abbrev pub weights : List ℕ → Members → ℕ → Answer (List ℕ)
 weights path table sites =
-    items path table (codes "weights") sites sites >>= (λ ds. told (path ++ codes "weights") (read_each with_weight [] ds))
+    items path table (codes "weights") sites sites
+    >>= (λ ds. told (path ++ codes "weights") (read_each with_weight [] ds))
 
 -- the keys of an epoch
 abbrev pub epoch_keys : List (List ℕ)

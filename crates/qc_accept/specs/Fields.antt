@@ -1,9 +1,11 @@
 -- Fields of a document's tables: what each has to be, and the path of one that isn't.
-use Rattle.std.specs.Prelude.{ℕ, not, ◌&&◌, ℤ, pos, negsuc, List, [], ◌∷◌, ◌++◌, length, Option, Some, None, Ok, Err, if◌then◌else◌, codes, decimal, option_map, option_and_then}
+use Rattle.std.specs.Prelude.{ℕ, not, ◌&&◌, ℤ, pos, negsuc, List, [], ◌∷◌, ◌++◌, length, Option, Some, None, Ok, Err}
+use Rattle.std.specs.Prelude.{if◌then◌else◌, codes, decimal, option_map, option_and_then}
 use Rattle.std.specs.List.{list_any}
 use Rattle.std.specs.Option.{option_map_or}
 use Rattle.std.specs.Str.{bytes_eq}
-use Rattle.toml.specs.Data.{Data, Items, no_items, item, Members, no_members, member, get_member, as_str, as_integer, as_array, as_table}
+use Rattle.toml.specs.Data.{Data, Items, no_items, item, Members, no_members, member, get_member, as_str, as_integer}
+use Rattle.toml.specs.Data.{as_array, as_table}
 use Rattle.qc_accept.specs.declared.fault.DeclFault.TheVariants.{Field}
 use Rattle.qc_list.specs.Results.{◌>>=◌}
 use Rattle.qc_accept.specs.Answers.{Answer, read_each}
@@ -46,7 +48,8 @@ items path table key least most = required path table key >>= (λ d. told (path 
 
 -- an array that may be missing, which then has no items
 abbrev pub optional : List ℕ → Members → List ℕ → Answer (List Data)
-optional path table key = told (path ++ key) (option_map_or (λ d. option_map listed (as_array d)) (get_member key table) (Some []))
+optional path table key = told (path ++ key) (option_map_or (λ d. option_map listed (as_array d))
+    (get_member key table) (Some []))
 
 -- a whole number between these two
 abbrev pub natural : ℤ → Option ℕ

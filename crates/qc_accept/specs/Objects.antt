@@ -35,7 +35,8 @@ with_object types objects d =
 -- the objects
 abbrev pub objects_of : List ℕ → Members → TypesOf → Answer ObjectsOf
 objects_of path table types =
-    items path table (codes "object") 1 most_objects >>= (λ ds. each (with_object types.names) (record { names = []; kinds = [] }) ds)
+    items path table (codes "object") 1 most_objects
+    >>= (λ ds. each (with_object types.names) (record { names = []; kinds = [] }) ds)
 
 -- the type of an object
 abbrev pub kind_of : TypesOf → ObjectsOf → ℕ → Option TypeOf

@@ -34,7 +34,8 @@ pub record IsSpelled (table : Members) (t : TypeOf) : Type 0 where
   pub start : slice_get t.words.states t.words.start ≡ option_and_then as_str (get_member (codes "start") table)
   pub listed : List Row
   pub rows : AreTexts (row_in t.words) (array_at table (codes "rows")) listed
-  pub ruled : t.kind.table ≡ rules_of (length t.words.states) (length t.words.invs) (length t.words.resps) t.words.start listed
+  pub ruled : t.kind.table ≡ rules_of (length t.words.states) (length t.words.invs)
+      (length t.words.resps) t.words.start listed
   pub pairs : List Pair
   pub depends : AreTexts (pair_in t.words (events_of listed)) (array_at table (codes "depends")) pairs
   pub related : t.kind.relation ≡ relation_of pairs
@@ -51,8 +52,10 @@ pub record IsListed (store : StoreOf) (side : Side) (ds : List Data) (entry : En
 
 -- each threshold that is listed is the number that its text says, and each that isn't listed is 0
 pub record AreListed (store : StoreOf) (side : Side) (ds : List Data) (needs : List (List ℕ)) : Type 0 where
-  pub listed : (entry : EntryOf) → IsListed store side ds entry → need_of needs entry.object entry.place ≡ entry.threshold
-  pub others : (object place : ℕ) → ((entry : EntryOf) → IsListed store side ds entry → entry.object ≡ object → entry.place ≡ place → ⊥)
+  pub listed : (entry : EntryOf) → IsListed store side ds entry
+      → need_of needs entry.object entry.place ≡ entry.threshold
+  pub others : (object place : ℕ) → ((entry : EntryOf) → IsListed store side ds entry → entry.object ≡ object
+      → entry.place ≡ place → ⊥)
       → need_of needs object place ≡ 0
 
 -- the text under a key

@@ -10,8 +10,10 @@ use Rattle.qc_table.specs.declared.kind.Kind.{Kind}
 -- each type's triples are inductive
 abbrev pub AreInductive : DraftOf → Type 0
 AreInductive d =
-    (number : ℕ) (kind : Kind) (list : List Triple) → slice_get d.decl.kinds number ≡ Some kind → slice_get d.triples number ≡ Some list → IsInductive kind list
+    (number : ℕ) (kind : Kind) (list : List Triple) → slice_get d.decl.kinds number ≡ Some kind
+    → slice_get d.triples number ≡ Some list → IsInductive kind list
 
 -- each epoch's plan is admitted
 abbrev pub AreAdmitted : DraftOf → Type 0
-AreAdmitted d = (place : ℕ) (plan : Plan) → slice_get d.decl.plans place ≡ Some plan → IsAdmitted plan d.decl.kinds d.decl.objects
+AreAdmitted d = (place : ℕ) (plan : Plan) → slice_get d.decl.plans place ≡ Some plan
+    → IsAdmitted plan d.decl.kinds d.decl.objects

@@ -1,5 +1,7 @@
 -- The types of a declaration.
-use Rattle.std.specs.Prelude.{ℕ, ◌<◌, ◌≤◌, Bool, ◌==◌, ◌&&◌, nat_le, List, [], ◌∷◌, ◌++◌, length, Option, Some, None, Ok, Err, if◌then◌else◌, codes, count_by, unwrap_or, slice_get, option_map, option_and_then}
+use Rattle.std.specs.Prelude.{ℕ, ◌<◌, ◌≤◌, Bool, ◌==◌, ◌&&◌, nat_le, List, [], ◌∷◌, ◌++◌, length, Option, Some, None}
+use Rattle.std.specs.Prelude.{Ok, Err, if◌then◌else◌, codes, count_by, unwrap_or, slice_get, option_map}
+use Rattle.std.specs.Prelude.{option_and_then}
 use Rattle.std.specs.List.{list_all, slice_split}
 use Rattle.std.specs.Str.{bytes_eq}
 use Rattle.toml.specs.Data.{Data, Members, as_str}
@@ -13,11 +15,13 @@ use Rattle.qc_table.specs.declared.kind.Kind.{Kind}
 use Rattle.qc_table.specs.declared.relation.Pair.{Pair}
 use Rattle.qc_table.specs.declared.row.Event.{Event}
 use Rattle.qc_table.specs.declared.row.Row.{Row}
-use Rattle.qc_decl.specs.Limits.{most_alike_triples, most_invocations, most_responses, most_rows, most_states, most_triples, most_types}
+use Rattle.qc_decl.specs.Limits.{most_alike_triples, most_invocations, most_responses, most_rows, most_states}
+use Rattle.qc_decl.specs.Limits.{most_triples, most_types}
 use Rattle.qc_accept.specs.declared.fault.DeclFault.TheVariants.{Table}
 use Rattle.qc_list.specs.Results.{◌>>=◌}
 use Rattle.qc_accept.specs.Answers.{Answer, each, read_each}
-use Rattle.qc_accept.specs.Fields.{told, required, items, optional, names, name_among, with_name, no_others, item_table, keys_path}
+use Rattle.qc_accept.specs.Fields.{told, required, items, optional, names, name_among, with_name, no_others, item_table}
+use Rattle.qc_accept.specs.Fields.{keys_path}
 use Rattle.qc_decl.specs.Names.{is_name}
 use Rattle.qc_accept.specs.Words.{two, three, four, number_of, event_in}
 
@@ -79,7 +83,8 @@ row_in w text =
     option_and_then (λ inv.
     option_and_then (λ resp.
     option_map (λ next. record { state = state; inv = inv; resp = resp; next = next })
-    (number_or_unknown w.states ws.3)) (number_or_unknown w.resps ws.2)) (number_or_unknown w.invs ws.1)) (number_or_unknown w.states ws.0)) (four text)
+    (number_or_unknown w.states ws.3)) (number_or_unknown w.resps ws.2)) (number_or_unknown w.invs ws.1))
+    (number_or_unknown w.states ws.0)) (four text)
 
 -- a list, with what a text says
 abbrev pub with_read : {A : Type 0} → (List ℕ → Option A) → List A → Data → Option (List A)
@@ -95,7 +100,8 @@ ruled place name rules (Some fault) = Err (Table place fault (name ∷ []))
 
 abbrev pub table_of : ℕ → List ℕ → WordsOf → List Row → Answer Rules
 table_of place name w rows =
-    let rules = rules_of (length w.states) (length w.invs) (length w.resps) w.start rows in ruled place name rules (fault_of rules)
+    let rules = rules_of (length w.states) (length w.invs)
+    (length w.resps) w.start rows in ruled place name rules (fault_of rules)
 
 -- an event, `INV:RESP`, of a row
 abbrev pub event_of_text : WordsOf → List Event → List ℕ → Option ℕ
@@ -119,7 +125,8 @@ with_new set e = if has set e then None else Some (with_member set e)
 abbrev pub out_in : WordsOf → List Event → List ℕ → Option ℕ
 out_in w events text =
     if bytes_eq text (codes "-") then Some 0
-    else read_each (λ set part. option_and_then (with_new set) (event_of_text w events part)) 0 (slice_split (λ b. b == 44) text)
+    else read_each (λ set part. option_and_then (with_new set)
+    (event_of_text w events part)) 0 (slice_split (λ b. b == 44) text)
 
 -- a triple, `VIEW LOG OUT`
 abbrev pub triple_in : WordsOf → List Event → List ℕ → Option Triple
@@ -140,18 +147,21 @@ are_few_alike triples = list_all (λ t. nat_le (count_by (is_alike t) triples) m
 abbrev pub triples_in : WordsOf → List Event → List Data → Option (List Triple)
 triples_in w events ds =
     if nat_le (length ds) most_triples
-    then option_and_then (λ triples. if are_few_alike triples then Some triples else None) (read_each (with_read (triple_in w events)) [] ds)
+    then option_and_then (λ triples. if are_few_alike triples then Some triples else None)
+    (read_each (with_read (triple_in w events)) [] ds)
     else None
 
 -- the keys of a type
 abbrev pub type_keys : List (List ℕ)
 type_keys =
-    codes "name" ∷ codes "states" ∷ codes "start" ∷ codes "invocations" ∷ codes "responses" ∷ codes "rows" ∷ codes "depends" ∷ codes "triples" ∷ []
+    codes "name" ∷ codes "states" ∷ codes "start" ∷ codes "invocations" ∷ codes "responses"
+    ∷ codes "rows" ∷ codes "depends" ∷ codes "triples" ∷ []
 
 -- what stands behind the rows of a type; events are those of the rows
 abbrev pub relation : List ℕ → Members → WordsOf → List Event → Answer (List ℕ)
 relation path table w events =
-    optional path table (codes "depends") >>= (λ ds. told (path ++ codes "depends") (option_map relation_of (pairs_in w events ds)))
+    optional path table (codes "depends") >>= (λ ds. told (path ++ codes "depends")
+    (option_map relation_of (pairs_in w events ds)))
 
 abbrev pub triples : List ℕ → Members → WordsOf → List Event → Answer (List Triple)
 triples path table w events =
@@ -170,7 +180,15 @@ type_of path table place name =
     relation path table w (events_of rules.rows) >>= (λ rel.
     triples path table w (events_of rules.rows) >>= (λ ts.
     no_others path table type_keys >>= (λ _.
-    Ok (record { words = w; events = events_of rules.rows; kind = record { table = rules; relation = rel }; triples = ts })))))))
+    Ok (record {
+      words = w;
+      events = events_of rules.rows;
+      kind = record {
+        table = rules;
+        relation = rel;
+      };
+      triples = ts;
+    })))))))
 
 -- a name by its number; no byte where there is none
 abbrev pub name_at : List (List ℕ) → ℕ → List ℕ
@@ -192,4 +210,5 @@ with_type types d =
 
 -- the types
 abbrev pub types_of : List ℕ → Members → Answer TypesOf
-types_of path table = items path table (codes "type") 1 most_types >>= (λ ds. each with_type (record { names = []; list = [] }) ds)
+types_of path table = items path table (codes "type") 1 most_types
+    >>= (λ ds. each with_type (record { names = []; list = [] }) ds)

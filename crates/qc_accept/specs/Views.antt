@@ -51,7 +51,8 @@ abbrev pub objects_in : ObjectsRead → ObjectsOf
 objects_in objects = record { names = names_in objects.names; kinds = objects.kinds }
 
 abbrev pub store_in : Store → StoreOf
-store_in store = record { sites = store.sites; types = types_in store.types.now; objects = objects_in store.objects.now }
+store_in store =
+    record { sites = store.sites; types = types_in store.types.now; objects = objects_in store.objects.now }
 
 abbrev pub entry_of : Entry → EntryOf
 entry_of e = record { object = e.object; place = e.place; threshold = e.threshold }

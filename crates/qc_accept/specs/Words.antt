@@ -1,5 +1,6 @@
 -- Texts of a declaration: words, names, numbers and events.
-use Rattle.std.specs.Prelude.{ℕ, ◌+◌, ◌-◌, ◌*◌, ◌==◌, ◌&&◌, nat_le, List, [], ◌∷◌, length, fold, Option, Some, None, if◌then◌else◌, option_map, option_and_then, position}
+use Rattle.std.specs.Prelude.{ℕ, ◌+◌, ◌-◌, ◌*◌, ◌==◌, ◌&&◌, nat_le, List, [], ◌∷◌, length, fold, Option, Some, None}
+use Rattle.std.specs.Prelude.{if◌then◌else◌, option_map, option_and_then, position}
 use Rattle.std.specs.List.{list_any, list_all}
 use Rattle.std.specs.Str.{bytes_eq}
 use Rattle.qc_table.specs.Rules.{event, event_number}
@@ -31,7 +32,8 @@ value_of digits = fold (λ n d. 10 * n + (d - 48)) 0 digits
 -- NUMBER: ASCII digits, one or more and not too many, that write no number past the greatest threshold
 abbrev pub number_in : List ℕ → Option ℕ
 number_in text =
-    if is_between 1 most_digits (length text) && (list_all (is_between 48 57) text && nat_le (value_of text) greatest_threshold)
+    if is_between 1 most_digits (length text) && (list_all (is_between 48 57) text
+    && nat_le (value_of text) greatest_threshold)
     then Some (value_of text)
     else None
 
@@ -44,4 +46,5 @@ abbrev pub event_in : List (List ℕ) → List (List ℕ) → List Event → Lis
 event_in invs resps events text =
     option_and_then (λ p.
     option_and_then (λ inv.
-    option_and_then (λ resp. event_number events (event inv resp)) (number_of resps p.1)) (number_of invs p.0)) (cut 58 text)
+    option_and_then (λ resp. event_number events (event inv resp)) (number_of resps p.1)) (number_of invs p.0))
+    (cut 58 text)

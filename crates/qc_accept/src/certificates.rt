@@ -5,7 +5,8 @@ ghost use Rattle.qc_cert.specs.declared.triple.Triple.{Triple};
 ghost use Rattle.qc_table.specs.Depends.{relation_of};
 ghost use Rattle.qc_decl.specs.Limits.{most_events, most_invocations, most_states};
 ghost use Rattle.qc_accept.specs.Answers.{IsReading};
-ghost use Rattle.qc_accept.specs.Types.{AreFew, pairs_in, pair_in, event_of_text, triples_in, triple_in, out_in, with_new, are_few_alike};
+ghost use Rattle.qc_accept.specs.Types.{AreFew, pairs_in, pair_in, event_of_text, triples_in, triple_in, out_in};
+ghost use Rattle.qc_accept.specs.Types.{with_new, are_few_alike};
 ghost use Rattle.qc_accept.specs.Views.{data_of, events_in, names_in, words_in};
 
 use crate::fault::Wrong;
@@ -28,7 +29,8 @@ pub(crate) fn relation(
 ) -> Result<Relation, Wrong>
     requires words { AreFew (words_in words.now) }
     requires events { length (events_in events.now) ≤ most_events }
-    ensures { IsReading (λ r. r) result (option_map relation_of (pairs_in (words_in words.now) (events_in events.now) (data_of items.now))) }
+    ensures { IsReading (λ r. r) result (option_map relation_of (pairs_in (words_in words.now)
+        (events_in events.now) (data_of items.now))) }
 {
     let mut pairs = List::new(alloc);
     for item in items {
@@ -95,7 +97,8 @@ fn triple(words: &Words<'_>, events: &Events, text: &str) -> Option<Triple>
     requires words { AreFew (words_in words.now) }
     requires events { length (events_in events.now) ≤ most_events }
     ensures triple { result ≡ triple_in (words_in words.now) (events_in events.now) text.now }
-    ensures within { IfSome result (λ t. (t.view < length (names_in words.now.states)) × (t.log < length (names_in words.now.states))) }
+    ensures within { IfSome result (λ t. (t.view < length (names_in words.now.states))
+        × (t.log < length (names_in words.now.states))) }
 {
     let (view, log, out) = words::three(text)?;
     Some(Triple {

@@ -3,7 +3,8 @@
 ghost use Rattle.std.specs.Prelude.{◌≡◌, ◌<◌, ◌≤◌, length, All, IfOk};
 ghost use Rattle.qc_cert.specs.declared.triple.Triple.{Triple};
 ghost use Rattle.qc_decl.specs.Limits.{most_triples};
-ghost use Rattle.qc_accept.specs.Accept.{AreChecked, ArePlanned, IsShaped, admitted, all_admitted, all_certified, cert_names, certified, event_name, plan_names};
+ghost use Rattle.qc_accept.specs.Accept.{AreChecked, ArePlanned, IsShaped, admitted, all_admitted, all_certified};
+ghost use Rattle.qc_accept.specs.Accept.{cert_names, certified, event_name, plan_names};
 ghost use Rattle.qc_accept.specs.Answers.{IsAnswer};
 ghost use Rattle.qc_accept.specs.Types.{name_at};
 ghost use Rattle.qc_accept.specs.Views.{draft_in};
@@ -20,7 +21,8 @@ use std::alloc::Global;
 /// Checks that each type's triples show its relation exact.
 pub(crate) fn check_types(alloc: Global, draft: &Draft) -> Result<(), DeclFault>
     requires { AreChecked (draft_in draft.now) }
-    ensures { IsAnswer (λ _. tt) result (all_certified 0 draft.now.decl.kind_names draft.now.decl.kinds draft.now.triples) }
+    ensures { IsAnswer
+        (λ _. tt) result (all_certified 0 draft.now.decl.kind_names draft.now.decl.kinds draft.now.triples) }
 {
     let names = draft.decl.kind_names.items();
     let triples = draft.triples.items();
@@ -45,7 +47,8 @@ fn check_type(
     triples: &[Triple],
 ) -> Result<(), DeclFault>
     requires few { length triples.now ≤ most_triples }
-    requires states { All (λ (t : Triple). (t.view < kind.now.table.states) × (t.log < kind.now.table.states)) triples.now }
+    requires states { All (λ (t : Triple). (t.view < kind.now.table.states)
+        × (t.log < kind.now.table.states)) triples.now }
     ensures { IsAnswer (λ _. tt) result (certified number names.now kind.now triples.now) }
 {
     match qc_cert::check(alloc, kind, triples) {

@@ -4,9 +4,12 @@ ghost use Rattle.std.specs.Prelude.{◌≡◌, ◌+◌, ◌<◌, ◌≤◌, [], 
 ghost use Rattle.toml.specs.View.{view};
 ghost use Rattle.qc_decl.specs.Limits.{most_epochs, most_events};
 ghost use Rattle.qc_accept.specs.Answers.{IsAnswer, IsReading, read_each};
-ghost use Rattle.qc_accept.specs.Epochs.{IsFit, entries_in, entry_in, needs as needs_of_key, needs_of, place_in, places, places_of, plan_of, plans_of, threshold_of, thresholds, with_entry, with_item, with_plan, with_weight};
+ghost use Rattle.qc_accept.specs.Epochs.{IsFit, entries_in, entry_in, needs as needs_of_key, needs_of, place_in};
+ghost use Rattle.qc_accept.specs.Epochs.{places, places_of, plan_of, plans_of, threshold_of, thresholds, with_entry};
+ghost use Rattle.qc_accept.specs.Epochs.{with_item, with_plan, with_weight};
 ghost use Rattle.qc_accept.specs.Types.{AreFew};
-ghost use Rattle.qc_accept.specs.Views.{data_of, entry_of, events_in, listed_in, path_in, store_in, table_in, type_in, words_in};
+ghost use Rattle.qc_accept.specs.Views.{data_of, entry_of, events_in, listed_in, path_in, store_in, table_in, type_in};
+ghost use Rattle.qc_accept.specs.Views.{words_in};
 
 use crate::fault::{DeclFault, Wrong};
 use crate::fields::{self, Fields};
@@ -110,7 +113,8 @@ fn needs(
     side: Side,
 ) -> Result<Needs, DeclFault>
     requires { IsFit (store_in store.now) }
-    ensures { IsAnswer (λ needs. needs) result (needs_of_key (path_in fields.now) (table_in fields.now) (store_in store.now) key.now side) }
+    ensures { IsAnswer (λ needs. needs) result (needs_of_key (path_in fields.now) (table_in fields.now)
+        (store_in store.now) key.now side) }
 {
     let items = fields.optional(key)?;
     let read = read_listed(fields.alloc, store, side, items);
@@ -213,7 +217,9 @@ impl Listed {
     /// Adds the entry that a value is: one whose place had none.
     fn add_item(&mut self, store: &Store<'_, '_>, side: Side, item: &Value) -> Result<(), Wrong>
         requires { IsFit (store_in store.now) }
-        ensures { IsReading (λ _. listed_in self.new) result (with_item (store_in store.now) side (listed_in self.old) (view item.now)) }
+        ensures { IsReading
+            (λ _. listed_in self.new) result (with_item (store_in store.now) side (listed_in self.old)
+            (view item.now)) }
     {
         let text = fields::text(item)?;
         let entry = store.entry(side, text).ok_or(Wrong::Form)?;
@@ -225,7 +231,8 @@ impl Listed {
 
     /// Adds an entry, and tells whether its place had none.
     fn add(&mut self, entry: Entry) -> Result<bool, OutOfMemory>
-        ensures { IfOk result (λ is_new. with_entry (listed_in self.old) (entry_of entry) ≡ (if is_new then Some (listed_in self.new) else None)) }
+        ensures { IfOk result (λ is_new. with_entry (listed_in self.old)
+            (entry_of entry) ≡ (if is_new then Some (listed_in self.new) else None)) }
     {
         let Entry {
             object,
@@ -239,7 +246,8 @@ impl Listed {
     /// The thresholds of all objects.
     fn needs(&self, alloc: Global, store: &Store<'_, '_>, side: Side) -> Result<Needs, OutOfMemory>
         requires { IsFit (store_in store.now) }
-        ensures { IfOk result (λ needs. needs ≡ needs_of (store_in store.now) side (listed_in self.now) (length (store_in store.now).objects.names)) }
+        ensures { IfOk result (λ needs. needs ≡ needs_of (store_in store.now) side (listed_in self.now)
+            (length (store_in store.now).objects.names)) }
     {
         let mut needs = List::new(alloc);
         for object in 0..store.objects.names.count() {

@@ -6,7 +6,8 @@ ghost use Rattle.std.specs.Str.{bytes_eq};
 ghost use Rattle.toml.specs.Data.{as_str};
 ghost use Rattle.toml.specs.View.{view, table_view};
 ghost use Rattle.qc_accept.specs.Answers.{IsAnswer, IsReading};
-ghost use Rattle.qc_accept.specs.Fields.{required, items as items_of, optional, number as number_of_key, number_between, no_others, item_table, item_path, keys_path};
+ghost use Rattle.qc_accept.specs.Fields.{required, items as items_of, optional, number as number_of_key};
+ghost use Rattle.qc_accept.specs.Fields.{number_between, no_others, item_table, item_path, keys_path};
 ghost use Rattle.qc_accept.specs.Views.{data_of, path_in, table_in};
 
 use crate::fault::{DeclFault, Wrong};
@@ -76,7 +77,8 @@ impl<'a> Fields<'a> {
         least: usize,
         most: usize,
     ) -> Result<&'a [Value], DeclFault>
-        ensures { IsAnswer (λ items. data_of items.now) result (items_of (path_in self.now) (table_in self.now) key.now least most) }
+        ensures { IsAnswer (λ items. data_of items.now) result (items_of (path_in self.now)
+            (table_in self.now) key.now least most) }
     {
         match self.required(key)?.as_array() {
             Some(items) if least <= items.len() && items.len() <= most => Ok(items.as_slice()),
@@ -86,7 +88,8 @@ impl<'a> Fields<'a> {
 
     /// The items of an array, or none where the key is missing.
     pub(crate) fn optional(&self, key: &str) -> Result<&'a [Value], DeclFault>
-        ensures { IsAnswer (λ items. data_of items.now) result (optional (path_in self.now) (table_in self.now) key.now) }
+        ensures { IsAnswer (λ items. data_of items.now) result (optional (path_in self.now)
+            (table_in self.now) key.now) }
     {
         let Some(value) = self.table.get(key) else {
             return Ok(&[]);
@@ -107,7 +110,8 @@ impl<'a> Fields<'a> {
     /// What was read of a key's value, or the fault of the field.
     pub(crate) fn told<T>(&self, key: &str, read: Result<T, Wrong>) -> Result<T, DeclFault>
         ensures { MatchResult result (λ value. read ≡ Ok value)
-            (λ e. e ≢ DeclFault.OutOfMemory → (read ≡ Err Wrong.Form) × (e ≡ DeclFault.Field (path_in self.now ++ key.now))) }
+            (λ e. e ≢ DeclFault.OutOfMemory → (read ≡ Err Wrong.Form)
+            × (e ≡ DeclFault.Field (path_in self.now ++ key.now))) }
     {
         match read {
             Ok(value) => Ok(value),
@@ -119,7 +123,8 @@ impl<'a> Fields<'a> {
     /// Refuses the first key, in the order of their bytes, that isn't among
     /// these.
     pub(crate) fn no_others(&self, known: &[&str]) -> Result<(), DeclFault>
-        ensures { IsAnswer (λ _. tt) result (no_others (path_in self.now) (table_in self.now) (map (λ k. k.now) known.now)) }
+        ensures { IsAnswer (λ _. tt) result (no_others (path_in self.now) (table_in self.now)
+            (map (λ k. k.now) known.now)) }
     {
         for key in self.table.keys() {
             if !is_known(known, key.as_str()) {

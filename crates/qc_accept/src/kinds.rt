@@ -9,7 +9,9 @@ ghost use Rattle.qc_list.specs.Results.{and_then};
 ghost use Rattle.qc_accept.specs.Answers.{IsAnswer, IsReading};
 ghost use Rattle.qc_accept.specs.Certificates.{certificate_of, rest_of};
 ghost use Rattle.qc_accept.specs.Fields.{name_among, names as names_of};
-ghost use Rattle.qc_accept.specs.Types.{AreFew, AreSome, TypeOf, name_at, relation as relation_in, rows as rows_of, table_of, triples as triples_of, type_of, types_of, with_type, words as words_of};
+ghost use Rattle.qc_accept.specs.Types.{AreFew, AreSome, TypeOf, name_at, relation as relation_in, rows as rows_of};
+ghost use Rattle.qc_accept.specs.Types.{table_of, triples as triples_of, type_of, types_of, with_type};
+ghost use Rattle.qc_accept.specs.Types.{words as words_of};
 ghost use Rattle.qc_accept.specs.Views.{events_in, names_in, path_in, table_in, type_in, types_in, words_in};
 
 use crate::fault::{DeclFault, Wrong};
@@ -114,7 +116,8 @@ fn read_type<'a>(
     names: &Index<'a>,
 ) -> Result<TypeRead<'a>, DeclFault>
     requires { place < length (names_in names.now) }
-    ensures { IsAnswer type_in result (type_of (path_in fields.now) (table_in fields.now) place (name_at (names_in names.now) place)) }
+    ensures { IsAnswer type_in result (type_of (path_in fields.now)
+        (table_in fields.now) place (name_at (names_in names.now) place)) }
 {
     let words = read_words(fields)?;
     let table = read_table(fields, place, names, &words)?;
@@ -129,7 +132,8 @@ fn read_rest<'a>(
 ) -> Result<TypeRead<'a>, DeclFault>
     requires words { AreFew (words_in words) }
     requires events { length (events_of table.rows) ≤ most_events }
-    ensures { IsAnswer type_in result (rest_of (path_in fields.now) (table_in fields.now) (words_in words.entry) table) }
+    ensures { IsAnswer type_in result (rest_of (path_in fields.now) (table_in fields.now)
+        (words_in words.entry) table) }
 {
     let events = Events::of(fields.alloc, &table)?;
     let certificate = read_certificate(fields, &words, &events)?;
@@ -150,7 +154,8 @@ fn read_certificate(
 ) -> Result<Certificate, DeclFault>
     requires words { AreFew (words_in words.now) }
     requires events { length (events_in events.now) ≤ most_events }
-    ensures { IsAnswer (λ c. c) result (certificate_of (path_in fields.now) (table_in fields.now) (words_in words.now) (events_in events.now)) }
+    ensures { IsAnswer (λ c. c) result (certificate_of (path_in fields.now) (table_in fields.now)
+        (words_in words.now) (events_in events.now)) }
 {
     let relation = read_relation(fields, words, events)?;
     let triples = read_triples(fields, words, events)?;
@@ -168,7 +173,8 @@ fn read_table(
     requires place { place < length (names_in names.now) }
     requires words { AreSome (words_in words.now) }
     requires few { AreFew (words_in words.now) }
-    ensures { IsAnswer (λ table. table) result (and_then (table_of place (name_at (names_in names.now) place) (words_in words.now)) (rows_of (path_in fields.now) (table_in fields.now) (words_in words.now))) }
+    ensures { IsAnswer (λ table. table) result (and_then (table_of place (name_at (names_in names.now) place)
+        (words_in words.now)) (rows_of (path_in fields.now) (table_in fields.now) (words_in words.now))) }
 {
     let items = fields.items("rows", 0, MOST_ROWS)?;
     let rows = fields.told("rows", rows::rows(fields.alloc, words, items))?;
@@ -183,7 +189,8 @@ fn read_relation(
 ) -> Result<Relation, DeclFault>
     requires words { AreFew (words_in words.now) }
     requires events { length (events_in events.now) ≤ most_events }
-    ensures { IsAnswer (λ r. r) result (relation_in (path_in fields.now) (table_in fields.now) (words_in words.now) (events_in events.now)) }
+    ensures { IsAnswer (λ r. r) result (relation_in (path_in fields.now) (table_in fields.now) (words_in words.now)
+        (events_in events.now)) }
 {
     let items = fields.optional("depends")?;
     let read = certificates::relation(fields.alloc, words, events, items);
@@ -198,7 +205,8 @@ fn read_triples(
 ) -> Result<List<Triple>, DeclFault>
     requires words { AreFew (words_in words.now) }
     requires events { length (events_in events.now) ≤ most_events }
-    ensures { IsAnswer (λ ts. ts) result (triples_of (path_in fields.now) (table_in fields.now) (words_in words.now) (events_in events.now)) }
+    ensures { IsAnswer (λ ts. ts) result (triples_of (path_in fields.now) (table_in fields.now) (words_in words.now)
+        (events_in events.now)) }
 {
     let items = fields.optional("triples")?;
     let read = certificates::triples(fields.alloc, words, events, items);
@@ -249,7 +257,8 @@ fn table_of(
     requires words { AreSome (words_in words.now) }
     requires few { AreFew (words_in words.now) }
     requires rows { length rows.now ≤ most_rows }
-    ensures { IsAnswer (λ table. table) result (table_of kind (name_at (names_in names.now) kind) (words_in words.now) rows.now) }
+    ensures { IsAnswer (λ table. table) result (table_of kind (name_at (names_in names.now) kind)
+        (words_in words.now) rows.now) }
 {
     let made = Table::new(
         alloc,
@@ -302,7 +311,9 @@ pub(crate) fn sort_types(alloc: Global, types: Types<'_>) -> Result<Sorted, OutO
 impl Sorted {
     /// Adds a type.
     fn add(&mut self, alloc: Global, read: TypeRead<'_>, name: Name) -> Result<(), OutOfMemory>
-        ensures { OnOk result ((self.new.kinds ≡ self.old.kinds ++ read.entry.kind ∷ []) × (self.new.names ≡ self.old.names ++ kind_names name (type_in read.entry) ∷ []) × (self.new.triples ≡ self.old.triples ++ read.entry.triples ∷ [])) }
+        ensures { OnOk result ((self.new.kinds ≡ self.old.kinds ++ read.entry.kind ∷ [])
+            × (self.new.names ≡ self.old.names ++ kind_names name (type_in read.entry) ∷ [])
+            × (self.new.triples ≡ self.old.triples ++ read.entry.triples ∷ [])) }
     {
         let TypeRead {
             words,
@@ -319,7 +330,12 @@ impl Sorted {
 impl Words<'_> {
     /// The names of the type of this name.
     fn names(&self, alloc: Global, name: Name) -> Result<KindNames, OutOfMemory>
-        ensures { IfOk result (λ n. n ≡ record { name = name; states = names_in self.now.states; invs = names_in self.now.invs; resps = names_in self.now.resps }) }
+        ensures { IfOk result (λ n. n ≡ record {
+          name = name;
+          states = names_in self.now.states;
+          invs = names_in self.now.invs;
+          resps = names_in self.now.resps;
+        }) }
     {
         Ok(KindNames {
             name,

@@ -53,6 +53,7 @@ pub fn thresholds_are_their_texts()
 /// Nothing else is asked of a declaration: one whose fields are read, whose
 /// types' triples are inductive and whose plans are admitted is accepted.
 pub fn sufficient_declarations_are_accepted()
-    ensures { (bytes : List ℕ) (table : Members) (draft : DraftOf) → document_of bytes ≡ Ok table → draft_of table ≡ Ok draft
+    ensures { (bytes : List ℕ) (table : Members) (draft : DraftOf) → document_of bytes ≡ Ok table
+        → draft_of table ≡ Ok draft
         → AreInductive draft → AreAdmitted draft → accepted bytes ≡ Ok draft.decl }
 {}

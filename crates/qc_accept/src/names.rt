@@ -50,7 +50,8 @@ impl<'a> Index<'a> {
 
     /// Adds a text, and tells whether it is new.
     fn insert(&mut self, text: &'a str) -> Result<bool, OutOfMemory>
-        ensures { IfOk result (λ is_new. (is_new ≡ not (list_any (bytes_eq text.now) (names_in self.old))) × (names_in self.new ≡ (if is_new then names_in self.old ++ text.now ∷ [] else names_in self.old))) }
+        ensures { IfOk result (λ is_new. (is_new ≡ not (list_any (bytes_eq text.now) (names_in self.old)))
+            × (names_in self.new ≡ (if is_new then names_in self.old ++ text.now ∷ [] else names_in self.old))) }
     {
         Ok(self.texts.insert(text)?)
     }

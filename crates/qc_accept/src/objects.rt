@@ -55,7 +55,8 @@ fn add_object<'a>(
 ) -> Result<(), DeclFault>
     requires types { length (names_in types.now) ≤ 256 }
     requires names { length (names_in objects.old.names) < most_objects }
-    ensures { IsAnswer (λ _. objects_in objects.new) result (with_object (names_in types.now) (objects_in objects.old) (view item.now)) }
+    ensures { IsAnswer (λ _. objects_in objects.new) result (with_object (names_in types.now)
+        (objects_in objects.old) (view item.now)) }
 {
     let fields = Fields::of_item(alloc, "object", objects.names.count(), item)?;
     let name = fields.required("name")?;

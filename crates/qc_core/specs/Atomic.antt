@@ -1,4 +1,5 @@
--- Hybrid atomicity (Weihl 1989, Herlihy 1986): transactions are serializable in the order of their commit stamps, with the replies that their clients got.
+-- Hybrid atomicity (Weihl 1989, Herlihy 1986): transactions are serializable in the order of their commit stamps, with
+-- the replies that their clients got.
 use Rattle.std.specs.Prelude.{◌≡◌, ◌≢◌, ℕ, ◌<◌, List}
 use Rattle.std.specs.declared.cmp.Ordering.TheVariants.{Less}
 use Rattle.qc_stamp.specs.declared.stamp.Stamp.{Stamp}
@@ -32,9 +33,12 @@ pub record HasCommit (commits : List Commit) (tx : TxId) (stamp : Stamp) : Type 
 
 -- what clients were told of their transactions' ends agrees with the records
 pub record AreTold (decl : Declaration) (commits : List Commit) (h : List Entry) : Type 0 where
-  pub committed : (client : ℕ) (tx : TxId) (stamp : Stamp) → client < decl.clients → In (Committed stamp) (endings decl h client tx) → HasCommit commits tx stamp
-  pub aborted : (client : ℕ) (tx : TxId) (why : Why) (c : Commit) → client < decl.clients → In (Aborted why) (endings decl h client tx) → In c commits → c.tx ≢ tx
-  pub dropped : (client : ℕ) (tx : TxId) (c : Commit) → client < decl.clients → In Dropped (endings decl h client tx) → In c commits → c.tx ≢ tx
+  pub committed : (client : ℕ) (tx : TxId) (stamp : Stamp) → client < decl.clients
+      → In (Committed stamp) (endings decl h client tx) → HasCommit commits tx stamp
+  pub aborted : (client : ℕ) (tx : TxId) (why : Why) (c : Commit) → client < decl.clients
+      → In (Aborted why) (endings decl h client tx) → In c commits → c.tx ≢ tx
+  pub dropped : (client : ℕ) (tx : TxId) (c : Commit) → client < decl.clients
+      → In Dropped (endings decl h client tx) → In c commits → c.tx ≢ tx
   pub each : (c : Commit) → In c commits → In (Committed c.stamp) (endings decl h c.tx.client c.tx)
 
 pub record Atomic (decl : Declaration) (h : List Entry) : Type 0 where
@@ -45,6 +49,7 @@ pub record Atomic (decl : Declaration) (h : List Entry) : Type 0 where
   -- with just the replies that the clients got
   pub dealt : (c : Commit) → In c (committed decl h) → c.ops ≡ deals decl h c.tx
   -- each after all that its client had seen
-  pub seen : (c : Commit) (tx : TxId) → In c (committed decl h) → In tx (seen decl h c.tx) → tx ≢ c.tx → HasBefore (committed decl h) tx c.stamp
+  pub seen : (c : Commit) (tx : TxId) → In c (committed decl h) → In tx (seen decl h c.tx) → tx ≢ c.tx
+      → HasBefore (committed decl h) tx c.stamp
   -- and their clients know which of them committed
   pub told : AreTold decl (committed decl h) h

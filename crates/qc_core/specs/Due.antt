@@ -1,5 +1,7 @@
 -- Each reply that a client tells is due: what happened at the client before it shows what a reply of its kind says.
-use Rattle.std.specs.Prelude.{◌≡◌, ◌⊎◌, ℕ, ◌+◌, ◌-◌, ◌==◌, ◌<◌, ◌≤◌, ◌&&◌, not, if◌then◌else◌, List, [], ◌∷◌, ◌++◌, Bool, true, false, Option, Some, None, cond, fold, length, map, max, nat_lt, option_and_then, option_to_list, slice_get}
+use Rattle.std.specs.Prelude.{◌≡◌, ◌⊎◌, ℕ, ◌+◌, ◌-◌, ◌==◌, ◌<◌, ◌≤◌, ◌&&◌, not, if◌then◌else◌, List, [], ◌∷◌, ◌++◌}
+use Rattle.std.specs.Prelude.{Bool, true, false, Option, Some, None, cond, fold, length, map, max, nat_lt}
+use Rattle.std.specs.Prelude.{option_and_then, option_to_list, slice_get}
 use Rattle.std.specs.List.{filter_map}
 use Rattle.std.specs.Option.{option_map_or}
 use Rattle.qc_stamp.specs.declared.stamp.Stamp.{Stamp}
@@ -19,7 +21,8 @@ use Rattle.qc_msg.specs.declared.step.Command.TheVariants as commands
 use Rattle.qc_msg.specs.declared.step.Record.{Record}
 use Rattle.qc_msg.specs.declared.step.Record.TheVariants as records
 use Rattle.qc_msg.specs.declared.step.Reply.{Reply}
-use Rattle.qc_msg.specs.declared.step.Reply.TheVariants.{Already, Began, NoTransaction, TooLong, Absent, Response, Aborted, Committed, Dropped}
+use Rattle.qc_msg.specs.declared.step.Reply.TheVariants.{Already, Began, NoTransaction, TooLong, Absent, Response}
+use Rattle.qc_msg.specs.declared.step.Reply.TheVariants.{Aborted, Committed, Dropped}
 use Rattle.qc_msg.specs.declared.step.Step.{Step}
 use Rattle.qc_msg.specs.declared.step.Step.TheVariants.{Called, Got, Wrote, Sent, Told}
 use Rattle.qc_msg.specs.declared.step.Why.{Why}
@@ -35,7 +38,8 @@ use Rattle.qc_core.specs.Deals.{is_begun, operation}
 use Rattle.qc_onecopy.specs.OneCopy.{Walks, operations, start_at}
 use Rattle.qc_core.specs.Order.{EachAfter}
 
--- what happens at an actor: it calls a command, takes a message, writes a record, sends a message of this number, tells a reply
+-- what happens at an actor: it calls a command, takes a message, writes a record, sends a message of this number, tells
+-- a reply
 pub data Happening : Type 0 where
   Calls : (command : Command) → Happening
   Takes : (message : Message) → Happening
@@ -56,10 +60,12 @@ happening_at ms (Sent n to message) = Sends n to message ∷ []
 happening_at ms (Told reply) = Tells reply ∷ []
 happening_at ms _ = []
 
--- what happens at an actor in a history, each message that it takes looked up among those sent before: ms, and those of the history
+-- what happens at an actor in a history, each message that it takes looked up among those sent before: ms, and those of
+-- the history
 abbrev pub happenings : ℕ → List Envelope → List Entry → List Happening
 happenings a ms [] = []
-happenings a ms (e ∷ h) = cond (e.actor == a) (happening_at ms e.step) [] ++ happenings a (ms ++ option_to_list (envelope_of e)) h
+happenings a ms (e ∷ h) = cond (e.actor == a) (happening_at ms e.step) []
+    ++ happenings a (ms ++ option_to_list (envelope_of e)) h
 
 -- what has happened at a client so far
 pub record Account : Type 0 where
@@ -77,23 +83,40 @@ pub record Account : Type 0 where
   pub life : ℕ
   -- the greatest clock of the answers that counted and of its own stamps
   pub clock : ℕ
-  -- its request to read or append that isn't answered, whether that is to read, and whether it is for the begun transaction and the
-  -- invocation that it was asked
+  -- its request to read or append that isn't answered, whether that is to read, and whether it is for the begun
+  -- transaction and the invocation that it was asked
   pub request : Option ℕ
   pub reading : Bool
   pub apt : Bool
   -- its request to promise the begun transaction that isn't answered, and the site that it asked last
   pub vote : Option ℕ
   pub voter : ℕ
-  -- since its last command: how many grants counted that read for it, and that append for it; which answer counted last; and the commit
-  -- record that it wrote
+  -- since its last command: how many grants counted that read for it, and that append for it; which answer counted
+  -- last; and the commit record that it wrote
   pub reads : ℕ
   pub appends : ℕ
   pub answer : Option Message
   pub wrote : Option Commit
 
 abbrev pub no_account : Account
-no_account = record { asked = None; count = 0; begun = None; ops = []; view = []; life = 0; clock = 0; request = None; reading = false; apt = false; vote = None; voter = 0; reads = 0; appends = 0; answer = None; wrote = None }
+no_account = record {
+  asked = None;
+  count = 0;
+  begun = None;
+  ops = [];
+  view = [];
+  life = 0;
+  clock = 0;
+  request = None;
+  reading = false;
+  apt = false;
+  vote = None;
+  voter = 0;
+  reads = 0;
+  appends = 0;
+  answer = None;
+  wrote = None;
+}
 
 -- the command is to execute this invocation of an object; it is on this object
 
@@ -119,14 +142,20 @@ account_taken d (Granted to life clock log) =
       view = if d.reading then union d.view log else d.view;
     }
     else d
-account_taken d (Yes to clock) = if is_awaited d.vote to then record d { vote = None; answer = Some (Yes to clock); clock = max d.clock clock } else d
+account_taken d (Yes to clock) = if is_awaited d.vote to
+    then record d { vote = None; answer = Some (Yes to clock); clock = max d.clock clock } else d
 account_taken d (Stale to) = if is_awaited d.vote to then record d { vote = None; answer = Some (Stale to) } else d
 account_taken d _ = d
 
 abbrev pub account_sent : Account → ℕ → ℕ → Message → Account
-account_sent d n to (Read tx epoch life object inv) = record d { request = Some n; reading = true; apt = is_begun tx d.begun && is_to_execute d.asked object inv }
-account_sent d n to (Append tx epoch life object view own) = record d { request = Some n; reading = false; apt = is_begun tx d.begun && is_on d.asked object }
-account_sent d n to (Prepare tx epoch life) = record d { vote = if is_begun tx d.begun then Some n else None; voter = to }
+account_sent d n to (Read tx epoch life object inv) =
+    record d { request = Some n; reading = true; apt = is_begun tx d.begun && is_to_execute d.asked object inv }
+account_sent d n to (Append tx epoch life object view own) =
+    record d { request = Some n; reading = false; apt = is_begun tx d.begun && is_on d.asked object }
+account_sent d n to (Prepare tx epoch life) = record d {
+  vote = if is_begun tx d.begun then Some n else None;
+  voter = to;
+}
 account_sent d n to _ = d
 
 abbrev pub account_wrote : Account → Record → Account
@@ -170,11 +199,13 @@ own_events decl ops object = filter_map (event_on decl object) ops
 
 -- the object's state after its view: after the lines of the grants, and then after the transaction's own operations
 abbrev pub state_viewed : Declaration → Account → ℕ → Rules → Option ℕ
-state_viewed decl d object rules = after (step_of rules.rows) rules.start (map (λ (l : Line). l.event) (of_object d.view object) ++ own_events decl d.ops object)
+state_viewed decl d object rules = after (step_of rules.rows) rules.start (map (λ (l : Line). l.event)
+    (of_object d.view object) ++ own_events decl d.ops object)
 
 -- the first response that is legal there, or none
 abbrev pub response : Declaration → Account → ℕ → ℕ → Option ℕ
-response decl d object inv = option_and_then (λ (rules : Rules). option_and_then (λ (state : ℕ). lowest_in rules.rows state inv) (state_viewed decl d object rules)) (table_at decl object)
+response decl d object inv = option_and_then (λ (rules : Rules). option_and_then
+    (λ (state : ℕ). lowest_in rules.rows state inv) (state_viewed decl d object rules)) (table_at decl object)
 
 -- how many grants a weight needs: one where it is above 0, since each round asks one site, which has all weight
 abbrev pub rounds : ℕ → ℕ
@@ -182,7 +213,8 @@ rounds weight = if nat_lt 0 weight then 1 else 0
 
 abbrev pub append_rounds : Declaration → ℕ → ℕ → Option ℕ → ℕ
 append_rounds decl object inv None = 0
-append_rounds decl object inv (Some resp) = option_map_or (λ (e : ℕ). rounds (append_need_of decl first_epoch object e)) (event_at decl object inv resp) 0
+append_rounds decl object inv (Some resp) = option_map_or
+    (λ (e : ℕ). rounds (append_need_of decl first_epoch object e)) (event_at decl object inv resp) 0
 
 -- it was asked to execute an invocation
 abbrev pub IsDo : Option Command → Type 0
@@ -242,7 +274,8 @@ abbrev pub IsDue : Declaration → ℕ → Account → Reply → Type 0
 -- one is begun
 IsDue decl client d (Already tx) = (d.asked ≡ Some commands.Begin) × (d.begun ≡ Some tx)
 -- none was begun, and the client's next one begins
-IsDue decl client d (Began tx) = (d.asked ≡ Some commands.Begin) × (d.begun ≡ None) × (tx ≡ record { client = client; life = first_life; number = d.count + 1 })
+IsDue decl client d (Began tx) = (d.asked ≡ Some commands.Begin) × (d.begun ≡ None)
+    × (tx ≡ record { client = client; life = first_life; number = d.count + 1 })
 -- none is begun
 IsDue decl client d NoTransaction = NeedsBegun d.asked × (d.begun ≡ None)
 -- it has no room for an operation
@@ -269,7 +302,8 @@ IsDueAt decl before actor reply = IsDue decl (actor - decl.sites) (account actor
 abbrev pub Due : Declaration → List Entry → Type 0
 Due decl h = EachReply (IsDueAt decl) [] h
 
--- the operation that is asked, with this response or none, goes on with one copy of each object, behind the committed ones and its own transaction's
+-- the operation that is asked, with this response or none, goes on with one copy of each object, behind the committed
+-- ones and its own transaction's
 abbrev pub IsLegal : Declaration → List Commit → Account → Option ℕ → Type 0
 IsLegal decl commits d resp = Walks decl (start_at decl) (operations commits ++ (d.ops ++ operation d.asked resp))
 

@@ -1,5 +1,6 @@
 -- What a transaction's client had seen of other transactions, by the end of this one.
-use Rattle.std.specs.Prelude.{ℕ, ◌==◌, Bool, not, if◌then◌else◌, List, [], ◌∷◌, ◌++◌, Option, Some, None, fold, filter, map}
+use Rattle.std.specs.Prelude.{ℕ, ◌==◌, Bool, not, if◌then◌else◌, List, [], ◌∷◌, ◌++◌, Option, Some, None, fold, filter}
+use Rattle.std.specs.Prelude.{map}
 use Rattle.std.specs.List.{list_any}
 use Rattle.qc_stamp.specs.declared.stamp.TxId.{TxId}
 use Rattle.qc_entry.specs.declared.line.Line.{Line}
@@ -22,7 +23,8 @@ pub record Sight : Type 0 where
   pub waiting : List ℕ
   -- the transactions with a line in a grant that counted, and those it was told that they committed
   pub known : List TxId
-  -- those of them that it knew as the one transaction began, and those with a line in a grant that counted since, until that one ended
+  -- those of them that it knew as the one transaction began, and those with a line in a grant that counted since, until
+  -- that one ended
   pub seen : List TxId
 
 -- the transactions of the lines join
@@ -37,7 +39,8 @@ abbrev pub answered : Sight → ℕ → Sight
 answered s to = record s { waiting = filter (λ n. not (n == to)) s.waiting }
 
 abbrev pub sight_taken : TxId → Sight → Message → Sight
-sight_taken tx s (Granted to life clock log) = if waits s to then sees tx (answered s to) (map (λ (l : Line). l.tx) log) else s
+sight_taken tx s (Granted to life clock log) = if waits s to
+    then sees tx (answered s to) (map (λ (l : Line). l.tx) log) else s
 sight_taken tx s (Stale to) = answered s to
 sight_taken tx s (Yes to clock) = answered s to
 sight_taken tx s _ = s
@@ -63,6 +66,7 @@ sight tx s _ = s
 abbrev pub no_sight : Sight
 no_sight = record { begun = None; waiting = []; known = []; seen = [] }
 
--- the transactions that a transaction's client had seen: before it began, by counted grants and by replies, and by counted grants until it ended
+-- the transactions that a transaction's client had seen: before it began, by counted grants and by replies, and by
+-- counted grants until it ended
 abbrev pub seen : Declaration → List Entry → TxId → List TxId
 seen decl h tx = (fold (sight tx) no_sight (acts (client_actor decl tx.client) [] h)).seen

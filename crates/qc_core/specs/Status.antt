@@ -23,7 +23,8 @@ abbrev pub given_up : Status → Status
 given_up Begun = Dead
 given_up s = s
 
--- one step of its client more: it begins, its record is written, its sites are told that it is given up, its client is told so
+-- one step of its client more: it begins, its record is written, its sites are told that it is given up, its client is
+-- told so
 abbrev pub status_at : TxId → Status → Step → Status
 status_at tx s (Told (replies.Began other)) = if same_tx other tx then Begun else s
 status_at tx s (Wrote (records.Commit c)) = if same_tx c.tx tx then Committed c.stamp else s
@@ -36,8 +37,8 @@ status_at tx s _ = s
 abbrev pub status : Declaration → List Entry → TxId → Status
 status decl h tx = fold (status_at tx) Unborn (own (client_actor decl tx.client) h)
 
--- a step is right for a transaction that is so far: only an unborn one begins; only a begun one gets a record, or is given up;
--- and the sites are told that it committed, with its stamp, only once it has
+-- a step is right for a transaction that is so far: only an unborn one begins; only a begun one gets a record, or is
+-- given up; and the sites are told that it committed, with its stamp, only once it has
 abbrev pub IsRight : TxId → Status → Step → Type 0
 IsRight tx s (Told (replies.Began other)) = same_tx other tx ≡ true → s ≡ Unborn
 IsRight tx s (Wrote (records.Commit c)) = same_tx c.tx tx ≡ true → s ≡ Begun
@@ -47,7 +48,8 @@ IsRight tx s _ = Unit {0}
 
 -- an entry is right for each transaction of its actor
 abbrev pub IsRightAfter : Declaration → List Entry → Entry → Type 0
-IsRightAfter decl before e = (tx : TxId) → e.actor ≡ client_actor decl tx.client → IsRight tx (status decl before tx) e.step
+IsRightAfter decl before e = (tx : TxId) → e.actor ≡ client_actor decl tx.client
+    → IsRight tx (status decl before tx) e.step
 
 -- the transaction has ended
 abbrev pub HasEnded : Status → Type 0

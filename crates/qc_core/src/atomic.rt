@@ -30,21 +30,24 @@ ghost use Rattle.qc_stamp.specs.declared.stamp.TxId.{TxId};
 /// their clients got; each comes after all that its client had seen; and the
 /// clients know which committed.
 pub fn runs_are_atomic()
-    ensures { (decl : Declaration) (script : Script) (h : List Entry) → IsAccepted decl → decl.sites ≡ 1 → AsksOnly (client_actor decl 0) script
+    ensures { (decl : Declaration) (script : Script) (h : List Entry) → IsAccepted decl → decl.sites ≡ 1
+        → AsksOnly (client_actor decl 0) script
         → IsRun decl script h → Kept h → Atomic decl h }
 {}
 
 /// In every such run the commit records have rising stamps, in the order in
 /// which they were written.
 pub fn commit_stamps_rise()
-    ensures { (decl : Declaration) (script : Script) (h : List Entry) → IsAccepted decl → decl.sites ≡ 1 → AsksOnly (client_actor decl 0) script
+    ensures { (decl : Declaration) (script : Script) (h : List Entry) → IsAccepted decl → decl.sites ≡ 1
+        → AsksOnly (client_actor decl 0) script
         → IsRun decl script h → AreRising (written decl h) }
 {}
 
 /// In every such run each line of the site's log is an operation of a committed
 /// transaction, with its stamp.
 pub fn logs_have_committed_operations()
-    ensures { (decl : Declaration) (script : Script) (h : List Entry) → IsAccepted decl → decl.sites ≡ 1 → AsksOnly (client_actor decl 0) script
+    ensures { (decl : Declaration) (script : Script) (h : List Entry) → IsAccepted decl → decl.sites ≡ 1
+        → AsksOnly (client_actor decl 0) script
         → IsRun decl script h → Every (IsLogged decl (committed decl h)) (site_at 0 h).site.log }
 {}
 
@@ -53,7 +56,8 @@ pub fn logs_have_committed_operations()
 /// sites are told only of a verdict that is its status. So each transaction
 /// begins once, has one record at most, and a verdict that was sent is final.
 pub fn transactions_move_on()
-    ensures right { (decl : Declaration) (script : Script) (h : List Entry) → IsRun decl script h → EachAfter (IsRightAfter decl) [] h }
+    ensures right { (decl : Declaration) (script : Script) (h : List Entry) → IsRun decl script h
+        → EachAfter (IsRightAfter decl) [] h }
     ensures last { (tx : TxId) (s : Status) (step : Step) → HasEnded s → IsRight tx s step → status_at tx s step ≡ s }
 {}
 
@@ -62,7 +66,8 @@ pub fn transactions_move_on()
 /// with the record's stamp, for ever. So no transaction that was given up has
 /// one.
 pub fn records_are_the_verdicts()
-    ensures { (decl : Declaration) (script : Script) (h : List Entry) → IsAccepted decl → decl.sites ≡ 1 → AsksOnly (client_actor decl 0) script
+    ensures { (decl : Declaration) (script : Script) (h : List Entry) → IsAccepted decl → decl.sites ≡ 1
+        → AsksOnly (client_actor decl 0) script
         → IsRun decl script h → (c : Commit) → In c (committed decl h) → status decl h c.tx ≡ Committed c.stamp }
 {}
 

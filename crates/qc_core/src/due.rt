@@ -22,6 +22,7 @@ pub fn replies_are_due()
 /// each object, behind all committed operations and those of its own
 /// transaction, also where that doesn't commit.
 pub fn replies_are_legal()
-    ensures { (decl : Declaration) (script : Script) (h : List Entry) → IsAccepted decl → decl.sites ≡ 1 → AsksOnly (client_actor decl 0) script
+    ensures { (decl : Declaration) (script : Script) (h : List Entry) → IsAccepted decl → decl.sites ≡ 1
+        → AsksOnly (client_actor decl 0) script
         → IsRun decl script h → AreLegal decl h }
 {}

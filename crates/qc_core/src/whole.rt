@@ -32,7 +32,8 @@ pub fn calls_are_replied()
 
 /// In every run no more phases begin than the script has.
 pub fn phases_are_the_scripts()
-    ensures { (decl : Declaration) (script : Script) (h : List Entry) → IsRun decl script h → phase_of h ≤ length script.phases }
+    ensures { (decl : Declaration) (script : Script) (h : List Entry) → IsRun decl script h
+        → phase_of h ≤ length script.phases }
 {}
 
 /// A site answers a client's request by one message to its sender, which is the
@@ -45,12 +46,14 @@ pub fn requests_are_answered()
 /// With one site, in every run without an open input in which nothing is ready
 /// for any actor, no command waits for its reply.
 pub fn commands_end()
-    ensures { (decl : Declaration) (script : Script) (h : List Entry) → decl.sites ≡ 1 → IsClosed decl script h → IsQuiet decl script h
+    ensures { (decl : Declaration) (script : Script) (h : List Entry) → decl.sites ≡ 1 → IsClosed decl script h
+        → IsQuiet decl script h
         → (a : ℕ) → is_client decl a ≡ true → is_busy a h ≡ false }
 {}
 
 /// Such a run is whole where no phase is left.
 pub fn runs_are_whole()
-    ensures { (decl : Declaration) (script : Script) (h : List Entry) → decl.sites ≡ 1 → IsClosed decl script h → IsQuiet decl script h
+    ensures { (decl : Declaration) (script : Script) (h : List Entry) → decl.sites ≡ 1 → IsClosed decl script h
+        → IsQuiet decl script h
         → length script.phases ≤ phase_of h → IsWhole decl script h }
 {}

@@ -13,7 +13,8 @@ kind_at decl object = option_and_then (slice_get decl.kinds) (slice_get decl.obj
 
 -- the table of an object's type, or none where the object isn't declared
 abbrev pub table_at : Declaration → ℕ → Option Rules
-table_at decl object = option_and_then (λ kind. option_map (λ (k : Kind). k.table) (slice_get decl.kinds kind)) (slice_get decl.objects object)
+table_at decl object = option_and_then (λ kind. option_map (λ (k : Kind). k.table) (slice_get decl.kinds kind))
+    (slice_get decl.objects object)
 
 -- the plan of an epoch, from epoch 1
 abbrev pub plan_in : Declaration → ℕ → Option Plan
@@ -25,4 +26,5 @@ read_need_of decl epoch object inv = option_map_or (λ (p : Plan). need_of p.ini
 
 -- the weight that an append round needs in an epoch
 abbrev pub append_need_of : Declaration → ℕ → ℕ → ℕ → ℕ
-append_need_of decl epoch object event = option_map_or (λ (p : Plan). need_of p.last object event) (plan_in decl epoch) 0
+append_need_of decl epoch object event = option_map_or (λ (p : Plan). need_of p.last object event)
+    (plan_in decl epoch) 0

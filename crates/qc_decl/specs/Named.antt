@@ -11,7 +11,8 @@ place_of names name = position (bytes_eq name) names
 
 -- each name stands for its place, and for no other
 abbrev pub StandForPlaces : List (List ℕ) → Type 0
-StandForPlaces names = (name : List ℕ) (number : ℕ) → (place_of names name ≡ Some number) ↔ (slice_get names number ≡ Some name)
+StandForPlaces names = (name : List ℕ) (number : ℕ) → (place_of names name ≡ Some number)
+    ↔ (slice_get names number ≡ Some name)
 
 -- the number of the object of this name
 abbrev pub object_named : Declaration → List ℕ → Option ℕ
@@ -28,4 +29,5 @@ inv_named decl object name = option_and_then (λ (names : KindNames). place_of n
 -- there are no more names than the limits allow, so that each number fits a byte
 pub record IsNamed (decl : Declaration) : Type 0 where
   pub objects : length decl.object_names ≤ most_objects
-  pub invs : (number : ℕ) (names : KindNames) → slice_get decl.kind_names number ≡ Some names → length names.invs ≤ most_invocations
+  pub invs : (number : ℕ) (names : KindNames) → slice_get decl.kind_names number ≡ Some names
+      → length names.invs ≤ most_invocations

@@ -1,5 +1,5 @@
--- The built-in declarations: `@one` has one site, one client, and one register over 0 and 1; `@three` has three sites and
--- three clients, and each quorum is two of the sites.
+-- The built-in declarations: `@one` has one site, one client, and one register over 0 and 1; `@three` has three sites
+-- and three clients, and each quorum is two of the sites.
 use Rattle.std.specs.Prelude.{ℕ, List, [], ◌∷◌, Option, Some, None, cond, codes}
 use Rattle.std.specs.Str.{bytes_eq}
 use Rattle.qc_decl.specs.declared.declaration.KindNames.{KindNames}
@@ -38,7 +38,8 @@ register_names = record {
 
 -- R needs so much weight to read; W0:ok and W1:ok need it to append.
 abbrev pub register_plan : List ℕ → ℕ → Plan
-register_plan weights need = record { weights = weights; initial = (need ∷ 0 ∷ 0 ∷ []) ∷ []; last = (0 ∷ 0 ∷ need ∷ need ∷ []) ∷ [] }
+register_plan weights need =
+    record { weights = weights; initial = (need ∷ 0 ∷ 0 ∷ []) ∷ []; last = (0 ∷ 0 ∷ need ∷ need ∷ []) ∷ [] }
 
 -- the register on so many sites of these weights, with so many clients
 abbrev pub register_store : ℕ → List ℕ → ℕ → Declaration
@@ -60,4 +61,5 @@ three = register_store 3 (1 ∷ 1 ∷ 1 ∷ []) 2
 
 -- the built-in declaration of a name
 abbrev pub built_in_of : List ℕ → Option Declaration
-built_in_of name = cond (bytes_eq name (codes "@one")) (Some one) (cond (bytes_eq name (codes "@three")) (Some three) None)
+built_in_of name = cond (bytes_eq name (codes "@one")) (Some one)
+    (cond (bytes_eq name (codes "@three")) (Some three) None)

@@ -4,7 +4,8 @@ ghost use Rattle.std.specs.Prelude.{◌≡◌, [], ◌∷◌, map, IfOk, IfSome}
 ghost use Rattle.qc_decl.specs.Accepted.{IsAccepted};
 ghost use Rattle.qc_decl.specs.Named.{IsNamed};
 ghost use Rattle.qc_table.specs.Depends.{relation_of};
-ghost use Rattle.qc_decl.specs.One.{built_in_of, register, register_plan, register_store, register_names, register_pairs, register_rows, row as row_of};
+ghost use Rattle.qc_decl.specs.One.{built_in_of, register, register_plan, register_store, register_names};
+ghost use Rattle.qc_decl.specs.One.{register_pairs, register_rows, row as row_of};
 
 use crate::declaration::{Declaration, KindNames, Names};
 use qc_list::{List, Name, OutOfMemory};

@@ -25,8 +25,10 @@ called decl front Abort = aborts decl front front.begun
 abbrev pub heard : Declaration → Front → Message → FrontMove
 heard decl front (Granted to life clock log) =
     if is_awaited front.awaits to then granted decl front front.begun front.round life clock log else moved front quiet
-heard decl front (Yes to clock) = if is_awaited front.awaits to then promised decl front front.begun front.round clock else moved front quiet
-heard decl front (Stale to) = if is_awaited front.awaits to then forgotten decl front front.begun front.round else moved front quiet
+heard decl front (Yes to clock) = if is_awaited front.awaits to
+    then promised decl front front.begun front.round clock else moved front quiet
+heard decl front (Stale to) = if is_awaited front.awaits to then forgotten decl front front.begun front.round
+    else moved front quiet
 heard decl front (Read tx epoch life object inv) = moved front quiet
 heard decl front (Append tx epoch life object view own) = moved front quiet
 heard decl front (Prepare tx epoch life) = moved front quiet

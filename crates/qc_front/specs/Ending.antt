@@ -24,7 +24,8 @@ use Rattle.qc_stamp.specs.declared.stamp.Stamp.{Stamp}
 abbrev pub begins : Front → Option Begun → FrontMove
 begins front (Some begun) = moved front (telling (replies.Already begun.tx))
 begins front None =
-    moved (record front { count = front.count + 1; begun = Some (fresh (next_tx front)) }) (telling (replies.Began (next_tx front)))
+    moved (record front { count = front.count + 1; begun = Some (fresh (next_tx front)) })
+    (telling (replies.Began (next_tx front)))
 
 -- the site hears of the verdict if it was asked anything
 abbrev pub decision : ℕ → Begun → Outcome → List Posting
@@ -62,7 +63,8 @@ gives_up decl front (Some begun) reply =
 
 -- the site is asked to promise
 abbrev pub prepares : Declaration → Front → Begun → FrontMove
-prepares decl front begun = moved (turned front (Some begun) Voting) (asking (first_site decl front.client) (Prepare begun.tx first_epoch begun.life))
+prepares decl front begun = moved (turned front (Some begun) Voting)
+    (asking (first_site decl front.client) (Prepare begun.tx first_epoch begun.life))
 
 -- `commit`: a site that granted anything is asked to promise first
 abbrev pub commits : Declaration → Front → Option Begun → FrontMove

@@ -7,8 +7,10 @@ use Rattle.qc_front.specs.Moves.{FrontMove, moved}
 use Rattle.qc_front.specs.State.{front_sent, told_number}
 use Rattle.qc_msg.specs.Mail.{sendings}
 
--- the turn sends at most one message, and after one call with the number of the next message the client is as after each sending
+-- the turn sends at most one message, and after one call with the number of the next message the client is as after
+-- each sending
 pub record IsTold (decl : Declaration) (move : FrontMove) (first : ℕ) : Type 0 where
   pub few : length move.turn.sends ≤ 1
-  pub sent : fold (front_does decl) move (sendings first move.turn.sends) ≡ moved (front_sent move.front first) move.turn
+  pub sent : fold (front_does decl) move (sendings first move.turn.sends)
+      ≡ moved (front_sent move.front first) move.turn
   pub numbered : IsNumbered move.front.round (told_number move.front.round move.front.awaits first)

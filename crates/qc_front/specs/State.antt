@@ -18,7 +18,8 @@ most_operations = most_transaction_operations
 
 -- a client at the beginning
 abbrev pub new_front : ℕ → Front
-new_front client = record { client = client; clock = record { value = 0 }; count = 0; begun = None; round = Idle; awaits = None }
+new_front client =
+    record { client = client; clock = record { value = 0 }; count = 0; begun = None; round = Idle; awaits = None }
 
 -- a transaction at its beginning: nothing was seen or done yet
 abbrev pub fresh : TxId → Begun

@@ -82,7 +82,8 @@ impl Front {
     ) -> Result<Turn, OutOfMemory>
         requires sites { 0 < decl.now.sites }
         requires clock { clock.value < 2 ^ 63 }
-        ensures ok { IfOk result (λ turn. decides decl.now (record self.old { clock = clock }) self.old.begun ≡ moved self.new turn) }
+        ensures ok { IfOk result (λ turn. decides decl.now (record self.old { clock = clock }) self.old.begun
+            ≡ moved self.new turn) }
         ensures err { OnErr result (self.new ≡ self.old) }
     {
         let Some(begun) = &self.begun else {
@@ -143,7 +144,8 @@ impl Front {
         requires sites { 0 < decl.now.sites }
         requires own { self.old.clock.value < 2 ^ 63 }
         requires told { clock < 2 ^ 63 }
-        ensures ok { IfOk result (λ turn. promised decl.now self.old self.old.begun self.old.round clock ≡ moved self.new turn) }
+        ensures ok { IfOk result (λ turn. promised decl.now self.old self.old.begun self.old.round clock
+            ≡ moved self.new turn) }
         ensures err { OnErr result (self.new ≡ self.old) }
     {
         match self.round {
@@ -159,7 +161,8 @@ impl Front {
         decl: &Declaration,
     ) -> Result<Turn, OutOfMemory>
         requires { 0 < decl.now.sites }
-        ensures ok { IfOk result (λ turn. forgotten decl.now self.old self.old.begun self.old.round ≡ moved self.new turn) }
+        ensures ok { IfOk result (λ turn. forgotten decl.now self.old self.old.begun self.old.round
+            ≡ moved self.new turn) }
         ensures err { OnErr result (self.new ≡ self.old) }
     {
         let site = self.first_site(decl);

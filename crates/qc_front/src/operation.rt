@@ -4,7 +4,8 @@
 ghost use Rattle.std.specs.Prelude.{◌≡◌, ◌<◌, Some, IfOk, OnErr, length};
 ghost use Rattle.qc_front.specs.Fits.{FrontFits};
 ghost use Rattle.qc_front.specs.Moves.{moved};
-ghost use Rattle.qc_front.specs.Operation.{op_of, with_op, with_line, absent, responded, appends, answered, reads, executes, performs, met, joined, granted};
+ghost use Rattle.qc_front.specs.Operation.{op_of, with_op, with_line, absent, responded, appends, answered, reads};
+ghost use Rattle.qc_front.specs.Operation.{executes, performs, met, joined, granted};
 ghost use Rattle.qc_front.specs.State.{most_operations, passed};
 
 use crate::begun::Begun;
@@ -150,7 +151,8 @@ impl Front {
     ) -> Result<Turn, OutOfMemory>
         requires sites { 0 < decl.now.sites }
         requires room { length begun.ops < most_operations }
-        ensures ok { IfOk result (λ turn. answered decl.now (record self.old { clock = clock }) begun object inv ≡ moved self.new turn) }
+        ensures ok { IfOk result (λ turn. answered decl.now (record self.old { clock = clock }) begun object inv
+            ≡ moved self.new turn) }
         ensures err { OnErr result (self.new ≡ self.old) }
     {
         let Some(event) = begun.answer(decl, object, inv) else {
@@ -177,7 +179,9 @@ impl Front {
     ) -> Result<Turn, OutOfMemory>
         requires sites { 0 < decl.now.sites }
         requires room { length begun.ops < most_operations }
-        ensures ok { IfOk result (λ turn. appends decl.now (record self.old { clock = clock }) begun object inv event ≡ moved self.new turn) }
+        ensures ok { IfOk result
+            (λ turn. appends decl.now (record self.old { clock = clock }) begun object inv event
+            ≡ moved self.new turn) }
         ensures err { OnErr result (self.new ≡ self.old) }
     {
         let request = Message::Append {
@@ -206,7 +210,9 @@ impl Front {
         event: u8,
     ) -> Result<Turn, OutOfMemory>
         requires { length begun.ops < most_operations }
-        ensures ok { IfOk result (λ turn. responded decl.now (record self.old { clock = clock }) begun object inv event ≡ moved self.new turn) }
+        ensures ok { IfOk result
+            (λ turn. responded decl.now (record self.old { clock = clock }) begun object inv event
+            ≡ moved self.new turn) }
         ensures err { OnErr result (self.new ≡ self.old) }
     {
         let resp = response(decl, object, event);
@@ -231,7 +237,8 @@ impl Front {
     ) -> Result<Turn, OutOfMemory>
         requires sites { 0 < decl.now.sites }
         requires fits { FrontFits self.old }
-        ensures ok { IfOk result (λ turn. granted decl.now self.old self.old.begun self.old.round life clock log.now ≡ moved self.new turn) }
+        ensures ok { IfOk result (λ turn. granted decl.now self.old self.old.begun self.old.round life clock log.now
+            ≡ moved self.new turn) }
         ensures err { OnErr result (self.new ≡ self.old) }
     {
         let passed = self.passed(clock);

@@ -1,11 +1,13 @@
 //! The view of an object, and the event that it answers an invocation with.
 
-ghost use Rattle.std.specs.Prelude.{◌≡◌, ◌<◌, ◌==◌, Some, IfOk, if◌then◌else◌, length, map, option_map, slice_get, unwrap_or};
+ghost use Rattle.std.specs.Prelude.{◌≡◌, ◌<◌, ◌==◌, Some, IfOk, if◌then◌else◌, length, map, option_map, slice_get};
+ghost use Rattle.std.specs.Prelude.{unwrap_or};
 ghost use Rattle.qc_entry.specs.declared.line.Line.{Line};
 ghost use Rattle.qc_entry.specs.declared.line.OwnLine.{OwnLine};
 ghost use Rattle.qc_entry.specs.Log.{of_object};
 ghost use Rattle.qc_front.specs.State.{most_operations};
-ghost use Rattle.qc_front.specs.View.{own_on, state_seen, answer_of, resp_of, next_own, weighs, own_weighing, own_appended};
+ghost use Rattle.qc_front.specs.View.{own_on, state_seen, answer_of, resp_of, next_own, weighs, own_weighing};
+ghost use Rattle.qc_front.specs.View.{own_appended};
 ghost use Rattle.qc_table.specs.declared.row.Event.{Event};
 ghost use Rattle.qc_table.specs.Rules.{events_of};
 ghost use Rattle.qc_table.specs.Run.{step_of, next_state, reached, after};
@@ -70,7 +72,8 @@ impl Begun {
 
 /// The state after the object's committed lines.
 fn committed_state(table: &Table, lines: &[Line], object: u8) -> Option<u8>
-    ensures { result ≡ after (step_of table.now.rows) table.now.start (map (λ (l : Line). l.event) (of_object lines.now object)) }
+    ensures { result ≡ after (step_of table.now.rows) table.now.start (map (λ (l : Line). l.event)
+        (of_object lines.now object)) }
 {
     let mut state = Some(table.start());
     for line in lines {

@@ -1,5 +1,6 @@
 -- The messages of a history, and what an actor does in it.
-use Rattle.std.specs.Prelude.{◌≡◌, ℕ, ◌+◌, ◌==◌, List, [], ◌∷◌, ◌++◌, filter, Option, Some, None, cond, slice_get, option_to_list}
+use Rattle.std.specs.Prelude.{◌≡◌, ℕ, ◌+◌, ◌==◌, List, [], ◌∷◌, ◌++◌, filter, Option, Some, None, cond, slice_get}
+use Rattle.std.specs.Prelude.{option_to_list}
 use Rattle.std.specs.List.{filter_map}
 use Rattle.qc_msg.specs.declared.message.Envelope.{Envelope}
 use Rattle.qc_msg.specs.declared.step.Command.{Command}
@@ -25,7 +26,8 @@ mail h = filter_map envelope_of h
 -- the messages that an actor posts, numbered from n
 abbrev pub envelopes : ℕ → ℕ → List Posting → List Envelope
 envelopes from n [] = []
-envelopes from n (p ∷ ps) = record { number = n; from = from; to = p.to; message = p.message } ∷ envelopes from (n + 1) ps
+envelopes from n (p ∷ ps) =
+    record { number = n; from = from; to = p.to; message = p.message } ∷ envelopes from (n + 1) ps
 
 -- what an actor does: it takes a command, it takes a message, it sends a message of this number
 pub data Deed : Type 0 where
@@ -44,7 +46,8 @@ deed_at ms (Got n) = heard (slice_get ms n)
 deed_at ms (Sent n to message) = Sends n ∷ []
 deed_at ms _ = []
 
--- the deeds of an actor in a history, each message that it takes looked up among those sent before: ms, and those of the history
+-- the deeds of an actor in a history, each message that it takes looked up among those sent before: ms, and those of
+-- the history
 abbrev pub deeds : ℕ → List Envelope → List Entry → List Deed
 deeds a ms [] = []
 deeds a ms (e ∷ h) = cond (e.actor == a) (deed_at ms e.step) [] ++ deeds a (ms ++ option_to_list (envelope_of e)) h
@@ -76,4 +79,5 @@ AllTo a (e ∷ es) = (e.to ≡ a) × AllTo a es
 -- where the input is a message, it is the one that was sent to actor a under its number
 abbrev pub WasSentTo : ℕ → List Envelope → Given → Type 0
 WasSentTo a ms (given.Called command) = Unit {0}
-WasSentTo a ms (given.Got from number message) = slice_get ms number ≡ Some (record { number = number; from = from; to = a; message = message })
+WasSentTo a ms (given.Got from number message) = slice_get ms number
+    ≡ Some (record { number = number; from = from; to = a; message = message })

@@ -44,7 +44,8 @@ impl Turn {
         inbox: &mut VecDeque<Envelope>,
     ) -> Result<(), OutOfMemory>
         requires { first + length self.now.sends < 2 ^ 32 }
-        ensures ok { OnOk result (inbox.new.items ≡ inbox.old.items ++ addressed to (envelopes from first self.now.sends)) }
+        ensures ok { OnOk result (inbox.new.items ≡ inbox.old.items
+            ++ addressed to (envelopes from first self.now.sends)) }
         ensures err { OnErr result (inbox.new.items ≡ inbox.old.items) }
     {
         let mut copies = copies_to(alloc, from, first, to, self.sends.items())?;
@@ -132,7 +133,8 @@ fn add_copy(
     to: u8,
     posting: &Posting,
 ) -> Result<(), OutOfMemory>
-    ensures { OnOk result (copies.new.items ≡ copies.old.items ++ addressed to (envelopes from number (posting.now ∷ []))) }
+    ensures { OnOk result (copies.new.items ≡ copies.old.items
+        ++ addressed to (envelopes from number (posting.now ∷ []))) }
 {
     if posting.to == to {
         copies.push_back(Envelope {

@@ -1,6 +1,7 @@
 -- What must be known of the committed transactions' operations, so that they are those of one copy of each object. It
 -- knows no sites, locks, epochs, lives or messages.
-use Rattle.std.specs.Prelude.{◌≡◌, ◌≢◌, ℕ, ◌<◌, ◌==◌, Bool, IsTrue, ◌⊎◌, if◌then◌else◌, List, [], ◌∷◌, ◌++◌, map, Option, Some, None, IsSome}
+use Rattle.std.specs.Prelude.{◌≡◌, ◌≢◌, ℕ, ◌<◌, ◌==◌, Bool, IsTrue, ◌⊎◌, if◌then◌else◌, List, [], ◌∷◌, ◌++◌, map}
+use Rattle.std.specs.Prelude.{Option, Some, None, IsSome}
 use Rattle.qc_table.specs.declared.kind.Kind.{Kind}
 use Rattle.qc_cert.specs.Views.{IsView, picked}
 use Rattle.qc_entry.specs.declared.line.Line.{Line}
@@ -8,7 +9,8 @@ use Rattle.qc_entry.specs.declared.line.OwnLine.{OwnLine}
 use Rattle.qc_decl.specs.declared.declaration.Declaration.{Declaration}
 use Rattle.qc_onecopy.specs.Lists.{IsOrdered}
 use Rattle.qc_list.specs.Members.{In}
-use Rattle.qc_onecopy.specs.Executed.{Placed, IsAnswered, IsEarlier, IsOwnBefore, depends_at, events_seen, kind_at, line_of, own_line}
+use Rattle.qc_onecopy.specs.Executed.{Placed, IsAnswered, IsEarlier, IsOwnBefore, depends_at, events_seen, kind_at}
+use Rattle.qc_onecopy.specs.Executed.{line_of, own_line}
 
 -- the second is a later operation of the first one's transaction, on the same object
 pub record IsNext (a b : Placed) : Type 0 where

@@ -161,7 +161,11 @@ wanted r =
 abbrev pub asking_all : RoundState → List ℕ → RoundState
 asking_all r [] = r
 asking_all r (site ∷ sites) =
-    asking_all (record r { asked = r.asked ++ record { site = site; standing = None } ∷ []; rest = drop 1 r.rest }) sites
+    asking_all (record r {
+      asked = r.asked
+          ++ record { site = site; standing = None } ∷ [];
+      rest = drop 1 r.rest;
+    }) sites
 
 -- asking until no site is to be asked, so many times at most: the sites, and the round then
 

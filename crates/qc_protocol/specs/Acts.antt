@@ -7,7 +7,8 @@ use Rattle.qc_entry.specs.declared.record.Commit.{Commit as CommitRecord}
 use Rattle.qc_onecopy.specs.Executed.{Executed}
 use Rattle.qc_protocol.specs.Names.{put, put_tx}
 use Rattle.qc_protocol.specs.Site.{Deed, Grants, Prepares, LearnsCommit, LearnsAbort, Closes, Installs, Rises}
-use Rattle.qc_protocol.specs.State.{Status, NotBegun, Active, Voting, Pending, Committed, Aborted, AppendRequest, Granted, Verdict, Snapshot, Decision, State}
+use Rattle.qc_protocol.specs.State.{Status, NotBegun, Active, Voting, Pending, Committed, Aborted, AppendRequest}
+use Rattle.qc_protocol.specs.State.{Granted, Verdict, Snapshot, Decision, State}
 
 pub data Act : Type 0 where
   -- a client begins a transaction, in the epoch that it knows

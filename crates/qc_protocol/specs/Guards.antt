@@ -2,7 +2,8 @@
 -- site or client can see: what it did, what it has, and what was sent to it. Quorums are weighted votes (Gifford
 -- 1979); locks of reads and lines conflict by the relation of the object's type (Herlihy 1986); stamps are clocks
 -- with the client's number (Lamport 1978).
-use Rattle.std.specs.Prelude.{◌≡◌, ◌≢◌, ℕ, suc, ◌<◌, ◌≤◌, Bool, true, false, IsTrue, ◌==◌, ◌&&◌, ◌⊎◌, if◌then◌else◌, List, [], ◌∷◌, ◌++◌, map, length, Some, None, IsSome, is_some}
+use Rattle.std.specs.Prelude.{◌≡◌, ◌≢◌, ℕ, suc, ◌<◌, ◌≤◌, Bool, true, false, IsTrue, ◌==◌, ◌&&◌, ◌⊎◌, if◌then◌else◌}
+use Rattle.std.specs.Prelude.{List, [], ◌∷◌, ◌++◌, map, length, Some, None, IsSome, is_some}
 use Rattle.std.specs.Option.{option_map_or}
 use Rattle.qc_stamp.specs.declared.stamp.Stamp.{Stamp}
 use Rattle.qc_stamp.specs.declared.stamp.TxId.{TxId}
@@ -20,10 +21,29 @@ use Rattle.qc_decl.specs.Lookup.{append_need_of, plan_in, read_need_of}
 use Rattle.qc_list.specs.Members.{In}
 use Rattle.qc_onecopy.specs.Executed.{Executed, IsAnswered, depends_at, kind_at, own_line, committed_line}
 pub use Rattle.qc_protocol.specs.Quorums.{HasGranted, HasQuorum, IsShown, Shows, own_on, read_lock, weights_of}
-use Rattle.qc_protocol.specs.Site.{Item, Lock, Own, Promise, Installs, epoch_from, shut_from, items_of, site_after, empty_site, done_records}
-use Rattle.qc_protocol.specs.Asked.{Guard, Asked, every_guard, AnswersFromView, InvocationIsDeclared, OperationsAreNumbered, OwnLinesAreKept, ViewWasShown, ViewIsWhole, ReadQuorumIsMet, AppendCarriesView, AppendCarriesOnlyOwnLines, AppendCarriesEarlierLines, GrantTellsEpoch, GrantsUnlessClosed, GrantPassesInstalls, GrantsWithoutConflict, GrantPassesDone, GrantPassesLines, SnapshotIsOfClosed, SnapshotPassesDone, SnapshotPassesInstalls, MergesEveryEntry, DecidePassesCommitted, DecidesByPlan, DecidesFromSnapshots, DecidesNextEpoch, ClosesEnough, ClosedSitesAnswered, ResolvesPrepared, MergesLogs, MergesOnlyCommitted, DecidePassesSnapshots, CommitsWhenVoting, AllHaveVoted, StampIsItsClients, StampPassesClock, RecordHasOperations, BeginsOnce, BeginsInPlannedEpoch, OperatesWhileActive, ChoosesOneAtATime, ChosenHasResponse, AppendsWhatIsChosen, AppendQuorumIsMet, AbsentHasNoResponse, GrantTellsDeeds, GrantTellsLife, GrantsWhatWasRequested, CountsWhatWasGranted, CountsWhileActive, CountsInItsEpoch, PreparesOnce, PreparesWhenExecuted, VotesWhenAsked, VotesInGrantedLife, RecordsPrepareWhenAsked, AbortsBeforeRecord, RisesWithNoneRunning, RisesPastRecords, LearnsWhatWasAnnounced, SnapshotTellsDeeds, InstallsWhatWasDecided, InstallsLaterEpoch}
-use Rattle.qc_protocol.specs.State.{Status, NotBegun, Active, Voting, Pending, Committed, AppendRequest, Granted, Verdict, Snapshot, Decision, State}
-use Rattle.qc_protocol.specs.Acts.{Act, Begin, Choose, SendAppend, Execute, ExecuteAbsent, Grant, Count, Prepare, Vote, PrepareLost, Commit, CommitUnknown, Recover, Abort, RiseClient, Announce, Learn, Rise, Close, TakeSnapshot, Decide, Install, state}
+use Rattle.qc_protocol.specs.Site.{Item, Lock, Own, Promise, Installs, epoch_from, shut_from, items_of, site_after}
+use Rattle.qc_protocol.specs.Site.{empty_site, done_records}
+use Rattle.qc_protocol.specs.Asked.{Guard, Asked, every_guard, AnswersFromView, InvocationIsDeclared}
+use Rattle.qc_protocol.specs.Asked.{OperationsAreNumbered, OwnLinesAreKept, ViewWasShown, ViewIsWhole, ReadQuorumIsMet}
+use Rattle.qc_protocol.specs.Asked.{AppendCarriesView, AppendCarriesOnlyOwnLines, AppendCarriesEarlierLines}
+use Rattle.qc_protocol.specs.Asked.{GrantTellsEpoch, GrantsUnlessClosed, GrantPassesInstalls, GrantsWithoutConflict}
+use Rattle.qc_protocol.specs.Asked.{GrantPassesDone, GrantPassesLines, SnapshotIsOfClosed, SnapshotPassesDone}
+use Rattle.qc_protocol.specs.Asked.{SnapshotPassesInstalls, MergesEveryEntry, DecidePassesCommitted, DecidesByPlan}
+use Rattle.qc_protocol.specs.Asked.{DecidesFromSnapshots, DecidesNextEpoch, ClosesEnough, ClosedSitesAnswered}
+use Rattle.qc_protocol.specs.Asked.{ResolvesPrepared, MergesLogs, MergesOnlyCommitted, DecidePassesSnapshots}
+use Rattle.qc_protocol.specs.Asked.{CommitsWhenVoting, AllHaveVoted, StampIsItsClients, StampPassesClock}
+use Rattle.qc_protocol.specs.Asked.{RecordHasOperations, BeginsOnce, BeginsInPlannedEpoch, OperatesWhileActive}
+use Rattle.qc_protocol.specs.Asked.{ChoosesOneAtATime, ChosenHasResponse, AppendsWhatIsChosen, AppendQuorumIsMet}
+use Rattle.qc_protocol.specs.Asked.{AbsentHasNoResponse, GrantTellsDeeds, GrantTellsLife, GrantsWhatWasRequested}
+use Rattle.qc_protocol.specs.Asked.{CountsWhatWasGranted, CountsWhileActive, CountsInItsEpoch, PreparesOnce}
+use Rattle.qc_protocol.specs.Asked.{PreparesWhenExecuted, VotesWhenAsked, VotesInGrantedLife, RecordsPrepareWhenAsked}
+use Rattle.qc_protocol.specs.Asked.{AbortsBeforeRecord, RisesWithNoneRunning, RisesPastRecords, LearnsWhatWasAnnounced}
+use Rattle.qc_protocol.specs.Asked.{SnapshotTellsDeeds, InstallsWhatWasDecided, InstallsLaterEpoch}
+use Rattle.qc_protocol.specs.State.{Status, NotBegun, Active, Voting, Pending, Committed, AppendRequest, Granted}
+use Rattle.qc_protocol.specs.State.{Verdict, Snapshot, Decision, State}
+use Rattle.qc_protocol.specs.Acts.{Act, Begin, Choose, SendAppend, Execute, ExecuteAbsent, Grant, Count, Prepare, Vote}
+use Rattle.qc_protocol.specs.Acts.{PrepareLost, Commit, CommitUnknown, Recover, Abort, RiseClient, Announce, Learn}
+use Rattle.qc_protocol.specs.Acts.{Rise, Close, TakeSnapshot, Decide, Install, state}
 
 -- the operation's Read round is met: it comes next in its transaction, its view is all that the transaction was shown
 -- of the object, and its reply is one that the view allows

@@ -5,7 +5,8 @@ use Rattle.qc_stamp.specs.declared.stamp.Stamp.{Stamp}
 use Rattle.qc_stamp.specs.declared.stamp.TxId.{TxId}
 use Rattle.qc_entry.specs.declared.line.Line.{Line}
 use Rattle.qc_list.specs.Members.{In}
-use Rattle.qc_protocol.specs.Site.{Deed, DoneRecord, Grants, Installs, LearnsCommit, done_records, empty_site, site_after}
+use Rattle.qc_protocol.specs.Site.{Deed, DoneRecord, Grants, Installs, LearnsCommit, done_records, empty_site}
+use Rattle.qc_protocol.specs.Site.{site_after}
 use Rattle.qc_protocol.specs.State.{Granted, State, YesVote}
 
 -- these are the deeds of its site since a grant

@@ -3,7 +3,8 @@ use Rattle.std.specs.Prelude.{◌≡◌, ℕ, List, [], ◌∷◌}
 use Rattle.qc_stamp.specs.declared.stamp.TxId.{TxId}
 use Rattle.qc_list.specs.Members.{In}
 use Rattle.qc_protocol.specs.Site.{Deed, Grants, Prepares, LearnsCommit, LearnsAbort}
-use Rattle.qc_protocol.specs.Acts.{Act, TakeSnapshot, Begin, Decide, Install, RiseClient, Rise, Recover, Close, CommitUnknown, PrepareLost}
+use Rattle.qc_protocol.specs.Acts.{Act, TakeSnapshot, Begin, Decide, Install, RiseClient, Rise, Recover, Close}
+use Rattle.qc_protocol.specs.Acts.{CommitUnknown, PrepareLost}
 use Rattle.qc_protocol.specs.State.{Granted, State}
 
 -- nothing falls, rises, closes or is installed; transactions begin in the first epoch

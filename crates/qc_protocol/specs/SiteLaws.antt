@@ -7,7 +7,8 @@ use Rattle.qc_entry.specs.declared.line.OwnLine.{OwnLine}
 use Rattle.qc_list.specs.Members.{In}
 use Rattle.qc_onecopy.specs.Executed.{committed_line}
 use Rattle.qc_stamp.specs.Order.{same_tx}
-use Rattle.qc_protocol.specs.Site.{Item, Promise, Deed, Grants, Prepares, LearnsCommit, LearnsAbort, Closes, Installs, Rises, Site, items_of, promise_of, site_from}
+use Rattle.qc_protocol.specs.Site.{Item, Promise, Deed, Grants, Prepares, LearnsCommit, LearnsAbort, Closes, Installs}
+use Rattle.qc_protocol.specs.Site.{Rises, Site, items_of, promise_of, site_from}
 
 -- records give what stands in the log, and a promise by which a transaction is prepared is kept
 pub record SiteLaws (s : Site) : Type 0 where

@@ -1,5 +1,6 @@
 -- What holds in every state that a run reaches: the held law, the clock law, and that a transaction has one outcome.
-use Rattle.std.specs.Prelude.{◌≡◌, ◌≢◌, ℕ, suc, ◌<◌, ◌≤◌, Bool, true, false, IsTrue, ◌||◌, List, [], ◌∷◌, ◌++◌, map, Option, Some, None}
+use Rattle.std.specs.Prelude.{◌≡◌, ◌≢◌, ℕ, suc, ◌<◌, ◌≤◌, Bool, true, false, IsTrue, ◌||◌, List, [], ◌∷◌, ◌++◌, map}
+use Rattle.std.specs.Prelude.{Option, Some, None}
 use Rattle.qc_stamp.specs.declared.stamp.Stamp.{Stamp}
 use Rattle.qc_stamp.specs.declared.stamp.TxId.{TxId}
 use Rattle.qc_entry.specs.declared.line.Line.{Line}
@@ -12,9 +13,11 @@ use Rattle.qc_decl.specs.Lookup.{plan_in}
 use Rattle.qc_list.specs.Members.{In}
 use Rattle.qc_onecopy.specs.Executed.{Executed}
 use Rattle.qc_stamp.specs.Order.{same_tx}
-use Rattle.qc_protocol.specs.Site.{Promise, Deed, Grants, Prepares, LearnsCommit, LearnsAbort, Closes, Installs, Rises, epoch_from, site_after}
+use Rattle.qc_protocol.specs.Site.{Promise, Deed, Grants, Prepares, LearnsCommit, LearnsAbort, Closes, Installs, Rises}
+use Rattle.qc_protocol.specs.Site.{epoch_from, site_after}
 use Rattle.qc_protocol.specs.SiteLaws.{SparesUntilDone}
-use Rattle.qc_protocol.specs.State.{Status, NotBegun, Voting, Committed, Aborted, Decision, Granted, Snapshot, YesVote, Verdict, State}
+use Rattle.qc_protocol.specs.State.{Status, NotBegun, Voting, Committed, Aborted, Decision, Granted, Snapshot, YesVote}
+use Rattle.qc_protocol.specs.State.{Verdict, State}
 use Rattle.qc_protocol.specs.Guards.{MaySnapshot, IsResolved, HasRecord, MayPrepare, MayGrant, IsLive, op_of}
 
 -- a verdict is the status, which is final

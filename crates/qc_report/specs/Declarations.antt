@@ -14,7 +14,8 @@ use Rattle.qc_report.specs.Parts.{name_at}
 -- so many types, objects and epochs
 abbrev pub accepted_line : ℕ → ℕ → ℕ → List ℕ
 accepted_line types objects epochs =
-    codes "accepted types " ++ (decimal types ++ (codes " objects " ++ (decimal objects ++ (codes " epochs " ++ (decimal epochs ++ codes "\n")))))
+    codes "accepted types " ++ (decimal types ++ (codes " objects "
+    ++ (decimal objects ++ (codes " epochs " ++ (decimal epochs ++ codes "\n")))))
 
 -- what an accepted declaration has
 abbrev pub accepted_text_of : Declaration → List ℕ
@@ -67,15 +68,18 @@ uncovered_text false = codes " left out isn't covered\n"
 abbrev pub differs_text : List (List ℕ) → List ℕ
 differs_text names = name_at names 1 ++ (codes " " ++ (name_at names 2 ++ codes " differs\n"))
 
--- triples that don't show a relation exact: the names are the type's, and then an event's, or an invocation's and a response's
+-- triples that don't show a relation exact: the names are the type's, and then an event's, or an invocation's and a
+-- response's
 abbrev pub cert_text : CertFault → List (List ℕ) → List ℕ
 cert_text cert.NoStart names = type_text names (codes "no start triple\n")
-cert_text (cert.Uncovered triple event taken) names = type_text names (triple_text triple (name_at names 1 ++ uncovered_text taken))
+cert_text (cert.Uncovered triple event taken) names =
+    type_text names (triple_text triple (name_at names 1 ++ uncovered_text taken))
 cert_text (cert.Unequal triple inv resp) names = type_text names (triple_text triple (differs_text names))
 cert_text cert.OutOfMemory names = no_memory_text
 
 abbrev pub can_miss_text : List (List ℕ) → List ℕ
-can_miss_text names = name_at names 0 ++ (codes " " ++ (name_at names 1 ++ (codes " can miss " ++ (name_at names 2 ++ codes "\n"))))
+can_miss_text names = name_at names 0 ++ (codes " "
+    ++ (name_at names 1 ++ (codes " can miss " ++ (name_at names 2 ++ codes "\n"))))
 
 -- a plan that isn't admitted: the names are an object's, and then an invocation's and an event's
 abbrev pub plan_text : ℕ → PlanFault → List (List ℕ) → List ℕ

@@ -70,13 +70,15 @@ reply_text decl command Dropped = codes "ok"
 abbrev pub reply_line : Declaration → CommandLine → Option Reply → List ℕ
 reply_line decl line None = []
 reply_line decl line (Some reply) =
-    actor_text decl line.actor ++ (codes " " ++ (command_text decl line.command ++ (codes " " ++ (reply_text decl line.command reply ++ codes "\n"))))
+    actor_text decl line.actor ++ (codes " " ++ (command_text decl line.command
+    ++ (codes " " ++ (reply_text decl line.command reply ++ codes "\n"))))
 
 -- the lines of commands that come after these earlier ones: an actor's k-th command has the actor's k-th reply
 abbrev pub reply_lines : Declaration → List Entry → List CommandLine → List CommandLine → List ℕ
 reply_lines decl h earlier [] = []
 reply_lines decl h earlier (line ∷ lines) =
-    reply_line decl line (slice_get (told_of line.actor h) (asked line.actor earlier)) ++ reply_lines decl h (earlier ++ line ∷ []) lines
+    reply_line decl line (slice_get (told_of line.actor h) (asked line.actor earlier))
+    ++ reply_lines decl h (earlier ++ line ∷ []) lines
 
 -- the section of replies
 abbrev pub replies_text : Declaration → Script → List Entry → List ℕ

@@ -13,7 +13,8 @@ site_in h k = (site_at k h).site
 -- the lines of its log, and the transactions of which it holds locks or lines; its life and epoch are its first ones
 abbrev pub standing_line : ℕ → ℕ → ℕ → List ℕ
 standing_line k lines held =
-    codes "s" ++ (decimal k ++ (codes " life 1 epoch 1 lines " ++ (decimal lines ++ (codes " held " ++ (decimal held ++ codes "\n")))))
+    codes "s" ++ (decimal k ++ (codes " life 1 epoch 1 lines "
+    ++ (decimal lines ++ (codes " held " ++ (decimal held ++ codes "\n")))))
 
 abbrev pub site_line : List Entry → ℕ → List ℕ
 site_line h k = standing_line k (length (site_in h k).log) (length (site_in h k).held)

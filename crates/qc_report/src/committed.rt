@@ -41,7 +41,8 @@ pub(crate) fn committed(
 
 /// The commit record that a client's step wrote.
 fn commit_by<'a>(decl: &Declaration, entry: &'a Entry) -> Option<&'a Commit>
-    ensures { MatchOption result (commit_by decl.now entry.now ≡ None) (λ c. commit_by decl.now entry.now ≡ Some c.now) }
+    ensures { MatchOption result (commit_by decl.now entry.now ≡ None)
+        (λ c. commit_by decl.now entry.now ≡ Some c.now) }
 {
     match &entry.step {
         Step::Wrote(Record::Commit(commit)) if is_client(decl, entry.actor) => Some(commit),

@@ -72,7 +72,8 @@ fn empty_queues(alloc: Global) -> Result<Vec<Queue>, OutOfMemory>
 fn add_reply(queues: &mut [Queue], actor: u8, reply: Reply) -> Result<(), OutOfMemory>
     requires { length queues.old ≡ 256 }
     ensures within { actor < 256 }
-    ensures told { OnOk result (queues.new ≡ slice_set queues.old actor (slice_index_or queues.old actor [] ++ reply ∷ [])) }
+    ensures told { OnOk result (queues.new ≡ slice_set queues.old actor (slice_index_or queues.old actor []
+        ++ reply ∷ [])) }
 {
     queues[actor as usize].push(reply)
 }

@@ -41,7 +41,8 @@ pub(crate) fn site_in(
 
 /// Adds the message that an entry sends, if it sends one.
 fn add_letter<'a>(sent: &mut Vec<Letter<'a>>, entry: &'a Entry) -> Result<(), OutOfMemory>
-    ensures { OnOk result (map envelope_in sent.new.items ≡ map envelope_in sent.old.items ++ option_to_list (envelope_of entry.now)) }
+    ensures { OnOk result (map envelope_in sent.new.items ≡ map envelope_in sent.old.items
+        ++ option_to_list (envelope_of entry.now)) }
 {
     if let Some(letter) = letter_of(entry) {
         sent.push(letter)?;

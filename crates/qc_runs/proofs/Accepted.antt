@@ -119,8 +119,8 @@ module _ (actors : ℕ) (kind : Kind) (names : KindNames) (objects : List ℕ) (
   abbrev thresholds_found : AreTyped → (places : Kind → ℕ) (lists : List (List ℕ)) → Option (AreThresholds decl places lists)
   thresholds_found typed places lists =
       option_map made (both (same_number (length lists) (length objects)) (both
-          (each_place (λ (list : List ℕ). length list ≡ places kind) (λ list. same_number (length list) (places kind)) lists)
-          (each_item (All IsThreshold) (each_item IsThreshold (λ n. at_most n greatest_threshold)) lists)))
+      (each_place (λ (list : List ℕ). length list ≡ places kind) (λ list. same_number (length list) (places kind)) lists)
+      (each_item (All IsThreshold) (each_item IsThreshold (λ n. at_most n greatest_threshold)) lists)))
     where
       made : (length lists ≡ length objects)
           × (((place : ℕ) (list : List ℕ) → slice_get lists place ≡ Some list → length list ≡ places kind) × All (All IsThreshold) lists)
@@ -134,7 +134,7 @@ module _ (actors : ℕ) (kind : Kind) (names : KindNames) (objects : List ℕ) (
   abbrev all_thresholds_found : AreTyped → (plan : Plan) → Option (HasThresholds decl plan)
   all_thresholds_found typed plan =
       option_map made (both (each_item IsWeight (λ n. at_most n greatest_weight) plan.weights) (both
-          (thresholds_found typed (λ k. k.table.invs) plan.initial) (thresholds_found typed (λ k. length (events_of k.table.rows)) plan.last)))
+      (thresholds_found typed (λ k. k.table.invs) plan.initial) (thresholds_found typed (λ k. length (events_of k.table.rows)) plan.last)))
     where
       made : All IsWeight plan.weights × (AreThresholds decl (λ k. k.table.invs) plan.initial
           × AreThresholds decl (λ k. length (events_of k.table.rows)) plan.last) → HasThresholds decl plan
@@ -156,7 +156,12 @@ module _ (actors : ℕ) (kind : Kind) (names : KindNames) (objects : List ℕ) (
       made : ((0 < actors) × (actors ≤ most_sites)) × (((0 < length objects) × (length objects ≤ most_objects)) × ((0 < length plans) × (length plans ≤ most_epochs)))
           → AreFew
       made f = record {
-        some_actor = (f.0).0; few_actors = (f.0).1; some_object = ((f.1).0).0; few_objects = ((f.1).0).1; some_epoch = ((f.1).1).0; few_epochs = ((f.1).1).1;
+        some_actor = (f.0).0;
+        few_actors = (f.0).1;
+        some_object = ((f.1).0).0;
+        few_objects = ((f.1).0).1;
+        some_epoch = ((f.1).1).0;
+        few_epochs = ((f.1).1).1;
       }
 
   -- the names of the type, of its parts and of the objects

@@ -2,7 +2,8 @@
 -- site's grant shows what the site did, with the least clock that passes it; a client chooses with all that it was
 -- shown; a snapshot, a decision and a commit record are made as the protocol makes them. A run that does otherwise
 -- changes a move by hand.
-use Rattle.std.specs.Prelude.{ℕ, suc, max, Bool, false, ◌==◌, ◌&&◌, if◌then◌else◌, List, [], ◌∷◌, ◌++◌, map, flat_map, filter, fold, length, Option, None, unwrap_or, find, option_to_list}
+use Rattle.std.specs.Prelude.{ℕ, suc, max, Bool, false, ◌==◌, ◌&&◌, if◌then◌else◌, List, [], ◌∷◌, ◌++◌, map, flat_map}
+use Rattle.std.specs.Prelude.{filter, fold, length, Option, None, unwrap_or, find, option_to_list}
 use Rattle.std.specs.List.{list_any}
 use Rattle.qc_stamp.specs.declared.stamp.Stamp.{Stamp}
 use Rattle.qc_stamp.specs.declared.stamp.TxId.{TxId}
@@ -10,10 +11,13 @@ use Rattle.qc_entry.specs.Log.{union}
 use Rattle.qc_entry.specs.declared.line.Line.{Line}
 use Rattle.qc_entry.specs.declared.record.Commit.{Commit as CommitRecord}
 use Rattle.qc_onecopy.specs.Executed.{Executed, own_line}
-use Rattle.qc_protocol.specs.Acts.{Act, Begin, Choose, SendAppend, Execute, ExecuteAbsent, Grant, Count, Prepare, Vote, PrepareLost, Commit, CommitUnknown, Recover, Abort, RiseClient, Announce, Learn, Rise, Close, TakeSnapshot, Decide, Install, state}
+use Rattle.qc_protocol.specs.Acts.{Act, Begin, Choose, SendAppend, Execute, ExecuteAbsent, Grant, Count, Prepare, Vote}
+use Rattle.qc_protocol.specs.Acts.{PrepareLost, Commit, CommitUnknown, Recover, Abort, RiseClient, Announce, Learn}
+use Rattle.qc_protocol.specs.Acts.{Rise, Close, TakeSnapshot, Decide, Install, state}
 use Rattle.qc_protocol.specs.Guards.{op_of, own_on}
 use Rattle.qc_stamp.specs.Order.{same_tx}
-use Rattle.qc_protocol.specs.Site.{Deed, Installs, DoneRecord, Item, Lock, Own, Promise, done_records, empty_site, epoch_from, site_after, stamped_lines}
+use Rattle.qc_protocol.specs.Site.{Deed, Installs, DoneRecord, Item, Lock, Own, Promise, done_records, empty_site}
+use Rattle.qc_protocol.specs.Site.{epoch_from, site_after, stamped_lines}
 use Rattle.qc_protocol.specs.State.{AppendRequest, Decision, Granted, Snapshot, State, Verdict}
 
 -- an act, made from the state

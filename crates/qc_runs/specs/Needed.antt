@@ -3,7 +3,22 @@ use Rattle.std.specs.Prelude.{ℕ, ◌==◌, Bool, not, List, [], ◌∷◌}
 use Rattle.qc_decl.specs.declared.declaration.Declaration.{Declaration}
 use Rattle.qc_decl.specs.Accepted.{IsAccepted}
 use Rattle.qc_protocol.specs.Acts.{Act}
-use Rattle.qc_protocol.specs.Asked.{Guard, BeginsOnce, BeginsInPlannedEpoch, OperatesWhileActive, ChoosesOneAtATime, AnswersFromView, InvocationIsDeclared, OperationsAreNumbered, OwnLinesAreKept, ViewWasShown, ViewIsWhole, ReadQuorumIsMet, ChosenHasResponse, AbsentHasNoResponse, AppendsWhatIsChosen, AppendCarriesView, AppendCarriesOnlyOwnLines, AppendCarriesEarlierLines, AppendQuorumIsMet, GrantTellsDeeds, GrantTellsLife, GrantTellsEpoch, GrantsUnlessClosed, GrantPassesInstalls, GrantsWithoutConflict, GrantPassesDone, GrantPassesLines, GrantsWhatWasRequested, CountsWhatWasGranted, CountsWhileActive, CountsInItsEpoch, PreparesOnce, PreparesWhenExecuted, VotesWhenAsked, VotesInGrantedLife, RecordsPrepareWhenAsked, CommitsWhenVoting, AllHaveVoted, StampIsItsClients, StampPassesClock, RecordHasOperations, AbortsBeforeRecord, RisesWithNoneRunning, RisesPastRecords, LearnsWhatWasAnnounced, SnapshotTellsDeeds, SnapshotIsOfClosed, SnapshotPassesDone, SnapshotPassesInstalls, DecidesByPlan, DecidesFromSnapshots, DecidesNextEpoch, ClosesEnough, ClosedSitesAnswered, ResolvesPrepared, MergesEveryEntry, DecidePassesCommitted, MergesLogs, MergesOnlyCommitted, DecidePassesSnapshots, InstallsWhatWasDecided, InstallsLaterEpoch}
+use Rattle.qc_protocol.specs.Asked.{Guard, BeginsOnce, BeginsInPlannedEpoch, OperatesWhileActive, ChoosesOneAtATime}
+use Rattle.qc_protocol.specs.Asked.{AnswersFromView, InvocationIsDeclared, OperationsAreNumbered, OwnLinesAreKept}
+use Rattle.qc_protocol.specs.Asked.{ViewWasShown, ViewIsWhole, ReadQuorumIsMet, ChosenHasResponse, AbsentHasNoResponse}
+use Rattle.qc_protocol.specs.Asked.{AppendsWhatIsChosen, AppendCarriesView, AppendCarriesOnlyOwnLines}
+use Rattle.qc_protocol.specs.Asked.{AppendCarriesEarlierLines, AppendQuorumIsMet, GrantTellsDeeds, GrantTellsLife}
+use Rattle.qc_protocol.specs.Asked.{GrantTellsEpoch, GrantsUnlessClosed, GrantPassesInstalls, GrantsWithoutConflict}
+use Rattle.qc_protocol.specs.Asked.{GrantPassesDone, GrantPassesLines, GrantsWhatWasRequested, CountsWhatWasGranted}
+use Rattle.qc_protocol.specs.Asked.{CountsWhileActive, CountsInItsEpoch, PreparesOnce, PreparesWhenExecuted}
+use Rattle.qc_protocol.specs.Asked.{VotesWhenAsked, VotesInGrantedLife, RecordsPrepareWhenAsked, CommitsWhenVoting}
+use Rattle.qc_protocol.specs.Asked.{AllHaveVoted, StampIsItsClients, StampPassesClock, RecordHasOperations}
+use Rattle.qc_protocol.specs.Asked.{AbortsBeforeRecord, RisesWithNoneRunning, RisesPastRecords, LearnsWhatWasAnnounced}
+use Rattle.qc_protocol.specs.Asked.{SnapshotTellsDeeds, SnapshotIsOfClosed, SnapshotPassesDone, SnapshotPassesInstalls}
+use Rattle.qc_protocol.specs.Asked.{DecidesByPlan, DecidesFromSnapshots, DecidesNextEpoch, ClosesEnough}
+use Rattle.qc_protocol.specs.Asked.{ClosedSitesAnswered, ResolvesPrepared, MergesEveryEntry, DecidePassesCommitted}
+use Rattle.qc_protocol.specs.Asked.{MergesLogs, MergesOnlyCommitted, DecidePassesSnapshots, InstallsWhatWasDecided}
+use Rattle.qc_protocol.specs.Asked.{InstallsLaterEpoch}
 use Rattle.qc_protocol.specs.Guards.{IsRunBy}
 use Rattle.qc_runs.specs.Guarantees.{Guarantee, Holds}
 

@@ -30,7 +30,8 @@ moving_register =
 -- the built-in register at three sites, two of which are each quorum, with a second epoch
 abbrev pub three_in_two_epochs : Declaration
 three_in_two_epochs =
-    store 3 register_kind register_names (0 ∷ []) (register_plan (1 ∷ 1 ∷ 1 ∷ []) 2 ∷ register_plan (1 ∷ 1 ∷ 1 ∷ []) 2 ∷ [])
+    store 3 register_kind register_names (0 ∷ [])
+    (register_plan (1 ∷ 1 ∷ 1 ∷ []) 2 ∷ register_plan (1 ∷ 1 ∷ 1 ∷ []) 2 ∷ [])
 
 -- Of two registers at two sites an event is written at either site, and read at both; so the close needs both.
 abbrev pub two_registers_plan : Plan
@@ -100,12 +101,18 @@ abbrev pub ticket_kind : Kind
 ticket_kind = record { table = ticket; relation = relation_of (record { inv = 0; event = 0 } ∷ []) }
 
 abbrev pub ticket_names : KindNames
-ticket_names = record { name = codes "ticket"; states = codes "free" ∷ codes "taken" ∷ []; invs = codes "Take" ∷ []; resps = codes "ok" ∷ [] }
+ticket_names = record {
+  name = codes "ticket";
+  states = codes "free" ∷ codes "taken" ∷ [];
+  invs = codes "Take" ∷ [];
+  resps = codes "ok" ∷ [];
+}
 
 -- the ticket at one site
 abbrev pub ticket_store : Declaration
 ticket_store =
-    store 1 ticket_kind ticket_names (0 ∷ []) (record { weights = 1 ∷ []; initial = (1 ∷ []) ∷ []; last = (1 ∷ []) ∷ [] } ∷ [])
+    store 1 ticket_kind ticket_names (0 ∷ [])
+    (record { weights = 1 ∷ []; initial = (1 ∷ []) ∷ []; last = (1 ∷ []) ∷ [] } ∷ [])
 
 -- a register whose relation names an invocation that the type lacks, as dependent on the write of 1
 abbrev pub extra_kind : Kind

@@ -4,7 +4,8 @@ use Rattle.qc_entry.specs.declared.line.Line.{Line}
 use Rattle.qc_entry.specs.declared.line.OwnLine.{OwnLine}
 use Rattle.qc_stamp.specs.declared.stamp.Stamp.{Stamp}
 use Rattle.qc_stamp.specs.declared.stamp.TxId.{TxId}
-use Rattle.qc_runs.specs.Moves.{Call, Move, announces, begins, chooses, closes, commits, counts, decides, executes, grants_append, grants_read, installs, learns, prepares, sends, tells, votes}
+use Rattle.qc_runs.specs.Moves.{Call, Move, announces, begins, chooses, closes, commits, counts, decides, executes}
+use Rattle.qc_runs.specs.Moves.{grants_append, grants_read, installs, learns, prepares, sends, tells, votes}
 
 -- transactions of three clients
 abbrev pub first : TxId

@@ -8,8 +8,11 @@ use Rattle.qc_entry.specs.declared.record.Commit.{Commit as CommitRecord}
 use Rattle.qc_onecopy.specs.Committed.{sorted}
 use Rattle.qc_protocol.specs.Acts.{state}
 use Rattle.qc_protocol.specs.Guards.{IsAllowed, IsRun}
-use Rattle.qc_runs.specs.Moves.{Move, acts_of, aborts, announces, begins, chooses, closes, decides, executes, falls_committing, grants_append, grants_read, installs, learns, prepares, recovers, rises, rises_at, sends, tells, votes}
-use Rattle.qc_runs.specs.Stories.{appends_at, commits_at, ends_at, first, locks, reads, reads_one, second, second_again, stamp_of, third, writes_one}
+use Rattle.qc_runs.specs.Moves.{Move, acts_of, aborts, announces, begins, chooses, closes, decides, executes}
+use Rattle.qc_runs.specs.Moves.{falls_committing, grants_append, grants_read, installs, learns, prepares, recovers}
+use Rattle.qc_runs.specs.Moves.{rises, rises_at, sends, tells, votes}
+use Rattle.qc_runs.specs.Stories.{appends_at, commits_at, ends_at, first, locks, reads, reads_one, second, second_again}
+use Rattle.qc_runs.specs.Stories.{stamp_of, third, writes_one}
 use Rattle.qc_stamp.specs.declared.stamp.TxId.{TxId}
 
 -- the declaration is accepted, the story is a run, and just these records were written, in the order of their stamps

@@ -1,7 +1,8 @@
 //! Events that are appended wrongly. Each law is of a guard, and is shown by a
 //! run without it.
 
-ghost use Rattle.qc_protocol.specs.Asked.{AppendsWhatIsChosen, AppendCarriesView, AppendCarriesOnlyOwnLines, AppendCarriesEarlierLines, AppendQuorumIsMet};
+ghost use Rattle.qc_protocol.specs.Asked.{AppendsWhatIsChosen, AppendCarriesView, AppendCarriesOnlyOwnLines};
+ghost use Rattle.qc_protocol.specs.Asked.{AppendCarriesEarlierLines, AppendQuorumIsMet};
 ghost use Rattle.qc_runs.specs.Guarantees.{LogsHoldOperations, RecordsAreOneCopy};
 ghost use Rattle.qc_runs.specs.Needed.{IsNeeded};
 

@@ -1,7 +1,10 @@
 //! Votes, records and verdicts that are given wrongly. Each law is of a guard,
 //! and is shown by a run without it.
 
-ghost use Rattle.qc_protocol.specs.Asked.{PreparesOnce, PreparesWhenExecuted, VotesWhenAsked, VotesInGrantedLife, RecordsPrepareWhenAsked, CommitsWhenVoting, AllHaveVoted, StampIsItsClients, StampPassesClock, RecordHasOperations, AbortsBeforeRecord, RisesWithNoneRunning, RisesPastRecords, LearnsWhatWasAnnounced};
+ghost use Rattle.qc_protocol.specs.Asked.{PreparesOnce, PreparesWhenExecuted, VotesWhenAsked, VotesInGrantedLife};
+ghost use Rattle.qc_protocol.specs.Asked.{RecordsPrepareWhenAsked, CommitsWhenVoting, AllHaveVoted, StampIsItsClients};
+ghost use Rattle.qc_protocol.specs.Asked.{StampPassesClock, RecordHasOperations, AbortsBeforeRecord};
+ghost use Rattle.qc_protocol.specs.Asked.{RisesWithNoneRunning, RisesPastRecords, LearnsWhatWasAnnounced};
 ghost use Rattle.qc_runs.specs.Guarantees.{LogsHoldOperations, RecordsAreApart, RecordsAreOneCopy, VerdictsAgree};
 ghost use Rattle.qc_runs.specs.Needed.{IsNeeded};
 

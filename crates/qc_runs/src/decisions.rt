@@ -1,7 +1,10 @@
 //! Epochs that are decided and installed wrongly. Each law is of a guard, and
 //! is shown by a run without it.
 
-ghost use Rattle.qc_protocol.specs.Asked.{DecidesByPlan, DecidesFromSnapshots, DecidesNextEpoch, ClosesEnough, ClosedSitesAnswered, ResolvesPrepared, MergesEveryEntry, DecidePassesCommitted, MergesLogs, MergesOnlyCommitted, DecidePassesSnapshots, InstallsWhatWasDecided, InstallsLaterEpoch};
+ghost use Rattle.qc_protocol.specs.Asked.{DecidesByPlan, DecidesFromSnapshots, DecidesNextEpoch, ClosesEnough};
+ghost use Rattle.qc_protocol.specs.Asked.{ClosedSitesAnswered, ResolvesPrepared, MergesEveryEntry};
+ghost use Rattle.qc_protocol.specs.Asked.{DecidePassesCommitted, MergesLogs, MergesOnlyCommitted};
+ghost use Rattle.qc_protocol.specs.Asked.{DecidePassesSnapshots, InstallsWhatWasDecided, InstallsLaterEpoch};
 ghost use Rattle.qc_runs.specs.Guarantees.{RecordsAreOneCopy};
 ghost use Rattle.qc_runs.specs.Needed.{IsNeeded};
 

@@ -1,7 +1,10 @@
 //! Grants that sites give, and clients count, wrongly. Each law is of a guard,
 //! and is shown by a run without it.
 
-ghost use Rattle.qc_protocol.specs.Asked.{GrantTellsDeeds, GrantTellsLife, GrantTellsEpoch, GrantsUnlessClosed, GrantPassesInstalls, GrantsWithoutConflict, GrantPassesDone, GrantPassesLines, GrantsWhatWasRequested, CountsWhatWasGranted, CountsWhileActive, CountsInItsEpoch};
+ghost use Rattle.qc_protocol.specs.Asked.{GrantTellsDeeds, GrantTellsLife, GrantTellsEpoch, GrantsUnlessClosed};
+ghost use Rattle.qc_protocol.specs.Asked.{GrantPassesInstalls, GrantsWithoutConflict, GrantPassesDone};
+ghost use Rattle.qc_protocol.specs.Asked.{GrantPassesLines, GrantsWhatWasRequested, CountsWhatWasGranted};
+ghost use Rattle.qc_protocol.specs.Asked.{CountsWhileActive, CountsInItsEpoch};
 ghost use Rattle.qc_runs.specs.Guarantees.{LastRecordFollowsSeen, LogsHoldOperations, RecordsAreOneCopy};
 ghost use Rattle.qc_runs.specs.Needed.{IsNeeded};
 

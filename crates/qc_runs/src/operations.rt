@@ -1,8 +1,12 @@
 //! Operations that are begun, chosen and answered wrongly. Each law is of a
 //! guard, and is shown by a run without it.
 
-ghost use Rattle.qc_protocol.specs.Asked.{BeginsOnce, BeginsInPlannedEpoch, OperatesWhileActive, ChoosesOneAtATime, AnswersFromView, InvocationIsDeclared, OperationsAreNumbered, OwnLinesAreKept, ViewWasShown, ViewIsWhole, ReadQuorumIsMet, ChosenHasResponse, AbsentHasNoResponse};
-ghost use Rattle.qc_runs.specs.Guarantees.{LogsHoldOperations, OperationsAreOrdered, RecordsAreApart, RecordsAreOneCopy};
+ghost use Rattle.qc_protocol.specs.Asked.{BeginsOnce, BeginsInPlannedEpoch, OperatesWhileActive, ChoosesOneAtATime};
+ghost use Rattle.qc_protocol.specs.Asked.{AnswersFromView, InvocationIsDeclared, OperationsAreNumbered};
+ghost use Rattle.qc_protocol.specs.Asked.{OwnLinesAreKept, ViewWasShown, ViewIsWhole, ReadQuorumIsMet};
+ghost use Rattle.qc_protocol.specs.Asked.{ChosenHasResponse, AbsentHasNoResponse};
+ghost use Rattle.qc_runs.specs.Guarantees.{LogsHoldOperations, OperationsAreOrdered, RecordsAreApart};
+ghost use Rattle.qc_runs.specs.Guarantees.{RecordsAreOneCopy};
 ghost use Rattle.qc_runs.specs.Needed.{IsNeeded};
 
 /// A transaction begins again after its commit, and commits again.

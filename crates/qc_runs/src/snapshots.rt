@@ -1,7 +1,8 @@
 //! Snapshots that are sent wrongly. Each law is of a guard, and is shown by a
 //! run without it.
 
-ghost use Rattle.qc_protocol.specs.Asked.{SnapshotTellsDeeds, SnapshotIsOfClosed, SnapshotPassesDone, SnapshotPassesInstalls};
+ghost use Rattle.qc_protocol.specs.Asked.{SnapshotTellsDeeds, SnapshotIsOfClosed, SnapshotPassesDone};
+ghost use Rattle.qc_protocol.specs.Asked.{SnapshotPassesInstalls};
 ghost use Rattle.qc_runs.specs.Guarantees.{RecordsAreOneCopy};
 ghost use Rattle.qc_runs.specs.Needed.{IsNeeded};
 

@@ -4,7 +4,8 @@
 ghost use Rattle.std.specs.Prelude.{◌++◌};
 ghost use Rattle.qc_decl.specs.One.{three};
 ghost use Rattle.qc_runs.specs.Settings.{three_in_two_epochs};
-ghost use Rattle.qc_runs.specs.Witnesses.{Commits, IsRefused, conflict, one_epoch, one_epoch_records, two_epochs, two_epochs_records, read_under_way, write_under_way};
+ghost use Rattle.qc_runs.specs.Witnesses.{Commits, IsRefused, conflict, one_epoch, one_epoch_records, two_epochs};
+ghost use Rattle.qc_runs.specs.Witnesses.{two_epochs_records, read_under_way, write_under_way};
 
 /// Two clients, in one epoch: a conflict, a client that falls with its commit
 /// record pending and rises with it, a site that falls between its vote and

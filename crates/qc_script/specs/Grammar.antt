@@ -1,10 +1,11 @@
 -- The script of a declaration, as a grammar of lines.
 --
--- A script is lines that end with LF; the last may lack it, and one CR before a line's end isn't part of the line. A line
--- without bytes and a line that begins with `#` are skipped. Every other line is `phase`, or a command in a phase, its words
--- separated by one space: `c0 begin`, `c0 do OBJECT INV`, `c0 commit`, `c0 abort`, where OBJECT and INV are names of the
--- declaration.
-use Rattle.std.specs.Prelude.{ℕ, ◌==◌, ◌-◌, ◌++◌, List, [], ◌∷◌, Option, Some, None, cond, codes, fold, length, take, slice_index, option_map, option_and_then}
+-- A script is lines that end with LF; the last may lack it, and one CR before a line's end isn't part of the line. A
+-- line without bytes and a line that begins with `#` are skipped. Every other line is `phase`, or a command in a phase,
+-- its words separated by one space: `c0 begin`, `c0 do OBJECT INV`, `c0 commit`, `c0 abort`, where OBJECT and INV are
+-- names of the declaration.
+use Rattle.std.specs.Prelude.{ℕ, ◌==◌, ◌-◌, ◌++◌, List, [], ◌∷◌, Option, Some, None, cond, codes, fold, length, take}
+use Rattle.std.specs.Prelude.{slice_index, option_map, option_and_then}
 use Rattle.std.specs.List.{slice_split}
 use Rattle.std.specs.Option.{option_map_or}
 use Rattle.std.specs.Str.{bytes_eq}
@@ -40,7 +41,8 @@ verb_of verb =
 -- an invocation of an object, by their names
 abbrev pub invoked : Declaration → List ℕ → List ℕ → Form
 invoked decl object inv =
-    option_map_or (λ number. option_map_or (λ inv_number. Asks (commands.Do number inv_number)) (inv_named decl number inv) Unknown) (object_named decl object) Unknown
+    option_map_or (λ number. option_map_or (λ inv_number. Asks (commands.Do number inv_number))
+    (inv_named decl number inv) Unknown) (object_named decl object) Unknown
 
 -- the same by the words behind `do`, which are two
 abbrev pub invoked_by : Declaration → List (List ℕ) → Form
@@ -61,7 +63,8 @@ command_of decl (client ∷ words) = cond (bytes_eq client (codes "c0")) (asked_
 -- what a line without its end says: nothing where it is empty or begins with `#` (35)
 abbrev pub form_of : Declaration → List ℕ → Form
 form_of decl [] = Skipped
-form_of decl (b ∷ line) = cond (b == 35) Skipped (cond (bytes_eq (b ∷ line) (codes "phase")) Phase (command_of decl (words_of (b ∷ line))))
+form_of decl (b ∷ line) = cond (b == 35) Skipped (cond (bytes_eq (b ∷ line)
+    (codes "phase")) Phase (command_of decl (words_of (b ∷ line))))
 
 -- the command stands last in the last phase; no command stands before the first phase
 abbrev pub with_command : CommandLine → List PhaseLines → Option (List PhaseLines)
@@ -78,8 +81,11 @@ with_form actor phases Unknown = None
 
 -- the same by the line
 abbrev pub with_line : Declaration → Option (List PhaseLines) → List ℕ → Option (List PhaseLines)
-with_line decl phases line = option_and_then (λ (so_far : List PhaseLines). with_form (client_actor decl 0) so_far (form_of decl (without_cr line))) phases
+with_line decl phases line =
+    option_and_then
+    (λ (so_far : List PhaseLines). with_form (client_actor decl 0) so_far (form_of decl (without_cr line))) phases
 
 -- the script that these bytes spell for the declaration's first client, or none
 abbrev pub script_of : Declaration → List ℕ → Option Script
-script_of decl bytes = option_map (λ (phases : List PhaseLines). record { phases = phases }) (fold (with_line decl) (Some []) (lines_of bytes))
+script_of decl bytes = option_map (λ (phases : List PhaseLines). record { phases = phases })
+    (fold (with_line decl) (Some []) (lines_of bytes))

@@ -1,5 +1,6 @@
 -- What is ready for an actor after a history. Links pass every message on, each once.
-use Rattle.std.specs.Prelude.{ℕ, Bool, true, false, ◌==◌, ◌-◌, ◌++◌, ◌&&◌, not, List, [], ◌∷◌, Option, Some, None, cond, fold, filter, map, drop, slice_get}
+use Rattle.std.specs.Prelude.{ℕ, Bool, true, false, ◌==◌, ◌-◌, ◌++◌, ◌&&◌, not, List, [], ◌∷◌, Option, Some, None, cond}
+use Rattle.std.specs.Prelude.{fold, filter, map, drop, slice_get}
 use Rattle.std.specs.Option.{option_map_or}
 use Rattle.qc_decl.specs.declared.declaration.Declaration.{Declaration}
 use Rattle.qc_decl.specs.Actors.{is_client}
@@ -17,7 +18,8 @@ use Rattle.qc_script.specs.declared.script.Script.{Script}
 -- the messages that wait for an actor, in the order of their numbers
 
 abbrev pub waiting_at : ℕ → List Envelope → ℕ → Step → List Envelope
-waiting_at a box by (Sent n to message) = cond (to == a) (box ++ record { number = n; from = by; to = to; message = message } ∷ []) box
+waiting_at a box by (Sent n to message) = cond (to == a)
+    (box ++ record { number = n; from = by; to = to; message = message } ∷ []) box
 waiting_at a box by (Got n) = cond (by == a) (drop 1 box) box
 waiting_at a box by _ = box
 
@@ -73,7 +75,8 @@ phase_step k e = phase_at k e.step
 abbrev pub phase_of : List Entry → ℕ
 phase_of h = fold phase_step 0 h
 
--- what is ready next for an actor: the message that waits first, else, for a client that has told its last command, the next one
+-- what is ready next for an actor: the message that waits first, else, for a client that has told its last command, the
+-- next one
 
 abbrev pub first_order : List Command → Option Given
 first_order [] = None

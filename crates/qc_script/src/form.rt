@@ -2,7 +2,8 @@
 
 ghost use Rattle.std.specs.Prelude.{◌≡◌, ◌==◌, ◌∷◌, ◌<◌, IfSome, length, position};
 ghost use Rattle.qc_decl.specs.Named.{IsNamed};
-ghost use Rattle.qc_script.specs.Grammar.{form_of, command_of, asked_of, verb_of, invoked, invoked_by, without_cr, words_of};
+ghost use Rattle.qc_script.specs.Grammar.{form_of, command_of, asked_of, verb_of, invoked, invoked_by, without_cr};
+ghost use Rattle.qc_script.specs.Grammar.{words_of};
 ghost use Rattle.qc_script.specs.Cut.{words_behind};
 
 use qc_decl::Declaration;

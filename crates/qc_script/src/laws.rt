@@ -10,5 +10,6 @@ ghost use Rattle.qc_script.specs.Grammar.{script_of};
 /// A script that the grammar gives for a declaration asks its first client
 /// alone.
 pub fn scripts_ask_the_client()
-    ensures { (decl : Declaration) (bytes : List ℕ) (script : Script) → script_of decl bytes ≡ Some script → AsksOnly (client_actor decl 0) script }
+    ensures { (decl : Declaration) (bytes : List ℕ) (script : Script) → script_of decl bytes ≡ Some script
+        → AsksOnly (client_actor decl 0) script }
 {}

@@ -1,5 +1,6 @@
 -- What a site becomes and does as a message comes (Herlihy 1986; presumed abort).
-use Rattle.std.specs.Prelude.{ℕ, ◌+◌, ◌*◌, max, nat_le, Bool, if◌then◌else◌, not, List, [], ◌∷◌, ◌++◌, fold, length, filter, Option, Some, None, is_some}
+use Rattle.std.specs.Prelude.{ℕ, ◌+◌, ◌*◌, max, nat_le, Bool, if◌then◌else◌, not, List, [], ◌∷◌, ◌++◌, fold, length}
+use Rattle.std.specs.Prelude.{filter, Option, Some, None, is_some}
 use Rattle.std.specs.List.{find}
 use Rattle.qc_stamp.specs.declared.stamp.Stamp.{Stamp}
 use Rattle.qc_stamp.specs.declared.stamp.TxId.{TxId}
@@ -61,7 +62,14 @@ promises s from number p =
     if nat_le (prepare_length p) most_body
     then moved
     (record s { recorded = union s.recorded p.lines; prepared = s.prepared ++ p ∷ [] })
-    (record { write = Some (records.Prepare p); sends = record { to = from; message = Yes number s.clock } ∷ []; told = None })
+    (record {
+      write = Some (records.Prepare p);
+      sends = record {
+        to = from;
+        message = Yes number s.clock;
+      } ∷ [];
+      told = None;
+    })
     else moved s (answer from (Stale number))
 
 abbrev pub prepared_of : List Prepared → TxId → Option Prepared
@@ -112,7 +120,8 @@ joins s tx stamp (Some p) =
 
 -- a Decision: the transaction is finished here
 abbrev pub finishes : SiteState → TxId → Outcome → SiteMove
-finishes s tx (Committed stamp) = joins (record s { clock = max s.clock stamp.clock }) tx stamp (prepared_of s.prepared tx)
+finishes s tx (Committed stamp) =
+    joins (record s { clock = max s.clock stamp.clock }) tx stamp (prepared_of s.prepared tx)
 finishes s tx Aborted = moved (dropped s tx) no_turn
 
 -- what the site becomes and does as the message of this sender and number comes

@@ -1,5 +1,6 @@
 -- What the unfinished transactions hold at a site.
-use Rattle.std.specs.Prelude.{Bool, ◌==◌, not, if◌then◌else◌, List, [], ◌∷◌, length, fold, filter, Option, is_some, unwrap_or}
+use Rattle.std.specs.Prelude.{Bool, ◌==◌, not, if◌then◌else◌, List, [], ◌∷◌, length, fold, filter, Option, is_some}
+use Rattle.std.specs.Prelude.{unwrap_or}
 use Rattle.std.specs.List.{find}
 use Rattle.std.specs.Ordering.{nat_cmp, on, then_cmp}
 use Rattle.std.specs.declared.cmp.Ordering.{Ordering}

@@ -18,7 +18,8 @@ AreSorted (h ∷ hs) = Ascends lock_cmp h.locks × Ascends own_cmp h.own × AreS
 -- the locks, own lines and lines of each promise
 abbrev pub ArePromisesSorted : List Prepared → Type 0
 ArePromisesSorted [] = Unit {0}
-ArePromisesSorted (p ∷ ps) = Ascends lock_cmp p.locks × Ascends own_cmp p.own × IsAscending p.lines × ArePromisesSorted ps
+ArePromisesSorted (p ∷ ps) = Ascends lock_cmp p.locks × Ascends own_cmp p.own × IsAscending p.lines
+    × ArePromisesSorted ps
 
 pub record SiteSorted (s : SiteState) : Type 0 where
   pub log : IsAscending s.log

@@ -1,7 +1,8 @@
 //! How a site learns that a transaction ended.
 
 ghost use Rattle.std.specs.Prelude.{◌≡◌, IfOk, OnErr, max};
-ghost use Rattle.qc_site.specs.Conduct.{stamped, lines_of, without_prepared, dropped, joins, finishes, prepared_of, done_turn};
+ghost use Rattle.qc_site.specs.Conduct.{stamped, lines_of, without_prepared, dropped, joins, finishes, prepared_of};
+ghost use Rattle.qc_site.specs.Conduct.{done_turn};
 
 use crate::Site;
 use crate::held::without_held;
@@ -84,7 +85,8 @@ impl Site {
 
     /// Finishes a transaction that committed: what was promised joins the log.
     fn commit(&mut self, alloc: Global, tx: TxId, stamp: Stamp) -> Result<Turn, OutOfMemory>
-        ensures ok { IfOk result (λ turn. joins (record self.old { clock = max self.old.clock stamp.clock }) tx stamp (prepared_of self.old.prepared tx) ≡ record { site = self.new; turn = turn }) }
+        ensures ok { IfOk result (λ turn. joins (record self.old { clock = max self.old.clock stamp.clock }) tx stamp
+            (prepared_of self.old.prepared tx) ≡ record { site = self.new; turn = turn }) }
         ensures err { OnErr result (self.new ≡ self.old) }
     {
         let Some(promise) = prepared_of(self.prepared.items(), tx) else {

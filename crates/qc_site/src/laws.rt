@@ -26,12 +26,14 @@ pub fn clocks_stay_within()
 
 /// The same over all deeds of a site.
 pub fn sites_stay_within()
-    ensures { (bound number : ℕ) (deeds : List Deed) → DeedsWithin bound deeds → MoveWithin bound (site_after number deeds) }
+    ensures { (bound number : ℕ) (deeds : List Deed) → DeedsWithin bound deeds
+        → MoveWithin bound (site_after number deeds) }
 {}
 
 /// A clock never falls.
 pub fn clocks_never_fall()
-    ensures { (s : SiteState) (from number : ℕ) (message : Message) → s.clock ≤ (site_on s from number message).site.clock }
+    ensures { (s : SiteState) (from number : ℕ) (message : Message)
+        → s.clock ≤ (site_on s from number message).site.clock }
 {}
 
 /// The log keeps its lines, and gains just those that the message brings.

@@ -2,7 +2,8 @@
 
 ghost use Rattle.std.specs.Prelude.{◌≡◌, IfOk, OnErr, MatchOption, Some, None, nat_le, IsTrue};
 ghost use Rattle.qc_msg.specs.declared.message.Message.TheVariants.{Yes};
-ghost use Rattle.qc_site.specs.Conduct.{prepare_length, most_body, promise_of, promises, prepared_of, is_prepared, prepares};
+ghost use Rattle.qc_site.specs.Conduct.{prepare_length, most_body, promise_of, promises, prepared_of, is_prepared};
+ghost use Rattle.qc_site.specs.Conduct.{prepares};
 
 use crate::Site;
 use crate::held::{Held, held_of, is_held};
@@ -55,7 +56,8 @@ impl Site {
         tx: TxId,
         epoch: u8,
     ) -> Result<Turn, OutOfMemory>
-        ensures ok { IfOk result (λ turn. prepares self.old from number tx epoch ≡ record { site = self.new; turn = turn }) }
+        ensures ok { IfOk result (λ turn. prepares self.old from number tx epoch
+            ≡ record { site = self.new; turn = turn }) }
         ensures err { OnErr result (self.new ≡ self.old) }
     {
         if !is_held(self.held.items(), tx) {
@@ -105,7 +107,8 @@ impl Site {
         promise: Prepared,
     ) -> Result<Turn, OutOfMemory>
         requires { IsTrue (nat_le (prepare_length promise) most_body) }
-        ensures ok { IfOk result (λ turn. promises self.old from number promise ≡ record { site = self.new; turn = turn }) }
+        ensures ok { IfOk result (λ turn. promises self.old from number promise
+            ≡ record { site = self.new; turn = turn }) }
         ensures err { OnErr result (self.new ≡ self.old) }
     {
         let sends = one_message(alloc, from, self.yes(number))?;

@@ -77,7 +77,8 @@ impl Site {
         number: u32,
         message: &Message,
     ) -> Result<Turn, OutOfMemory>
-        ensures ok { IfOk result (λ turn. site_on self.old from number message.now ≡ record { site = self.new; turn = turn }) }
+        ensures ok { IfOk result (λ turn. site_on self.old from number message.now
+            ≡ record { site = self.new; turn = turn }) }
         ensures err { OnErr result (self.new ≡ self.old) }
     {
         match message {
@@ -113,7 +114,8 @@ impl Site {
         tx: TxId,
         lock: ReadLock,
     ) -> Result<Turn, OutOfMemory>
-        ensures ok { IfOk result (λ turn. reads self.old from number tx lock ≡ record { site = self.new; turn = turn }) }
+        ensures ok { IfOk result (λ turn. reads self.old from number tx lock
+            ≡ record { site = self.new; turn = turn }) }
         ensures err { OnErr result (self.new ≡ self.old) }
     {
         let granted = Message::Granted {
@@ -137,7 +139,8 @@ impl Site {
         view: &Log,
         own: &Owns,
     ) -> Result<Turn, OutOfMemory>
-        ensures ok { IfOk result (λ turn. appends self.old from number tx view.now own.now ≡ record { site = self.new; turn = turn }) }
+        ensures ok { IfOk result (λ turn. appends self.old from number tx view.now own.now
+            ≡ record { site = self.new; turn = turn }) }
         ensures err { OnErr result (self.new ≡ self.old) }
     {
         let clock = latest(self.clock, view.lines());
