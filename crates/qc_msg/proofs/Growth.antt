@@ -1,22 +1,23 @@
 -- How what is read off a history grows, as the history does.
-use Rattle.std.proofs.Common.{◌≡◌, ℕ, suc, ◌+◌, ◌==◌, ◌≤◌, Bool, true, false, cond, List, [], ◌∷◌, ◌++◌, map, filter, length, Option, Some, None, option_to_list, refl, ap, sym, ◌∙◌, arith, append_assoc}
-use Rattle.std.specs.List.{fold, cons_option}
+use Rattle.std.proofs.Common.{◌≡◌, ℕ, suc, ◌+◌, ◌==◌, ◌≤◌, Bool, true, false, cond, List, [], ◌∷◌, ◌++◌, map, filter, length, sum_by, Option, Some, None, option_to_list, refl, ap, sym, ◌∙◌, arith, append_assoc}
+use Rattle.std.specs.List.{cons_option, fold, filter_map}
 use Rattle.std.proofs.lemmas.Bool.{eq-eqb}
 use Rattle.std.proofs.lemmas.List.{append-nil, map-append}
 use Rattle.std.proofs.lemmas.List.Elements.{filter-append, filter_map-append}
-use Rattle.std.proofs.lemmas.List.Sums.{fold-append}
-use Rattle.qc_msg.specs.declared.message.Message.{Message}
 use Rattle.qc_msg.specs.declared.message.Envelope.{Envelope}
+use Rattle.qc_msg.specs.declared.message.Message.{Message}
+use Rattle.qc_msg.specs.declared.record.Record.{Record}
+use Rattle.qc_msg.specs.declared.reply.Reply.{Reply}
 use Rattle.qc_msg.specs.declared.step.Given.{Given}
 use Rattle.qc_msg.specs.declared.step.Given.TheVariants as given
-use Rattle.qc_msg.specs.declared.step.Posting.{Posting}
-use Rattle.qc_msg.specs.declared.step.Record.{Record}
-use Rattle.qc_msg.specs.declared.step.Reply.{Reply}
 use Rattle.qc_msg.specs.declared.step.Step.{Step}
-use Rattle.qc_msg.specs.declared.step.Step.TheVariants.{Phase, Wrote, Sent, Told}
-use Rattle.qc_msg.specs.declared.step.Turn.{Turn}
-use Rattle.qc_msg.specs.Mail.{Deed, Sends, deed_at, deed_of, deeds, envelope_of, envelopes, heard, mail, sendings, WasSentTo}
-use Rattle.qc_msg.specs.Steps.{Entry, by, marked, own, posted, sents, step_of, told, wrote}
+use Rattle.qc_msg.specs.declared.step.Step.TheVariants.{Wrote, Sent, Told}
+use Rattle.qc_msg.specs.declared.turn.Posting.{Posting}
+use Rattle.qc_msg.specs.declared.turn.Turn.{Turn}
+use Rattle.qc_msg.specs.Deeds.{Deed, Takes, Writes, Sends, Tells, deed_at, deeds, envelope_of, envelopes, heard, mail, own, sends_of, tells_of, turn_deeds, writes_of, WasSentTo}
+use Rattle.qc_entry.specs.declared.record.Commit.{Commit}
+use Rattle.qc_msg.specs.Counts.{answered, answered_in, commit_in, operations_of, written}
+use Rattle.qc_msg.specs.Steps.{Entry, by, marked, posted, sents, step_of, told, wrote}
 
 -- an actor's steps, as entries
 
@@ -63,7 +64,8 @@ mail-posted a n turn =
 
 mail-input : (a : ℕ) (input : Given) (h : List Entry) → mail (marked a (step_of input) ∷ h) ≡ mail h
 mail-input a (given.Called command) h = refl
-mail-input a (given.Got from number message) h = refl
+mail-input a (given.Got envelope) h = refl
+mail-input a (given.Lost number) h = refl
 
 -- an input sends nothing
 pub mail-taken : (h : List Entry) (a : ℕ) (input : Given) → mail (h ++ marked a (step_of input) ∷ []) ≡ mail h
@@ -71,12 +73,6 @@ mail-taken h a input =
     mail-append h (marked a (step_of input) ∷ [])
     ∙ ap (λ (v : List Envelope). mail h ++ v) (mail-input a input [])
     ∙ append-nil (mail h)
-
--- an input and its turn
-pub mail-event : (h : List Entry) (a n : ℕ) (input : Given) (turn : Turn) → mail (h ++ marked a (step_of input) ∷ by a (posted n turn)) ≡ mail h ++ envelopes a n turn.sends
-mail-event h a n input turn =
-    mail-append h (marked a (step_of input) ∷ by a (posted n turn))
-    ∙ ap (λ (v : List Envelope). mail h ++ v) (mail-input a input (by a (posted n turn)) ∙ mail-posted a n turn)
 
 length-cons_option : (o : Option Envelope) (es : List Envelope) → length (cons_option o es) ≤ length es + 1
 length-cons_option None es = omega arith
@@ -150,23 +146,23 @@ deeds-other a b ms h xs other =
     ∙ ap (λ (v : List Deed). deeds b ms h ++ v) (deeds-none a b (ms ++ mail h) xs other)
     ∙ append-nil (deeds b ms h)
 
-deeds-wrote : (a : ℕ) (ms : List Envelope) (write : Option Record) → deeds a ms (by a (wrote write)) ≡ []
+deeds-wrote : (a : ℕ) (ms : List Envelope) (write : Option Record) → deeds a ms (by a (wrote write)) ≡ writes_of write
 deeds-wrote a ms None = refl
 deeds-wrote a ms (Some written) = ap (λ (v : Bool). cond v (deed_at ms (Wrote written)) [] ++ []) (same_actor a)
 
-deeds-told : (a : ℕ) (ms : List Envelope) (reply : Option Reply) → deeds a ms (by a (told reply)) ≡ []
+deeds-told : (a : ℕ) (ms : List Envelope) (reply : Option Reply) → deeds a ms (by a (told reply)) ≡ tells_of reply
 deeds-told a ms None = refl
 deeds-told a ms (Some reply) = ap (λ (v : Bool). cond v (deed_at ms (Told reply)) [] ++ []) (same_actor a)
 
-deeds-sents : (a n : ℕ) (ms : List Envelope) (ps : List Posting) → deeds a ms (by a (sents n ps)) ≡ sendings n ps
+deeds-sents : (a n : ℕ) (ms : List Envelope) (ps : List Posting) → deeds a ms (by a (sents n ps)) ≡ sends_of n ps
 deeds-sents a n ms [] = refl
 deeds-sents a n ms (p ∷ ps) =
     let more : List Envelope = ms ++ option_to_list (envelope_of (marked a (Sent n p.to p.message))) in
     ap (λ (v : Bool). cond v (deed_at ms (Sent n p.to p.message)) [] ++ deeds a more (by a (sents (n + 1) ps))) (same_actor a)
-    ∙ ap (λ (v : List Deed). Sends n ∷ v) (deeds-sents a (n + 1) more ps)
+    ∙ ap (λ (v : List Deed). Sends n p.to p.message ∷ v) (deeds-sents a (n + 1) more ps)
 
 -- what a turn does
-pub deeds-by_same : (a n : ℕ) (ms : List Envelope) (turn : Turn) → deeds a ms (by a (posted n turn)) ≡ sendings n turn.sends
+pub deeds-by_same : (a n : ℕ) (ms : List Envelope) (turn : Turn) → deeds a ms (by a (posted n turn)) ≡ turn_deeds n turn
 deeds-by_same a n ms turn =
     let w : List Entry = by a (wrote turn.write) in
     let s : List Entry = by a (sents n turn.sends) in
@@ -174,52 +170,33 @@ deeds-by_same a n ms turn =
     ap (λ (v : List Entry). deeds a ms v) (by-posted a n turn)
     ∙ deeds-append a ms w (s ++ t)
     ∙ ap (λ (v : List Deed). v ++ deeds a (ms ++ mail w) (s ++ t)) (deeds-wrote a ms turn.write)
-    ∙ deeds-append a (ms ++ mail w) s t
+    ∙ ap (λ (v : List Deed). writes_of turn.write ++ v)
+    (deeds-append a (ms ++ mail w) s t
     ∙ ap (λ (v : List Deed). v ++ deeds a ((ms ++ mail w) ++ mail s) t) (deeds-sents a n (ms ++ mail w) turn.sends)
-    ∙ ap (λ (v : List Deed). sendings n turn.sends ++ v) (deeds-told a ((ms ++ mail w) ++ mail s) turn.told)
-    ∙ append-nil (sendings n turn.sends)
+    ∙ ap (λ (v : List Deed). sends_of n turn.sends ++ v) (deeds-told a ((ms ++ mail w) ++ mail s) turn.told))
 
 -- what an input does
-pub deed_at-given : (a : ℕ) (ms : List Envelope) (input : Given) → WasSentTo a ms input → deed_at ms (step_of input) ≡ deed_of a input ∷ []
+pub deed_at-given : (a : ℕ) (ms : List Envelope) (input : Given) → WasSentTo a ms input → deed_at ms (step_of input) ≡ Takes input ∷ []
 deed_at-given a ms (given.Called command) sent = refl
-deed_at-given a ms (given.Got from number message) sent = ap heard sent
+deed_at-given a ms (given.Got envelope) sent = ap heard sent.0
+deed_at-given a ms (given.Lost number) sent = refl
 
-deeds-input : (a : ℕ) (ms : List Envelope) (input : Given) (h : List Entry) → WasSentTo a ms input → deeds a ms (marked a (step_of input) ∷ h) ≡ deed_of a input ∷ deeds a ms h
-deeds-input a ms input h sent =
-    let more : List Envelope = ms ++ option_to_list (envelope_of (marked a (step_of input))) in
-    ap (λ (v : Bool). cond v (deed_at ms (step_of input)) [] ++ deeds a more h) (same_actor a)
-    ∙ ap (λ (v : List Deed). v ++ deeds a more h) (deed_at-given a ms input sent)
-    ∙ ap (λ (v : List Envelope). deed_of a input ∷ deeds a (ms ++ v) h) (quiet input)
-    ∙ ap (λ (v : List Envelope). deed_of a input ∷ deeds a v h) (append-nil ms)
-  where
-    quiet : (i : Given) → option_to_list (envelope_of (marked a (step_of i))) ≡ []
-    quiet (given.Called command) = refl
-    quiet (given.Got from number message) = refl
+deeds-input : (a : ℕ) (ms : List Envelope) (input : Given) → WasSentTo a ms input → deeds a ms (marked a (step_of input) ∷ []) ≡ Takes input ∷ []
+deeds-input a ms input sent =
+    ap (λ (v : Bool). cond v (deed_at ms (step_of input)) [] ++ []) (same_actor a)
+    ∙ ap (λ (v : List Deed). v ++ []) (deed_at-given a ms input sent)
 
 -- the actor's own deeds go on by its input
-pub deeds-taken : (a : ℕ) (h : List Entry) (input : Given) → WasSentTo a (mail h) input → deeds a [] (h ++ marked a (step_of input) ∷ []) ≡ deeds a [] h ++ deed_of a input ∷ []
+pub deeds-taken : (a : ℕ) (h : List Entry) (input : Given) → WasSentTo a (mail h) input → deeds a [] (h ++ marked a (step_of input) ∷ []) ≡ deeds a [] h ++ Takes input ∷ []
 deeds-taken a h input sent =
     deeds-append a [] h (marked a (step_of input) ∷ [])
-    ∙ ap (λ (v : List Deed). deeds a [] h ++ v) (deeds-input a (mail h) input [] sent)
+    ∙ ap (λ (v : List Deed). deeds a [] h ++ v) (deeds-input a (mail h) input sent)
 
 -- and by its turn
-pub deeds-event : (a n : ℕ) (h : List Entry) (input : Given) (turn : Turn) → WasSentTo a (mail h) input → deeds a [] (h ++ marked a (step_of input) ∷ by a (posted n turn)) ≡ deeds a [] h ++ deed_of a input ∷ sendings n turn.sends
-deeds-event a n h input turn sent =
-    deeds-append a [] h (marked a (step_of input) ∷ by a (posted n turn))
-    ∙ ap (λ (v : List Deed). deeds a [] h ++ v) (deeds-input a (mail h) input (by a (posted n turn)) sent ∙ ap (λ (v : List Deed). deed_of a input ∷ v) (deeds-by_same a n _ turn))
-
--- a phase sends nothing, and is no deed
-
-pub mail-phase : (h : List Entry) (a k : ℕ) → mail (h ++ marked a (Phase k) ∷ []) ≡ mail h
-mail-phase h a k = mail-append h (marked a (Phase k) ∷ []) ∙ append-nil (mail h)
-
-pub deeds-phase : (a b k : ℕ) (ms : List Envelope) (h : List Entry) → deeds b ms (h ++ marked a (Phase k) ∷ []) ≡ deeds b ms h
-deeds-phase a b k ms h =
-    deeds-append b ms h (marked a (Phase k) ∷ []) ∙ ap (λ (v : List Deed). deeds b ms h ++ v) (none (a == b)) ∙ append-nil (deeds b ms h)
-  where
-    none : (mine : Bool) → cond mine (deed_at (ms ++ mail h) (Phase k)) [] ++ [] ≡ []
-    none true = refl
-    none false = refl
+pub deeds-posted : (a n : ℕ) (h : List Entry) (turn : Turn) → deeds a [] (h ++ by a (posted n turn)) ≡ deeds a [] h ++ turn_deeds n turn
+deeds-posted a n h turn =
+    deeds-append a [] h (by a (posted n turn))
+    ∙ ap (λ (v : List Deed). deeds a [] h ++ v) (deeds-by_same a n (mail h) turn)
 
 -- an actor whose own steps stay has the deeds that it had
 pub deeds-none_own : (a : ℕ) (ms : List Envelope) (k : List Entry) → own a k ≡ [] → deeds a ms k ≡ []
@@ -241,61 +218,14 @@ same_deeds a ms h k same =
     nothing_more [] ys h = h
     nothing_more (x ∷ xs) ys h = nothing_more xs ys (cc)
 
--- folds
+-- the committed operations are those of the records that were written
 
--- over a turn: the record, the messages, the reply
-pub fold-posted : {B : Type 0} (f : B → Entry → B) (b : B) (a n : ℕ) (turn : Turn)
-    → fold f b (by a (posted n turn)) ≡ fold f (fold f (fold f b (by a (wrote turn.write))) (by a (sents n turn.sends))) (by a (told turn.told))
-fold-posted f b a n turn =
-    let w : List Entry = by a (wrote turn.write) in
-    let s : List Entry = by a (sents n turn.sends) in
-    let t : List Entry = by a (told turn.told) in
-    ap (λ (v : List Entry). fold f b v) (by-posted a n turn)
-    ∙ fold-append f b w (s ++ t)
-    ∙ fold-append f (fold f b w) s t
+operations-cons : (o : Option Commit) (cs : List Commit) → answered_in o + sum_by (λ (c : Commit). answered c.ops) cs ≡ sum_by (λ (c : Commit). answered c.ops) (cons_option o cs)
+operations-cons None cs = refl
+operations-cons (Some c) cs = refl
 
--- folds that ignore some steps of an actor
-
-abbrev pub IgnoresAll : {B : Type 0} → (B → Entry → B) → ℕ → Type 0
-IgnoresAll {B} f a = (b : B) (x : Step) → f b (marked a x) ≡ b
-
-abbrev pub IgnoresWrote : {B : Type 0} → (B → Entry → B) → ℕ → Type 0
-IgnoresWrote {B} f a = (b : B) (written : Record) → f b (marked a (Wrote written)) ≡ b
-
-abbrev pub IgnoresSent : {B : Type 0} → (B → Entry → B) → ℕ → Type 0
-IgnoresSent {B} f a = (b : B) (n to : ℕ) (message : Message) → f b (marked a (Sent n to message)) ≡ b
-
-abbrev pub IgnoresTold : {B : Type 0} → (B → Entry → B) → ℕ → Type 0
-IgnoresTold {B} f a = (b : B) (reply : Reply) → f b (marked a (Told reply)) ≡ b
-
-pub fold-by : {B : Type 0} (f : B → Entry → B) (a : ℕ) → IgnoresAll f a → (b : B) (xs : List Step) → fold f b (by a xs) ≡ b
-fold-by f a ignores b [] = refl
-fold-by f a ignores b (x ∷ xs) = ap (λ v. fold f v (by a xs)) (ignores b x) ∙ fold-by f a ignores b xs
-
-pub fold-wrote : {B : Type 0} (f : B → Entry → B) (a : ℕ) → IgnoresWrote f a → (b : B) (write : Option Record) → fold f b (by a (wrote write)) ≡ b
-fold-wrote f a ignores b None = refl
-fold-wrote f a ignores b (Some written) = ignores b written
-
-pub fold-sents : {B : Type 0} (f : B → Entry → B) (a : ℕ) → IgnoresSent f a → (b : B) (n : ℕ) (ps : List Posting) → fold f b (by a (sents n ps)) ≡ b
-fold-sents f a ignores b n [] = refl
-fold-sents f a ignores b n (p ∷ ps) = ap (λ v. fold f v (by a (sents (n + 1) ps))) (ignores b n p.to p.message) ∙ fold-sents f a ignores b (n + 1) ps
-
-pub fold-told : {B : Type 0} (f : B → Entry → B) (a : ℕ) → IgnoresTold f a → (b : B) (reply : Option Reply) → fold f b (by a (told reply)) ≡ b
-fold-told f a ignores b None = refl
-fold-told f a ignores b (Some reply) = ignores b reply
-
--- what is left of a turn: the messages, the reply, or nothing
-
-pub fold-posted_sents : {B : Type 0} (f : B → Entry → B) (a : ℕ) → IgnoresWrote f a → IgnoresTold f a → (b : B) (n : ℕ) (turn : Turn) → fold f b (by a (posted n turn)) ≡ fold f b (by a (sents n turn.sends))
-fold-posted_sents f a record_of heard_of b n turn =
-    fold-posted f b a n turn
-    ∙ fold-told f a heard_of (fold f (fold f b (by a (wrote turn.write))) (by a (sents n turn.sends))) turn.told
-    ∙ ap (λ v. fold f v (by a (sents n turn.sends))) (fold-wrote f a record_of b turn.write)
-
-pub fold-posted_told : {B : Type 0} (f : B → Entry → B) (a : ℕ) → IgnoresWrote f a → IgnoresSent f a → (b : B) (n : ℕ) (turn : Turn) → fold f b (by a (posted n turn)) ≡ fold f b (by a (told turn.told))
-fold-posted_told f a record_of sent b n turn =
-    fold-posted f b a n turn
-    ∙ ap (λ v. fold f v (by a (told turn.told))) (fold-sents f a sent (fold f b (by a (wrote turn.write))) n turn.sends ∙ fold-wrote f a record_of b turn.write)
-
-pub fold-posted_none : {B : Type 0} (f : B → Entry → B) (a : ℕ) → IgnoresWrote f a → IgnoresSent f a → IgnoresTold f a → (b : B) (n : ℕ) (turn : Turn) → fold f b (by a (posted n turn)) ≡ b
-fold-posted_none f a record_of sent heard_of b n turn = fold-posted_told f a record_of sent b n turn ∙ fold-told f a heard_of b turn.told
+pub operations-written : (h : List Entry) → operations_of h ≡ sum_by (λ (c : Commit). answered c.ops) (written h)
+operations-written [] = refl
+operations-written (e ∷ h) =
+    ap (λ (v : ℕ). answered_in (commit_in e.step) + v) (operations-written h)
+    ∙ operations-cons (commit_in e.step) (written h)

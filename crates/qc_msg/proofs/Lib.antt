@@ -1,3 +1,1 @@
 pub mod Growth
-pub mod Sent
-pub mod Within

@@ -1,4 +1,4 @@
 pub mod Steps
-pub mod Mail
+pub mod Turns
+pub mod Deeds
 pub mod Counts
-pub mod Within

@@ -1,10 +1,11 @@
 //! The history, and the quantities that are counted in it.
 
 ghost use Rattle.std.specs.Prelude.{◌≡◌, ◌^◌, ◌-◌, [], ◌++◌, length, min, OnOk, OnErr};
-ghost use Rattle.qc_msg.specs.Counts.{operations_of, carried_of, operations_at, carried_at, lines_in, answered};
+ghost use Rattle.qc_msg.specs.Counts.{operations_of, carried_of, answered_in, commit_in, carried_at, lines_in};
+ghost use Rattle.qc_msg.specs.Counts.{answered, lines_wanted, lines_answered, lines_promised};
 
-use crate::{Entry, Message, Record, Step};
-use qc_entry::Op;
+use crate::{Answer, Entry, Message, Record, Step, Want};
+use qc_entry::{Op, Prepared};
 use qc_list::OutOfMemory;
 use std::alloc::Global;
 use std::marker::Model;
@@ -105,7 +106,7 @@ fn operations_in(entries: &[Entry]) -> u32
 
 /// The committed operations with a response in a step.
 fn operations_by(step: &Step) -> u32
-    ensures { result ≡ min (operations_at step.now) (2 ^ 32 - 1) }
+    ensures { result ≡ min (answered_in (commit_in step.now)) (2 ^ 32 - 1) }
 {
     match step {
         Step::Wrote(Record::Commit(commit)) => with_response(commit.ops.items()),
@@ -141,15 +142,53 @@ fn carried_by(step: &Step) -> u32
     }
 }
 
-/// The lines in a message's log.
+/// The lines that a message carries.
 fn lines_of(message: &Message) -> u32
     ensures { result ≡ min (lines_in message.now) (2 ^ 32 - 1) }
 {
     match message {
-        Message::Append { view, .. } => saturated(view.lines().len()),
-        Message::Granted { log, .. } => saturated(log.lines().len()),
+        Message::Request { want, .. } => lines_wanted(want),
+        Message::Answer { answer, .. } => lines_answered(answer),
+        Message::Install { log, .. } => saturated(log.lines().len()),
+        Message::Decision { .. }
+        | Message::Inquiry { .. }
+        | Message::Ask { .. }
+        | Message::Close { .. } => 0,
+    }
+}
+
+/// The lines that a request carries.
+fn lines_wanted(want: &Want) -> u32
+    ensures { result ≡ min (lines_wanted want.now) (2 ^ 32 - 1) }
+{
+    match want {
+        Want::Append { view, .. } => saturated(view.lines().len()),
+        Want::Read { .. } | Want::Prepare => 0,
+    }
+}
+
+/// The lines that an answer carries.
+fn lines_answered(answer: &Answer) -> u32
+    ensures { result ≡ min (lines_answered answer.now) (2 ^ 32 - 1) }
+{
+    match answer {
+        Answer::Granted { log, .. } => saturated(log.lines().len()),
+        Answer::Shut { log, prepared, .. } => {
+            saturated(log.lines().len()).saturating_add(lines_promised(prepared.items()))
+        }
         _ => 0,
     }
+}
+
+/// The lines of promises.
+fn lines_promised(prepared: &[Prepared]) -> u32
+    ensures { result ≡ min (lines_promised prepared.now) (2 ^ 32 - 1) }
+{
+    let mut total = 0u32;
+    for promise in prepared {
+        total = total.saturating_add(saturated(promise.lines.lines().len()));
+    }
+    total
 }
 
 /// The number, or the greatest that fits.

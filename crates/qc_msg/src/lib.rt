@@ -1,29 +1,42 @@
-//! The types that sites, clients and histories share: messages, records,
-//! commands, replies, steps, turns, and the history itself.
+//! The types that sites, clients, the administrator and histories share:
+//! messages, records, commands, replies, steps, turns, and the history itself.
 //!
 //! A history is the list of its entries, oldest first, each a step with its
-//! actor. All that is read off it, in `specs/`, is a fold or a filter with one
-//! line for each kind of step. What holds:
+//! actor. What an actor does in it is one list of deeds (`specs/Deeds.antt`):
+//! each input that it takes, a message with sender, receiver and number; each
+//! record that it writes; each message that it sends; each reply that it tells.
+//! All that is read off an actor's steps is a fold over its deeds. What holds:
 //!
 //! 1. Messages are numbered from 0 in the order in which the history sent
 //!    them: a message's number is its place in the list of all messages.
 //! 2. A turn adds its steps and no others, all or nothing: the record, then
 //!    the messages, then the reply (`Turn::entries`).
-//! 3. Each message goes to its receiver alone (`Turn::deliver`).
-//! 4. The history's counts of steps, of committed operations and of lines
-//!    carried are those of its entries (`History`).
+//! 3. The history's counts of steps, of committed operations and of lines
+//!    carried are those of its entries (`History`), and the committed
+//!    operations are those of the records that were written
+//!    (`operations_are_those_of_records`).
+//! 4. An actor's deeds go on by its own input and turn, and stay where another
+//!    actor or the controller goes on (`deeds_go_on`).
 //!
-//! The script's runs, the site, the client, the laws, the text and the loop
-//! stand on it.
+//! The script's runs, the promise, the site, the client, the laws, the text and
+//! the loop stand on it.
 #![tactic(auto)]
 
+mod begun;
 mod history;
+mod laws;
 mod message;
 mod post;
+mod record;
+mod reply;
 mod step;
+mod turn;
 
+pub use begun::{Begun, LifeAt, Lives, Sites};
 pub use history::History;
-pub use message::{Envelope, Message, Outcome};
-pub use step::{
-    Command, Entry, Given, Input, Posting, Record, Reply, Sends, Step, Turn, What, Why,
-};
+pub use laws::{deeds_go_on, operations_are_those_of_records};
+pub use message::{Answer, Envelope, Message, Outcome, PreparedList, Want};
+pub use record::{Record, Records};
+pub use reply::{Half, Reply, Why};
+pub use step::{Command, Control, Entry, Fall, Given, Step, What};
+pub use turn::{Posting, Sends, Turn};

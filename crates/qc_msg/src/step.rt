@@ -1,11 +1,10 @@
-//! Steps of a history, what actors take and what they post.
+//! Steps of a history, and what actors take.
 
-use crate::Message;
-use qc_entry::{Commit, Prepared};
-use qc_list::{List, Marked};
-use qc_stamp::{Stamp, TxId};
+use crate::{Envelope, Message, Record, Records, Reply};
+use qc_list::Marked;
+use qc_outside::ArmKind;
 
-/// What a client is asked to do.
+/// What a client or the administrator is asked to do.
 #[derive(Clone, Copy, Debug, PartialEq, Eq)]
 pub enum Command {
     /// To begin a transaction.
@@ -16,59 +15,61 @@ pub enum Command {
     Commit,
     /// To give the transaction up.
     Abort,
+    /// To move the sites to this epoch.
+    Epoch { number: u8 },
 }
 
-/// Why a transaction was aborted.
+/// What the controller does between an actor's steps: the lines of a script
+/// that are no commands.
 #[derive(Clone, Copy, Debug, PartialEq, Eq)]
-pub enum Why {
-    /// A participant holds nothing of it any more.
-    Forgot { site: u8 },
+pub enum Control {
+    /// This phase begins, from 1.
+    Phase(u32),
+    /// The two actors lose all messages between them.
+    Cut(u8, u8),
+    /// The two actors are joined again.
+    Heal(u8, u8),
+    /// The actor's disk will do so at its call of this number, counted from
+    /// now on.
+    Armed { actor: u8, kind: ArmKind, at: u32 },
+    /// The actor falls.
+    Crash(u8),
+    /// The actor rises.
+    Restart(u8),
 }
 
-/// The reply to a command.
+/// Why an actor fell.
 #[derive(Clone, Copy, Debug, PartialEq, Eq)]
-pub enum Reply {
-    /// `begin`: this transaction is begun and hasn't ended.
-    Already { tx: TxId },
-    /// `begin`: this transaction began.
-    Began { tx: TxId },
-    /// No transaction is begun.
-    NoTransaction,
-    /// `do`: the transaction has 16 operations.
-    TooLong,
-    /// `do`: no response is legal after the view.
-    Absent,
-    /// `do`: the response.
-    Response { resp: u8 },
-    /// `commit`: the transaction didn't commit.
-    Aborted { why: Why },
-    /// `commit`: the transaction committed, with this stamp.
-    Committed { stamp: Stamp },
-    /// `abort`: the transaction is given up.
-    Dropped,
+pub enum Fall {
+    /// The script said so.
+    Script,
+    /// Its disk stopped.
+    Stop,
+    /// Its disk failed.
+    Disk,
 }
 
-/// A record of an actor's journal (presumed abort: each is forced before the
-/// message that it stands for).
-#[derive(Drop)]
-pub enum Record {
-    /// A site's promise to keep a transaction.
-    Prepare(Prepared),
-    /// A site learned that a prepared transaction committed.
-    Done { tx: TxId, clock: u64 },
-    /// A client's transaction committed.
-    Commit(Commit),
-}
-
-/// A step of an actor.
+/// A step of an actor, or of the controller.
 #[derive(Drop)]
 pub enum Step {
     /// The controller begins this phase, from 1.
     Phase(u32),
-    /// A client takes its next command.
+    /// The controller cuts two actors from each other.
+    Cut(u8, u8),
+    /// The controller joins them again.
+    Heal(u8, u8),
+    /// The controller arms an actor's disk.
+    Armed {
+        actor: u8,
+        kind: ArmKind,
+        at: u32,
+    },
+    /// An actor takes its next command.
     Called(Command),
-    /// An actor takes the message of this number.
+    /// An actor takes a copy of the message of this number.
     Got(u32),
+    /// An actor learns that its request of this number is lost.
+    Lost(u32),
     /// An actor's journal has this record.
     Wrote(Record),
     /// An actor sends a message.
@@ -77,8 +78,17 @@ pub enum Step {
         to: u8,
         message: Message,
     },
-    /// A client replies to the command that was last called.
+    /// An actor replies to the command that it took last.
     Told(Reply),
+    /// An actor falls, with the record that was being written.
+    Fell {
+        cause: Fall,
+        pending: Option<Record>,
+    },
+    /// An actor rises with what its journal gave.
+    Rose(Records),
+    /// An actor can't rise: at this byte its journal is none.
+    Damaged(u64),
 }
 
 /// An entry of a history: a step with its actor.
@@ -89,43 +99,10 @@ pub type Entry = Marked<Step>;
 pub enum Given {
     /// A command.
     Called(Command),
-    /// A message, with its sender and its number.
-    Got {
-        from: u8,
-        number: u32,
-        message: Message,
-    },
-}
-
-/// What a client takes but for commands.
-#[derive(Drop)]
-pub enum Input {
     /// A message.
-    Answer(Message),
-}
-
-/// A message to be sent.
-#[derive(Drop)]
-pub struct Posting {
-    /// The receiver's number.
-    pub to: u8,
-    /// The message.
-    pub message: Message,
-}
-
-/// A list of messages to be sent.
-pub type Sends = List<Posting>;
-
-/// What an actor does for one input: a record to be written first, then
-/// messages, then the reply.
-#[derive(Drop)]
-pub struct Turn {
-    /// The record, if any.
-    pub write: Option<Record>,
-    /// The messages, in order.
-    pub sends: Sends,
-    /// The reply, if any.
-    pub told: Option<Reply>,
+    Got(Envelope),
+    /// That its request of this number is lost.
+    Lost { number: u32 },
 }
 
 /// A counted quantity of a history, which has a limit.

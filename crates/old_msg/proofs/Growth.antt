@@ -1,0 +1,301 @@
+-- How what is read off a history grows, as the history does.
+use Rattle.std.proofs.Common.{◌≡◌, ℕ, suc, ◌+◌, ◌==◌, ◌≤◌, Bool, true, false, cond, List, [], ◌∷◌, ◌++◌, map, filter, length, Option, Some, None, option_to_list, refl, ap, sym, ◌∙◌, arith, append_assoc}
+use Rattle.std.specs.List.{fold, cons_option}
+use Rattle.std.proofs.lemmas.Bool.{eq-eqb}
+use Rattle.std.proofs.lemmas.List.{append-nil, map-append}
+use Rattle.std.proofs.lemmas.List.Elements.{filter-append, filter_map-append}
+use Rattle.std.proofs.lemmas.List.Sums.{fold-append}
+use Rattle.old_msg.specs.declared.message.Message.{Message}
+use Rattle.old_msg.specs.declared.message.Envelope.{Envelope}
+use Rattle.old_msg.specs.declared.step.Given.{Given}
+use Rattle.old_msg.specs.declared.step.Given.TheVariants as given
+use Rattle.old_msg.specs.declared.step.Posting.{Posting}
+use Rattle.old_msg.specs.declared.step.Record.{Record}
+use Rattle.old_msg.specs.declared.step.Reply.{Reply}
+use Rattle.old_msg.specs.declared.step.Step.{Step}
+use Rattle.old_msg.specs.declared.step.Step.TheVariants.{Phase, Wrote, Sent, Told}
+use Rattle.old_msg.specs.declared.step.Turn.{Turn}
+use Rattle.old_msg.specs.Mail.{Deed, Sends, deed_at, deed_of, deeds, envelope_of, envelopes, heard, mail, sendings, WasSentTo}
+use Rattle.old_msg.specs.Steps.{Entry, by, marked, own, posted, sents, step_of, told, wrote}
+
+-- an actor's steps, as entries
+
+pub by-append : (a : ℕ) (xs ys : List Step) → by a (xs ++ ys) ≡ by a xs ++ by a ys
+by-append a [] ys = refl
+by-append a (x ∷ xs) ys = ap (λ (v : List Entry). marked a x ∷ v) (by-append a xs ys)
+
+-- the entries of a turn: its record, its messages, its reply
+pub by-posted : (a n : ℕ) (turn : Turn) → by a (posted n turn) ≡ by a (wrote turn.write) ++ (by a (sents n turn.sends) ++ by a (told turn.told))
+by-posted a n turn =
+    by-append a (wrote turn.write) (sents n turn.sends ++ told turn.told)
+    ∙ ap (λ (v : List Entry). by a (wrote turn.write) ++ v) (by-append a (sents n turn.sends) (told turn.told))
+
+-- messages
+
+pub mail-append : (h k : List Entry) → mail (h ++ k) ≡ mail h ++ mail k
+mail-append h k = filter_map-append envelope_of h k
+
+mail-wrote : (a : ℕ) (write : Option Record) → mail (by a (wrote write)) ≡ []
+mail-wrote a None = refl
+mail-wrote a (Some written) = refl
+
+mail-sents : (a n : ℕ) (ps : List Posting) → mail (by a (sents n ps)) ≡ envelopes a n ps
+mail-sents a n [] = refl
+mail-sents a n (p ∷ ps) = ap (λ (v : List Envelope). record { number = n; from = a; to = p.to; message = p.message } ∷ v) (mail-sents a (n + 1) ps)
+
+mail-told : (a : ℕ) (reply : Option Reply) → mail (by a (told reply)) ≡ []
+mail-told a None = refl
+mail-told a (Some reply) = refl
+
+-- what a turn sends
+pub mail-posted : (a n : ℕ) (turn : Turn) → mail (by a (posted n turn)) ≡ envelopes a n turn.sends
+mail-posted a n turn =
+    let w : List Entry = by a (wrote turn.write) in
+    let s : List Entry = by a (sents n turn.sends) in
+    let t : List Entry = by a (told turn.told) in
+    ap mail (by-posted a n turn)
+    ∙ mail-append w (s ++ t)
+    ∙ ap (λ (v : List Envelope). v ++ mail (s ++ t)) (mail-wrote a turn.write)
+    ∙ mail-append s t
+    ∙ ap (λ (v : List Envelope). v ++ mail t) (mail-sents a n turn.sends)
+    ∙ ap (λ (v : List Envelope). envelopes a n turn.sends ++ v) (mail-told a turn.told)
+    ∙ append-nil (envelopes a n turn.sends)
+
+mail-input : (a : ℕ) (input : Given) (h : List Entry) → mail (marked a (step_of input) ∷ h) ≡ mail h
+mail-input a (given.Called command) h = refl
+mail-input a (given.Got from number message) h = refl
+
+-- an input sends nothing
+pub mail-taken : (h : List Entry) (a : ℕ) (input : Given) → mail (h ++ marked a (step_of input) ∷ []) ≡ mail h
+mail-taken h a input =
+    mail-append h (marked a (step_of input) ∷ [])
+    ∙ ap (λ (v : List Envelope). mail h ++ v) (mail-input a input [])
+    ∙ append-nil (mail h)
+
+-- an input and its turn
+pub mail-event : (h : List Entry) (a n : ℕ) (input : Given) (turn : Turn) → mail (h ++ marked a (step_of input) ∷ by a (posted n turn)) ≡ mail h ++ envelopes a n turn.sends
+mail-event h a n input turn =
+    mail-append h (marked a (step_of input) ∷ by a (posted n turn))
+    ∙ ap (λ (v : List Envelope). mail h ++ v) (mail-input a input (by a (posted n turn)) ∙ mail-posted a n turn)
+
+length-cons_option : (o : Option Envelope) (es : List Envelope) → length (cons_option o es) ≤ length es + 1
+length-cons_option None es = omega arith
+length-cons_option (Some e) es = omega arith
+
+-- no more messages than steps
+pub length-mail : (h : List Entry) → length (mail h) ≤ length h
+length-mail [] = omega arith
+length-mail (e ∷ h) = omega (arith, length-cons_option (envelope_of e) (mail h), length-mail h)
+
+pub length-envelopes : (a n : ℕ) (ps : List Posting) → length (envelopes a n ps) ≡ length ps
+length-envelopes a n [] = refl
+length-envelopes a n (p ∷ ps) = ap (λ (v : ℕ). suc v) (length-envelopes a (n + 1) ps)
+
+-- an actor's own steps
+
+same_actor : (a : ℕ) → (a == a) ≡ true
+same_actor a = eq-eqb a a refl
+
+pub own-append : (a : ℕ) (h k : List Entry) → own a (h ++ k) ≡ own a h ++ own a k
+own-append a h k =
+    ap (λ (v : List Entry). map (λ (e : Entry). e.step) v) (filter-append (λ (e : Entry). e.actor == a) h k)
+    ∙ map-append (λ (e : Entry). e.step) (filter (λ (e : Entry). e.actor == a) h) (filter (λ (e : Entry). e.actor == a) k)
+
+pub own-by_same : (a : ℕ) (xs : List Step) → own a (by a xs) ≡ xs
+own-by_same a [] = refl
+own-by_same a (x ∷ xs) =
+    ap (λ (v : Bool). map (λ (e : Entry). e.step) (cond v (marked a x ∷ filter (λ (e : Entry). e.actor == a) (by a xs)) (filter (λ (e : Entry). e.actor == a) (by a xs)))) (same_actor a)
+    ∙ ap (λ (v : List Step). x ∷ v) (own-by_same a xs)
+
+pub own-by_other : (a b : ℕ) (xs : List Step) → (a == b) ≡ false → own b (by a xs) ≡ []
+own-by_other a b [] other = refl
+own-by_other a b (x ∷ xs) other =
+    ap (λ (v : Bool). map (λ (e : Entry). e.step) (cond v (marked a x ∷ filter (λ (e : Entry). e.actor == b) (by a xs)) (filter (λ (e : Entry). e.actor == b) (by a xs)))) other
+    ∙ own-by_other a b xs other
+
+-- a history that goes on by an actor's steps
+pub own-more : (a : ℕ) (h : List Entry) (xs : List Step) → own a (h ++ by a xs) ≡ own a h ++ xs
+own-more a h xs = own-append a h (by a xs) ∙ ap (λ (v : List Step). own a h ++ v) (own-by_same a xs)
+
+pub own-other : (a b : ℕ) (h : List Entry) (xs : List Step) → (a == b) ≡ false → own b (h ++ by a xs) ≡ own b h
+own-other a b h xs other = own-append b h (by a xs) ∙ ap (λ (v : List Step). own b h ++ v) (own-by_other a b xs other) ∙ append-nil (own b h)
+
+-- deeds
+
+cons_option-append : (o : Option Envelope) (es : List Envelope) → cons_option o es ≡ option_to_list o ++ es
+cons_option-append None es = refl
+cons_option-append (Some e) es = refl
+
+pub deeds-append : (a : ℕ) (ms : List Envelope) (h k : List Entry) → deeds a ms (h ++ k) ≡ deeds a ms h ++ deeds a (ms ++ mail h) k
+deeds-append a ms [] k = ap (λ (v : List Envelope). deeds a v k) (sym (append-nil ms))
+deeds-append a ms (e ∷ h) k =
+    let here : List Deed = cond (e.actor == a) (deed_at ms e.step) [] in
+    let more : List Envelope = option_to_list (envelope_of e) in
+    ap (λ (v : List Deed). here ++ v) (deeds-append a (ms ++ more) h k)
+    ∙ sym (append_assoc here (deeds a (ms ++ more) h) (deeds a ((ms ++ more) ++ mail h) k))
+    ∙ ap (λ (v : List Envelope). (here ++ deeds a (ms ++ more) h) ++ deeds a v k)
+    (append_assoc ms more (mail h) ∙ ap (λ (v : List Envelope). ms ++ v) (sym (cons_option-append (envelope_of e) (mail h))))
+
+-- steps of another actor are no deeds
+pub deeds-none : (a b : ℕ) (ms : List Envelope) (xs : List Step) → (a == b) ≡ false → deeds b ms (by a xs) ≡ []
+deeds-none a b ms [] other = refl
+deeds-none a b ms (x ∷ xs) other =
+    ap (λ (v : Bool). cond v (deed_at ms x) [] ++ deeds b (ms ++ option_to_list (envelope_of (marked a x))) (by a xs)) other
+    ∙ deeds-none a b (ms ++ option_to_list (envelope_of (marked a x))) xs other
+
+-- so the deeds stay where another actor goes on
+pub deeds-other : (a b : ℕ) (ms : List Envelope) (h : List Entry) (xs : List Step) → (a == b) ≡ false → deeds b ms (h ++ by a xs) ≡ deeds b ms h
+deeds-other a b ms h xs other =
+    deeds-append b ms h (by a xs)
+    ∙ ap (λ (v : List Deed). deeds b ms h ++ v) (deeds-none a b (ms ++ mail h) xs other)
+    ∙ append-nil (deeds b ms h)
+
+deeds-wrote : (a : ℕ) (ms : List Envelope) (write : Option Record) → deeds a ms (by a (wrote write)) ≡ []
+deeds-wrote a ms None = refl
+deeds-wrote a ms (Some written) = ap (λ (v : Bool). cond v (deed_at ms (Wrote written)) [] ++ []) (same_actor a)
+
+deeds-told : (a : ℕ) (ms : List Envelope) (reply : Option Reply) → deeds a ms (by a (told reply)) ≡ []
+deeds-told a ms None = refl
+deeds-told a ms (Some reply) = ap (λ (v : Bool). cond v (deed_at ms (Told reply)) [] ++ []) (same_actor a)
+
+deeds-sents : (a n : ℕ) (ms : List Envelope) (ps : List Posting) → deeds a ms (by a (sents n ps)) ≡ sendings n ps
+deeds-sents a n ms [] = refl
+deeds-sents a n ms (p ∷ ps) =
+    let more : List Envelope = ms ++ option_to_list (envelope_of (marked a (Sent n p.to p.message))) in
+    ap (λ (v : Bool). cond v (deed_at ms (Sent n p.to p.message)) [] ++ deeds a more (by a (sents (n + 1) ps))) (same_actor a)
+    ∙ ap (λ (v : List Deed). Sends n ∷ v) (deeds-sents a (n + 1) more ps)
+
+-- what a turn does
+pub deeds-by_same : (a n : ℕ) (ms : List Envelope) (turn : Turn) → deeds a ms (by a (posted n turn)) ≡ sendings n turn.sends
+deeds-by_same a n ms turn =
+    let w : List Entry = by a (wrote turn.write) in
+    let s : List Entry = by a (sents n turn.sends) in
+    let t : List Entry = by a (told turn.told) in
+    ap (λ (v : List Entry). deeds a ms v) (by-posted a n turn)
+    ∙ deeds-append a ms w (s ++ t)
+    ∙ ap (λ (v : List Deed). v ++ deeds a (ms ++ mail w) (s ++ t)) (deeds-wrote a ms turn.write)
+    ∙ deeds-append a (ms ++ mail w) s t
+    ∙ ap (λ (v : List Deed). v ++ deeds a ((ms ++ mail w) ++ mail s) t) (deeds-sents a n (ms ++ mail w) turn.sends)
+    ∙ ap (λ (v : List Deed). sendings n turn.sends ++ v) (deeds-told a ((ms ++ mail w) ++ mail s) turn.told)
+    ∙ append-nil (sendings n turn.sends)
+
+-- what an input does
+pub deed_at-given : (a : ℕ) (ms : List Envelope) (input : Given) → WasSentTo a ms input → deed_at ms (step_of input) ≡ deed_of a input ∷ []
+deed_at-given a ms (given.Called command) sent = refl
+deed_at-given a ms (given.Got from number message) sent = ap heard sent
+
+deeds-input : (a : ℕ) (ms : List Envelope) (input : Given) (h : List Entry) → WasSentTo a ms input → deeds a ms (marked a (step_of input) ∷ h) ≡ deed_of a input ∷ deeds a ms h
+deeds-input a ms input h sent =
+    let more : List Envelope = ms ++ option_to_list (envelope_of (marked a (step_of input))) in
+    ap (λ (v : Bool). cond v (deed_at ms (step_of input)) [] ++ deeds a more h) (same_actor a)
+    ∙ ap (λ (v : List Deed). v ++ deeds a more h) (deed_at-given a ms input sent)
+    ∙ ap (λ (v : List Envelope). deed_of a input ∷ deeds a (ms ++ v) h) (quiet input)
+    ∙ ap (λ (v : List Envelope). deed_of a input ∷ deeds a v h) (append-nil ms)
+  where
+    quiet : (i : Given) → option_to_list (envelope_of (marked a (step_of i))) ≡ []
+    quiet (given.Called command) = refl
+    quiet (given.Got from number message) = refl
+
+-- the actor's own deeds go on by its input
+pub deeds-taken : (a : ℕ) (h : List Entry) (input : Given) → WasSentTo a (mail h) input → deeds a [] (h ++ marked a (step_of input) ∷ []) ≡ deeds a [] h ++ deed_of a input ∷ []
+deeds-taken a h input sent =
+    deeds-append a [] h (marked a (step_of input) ∷ [])
+    ∙ ap (λ (v : List Deed). deeds a [] h ++ v) (deeds-input a (mail h) input [] sent)
+
+-- and by its turn
+pub deeds-event : (a n : ℕ) (h : List Entry) (input : Given) (turn : Turn) → WasSentTo a (mail h) input → deeds a [] (h ++ marked a (step_of input) ∷ by a (posted n turn)) ≡ deeds a [] h ++ deed_of a input ∷ sendings n turn.sends
+deeds-event a n h input turn sent =
+    deeds-append a [] h (marked a (step_of input) ∷ by a (posted n turn))
+    ∙ ap (λ (v : List Deed). deeds a [] h ++ v) (deeds-input a (mail h) input (by a (posted n turn)) sent ∙ ap (λ (v : List Deed). deed_of a input ∷ v) (deeds-by_same a n _ turn))
+
+-- a phase sends nothing, and is no deed
+
+pub mail-phase : (h : List Entry) (a k : ℕ) → mail (h ++ marked a (Phase k) ∷ []) ≡ mail h
+mail-phase h a k = mail-append h (marked a (Phase k) ∷ []) ∙ append-nil (mail h)
+
+pub deeds-phase : (a b k : ℕ) (ms : List Envelope) (h : List Entry) → deeds b ms (h ++ marked a (Phase k) ∷ []) ≡ deeds b ms h
+deeds-phase a b k ms h =
+    deeds-append b ms h (marked a (Phase k) ∷ []) ∙ ap (λ (v : List Deed). deeds b ms h ++ v) (none (a == b)) ∙ append-nil (deeds b ms h)
+  where
+    none : (mine : Bool) → cond mine (deed_at (ms ++ mail h) (Phase k)) [] ++ [] ≡ []
+    none true = refl
+    none false = refl
+
+-- an actor whose own steps stay has the deeds that it had
+pub deeds-none_own : (a : ℕ) (ms : List Envelope) (k : List Entry) → own a k ≡ [] → deeds a ms k ≡ []
+deeds-none_own a ms [] none = refl
+deeds-none_own a ms (e ∷ k) none = by_actor (e.actor == a) none (deeds-none_own a (ms ++ option_to_list (envelope_of e)) k)
+  where
+    by_actor : (mine : Bool) → map (λ (x : Entry). x.step) (cond mine (e ∷ filter (λ (x : Entry). x.actor == a) k) (filter (λ (x : Entry). x.actor == a) k)) ≡ []
+        → (own a k ≡ [] → deeds a (ms ++ option_to_list (envelope_of e)) k ≡ []) → cond mine (deed_at ms e.step) [] ++ deeds a (ms ++ option_to_list (envelope_of e)) k ≡ []
+    by_actor true h rest = absurd (let never : ⊥ = cc in never)
+    by_actor false h rest = rest h
+
+-- an actor that makes no step keeps its deeds: runs over several actors will say so of all that don't move
+pub same_deeds : (a : ℕ) (ms : List Envelope) (h k : List Entry) → own a (h ++ k) ≡ own a h → deeds a ms (h ++ k) ≡ deeds a ms h
+same_deeds a ms h k same =
+    let none : own a k ≡ [] = nothing_more (own a h) (own a k) (sym (own-append a h k) ∙ same) in
+    deeds-append a ms h k ∙ ap (λ (v : List Deed). deeds a ms h ++ v) (deeds-none_own a (ms ++ mail h) k none) ∙ append-nil (deeds a ms h)
+  where
+    nothing_more : (xs ys : List Step) → xs ++ ys ≡ xs → ys ≡ []
+    nothing_more [] ys h = h
+    nothing_more (x ∷ xs) ys h = nothing_more xs ys (cc)
+
+-- folds
+
+-- over a turn: the record, the messages, the reply
+pub fold-posted : {B : Type 0} (f : B → Entry → B) (b : B) (a n : ℕ) (turn : Turn)
+    → fold f b (by a (posted n turn)) ≡ fold f (fold f (fold f b (by a (wrote turn.write))) (by a (sents n turn.sends))) (by a (told turn.told))
+fold-posted f b a n turn =
+    let w : List Entry = by a (wrote turn.write) in
+    let s : List Entry = by a (sents n turn.sends) in
+    let t : List Entry = by a (told turn.told) in
+    ap (λ (v : List Entry). fold f b v) (by-posted a n turn)
+    ∙ fold-append f b w (s ++ t)
+    ∙ fold-append f (fold f b w) s t
+
+-- folds that ignore some steps of an actor
+
+abbrev pub IgnoresAll : {B : Type 0} → (B → Entry → B) → ℕ → Type 0
+IgnoresAll {B} f a = (b : B) (x : Step) → f b (marked a x) ≡ b
+
+abbrev pub IgnoresWrote : {B : Type 0} → (B → Entry → B) → ℕ → Type 0
+IgnoresWrote {B} f a = (b : B) (written : Record) → f b (marked a (Wrote written)) ≡ b
+
+abbrev pub IgnoresSent : {B : Type 0} → (B → Entry → B) → ℕ → Type 0
+IgnoresSent {B} f a = (b : B) (n to : ℕ) (message : Message) → f b (marked a (Sent n to message)) ≡ b
+
+abbrev pub IgnoresTold : {B : Type 0} → (B → Entry → B) → ℕ → Type 0
+IgnoresTold {B} f a = (b : B) (reply : Reply) → f b (marked a (Told reply)) ≡ b
+
+pub fold-by : {B : Type 0} (f : B → Entry → B) (a : ℕ) → IgnoresAll f a → (b : B) (xs : List Step) → fold f b (by a xs) ≡ b
+fold-by f a ignores b [] = refl
+fold-by f a ignores b (x ∷ xs) = ap (λ v. fold f v (by a xs)) (ignores b x) ∙ fold-by f a ignores b xs
+
+pub fold-wrote : {B : Type 0} (f : B → Entry → B) (a : ℕ) → IgnoresWrote f a → (b : B) (write : Option Record) → fold f b (by a (wrote write)) ≡ b
+fold-wrote f a ignores b None = refl
+fold-wrote f a ignores b (Some written) = ignores b written
+
+pub fold-sents : {B : Type 0} (f : B → Entry → B) (a : ℕ) → IgnoresSent f a → (b : B) (n : ℕ) (ps : List Posting) → fold f b (by a (sents n ps)) ≡ b
+fold-sents f a ignores b n [] = refl
+fold-sents f a ignores b n (p ∷ ps) = ap (λ v. fold f v (by a (sents (n + 1) ps))) (ignores b n p.to p.message) ∙ fold-sents f a ignores b (n + 1) ps
+
+pub fold-told : {B : Type 0} (f : B → Entry → B) (a : ℕ) → IgnoresTold f a → (b : B) (reply : Option Reply) → fold f b (by a (told reply)) ≡ b
+fold-told f a ignores b None = refl
+fold-told f a ignores b (Some reply) = ignores b reply
+
+-- what is left of a turn: the messages, the reply, or nothing
+
+pub fold-posted_sents : {B : Type 0} (f : B → Entry → B) (a : ℕ) → IgnoresWrote f a → IgnoresTold f a → (b : B) (n : ℕ) (turn : Turn) → fold f b (by a (posted n turn)) ≡ fold f b (by a (sents n turn.sends))
+fold-posted_sents f a record_of heard_of b n turn =
+    fold-posted f b a n turn
+    ∙ fold-told f a heard_of (fold f (fold f b (by a (wrote turn.write))) (by a (sents n turn.sends))) turn.told
+    ∙ ap (λ v. fold f v (by a (sents n turn.sends))) (fold-wrote f a record_of b turn.write)
+
+pub fold-posted_told : {B : Type 0} (f : B → Entry → B) (a : ℕ) → IgnoresWrote f a → IgnoresSent f a → (b : B) (n : ℕ) (turn : Turn) → fold f b (by a (posted n turn)) ≡ fold f b (by a (told turn.told))
+fold-posted_told f a record_of sent b n turn =
+    fold-posted f b a n turn
+    ∙ ap (λ v. fold f v (by a (told turn.told))) (fold-sents f a sent (fold f b (by a (wrote turn.write))) n turn.sends ∙ fold-wrote f a record_of b turn.write)
+
+pub fold-posted_none : {B : Type 0} (f : B → Entry → B) (a : ℕ) → IgnoresWrote f a → IgnoresSent f a → IgnoresTold f a → (b : B) (n : ℕ) (turn : Turn) → fold f b (by a (posted n turn)) ≡ b
+fold-posted_none f a record_of sent heard_of b n turn = fold-posted_told f a record_of sent b n turn ∙ fold-told f a heard_of b turn.told

@@ -1,0 +1,4 @@
+pub mod Steps
+pub mod Mail
+pub mod Counts
+pub mod Within

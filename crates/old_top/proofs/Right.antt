@@ -1,0 +1,117 @@
+-- What the words come to can be done: its declaration keeps the rules, and a script that is run asks the first client of one
+-- site alone.
+use Rattle.std.proofs.Common.{◌≡◌, ◌≤◌, ◌<◌, ◌==◌, ℕ, Bool, true, false, cond, List, [], ◌∷◌, Option, Some, None, Result, Ok, Err, refl, ap, sym, subst, ◌∙◌, arith}
+use Rattle.std.proofs.lemmas.Bool.{eqb-true}
+use Rattle.std.specs.Option.{option_map_or}
+use Rattle.std.specs.Prelude.{if◌then◌else◌, codes}
+use Rattle.std.specs.Str.{bytes_eq}
+use Rattle.qc_accept.proofs.Accepting.{accepted_is}
+use Rattle.qc_accept.specs.Accept.{accepted}
+use Rattle.qc_accept.specs.declared.fault.DeclFault.{DeclFault}
+use Rattle.qc_decl.proofs.BuiltInRules.{one_accepted, three_accepted}
+use Rattle.qc_decl.specs.Accepted.{IsAccepted}
+use Rattle.qc_decl.specs.One.{built_in_of, one, three}
+use Rattle.qc_decl.specs.declared.declaration.Declaration.{Declaration}
+use Rattle.qc_outside.specs.Shelf.{Answer}
+use Rattle.qc_outside.specs.declared.shelf.ShelfFault.TheVariants as faults
+use Rattle.old_report.specs.declared.cause.Cause.{Cause}
+use Rattle.old_report.specs.declared.cause.Cause.TheVariants as causes
+use Rattle.old_script.proofs.Asked.{script_asks}
+use Rattle.old_script.specs.Grammar.{script_of}
+use Rattle.old_script.specs.declared.script.Script.{Script}
+use Rattle.old_top.specs.Engine.{AsksFirst}
+use Rattle.old_top.specs.Top.{IsRight}
+use Rattle.old_top.specs.Words.{AskedOf}
+use Rattle.old_top.specs.Answers.{is_built_in}
+use Rattle.old_top.specs.Work.{Caused, ◌>>=◌, bytes_of, run_of, spelled_in, unless_refused, work_of, work_on}
+use Rattle.old_top.specs.declared.answers.Answers.{Answers}
+use Rattle.old_top.specs.declared.work.Work.{Work}
+use Rattle.old_top.specs.declared.work.Work.TheVariants.{Accept, Run}
+
+-- what comes of two steps came of the first
+record Came {A B : Type 0} (given : Caused A) (next : A → Caused B) (b : B) : Type 0 where
+  pub first : A
+  pub is : given ≡ Ok first
+  pub rest : next first ≡ Ok b
+
+came : {A B : Type 0} (given : Caused A) (next : A → Caused B) (b : B) → (given >>= next) ≡ Ok b → Came given next b
+came (Ok a) next b is = record { first = a; is = refl; rest = is }
+came (Err cause) next b is = absurd (let never : ⊥ = cc in never)
+
+-- of two answers that are equal, the values are
+inner : {A : Type 0} (a b : A) → (let given : Caused A = Ok a in given) ≡ Ok b → a ≡ b
+inner a b is = cc
+
+abbrev the_ok : Declaration → Result Declaration DeclFault
+the_ok decl = Ok decl
+
+-- a built-in declaration
+
+known : (name : List ℕ) (decl : Declaration) → built_in_of name ≡ Some decl → IsAccepted decl
+known name decl is = by (bytes_eq name (codes "@one")) (bytes_eq name (codes "@three")) is
+  where
+    by : (a b : Bool) → cond a (Some one) (cond b (Some three) None) ≡ Some decl → IsAccepted decl
+    by true b is = let same : one ≡ decl = cc in subst IsAccepted same one_accepted
+    by false true is = let same : three ≡ decl = cc in subst IsAccepted same three_accepted
+    by false false is = absurd (let never : ⊥ = cc in never)
+
+-- what stands under a declaration's name
+
+abbrev IsRightly : Result Declaration DeclFault → Type 0
+IsRightly (Ok decl) = IsAccepted decl
+IsRightly (Err fault) = Unit {0}
+
+rightly : (bytes : List ℕ) (spelled : Result Declaration DeclFault) → accepted bytes ≡ spelled → IsRightly spelled
+rightly bytes (Ok decl) is = accepted_is bytes decl is
+rightly bytes (Err fault) is = tt
+
+spelled_is : (name : List ℕ) (answer : Answer) (spelled : Result Declaration DeclFault) → spelled_in name answer ≡ Ok spelled → IsRightly spelled
+spelled_is name answer spelled is = by (is_built_in name) is
+  where
+    built_in : (o : Option Declaration) → built_in_of name ≡ o → option_map_or (λ d. (let given : Caused (Result Declaration DeclFault) = Ok (Ok d) in given)) o (Err (causes.Shelf false faults.Missing)) ≡ Ok spelled → IsRightly spelled
+    built_in None none is = absurd (let never : ⊥ = cc in never)
+    built_in (Some decl) some is = let same : the_ok decl ≡ spelled = cc in subst IsRightly same (known name decl some)
+
+    taken : (given : Caused (List ℕ)) → (given >>= (λ bytes. Ok (accepted bytes))) ≡ Ok spelled → IsRightly spelled
+    taken (Ok bytes) is = rightly bytes spelled (inner (accepted bytes) spelled is)
+    taken (Err cause) is = absurd (let never : ⊥ = cc in never)
+
+    by : (t : Bool) → (if t then option_map_or (λ d. (let given : Caused (Result Declaration DeclFault) = Ok (Ok d) in given)) (built_in_of name) (Err (causes.Shelf false faults.Missing)) else bytes_of false answer >>= (λ bytes. Ok (accepted bytes))) ≡ Ok spelled
+        → IsRightly spelled
+    by true is = built_in (built_in_of name) refl is
+    by false is = taken (bytes_of false answer) is
+
+declared_is : (spelled : Result Declaration DeclFault) (decl : Declaration) → IsRightly spelled → unless_refused spelled ≡ Ok decl → IsAccepted decl
+declared_is (Ok d) decl right is = let same : d ≡ decl = cc in subst IsAccepted same right
+declared_is (Err fault) decl right is = absurd (let never : ⊥ = cc in never)
+
+-- a run over one site
+
+run_is : (decl : Declaration) (bytes : List ℕ) (work : Work) → IsAccepted decl → run_of decl bytes ≡ Ok work → IsRight work
+run_is decl bytes work right is = by (decl.sites == 1) refl is
+  where
+    read : decl.sites ≡ 1 → (o : Option Script) → script_of decl bytes ≡ o → option_map_or (λ script. (let given : Caused Work = Ok (Run decl script) in given)) o (Err causes.NotBuilt) ≡ Ok work → IsRight work
+    read one None none is = absurd (let never : ⊥ = cc in never)
+    read one (Some script) some is =
+        let same : Run decl script ≡ work = cc in
+        subst IsRight same (right, record { sites = one; has_client = right.has_client; clients = right.clients; asks = script_asks decl bytes script some })
+
+    by : (t : Bool) → (decl.sites == 1) ≡ t → (if t then option_map_or (λ script. (let given : Caused Work = Ok (Run decl script) in given)) (script_of decl bytes) (Err causes.NotBuilt) else Err causes.NotBuilt) ≡ Ok work → IsRight work
+    by true one is = read (eqb-true decl.sites 1 one) (script_of decl bytes) refl is
+    by false many is = absurd (let never : ⊥ = cc in never)
+
+pub work_is : (asked : AskedOf) (answers : Answers) (work : Work) → work_of asked answers ≡ Ok work → IsRight work
+work_is asked answers work is =
+    let c : Came (spelled_in asked.decl answers.decl) (work_on asked.script answers.script) work = came (spelled_in asked.decl answers.decl) (work_on asked.script answers.script) work is in
+    by asked.script c.first (spelled_is asked.decl answers.decl c.first c.is) c.rest
+  where
+    by : (script : Option (List ℕ)) (spelled : Result Declaration DeclFault) → IsRightly spelled → work_on script answers.script spelled ≡ Ok work → IsRight work
+    by None spelled right is =
+        let d : Came (unless_refused spelled) (λ decl. Ok (Accept decl)) work = came (unless_refused spelled) (λ decl. Ok (Accept decl)) work is in
+        let same : Accept d.first ≡ work = let e = d.rest in cc in
+        subst IsRight same (declared_is spelled d.first right d.is)
+    by (Some name) spelled right is =
+        let b : Came (bytes_of true answers.script) (λ bytes. unless_refused spelled >>= (λ decl. run_of decl bytes)) work =
+        came (bytes_of true answers.script) (λ bytes. unless_refused spelled >>= (λ decl. run_of decl bytes)) work is in
+        let d : Came (unless_refused spelled) (λ decl. run_of decl b.first) work = came (unless_refused spelled) (λ decl. run_of decl b.first) work b.rest in
+        run_is d.first b.first work (declared_is spelled d.first right d.is) d.rest

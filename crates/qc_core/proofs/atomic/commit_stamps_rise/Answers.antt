@@ -1,5 +1,0 @@
-use Rattle.qc_core.proofs.RecordLaws.{stamps_rise}
-use Rattle.qc_core.proofs.atomic.commit_stamps_rise.Goals as goal
-
-pub returns : goal.returns
-returns c = stamps_rise

@@ -1,0 +1,105 @@
+-- The messages of a history, and what an actor does in it: one form for all that is read off its steps.
+use Rattle.std.specs.Prelude.{◌≡◌, ℕ, ◌+◌, ◌==◌, List, [], ◌∷◌, ◌++◌, filter, map, cond, slice_get}
+use Rattle.std.specs.Prelude.{Option, Some, None, option_to_list}
+use Rattle.std.specs.List.{filter_map}
+use Rattle.qc_msg.specs.declared.message.Envelope.{Envelope}
+use Rattle.qc_msg.specs.declared.message.Message.{Message}
+use Rattle.qc_msg.specs.declared.record.Record.{Record}
+use Rattle.qc_msg.specs.declared.reply.Reply.{Reply}
+use Rattle.qc_msg.specs.declared.step.Given.{Given}
+use Rattle.qc_msg.specs.declared.step.Given.TheVariants as given
+use Rattle.qc_msg.specs.declared.step.Step.{Step}
+use Rattle.qc_msg.specs.declared.step.Step.TheVariants as steps
+use Rattle.qc_msg.specs.declared.turn.Posting.{Posting}
+use Rattle.qc_msg.specs.declared.turn.Turn.{Turn}
+use Rattle.qc_msg.specs.Steps.{Entry}
+
+-- the messages of a history, in the order of their numbers
+
+abbrev pub envelope_at : ℕ → Step → Option Envelope
+envelope_at a (steps.Phase k) = None
+envelope_at a (steps.Cut x y) = None
+envelope_at a (steps.Heal x y) = None
+envelope_at a (steps.Armed actor kind at) = None
+envelope_at a (steps.Called command) = None
+envelope_at a (steps.Got n) = None
+envelope_at a (steps.Lost n) = None
+envelope_at a (steps.Wrote written) = None
+envelope_at a (steps.Sent n to message) = Some (record { number = n; from = a; to = to; message = message })
+envelope_at a (steps.Told reply) = None
+envelope_at a (steps.Fell cause pending) = None
+envelope_at a (steps.Rose records) = None
+envelope_at a (steps.Damaged offset) = None
+
+abbrev pub envelope_of : Entry → Option Envelope
+envelope_of e = envelope_at e.actor e.step
+
+abbrev pub mail : List Entry → List Envelope
+mail h = filter_map envelope_of h
+
+-- the messages that an actor posts, numbered from n
+abbrev pub envelopes : ℕ → ℕ → List Posting → List Envelope
+envelopes from n [] = []
+envelopes from n (p ∷ ps) =
+    record { number = n; from = from; to = p.to; message = p.message } ∷ envelopes from (n + 1) ps
+
+-- what an actor does: it takes an input, a message in full; it writes a record; it sends a message; it tells a reply.
+-- Its falls and rises are no deeds yet: no actor falls
+pub data Deed : Type 0 where
+  Takes : (given : Given) → Deed
+  Writes : (written : Record) → Deed
+  Sends : (number to : ℕ) (message : Message) → Deed
+  Tells : (reply : Reply) → Deed
+
+abbrev pub heard : Option Envelope → List Deed
+heard None = []
+heard (Some envelope) = Takes (given.Got envelope) ∷ []
+
+-- what a step does, the messages so far being ms
+abbrev pub deed_at : List Envelope → Step → List Deed
+deed_at ms (steps.Phase k) = []
+deed_at ms (steps.Cut x y) = []
+deed_at ms (steps.Heal x y) = []
+deed_at ms (steps.Armed actor kind at) = []
+deed_at ms (steps.Called command) = Takes (given.Called command) ∷ []
+deed_at ms (steps.Got n) = heard (slice_get ms n)
+deed_at ms (steps.Lost n) = Takes (given.Lost n) ∷ []
+deed_at ms (steps.Wrote written) = Writes written ∷ []
+deed_at ms (steps.Sent n to message) = Sends n to message ∷ []
+deed_at ms (steps.Told reply) = Tells reply ∷ []
+deed_at ms (steps.Fell cause pending) = []
+deed_at ms (steps.Rose records) = []
+deed_at ms (steps.Damaged offset) = []
+
+-- the deeds of an actor in a history, each message that it takes looked up among those sent before: ms, and those of
+-- the history
+abbrev pub deeds : ℕ → List Envelope → List Entry → List Deed
+deeds a ms [] = []
+deeds a ms (e ∷ h) = cond (e.actor == a) (deed_at ms e.step) [] ++ deeds a (ms ++ option_to_list (envelope_of e)) h
+
+-- an actor's own steps
+abbrev pub own : ℕ → List Entry → List Step
+own a h = map (λ e. e.step) (filter (λ e. e.actor == a) h)
+
+-- the deeds of a turn whose messages have the numbers from n on
+
+abbrev pub writes_of : Option Record → List Deed
+writes_of None = []
+writes_of (Some written) = Writes written ∷ []
+
+abbrev pub sends_of : ℕ → List Posting → List Deed
+sends_of n [] = []
+sends_of n (p ∷ ps) = Sends n p.to p.message ∷ sends_of (n + 1) ps
+
+abbrev pub tells_of : Option Reply → List Deed
+tells_of None = []
+tells_of (Some reply) = Tells reply ∷ []
+
+abbrev pub turn_deeds : ℕ → Turn → List Deed
+turn_deeds n turn = writes_of turn.write ++ (sends_of n turn.sends ++ tells_of turn.told)
+
+-- where the input is a message, it is the one that was sent to actor a under its number
+abbrev pub WasSentTo : ℕ → List Envelope → Given → Type 0
+WasSentTo a ms (given.Called command) = Unit {0}
+WasSentTo a ms (given.Got envelope) = (slice_get ms envelope.number ≡ Some envelope) × (envelope.to ≡ a)
+WasSentTo a ms (given.Lost number) = Unit {0}
