@@ -1,11 +1,11 @@
 -- How what is read off a history grows, as the history does.
 use Rattle.std.proofs.Common.{◌≡◌, ℕ, suc, ◌+◌, ◌==◌, ◌≤◌, Bool, true, false, cond, List, [], ◌∷◌, ◌++◌, map, filter, length, sum_by, Option, Some, None, option_to_list, refl, ap, sym, ◌∙◌, arith, append_assoc}
-use Rattle.std.specs.List.{cons_option, fold, filter_map}
+use Rattle.std.specs.List.{cons_option}
 use Rattle.std.proofs.lemmas.Bool.{eq-eqb}
 use Rattle.std.proofs.lemmas.List.{append-nil, map-append}
 use Rattle.std.proofs.lemmas.List.Elements.{filter-append, filter_map-append}
+use Rattle.std.proofs.lemmas.List.Sums.{sum_by-cons}
 use Rattle.qc_msg.specs.declared.message.Envelope.{Envelope}
-use Rattle.qc_msg.specs.declared.message.Message.{Message}
 use Rattle.qc_msg.specs.declared.record.Record.{Record}
 use Rattle.qc_msg.specs.declared.reply.Reply.{Reply}
 use Rattle.qc_msg.specs.declared.step.Given.{Given}
@@ -14,7 +14,7 @@ use Rattle.qc_msg.specs.declared.step.Step.{Step}
 use Rattle.qc_msg.specs.declared.step.Step.TheVariants.{Wrote, Sent, Told}
 use Rattle.qc_msg.specs.declared.turn.Posting.{Posting}
 use Rattle.qc_msg.specs.declared.turn.Turn.{Turn}
-use Rattle.qc_msg.specs.Deeds.{Deed, Takes, Writes, Sends, Tells, deed_at, deeds, envelope_of, envelopes, heard, mail, own, sends_of, tells_of, turn_deeds, writes_of, WasSentTo}
+use Rattle.qc_msg.specs.Deeds.{Deed, Takes, Sends, deed_at, deeds, envelope_of, envelopes, heard, mail, own, sends_of, tells_of, turn_deeds, writes_of, WasSentTo}
 use Rattle.qc_entry.specs.declared.record.Commit.{Commit}
 use Rattle.qc_msg.specs.Counts.{answered, answered_in, commit_in, operations_of, written}
 use Rattle.qc_msg.specs.Steps.{Entry, by, marked, posted, sents, step_of, told, wrote}
@@ -220,12 +220,16 @@ same_deeds a ms h k same =
 
 -- the committed operations are those of the records that were written
 
-operations-cons : (o : Option Commit) (cs : List Commit) → answered_in o + sum_by (λ (c : Commit). answered c.ops) cs ≡ sum_by (λ (c : Commit). answered c.ops) (cons_option o cs)
-operations-cons None cs = refl
-operations-cons (Some c) cs = refl
+abbrev answered_by : Commit → ℕ
+answered_by c = answered c.ops
 
-pub operations-written : (h : List Entry) → operations_of h ≡ sum_by (λ (c : Commit). answered c.ops) (written h)
+operations-cons : (o : Option Commit) (cs : List Commit) → answered_in o + sum_by answered_by cs ≡ sum_by answered_by (cons_option o cs)
+operations-cons None cs = omega arith
+operations-cons (Some c) cs = sym (sum_by-cons answered_by c cs)
+
+pub operations-written : (h : List Entry) → operations_of h ≡ sum_by answered_by (written h)
 operations-written [] = refl
 operations-written (e ∷ h) =
-    ap (λ (v : ℕ). answered_in (commit_in e.step) + v) (operations-written h)
+    sum_by-cons (λ (x : Entry). answered_in (commit_in x.step)) e h
+    ∙ ap (λ (v : ℕ). answered_in (commit_in e.step) + v) (operations-written h)
     ∙ operations-cons (commit_in e.step) (written h)

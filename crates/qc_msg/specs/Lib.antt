@@ -2,3 +2,5 @@ pub mod Steps
 pub mod Turns
 pub mod Deeds
 pub mod Counts
+pub mod Calls
+pub mod Lives

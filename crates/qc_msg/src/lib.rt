@@ -23,6 +23,7 @@
 #![tactic(auto)]
 
 mod begun;
+mod call;
 mod history;
 mod laws;
 mod message;
@@ -33,6 +34,7 @@ mod step;
 mod turn;
 
 pub use begun::{Begun, LifeAt, Lives, Sites};
+pub use call::{Call, Calls};
 pub use history::History;
 pub use laws::{deeds_go_on, operations_are_those_of_records};
 pub use message::{Answer, Envelope, Message, Outcome, PreparedList, Want};

@@ -1,3 +1,4 @@
+use Rattle.std.proofs.Common.{[]}
 use Rattle.qc_msg.proofs.Growth.{deeds-other, deeds-posted, deeds-taken}
 use Rattle.qc_msg.proofs.laws.deeds_go_on.Goals as goal
 
