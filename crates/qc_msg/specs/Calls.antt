@@ -1,5 +1,5 @@
 -- The open requests of a running round: the first thing that is taken for a request counts.
-use Rattle.std.specs.Prelude.{ℕ, ◌+◌, ◌==◌, not, List, [], ◌∷◌, ◌++◌, filter, Option, option_map}
+use Rattle.std.specs.Prelude.{ℕ, ◌+◌, ◌==◌, if◌then◌else◌, not, length, List, [], ◌∷◌, ◌++◌, filter, Option, option_map}
 use Rattle.std.specs.List.{find}
 use Rattle.qc_msg.specs.declared.call.Call.{Call}
 
@@ -19,3 +19,7 @@ with_call calls number site = calls ++ record { number = number; site = site } �
 abbrev pub calls_from : ℕ → List ℕ → List Call
 calls_from first [] = []
 calls_from first (site ∷ sites) = record { number = first; site = site } ∷ calls_from (first + 1) sites
+
+-- the messages of the last turn have the numbers from this one on: where no request is open, these sites were asked in it
+abbrev pub numbered_from : List Call → List ℕ → ℕ → List Call
+numbered_from calls sites first = if length calls == 0 then calls_from first sites else calls

@@ -3,4 +3,4 @@ pub mod Turns
 pub mod Deeds
 pub mod Counts
 pub mod Calls
-pub mod Lives
+pub mod Begun

@@ -6,6 +6,9 @@ use qc_entry::Ops;
 use qc_list::{List, OutOfMemory};
 use qc_stamp::TxId;
 
+/// The epoch that everything begins in.
+pub const FIRST_EPOCH: u8 = 1;
+
 /// A site with the life in which it first granted.
 #[derive(Clone, Copy, Debug, PartialEq, Eq)]
 pub struct LifeAt {

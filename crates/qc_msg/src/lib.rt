@@ -33,7 +33,7 @@ mod reply;
 mod step;
 mod turn;
 
-pub use begun::{Begun, LifeAt, Lives, Sites};
+pub use begun::{Begun, FIRST_EPOCH, LifeAt, Lives, Sites};
 pub use call::{Call, Calls};
 pub use history::History;
 pub use laws::{deeds_go_on, operations_are_those_of_records};

@@ -1,10 +1,18 @@
--- The lives of the sites in their first grants that counted, and the sites asked.
-use Rattle.std.specs.Prelude.{ℕ, ◌==◌, List, [], ◌∷◌, ◌++◌, Bool, if◌then◌else◌}
+-- A begun transaction: the first epoch; the lives of the sites in their first grants that counted; the sites asked.
+use Rattle.std.specs.Prelude.{ℕ, ◌==◌, List, [], ◌∷◌, ◌++◌, map, Bool, if◌then◌else◌}
 use Rattle.std.specs.List.{find, list_any}
 use Rattle.std.specs.Option.{option_map_or}
 use Rattle.std.specs.Ordering.{nat_cmp}
 use Rattle.qc_list.specs.Order.{inserted}
+use Rattle.qc_msg.specs.declared.begun.Begun.{Begun}
 use Rattle.qc_msg.specs.declared.begun.LifeAt.{LifeAt}
+use Rattle.qc_msg.specs.declared.message.Message.TheVariants as messages
+use Rattle.qc_msg.specs.declared.message.Outcome.{Outcome}
+use Rattle.qc_msg.specs.declared.turn.Posting.{Posting}
+
+-- the epoch that everything begins in
+abbrev pub first_epoch : ℕ
+first_epoch = 1
 
 -- the life of a site in its first grant, or 0 where it hasn't granted
 abbrev pub life_of : List LifeAt → ℕ → ℕ
@@ -21,3 +29,7 @@ with_life lives site life =
 -- a site among ascending sites, once
 abbrev pub with_site : List ℕ → ℕ → List ℕ
 with_site sites site = inserted nat_cmp sites site
+
+-- a verdict goes to each site that the transaction asked, ascending
+abbrev pub decisions : Begun → Outcome → List Posting
+decisions b outcome = map (λ site. record { to = site; message = messages.Decision b.tx outcome }) b.asked

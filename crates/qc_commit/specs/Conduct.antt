@@ -1,0 +1,133 @@
+-- What a desk becomes and does: a commit begins, a vote comes, all votes are in (presumed abort).
+use Rattle.std.specs.Prelude.{ℕ, ◌+◌, ◌==◌, max, Bool, if◌then◌else◌, List, [], ◌∷◌, ◌++◌, length, map}
+use Rattle.std.specs.Prelude.{filter, is_none, Option, Some, None}
+use Rattle.qc_stamp.specs.declared.stamp.Stamp.{Stamp}
+use Rattle.qc_entry.specs.declared.record.Commit.{Commit}
+use Rattle.qc_decl.specs.declared.declaration.Declaration.{Declaration}
+use Rattle.qc_msg.specs.declared.begun.Begun.{Begun}
+use Rattle.qc_msg.specs.declared.call.Call.{Call}
+use Rattle.qc_msg.specs.declared.message.Answer.{Answer}
+use Rattle.qc_msg.specs.declared.message.Answer.TheVariants as answers
+use Rattle.qc_msg.specs.declared.message.Outcome.TheVariants as outcomes
+use Rattle.qc_msg.specs.declared.record.Record.TheVariants as records
+use Rattle.qc_msg.specs.declared.reply.Reply.TheVariants as replies
+use Rattle.qc_msg.specs.declared.reply.Why.{Why}
+use Rattle.qc_msg.specs.Calls.{site_called, without_call, with_call, numbered_from}
+use Rattle.qc_msg.specs.Begun.{decisions}
+use Rattle.qc_msg.specs.Turns.{quiet, sending, ending}
+use Rattle.qc_commit.specs.declared.ballot.Ballot.{Ballot}
+use Rattle.qc_commit.specs.declared.desk.Desk.{Desk}
+use Rattle.qc_commit.specs.declared.desk.Voting.{Voting}
+use Rattle.qc_commit.specs.Desk.{DeskMove, moved}
+use Rattle.qc_commit.specs.Votes.{are_cast, blank, cast, first_against, participants, prepares, vote_of}
+
+-- the clock passes another
+abbrev pub passed : Desk → ℕ → Desk
+passed desk clock = record desk { clock = record { value = max desk.clock.value clock } }
+
+abbrev pub with_voting : Desk → Option Voting → Desk
+with_voting desk voting = record desk { voting = voting }
+
+-- the stamp is above all that the client has learned of (Lamport 1978)
+abbrev pub next_stamp : Desk → Stamp
+next_stamp desk = record { clock = desk.clock.value + 1; client = desk.client }
+
+abbrev pub commit_of : Stamp → Begun → Commit
+commit_of stamp b = record { stamp = stamp; tx = b.tx; ops = b.ops }
+
+-- the transaction commits: its record is written before anybody hears of it; where it can't be, that isn't known
+abbrev pub decides : Desk → Begun → DeskMove
+decides desk b =
+    let stamp : Stamp = next_stamp desk in
+    moved
+    (record desk {
+      clock = record { value = stamp.clock };
+      commits = desk.commits ++ commit_of stamp b ∷ [];
+      voting = None;
+    })
+    (record {
+      write = Some (records.Commit (commit_of stamp b));
+      sends = decisions b (outcomes.Committed stamp);
+      told = Some (replies.Committed stamp);
+      failed_sends = [];
+      failed_told = Some replies.Unknown;
+    })
+
+-- the transaction doesn't commit
+abbrev pub gives_up : Desk → Begun → Why → DeskMove
+gives_up desk b why =
+    moved (with_voting desk None) (ending (decisions b outcomes.Aborted) (replies.Aborted why))
+
+-- a commit of a begun transaction: each participant is asked for its promise; where there is none, it commits
+abbrev pub prepare : Declaration → Desk → Begun → ℕ → DeskMove
+prepare decl desk b clock =
+    let sites : List ℕ = participants decl desk.client b in
+    if length sites == 0
+    then decides (passed desk clock) b
+    else moved
+    (with_voting (passed desk clock) (Some (record { begun = b; calls = []; ballots = blank sites })))
+    (sending (map (prepares b) sites))
+
+-- the clock passes that of a promise, the known epoch that of a closed one
+abbrev pub learns : Desk → Option Answer → Desk
+learns desk None = desk
+learns desk (Some (answers.Granted life clock log)) = desk
+learns desk (Some (answers.Clash holder inv event)) = desk
+learns desk (Some (answers.Closed epoch)) = record desk { epoch = max desk.epoch epoch }
+learns desk (Some (answers.Behind epoch)) = desk
+learns desk (Some (answers.Restarted life)) = desk
+learns desk (Some answers.Stale) = desk
+learns desk (Some answers.Fault) = desk
+learns desk (Some (answers.Yes clock)) = passed desk clock
+learns desk (Some (answers.Shut clock log prepared)) = desk
+learns desk (Some answers.Installed) = desk
+learns desk (Some (answers.Answered verdict)) = desk
+
+-- once all votes are in, the first against decides; where there is none, the transaction commits
+
+abbrev pub counted_out : Desk → Begun → Option Why → DeskMove
+counted_out desk b (Some why) = gives_up desk b why
+counted_out desk b None = decides desk b
+
+abbrev pub counts : Desk → Begun → List Call → List Ballot → DeskMove
+counts desk b calls ballots =
+    if are_cast ballots
+    then counted_out desk b (first_against ballots)
+    else moved (with_voting desk (Some (record { begun = b; calls = calls; ballots = ballots }))) quiet
+
+-- the first answer to a Prepare counts, or that it is lost; all else is put aside
+
+abbrev pub votes_at : Desk → Voting → ℕ → Option Answer → Option ℕ → DeskMove
+votes_at desk v number answer None = moved desk quiet
+votes_at desk v number answer (Some site) =
+    counts (learns desk answer) v.begun (without_call v.calls number) (cast v.ballots site (vote_of v.begun site answer))
+
+abbrev pub votes_in : Desk → Option Voting → ℕ → Option Answer → DeskMove
+votes_in desk None number answer = moved desk quiet
+votes_in desk (Some v) number answer = votes_at desk v number answer (site_called v.calls number)
+
+abbrev pub vote : Desk → ℕ → Option Answer → DeskMove
+vote desk number answer = votes_in desk desk.voting number answer
+
+-- a Prepare was sent under this number
+
+abbrev pub prepared_in : Desk → Option Voting → ℕ → ℕ → Desk
+prepared_in desk None number site = desk
+prepared_in desk (Some v) number site = with_voting desk (Some (record v { calls = with_call v.calls number site }))
+
+abbrev pub prepared : Desk → ℕ → ℕ → Desk
+prepared desk number site = prepared_in desk desk.voting number site
+
+-- the messages of the last turn have the numbers from this one on: where no Prepare is open, those that have no vote
+-- yet were sent in it
+
+abbrev pub awaited : List Ballot → List ℕ
+awaited ballots = map (λ (b : Ballot). b.site) (filter (λ (b : Ballot). is_none b.vote) ballots)
+
+abbrev pub sent_in : Desk → Option Voting → ℕ → Desk
+sent_in desk None first = desk
+sent_in desk (Some v) first =
+    with_voting desk (Some (record v { calls = numbered_from v.calls (awaited v.ballots) first }))
+
+abbrev pub sent : Desk → ℕ → Desk
+sent desk first = sent_in desk desk.voting first

@@ -1,0 +1,4 @@
+pub mod Site
+pub mod Promise
+pub mod Requests
+pub mod Conduct

@@ -1,0 +1,104 @@
+-- What a site promises of a transaction that is to commit, and what it does as the verdict comes (presumed abort).
+use Rattle.std.specs.Prelude.{ℕ, ◌+◌, ◌*◌, nat_le, Bool, if◌then◌else◌, not, List, [], ◌∷◌, ◌++◌, fold, length}
+use Rattle.std.specs.Prelude.{filter, Option, Some, None, is_some}
+use Rattle.std.specs.List.{find}
+use Rattle.qc_stamp.specs.declared.stamp.Stamp.{Stamp}
+use Rattle.qc_stamp.specs.declared.stamp.TxId.{TxId}
+use Rattle.qc_stamp.specs.Order.{same_tx}
+use Rattle.qc_entry.specs.declared.line.Line.{Line}
+use Rattle.qc_entry.specs.declared.line.OwnLine.{OwnLine}
+use Rattle.qc_entry.specs.declared.record.Prepared.{Prepared}
+use Rattle.qc_entry.specs.Log.{union, without}
+use Rattle.qc_decl.specs.Limits.{most_record_bytes}
+use Rattle.qc_lock.specs.declared.held.Held.{Held}
+use Rattle.qc_lock.specs.Held.{held_of, is_held, without_held}
+use Rattle.qc_msg.specs.declared.message.Answer.TheVariants.{Fault, Stale, Yes}
+use Rattle.qc_msg.specs.declared.message.Outcome.{Outcome}
+use Rattle.qc_msg.specs.declared.message.Outcome.TheVariants.{Committed, Aborted, Active}
+use Rattle.qc_msg.specs.declared.record.Record.TheVariants as records
+use Rattle.qc_msg.specs.declared.turn.Turn.{Turn}
+use Rattle.qc_msg.specs.Turns.{quiet}
+use Rattle.qc_site.specs.Site.{SiteState, SiteMove, moved, answering, answers}
+
+-- the bytes of a Prepare record's body: kind, transaction, epoch, and three counted lists
+abbrev pub prepare_length : Prepared → ℕ
+prepare_length p = 18 + 2 * length p.locks + 3 * length p.own + 20 * length p.lines
+
+-- what the site would promise: all that the transaction holds, and the lines that no record gives yet
+abbrev pub promise_of : SiteState → TxId → Prepared
+promise_of s tx =
+    let entry : Held = held_of s.held tx in
+    record { tx = tx; epoch = s.epoch; locks = entry.locks; own = entry.own; lines = without s.log s.recorded }
+
+abbrev pub prepared_of : List Prepared → TxId → Option Prepared
+prepared_of prepared tx = find (λ p. same_tx p.tx tx) prepared
+
+abbrev pub is_prepared : List Prepared → TxId → Bool
+is_prepared prepared tx = is_some (prepared_of prepared tx)
+
+-- the promise is written before it is told, where it fits a record; where it can't be written, that is told
+abbrev pub promises : SiteState → ℕ → ℕ → Prepared → SiteMove
+promises s from number p =
+    if nat_le (prepare_length p) most_record_bytes
+    then moved
+    (record s { recorded = union s.recorded p.lines; prepared = s.prepared ++ p ∷ [] })
+    (record {
+      write = Some (records.Prepare p);
+      sends = answering from number (Yes s.clock) ∷ [];
+      told = None;
+      failed_sends = answering from number Fault ∷ [];
+      failed_told = None;
+    })
+    else moved s (answers from number Stale)
+
+-- a Prepare: nothing can be promised where nothing is held, and a promise stands
+abbrev pub prepares : SiteState → ℕ → ℕ → TxId → SiteMove
+prepares s from number tx =
+    if not (is_held s.held tx)
+    then moved s (answers from number Stale)
+    else (if is_prepared s.prepared tx
+    then moved s (answers from number (Yes s.clock))
+    else promises s from number (promise_of s tx))
+
+-- the transaction is finished here: it holds nothing, and nothing is promised of it
+
+abbrev pub without_prepared : List Prepared → TxId → List Prepared
+without_prepared prepared tx = filter (λ p. not (same_tx p.tx tx)) prepared
+
+abbrev pub dropped : SiteState → TxId → SiteState
+dropped s tx =
+    record s { held = without_held s.held tx; prepared = without_prepared s.prepared tx }
+
+-- the lines of a committed transaction's own lines
+
+abbrev pub stamped : Stamp → TxId → OwnLine → Line
+stamped stamp tx o = record { stamp = stamp; tx = tx; op = o.op; object = o.object; event = o.event }
+
+abbrev pub lines_of : Stamp → TxId → List OwnLine → List Line
+lines_of stamp tx own = fold (λ (lines : List Line) (o : OwnLine). union lines (stamped stamp tx o ∷ [])) [] own
+
+-- the turn that writes only that the transaction is done
+abbrev pub records_done : TxId → Stamp → Turn
+records_done tx stamp =
+    record {
+      write = Some (records.Done tx stamp.clock);
+      sends = [];
+      told = None;
+      failed_sends = [];
+      failed_told = None;
+    }
+
+-- a transaction committed: what was promised of it joins the log, and this is written
+abbrev pub joins : SiteState → TxId → Stamp → Option Prepared → SiteMove
+joins s tx stamp None = moved (dropped s tx) quiet
+joins s tx stamp (Some p) =
+    let lines : List Line = lines_of stamp tx p.own in
+    moved
+    (record (dropped s tx) { log = union s.log lines; recorded = union s.recorded lines })
+    (records_done tx stamp)
+
+-- a Decision
+abbrev pub finishes : SiteState → TxId → Outcome → SiteMove
+finishes s tx (Committed stamp) = joins s tx stamp (prepared_of s.prepared tx)
+finishes s tx Aborted = moved (dropped s tx) quiet
+finishes s tx Active = moved s quiet

@@ -1,0 +1,94 @@
+-- What a site does for a request: epoch and life first, then locks (Herlihy 1986).
+use Rattle.std.specs.Prelude.{ℕ, ◌==◌, nat_lt, Bool, true, if◌then◌else◌, ◌&&◌, is_some, List, [], ◌∷◌}
+use Rattle.std.specs.Prelude.{Option, Some, None}
+use Rattle.std.specs.Option.{option_map_or}
+use Rattle.qc_stamp.specs.declared.stamp.TxId.{TxId}
+use Rattle.qc_entry.specs.declared.line.Line.{Line}
+use Rattle.qc_entry.specs.declared.line.OwnLine.{OwnLine}
+use Rattle.qc_entry.specs.Log.{union, of_object}
+use Rattle.qc_table.specs.declared.kind.Kind.{Kind}
+use Rattle.qc_decl.specs.declared.declaration.Declaration.{Declaration}
+use Rattle.qc_decl.specs.Actors.{client_actor}
+use Rattle.qc_decl.specs.Lookup.{kind_at}
+use Rattle.qc_lock.specs.declared.clash.Clash.{Clash as Conflict}
+use Rattle.qc_lock.specs.Held.{with_held}
+use Rattle.qc_lock.specs.Clash.{read_clash, append_clash}
+use Rattle.qc_msg.specs.declared.message.Answer.{Answer}
+use Rattle.qc_msg.specs.declared.message.Answer.TheVariants.{Granted, Clash, Closed, Behind, Restarted}
+use Rattle.qc_msg.specs.declared.message.Message.TheVariants as messages
+use Rattle.qc_msg.specs.declared.message.Want.{Want}
+use Rattle.qc_msg.specs.declared.message.Want.TheVariants.{Read, Append, Prepare}
+use Rattle.qc_msg.specs.declared.turn.Turn.{Turn}
+use Rattle.qc_msg.specs.Turns.{quiet, sending}
+use Rattle.qc_site.specs.Site.{SiteState, SiteMove, moved, answering, answers}
+use Rattle.qc_site.specs.Promise.{prepares}
+
+-- what refuses a request of this epoch, which names this life: the first row that applies
+
+abbrev pub life_fault : SiteState → ℕ → Option Answer
+life_fault s life =
+    if (life == 0) then None else (if life == s.life then None else Some (Restarted s.life))
+
+abbrev pub closed_fault : SiteState → ℕ → Option ℕ → Option Answer
+closed_fault s life (Some epoch) = Some (Closed epoch)
+closed_fault s life None = life_fault s life
+
+abbrev pub fault_of : SiteState → ℕ → ℕ → Option Answer
+fault_of s epoch life =
+    if nat_lt s.epoch epoch then Some (Behind s.epoch)
+    else (if nat_lt epoch s.epoch then Some (Closed s.epoch) else closed_fault s life s.closed_for)
+
+-- a clash is told, and the holder's client is asked how its transaction stands
+abbrev pub clashing : Declaration → ℕ → ℕ → Conflict → Turn
+clashing decl from number c = sending (answering from number (Clash c.holder c.inv c.event)
+    ∷ record { to = client_actor decl c.holder.client; message = messages.Inquiry c.holder } ∷ [])
+
+-- a Read: the lock is held, and the lines of the object are granted
+
+abbrev pub reads : SiteState → ℕ → ℕ → TxId → ℕ → ℕ → SiteMove
+reads s from number tx object inv =
+    moved
+    (record s { held = with_held s.held tx (record { object = object; inv = inv } ∷ []) [] })
+    (answers from number (Granted s.life s.clock (of_object s.log object)))
+
+abbrev pub reads_by : Declaration → SiteState → ℕ → ℕ → TxId → ℕ → ℕ → Option Conflict → SiteMove
+reads_by decl s from number tx object inv None = reads s from number tx object inv
+reads_by decl s from number tx object inv (Some c) = moved s (clashing decl from number c)
+
+-- an Append: its view joins the log, and its own lines are held
+
+abbrev pub appends : SiteState → ℕ → ℕ → TxId → List Line → List OwnLine → SiteMove
+appends s from number tx view own =
+    moved
+    (record s { log = union s.log view; held = with_held s.held tx [] own })
+    (answers from number (Granted s.life s.clock []))
+
+abbrev pub appends_by : Declaration → SiteState → ℕ → ℕ → TxId → List Line → List OwnLine → Option Conflict → SiteMove
+appends_by decl s from number tx view own None = appends s from number tx view own
+appends_by decl s from number tx view own (Some c) = moved s (clashing decl from number c)
+
+-- the dependency relation of an object's type; no run asks for an object that isn't declared, which depends on nothing
+abbrev pub relation_at : Declaration → ℕ → List ℕ
+relation_at decl object = option_map_or (λ (k : Kind). k.relation) (kind_at decl object) []
+
+-- a request of the site's epoch and life
+abbrev pub grants : Declaration → SiteState → ℕ → ℕ → TxId → Want → SiteMove
+grants decl s from number tx (Read object inv) =
+    reads_by decl s from number tx object inv (read_clash (relation_at decl object) s.held tx object inv)
+grants decl s from number tx (Append object view own) =
+    appends_by decl s from number tx view own (append_clash (relation_at decl object) s.held tx own)
+grants decl s from number tx Prepare = prepares s from number tx
+
+abbrev pub requested : Declaration → SiteState → ℕ → ℕ → TxId → Want → Option Answer → SiteMove
+requested decl s from number tx want (Some fault) = moved s (answers from number fault)
+requested decl s from number tx want None = grants decl s from number tx want
+
+-- whether what a request names is declared; no run gives another one
+
+abbrev pub names_object : Declaration → Want → Bool
+names_object decl (Read object inv) = is_some (kind_at decl object)
+names_object decl (Append object view own) = is_some (kind_at decl object)
+names_object decl Prepare = true
+
+abbrev pub names_declared : Declaration → TxId → Want → Bool
+names_declared decl tx want = nat_lt tx.client decl.clients && names_object decl want
