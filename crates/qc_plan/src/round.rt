@@ -65,9 +65,8 @@ impl Round {
         })
     }
 
-    /// A round over a plan without sites, from a site and with a need that count
-    /// for nothing but the verdict: `Met` where nothing is needed, else `Short`.
-    /// It takes no memory.
+    /// A round over a plan without sites, from whichever site: `Met` where
+    /// nothing is needed, else `Short`. It takes no memory.
     pub fn over_no_site(alloc: Global, from: u8, need: u16) -> Round
         ensures { result ≡ start [] from need }
     {
