@@ -1,3 +1,4 @@
+pub mod Holders
 pub mod Site
 pub mod Promise
 pub mod Requests

@@ -74,8 +74,11 @@ dropped s tx =
 abbrev pub stamped : Stamp → TxId → OwnLine → Line
 stamped stamp tx o = record { stamp = stamp; tx = tx; op = o.op; object = o.object; event = o.event }
 
+abbrev pub with_stamped : Stamp → TxId → List Line → OwnLine → List Line
+with_stamped stamp tx lines o = union lines (stamped stamp tx o ∷ [])
+
 abbrev pub lines_of : Stamp → TxId → List OwnLine → List Line
-lines_of stamp tx own = fold (λ (lines : List Line) (o : OwnLine). union lines (stamped stamp tx o ∷ [])) [] own
+lines_of stamp tx own = fold (with_stamped stamp tx) [] own
 
 -- the turn that writes only that the transaction is done
 abbrev pub records_done : TxId → Stamp → Turn
