@@ -1,5 +1,5 @@
--- What waits for an actor after a history: copies of messages, requests of its own that are lost, and commands. Links drop,
--- repeat and delay messages.
+-- What waits for an actor after a history: copies of messages, requests of its own that are lost, and commands. Links
+-- drop, repeat and delay messages.
 use Rattle.std.specs.Prelude.{ℕ, ◌+◌, ◌-◌, ◌==◌, nat_lt, Bool, true, false, not, if◌then◌else◌, List, [], ◌∷◌, ◌++◌}
 use Rattle.std.specs.Prelude.{drop, filter, fold, get_or, map, replicate, set, slice_get}
 use Rattle.std.specs.List.{list_any}
@@ -24,16 +24,16 @@ use Rattle.qc_script.specs.declared.script.Script.{Script}
 pub record Inbox : Type 0 where
   -- which actors are cut from each other
   pub cuts : List Bool
-  -- by actor: how many messages came from it to this one so far, and went from this one to it, those that were dropped too
+  -- by actor: how many messages came from it to this one so far, and went from this one to it, dropped ones too
   pub from_each : List ℕ
   pub to_each : List ℕ
   -- the copies that are ready, in the order of their numbers
   pub copies : List Envelope
-  -- late copies: those that are ready once the control lines of this phase have acted, and those that are in the next one
+  -- late copies: those that are ready once the control lines of this phase have acted, and those that are in the next
   pub opening : List Envelope
   pub late : List Envelope
-  -- the actor's requests that made a copy at once and have no answer yet; those that are lost, ascending, until it takes
-  -- that they are
+  -- the actor's requests that made a copy at once and have no answer yet; those that are lost, ascending, until it
+  -- takes that they are
   pub unanswered : List ℕ
   pub lost : List ℕ
   -- the control lines of the phase that haven't acted
@@ -209,8 +209,8 @@ loss_taken i = record i { lost = drop 1 i.lost }
 abbrev pub reply_told : Inbox → Inbox
 reply_told i = record i { busy = false }
 
--- what a step of an actor changes in the inbox of actor a. No disk is armed, and no actor falls or rises yet: those steps
--- change nothing, and no run has them
+-- what a step of an actor changes in the inbox of actor a. No disk is armed, and no actor falls or rises yet: those
+-- steps change nothing, and no run has them
 abbrev pub inbox_at : Script → ℕ → Inbox → ℕ → Step → Inbox
 inbox_at script a i by (steps.Phase k) = option_map_or (phase_begun a i) (slice_get script.phases (k - 1)) i
 inbox_at script a i by (steps.Cut x y) = control_acted (record i { cuts = with_cut i.cuts x y })

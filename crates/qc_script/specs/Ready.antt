@@ -49,8 +49,8 @@ ready decl script a h = ready_in decl a (inbox script a h)
 abbrev pub controls_left : Script → List Entry → List Control
 controls_left script h = (inbox script 0 h).controls
 
--- the step of a control line. A phase's beginning is no line among them; lines that arm a disk, crash an actor or restart
--- it have no step yet, so no run goes on past one
+-- the step of a control line. A phase's beginning is no line among them; lines that arm a disk, crash an actor or
+-- restart it have no step yet, so no run goes on past one
 abbrev pub step_of_control : Control → Option Step
 step_of_control (controls.Phase k) = None
 step_of_control (controls.Cut a b) = Some (steps.Cut a b)

@@ -15,9 +15,9 @@ use Rattle.qc_script.specs.declared.script.Script.{Script}
 
 -- A conduct says which turns are lawful for an actor after its deeds, the last of which is the input that it took.
 -- A history is a run where it is made of these events; each actor has an open input or none, by actor:
--- an actor without an open input takes what is ready next for it; an actor with one posts a lawful turn; where no input is
--- open, every control line has acted and nothing is ready for anybody, the next phase of the script begins; and the first
--- control line of a phase that hasn't acted does.
+-- an actor without an open input takes what is ready next for it; an actor with one posts a lawful turn; where no input
+-- is open, every control line has acted and nothing is ready for anybody, the next phase of the script begins; and the
+-- first control line of a phase that hasn't acted does.
 pub data Runs (lawful : ℕ → List Deed → Turn → Type 0) (decl : Declaration) (script : Script) : List Entry
     → List Bool → Type 0 where
   begins : Runs lawful decl script [] (replicate (actors decl) false)
