@@ -1,3 +1,4 @@
+pub mod Sound
 pub mod WorkedHistoriesAreRuns
 pub mod Histories1To10AreRuns
 pub mod Histories11To20AreRuns

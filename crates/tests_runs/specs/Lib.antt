@@ -1,4 +1,5 @@
 pub mod Perform
+pub mod Whole
 pub mod Words
 pub mod WorkedScripts
 pub mod Scripts1To10
