@@ -53,7 +53,7 @@ WORKED = {
         "phase|c0 begin|c0 do x R|phase|c1 begin|c1 do x W1|c1 commit|phase|c0 commit"),
 }
 # (fewest steps, most steps, how many)
-CHOSEN = ((20, 79, 12), (80, 179, 14), (180, 400, 14))
+CHOSEN = ((20, 79, 12), (80, 179, 14), (180, 340, 14))
 SEEDS = range(1, 1200)
 GROUP = 10
 INPUTS = ("Called", "Got", "Lost")
@@ -234,7 +234,7 @@ def broken(item):
     for word in item.split(" "):
         if len(now) + 1 + len(word) > COLUMNS:
             lines.append(now)
-            now = "     "
+            now = "   "
         now += " " + word
     return lines + [now]
 
@@ -264,6 +264,15 @@ def words_of(text):
     return set(text.split())
 
 
+def imported(where, names):
+    """The lines that bring names of a module."""
+    if not names:
+        return ""
+    text = "use %s.{%s}\n" % (where, ", ".join(names))
+    half = len(names) // 2
+    return text if len(text) <= COLUMNS else imported(where, names[:half]) + imported(where, names[half:])
+
+
 def module(head, decl, history):
     body = ""
     if decl is not None:
@@ -275,8 +284,7 @@ def module(head, decl, history):
     out = "-- %s\n" % head
     for where, names in IMPORTS:
         names = [n for n in names if n in used or n == "◌∷◌"]
-        if names:
-            out += "use %s.{%s}\n" % (where, ", ".join(names))
+        out += imported(where, names)
     for name, where in VARIANTS:
         if any(word.startswith(name + ".") for word in used):
             out += "use Rattle.qc_msg.specs.declared.%s.TheVariants as %s\n" % (where, name)
@@ -347,11 +355,11 @@ def told(decl, script, history):
     lost = sum(kind(x) == "Lost" for actor, x in history)
     cuts = sum(kind(x) == "Cut" for actor, x in history)
     names = collections.Counter(kind(x.reply) for actor, x in history if kind(x) == "Told")
-    parts = ["%d steps" % len(history), "%d messages" % sent, "%d lost" % lost, "%d cuts" % cuts]
-    parts += ["%d %s" % (names[n], text) for n, text in (
-        ("Committed", "commits"), ("Aborted", "aborted"), ("Conflict", "conflicts"), ("Quorum", "without a quorum"),
-        ("Absent", "absent")) if names[n]]
-    return "A random history, of %d sites and %d clients: %s." % (decl.sites, decl.clients, ", ".join(parts))
+    parts = (
+        ("sites", decl.sites), ("clients", decl.clients), ("steps", len(history)), ("messages", sent), ("lost", lost),
+        ("cuts", cuts), ("commits", names["Committed"]), ("aborts", names["Aborted"]), ("conflicts", names["Conflict"]),
+        ("short rounds", names["Quorum"]), ("absent", names["Absent"]))
+    return "A random history: %s." % ", ".join("%s %d" % part for part in parts if part[1])
 
 
 # Writing it all.

@@ -13,7 +13,7 @@ mod random;
 mod worked;
 
 pub use random::{
-    histories_11_to_20_are_performed, histories_1_to_10_are_performed,
+    histories_1_to_10_are_performed, histories_11_to_20_are_performed,
     histories_21_to_30_are_performed, histories_31_to_40_are_performed,
 };
 pub use worked::worked_histories_are_performed;
