@@ -1,4 +1,4 @@
--- A random history: sites 2, clients 2, steps 42, messages 10, cuts 1, commits 1, absent 1.
+-- Random: sites 2, clients 2, steps 42, messages 10, cuts 1, commits 1, absent 1.
 use Rattle.std.specs.Prelude.{List, [], ◌∷◌, None}
 use Rattle.qc_decl.specs.declared.declaration.Declaration.{Declaration}
 use Rattle.qc_decl.specs.One.{row}

@@ -1,4 +1,4 @@
--- A random history: sites 2, clients 1, steps 77, messages 17, cuts 1, commits 2, absent 1.
+-- Random: sites 2, clients 1, steps 77, messages 17, cuts 1, commits 2, absent 1.
 use Rattle.std.specs.Prelude.{List, [], ◌∷◌, Some}
 use Rattle.qc_decl.specs.declared.declaration.Declaration.{Declaration}
 use Rattle.qc_decl.specs.One.{row}

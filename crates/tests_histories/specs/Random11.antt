@@ -1,4 +1,4 @@
--- A random history: sites 3, clients 3, steps 78, messages 24, cuts 1, commits 2, aborts 1, conflicts 2.
+-- Random: sites 3, clients 3, steps 78, messages 24, cuts 1, commits 2, aborts 1, conflicts 2.
 use Rattle.std.specs.Prelude.{List, [], ◌∷◌}
 use Rattle.qc_decl.specs.declared.declaration.Declaration.{Declaration}
 use Rattle.qc_decl.specs.One.{row}

@@ -1,4 +1,4 @@
--- A random history: sites 2, clients 2, steps 79, messages 22, lost 2, cuts 1, commits 1, aborts 1, short rounds 1.
+-- Random: sites 2, clients 2, steps 79, messages 22, lost 2, cuts 1, commits 1, aborts 1, short rounds 1.
 use Rattle.std.specs.Prelude.{List, [], ◌∷◌, Some}
 use Rattle.qc_decl.specs.declared.declaration.Declaration.{Declaration}
 use Rattle.qc_decl.specs.One.{row}

@@ -1,4 +1,4 @@
--- A random history: sites 5, clients 3, steps 96, messages 33, cuts 1, commits 1, conflicts 1.
+-- Random: sites 5, clients 3, steps 96, messages 33, cuts 1, commits 1, conflicts 1.
 use Rattle.std.specs.Prelude.{List, [], ◌∷◌, Some}
 use Rattle.qc_decl.specs.declared.declaration.Declaration.{Declaration}
 use Rattle.qc_decl.specs.One.{row}

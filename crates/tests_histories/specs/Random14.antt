@@ -1,4 +1,4 @@
--- A random history: sites 3, clients 1, steps 99, messages 32, cuts 1, commits 2, absent 3.
+-- Random: sites 3, clients 1, steps 99, messages 32, cuts 1, commits 2, absent 3.
 use Rattle.std.specs.Prelude.{List, [], ◌∷◌, Some, None}
 use Rattle.qc_decl.specs.declared.declaration.Declaration.{Declaration}
 use Rattle.qc_decl.specs.One.{row}

@@ -1,4 +1,5 @@
--- A random history: sites 1, clients 1, steps 127, messages 29, lost 3, cuts 1, commits 6, aborts 1, conflicts 1, short rounds 2, absent 1.
+-- Random: sites 1, clients 1, steps 127, messages 29, lost 3, cuts 1, commits 6, aborts 1, conflicts 1, short rounds 2,
+-- absent 1.
 use Rattle.std.specs.Prelude.{List, [], ◌∷◌, Some, None}
 use Rattle.qc_decl.specs.declared.declaration.Declaration.{Declaration}
 use Rattle.qc_decl.specs.One.{row}

@@ -1,4 +1,4 @@
--- A random history: sites 4, clients 1, steps 128, messages 44, lost 6, commits 1, aborts 2, conflicts 1, short rounds 1.
+-- Random: sites 4, clients 1, steps 128, messages 44, lost 6, commits 1, aborts 2, conflicts 1, short rounds 1.
 use Rattle.std.specs.Prelude.{List, [], ◌∷◌}
 use Rattle.qc_decl.specs.declared.declaration.Declaration.{Declaration}
 use Rattle.qc_decl.specs.One.{row}

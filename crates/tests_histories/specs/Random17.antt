@@ -1,4 +1,4 @@
--- A random history: sites 4, clients 2, steps 130, messages 43, lost 10, commits 4, aborts 1, short rounds 4.
+-- Random: sites 4, clients 2, steps 130, messages 43, lost 10, commits 4, aborts 1, short rounds 4.
 use Rattle.std.specs.Prelude.{List, [], ◌∷◌, Some}
 use Rattle.qc_decl.specs.declared.declaration.Declaration.{Declaration}
 use Rattle.qc_decl.specs.One.{row}

@@ -1,4 +1,4 @@
--- A random history: sites 4, clients 3, steps 140, messages 54, commits 1, aborts 2, conflicts 2.
+-- Random: sites 4, clients 3, steps 140, messages 54, commits 1, aborts 2, conflicts 2.
 use Rattle.std.specs.Prelude.{List, [], ◌∷◌}
 use Rattle.qc_decl.specs.declared.declaration.Declaration.{Declaration}
 use Rattle.qc_decl.specs.One.{row}

@@ -1,4 +1,4 @@
--- A random history: sites 2, clients 4, steps 151, messages 44, lost 1, cuts 3, commits 3, aborts 1, conflicts 4, absent 3.
+-- Random: sites 2, clients 4, steps 151, messages 44, lost 1, cuts 3, commits 3, aborts 1, conflicts 4, absent 3.
 use Rattle.std.specs.Prelude.{List, [], ◌∷◌, Some, None}
 use Rattle.qc_decl.specs.declared.declaration.Declaration.{Declaration}
 use Rattle.qc_decl.specs.One.{row}

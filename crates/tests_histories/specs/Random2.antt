@@ -1,4 +1,4 @@
--- A random history: sites 3, clients 2, steps 45, messages 14, lost 2, commits 1, aborts 1, short rounds 2.
+-- Random: sites 3, clients 2, steps 45, messages 14, lost 2, commits 1, aborts 1, short rounds 2.
 use Rattle.std.specs.Prelude.{List, [], ◌∷◌}
 use Rattle.qc_decl.specs.declared.declaration.Declaration.{Declaration}
 use Rattle.qc_decl.specs.One.{row}

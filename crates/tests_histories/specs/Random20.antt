@@ -1,4 +1,4 @@
--- A random history: sites 1, clients 2, steps 156, messages 40, lost 1, commits 7, aborts 1, conflicts 1, absent 1.
+-- Random: sites 1, clients 2, steps 156, messages 40, lost 1, commits 7, aborts 1, conflicts 1, absent 1.
 use Rattle.std.specs.Prelude.{List, [], ◌∷◌, Some}
 use Rattle.qc_decl.specs.declared.declaration.Declaration.{Declaration}
 use Rattle.qc_decl.specs.One.{row}

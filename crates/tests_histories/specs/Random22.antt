@@ -1,4 +1,4 @@
--- A random history: sites 5, clients 3, steps 169, messages 65, commits 1, aborts 3, conflicts 4.
+-- Random: sites 5, clients 3, steps 169, messages 65, commits 1, aborts 3, conflicts 4.
 use Rattle.std.specs.Prelude.{List, [], ◌∷◌, Some}
 use Rattle.qc_decl.specs.declared.declaration.Declaration.{Declaration}
 use Rattle.qc_decl.specs.One.{row}

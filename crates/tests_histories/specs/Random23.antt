@@ -1,4 +1,4 @@
--- A random history: sites 2, clients 4, steps 172, messages 57, commits 4, aborts 2, conflicts 3.
+-- Random: sites 2, clients 4, steps 172, messages 57, commits 4, aborts 2, conflicts 3.
 use Rattle.std.specs.Prelude.{List, [], ◌∷◌, Some}
 use Rattle.qc_decl.specs.declared.declaration.Declaration.{Declaration}
 use Rattle.qc_decl.specs.One.{row}

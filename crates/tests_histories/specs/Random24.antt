@@ -1,4 +1,4 @@
--- A random history: sites 3, clients 4, steps 173, messages 57, lost 4, commits 5, aborts 1, conflicts 1, short rounds 1.
+-- Random: sites 3, clients 4, steps 173, messages 57, lost 4, commits 5, aborts 1, conflicts 1, short rounds 1.
 use Rattle.std.specs.Prelude.{List, [], ◌∷◌, Some}
 use Rattle.qc_decl.specs.declared.declaration.Declaration.{Declaration}
 use Rattle.qc_decl.specs.One.{row}

@@ -1,4 +1,4 @@
--- A random history: sites 3, clients 2, steps 174, messages 66, lost 5, cuts 1, commits 2.
+-- Random: sites 3, clients 2, steps 174, messages 66, lost 5, cuts 1, commits 2.
 use Rattle.std.specs.Prelude.{List, [], ◌∷◌, Some}
 use Rattle.qc_decl.specs.declared.declaration.Declaration.{Declaration}
 use Rattle.qc_decl.specs.One.{row}

@@ -1,4 +1,4 @@
--- A random history: sites 2, clients 2, steps 175, messages 53, lost 3, commits 6, aborts 1, short rounds 1, absent 1.
+-- Random: sites 2, clients 2, steps 175, messages 53, lost 3, commits 6, aborts 1, short rounds 1, absent 1.
 use Rattle.std.specs.Prelude.{List, [], ◌∷◌, Some, None}
 use Rattle.qc_decl.specs.declared.declaration.Declaration.{Declaration}
 use Rattle.qc_decl.specs.One.{row}

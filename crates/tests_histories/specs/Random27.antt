@@ -1,4 +1,4 @@
--- A random history: sites 3, clients 1, steps 202, messages 73, commits 3.
+-- Random: sites 3, clients 1, steps 202, messages 73, commits 3.
 use Rattle.std.specs.Prelude.{List, [], ◌∷◌, Some}
 use Rattle.qc_decl.specs.declared.declaration.Declaration.{Declaration}
 use Rattle.qc_decl.specs.One.{row}

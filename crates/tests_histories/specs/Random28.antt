@@ -1,4 +1,4 @@
--- A random history: sites 5, clients 1, steps 225, messages 88, lost 6, commits 2, aborts 1, conflicts 1, short rounds 2.
+-- Random: sites 5, clients 1, steps 225, messages 88, lost 6, commits 2, aborts 1, conflicts 1, short rounds 2.
 use Rattle.std.specs.Prelude.{List, [], ◌∷◌, Some}
 use Rattle.qc_decl.specs.declared.declaration.Declaration.{Declaration}
 use Rattle.qc_decl.specs.One.{row}

@@ -1,4 +1,4 @@
--- A random history: sites 5, clients 4, steps 243, messages 100, commits 2, aborts 1, conflicts 1.
+-- Random: sites 5, clients 4, steps 243, messages 100, commits 2, aborts 1, conflicts 1.
 use Rattle.std.specs.Prelude.{List, [], ◌∷◌, Some}
 use Rattle.qc_decl.specs.declared.declaration.Declaration.{Declaration}
 use Rattle.qc_decl.specs.One.{row}

@@ -1,4 +1,4 @@
--- A random history: sites 1, clients 1, steps 55, messages 16, lost 1, commits 1, aborts 1.
+-- Random: sites 1, clients 1, steps 55, messages 16, lost 1, commits 1, aborts 1.
 use Rattle.std.specs.Prelude.{List, [], ◌∷◌, Some}
 use Rattle.qc_decl.specs.declared.declaration.Declaration.{Declaration}
 use Rattle.qc_decl.specs.One.{row}

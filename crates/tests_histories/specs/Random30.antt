@@ -1,4 +1,4 @@
--- A random history: sites 4, clients 1, steps 245, messages 84, lost 3, cuts 1, commits 5, aborts 2, short rounds 1, absent 1.
+-- Random: sites 4, clients 1, steps 245, messages 84, lost 3, cuts 1, commits 5, aborts 2, short rounds 1, absent 1.
 use Rattle.std.specs.Prelude.{List, [], ◌∷◌, Some}
 use Rattle.qc_decl.specs.declared.declaration.Declaration.{Declaration}
 use Rattle.qc_decl.specs.One.{row}

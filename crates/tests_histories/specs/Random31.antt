@@ -1,4 +1,4 @@
--- A random history: sites 5, clients 3, steps 254, messages 101, cuts 1, commits 3, aborts 3, conflicts 3.
+-- Random: sites 5, clients 3, steps 254, messages 101, cuts 1, commits 3, aborts 3, conflicts 3.
 use Rattle.std.specs.Prelude.{List, [], ◌∷◌, Some}
 use Rattle.qc_decl.specs.declared.declaration.Declaration.{Declaration}
 use Rattle.qc_decl.specs.One.{row}

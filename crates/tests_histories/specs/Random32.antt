@@ -1,4 +1,5 @@
--- A random history: sites 3, clients 2, steps 261, messages 100, lost 2, cuts 1, commits 2, aborts 1, conflicts 2, short rounds 2, absent 2.
+-- Random: sites 3, clients 2, steps 261, messages 100, lost 2, cuts 1, commits 2, aborts 1, conflicts 2, short rounds
+-- 2, absent 2.
 use Rattle.std.specs.Prelude.{List, [], ◌∷◌, Some, None}
 use Rattle.qc_decl.specs.declared.declaration.Declaration.{Declaration}
 use Rattle.qc_decl.specs.One.{row}

@@ -1,4 +1,5 @@
--- A random history: sites 4, clients 4, steps 272, messages 108, lost 9, cuts 1, commits 1, aborts 3, conflicts 1, short rounds 3.
+-- Random: sites 4, clients 4, steps 272, messages 108, lost 9, cuts 1, commits 1, aborts 3, conflicts 1, short rounds
+-- 3.
 use Rattle.std.specs.Prelude.{List, [], ◌∷◌}
 use Rattle.qc_decl.specs.declared.declaration.Declaration.{Declaration}
 use Rattle.qc_decl.specs.One.{row}

@@ -1,4 +1,4 @@
--- A random history: sites 3, clients 3, steps 282, messages 99, lost 3, commits 2, aborts 2, conflicts 3, short rounds 1.
+-- Random: sites 3, clients 3, steps 282, messages 99, lost 3, commits 2, aborts 2, conflicts 3, short rounds 1.
 use Rattle.std.specs.Prelude.{List, [], ◌∷◌, Some}
 use Rattle.qc_decl.specs.declared.declaration.Declaration.{Declaration}
 use Rattle.qc_decl.specs.One.{row}

@@ -1,4 +1,4 @@
--- A random history: sites 3, clients 4, steps 288, messages 107, commits 2, aborts 2, conflicts 4.
+-- Random: sites 3, clients 4, steps 288, messages 107, commits 2, aborts 2, conflicts 4.
 use Rattle.std.specs.Prelude.{List, [], ◌∷◌, Some}
 use Rattle.qc_decl.specs.declared.declaration.Declaration.{Declaration}
 use Rattle.qc_decl.specs.One.{row}

@@ -1,4 +1,4 @@
--- A random history: sites 1, clients 4, steps 304, messages 89, lost 3, cuts 1, commits 8, aborts 2, conflicts 7, short rounds 3.
+-- Random: sites 1, clients 4, steps 304, messages 89, lost 3, cuts 1, commits 8, aborts 2, conflicts 7, short rounds 3.
 use Rattle.std.specs.Prelude.{List, [], ◌∷◌, Some}
 use Rattle.qc_decl.specs.declared.declaration.Declaration.{Declaration}
 use Rattle.qc_decl.specs.One.{row}

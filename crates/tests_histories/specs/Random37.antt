@@ -1,4 +1,5 @@
--- A random history: sites 1, clients 3, steps 311, messages 84, lost 2, cuts 2, commits 12, aborts 2, conflicts 7, short rounds 1, absent 4.
+-- Random: sites 1, clients 3, steps 311, messages 84, lost 2, cuts 2, commits 12, aborts 2, conflicts 7, short rounds
+-- 1, absent 4.
 use Rattle.std.specs.Prelude.{List, [], ◌∷◌, Some, None}
 use Rattle.qc_decl.specs.declared.declaration.Declaration.{Declaration}
 use Rattle.qc_decl.specs.One.{row}

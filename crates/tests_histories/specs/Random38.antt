@@ -1,4 +1,4 @@
--- A random history: sites 4, clients 4, steps 312, messages 98, commits 3, aborts 1, conflicts 3, absent 2.
+-- Random: sites 4, clients 4, steps 312, messages 98, commits 3, aborts 1, conflicts 3, absent 2.
 use Rattle.std.specs.Prelude.{List, [], ◌∷◌, Some, None}
 use Rattle.qc_decl.specs.declared.declaration.Declaration.{Declaration}
 use Rattle.qc_decl.specs.One.{row}

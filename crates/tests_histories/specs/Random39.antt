@@ -1,4 +1,4 @@
--- A random history: sites 5, clients 2, steps 318, messages 119, lost 1, commits 3, aborts 1, conflicts 2.
+-- Random: sites 5, clients 2, steps 318, messages 119, lost 1, commits 3, aborts 1, conflicts 2.
 use Rattle.std.specs.Prelude.{List, [], ◌∷◌, Some}
 use Rattle.qc_decl.specs.declared.declaration.Declaration.{Declaration}
 use Rattle.qc_decl.specs.One.{row}

@@ -1,4 +1,4 @@
--- A random history: sites 1, clients 1, steps 62, messages 15, lost 2, cuts 1, commits 2, conflicts 1, short rounds 2, absent 1.
+-- Random: sites 1, clients 1, steps 62, messages 15, lost 2, cuts 1, commits 2, conflicts 1, short rounds 2, absent 1.
 use Rattle.std.specs.Prelude.{List, [], ◌∷◌}
 use Rattle.qc_decl.specs.declared.declaration.Declaration.{Declaration}
 use Rattle.qc_decl.specs.One.{row}

@@ -1,4 +1,4 @@
--- A random history: sites 3, clients 3, steps 323, messages 110, cuts 1, commits 3, aborts 2, conflicts 4.
+-- Random: sites 3, clients 3, steps 323, messages 110, cuts 1, commits 3, aborts 2, conflicts 4.
 use Rattle.std.specs.Prelude.{List, [], ◌∷◌, Some}
 use Rattle.qc_decl.specs.declared.declaration.Declaration.{Declaration}
 use Rattle.qc_decl.specs.One.{row}

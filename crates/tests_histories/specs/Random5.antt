@@ -1,4 +1,4 @@
--- A random history: sites 2, clients 4, steps 73, messages 24, commits 1.
+-- Random: sites 2, clients 4, steps 73, messages 24, commits 1.
 use Rattle.std.specs.Prelude.{List, [], ◌∷◌, Some}
 use Rattle.qc_decl.specs.declared.declaration.Declaration.{Declaration}
 use Rattle.qc_decl.specs.One.{row}

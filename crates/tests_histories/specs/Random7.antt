@@ -1,4 +1,4 @@
--- A random history: sites 4, clients 2, steps 74, messages 28, cuts 1, commits 1.
+-- Random: sites 4, clients 2, steps 74, messages 28, cuts 1, commits 1.
 use Rattle.std.specs.Prelude.{List, [], ◌∷◌}
 use Rattle.qc_decl.specs.declared.declaration.Declaration.{Declaration}
 use Rattle.qc_decl.specs.One.{row}

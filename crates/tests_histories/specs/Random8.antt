@@ -1,4 +1,4 @@
--- A random history: sites 1, clients 2, steps 76, messages 15, lost 4, cuts 2, conflicts 1, short rounds 4.
+-- Random: sites 1, clients 2, steps 76, messages 15, lost 4, cuts 2, conflicts 1, short rounds 4.
 use Rattle.std.specs.Prelude.{List, [], ◌∷◌}
 use Rattle.qc_decl.specs.declared.declaration.Declaration.{Declaration}
 use Rattle.qc_decl.specs.One.{row}

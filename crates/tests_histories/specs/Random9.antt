@@ -1,4 +1,4 @@
--- A random history: sites 1, clients 3, steps 77, messages 20, commits 1, aborts 2, conflicts 3.
+-- Random: sites 1, clients 3, steps 77, messages 20, commits 1, aborts 2, conflicts 3.
 use Rattle.std.specs.Prelude.{List, [], ◌∷◌}
 use Rattle.qc_decl.specs.declared.declaration.Declaration.{Declaration}
 use Rattle.qc_decl.specs.One.{row}
