@@ -1,5 +1,5 @@
 -- A history made by a schedule: whoever is named takes its input, or posts the turn of its conduct.
-use Rattle.std.specs.Prelude.{ℕ, List, [], ◌∷◌, ◌++◌, length, Option, Some, None, option_map, option_and_then}
+use Rattle.std.specs.Prelude.{ℕ, List, [], ◌∷◌, ◌++◌, length, Option, Some, option_map, option_and_then}
 use Rattle.qc_core.specs.Conduct.{turn_after}
 use Rattle.qc_decl.specs.declared.declaration.Declaration.{Declaration}
 use Rattle.qc_decl.specs.Actors.{controller}

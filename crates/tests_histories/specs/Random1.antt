@@ -1,10 +1,11 @@
--- A random history, of 2 sites and 2 clients: 42 steps, 10 messages, 0 lost, 1 cuts, 1 commits, 1 absent.
+-- Random: sites 2, clients 2, steps 42, messages 10, cuts 1, commits 1, absent 1.
 use Rattle.std.specs.Prelude.{List, [], ◌∷◌, None}
 use Rattle.qc_decl.specs.declared.declaration.Declaration.{Declaration}
 use Rattle.qc_decl.specs.One.{row}
 use Rattle.qc_msg.specs.Steps.{Entry, marked}
 use Rattle.tests_histories.specs.Play.{Move, Takes, Posts, Acts}
-use Rattle.tests_histories.specs.Words.{tx, stamp, operation, read_lock, prepare, commit, declaration, kind, pair, plan}
+use Rattle.tests_histories.specs.Words.{tx, stamp, operation, read_lock, prepare}
+use Rattle.tests_histories.specs.Words.{commit, declaration, kind, pair, plan}
 use Rattle.qc_msg.specs.declared.step.Step.TheVariants.{Phase, Cut, Heal, Called, Got, Wrote, Sent, Told}
 use Rattle.qc_msg.specs.declared.message.Answer.TheVariants as answers
 use Rattle.qc_msg.specs.declared.step.Command.TheVariants as commands
@@ -17,8 +18,8 @@ use Rattle.qc_msg.specs.declared.message.Want.TheVariants as wants
 abbrev pub decl : Declaration
 decl =
     declaration 2 2 (kind 2 2 3 0 (row 0 0 0 1 ∷ row 1 0 1 1 ∷ row 0 1 2 0 ∷ row 1 1 2 0 ∷ []) (pair 0 0 ∷ pair 0 2 ∷
-      []) ∷ kind 2 2 2 0 (row 0 0 0 1 ∷ row 1 1 1 0 ∷ []) (pair 0 0 ∷ pair 0 1 ∷ pair 1 0 ∷ pair 1 1 ∷ []) ∷ []) (1 ∷
-      []) (plan (2 ∷ 1 ∷ []) ((3 ∷ 2 ∷ []) ∷ []) ((2 ∷ 2 ∷ []) ∷ []) ∷ [])
+    []) ∷ kind 2 2 2 0 (row 0 0 0 1 ∷ row 1 1 1 0 ∷ []) (pair 0 0 ∷ pair 0 1 ∷ pair 1 0 ∷ pair 1 1 ∷ []) ∷ []) (1 ∷ [])
+    (plan (2 ∷ 1 ∷ []) ((3 ∷ 2 ∷ []) ∷ []) ((2 ∷ 2 ∷ []) ∷ []) ∷ [])
 
 abbrev pub moves : List Move
 moves =

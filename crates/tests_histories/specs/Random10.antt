@@ -1,4 +1,4 @@
--- A random history, of 2 sites and 1 clients: 77 steps, 17 messages, 0 lost, 1 cuts, 2 commits, 1 absent.
+-- Random: sites 2, clients 1, steps 77, messages 17, cuts 1, commits 2, absent 1.
 use Rattle.std.specs.Prelude.{List, [], ◌∷◌, Some}
 use Rattle.qc_decl.specs.declared.declaration.Declaration.{Declaration}
 use Rattle.qc_decl.specs.One.{row}
@@ -17,9 +17,9 @@ use Rattle.qc_msg.specs.declared.message.Want.TheVariants as wants
 abbrev pub decl : Declaration
 decl =
     declaration 2 1 (kind 2 2 1 0 (row 0 1 0 1 ∷ row 1 0 0 0 ∷ row 1 1 0 1 ∷ []) (pair 0 0 ∷ pair 0 1 ∷ []) ∷ kind 4 3 3
-      0 (row 0 1 2 0 ∷ row 0 1 0 0 ∷ row 0 2 0 1 ∷ row 1 0 1 2 ∷ row 1 2 0 1 ∷ row 2 0 1 1 ∷ row 2 0 0 2 ∷ row 2 1 2 2 ∷
-      row 2 2 0 2 ∷ row 3 2 0 3 ∷ []) (pair 0 2 ∷ pair 0 3 ∷ pair 1 2 ∷ pair 1 3 ∷ []) ∷ []) (0 ∷ []) (plan (1 ∷ 1 ∷ [])
-      ((2 ∷ 0 ∷ []) ∷ []) ((1 ∷ 1 ∷ []) ∷ []) ∷ plan (2 ∷ 1 ∷ []) ((1 ∷ 0 ∷ []) ∷ []) ((3 ∷ 3 ∷ []) ∷ []) ∷ [])
+    0 (row 0 1 2 0 ∷ row 0 1 0 0 ∷ row 0 2 0 1 ∷ row 1 0 1 2 ∷ row 1 2 0 1 ∷ row 2 0 1 1 ∷ row 2 0 0 2 ∷ row 2 1 2 2 ∷
+    row 2 2 0 2 ∷ row 3 2 0 3 ∷ []) (pair 0 2 ∷ pair 0 3 ∷ pair 1 2 ∷ pair 1 3 ∷ []) ∷ []) (0 ∷ []) (plan (1 ∷ 1 ∷ [])
+    ((2 ∷ 0 ∷ []) ∷ []) ((1 ∷ 1 ∷ []) ∷ []) ∷ plan (2 ∷ 1 ∷ []) ((1 ∷ 0 ∷ []) ∷ []) ((3 ∷ 3 ∷ []) ∷ []) ∷ [])
 
 abbrev pub moves : List Move
 moves =

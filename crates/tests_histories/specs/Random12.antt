@@ -1,10 +1,11 @@
--- A random history, of 2 sites and 2 clients: 79 steps, 22 messages, 2 lost, 1 cuts, 1 commits, 1 aborted, 1 without a quorum.
+-- Random: sites 2, clients 2, steps 79, messages 22, lost 2, cuts 1, commits 1, aborts 1, short rounds 1.
 use Rattle.std.specs.Prelude.{List, [], ◌∷◌, Some}
 use Rattle.qc_decl.specs.declared.declaration.Declaration.{Declaration}
 use Rattle.qc_decl.specs.One.{row}
 use Rattle.qc_msg.specs.Steps.{Entry, marked}
 use Rattle.tests_histories.specs.Play.{Move, Takes, Posts, Acts}
-use Rattle.tests_histories.specs.Words.{tx, stamp, line, own_line, operation, read_lock, prepare, commit, declaration, kind, pair, plan}
+use Rattle.tests_histories.specs.Words.{tx, stamp, line, own_line, operation, read_lock}
+use Rattle.tests_histories.specs.Words.{prepare, commit, declaration, kind, pair, plan}
 use Rattle.qc_msg.specs.declared.step.Step.TheVariants.{Phase, Cut, Heal, Called, Got, Lost, Wrote, Sent, Told}
 use Rattle.qc_msg.specs.declared.message.Answer.TheVariants as answers
 use Rattle.qc_msg.specs.declared.reply.Why.TheVariants as causes
@@ -19,9 +20,9 @@ use Rattle.qc_msg.specs.declared.message.Want.TheVariants as wants
 abbrev pub decl : Declaration
 decl =
     declaration 2 2 (kind 4 3 3 0 (row 0 0 0 1 ∷ row 0 1 0 2 ∷ row 1 1 0 3 ∷ row 2 0 0 3 ∷ row 1 2 1 0 ∷ row 2 2 2 0 ∷
-      row 3 2 1 2 ∷ row 3 2 2 1 ∷ []) (pair 0 0 ∷ pair 0 2 ∷ pair 0 3 ∷ pair 1 1 ∷ pair 1 2 ∷ pair 1 3 ∷ pair 2 0 ∷ pair
-      2 1 ∷ pair 2 2 ∷ pair 2 3 ∷ []) ∷ []) (0 ∷ 0 ∷ []) (plan (1 ∷ 1 ∷ []) ((2 ∷ 2 ∷ 2 ∷ []) ∷ (1 ∷ 2 ∷ 2 ∷ []) ∷ [])
-      ((1 ∷ 1 ∷ 1 ∷ 1 ∷ []) ∷ (2 ∷ 1 ∷ 2 ∷ 2 ∷ []) ∷ []) ∷ [])
+    row 3 2 1 2 ∷ row 3 2 2 1 ∷ []) (pair 0 0 ∷ pair 0 2 ∷ pair 0 3 ∷ pair 1 1 ∷ pair 1 2 ∷ pair 1 3 ∷ pair 2 0 ∷ pair 2
+    1 ∷ pair 2 2 ∷ pair 2 3 ∷ []) ∷ []) (0 ∷ 0 ∷ []) (plan (1 ∷ 1 ∷ []) ((2 ∷ 2 ∷ 2 ∷ []) ∷ (1 ∷ 2 ∷ 2 ∷ []) ∷ []) ((1 ∷
+    1 ∷ 1 ∷ 1 ∷ []) ∷ (2 ∷ 1 ∷ 2 ∷ 2 ∷ []) ∷ []) ∷ [])
 
 abbrev pub moves : List Move
 moves =
@@ -66,10 +67,10 @@ history =
     marked 0 (Sent 14 2 (messages.Answer 12 (answers.Granted 1 1 []))) ∷ marked 2 (Got 14) ∷
     marked 1 (Sent 15 2 (messages.Answer 13 (answers.Granted 1 1 (line 1 1 1 1 0 0 ∷ [])))) ∷ marked 2 (Got 15) ∷
     marked 2 (Sent 16 0 (messages.Request (tx 0 1) 1 1 (wants.Append 0 (line 1 1 1 1 0 0 ∷ []) (own_line 1 0 2 ∷ []))))
-      ∷
+    ∷
     marked 2 (Lost 16) ∷
     marked 2 (Sent 17 1 (messages.Request (tx 0 1) 1 1 (wants.Append 0 (line 1 1 1 1 0 0 ∷ []) (own_line 1 0 2 ∷ []))))
-      ∷
+    ∷
     marked 2 (Lost 17) ∷ marked 2 (Told (replies.Quorum halves.Append 0 1)) ∷ marked 2 (Called (commands.Do 0 2)) ∷
     marked 2 (Told replies.Doomed) ∷ marked 2 (Called (commands.Do 1 1)) ∷ marked 2 (Told replies.Doomed) ∷
     marked 5 (Phase 3) ∷ marked 5 (Heal 0 1) ∷ marked 0 (Got 16) ∷ marked 1 (Got 17) ∷

@@ -1,10 +1,11 @@
--- A random history, of 5 sites and 3 clients: 96 steps, 33 messages, 0 lost, 1 cuts, 1 commits, 1 conflicts.
+-- Random: sites 5, clients 3, steps 96, messages 33, cuts 1, commits 1, conflicts 1.
 use Rattle.std.specs.Prelude.{List, [], ◌∷◌, Some}
 use Rattle.qc_decl.specs.declared.declaration.Declaration.{Declaration}
 use Rattle.qc_decl.specs.One.{row}
 use Rattle.qc_msg.specs.Steps.{Entry, marked}
 use Rattle.tests_histories.specs.Play.{Move, Takes, Posts, Acts}
-use Rattle.tests_histories.specs.Words.{tx, stamp, line, own_line, operation, prepare, commit, declaration, kind, pair, plan}
+use Rattle.tests_histories.specs.Words.{tx, stamp, line, own_line, operation}
+use Rattle.tests_histories.specs.Words.{prepare, commit, declaration, kind, pair, plan}
 use Rattle.qc_msg.specs.declared.step.Step.TheVariants.{Phase, Cut, Called, Got, Wrote, Sent, Told}
 use Rattle.qc_msg.specs.declared.message.Answer.TheVariants as answers
 use Rattle.qc_msg.specs.declared.step.Command.TheVariants as commands
@@ -17,11 +18,10 @@ use Rattle.qc_msg.specs.declared.message.Want.TheVariants as wants
 abbrev pub decl : Declaration
 decl =
     declaration 5 3 (kind 3 2 1 0 (row 0 0 0 2 ∷ row 0 1 0 1 ∷ row 2 0 0 0 ∷ row 2 1 0 1 ∷ []) (pair 0 1 ∷ pair 1 1 ∷
-      []) ∷ kind 4 3 1 0 (row 0 0 0 3 ∷ row 0 1 0 3 ∷ row 0 2 0 1 ∷ row 1 1 0 3 ∷ row 1 2 0 2 ∷ row 2 1 0 2 ∷ row 2 2 0
-      1 ∷ row 3 0 0 1 ∷ row 3 1 0 0 ∷ row 3 2 0 1 ∷ []) (pair 0 0 ∷ pair 0 1 ∷ pair 0 2 ∷ []) ∷ []) (1 ∷ []) (plan (1 ∷
-      1 ∷ 3 ∷ 0 ∷ 1 ∷ []) ((4 ∷ 0 ∷ 0 ∷ []) ∷ []) ((3 ∷ 3 ∷ 3 ∷ []) ∷ []) ∷ plan (1 ∷ 1 ∷ 1 ∷ 1 ∷ 1 ∷ []) ((3 ∷ 0 ∷ 0 ∷
-      []) ∷ []) ((3 ∷ 3 ∷ 4 ∷ []) ∷ []) ∷ plan (1 ∷ 1 ∷ 0 ∷ 1 ∷ 1 ∷ []) ((3 ∷ 0 ∷ 3 ∷ []) ∷ []) ((2 ∷ 2 ∷ 2 ∷ []) ∷ [])
-      ∷ [])
+    []) ∷ kind 4 3 1 0 (row 0 0 0 3 ∷ row 0 1 0 3 ∷ row 0 2 0 1 ∷ row 1 1 0 3 ∷ row 1 2 0 2 ∷ row 2 1 0 2 ∷ row 2 2 0 1
+    ∷ row 3 0 0 1 ∷ row 3 1 0 0 ∷ row 3 2 0 1 ∷ []) (pair 0 0 ∷ pair 0 1 ∷ pair 0 2 ∷ []) ∷ []) (1 ∷ []) (plan (1 ∷ 1 ∷
+    3 ∷ 0 ∷ 1 ∷ []) ((4 ∷ 0 ∷ 0 ∷ []) ∷ []) ((3 ∷ 3 ∷ 3 ∷ []) ∷ []) ∷ plan (1 ∷ 1 ∷ 1 ∷ 1 ∷ 1 ∷ []) ((3 ∷ 0 ∷ 0 ∷ []) ∷
+    []) ((3 ∷ 3 ∷ 4 ∷ []) ∷ []) ∷ plan (1 ∷ 1 ∷ 0 ∷ 1 ∷ 1 ∷ []) ((3 ∷ 0 ∷ 3 ∷ []) ∷ []) ((2 ∷ 2 ∷ 2 ∷ []) ∷ []) ∷ [])
 
 abbrev pub moves : List Move
 moves =
@@ -85,11 +85,11 @@ history =
     marked 5 (Told (replies.Conflict (tx 2 1) 2)) ∷ marked 5 (Called (commands.Do 0 2)) ∷
     marked 7 (Sent 26 2 (messages.Decision (tx 2 1) outcomes.Active)) ∷ marked 2 (Got 26) ∷
     marked 5 (Sent 27 0 (messages.Request (tx 0 2) 1 1 (wants.Append 0 (line 1 0 1 1 0 1 ∷ []) (own_line 1 0 2 ∷ []))))
-      ∷
+    ∷
     marked 5 (Sent 28 1 (messages.Request (tx 0 2) 1 1 (wants.Append 0 (line 1 0 1 1 0 1 ∷ []) (own_line 1 0 2 ∷ []))))
-      ∷
+    ∷
     marked 5 (Sent 29 2 (messages.Request (tx 0 2) 1 0 (wants.Append 0 (line 1 0 1 1 0 1 ∷ []) (own_line 1 0 2 ∷ []))))
-      ∷
+    ∷
     marked 2 (Got 29) ∷ marked 1 (Got 28) ∷ marked 0 (Got 27) ∷
     marked 0 (Sent 30 5 (messages.Answer 27 (answers.Granted 1 1 []))) ∷ marked 5 (Got 30) ∷
     marked 2 (Sent 31 5 (messages.Answer 29 (answers.Granted 1 1 []))) ∷

@@ -1,10 +1,11 @@
--- A random history, of 3 sites and 1 clients: 99 steps, 32 messages, 0 lost, 1 cuts, 2 commits, 3 absent.
+-- Random: sites 3, clients 1, steps 99, messages 32, cuts 1, commits 2, absent 3.
 use Rattle.std.specs.Prelude.{List, [], ◌∷◌, Some, None}
 use Rattle.qc_decl.specs.declared.declaration.Declaration.{Declaration}
 use Rattle.qc_decl.specs.One.{row}
 use Rattle.qc_msg.specs.Steps.{Entry, marked}
 use Rattle.tests_histories.specs.Play.{Move, Takes, Posts, Acts}
-use Rattle.tests_histories.specs.Words.{tx, stamp, line, own_line, operation, read_lock, prepare, commit, declaration, kind, pair, plan}
+use Rattle.tests_histories.specs.Words.{tx, stamp, line, own_line, operation, read_lock}
+use Rattle.tests_histories.specs.Words.{prepare, commit, declaration, kind, pair, plan}
 use Rattle.qc_msg.specs.declared.step.Step.TheVariants.{Phase, Cut, Heal, Called, Got, Wrote, Sent, Told}
 use Rattle.qc_msg.specs.declared.message.Answer.TheVariants as answers
 use Rattle.qc_msg.specs.declared.step.Command.TheVariants as commands
@@ -17,8 +18,8 @@ use Rattle.qc_msg.specs.declared.message.Want.TheVariants as wants
 abbrev pub decl : Declaration
 decl =
     declaration 3 1 (kind 2 2 2 0 (row 0 0 0 1 ∷ row 1 1 1 0 ∷ []) (pair 0 0 ∷ pair 0 1 ∷ pair 1 0 ∷ pair 1 1 ∷ []) ∷
-      []) (0 ∷ []) (plan (0 ∷ 1 ∷ 3 ∷ []) ((3 ∷ 3 ∷ []) ∷ []) ((2 ∷ 2 ∷ []) ∷ []) ∷ plan (1 ∷ 1 ∷ 1 ∷ []) ((3 ∷ 1 ∷ [])
-      ∷ []) ((3 ∷ 3 ∷ []) ∷ []) ∷ [])
+    []) (0 ∷ []) (plan (0 ∷ 1 ∷ 3 ∷ []) ((3 ∷ 3 ∷ []) ∷ []) ((2 ∷ 2 ∷ []) ∷ []) ∷ plan (1 ∷ 1 ∷ 1 ∷ []) ((3 ∷ 1 ∷ []) ∷
+    []) ((3 ∷ 3 ∷ []) ∷ []) ∷ [])
 
 abbrev pub moves : List Move
 moves =

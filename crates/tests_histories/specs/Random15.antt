@@ -1,10 +1,12 @@
--- A random history, of 1 sites and 1 clients: 127 steps, 29 messages, 3 lost, 1 cuts, 6 commits, 1 aborted, 1 conflicts, 2 without a quorum, 1 absent.
+-- Random: sites 1, clients 1, steps 127, messages 29, lost 3, cuts 1, commits 6, aborts 1, conflicts 1, short rounds 2,
+-- absent 1.
 use Rattle.std.specs.Prelude.{List, [], ◌∷◌, Some, None}
 use Rattle.qc_decl.specs.declared.declaration.Declaration.{Declaration}
 use Rattle.qc_decl.specs.One.{row}
 use Rattle.qc_msg.specs.Steps.{Entry, marked}
 use Rattle.tests_histories.specs.Play.{Move, Takes, Posts, Acts}
-use Rattle.tests_histories.specs.Words.{tx, stamp, line, own_line, operation, read_lock, prepare, commit, declaration, kind, pair, plan}
+use Rattle.tests_histories.specs.Words.{tx, stamp, line, own_line, operation, read_lock}
+use Rattle.tests_histories.specs.Words.{prepare, commit, declaration, kind, pair, plan}
 use Rattle.qc_msg.specs.declared.step.Step.TheVariants.{Phase, Cut, Heal, Called, Got, Lost, Wrote, Sent, Told}
 use Rattle.qc_msg.specs.declared.message.Answer.TheVariants as answers
 use Rattle.qc_msg.specs.declared.reply.Why.TheVariants as causes
@@ -19,11 +21,11 @@ use Rattle.qc_msg.specs.declared.message.Want.TheVariants as wants
 abbrev pub decl : Declaration
 decl =
     declaration 1 1 (kind 2 2 3 0 (row 0 0 0 1 ∷ row 1 0 1 1 ∷ row 0 1 2 0 ∷ row 1 1 2 0 ∷ []) (pair 0 0 ∷ pair 0 2 ∷
-      []) ∷ kind 3 2 2 0 (row 0 0 0 1 ∷ row 1 0 0 2 ∷ row 1 1 1 1 ∷ row 2 0 0 1 ∷ row 2 0 1 2 ∷ row 2 1 0 0 ∷ []) (pair
-      0 0 ∷ pair 0 3 ∷ pair 1 0 ∷ pair 1 3 ∷ []) ∷ []) (1 ∷ 1 ∷ []) (plan (3 ∷ []) ((2 ∷ 2 ∷ []) ∷ (3 ∷ 3 ∷ []) ∷ [])
-      ((2 ∷ 0 ∷ 0 ∷ 2 ∷ []) ∷ (1 ∷ 0 ∷ 0 ∷ 1 ∷ []) ∷ []) ∷ plan (1 ∷ []) ((1 ∷ 1 ∷ []) ∷ (1 ∷ 1 ∷ []) ∷ []) ((1 ∷ 1 ∷ 0
-      ∷ 1 ∷ []) ∷ (1 ∷ 0 ∷ 0 ∷ 1 ∷ []) ∷ []) ∷ plan (1 ∷ []) ((1 ∷ 1 ∷ []) ∷ (1 ∷ 1 ∷ []) ∷ []) ((1 ∷ 1 ∷ 0 ∷ 1 ∷ []) ∷
-      (1 ∷ 0 ∷ 0 ∷ 1 ∷ []) ∷ []) ∷ [])
+    []) ∷ kind 3 2 2 0 (row 0 0 0 1 ∷ row 1 0 0 2 ∷ row 1 1 1 1 ∷ row 2 0 0 1 ∷ row 2 0 1 2 ∷ row 2 1 0 0 ∷ []) (pair 0
+    0 ∷ pair 0 3 ∷ pair 1 0 ∷ pair 1 3 ∷ []) ∷ []) (1 ∷ 1 ∷ []) (plan (3 ∷ []) ((2 ∷ 2 ∷ []) ∷ (3 ∷ 3 ∷ []) ∷ []) ((2 ∷
+    0 ∷ 0 ∷ 2 ∷ []) ∷ (1 ∷ 0 ∷ 0 ∷ 1 ∷ []) ∷ []) ∷ plan (1 ∷ []) ((1 ∷ 1 ∷ []) ∷ (1 ∷ 1 ∷ []) ∷ []) ((1 ∷ 1 ∷ 0 ∷ 1 ∷
+    []) ∷ (1 ∷ 0 ∷ 0 ∷ 1 ∷ []) ∷ []) ∷ plan (1 ∷ []) ((1 ∷ 1 ∷ []) ∷ (1 ∷ 1 ∷ []) ∷ []) ((1 ∷ 1 ∷ 0 ∷ 1 ∷ []) ∷ (1 ∷ 0 ∷
+    0 ∷ 1 ∷ []) ∷ []) ∷ [])
 
 abbrev pub moves : List Move
 moves =
@@ -106,7 +108,7 @@ history =
     marked 1 (Sent 23 0 (messages.Request (tx 0 9) 1 1 (wants.Read 1 0))) ∷ marked 0 (Got 23) ∷
     marked 0 (Sent 24 1 (messages.Answer 23 (answers.Granted 1 3 (line 1 0 2 1 1 0 ∷ [])))) ∷ marked 1 (Got 24) ∷
     marked 1 (Sent 25 0 (messages.Request (tx 0 9) 1 1 (wants.Append 1 (line 1 0 2 1 1 0 ∷ []) (own_line 2 1 0 ∷ []))))
-      ∷
+    ∷
     marked 0 (Got 25) ∷ marked 0 (Sent 26 1 (messages.Answer 25 (answers.Clash (tx 0 5) 1 0))) ∷
     marked 0 (Sent 27 1 (messages.Inquiry (tx 0 5))) ∷ marked 1 (Got 26) ∷
     marked 1 (Told (replies.Conflict (tx 0 5) 0)) ∷ marked 1 (Got 27) ∷

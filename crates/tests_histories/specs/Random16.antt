@@ -1,4 +1,4 @@
--- A random history, of 4 sites and 1 clients: 128 steps, 44 messages, 6 lost, 0 cuts, 1 commits, 2 aborted, 1 conflicts, 1 without a quorum.
+-- Random: sites 4, clients 1, steps 128, messages 44, lost 6, commits 1, aborts 2, conflicts 1, short rounds 1.
 use Rattle.std.specs.Prelude.{List, [], ◌∷◌}
 use Rattle.qc_decl.specs.declared.declaration.Declaration.{Declaration}
 use Rattle.qc_decl.specs.One.{row}
@@ -18,13 +18,13 @@ use Rattle.qc_msg.specs.declared.message.Want.TheVariants as wants
 abbrev pub decl : Declaration
 decl =
     declaration 4 1 (kind 4 3 3 0 (row 0 0 0 1 ∷ row 0 1 0 2 ∷ row 1 1 0 3 ∷ row 2 0 0 3 ∷ row 1 2 1 0 ∷ row 2 2 2 0 ∷
-      row 3 2 1 2 ∷ row 3 2 2 1 ∷ []) (pair 0 0 ∷ pair 0 2 ∷ pair 1 1 ∷ pair 1 3 ∷ pair 2 0 ∷ pair 2 1 ∷ pair 2 2 ∷ pair
-      2 3 ∷ []) ∷ kind 4 3 3 0 (row 0 0 0 1 ∷ row 0 1 2 3 ∷ row 0 2 0 2 ∷ row 1 0 2 3 ∷ row 1 2 2 0 ∷ row 1 2 1 3 ∷ row
-      2 0 0 0 ∷ row 2 1 0 1 ∷ row 3 0 2 3 ∷ row 3 1 2 3 ∷ []) (pair 0 0 ∷ pair 0 1 ∷ pair 0 2 ∷ pair 0 4 ∷ pair 0 6 ∷
-      pair 1 0 ∷ pair 1 2 ∷ pair 1 3 ∷ pair 1 4 ∷ pair 1 5 ∷ pair 1 6 ∷ pair 2 0 ∷ pair 2 1 ∷ pair 2 2 ∷ pair 2 3 ∷ pair
-      2 4 ∷ pair 2 5 ∷ pair 2 6 ∷ []) ∷ []) (0 ∷ []) (plan (0 ∷ 1 ∷ 1 ∷ 1 ∷ []) ((2 ∷ 1 ∷ 3 ∷ []) ∷ []) ((2 ∷ 3 ∷ 2 ∷ 3
-      ∷ []) ∷ []) ∷ plan (1 ∷ 1 ∷ 1 ∷ 1 ∷ []) ((2 ∷ 3 ∷ 1 ∷ []) ∷ []) ((4 ∷ 4 ∷ 4 ∷ 4 ∷ []) ∷ []) ∷ plan (1 ∷ 3 ∷ 2 ∷ 1
-      ∷ []) ((2 ∷ 5 ∷ 4 ∷ []) ∷ []) ((6 ∷ 4 ∷ 7 ∷ 4 ∷ []) ∷ []) ∷ [])
+    row 3 2 1 2 ∷ row 3 2 2 1 ∷ []) (pair 0 0 ∷ pair 0 2 ∷ pair 1 1 ∷ pair 1 3 ∷ pair 2 0 ∷ pair 2 1 ∷ pair 2 2 ∷ pair 2
+    3 ∷ []) ∷ kind 4 3 3 0 (row 0 0 0 1 ∷ row 0 1 2 3 ∷ row 0 2 0 2 ∷ row 1 0 2 3 ∷ row 1 2 2 0 ∷ row 1 2 1 3 ∷ row 2 0
+    0 0 ∷ row 2 1 0 1 ∷ row 3 0 2 3 ∷ row 3 1 2 3 ∷ []) (pair 0 0 ∷ pair 0 1 ∷ pair 0 2 ∷ pair 0 4 ∷ pair 0 6 ∷ pair 1 0
+    ∷ pair 1 2 ∷ pair 1 3 ∷ pair 1 4 ∷ pair 1 5 ∷ pair 1 6 ∷ pair 2 0 ∷ pair 2 1 ∷ pair 2 2 ∷ pair 2 3 ∷ pair 2 4 ∷ pair
+    2 5 ∷ pair 2 6 ∷ []) ∷ []) (0 ∷ []) (plan (0 ∷ 1 ∷ 1 ∷ 1 ∷ []) ((2 ∷ 1 ∷ 3 ∷ []) ∷ []) ((2 ∷ 3 ∷ 2 ∷ 3 ∷ []) ∷ []) ∷
+    plan (1 ∷ 1 ∷ 1 ∷ 1 ∷ []) ((2 ∷ 3 ∷ 1 ∷ []) ∷ []) ((4 ∷ 4 ∷ 4 ∷ 4 ∷ []) ∷ []) ∷ plan (1 ∷ 3 ∷ 2 ∷ 1 ∷ []) ((2 ∷ 5 ∷
+    4 ∷ []) ∷ []) ((6 ∷ 4 ∷ 7 ∷ 4 ∷ []) ∷ []) ∷ [])
 
 abbrev pub moves : List Move
 moves =

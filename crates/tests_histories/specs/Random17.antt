@@ -1,10 +1,11 @@
--- A random history, of 4 sites and 2 clients: 130 steps, 43 messages, 10 lost, 0 cuts, 4 commits, 1 aborted, 4 without a quorum.
+-- Random: sites 4, clients 2, steps 130, messages 43, lost 10, commits 4, aborts 1, short rounds 4.
 use Rattle.std.specs.Prelude.{List, [], ◌∷◌, Some}
 use Rattle.qc_decl.specs.declared.declaration.Declaration.{Declaration}
 use Rattle.qc_decl.specs.One.{row}
 use Rattle.qc_msg.specs.Steps.{Entry, marked}
 use Rattle.tests_histories.specs.Play.{Move, Takes, Posts, Acts}
-use Rattle.tests_histories.specs.Words.{tx, stamp, own_line, operation, read_lock, prepare, commit, declaration, kind, pair, plan}
+use Rattle.tests_histories.specs.Words.{tx, stamp, own_line, operation, read_lock}
+use Rattle.tests_histories.specs.Words.{prepare, commit, declaration, kind, pair, plan}
 use Rattle.qc_msg.specs.declared.step.Step.TheVariants.{Phase, Called, Got, Lost, Wrote, Sent, Told}
 use Rattle.qc_msg.specs.declared.message.Answer.TheVariants as answers
 use Rattle.qc_msg.specs.declared.reply.Why.TheVariants as causes
@@ -19,10 +20,10 @@ use Rattle.qc_msg.specs.declared.message.Want.TheVariants as wants
 abbrev pub decl : Declaration
 decl =
     declaration 4 2 (kind 7 3 4 0 (row 0 0 0 1 ∷ row 0 1 0 2 ∷ row 1 0 0 3 ∷ row 1 1 0 4 ∷ row 2 0 0 5 ∷ row 2 1 0 6 ∷
-      row 0 2 3 0 ∷ row 1 2 1 0 ∷ row 2 2 2 0 ∷ row 3 2 1 1 ∷ row 4 2 1 2 ∷ row 5 2 2 1 ∷ row 6 2 2 2 ∷ []) (pair 0 0 ∷
-      pair 0 1 ∷ pair 0 3 ∷ pair 0 4 ∷ pair 1 0 ∷ pair 1 1 ∷ pair 1 3 ∷ pair 1 4 ∷ pair 2 0 ∷ pair 2 1 ∷ pair 2 3 ∷ pair
-      2 4 ∷ []) ∷ []) (0 ∷ 0 ∷ []) (plan (1 ∷ 0 ∷ 1 ∷ 1 ∷ []) ((2 ∷ 2 ∷ 2 ∷ []) ∷ (1 ∷ 2 ∷ 1 ∷ []) ∷ []) ((2 ∷ 3 ∷ 0 ∷ 2
-      ∷ 2 ∷ []) ∷ (3 ∷ 3 ∷ 3 ∷ 3 ∷ 3 ∷ []) ∷ []) ∷ [])
+    row 0 2 3 0 ∷ row 1 2 1 0 ∷ row 2 2 2 0 ∷ row 3 2 1 1 ∷ row 4 2 1 2 ∷ row 5 2 2 1 ∷ row 6 2 2 2 ∷ []) (pair 0 0 ∷
+    pair 0 1 ∷ pair 0 3 ∷ pair 0 4 ∷ pair 1 0 ∷ pair 1 1 ∷ pair 1 3 ∷ pair 1 4 ∷ pair 2 0 ∷ pair 2 1 ∷ pair 2 3 ∷ pair 2
+    4 ∷ []) ∷ []) (0 ∷ 0 ∷ []) (plan (1 ∷ 0 ∷ 1 ∷ 1 ∷ []) ((2 ∷ 2 ∷ 2 ∷ []) ∷ (1 ∷ 2 ∷ 1 ∷ []) ∷ []) ((2 ∷ 3 ∷ 0 ∷ 2 ∷ 2
+    ∷ []) ∷ (3 ∷ 3 ∷ 3 ∷ 3 ∷ 3 ∷ []) ∷ []) ∷ [])
 
 abbrev pub moves : List Move
 moves =

@@ -1,4 +1,4 @@
--- A random history, of 4 sites and 3 clients: 140 steps, 54 messages, 0 lost, 0 cuts, 1 commits, 2 aborted, 2 conflicts.
+-- Random: sites 4, clients 3, steps 140, messages 54, commits 1, aborts 2, conflicts 2.
 use Rattle.std.specs.Prelude.{List, [], ◌∷◌}
 use Rattle.qc_decl.specs.declared.declaration.Declaration.{Declaration}
 use Rattle.qc_decl.specs.One.{row}
@@ -17,9 +17,9 @@ use Rattle.qc_msg.specs.declared.message.Want.TheVariants as wants
 abbrev pub decl : Declaration
 decl =
     declaration 4 3 (kind 7 3 4 0 (row 0 0 0 1 ∷ row 0 1 0 2 ∷ row 1 0 0 3 ∷ row 1 1 0 4 ∷ row 2 0 0 5 ∷ row 2 1 0 6 ∷
-      row 0 2 3 0 ∷ row 1 2 1 0 ∷ row 2 2 2 0 ∷ row 3 2 1 1 ∷ row 4 2 1 2 ∷ row 5 2 2 1 ∷ row 6 2 2 2 ∷ []) (pair 0 0 ∷
-      pair 0 1 ∷ pair 0 3 ∷ pair 0 4 ∷ pair 1 0 ∷ pair 1 1 ∷ pair 1 3 ∷ pair 1 4 ∷ pair 2 0 ∷ pair 2 1 ∷ pair 2 3 ∷ pair
-      2 4 ∷ []) ∷ []) (0 ∷ []) (plan (1 ∷ 1 ∷ 1 ∷ 3 ∷ []) ((1 ∷ 1 ∷ 3 ∷ []) ∷ []) ((6 ∷ 6 ∷ 4 ∷ 6 ∷ 6 ∷ []) ∷ []) ∷ [])
+    row 0 2 3 0 ∷ row 1 2 1 0 ∷ row 2 2 2 0 ∷ row 3 2 1 1 ∷ row 4 2 1 2 ∷ row 5 2 2 1 ∷ row 6 2 2 2 ∷ []) (pair 0 0 ∷
+    pair 0 1 ∷ pair 0 3 ∷ pair 0 4 ∷ pair 1 0 ∷ pair 1 1 ∷ pair 1 3 ∷ pair 1 4 ∷ pair 2 0 ∷ pair 2 1 ∷ pair 2 3 ∷ pair 2
+    4 ∷ []) ∷ []) (0 ∷ []) (plan (1 ∷ 1 ∷ 1 ∷ 3 ∷ []) ((1 ∷ 1 ∷ 3 ∷ []) ∷ []) ((6 ∷ 6 ∷ 4 ∷ 6 ∷ 6 ∷ []) ∷ []) ∷ [])
 
 abbrev pub moves : List Move
 moves =

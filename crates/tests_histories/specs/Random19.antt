@@ -1,10 +1,11 @@
--- A random history, of 2 sites and 4 clients: 151 steps, 44 messages, 1 lost, 3 cuts, 3 commits, 1 aborted, 4 conflicts, 3 absent.
+-- Random: sites 2, clients 4, steps 151, messages 44, lost 1, cuts 3, commits 3, aborts 1, conflicts 4, absent 3.
 use Rattle.std.specs.Prelude.{List, [], ◌∷◌, Some, None}
 use Rattle.qc_decl.specs.declared.declaration.Declaration.{Declaration}
 use Rattle.qc_decl.specs.One.{row}
 use Rattle.qc_msg.specs.Steps.{Entry, marked}
 use Rattle.tests_histories.specs.Play.{Move, Takes, Posts, Acts}
-use Rattle.tests_histories.specs.Words.{tx, stamp, own_line, operation, read_lock, prepare, commit, declaration, kind, pair, plan}
+use Rattle.tests_histories.specs.Words.{tx, stamp, own_line, operation, read_lock}
+use Rattle.tests_histories.specs.Words.{prepare, commit, declaration, kind, pair, plan}
 use Rattle.qc_msg.specs.declared.step.Step.TheVariants.{Phase, Cut, Heal, Called, Got, Lost, Wrote, Sent, Told}
 use Rattle.qc_msg.specs.declared.message.Answer.TheVariants as answers
 use Rattle.qc_msg.specs.declared.reply.Why.TheVariants as causes
@@ -18,9 +19,9 @@ use Rattle.qc_msg.specs.declared.message.Want.TheVariants as wants
 abbrev pub decl : Declaration
 decl =
     declaration 2 4 (kind 2 3 1 0 (row 0 1 0 0 ∷ row 0 2 0 1 ∷ row 1 0 0 0 ∷ row 1 2 0 1 ∷ []) (pair 0 1 ∷ pair 0 2 ∷
-      pair 1 1 ∷ pair 1 2 ∷ []) ∷ []) (0 ∷ []) (plan (3 ∷ 2 ∷ []) ((3 ∷ 3 ∷ 0 ∷ []) ∷ []) ((0 ∷ 3 ∷ 3 ∷ []) ∷ []) ∷ plan
-      (1 ∷ 1 ∷ []) ((2 ∷ 2 ∷ 0 ∷ []) ∷ []) ((1 ∷ 1 ∷ 1 ∷ []) ∷ []) ∷ plan (3 ∷ 1 ∷ []) ((3 ∷ 3 ∷ 0 ∷ []) ∷ []) ((0 ∷ 2 ∷
-      2 ∷ []) ∷ []) ∷ [])
+    pair 1 1 ∷ pair 1 2 ∷ []) ∷ []) (0 ∷ []) (plan (3 ∷ 2 ∷ []) ((3 ∷ 3 ∷ 0 ∷ []) ∷ []) ((0 ∷ 3 ∷ 3 ∷ []) ∷ []) ∷ plan
+    (1 ∷ 1 ∷ []) ((2 ∷ 2 ∷ 0 ∷ []) ∷ []) ((1 ∷ 1 ∷ 1 ∷ []) ∷ []) ∷ plan (3 ∷ 1 ∷ []) ((3 ∷ 3 ∷ 0 ∷ []) ∷ []) ((0 ∷ 2 ∷ 2
+    ∷ []) ∷ []) ∷ [])
 
 abbrev pub moves : List Move
 moves =
@@ -94,7 +95,7 @@ history =
     marked 0 (Got 24) ∷ marked 0 (Wrote (prepare (tx 2 1) 1 (read_lock 0 0 ∷ read_lock 0 1 ∷ []) [] [])) ∷
     marked 0 (Sent 25 4 (messages.Answer 24 (answers.Yes 0))) ∷ marked 4 (Got 25) ∷
     marked 4 (Wrote (commit (stamp 1 2) (tx 2 1) (operation 0 1 (Some 0) ∷ operation 0 1 (Some 0) ∷ operation 0 0 None ∷
-      []))) ∷
+    []))) ∷
     marked 4 (Sent 26 0 (messages.Decision (tx 2 1) (outcomes.Committed (stamp 1 2)))) ∷
     marked 4 (Told (replies.Committed (stamp 1 2))) ∷ marked 0 (Got 26) ∷ marked 0 (Wrote (records.Done (tx 2 1) 1)) ∷
     marked 4 (Called commands.Begin) ∷ marked 4 (Told (replies.Began (tx 2 2))) ∷ marked 4 (Called (commands.Do 0 2)) ∷

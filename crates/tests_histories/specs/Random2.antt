@@ -1,4 +1,4 @@
--- A random history, of 3 sites and 2 clients: 45 steps, 14 messages, 2 lost, 0 cuts, 1 commits, 1 aborted, 2 without a quorum.
+-- Random: sites 3, clients 2, steps 45, messages 14, lost 2, commits 1, aborts 1, short rounds 2.
 use Rattle.std.specs.Prelude.{List, [], ◌∷◌}
 use Rattle.qc_decl.specs.declared.declaration.Declaration.{Declaration}
 use Rattle.qc_decl.specs.One.{row}
@@ -19,8 +19,8 @@ use Rattle.qc_msg.specs.declared.message.Want.TheVariants as wants
 abbrev pub decl : Declaration
 decl =
     declaration 3 2 (kind 3 3 3 0 (row 0 2 2 0 ∷ row 1 1 0 0 ∷ row 1 2 1 1 ∷ row 2 0 1 1 ∷ row 2 2 2 2 ∷ []) (pair 1 2 ∷
-      pair 1 3 ∷ []) ∷ []) (0 ∷ 0 ∷ []) (plan (0 ∷ 1 ∷ 1 ∷ []) ((1 ∷ 2 ∷ 0 ∷ []) ∷ (0 ∷ 2 ∷ 0 ∷ []) ∷ []) ((2 ∷ 0 ∷ 1 ∷
-      1 ∷ []) ∷ (1 ∷ 0 ∷ 1 ∷ 1 ∷ []) ∷ []) ∷ [])
+    pair 1 3 ∷ []) ∷ []) (0 ∷ 0 ∷ []) (plan (0 ∷ 1 ∷ 1 ∷ []) ((1 ∷ 2 ∷ 0 ∷ []) ∷ (0 ∷ 2 ∷ 0 ∷ []) ∷ []) ((2 ∷ 0 ∷ 1 ∷ 1
+    ∷ []) ∷ (1 ∷ 0 ∷ 1 ∷ 1 ∷ []) ∷ []) ∷ [])
 
 abbrev pub moves : List Move
 moves =

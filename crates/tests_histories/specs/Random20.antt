@@ -1,10 +1,11 @@
--- A random history, of 1 sites and 2 clients: 156 steps, 40 messages, 1 lost, 0 cuts, 7 commits, 1 aborted, 1 conflicts, 1 absent.
+-- Random: sites 1, clients 2, steps 156, messages 40, lost 1, commits 7, aborts 1, conflicts 1, absent 1.
 use Rattle.std.specs.Prelude.{List, [], ◌∷◌, Some}
 use Rattle.qc_decl.specs.declared.declaration.Declaration.{Declaration}
 use Rattle.qc_decl.specs.One.{row}
 use Rattle.qc_msg.specs.Steps.{Entry, marked}
 use Rattle.tests_histories.specs.Play.{Move, Takes, Posts, Acts}
-use Rattle.tests_histories.specs.Words.{tx, stamp, line, own_line, operation, read_lock, prepare, commit, declaration, kind, pair, plan}
+use Rattle.tests_histories.specs.Words.{tx, stamp, line, own_line, operation, read_lock}
+use Rattle.tests_histories.specs.Words.{prepare, commit, declaration, kind, pair, plan}
 use Rattle.qc_msg.specs.declared.step.Step.TheVariants.{Phase, Called, Got, Lost, Wrote, Sent, Told}
 use Rattle.qc_msg.specs.declared.message.Answer.TheVariants as answers
 use Rattle.qc_msg.specs.declared.reply.Why.TheVariants as causes
@@ -18,9 +19,9 @@ use Rattle.qc_msg.specs.declared.message.Want.TheVariants as wants
 abbrev pub decl : Declaration
 decl =
     declaration 1 2 (kind 4 3 2 0 (row 0 0 1 3 ∷ row 0 1 1 0 ∷ row 0 1 0 2 ∷ row 1 0 0 3 ∷ row 1 0 1 1 ∷ row 1 1 0 1 ∷
-      row 2 0 1 3 ∷ row 2 1 0 0 ∷ row 3 0 1 3 ∷ row 3 1 1 1 ∷ row 3 2 0 3 ∷ []) (pair 0 1 ∷ pair 0 3 ∷ pair 1 0 ∷ pair 1
-      1 ∷ pair 1 2 ∷ pair 1 3 ∷ pair 2 0 ∷ pair 2 1 ∷ pair 2 3 ∷ []) ∷ []) (0 ∷ []) (plan (1 ∷ []) ((1 ∷ 1 ∷ 1 ∷ []) ∷
-      []) ((1 ∷ 1 ∷ 1 ∷ 1 ∷ 0 ∷ []) ∷ []) ∷ plan (1 ∷ []) ((1 ∷ 1 ∷ 1 ∷ []) ∷ []) ((1 ∷ 1 ∷ 1 ∷ 1 ∷ 0 ∷ []) ∷ []) ∷ [])
+    row 2 0 1 3 ∷ row 2 1 0 0 ∷ row 3 0 1 3 ∷ row 3 1 1 1 ∷ row 3 2 0 3 ∷ []) (pair 0 1 ∷ pair 0 3 ∷ pair 1 0 ∷ pair 1 1
+    ∷ pair 1 2 ∷ pair 1 3 ∷ pair 2 0 ∷ pair 2 1 ∷ pair 2 3 ∷ []) ∷ []) (0 ∷ []) (plan (1 ∷ []) ((1 ∷ 1 ∷ 1 ∷ []) ∷ [])
+    ((1 ∷ 1 ∷ 1 ∷ 1 ∷ 0 ∷ []) ∷ []) ∷ plan (1 ∷ []) ((1 ∷ 1 ∷ 1 ∷ []) ∷ []) ((1 ∷ 1 ∷ 1 ∷ 1 ∷ 0 ∷ []) ∷ []) ∷ [])
 
 abbrev pub moves : List Move
 moves =
@@ -90,7 +91,7 @@ history =
     marked 1 (Sent 14 0 (messages.Request (tx 0 6) 1 0 (wants.Read 0 0))) ∷ marked 0 (Got 14) ∷
     marked 0 (Sent 15 1 (messages.Answer 14 (answers.Granted 1 4 (line 4 0 5 1 0 2 ∷ [])))) ∷ marked 1 (Got 15) ∷
     marked 1 (Sent 16 0 (messages.Request (tx 0 6) 1 1 (wants.Append 0 (line 4 0 5 1 0 2 ∷ []) (own_line 1 0 0 ∷ []))))
-      ∷
+    ∷
     marked 0 (Got 16) ∷ marked 0 (Sent 17 1 (messages.Answer 16 (answers.Granted 1 4 []))) ∷ marked 1 (Got 17) ∷
     marked 1 (Told (replies.Response 1)) ∷ marked 2 (Called (commands.Do 0 1)) ∷
     marked 2 (Sent 18 0 (messages.Request (tx 1 2) 1 0 (wants.Read 0 1))) ∷ marked 0 (Got 18) ∷
@@ -108,7 +109,7 @@ history =
     marked 1 (Sent 26 0 (messages.Request (tx 0 7) 1 0 (wants.Read 0 1))) ∷ marked 0 (Got 26) ∷
     marked 0 (Sent 27 1 (messages.Answer 26 (answers.Granted 1 4 (line 4 0 5 1 0 2 ∷ [])))) ∷ marked 1 (Got 27) ∷
     marked 1 (Sent 28 0 (messages.Request (tx 0 7) 1 1 (wants.Append 0 (line 4 0 5 1 0 2 ∷ []) (own_line 1 0 2 ∷ []))))
-      ∷
+    ∷
     marked 0 (Got 28) ∷ marked 0 (Sent 29 1 (messages.Answer 28 (answers.Granted 1 4 []))) ∷ marked 1 (Got 29) ∷
     marked 1 (Told (replies.Response 0)) ∷ marked 2 (Called commands.Begin) ∷ marked 2 (Told (replies.Began (tx 1 3))) ∷
     marked 1 (Called commands.Commit) ∷ marked 1 (Sent 30 0 (messages.Request (tx 0 7) 1 1 wants.Prepare)) ∷
@@ -122,7 +123,7 @@ history =
     marked 0 (Sent 34 2 (messages.Answer 33 (answers.Granted 1 5 (line 4 0 5 1 0 2 ∷ line 5 0 7 1 0 2 ∷ [])))) ∷
     marked 2 (Got 34) ∷
     marked 2 (Sent 35 0 (messages.Request (tx 1 3) 1 1 (wants.Append 0 (line 4 0 5 1 0 2 ∷ line 5 0 7 1 0 2 ∷ [])
-      (own_line 1 0 0 ∷ [])))) ∷
+    (own_line 1 0 0 ∷ [])))) ∷
     marked 0 (Got 35) ∷ marked 0 (Sent 36 2 (messages.Answer 35 (answers.Granted 1 5 []))) ∷ marked 2 (Got 36) ∷
     marked 2 (Told (replies.Response 1)) ∷ marked 2 (Called commands.Commit) ∷
     marked 2 (Sent 37 0 (messages.Request (tx 1 3) 1 1 wants.Prepare)) ∷ marked 0 (Got 37) ∷

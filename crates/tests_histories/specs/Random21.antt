@@ -1,10 +1,11 @@
--- A random history, of 3 sites and 2 clients: 159 steps, 44 messages, 1 lost, 0 cuts, 5 commits, 1 aborted, 1 conflicts.
+-- Random: sites 3, clients 2, steps 159, messages 44, lost 1, commits 5, aborts 1, conflicts 1.
 use Rattle.std.specs.Prelude.{List, [], ◌∷◌, Some}
 use Rattle.qc_decl.specs.declared.declaration.Declaration.{Declaration}
 use Rattle.qc_decl.specs.One.{row}
 use Rattle.qc_msg.specs.Steps.{Entry, marked}
 use Rattle.tests_histories.specs.Play.{Move, Takes, Posts, Acts}
-use Rattle.tests_histories.specs.Words.{tx, stamp, line, own_line, operation, read_lock, prepare, commit, declaration, kind, pair, plan}
+use Rattle.tests_histories.specs.Words.{tx, stamp, line, own_line, operation, read_lock}
+use Rattle.tests_histories.specs.Words.{prepare, commit, declaration, kind, pair, plan}
 use Rattle.qc_msg.specs.declared.step.Step.TheVariants.{Phase, Called, Got, Lost, Wrote, Sent, Told}
 use Rattle.qc_msg.specs.declared.message.Answer.TheVariants as answers
 use Rattle.qc_msg.specs.declared.reply.Why.TheVariants as causes
@@ -18,8 +19,8 @@ use Rattle.qc_msg.specs.declared.message.Want.TheVariants as wants
 abbrev pub decl : Declaration
 decl =
     declaration 3 2 (kind 2 3 3 0 (row 0 0 0 0 ∷ row 1 0 1 1 ∷ row 0 1 2 0 ∷ row 1 1 2 0 ∷ row 0 2 2 1 ∷ row 1 2 2 1 ∷
-      []) (pair 0 2 ∷ pair 0 3 ∷ []) ∷ []) (0 ∷ []) (plan (1 ∷ 0 ∷ 2 ∷ []) ((3 ∷ 0 ∷ 0 ∷ []) ∷ []) ((0 ∷ 0 ∷ 1 ∷ 1 ∷ [])
-      ∷ []) ∷ plan (1 ∷ 1 ∷ 1 ∷ []) ((2 ∷ 0 ∷ 3 ∷ []) ∷ []) ((0 ∷ 0 ∷ 2 ∷ 2 ∷ []) ∷ []) ∷ [])
+    []) (pair 0 2 ∷ pair 0 3 ∷ []) ∷ []) (0 ∷ []) (plan (1 ∷ 0 ∷ 2 ∷ []) ((3 ∷ 0 ∷ 0 ∷ []) ∷ []) ((0 ∷ 0 ∷ 1 ∷ 1 ∷ []) ∷
+    []) ∷ plan (1 ∷ 1 ∷ 1 ∷ []) ((2 ∷ 0 ∷ 3 ∷ []) ∷ []) ((0 ∷ 0 ∷ 2 ∷ 2 ∷ []) ∷ []) ∷ [])
 
 abbrev pub moves : List Move
 moves =
@@ -106,7 +107,7 @@ history =
     marked 2 (Sent 28 3 (messages.Answer 27 (answers.Clash (tx 1 2) 0 2))) ∷
     marked 2 (Sent 29 4 (messages.Inquiry (tx 1 2))) ∷ marked 0 (Got 26) ∷ marked 3 (Got 28) ∷
     marked 0 (Sent 30 3 (messages.Answer 26 (answers.Granted 1 2 (line 1 0 2 1 0 3 ∷ line 1 0 2 2 0 3 ∷ line 2 0 3 1 0 3
-      ∷ [])))) ∷
+    ∷ [])))) ∷
     marked 4 (Sent 31 2 (messages.Request (tx 1 2) 1 1 wants.Prepare)) ∷ marked 2 (Got 31) ∷
     marked 2 (Wrote (prepare (tx 1 2) 1 [] (own_line 1 0 2 ∷ own_line 2 0 2 ∷ []) [])) ∷
     marked 2 (Sent 32 4 (messages.Answer 31 (answers.Yes 0))) ∷ marked 4 (Got 29) ∷

@@ -1,4 +1,4 @@
--- A random history, of 5 sites and 3 clients: 169 steps, 65 messages, 0 lost, 0 cuts, 1 commits, 3 aborted, 4 conflicts.
+-- Random: sites 5, clients 3, steps 169, messages 65, commits 1, aborts 3, conflicts 4.
 use Rattle.std.specs.Prelude.{List, [], ◌∷◌, Some}
 use Rattle.qc_decl.specs.declared.declaration.Declaration.{Declaration}
 use Rattle.qc_decl.specs.One.{row}
@@ -17,9 +17,9 @@ use Rattle.qc_msg.specs.declared.message.Want.TheVariants as wants
 abbrev pub decl : Declaration
 decl =
     declaration 5 3 (kind 2 2 3 0 (row 0 0 1 0 ∷ row 0 1 2 1 ∷ row 0 1 0 1 ∷ row 1 0 1 1 ∷ row 1 1 0 1 ∷ []) (pair 1 1 ∷
-      pair 1 2 ∷ []) ∷ []) (0 ∷ 0 ∷ []) (plan (1 ∷ 1 ∷ 1 ∷ 1 ∷ 1 ∷ []) ((0 ∷ 3 ∷ []) ∷ (0 ∷ 3 ∷ []) ∷ []) ((0 ∷ 3 ∷ 3 ∷
-      []) ∷ (0 ∷ 3 ∷ 3 ∷ []) ∷ []) ∷ plan (3 ∷ 1 ∷ 1 ∷ 1 ∷ 2 ∷ []) ((0 ∷ 2 ∷ []) ∷ (0 ∷ 5 ∷ []) ∷ []) ((3 ∷ 7 ∷ 7 ∷ [])
-      ∷ (0 ∷ 4 ∷ 4 ∷ []) ∷ []) ∷ [])
+    pair 1 2 ∷ []) ∷ []) (0 ∷ 0 ∷ []) (plan (1 ∷ 1 ∷ 1 ∷ 1 ∷ 1 ∷ []) ((0 ∷ 3 ∷ []) ∷ (0 ∷ 3 ∷ []) ∷ []) ((0 ∷ 3 ∷ 3 ∷
+    []) ∷ (0 ∷ 3 ∷ 3 ∷ []) ∷ []) ∷ plan (3 ∷ 1 ∷ 1 ∷ 1 ∷ 2 ∷ []) ((0 ∷ 2 ∷ []) ∷ (0 ∷ 5 ∷ []) ∷ []) ((3 ∷ 7 ∷ 7 ∷ []) ∷
+    (0 ∷ 4 ∷ 4 ∷ []) ∷ []) ∷ [])
 
 abbrev pub moves : List Move
 moves =

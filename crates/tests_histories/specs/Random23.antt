@@ -1,10 +1,11 @@
--- A random history, of 2 sites and 4 clients: 172 steps, 57 messages, 0 lost, 0 cuts, 4 commits, 2 aborted, 3 conflicts.
+-- Random: sites 2, clients 4, steps 172, messages 57, commits 4, aborts 2, conflicts 3.
 use Rattle.std.specs.Prelude.{List, [], ◌∷◌, Some}
 use Rattle.qc_decl.specs.declared.declaration.Declaration.{Declaration}
 use Rattle.qc_decl.specs.One.{row}
 use Rattle.qc_msg.specs.Steps.{Entry, marked}
 use Rattle.tests_histories.specs.Play.{Move, Takes, Posts, Acts}
-use Rattle.tests_histories.specs.Words.{tx, stamp, line, own_line, operation, read_lock, prepare, commit, declaration, kind, pair, plan}
+use Rattle.tests_histories.specs.Words.{tx, stamp, line, own_line, operation, read_lock}
+use Rattle.tests_histories.specs.Words.{prepare, commit, declaration, kind, pair, plan}
 use Rattle.qc_msg.specs.declared.step.Step.TheVariants.{Phase, Called, Got, Wrote, Sent, Told}
 use Rattle.qc_msg.specs.declared.message.Answer.TheVariants as answers
 use Rattle.qc_msg.specs.declared.reply.Why.TheVariants as causes
@@ -18,13 +19,12 @@ use Rattle.qc_msg.specs.declared.message.Want.TheVariants as wants
 abbrev pub decl : Declaration
 decl =
     declaration 2 4 (kind 2 3 2 0 (row 0 0 1 0 ∷ row 0 1 0 1 ∷ row 0 2 0 1 ∷ row 1 0 0 0 ∷ row 1 2 1 0 ∷ row 1 2 0 1 ∷
-      []) (pair 0 1 ∷ pair 0 2 ∷ pair 0 3 ∷ pair 0 4 ∷ pair 1 1 ∷ pair 1 2 ∷ pair 1 3 ∷ pair 1 4 ∷ pair 2 1 ∷ pair 2 2 ∷
-      pair 2 3 ∷ pair 2 4 ∷ []) ∷ kind 3 3 2 0 (row 0 0 1 2 ∷ row 0 1 1 0 ∷ row 0 1 0 2 ∷ row 0 2 1 0 ∷ row 1 1 0 2 ∷
-      row 2 0 0 1 ∷ row 2 1 0 2 ∷ row 2 2 1 1 ∷ row 2 2 0 0 ∷ []) (pair 0 0 ∷ pair 0 2 ∷ pair 0 3 ∷ pair 0 4 ∷ pair 0 5
-      ∷ pair 1 0 ∷ pair 1 2 ∷ pair 1 5 ∷ pair 2 0 ∷ pair 2 2 ∷ pair 2 3 ∷ pair 2 4 ∷ pair 2 5 ∷ []) ∷ []) (1 ∷ []) (plan
-      (3 ∷ 1 ∷ []) ((4 ∷ 1 ∷ 3 ∷ []) ∷ []) ((4 ∷ 0 ∷ 4 ∷ 2 ∷ 2 ∷ 4 ∷ []) ∷ []) ∷ plan (1 ∷ 1 ∷ []) ((2 ∷ 2 ∷ 2 ∷ []) ∷
-      []) ((1 ∷ 2 ∷ 1 ∷ 1 ∷ 1 ∷ 1 ∷ []) ∷ []) ∷ plan (3 ∷ 1 ∷ []) ((2 ∷ 2 ∷ 1 ∷ []) ∷ []) ((4 ∷ 2 ∷ 4 ∷ 4 ∷ 4 ∷ 4 ∷ [])
-      ∷ []) ∷ [])
+    []) (pair 0 1 ∷ pair 0 2 ∷ pair 0 3 ∷ pair 0 4 ∷ pair 1 1 ∷ pair 1 2 ∷ pair 1 3 ∷ pair 1 4 ∷ pair 2 1 ∷ pair 2 2 ∷
+    pair 2 3 ∷ pair 2 4 ∷ []) ∷ kind 3 3 2 0 (row 0 0 1 2 ∷ row 0 1 1 0 ∷ row 0 1 0 2 ∷ row 0 2 1 0 ∷ row 1 1 0 2 ∷ row
+    2 0 0 1 ∷ row 2 1 0 2 ∷ row 2 2 1 1 ∷ row 2 2 0 0 ∷ []) (pair 0 0 ∷ pair 0 2 ∷ pair 0 3 ∷ pair 0 4 ∷ pair 0 5 ∷ pair
+    1 0 ∷ pair 1 2 ∷ pair 1 5 ∷ pair 2 0 ∷ pair 2 2 ∷ pair 2 3 ∷ pair 2 4 ∷ pair 2 5 ∷ []) ∷ []) (1 ∷ []) (plan (3 ∷ 1 ∷
+    []) ((4 ∷ 1 ∷ 3 ∷ []) ∷ []) ((4 ∷ 0 ∷ 4 ∷ 2 ∷ 2 ∷ 4 ∷ []) ∷ []) ∷ plan (1 ∷ 1 ∷ []) ((2 ∷ 2 ∷ 2 ∷ []) ∷ []) ((1 ∷ 2
+    ∷ 1 ∷ 1 ∷ 1 ∷ 1 ∷ []) ∷ []) ∷ plan (3 ∷ 1 ∷ []) ((2 ∷ 2 ∷ 1 ∷ []) ∷ []) ((4 ∷ 2 ∷ 4 ∷ 4 ∷ 4 ∷ 4 ∷ []) ∷ []) ∷ [])
 
 abbrev pub moves : List Move
 moves =
@@ -101,9 +101,9 @@ history =
     marked 1 (Sent 26 3 (messages.Answer 22 (answers.Granted 1 1 (line 1 1 1 1 0 3 ∷ line 1 1 1 2 0 3 ∷ [])))) ∷
     marked 1 (Got 24) ∷ marked 3 (Got 26) ∷
     marked 3 (Sent 27 1 (messages.Request (tx 1 2) 1 1 (wants.Append 0 (line 1 1 1 1 0 3 ∷ line 1 1 1 2 0 3 ∷ [])
-      (own_line 1 0 0 ∷ [])))) ∷
+    (own_line 1 0 0 ∷ [])))) ∷
     marked 3 (Sent 28 0 (messages.Request (tx 1 2) 1 1 (wants.Append 0 (line 1 1 1 1 0 3 ∷ line 1 1 1 2 0 3 ∷ [])
-      (own_line 1 0 0 ∷ [])))) ∷
+    (own_line 1 0 0 ∷ [])))) ∷
     marked 0 (Got 28) ∷ marked 0 (Sent 29 3 (messages.Answer 28 (answers.Granted 1 1 []))) ∷ marked 3 (Got 29) ∷
     marked 2 (Told (replies.Began (tx 0 2))) ∷ marked 2 (Called (commands.Do 0 1)) ∷
     marked 2 (Sent 30 0 (messages.Request (tx 0 2) 1 0 (wants.Read 0 1))) ∷ marked 0 (Got 30) ∷
@@ -113,9 +113,9 @@ history =
     marked 1 (Sent 34 5 (messages.Answer 24 (answers.Granted 1 1 (line 1 1 1 1 0 3 ∷ line 1 1 1 2 0 3 ∷ [])))) ∷
     marked 1 (Got 27) ∷ marked 5 (Got 34) ∷
     marked 5 (Sent 35 1 (messages.Request (tx 3 1) 1 1 (wants.Append 0 (line 1 1 1 1 0 3 ∷ line 1 1 1 2 0 3 ∷ [])
-      (own_line 1 0 2 ∷ [])))) ∷
+    (own_line 1 0 2 ∷ [])))) ∷
     marked 5 (Sent 36 0 (messages.Request (tx 3 1) 1 0 (wants.Append 0 (line 1 1 1 1 0 3 ∷ line 1 1 1 2 0 3 ∷ [])
-      (own_line 1 0 2 ∷ [])))) ∷
+    (own_line 1 0 2 ∷ [])))) ∷
     marked 2 (Told (replies.Conflict (tx 1 2) 0)) ∷ marked 0 (Got 36) ∷
     marked 1 (Sent 37 3 (messages.Answer 27 (answers.Clash (tx 3 1) 1 0))) ∷
     marked 1 (Sent 38 5 (messages.Inquiry (tx 3 1))) ∷ marked 3 (Got 37) ∷ marked 1 (Got 35) ∷
@@ -144,9 +144,9 @@ history =
     marked 1 (Sent 52 3 (messages.Answer 41 (answers.Granted 1 1 (line 1 1 1 1 0 3 ∷ line 1 1 1 2 0 3 ∷ [])))) ∷
     marked 3 (Got 52) ∷
     marked 3 (Sent 53 1 (messages.Request (tx 1 3) 1 1 (wants.Append 0 (line 1 1 1 1 0 3 ∷ line 1 1 1 2 0 3 ∷ [])
-      (own_line 1 0 2 ∷ [])))) ∷
+    (own_line 1 0 2 ∷ [])))) ∷
     marked 3 (Sent 54 0 (messages.Request (tx 1 3) 1 0 (wants.Append 0 (line 1 1 1 1 0 3 ∷ line 1 1 1 2 0 3 ∷ [])
-      (own_line 1 0 2 ∷ [])))) ∷
+    (own_line 1 0 2 ∷ [])))) ∷
     marked 1 (Got 45) ∷ marked 0 (Got 54) ∷ marked 1 (Got 49) ∷ marked 2 (Called commands.Commit) ∷
     marked 0 (Sent 55 3 (messages.Answer 54 (answers.Granted 1 1 []))) ∷ marked 3 (Got 55) ∷ marked 1 (Got 51) ∷
     marked 2 (Wrote (commit (stamp 2 0) (tx 0 3) [])) ∷ marked 2 (Told (replies.Committed (stamp 2 0))) ∷

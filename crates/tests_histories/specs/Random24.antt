@@ -1,10 +1,11 @@
--- A random history, of 3 sites and 4 clients: 173 steps, 57 messages, 4 lost, 0 cuts, 5 commits, 1 aborted, 1 conflicts, 1 without a quorum.
+-- Random: sites 3, clients 4, steps 173, messages 57, lost 4, commits 5, aborts 1, conflicts 1, short rounds 1.
 use Rattle.std.specs.Prelude.{List, [], ◌∷◌, Some}
 use Rattle.qc_decl.specs.declared.declaration.Declaration.{Declaration}
 use Rattle.qc_decl.specs.One.{row}
 use Rattle.qc_msg.specs.Steps.{Entry, marked}
 use Rattle.tests_histories.specs.Play.{Move, Takes, Posts, Acts}
-use Rattle.tests_histories.specs.Words.{tx, stamp, own_line, operation, read_lock, prepare, commit, declaration, kind, pair, plan}
+use Rattle.tests_histories.specs.Words.{tx, stamp, own_line, operation, read_lock}
+use Rattle.tests_histories.specs.Words.{prepare, commit, declaration, kind, pair, plan}
 use Rattle.qc_msg.specs.declared.step.Step.TheVariants.{Phase, Called, Got, Lost, Wrote, Sent, Told}
 use Rattle.qc_msg.specs.declared.message.Answer.TheVariants as answers
 use Rattle.qc_msg.specs.declared.reply.Why.TheVariants as causes
@@ -19,8 +20,8 @@ use Rattle.qc_msg.specs.declared.message.Want.TheVariants as wants
 abbrev pub decl : Declaration
 decl =
     declaration 3 4 (kind 2 3 3 0 (row 0 0 0 0 ∷ row 1 0 1 1 ∷ row 0 1 2 0 ∷ row 1 1 2 0 ∷ row 0 2 2 1 ∷ row 1 2 2 1 ∷
-      []) (pair 0 2 ∷ pair 0 3 ∷ []) ∷ []) (0 ∷ []) (plan (2 ∷ 1 ∷ 1 ∷ []) ((3 ∷ 0 ∷ 4 ∷ []) ∷ []) ((0 ∷ 0 ∷ 2 ∷ 2 ∷ [])
-      ∷ []) ∷ plan (1 ∷ 0 ∷ 1 ∷ []) ((1 ∷ 0 ∷ 0 ∷ []) ∷ []) ((0 ∷ 0 ∷ 2 ∷ 2 ∷ []) ∷ []) ∷ [])
+    []) (pair 0 2 ∷ pair 0 3 ∷ []) ∷ []) (0 ∷ []) (plan (2 ∷ 1 ∷ 1 ∷ []) ((3 ∷ 0 ∷ 4 ∷ []) ∷ []) ((0 ∷ 0 ∷ 2 ∷ 2 ∷ []) ∷
+    []) ∷ plan (1 ∷ 0 ∷ 1 ∷ []) ((1 ∷ 0 ∷ 0 ∷ []) ∷ []) ((0 ∷ 0 ∷ 2 ∷ 2 ∷ []) ∷ []) ∷ [])
 
 abbrev pub moves : List Move
 moves =
@@ -108,7 +109,7 @@ history =
     marked 2 (Wrote (prepare (tx 3 2) 1 [] (own_line 1 0 2 ∷ own_line 3 0 2 ∷ []) [])) ∷
     marked 2 (Sent 32 6 (messages.Answer 29 (answers.Yes 0))) ∷ marked 6 (Got 32) ∷
     marked 6 (Wrote (commit (stamp 1 3) (tx 3 2) (operation 0 1 (Some 2) ∷ operation 0 0 (Some 0) ∷ operation 0 1 (Some
-      2) ∷ []))) ∷
+    2) ∷ []))) ∷
     marked 6 (Sent 33 0 (messages.Decision (tx 3 2) (outcomes.Committed (stamp 1 3)))) ∷
     marked 6 (Sent 34 1 (messages.Decision (tx 3 2) (outcomes.Committed (stamp 1 3)))) ∷
     marked 6 (Sent 35 2 (messages.Decision (tx 3 2) (outcomes.Committed (stamp 1 3)))) ∷

@@ -1,10 +1,11 @@
--- A random history, of 3 sites and 2 clients: 174 steps, 66 messages, 5 lost, 1 cuts, 2 commits.
+-- Random: sites 3, clients 2, steps 174, messages 66, lost 5, cuts 1, commits 2.
 use Rattle.std.specs.Prelude.{List, [], ◌∷◌, Some}
 use Rattle.qc_decl.specs.declared.declaration.Declaration.{Declaration}
 use Rattle.qc_decl.specs.One.{row}
 use Rattle.qc_msg.specs.Steps.{Entry, marked}
 use Rattle.tests_histories.specs.Play.{Move, Takes, Posts, Acts}
-use Rattle.tests_histories.specs.Words.{tx, stamp, line, own_line, operation, read_lock, prepare, commit, declaration, kind, pair, plan}
+use Rattle.tests_histories.specs.Words.{tx, stamp, line, own_line, operation, read_lock}
+use Rattle.tests_histories.specs.Words.{prepare, commit, declaration, kind, pair, plan}
 use Rattle.qc_msg.specs.declared.step.Step.TheVariants.{Phase, Cut, Called, Got, Lost, Wrote, Sent, Told}
 use Rattle.qc_msg.specs.declared.message.Answer.TheVariants as answers
 use Rattle.qc_msg.specs.declared.step.Command.TheVariants as commands
@@ -17,7 +18,7 @@ use Rattle.qc_msg.specs.declared.message.Want.TheVariants as wants
 abbrev pub decl : Declaration
 decl =
     declaration 3 2 (kind 2 2 3 0 (row 0 0 0 1 ∷ row 1 0 1 1 ∷ row 0 1 2 0 ∷ row 1 1 2 0 ∷ []) (pair 0 0 ∷ pair 0 2 ∷
-      []) ∷ []) (0 ∷ []) (plan (1 ∷ 1 ∷ 1 ∷ []) ((2 ∷ 0 ∷ []) ∷ []) ((2 ∷ 0 ∷ 2 ∷ []) ∷ []) ∷ [])
+    []) ∷ []) (0 ∷ []) (plan (1 ∷ 1 ∷ 1 ∷ []) ((2 ∷ 0 ∷ []) ∷ []) ((2 ∷ 0 ∷ 2 ∷ []) ∷ []) ∷ [])
 
 abbrev pub moves : List Move
 moves =
@@ -73,9 +74,9 @@ history =
     marked 1 (Sent 17 4 (messages.Answer 14 (answers.Granted 1 0 []))) ∷ marked 4 (Got 17) ∷
     marked 4 (Told (replies.Response 1)) ∷ marked 4 (Called (commands.Do 0 1)) ∷
     marked 4 (Sent 18 1 (messages.Request (tx 1 1) 1 1 (wants.Append 0 [] (own_line 1 0 2 ∷ own_line 2 0 0 ∷ own_line 4
-      0 2 ∷ [])))) ∷
+    0 2 ∷ [])))) ∷
     marked 4 (Sent 19 2 (messages.Request (tx 1 1) 1 1 (wants.Append 0 [] (own_line 1 0 2 ∷ own_line 2 0 0 ∷ own_line 4
-      0 2 ∷ [])))) ∷
+    0 2 ∷ [])))) ∷
     marked 2 (Got 19) ∷ marked 1 (Got 18) ∷ marked 2 (Sent 20 4 (messages.Answer 19 (answers.Granted 1 0 []))) ∷
     marked 1 (Sent 21 4 (messages.Answer 18 (answers.Granted 1 0 []))) ∷ marked 4 (Got 20) ∷ marked 4 (Got 21) ∷
     marked 4 (Told (replies.Response 2)) ∷ marked 4 (Called commands.Abort) ∷
@@ -117,35 +118,35 @@ history =
     marked 3 (Lost 44) ∷ marked 3 (Sent 47 2 (messages.Request (tx 0 1) 1 1 (wants.Read 0 0))) ∷ marked 2 (Got 47) ∷
     marked 2 (Sent 48 3 (messages.Answer 47 (answers.Granted 1 1 (line 1 1 2 1 0 0 ∷ [])))) ∷ marked 3 (Got 48) ∷
     marked 3 (Sent 49 0 (messages.Request (tx 0 1) 1 0 (wants.Append 0 (line 1 1 2 1 0 0 ∷ []) (own_line 1 0 2 ∷
-      own_line 2 0 0 ∷ [])))) ∷
+    own_line 2 0 0 ∷ [])))) ∷
     marked 3 (Sent 50 1 (messages.Request (tx 0 1) 1 1 (wants.Append 0 (line 1 1 2 1 0 0 ∷ []) (own_line 1 0 2 ∷
-      own_line 2 0 0 ∷ [])))) ∷
+    own_line 2 0 0 ∷ [])))) ∷
     marked 1 (Got 50) ∷ marked 1 (Sent 51 3 (messages.Answer 50 (answers.Granted 1 1 []))) ∷ marked 3 (Got 51) ∷
     marked 3 (Lost 49) ∷
     marked 3 (Sent 52 2 (messages.Request (tx 0 1) 1 1 (wants.Append 0 (line 1 1 2 1 0 0 ∷ []) (own_line 1 0 2 ∷
-      own_line 2 0 0 ∷ [])))) ∷
+    own_line 2 0 0 ∷ [])))) ∷
     marked 2 (Got 52) ∷ marked 2 (Sent 53 3 (messages.Answer 52 (answers.Granted 1 1 []))) ∷ marked 3 (Got 53) ∷
     marked 3 (Told (replies.Response 0)) ∷ marked 3 (Called (commands.Do 0 1)) ∷
     marked 3 (Sent 54 0 (messages.Request (tx 0 1) 1 0 (wants.Append 0 (line 1 1 2 1 0 0 ∷ []) (own_line 1 0 2 ∷
-      own_line 2 0 0 ∷ own_line 3 0 2 ∷ [])))) ∷
+    own_line 2 0 0 ∷ own_line 3 0 2 ∷ [])))) ∷
     marked 3 (Sent 55 1 (messages.Request (tx 0 1) 1 1 (wants.Append 0 (line 1 1 2 1 0 0 ∷ []) (own_line 1 0 2 ∷
-      own_line 2 0 0 ∷ own_line 3 0 2 ∷ [])))) ∷
+    own_line 2 0 0 ∷ own_line 3 0 2 ∷ [])))) ∷
     marked 1 (Got 55) ∷ marked 1 (Sent 56 3 (messages.Answer 55 (answers.Granted 1 1 []))) ∷ marked 3 (Got 56) ∷
     marked 3 (Lost 54) ∷
     marked 3 (Sent 57 2 (messages.Request (tx 0 1) 1 1 (wants.Append 0 (line 1 1 2 1 0 0 ∷ []) (own_line 1 0 2 ∷
-      own_line 2 0 0 ∷ own_line 3 0 2 ∷ [])))) ∷
+    own_line 2 0 0 ∷ own_line 3 0 2 ∷ [])))) ∷
     marked 2 (Got 57) ∷ marked 2 (Sent 58 3 (messages.Answer 57 (answers.Granted 1 1 []))) ∷ marked 3 (Got 58) ∷
     marked 3 (Told (replies.Response 2)) ∷ marked 3 (Called commands.Commit) ∷
     marked 3 (Sent 59 1 (messages.Request (tx 0 1) 1 1 wants.Prepare)) ∷
     marked 3 (Sent 60 2 (messages.Request (tx 0 1) 1 1 wants.Prepare)) ∷ marked 2 (Got 60) ∷ marked 1 (Got 59) ∷
     marked 1 (Wrote (prepare (tx 0 1) 1 (read_lock 0 0 ∷ []) (own_line 1 0 2 ∷ own_line 2 0 0 ∷ own_line 3 0 2 ∷ [])
-      [])) ∷
+    [])) ∷
     marked 1 (Sent 61 3 (messages.Answer 59 (answers.Yes 1))) ∷
     marked 2 (Wrote (prepare (tx 0 1) 1 (read_lock 0 0 ∷ []) (own_line 1 0 2 ∷ own_line 2 0 0 ∷ own_line 3 0 2 ∷ [])
-      [])) ∷
+    [])) ∷
     marked 2 (Sent 62 3 (messages.Answer 60 (answers.Yes 1))) ∷ marked 3 (Got 61) ∷ marked 3 (Got 62) ∷
     marked 3 (Wrote (commit (stamp 2 0) (tx 0 1) (operation 0 1 (Some 2) ∷ operation 0 0 (Some 0) ∷ operation 0 1 (Some
-      2) ∷ []))) ∷
+    2) ∷ []))) ∷
     marked 3 (Sent 63 0 (messages.Decision (tx 0 1) (outcomes.Committed (stamp 2 0)))) ∷
     marked 3 (Sent 64 1 (messages.Decision (tx 0 1) (outcomes.Committed (stamp 2 0)))) ∷
     marked 3 (Sent 65 2 (messages.Decision (tx 0 1) (outcomes.Committed (stamp 2 0)))) ∷

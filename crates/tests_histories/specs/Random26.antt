@@ -1,10 +1,11 @@
--- A random history, of 2 sites and 2 clients: 175 steps, 53 messages, 3 lost, 0 cuts, 6 commits, 1 aborted, 1 without a quorum, 1 absent.
+-- Random: sites 2, clients 2, steps 175, messages 53, lost 3, commits 6, aborts 1, short rounds 1, absent 1.
 use Rattle.std.specs.Prelude.{List, [], ◌∷◌, Some, None}
 use Rattle.qc_decl.specs.declared.declaration.Declaration.{Declaration}
 use Rattle.qc_decl.specs.One.{row}
 use Rattle.qc_msg.specs.Steps.{Entry, marked}
 use Rattle.tests_histories.specs.Play.{Move, Takes, Posts, Acts}
-use Rattle.tests_histories.specs.Words.{tx, stamp, line, own_line, operation, read_lock, prepare, commit, declaration, kind, pair, plan}
+use Rattle.tests_histories.specs.Words.{tx, stamp, line, own_line, operation, read_lock}
+use Rattle.tests_histories.specs.Words.{prepare, commit, declaration, kind, pair, plan}
 use Rattle.qc_msg.specs.declared.step.Step.TheVariants.{Phase, Called, Got, Lost, Wrote, Sent, Told}
 use Rattle.qc_msg.specs.declared.message.Answer.TheVariants as answers
 use Rattle.qc_msg.specs.declared.reply.Why.TheVariants as causes
@@ -19,12 +20,12 @@ use Rattle.qc_msg.specs.declared.message.Want.TheVariants as wants
 abbrev pub decl : Declaration
 decl =
     declaration 2 2 (kind 4 3 3 0 (row 0 0 1 3 ∷ row 0 0 0 3 ∷ row 0 1 2 3 ∷ row 0 2 0 1 ∷ row 1 1 0 2 ∷ row 2 0 1 3 ∷
-      row 2 2 1 2 ∷ row 3 1 2 3 ∷ row 3 2 2 1 ∷ row 3 2 0 2 ∷ []) (pair 0 0 ∷ pair 0 1 ∷ pair 0 2 ∷ pair 0 3 ∷ pair 0 4
-      ∷ pair 0 6 ∷ pair 1 0 ∷ pair 1 3 ∷ pair 1 4 ∷ pair 1 6 ∷ pair 2 0 ∷ pair 2 1 ∷ pair 2 2 ∷ pair 2 3 ∷ pair 2 4 ∷
-      pair 2 6 ∷ []) ∷ []) (0 ∷ 0 ∷ []) (plan (1 ∷ 3 ∷ []) ((3 ∷ 3 ∷ 3 ∷ []) ∷ (3 ∷ 3 ∷ 1 ∷ []) ∷ []) ((2 ∷ 2 ∷ 2 ∷ 2 ∷
-      2 ∷ 0 ∷ 2 ∷ []) ∷ (4 ∷ 4 ∷ 4 ∷ 4 ∷ 4 ∷ 0 ∷ 4 ∷ []) ∷ []) ∷ plan (3 ∷ 3 ∷ []) ((3 ∷ 6 ∷ 1 ∷ []) ∷ (4 ∷ 4 ∷ 4 ∷ [])
-      ∷ []) ((6 ∷ 6 ∷ 6 ∷ 6 ∷ 6 ∷ 0 ∷ 6 ∷ []) ∷ (3 ∷ 3 ∷ 3 ∷ 3 ∷ 3 ∷ 0 ∷ 3 ∷ []) ∷ []) ∷ plan (3 ∷ 1 ∷ []) ((3 ∷ 3 ∷ 3 ∷
-      []) ∷ (3 ∷ 3 ∷ 3 ∷ []) ∷ []) ((2 ∷ 2 ∷ 2 ∷ 2 ∷ 2 ∷ 0 ∷ 2 ∷ []) ∷ (2 ∷ 2 ∷ 2 ∷ 3 ∷ 2 ∷ 4 ∷ 2 ∷ []) ∷ []) ∷ [])
+    row 2 2 1 2 ∷ row 3 1 2 3 ∷ row 3 2 2 1 ∷ row 3 2 0 2 ∷ []) (pair 0 0 ∷ pair 0 1 ∷ pair 0 2 ∷ pair 0 3 ∷ pair 0 4 ∷
+    pair 0 6 ∷ pair 1 0 ∷ pair 1 3 ∷ pair 1 4 ∷ pair 1 6 ∷ pair 2 0 ∷ pair 2 1 ∷ pair 2 2 ∷ pair 2 3 ∷ pair 2 4 ∷ pair 2
+    6 ∷ []) ∷ []) (0 ∷ 0 ∷ []) (plan (1 ∷ 3 ∷ []) ((3 ∷ 3 ∷ 3 ∷ []) ∷ (3 ∷ 3 ∷ 1 ∷ []) ∷ []) ((2 ∷ 2 ∷ 2 ∷ 2 ∷ 2 ∷ 0 ∷ 2
+    ∷ []) ∷ (4 ∷ 4 ∷ 4 ∷ 4 ∷ 4 ∷ 0 ∷ 4 ∷ []) ∷ []) ∷ plan (3 ∷ 3 ∷ []) ((3 ∷ 6 ∷ 1 ∷ []) ∷ (4 ∷ 4 ∷ 4 ∷ []) ∷ []) ((6 ∷
+    6 ∷ 6 ∷ 6 ∷ 6 ∷ 0 ∷ 6 ∷ []) ∷ (3 ∷ 3 ∷ 3 ∷ 3 ∷ 3 ∷ 0 ∷ 3 ∷ []) ∷ []) ∷ plan (3 ∷ 1 ∷ []) ((3 ∷ 3 ∷ 3 ∷ []) ∷ (3 ∷ 3
+    ∷ 3 ∷ []) ∷ []) ((2 ∷ 2 ∷ 2 ∷ 2 ∷ 2 ∷ 0 ∷ 2 ∷ []) ∷ (2 ∷ 2 ∷ 2 ∷ 3 ∷ 2 ∷ 4 ∷ 2 ∷ []) ∷ []) ∷ [])
 
 abbrev pub moves : List Move
 moves =
@@ -113,7 +114,7 @@ history =
     marked 1 (Got 30) ∷ marked 1 (Sent 31 3 (messages.Answer 30 (answers.Granted 1 3 (line 1 1 2 1 0 1 ∷ [])))) ∷
     marked 3 (Got 31) ∷
     marked 3 (Sent 32 1 (messages.Request (tx 1 5) 1 1 (wants.Append 0 (line 1 1 2 1 0 1 ∷ []) (own_line 1 0 2 ∷ []))))
-      ∷
+    ∷
     marked 1 (Got 32) ∷ marked 1 (Sent 33 3 (messages.Answer 32 (answers.Granted 1 3 []))) ∷ marked 3 (Got 33) ∷
     marked 3 (Told (replies.Response 2)) ∷ marked 3 (Called commands.Commit) ∷
     marked 3 (Sent 34 1 (messages.Request (tx 1 5) 1 1 wants.Prepare)) ∷ marked 1 (Got 34) ∷
@@ -127,9 +128,9 @@ history =
     marked 2 (Sent 37 0 (messages.Request (tx 0 1) 1 0 (wants.Read 1 2))) ∷ marked 0 (Got 37) ∷
     marked 0 (Sent 38 2 (messages.Answer 37 (answers.Granted 1 2 (line 2 1 3 1 1 2 ∷ [])))) ∷ marked 2 (Got 38) ∷
     marked 2 (Sent 39 0 (messages.Request (tx 0 1) 1 1 (wants.Append 1 (line 2 1 3 1 1 2 ∷ []) (own_line 1 1 3 ∷ []))))
-      ∷
+    ∷
     marked 2 (Sent 40 1 (messages.Request (tx 0 1) 1 0 (wants.Append 1 (line 2 1 3 1 1 2 ∷ []) (own_line 1 1 3 ∷ []))))
-      ∷
+    ∷
     marked 0 (Got 39) ∷ marked 1 (Got 40) ∷ marked 1 (Sent 41 2 (messages.Answer 40 (answers.Granted 1 4 []))) ∷
     marked 2 (Got 41) ∷ marked 0 (Sent 42 2 (messages.Answer 39 (answers.Granted 1 2 []))) ∷ marked 2 (Got 42) ∷
     marked 2 (Told (replies.Response 0)) ∷ marked 2 (Called commands.Commit) ∷

@@ -1,10 +1,11 @@
--- A random history, of 2 sites and 4 clients: 73 steps, 24 messages, 0 lost, 0 cuts, 1 commits.
+-- Random: sites 2, clients 4, steps 73, messages 24, commits 1.
 use Rattle.std.specs.Prelude.{List, [], ◌∷◌, Some}
 use Rattle.qc_decl.specs.declared.declaration.Declaration.{Declaration}
 use Rattle.qc_decl.specs.One.{row}
 use Rattle.qc_msg.specs.Steps.{Entry, marked}
 use Rattle.tests_histories.specs.Play.{Move, Takes, Posts, Acts}
-use Rattle.tests_histories.specs.Words.{tx, stamp, line, own_line, operation, read_lock, prepare, commit, declaration, kind, pair, plan}
+use Rattle.tests_histories.specs.Words.{tx, stamp, line, own_line, operation, read_lock}
+use Rattle.tests_histories.specs.Words.{prepare, commit, declaration, kind, pair, plan}
 use Rattle.qc_msg.specs.declared.step.Step.TheVariants.{Phase, Called, Got, Wrote, Sent, Told}
 use Rattle.qc_msg.specs.declared.message.Answer.TheVariants as answers
 use Rattle.qc_msg.specs.declared.step.Command.TheVariants as commands
@@ -17,10 +18,10 @@ use Rattle.qc_msg.specs.declared.message.Want.TheVariants as wants
 abbrev pub decl : Declaration
 decl =
     declaration 2 4 (kind 3 3 3 0 (row 0 0 0 1 ∷ row 0 0 1 2 ∷ row 1 1 0 1 ∷ row 2 1 1 2 ∷ row 1 2 2 0 ∷ row 2 2 2 0 ∷
-      row 0 2 2 0 ∷ []) (pair 0 0 ∷ pair 0 1 ∷ pair 0 4 ∷ pair 1 0 ∷ pair 1 1 ∷ pair 1 4 ∷ []) ∷ kind 2 3 3 0 (row 0 0 0
-      0 ∷ row 1 0 1 1 ∷ row 0 1 2 0 ∷ row 1 1 2 0 ∷ row 0 2 2 1 ∷ row 1 2 2 1 ∷ []) (pair 0 2 ∷ pair 0 3 ∷ pair 2 1 ∷
-      pair 2 3 ∷ []) ∷ []) (0 ∷ 1 ∷ []) (plan (1 ∷ 1 ∷ []) ((1 ∷ 1 ∷ 0 ∷ []) ∷ (2 ∷ 0 ∷ 2 ∷ []) ∷ []) ((2 ∷ 2 ∷ 0 ∷ 0 ∷
-      2 ∷ []) ∷ (2 ∷ 1 ∷ 1 ∷ 1 ∷ []) ∷ []) ∷ [])
+    row 0 2 2 0 ∷ []) (pair 0 0 ∷ pair 0 1 ∷ pair 0 4 ∷ pair 1 0 ∷ pair 1 1 ∷ pair 1 4 ∷ []) ∷ kind 2 3 3 0 (row 0 0 0 0
+    ∷ row 1 0 1 1 ∷ row 0 1 2 0 ∷ row 1 1 2 0 ∷ row 0 2 2 1 ∷ row 1 2 2 1 ∷ []) (pair 0 2 ∷ pair 0 3 ∷ pair 2 1 ∷ pair 2
+    3 ∷ []) ∷ []) (0 ∷ 1 ∷ []) (plan (1 ∷ 1 ∷ []) ((1 ∷ 1 ∷ 0 ∷ []) ∷ (2 ∷ 0 ∷ 2 ∷ []) ∷ []) ((2 ∷ 2 ∷ 0 ∷ 0 ∷ 2 ∷ []) ∷
+    (2 ∷ 1 ∷ 1 ∷ 1 ∷ []) ∷ []) ∷ [])
 
 abbrev pub moves : List Move
 moves =
@@ -60,10 +61,10 @@ history =
     marked 0 (Wrote (prepare (tx 3 1) 1 [] (own_line 1 0 0 ∷ []) [])) ∷
     marked 0 (Sent 12 5 (messages.Answer 11 (answers.Yes 0))) ∷
     marked 1 (Wrote (prepare (tx 3 1) 1 (read_lock 0 0 ∷ read_lock 0 1 ∷ []) (own_line 1 0 0 ∷ own_line 2 1 2 ∷ []) []))
-      ∷
+    ∷
     marked 1 (Sent 13 5 (messages.Answer 10 (answers.Yes 0))) ∷ marked 5 (Got 12) ∷ marked 5 (Got 13) ∷
     marked 5 (Wrote (commit (stamp 1 3) (tx 3 1) (operation 0 0 (Some 0) ∷ operation 1 1 (Some 2) ∷ operation 0 1 (Some
-      0) ∷ []))) ∷
+    0) ∷ []))) ∷
     marked 5 (Sent 14 0 (messages.Decision (tx 3 1) (outcomes.Committed (stamp 1 3)))) ∷
     marked 5 (Sent 15 1 (messages.Decision (tx 3 1) (outcomes.Committed (stamp 1 3)))) ∷
     marked 5 (Told (replies.Committed (stamp 1 3))) ∷ marked 1 (Got 15) ∷ marked 5 (Called commands.Begin) ∷
@@ -74,9 +75,9 @@ history =
     marked 0 (Sent 18 5 (messages.Answer 17 (answers.Granted 1 1 []))) ∷ marked 1 (Got 16) ∷ marked 5 (Got 18) ∷
     marked 1 (Sent 19 5 (messages.Answer 16 (answers.Granted 1 1 (line 1 3 1 2 1 2 ∷ [])))) ∷ marked 5 (Got 19) ∷
     marked 5 (Sent 20 1 (messages.Request (tx 3 2) 1 1 (wants.Append 1 (line 1 3 1 2 1 2 ∷ []) (own_line 1 1 0 ∷ []))))
-      ∷
+    ∷
     marked 5 (Sent 21 0 (messages.Request (tx 3 2) 1 1 (wants.Append 1 (line 1 3 1 2 1 2 ∷ []) (own_line 1 1 0 ∷ []))))
-      ∷
+    ∷
     marked 1 (Got 20) ∷ marked 1 (Sent 22 5 (messages.Answer 20 (answers.Granted 1 1 []))) ∷ marked 0 (Got 21) ∷
     marked 0 (Sent 23 5 (messages.Answer 21 (answers.Granted 1 1 []))) ∷ marked 5 (Got 22) ∷ marked 5 (Got 23) ∷
     marked 5 (Told (replies.Response 0)) ∷ marked 7 (Phase 2) ∷ []

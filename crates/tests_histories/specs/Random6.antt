@@ -1,4 +1,4 @@
--- A random history, of 5 sites and 2 clients: 74 steps, 28 messages, 0 lost, 0 cuts, 1 commits.
+-- Random: sites 5, clients 2, steps 74, messages 28, commits 1.
 use Rattle.std.specs.Prelude.{List, [], ◌∷◌, Some}
 use Rattle.qc_decl.specs.declared.declaration.Declaration.{Declaration}
 use Rattle.qc_decl.specs.One.{row}
@@ -17,9 +17,9 @@ use Rattle.qc_msg.specs.declared.message.Want.TheVariants as wants
 abbrev pub decl : Declaration
 decl =
     declaration 5 2 (kind 3 3 5 0 (row 0 0 0 1 ∷ row 1 0 0 2 ∷ row 2 0 1 2 ∷ row 0 1 1 0 ∷ row 1 1 0 0 ∷ row 2 1 0 1 ∷
-      row 0 2 2 0 ∷ row 1 2 3 1 ∷ row 2 2 4 2 ∷ []) (pair 0 0 ∷ pair 0 1 ∷ pair 0 2 ∷ pair 0 3 ∷ pair 1 0 ∷ pair 1 1 ∷
-      pair 1 3 ∷ pair 1 5 ∷ pair 2 0 ∷ pair 2 2 ∷ pair 2 3 ∷ []) ∷ kind 3 1 1 0 (row 0 0 0 2 ∷ row 1 0 0 0 ∷ row 2 0 0 2
-      ∷ []) [] ∷ []) (1 ∷ []) (plan (1 ∷ 1 ∷ 3 ∷ 1 ∷ 1 ∷ []) ((0 ∷ []) ∷ []) ((6 ∷ []) ∷ []) ∷ [])
+    row 0 2 2 0 ∷ row 1 2 3 1 ∷ row 2 2 4 2 ∷ []) (pair 0 0 ∷ pair 0 1 ∷ pair 0 2 ∷ pair 0 3 ∷ pair 1 0 ∷ pair 1 1 ∷
+    pair 1 3 ∷ pair 1 5 ∷ pair 2 0 ∷ pair 2 2 ∷ pair 2 3 ∷ []) ∷ kind 3 1 1 0 (row 0 0 0 2 ∷ row 1 0 0 0 ∷ row 2 0 0 2 ∷
+    []) [] ∷ []) (1 ∷ []) (plan (1 ∷ 1 ∷ 3 ∷ 1 ∷ 1 ∷ []) ((0 ∷ []) ∷ []) ((6 ∷ []) ∷ []) ∷ [])
 
 abbrev pub moves : List Move
 moves =

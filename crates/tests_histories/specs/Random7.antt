@@ -1,4 +1,4 @@
--- A random history, of 4 sites and 2 clients: 74 steps, 28 messages, 0 lost, 1 cuts, 1 commits.
+-- Random: sites 4, clients 2, steps 74, messages 28, cuts 1, commits 1.
 use Rattle.std.specs.Prelude.{List, [], ◌∷◌}
 use Rattle.qc_decl.specs.declared.declaration.Declaration.{Declaration}
 use Rattle.qc_decl.specs.One.{row}
@@ -15,10 +15,10 @@ use Rattle.qc_msg.specs.declared.message.Want.TheVariants as wants
 abbrev pub decl : Declaration
 decl =
     declaration 4 2 (kind 7 3 4 0 (row 0 0 0 1 ∷ row 0 1 0 2 ∷ row 1 0 0 3 ∷ row 1 1 0 4 ∷ row 2 0 0 5 ∷ row 2 1 0 6 ∷
-      row 0 2 3 0 ∷ row 1 2 1 0 ∷ row 2 2 2 0 ∷ row 3 2 1 1 ∷ row 4 2 1 2 ∷ row 5 2 2 1 ∷ row 6 2 2 2 ∷ []) (pair 0 0 ∷
-      pair 0 1 ∷ pair 0 3 ∷ pair 0 4 ∷ pair 1 0 ∷ pair 1 1 ∷ pair 1 3 ∷ pair 1 4 ∷ pair 2 0 ∷ pair 2 1 ∷ pair 2 3 ∷ pair
-      2 4 ∷ []) ∷ []) (0 ∷ []) (plan (1 ∷ 0 ∷ 1 ∷ 1 ∷ []) ((3 ∷ 2 ∷ 2 ∷ []) ∷ []) ((2 ∷ 2 ∷ 1 ∷ 2 ∷ 2 ∷ []) ∷ []) ∷ plan
-      (1 ∷ 0 ∷ 2 ∷ 1 ∷ []) ((3 ∷ 3 ∷ 3 ∷ []) ∷ []) ((2 ∷ 2 ∷ 0 ∷ 4 ∷ 2 ∷ []) ∷ []) ∷ [])
+    row 0 2 3 0 ∷ row 1 2 1 0 ∷ row 2 2 2 0 ∷ row 3 2 1 1 ∷ row 4 2 1 2 ∷ row 5 2 2 1 ∷ row 6 2 2 2 ∷ []) (pair 0 0 ∷
+    pair 0 1 ∷ pair 0 3 ∷ pair 0 4 ∷ pair 1 0 ∷ pair 1 1 ∷ pair 1 3 ∷ pair 1 4 ∷ pair 2 0 ∷ pair 2 1 ∷ pair 2 3 ∷ pair 2
+    4 ∷ []) ∷ []) (0 ∷ []) (plan (1 ∷ 0 ∷ 1 ∷ 1 ∷ []) ((3 ∷ 2 ∷ 2 ∷ []) ∷ []) ((2 ∷ 2 ∷ 1 ∷ 2 ∷ 2 ∷ []) ∷ []) ∷ plan (1
+    ∷ 0 ∷ 2 ∷ 1 ∷ []) ((3 ∷ 3 ∷ 3 ∷ []) ∷ []) ((2 ∷ 2 ∷ 0 ∷ 4 ∷ 2 ∷ []) ∷ []) ∷ [])
 
 abbrev pub moves : List Move
 moves =
@@ -67,9 +67,9 @@ history =
     marked 3 (Sent 22 5 (messages.Answer 21 (answers.Granted 1 0 []))) ∷ marked 5 (Got 22) ∷ marked 2 (Got 20) ∷
     marked 2 (Sent 23 5 (messages.Answer 20 (answers.Granted 1 0 []))) ∷ marked 5 (Got 23) ∷
     marked 5 (Sent 24 2 (messages.Request (tx 1 1) 1 1 (wants.Append 0 [] (own_line 1 0 0 ∷ own_line 2 0 0 ∷ own_line 3
-      0 3 ∷ [])))) ∷
+    0 3 ∷ [])))) ∷
     marked 5 (Sent 25 3 (messages.Request (tx 1 1) 1 1 (wants.Append 0 [] (own_line 1 0 0 ∷ own_line 2 0 0 ∷ own_line 3
-      0 3 ∷ [])))) ∷
+    0 3 ∷ [])))) ∷
     marked 3 (Got 25) ∷ marked 3 (Sent 26 5 (messages.Answer 25 (answers.Granted 1 0 []))) ∷ marked 2 (Got 24) ∷
     marked 2 (Sent 27 5 (messages.Answer 24 (answers.Granted 1 0 []))) ∷ marked 5 (Got 26) ∷ marked 5 (Got 27) ∷
     marked 5 (Told (replies.Response 1)) ∷ marked 7 (Phase 3) ∷ marked 7 (Heal 3 1) ∷ []

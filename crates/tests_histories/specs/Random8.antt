@@ -1,4 +1,4 @@
--- A random history, of 1 sites and 2 clients: 76 steps, 15 messages, 4 lost, 2 cuts, 1 conflicts, 4 without a quorum.
+-- Random: sites 1, clients 2, steps 76, messages 15, lost 4, cuts 2, conflicts 1, short rounds 4.
 use Rattle.std.specs.Prelude.{List, [], ◌∷◌}
 use Rattle.qc_decl.specs.declared.declaration.Declaration.{Declaration}
 use Rattle.qc_decl.specs.One.{row}
@@ -17,9 +17,9 @@ use Rattle.qc_msg.specs.declared.message.Want.TheVariants as wants
 abbrev pub decl : Declaration
 decl =
     declaration 1 2 (kind 2 1 1 0 (row 0 0 0 0 ∷ row 1 0 0 0 ∷ []) [] ∷ kind 3 3 5 0 (row 0 0 0 1 ∷ row 1 0 0 2 ∷ row 2
-      0 1 2 ∷ row 0 1 1 0 ∷ row 1 1 0 0 ∷ row 2 1 0 1 ∷ row 0 2 2 0 ∷ row 1 2 3 1 ∷ row 2 2 4 2 ∷ []) (pair 0 0 ∷ pair 0
-      3 ∷ pair 1 0 ∷ pair 1 3 ∷ pair 2 0 ∷ pair 2 3 ∷ []) ∷ []) (1 ∷ []) (plan (1 ∷ []) ((1 ∷ 1 ∷ 1 ∷ []) ∷ []) ((1 ∷ 0
-      ∷ 0 ∷ 1 ∷ 0 ∷ 0 ∷ 0 ∷ []) ∷ []) ∷ [])
+    0 1 2 ∷ row 0 1 1 0 ∷ row 1 1 0 0 ∷ row 2 1 0 1 ∷ row 0 2 2 0 ∷ row 1 2 3 1 ∷ row 2 2 4 2 ∷ []) (pair 0 0 ∷ pair 0 3
+    ∷ pair 1 0 ∷ pair 1 3 ∷ pair 2 0 ∷ pair 2 3 ∷ []) ∷ []) (1 ∷ []) (plan (1 ∷ []) ((1 ∷ 1 ∷ 1 ∷ []) ∷ []) ((1 ∷ 0 ∷ 0
+    ∷ 1 ∷ 0 ∷ 0 ∷ 0 ∷ []) ∷ []) ∷ [])
 
 abbrev pub moves : List Move
 moves =

@@ -1,4 +1,4 @@
--- A random history, of 1 sites and 3 clients: 77 steps, 20 messages, 0 lost, 0 cuts, 1 commits, 2 aborted, 3 conflicts.
+-- Random: sites 1, clients 3, steps 77, messages 20, commits 1, aborts 2, conflicts 3.
 use Rattle.std.specs.Prelude.{List, [], ◌∷◌}
 use Rattle.qc_decl.specs.declared.declaration.Declaration.{Declaration}
 use Rattle.qc_decl.specs.One.{row}
@@ -17,11 +17,11 @@ use Rattle.qc_msg.specs.declared.message.Want.TheVariants as wants
 abbrev pub decl : Declaration
 decl =
     declaration 1 3 (kind 7 3 4 0 (row 0 0 0 1 ∷ row 0 1 0 2 ∷ row 1 0 0 3 ∷ row 1 1 0 4 ∷ row 2 0 0 5 ∷ row 2 1 0 6 ∷
-      row 0 2 3 0 ∷ row 1 2 1 0 ∷ row 2 2 2 0 ∷ row 3 2 1 1 ∷ row 4 2 1 2 ∷ row 5 2 2 1 ∷ row 6 2 2 2 ∷ []) (pair 0 0 ∷
-      pair 0 1 ∷ pair 0 2 ∷ pair 0 3 ∷ pair 0 4 ∷ pair 1 0 ∷ pair 1 1 ∷ pair 1 2 ∷ pair 1 3 ∷ pair 1 4 ∷ pair 2 0 ∷ pair
-      2 1 ∷ pair 2 3 ∷ pair 2 4 ∷ []) ∷ kind 3 2 1 0 (row 0 1 0 1 ∷ row 1 0 0 1 ∷ row 1 1 0 2 ∷ row 2 1 0 0 ∷ []) (pair
-      0 0 ∷ []) ∷ []) (0 ∷ []) (plan (3 ∷ []) ((2 ∷ 2 ∷ 2 ∷ []) ∷ []) ((2 ∷ 2 ∷ 2 ∷ 2 ∷ 2 ∷ []) ∷ []) ∷ plan (1 ∷ [])
-      ((1 ∷ 1 ∷ 1 ∷ []) ∷ []) ((1 ∷ 1 ∷ 1 ∷ 1 ∷ 1 ∷ []) ∷ []) ∷ [])
+    row 0 2 3 0 ∷ row 1 2 1 0 ∷ row 2 2 2 0 ∷ row 3 2 1 1 ∷ row 4 2 1 2 ∷ row 5 2 2 1 ∷ row 6 2 2 2 ∷ []) (pair 0 0 ∷
+    pair 0 1 ∷ pair 0 2 ∷ pair 0 3 ∷ pair 0 4 ∷ pair 1 0 ∷ pair 1 1 ∷ pair 1 2 ∷ pair 1 3 ∷ pair 1 4 ∷ pair 2 0 ∷ pair 2
+    1 ∷ pair 2 3 ∷ pair 2 4 ∷ []) ∷ kind 3 2 1 0 (row 0 1 0 1 ∷ row 1 0 0 1 ∷ row 1 1 0 2 ∷ row 2 1 0 0 ∷ []) (pair 0 0
+    ∷ []) ∷ []) (0 ∷ []) (plan (3 ∷ []) ((2 ∷ 2 ∷ 2 ∷ []) ∷ []) ((2 ∷ 2 ∷ 2 ∷ 2 ∷ 2 ∷ []) ∷ []) ∷ plan (1 ∷ []) ((1 ∷ 1
+    ∷ 1 ∷ []) ∷ []) ((1 ∷ 1 ∷ 1 ∷ 1 ∷ 1 ∷ []) ∷ []) ∷ [])
 
 abbrev pub moves : List Move
 moves =

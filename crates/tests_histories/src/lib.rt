@@ -2,7 +2,7 @@
 //!
 //! The histories come from a model of the protocol that was written apart from
 //! this repository, as its executable description: `specs/` has each with the
-//! schedule that made it, and `tools/histories_as_modules.py` wrote them. Each
+//! schedule that made it, and `tools/whole_histories` wrote them. Each
 //! law says that the conduct performs a history: whoever posts a turn posts
 //! just the steps that the history has there.
 //!
@@ -13,7 +13,7 @@ mod random;
 mod worked;
 
 pub use random::{
-    histories_11_to_20_are_performed, histories_1_to_10_are_performed,
+    histories_1_to_10_are_performed, histories_11_to_20_are_performed,
     histories_21_to_30_are_performed, histories_31_to_40_are_performed,
 };
 pub use worked::worked_histories_are_performed;
