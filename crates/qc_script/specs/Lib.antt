@@ -1,0 +1,5 @@
+pub mod Cut
+pub mod Forms
+pub mod Lines
+pub mod Options
+pub mod Text

@@ -1,0 +1,14 @@
+//! Scripts, and their reader.
+#![tactic(auto)]
+
+mod actor;
+mod form;
+mod line;
+mod number;
+mod script;
+mod word;
+
+pub use script::{
+    CommandLine, CommandLines, Controls, LineKind, LinkLines, PhaseLines, PhaseList, Script,
+    ScriptFault,
+};
