@@ -1,5 +1,9 @@
 pub mod Cut
 pub mod Forms
+pub mod Grammar
+pub mod Items
 pub mod Lines
 pub mod Options
+pub mod Places
+pub mod Ranges
 pub mod Text

@@ -3,8 +3,10 @@
 
 mod actor;
 mod form;
+mod item;
 mod line;
 mod number;
+mod range;
 mod script;
 mod word;
 
