@@ -1,0 +1,36 @@
+-- Whether the numbers of a line are in range: ordinals and numbers of disk calls are 1 to 99,999, an epoch to move to is 2 to
+-- the number of epochs, and a cut and a heal are of two actors.
+use Rattle.std.specs.Prelude.{ℕ, Bool, true, ◌==◌, not, length, Option, Some, None}
+use Rattle.qc_decl.specs.Names.{is_between}
+use Rattle.qc_decl.specs.declared.declaration.Declaration.{Declaration}
+use Rattle.qc_msg.specs.declared.step.Control.{Control}
+use Rattle.qc_msg.specs.declared.step.Control.TheVariants as controls
+use Rattle.qc_script.specs.declared.item.Item.{Item}
+use Rattle.qc_script.specs.declared.item.Item.TheVariants as items
+
+-- the greatest ordinal of a message, and the greatest number of a disk call
+abbrev pub most_counted : ℕ
+most_counted = 99999
+
+abbrev pub is_counted : ℕ → Bool
+is_counted number = is_between 1 most_counted number
+
+-- an ordinal; none stands for all
+abbrev pub is_ordinal : Option ℕ → Bool
+is_ordinal None = true
+is_ordinal (Some number) = is_counted number
+
+abbrev pub is_control_in_range : Control → Bool
+is_control_in_range (controls.Phase number) = true
+is_control_in_range (controls.Cut a b) = not (a == b)
+is_control_in_range (controls.Heal a b) = not (a == b)
+is_control_in_range (controls.Armed actor kind at) = is_counted at
+is_control_in_range (controls.Crash actor) = true
+is_control_in_range (controls.Restart actor) = true
+
+abbrev pub is_in_range : Declaration → Item → Bool
+is_in_range decl items.Phase = true
+is_in_range decl (items.Link link) = is_ordinal link.ordinal
+is_in_range decl (items.Control control) = is_control_in_range control
+is_in_range decl (items.Command line) = true
+is_in_range decl (items.Epoch actor number) = is_between 2 (length decl.plans) number
