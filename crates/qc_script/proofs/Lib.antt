@@ -1,2 +1,4 @@
+pub mod Lasts
 pub mod Numbers
+pub mod Reading
 pub mod Spaces

@@ -1,3 +1,4 @@
+pub mod Answers
 pub mod Cut
 pub mod Forms
 pub mod Grammar

@@ -1,7 +1,7 @@
 //! Numbers of lines: which are in range.
 
-ghost use Rattle.std.specs.Prelude.{◌≡◌};
-ghost use Rattle.qc_script.specs.Ranges.{is_counted, is_ordinal, is_control_in_range, is_in_range};
+ghost use Rattle.std.specs.Prelude.{◌≡◌, ◌<◌, length, IsTrue};
+ghost use Rattle.qc_script.specs.Ranges.{is_counted, is_ordinal, is_control_in_range, is_in_range, FitsByte};
 
 use crate::item::Item;
 use qc_decl::Declaration;
@@ -16,7 +16,9 @@ const FIRST_MOVE: u32 = 2;
 impl Item {
     /// Whether the numbers are in range.
     pub(crate) fn is_in_range(&self, decl: &Declaration) -> bool
-        ensures { result ≡ is_in_range decl.now self.now }
+        requires { length decl.now.plans < 256 }
+        ensures range { result ≡ is_in_range decl.now self.now }
+        ensures fits { IsTrue result → FitsByte self.now }
     {
         match self {
             Item::Phase | Item::Command(_) => true,
