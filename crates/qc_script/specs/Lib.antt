@@ -8,3 +8,4 @@ pub mod Options
 pub mod Places
 pub mod Ranges
 pub mod Text
+pub mod Written

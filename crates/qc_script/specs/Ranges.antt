@@ -8,12 +8,12 @@ use Rattle.qc_msg.specs.declared.step.Control.TheVariants as controls
 use Rattle.qc_script.specs.declared.item.Item.{Item}
 use Rattle.qc_script.specs.declared.item.Item.TheVariants as items
 
--- the greatest ordinal of a message, and the greatest number of a disk call
-abbrev pub most_counted : ℕ
-most_counted = 99999
+-- the greatest ordinal of a message, and the greatest number of a disk call: the greatest number of five digits
+abbrev pub most_number : ℕ
+most_number = 99999
 
 abbrev pub is_counted : ℕ → Bool
-is_counted number = is_between 1 most_counted number
+is_counted number = is_between 1 most_number number
 
 -- an ordinal; none stands for all
 abbrev pub is_ordinal : Option ℕ → Bool

@@ -12,7 +12,7 @@ mod reader;
 mod script;
 mod word;
 
-pub use range::MOST_COUNTED;
+pub use range::MOST_NUMBER;
 pub use reader::read;
 pub use script::{
     CommandLine, CommandLines, Controls, LineKind, LinkLines, PhaseLines, PhaseList, Script,

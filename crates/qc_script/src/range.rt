@@ -7,8 +7,9 @@ use crate::item::Item;
 use qc_decl::Declaration;
 use qc_msg::Control;
 
-/// The greatest ordinal of a message, and the greatest number of a disk call.
-pub const MOST_COUNTED: u32 = 99_999;
+/// The greatest ordinal of a message, and the greatest number of a disk call:
+/// the greatest number of five digits.
+pub const MOST_NUMBER: u32 = 99_999;
 
 /// The first epoch that the administrator may be asked to move to.
 const FIRST_MOVE: u32 = 2;
@@ -35,7 +36,7 @@ impl Item {
 fn is_counted(number: u32) -> bool
     ensures { result ≡ is_counted number }
 {
-    1 <= number && number <= MOST_COUNTED
+    1 <= number && number <= MOST_NUMBER
 }
 
 /// Whether an ordinal is in range; none stands for all.

@@ -4,8 +4,7 @@ ghost use Rattle.std.specs.Prelude.{◌≡◌, ◌+◌, ◌<◌, ◌≤◌, leng
 ghost use Rattle.qc_decl.specs.Limits.{most_script_bytes};
 ghost use Rattle.qc_decl.specs.Named.{IsNamed};
 ghost use Rattle.qc_script.specs.Answers.{IsTold};
-ghost use Rattle.qc_script.specs.Grammar.{script_of, numbered, with_line, read_words, tested};
-ghost use Rattle.qc_script.specs.Places.{has_place, with_item};
+ghost use Rattle.qc_script.specs.Grammar.{script_of, numbered, placed, with_line, read_words};
 ghost use Rattle.qc_script.specs.Ranges.{FitsByte};
 ghost use Rattle.qc_script.specs.Text.{without_cr, is_skipped, words_of};
 
@@ -68,8 +67,8 @@ fn add_line(
 fn add_item(alloc: Global, draft: &mut Draft, item: Item, number: u32) -> Result<(), ScriptFault>
     requires { FitsByte item }
     ensures { MatchResult result
-        (λ _. numbered number (tested (has_place draft.old item) LineKind.Place (with_item draft.old item)) ≡ Ok draft.new)
-        (λ fault. IsTold fault (numbered number (tested (has_place draft.old item) LineKind.Place (with_item draft.old item)))) }
+        (λ _. numbered number (placed draft.old item) ≡ Ok draft.new)
+        (λ fault. IsTold fault (numbered number (placed draft.old item))) }
 {
     if !draft.has_place(&item) {
         return Err(ScriptFault::Line {
