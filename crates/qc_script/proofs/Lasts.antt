@@ -1,7 +1,6 @@
 -- The last phase of a script.
-use Rattle.std.proofs.Common.{◌≡◌, ℕ, ◌-◌, ◌<◌, ◌==◌, List, [], ◌∷◌, ◌++◌, Some, length, get_or, set, refl, ap, sym, ◌∙◌, arith, rules}
+use Rattle.std.proofs.Common.{◌≡◌, ℕ, ◌-◌, ◌<◌, ◌==◌, List, [], ◌∷◌, length, get_or, set, refl, ap, sym, ◌∙◌, arith, rules}
 use native.Mathlib.Numerals.{unary_clauses}
-use Rattle.std.specs.Prelude.{slice_get}
 use Rattle.qc_script.specs.Places.{is_at_controls, is_before_commands, on_last}
 use Rattle.qc_script.specs.declared.script.CommandLine.{CommandLine}
 use Rattle.qc_link.specs.declared.plan.Link.{Link}

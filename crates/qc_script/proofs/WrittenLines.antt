@@ -1,7 +1,6 @@
 -- The words of a line that can be written are read as that line.
-use Rattle.std.proofs.Common.{◌≡◌, ℕ, Bool, true, false, cond, codes, List, [], ◌∷◌, Option, Some, None, refl, sym, ap, ◌∙◌}
+use Rattle.std.proofs.Common.{◌≡◌, ℕ, codes, List, [], ◌∷◌, Option, Some, refl, ap, ◌∙◌}
 use Rattle.std.specs.Prelude.{decimal, option_and_then}
-use Rattle.std.specs.Str.{bytes_eq}
 use Rattle.qc_link.specs.declared.rule.Rule.{Rule}
 use Rattle.qc_outside.specs.declared.disk.ArmKind.{ArmKind}
 use Rattle.qc_outside.specs.declared.disk.ArmKind.TheVariants.{Stop, Fail}
@@ -9,9 +8,9 @@ use Rattle.qc_script.proofs.WrittenWords.{actor_read, apart, client_read, end_re
 use Rattle.qc_script.specs.Forms.{actor_of, client_of, end_of, name_of, number_of, ordinal_of, rule_of}
 use Rattle.qc_script.specs.Lines.{command_line, line_of, link_of, pair_of, verb_of}
 use Rattle.qc_script.specs.Options.{◌>>=◌}
-use Rattle.qc_script.specs.Written.{HasFewDigits, IsWritable, IsWritableActor, IsWritableEnd, IsWritableOrdinal, IsWritableVerb, actor_word, arm_word, end_word, ordinal_word, rule_word, verb_words, words_in}
+use Rattle.qc_script.specs.Written.{HasFewDigits, IsWritable, IsWritableActor, IsWritableEnd, IsWritableOrdinal, IsWritableVerb, actor_word, end_word, ordinal_word, rule_word, verb_words, words_in}
 use Rattle.qc_script.specs.declared.actor.ActorName.{ActorName}
-use Rattle.qc_script.specs.declared.actor.ActorName.TheVariants.{Site, Client, Administrator}
+use Rattle.qc_script.specs.declared.actor.ActorName.TheVariants.{Client}
 use Rattle.qc_script.specs.declared.line.Line.{Line}
 use Rattle.qc_script.specs.declared.line.Line.TheVariants as lines
 use Rattle.qc_script.specs.declared.line.Verb.{Verb}

@@ -1,8 +1,7 @@
 -- A text of lines that can be written is read as these lines.
-use Rattle.std.proofs.Common.{◌≡◌, ℕ, ◌+◌, Bool, true, false, cond, List, [], ◌∷◌, ◌++◌, Result, Ok, Err, Some, refl, ap, ◌∙◌}
-use Rattle.std.specs.Prelude.{◌==◌, ok_or}
-use Rattle.std.specs.List.{slice_split}
-use Rattle.qc_list.specs.Results.{◌>>=◌, and_then}
+use Rattle.std.proofs.Common.{◌≡◌, ℕ, ◌+◌, cond, List, [], ◌∷◌, ◌++◌, Result, Ok, Err, Some, refl, ap, ◌∙◌}
+use Rattle.std.specs.Prelude.{ok_or}
+use Rattle.qc_list.specs.Results.{◌>>=◌}
 use Rattle.qc_decl.specs.declared.declaration.Declaration.{Declaration}
 use Rattle.qc_script.proofs.WrittenLines.{line_read}
 use Rattle.qc_script.proofs.WrittenTexts.{no_cr, not_skipped, printed_joined, printed_split, words_back, words_plain}

@@ -1,6 +1,6 @@
 -- The words of each place are read as what they are written for.
-use Rattle.std.proofs.Common.{◌≡◌, ℕ, zero, suc, ◌+◌, ◌<◌, ◌≤◌, ◌^◌, Bool, true, false, cond, codes, List, [], ◌∷◌, Option, Some, None, length, get_or, refl, sym, ap, ◌∙◌, arith, rules}
-use Rattle.std.specs.Prelude.{◌==◌, ◌&&◌, option_map, option_and_then, decimal, nat_lt, nat_le}
+use Rattle.std.proofs.Common.{◌≡◌, ℕ, zero, suc, ◌<◌, ◌≤◌, ◌^◌, Bool, true, false, cond, codes, List, [], ◌∷◌, Option, Some, None, length, get_or, refl, ap, ◌∙◌, arith}
+use Rattle.std.specs.Prelude.{option_map, option_and_then, decimal}
 use Rattle.std.specs.Char.{is_ascii_digit}
 use Rattle.std.specs.List.{list_all}
 use Rattle.std.specs.Str.{bytes_eq}
@@ -13,7 +13,7 @@ use Rattle.qc_decl.specs.Names.{is_between}
 use Rattle.qc_link.specs.declared.rule.Rule.{Rule}
 use Rattle.qc_link.specs.declared.rule.Rule.TheVariants as rule
 use Rattle.qc_script.proofs.Numbers.{digits}
-use Rattle.qc_script.specs.Forms.{actor_of, client_in, client_of, end_of, has_leading_zero, index_of, name_of, number_of, numbered_of, ordinal_of, rule_of}
+use Rattle.qc_script.specs.Forms.{actor_of, client_in, client_of, end_of, has_leading_zero, index_of, name_of, number_of, ordinal_of, rule_of}
 use Rattle.qc_script.specs.Written.{HasFewDigits, IsWritableActor, IsWritableEnd, IsWritableName, IsWritableOrdinal, actor_word, end_word, ordinal_word, rule_word}
 use Rattle.qc_script.specs.declared.actor.ActorName.{ActorName}
 use Rattle.qc_script.specs.declared.actor.ActorName.TheVariants.{Site, Client, Administrator}

@@ -8,7 +8,7 @@
 -- 2. `Name`: an actor, an object or an invocation isn't declared (specs/Items.antt).
 -- 3. `Number`: a number is out of range, or a cut or a heal is of one actor (specs/Ranges.antt).
 -- 4. `Place`: it may not stand behind the lines before it (specs/Places.antt).
-use Rattle.std.specs.Prelude.{ℕ, ◌+◌, Bool, true, false, if◌then◌else◌, List, [], ◌∷◌, Option, Result, Ok, Err, ok_or}
+use Rattle.std.specs.Prelude.{ℕ, ◌+◌, Bool, true, false, if◌then◌else◌, List, [], ◌∷◌, Result, Ok, Err, ok_or}
 use Rattle.qc_decl.specs.declared.declaration.Declaration.{Declaration}
 use Rattle.qc_list.specs.Results.{◌>>=◌}
 use Rattle.qc_script.specs.Items.{item_of}

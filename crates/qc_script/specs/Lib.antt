@@ -7,5 +7,7 @@ pub mod Lines
 pub mod Options
 pub mod Places
 pub mod Ranges
+pub mod Refused
+pub mod Sound
 pub mod Text
 pub mod Written

@@ -1,4 +1,4 @@
-use Rattle.std.proofs.Common.{◌≡◌, ◌+◌, ◌==◌, List, ℕ, Ok, length, sym, ◌∙◌, arith, rules, subst, ap}
+use Rattle.std.proofs.Common.{◌+◌, ◌==◌, List, ℕ, length, sym, ◌∙◌, arith, rules, subst, ap}
 use Rattle.std.proofs.lemmas.List.{length_push}
 use Rattle.std.proofs.lemmas.Result.{err_from_is_err_and}
 use Rattle.std.proofs.lemmas.Iterator.Splits.{YieldsList-from_slice_split}

@@ -1,4 +1,4 @@
-use Rattle.std.proofs.Common.{refl, ap, sym, ◌∙◌, rules}
+use Rattle.std.proofs.Common.{refl, ap, sym, rules}
 use Rattle.qc_script.specs.Places.{with_command}
 use Rattle.qc_script.specs.declared.script.PhaseLines.{PhaseLines}
 use Rattle.qc_script.proofs.Lasts.{script_changed}

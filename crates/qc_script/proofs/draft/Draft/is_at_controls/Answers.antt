@@ -1,7 +1,6 @@
-use Rattle.std.proofs.Common.{◌≡◌, ◌-◌, ◌<◌, ◌==◌, List, length, get_or, ap, sym, ◌∙◌, subst}
+use Rattle.std.proofs.Common.{◌==◌, List, length, ap, sym, ◌∙◌}
 use Rattle.qc_script.specs.Places.{is_at_controls}
 use Rattle.qc_script.specs.declared.script.CommandLine.{CommandLine}
-use Rattle.qc_script.specs.declared.script.PhaseLines.{PhaseLines}
 use Rattle.qc_script.specs.declared.script.Script.{Script}
 use Rattle.qc_script.proofs.Lasts.{at_controls, no_command}
 use Rattle.qc_script.proofs.draft.Draft.is_at_controls.Goals as goal
