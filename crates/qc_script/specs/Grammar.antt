@@ -1,8 +1,8 @@
 -- The script that bytes spell for a declaration, as a grammar of lines; or the first line that is refused.
 --
 -- A script is lines that end with LF; the last may lack it, and one CR before a line's end isn't part of the line. A
--- line without bytes and a line that begins with `#` are skipped. Every other line is words, separated by one space. It is
--- refused as the first of these that applies:
+-- line without bytes and a line that begins with `#` are skipped. Every other line is words, separated by one space.
+-- It is refused as the first of these that applies:
 --
 -- 1. `Words`: its words have none of the forms (specs/Lines.antt, and specs/Forms.antt for each word).
 -- 2. `Name`: an actor, an object or an invocation isn't declared (specs/Items.antt).

@@ -1,4 +1,5 @@
--- How a line is written: its words, joined by one space, with numbers in decimal digits; and a script, each line with an LF.
+-- How a line is written: its words, joined by one space, with numbers in decimal digits; and a script, with an LF
+-- behind each line.
 use Rattle.std.specs.Prelude.{◌≡◌, ℕ, ◌+◌, ◌<◌, ◌≤◌, Bool, true, nat_lt, List, [], ◌∷◌, ◌++◌, codes, decimal, length}
 use Rattle.std.specs.Prelude.{Option, Some, None, Result, Ok}
 use Rattle.std.specs.List.{join_with_byte, list_all, AllByRecursion as Every}
@@ -69,12 +70,13 @@ abbrev pub text_of_lines : List Line → List ℕ
 text_of_lines [] = []
 text_of_lines (line ∷ more) = text_of_line line ++ 10 ∷ text_of_lines more
 
--- Which lines can be written: numbers have at most five digits, and names are one or more bytes, none of them a space or
--- below, so that no space, LF or CR is among them.
+-- Which lines can be written: numbers have at most five digits, and names are one or more bytes, all of them above the
+-- space (32), so that no space, LF or CR is among them.
 
 abbrev pub HasFewDigits : ℕ → Type 0
 HasFewDigits number = number ≤ most_number
 
+-- each byte is above the space
 abbrev pub is_plain : List ℕ → Bool
 is_plain word = list_all (nat_lt 32) word
 
