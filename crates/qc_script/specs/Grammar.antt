@@ -1,14 +1,14 @@
 -- The script that bytes spell for a declaration, as a grammar of lines; or the first line that is refused.
 --
 -- A script is lines that end with LF; the last may lack it, and one CR before a line's end isn't part of the line. A
--- line without bytes and a line that begins with `#` are skipped. Every other line is words, separated by one space. It is
--- refused as the first of these that applies:
+-- line without bytes and a line that begins with `#` are skipped. Every other line is words, separated by one space.
+-- It is refused as the first of these that applies:
 --
 -- 1. `Words`: its words have none of the forms (specs/Lines.antt, and specs/Forms.antt for each word).
 -- 2. `Name`: an actor, an object or an invocation isn't declared (specs/Items.antt).
 -- 3. `Number`: a number is out of range, or a cut or a heal is of one actor (specs/Ranges.antt).
 -- 4. `Place`: it may not stand behind the lines before it (specs/Places.antt).
-use Rattle.std.specs.Prelude.{ℕ, ◌+◌, Bool, true, false, if◌then◌else◌, List, [], ◌∷◌, Option, Result, Ok, Err, ok_or}
+use Rattle.std.specs.Prelude.{ℕ, ◌+◌, Bool, true, false, if◌then◌else◌, List, [], ◌∷◌, Result, Ok, Err, ok_or}
 use Rattle.qc_decl.specs.declared.declaration.Declaration.{Declaration}
 use Rattle.qc_list.specs.Results.{◌>>=◌}
 use Rattle.qc_script.specs.Items.{item_of}
@@ -17,6 +17,7 @@ use Rattle.qc_script.specs.Places.{has_place, with_item}
 use Rattle.qc_script.specs.Ranges.{is_in_range}
 use Rattle.qc_script.specs.Text.{is_skipped, lines_of, without_cr, words_of}
 use Rattle.qc_script.specs.declared.item.Item.{Item}
+use Rattle.qc_script.specs.declared.line.Line.{Line}
 use Rattle.qc_script.specs.declared.script.LineKind.{LineKind}
 use Rattle.qc_script.specs.declared.script.LineKind.TheVariants.{Words, Name, Number, Place}
 use Rattle.qc_script.specs.declared.script.Script.{Script}
@@ -26,18 +27,27 @@ abbrev pub tested : {A : Type 0} → Bool → LineKind → A → Result A LineKi
 tested true kind value = Ok value
 tested false kind value = Err kind
 
--- what words ask for, wherever they stand
-abbrev pub read_words : Declaration → List (List ℕ) → Result Item LineKind
-read_words decl words = do
-  line ← ok_or (line_of words) Words
+-- what a line asks for, wherever it stands
+abbrev pub item_in : Declaration → Line → Result Item LineKind
+item_in decl line = do
   item ← ok_or (item_of decl line) Name
   tested (is_in_range decl item) Number item
 
--- the script so far with one more line, which isn't skipped
+-- the same by its words
+abbrev pub read_words : Declaration → List (List ℕ) → Result Item LineKind
+read_words decl words = do
+  line ← ok_or (line_of words) Words
+  item_in decl line
+
+-- the script so far with what a line asks for
+abbrev pub placed : Script → Item → Result Script LineKind
+placed script item = tested (has_place script item) Place (with_item script item)
+
+-- the script so far with a line that isn't skipped, by its words
 abbrev pub with_words : Declaration → Script → List (List ℕ) → Result Script LineKind
 with_words decl script words = do
   item ← read_words decl words
-  tested (has_place script item) Place (with_item script item)
+  placed script item
 
 -- the script so far with one more line
 abbrev pub with_line : Declaration → Script → List ℕ → Result Script LineKind

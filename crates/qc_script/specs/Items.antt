@@ -1,5 +1,5 @@
 -- What a line asks for, once each name in it is declared: numbers stand for the actors, the object and the invocation.
-use Rattle.std.specs.Prelude.{ℕ, if◌then◌else◌, nat_lt, List, Option, Some, None, option_map}
+use Rattle.std.specs.Prelude.{ℕ, if◌then◌else◌, nat_lt, Option, Some, None, option_map}
 use Rattle.qc_decl.specs.Actors.{administrator, client_actor}
 use Rattle.qc_decl.specs.Named.{inv_named, object_named}
 use Rattle.qc_decl.specs.declared.declaration.Declaration.{Declaration}

@@ -1,9 +1,9 @@
 //! What a line's words say.
 
 ghost use Rattle.std.specs.Prelude.{◌≡◌};
-ghost use Rattle.qc_script.specs.Lines.{line_of, phase_line, link_line, link_of, pair_of, cut_line, heal_line, single_of};
-ghost use Rattle.qc_script.specs.Lines.{crash_line, restart_line, armed_line, epoch_line, alone_of, do_of, verb_of};
-ghost use Rattle.qc_script.specs.Lines.{command_line};
+ghost use Rattle.qc_script.specs.Lines.{line_of, phase_line, link_line, link_of, pair_of, cut_line, heal_line};
+ghost use Rattle.qc_script.specs.Lines.{single_of, crash_line, restart_line, armed_line, epoch_line};
+ghost use Rattle.qc_script.specs.Lines.{alone_of, do_of, verb_of, command_line};
 
 use crate::actor::{self, ActorName};
 use crate::form;
@@ -40,9 +40,14 @@ pub enum Line<'a> {
         at: u32,
     },
     /// A client is asked something.
-    Command { client: u32, verb: Verb<'a> },
+    Command {
+        client: u32,
+        verb: Verb<'a>,
+    },
     /// The administrator is asked to move to an epoch.
-    Epoch { number: u32 },
+    Epoch {
+        number: u32,
+    },
 }
 
 /// What a client is asked.

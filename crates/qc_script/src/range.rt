@@ -1,14 +1,15 @@
 //! Numbers of lines: which are in range.
 
-ghost use Rattle.std.specs.Prelude.{◌≡◌};
-ghost use Rattle.qc_script.specs.Ranges.{is_counted, is_ordinal, is_control_in_range, is_in_range};
+ghost use Rattle.std.specs.Prelude.{◌≡◌, ◌<◌, length, IsTrue};
+ghost use Rattle.qc_script.specs.Ranges.{is_counted, is_ordinal, is_control_in_range, is_in_range, FitsByte};
 
 use crate::item::Item;
 use qc_decl::Declaration;
 use qc_msg::Control;
 
-/// The greatest ordinal of a message, and the greatest number of a disk call.
-pub const MOST_COUNTED: u32 = 99_999;
+/// The greatest ordinal of a message, and the greatest number of a disk call:
+/// the greatest number of five digits.
+pub const MOST_NUMBER: u32 = 99_999;
 
 /// The first epoch that the administrator may be asked to move to.
 const FIRST_MOVE: u32 = 2;
@@ -16,7 +17,9 @@ const FIRST_MOVE: u32 = 2;
 impl Item {
     /// Whether the numbers are in range.
     pub(crate) fn is_in_range(&self, decl: &Declaration) -> bool
-        ensures { result ≡ is_in_range decl.now self.now }
+        requires { length decl.now.plans < 256 }
+        ensures range { result ≡ is_in_range decl.now self.now }
+        ensures fits { IsTrue result → FitsByte self.now }
     {
         match self {
             Item::Phase | Item::Command(_) => true,
@@ -33,7 +36,7 @@ impl Item {
 fn is_counted(number: u32) -> bool
     ensures { result ≡ is_counted number }
 {
-    1 <= number && number <= MOST_COUNTED
+    1 <= number && number <= MOST_NUMBER
 }
 
 /// Whether an ordinal is in range; none stands for all.

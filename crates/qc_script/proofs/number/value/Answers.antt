@@ -1,4 +1,4 @@
-use Rattle.std.proofs.Common.{◌≡◌, ◌<◌, ◌*◌, ◌+◌, ◌-◌, get_or, refl, arith, rules}
+use Rattle.std.proofs.Common.{refl, arith, rules}
 use Rattle.qc_script.proofs.Numbers.{IsReadTo, digit_more}
 use Rattle.qc_script.proofs.number.value.Goals as goal
 
