@@ -54,10 +54,13 @@ site_at decl s from number (messages.Ask tx) = moved s quiet
 site_at decl s from number (messages.Close epoch) = moved s quiet
 site_at decl s from number (messages.Install epoch clock log) = moved s quiet
 
+-- the site once its clock has passed
+abbrev pub passed : SiteState → Message → SiteState
+passed s message = record s { clock = clock_after s.clock message }
+
 -- what the site becomes and does as the message of this sender and number comes
 abbrev pub site_on : Declaration → SiteState → ℕ → ℕ → Message → SiteMove
-site_on decl s from number message =
-    site_at decl (record s { clock = clock_after s.clock message }) from number message
+site_on decl s from number message = site_at decl (passed s message) from number message
 
 -- what it takes; it isn't commanded, and it waits for no answer
 abbrev pub site_takes : Declaration → SiteState → Given → SiteMove

@@ -1,7 +1,7 @@
 //! What a site grants: a lock with what it covers, or own lines, unless another
 //! transaction holds what conflicts (Herlihy 1986).
 
-ghost use Rattle.std.specs.Prelude.{◌≡◌, ◌≤◌, ◌<◌, ◌+◌, IfOk, OnErr, IsSome, true, None, Some};
+ghost use Rattle.std.specs.Prelude.{◌≡◌, ◌≤◌, ◌<◌, ◌+◌, IfOk, OnErr, IsSome, true, None, Some, unwrap_or};
 ghost use Rattle.qc_decl.specs.Limits.{most_clients, most_sites};
 ghost use Rattle.qc_decl.specs.Lookup.{kind_at};
 ghost use Rattle.qc_entry.specs.Log.{union};
@@ -100,7 +100,9 @@ impl Site {
         let log = merged(&self.log, view)?;
         match self.held.try_append(kind, tx, own.items()) {
             Ok(()) => {
-                self.log = log;
+                if let Some(log) = log {
+                    self.log = log;
+                }
                 Ok(turn)
             }
             Err(LockFault::Conflict(clash)) => clashing(alloc, decl, asker, clash),
@@ -141,11 +143,15 @@ fn clashing(
     Ok(Turn::sending(alloc, sends))
 }
 
-/// The lines of both logs, in memory of their own.
-fn merged(log: &Log, view: &Log) -> Result<Log, OutOfMemory>
-    ensures { IfOk result (λ l. l ≡ union log.now view.now) }
+/// A log with a view's lines, in memory of its own, or `None` where the view
+/// has no line.
+fn merged(log: &Log, view: &Log) -> Result<Option<Log>, OutOfMemory>
+    ensures { IfOk result (λ all. unwrap_or all log.now ≡ union log.now view.now) }
 {
+    if view.lines().is_empty() {
+        return Ok(None);
+    }
     let mut all = log.copy()?;
     all.merge(view)?;
-    Ok(all)
+    Ok(Some(all))
 }

@@ -10,6 +10,10 @@ pub invariant_of-self : goal.invariant_of-self
 invariant_of-self c =
     subst AreOfClients (sym c.in-Ok.ensures.ok) (clients-held c.self.inside.held c.args.tx [] c.items.result.now c.self.invariant c.requires.client)
 
+pub invariant_of-self-in-Ok : goal.invariant_of-self-in-Ok
+invariant_of-self-in-Ok c =
+    subst AreOfClients (sym c.in-Ok.ensures.ok) (clients-held c.self.inside.held c.args.tx [] c.items.result.now c.self.invariant c.requires.client)
+
 pub clashing-requires-clause-client : goal.clashing-requires-clause-client
 clashing-requires-clause-client c =
     let told : append_clash c.unwrap-kind.result.now.relation c.self.inside.held c.args.tx c.items.result.now ≡ Some c.in-Err-Conflict.clash = rw c.in-Err-Conflict.field-0-is at c.in-Err-Conflict.ensures.told in
