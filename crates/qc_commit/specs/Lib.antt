@@ -1,3 +1,5 @@
 pub mod Desk
 pub mod Votes
 pub mod Conduct
+pub mod Learning
+pub mod Fits

@@ -3,7 +3,9 @@
 #![tactic(auto)]
 
 mod ballot;
+mod conduct;
 mod desk;
+mod participants;
 
 pub use ballot::{Ballot, Ballots, Vote};
 pub use desk::{Commits, Desk, Known, Voting};
