@@ -157,8 +157,8 @@ impl Round {
             && (asked_weight(self.weights.items(), asked) < self.need || all_noted(asked))
     }
 
-    /// The asked sites, in the order of asking.
-    fn asked_sites(&self) -> &[Asked]
+    /// The asked sites, in the order of asking, with what was noted of each.
+    pub fn asked_sites(&self) -> &[Asked]
         ensures { result.now ≡ self.now.asked }
     {
         &self.sites.as_slice()[..self.asked]
