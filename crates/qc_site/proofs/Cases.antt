@@ -1,16 +1,15 @@
 -- What a site may become and do: one case for each row.
-use Rattle.std.proofs.Common.{◌≡◌, ℕ, ◌==◌, ◌&&◌, nat_lt, nat_le, not, Bool, true, false, cond, List, [], ◌∷◌, Option, Some, None, is_some, refl, sym, subst}
+use Rattle.std.proofs.Common.{◌≡◌, ℕ, ◌==◌, nat_lt, nat_le, not, Bool, true, false, cond, List, Option, Some, None, refl, sym, subst}
 use Rattle.qc_stamp.specs.declared.stamp.Stamp.{Stamp}
 use Rattle.qc_stamp.specs.declared.stamp.TxId.{TxId}
 use Rattle.qc_entry.specs.declared.line.Line.{Line}
 use Rattle.qc_entry.specs.declared.line.OwnLine.{OwnLine}
 use Rattle.qc_entry.specs.declared.record.Prepared.{Prepared}
-use Rattle.qc_entry.specs.Log.{union}
 use Rattle.qc_decl.specs.declared.declaration.Declaration.{Declaration}
 use Rattle.qc_decl.specs.Limits.{most_record_bytes}
 use Rattle.qc_lock.specs.declared.clash.Clash.{Clash as Conflict}
 use Rattle.qc_lock.specs.Clash.{append_clash, read_clash}
-use Rattle.qc_lock.specs.Held.{is_held, with_held}
+use Rattle.qc_lock.specs.Held.{is_held}
 use Rattle.qc_msg.specs.declared.message.Answer.{Answer}
 use Rattle.qc_msg.specs.declared.message.Answer.TheVariants as says
 use Rattle.qc_msg.specs.declared.message.Message.{Message}
@@ -21,10 +20,15 @@ use Rattle.qc_msg.specs.declared.message.Want.{Want}
 use Rattle.qc_msg.specs.declared.message.Want.TheVariants.{Read, Append, Prepare}
 use Rattle.qc_msg.specs.Turns.{quiet}
 use Rattle.qc_site.specs.Site.{SiteState, SiteMove, moved, answers}
-use Rattle.qc_site.specs.Promise.{dropped, finishes, is_prepared, joins, lines_of, prepare_length, prepared_of, prepares, promise_of, promised, promises, records_done, votes}
-use Rattle.qc_site.specs.Requests.{appends, appends_by, clashing, closed_fault, fault_of, grants, life_fault, names_declared, reads, reads_by, relation_at, requested}
+use Rattle.qc_site.specs.Promise.{dropped, finishes, is_prepared, joins, prepare_length, prepared_of, prepares, promise_of, promised, votes}
+use Rattle.qc_site.specs.Requests.{appends, appends_by, clashing, closed_fault, fault_of, grants, names_declared, reads, reads_by, relation_at, requested}
 use Rattle.qc_site.specs.Conduct.{site_at}
 use Rattle.qc_site.specs.Ended.{is_final}
+use Rattle.qc_site.specs.Told.{is_grant}
+
+-- what a test that came out otherwise would show
+pub never : {A : Type 0} → false ≡ true → A
+never is = absurd (let none : ⊥ = cc in none)
 
 -- a choice by a test
 pub choose : {A : Type 0} (P : A → Type 0) (t : Bool) (m n : A) → (t ≡ true → P m) → (t ≡ false → P n) → P (cond t m n)
@@ -53,6 +57,10 @@ fault_is P s epoch life behind closed restarted =
     (λ fault is. let same : says.Behind s.epoch ≡ fault = cc in subst P same behind)
     (λ other fault is. let same : says.Closed other ≡ fault = cc in subst P same (closed other))
     (λ fault is. let same : says.Restarted s.life ≡ fault = cc in subst P same restarted)
+
+-- none of these grants
+pub fault_grants_not : (G : Type 0) (s : SiteState) (epoch life : ℕ) (fault : Answer) → fault_of s epoch life ≡ Some fault → is_grant fault ≡ true → G
+fault_grants_not G s epoch life = fault_is (λ (a : Answer). is_grant a ≡ true → G) s epoch life never (λ other. never) never
 
 -- a request: what it names isn't declared, it is refused by its epoch or life, or it is looked at
 pub request_cases : (P : SiteMove → Type 0) (decl : Declaration) (s : SiteState) (from number : ℕ) (tx : TxId) (epoch life : ℕ) (want : Want)

@@ -1,18 +1,14 @@
 -- What a site's log gains: an Append's view, or what was promised of a committed transaction.
-use Rattle.std.proofs.Common.{◌≡◌, ℕ, Bool, true, false, cond, List, [], ◌∷◌, Option, Some, None, refl, sym, ap, ◌∙◌, subst}
-use Rattle.qc_stamp.specs.declared.stamp.Stamp.{Stamp}
+use Rattle.std.proofs.Common.{◌≡◌, ℕ, cond, List, [], Option, Some, refl, sym, ap, ◌∙◌}
 use Rattle.qc_stamp.specs.declared.stamp.TxId.{TxId}
 use Rattle.qc_entry.specs.declared.line.Line.{Line}
-use Rattle.qc_entry.specs.declared.line.OwnLine.{OwnLine}
 use Rattle.qc_entry.specs.declared.record.Prepared.{Prepared}
 use Rattle.qc_entry.specs.Log.{union}
 use Rattle.qc_entry.proofs.Union.{union-nil}
 use Rattle.qc_decl.specs.declared.declaration.Declaration.{Declaration}
 use Rattle.qc_msg.specs.declared.message.Answer.{Answer}
-use Rattle.qc_msg.specs.declared.message.Answer.TheVariants as says
 use Rattle.qc_msg.specs.declared.message.Message.{Message}
 use Rattle.qc_msg.specs.declared.message.Message.TheVariants as messages
-use Rattle.qc_msg.specs.declared.message.Outcome.{Outcome}
 use Rattle.qc_msg.specs.declared.message.Outcome.TheVariants.{Committed, Aborted, Active}
 use Rattle.qc_msg.specs.declared.message.Want.{Want}
 use Rattle.qc_msg.specs.declared.message.Want.TheVariants.{Read, Append, Prepare}
@@ -20,7 +16,7 @@ use Rattle.qc_site.specs.Brought.{brought, lines_promised, view_in}
 use Rattle.qc_site.specs.Conduct.{passed, site_at, site_on}
 use Rattle.qc_site.specs.Requests.{fault_of, grants}
 use Rattle.qc_site.specs.Site.{SiteMove, SiteState, answers, moved}
-use Rattle.qc_site.specs.Told.{grants_in, is_grant}
+use Rattle.qc_site.specs.Told.{grants_in}
 use Rattle.qc_site.proofs.Cases.{append_cases, fault_is, join_cases, prepare_cases, read_cases, request_cases}
 
 nothing : (xs : List Line) → xs ≡ union xs []

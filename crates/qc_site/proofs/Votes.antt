@@ -1,23 +1,17 @@
 -- A Yes has its record, and a promise stands until a decision.
-use Rattle.std.proofs.Common.{◌≡◌, ◌&&◌, ℕ, Bool, true, false, cond, not, List, [], ◌∷◌, ◌++◌, filter, Option, Some, None, is_some, refl, sym, ap, ◌∙◌, subst}
-use Rattle.std.specs.List.{find}
+use Rattle.std.proofs.Common.{◌≡◌, ◌&&◌, ℕ, Bool, true, false, cond, not, List, [], ◌∷◌, ◌++◌, Option, Some, None, is_some, refl, sym, ap, ◌∙◌, subst}
 use Rattle.std.specs.Option.{option_or}
 use Rattle.std.proofs.lemmas.List.Folds.{find-append}
-use Rattle.qc_stamp.specs.declared.stamp.Stamp.{Stamp}
 use Rattle.qc_stamp.specs.declared.stamp.TxId.{TxId}
 use Rattle.qc_stamp.specs.Order.{same_tx}
-use Rattle.qc_entry.specs.declared.line.Line.{Line}
-use Rattle.qc_entry.specs.declared.line.OwnLine.{OwnLine}
 use Rattle.qc_entry.specs.declared.record.Prepared.{Prepared}
 use Rattle.qc_decl.specs.declared.declaration.Declaration.{Declaration}
-use Rattle.qc_lock.specs.Held.{is_held}
 use Rattle.qc_lock.proofs.Entries.{find-none, same_self, tx_apart}
 use Rattle.qc_msg.specs.declared.message.Answer.{Answer}
-use Rattle.qc_msg.specs.declared.message.Answer.TheVariants as says
 use Rattle.qc_msg.specs.declared.message.Message.{Message}
 use Rattle.qc_msg.specs.declared.message.Message.TheVariants as messages
 use Rattle.qc_msg.specs.declared.message.Outcome.{Outcome}
-use Rattle.qc_msg.specs.declared.message.Outcome.TheVariants.{Committed, Aborted, Active}
+use Rattle.qc_msg.specs.declared.message.Outcome.TheVariants.{Committed}
 use Rattle.qc_msg.specs.declared.message.Want.{Want}
 use Rattle.qc_msg.specs.declared.message.Want.TheVariants.{Read, Append, Prepare}
 use Rattle.qc_site.specs.Conduct.{passed, site_at, site_on}
@@ -27,10 +21,7 @@ use Rattle.qc_site.specs.Requests.{fault_of, grants}
 use Rattle.qc_site.specs.Site.{SiteMove, SiteState, answers, moved}
 use Rattle.qc_site.specs.Told.{is_vote, votes_in}
 use Rattle.qc_site.specs.Vote.{IsBacked}
-use Rattle.qc_site.proofs.Cases.{append_cases, fault_is, prepare_cases, read_cases, request_cases, state_cases}
-
-never : {A : Type 0} → false ≡ true → A
-never is = absurd (let none : ⊥ = cc in none)
+use Rattle.qc_site.proofs.Cases.{append_cases, fault_is, never, prepare_cases, read_cases, request_cases, state_cases}
 
 -- promises, one more
 
@@ -88,14 +79,14 @@ prepare_backs s from number tx =
       fault = stood (is_prepared s.prepared tx) stands;
     })
     (λ held apart voted.
-      let last : prepared_of (s.prepared ++ promise_of s tx ∷ []) tx ≡ Some (promise_of s tx) = prepared_last s.prepared (promise_of s tx) tx refl apart in
-      record {
-        held = held;
-        promised = ap (λ (o : Option Prepared). is_some o) last;
-        kept = λ none. last;
-        written = λ none. refl;
-        fault = λ none. refl;
-      })
+    let last : prepared_of (s.prepared ++ promise_of s tx ∷ []) tx ≡ Some (promise_of s tx) = prepared_last s.prepared (promise_of s tx) tx refl apart in
+    record {
+      held = held;
+      promised = ap (λ (o : Option Prepared). is_some o) last;
+      kept = λ none. last;
+      written = λ none. refl;
+      fault = λ none. refl;
+    })
 
 want_backs : (decl : Declaration) (s : SiteState) (from number : ℕ) (tx : TxId) (want : Want) → Backs s from number tx (grants decl s from number tx want)
 want_backs decl s from number tx (Read object inv) = read_cases (Backs s from number tx) decl s from number tx object inv (λ free. never) (λ c clash. never)
@@ -114,7 +105,7 @@ vote_is_backed decl s from number tx epoch life want = backs_at decl (passed s (
 
 -- a promise stands
 
-not_ended : (final same : Bool) → (final && same) ≡ false → final ≡ true → same ≡ false
+pub not_ended : (final same : Bool) → (final && same) ≡ false → final ≡ true → same ≡ false
 not_ended true same is final = is
 not_ended false same is final = never final
 

@@ -21,9 +21,16 @@ mod asker;
 mod clock;
 mod decision;
 mod grants;
+mod laws;
 mod promise;
 mod readers;
 mod requests;
 mod site;
 
+pub use laws::{
+    clashes_are_the_smallest, clocks_never_fall, clocks_pass_what_comes, decisions_free,
+    grants_are_held, grants_conflict_with_nothing, lives_and_epochs_stay,
+    logs_gain_what_is_brought, other_inputs_do_nothing, promises_stand, refusals_change_nothing,
+    requests_are_answered_by_rows, sites_stay_sorted, votes_are_backed, what_is_held_stays,
+};
 pub use site::Site;

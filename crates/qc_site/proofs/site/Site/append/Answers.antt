@@ -1,4 +1,4 @@
-use Rattle.std.proofs.Common.{rules, ◌≡◌, ◌<◌, subst, sym, [], Some}
+use Rattle.std.proofs.Common.{◌≡◌, ◌<◌, subst, sym, [], Some}
 use Rattle.qc_decl.specs.Limits.{most_clients}
 use Rattle.qc_lock.specs.declared.clash.Clash.{Clash}
 use Rattle.qc_lock.specs.Clash.{append_clash}

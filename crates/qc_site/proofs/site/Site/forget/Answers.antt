@@ -1,4 +1,4 @@
-use Rattle.std.proofs.Common.{rules, ◌≡◌, not, subst, sym, ap, ◌∙◌}
+use Rattle.std.proofs.Common.{rules, ◌≡◌, not, subst, sym, ap}
 use Rattle.std.proofs.lemmas.Fn.{filter_same}
 use Rattle.qc_stamp.specs.Order.{same_tx}
 use Rattle.qc_site.specs.Holders.{AreOfClients}

@@ -1,11 +1,9 @@
 -- What a site answers: grants that conflict with nothing, refusals that change nothing, clashes that are smallest.
-use Rattle.std.proofs.Common.{◌≡◌, ℕ, Bool, true, false, List, [], ◌∷◌, Option, Some, None, refl, sym, ap, ◌∙◌, subst}
-use Rattle.qc_stamp.specs.declared.stamp.Stamp.{Stamp}
+use Rattle.std.proofs.Common.{◌≡◌, ℕ, true, false, List, Option, Some, None, refl, ap, ◌∙◌, subst}
 use Rattle.qc_stamp.specs.declared.stamp.TxId.{TxId}
 use Rattle.qc_entry.specs.declared.line.Line.{Line}
 use Rattle.qc_entry.specs.declared.line.OwnLine.{OwnLine}
 use Rattle.qc_entry.specs.declared.line.ReadLock.{ReadLock}
-use Rattle.qc_entry.specs.declared.record.Prepared.{Prepared}
 use Rattle.qc_decl.specs.declared.declaration.Declaration.{Declaration}
 use Rattle.qc_table.specs.Depends.{depends}
 use Rattle.qc_lock.specs.declared.clash.Clash.{Clash as Conflict}
@@ -18,23 +16,15 @@ use Rattle.qc_msg.specs.declared.message.Answer.{Answer}
 use Rattle.qc_msg.specs.declared.message.Answer.TheVariants as says
 use Rattle.qc_msg.specs.declared.message.Message.{Message}
 use Rattle.qc_msg.specs.declared.message.Message.TheVariants as messages
-use Rattle.qc_msg.specs.declared.message.Outcome.{Outcome}
 use Rattle.qc_msg.specs.declared.message.Outcome.TheVariants.{Committed, Aborted, Active}
 use Rattle.qc_msg.specs.declared.message.Want.{Want}
 use Rattle.qc_msg.specs.declared.message.Want.TheVariants.{Read, Append, Prepare}
 use Rattle.qc_msg.specs.declared.turn.Turn.{Turn}
 use Rattle.qc_site.specs.Conduct.{passed, site_at, site_on}
-use Rattle.qc_site.specs.Promise.{joins}
 use Rattle.qc_site.specs.Requests.{clashing, fault_of, grants, relation_at}
 use Rattle.qc_site.specs.Site.{SiteMove, SiteState, answers}
-use Rattle.qc_site.specs.Told.{answer_of, grants_in, is_grant, is_refusal, refuses_in}
-use Rattle.qc_site.proofs.Cases.{append_cases, fault_is, join_cases, prepare_cases, read_cases, request_cases}
-
-never : {A : Type 0} → false ≡ true → A
-never is = absurd (let none : ⊥ = cc in none)
-
-fault_grants_not : (G : Type 0) (s : SiteState) (epoch life : ℕ) (fault : Answer) → fault_of s epoch life ≡ Some fault → is_grant fault ≡ true → G
-fault_grants_not G s epoch life = fault_is (λ (a : Answer). is_grant a ≡ true → G) s epoch life never (λ other. never) never
+use Rattle.qc_site.specs.Told.{answer_of, grants_in, refuses_in}
+use Rattle.qc_site.proofs.Cases.{append_cases, fault_grants_not, fault_is, never, join_cases, prepare_cases, read_cases, request_cases}
 
 -- what is granted conflicts with nothing
 
@@ -117,9 +107,10 @@ told_by decl from number IsConflict clash c d smallest is told =
     let holder : c.holder ≡ d.holder = cc in
     let inv : c.inv ≡ d.inv = cc in
     let event : c.event ≡ d.event = cc in
-    let same : c ≡ d = λ i. record { holder = holder i; inv = inv i; event = event i } in
-    (subst (λ (o : Option Conflict). IsSmallest IsConflict o) (is ∙ ap (λ (e : Conflict). Some e) same) smallest,
-      ap (λ (e : Conflict). clashing decl from number e) same)
+    let same : c ≡ d = λ i. record { holder = holder i; inv = inv i; event = event i } in (
+      subst (λ (o : Option Conflict). IsSmallest IsConflict o) (is ∙ ap (λ (e : Conflict). Some e) same) smallest,
+      ap (λ (e : Conflict). clashing decl from number e) same,
+    )
 
 abbrev ToldRead : Declaration → SiteState → ℕ → ℕ → TxId → ℕ → ℕ → Conflict → Turn → Type 0
 ToldRead decl s from number tx object inv d turn =
