@@ -19,7 +19,7 @@ import sys
 
 sys.dont_write_bytecode = True
 from choosing import chosen
-from modules import broken, imported, words_of
+from modules import COLUMNS, broken, imported, words_of
 from spelling import command, kind, listed, optional, term
 
 HERE = os.path.dirname(os.path.abspath(__file__))
@@ -115,8 +115,10 @@ def laws(file, function, doc, module_name, scripts, names):
           "use Rattle.tests_runs.proofs.%s.%s.Goals as goal\n\n"
           "pub returns : goal.returns\nreturns c = record {\n%s}\n" % (lemma_file, file, function, fields))
     law = "/// %s\npub fn %s()\n" % (doc, function)
-    law += "".join("    ensures %s { %s }\n" % (low(n), statement(n, scripts)) for n in names) + "{}\n"
-    return lemma_file, law
+    for n in names:
+        clause = "    ensures %s { %s }\n" % (low(n), statement(n, scripts))
+        law += clause if len(clause) <= COLUMNS else clause.replace(" ≡ ", "\n        ≡ ")
+    return lemma_file, law + "{}\n"
 
 
 def scripts_in(model):

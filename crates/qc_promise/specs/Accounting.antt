@@ -157,7 +157,8 @@ found_absent d (Some commands.Commit) = d
 found_absent d (Some commands.Abort) = d
 found_absent d (Some (commands.Epoch number)) = d
 
--- a `do` that is refused while appending dooms its transaction: one that asked for an Append, or whose append half is told
+-- a `do` that is refused while appending dooms its transaction: one that asked for an Append, or whose append half is
+-- told
 
 abbrev pub doomed_if : Bool → Current → Current
 doomed_if appending t = record t { doomed = t.doomed || appending }

@@ -44,7 +44,8 @@ is_met (verdicts.Clash tx site) = false
 is_met (verdicts.Short got need) = false
 
 abbrev pub are_reads_met : Declaration → Account → Current → ℕ → ℕ → Bool
-are_reads_met decl d t object inv = is_met (verdict (round_of decl d t is_read (read_need_of decl t.epoch object inv)))
+are_reads_met decl d t object inv =
+    is_met (verdict (round_of decl d t is_read (read_need_of decl t.epoch object inv)))
 
 -- an Append carries the object's view, and the own lines there whose events need weight to append, this operation's last
 

@@ -1,5 +1,5 @@
--- Each reply that a client tells is due, and so is each commit record that it writes: what has happened at the client, and
--- what stands behind it in the same post, show it.
+-- Each reply that a client tells is due, and so is each commit record that it writes: what has happened at the client,
+-- and what stands behind it in the same post, show it.
 use Rattle.std.specs.Prelude.{◌≡◌, ℕ, ◌==◌, ◌&&◌, if◌then◌else◌, Bool, true, false, List, [], ◌∷◌, ◌++◌, Some, None}
 use Rattle.qc_decl.specs.declared.declaration.Declaration.{Declaration}
 use Rattle.qc_msg.specs.declared.record.Record.{Record}

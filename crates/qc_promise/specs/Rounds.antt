@@ -1,4 +1,5 @@
--- How far a command has come: a half of a `do` is a round over the sites that it asked, and a commit a vote of participants.
+-- How far a command has come: a half of a `do` is a round over the sites that it asked, a commit a vote of
+-- participants.
 use Rattle.std.specs.Prelude.{ℕ, ◌+◌, ◌==◌, ◌&&◌, Bool, List, [], ◌∷◌, ◌++◌, drop, filter, length, map}
 use Rattle.std.specs.Prelude.{is_some, slice_get, unwrap_or, Option, Some, None, option_map, option_and_then}
 use Rattle.std.specs.List.{list_all}
@@ -90,7 +91,8 @@ are_votes_in decl d t =
     (length (participants decl d t) == length (requests_for is_prepare d))
     && list_all (λ (q : Request). is_some q.taken) (requests_for is_prepare d)
 
--- what came of a request for a promise, where it is a vote against; what no site answers to it is as if it had forgotten
+-- what came of a request for a promise, where it is a vote against; what no site answers to one is as if it had
+-- forgotten
 
 abbrev pub against : Request → Option (Option Answer) → Option Why
 against q None = None

@@ -1,5 +1,5 @@
--- The reply that is due to a command: that of the first row that applies, in the order of the table of replies. A row that
--- speaks of requests waits until each is answered or lost.
+-- The reply that is due to a command: that of the first row that applies, in the order of the table of replies. A row
+-- that speaks of requests waits until each is answered or lost.
 use Rattle.std.specs.Prelude.{ℕ, ◌+◌, nat_le, if◌then◌else◌, Bool, true, false, List, length, Option, Some, None}
 use Rattle.std.specs.Prelude.{option_and_then, option_map}
 use Rattle.std.specs.List.{list_any}
