@@ -8,7 +8,7 @@ stands. This one writes crates/tests_due: laws that each reply of each history
 of crates/tests_histories is due; histories for the rows of the table of replies
 that those don't have (`later.py`, and one of too many operations); and wrong
 histories (`wrong.py`), each with a law that refuses it. It writes specs/,
-proofs/ and src/ there but proofs/Places.antt, proofs/Shown.antt and src/lib.rt; `rt fmt` then
+proofs/ and src/ there but proofs/Places.antt, proofs/Owed.antt and src/lib.rt; `rt fmt` then
 finds nothing to lay out.
 """
 
@@ -91,7 +91,7 @@ def statement(name, source):
 def uses(names, files, ghost=""):
     """The lines that bring histories: those that are a module each, with their names, and modules of several."""
     paths = ["Rattle.qc_decl.specs.One.{three}"] if files or any(s in WORKED for _, s in names) else []
-    paths += ["Rattle.qc_promise.specs.Due.{AreRepliesDue}"]
+    paths += ["Rattle.qc_promise.specs.Replies.{AreRepliesDue}"]
     paths += ["Rattle.tests_histories.specs.%s as %s" % (s, n) for n, s in names]
     paths += ["Rattle.tests_due.specs.%s as %s" % (f, low(f)) for f in files]
     return "".join("%suse %s%s\n" % (ghost, path, ";" if ghost else "") for path in paths)
@@ -115,7 +115,7 @@ def right(lemmas, doc, name, histories):
     several = sorted({s for _, s in histories if s not in WORKED and not s.startswith("Random")})
     single = [(n, s) for n, s in histories if s not in several]
     text = "-- %s\nuse Rattle.std.proofs.Common.{[], refl}\n%s" % (doc, uses(single, several))
-    text += "use Rattle.tests_due.proofs.Shown.{due_where_shown}\n"
+    text += "use Rattle.tests_due.proofs.Owed.{due_where_shown}\n"
     for n, source in histories:
         said = statement(n, source)
         text += "\npub %s_due : %s\n%s_due = due_where_shown%s refl\n" % (n, said, n, said[len("AreRepliesDue"):])
@@ -234,7 +234,7 @@ def main(words):
     right_specs, right_lemmas = make_right(run, parts)
     wrong_specs = make_wrong(run, parts)
     write("specs/Lib.antt", "".join("pub mod %s\n" % m for m in right_specs + wrong_specs))
-    write("proofs/Lib.antt", "".join("pub mod %s\n" % m for m in ["Places", "Shown"] + right_lemmas + wrong_specs))
+    write("proofs/Lib.antt", "".join("pub mod %s\n" % m for m in ["Owed", "Places"] + right_lemmas + wrong_specs))
 
 
 if __name__ == "__main__":

@@ -14,7 +14,7 @@ use Rattle.qc_msg.specs.declared.step.Command.{Command}
 use Rattle.qc_msg.specs.Begun.{first_epoch}
 
 -- a request of the running command
-pub record Request : Type 0 where
+pub record ClientRequest : Type 0 where
   pub number : ℕ
   pub site : ℕ
   -- the site's life that it names
@@ -24,7 +24,7 @@ pub record Request : Type 0 where
   pub taken : Option (Option Answer)
 
 -- the log of a grant that counted, to a Read of this object
-pub record Shown : Type 0 where
+pub record ReadGrant : Type 0 where
   pub object : ℕ
   pub log : List Line
 
@@ -36,7 +36,7 @@ pub record Current : Type 0 where
   pub ops : List Op
   pub own : List OwnLine
   -- what its Reads were granted, and the lives of the sites in their first grants, of those grants that counted
-  pub shown : List Shown
+  pub read_grants : List ReadGrant
   pub lives : List LifeAt
   -- whether a `do` was refused while appending
   pub doomed : Bool
@@ -46,7 +46,7 @@ pub record Account : Type 0 where
   -- the command that was called and has no reply yet; since it was called, its requests in asked order, and the commit
   -- record that was written
   pub command : Option Command
-  pub requests : List Request
+  pub requests : List ClientRequest
   pub written : Option Commit
   -- how many transactions began
   pub count : ℕ
@@ -71,7 +71,7 @@ new_account client =
 
 abbrev pub new_current : TxId → ℕ → Current
 new_current tx epoch =
-    record { tx = tx; epoch = epoch; ops = []; own = []; shown = []; lives = []; doomed = false }
+    record { tx = tx; epoch = epoch; ops = []; own = []; read_grants = []; lives = []; doomed = false }
 
 -- the halves of a `do`, and a commit
 
@@ -91,10 +91,10 @@ is_prepare (Append object view own) = false
 is_prepare Prepare = true
 
 -- the command's requests of a half
-abbrev pub requests_for : (Want → Bool) → Account → List Request
-requests_for half d = filter (λ (q : Request). half q.want) d.requests
+abbrev pub requests_for : (Want → Bool) → Account → List ClientRequest
+requests_for half d = filter (λ (q : ClientRequest). half q.want) d.requests
 
--- the view of an object: all that was shown of it
+-- the view of an object: all that its Reads were granted
 abbrev pub view_of : Current → ℕ → List Line
 view_of t object =
-    fold (λ (lines : List Line) (s : Shown). union lines s.log) [] (filter (λ (s : Shown). s.object == object) t.shown)
+    fold (λ (lines : List Line) (g : ReadGrant). union lines g.log) [] (filter (λ (g : ReadGrant). g.object == object) t.read_grants)

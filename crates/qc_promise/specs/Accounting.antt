@@ -24,7 +24,7 @@ use Rattle.qc_msg.specs.declared.step.Given.TheVariants as given
 use Rattle.qc_msg.specs.Begun.{with_life}
 use Rattle.qc_msg.specs.Deeds.{Deed, Takes, Writes, Sends, Tells, deeds}
 use Rattle.qc_msg.specs.Steps.{Entry}
-use Rattle.qc_promise.specs.Account.{Account, Current, Request, is_append, new_account, new_current, requests_for}
+use Rattle.qc_promise.specs.Account.{Account, Current, ClientRequest, is_append, new_account, new_current, requests_for}
 use Rattle.qc_promise.specs.Asked.{is_asked_for}
 use Rattle.qc_promise.specs.Rounds.{answer_of, next_own, resp_of}
 
@@ -41,7 +41,7 @@ lived t site life = record t { lives = with_life t.lives site life }
 abbrev pub granted : Account → ℕ → ℕ → ℕ → List Line → Want → Account
 granted d site life clock log (Read object inv) =
     with_current (record d { clock = max d.clock clock })
-    (λ (t : Current). record (lived t site life) { shown = t.shown ++ record { object = object; log = log } ∷ [] })
+    (λ (t : Current). record (lived t site life) { read_grants = t.read_grants ++ record { object = object; log = log } ∷ [] })
 granted d site life clock log (Append object view own) =
     with_current (record d { clock = max d.clock clock }) (λ (t : Current). lived t site life)
 granted d site life clock log Prepare = d
@@ -51,7 +51,7 @@ promised d clock (Read object inv) = d
 promised d clock (Append object view own) = d
 promised d clock Prepare = record d { clock = max d.clock clock }
 
-abbrev pub told_by : Account → Request → Option Answer → Account
+abbrev pub told_by : Account → ClientRequest → Option Answer → Account
 told_by d q None = d
 told_by d q (Some (answers.Granted life clock log)) = granted d q.site life clock log q.want
 told_by d q (Some (answers.Clash holder inv event)) = d
@@ -67,14 +67,14 @@ told_by d q (Some (answers.Answered verdict)) = d
 
 -- the first thing that is taken for a request of the running command counts; all else changes nothing
 
-abbrev pub is_open : ℕ → Request → Bool
+abbrev pub is_open : ℕ → ClientRequest → Bool
 is_open number q = (q.number == number) && is_none q.taken
 
-abbrev pub taken_for : ℕ → Option Answer → List Request → List Request
+abbrev pub taken_for : ℕ → Option Answer → List ClientRequest → List ClientRequest
 taken_for number answer qs =
-    map (λ (q : Request). if is_open number q then record q { taken = Some answer } else q) qs
+    map (λ (q : ClientRequest). if is_open number q then record q { taken = Some answer } else q) qs
 
-abbrev pub counted_for : Account → ℕ → Option Answer → Option Request → Account
+abbrev pub counted_for : Account → ℕ → Option Answer → Option ClientRequest → Account
 counted_for d number answer None = d
 counted_for d number answer (Some q) =
     told_by (record d { requests = taken_for number answer d.requests }) q answer

@@ -3,4 +3,4 @@ pub mod Rounds
 pub mod Asked
 pub mod Accounting
 pub mod Rows
-pub mod Due
+pub mod Replies

@@ -23,7 +23,7 @@ use Rattle.qc_msg.specs.declared.message.Want.{Want}
 use Rattle.qc_msg.specs.declared.reply.Why.{Why}
 use Rattle.qc_msg.specs.declared.reply.Why.TheVariants as causes
 use Rattle.qc_msg.specs.Begun.{has_granted}
-use Rattle.qc_promise.specs.Account.{Account, Current, Request, is_prepare, requests_for, view_of}
+use Rattle.qc_promise.specs.Account.{Account, Current, ClientRequest, is_prepare, requests_for, view_of}
 
 -- what came of a request, for a round: a site that neither grants, nor clashes, nor is closed, is missing
 abbrev pub standing_of : Option Answer → Standing
@@ -40,7 +40,7 @@ standing_of (Some (answers.Shut clock log prepared)) = standings.Missing
 standing_of (Some answers.Installed) = standings.Missing
 standing_of (Some (answers.Answered verdict)) = standings.Missing
 
-abbrev pub asked_by : Request → Asked
+abbrev pub asked_by : ClientRequest → Asked
 asked_by q = record { site = q.site; standing = option_map standing_of q.taken }
 
 -- the weights of an epoch's plan
@@ -89,12 +89,12 @@ participants decl d t = filter (has_granted t.lives) (cyclic decl.sites (first_s
 abbrev pub are_votes_in : Declaration → Account → Current → Bool
 are_votes_in decl d t =
     (length (participants decl d t) == length (requests_for is_prepare d))
-    && list_all (λ (q : Request). is_some q.taken) (requests_for is_prepare d)
+    && list_all (λ (q : ClientRequest). is_some q.taken) (requests_for is_prepare d)
 
 -- what came of a request for a promise, where it is a vote against; what no site answers to one is as if it had
 -- forgotten
 
-abbrev pub against : Request → Option (Option Answer) → Option Why
+abbrev pub against : ClientRequest → Option (Option Answer) → Option Why
 against q None = None
 against q (Some None) = Some (causes.NoAnswer q.site)
 against q (Some (Some (answers.Granted life clock log))) = Some (causes.Forgot q.site)
@@ -110,6 +110,6 @@ against q (Some (Some answers.Installed)) = Some (causes.Forgot q.site)
 against q (Some (Some (answers.Answered verdict))) = Some (causes.Forgot q.site)
 
 -- the first vote against in asked order
-abbrev pub first_against : List Request → Option Why
+abbrev pub first_against : List ClientRequest → Option Why
 first_against [] = None
 first_against (q ∷ qs) = option_or (against q q.taken) (first_against qs)

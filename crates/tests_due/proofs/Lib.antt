@@ -1,5 +1,5 @@
+pub mod Owed
 pub mod Places
-pub mod Shown
 pub mod WorkedHistories
 pub mod OtherRows
 pub mod Random1To10

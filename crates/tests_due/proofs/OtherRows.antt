@@ -1,10 +1,10 @@
 -- Rows that those histories and the random ones don't have: their replies are due.
 use Rattle.std.proofs.Common.{[], refl}
 use Rattle.qc_decl.specs.One.{three}
-use Rattle.qc_promise.specs.Due.{AreRepliesDue}
+use Rattle.qc_promise.specs.Replies.{AreRepliesDue}
 use Rattle.tests_due.specs.LaterRows as later_rows
 use Rattle.tests_due.specs.LongTransaction as long_transaction
-use Rattle.tests_due.proofs.Shown.{due_where_shown}
+use Rattle.tests_due.proofs.Owed.{due_where_shown}
 
 pub closed_reading_due : AreRepliesDue three [] later_rows.closed_reading
 closed_reading_due = due_where_shown three [] later_rows.closed_reading refl

@@ -5,7 +5,7 @@ use Rattle.qc_entry.specs.declared.record.Commit.{Commit}
 use Rattle.qc_msg.specs.declared.reply.Reply.{Reply}
 use Rattle.qc_msg.specs.declared.reply.Reply.TheVariants as replies
 use Rattle.qc_msg.specs.Steps.{Entry}
-use Rattle.qc_promise.specs.Due.{AreRepliesDue, IsStepDue, rest_of_post}
+use Rattle.qc_promise.specs.Replies.{AreRepliesDue, IsStepDue, rest_of_post}
 
 -- what is due of the step at this place
 abbrev pub DueAt : ℕ → Declaration → List Entry → List Entry → Type 0

@@ -1,6 +1,6 @@
 -- All replies of the random histories 11 to 20 are due.
 use Rattle.std.proofs.Common.{[], refl}
-use Rattle.qc_promise.specs.Due.{AreRepliesDue}
+use Rattle.qc_promise.specs.Replies.{AreRepliesDue}
 use Rattle.tests_histories.specs.Random11 as random11
 use Rattle.tests_histories.specs.Random12 as random12
 use Rattle.tests_histories.specs.Random13 as random13
@@ -11,7 +11,7 @@ use Rattle.tests_histories.specs.Random17 as random17
 use Rattle.tests_histories.specs.Random18 as random18
 use Rattle.tests_histories.specs.Random19 as random19
 use Rattle.tests_histories.specs.Random20 as random20
-use Rattle.tests_due.proofs.Shown.{due_where_shown}
+use Rattle.tests_due.proofs.Owed.{due_where_shown}
 
 pub random11_due : AreRepliesDue random11.decl [] random11.history
 random11_due = due_where_shown random11.decl [] random11.history refl

@@ -1,6 +1,6 @@
 -- All replies of the random histories 1 to 10 are due.
 use Rattle.std.proofs.Common.{[], refl}
-use Rattle.qc_promise.specs.Due.{AreRepliesDue}
+use Rattle.qc_promise.specs.Replies.{AreRepliesDue}
 use Rattle.tests_histories.specs.Random1 as random1
 use Rattle.tests_histories.specs.Random2 as random2
 use Rattle.tests_histories.specs.Random3 as random3
@@ -11,7 +11,7 @@ use Rattle.tests_histories.specs.Random7 as random7
 use Rattle.tests_histories.specs.Random8 as random8
 use Rattle.tests_histories.specs.Random9 as random9
 use Rattle.tests_histories.specs.Random10 as random10
-use Rattle.tests_due.proofs.Shown.{due_where_shown}
+use Rattle.tests_due.proofs.Owed.{due_where_shown}
 
 pub random1_due : AreRepliesDue random1.decl [] random1.history
 random1_due = due_where_shown random1.decl [] random1.history refl

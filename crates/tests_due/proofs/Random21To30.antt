@@ -1,6 +1,6 @@
 -- All replies of the random histories 21 to 30 are due.
 use Rattle.std.proofs.Common.{[], refl}
-use Rattle.qc_promise.specs.Due.{AreRepliesDue}
+use Rattle.qc_promise.specs.Replies.{AreRepliesDue}
 use Rattle.tests_histories.specs.Random21 as random21
 use Rattle.tests_histories.specs.Random22 as random22
 use Rattle.tests_histories.specs.Random23 as random23
@@ -11,7 +11,7 @@ use Rattle.tests_histories.specs.Random27 as random27
 use Rattle.tests_histories.specs.Random28 as random28
 use Rattle.tests_histories.specs.Random29 as random29
 use Rattle.tests_histories.specs.Random30 as random30
-use Rattle.tests_due.proofs.Shown.{due_where_shown}
+use Rattle.tests_due.proofs.Owed.{due_where_shown}
 
 pub random21_due : AreRepliesDue random21.decl [] random21.history
 random21_due = due_where_shown random21.decl [] random21.history refl

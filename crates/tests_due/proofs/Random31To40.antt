@@ -1,6 +1,6 @@
 -- All replies of the random histories 31 to 40 are due.
 use Rattle.std.proofs.Common.{[], refl}
-use Rattle.qc_promise.specs.Due.{AreRepliesDue}
+use Rattle.qc_promise.specs.Replies.{AreRepliesDue}
 use Rattle.tests_histories.specs.Random31 as random31
 use Rattle.tests_histories.specs.Random32 as random32
 use Rattle.tests_histories.specs.Random33 as random33
@@ -11,7 +11,7 @@ use Rattle.tests_histories.specs.Random37 as random37
 use Rattle.tests_histories.specs.Random38 as random38
 use Rattle.tests_histories.specs.Random39 as random39
 use Rattle.tests_histories.specs.Random40 as random40
-use Rattle.tests_due.proofs.Shown.{due_where_shown}
+use Rattle.tests_due.proofs.Owed.{due_where_shown}
 
 pub random31_due : AreRepliesDue random31.decl [] random31.history
 random31_due = due_where_shown random31.decl [] random31.history refl

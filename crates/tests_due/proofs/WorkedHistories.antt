@@ -1,7 +1,7 @@
 -- All replies of the worked histories are due.
 use Rattle.std.proofs.Common.{[], refl}
 use Rattle.qc_decl.specs.One.{three}
-use Rattle.qc_promise.specs.Due.{AreRepliesDue}
+use Rattle.qc_promise.specs.Replies.{AreRepliesDue}
 use Rattle.tests_histories.specs.ReadAfterWrite as read_after_write
 use Rattle.tests_histories.specs.ReadBeforeCommit as read_before_commit
 use Rattle.tests_histories.specs.BlindWrites as blind_writes
@@ -9,7 +9,7 @@ use Rattle.tests_histories.specs.CutOff as cut_off
 use Rattle.tests_histories.specs.LateCopy as late_copy
 use Rattle.tests_histories.specs.EveryMessageTwice as every_message_twice
 use Rattle.tests_histories.specs.DoomedWrite as doomed_write
-use Rattle.tests_due.proofs.Shown.{due_where_shown}
+use Rattle.tests_due.proofs.Owed.{due_where_shown}
 
 pub read_after_write_due : AreRepliesDue three [] read_after_write.history
 read_after_write_due = due_where_shown three [] read_after_write.history refl

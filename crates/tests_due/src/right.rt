@@ -2,7 +2,7 @@
 
 ghost use Rattle.std.specs.Prelude.{[]};
 ghost use Rattle.qc_decl.specs.One.{three};
-ghost use Rattle.qc_promise.specs.Due.{AreRepliesDue};
+ghost use Rattle.qc_promise.specs.Replies.{AreRepliesDue};
 ghost use Rattle.tests_histories.specs.ReadAfterWrite as read_after_write;
 ghost use Rattle.tests_histories.specs.ReadBeforeCommit as read_before_commit;
 ghost use Rattle.tests_histories.specs.BlindWrites as blind_writes;

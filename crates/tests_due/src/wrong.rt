@@ -2,7 +2,7 @@
 
 ghost use Rattle.std.specs.Prelude.{[]};
 ghost use Rattle.qc_decl.specs.One.{three};
-ghost use Rattle.qc_promise.specs.Due.{AreRepliesDue};
+ghost use Rattle.qc_promise.specs.Replies.{AreRepliesDue};
 ghost use Rattle.tests_due.specs.WrongReads as wrong_reads;
 ghost use Rattle.tests_due.specs.WrongReplies as wrong_replies;
 ghost use Rattle.tests_due.specs.WrongAppends as wrong_appends;

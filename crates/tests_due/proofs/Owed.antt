@@ -11,7 +11,7 @@ use Rattle.qc_msg.specs.declared.step.Step.TheVariants as steps
 use Rattle.qc_msg.specs.Steps.{Entry}
 use Rattle.qc_promise.specs.Account.{Account}
 use Rattle.qc_promise.specs.Accounting.{account}
-use Rattle.qc_promise.specs.Due.{AreRepliesDue, IsRecordDue, IsStepDue, rest_of_post}
+use Rattle.qc_promise.specs.Replies.{AreRepliesDue, IsRecordDue, IsStepDue, rest_of_post}
 use Rattle.qc_promise.specs.Rows.{commit_of, due, record_with}
 
 -- a reply, a record that goes with it, and the record before it
