@@ -1,12 +1,12 @@
 -- What a schedule makes is a run, and where nothing is left to do, a whole one.
-use Rattle.std.proofs.Common.{◌≡◌, ℕ, zero, suc, ◌+◌, ◌<◌, ◌≤◌, ◌==◌, ◌&&◌, not, nat_lt, Bool, true, false, cond, List, [], ◌∷◌, ◌++◌, length, Option, Some, None, refl, ap, sym, subst, ◌∙◌, arith}
+use Rattle.std.proofs.Common.{◌≡◌, ℕ, zero, suc, ◌+◌, ◌<◌, ◌≤◌, ◌==◌, ◌&&◌, not, nat_lt, Bool, true, false, cond, List, [], ◌∷◌, length, Option, Some, None, refl, ap, subst, ◌∙◌, arith}
 use Rattle.std.specs.Prelude.{is_none, option_map, option_and_then, replicate, slice_get, slice_set}
 use Rattle.std.specs.List.{list_all, range_with_len}
 use Rattle.std.proofs.lemmas.Bool.{eqb-false, eqb-true, ltb-true}
 use Rattle.std.proofs.lemmas.List.{length-replicate, length-set}
 use Rattle.qc_core.specs.Conduct.{IsLawful, turn_after}
 use Rattle.qc_decl.specs.declared.declaration.Declaration.{Declaration}
-use Rattle.qc_decl.specs.Actors.{actors, controller}
+use Rattle.qc_decl.specs.Actors.{actors}
 use Rattle.qc_msg.specs.declared.step.Control.{Control}
 use Rattle.qc_msg.specs.declared.step.Given.{Given}
 use Rattle.qc_msg.specs.declared.step.Step.{Step}
@@ -18,7 +18,7 @@ use Rattle.qc_script.specs.declared.script.Script.{Script}
 use Rattle.qc_script.specs.Ready.{controls_left, phase_of, ready, step_of_control}
 use Rattle.qc_script.specs.Runs.{Runs, begins, takes, posts, phase, control}
 use Rattle.tests_histories.specs.Play.{Move, Takes, Posts, Acts}
-use Rattle.tests_runs.specs.Perform.{Stage, acted_by, ended, is_over, is_quiet, may_begin, moved, moved_on, next_control, none_left, nothing_done, posted_by, run_by, taken_by, with_control, with_phase, with_posted, with_step, with_taken}
+use Rattle.tests_runs.specs.Perform.{Stage, acted_by, ended, is_over, is_quiet, may_begin, moved, moved_on, next_control, none_left, nothing_done, posted_by, run_by, taken_by, with_posted, with_step, with_taken}
 use Rattle.tests_runs.specs.Whole.{IsWholeRun}
 
 -- tests
@@ -98,9 +98,9 @@ begins_soundly : (decl : Declaration) (script : Script) (s t : Stage) (may : Boo
 begins_soundly decl script s t false run may is = absurd (let never : ⊥ = cc in never)
 begins_soundly decl script s t true run may is =
     let before : (none_left (controls_left script s.history) && nat_lt (phase_of s.history) (length script.phases)) ≡ true =
-        first_of_both (none_left (controls_left script s.history) && nat_lt (phase_of s.history) (length script.phases)) (is_quiet decl script s) may in
+    first_of_both (none_left (controls_left script s.history) && nat_lt (phase_of s.history) (length script.phases)) (is_quiet decl script s) may in
     let quiet : is_quiet decl script s ≡ true =
-        second_of_both (none_left (controls_left script s.history) && nat_lt (phase_of s.history) (length script.phases)) (is_quiet decl script s) may in
+    second_of_both (none_left (controls_left script s.history) && nat_lt (phase_of s.history) (length script.phases)) (is_quiet decl script s) may in
     let same : with_step decl s (steps.Phase (phase_of s.history + 1)) ≡ t = cc in
     subst (IsRunTo decl script) same
     (phase s.open_inputs s.history run
@@ -166,12 +166,12 @@ runs_length decl script h open_inputs (control line lines step before k run left
 over_is_whole : (decl : Declaration) (script : Script) (s : Stage) → IsRunTo decl script s → is_over decl script s ≡ true → IsWholeRun decl script s.history
 over_is_whole decl script s run over =
     let before : (none_left (controls_left script s.history) && (phase_of s.history == length script.phases)) ≡ true =
-        first_of_both (none_left (controls_left script s.history) && (phase_of s.history == length script.phases)) (is_quiet decl script s) over in
+    first_of_both (none_left (controls_left script s.history) && (phase_of s.history == length script.phases)) (is_quiet decl script s) over in
     let quiet : is_quiet decl script s ≡ true =
-        second_of_both (none_left (controls_left script s.history) && (phase_of s.history == length script.phases)) (is_quiet decl script s) over in
+    second_of_both (none_left (controls_left script s.history) && (phase_of s.history == length script.phases)) (is_quiet decl script s) over in
     let closed : s.open_inputs ≡ replicate (actors decl) false =
-        all_closed s.open_inputs (quiet_closed decl script s quiet)
-        ∙ ap (λ n. replicate n false) (runs_length decl script s.history s.open_inputs run) in
+    all_closed s.open_inputs (quiet_closed decl script s quiet)
+    ∙ ap (λ n. replicate n false) (runs_length decl script s.history s.open_inputs run) in
     record {
       closed = subst (Runs (IsLawful decl) decl script s.history) closed run;
       begun = eqb-true (phase_of s.history) (length script.phases) (second_of_both (none_left (controls_left script s.history)) (phase_of s.history == length script.phases) before);

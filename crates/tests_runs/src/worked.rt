@@ -14,11 +14,14 @@ ghost use Rattle.tests_runs.specs.WorkedScripts as scripts;
 
 /// Each worked history is a whole run of its script.
 pub fn worked_histories_are_runs()
-    ensures read_after_write { run_by three scripts.read_after_write read_after_write.moves ≡ Some read_after_write.history }
-    ensures read_before_commit { run_by three scripts.read_before_commit read_before_commit.moves ≡ Some read_before_commit.history }
+    ensures read_after_write { run_by three scripts.read_after_write read_after_write.moves
+        ≡ Some read_after_write.history }
+    ensures read_before_commit { run_by three scripts.read_before_commit read_before_commit.moves
+        ≡ Some read_before_commit.history }
     ensures blind_writes { run_by three scripts.blind_writes blind_writes.moves ≡ Some blind_writes.history }
     ensures cut_off { run_by three scripts.cut_off cut_off.moves ≡ Some cut_off.history }
     ensures late_copy { run_by three scripts.late_copy late_copy.moves ≡ Some late_copy.history }
-    ensures every_message_twice { run_by three scripts.every_message_twice every_message_twice.moves ≡ Some every_message_twice.history }
+    ensures every_message_twice { run_by three scripts.every_message_twice every_message_twice.moves
+        ≡ Some every_message_twice.history }
     ensures doomed_write { run_by three scripts.doomed_write doomed_write.moves ≡ Some doomed_write.history }
 {}

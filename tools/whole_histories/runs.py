@@ -1,25 +1,41 @@
 #!/usr/bin/env python3
 """Writes the scripts of the histories in crates/tests_histories as modules.
 
-usage: tools/runs_as_modules.py MODEL
+usage: python3 tools/whole_histories/runs.py MODEL
 
-MODEL is the folder of the model, as for histories_as_modules.py, which chooses
-the histories and writes them with their moves. This tool writes what those
-were runs of: rules of links, and phases with control lines and commands. A law
-names each: played over its script, where each input is what is ready then, the
-moves give just the history, and nothing is left to do. It writes the scripts in
-specs/ of crates/tests_runs, proofs/ and src/ for them; `rt fmt` lays them out.
+MODEL is the folder of the model, as for the tool in whose folder this one
+stands, which chooses the histories and writes them with their moves. This one
+writes what those are runs of: rules of links, and phases with control lines and
+commands. A law names each: performed over its script, where each input is what
+is ready then, the moves give just the history, and nothing is left to do. It
+writes the scripts in specs/ of crates/tests_runs, and proofs/ and src/ for
+them, but not specs/Perform.antt, Whole.antt, Words.antt, proofs/Sound.antt,
+proofs/laws/, src/lib.rt and src/laws.rt; `rt fmt` then finds nothing to lay out.
 """
 
+import importlib.util
 import os
 import sys
 
 sys.dont_write_bytecode = True
-import histories_as_modules as histories
-from histories_as_modules import INPUTS, WORKED, command, filled, kind, listed, low, optional, term, words_of
+from choosing import chosen
+from modules import COLUMNS, broken, imported, words_of
+from spelling import command, kind, listed, optional, term
 
-CRATE = os.path.join(os.path.dirname(os.path.abspath(__file__)), "..", "crates", "tests_runs")
+HERE = os.path.dirname(os.path.abspath(__file__))
+CRATE = os.path.join(HERE, "..", "..", "crates", "tests_runs")
 GROUP = 10
+
+
+def histories():
+    """The tool that chooses the histories: what it has in __main__.py."""
+    spec = importlib.util.spec_from_file_location("histories", os.path.join(HERE, "__main__.py"))
+    module = importlib.util.module_from_spec(spec)
+    spec.loader.exec_module(module)
+    return module
+
+
+WORKED, low = histories().WORKED, histories().low
 
 
 # Spelling scripts as terms.
@@ -38,18 +54,14 @@ def phase(lines):
 
 
 def script(name, s):
-    out = "abbrev pub %s : Script\n%s =\n  record {\n" % (name, name)
-    for field, items in (("links", map(link, s.links)), ("phases", map(phase, s.phases))):
-        items = list(items)
-        text = filled(items, "[]").replace("\n", "\n    ") if items else "    []"
-        out += "    %s =\n    %s;\n" % (field, text)
-    return out + "  }\n"
+    text = "script %s %s" % (listed(map(link, s.links)), listed(map(phase, s.phases)))
+    return "abbrev pub %s : Script\n%s =\n%s\n" % (name, name, "\n".join(broken(text)))
 
 
 IMPORTS = (
     ("Rattle.std.specs.Prelude", ("[]", "◌∷◌", "Some", "None")),
     ("Rattle.qc_script.specs.declared.script.Script", ("Script",)),
-    ("Rattle.tests_runs.specs.Words", ("link", "asks", "phase")),
+    ("Rattle.tests_runs.specs.Words", ("link", "asks", "phase", "script")),
 )
 VARIANTS = (
     ("commands", "qc_msg.specs.declared.step.Command"), ("controls", "qc_msg.specs.declared.step.Control"),
@@ -62,8 +74,7 @@ def module(head, scripts):
     used = words_of(body)
     out = "-- %s\n" % head
     for where, names in IMPORTS:
-        names = [n for n in names if n in used or n == "◌∷◌"]
-        out += "use %s.{%s}\n" % (where, ", ".join(names)) if names else ""
+        out += imported(where, [n for n in names if n in used or n == "◌∷◌"])
     for name, where in VARIANTS:
         if any(word.startswith(name + ".") for word in used):
             out += "use Rattle.%s.TheVariants as %s\n" % (where, name)
@@ -104,27 +115,28 @@ def laws(file, function, doc, module_name, scripts, names):
           "use Rattle.tests_runs.proofs.%s.%s.Goals as goal\n\n"
           "pub returns : goal.returns\nreturns c = record {\n%s}\n" % (lemma_file, file, function, fields))
     law = "/// %s\npub fn %s()\n" % (doc, function)
-    law += "".join("    ensures %s { %s }\n" % (low(n), statement(n, scripts)) for n in names) + "{}\n"
-    return lemma_file, law
+    for n in names:
+        clause = "    ensures %s { %s }\n" % (low(n), statement(n, scripts))
+        law += clause if len(clause) <= COLUMNS else clause.replace(" ≡ ", "\n        ≡ ")
+    return lemma_file, law + "{}\n"
 
 
-def chosen(model):
-    """The worked and the random histories, each with its script."""
+def scripts_in(model):
+    """The scripts of the worked and of the random histories."""
     sys.path.insert(0, model)
     from oracle import decl as decls, explore, script as scripts
     three = decls.built_in("@three")
     worked = [(name, scripts.read((text.replace("|", "\n") + "\n").encode(), three))
               for name, (_, text) in WORKED.items()]
-    picked, _ = histories.chosen(explore)
-    return worked, [("Random%d" % (k + 1), s) for k, (_, _, s, _) in enumerate(picked)]
+    return worked, [("Random%d" % (k + 1), s) for k, (_, _, s, _) in enumerate(chosen(explore)[0])]
 
 
 def main(words):
     if len(words) != 1:
         sys.exit(__doc__)
-    worked, picked = chosen(words[0])
+    worked, picked = scripts_in(words[0])
     ghost = lambda text: "ghost " + text.rstrip("\n").replace("\n", "\nghost ") + "\n"
-    modules, lemma_files = ["Perform", "Words", "WorkedScripts"], []
+    modules, lemma_files = ["Perform", "Whole", "Words", "WorkedScripts"], ["Sound"]
     write("specs/WorkedScripts.antt",
           module("The scripts of the worked histories.", [(low(n), s) for n, s in worked]))
     names = [n for n, _ in worked]
