@@ -1,35 +1,34 @@
--- The clock and the epoch of a desk after what came of a Prepare, each from what it was.
-use Rattle.std.specs.Prelude.{ℕ, max, Option, Some, None}
-use Rattle.qc_stamp.specs.declared.clock.Clock.{Clock}
+-- What a desk learns from what comes of a Prepare.
+use Rattle.std.specs.Prelude.{ℕ, Option, Some, None}
 use Rattle.qc_msg.specs.declared.message.Answer.{Answer}
 use Rattle.qc_msg.specs.declared.message.Answer.TheVariants as answers
 
--- the clock passes that of a promise
-abbrev pub clock_after : Clock → Option Answer → Clock
-clock_after clock None = clock
-clock_after clock (Some (answers.Granted life told log)) = clock
-clock_after clock (Some (answers.Clash holder inv event)) = clock
-clock_after clock (Some (answers.Closed epoch)) = clock
-clock_after clock (Some (answers.Behind epoch)) = clock
-clock_after clock (Some (answers.Restarted life)) = clock
-clock_after clock (Some answers.Stale) = clock
-clock_after clock (Some answers.Fault) = clock
-clock_after clock (Some (answers.Yes told)) = record { value = max clock.value told }
-clock_after clock (Some (answers.Shut told log prepared)) = clock
-clock_after clock (Some answers.Installed) = clock
-clock_after clock (Some (answers.Answered verdict)) = clock
+-- the clock that a promise tells, or 0
+abbrev pub promised : Option Answer → ℕ
+promised None = 0
+promised (Some (answers.Granted life clock log)) = 0
+promised (Some (answers.Clash holder inv event)) = 0
+promised (Some (answers.Closed epoch)) = 0
+promised (Some (answers.Behind epoch)) = 0
+promised (Some (answers.Restarted life)) = 0
+promised (Some answers.Stale) = 0
+promised (Some answers.Fault) = 0
+promised (Some (answers.Yes clock)) = clock
+promised (Some (answers.Shut clock log prepared)) = 0
+promised (Some answers.Installed) = 0
+promised (Some (answers.Answered verdict)) = 0
 
--- the known epoch passes that of a closed one
-abbrev pub epoch_after : ℕ → Option Answer → ℕ
-epoch_after epoch None = epoch
-epoch_after epoch (Some (answers.Granted life clock log)) = epoch
-epoch_after epoch (Some (answers.Clash holder inv event)) = epoch
-epoch_after epoch (Some (answers.Closed told)) = max epoch told
-epoch_after epoch (Some (answers.Behind told)) = epoch
-epoch_after epoch (Some (answers.Restarted life)) = epoch
-epoch_after epoch (Some answers.Stale) = epoch
-epoch_after epoch (Some answers.Fault) = epoch
-epoch_after epoch (Some (answers.Yes clock)) = epoch
-epoch_after epoch (Some (answers.Shut clock log prepared)) = epoch
-epoch_after epoch (Some answers.Installed) = epoch
-epoch_after epoch (Some (answers.Answered verdict)) = epoch
+-- the epoch that a closed site tells, or 0
+abbrev pub closed : Option Answer → ℕ
+closed None = 0
+closed (Some (answers.Granted life clock log)) = 0
+closed (Some (answers.Clash holder inv event)) = 0
+closed (Some (answers.Closed epoch)) = epoch
+closed (Some (answers.Behind epoch)) = 0
+closed (Some (answers.Restarted life)) = 0
+closed (Some answers.Stale) = 0
+closed (Some answers.Fault) = 0
+closed (Some (answers.Yes clock)) = 0
+closed (Some (answers.Shut clock log prepared)) = 0
+closed (Some answers.Installed) = 0
+closed (Some (answers.Answered verdict)) = 0

@@ -3,3 +3,5 @@ pub mod Votes
 pub mod Conduct
 pub mod Learning
 pub mod Fits
+pub mod Course
+pub mod Calls

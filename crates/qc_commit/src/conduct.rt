@@ -1,14 +1,14 @@
 //! A desk's calls: a commit begins, a vote comes, the messages of a turn get
 //! their numbers (presumed abort).
 
-ghost use Rattle.std.specs.Prelude.{◌≡◌, ◌<◌, ◌≤◌, ◌+◌, ◌^◌, ◌++◌, ◌∷◌, [], length, option_map};
+ghost use Rattle.std.specs.Prelude.{◌≡◌, ◌<◌, ◌≤◌, ◌+◌, ◌^◌, ◌++◌, ◌∷◌, [], length, max, option_map};
 ghost use Rattle.std.specs.Prelude.{IfOk, OnOk, OnErr};
 ghost use Rattle.std.specs.Option.{option_copied};
 ghost use Rattle.qc_msg.specs.Calls.{numbered_from, without_call};
 ghost use Rattle.qc_commit.specs.declared.desk.Voting.{Voting};
-ghost use Rattle.qc_commit.specs.Conduct.{abort_turn, awaited, commit_of, commit_turn, passed, prepare, sent, vote};
-ghost use Rattle.qc_commit.specs.Fits.{AsksFew, VoteFits};
-ghost use Rattle.qc_commit.specs.Learning.{clock_after, epoch_after};
+ghost use Rattle.qc_commit.specs.Conduct.{abort_turn, awaited, commit_of, commit_turn, prepare, sent, vote};
+ghost use Rattle.qc_commit.specs.Fits.{AsksFew};
+ghost use Rattle.qc_commit.specs.Learning.{closed, promised};
 
 use crate::ballot::{Ballot, Ballots, Vote, are_cast, blank, cast, first_against};
 use crate::desk::{Commits, Desk, Voting};
@@ -40,7 +40,7 @@ impl Desk {
         ensures err { OnErr result (self.new ≡ self.old) }
     {
         let sites = participants(alloc, decl, self.client, begun)?;
-        let passed = self.passed(clock);
+        let passed = passed(self.clock, clock);
         if sites.is_empty() {
             let stamp = Stamp {
                 clock: passed.next(),
@@ -67,6 +67,7 @@ impl Desk {
     /// isn't a Prepare of this commit is put aside. Once all votes are in, the
     /// transaction commits, or the first vote against in the client's order of
     /// sites aborts it. After want of memory the desk is as it was.
+    #[tactic(auto, using(crate::proofs::Learned::learns_both))]
     pub fn vote(
         &mut self,
         alloc: Global,
@@ -74,7 +75,7 @@ impl Desk {
         answer: Option<&Answer>,
     ) -> Result<Turn, OutOfMemory>
         requires own { self.old.clock.value < 2 ^ 63 }
-        requires told { VoteFits (option_copied answer) }
+        requires told { promised (option_copied answer) < 2 ^ 63 }
         ensures ok { IfOk result (λ turn. vote self.old number (option_copied answer.entry)
             ≡ record { desk = self.new; turn = turn }) }
         ensures err { OnErr result (self.new ≡ self.old) }
@@ -87,8 +88,8 @@ impl Desk {
         };
         let vote = Vote::of(&voting.begun, site, answer);
         let ballots = cast(alloc, &voting.ballots, site, vote)?;
-        let mut clock = clock_after(self.clock, answer);
-        let epoch = epoch_after(self.epoch, answer);
+        let mut clock = passed(self.clock, promised(answer));
+        let epoch = self.epoch.max(closed(answer));
         if !are_cast(&ballots) {
             go_on(&mut self.voting, number, ballots);
             self.clock = clock;
@@ -123,15 +124,6 @@ impl Desk {
             number_calls(&mut voting.calls, voting.ballots.items(), first);
         }
     }
-
-    /// The clock after it passes another.
-    fn passed(&self, clock: u64) -> Clock
-        ensures { result ≡ (passed self.now clock).clock }
-    {
-        let mut passed = self.clock;
-        passed.pass(clock);
-        passed
-    }
 }
 
 /// The Prepares of the last turn were given the numbers from `first` on: those
@@ -153,27 +145,32 @@ fn number_calls(calls: &mut Calls, ballots: &[Ballot], first: u32)
     }
 }
 
-/// The clock that a desk with this one has after what came of a Prepare: it
-/// passes that of a promise.
-fn clock_after(clock: Clock, answer: Option<&Answer>) -> Clock
-    ensures { result ≡ clock_after clock (option_copied answer.entry) }
+/// A clock after it passes another.
+fn passed(clock: Clock, other: u64) -> Clock
+    ensures { result.value ≡ max clock.value other }
+{
+    let mut passed = clock;
+    passed.pass(other);
+    passed
+}
+
+/// The clock that a promise tells, or 0.
+fn promised(answer: Option<&Answer>) -> u64
+    ensures { result ≡ promised (option_copied answer.entry) }
 {
     match answer {
-        Some(Answer::Yes { clock: told }) => Clock {
-            value: clock.value.max(*told),
-        },
-        _ => clock,
+        Some(Answer::Yes { clock }) => *clock,
+        _ => 0,
     }
 }
 
-/// The epoch that a desk that knows this one knows after what came of a
-/// Prepare: the greater one, where a site's is closed.
-fn epoch_after(epoch: u8, answer: Option<&Answer>) -> u8
-    ensures { result ≡ epoch_after epoch (option_copied answer.entry) }
+/// The epoch that a closed site tells, or 0.
+fn closed(answer: Option<&Answer>) -> u8
+    ensures { result ≡ closed (option_copied answer.entry) }
 {
     match answer {
-        Some(Answer::Closed { epoch: told }) => epoch.max(*told),
-        _ => epoch,
+        Some(Answer::Closed { epoch }) => *epoch,
+        _ => 0,
     }
 }
 
