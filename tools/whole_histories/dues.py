@@ -155,7 +155,7 @@ WRONG_IMPORTS = (
     ("Rattle.qc_decl.specs.One", ("three",)),
     ("Rattle.qc_entry.specs.declared.record.Commit", ("Commit",)),
     ("Rattle.qc_msg.specs.declared.reply.Reply", ("Reply",)),
-    ("Rattle.qc_promise.specs.Due", ("AreRepliesDue",)),
+    ("Rattle.qc_promise.specs.Replies", ("AreRepliesDue",)),
     ("Rattle.tests_histories.specs.Words", ("operation", "stamp", "tx")),
     ("Rattle.tests_due.proofs.Places", ("client_named", "clock_told", "count_written", "due_at", "number_begun")),
 )

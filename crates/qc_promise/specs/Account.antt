@@ -97,4 +97,5 @@ requests_for half d = filter (λ (q : ClientRequest). half q.want) d.requests
 -- the view of an object: all that its Reads were granted
 abbrev pub view_of : Current → ℕ → List Line
 view_of t object =
-    fold (λ (lines : List Line) (g : ReadGrant). union lines g.log) [] (filter (λ (g : ReadGrant). g.object == object) t.read_grants)
+    fold (λ (lines : List Line) (g : ReadGrant). union lines g.log) []
+    (filter (λ (g : ReadGrant). g.object == object) t.read_grants)

@@ -38,10 +38,14 @@ with_current d change = record d { current = option_map change d.current }
 abbrev pub lived : Current → ℕ → ℕ → Current
 lived t site life = record t { lives = with_life t.lives site life }
 
+abbrev pub with_read : Current → ℕ → List Line → Current
+with_read t object log =
+    record t { read_grants = t.read_grants ++ record { object = object; log = log } ∷ [] }
+
 abbrev pub granted : Account → ℕ → ℕ → ℕ → List Line → Want → Account
 granted d site life clock log (Read object inv) =
     with_current (record d { clock = max d.clock clock })
-    (λ (t : Current). record (lived t site life) { read_grants = t.read_grants ++ record { object = object; log = log } ∷ [] })
+    (λ (t : Current). with_read (lived t site life) object log)
 granted d site life clock log (Append object view own) =
     with_current (record d { clock = max d.clock clock }) (λ (t : Current). lived t site life)
 granted d site life clock log Prepare = d

@@ -47,7 +47,8 @@ abbrev pub are_reads_met : Declaration → Account → Current → ℕ → ℕ �
 are_reads_met decl d t object inv =
     is_met (verdict (round_of decl d t is_read (read_need_of decl t.epoch object inv)))
 
--- an Append carries the object's view, and the own lines there whose events need weight to append, this operation's last
+-- an Append carries the object's view, and the own lines there whose events need weight to append, this operation's
+-- last
 
 abbrev pub weighs : Declaration → ℕ → ℕ → OwnLine → Bool
 weighs decl epoch object l = (l.object == object) && nat_lt 0 (append_need_of decl epoch object l.event)

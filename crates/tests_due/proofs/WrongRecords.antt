@@ -3,7 +3,7 @@ use Rattle.std.proofs.Common.{◌≡◌, ℕ, [], ◌∷◌, Option, Some, None,
 use Rattle.qc_decl.specs.One.{three}
 use Rattle.qc_entry.specs.declared.record.Commit.{Commit}
 use Rattle.qc_msg.specs.declared.reply.Reply.{Reply}
-use Rattle.qc_promise.specs.Due.{AreRepliesDue}
+use Rattle.qc_promise.specs.Replies.{AreRepliesDue}
 use Rattle.tests_histories.specs.Words.{operation, stamp, tx}
 use Rattle.tests_due.proofs.Places.{clock_told, count_written, due_at}
 use Rattle.qc_msg.specs.declared.reply.Why.TheVariants as causes

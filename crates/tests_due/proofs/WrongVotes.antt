@@ -2,7 +2,7 @@
 use Rattle.std.proofs.Common.{◌≡◌, [], Option, Some, None}
 use Rattle.qc_decl.specs.One.{three}
 use Rattle.qc_msg.specs.declared.reply.Reply.{Reply}
-use Rattle.qc_promise.specs.Due.{AreRepliesDue}
+use Rattle.qc_promise.specs.Replies.{AreRepliesDue}
 use Rattle.tests_histories.specs.Words.{stamp}
 use Rattle.tests_due.proofs.Places.{due_at}
 use Rattle.qc_msg.specs.declared.reply.Why.TheVariants as causes
