@@ -1,5 +1,5 @@
 -- What becomes of a draft is what becomes of its transaction.
-use Rattle.std.proofs.Common.{◌≡◌, ℕ, zero, suc, ◌+◌, ◌++◌, Bool, true, false, List, [], ◌∷◌, length, Option, Some, None, is_some, option_map, option_and_then, refl, sym, ap, ◌∙◌, subst}
+use Rattle.std.proofs.Common.{◌≡◌, ℕ, zero, suc, ◌++◌, true, false, List, [], ◌∷◌, Option, Some, None, is_some, option_map, option_and_then, refl, sym, ap, ◌∙◌}
 use Rattle.std.specs.Prelude.{slice_get, slice_set}
 use Rattle.std.specs.Option.{option_map_or}
 use Rattle.qc_decl.specs.declared.declaration.Declaration.{Declaration}
@@ -15,10 +15,10 @@ use Rattle.qc_view.specs.declared.view.View.{View}
 use Rattle.qc_view.specs.View.{answer_in, with_log, with_own}
 use Rattle.qc_front.specs.declared.draft.Draft.{Draft}
 use Rattle.qc_front.specs.declared.transaction.Transaction.{Transaction}
-use Rattle.qc_front.specs.Answering.{answer_of, next_own, op_of, view_log, with_event, with_granted, with_op, with_view}
+use Rattle.qc_front.specs.Answering.{answer_of, next_own, op_of, with_event, with_granted, with_op, with_view}
 use Rattle.qc_front.specs.Appending.{append_want, own_appended}
 use Rattle.qc_front.specs.Counting.{appended_with, lived, read_with}
-use Rattle.qc_front.specs.Drafts.{IsDraft, answer_in_draft, append_want_of, appended_draft, draft_of, drafted, event_draft, log_in_draft, lived_draft, read_draft, views_with}
+use Rattle.qc_front.specs.Drafts.{IsDraft, answer_in_draft, append_want_of, appended_draft, draft_of, drafted, event_draft, lived_draft, read_draft, views_with}
 
 -- what was put at a place is found there, and the last counts
 

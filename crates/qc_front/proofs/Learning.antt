@@ -1,5 +1,5 @@
 -- What a client learns of an answer decides nothing of its turn: it may learn it before or after.
-use Rattle.std.proofs.Common.{◌≡◌, ℕ, List, [], Option, Some, None, refl, sym, ap, ◌∙◌}
+use Rattle.std.proofs.Common.{◌≡◌, ℕ, List, [], Option, Some, None, refl, ap, ◌∙◌}
 use Rattle.qc_decl.specs.declared.declaration.Declaration.{Declaration}
 use Rattle.qc_decl.specs.Actors.{first_site}
 use Rattle.qc_decl.specs.Lookup.{append_need_of}

@@ -1,13 +1,12 @@
 -- What a front end becomes, from what the calls on its way give.
-use Rattle.std.proofs.Common.{◌≡◌, ℕ, List, [], ◌∷◌, Option, Some, None, refl, sym, ap, ◌∙◌}
+use Rattle.std.proofs.Common.{◌≡◌, ℕ, List, [], Option, Some, None, option_map, sym, ap, ◌∙◌}
 use Rattle.std.specs.Prelude.{Result, Ok, Err, IfOk}
 use Rattle.std.specs.declared.alloc.AllocError.{AllocError}
 use Rattle.qc_decl.specs.declared.declaration.Declaration.{Declaration}
 use Rattle.qc_decl.specs.Actors.{first_site}
-use Rattle.qc_decl.specs.Lookup.{append_need_of, read_need_of}
+use Rattle.qc_decl.specs.Lookup.{read_need_of}
 use Rattle.qc_msg.specs.declared.call.Call.{Call}
 use Rattle.qc_msg.specs.declared.message.Answer.{Answer}
-use Rattle.qc_msg.specs.declared.message.Answer.TheVariants as answers
 use Rattle.qc_msg.specs.declared.message.Want.{Want}
 use Rattle.qc_msg.specs.declared.reply.Reply.TheVariants as replies
 use Rattle.qc_msg.specs.Calls.{site_called, without_call}
@@ -15,21 +14,22 @@ use Rattle.qc_msg.specs.Turns.{telling}
 use Rattle.qc_plan.specs.Round.{RoundState, note, start, verdict}
 use Rattle.qc_plan.specs.declared.standing.Verdict.{Verdict}
 use Rattle.qc_plan.specs.declared.standing.Verdict.TheVariants as verdicts
+use Rattle.qc_front.specs.declared.counting.Noted.{Noted}
 use Rattle.qc_front.specs.declared.doing.Doing.{Doing}
 use Rattle.qc_front.specs.declared.doing.Doing.TheVariants.{Idle, Reading, Appending}
 use Rattle.qc_front.specs.declared.draft.Draft.{Draft}
 use Rattle.qc_front.specs.declared.front.Front.{Front}
 use Rattle.qc_front.specs.declared.next.Next.{Next}
 use Rattle.qc_front.specs.declared.transaction.Transaction.{Transaction}
-use Rattle.qc_front.specs.Answering.{answer_of, resp_of}
+use Rattle.qc_front.specs.Answering.{resp_of}
 use Rattle.qc_front.specs.Appending.{round_for, weights_of}
 use Rattle.qc_front.specs.Conduct.{appending_takes, reading_takes, takes, takes_in}
-use Rattle.qc_front.specs.Counting.{appended_with, learns, read_with, standing_of}
-use Rattle.qc_front.specs.Drafts.{IsDraft, answer_in_draft, append_want_of, appended_draft, asking, becomes, draft_of, drafted, event_draft, read_draft, views_of, went}
-use Rattle.qc_front.specs.Front.{FrontMove, moved, turned}
+use Rattle.qc_front.specs.Counting.{appended_with, read_with, standing_of}
+use Rattle.qc_front.specs.Drafts.{IsDraft, answer_in_draft, append_want_of, appended_draft, asking, becomes, draft_of, drafted, event_draft, noted, noted_at, read_draft, views_of, went}
+use Rattle.qc_front.specs.Front.{moved, turned}
 use Rattle.qc_front.specs.Rounds.{answered, append_by, appends, goes_on, read_by, reads, responds}
 use Rattle.qc_front.proofs.Drafts.{answer_drafted, appended_drafted, appended_is_draft, event_drafted, read_drafted, read_is_draft, undone, want_drafted}
-use Rattle.qc_front.proofs.Learning.{append_learns, read_learns}
+use Rattle.qc_front.proofs.Learning.{append_learns, learned, read_learns}
 
 -- the operation is recorded and told
 pub responded : (decl : Declaration) (front : Front) (d recorded : Draft) (inv event resp : ℕ) (next : Next) → IsDraft (views_of front.transaction) d
@@ -82,40 +82,46 @@ started decl front t d object inv need calls round (Ok next) begun is_draft is_c
 
 -- what came of an open request counts
 
-pub reading_went : (decl : Declaration) (front : Front) (t : Transaction) (object inv number site : ℕ) (calls rest : List Call) (round noted : RoundState) (d : Draft) (answer : Option Answer) (next : Next)
-    → front.transaction ≡ Some t → front.doing ≡ Reading object inv calls round → site_called calls number ≡ Some site
-    → d ≡ read_draft (draft_of t object) site answer → noted ≡ note round site (standing_of answer) → rest ≡ without_call calls number
-    → reads decl front (drafted (views_of front.transaction) d) d.object inv rest noted ≡ becomes front next
-    → takes decl front number answer ≡ went front (Some next) answer
-reading_went decl front t object inv number site calls rest round noted d answer next begun is_doing called is_draft is_noted is_rest goes =
+pub reading_went : (decl : Declaration) (front : Front) (t : Transaction) (object inv number : ℕ) (calls : List Call) (round : RoundState) (n : Noted) (d : Draft) (answer : Option Answer) (next : Next)
+    → front.transaction ≡ Some t → front.doing ≡ Reading object inv calls round → Some n ≡ noted calls round number answer → d ≡ read_draft (draft_of t object) n.site answer
+    → reads decl front (drafted (views_of front.transaction) d) d.object inv n.calls n.round ≡ becomes front next → takes decl front number answer ≡ went front (Some next) answer
+reading_went decl front t object inv number calls round n d answer next begun is_doing is_noted is_draft goes =
     ap (λ (o : Option Transaction). takes_in decl front front.doing o number answer) begun
     ∙ ap (λ (e : Doing). takes_in decl front e (Some t) number answer) is_doing
-    ∙ ap (λ (o : Option ℕ). reading_takes decl front t object inv calls round number answer o) called
-    ∙ read_learns decl front answer (read_with t site object answer) object inv (without_call calls number) (note round site (standing_of answer))
-    ∙ ap (λ (m : FrontMove). moved (learns m.front answer) m.turn)
-    (ap (λ (u : Transaction). reads decl front u object inv (without_call calls number) (note round site (standing_of answer))) (sym (read_drafted t object site answer))
-    ∙ ap (λ (o : Option Transaction). reads decl front (drafted (views_of o) (read_draft (draft_of t object) site answer)) object inv (without_call calls number) (note round site (standing_of answer))) (sym begun)
-    ∙ ap (λ (e : Draft). reads decl front (drafted (views_of front.transaction) e) object inv (without_call calls number) (note round site (standing_of answer))) (sym is_draft)
-    ∙ ap (λ (k : ℕ). reads decl front (drafted (views_of front.transaction) d) k inv (without_call calls number) (note round site (standing_of answer))) (sym (ap (λ (e : Draft). e.object) is_draft ∙ (read_is_draft t object site answer).object_is))
-    ∙ ap (λ (cs : List Call). reads decl front (drafted (views_of front.transaction) d) d.object inv cs (note round site (standing_of answer))) (sym is_rest)
-    ∙ ap (λ (r : RoundState). reads decl front (drafted (views_of front.transaction) d) d.object inv rest r) (sym is_noted)
-    ∙ goes)
+    ∙ by (site_called calls number) is_noted
+  where
+    by : (o : Option ℕ) → Some n ≡ option_map (noted_at calls round number answer) o → reading_takes decl front t object inv calls round number answer o ≡ went front (Some next) answer
+    by None is = let never : ⊥ = cc in absurd never
+    by (Some site) is =
+        let same : n ≡ noted_at calls round number answer site = cc in
+        let drafted_is : d ≡ read_draft (draft_of t object) site answer = is_draft ∙ ap (λ (m : Noted). read_draft (draft_of t object) m.site answer) same in
+        read_learns decl front answer (read_with t site object answer) object inv (without_call calls number) (note round site (standing_of answer))
+        ∙ ap (learned answer)
+        (ap (λ (u : Transaction). reads decl front u object inv (without_call calls number) (note round site (standing_of answer))) (sym (read_drafted t object site answer))
+        ∙ ap (λ (o : Option Transaction). reads decl front (drafted (views_of o) (read_draft (draft_of t object) site answer)) object inv (without_call calls number) (note round site (standing_of answer))) (sym begun)
+        ∙ ap (λ (e : Draft). reads decl front (drafted (views_of front.transaction) e) object inv (without_call calls number) (note round site (standing_of answer))) (sym drafted_is)
+        ∙ ap (λ (k : ℕ). reads decl front (drafted (views_of front.transaction) d) k inv (without_call calls number) (note round site (standing_of answer))) (sym (ap (λ (e : Draft). e.object) drafted_is ∙ (read_is_draft t object site answer).object_is))
+        ∙ ap (λ (m : Noted). reads decl front (drafted (views_of front.transaction) d) d.object inv m.calls m.round) (sym same)
+        ∙ goes)
 
-pub appending_went : (decl : Declaration) (front : Front) (t : Transaction) (object inv event number site : ℕ) (calls rest : List Call) (round noted : RoundState) (d : Draft) (answer : Option Answer) (next : Next)
-    → front.transaction ≡ Some t → front.doing ≡ Appending object inv event calls round → site_called calls number ≡ Some site
-    → d ≡ appended_draft (draft_of t object) site answer → noted ≡ note round site (standing_of answer) → rest ≡ without_call calls number
-    → appends decl front (drafted (views_of front.transaction) d) d.object inv event rest noted ≡ becomes front next
-    → takes decl front number answer ≡ went front (Some next) answer
-appending_went decl front t object inv event number site calls rest round noted d answer next begun is_doing called is_draft is_noted is_rest goes =
+pub appending_went : (decl : Declaration) (front : Front) (t : Transaction) (object inv event number : ℕ) (calls : List Call) (round : RoundState) (n : Noted) (d : Draft) (answer : Option Answer) (next : Next)
+    → front.transaction ≡ Some t → front.doing ≡ Appending object inv event calls round → Some n ≡ noted calls round number answer → d ≡ appended_draft (draft_of t object) n.site answer
+    → appends decl front (drafted (views_of front.transaction) d) d.object inv event n.calls n.round ≡ becomes front next → takes decl front number answer ≡ went front (Some next) answer
+appending_went decl front t object inv event number calls round n d answer next begun is_doing is_noted is_draft goes =
     ap (λ (o : Option Transaction). takes_in decl front front.doing o number answer) begun
     ∙ ap (λ (e : Doing). takes_in decl front e (Some t) number answer) is_doing
-    ∙ ap (λ (o : Option ℕ). appending_takes decl front t object inv event calls round number answer o) called
-    ∙ append_learns decl front answer (appended_with t site answer) object inv event (without_call calls number) (note round site (standing_of answer))
-    ∙ ap (λ (m : FrontMove). moved (learns m.front answer) m.turn)
-    (ap (λ (u : Transaction). appends decl front u object inv event (without_call calls number) (note round site (standing_of answer))) (sym (appended_drafted t object site answer))
-    ∙ ap (λ (o : Option Transaction). appends decl front (drafted (views_of o) (appended_draft (draft_of t object) site answer)) object inv event (without_call calls number) (note round site (standing_of answer))) (sym begun)
-    ∙ ap (λ (e : Draft). appends decl front (drafted (views_of front.transaction) e) object inv event (without_call calls number) (note round site (standing_of answer))) (sym is_draft)
-    ∙ ap (λ (k : ℕ). appends decl front (drafted (views_of front.transaction) d) k inv event (without_call calls number) (note round site (standing_of answer))) (sym (ap (λ (e : Draft). e.object) is_draft ∙ (appended_is_draft t object site answer).object_is))
-    ∙ ap (λ (cs : List Call). appends decl front (drafted (views_of front.transaction) d) d.object inv event cs (note round site (standing_of answer))) (sym is_rest)
-    ∙ ap (λ (r : RoundState). appends decl front (drafted (views_of front.transaction) d) d.object inv event rest r) (sym is_noted)
-    ∙ goes)
+    ∙ by (site_called calls number) is_noted
+  where
+    by : (o : Option ℕ) → Some n ≡ option_map (noted_at calls round number answer) o → appending_takes decl front t object inv event calls round number answer o ≡ went front (Some next) answer
+    by None is = let never : ⊥ = cc in absurd never
+    by (Some site) is =
+        let same : n ≡ noted_at calls round number answer site = cc in
+        let drafted_is : d ≡ appended_draft (draft_of t object) site answer = is_draft ∙ ap (λ (m : Noted). appended_draft (draft_of t object) m.site answer) same in
+        append_learns decl front answer (appended_with t site answer) object inv event (without_call calls number) (note round site (standing_of answer))
+        ∙ ap (learned answer)
+        (ap (λ (u : Transaction). appends decl front u object inv event (without_call calls number) (note round site (standing_of answer))) (sym (appended_drafted t object site answer))
+        ∙ ap (λ (o : Option Transaction). appends decl front (drafted (views_of o) (appended_draft (draft_of t object) site answer)) object inv event (without_call calls number) (note round site (standing_of answer))) (sym begun)
+        ∙ ap (λ (e : Draft). appends decl front (drafted (views_of front.transaction) e) object inv event (without_call calls number) (note round site (standing_of answer))) (sym drafted_is)
+        ∙ ap (λ (k : ℕ). appends decl front (drafted (views_of front.transaction) d) k inv event (without_call calls number) (note round site (standing_of answer))) (sym (ap (λ (e : Draft). e.object) drafted_is ∙ (appended_is_draft t object site answer).object_is))
+        ∙ ap (λ (m : Noted). appends decl front (drafted (views_of front.transaction) d) d.object inv event m.calls m.round) (sym same)
+        ∙ goes)

@@ -1,6 +1,5 @@
 -- What an answer that counts, or a lost request, comes to: for the round, the client's clock and epoch, the transaction.
-use Rattle.std.specs.Prelude.{ℕ, max, List, Option, Some, None}
-use Rattle.qc_entry.specs.declared.line.Line.{Line}
+use Rattle.std.specs.Prelude.{ℕ, max, Option, Some, None}
 use Rattle.qc_plan.specs.declared.standing.Standing.{Standing}
 use Rattle.qc_plan.specs.declared.standing.Standing.TheVariants as standings
 use Rattle.qc_msg.specs.declared.message.Answer.{Answer}

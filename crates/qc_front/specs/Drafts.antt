@@ -1,21 +1,24 @@
 -- A transaction as it is to become: what a `do` on one object changes of it.
-use Rattle.std.specs.Prelude.{◌≡◌, ℕ, ◌+◌, Bool, true, List, [], ◌∷◌, ◌++◌, fold, map, slice_get, slice_set, is_some}
+use Rattle.std.specs.Prelude.{◌≡◌, ℕ, true, List, [], ◌∷◌, ◌++◌, fold, map, slice_get, slice_set, is_some}
 use Rattle.std.specs.Prelude.{Option, Some, None, option_and_then, option_map}
 use Rattle.std.specs.Option.{option_map_or}
 use Rattle.qc_decl.specs.declared.declaration.Declaration.{Declaration}
 use Rattle.qc_decl.specs.Lookup.{table_at}
 use Rattle.qc_entry.specs.declared.line.Line.{Line}
 use Rattle.qc_entry.specs.declared.line.Op.{Op}
+use Rattle.qc_msg.specs.declared.call.Call.{Call}
 use Rattle.qc_msg.specs.declared.message.Answer.{Answer}
 use Rattle.qc_msg.specs.declared.message.Answer.TheVariants as answers
 use Rattle.qc_msg.specs.declared.message.Want.{Want}
 use Rattle.qc_msg.specs.declared.message.Want.TheVariants.{Append}
 use Rattle.qc_msg.specs.Begun.{with_life, with_site}
+use Rattle.qc_msg.specs.Calls.{site_called, without_call}
 use Rattle.qc_msg.specs.Turns.{quiet, sending}
 use Rattle.qc_view.specs.declared.view.View.{View}
 use Rattle.qc_table.specs.Rules.{Rules}
 use Rattle.qc_view.specs.View.{answer_in, with_log, with_own}
-use Rattle.qc_plan.specs.Round.{RoundState, asking_all, wanted}
+use Rattle.qc_plan.specs.Round.{RoundState, asking_all, note, wanted}
+use Rattle.qc_front.specs.declared.counting.Noted.{Noted}
 use Rattle.qc_front.specs.declared.doing.Doing.{Doing}
 use Rattle.qc_front.specs.declared.draft.Draft.{Draft}
 use Rattle.qc_front.specs.declared.front.Front.{Front}
@@ -23,7 +26,7 @@ use Rattle.qc_front.specs.declared.next.Next.{Next}
 use Rattle.qc_front.specs.declared.transaction.Transaction.{Transaction}
 use Rattle.qc_front.specs.Answering.{next_own, op_of}
 use Rattle.qc_front.specs.Appending.{own_appended, request_of}
-use Rattle.qc_front.specs.Counting.{learns}
+use Rattle.qc_front.specs.Counting.{learns, standing_of}
 use Rattle.qc_front.specs.Front.{FrontMove, moved, turned}
 
 -- the transaction as it is, for a `do` on an object
@@ -122,6 +125,15 @@ asking d doing want round =
       doing = doing (asking_all round sites);
       turn = sending (map (request_of d.begun want) sites);
     }
+
+-- the round after what came of the request of a number, where that is open
+
+abbrev pub noted_at : List Call → RoundState → ℕ → Option Answer → ℕ → Noted
+noted_at calls round number answer site =
+    record { site = site; calls = without_call calls number; round = note round site (standing_of answer) }
+
+abbrev pub noted : List Call → RoundState → ℕ → Option Answer → Option Noted
+noted calls round number answer = option_map (noted_at calls round number answer) (site_called calls number)
 
 -- the front end once it becomes what was drafted, and its turn
 

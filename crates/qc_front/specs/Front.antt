@@ -1,5 +1,5 @@
 -- A front end's moves: what it becomes, and what it does; how a transaction begins and is given up.
-use Rattle.std.specs.Prelude.{ℕ, ◌+◌, max, List, [], Bool, false, length, replicate, Option, Some, None}
+use Rattle.std.specs.Prelude.{ℕ, ◌+◌, max, [], false, length, replicate, Option, Some, None}
 use Rattle.qc_stamp.specs.declared.stamp.TxId.{TxId}
 use Rattle.qc_stamp.specs.Lives.{first_life}
 use Rattle.qc_decl.specs.declared.declaration.Declaration.{Declaration}

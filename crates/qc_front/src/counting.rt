@@ -4,14 +4,13 @@
 ghost use Rattle.std.specs.Prelude.{◌≡◌, IfOk};
 ghost use Rattle.std.specs.Option.{option_copied};
 ghost use Rattle.qc_front.specs.Counting.{learns, standing_of};
-ghost use Rattle.qc_front.specs.Drafts.{appended_draft, draft_of, read_draft};
-ghost use Rattle.qc_plan.specs.Round.{note};
+ghost use Rattle.qc_front.specs.Drafts.{appended_draft, draft_of, noted, read_draft};
 
 use crate::draft::Draft;
 use crate::front::Front;
 use crate::transaction::Transaction;
 use qc_list::OutOfMemory;
-use qc_msg::Answer;
+use qc_msg::{Answer, Calls};
 use qc_plan::{Round, Standing};
 
 impl Front {
@@ -64,13 +63,36 @@ impl Transaction {
     }
 }
 
-/// The round once it notes what came of the request to a site.
-pub(crate) fn noted(round: &Round, site: u8, answer: Option<&Answer>) -> Result<Round, OutOfMemory>
-    ensures { IfOk result (λ r. r ≡ note round.now site (standing_of (option_copied answer.entry))) }
-{
-    let mut round = round.copy()?;
-    round.note(site, standing_of(answer));
-    Ok(round)
+/// A round once it notes what came of one of its open requests.
+#[derive(Drop)]
+pub(crate) struct Noted {
+    /// The site that was asked.
+    pub(crate) site: u8,
+    /// The other open requests.
+    pub(crate) calls: Calls,
+    /// The round.
+    pub(crate) round: Round,
+}
+
+impl Noted {
+    /// The round after what came of the request of this number, or none where
+    /// that isn't open.
+    pub(crate) fn of(
+        calls: &Calls,
+        round: &Round,
+        number: u32,
+        answer: Option<&Answer>,
+    ) -> Result<Option<Noted>, OutOfMemory>
+        ensures { IfOk result (λ n. n ≡ noted calls.now round.now number (option_copied answer.entry)) }
+    {
+        let Some(site) = calls.site_called(number) else {
+            return Ok(None);
+        };
+        let mut round = round.copy()?;
+        round.note(site, standing_of(answer));
+        let calls = calls.without_call(number);
+        Ok(Some(Noted { site, calls, round }))
+    }
 }
 
 /// What a round notes: a site that neither grants, nor clashes, nor is closed,

@@ -9,15 +9,13 @@ ghost use Rattle.qc_front.specs.Drafts.{went};
 ghost use Rattle.qc_front.specs.Fits.{FrontFits};
 ghost use Rattle.qc_front.specs.Front.{moved};
 
-use crate::counting::noted;
+use crate::counting::Noted;
 use crate::doing::Doing;
 use crate::front::Front;
 use crate::next::Next;
-use crate::transaction::Transaction;
 use qc_decl::Declaration;
 use qc_list::OutOfMemory;
-use qc_msg::{Answer, Calls, Turn};
-use qc_plan::Round;
+use qc_msg::{Answer, Turn};
 use std::alloc::Global;
 
 impl Front {
@@ -68,12 +66,11 @@ impl Front {
                 calls,
                 round,
             } => {
-                let Some(site) = calls.site_called(number) else {
+                let Some(noted) = Noted::of(calls, round, number, answer)? else {
                     return Ok(None);
                 };
-                let draft = transaction.read_with(*object, site, answer)?;
-                let round = noted(round, site, answer)?;
-                let calls = calls.without_call(number);
+                let draft = transaction.read_with(*object, noted.site, answer)?;
+                let Noted { calls, round, .. } = noted;
                 Ok(Some(self.read(alloc, decl, draft, *inv, calls, round)?))
             }
             Doing::Appending {
@@ -83,12 +80,11 @@ impl Front {
                 calls,
                 round,
             } => {
-                let Some(site) = calls.site_called(number) else {
+                let Some(noted) = Noted::of(calls, round, number, answer)? else {
                     return Ok(None);
                 };
-                let draft = transaction.appended_with(*object, site, answer)?;
-                let round = noted(round, site, answer)?;
-                let calls = calls.without_call(number);
+                let draft = transaction.appended_with(*object, noted.site, answer)?;
+                let Noted { calls, round, .. } = noted;
                 Ok(Some(self.append(alloc, decl, draft, *inv, *event, calls, round)?))
             }
         }
