@@ -5,7 +5,6 @@ use Rattle.qc_stamp.specs.Order.{same_tx}
 use Rattle.qc_commit.specs.declared.desk.Known.{Known}
 use Rattle.qc_commit.specs.declared.desk.Known.TheVariants as knowns
 use Rattle.qc_commit.specs.Desk.{DeskMove, known, new_desk}
-use Rattle.qc_front.specs.declared.front.Front.{Front}
 use Rattle.qc_front.specs.declared.transaction.Transaction.{Transaction}
 use Rattle.qc_front.specs.Front.{FrontMove, ended, new_front}
 use Rattle.qc_msg.specs.declared.message.Outcome.{Outcome}

@@ -1,7 +1,13 @@
-//! A client's state.
+//! A client's state, and what it tells of a transaction.
 
-use qc_commit::Desk;
+ghost use Rattle.std.specs.Prelude.{◌≡◌};
+ghost use Rattle.qc_client.specs.Client.{is_begun, new_client, outcome_of};
+
+use qc_commit::{Desk, Known};
 use qc_front::Front;
+use qc_msg::Outcome;
+use qc_stamp::TxId;
+use std::alloc::Global;
 
 /// A client: the front end executes invocations, the desk commits.
 #[derive(Drop)]
@@ -10,4 +16,40 @@ pub struct Client {
     pub(crate) front: Front,
     /// The desk.
     pub(crate) desk: Desk,
+}
+
+impl Client {
+    /// The client of this number, from 0, before it does anything. It takes no
+    /// memory.
+    pub fn new(alloc: Global, number: u8) -> Client
+        ensures { result ≡ new_client number }
+    {
+        Client {
+            front: Front::new(number),
+            desk: Desk::new(alloc, number),
+        }
+    }
+
+    /// How a transaction stands: it committed where a record says so, it is
+    /// active where it is the begun one, and it aborted otherwise (presumed
+    /// abort).
+    pub fn outcome(&self, tx: TxId) -> Outcome
+        ensures { result ≡ outcome_of self.now tx }
+    {
+        match self.desk.outcome(tx) {
+            Known::Committed { stamp } => Outcome::Committed { stamp },
+            Known::Uncommitted if self.is_begun(tx) => Outcome::Active,
+            Known::Uncommitted => Outcome::Aborted,
+        }
+    }
+
+    /// Whether this transaction is begun and hasn't ended.
+    fn is_begun(&self, tx: TxId) -> bool
+        ensures { result ≡ is_begun tx self.now.front.transaction }
+    {
+        match self.front.begun() {
+            Some(begun) => begun.tx == tx,
+            None => false,
+        }
+    }
 }

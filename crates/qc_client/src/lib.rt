@@ -2,5 +2,6 @@
 #![tactic(auto)]
 
 mod client;
+mod conduct;
 
 pub use client::Client;
