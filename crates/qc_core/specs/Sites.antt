@@ -1,5 +1,5 @@
--- A site by its conduct: it takes an input and posts the turn that this calls for, again and again. And what is promised
--- of it: all that it is, its own steps show.
+-- A site by its conduct: it takes an input and posts the turn that this calls for, again and again. And what is
+-- promised of it: all that it is, its own steps show.
 use Rattle.std.specs.Prelude.{◌≡◌, ℕ, List, [], ◌∷◌, ◌++◌}
 use Rattle.qc_stamp.specs.declared.stamp.TxId.{TxId}
 use Rattle.qc_decl.specs.declared.declaration.Declaration.{Declaration}
