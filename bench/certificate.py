@@ -13,29 +13,23 @@ time, or more than 4 MB beside the list.
 """
 
 import os
-import shutil
 import statistics
 import subprocess
 import sys
 import tempfile
 
-ROOT = os.path.dirname(os.path.dirname(os.path.abspath(__file__)))
-CRATES = ("qc_list", "qc_table", "qc_cert")
+sys.dont_write_bytecode = True
+
+import programs
+
+USES = ("qc_table", "qc_cert")
 
 
 def build(folder):
     """The program of `check` and that of the walk."""
-    for crate in CRATES:
-        shutil.copytree(os.path.join(ROOT, "crates", crate), os.path.join(folder, "crates", crate))
-    source = os.path.join(folder, "crates", "walk", "src")
-    os.makedirs(source)
-    shutil.copy(os.path.join(ROOT, "bench", "certificate_check.rt.in"), os.path.join(source, "main.rt"))
-    with open(os.path.join(folder, "crates.txt"), "w") as file:
-        file.write("qc_list:\nqc_table: qc_list\nqc_cert: qc_list qc_table\nwalk: qc_list qc_table qc_cert\n")
-    subprocess.run(["rt", "run"], cwd=os.path.join(folder, "crates", "walk"), check=True, stdout=subprocess.DEVNULL)
     walk = os.path.join(folder, "certificate_walk")
-    subprocess.run(["rustc", "-O", os.path.join(ROOT, "bench", "certificate_walk.rs"), "-o", walk], check=True)
-    return os.path.join(folder, "crates", "walk", "out", "walk"), walk
+    subprocess.run(["rustc", "-O", os.path.join(programs.ROOT, "bench", "certificate_walk.rs"), "-o", walk], check=True)
+    return programs.build(folder, "walk", "certificate_check.rt.in", USES), walk
 
 
 def run(words):

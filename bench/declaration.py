@@ -15,22 +15,16 @@ the reader's time, or more memory than 40 times the text's size.
 """
 
 import os
-import shutil
 import statistics
 import subprocess
 import sys
 import tempfile
 
-ROOT = os.path.dirname(os.path.dirname(os.path.abspath(__file__)))
-CRATES = ("qc_list", "qc_table", "qc_cert", "qc_plan", "qc_decl", "qc_accept")
-LINES = """qc_list:
-qc_table: qc_list
-qc_cert: qc_list qc_table
-qc_plan: qc_list qc_table
-qc_decl: qc_list qc_table qc_cert qc_plan
-qc_accept: qc_list qc_table qc_cert qc_plan qc_decl toml indexmap itoa
-reader: qc_list qc_table qc_cert qc_plan qc_decl qc_accept toml
-"""
+sys.dont_write_bytecode = True
+
+import programs
+
+USES = ("qc_cert", "qc_accept", "toml")
 MOST_BYTES = 4_194_304
 CASES = ("read", "toml", "accept")
 WANTED = {"read": "", "toml": "a table", "accept": "no start triple"}
@@ -109,19 +103,6 @@ def longest():
     return document(count)
 
 
-def build(folder):
-    """The program."""
-    for crate in CRATES:
-        shutil.copytree(os.path.join(ROOT, "crates", crate), os.path.join(folder, "crates", crate))
-    source = os.path.join(folder, "crates", "reader", "src")
-    os.makedirs(source)
-    shutil.copy(os.path.join(ROOT, "bench", "declaration_read.rt.in"), os.path.join(source, "main.rt"))
-    with open(os.path.join(folder, "crates.txt"), "w") as file:
-        file.write(LINES)
-    subprocess.run(["rt", "run"], cwd=os.path.join(folder, "crates", "reader"), check=True, stdout=subprocess.DEVNULL)
-    return os.path.join(folder, "crates", "reader", "out", "reader")
-
-
 def seconds(program, case, path):
     """The processor's seconds of one run."""
     child = subprocess.Popen([program, case, path], stdout=subprocess.PIPE)
@@ -143,7 +124,8 @@ def main():
     runs = int(sys.argv[1]) if len(sys.argv) > 1 else 7
     text = longest()
     with tempfile.TemporaryDirectory() as folder:
-        program, path = build(folder), os.path.join(folder, "text")
+        program = programs.build(folder, "reader", "declaration_read.rt.in", USES)
+        path = os.path.join(folder, "text")
         with open(path, "w") as file:
             file.write(text)
         seen = {case: [] for case in CASES}

@@ -3,7 +3,7 @@
 
 usage: tools/definitions.py
 
-The definitions of crates/qc_core/specs (Committed, OneCopy, Deals, Seen, Atomic,
+The definitions of crates/old_core/specs (Committed, OneCopy, Deals, Seen, Atomic,
 Status) once more, as a plain program, so that they can be read, tried and
 doubted apart from the prover. Each file of tools/histories/ has a history of
 `@one`, step by step, and the text that is printed of it; both came from a model

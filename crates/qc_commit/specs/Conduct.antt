@@ -1,5 +1,5 @@
 -- What a desk becomes and does: a commit begins, a vote comes, all votes are in (presumed abort).
-use Rattle.std.specs.Prelude.{ℕ, ◌+◌, ◌==◌, max, Bool, if◌then◌else◌, List, [], ◌∷◌, ◌++◌, length, map}
+use Rattle.std.specs.Prelude.{ℕ, ◌+◌, ◌==◌, max, if◌then◌else◌, List, [], ◌∷◌, ◌++◌, length, map}
 use Rattle.std.specs.Prelude.{filter, is_none, Option, Some, None}
 use Rattle.qc_stamp.specs.declared.stamp.Stamp.{Stamp}
 use Rattle.qc_entry.specs.declared.record.Commit.{Commit}
@@ -12,6 +12,7 @@ use Rattle.qc_msg.specs.declared.message.Outcome.TheVariants as outcomes
 use Rattle.qc_msg.specs.declared.record.Record.TheVariants as records
 use Rattle.qc_msg.specs.declared.reply.Reply.TheVariants as replies
 use Rattle.qc_msg.specs.declared.reply.Why.{Why}
+use Rattle.qc_msg.specs.declared.turn.Turn.{Turn}
 use Rattle.qc_msg.specs.Calls.{site_called, without_call, with_call, numbered_from}
 use Rattle.qc_msg.specs.Begun.{decisions}
 use Rattle.qc_msg.specs.Turns.{quiet, sending, ending}
@@ -35,7 +36,18 @@ next_stamp desk = record { clock = desk.clock.value + 1; client = desk.client }
 abbrev pub commit_of : Stamp → Begun → Commit
 commit_of stamp b = record { stamp = stamp; tx = b.tx; ops = b.ops }
 
--- the transaction commits: its record is written before anybody hears of it; where it can't be, that isn't known
+-- the record is written before anybody hears of the commit; where it can't be, that isn't known
+abbrev pub commit_turn : Stamp → Begun → Turn
+commit_turn stamp b =
+    record {
+      write = Some (records.Commit (commit_of stamp b));
+      sends = decisions b (outcomes.Committed stamp);
+      told = Some (replies.Committed stamp);
+      failed_sends = [];
+      failed_told = Some replies.Unknown;
+    }
+
+-- the transaction commits
 abbrev pub decides : Desk → Begun → DeskMove
 decides desk b =
     let stamp : Stamp = next_stamp desk in
@@ -45,18 +57,15 @@ decides desk b =
       commits = desk.commits ++ commit_of stamp b ∷ [];
       voting = None;
     })
-    (record {
-      write = Some (records.Commit (commit_of stamp b));
-      sends = decisions b (outcomes.Committed stamp);
-      told = Some (replies.Committed stamp);
-      failed_sends = [];
-      failed_told = Some replies.Unknown;
-    })
+    (commit_turn stamp b)
 
 -- the transaction doesn't commit
+
+abbrev pub abort_turn : Begun → Why → Turn
+abort_turn b why = ending (decisions b outcomes.Aborted) (replies.Aborted why)
+
 abbrev pub gives_up : Desk → Begun → Why → DeskMove
-gives_up desk b why =
-    moved (with_voting desk None) (ending (decisions b outcomes.Aborted) (replies.Aborted why))
+gives_up desk b why = moved (with_voting desk None) (abort_turn b why)
 
 -- a commit of a begun transaction: each participant is asked for its promise; where there is none, it commits
 abbrev pub prepare : Declaration → Desk → Begun → ℕ → DeskMove

@@ -92,7 +92,7 @@ impl Declaration {
     }
 
     /// The plan of an epoch, from epoch 1, or `None` where there is none.
-    fn plan(&self, epoch: u8) -> Option<&Plan>
+    pub fn plan(&self, epoch: u8) -> Option<&Plan>
         ensures some { IfSome result (λ p. plan_in self.now epoch ≡ Some p.now) }
         ensures none { IsNone result ↔ (plan_in self.now epoch ≡ None) }
     {

@@ -4,3 +4,6 @@ pub mod Appending
 pub mod Counting
 pub mod Rounds
 pub mod Conduct
+pub mod Going
+pub mod Drafts
+pub mod Fits

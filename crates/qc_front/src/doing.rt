@@ -1,5 +1,8 @@
 //! What the running command waits for.
 
+ghost use Rattle.std.specs.Prelude.{◌≡◌};
+ghost use Rattle.qc_front.specs.Going.{is_idle};
+
 use qc_msg::Calls;
 use qc_plan::Round;
 
@@ -24,4 +27,13 @@ pub enum Doing {
         calls: Calls,
         round: Round,
     },
+}
+
+impl Doing {
+    /// Whether nothing is waited for.
+    pub fn is_idle(&self) -> bool
+        ensures { result ≡ is_idle self.now }
+    {
+        matches!(self, Doing::Idle)
+    }
 }

@@ -47,6 +47,13 @@ impl Locks {
         }
     }
 
+    /// The number of transactions that hold something.
+    pub fn holders(&self) -> usize
+        ensures { result ≡ length self.now }
+    {
+        self.held.len()
+    }
+
     /// A transaction's read locks, ascending by object and invocation.
     pub fn locks_of(&self, tx: TxId) -> &[ReadLock]
         ensures { result.now ≡ (held_of self.now tx).locks }

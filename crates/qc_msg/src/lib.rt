@@ -33,8 +33,10 @@ mod reply;
 mod step;
 mod turn;
 
-pub use begun::{Begun, FIRST_EPOCH, LifeAt, Lives, Sites};
-pub use call::{Call, Calls};
+pub use begun::{
+    Begun, FIRST_EPOCH, LifeAt, Lives, Sites, has_granted, life_of, with_life, with_site,
+};
+pub use call::{Call, Calls, MOST_CALLS};
 pub use history::History;
 pub use laws::{deeds_go_on, operations_are_those_of_records};
 pub use message::{Answer, Envelope, Message, Outcome, PreparedList, Want};

@@ -11,7 +11,7 @@
 //!    they were.
 //!
 //! Fakes in memory stand beside the traits: tests and laws on whole calls use
-//! them. `qc_top` takes one of each, `qc_report` words their faults, and the
+//! them. `old_top` takes one of each, `old_report` words their faults, and the
 //! program brings the real ones.
 #![tactic(auto)]
 

@@ -6,7 +6,7 @@ use Rattle.std.proofs.Math.Seq.{take-set-lt}
 use Rattle.std.specs.Option.{option_or}
 use Rattle.std.proofs.lemmas.Bool.Decides.{nat_tests}
 use Rattle.std.proofs.lemmas.List.Folds.{list_any-append, list_all-append}
-use Rattle.qc_plan.specs.Round.{RoundState, is_asked, has_granted, is_granted, all_noted, first_closed, first_clash, refusal, closed_at, clash_at, settled, verdict, is_waiting, may_ask, first, next_site, asking_first, asking_next, prefix, wanted, asking_all, asking_on, asking_in_turn, place_in, note_in, weighing}
+use Rattle.qc_plan.specs.Round.{RoundState, is_asked, has_granted, is_granted, all_noted, first_closed, first_clash, refusal, closed_at, clash_at, settled, verdict, is_waiting, may_ask, first, next_site, asking_first, asking_next, prefix, wanted, asking_all, asking_on, asking_in_turn, place_in, note_in, weighing, cyclic, start}
 use Rattle.qc_plan.specs.Weights.{weight}
 use Rattle.qc_plan.specs.declared.standing.Asked.{Asked}
 use Rattle.qc_plan.specs.declared.standing.Standing.{Standing}
@@ -253,3 +253,15 @@ note_none weights need sites n p site standing rest past place =
     note_put site standing (take n sites)
     ∙ ap (λ k. set (take n sites) k (record { site = site; standing = Some standing })) (sym place) ∙ set_past (take n sites) p (record { site = site; standing = Some standing }) (omega arith) in
     λ i. state weights need (sym same i) rest
+
+-- a round over no site
+
+weighing_none : (sites : List ℕ) → weighing [] sites ≡ []
+weighing_none [] = refl
+weighing_none (site ∷ sites) = weighing_none sites
+
+pub starts_nowhere : (weights : List ℕ) (sites : List Asked) (from need : ℕ) → weights ≡ [] → sites ≡ []
+    → state weights need (take 0 sites) (map (λ (a : Asked). a.site) (drop 0 sites)) ≡ start [] from need
+starts_nowhere weights sites from need light none =
+    (λ i. state (light i) need (take 0 (none i)) (map (λ (a : Asked). a.site) (drop 0 (none i))))
+    ∙ ap (λ rest. state [] need [] rest) (sym (weighing_none (cyclic 0 from)))

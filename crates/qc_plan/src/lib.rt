@@ -15,7 +15,7 @@
 //!    weight 0, in the order in which it lists them.
 //! 4. What a round comes to depends on the asked sites and what was noted of
 //!    them, and is final only once each asked site is noted.
-//! 5. A round takes memory as it starts, and then no more.
+//! 5. A round takes memory as it starts or is copied, and else none.
 //!
 //! `qc_accept` admits the plan of each declared epoch, and front ends read its
 //! thresholds. Rounds, `initial_met`, `final_met` and the close weight have no

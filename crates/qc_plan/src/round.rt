@@ -4,7 +4,7 @@
 //! and one further site whenever all answers are in and it still waits
 //! (weighted voting, Gifford 1979).
 
-ghost use Rattle.std.specs.Prelude.{◌≡◌, ◌<◌, ◌≤◌, length, IfOk};
+ghost use Rattle.std.specs.Prelude.{◌≡◌, ◌<◌, ◌≤◌, [], length, IfOk};
 ghost use Rattle.qc_plan.specs.Round.{verdict, is_waiting, may_ask, next_site, asking_next, note, start};
 
 use crate::asked::{all_noted, asked_weight, granted_weight, place_of, push_weighing, refusal};
@@ -47,7 +47,7 @@ impl Model for Round {
 impl Round {
     /// A round in which nobody was asked yet. It would ask the sites of
     /// positive weight in their cyclic order from this one, a site of the plan,
-    /// which has at most 16. This call alone takes memory.
+    /// which has at most 16.
     pub fn start(alloc: Global, plan: &Plan, from: u8, need: u16) -> Result<Round, OutOfMemory>
         requires sites { length plan.now.weights ≤ 16 }
         requires from { from < length plan.now.weights }
@@ -62,6 +62,31 @@ impl Round {
             need,
             sites,
             asked: 0,
+        })
+    }
+
+    /// A round over a plan without sites, from whichever site: `Met` where
+    /// nothing is needed, else `Short`. It takes no memory.
+    pub fn over_no_site(alloc: Global, from: u8, need: u16) -> Round
+        ensures { result ≡ start [] from need }
+    {
+        Round {
+            weights: Weights::new(alloc),
+            need,
+            sites: Vec::new(alloc),
+            asked: 0,
+        }
+    }
+
+    /// The same round, in memory of its own.
+    pub fn copy(&self) -> Result<Round, OutOfMemory>
+        ensures { IfOk result (λ r. r ≡ self.now) }
+    {
+        Ok(Round {
+            weights: self.weights.copy()?,
+            need: self.need,
+            sites: Vec::from_slice(*self.sites.allocator(), self.sites.as_slice())?,
+            asked: self.asked,
         })
     }
 
@@ -132,8 +157,8 @@ impl Round {
             && (asked_weight(self.weights.items(), asked) < self.need || all_noted(asked))
     }
 
-    /// The asked sites, in the order of asking.
-    fn asked_sites(&self) -> &[Asked]
+    /// The asked sites, in the order of asking, with what was noted of each.
+    pub fn asked_sites(&self) -> &[Asked]
         ensures { result.now ≡ self.now.asked }
     {
         &self.sites.as_slice()[..self.asked]

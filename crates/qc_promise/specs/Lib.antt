@@ -6,3 +6,9 @@ pub mod SitePromises
 pub mod SiteLogs
 pub mod SiteClocks
 pub mod SiteDue
+pub mod Account
+pub mod Rounds
+pub mod Asked
+pub mod Accounting
+pub mod Rows
+pub mod Replies

@@ -7,4 +7,11 @@
 //! the lines that it knows and those that its records give (`SiteLogs`), its
 //! clock (`SiteClocks`). By these, what it is to send and to write for each
 //! input: which refusal, which grant, which record (`SiteDue`).
+//!
+//! A client's replies are due. What has happened at it so far is an account of
+//! its deeds (`Account`, `Accounting`): the running command, its requests
+//! (`Asked`), each with the first thing that was taken for it, and what they
+//! come to (`Rounds`). The reply that is due is the first row of a table that
+//! applies (`Rows`), and `Replies` says of a history that each is, and each
+//! commit record.
 #![tactic(auto)]

@@ -1,5 +1,6 @@
 -- What a site becomes and does for each input, and over all its deeds.
-use Rattle.std.specs.Prelude.{ℕ, max, Bool, if◌then◌else◌, List, fold}
+use Rattle.std.specs.Prelude.{ℕ, max, if◌then◌else◌, List, fold}
+use Rattle.qc_stamp.specs.declared.stamp.TxId.{TxId}
 use Rattle.qc_entry.specs.declared.line.Line.{Line}
 use Rattle.qc_decl.specs.declared.declaration.Declaration.{Declaration}
 use Rattle.qc_msg.specs.declared.message.Message.{Message}
@@ -54,10 +55,21 @@ site_at decl s from number (messages.Ask tx) = moved s quiet
 site_at decl s from number (messages.Close epoch) = moved s quiet
 site_at decl s from number (messages.Install epoch clock log) = moved s quiet
 
+-- the site once its clock has passed
+abbrev pub passed : SiteState → Message → SiteState
+passed s message = record s { clock = clock_after s.clock message }
+
 -- what the site becomes and does as the message of this sender and number comes
 abbrev pub site_on : Declaration → SiteState → ℕ → ℕ → Message → SiteMove
-site_on decl s from number message =
-    site_at decl (record s { clock = clock_after s.clock message }) from number message
+site_on decl s from number message = site_at decl (passed s message) from number message
+
+-- the same of a request, and of a decision
+
+abbrev pub request_on : Declaration → SiteState → ℕ → ℕ → TxId → ℕ → ℕ → Want → SiteMove
+request_on decl s from number tx epoch life want = site_on decl s from number (messages.Request tx epoch life want)
+
+abbrev pub decision_on : Declaration → SiteState → ℕ → ℕ → TxId → Outcome → SiteMove
+decision_on decl s from number tx verdict = site_on decl s from number (messages.Decision tx verdict)
 
 -- what it takes; it isn't commanded, and it waits for no answer
 abbrev pub site_takes : Declaration → SiteState → Given → SiteMove

@@ -1,4 +1,10 @@
+pub mod Holders
 pub mod Site
 pub mod Promise
 pub mod Requests
 pub mod Conduct
+pub mod Told
+pub mod Vote
+pub mod Brought
+pub mod Ended
+pub mod Sorted

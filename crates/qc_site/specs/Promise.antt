@@ -36,19 +36,27 @@ prepared_of prepared tx = find (λ p. same_tx p.tx tx) prepared
 abbrev pub is_prepared : List Prepared → TxId → Bool
 is_prepared prepared tx = is_some (prepared_of prepared tx)
 
--- the promise is written before it is told, where it fits a record; where it can't be written, that is told
-abbrev pub promises : SiteState → ℕ → ℕ → Prepared → SiteMove
-promises s from number p =
-    if nat_le (prepare_length p) most_record_bytes
-    then moved
-    (record s { recorded = union s.recorded p.lines; prepared = s.prepared ++ p ∷ [] })
-    (record {
+-- the promise is made
+
+abbrev pub promised : SiteState → Prepared → SiteState
+promised s p = record s { recorded = union s.recorded p.lines; prepared = s.prepared ++ p ∷ [] }
+
+-- the promise is written before it is told; where it can't be written, that is told
+abbrev pub votes : SiteState → ℕ → ℕ → Prepared → Turn
+votes s from number p =
+    record {
       write = Some (records.Prepare p);
       sends = answering from number (Yes s.clock) ∷ [];
       told = None;
       failed_sends = answering from number Fault ∷ [];
       failed_told = None;
-    })
+    }
+
+-- it is made where it fits a record
+abbrev pub promises : SiteState → ℕ → ℕ → Prepared → SiteMove
+promises s from number p =
+    if nat_le (prepare_length p) most_record_bytes
+    then moved (promised s p) (votes s from number p)
     else moved s (answers from number Stale)
 
 -- a Prepare: nothing can be promised where nothing is held, and a promise stands
@@ -74,8 +82,11 @@ dropped s tx =
 abbrev pub stamped : Stamp → TxId → OwnLine → Line
 stamped stamp tx o = record { stamp = stamp; tx = tx; op = o.op; object = o.object; event = o.event }
 
+abbrev pub with_stamped : Stamp → TxId → List Line → OwnLine → List Line
+with_stamped stamp tx lines o = union lines (stamped stamp tx o ∷ [])
+
 abbrev pub lines_of : Stamp → TxId → List OwnLine → List Line
-lines_of stamp tx own = fold (λ (lines : List Line) (o : OwnLine). union lines (stamped stamp tx o ∷ [])) [] own
+lines_of stamp tx own = fold (with_stamped stamp tx) [] own
 
 -- the turn that writes only that the transaction is done
 abbrev pub records_done : TxId → Stamp → Turn

@@ -19,7 +19,7 @@ use Rattle.qc_msg.specs.declared.message.Message.TheVariants as messages
 use Rattle.qc_msg.specs.declared.message.Want.{Want}
 use Rattle.qc_msg.specs.declared.message.Want.TheVariants.{Read, Append, Prepare}
 use Rattle.qc_msg.specs.declared.turn.Turn.{Turn}
-use Rattle.qc_msg.specs.Turns.{quiet, sending}
+use Rattle.qc_msg.specs.Turns.{sending}
 use Rattle.qc_site.specs.Site.{SiteState, SiteMove, moved, answering, answers}
 use Rattle.qc_site.specs.Promise.{prepares}
 

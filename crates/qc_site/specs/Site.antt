@@ -1,5 +1,5 @@
 -- A site's state, and what it answers.
-use Rattle.std.specs.Prelude.{ℕ, List, [], ◌∷◌, Option, None}
+use Rattle.std.specs.Prelude.{◌≡◌, ℕ, List, [], ◌∷◌, Option, None}
 use Rattle.qc_entry.specs.declared.line.Line.{Line}
 use Rattle.qc_entry.specs.declared.record.Prepared.{Prepared}
 use Rattle.qc_lock.specs.declared.held.Held.{Held}
@@ -49,6 +49,13 @@ new_site number =
       prepared = [];
       clock = 0;
     }
+
+-- the site of this number in its first life and epoch, which it hasn't closed
+pub record IsAtFirst (number : ℕ) (s : SiteState) : Type 0 where
+  pub number_is : s.number ≡ number
+  pub life_is : s.life ≡ first_life
+  pub epoch_is : s.epoch ≡ first_epoch
+  pub is_open : s.closed_for ≡ None
 
 -- the answer to the request of this number, to its sender
 abbrev pub answering : ℕ → ℕ → Answer → Posting

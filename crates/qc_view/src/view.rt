@@ -30,6 +30,16 @@ impl View {
         })
     }
 
+    /// The same view, in memory of its own.
+    pub fn copy(&self) -> Result<View, OutOfMemory>
+        ensures { IfOk result (λ v. v ≡ self.now) }
+    {
+        Ok(View {
+            log: self.log.copy()?,
+            own: self.own.copy()?,
+        })
+    }
+
     /// The lines that are known.
     pub fn log(&self) -> &Log
         ensures { result.now ≡ self.now.log }

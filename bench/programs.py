@@ -1,0 +1,51 @@
+"""Makes the programs of the benches. A bench keeps a file NAME.rt.in, the `main`
+of a program that is no crate of the repository: it is proved and built with rt, in
+a temporary folder, beside a copy of the crates that it uses.
+"""
+
+import os
+import shutil
+import subprocess
+
+ROOT = os.path.dirname(os.path.dirname(os.path.abspath(__file__)))
+
+
+def libraries():
+    """What each crate of the repository uses, by its name, lowest first."""
+    used = {}
+    with open(os.path.join(ROOT, "crates.txt")) as file:
+        for line in file:
+            head, colon, tail = line.split("#")[0].partition(":")
+            if colon:
+                used[head.split()[0]] = tail.split()
+    return used
+
+
+def below(used, names):
+    """These crates of the repository and those below them, lowest first."""
+    found, left = set(), list(names)
+    while left:
+        name = left.pop()
+        if name in used and name not in found:
+            found.add(name)
+            left += used[name]
+    return [name for name in used if name in found]
+
+
+def build(folder, name, template, uses):
+    """Makes a program of this name from a template, over the libraries that it
+    uses, and tells where it stands."""
+    used = libraries()
+    crates = below(used, uses)
+    for crate in crates:
+        made = os.path.join(folder, "crates", crate)
+        shutil.copytree(os.path.join(ROOT, "crates", crate), made, ignore=shutil.ignore_patterns("out"))
+    source = os.path.join(folder, "crates", name, "src")
+    os.makedirs(source)
+    shutil.copy(os.path.join(ROOT, "bench", template), os.path.join(source, "main.rt"))
+    with open(os.path.join(folder, "crates.txt"), "w") as file:
+        for crate in crates:
+            file.write("%s: %s\n" % (crate, " ".join(used[crate])))
+        file.write("%s: %s\n" % (name, " ".join(uses)))
+    subprocess.run(["rt", "run"], cwd=os.path.join(folder, "crates", name), check=True, stdout=subprocess.DEVNULL)
+    return os.path.join(folder, "crates", name, "out", name)

@@ -1,0 +1,11 @@
+mod Once
+mod Learned
+mod Asking
+mod Counting
+mod Going
+mod Ends
+mod Records
+mod Rising
+mod Names
+mod Aside
+mod Numbering

@@ -1,0 +1,6 @@
+use Rattle.std.proofs.Common.{◌≡◌, drop}
+use Rattle.qc_commit.specs.Votes.{first_against}
+use Rattle.qc_commit.proofs.ballot.first_against.Given as goal
+
+abbrev pub invariant-ballots : goal.invariant-ballots
+invariant-ballots l = first_against (drop l.b-index l.b-items) ≡ first_against l.ballots

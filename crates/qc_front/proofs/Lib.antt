@@ -1,0 +1,4 @@
+pub mod OneByOne
+pub mod Drafts
+pub mod Learning
+pub mod Moves

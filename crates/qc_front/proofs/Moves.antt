@@ -1,0 +1,121 @@
+-- What a front end becomes, from what the calls on its way give.
+use Rattle.std.proofs.Common.{◌≡◌, ℕ, List, [], ◌∷◌, Option, Some, None, refl, sym, ap, ◌∙◌}
+use Rattle.std.specs.Prelude.{Result, Ok, Err, IfOk}
+use Rattle.std.specs.declared.alloc.AllocError.{AllocError}
+use Rattle.qc_decl.specs.declared.declaration.Declaration.{Declaration}
+use Rattle.qc_decl.specs.Actors.{first_site}
+use Rattle.qc_decl.specs.Lookup.{append_need_of, read_need_of}
+use Rattle.qc_msg.specs.declared.call.Call.{Call}
+use Rattle.qc_msg.specs.declared.message.Answer.{Answer}
+use Rattle.qc_msg.specs.declared.message.Answer.TheVariants as answers
+use Rattle.qc_msg.specs.declared.message.Want.{Want}
+use Rattle.qc_msg.specs.declared.reply.Reply.TheVariants as replies
+use Rattle.qc_msg.specs.Calls.{site_called, without_call}
+use Rattle.qc_msg.specs.Turns.{telling}
+use Rattle.qc_plan.specs.Round.{RoundState, note, start, verdict}
+use Rattle.qc_plan.specs.declared.standing.Verdict.{Verdict}
+use Rattle.qc_plan.specs.declared.standing.Verdict.TheVariants as verdicts
+use Rattle.qc_front.specs.declared.doing.Doing.{Doing}
+use Rattle.qc_front.specs.declared.doing.Doing.TheVariants.{Idle, Reading, Appending}
+use Rattle.qc_front.specs.declared.draft.Draft.{Draft}
+use Rattle.qc_front.specs.declared.front.Front.{Front}
+use Rattle.qc_front.specs.declared.next.Next.{Next}
+use Rattle.qc_front.specs.declared.transaction.Transaction.{Transaction}
+use Rattle.qc_front.specs.Answering.{answer_of, resp_of}
+use Rattle.qc_front.specs.Appending.{round_for, weights_of}
+use Rattle.qc_front.specs.Conduct.{appending_takes, reading_takes, takes, takes_in}
+use Rattle.qc_front.specs.Counting.{appended_with, learns, read_with, standing_of}
+use Rattle.qc_front.specs.Drafts.{IsDraft, answer_in_draft, append_want_of, appended_draft, asking, becomes, draft_of, drafted, event_draft, read_draft, views_of, went}
+use Rattle.qc_front.specs.Front.{FrontMove, moved, turned}
+use Rattle.qc_front.specs.Rounds.{answered, append_by, appends, goes_on, read_by, reads, responds}
+use Rattle.qc_front.proofs.Drafts.{answer_drafted, appended_drafted, appended_is_draft, event_drafted, read_drafted, read_is_draft, undone, want_drafted}
+use Rattle.qc_front.proofs.Learning.{append_learns, read_learns}
+
+-- the operation is recorded and told
+pub responded : (decl : Declaration) (front : Front) (d recorded : Draft) (inv event resp : ℕ) (next : Next) → IsDraft (views_of front.transaction) d
+    → resp ≡ resp_of decl d.object event → recorded ≡ event_draft d inv event resp → next ≡ record { draft = recorded; doing = Idle; turn = telling (replies.Response resp) }
+    → responds decl front (drafted (views_of front.transaction) d) d.object inv event ≡ becomes front next
+responded decl front d recorded inv event resp next has is_resp is_recorded is_next =
+    ap (λ (t : Transaction). moved (turned front (Some t) Idle) (telling (replies.Response (resp_of decl d.object event)))) (event_drafted (views_of front.transaction) d inv event (resp_of decl d.object event) has)
+    ∙ ap (λ (r : ℕ). becomes front (record { draft = event_draft d inv event r; doing = Idle; turn = telling (replies.Response r) })) (sym is_resp)
+    ∙ ap (λ (e : Draft). becomes front (record { draft = e; doing = Idle; turn = telling (replies.Response resp) })) (sym is_recorded)
+    ∙ ap (becomes front) (sym is_next)
+
+-- an append round goes on
+pub append_asked : (decl : Declaration) (front : Front) (d : Draft) (inv event : ℕ) (calls : List Call) (round : RoundState) (result : Result Next AllocError)
+    → IsDraft (views_of front.transaction) d → verdict round ≡ verdicts.Waiting
+    → IfOk result (λ next. next ≡ asking d (Appending d.object inv event calls) (append_want_of decl d event) round)
+    → IfOk result (λ next. appends decl front (drafted (views_of front.transaction) d) d.object inv event calls round ≡ becomes front next)
+append_asked decl front d inv event calls round (Err e) has waits asked = tt
+append_asked decl front d inv event calls round (Ok next) has waits asked =
+    ap (λ (v : Verdict). append_by decl front (drafted (views_of front.transaction) d) d.object inv event calls round v) waits
+    ∙ ap (λ (w : Want). goes_on front (drafted (views_of front.transaction) d) (Appending d.object inv event calls) w round) (want_drafted decl (views_of front.transaction) d event has)
+    ∙ ap (becomes front) (sym asked)
+
+-- a met read round is answered by the view
+pub read_met : (decl : Declaration) (front : Front) (d : Draft) (inv : ℕ) (calls : List Call) (round : RoundState) (result : Result Next AllocError)
+    → IsDraft (views_of front.transaction) d → verdict round ≡ verdicts.Met
+    → IfOk result (λ next. answered decl front (drafted (views_of front.transaction) d) d.object inv (answer_in_draft decl d inv) ≡ becomes front next)
+    → IfOk result (λ next. reads decl front (drafted (views_of front.transaction) d) d.object inv calls round ≡ becomes front next)
+read_met decl front d inv calls round (Err e) has met told = tt
+read_met decl front d inv calls round (Ok next) has met told =
+    ap (λ (v : Verdict). read_by decl front (drafted (views_of front.transaction) d) d.object inv calls round v) met
+    ∙ ap (λ (o : Option ℕ). answered decl front (drafted (views_of front.transaction) d) d.object inv o) (answer_drafted decl (views_of front.transaction) d inv has)
+    ∙ told
+
+-- a read round starts
+pub started : (decl : Declaration) (front : Front) (t : Transaction) (d : Draft) (object inv need : ℕ) (calls : List Call) (round : RoundState) (result : Result Next AllocError)
+    → front.transaction ≡ Some t → d ≡ draft_of t object → calls ≡ [] → need ≡ read_need_of decl d.begun.epoch object inv
+    → round ≡ start (weights_of decl d.begun.epoch) (first_site decl front.client) need
+    → IfOk result (λ next. reads decl front (drafted (views_of front.transaction) d) d.object inv calls round ≡ becomes front next)
+    → IfOk result (λ next. reads decl front t object inv [] (round_for decl front t (read_need_of decl t.begun.epoch object inv)) ≡ becomes front next)
+started decl front t d object inv need calls round (Err e) begun is_draft is_calls is_need is_round goes = tt
+started decl front t d object inv need calls round (Ok next) begun is_draft is_calls is_need is_round goes =
+    ap (λ (u : Transaction). reads decl front u object inv [] (round_for decl front t (read_need_of decl t.begun.epoch object inv))) (sym (undone t object))
+    ∙ ap (λ (o : Option Transaction). reads decl front (drafted (views_of o) (draft_of t object)) object inv [] (round_for decl front t (read_need_of decl t.begun.epoch object inv))) (sym begun)
+    ∙ ap (λ (e : Draft). reads decl front (drafted (views_of front.transaction) e) e.object inv []
+    (start (weights_of decl e.begun.epoch) (first_site decl front.client) (read_need_of decl e.begun.epoch object inv))) (sym is_draft)
+    ∙ ap (λ (n : ℕ). reads decl front (drafted (views_of front.transaction) d) d.object inv [] (start (weights_of decl d.begun.epoch) (first_site decl front.client) n)) (sym is_need)
+    ∙ ap (λ (r : RoundState). reads decl front (drafted (views_of front.transaction) d) d.object inv [] r) (sym is_round)
+    ∙ ap (λ (cs : List Call). reads decl front (drafted (views_of front.transaction) d) d.object inv cs round) (sym is_calls)
+    ∙ goes
+
+-- what came of an open request counts
+
+pub reading_went : (decl : Declaration) (front : Front) (t : Transaction) (object inv number site : ℕ) (calls rest : List Call) (round noted : RoundState) (d : Draft) (answer : Option Answer) (next : Next)
+    → front.transaction ≡ Some t → front.doing ≡ Reading object inv calls round → site_called calls number ≡ Some site
+    → d ≡ read_draft (draft_of t object) site answer → noted ≡ note round site (standing_of answer) → rest ≡ without_call calls number
+    → reads decl front (drafted (views_of front.transaction) d) d.object inv rest noted ≡ becomes front next
+    → takes decl front number answer ≡ went front (Some next) answer
+reading_went decl front t object inv number site calls rest round noted d answer next begun is_doing called is_draft is_noted is_rest goes =
+    ap (λ (o : Option Transaction). takes_in decl front front.doing o number answer) begun
+    ∙ ap (λ (e : Doing). takes_in decl front e (Some t) number answer) is_doing
+    ∙ ap (λ (o : Option ℕ). reading_takes decl front t object inv calls round number answer o) called
+    ∙ read_learns decl front answer (read_with t site object answer) object inv (without_call calls number) (note round site (standing_of answer))
+    ∙ ap (λ (m : FrontMove). moved (learns m.front answer) m.turn)
+    (ap (λ (u : Transaction). reads decl front u object inv (without_call calls number) (note round site (standing_of answer))) (sym (read_drafted t object site answer))
+    ∙ ap (λ (o : Option Transaction). reads decl front (drafted (views_of o) (read_draft (draft_of t object) site answer)) object inv (without_call calls number) (note round site (standing_of answer))) (sym begun)
+    ∙ ap (λ (e : Draft). reads decl front (drafted (views_of front.transaction) e) object inv (without_call calls number) (note round site (standing_of answer))) (sym is_draft)
+    ∙ ap (λ (k : ℕ). reads decl front (drafted (views_of front.transaction) d) k inv (without_call calls number) (note round site (standing_of answer))) (sym (ap (λ (e : Draft). e.object) is_draft ∙ (read_is_draft t object site answer).object_is))
+    ∙ ap (λ (cs : List Call). reads decl front (drafted (views_of front.transaction) d) d.object inv cs (note round site (standing_of answer))) (sym is_rest)
+    ∙ ap (λ (r : RoundState). reads decl front (drafted (views_of front.transaction) d) d.object inv rest r) (sym is_noted)
+    ∙ goes)
+
+pub appending_went : (decl : Declaration) (front : Front) (t : Transaction) (object inv event number site : ℕ) (calls rest : List Call) (round noted : RoundState) (d : Draft) (answer : Option Answer) (next : Next)
+    → front.transaction ≡ Some t → front.doing ≡ Appending object inv event calls round → site_called calls number ≡ Some site
+    → d ≡ appended_draft (draft_of t object) site answer → noted ≡ note round site (standing_of answer) → rest ≡ without_call calls number
+    → appends decl front (drafted (views_of front.transaction) d) d.object inv event rest noted ≡ becomes front next
+    → takes decl front number answer ≡ went front (Some next) answer
+appending_went decl front t object inv event number site calls rest round noted d answer next begun is_doing called is_draft is_noted is_rest goes =
+    ap (λ (o : Option Transaction). takes_in decl front front.doing o number answer) begun
+    ∙ ap (λ (e : Doing). takes_in decl front e (Some t) number answer) is_doing
+    ∙ ap (λ (o : Option ℕ). appending_takes decl front t object inv event calls round number answer o) called
+    ∙ append_learns decl front answer (appended_with t site answer) object inv event (without_call calls number) (note round site (standing_of answer))
+    ∙ ap (λ (m : FrontMove). moved (learns m.front answer) m.turn)
+    (ap (λ (u : Transaction). appends decl front u object inv event (without_call calls number) (note round site (standing_of answer))) (sym (appended_drafted t object site answer))
+    ∙ ap (λ (o : Option Transaction). appends decl front (drafted (views_of o) (appended_draft (draft_of t object) site answer)) object inv event (without_call calls number) (note round site (standing_of answer))) (sym begun)
+    ∙ ap (λ (e : Draft). appends decl front (drafted (views_of front.transaction) e) object inv event (without_call calls number) (note round site (standing_of answer))) (sym is_draft)
+    ∙ ap (λ (k : ℕ). appends decl front (drafted (views_of front.transaction) d) k inv event (without_call calls number) (note round site (standing_of answer))) (sym (ap (λ (e : Draft). e.object) is_draft ∙ (appended_is_draft t object site answer).object_is))
+    ∙ ap (λ (cs : List Call). appends decl front (drafted (views_of front.transaction) d) d.object inv event cs (note round site (standing_of answer))) (sym is_rest)
+    ∙ ap (λ (r : RoundState). appends decl front (drafted (views_of front.transaction) d) d.object inv event rest r) (sym is_noted)
+    ∙ goes)

@@ -1,0 +1,19 @@
+use Rattle.std.proofs.Common.{sym, ◌∙◌}
+use Rattle.std.specs.Option.{option_copied}
+use Rattle.qc_front.proofs.Moves.{appending_went, reading_went}
+use Rattle.qc_front.proofs.front.Front.next.Goals as goal
+
+pub returns-in_ok-read-in-Reading : goal.returns-in_ok-read-in-Reading
+returns-in_ok-read-in-Reading c =
+    reading_went c.args.decl.now c.args.self.now c.in-Some.transaction c.in-Reading.object c.in-Reading.inv c.args.number c.in-Some-site_called.site
+    c.in-Reading.calls c.without_call-calls.result c.in-Reading.round c.in_ok-round-in-Reading.round c.in_ok-draft-in-Reading.draft
+    (option_copied c.args.answer) c.in_ok-read-in-Reading.field-0 c.in-Some.is c.in-Reading.is (sym c.site_called.ensures ∙ c.in-Some-site_called.is)
+    c.in_ok-draft-in-Reading.ensures c.in_ok-round-in-Reading.ensures c.without_call-calls.ensures c.in_ok-read-in-Reading.ensures
+
+pub returns-in_ok-append-in-Appending : goal.returns-in_ok-append-in-Appending
+returns-in_ok-append-in-Appending c =
+    appending_went c.args.decl.now c.args.self.now c.in-Some.transaction c.in-Appending.object c.in-Appending.inv c.in-Appending.event c.args.number
+    c.in-Some-site_called-2.site c.in-Appending.calls c.without_call-calls-in-Appending.result c.in-Appending.round c.in_ok-round-in-Appending.round
+    c.in_ok-draft-in-Appending.draft (option_copied c.args.answer) c.in_ok-append-in-Appending.field-0 c.in-Some.is c.in-Appending.is
+    (sym c.site_called-in-Appending.ensures ∙ c.in-Some-site_called-2.is) c.in_ok-draft-in-Appending.ensures c.in_ok-round-in-Appending.ensures
+    c.without_call-calls-in-Appending.ensures c.in_ok-append-in-Appending.ensures

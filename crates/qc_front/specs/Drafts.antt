@@ -1,0 +1,139 @@
+-- A transaction as it is to become: what a `do` on one object changes of it.
+use Rattle.std.specs.Prelude.{◌≡◌, ℕ, ◌+◌, Bool, true, List, [], ◌∷◌, ◌++◌, fold, map, slice_get, slice_set, is_some}
+use Rattle.std.specs.Prelude.{Option, Some, None, option_and_then, option_map}
+use Rattle.std.specs.Option.{option_map_or}
+use Rattle.qc_decl.specs.declared.declaration.Declaration.{Declaration}
+use Rattle.qc_decl.specs.Lookup.{table_at}
+use Rattle.qc_entry.specs.declared.line.Line.{Line}
+use Rattle.qc_entry.specs.declared.line.Op.{Op}
+use Rattle.qc_msg.specs.declared.message.Answer.{Answer}
+use Rattle.qc_msg.specs.declared.message.Answer.TheVariants as answers
+use Rattle.qc_msg.specs.declared.message.Want.{Want}
+use Rattle.qc_msg.specs.declared.message.Want.TheVariants.{Append}
+use Rattle.qc_msg.specs.Begun.{with_life, with_site}
+use Rattle.qc_msg.specs.Turns.{quiet, sending}
+use Rattle.qc_view.specs.declared.view.View.{View}
+use Rattle.qc_table.specs.Rules.{Rules}
+use Rattle.qc_view.specs.View.{answer_in, with_log, with_own}
+use Rattle.qc_plan.specs.Round.{RoundState, asking_all, wanted}
+use Rattle.qc_front.specs.declared.doing.Doing.{Doing}
+use Rattle.qc_front.specs.declared.draft.Draft.{Draft}
+use Rattle.qc_front.specs.declared.front.Front.{Front}
+use Rattle.qc_front.specs.declared.next.Next.{Next}
+use Rattle.qc_front.specs.declared.transaction.Transaction.{Transaction}
+use Rattle.qc_front.specs.Answering.{next_own, op_of}
+use Rattle.qc_front.specs.Appending.{own_appended, request_of}
+use Rattle.qc_front.specs.Counting.{learns}
+use Rattle.qc_front.specs.Front.{FrontMove, moved, turned}
+
+-- the transaction as it is, for a `do` on an object
+abbrev pub draft_of : Transaction → ℕ → Draft
+draft_of t object = record { object = object; begun = t.begun; own = t.own; view = slice_get t.views object }
+
+-- the views, where that of one object is another one
+abbrev pub views_with : List View → ℕ → Option View → List View
+views_with views object None = views
+views_with views object (Some v) = slice_set views object v
+
+-- the transaction that a draft becomes, with these views
+abbrev pub drafted : List View → Draft → Transaction
+drafted views d = record { begun = d.begun; views = views_with views d.object d.view; own = d.own }
+
+-- a draft of a transaction with these views has a view just where its object is declared
+abbrev pub IsDraft : List View → Draft → Type 0
+IsDraft views d = is_some d.view ≡ is_some (slice_get views d.object)
+
+-- what becomes of a draft, as of a transaction
+
+abbrev pub lived_draft : Draft → ℕ → ℕ → Draft
+lived_draft d site life = record d { begun = record d.begun { lives = with_life d.begun.lives site life } }
+
+abbrev pub granted_draft : Draft → List Line → Draft
+granted_draft d log = record d { view = option_map (λ (v : View). with_log v log) d.view }
+
+abbrev pub op_draft : Draft → Op → Draft
+op_draft d op = record d { begun = record d.begun { ops = d.begun.ops ++ op ∷ [] } }
+
+abbrev pub event_draft : Draft → ℕ → ℕ → ℕ → Draft
+event_draft d inv event resp =
+    op_draft
+    (record d {
+      own = d.own ++ next_own (drafted [] d) d.object event ∷ [];
+      view = option_map (λ (v : View). with_own v event) d.view;
+    })
+    (op_of d.object inv (Some resp))
+
+abbrev pub asked_draft : Draft → List ℕ → Draft
+asked_draft d sites = record d { begun = record d.begun { asked = fold with_site d.begun.asked sites } }
+
+abbrev pub doomed_draft : Draft → Draft
+doomed_draft d = record d { begun = record d.begun { doomed = true } }
+
+-- the draft after what came of a request to a site
+
+abbrev pub read_draft : Draft → ℕ → Option Answer → Draft
+read_draft d site None = d
+read_draft d site (Some (answers.Granted life clock log)) = granted_draft (lived_draft d site life) log
+read_draft d site (Some (answers.Clash holder inv event)) = d
+read_draft d site (Some (answers.Closed epoch)) = d
+read_draft d site (Some (answers.Behind epoch)) = d
+read_draft d site (Some (answers.Restarted life)) = d
+read_draft d site (Some answers.Stale) = d
+read_draft d site (Some answers.Fault) = d
+read_draft d site (Some (answers.Yes clock)) = d
+read_draft d site (Some (answers.Shut clock log prepared)) = d
+read_draft d site (Some answers.Installed) = d
+read_draft d site (Some (answers.Answered verdict)) = d
+
+abbrev pub appended_draft : Draft → ℕ → Option Answer → Draft
+appended_draft d site None = d
+appended_draft d site (Some (answers.Granted life clock log)) = lived_draft d site life
+appended_draft d site (Some (answers.Clash holder inv event)) = d
+appended_draft d site (Some (answers.Closed epoch)) = d
+appended_draft d site (Some (answers.Behind epoch)) = d
+appended_draft d site (Some (answers.Restarted life)) = d
+appended_draft d site (Some answers.Stale) = d
+appended_draft d site (Some answers.Fault) = d
+appended_draft d site (Some (answers.Yes clock)) = d
+appended_draft d site (Some (answers.Shut clock log prepared)) = d
+appended_draft d site (Some answers.Installed) = d
+appended_draft d site (Some (answers.Answered verdict)) = d
+
+-- the view's answer, and its lines
+
+abbrev pub answer_in_draft : Declaration → Draft → ℕ → Option ℕ
+answer_in_draft decl d inv =
+    option_and_then (λ (rules : Rules). option_and_then (λ (v : View). answer_in rules v inv) d.view)
+    (table_at decl d.object)
+
+abbrev pub log_in_draft : Draft → List Line
+log_in_draft d = option_map_or (λ (v : View). v.log) d.view []
+
+-- what an append of an event carries
+abbrev pub append_want_of : Declaration → Draft → ℕ → Want
+append_want_of decl d event = Append d.object (log_in_draft d) (own_appended decl (drafted [] d) d.object event)
+
+-- all sites that the round wants are asked at once, and the round goes on
+abbrev pub asking : Draft → (RoundState → Doing) → Want → RoundState → Next
+asking d doing want round =
+    let sites : List ℕ = wanted round in
+    record {
+      draft = asked_draft d sites;
+      doing = doing (asking_all round sites);
+      turn = sending (map (request_of d.begun want) sites);
+    }
+
+-- the front end once it becomes what was drafted, and its turn
+
+abbrev pub views_of : Option Transaction → List View
+views_of None = []
+views_of (Some t) = t.views
+
+abbrev pub becomes : Front → Next → FrontMove
+becomes front next =
+    moved (turned front (Some (drafted (views_of front.transaction) next.draft)) next.doing) next.turn
+
+-- the front end once something came of its request: it learns what it became with it, or put it aside
+abbrev pub went : Front → Option Next → Option Answer → FrontMove
+went front None answer = moved front quiet
+went front (Some next) answer = moved (learns (becomes front next).front answer) next.turn

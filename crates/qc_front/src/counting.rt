@@ -1,0 +1,87 @@
+//! What an answer that counts, or a lost request, comes to: for the round, for
+//! the client's clock and epoch, for the transaction.
+
+ghost use Rattle.std.specs.Prelude.{◌≡◌, IfOk};
+ghost use Rattle.std.specs.Option.{option_copied};
+ghost use Rattle.qc_front.specs.Counting.{learns, standing_of};
+ghost use Rattle.qc_front.specs.Drafts.{appended_draft, draft_of, read_draft};
+ghost use Rattle.qc_plan.specs.Round.{note};
+
+use crate::draft::Draft;
+use crate::front::Front;
+use crate::transaction::Transaction;
+use qc_list::OutOfMemory;
+use qc_msg::Answer;
+use qc_plan::{Round, Standing};
+
+impl Front {
+    /// The clock passes that of a grant (Lamport 1978), the known epoch that of
+    /// a closed one.
+    pub(crate) fn learn(&mut self, answer: Option<&Answer>)
+        ensures { self.new ≡ learns self.old (option_copied answer.entry) }
+    {
+        match answer {
+            Some(Answer::Granted { clock, .. }) => self.clock.pass(*clock),
+            Some(Answer::Closed { epoch }) => self.epoch = self.epoch.max(*epoch),
+            _ => {}
+        }
+    }
+}
+
+impl Transaction {
+    /// The transaction after what came of a Read of an object at a site: a
+    /// grant's log joins the object's view.
+    pub(crate) fn read_with(
+        &self,
+        object: u8,
+        site: u8,
+        answer: Option<&Answer>,
+    ) -> Result<Draft, OutOfMemory>
+        ensures { IfOk result (λ d. d ≡ read_draft (draft_of self.now object) site (option_copied answer.entry)) }
+    {
+        let mut draft = self.draft(object)?;
+        if let Some(Answer::Granted { life, log, .. }) = answer {
+            draft.live(site, *life)?;
+            draft.join(log)?;
+        }
+        Ok(draft)
+    }
+
+    /// The transaction after what came of an Append at a site.
+    pub(crate) fn appended_with(
+        &self,
+        object: u8,
+        site: u8,
+        answer: Option<&Answer>,
+    ) -> Result<Draft, OutOfMemory>
+        ensures { IfOk result (λ d. d ≡ appended_draft (draft_of self.now object) site (option_copied answer.entry)) }
+    {
+        let mut draft = self.draft(object)?;
+        if let Some(Answer::Granted { life, .. }) = answer {
+            draft.live(site, *life)?;
+        }
+        Ok(draft)
+    }
+}
+
+/// The round once it notes what came of the request to a site.
+pub(crate) fn noted(round: &Round, site: u8, answer: Option<&Answer>) -> Result<Round, OutOfMemory>
+    ensures { IfOk result (λ r. r ≡ note round.now site (standing_of (option_copied answer.entry))) }
+{
+    let mut round = round.copy()?;
+    round.note(site, standing_of(answer));
+    Ok(round)
+}
+
+/// What a round notes: a site that neither grants, nor clashes, nor is closed,
+/// is missing.
+fn standing_of(answer: Option<&Answer>) -> Standing
+    ensures { result ≡ standing_of (option_copied answer.entry) }
+{
+    match answer {
+        Some(Answer::Granted { .. }) => Standing::Granted,
+        Some(Answer::Clash { holder, .. }) => Standing::Clash { tx: *holder },
+        Some(Answer::Closed { epoch }) => Standing::Closed { epoch: *epoch },
+        _ => Standing::Missing,
+    }
+}

@@ -1,0 +1,101 @@
+-- What has happened at a client so far, as far as its replies are due to it.
+use Rattle.std.specs.Prelude.{ℕ, ◌==◌, Bool, true, false, List, [], filter, fold, Option, None}
+use Rattle.qc_stamp.specs.declared.stamp.TxId.{TxId}
+use Rattle.qc_entry.specs.declared.line.Line.{Line}
+use Rattle.qc_entry.specs.declared.line.Op.{Op}
+use Rattle.qc_entry.specs.declared.line.OwnLine.{OwnLine}
+use Rattle.qc_entry.specs.declared.record.Commit.{Commit}
+use Rattle.qc_entry.specs.Log.{union}
+use Rattle.qc_msg.specs.declared.begun.LifeAt.{LifeAt}
+use Rattle.qc_msg.specs.declared.message.Answer.{Answer}
+use Rattle.qc_msg.specs.declared.message.Want.{Want}
+use Rattle.qc_msg.specs.declared.message.Want.TheVariants.{Read, Append, Prepare}
+use Rattle.qc_msg.specs.declared.step.Command.{Command}
+use Rattle.qc_msg.specs.Begun.{first_epoch}
+
+-- a request of the running command
+pub record ClientRequest : Type 0 where
+  pub number : ℕ
+  pub site : ℕ
+  -- the site's life that it names
+  pub life : ℕ
+  pub want : Want
+  -- the first thing that the client took for it, if any: an answer, or that the request is lost, which is no answer
+  pub taken : Option (Option Answer)
+
+-- the log of a grant that counted, to a Read of this object
+pub record ReadGrant : Type 0 where
+  pub object : ℕ
+  pub log : List Line
+
+-- the transaction that a client has begun and that hasn't ended
+pub record Current : Type 0 where
+  pub tx : TxId
+  pub epoch : ℕ
+  -- the operations that were told, and an own line for each that has a response
+  pub ops : List Op
+  pub own : List OwnLine
+  -- what its Reads were granted, and the lives of the sites in their first grants, of those grants that counted
+  pub read_grants : List ReadGrant
+  pub lives : List LifeAt
+  -- whether a `do` was refused while appending
+  pub doomed : Bool
+
+pub record Account : Type 0 where
+  pub client : ℕ
+  -- the command that was called and has no reply yet; since it was called, its requests in asked order, and the commit
+  -- record that was written
+  pub command : Option Command
+  pub requests : List ClientRequest
+  pub written : Option Commit
+  -- how many transactions began
+  pub count : ℕ
+  -- the greatest clock of the answers that counted and of the stamps
+  pub clock : ℕ
+  -- the greatest epoch that a counted Closed told, or the first one
+  pub known : ℕ
+  pub current : Option Current
+
+abbrev pub new_account : ℕ → Account
+new_account client =
+    record {
+      client = client;
+      command = None;
+      requests = [];
+      written = None;
+      count = 0;
+      clock = 0;
+      known = first_epoch;
+      current = None;
+    }
+
+abbrev pub new_current : TxId → ℕ → Current
+new_current tx epoch =
+    record { tx = tx; epoch = epoch; ops = []; own = []; read_grants = []; lives = []; doomed = false }
+
+-- the halves of a `do`, and a commit
+
+abbrev pub is_read : Want → Bool
+is_read (Read object inv) = true
+is_read (Append object view own) = false
+is_read Prepare = false
+
+abbrev pub is_append : Want → Bool
+is_append (Read object inv) = false
+is_append (Append object view own) = true
+is_append Prepare = false
+
+abbrev pub is_prepare : Want → Bool
+is_prepare (Read object inv) = false
+is_prepare (Append object view own) = false
+is_prepare Prepare = true
+
+-- the command's requests of a half
+abbrev pub requests_for : (Want → Bool) → Account → List ClientRequest
+requests_for half d = filter (λ (q : ClientRequest). half q.want) d.requests
+
+-- the view of an object: all that its Reads were granted
+abbrev pub view_of : Current → ℕ → List Line
+view_of t object =
+    fold (λ (lines : List Line) (g : ReadGrant). union lines g.log) []
+    (filter (λ (g : ReadGrant). g.object == object) t.read_grants)

@@ -1,0 +1,218 @@
+-- The account of a client's deeds.
+use Rattle.std.specs.Prelude.{ℕ, ◌+◌, ◌-◌, ◌==◌, ◌&&◌, ◌||◌, not, max, if◌then◌else◌, Bool, true, List, [], ◌∷◌, ◌++◌}
+use Rattle.std.specs.Prelude.{fold, length, map, is_none, Option, Some, None, option_map}
+use Rattle.std.specs.List.{find}
+use Rattle.qc_stamp.specs.declared.stamp.TxId.{TxId}
+use Rattle.qc_entry.specs.declared.line.Line.{Line}
+use Rattle.qc_decl.specs.declared.declaration.Declaration.{Declaration}
+use Rattle.qc_msg.specs.declared.message.Answer.{Answer}
+use Rattle.qc_msg.specs.declared.message.Answer.TheVariants as answers
+use Rattle.qc_msg.specs.declared.message.Message.{Message}
+use Rattle.qc_msg.specs.declared.message.Message.TheVariants as messages
+use Rattle.qc_msg.specs.declared.message.Want.{Want}
+use Rattle.qc_msg.specs.declared.message.Want.TheVariants.{Read, Append, Prepare}
+use Rattle.qc_msg.specs.declared.record.Record.{Record}
+use Rattle.qc_msg.specs.declared.record.Record.TheVariants as records
+use Rattle.qc_msg.specs.declared.reply.Half.{Half}
+use Rattle.qc_msg.specs.declared.reply.Half.TheVariants as halves
+use Rattle.qc_msg.specs.declared.reply.Reply.{Reply}
+use Rattle.qc_msg.specs.declared.reply.Reply.TheVariants as replies
+use Rattle.qc_msg.specs.declared.step.Command.{Command}
+use Rattle.qc_msg.specs.declared.step.Command.TheVariants as commands
+use Rattle.qc_msg.specs.declared.step.Given.{Given}
+use Rattle.qc_msg.specs.declared.step.Given.TheVariants as given
+use Rattle.qc_msg.specs.Begun.{with_life}
+use Rattle.qc_msg.specs.Deeds.{Deed, Takes, Writes, Sends, Tells, deeds}
+use Rattle.qc_msg.specs.Steps.{Entry}
+use Rattle.qc_promise.specs.Account.{Account, Current, ClientRequest, is_append, new_account, new_current, requests_for}
+use Rattle.qc_promise.specs.Asked.{is_asked_for}
+use Rattle.qc_promise.specs.Rounds.{answer_of, next_own, resp_of}
+
+-- the begun transaction, if there is one, is changed
+abbrev pub with_current : Account → (Current → Current) → Account
+with_current d change = record d { current = option_map change d.current }
+
+-- what an answer that counts tells: a grant the site's life, what it shows to a Read, and its clock (Lamport 1978); a
+-- promise the site's clock; a closed epoch the next one
+
+abbrev pub lived : Current → ℕ → ℕ → Current
+lived t site life = record t { lives = with_life t.lives site life }
+
+abbrev pub with_read : Current → ℕ → List Line → Current
+with_read t object log =
+    record t { read_grants = t.read_grants ++ record { object = object; log = log } ∷ [] }
+
+abbrev pub granted : Account → ℕ → ℕ → ℕ → List Line → Want → Account
+granted d site life clock log (Read object inv) =
+    with_current (record d { clock = max d.clock clock })
+    (λ (t : Current). with_read (lived t site life) object log)
+granted d site life clock log (Append object view own) =
+    with_current (record d { clock = max d.clock clock }) (λ (t : Current). lived t site life)
+granted d site life clock log Prepare = d
+
+abbrev pub promised : Account → ℕ → Want → Account
+promised d clock (Read object inv) = d
+promised d clock (Append object view own) = d
+promised d clock Prepare = record d { clock = max d.clock clock }
+
+abbrev pub told_by : Account → ClientRequest → Option Answer → Account
+told_by d q None = d
+told_by d q (Some (answers.Granted life clock log)) = granted d q.site life clock log q.want
+told_by d q (Some (answers.Clash holder inv event)) = d
+told_by d q (Some (answers.Closed epoch)) = record d { known = max d.known epoch }
+told_by d q (Some (answers.Behind epoch)) = d
+told_by d q (Some (answers.Restarted life)) = d
+told_by d q (Some answers.Stale) = d
+told_by d q (Some answers.Fault) = d
+told_by d q (Some (answers.Yes clock)) = promised d clock q.want
+told_by d q (Some (answers.Shut clock log prepared)) = d
+told_by d q (Some answers.Installed) = d
+told_by d q (Some (answers.Answered verdict)) = d
+
+-- the first thing that is taken for a request of the running command counts; all else changes nothing
+
+abbrev pub is_open : ℕ → ClientRequest → Bool
+is_open number q = (q.number == number) && is_none q.taken
+
+abbrev pub taken_for : ℕ → Option Answer → List ClientRequest → List ClientRequest
+taken_for number answer qs =
+    map (λ (q : ClientRequest). if is_open number q then record q { taken = Some answer } else q) qs
+
+abbrev pub counted_for : Account → ℕ → Option Answer → Option ClientRequest → Account
+counted_for d number answer None = d
+counted_for d number answer (Some q) =
+    told_by (record d { requests = taken_for number answer d.requests }) q answer
+
+abbrev pub counted : Account → ℕ → Option Answer → Account
+counted d number answer = counted_for d number answer (find (is_open number) d.requests)
+
+abbrev pub account_heard : Account → Message → Account
+account_heard d (messages.Request tx epoch life want) = d
+account_heard d (messages.Answer to answer) = counted d to (Some answer)
+account_heard d (messages.Decision tx verdict) = d
+account_heard d (messages.Inquiry tx) = d
+account_heard d (messages.Ask tx) = d
+account_heard d (messages.Close epoch) = d
+account_heard d (messages.Install epoch clock log) = d
+
+abbrev pub account_taken : Account → Given → Account
+account_taken d (given.Called command) = record d { command = Some command; requests = []; written = None }
+account_taken d (given.Got envelope) = account_heard d envelope.message
+account_taken d (given.Lost number) = counted d number None
+
+-- a commit record
+
+abbrev pub account_written : Account → Record → Account
+account_written d records.Life = d
+account_written d (records.Prepare prepared) = d
+account_written d (records.Done tx clock) = d
+account_written d (records.Close epoch) = d
+account_written d (records.Install epoch clock lines) = d
+account_written d (records.Commit commit) = record d { written = Some commit }
+account_written d (records.Decide epoch clock lines) = d
+
+-- a request, where the running command asks for it
+
+abbrev pub requested : Declaration → Account → ℕ → ℕ → TxId → ℕ → ℕ → Want → Account
+requested decl d number site tx epoch life want =
+    if is_asked_for decl d site tx epoch life want
+    then record d {
+      requests = d.requests
+          ++ record { number = number; site = site; life = life; want = want; taken = None } ∷ [];
+    }
+    else d
+
+abbrev pub account_sent : Declaration → Account → ℕ → ℕ → Message → Account
+account_sent decl d number to (messages.Request tx epoch life want) = requested decl d number to tx epoch life want
+account_sent decl d number to (messages.Answer request answer) = d
+account_sent decl d number to (messages.Decision tx verdict) = d
+account_sent decl d number to (messages.Inquiry tx) = d
+account_sent decl d number to (messages.Ask tx) = d
+account_sent decl d number to (messages.Close epoch) = d
+account_sent decl d number to (messages.Install epoch clock log) = d
+
+-- a reply: an operation is recorded, with an own line where it has a response
+
+abbrev pub with_absent : Current → ℕ → ℕ → Current
+with_absent t object inv = record t { ops = t.ops ++ record { object = object; inv = inv; resp = None } ∷ [] }
+
+abbrev pub with_response : Declaration → Current → ℕ → ℕ → Option ℕ → Current
+with_response decl t object inv None = t
+with_response decl t object inv (Some event) =
+    record t {
+      ops = t.ops ++ record { object = object; inv = inv; resp = Some (resp_of decl object event) } ∷ [];
+      own = t.own ++ next_own t object event ∷ [];
+    }
+
+abbrev pub responded : Declaration → Account → Option Command → Account
+responded decl d None = d
+responded decl d (Some commands.Begin) = d
+responded decl d (Some (commands.Do object inv)) =
+    with_current d (λ (t : Current). with_response decl t object inv (answer_of decl t object inv))
+responded decl d (Some commands.Commit) = d
+responded decl d (Some commands.Abort) = d
+responded decl d (Some (commands.Epoch number)) = d
+
+abbrev pub found_absent : Account → Option Command → Account
+found_absent d None = d
+found_absent d (Some commands.Begin) = d
+found_absent d (Some (commands.Do object inv)) = with_current d (λ (t : Current). with_absent t object inv)
+found_absent d (Some commands.Commit) = d
+found_absent d (Some commands.Abort) = d
+found_absent d (Some (commands.Epoch number)) = d
+
+-- a `do` that is refused while appending dooms its transaction: one that asked for an Append, or whose append half is
+-- told
+
+abbrev pub doomed_if : Bool → Current → Current
+doomed_if appending t = record t { doomed = t.doomed || appending }
+
+abbrev pub refused : Account → Account
+refused d = with_current d (doomed_if (not (length (requests_for is_append d) == 0)))
+
+abbrev pub short_of : Account → Half → Account
+short_of d halves.Read = d
+short_of d halves.Append = with_current d (doomed_if true)
+short_of d halves.Close = d
+
+abbrev pub begun : Account → TxId → Account
+begun d tx = record d { count = d.count + 1; current = Some (new_current tx d.known) }
+
+abbrev pub ended : Account → Account
+ended d = record d { current = None }
+
+abbrev pub account_told_in : Declaration → Account → Reply → Account
+account_told_in decl d replies.Down = d
+account_told_in decl d (replies.Already tx) = d
+account_told_in decl d (replies.Began tx) = begun d tx
+account_told_in decl d replies.NoTransaction = d
+account_told_in decl d replies.Doomed = d
+account_told_in decl d replies.TooLong = d
+account_told_in decl d (replies.Closed epoch site) = refused d
+account_told_in decl d (replies.Conflict tx site) = refused d
+account_told_in decl d (replies.Quorum half got need) = short_of d half
+account_told_in decl d replies.Absent = found_absent d d.command
+account_told_in decl d (replies.Response resp) = responded decl d d.command
+account_told_in decl d (replies.Aborted why) = ended d
+account_told_in decl d replies.Unknown = ended d
+account_told_in decl d (replies.Committed stamp) = record (ended d) { clock = stamp.clock }
+account_told_in decl d replies.Dropped = ended d
+account_told_in decl d (replies.Order current) = d
+account_told_in decl d (replies.InDoubt tx site) = d
+account_told_in decl d replies.Fault = d
+account_told_in decl d (replies.Moved closed installed) = d
+
+-- it ends its command
+abbrev pub account_told : Declaration → Account → Reply → Account
+account_told decl d reply = record (account_told_in decl d reply) { command = None; requests = []; written = None }
+
+-- one deed more
+abbrev pub account_at : Declaration → Account → Deed → Account
+account_at decl d (Takes given) = account_taken d given
+account_at decl d (Writes written) = account_written d written
+account_at decl d (Sends number to message) = account_sent decl d number to message
+account_at decl d (Tells reply) = account_told decl d reply
+
+-- the account of an actor's deeds in a history; a client's number is its actor's without the sites
+abbrev pub account : Declaration → ℕ → List Entry → Account
+account decl a h = fold (account_at decl) (new_account (a - decl.sites)) (deeds a [] h)

@@ -1,0 +1,133 @@
+//! How a call of the program ended.
+
+ghost use Rattle.std.specs.Prelude.{◌≡◌, IfOk, OnOk, ◌++◌};
+ghost use Rattle.qc_report.specs.Causes.{status_of, status_of_shelf, cause_text_of, shelf_text, file_text, what_text};
+
+use crate::declaration::{put_refused, refused_status};
+use crate::page::Page;
+use crate::script::{put_script, script_status};
+use itoa::Buffer;
+use qc_accept::DeclFault;
+use qc_list::OutOfMemory;
+use qc_msg::What;
+use qc_outside::ShelfFault;
+use qc_script::ScriptFault;
+use std::alloc::Global;
+
+/// Why a call of the program ended.
+#[derive(Drop)]
+pub enum Cause {
+    /// All was done.
+    Done,
+    /// What was asked has a form that isn't built.
+    NotBuilt,
+    /// A file wasn't taken: the script's, or else the declaration's.
+    Shelf { script: bool, fault: ShelfFault },
+    /// The declaration is refused.
+    Declaration(DeclFault),
+    /// The script isn't read.
+    Script(ScriptFault),
+    /// The output failed.
+    Sink,
+    /// A counted quantity reached its limit, and then had this number.
+    Full { what: What, number: u64 },
+    /// Memory was wanting.
+    OutOfMemory,
+}
+
+impl Cause {
+    /// The program's exit status: 0 where all was done, 2 for a declaration
+    /// that is refused, 3 for a script, 4 for a file, 5 for the output, 7 for a
+    /// limit, 8 for want of memory, 9 for what isn't built.
+    pub fn status(&self) -> u8
+        ensures { result ≡ status_of self.now }
+    {
+        match self {
+            Cause::Done => 0,
+            Cause::Declaration(fault) => refused_status(fault),
+            Cause::Script(fault) => script_status(*fault),
+            Cause::Shelf { fault, .. } => shelf_status(*fault),
+            Cause::Sink => 5,
+            Cause::Full { .. } => 7,
+            Cause::OutOfMemory => 8,
+            Cause::NotBuilt => 9,
+        }
+    }
+}
+
+/// The status for a file that wasn't taken.
+fn shelf_status(fault: ShelfFault) -> u8
+    ensures { result ≡ status_of_shelf fault }
+{
+    match fault {
+        ShelfFault::Missing | ShelfFault::TooLong | ShelfFault::Failed => 4,
+        ShelfFault::OutOfMemory => 8,
+    }
+}
+
+/// What is told of a cause on standard error: a line that ends with LF, or no
+/// byte where all was done.
+pub fn cause_text(alloc: Global, cause: &Cause) -> Result<Vec<u8>, OutOfMemory>
+    ensures { IfOk result (λ v. v.items ≡ cause_text_of cause.now) }
+{
+    let mut page = Page::new(alloc);
+    match cause {
+        Cause::Done => {}
+        Cause::NotBuilt => page.put("quorum: not built\n")?,
+        Cause::Shelf { script, fault } => shelf_text(&mut page, *script, *fault)?,
+        Cause::Declaration(fault) => put_refused(&mut page, fault)?,
+        Cause::Script(fault) => put_script(&mut page, *fault)?,
+        Cause::Sink => page.put("quorum: output failed\n")?,
+        Cause::Full { what, number } => full_text(&mut page, *what, *number)?,
+        Cause::OutOfMemory => page.put("quorum: out of memory\n")?,
+    }
+    Ok(page.into_bytes())
+}
+
+/// The line of a file that wasn't taken.
+fn shelf_text(page: &mut Page, script: bool, fault: ShelfFault) -> Result<(), OutOfMemory>
+    ensures { OnOk result (page.new ≡ page.old ++ shelf_text script fault) }
+{
+    match fault {
+        ShelfFault::Missing => file_text(page, script, "missing\n"),
+        ShelfFault::TooLong => file_text(page, script, "too long\n"),
+        ShelfFault::Failed => file_text(page, script, "failed\n"),
+        ShelfFault::OutOfMemory => page.put("quorum: out of memory\n"),
+    }
+}
+
+/// Which file it was, and what of it.
+fn file_text(page: &mut Page, script: bool, what: &str) -> Result<(), OutOfMemory>
+    ensures { OnOk result (page.new ≡ page.old ++ (file_text script ++ what.now)) }
+{
+    let file = if script {
+        "quorum: script file: "
+    } else {
+        "quorum: declaration file: "
+    };
+    page.put_all(&[file, what])
+}
+
+/// The line of a limit that was reached.
+fn full_text(page: &mut Page, what: What, number: u64) -> Result<(), OutOfMemory>
+    ensures { OnOk result (page.new ≡ page.old ++ cause_text_of (Cause.Full what number)) }
+{
+    let mut digits = Buffer::new();
+    page.put_all(&[
+        "quorum: full: ",
+        what_word(what),
+        digits.format(number),
+        "\n",
+    ])
+}
+
+/// The word of a quantity, and a space.
+fn what_word(what: What) -> &'static str
+    ensures { result.now ≡ what_text what }
+{
+    match what {
+        What::Steps => "steps ",
+        What::Operations => "operations ",
+        What::Carried => "lines ",
+    }
+}

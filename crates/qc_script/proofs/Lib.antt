@@ -1,0 +1,11 @@
+pub mod FirstRefused
+pub mod Lasts
+pub mod Numbers
+pub mod Reading
+pub mod SoundItems
+pub mod SoundScripts
+pub mod Spaces
+pub mod WrittenLines
+pub mod WrittenScripts
+pub mod WrittenTexts
+pub mod WrittenWords

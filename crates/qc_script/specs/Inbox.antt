@@ -1,0 +1,232 @@
+-- What waits for an actor after a history: copies of messages, requests of its own that are lost, and commands. Links
+-- drop, repeat and delay messages.
+use Rattle.std.specs.Prelude.{ℕ, ◌+◌, ◌-◌, ◌==◌, nat_lt, Bool, true, false, not, if◌then◌else◌, List, [], ◌∷◌, ◌++◌}
+use Rattle.std.specs.Prelude.{drop, filter, fold, get_or, map, replicate, set, slice_get}
+use Rattle.std.specs.List.{list_any}
+use Rattle.std.specs.Option.{option_map_or}
+use Rattle.qc_link.specs.Cuts.{no_cuts, with_cut, without_cut}
+use Rattle.qc_link.specs.Fate.{fate}
+use Rattle.qc_link.specs.declared.plan.Link.{Link}
+use Rattle.qc_link.specs.declared.rule.Fate.{Fate}
+use Rattle.qc_link.specs.declared.rule.Fate.TheVariants.{Pass, Drop, Twice, Late, Again}
+use Rattle.qc_msg.specs.declared.message.Envelope.{Envelope}
+use Rattle.qc_msg.specs.declared.message.Message.{Message}
+use Rattle.qc_msg.specs.declared.message.Message.TheVariants as messages
+use Rattle.qc_msg.specs.declared.step.Command.{Command}
+use Rattle.qc_msg.specs.declared.step.Control.{Control}
+use Rattle.qc_msg.specs.declared.step.Step.{Step}
+use Rattle.qc_msg.specs.declared.step.Step.TheVariants as steps
+use Rattle.qc_msg.specs.Steps.{Entry}
+use Rattle.qc_script.specs.declared.script.CommandLine.{CommandLine}
+use Rattle.qc_script.specs.declared.script.PhaseLines.{PhaseLines}
+use Rattle.qc_script.specs.declared.script.Script.{Script}
+
+pub record Inbox : Type 0 where
+  -- which actors are cut from each other
+  pub cuts : List Bool
+  -- by actor: how many messages came from it to this one so far, and went from this one to it, dropped ones too
+  pub from_each : List ℕ
+  pub to_each : List ℕ
+  -- the copies that are ready, in the order of their numbers
+  pub copies : List Envelope
+  -- late copies: those that are ready once the control lines of this phase have acted, and those that are in the next
+  pub opening : List Envelope
+  pub late : List Envelope
+  -- the actor's requests that made a copy at once and have no answer yet; those that are lost, ascending, until it
+  -- takes that they are
+  pub unanswered : List ℕ
+  pub lost : List ℕ
+  -- the control lines of the phase that haven't acted
+  pub controls : List Control
+  -- the commands of the phases so far that it hasn't called; whether it has called one and not told its reply
+  pub commands : List Command
+  pub busy : Bool
+
+-- how many messages there were from each actor, or to each; actors are numbered below 34
+
+abbrev pub no_counts : List ℕ
+no_counts = replicate 34 0
+
+abbrev pub count_of : List ℕ → ℕ → ℕ
+count_of counts a = get_or counts a 0
+
+abbrev pub one_more : List ℕ → ℕ → List ℕ
+one_more counts a = set counts a (count_of counts a + 1)
+
+abbrev pub empty_inbox : Inbox
+empty_inbox =
+    record {
+      cuts = no_cuts;
+      from_each = no_counts;
+      to_each = no_counts;
+      copies = [];
+      opening = [];
+      late = [];
+      unanswered = [];
+      lost = [];
+      controls = [];
+      commands = [];
+      busy = false;
+    }
+
+-- the copies that a fate makes at once, and those that come as the next phase begins
+
+abbrev pub copies_at_once : Fate → Envelope → List Envelope
+copies_at_once Pass e = e ∷ []
+copies_at_once Drop e = []
+copies_at_once Twice e = e ∷ e ∷ []
+copies_at_once Late e = []
+copies_at_once Again e = e ∷ []
+
+abbrev pub late_copies : Fate → Envelope → List Envelope
+late_copies Pass e = []
+late_copies Drop e = []
+late_copies Twice e = []
+late_copies Late e = e ∷ []
+late_copies Again e = e ∷ []
+
+abbrev pub comes_at_once : Fate → Bool
+comes_at_once Pass = true
+comes_at_once Drop = false
+comes_at_once Twice = true
+comes_at_once Late = false
+comes_at_once Again = true
+
+-- numbers, ascending
+
+abbrev pub with_number : List ℕ → ℕ → List ℕ
+with_number [] n = n ∷ []
+with_number (m ∷ ms) n = if nat_lt n m then n ∷ m ∷ ms else m ∷ with_number ms n
+
+abbrev pub without_number : List ℕ → ℕ → List ℕ
+without_number ns n = filter (λ m. not (m == n)) ns
+
+abbrev pub has_number : List ℕ → ℕ → Bool
+has_number ns n = list_any (λ m. m == n) ns
+
+-- a message to the actor: its copies; the first answer to a request of the actor's ends the wait for it, and where it
+-- makes no copy at once, the request is lost
+
+abbrev pub with_copies : Inbox → Envelope → Fate → Inbox
+with_copies i e f =
+    record i {
+      from_each = one_more i.from_each e.from;
+      copies = i.copies ++ copies_at_once f e;
+      late = i.late ++ late_copies f e;
+    }
+
+abbrev pub request_answered : Inbox → ℕ → Fate → Inbox
+request_answered i number f =
+    if has_number i.unanswered number
+    then record i {
+      unanswered = without_number i.unanswered number;
+      lost = if comes_at_once f then i.lost else with_number i.lost number;
+    }
+    else i
+
+abbrev pub answers_by : Inbox → Message → Fate → Inbox
+answers_by i (messages.Request tx epoch life want) f = i
+answers_by i (messages.Answer to answer) f = request_answered i to f
+answers_by i (messages.Decision tx verdict) f = i
+answers_by i (messages.Inquiry tx) f = i
+answers_by i (messages.Ask tx) f = i
+answers_by i (messages.Close epoch) f = i
+answers_by i (messages.Install epoch clock log) f = i
+
+abbrev pub comes_with : Inbox → Envelope → Fate → Inbox
+comes_with i e f = answers_by (with_copies i e f) e.message f
+
+-- a message of the actor's: a request that makes no copy at once is lost, though a late copy comes
+
+abbrev pub is_request : Message → Bool
+is_request (messages.Request tx epoch life want) = true
+is_request (messages.Answer to answer) = false
+is_request (messages.Decision tx verdict) = false
+is_request (messages.Inquiry tx) = false
+is_request (messages.Ask tx) = true
+is_request (messages.Close epoch) = true
+is_request (messages.Install epoch clock log) = true
+
+abbrev pub request_sent : Inbox → ℕ → Fate → Inbox
+request_sent i number f =
+    if comes_at_once f
+    then record i { unanswered = i.unanswered ++ number ∷ [] }
+    else record i { lost = with_number i.lost number }
+
+abbrev pub goes_with : Inbox → Envelope → Fate → Inbox
+goes_with i e f =
+    let counted : Inbox = record i { to_each = one_more i.to_each e.to } in
+    if is_request e.message then request_sent counted e.number f else counted
+
+-- its fate is decided as it is sent, by the cuts, the rules and its number among the messages from its sender to its
+-- receiver
+
+abbrev pub comes : List Link → ℕ → Inbox → Envelope → Inbox
+comes links a i e =
+    if e.to == a then comes_with i e (fate links i.cuts e.from e.to (count_of i.from_each e.from + 1)) else i
+
+abbrev pub goes : List Link → ℕ → Inbox → Envelope → Inbox
+goes links a i e =
+    if e.from == a then goes_with i e (fate links i.cuts e.from e.to (count_of i.to_each e.to + 1)) else i
+
+-- late copies are ready once the phase's control lines have acted
+
+abbrev pub opened_by : List Control → Inbox → Inbox
+opened_by [] i = record i { copies = i.opening ++ i.copies; opening = [] }
+opened_by (c ∷ cs) i = i
+
+abbrev pub opened : Inbox → Inbox
+opened i = opened_by i.controls i
+
+abbrev pub control_acted : Inbox → Inbox
+control_acted i = opened (record i { controls = drop 1 i.controls })
+
+-- the commands of a phase that an actor is asked
+
+abbrev pub commands_for : ℕ → List CommandLine → List Command
+commands_for a lines = map (λ (l : CommandLine). l.command) (filter (λ (l : CommandLine). l.actor == a) lines)
+
+abbrev pub phase_begun : ℕ → Inbox → PhaseLines → Inbox
+phase_begun a i phase =
+    opened (record i {
+      opening = i.opening ++ i.late;
+      late = [];
+      controls = phase.controls;
+      commands = i.commands ++ commands_for a phase.commands;
+    })
+
+-- what an actor's own input takes away, and what its reply does
+
+abbrev pub command_called : Inbox → Inbox
+command_called i = record i { commands = drop 1 i.commands; busy = true }
+
+abbrev pub copy_taken : Inbox → Inbox
+copy_taken i = record i { copies = drop 1 i.copies }
+
+abbrev pub loss_taken : Inbox → Inbox
+loss_taken i = record i { lost = drop 1 i.lost }
+
+abbrev pub reply_told : Inbox → Inbox
+reply_told i = record i { busy = false }
+
+-- what a step of an actor changes in the inbox of actor a. No disk is armed, and no actor falls or rises yet: those
+-- steps change nothing, and no run has them
+abbrev pub inbox_at : Script → ℕ → Inbox → ℕ → Step → Inbox
+inbox_at script a i by (steps.Phase k) = option_map_or (phase_begun a i) (slice_get script.phases (k - 1)) i
+inbox_at script a i by (steps.Cut x y) = control_acted (record i { cuts = with_cut i.cuts x y })
+inbox_at script a i by (steps.Heal x y) = control_acted (record i { cuts = without_cut i.cuts x y })
+inbox_at script a i by (steps.Armed actor kind at) = i
+inbox_at script a i by (steps.Called command) = if by == a then command_called i else i
+inbox_at script a i by (steps.Got n) = if by == a then copy_taken i else i
+inbox_at script a i by (steps.Lost n) = if by == a then loss_taken i else i
+inbox_at script a i by (steps.Wrote written) = i
+inbox_at script a i by (steps.Sent n to message) =
+    let e : Envelope = record { number = n; from = by; to = to; message = message } in
+    goes script.links a (comes script.links a i e) e
+inbox_at script a i by (steps.Told reply) = if by == a then reply_told i else i
+inbox_at script a i by (steps.Fell cause pending) = i
+inbox_at script a i by (steps.Rose records) = i
+inbox_at script a i by (steps.Damaged offset) = i
+
+abbrev pub inbox : Script → ℕ → List Entry → Inbox
+inbox script a h = fold (λ i e. inbox_at script a i e.actor e.step) empty_inbox h

@@ -1,0 +1,16 @@
+pub mod Answers
+pub mod Cut
+pub mod Forms
+pub mod Grammar
+pub mod Items
+pub mod Lines
+pub mod Options
+pub mod Places
+pub mod Ranges
+pub mod Refused
+pub mod Sound
+pub mod Text
+pub mod Inbox
+pub mod Ready
+pub mod Runs
+pub mod Written

@@ -1,0 +1,52 @@
+//! Actors, as words name them.
+
+ghost use Rattle.std.specs.Prelude.{◌≡◌};
+ghost use Rattle.qc_script.specs.Forms.{actor_of, numbered_of, client_of};
+
+use crate::number::index;
+
+/// An actor, as a word names it. There may be none of that number.
+#[derive(Clone, Copy, Debug, PartialEq, Eq)]
+pub enum ActorName {
+    /// `sN`: the site of this number.
+    Site(u32),
+    /// `cN`: the client of this number.
+    Client(u32),
+    /// `admin`: the administrator.
+    Administrator,
+}
+
+impl ActorName {
+    /// The actor that a word names.
+    pub(crate) fn of(word: &[u8]) -> Option<ActorName>
+        ensures { result ≡ actor_of word.now }
+    {
+        if word == b"admin".as_slice() {
+            Some(ActorName::Administrator)
+        } else {
+            numbered(word)
+        }
+    }
+}
+
+/// The site or the client that a word names.
+fn numbered(word: &[u8]) -> Option<ActorName>
+    ensures { result ≡ numbered_of word.now }
+{
+    let (letter, digits) = word.split_first()?;
+    match letter {
+        b's' => Some(ActorName::Site(index(digits)?)),
+        b'c' => Some(ActorName::Client(index(digits)?)),
+        _ => None,
+    }
+}
+
+/// The number of the client that a word names.
+pub(crate) fn client(word: &[u8]) -> Option<u32>
+    ensures { result ≡ client_of word.now }
+{
+    match ActorName::of(word)? {
+        ActorName::Client(number) => Some(number),
+        ActorName::Site(_) | ActorName::Administrator => None,
+    }
+}

@@ -1,0 +1,62 @@
+-- Holders are of clients below the most, and so is who is in the way.
+use Rattle.std.proofs.Common.{◌≡◌, inl, inr, ℕ, ◌<◌, ◌==◌, ◌&&◌, not, Bool, true, false, cond, List, [], ◌∷◌, length, Some, sym, subst}
+use Rattle.qc_decl.specs.Limits.{most_clients}
+use Rattle.qc_entry.specs.declared.line.OwnLine.{OwnLine}
+use Rattle.qc_entry.specs.declared.line.ReadLock.{ReadLock}
+use Rattle.qc_stamp.specs.declared.stamp.TxId.{TxId}
+use Rattle.qc_lock.specs.declared.clash.Clash.{Clash}
+use Rattle.qc_lock.specs.declared.held.Held.{Held}
+use Rattle.qc_lock.specs.Clash.{append_clash, read_clash}
+use Rattle.qc_lock.specs.Conflict.{In, IsAppendConflict, IsReadConflict, IsSmallest}
+use Rattle.qc_lock.specs.Held.{same_tx, with_entry, with_held, with_locks, with_owns, without_held, held_of}
+use Rattle.qc_lock.proofs.Conflicts.{append_smallest, read_smallest}
+use Rattle.qc_site.specs.Holders.{AreOfClients}
+
+-- a holder among them is of a client
+of_client : (h : Held) (held : List Held) → In h held → AreOfClients held → h.tx.client < most_clients
+of_client h [] member clients = absurd member
+of_client h (k ∷ ks) (inl is) clients = subst (λ (x : Held). x.tx.client < most_clients) (sym is) clients.0
+of_client h (k ∷ ks) (inr later) clients = of_client h ks later clients.1
+
+-- what is put, added or left out
+
+clients-put : (held : List Held) (e : Held) → AreOfClients held → e.tx.client < most_clients → AreOfClients (with_entry held e)
+clients-put [] e clients here = (here, tt)
+clients-put (h ∷ hs) e clients here = by (same_tx h.tx e.tx) (clients-put hs e clients.1 here) where
+  by : (t : Bool) → AreOfClients (with_entry hs e) → AreOfClients (cond t (e ∷ hs) (h ∷ with_entry hs e))
+  by true rest = (here, clients.1)
+  by false rest = (clients.0, rest)
+
+pub clients-held : (held : List Held) (tx : TxId) (locks : List ReadLock) (own : List OwnLine) → AreOfClients held → tx.client < most_clients → AreOfClients (with_held held tx locks own)
+clients-held held tx locks own clients here = by ((length locks == 0) && (length own == 0)) where
+  entry : Held
+  entry = record { tx = tx; locks = with_locks (held_of held tx).locks locks; own = with_owns (held_of held tx).own own }
+
+  by : (t : Bool) → AreOfClients (cond t held (with_entry held (record { tx = tx; locks = with_locks (held_of held tx).locks locks; own = with_owns (held_of held tx).own own })))
+  by true = clients
+  by false = clients-put held (record { tx = tx; locks = with_locks (held_of held tx).locks locks; own = with_owns (held_of held tx).own own }) clients here
+
+pub clients-without : (held : List Held) (tx : TxId) → AreOfClients held → AreOfClients (without_held held tx)
+clients-without [] tx clients = tt
+clients-without (h ∷ hs) tx clients = by (not (same_tx h.tx tx)) (clients-without hs tx clients.1) where
+  by : (t : Bool) → AreOfClients (without_held hs tx) → AreOfClients (cond t (h ∷ without_held hs tx) (without_held hs tx))
+  by true rest = (clients.0, rest)
+  by false rest = rest
+
+-- who is in the way
+
+told_client : (c : Clash) (held : List Held) (h : Held) (inv event : ℕ) → c ≡ record { holder = h.tx; inv = inv; event = event } → In h held → AreOfClients held → c.holder.client < most_clients
+told_client c held h inv event told holds clients =
+    subst (λ (d : Clash). d.holder.client < most_clients) (sym told) (of_client h held holds clients)
+
+pub read_client : (relation : List ℕ) (held : List Held) (tx : TxId) (object inv : ℕ) (c : Clash) → AreOfClients held → read_clash relation held tx object inv ≡ Some c → c.holder.client < most_clients
+read_client relation held tx object inv c clients is =
+    let found : IsSmallest (IsReadConflict relation held tx object inv) (Some c) = subst (IsSmallest (IsReadConflict relation held tx object inv)) is (read_smallest relation held tx object inv) in
+    let conflict : IsReadConflict relation held tx object inv c = found.0 in
+    told_client c held conflict.holder inv conflict.line.event conflict.told conflict.holds clients
+
+pub append_client : (relation : List ℕ) (held : List Held) (tx : TxId) (own : List OwnLine) (c : Clash) → AreOfClients held → append_clash relation held tx own ≡ Some c → c.holder.client < most_clients
+append_client relation held tx own c clients is =
+    let found : IsSmallest (IsAppendConflict relation held tx own) (Some c) = subst (IsSmallest (IsAppendConflict relation held tx own)) is (append_smallest relation held tx own) in
+    let conflict : IsAppendConflict relation held tx own c = found.0 in
+    told_client c held conflict.holder conflict.lock.inv conflict.line.event conflict.told conflict.holds clients

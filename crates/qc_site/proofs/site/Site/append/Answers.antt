@@ -1,0 +1,21 @@
+use Rattle.std.proofs.Common.{◌≡◌, ◌<◌, subst, sym, [], Some}
+use Rattle.qc_decl.specs.Limits.{most_clients}
+use Rattle.qc_lock.specs.declared.clash.Clash.{Clash}
+use Rattle.qc_lock.specs.Clash.{append_clash}
+use Rattle.qc_site.specs.Holders.{AreOfClients}
+use Rattle.qc_site.proofs.Holders.{clients-held, append_client}
+use Rattle.qc_site.proofs.site.Site.append.Goals as goal
+
+pub invariant_of-self : goal.invariant_of-self
+invariant_of-self c =
+    subst AreOfClients (sym c.in-Ok.ensures.ok) (clients-held c.self.inside.held c.args.tx [] c.items.result.now c.self.invariant c.requires.client)
+
+pub invariant_of-self-in-Ok : goal.invariant_of-self-in-Ok
+invariant_of-self-in-Ok c =
+    subst AreOfClients (sym c.in-Ok.ensures.ok) (clients-held c.self.inside.held c.args.tx [] c.items.result.now c.self.invariant c.requires.client)
+
+pub clashing-requires-clause-client : goal.clashing-requires-clause-client
+clashing-requires-clause-client c =
+    let told : append_clash c.unwrap-kind.result.now.relation c.self.inside.held c.args.tx c.items.result.now ≡ Some c.in-Err-Conflict.clash = rw c.in-Err-Conflict.field-0-is at c.in-Err-Conflict.ensures.told in
+    let within : c.in-Err-Conflict.clash.holder.client < most_clients = append_client _ c.self.inside.held c.args.tx _ c.in-Err-Conflict.clash c.self.invariant told in
+    subst (λ (k : Clash). k.holder.client < most_clients) (sym c.in-Err-Conflict.clash-is) within

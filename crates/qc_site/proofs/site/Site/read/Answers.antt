@@ -1,0 +1,12 @@
+use Rattle.std.proofs.Common.{subst, sym, [], ◌∷◌}
+use Rattle.qc_site.specs.Holders.{AreOfClients}
+use Rattle.qc_site.proofs.Holders.{clients-held, read_client}
+use Rattle.qc_site.proofs.site.Site.read.Goals as goal
+
+pub invariant_of-self : goal.invariant_of-self
+invariant_of-self c =
+    subst AreOfClients (sym c.in-Ok.ensures.ok) (clients-held c.self.inside.held c.args.tx (record { object = c.args.object; inv = c.args.inv } ∷ []) [] c.self.invariant c.requires.client)
+
+pub clashing-requires-clause-client : goal.clashing-requires-clause-client
+clashing-requires-clause-client c =
+    read_client _ c.self.inside.held c.args.tx c.args.object c.args.inv _ c.self.invariant (rw c.in-Err-Conflict.field-0-is at c.in-Err-Conflict.ensures.told)

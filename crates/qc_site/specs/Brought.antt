@@ -1,0 +1,75 @@
+-- What a message brings to a site: stamps that the clock passes, and lines that join the log.
+use Rattle.std.specs.Prelude.{Bool, if◌then◌else◌, List, [], ◌∷◌, map, Option, Some, None}
+use Rattle.std.specs.List.{flat_map}
+use Rattle.qc_stamp.specs.declared.stamp.Stamp.{Stamp}
+use Rattle.qc_stamp.specs.declared.stamp.TxId.{TxId}
+use Rattle.qc_entry.specs.declared.line.Line.{Line}
+use Rattle.qc_entry.specs.declared.record.Prepared.{Prepared}
+use Rattle.qc_msg.specs.declared.message.Message.{Message}
+use Rattle.qc_msg.specs.declared.message.Message.TheVariants as messages
+use Rattle.qc_msg.specs.declared.message.Outcome.{Outcome}
+use Rattle.qc_msg.specs.declared.message.Outcome.TheVariants.{Committed, Aborted, Active}
+use Rattle.qc_msg.specs.declared.message.Want.{Want}
+use Rattle.qc_msg.specs.declared.message.Want.TheVariants.{Read, Append, Prepare}
+use Rattle.qc_msg.specs.declared.step.Given.{Given}
+use Rattle.qc_msg.specs.declared.step.Given.TheVariants as given
+use Rattle.qc_msg.specs.Deeds.{Deed, Takes, Writes, Sends, Tells}
+use Rattle.qc_site.specs.Promise.{lines_of, prepared_of}
+
+-- the view that a request carries
+abbrev pub view_in : Want → List Line
+view_in (Read object inv) = []
+view_in (Append object view own) = view
+view_in Prepare = []
+
+-- stamps: those of the lines of an Append's view, and that of a committed transaction
+
+abbrev pub stamps_told : Outcome → List Stamp
+stamps_told (Committed stamp) = stamp ∷ []
+stamps_told Aborted = []
+stamps_told Active = []
+
+abbrev pub stamps_in : Message → List Stamp
+stamps_in (messages.Request tx epoch life want) = map (λ (l : Line). l.stamp) (view_in want)
+stamps_in (messages.Answer to answer) = []
+stamps_in (messages.Decision tx verdict) = stamps_told verdict
+stamps_in (messages.Inquiry tx) = []
+stamps_in (messages.Ask tx) = []
+stamps_in (messages.Close epoch) = []
+stamps_in (messages.Install epoch clock log) = []
+
+abbrev pub stamps_given : Given → List Stamp
+stamps_given (given.Called command) = []
+stamps_given (given.Got envelope) = stamps_in envelope.message
+stamps_given (given.Lost number) = []
+
+abbrev pub stamps_at : Deed → List Stamp
+stamps_at (Takes given) = stamps_given given
+stamps_at (Writes written) = []
+stamps_at (Sends number to message) = []
+stamps_at (Tells reply) = []
+
+-- all stamps that came in these deeds
+abbrev pub stamps_taken : List Deed → List Stamp
+stamps_taken deeds = flat_map stamps_at deeds
+
+-- lines: an Append's view, where it is granted; and the own lines that were promised of a committed transaction, with
+-- its stamp
+
+abbrev pub lines_promised : Stamp → TxId → Option Prepared → List Line
+lines_promised stamp tx None = []
+lines_promised stamp tx (Some p) = lines_of stamp tx p.own
+
+abbrev pub lines_told : List Prepared → TxId → Outcome → List Line
+lines_told prepared tx (Committed stamp) = lines_promised stamp tx (prepared_of prepared tx)
+lines_told prepared tx Aborted = []
+lines_told prepared tx Active = []
+
+abbrev pub brought : List Prepared → Bool → Message → List Line
+brought prepared granted (messages.Request tx epoch life want) = if granted then view_in want else []
+brought prepared granted (messages.Answer to answer) = []
+brought prepared granted (messages.Decision tx verdict) = lines_told prepared tx verdict
+brought prepared granted (messages.Inquiry tx) = []
+brought prepared granted (messages.Ask tx) = []
+brought prepared granted (messages.Close epoch) = []
+brought prepared granted (messages.Install epoch clock log) = []

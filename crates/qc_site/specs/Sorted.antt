@@ -1,0 +1,49 @@
+-- What is in order at a site: its lines, all that is held, and each promise.
+use Rattle.std.specs.Prelude.{List, [], ◌∷◌}
+use Rattle.qc_list.specs.Order.{Ascends}
+use Rattle.qc_entry.specs.declared.record.Prepared.{Prepared}
+use Rattle.qc_entry.specs.Line.{IsAscending}
+use Rattle.qc_lock.specs.Held.{lock_cmp, own_cmp}
+use Rattle.qc_lock.specs.Sound.{IsSound}
+use Rattle.qc_msg.specs.declared.message.Message.{Message}
+use Rattle.qc_msg.specs.declared.message.Message.TheVariants as messages
+use Rattle.qc_msg.specs.declared.step.Given.{Given}
+use Rattle.qc_msg.specs.declared.step.Given.TheVariants as given
+use Rattle.qc_msg.specs.Deeds.{Deed, Takes, Writes, Sends, Tells}
+use Rattle.qc_site.specs.Brought.{view_in}
+use Rattle.qc_site.specs.Site.{SiteState}
+
+-- the locks, own lines and lines of each promise
+abbrev pub ArePromisesSorted : List Prepared → Type 0
+ArePromisesSorted [] = Unit {0}
+ArePromisesSorted (p ∷ ps) = Ascends lock_cmp p.locks × Ascends own_cmp p.own × IsAscending p.lines
+    × ArePromisesSorted ps
+
+pub record IsSiteSorted (s : SiteState) : Type 0 where
+  pub log : IsAscending s.log
+  pub recorded : IsAscending s.recorded
+  pub held : IsSound s.held
+  pub prepared : ArePromisesSorted s.prepared
+
+-- the view of an Append, and of each that was taken
+
+abbrev pub IsMessageSorted : Message → Type 0
+IsMessageSorted (messages.Request tx epoch life want) = IsAscending (view_in want)
+IsMessageSorted (messages.Answer to answer) = Unit {0}
+IsMessageSorted (messages.Decision tx verdict) = Unit {0}
+IsMessageSorted (messages.Inquiry tx) = Unit {0}
+IsMessageSorted (messages.Ask tx) = Unit {0}
+IsMessageSorted (messages.Close epoch) = Unit {0}
+IsMessageSorted (messages.Install epoch clock log) = Unit {0}
+
+abbrev pub IsGivenSorted : Given → Type 0
+IsGivenSorted (given.Called command) = Unit {0}
+IsGivenSorted (given.Got envelope) = IsMessageSorted envelope.message
+IsGivenSorted (given.Lost number) = Unit {0}
+
+abbrev pub AreDeedsSorted : List Deed → Type 0
+AreDeedsSorted [] = Unit {0}
+AreDeedsSorted (Takes given ∷ deeds) = IsGivenSorted given × AreDeedsSorted deeds
+AreDeedsSorted (Writes written ∷ deeds) = AreDeedsSorted deeds
+AreDeedsSorted (Sends number to message ∷ deeds) = AreDeedsSorted deeds
+AreDeedsSorted (Tells reply ∷ deeds) = AreDeedsSorted deeds

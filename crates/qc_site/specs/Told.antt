@@ -1,0 +1,79 @@
+-- What a turn answers: the answer in its first message.
+use Rattle.std.specs.Prelude.{Bool, true, false, List, [], ◌∷◌, Option, Some, None}
+use Rattle.qc_msg.specs.declared.message.Answer.{Answer}
+use Rattle.qc_msg.specs.declared.message.Answer.TheVariants as answers
+use Rattle.qc_msg.specs.declared.message.Message.{Message}
+use Rattle.qc_msg.specs.declared.message.Message.TheVariants as messages
+use Rattle.qc_msg.specs.declared.turn.Posting.{Posting}
+use Rattle.qc_msg.specs.declared.turn.Turn.{Turn}
+
+abbrev pub answer_in : Message → Option Answer
+answer_in (messages.Request tx epoch life want) = None
+answer_in (messages.Answer to answer) = Some answer
+answer_in (messages.Decision tx verdict) = None
+answer_in (messages.Inquiry tx) = None
+answer_in (messages.Ask tx) = None
+answer_in (messages.Close epoch) = None
+answer_in (messages.Install epoch clock log) = None
+
+abbrev pub first_answer : List Posting → Option Answer
+first_answer [] = None
+first_answer (p ∷ ps) = answer_in p.message
+
+abbrev pub answer_of : Turn → Option Answer
+answer_of turn = first_answer turn.sends
+
+-- whether an answer grants, and whether it refuses what was asked
+
+abbrev pub is_grant : Answer → Bool
+is_grant (answers.Granted life clock log) = true
+is_grant (answers.Clash holder inv event) = false
+is_grant (answers.Closed epoch) = false
+is_grant (answers.Behind epoch) = false
+is_grant (answers.Restarted life) = false
+is_grant answers.Stale = false
+is_grant answers.Fault = false
+is_grant (answers.Yes clock) = false
+is_grant (answers.Shut clock log prepared) = false
+is_grant answers.Installed = false
+is_grant (answers.Answered verdict) = false
+
+abbrev pub is_refusal : Answer → Bool
+is_refusal (answers.Granted life clock log) = false
+is_refusal (answers.Clash holder inv event) = true
+is_refusal (answers.Closed epoch) = true
+is_refusal (answers.Behind epoch) = true
+is_refusal (answers.Restarted life) = true
+is_refusal answers.Stale = true
+is_refusal answers.Fault = true
+is_refusal (answers.Yes clock) = false
+is_refusal (answers.Shut clock log prepared) = false
+is_refusal answers.Installed = false
+is_refusal (answers.Answered verdict) = false
+
+abbrev pub is_vote : Answer → Bool
+is_vote (answers.Granted life clock log) = false
+is_vote (answers.Clash holder inv event) = false
+is_vote (answers.Closed epoch) = false
+is_vote (answers.Behind epoch) = false
+is_vote (answers.Restarted life) = false
+is_vote answers.Stale = false
+is_vote answers.Fault = false
+is_vote (answers.Yes clock) = true
+is_vote (answers.Shut clock log prepared) = false
+is_vote answers.Installed = false
+is_vote (answers.Answered verdict) = false
+
+-- whether there is an answer that passes a test
+abbrev pub passes : (Answer → Bool) → Option Answer → Bool
+passes test None = false
+passes test (Some answer) = test answer
+
+abbrev pub grants_in : Turn → Bool
+grants_in turn = passes is_grant (answer_of turn)
+
+abbrev pub refuses_in : Turn → Bool
+refuses_in turn = passes is_refusal (answer_of turn)
+
+abbrev pub votes_in : Turn → Bool
+votes_in turn = passes is_vote (answer_of turn)

@@ -1,0 +1,37 @@
+//! Who asks a site something, and how it is answered.
+
+ghost use Rattle.std.specs.Prelude.{◌≡◌, [], ◌∷◌, IfOk};
+ghost use Rattle.qc_site.specs.Site.{answering, answers};
+
+use qc_list::OutOfMemory;
+use qc_msg::{Answer, Message, Posting, Sends, Turn};
+use std::alloc::Global;
+
+/// The sender of a request, with the request's number.
+#[derive(Clone, Copy)]
+pub(crate) struct Asker {
+    /// The sender's number.
+    pub(crate) from: u8,
+    /// The request's number.
+    pub(crate) number: u32,
+}
+
+impl Asker {
+    /// The list of one answer to the request.
+    pub(crate) fn answering(self, alloc: Global, answer: Answer) -> Result<Sends, OutOfMemory>
+        ensures { IfOk result (λ sends. sends ≡ answering self.from self.number answer ∷ []) }
+    {
+        let message = Message::Answer {
+            to: self.number,
+            answer,
+        };
+        Posting::alone(alloc, self.from, message)
+    }
+
+    /// The turn that only answers the request.
+    pub(crate) fn answered(self, alloc: Global, answer: Answer) -> Result<Turn, OutOfMemory>
+        ensures { IfOk result (λ turn. turn ≡ answers self.from self.number answer) }
+    {
+        Ok(Turn::sending(alloc, self.answering(alloc, answer)?))
+    }
+}

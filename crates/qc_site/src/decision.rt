@@ -1,0 +1,103 @@
+//! How a site learns that a transaction ended.
+
+ghost use Rattle.std.specs.Prelude.{◌≡◌, IfOk, OnErr};
+ghost use Rattle.qc_site.specs.Promise.{dropped, finishes, joins, lines_of, prepared_of, records_done, stamped};
+
+use crate::Site;
+use crate::promise::prepared_of;
+use qc_entry::{Line, Log, OwnLine};
+use qc_list::{List, OutOfMemory};
+use qc_msg::{Outcome, Record, Turn};
+use qc_stamp::{Stamp, TxId};
+use std::alloc::Global;
+
+impl Site {
+    /// Finishes a transaction by its verdict; one that is active stays.
+    pub(crate) fn finish(
+        &mut self,
+        alloc: Global,
+        tx: TxId,
+        verdict: Outcome,
+    ) -> Result<Turn, OutOfMemory>
+        ensures ok { IfOk result (λ turn. finishes self.old tx verdict ≡ record { site = self.new; turn = turn }) }
+        ensures err { OnErr result (self.new ≡ self.old) }
+    {
+        match verdict {
+            Outcome::Committed { stamp } => self.commit(alloc, tx, stamp),
+            Outcome::Aborted => {
+                self.forget(tx);
+                Ok(Turn::quiet(alloc))
+            }
+            Outcome::Active => Ok(Turn::quiet(alloc)),
+        }
+    }
+
+    /// Finishes a transaction that committed: what was promised of it joins
+    /// the log, and this is written.
+    fn commit(&mut self, alloc: Global, tx: TxId, stamp: Stamp) -> Result<Turn, OutOfMemory>
+        ensures ok { IfOk result (λ turn. joins self.old tx stamp (prepared_of self.old.prepared tx)
+            ≡ record { site = self.new; turn = turn }) }
+        ensures err { OnErr result (self.new ≡ self.old) }
+    {
+        let Some(promise) = prepared_of(self.prepared.as_slice(), tx) else {
+            self.forget(tx);
+            return Ok(Turn::quiet(alloc));
+        };
+        let lines = lines_of(alloc, stamp, tx, promise.own.items())?;
+        let mut recorded = self.recorded.copy()?;
+        recorded.merge(&lines)?;
+        self.log.merge(&lines)?;
+        self.recorded = recorded;
+        self.forget(tx);
+        Ok(records_done(alloc, tx, stamp))
+    }
+
+    /// Drops all that is held and promised of a transaction. It takes no
+    /// memory.
+    fn forget(&mut self, tx: TxId)
+        ensures { self.new ≡ dropped self.old tx }
+    {
+        self.held.drop_tx(tx);
+        self.prepared.retain(|promise| promise.tx != tx);
+    }
+}
+
+/// The turn that writes only that the transaction is done.
+fn records_done(alloc: Global, tx: TxId, stamp: Stamp) -> Turn
+    ensures { result ≡ records_done tx stamp }
+{
+    Turn {
+        write: Some(Record::Done {
+            tx,
+            clock: stamp.clock,
+        }),
+        sends: List::new(alloc),
+        told: None,
+        failed_sends: List::new(alloc),
+        failed_told: None,
+    }
+}
+
+/// The own lines as lines with this stamp.
+fn lines_of(alloc: Global, stamp: Stamp, tx: TxId, own: &[OwnLine]) -> Result<Log, OutOfMemory>
+    ensures { IfOk result (λ l. l ≡ lines_of stamp tx own.now) }
+{
+    let mut lines = Log::new(alloc)?;
+    'own: for line in own {
+        lines.add(stamped(stamp, tx, line))?;
+    }
+    Ok(lines)
+}
+
+/// An own line as the line of a committed transaction.
+fn stamped(stamp: Stamp, tx: TxId, line: &OwnLine) -> Line
+    ensures { result ≡ stamped stamp tx line.now }
+{
+    Line {
+        stamp,
+        tx,
+        op: line.op,
+        object: line.object,
+        event: line.event,
+    }
+}

@@ -1,0 +1,157 @@
+//! What a site grants: a lock with what it covers, or own lines, unless another
+//! transaction holds what conflicts (Herlihy 1986).
+
+ghost use Rattle.std.specs.Prelude.{◌≡◌, ◌≤◌, ◌<◌, ◌+◌, IfOk, OnErr, IsSome, true, None, Some, unwrap_or};
+ghost use Rattle.qc_decl.specs.Limits.{most_clients, most_sites};
+ghost use Rattle.qc_decl.specs.Lookup.{kind_at};
+ghost use Rattle.qc_entry.specs.Log.{union};
+ghost use Rattle.qc_lock.specs.Clash.{append_clash, read_clash};
+ghost use Rattle.qc_msg.specs.declared.message.Answer.TheVariants.{Granted};
+ghost use Rattle.qc_site.specs.Requests.{appends_by, clashing, grants, names_declared, reads_by, relation_at};
+ghost use Rattle.qc_site.specs.Site.{moved};
+
+use crate::Site;
+use crate::asker::Asker;
+use crate::requests::kind_of;
+use qc_decl::Declaration;
+use qc_entry::{Log, Owns};
+use qc_list::OutOfMemory;
+use qc_lock::{Clash, LockFault};
+use qc_msg::{Answer, Message, Posting, Turn, Want};
+use qc_stamp::TxId;
+use std::alloc::{AllocError, Global};
+
+impl Site {
+    /// Grants what a request of the site's epoch and life wants, or tells why
+    /// not.
+    pub(crate) fn grant(
+        &mut self,
+        alloc: Global,
+        decl: &Declaration,
+        asker: Asker,
+        tx: TxId,
+        want: &Want,
+    ) -> Result<Turn, OutOfMemory>
+        requires sites { decl.now.sites ≤ most_sites }
+        requires clients { decl.now.clients ≤ most_clients }
+        requires declared { names_declared decl.now tx want.now ≡ true }
+        ensures ok { IfOk result (λ turn. grants decl.now self.old asker.from asker.number tx want.now
+            ≡ record { site = self.new; turn = turn }) }
+        ensures err { OnErr result (self.new ≡ self.old) }
+    {
+        match want {
+            Want::Read { object, inv } => self.read(alloc, decl, asker, tx, *object, *inv),
+            Want::Append { object, view, own } => {
+                self.append(alloc, decl, asker, tx, *object, view, own)
+            }
+            Want::Prepare => self.prepare(alloc, asker, tx),
+        }
+    }
+
+    /// Holds a lock, and grants the object's lines.
+    fn read(
+        &mut self,
+        alloc: Global,
+        decl: &Declaration,
+        asker: Asker,
+        tx: TxId,
+        object: u8,
+        inv: u8,
+    ) -> Result<Turn, OutOfMemory>
+        requires sites { decl.now.sites ≤ most_sites }
+        requires client { tx.client < most_clients }
+        requires declared { IsSome (kind_at decl.now object) }
+        ensures ok { IfOk result (λ turn. reads_by decl.now self.old asker.from asker.number tx object inv
+            (read_clash (relation_at decl.now object) self.old.held tx object inv)
+            ≡ record { site = self.new; turn = turn }) }
+        ensures err { OnErr result (self.new ≡ self.old) }
+    {
+        let kind = kind_of(decl, object).unwrap();
+        let turn = asker.answered(alloc, self.granted(self.log.of(object)?))?;
+        match self.held.try_read(kind, tx, object, inv) {
+            Ok(()) => Ok(turn),
+            Err(LockFault::Conflict(clash)) => clashing(alloc, decl, asker, clash),
+            Err(LockFault::OutOfMemory) => Err(AllocError),
+        }
+    }
+
+    /// Holds own lines, and merges the view into the log. The merged log is
+    /// made first, since the locks change last.
+    fn append(
+        &mut self,
+        alloc: Global,
+        decl: &Declaration,
+        asker: Asker,
+        tx: TxId,
+        object: u8,
+        view: &Log,
+        own: &Owns,
+    ) -> Result<Turn, OutOfMemory>
+        requires sites { decl.now.sites ≤ most_sites }
+        requires client { tx.client < most_clients }
+        requires declared { IsSome (kind_at decl.now object) }
+        ensures ok { IfOk result (λ turn. appends_by decl.now self.old asker.from asker.number tx view.now own.now
+            (append_clash (relation_at decl.now object) self.old.held tx own.now)
+            ≡ record { site = self.new; turn = turn }) }
+        ensures err { OnErr result (self.new ≡ self.old) }
+    {
+        let kind = kind_of(decl, object).unwrap();
+        let turn = asker.answered(alloc, self.granted(Log::new(alloc)?))?;
+        let log = merged(&self.log, view)?;
+        match self.held.try_append(kind, tx, own.items()) {
+            Ok(()) => {
+                if let Some(log) = log {
+                    self.log = log;
+                }
+                Ok(turn)
+            }
+            Err(LockFault::Conflict(clash)) => clashing(alloc, decl, asker, clash),
+            Err(LockFault::OutOfMemory) => Err(AllocError),
+        }
+    }
+
+    /// The answer that grants, with these lines.
+    fn granted(&self, log: Log) -> Answer
+        ensures { result ≡ Granted self.now.life self.now.clock log }
+    {
+        Answer::Granted {
+            life: self.life,
+            clock: self.clock.value,
+            log,
+        }
+    }
+}
+
+/// The turn that tells a clash, and asks the holder's client how its
+/// transaction stands.
+fn clashing(
+    alloc: Global,
+    decl: &Declaration,
+    asker: Asker,
+    clash: Clash,
+) -> Result<Turn, OutOfMemory>
+    requires sites { decl.now.sites ≤ most_sites }
+    requires client { clash.holder.client < most_clients }
+    ensures { IfOk result (λ turn. turn ≡ clashing decl.now asker.from asker.number clash) }
+{
+    let Clash { holder, inv, event } = clash;
+    let mut sends = asker.answering(alloc, Answer::Clash { holder, inv, event })?;
+    sends.push(Posting {
+        to: decl.client_actor(holder.client),
+        message: Message::Inquiry { tx: holder },
+    })?;
+    Ok(Turn::sending(alloc, sends))
+}
+
+/// A log with a view's lines, in memory of its own, or `None` where the view
+/// has no line.
+fn merged(log: &Log, view: &Log) -> Result<Option<Log>, OutOfMemory>
+    ensures { IfOk result (λ all. unwrap_or all log.now ≡ union log.now view.now) }
+{
+    if view.lines().is_empty() {
+        return Ok(None);
+    }
+    let mut all = log.copy()?;
+    all.merge(view)?;
+    Ok(Some(all))
+}

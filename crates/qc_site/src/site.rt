@@ -1,0 +1,134 @@
+//! A site's state, and what it does as a message comes.
+
+ghost use Rattle.std.specs.Prelude.{◌≡◌, ◌≤◌, ◌<◌, IfOk, OnErr};
+ghost use Rattle.qc_decl.specs.Limits.{most_clients, most_sites};
+ghost use Rattle.qc_site.specs.Conduct.{site_at, site_on};
+ghost use Rattle.qc_site.specs.Promise.{dropped};
+ghost use Rattle.qc_site.specs.Site.{new_site};
+
+use crate::asker::Asker;
+use crate::clock::clock_after;
+use qc_decl::Declaration;
+use qc_entry::{Log, Prepared};
+use qc_list::OutOfMemory;
+use qc_lock::Locks;
+use qc_msg::{FIRST_EPOCH, Message, Turn};
+use qc_stamp::{Clock, FIRST_LIFE};
+use std::alloc::Global;
+use std::marker::Model;
+
+/// A site: its life and epoch, its log, what is held and promised, and its
+/// clock. Each transaction that holds something is of a client below the most
+/// clients.
+#[derive(Drop)]
+pub struct Site {
+    pub(crate) number: u8,
+    pub(crate) life: u32,
+    pub(crate) epoch: u8,
+    pub(crate) closed_for: Option<u8>,
+    pub(crate) log: Log,
+    pub(crate) recorded: Log,
+    pub(crate) held: Locks,
+    pub(crate) prepared: Vec<Prepared>,
+    pub(crate) clock: Clock,
+}
+
+impl Model for Site {
+    ghost use Rattle.qc_site.specs.Site.{SiteState};
+    ghost use Rattle.qc_site.specs.Holders.{AreOfClients};
+
+    ghost Value = { SiteState };
+
+    ghost view = { λ s. record {
+      number = s.number;
+      life = s.life;
+      epoch = s.epoch;
+      closed_for = s.closed_for;
+      log = s.log;
+      recorded = s.recorded;
+      held = s.held;
+      prepared = s.prepared.items;
+      clock = s.clock.value;
+    } };
+
+    ghost invariant = { λ s. AreOfClients s.held };
+}
+
+impl Site {
+    /// The site with this number, as it begins.
+    pub fn new(alloc: Global, number: u8) -> Result<Site, OutOfMemory>
+        ensures { IfOk result (λ s. s ≡ new_site number) }
+    {
+        Ok(Site {
+            number,
+            life: FIRST_LIFE,
+            epoch: FIRST_EPOCH,
+            closed_for: None,
+            log: Log::new(alloc)?,
+            recorded: Log::new(alloc)?,
+            held: Locks::new(alloc),
+            prepared: Vec::new(alloc),
+            clock: Clock { value: 0 },
+        })
+    }
+
+    /// Takes the message of this sender and number, and gives the turn to be
+    /// posted. The clock passes first, whatever becomes of the message. After
+    /// want of memory the site is as it was.
+    pub fn handle(
+        &mut self,
+        alloc: Global,
+        decl: &Declaration,
+        from: u8,
+        number: u32,
+        message: &Message,
+    ) -> Result<Turn, OutOfMemory>
+        requires sites { decl.now.sites ≤ most_sites }
+        requires clients { decl.now.clients ≤ most_clients }
+        ensures ok { IfOk result (λ turn. site_on decl.now self.old from number message.now
+            ≡ record { site = self.new; turn = turn }) }
+        ensures err { OnErr result (self.new ≡ self.old) }
+    {
+        let before = self.clock;
+        self.clock = clock_after(before, message);
+        let asker = Asker { from, number };
+        let turn = self.take(alloc, decl, asker, message);
+        if turn.is_err() {
+            self.clock = before;
+        }
+        turn
+    }
+
+    /// What it does for a message once its clock has passed.
+    fn take(
+        &mut self,
+        alloc: Global,
+        decl: &Declaration,
+        asker: Asker,
+        message: &Message,
+    ) -> Result<Turn, OutOfMemory>
+        requires sites { decl.now.sites ≤ most_sites }
+        requires clients { decl.now.clients ≤ most_clients }
+        ensures ok { IfOk result (λ turn. site_at decl.now self.old asker.from asker.number message.now
+            ≡ record { site = self.new; turn = turn }) }
+        ensures err { OnErr result (self.new ≡ self.old) }
+    {
+        match message {
+            Message::Request {
+                tx,
+                epoch,
+                life,
+                want,
+            } => {
+                let fault = self.fault_of(*epoch, *life);
+                self.request(alloc, decl, asker, *tx, want, fault)
+            }
+            Message::Decision { tx, verdict } => self.finish(alloc, *tx, *verdict),
+            Message::Answer { .. }
+            | Message::Inquiry { .. }
+            | Message::Ask { .. }
+            | Message::Close { .. }
+            | Message::Install { .. } => Ok(Turn::quiet(alloc)),
+        }
+    }
+}

@@ -1,0 +1,13 @@
+pub mod Owed
+pub mod Places
+pub mod WorkedHistories
+pub mod OtherRows
+pub mod Random1To10
+pub mod Random11To20
+pub mod Random21To30
+pub mod Random31To40
+pub mod WrongReads
+pub mod WrongReplies
+pub mod WrongAppends
+pub mod WrongVotes
+pub mod WrongRecords
