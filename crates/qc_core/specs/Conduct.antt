@@ -1,5 +1,5 @@
 -- Which turn an actor's last input calls for, after its deeds: a site's, or a client's; nobody else takes inputs yet.
-use Rattle.std.specs.Prelude.{◌≡◌, ℕ, ◌-◌, Bool, if◌then◌else◌, List, Option, Some, None}
+use Rattle.std.specs.Prelude.{◌≡◌, ℕ, ◌-◌, if◌then◌else◌, List, Option, Some, None}
 use Rattle.qc_decl.specs.declared.declaration.Declaration.{Declaration}
 use Rattle.qc_decl.specs.Actors.{is_site, is_client}
 use Rattle.qc_client.specs.Conduct.{client_after}

@@ -71,8 +71,8 @@ prepare_bytes p = 18 + 2 * length p.locks + 3 * length p.own + 20 * length p.lin
 abbrev pub fits_record : Prepared → Bool
 fits_record p = nat_le (prepare_bytes p) most_record_bytes
 
--- the refusal that the want is due, if any: the least of what is in its way; a Prepare of what isn't held, and one whose
--- promise would be longer than a record
+-- the refusal that the want is due, if any: the least of what is in its way; a Prepare of what isn't held, and one
+-- whose promise would be longer than a record
 
 abbrev pub relation_at : Declaration → ℕ → List ℕ
 relation_at decl object = option_map_or (λ (k : Kind). k.relation) (kind_at decl object) []

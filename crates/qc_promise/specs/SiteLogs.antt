@@ -20,8 +20,8 @@ use Rattle.qc_msg.specs.Deeds.{Deed, Takes, Writes, Sends, Tells}
 use Rattle.qc_promise.specs.SiteHeld.{is_granted}
 use Rattle.qc_promise.specs.SiteRecords.{last_prepare}
 
--- The lines that records give: a Prepare its lines; a Done the own lines of the last Prepare of its transaction before it,
--- with its clock and the transaction's client as their stamp.
+-- The lines that records give: a Prepare its lines; a Done the own lines of the last Prepare of its transaction before
+-- it, with its clock and the transaction's client as their stamp.
 
 abbrev pub stamped : Stamp → TxId → OwnLine → Line
 stamped stamp tx o = record { stamp = stamp; tx = tx; op = o.op; object = o.object; event = o.event }

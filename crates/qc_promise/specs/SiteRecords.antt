@@ -1,6 +1,6 @@
--- The records that a site wrote, as its deeds show them, and what follows of them: its life, its epoch, the epoch that it
--- has closed its own for, and what it promised last of a transaction.
-use Rattle.std.specs.Prelude.{ℕ, ◌+◌, Bool, true, false, if◌then◌else◌, List, count_by, fold, Option, Some, None}
+-- The records that a site wrote, as its deeds show them, and what follows of them: its life, its epoch, the epoch that
+-- it has closed its own for, and what it promised last of a transaction.
+use Rattle.std.specs.Prelude.{ℕ, ◌+◌, if◌then◌else◌, List, fold, Option, Some, None}
 use Rattle.std.specs.List.{filter_map}
 use Rattle.qc_stamp.specs.declared.stamp.TxId.{TxId}
 use Rattle.qc_stamp.specs.Lives.{first_life}
@@ -22,20 +22,19 @@ record_in (Tells reply) = None
 abbrev pub records_in : List Deed → List Record
 records_in ds = filter_map record_in ds
 
--- Life: it begins anew where the site rises, and where it closes its epoch. It does neither yet.
+-- Life: 1, and 1 more for each record of a rise and of a closed epoch. No site rises or closes its epoch yet.
 
-abbrev pub begins_life : Record → Bool
-begins_life records.Life = true
-begins_life (records.Prepare prepared) = false
-begins_life (records.Done tx clock) = false
-begins_life (records.Close epoch) = true
-begins_life (records.Install epoch clock lines) = false
-begins_life (records.Commit commit) = false
-begins_life (records.Decide epoch clock lines) = false
+abbrev pub life_by : ℕ → Record → ℕ
+life_by before records.Life = before + 1
+life_by before (records.Prepare prepared) = before
+life_by before (records.Done tx clock) = before
+life_by before (records.Close epoch) = before + 1
+life_by before (records.Install epoch clock lines) = before
+life_by before (records.Commit commit) = before
+life_by before (records.Decide epoch clock lines) = before
 
--- 1, and 1 more for each record that begins a life
 abbrev pub life_shown : List Deed → ℕ
-life_shown ds = first_life + count_by begins_life (records_in ds)
+life_shown ds = fold life_by first_life (records_in ds)
 
 -- Epoch: that of the last Install. No site installs one yet.
 

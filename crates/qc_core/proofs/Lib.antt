@@ -1,0 +1,11 @@
+pub mod SitePosts
+pub mod SiteGrowth
+pub mod SiteShown
+pub mod SiteTalks
+pub mod SiteSteps
+pub mod SiteDrops
+pub mod SitePrepares
+pub mod SiteDecisions
+pub mod SiteMoves
+pub mod SiteDues
+pub mod SiteLaws

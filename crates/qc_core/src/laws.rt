@@ -1,0 +1,23 @@
+//! Laws of the conduct, each the contract of a function with nothing to do.
+
+ghost use Rattle.std.specs.Prelude.{ℕ, List, []};
+ghost use Rattle.qc_core.specs.Sites.{IsShown, Serves};
+ghost use Rattle.qc_decl.specs.declared.declaration.Declaration.{Declaration};
+ghost use Rattle.qc_msg.specs.Deeds.{Deed};
+ghost use Rattle.qc_promise.specs.SiteDue.{AreDue};
+ghost use Rattle.qc_site.specs.Conduct.{site_after};
+
+/// All that a site is, its own steps show: life, epoch, log, the lines that its
+/// records give, what is held there and promised, and its clock.
+#[tactic(auto, using(crate::proofs::SiteLaws::shows))]
+pub fn sites_are_read_off_their_steps()
+    ensures { (decl : Declaration) (site : ℕ) (ds : List Deed) → Serves decl site ds
+        → IsShown ds (site_after decl site ds).site }
+{}
+
+/// What a site sends for each input is due, and so is what it writes: its own
+/// steps up to then show it.
+#[tactic(auto, using(crate::proofs::SiteLaws::are_due))]
+pub fn answers_of_sites_are_due()
+    ensures { (decl : Declaration) (site : ℕ) (ds : List Deed) → Serves decl site ds → AreDue decl [] ds }
+{}
