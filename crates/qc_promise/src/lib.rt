@@ -7,4 +7,9 @@
 //! the lines that it knows and those that its records give (`SiteLogs`), its
 //! clock (`SiteClocks`). By these, what it is to send and to write for each
 //! input: which refusal, which grant, which record (`SiteDue`).
+//!
+//! A client's replies are read off its steps too: an account of what the running
+//! command asked and what came of it (`Account`, `Rounds`, `Asked`,
+//! `Accounting`), and by it the first row of the table of replies (`Rows`). Each
+//! reply, and each commit record, is that of its row (`Replies`).
 #![tactic(auto)]
