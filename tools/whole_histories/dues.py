@@ -4,12 +4,13 @@
 usage: python3 tools/whole_histories/dues.py MODEL
 
 MODEL is the folder of the model, as for the tool in whose folder this one
-stands. This one writes crates/tests_due: laws that each reply of each history
-of crates/tests_histories is due; histories for the rows of the table of replies
-that those don't have (`later.py`, and one of too many operations); and wrong
-histories (`wrong.py`), each with a law that refuses it. It writes specs/,
-proofs/ and src/ there but proofs/Places.antt, proofs/Owed.antt and src/lib.rt; `rt fmt` then
-finds nothing to lay out.
+stands. This one writes crates/tests_due: laws that all is due in each history
+of crates/tests_histories; histories for the rows of the table of replies that
+those don't have (`later.py`, and one of too many operations); and wrong
+histories (`wrong.py`, `wrong_sites.py`), each with a law that refuses it. It
+writes specs/, proofs/ and src/ there, but not proofs/Owed.antt, Places.antt,
+Sites.antt, SitePlaces.antt and src/lib.rt; `rt fmt` then finds nothing to lay
+out.
 """
 
 import os
@@ -18,11 +19,12 @@ import sys
 sys.dont_write_bytecode = True
 import later
 import wrong
+import wrong_sites
 from editing import Edited
 from modules import IMPORTS, VARIANTS, filled, imported, words_of
+from refusing import last_post, last_reply, lemma_module
 from runs import GROUP, WORKED, low
-from spelling import kind, listed, operation, record as spelled_record, reply as spelled_reply, stamp
-from spelling import step as spelled_step, term, tx
+from spelling import kind, record as spelled_record, step as spelled_step
 
 CRATE = os.path.join(os.path.dirname(os.path.abspath(__file__)), "..", "..", "crates", "tests_due")
 TOO_LONG = "phase|c0 begin|" + "c0 do x W1|" * 17 + "c0 abort"
@@ -49,145 +51,82 @@ def entry(actor, x):
     return "marked %d %s" % (actor, spelled_step(x))
 
 
-def definitions(named):
-    out = ""
-    for name, says, history in named:
-        out += "\n-- %s\nabbrev pub %s : List Entry\n%s =\n%s\n" % (
-            says, name, name, filled([entry(a, x) for a, x in history], "[]"))
-    return out
-
-
-def brought(head, body, imports, variants, is_used):
-    """The head of a module: what it brings of the names that its body has."""
-    used = words_of(body)
-    out = "-- %s\n" % head
-    for where, names in imports:
-        out += imported(where, [n for n in names if is_used(n, used)])
-    for name, where in variants:
+def module(head, named):
+    """A module of histories: (name, what is said of it, history)."""
+    body = "".join("\n-- %s\nabbrev pub %s : List Entry\n%s =\n%s\n" % (
+        says, name, name, filled([entry(a, x) for a, x in history], "[]")) for name, says, history in named)
+    used, out = words_of(body), "-- %s\n" % head
+    for where, names in IMPORTS:
+        names += ("Fell",) if where.endswith("Step.TheVariants") else ()
+        out += imported(where, [n for n in names if n in used or n == "◌∷◌"])
+    for name, where in VARIANTS + (("falls", "step.Fall"),):
         if any(word.startswith(name + ".") for word in used):
             out += "use Rattle.qc_msg.specs.declared.%s.TheVariants as %s\n" % (where, name)
-    return out
-
-
-def module(head, named):
-    """A module of histories."""
-    body = definitions(named)
-    imports = [(where, names + ("Fell",) if where.endswith("Step.TheVariants") else names) for where, names in IMPORTS]
-    return brought(head, body, imports, VARIANTS + (("falls", "step.Fall"),),
-                   lambda n, used: n in used or n == "◌∷◌") + body
+    return out + body
 
 
 # Laws.
-
-def statement(name, source):
-    """That all replies of a history are due: of a module's history, or of one in a module of several."""
-    if source in WORKED:
-        return "AreRepliesDue three [] %s.history" % name
-    if source.startswith("Random"):
-        return "AreRepliesDue %s.decl [] %s.history" % (name, name)
-    return "AreRepliesDue three [] %s.%s" % (low(source), name)
-
-
-def uses(names, files, ghost=""):
-    """The lines that bring histories: those that are a module each, with their names, and modules of several."""
-    paths = ["Rattle.qc_decl.specs.One.{three}"] if files or any(s in WORKED for _, s in names) else []
-    paths += ["Rattle.qc_promise.specs.Replies.{AreRepliesDue}"]
-    paths += ["Rattle.tests_histories.specs.%s as %s" % (s, n) for n, s in names]
-    paths += ["Rattle.tests_due.specs.%s as %s" % (f, low(f)) for f in files]
-    return "".join("%suse %s%s\n" % (ghost, path, ";" if ghost else "") for path in paths)
-
-
-def answers(file, law, lemmas, names, end):
-    fields = "".join("  %s = lemmas.%s_%s;\n" % (n, n, end) for n in names)
-    write("proofs/%s/%s/Answers.antt" % (file, law), (
-        "use Rattle.tests_due.proofs.%s as lemmas\n"
-        "use Rattle.tests_due.proofs.%s.%s.Goals as goal\n\n"
-        "pub returns : goal.returns\nreturns c = record {\n%s}\n" % (lemmas, file, law, fields)))
-
 
 def law(doc, name, clauses):
     return "\n/// %s\npub fn %s()\n%s{}\n" % (
         doc, name, "".join("    ensures %s { %s }\n" % (n, c) for n, c in clauses))
 
 
+def answers(file, name, lemmas, names, end):
+    fields = "".join("  %s = lemmas.%s_%s;\n" % (n, n, end) for n in names)
+    write("proofs/%s/%s/Answers.antt" % (file, name), (
+        "use Rattle.tests_due.proofs.%s as lemmas\n"
+        "use Rattle.tests_due.proofs.%s.%s.Goals as goal\n\n"
+        "pub returns : goal.returns\nreturns c = record {\n%s}\n" % (lemmas, file, name, fields)))
+
+
+def uses(words, sources, ghost=""):
+    """The lines that bring definitions, and histories by their modules."""
+    paths = list(words)
+    for name, source in sources:
+        crate = "tests_histories" if source in WORKED or source.startswith("Random") else "tests_due"
+        path = "Rattle.%s.specs.%s as %s" % (crate, source, name if crate == "tests_histories" else low(source))
+        paths += [path] if path not in paths else []
+    return "".join("%suse %s%s\n" % (ghost, path, ";" if ghost else "") for path in paths)
+
+
+THREE = "Rattle.qc_decl.specs.One.{three}"
+DUE = "Rattle.qc_promise.specs.Due.{Due}"
+REPLIES = "Rattle.qc_promise.specs.Replies.{AreRepliesDue}"
+
+
+# Right histories.
+
+def declared(name, source):
+    """The declaration and the history of this name: a module's, or one in a module of several."""
+    if source in WORKED:
+        return "three", "%s.history" % name
+    return ("%s.decl" % name, "%s.history" % name) if source.startswith("Random") else ("three", low(source) + "." + name)
+
+
+def statement(name, source):
+    """That all is due in a history; in one of a row to come, that its replies are."""
+    return ("AreRepliesDue %s [] %s" if source == "LaterRows" else "Due %s %s") % declared(name, source)
+
+
+def lemma(name, source):
+    decl, history = declared(name, source)
+    replies = "due_where_shown %s [] %s refl" % (decl, history)
+    sites = "sites_due_where_posted %s %s %s.sites refl" % (decl, history, decl)
+    value = replies if source == "LaterRows" else "record {\n  replies = %s;\n  sites = %s;\n}" % (replies, sites)
+    return "\npub %s_due : %s\n%s_due = %s\n" % (name, statement(name, source), name, value)
+
+
 def right(lemmas, doc, name, histories):
-    """A module of lemmas that each of these histories has all its replies due, and the law of it."""
-    several = sorted({s for _, s in histories if s not in WORKED and not s.startswith("Random")})
-    single = [(n, s) for n, s in histories if s not in several]
-    text = "-- %s\nuse Rattle.std.proofs.Common.{[], refl}\n%s" % (doc, uses(single, several))
-    text += "use Rattle.tests_due.proofs.Owed.{due_where_shown}\n"
-    for n, source in histories:
-        said = statement(n, source)
-        text += "\npub %s_due : %s\n%s_due = due_where_shown%s refl\n" % (n, said, n, said[len("AreRepliesDue"):])
-    write("proofs/%s.antt" % lemmas, text)
+    """A module of lemmas that all is due in each of these histories, and the law of it."""
+    body = "".join(lemma(n, s) for n, s in histories)
+    used = words_of(body)
+    words = [path for path in (
+        "Rattle.std.proofs.Common.{[], refl}", THREE, DUE, REPLIES, "Rattle.tests_due.proofs.Owed.{due_where_shown}",
+        "Rattle.tests_due.proofs.Sites.{sites_due_where_posted}") if set(words_of(path.split(".")[-1])) & used]
+    write("proofs/%s.antt" % lemmas, "-- %s\n%s%s" % (doc, uses(words, histories), body))
     answers("right", name, lemmas, [n for n, _ in histories], "due")
     return law(doc, name, [(n, statement(n, s)) for n, s in histories])
-
-
-# Wrong histories.
-
-# what tells apart two values that cc doesn't
-PARTS = {"client": "client_named", "number": "number_begun", "stamp": "clock_told", "commit": "count_written"}
-
-
-def refused(file, name, history, part, due):
-    """The lemmas that the last step of a wrong history isn't due."""
-    x, said = history[-1][1], low(file) + "." + name
-    told = "(Some %s)" % (term("replies.Committed", stamp(x.record.stamp)) if kind(x) == "Wrote" else
-                          "replies.Unknown" if kind(x.reply) == "Unknown" else spelled_reply(x.reply))
-    commit = kind(x) == "Wrote" and "(Some (record { stamp = %s; tx = %s; ops = %s }))" % (
-        stamp(x.record.stamp), tx(x.record.tx), listed(map(operation, x.record.ops)))
-    left, right, field = {"record": ("None", due, 1), "commit": (due, commit, 1), "once": (commit, due, 2)}.get(
-        part, (due, told, 0))
-    type_of = "Commit" if field else "Reply"
-    never = "let never : ⊥ = cc in never"
-    if part in PARTS:
-        never = "let same : ◌≡◌ {A = ℕ} (%s %s) (%s %s) = ap %s e in %s" % (
-            PARTS[part], left, PARTS[part], right, PARTS[part], never)
-    return (
-        "\n%s_differs : ◌≡◌ {A = Option %s} %s %s → ⊥\n%s_differs e = %s\n"
-        "\npub %s_refused : AreRepliesDue three [] %s → ⊥\n%s_refused all = %s_differs (due_at %d three [] %s all).%d\n"
-        % (name, type_of, left, right, name, never, name, said, name, name, len(history) - 1, said, field))
-
-
-WRONG_IMPORTS = (
-    ("Rattle.std.proofs.Common", ("◌≡◌", "ℕ", "[]", "◌∷◌", "Option", "Some", "None", "ap")),
-    ("Rattle.qc_decl.specs.One", ("three",)),
-    ("Rattle.qc_entry.specs.declared.record.Commit", ("Commit",)),
-    ("Rattle.qc_msg.specs.declared.reply.Reply", ("Reply",)),
-    ("Rattle.qc_promise.specs.Replies", ("AreRepliesDue",)),
-    ("Rattle.tests_histories.specs.Words", ("operation", "stamp", "tx")),
-    ("Rattle.tests_due.proofs.Places", ("client_named", "clock_told", "count_written", "due_at", "number_begun")),
-)
-
-
-def lemma_module(head, body, file):
-    """A module of lemmas on the histories of a file."""
-    signs = {"◌≡◌": "≡" in body, "◌∷◌": " ∷ " in body}
-    return brought(head, body, WRONG_IMPORTS, VARIANTS, lambda n, used: signs.get(n, n in used)) + (
-        "use Rattle.tests_due.specs.%s as %s\n" % (file, low(file))) + body
-
-
-def make_wrong(run, parts):
-    """The wrong histories: a module of specs/, a module of lemmas and a law for each kind."""
-    files, laws = [], []
-    for file, head, cases in wrong.cases(*parts):
-        named, lemmas = [], ""
-        for name, says, script, edit, part, due in cases:
-            h = Edited(run(script))
-            h.end(edit(h))
-            named.append((name, says, h.history()))
-            lemmas += refused(file, name, h.history(), part, due)
-        write("specs/%s.antt" % file, module("Wrong histories: " + head, named))
-        write("proofs/%s.antt" % file, lemma_module("None of these histories is due: " + head, lemmas, file))
-        function, names = low(file) + "_are_refused", [n for n, _, _ in named]
-        answers("wrong", function, file, names, "refused")
-        laws.append(law("These aren't due: " + head, function,
-                        [(n, "AreRepliesDue three [] %s.%s → ⊥" % (low(file), n)) for n in names]))
-        files.append(file)
-    write("src/wrong.rt", "//! Wrong histories, each refused.\n\nghost use Rattle.std.specs.Prelude.{[]};\n"
-          + uses([], files, "ghost ") + "".join(laws))
-    return files
 
 
 def make_right(run, parts):
@@ -205,18 +144,48 @@ def make_right(run, parts):
     others = [(n, "LaterRows") for n, _, _ in later_rows] + [("too_long", "LongTransaction")]
     random = [("random%d" % k, "Random%d" % k) for k in range(1, RANDOM + 1)]
     groups = [
-        ("WorkedHistories", "All replies of the worked histories are due.", "worked_replies_are_due", worked),
+        ("WorkedHistories", "All is due in the worked histories.", "all_is_due_in_worked_histories", worked),
         ("OtherRows", "Rows that those histories and the random ones don't have: their replies are due.",
          "replies_of_other_rows_are_due", others)]
     for first in range(0, len(random), GROUP):
         group = random[first:first + GROUP]
         span = first + 1, first + len(group)
-        groups.append(("Random%dTo%d" % span, "All replies of the random histories %d to %d are due." % span,
-                       "replies_of_%d_to_%d_are_due" % span, group))
+        groups.append(("Random%dTo%d" % span, "All is due in the random histories %d to %d." % span,
+                       "all_is_due_in_%d_to_%d" % span, group))
     laws = "".join(right(*group) for group in groups)
-    write("src/right.rt", "//! Right histories, whose replies are due.\n\nghost use Rattle.std.specs.Prelude.{[]};\n"
-          + uses(worked + random, ["LaterRows", "LongTransaction"], "ghost ") + laws)
+    write("src/right.rt", "//! Right histories, in which all is due.\n\nghost use Rattle.std.specs.Prelude.{[]};\n"
+          + uses([THREE, DUE, REPLIES], worked + random + others, "ghost ") + laws)
     return ["LaterRows", "LongTransaction"], [group[0] for group in groups]
+
+
+# Wrong histories.
+
+def make_wrong(run, kinds, source, head, words):
+    """The wrong histories of these kinds: a module of specs/, a module of lemmas and a law for each."""
+    files, laws = [], ""
+    for file, says, cases in kinds:
+        named, lemmas, clauses = [], "", []
+        for name, wrong_is, script, *rest in cases:
+            edit = next(r for r in rest if callable(r))
+            h, said = Edited(run(script)), "%s.%s" % (low(file), name)
+            h.end(edit(h))
+            history = h.history()
+            named.append((name, wrong_is, history))
+            if source == "wrong":
+                lemmas += last_reply(said, name, history, *rest[1:])
+                clauses.append((name, "AreRepliesDue three [] %s → ⊥" % said))
+            else:
+                lemmas += last_post(said, name, history, rest[0], *rest[2:])
+                clauses.append((name, "AreDue three [] (deeds %d [] %s) → ⊥" % (rest[0], said)))
+        write("specs/%s.antt" % file, module("Wrong histories: " + says, named))
+        write("proofs/%s.antt" % file, lemma_module("None of these histories is due: " + says, lemmas, file, low(file)))
+        function = low(file) + "_are_refused"
+        answers(source, function, file, [n for n, _ in clauses], "refused")
+        laws += law("These aren't due: " + says, function, clauses)
+        files.append(file)
+    write("src/%s.rt" % source, "//! %s\n\nghost use Rattle.std.specs.Prelude.{[]};\n" % head
+          + uses(words, [(None, f) for f in files], "ghost ") + laws)
+    return files
 
 
 def main(words):
@@ -231,10 +200,14 @@ def main(words):
         r.go()
         return r.still.history
 
-    right_specs, right_lemmas = make_right(run, parts)
-    wrong_specs = make_wrong(run, parts)
-    write("specs/Lib.antt", "".join("pub mod %s\n" % m for m in right_specs + wrong_specs))
-    write("proofs/Lib.antt", "".join("pub mod %s\n" % m for m in ["Owed", "Places"] + right_lemmas + wrong_specs))
+    specs, lemmas = make_right(run, parts)
+    wrong_files = make_wrong(run, wrong.cases(*parts), "wrong", "Wrong histories of clients, each refused.",
+                             [THREE, REPLIES])
+    wrong_files += make_wrong(run, wrong_sites.cases(*parts), "wrong_sites", "Wrong histories of sites, each refused.", [
+        THREE, "Rattle.qc_msg.specs.Deeds.{deeds}", "Rattle.qc_promise.specs.SiteDue.{AreDue}"])
+    write("specs/Lib.antt", "".join("pub mod %s\n" % m for m in specs + wrong_files))
+    write("proofs/Lib.antt", "".join(
+        "pub mod %s\n" % m for m in ["Owed", "Places", "Sites", "SitePlaces"] + lemmas + wrong_files))
 
 
 if __name__ == "__main__":

@@ -12,3 +12,4 @@ pub mod Asked
 pub mod Accounting
 pub mod Rows
 pub mod Replies
+pub mod Due

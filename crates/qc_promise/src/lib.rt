@@ -12,6 +12,6 @@
 //! its deeds (`Account`, `Accounting`): the running command, its requests
 //! (`Asked`), each with the first thing that was taken for it, and what they
 //! come to (`Rounds`). The reply that is due is the first row of a table that
-//! applies (`Rows`), and `Replies` says of a history that each is, and each
-//! commit record.
+//! applies (`Rows`); `Replies` says of a history that each is, and each commit
+//! record. `Due` is all of both.
 #![tactic(auto)]

@@ -9,3 +9,4 @@ pub mod WrittenLines
 pub mod WrittenScripts
 pub mod WrittenTexts
 pub mod WrittenWords
+pub mod Inboxes

@@ -1,5 +1,7 @@
 pub mod Owed
 pub mod Places
+pub mod Sites
+pub mod SitePlaces
 pub mod WorkedHistories
 pub mod OtherRows
 pub mod Random1To10
@@ -11,3 +13,5 @@ pub mod WrongReplies
 pub mod WrongAppends
 pub mod WrongVotes
 pub mod WrongRecords
+pub mod WrongRefusals
+pub mod WrongPosts

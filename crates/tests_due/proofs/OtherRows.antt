@@ -1,10 +1,12 @@
 -- Rows that those histories and the random ones don't have: their replies are due.
 use Rattle.std.proofs.Common.{[], refl}
 use Rattle.qc_decl.specs.One.{three}
+use Rattle.qc_promise.specs.Due.{Due}
 use Rattle.qc_promise.specs.Replies.{AreRepliesDue}
+use Rattle.tests_due.proofs.Owed.{due_where_shown}
+use Rattle.tests_due.proofs.Sites.{sites_due_where_posted}
 use Rattle.tests_due.specs.LaterRows as later_rows
 use Rattle.tests_due.specs.LongTransaction as long_transaction
-use Rattle.tests_due.proofs.Owed.{due_where_shown}
 
 pub closed_reading_due : AreRepliesDue three [] later_rows.closed_reading
 closed_reading_due = due_where_shown three [] later_rows.closed_reading refl
@@ -30,5 +32,8 @@ left_behind_due = due_where_shown three [] later_rows.left_behind refl
 pub unknown_due : AreRepliesDue three [] later_rows.unknown
 unknown_due = due_where_shown three [] later_rows.unknown refl
 
-pub too_long_due : AreRepliesDue three [] long_transaction.too_long
-too_long_due = due_where_shown three [] long_transaction.too_long refl
+pub too_long_due : Due three long_transaction.too_long
+too_long_due = record {
+  replies = due_where_shown three [] long_transaction.too_long refl;
+  sites = sites_due_where_posted three long_transaction.too_long three.sites refl;
+}

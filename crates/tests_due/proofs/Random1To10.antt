@@ -1,6 +1,8 @@
--- All replies of the random histories 1 to 10 are due.
+-- All is due in the random histories 1 to 10.
 use Rattle.std.proofs.Common.{[], refl}
-use Rattle.qc_promise.specs.Replies.{AreRepliesDue}
+use Rattle.qc_promise.specs.Due.{Due}
+use Rattle.tests_due.proofs.Owed.{due_where_shown}
+use Rattle.tests_due.proofs.Sites.{sites_due_where_posted}
 use Rattle.tests_histories.specs.Random1 as random1
 use Rattle.tests_histories.specs.Random2 as random2
 use Rattle.tests_histories.specs.Random3 as random3
@@ -11,34 +13,63 @@ use Rattle.tests_histories.specs.Random7 as random7
 use Rattle.tests_histories.specs.Random8 as random8
 use Rattle.tests_histories.specs.Random9 as random9
 use Rattle.tests_histories.specs.Random10 as random10
-use Rattle.tests_due.proofs.Owed.{due_where_shown}
 
-pub random1_due : AreRepliesDue random1.decl [] random1.history
-random1_due = due_where_shown random1.decl [] random1.history refl
+pub random1_due : Due random1.decl random1.history
+random1_due = record {
+  replies = due_where_shown random1.decl [] random1.history refl;
+  sites = sites_due_where_posted random1.decl random1.history random1.decl.sites refl;
+}
 
-pub random2_due : AreRepliesDue random2.decl [] random2.history
-random2_due = due_where_shown random2.decl [] random2.history refl
+pub random2_due : Due random2.decl random2.history
+random2_due = record {
+  replies = due_where_shown random2.decl [] random2.history refl;
+  sites = sites_due_where_posted random2.decl random2.history random2.decl.sites refl;
+}
 
-pub random3_due : AreRepliesDue random3.decl [] random3.history
-random3_due = due_where_shown random3.decl [] random3.history refl
+pub random3_due : Due random3.decl random3.history
+random3_due = record {
+  replies = due_where_shown random3.decl [] random3.history refl;
+  sites = sites_due_where_posted random3.decl random3.history random3.decl.sites refl;
+}
 
-pub random4_due : AreRepliesDue random4.decl [] random4.history
-random4_due = due_where_shown random4.decl [] random4.history refl
+pub random4_due : Due random4.decl random4.history
+random4_due = record {
+  replies = due_where_shown random4.decl [] random4.history refl;
+  sites = sites_due_where_posted random4.decl random4.history random4.decl.sites refl;
+}
 
-pub random5_due : AreRepliesDue random5.decl [] random5.history
-random5_due = due_where_shown random5.decl [] random5.history refl
+pub random5_due : Due random5.decl random5.history
+random5_due = record {
+  replies = due_where_shown random5.decl [] random5.history refl;
+  sites = sites_due_where_posted random5.decl random5.history random5.decl.sites refl;
+}
 
-pub random6_due : AreRepliesDue random6.decl [] random6.history
-random6_due = due_where_shown random6.decl [] random6.history refl
+pub random6_due : Due random6.decl random6.history
+random6_due = record {
+  replies = due_where_shown random6.decl [] random6.history refl;
+  sites = sites_due_where_posted random6.decl random6.history random6.decl.sites refl;
+}
 
-pub random7_due : AreRepliesDue random7.decl [] random7.history
-random7_due = due_where_shown random7.decl [] random7.history refl
+pub random7_due : Due random7.decl random7.history
+random7_due = record {
+  replies = due_where_shown random7.decl [] random7.history refl;
+  sites = sites_due_where_posted random7.decl random7.history random7.decl.sites refl;
+}
 
-pub random8_due : AreRepliesDue random8.decl [] random8.history
-random8_due = due_where_shown random8.decl [] random8.history refl
+pub random8_due : Due random8.decl random8.history
+random8_due = record {
+  replies = due_where_shown random8.decl [] random8.history refl;
+  sites = sites_due_where_posted random8.decl random8.history random8.decl.sites refl;
+}
 
-pub random9_due : AreRepliesDue random9.decl [] random9.history
-random9_due = due_where_shown random9.decl [] random9.history refl
+pub random9_due : Due random9.decl random9.history
+random9_due = record {
+  replies = due_where_shown random9.decl [] random9.history refl;
+  sites = sites_due_where_posted random9.decl random9.history random9.decl.sites refl;
+}
 
-pub random10_due : AreRepliesDue random10.decl [] random10.history
-random10_due = due_where_shown random10.decl [] random10.history refl
+pub random10_due : Due random10.decl random10.history
+random10_due = record {
+  replies = due_where_shown random10.decl [] random10.history refl;
+  sites = sites_due_where_posted random10.decl random10.history random10.decl.sites refl;
+}

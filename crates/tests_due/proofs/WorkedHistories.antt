@@ -1,7 +1,9 @@
--- All replies of the worked histories are due.
+-- All is due in the worked histories.
 use Rattle.std.proofs.Common.{[], refl}
 use Rattle.qc_decl.specs.One.{three}
-use Rattle.qc_promise.specs.Replies.{AreRepliesDue}
+use Rattle.qc_promise.specs.Due.{Due}
+use Rattle.tests_due.proofs.Owed.{due_where_shown}
+use Rattle.tests_due.proofs.Sites.{sites_due_where_posted}
 use Rattle.tests_histories.specs.ReadAfterWrite as read_after_write
 use Rattle.tests_histories.specs.ReadBeforeCommit as read_before_commit
 use Rattle.tests_histories.specs.BlindWrites as blind_writes
@@ -9,25 +11,45 @@ use Rattle.tests_histories.specs.CutOff as cut_off
 use Rattle.tests_histories.specs.LateCopy as late_copy
 use Rattle.tests_histories.specs.EveryMessageTwice as every_message_twice
 use Rattle.tests_histories.specs.DoomedWrite as doomed_write
-use Rattle.tests_due.proofs.Owed.{due_where_shown}
 
-pub read_after_write_due : AreRepliesDue three [] read_after_write.history
-read_after_write_due = due_where_shown three [] read_after_write.history refl
+pub read_after_write_due : Due three read_after_write.history
+read_after_write_due = record {
+  replies = due_where_shown three [] read_after_write.history refl;
+  sites = sites_due_where_posted three read_after_write.history three.sites refl;
+}
 
-pub read_before_commit_due : AreRepliesDue three [] read_before_commit.history
-read_before_commit_due = due_where_shown three [] read_before_commit.history refl
+pub read_before_commit_due : Due three read_before_commit.history
+read_before_commit_due = record {
+  replies = due_where_shown three [] read_before_commit.history refl;
+  sites = sites_due_where_posted three read_before_commit.history three.sites refl;
+}
 
-pub blind_writes_due : AreRepliesDue three [] blind_writes.history
-blind_writes_due = due_where_shown three [] blind_writes.history refl
+pub blind_writes_due : Due three blind_writes.history
+blind_writes_due = record {
+  replies = due_where_shown three [] blind_writes.history refl;
+  sites = sites_due_where_posted three blind_writes.history three.sites refl;
+}
 
-pub cut_off_due : AreRepliesDue three [] cut_off.history
-cut_off_due = due_where_shown three [] cut_off.history refl
+pub cut_off_due : Due three cut_off.history
+cut_off_due = record {
+  replies = due_where_shown three [] cut_off.history refl;
+  sites = sites_due_where_posted three cut_off.history three.sites refl;
+}
 
-pub late_copy_due : AreRepliesDue three [] late_copy.history
-late_copy_due = due_where_shown three [] late_copy.history refl
+pub late_copy_due : Due three late_copy.history
+late_copy_due = record {
+  replies = due_where_shown three [] late_copy.history refl;
+  sites = sites_due_where_posted three late_copy.history three.sites refl;
+}
 
-pub every_message_twice_due : AreRepliesDue three [] every_message_twice.history
-every_message_twice_due = due_where_shown three [] every_message_twice.history refl
+pub every_message_twice_due : Due three every_message_twice.history
+every_message_twice_due = record {
+  replies = due_where_shown three [] every_message_twice.history refl;
+  sites = sites_due_where_posted three every_message_twice.history three.sites refl;
+}
 
-pub doomed_write_due : AreRepliesDue three [] doomed_write.history
-doomed_write_due = due_where_shown three [] doomed_write.history refl
+pub doomed_write_due : Due three doomed_write.history
+doomed_write_due = record {
+  replies = due_where_shown three [] doomed_write.history refl;
+  sites = sites_due_where_posted three doomed_write.history three.sites refl;
+}

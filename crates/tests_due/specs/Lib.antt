@@ -5,3 +5,5 @@ pub mod WrongReplies
 pub mod WrongAppends
 pub mod WrongVotes
 pub mod WrongRecords
+pub mod WrongRefusals
+pub mod WrongPosts

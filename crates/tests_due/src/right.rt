@@ -1,7 +1,8 @@
-//! Right histories, whose replies are due.
+//! Right histories, in which all is due.
 
 ghost use Rattle.std.specs.Prelude.{[]};
 ghost use Rattle.qc_decl.specs.One.{three};
+ghost use Rattle.qc_promise.specs.Due.{Due};
 ghost use Rattle.qc_promise.specs.Replies.{AreRepliesDue};
 ghost use Rattle.tests_histories.specs.ReadAfterWrite as read_after_write;
 ghost use Rattle.tests_histories.specs.ReadBeforeCommit as read_before_commit;
@@ -53,15 +54,15 @@ ghost use Rattle.tests_histories.specs.Random40 as random40;
 ghost use Rattle.tests_due.specs.LaterRows as later_rows;
 ghost use Rattle.tests_due.specs.LongTransaction as long_transaction;
 
-/// All replies of the worked histories are due.
-pub fn worked_replies_are_due()
-    ensures read_after_write { AreRepliesDue three [] read_after_write.history }
-    ensures read_before_commit { AreRepliesDue three [] read_before_commit.history }
-    ensures blind_writes { AreRepliesDue three [] blind_writes.history }
-    ensures cut_off { AreRepliesDue three [] cut_off.history }
-    ensures late_copy { AreRepliesDue three [] late_copy.history }
-    ensures every_message_twice { AreRepliesDue three [] every_message_twice.history }
-    ensures doomed_write { AreRepliesDue three [] doomed_write.history }
+/// All is due in the worked histories.
+pub fn all_is_due_in_worked_histories()
+    ensures read_after_write { Due three read_after_write.history }
+    ensures read_before_commit { Due three read_before_commit.history }
+    ensures blind_writes { Due three blind_writes.history }
+    ensures cut_off { Due three cut_off.history }
+    ensures late_copy { Due three late_copy.history }
+    ensures every_message_twice { Due three every_message_twice.history }
+    ensures doomed_write { Due three doomed_write.history }
 {}
 
 /// Rows that those histories and the random ones don't have: their replies are due.
@@ -74,61 +75,61 @@ pub fn replies_of_other_rows_are_due()
     ensures forgotten { AreRepliesDue three [] later_rows.forgotten }
     ensures left_behind { AreRepliesDue three [] later_rows.left_behind }
     ensures unknown { AreRepliesDue three [] later_rows.unknown }
-    ensures too_long { AreRepliesDue three [] long_transaction.too_long }
+    ensures too_long { Due three long_transaction.too_long }
 {}
 
-/// All replies of the random histories 1 to 10 are due.
-pub fn replies_of_1_to_10_are_due()
-    ensures random1 { AreRepliesDue random1.decl [] random1.history }
-    ensures random2 { AreRepliesDue random2.decl [] random2.history }
-    ensures random3 { AreRepliesDue random3.decl [] random3.history }
-    ensures random4 { AreRepliesDue random4.decl [] random4.history }
-    ensures random5 { AreRepliesDue random5.decl [] random5.history }
-    ensures random6 { AreRepliesDue random6.decl [] random6.history }
-    ensures random7 { AreRepliesDue random7.decl [] random7.history }
-    ensures random8 { AreRepliesDue random8.decl [] random8.history }
-    ensures random9 { AreRepliesDue random9.decl [] random9.history }
-    ensures random10 { AreRepliesDue random10.decl [] random10.history }
+/// All is due in the random histories 1 to 10.
+pub fn all_is_due_in_1_to_10()
+    ensures random1 { Due random1.decl random1.history }
+    ensures random2 { Due random2.decl random2.history }
+    ensures random3 { Due random3.decl random3.history }
+    ensures random4 { Due random4.decl random4.history }
+    ensures random5 { Due random5.decl random5.history }
+    ensures random6 { Due random6.decl random6.history }
+    ensures random7 { Due random7.decl random7.history }
+    ensures random8 { Due random8.decl random8.history }
+    ensures random9 { Due random9.decl random9.history }
+    ensures random10 { Due random10.decl random10.history }
 {}
 
-/// All replies of the random histories 11 to 20 are due.
-pub fn replies_of_11_to_20_are_due()
-    ensures random11 { AreRepliesDue random11.decl [] random11.history }
-    ensures random12 { AreRepliesDue random12.decl [] random12.history }
-    ensures random13 { AreRepliesDue random13.decl [] random13.history }
-    ensures random14 { AreRepliesDue random14.decl [] random14.history }
-    ensures random15 { AreRepliesDue random15.decl [] random15.history }
-    ensures random16 { AreRepliesDue random16.decl [] random16.history }
-    ensures random17 { AreRepliesDue random17.decl [] random17.history }
-    ensures random18 { AreRepliesDue random18.decl [] random18.history }
-    ensures random19 { AreRepliesDue random19.decl [] random19.history }
-    ensures random20 { AreRepliesDue random20.decl [] random20.history }
+/// All is due in the random histories 11 to 20.
+pub fn all_is_due_in_11_to_20()
+    ensures random11 { Due random11.decl random11.history }
+    ensures random12 { Due random12.decl random12.history }
+    ensures random13 { Due random13.decl random13.history }
+    ensures random14 { Due random14.decl random14.history }
+    ensures random15 { Due random15.decl random15.history }
+    ensures random16 { Due random16.decl random16.history }
+    ensures random17 { Due random17.decl random17.history }
+    ensures random18 { Due random18.decl random18.history }
+    ensures random19 { Due random19.decl random19.history }
+    ensures random20 { Due random20.decl random20.history }
 {}
 
-/// All replies of the random histories 21 to 30 are due.
-pub fn replies_of_21_to_30_are_due()
-    ensures random21 { AreRepliesDue random21.decl [] random21.history }
-    ensures random22 { AreRepliesDue random22.decl [] random22.history }
-    ensures random23 { AreRepliesDue random23.decl [] random23.history }
-    ensures random24 { AreRepliesDue random24.decl [] random24.history }
-    ensures random25 { AreRepliesDue random25.decl [] random25.history }
-    ensures random26 { AreRepliesDue random26.decl [] random26.history }
-    ensures random27 { AreRepliesDue random27.decl [] random27.history }
-    ensures random28 { AreRepliesDue random28.decl [] random28.history }
-    ensures random29 { AreRepliesDue random29.decl [] random29.history }
-    ensures random30 { AreRepliesDue random30.decl [] random30.history }
+/// All is due in the random histories 21 to 30.
+pub fn all_is_due_in_21_to_30()
+    ensures random21 { Due random21.decl random21.history }
+    ensures random22 { Due random22.decl random22.history }
+    ensures random23 { Due random23.decl random23.history }
+    ensures random24 { Due random24.decl random24.history }
+    ensures random25 { Due random25.decl random25.history }
+    ensures random26 { Due random26.decl random26.history }
+    ensures random27 { Due random27.decl random27.history }
+    ensures random28 { Due random28.decl random28.history }
+    ensures random29 { Due random29.decl random29.history }
+    ensures random30 { Due random30.decl random30.history }
 {}
 
-/// All replies of the random histories 31 to 40 are due.
-pub fn replies_of_31_to_40_are_due()
-    ensures random31 { AreRepliesDue random31.decl [] random31.history }
-    ensures random32 { AreRepliesDue random32.decl [] random32.history }
-    ensures random33 { AreRepliesDue random33.decl [] random33.history }
-    ensures random34 { AreRepliesDue random34.decl [] random34.history }
-    ensures random35 { AreRepliesDue random35.decl [] random35.history }
-    ensures random36 { AreRepliesDue random36.decl [] random36.history }
-    ensures random37 { AreRepliesDue random37.decl [] random37.history }
-    ensures random38 { AreRepliesDue random38.decl [] random38.history }
-    ensures random39 { AreRepliesDue random39.decl [] random39.history }
-    ensures random40 { AreRepliesDue random40.decl [] random40.history }
+/// All is due in the random histories 31 to 40.
+pub fn all_is_due_in_31_to_40()
+    ensures random31 { Due random31.decl random31.history }
+    ensures random32 { Due random32.decl random32.history }
+    ensures random33 { Due random33.decl random33.history }
+    ensures random34 { Due random34.decl random34.history }
+    ensures random35 { Due random35.decl random35.history }
+    ensures random36 { Due random36.decl random36.history }
+    ensures random37 { Due random37.decl random37.history }
+    ensures random38 { Due random38.decl random38.history }
+    ensures random39 { Due random39.decl random39.history }
+    ensures random40 { Due random40.decl random40.history }
 {}

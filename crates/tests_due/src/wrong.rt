@@ -1,4 +1,4 @@
-//! Wrong histories, each refused.
+//! Wrong histories of clients, each refused.
 
 ghost use Rattle.std.specs.Prelude.{[]};
 ghost use Rattle.qc_decl.specs.One.{three};

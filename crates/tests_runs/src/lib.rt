@@ -14,7 +14,9 @@ mod laws;
 mod random;
 mod worked;
 
-pub use laws::schedules_make_whole_runs;
+pub use laws::{
+    cuts_and_controls_are_everybodys, messages_have_one_fate, schedules_make_whole_runs,
+};
 pub use random::{
     histories_1_to_10_are_runs, histories_11_to_20_are_runs, histories_21_to_30_are_runs,
     histories_31_to_40_are_runs,

@@ -1,5 +1,5 @@
 use Rattle.tests_due.proofs.Random21To30 as lemmas
-use Rattle.tests_due.proofs.right.replies_of_21_to_30_are_due.Goals as goal
+use Rattle.tests_due.proofs.right.all_is_due_in_21_to_30.Goals as goal
 
 pub returns : goal.returns
 returns c = record {

@@ -1,5 +1,5 @@
 use Rattle.tests_due.proofs.WorkedHistories as lemmas
-use Rattle.tests_due.proofs.right.worked_replies_are_due.Goals as goal
+use Rattle.tests_due.proofs.right.all_is_due_in_worked_histories.Goals as goal
 
 pub returns : goal.returns
 returns c = record {

@@ -1,5 +1,5 @@
 use Rattle.tests_due.proofs.Random11To20 as lemmas
-use Rattle.tests_due.proofs.right.replies_of_11_to_20_are_due.Goals as goal
+use Rattle.tests_due.proofs.right.all_is_due_in_11_to_20.Goals as goal
 
 pub returns : goal.returns
 returns c = record {

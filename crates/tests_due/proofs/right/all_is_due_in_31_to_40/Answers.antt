@@ -1,5 +1,5 @@
 use Rattle.tests_due.proofs.Random31To40 as lemmas
-use Rattle.tests_due.proofs.right.replies_of_31_to_40_are_due.Goals as goal
+use Rattle.tests_due.proofs.right.all_is_due_in_31_to_40.Goals as goal
 
 pub returns : goal.returns
 returns c = record {

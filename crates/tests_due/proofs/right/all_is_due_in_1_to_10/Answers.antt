@@ -1,5 +1,5 @@
 use Rattle.tests_due.proofs.Random1To10 as lemmas
-use Rattle.tests_due.proofs.right.replies_of_1_to_10_are_due.Goals as goal
+use Rattle.tests_due.proofs.right.all_is_due_in_1_to_10.Goals as goal
 
 pub returns : goal.returns
 returns c = record {
