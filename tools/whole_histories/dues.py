@@ -55,7 +55,8 @@ def module(head, named):
     """A module of histories: (name, what is said of it, history)."""
     body = "".join("\n-- %s\nabbrev pub %s : List Entry\n%s =\n%s\n" % (
         says, name, name, filled([entry(a, x) for a, x in history], "[]")) for name, says, history in named)
-    used, out = words_of(body), "-- %s\n" % head
+    used = words_of("\n".join(text for text in body.split("\n") if not text.startswith("--")))
+    out = "-- %s\n" % head
     for where, names in IMPORTS:
         names += ("Fell",) if where.endswith("Step.TheVariants") else ()
         out += imported(where, [n for n in names if n in used or n == "◌∷◌"])
