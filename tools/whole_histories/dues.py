@@ -7,10 +7,10 @@ MODEL is the folder of the model, as for the tool in whose folder this one
 stands. This one writes crates/tests_due: laws that all is due in each history
 of crates/tests_histories; histories for the rows of the table of replies that
 those don't have (`later.py`, and one of too many operations); and wrong
-histories (`wrong.py`, `wrong_sites.py`), each with a law that refuses it. It
-writes specs/, proofs/ and src/ there, but not proofs/Owed.antt, Places.antt,
-Sites.antt, SitePlaces.antt and src/lib.rt; `rt fmt` then finds nothing to lay
-out.
+histories (`wrong_reads.py`, `wrong_commits.py`, `wrong_sites.py`), each with a
+law that refuses it. It writes specs/, proofs/ and src/ there, but not
+proofs/Owed.antt, Places.antt, Sites.antt, SitePlaces.antt and src/lib.rt;
+`rt fmt` then finds nothing to lay out.
 """
 
 import os
@@ -18,11 +18,12 @@ import sys
 
 sys.dont_write_bytecode = True
 import later
-import wrong
+import wrong_commits
+import wrong_reads
 import wrong_sites
 from editing import Edited
 from modules import IMPORTS, VARIANTS, filled, imported, words_of
-from refusing import last_post, last_reply, lemma_module
+from refusing import last_post, lemma_module, reply_at
 from runs import GROUP, WORKED, low
 from spelling import kind, record as spelled_record, step as spelled_step
 
@@ -55,7 +56,8 @@ def module(head, named):
     """A module of histories: (name, what is said of it, history)."""
     body = "".join("\n-- %s\nabbrev pub %s : List Entry\n%s =\n%s\n" % (
         says, name, name, filled([entry(a, x) for a, x in history], "[]")) for name, says, history in named)
-    used, out = words_of(body), "-- %s\n" % head
+    used = words_of("\n".join(text for text in body.split("\n") if not text.startswith("--")))
+    out = "-- %s\n" % head
     for where, names in IMPORTS:
         names += ("Fell",) if where.endswith("Step.TheVariants") else ()
         out += imported(where, [n for n in names if n in used or n == "◌∷◌"])
@@ -93,6 +95,8 @@ def uses(words, sources, ghost=""):
 THREE = "Rattle.qc_decl.specs.One.{three}"
 DUE = "Rattle.qc_promise.specs.Due.{Due}"
 REPLIES = "Rattle.qc_promise.specs.Replies.{AreRepliesDue}"
+SITES = "Rattle.qc_promise.specs.SiteDue.{AreDue}"
+DEEDS = "Rattle.qc_msg.specs.Deeds.{deeds}"
 
 
 # Right histories.
@@ -101,7 +105,9 @@ def declared(name, source):
     """The declaration and the history of this name: a module's, or one in a module of several."""
     if source in WORKED:
         return "three", "%s.history" % name
-    return ("%s.decl" % name, "%s.history" % name) if source.startswith("Random") else ("three", low(source) + "." + name)
+    if source.startswith("Random"):
+        return "%s.decl" % name, "%s.history" % name
+    return "three", low(source) + "." + name
 
 
 def statement(name, source):
@@ -168,17 +174,19 @@ def make_wrong(run, kinds, source, head, words):
         for name, wrong_is, script, *rest in cases:
             edit = next(r for r in rest if callable(r))
             h, said = Edited(run(script)), "%s.%s" % (low(file), name)
-            h.end(edit(h))
+            place = edit(h)
+            place, last = place if isinstance(place, tuple) else (place, place)
+            h.end(last)
             history = h.history()
             named.append((name, wrong_is, history))
             if source == "wrong":
-                lemmas += last_reply(said, name, history, *rest[1:])
+                lemmas += reply_at(said, name, history, place, *rest[1:])
                 clauses.append((name, "AreRepliesDue three [] %s → ⊥" % said))
             else:
                 lemmas += last_post(said, name, history, rest[0], *rest[2:])
                 clauses.append((name, "AreDue three [] (deeds %d [] %s) → ⊥" % (rest[0], said)))
         write("specs/%s.antt" % file, module("Wrong histories: " + says, named))
-        write("proofs/%s.antt" % file, lemma_module("None of these histories is due: " + says, lemmas, file, low(file)))
+        write("proofs/%s.antt" % file, lemma_module("None of these is due: " + says, lemmas, file, low(file)))
         function = low(file) + "_are_refused"
         answers(source, function, file, [n for n, _ in clauses], "refused")
         laws += law("These aren't due: " + says, function, clauses)
@@ -201,10 +209,10 @@ def main(words):
         return r.still.history
 
     specs, lemmas = make_right(run, parts)
-    wrong_files = make_wrong(run, wrong.cases(*parts), "wrong", "Wrong histories of clients, each refused.",
-                             [THREE, REPLIES])
-    wrong_files += make_wrong(run, wrong_sites.cases(*parts), "wrong_sites", "Wrong histories of sites, each refused.", [
-        THREE, "Rattle.qc_msg.specs.Deeds.{deeds}", "Rattle.qc_promise.specs.SiteDue.{AreDue}"])
+    wrong_files = make_wrong(run, wrong_reads.cases(*parts) + wrong_commits.cases(*parts), "wrong",
+                             "Wrong histories of clients, each refused.", [THREE, REPLIES])
+    wrong_files += make_wrong(run, wrong_sites.cases(*parts), "wrong_sites", "Wrong histories of sites, each refused.",
+                              [THREE, DEEDS, SITES])
     write("specs/Lib.antt", "".join("pub mod %s\n" % m for m in specs + wrong_files))
     write("proofs/Lib.antt", "".join(
         "pub mod %s\n" % m for m in ["Owed", "Places", "Sites", "SitePlaces"] + lemmas + wrong_files))

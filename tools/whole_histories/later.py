@@ -1,8 +1,8 @@
-"""Histories of rows that no run comes to before actors fall and epochs close: the model's, edited so that a site answers
-what none answers yet. What the client then tells is due.
+"""Histories of rows that no run comes to before actors fall and epochs close: the model's, edited so that a site
+answers what none answers yet. What the client then tells is due.
 """
 
-from wrong import COMMIT, READ, WRITE
+from bases import COMMIT, READ, WRITE
 
 
 def cases(step, msg, record, reply):
@@ -54,8 +54,9 @@ def cases(step, msg, record, reply):
 
     return (
         ("closed_reading", "A site's epoch is closed, as it is read.", READ, closed_reading),
-        ("closed_appending", "A site's epoch is closed while its transaction appends; the next one is of the next epoch.",
-         WRITE, closed_appending),
+        ("closed_appending",
+         "A site's epoch is closed while its transaction appends; the next one is of the next epoch.", WRITE,
+         closed_appending),
         ("closed_vote", "A site's epoch is closed, as it is to promise.", COMMIT, closed_vote),
         ("restarted", "A site has risen since it granted.", COMMIT, restarted),
         ("fault", "A site can't write its promise.", COMMIT, fault),

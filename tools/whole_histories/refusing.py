@@ -1,4 +1,4 @@
-"""Lemmas that refuse wrong histories: what is due at the last step isn't what stands there."""
+"""Lemmas that refuse wrong histories: what is due at a step isn't what stands there."""
 
 from modules import VARIANTS, imported, words_of
 from spelling import kind, listed, operation, reply as spelled_reply, stamp, term, tx
@@ -34,9 +34,9 @@ def lemma_module(head, body, file, name):
     return out + "use Rattle.tests_due.specs.%s as %s\n" % (file, name) + body
 
 
-def last_reply(said, name, history, part, due):
-    """The last step is a client's reply, or its commit record."""
-    x = history[-1][1]
+def reply_at(said, name, history, place, part, due):
+    """The step at a place is a client's reply, or its commit record."""
+    x = history[place][1]
     told = "(Some %s)" % (term("replies.Committed", stamp(x.record.stamp)) if kind(x) == "Wrote" else
                           "replies.Unknown" if kind(x.reply) == "Unknown" else spelled_reply(x.reply))
     commit = kind(x) == "Wrote" and "(Some (record { stamp = %s; tx = %s; ops = %s }))" % (
@@ -50,8 +50,7 @@ def last_reply(said, name, history, part, due):
     return (
         "\n%s_differs : ◌≡◌ {A = Option %s} %s %s → ⊥\n%s_differs e = %s\n"
         "\npub %s_refused : AreRepliesDue three [] %s → ⊥\n%s_refused all = %s_differs (due_at %d three [] %s all).%d\n"
-        % (name, "Commit" if field else "Reply", left, right, name, never, name, said, name, name, len(history) - 1,
-           said, field))
+        % (name, "Commit" if field else "Reply", left, right, name, never, name, said, name, name, place, said, field))
 
 
 def last_post(said, name, history, site, part, due, posted):

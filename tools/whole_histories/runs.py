@@ -7,7 +7,9 @@ MODEL is the folder of the model, as for the tool in whose folder this one
 stands, which chooses the histories and writes them with their moves. This one
 writes what those are runs of: rules of links, and phases with control lines and
 commands. A law names each: performed over its script, where each input is what
-is ready then, the moves give just the history, and nothing is left to do. It
+is ready then, the moves give just the history, and nothing is left to do.
+Another one says that after each move those that may take an input are the
+model's. It
 writes the scripts in specs/ of crates/tests_runs, and proofs/ and src/ for
 them, but not specs/Perform.antt, Whole.antt, Words.antt, proofs/Sound.antt,
 proofs/laws/, src/lib.rt and src/laws.rt; `rt fmt` then finds nothing to lay out.
@@ -19,8 +21,9 @@ import sys
 
 sys.dont_write_bytecode = True
 from choosing import chosen
-from modules import COLUMNS, broken, imported, words_of
+from modules import COLUMNS, broken, filled, imported, words_of
 from spelling import command, kind, listed, optional, term
+from takers import takers
 
 HERE = os.path.dirname(os.path.abspath(__file__))
 CRATE = os.path.join(HERE, "..", "..", "crates", "tests_runs")
@@ -81,18 +84,39 @@ def module(head, scripts):
     return out + "\n" + body
 
 
+# Who may take an input, as terms.
+
+def takers_module(head, named):
+    body = "\n".join("abbrev pub %s : List (List ℕ)\n%s =\n%s\n" % (
+        name, name, filled([listed(map(str, actors)) for actors in lists], "[]")) for name, lists in named)
+    return "-- %s\nuse Rattle.std.specs.Prelude.{ℕ, List, [], ◌∷◌}\n\n%s" % (head, body)
+
+
 # Laws.
 
-def statement(name, scripts):
-    decl = "three" if name in WORKED else low(name) + ".decl"
-    return "run_by %s %s.%s %s.moves ≡ Some %s.history" % (decl, scripts, low(name), low(name), low(name))
+def declared(name):
+    return "three" if name in WORKED else low(name) + ".decl"
 
 
-def uses(names, module_name, scripts, end=""):
-    out = "use Rattle.qc_decl.specs.One.{three}%s\n" % end if names[0] in WORKED else ""
-    out += "".join("use Rattle.tests_histories.specs.%s as %s%s\n" % (n, low(n), end) for n in names)
-    out += "use Rattle.tests_runs.specs.Perform.{run_by}%s\n" % end
-    return out + "use Rattle.tests_runs.specs.%s as %s%s\n" % (module_name, scripts, end)
+def run_statement(name, group):
+    return "run_by %s scripts%s.%s %s.moves ≡ Some %s.history" % (
+        declared(name), group, low(name), low(name), low(name))
+
+
+def takers_statement(name, group):
+    return "all_takers %s scripts%s.%s %s.moves ≡ takers%s.%s" % (
+        declared(name), group, low(name), low(name), group, low(name))
+
+
+def uses(names, group, file, what, ghost=""):
+    """The lines that bring the histories of these names, and what is said of them."""
+    paths = ["Rattle.qc_decl.specs.One.{three}"] if names[0] in WORKED else []
+    paths += ["Rattle.tests_histories.specs.%s as %s" % (n, low(n)) for n in names]
+    paths += ["Rattle.tests_runs.specs.Perform.{%s}" % ", ".join(what)]
+    paths += ["Rattle.tests_runs.specs.%sScripts as scripts%s" % (file, group)]
+    if "all_takers" in what:
+        paths += ["Rattle.tests_runs.specs.%sTakers as takers%s" % (file, group)]
+    return "".join("%suse %s%s\n" % (ghost, path, ";" if ghost else "") for path in paths)
 
 
 def write(path, text):
@@ -102,72 +126,79 @@ def write(path, text):
         file.write(text)
 
 
-def laws(file, function, doc, module_name, scripts, names):
-    """The lemma file, the answers and the law of some histories."""
-    lemma_file = "".join(part.capitalize() for part in function.split("_"))
-    text = "-- %s\nuse Rattle.std.proofs.Common.{◌≡◌, Some, refl}\n%s" % (doc, uses(names, module_name, scripts))
+def law(source, name, doc, names, group, file, what, statement):
+    """The lemmas of a law, their file, its answers, and the law itself."""
+    lemmas = "".join(part.capitalize() for part in name.split("_"))
+    common = "◌≡◌, Some, refl" if what == ["run_by"] else "◌≡◌, refl"
+    text = "-- %s\nuse Rattle.std.proofs.Common.{%s}\n%s" % (doc, common, uses(names, group, file, what))
     for n in names:
-        text += "\npub %s_runs : %s\n%s_runs = refl\n" % (low(n), statement(n, scripts), low(n))
-    write("proofs/%s.antt" % lemma_file, text)
-    fields = "".join("  %s = lemmas.%s_runs;\n" % (low(n), low(n)) for n in names)
-    write("proofs/%s/%s/Answers.antt" % (file, function),
+        text += "\npub %s_computed : %s\n%s_computed = refl\n" % (low(n), statement(n, group), low(n))
+    write("proofs/%s.antt" % lemmas, text)
+    fields = "".join("  %s = lemmas.%s_computed;\n" % (low(n), low(n)) for n in names)
+    write("proofs/%s/%s/Answers.antt" % (source, name),
           "use Rattle.tests_runs.proofs.%s as lemmas\n"
           "use Rattle.tests_runs.proofs.%s.%s.Goals as goal\n\n"
-          "pub returns : goal.returns\nreturns c = record {\n%s}\n" % (lemma_file, file, function, fields))
-    law = "/// %s\npub fn %s()\n" % (doc, function)
+          "pub returns : goal.returns\nreturns c = record {\n%s}\n" % (lemmas, source, name, fields))
+    out = "\n/// %s\npub fn %s()\n" % (doc, name)
     for n in names:
-        clause = "    ensures %s { %s }\n" % (low(n), statement(n, scripts))
-        law += clause if len(clause) <= COLUMNS else clause.replace(" ≡ ", "\n        ≡ ")
-    return lemma_file, law + "{}\n"
+        clause = "    ensures %s { %s }\n" % (low(n), statement(n, group))
+        out += clause if len(clause) <= COLUMNS else clause.replace(" ≡ ", "\n        ≡ ")
+    return lemmas, out + "{}\n"
 
 
-def scripts_in(model):
-    """The scripts of the worked and of the random histories."""
+def make(source, head, groups):
+    """What is said of groups of histories: (text of its law, group, file, [(name, script, takers)])."""
+    modules, lemmas, imports, laws = [], [], [], ""
+    for which, said, group, file, histories in groups:
+        names = [n for n, _, _ in histories]
+        write("specs/%sScripts.antt" % file, module("The scripts of the %s." % said, [
+            (low(n), s) for n, s, _ in histories]))
+        write("specs/%sTakers.antt" % file, takers_module(
+            "The %s: who may take an input, at first and after each move." % said, [(low(n), t) for n, _, t in histories]))
+        modules += ["%sScripts" % file, "%sTakers" % file]
+        for name, doc, what, statement in (
+                ("%s_are_runs" % which, "The %s are whole runs of their scripts." % said, ["run_by"], run_statement),
+                ("takers_of_%s_are_right" % which,
+                 "In the %s those that may take an input are the model's." % said, ["all_takers"], takers_statement)):
+            file_of, text = law(source, name, doc, names, group, file, what, statement)
+            lemmas.append(file_of)
+            laws += text
+        imports += uses(names, group, file, ["all_takers", "run_by"], "ghost ").split("\n")
+    write("src/%s.rt" % source, "//! %s\n\nghost use Rattle.std.specs.Prelude.{◌≡◌, Some};\n%s\n%s" % (
+        head, "\n".join(line for line in dict.fromkeys(imports) if line), laws))
+    return modules, lemmas
+
+
+def histories_in(model):
+    """The worked and the random histories: names, scripts, takers."""
     sys.path.insert(0, model)
-    from oracle import decl as decls, explore, script as scripts
-    three = decls.built_in("@three")
-    worked = [(name, scripts.read((text.replace("|", "\n") + "\n").encode(), three))
-              for name, (_, text) in WORKED.items()]
-    return worked, [("Random%d" % (k + 1), s) for k, (_, _, s, _) in enumerate(chosen(explore)[0])]
+    from oracle import decl as decls, explore, fabric, node, script as scripts
+    three, worked = decls.built_in("@three"), []
+    for name, (_, text) in WORKED.items():
+        read = scripts.read((text.replace("|", "\n") + "\n").encode(), three)
+        run = node.Run(three, read, node.MemRack())
+        run.go()
+        worked.append((name, read, takers(fabric, three, read, run.still.history)))
+    random = [("Random%d" % (k + 1), s, takers(fabric, decl, s, history))
+              for k, (_, decl, s, history) in enumerate(chosen(explore)[0])]
+    return worked, random
 
 
 def main(words):
     if len(words) != 1:
         sys.exit(__doc__)
-    worked, picked = scripts_in(words[0])
-    ghost = lambda text: "ghost " + text.rstrip("\n").replace("\n", "\nghost ") + "\n"
-    modules, lemma_files = ["Perform", "Whole", "Words", "WorkedScripts"], ["Sound"]
-    write("specs/WorkedScripts.antt",
-          module("The scripts of the worked histories.", [(low(n), s) for n, s in worked]))
-    names = [n for n, _ in worked]
-    file, law = laws("worked", "worked_histories_are_runs", "Each worked history is a whole run of its script.",
-                     "WorkedScripts", "scripts", names)
-    lemma_files.append(file)
-    write("src/worked.rt", "//! Histories that were worked by hand first.\n\n"
-          "ghost use Rattle.std.specs.Prelude.{◌≡◌, Some};\n"
-          + ghost(uses(names, "WorkedScripts", "scripts", ";")) + "\n" + law)
-    text = ("//! Random histories of the model, from the shortest to the longest.\n\n"
-            "ghost use Rattle.std.specs.Prelude.{◌≡◌, Some};\n")
-    imports, all_laws = [], ""
-    for k in range(0, len(picked), GROUP):
-        group = picked[k:k + GROUP]
-        names = [n for n, _ in group]
-        first, last = k + 1, k + len(group)
-        module_name = "Scripts%dTo%d" % (first, last)
-        modules.append(module_name)
-        write("specs/%s.antt" % module_name,
-              module("The scripts of the random histories %d to %d." % (first, last),
-                     [(low(n), s) for n, s in group]))
-        file, law = laws("random", "histories_%d_to_%d_are_runs" % (first, last),
-                         "Each of the random histories %d to %d is a whole run of its script." % (first, last),
-                         module_name, low(module_name), names)
-        lemma_files.append(file)
-        imports += uses(names, module_name, low(module_name), ";").rstrip("\n").split("\n")
-        all_laws += "\n" + law
-    text += "".join("ghost %s\n" % line for line in sorted(set(imports), key=imports.index))
-    write("src/random.rt", text + all_laws)
-    write("specs/Lib.antt", "".join("pub mod %s\n" % m for m in modules))
-    write("proofs/Lib.antt", "".join("pub mod %s\n" % m for m in lemma_files))
+    worked, random = histories_in(words[0])
+    modules, lemmas = make("worked", "Histories that were worked by hand first.", [
+        ("worked_histories", "worked histories", "", "Worked", worked)])
+    groups = []
+    for k in range(0, len(random), GROUP):
+        group = random[k:k + GROUP]
+        span = k + 1, k + len(group)
+        groups.append(("histories_%d_to_%d" % span, "random histories %d to %d" % span, str(k // GROUP + 1),
+                       "Random%dTo%d" % span, group))
+    more = make("random", "Random histories of the model, from the shortest to the longest.", groups)
+    write("specs/Lib.antt", "".join("pub mod %s\n" % m for m in ["Perform", "Whole", "Words"] + modules + more[0]))
+    write("proofs/Lib.antt", "".join("pub mod %s\n" % m for m in ["Sound"] + lemmas + more[1]))
 
 
 if __name__ == "__main__":

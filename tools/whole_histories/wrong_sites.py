@@ -4,13 +4,13 @@ due. An edit gives the place of the last step that counts; what stands behind th
 
 import dataclasses
 
-from wrong import CLASH, COMMIT, DOOMED, READ, WRITE, WRITE_AFTER
+from bases import CLASH, COMMIT, DOOMED, READ, WRITE, WRITE_AFTER
 
 ENDED_WRITE = "phase|c0 begin|c0 do x W1|c0 abort|phase|c1 begin|c1 do x R"
 TWO_WRITERS = "phase|c0 begin|c0 do x W0|phase|c2 begin|c2 do x W1|phase|c1 begin|c1 do x R"
 
-# what is compared of a post: the answer, the count of messages, the holder of a clash, the lines or the clock of a grant,
-# the count of records, the own lines of a promise
+# what is compared of a post: the answer, the count of messages, the holder of a clash, the lines or the clock of a
+# grant, the count of records, the own lines of a promise
 ANSWER, MESSAGES, HOLDER, LINES, CLOCK, RECORDS, OWN = (
     "first_answer", "length", "holder_told", "lines_granted", "clock_granted", "count_records", "own_promised")
 
@@ -132,7 +132,8 @@ def cases(step, msg, record, reply):
              "(Some (answers.Granted 1 0 []))", "(Some (answers.Yes 0))"),
             ("lines_left_out", "A Read is granted without a line that the site knows.", WRITE_AFTER, 1, lines_left_out,
              LINES, "1", "0"),
-            ("clock_left_behind", "A grant tells an earlier clock.", WRITE_AFTER, 1, clock_left_behind, CLOCK, "1", "0"),
+            ("clock_left_behind", "A grant tells an earlier clock.", WRITE_AFTER, 1, clock_left_behind, CLOCK, "1",
+             "0"),
             ("answers_nobody", "A request gets no answer.", READ, 0, answers_nobody, MESSAGES, "1", "0"),
             ("answers_twice", "A request gets two answers.", READ, 0, answers_twice, MESSAGES, "1", "2"),
             ("unkept", "A Yes has no Prepare record.", COMMIT, 0, unkept, RECORDS, "1", "0"),

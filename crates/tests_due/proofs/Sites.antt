@@ -3,7 +3,6 @@ use Rattle.std.proofs.Common.{◌≡◌, ℕ, zero, suc, ◌<◌, ◌==◌, Bool
 use Rattle.std.proofs.lemmas.Bool.{eqb-false, eqb-true}
 use Rattle.qc_decl.specs.declared.declaration.Declaration.{Declaration}
 use Rattle.qc_msg.specs.declared.record.Record.{Record}
-use Rattle.qc_msg.specs.declared.step.Given.{Given}
 use Rattle.qc_msg.specs.declared.turn.Posting.{Posting}
 use Rattle.qc_msg.specs.Deeds.{Deed, Takes, Writes, Sends, Tells, deeds}
 use Rattle.qc_msg.specs.Steps.{Entry}
@@ -61,7 +60,7 @@ site_due_where_posted : (decl : Declaration) (before after : List Deed) → all_
 site_due_where_posted decl before [] same = tt
 site_due_where_posted decl before (d ∷ after) same =
     let parts : (all_due decl (before ++ d ∷ []) after ≡ all_posted after) × IsDueAt decl before d after =
-        at_deed decl before d after (all_due decl (before ++ d ∷ []) after) (all_posted after) same in
+    at_deed decl before d after (all_due decl (before ++ d ∷ []) after) (all_posted after) same in
     (parts.1, site_due_where_posted decl (before ++ d ∷ []) after parts.0)
 
 -- the sites below a number, the greatest first

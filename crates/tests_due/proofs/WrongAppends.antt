@@ -1,4 +1,4 @@
--- None of these histories is due: responses after Appends that lack what they are to carry.
+-- None of these is due: responses after Appends that lack what they are to carry.
 use Rattle.std.proofs.Common.{◌≡◌, [], Option, Some, None}
 use Rattle.qc_decl.specs.One.{three}
 use Rattle.qc_msg.specs.declared.reply.Reply.{Reply}

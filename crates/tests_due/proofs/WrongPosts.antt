@@ -1,4 +1,4 @@
--- None of these histories is due: sites that answer or write something else than is due.
+-- None of these is due: sites that answer or write something else than is due.
 use Rattle.std.proofs.Common.{◌≡◌, ℕ, [], length, Option, Some, ap}
 use Rattle.qc_decl.specs.One.{three}
 use Rattle.qc_msg.specs.declared.message.Answer.{Answer}

@@ -1,4 +1,4 @@
--- None of these histories is due: rounds of Reads that no site, or too few, answered.
+-- None of these is due: rounds of Reads that no site, or too few, answered.
 use Rattle.std.proofs.Common.{◌≡◌, ℕ, [], Option, Some, None, ap}
 use Rattle.qc_decl.specs.One.{three}
 use Rattle.qc_msg.specs.declared.reply.Reply.{Reply}

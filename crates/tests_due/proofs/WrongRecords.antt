@@ -1,4 +1,4 @@
--- None of these histories is due: commits without their record.
+-- None of these is due: commits without their record.
 use Rattle.std.proofs.Common.{◌≡◌, ℕ, [], ◌∷◌, Option, Some, None, ap}
 use Rattle.qc_decl.specs.One.{three}
 use Rattle.qc_entry.specs.declared.record.Commit.{Commit}
@@ -51,3 +51,9 @@ unknown_without_a_fall_differs e = let never : ⊥ = cc in never
 
 pub unknown_without_a_fall_refused : AreRepliesDue three [] wrong_records.unknown_without_a_fall → ⊥
 unknown_without_a_fall_refused all = unknown_without_a_fall_differs (due_at 24 three [] wrong_records.unknown_without_a_fall all).0
+
+committed_though_it_fell_differs : ◌≡◌ {A = Option Reply} (Some replies.Unknown) (Some (replies.Committed (stamp 1 0))) → ⊥
+committed_though_it_fell_differs e = let never : ⊥ = cc in never
+
+pub committed_though_it_fell_refused : AreRepliesDue three [] wrong_records.committed_though_it_fell → ⊥
+committed_though_it_fell_refused all = committed_though_it_fell_differs (due_at 24 three [] wrong_records.committed_though_it_fell all).0

@@ -1,4 +1,4 @@
--- None of these histories is due: sites that refuse what they are to grant, or grant what they are to refuse.
+-- None of these is due: sites that refuse what they are to grant, or grant what they are to refuse.
 use Rattle.std.proofs.Common.{◌≡◌, ℕ, [], length, Option, Some, ap}
 use Rattle.qc_decl.specs.One.{three}
 use Rattle.qc_msg.specs.declared.message.Answer.{Answer}

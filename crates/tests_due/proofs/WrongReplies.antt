@@ -1,4 +1,4 @@
--- None of these histories is due: replies that aren't the first row's.
+-- None of these is due: replies that aren't the first row's.
 use Rattle.std.proofs.Common.{◌≡◌, ℕ, [], Option, Some, None, ap}
 use Rattle.qc_decl.specs.One.{three}
 use Rattle.qc_msg.specs.declared.reply.Reply.{Reply}

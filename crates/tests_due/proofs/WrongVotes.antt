@@ -1,4 +1,4 @@
--- None of these histories is due: commits without their votes.
+-- None of these is due: commits without their votes.
 use Rattle.std.proofs.Common.{◌≡◌, [], Option, Some, None}
 use Rattle.qc_decl.specs.One.{three}
 use Rattle.qc_msg.specs.declared.reply.Reply.{Reply}

@@ -21,12 +21,14 @@ unasked =
 abbrev pub each_conflicts : List Entry
 each_conflicts =
     marked 7 (Phase 1) ∷ marked 3 (Called commands.Begin) ∷ marked 3 (Told (replies.Began (tx 0 1))) ∷
+    marked 3 (Called (commands.Do 0 0)) ∷ marked 3 (Told (replies.Conflict (tx 1 1) 0)) ∷
     marked 3 (Called (commands.Do 0 0)) ∷ marked 3 (Told (replies.Conflict (tx 1 1) 0)) ∷ []
 
 -- Each `do` is told that its quorum is short.
 abbrev pub each_short : List Entry
 each_short =
     marked 7 (Phase 1) ∷ marked 3 (Called commands.Begin) ∷ marked 3 (Told (replies.Began (tx 0 1))) ∷
+    marked 3 (Called (commands.Do 0 0)) ∷ marked 3 (Told (replies.Quorum halves.Read 0 2)) ∷
     marked 3 (Called (commands.Do 0 0)) ∷ marked 3 (Told (replies.Quorum halves.Read 0 2)) ∷ []
 
 -- One grant is counted for a weight of two.

@@ -72,4 +72,5 @@ pub fn wrong_records_are_refused()
     ensures low_stamp { AreRepliesDue three [] wrong_records.low_stamp → ⊥ }
     ensures aborted_though_recorded { AreRepliesDue three [] wrong_records.aborted_though_recorded → ⊥ }
     ensures unknown_without_a_fall { AreRepliesDue three [] wrong_records.unknown_without_a_fall → ⊥ }
+    ensures committed_though_it_fell { AreRepliesDue three [] wrong_records.committed_though_it_fell → ⊥ }
 {}

@@ -1,4 +1,4 @@
--- Each of the random histories 1 to 10 is a whole run of its script.
+-- The random histories 1 to 10 are whole runs of their scripts.
 use Rattle.std.proofs.Common.{◌≡◌, Some, refl}
 use Rattle.tests_histories.specs.Random1 as random1
 use Rattle.tests_histories.specs.Random2 as random2
@@ -11,34 +11,34 @@ use Rattle.tests_histories.specs.Random8 as random8
 use Rattle.tests_histories.specs.Random9 as random9
 use Rattle.tests_histories.specs.Random10 as random10
 use Rattle.tests_runs.specs.Perform.{run_by}
-use Rattle.tests_runs.specs.Scripts1To10 as scripts1_to10
+use Rattle.tests_runs.specs.Random1To10Scripts as scripts1
 
-pub random1_runs : run_by random1.decl scripts1_to10.random1 random1.moves ≡ Some random1.history
-random1_runs = refl
+pub random1_computed : run_by random1.decl scripts1.random1 random1.moves ≡ Some random1.history
+random1_computed = refl
 
-pub random2_runs : run_by random2.decl scripts1_to10.random2 random2.moves ≡ Some random2.history
-random2_runs = refl
+pub random2_computed : run_by random2.decl scripts1.random2 random2.moves ≡ Some random2.history
+random2_computed = refl
 
-pub random3_runs : run_by random3.decl scripts1_to10.random3 random3.moves ≡ Some random3.history
-random3_runs = refl
+pub random3_computed : run_by random3.decl scripts1.random3 random3.moves ≡ Some random3.history
+random3_computed = refl
 
-pub random4_runs : run_by random4.decl scripts1_to10.random4 random4.moves ≡ Some random4.history
-random4_runs = refl
+pub random4_computed : run_by random4.decl scripts1.random4 random4.moves ≡ Some random4.history
+random4_computed = refl
 
-pub random5_runs : run_by random5.decl scripts1_to10.random5 random5.moves ≡ Some random5.history
-random5_runs = refl
+pub random5_computed : run_by random5.decl scripts1.random5 random5.moves ≡ Some random5.history
+random5_computed = refl
 
-pub random6_runs : run_by random6.decl scripts1_to10.random6 random6.moves ≡ Some random6.history
-random6_runs = refl
+pub random6_computed : run_by random6.decl scripts1.random6 random6.moves ≡ Some random6.history
+random6_computed = refl
 
-pub random7_runs : run_by random7.decl scripts1_to10.random7 random7.moves ≡ Some random7.history
-random7_runs = refl
+pub random7_computed : run_by random7.decl scripts1.random7 random7.moves ≡ Some random7.history
+random7_computed = refl
 
-pub random8_runs : run_by random8.decl scripts1_to10.random8 random8.moves ≡ Some random8.history
-random8_runs = refl
+pub random8_computed : run_by random8.decl scripts1.random8 random8.moves ≡ Some random8.history
+random8_computed = refl
 
-pub random9_runs : run_by random9.decl scripts1_to10.random9 random9.moves ≡ Some random9.history
-random9_runs = refl
+pub random9_computed : run_by random9.decl scripts1.random9 random9.moves ≡ Some random9.history
+random9_computed = refl
 
-pub random10_runs : run_by random10.decl scripts1_to10.random10 random10.moves ≡ Some random10.history
-random10_runs = refl
+pub random10_computed : run_by random10.decl scripts1.random10 random10.moves ≡ Some random10.history
+random10_computed = refl

@@ -1,6 +1,11 @@
 pub mod Sound
 pub mod WorkedHistoriesAreRuns
+pub mod TakersOfWorkedHistoriesAreRight
 pub mod Histories1To10AreRuns
+pub mod TakersOfHistories1To10AreRight
 pub mod Histories11To20AreRuns
+pub mod TakersOfHistories11To20AreRight
 pub mod Histories21To30AreRuns
+pub mod TakersOfHistories21To30AreRight
 pub mod Histories31To40AreRuns
+pub mod TakersOfHistories31To40AreRight

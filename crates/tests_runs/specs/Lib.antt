@@ -2,7 +2,12 @@ pub mod Perform
 pub mod Whole
 pub mod Words
 pub mod WorkedScripts
-pub mod Scripts1To10
-pub mod Scripts11To20
-pub mod Scripts21To30
-pub mod Scripts31To40
+pub mod WorkedTakers
+pub mod Random1To10Scripts
+pub mod Random1To10Takers
+pub mod Random11To20Scripts
+pub mod Random11To20Takers
+pub mod Random21To30Scripts
+pub mod Random21To30Takers
+pub mod Random31To40Scripts
+pub mod Random31To40Takers

@@ -1,8 +1,10 @@
 -- A run made by a schedule: whoever is named takes what is ready for it, or posts the turn of its conduct; the
 -- controller begins the next phase, or carries out the next control line. A move that no run has there ends it.
 use Rattle.std.specs.Prelude.{ℕ, ◌+◌, ◌==◌, ◌&&◌, nat_lt, not, Bool, true, false, cond, List, [], ◌∷◌, ◌++◌, length}
-use Rattle.std.specs.Prelude.{replicate, slice_get, slice_set, is_none, Option, Some, None, option_map, option_and_then}
+use Rattle.std.specs.Prelude.{replicate, slice_get, slice_set, filter, is_none, is_some, unwrap_or}
+use Rattle.std.specs.Prelude.{Option, Some, None, option_map, option_and_then}
 use Rattle.std.specs.List.{list_all, range_with_len}
+use Rattle.std.specs.Option.{option_map_or}
 use Rattle.qc_core.specs.Conduct.{turn_after}
 use Rattle.qc_decl.specs.declared.declaration.Declaration.{Declaration}
 use Rattle.qc_decl.specs.Actors.{actors, controller}
@@ -111,6 +113,24 @@ abbrev pub moved_on : Declaration → Script → Stage → List Move → Option 
 moved_on decl script s [] = Some s
 moved_on decl script s (move ∷ moves) =
     option_and_then (λ (next : Stage). moved_on decl script next moves) (moved decl script s move)
+
+-- the actors that may take an input, and those after each move, from the beginning on
+
+abbrev pub may_take : Declaration → Script → Stage → ℕ → Bool
+may_take decl script s a =
+    unwrap_or (option_map not (slice_get s.open_inputs a)) false && is_some (ready decl script a s.history)
+
+abbrev pub takers : Declaration → Script → Stage → List ℕ
+takers decl script s = filter (may_take decl script s) (range_with_len 0 (actors decl))
+
+abbrev pub takers_from : Declaration → Script → Stage → List Move → List (List ℕ)
+takers_from decl script s [] = takers decl script s ∷ []
+takers_from decl script s (move ∷ moves) =
+    takers decl script s
+    ∷ option_map_or (λ (next : Stage). takers_from decl script next moves) (moved decl script s move) []
+
+abbrev pub all_takers : Declaration → Script → List Move → List (List ℕ)
+all_takers decl script moves = takers_from decl script (nothing_done decl) moves
 
 -- all phases have begun, all their control lines have acted, no input is open, and nothing is ready for any actor
 abbrev pub is_over : Declaration → Script → Stage → Bool

@@ -10,4 +10,5 @@ returns c = record {
   low_stamp = lemmas.low_stamp_refused;
   aborted_though_recorded = lemmas.aborted_though_recorded_refused;
   unknown_without_a_fall = lemmas.unknown_without_a_fall_refused;
+  committed_though_it_fell = lemmas.committed_though_it_fell_refused;
 }

@@ -3,14 +3,14 @@ use Rattle.tests_runs.proofs.random.histories_31_to_40_are_runs.Goals as goal
 
 pub returns : goal.returns
 returns c = record {
-  random31 = lemmas.random31_runs;
-  random32 = lemmas.random32_runs;
-  random33 = lemmas.random33_runs;
-  random34 = lemmas.random34_runs;
-  random35 = lemmas.random35_runs;
-  random36 = lemmas.random36_runs;
-  random37 = lemmas.random37_runs;
-  random38 = lemmas.random38_runs;
-  random39 = lemmas.random39_runs;
-  random40 = lemmas.random40_runs;
+  random31 = lemmas.random31_computed;
+  random32 = lemmas.random32_computed;
+  random33 = lemmas.random33_computed;
+  random34 = lemmas.random34_computed;
+  random35 = lemmas.random35_computed;
+  random36 = lemmas.random36_computed;
+  random37 = lemmas.random37_computed;
+  random38 = lemmas.random38_computed;
+  random39 = lemmas.random39_computed;
+  random40 = lemmas.random40_computed;
 }

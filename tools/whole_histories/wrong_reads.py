@@ -1,30 +1,12 @@
-"""Wrong histories: each is a right one of the model, edited so that its last step isn't due.
+"""Wrong histories of clients that read and append: each is a right one of the model, edited so that its last step isn't
+due.
 
-An edit takes a history (`editing.py`) of `@three` and gives the place of the
-step that isn't due; what stands behind that goes. Beside it stands what is due
-there by the table of replies, as a term.
+An edit takes a history (`editing.py`) of `@three` and gives the place of the step that isn't due, or that place and the
+last one that is kept. Beside it stands what is due there.
 """
 
-import dataclasses
-
-READ = "phase|c0 begin|c0 do x R"
-TWO_READS = "phase|c0 begin|c0 do x R|c0 do x R"
-LATE = "link s0 c0 1 late|phase|c0 begin|c0 do x R"
-CUT_OFF = "phase|cut c1 s0|cut c1 s1|c1 begin|c1 do x R"
-CLASH = "phase|c0 begin|c0 do x W1|phase|c1 begin|c1 do x R"
-WRITE = "phase|c0 begin|c0 do x W1"
-TWO_WRITES = "phase|c0 begin|c0 do x W1|c0 do x W0"
-WRITE_AFTER = "phase|c0 begin|c0 do x W1|c0 commit|phase|c1 begin|c1 do x R|c1 do x W0|c1 commit"
-COMMIT = "phase|c0 begin|c0 do x W1|c0 commit"
-LOST_VOTE = "link s0 c0 2 drop|phase|c0 begin|c0 do x W1|c0 commit"
-SECOND = "phase|c0 begin|c0 do x W1|c0 abort|c0 begin|c0 do x W1|c0 commit"
-DOOMED = "phase|c0 begin|c0 do x R|phase|c1 begin|c1 do x W1|c1 commit"
-ENDED = "phase|c0 begin|c0 abort|c0 abort"
-
-NOTHING = "None"
-RESPONSE_0 = "(Some (replies.Response 0))"
-COMMITTED = "(Some (replies.Committed (stamp 1 0)))"
-RECORD = "(Some (record { stamp = stamp 1 0; tx = tx 0 1; ops = operation 0 2 (Some 2) ∷ [] }))"
+from bases import READ, TWO_READS, LATE, CUT_OFF, CLASH, WRITE
+from bases import TWO_WRITES, WRITE_AFTER, DOOMED, ENDED, NOTHING, RESPONSE_0
 
 
 def cases(step, msg, record, reply):
@@ -75,13 +57,17 @@ def cases(step, msg, record, reply):
         h.steps[k + 1:h.told("Response")] = [[3, step.Got(late)]]
         return h.told("Response")
 
-    def each_conflicts(h):
+    def each_told(h, told):
+        """Both commands are told so at once; the first reply isn't due."""
         k = h.find("Called", test=lambda x: type(x.command) is step.Do)
-        return tells(h, k + 1, 3, reply.Conflict((1, 1, 1), 0))
+        h.steps[k + 1:] = [[3, step.Told(told)], h.steps[k], [3, step.Told(told)]]
+        return k + 1, k + 3
+
+    def each_conflicts(h):
+        return each_told(h, reply.Conflict((1, 1, 1), 0))
 
     def each_short(h):
-        k = h.find("Called", test=lambda x: type(x.command) is step.Do)
-        return tells(h, k + 1, 3, reply.Quorum("Read", 0, 2))
+        return each_told(h, reply.Quorum("Read", 0, 2))
 
     def short_too_early(h):
         h.drop_message(h.sent("Read", 2))
@@ -160,83 +146,6 @@ def cases(step, msg, record, reply):
         h.steps += [[4, step.Called(step.Do(0, 2))], [4, step.Told(reply.Conflict((0, 1, 1), 1))]]
         return k + 2
 
-    # Commits.
-
-    def votes_for_another(h):
-        for nth in range(2):
-            h.change_message(h.sent("Prepare", nth), tx=(0, 1, 1))
-            k = h.wrote("Prepare", nth)
-            h.change_record(k, prepared=dataclasses.replace(h.step(k).record.prepared, tx=(0, 1, 1)))
-        return h.wrote("Commit")
-
-    def record_before_the_votes(h):
-        k = h.wrote("Commit")
-        entry = h.steps[k]
-        h.drop(k)
-        h.put(h.find("Called", test=lambda x: type(x.command) is step.Commit) + 1, *entry)
-        return h.wrote("Commit")
-
-    def unvoted(h):
-        h.drop(h.sent("Prepare"), h.wrote("Commit") - 1)
-        return h.wrote("Commit")
-
-    def one_vote(h):
-        h.drop(h.wrote("Prepare", actor=1))
-        h.drop_message(h.sent("Prepare", 1))
-        return h.wrote("Commit")
-
-    def one_vote_open(h):
-        number = h.step(h.sent("Yes", 1)).number
-        h.drop(h.find("Got", test=lambda x: x.number == number))
-        return h.wrote("Commit")
-
-    def record_missing(h):
-        h.drop(h.wrote("Commit"))
-        return h.told("Committed")
-
-    def operation_left_out(h):
-        h.change_record(h.wrote("Commit"), ops=())
-        return h.wrote("Commit")
-
-    def recorded_twice(h):
-        k = h.wrote("Commit")
-        h.put(k + 1, *h.steps[k])
-        return k + 1
-
-    def low_stamp(h):
-        h.change_record(h.wrote("Commit", 1), stamp=(1, 1))
-        return h.wrote("Commit", 1)
-
-    def no_answer_though_answered(h):
-        k = h.wrote("Commit")
-        h.drop(k, h.told("Committed") - 1)
-        return tells(h, k, 3, reply.Aborted(("NoAnswer", 0)))
-
-    def aborted_though_recorded(h):
-        return tells(h, h.told("Committed"), 3, reply.Aborted(("NoAnswer", 0)))
-
-    def recorded_without_a_vote(h):
-        k = h.told("Aborted")
-        h.put(k, 3, step.Wrote(record.Commit((1, 0), (0, 1, 1), ((0, 2, 2),))))
-        return k
-
-    def committed_though_doomed(h):
-        k = h.told("Aborted")
-        h.put(k, 4, step.Wrote(record.Commit((1, 1), (1, 1, 1), ())))
-        return k
-
-    def stranger_votes(h):
-        k = h.sent("Prepare")
-        h.end(k)
-        h.change(k, to=2)
-        h.steps += [[3, step.Lost(h.step(k).number)], [3, step.Told(reply.Aborted(("NoAnswer", 2)))]]
-        return k + 2
-
-    def unknown_without_a_fall(h):
-        k = h.wrote("Commit")
-        h.drop(k, h.told("Committed") - 1)
-        return tells(h, k, 3, reply.Unknown())
-
     # Transactions.
 
     def begins_twice(h):
@@ -257,18 +166,20 @@ def cases(step, msg, record, reply):
     return (
         ("WrongReads", "rounds of Reads that no site, or too few, answered.", [
             ("unasked", "A right response is told, and no site was asked.", READ, unasked, "due", NOTHING),
-            ("each_conflicts", "Each `do` is told Conflict.", READ, each_conflicts, "due", NOTHING),
-            ("each_short", "Each `do` is told that its quorum is short.", READ, each_short, "due", NOTHING),
+            ("each_conflicts", "Each `do` is told Conflict.", TWO_READS, each_conflicts, "due", NOTHING),
+            ("each_short", "Each `do` is told that its quorum is short.", TWO_READS, each_short, "due", NOTHING),
             ("one_grant", "One grant is counted for a weight of two.", READ, one_grant, "due", NOTHING),
-            ("one_site_twice", "Two grants of one site are counted for two sites.", READ, one_site_twice, "due", NOTHING),
+            ("one_site_twice", "Two grants of one site are counted for two sites.", READ, one_site_twice, "due",
+             NOTHING),
             ("another_invocation", "Another invocation was read for.", READ, another_invocation, "due", NOTHING),
             ("another_epoch", "Sites were asked for another epoch.", READ, another_epoch, "due", NOTHING),
             ("earlier_answers", "Answers to an earlier command's requests are counted.", TWO_READS, earlier_answers,
              "due", NOTHING),
             ("late_answer", "A late answer is counted after its request was lost.", LATE, late_answer, "due", NOTHING),
-            ("short_too_early", "Quorum is told before all sites were asked.", CUT_OFF, short_too_early, "due", NOTHING),
-            ("short_of_open_requests", "Quorum is told while a request is open.", CUT_OFF, short_of_open_requests, "due",
+            ("short_too_early", "Quorum is told before all sites were asked.", CUT_OFF, short_too_early, "due",
              NOTHING),
+            ("short_of_open_requests", "Quorum is told while a request is open.", CUT_OFF, short_of_open_requests,
+             "due", NOTHING),
             ("short_of_less", "Quorum tells less weight than was granted.", CUT_OFF, short_of_less, "due",
              "(Some (replies.Quorum halves.Read 1 2))"),
             ("conflict_with_another", "Conflict names another holder.", CLASH, conflict_with_another, "client",
@@ -306,31 +217,5 @@ def cases(step, msg, record, reply):
              NOTHING),
             ("one_append_granted", "One grant is counted for a weight of two.", WRITE, one_append_granted, "due",
              NOTHING),
-        ]),
-        ("WrongVotes", "commits without their votes.", [
-            ("votes_for_another", "The votes are for an earlier transaction.", SECOND, votes_for_another, "due", NOTHING),
-            ("unvoted", "No participant is asked.", COMMIT, unvoted, "due", NOTHING),
-            ("one_vote", "One of two participants is asked.", COMMIT, one_vote, "due", NOTHING),
-            ("one_vote_open", "One of two participants hasn't voted.", COMMIT, one_vote_open, "due", NOTHING),
-            ("recorded_without_a_vote", "The record is written though a vote is lost.", LOST_VOTE,
-             recorded_without_a_vote, "due", "(Some (replies.Aborted (causes.NoAnswer 0)))"),
-            ("no_answer_though_answered", "NoAnswer is told of a participant whose vote counted.", COMMIT,
-             no_answer_though_answered, "due", COMMITTED),
-            ("stranger_votes", "Aborted names a site that granted nothing.", COMMIT, stranger_votes, "due", NOTHING),
-            ("committed_though_doomed", "A doomed transaction commits.", DOOMED, committed_though_doomed, "due",
-             "(Some (replies.Aborted causes.Doomed))"),
-        ]),
-        ("WrongRecords", "commits without their record.", [
-            ("record_before_the_votes", "The record is written before the votes are asked for.", COMMIT,
-             record_before_the_votes, "due", NOTHING),
-            ("record_missing", "Committed is told without a record.", COMMIT, record_missing, "record", RECORD),
-            ("operation_left_out", "The record lacks the operation.", COMMIT, operation_left_out, "commit", RECORD),
-            ("recorded_twice", "The record is written twice.", COMMIT, recorded_twice, "once", NOTHING),
-            ("low_stamp", "The stamp isn't above a clock that counted.", WRITE_AFTER, low_stamp, "stamp",
-             "(Some (replies.Committed (stamp 2 1)))"),
-            ("aborted_though_recorded", "Aborted is told though the record stands.", COMMIT, aborted_though_recorded,
-             "due", COMMITTED),
-            ("unknown_without_a_fall", "Unknown is told though the client didn't fall.", COMMIT, unknown_without_a_fall,
-             "due", COMMITTED),
         ]),
     )
