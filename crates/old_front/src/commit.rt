@@ -8,10 +8,10 @@ use crate::begun::Begun;
 use crate::front::{FIRST_EPOCH, Front};
 use crate::round::Round;
 use crate::turns::{asking, quiet, telling};
+use old_msg::{Message, Outcome, Posting, Record, Reply, Sends, Turn, Why};
 use qc_decl::Declaration;
 use qc_entry::Commit;
 use qc_list::{List, OutOfMemory};
-use old_msg::{Message, Outcome, Posting, Record, Reply, Sends, Turn, Why};
 use qc_stamp::{Clock, Stamp};
 use std::alloc::Global;
 

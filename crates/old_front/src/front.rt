@@ -11,9 +11,9 @@ ghost use Rattle.old_front.specs.State.{new_front, front_sent, turned, is_awaite
 use crate::begun::Begun;
 use crate::round::Round;
 use crate::turns::{quiet, telling};
+use old_msg::{Command, Input, Message, Reply, Turn};
 use qc_decl::Declaration;
 use qc_list::OutOfMemory;
-use old_msg::{Command, Input, Message, Reply, Turn};
 use qc_stamp::{Clock, FIRST_LIFE, TxId};
 use std::alloc::Global;
 

@@ -13,10 +13,10 @@ use crate::front::{FIRST_EPOCH, Front};
 use crate::round::Round;
 use crate::turns::{asking, quiet, telling};
 use crate::view::response;
+use old_msg::{Message, Reply, Turn};
 use qc_decl::{Declaration, MOST_TRANSACTION_OPERATIONS};
 use qc_entry::{Log, Op};
 use qc_list::OutOfMemory;
-use old_msg::{Message, Reply, Turn};
 use qc_stamp::Clock;
 use std::alloc::Global;
 

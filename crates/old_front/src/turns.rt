@@ -3,8 +3,8 @@
 ghost use Rattle.std.specs.Prelude.{◌≡◌, IfOk};
 ghost use Rattle.old_front.specs.Moves.{quiet, telling, asking};
 
-use qc_list::{List, OutOfMemory};
 use old_msg::{Message, Posting, Reply, Turn};
+use qc_list::{List, OutOfMemory};
 use std::alloc::Global;
 
 /// The turn that does nothing.

@@ -6,9 +6,9 @@ ghost use Rattle.old_report.specs.Causes.{status_of, status_of_shelf, cause_text
 use crate::declaration::{put_refused, refused_status};
 use crate::page::Page;
 use itoa::Buffer;
+use old_msg::What;
 use qc_accept::DeclFault;
 use qc_list::OutOfMemory;
-use old_msg::What;
 use qc_outside::ShelfFault;
 use std::alloc::Global;
 

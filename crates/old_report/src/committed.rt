@@ -5,10 +5,10 @@ ghost use Rattle.qc_decl.specs.Actors.{is_client};
 ghost use Rattle.old_core.specs.Committed.{commit_by, committed};
 ghost use Rattle.old_report.specs.Keys.{commit_of};
 
+use old_msg::{Entry, Record, Step};
 use qc_decl::Declaration;
 use qc_entry::{Commit, Op};
 use qc_list::{List, OutOfMemory};
-use old_msg::{Entry, Record, Step};
 use qc_stamp::{Stamp, TxId};
 use std::alloc::Global;
 use std::collections::BTreeSet;

@@ -5,8 +5,8 @@ ghost use Rattle.std.specs.Prelude.{◌≡◌, ◌∷◌, ◌++◌, [], ℕ, ◌
 ghost use Rattle.std.specs.Prelude.{slice_index_or};
 ghost use Rattle.old_report.specs.Replies.{told_of, reply_in};
 
-use qc_list::OutOfMemory;
 use old_msg::{Entry, Reply, Step};
+use qc_list::OutOfMemory;
 use std::alloc::Global;
 use std::collections::VecDeque;
 use std::marker::Model;

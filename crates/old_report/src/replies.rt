@@ -9,10 +9,10 @@ use crate::page::Page;
 use crate::parts::{put_actor, put_stamp, put_transaction};
 use crate::queues::{Queue, queues_of, take_reply};
 use itoa::Buffer;
-use qc_decl::Declaration;
-use qc_list::OutOfMemory;
 use old_msg::{Command, Entry, Reply, Why};
 use old_script::{CommandLine, Script};
+use qc_decl::Declaration;
+use qc_list::OutOfMemory;
 use std::alloc::Global;
 
 /// Adds the section of replies.

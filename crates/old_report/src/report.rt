@@ -9,11 +9,11 @@ use crate::page::Page;
 use crate::replies::put_replies;
 use crate::sites::put_sites;
 use crate::states::put_states;
+use old_msg::History;
+use old_script::Script;
 use qc_decl::Declaration;
 use qc_list::OutOfMemory;
-use old_msg::History;
 use qc_onecopy::replay;
-use old_script::Script;
 use std::alloc::Global;
 
 /// What is printed of a run: the replies in the script's order, the committed

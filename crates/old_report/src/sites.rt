@@ -6,9 +6,9 @@ ghost use Rattle.old_report.specs.Sites.{standing_line, site_line, sites_text};
 use crate::page::Page;
 use crate::walk::site_in;
 use itoa::Buffer;
+use old_msg::Entry;
 use qc_decl::Declaration;
 use qc_list::OutOfMemory;
-use old_msg::Entry;
 use std::alloc::Global;
 
 /// Adds the section of sites.

@@ -6,10 +6,10 @@ ghost use Rattle.old_msg.specs.Mail.{envelope_of};
 ghost use Rattle.old_report.specs.Letters.{envelope_in, site_taking, site_step};
 ghost use Rattle.old_report.specs.Sites.{site_in};
 
-use qc_decl::Declaration;
-use qc_list::OutOfMemory;
 use old_msg::{Entry, Message, Step};
 use old_site::Site;
+use qc_decl::Declaration;
+use qc_list::OutOfMemory;
 use std::alloc::Global;
 
 /// A message that was sent.

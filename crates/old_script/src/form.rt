@@ -6,8 +6,8 @@ ghost use Rattle.old_script.specs.Grammar.{form_of, command_of, asked_of, verb_o
 ghost use Rattle.old_script.specs.Grammar.{words_of};
 ghost use Rattle.old_script.specs.Cut.{words_behind};
 
-use qc_decl::Declaration;
 use old_msg::Command;
+use qc_decl::Declaration;
 
 /// What a line of a script says.
 #[derive(Clone, Copy, Debug, PartialEq, Eq)]

@@ -3,8 +3,8 @@
 ghost use Rattle.std.specs.Prelude.{◌≡◌};
 ghost use Rattle.old_script.specs.declared.script.ScriptFault.TheVariants.{OutOfMemory};
 
-use qc_list::{List, OutOfMemory};
 use old_msg::Command;
+use qc_list::{List, OutOfMemory};
 
 /// A command of a script, with the actor that is asked.
 #[derive(Clone, Copy, Debug, PartialEq, Eq)]

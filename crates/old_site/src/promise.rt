@@ -8,10 +8,10 @@ ghost use Rattle.old_site.specs.Conduct.{prepares};
 use crate::Site;
 use crate::held::{Held, held_of, is_held};
 use crate::turn::{answer, one_message};
+use old_msg::{Message, Record, Turn};
 use qc_decl::MOST_RECORD_BYTES;
 use qc_entry::Prepared;
 use qc_list::OutOfMemory;
-use old_msg::{Message, Record, Turn};
 use qc_stamp::TxId;
 use std::alloc::Global;
 

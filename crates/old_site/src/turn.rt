@@ -3,8 +3,8 @@
 ghost use Rattle.std.specs.Prelude.{◌≡◌, ◌∷◌, [], IfOk};
 ghost use Rattle.old_site.specs.Site.{no_turn, answer};
 
-use qc_list::{List, OutOfMemory};
 use old_msg::{Message, Posting, Sends, Turn};
+use qc_list::{List, OutOfMemory};
 use std::alloc::Global;
 
 /// The turn in which nothing is done. It takes no memory.

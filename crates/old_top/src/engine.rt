@@ -17,12 +17,12 @@ ghost use Rattle.old_top.specs.Engine.{AsksFirst};
 ghost use Rattle.old_top.specs.At.{IsAt, IsQuiet, IsCallable, IsNext, IsEnd, IsPosted, IsLater};
 ghost use Rattle.old_top.specs.Full.{IsBelow, IsReached, before_last_event};
 
-use qc_decl::{Declaration, MOST_CARRIED_LINES, MOST_COMMITTED_OPERATIONS, MOST_STEPS};
 use old_front::Front;
-use qc_list::{Marked, OutOfMemory};
 use old_msg::{Command, Envelope, History, Input, Step, Turn, What};
 use old_script::{CommandLine, Script};
 use old_site::Site;
+use qc_decl::{Declaration, MOST_CARRIED_LINES, MOST_COMMITTED_OPERATIONS, MOST_STEPS};
+use qc_list::{Marked, OutOfMemory};
 use std::alloc::Global;
 use std::collections::VecDeque;
 

@@ -12,12 +12,12 @@ ghost use Rattle.old_top.specs.Words.{asked_in};
 
 use crate::answers::{Answer, Answers, is_built_in};
 use crate::words::Asked;
+use old_report::Cause;
+use old_script::{Script, ScriptFault, read};
 use qc_accept::{DeclFault, accept};
 use qc_decl::{Declaration, built_in};
 use qc_list::List;
 use qc_outside::ShelfFault;
-use old_report::Cause;
-use old_script::{Script, ScriptFault, read};
 use std::alloc::Global;
 
 /// What a call has to do.

@@ -117,7 +117,7 @@ sends_does : (links : List Link) (a : ℕ) (i : Inbox) (e : Envelope)
 sends_does links a i e =
     let first : Sends i (comes links a i e) (if e.to == a then one_more i.from_each e.from else i.from_each) i.to_each = comes_does links a i e in
     let second : Sends (comes links a i e) (goes links a (comes links a i e) e) (comes links a i e).from_each (if e.from == a then one_more (comes links a i e).to_each e.to else (comes links a i e).to_each) =
-        goes_does links a (comes links a i e) e in
+    goes_does links a (comes links a i e) e in
     record {
       cuts = second.cuts ∙ first.cuts;
       controls = second.controls ∙ first.controls;

@@ -58,5 +58,7 @@ with_item script items.Phase = record script { phases = script.phases ++ empty_p
 with_item script (items.Link link) = record script { links = script.links ++ link ∷ [] }
 with_item script (items.Control control) = record script { phases = on_last (with_control control) script.phases }
 with_item script (items.Command line) = record script { phases = on_last (with_command line) script.phases }
-with_item script (items.Epoch actor number) = record script { phases = on_last
-    (with_command (record { actor = actor; command = commands.Epoch number })) script.phases }
+with_item script (items.Epoch actor number) = record script {
+  phases = on_last
+      (with_command (record { actor = actor; command = commands.Epoch number })) script.phases;
+}

@@ -48,7 +48,10 @@ impl Item {
                 rule,
             })),
             Line::Cut(a, b) => Some(Item::Control(Control::Cut(actor(a, decl)?, actor(b, decl)?))),
-            Line::Heal(a, b) => Some(Item::Control(Control::Heal(actor(a, decl)?, actor(b, decl)?))),
+            Line::Heal(a, b) => Some(Item::Control(Control::Heal(
+                actor(a, decl)?,
+                actor(b, decl)?,
+            ))),
             Line::Crash(name) => Some(Item::Control(Control::Crash(actor(name, decl)?))),
             Line::Restart(name) => Some(Item::Control(Control::Restart(actor(name, decl)?))),
             Line::Armed {
@@ -60,7 +63,10 @@ impl Item {
                 kind,
                 at,
             })),
-            Line::Command { client: number, verb } => Some(Item::Command(CommandLine {
+            Line::Command {
+                client: number,
+                verb,
+            } => Some(Item::Command(CommandLine {
                 actor: client(number, decl)?,
                 command: command(verb, decl)?,
             })),

@@ -40,9 +40,14 @@ pub enum Line<'a> {
         at: u32,
     },
     /// A client is asked something.
-    Command { client: u32, verb: Verb<'a> },
+    Command {
+        client: u32,
+        verb: Verb<'a>,
+    },
     /// The administrator is asked to move to an epoch.
-    Epoch { number: u32 },
+    Epoch {
+        number: u32,
+    },
 }
 
 /// What a client is asked.
