@@ -42,10 +42,8 @@ use Rattle.qc_front.specs.Appending.{append_want, read_want, request_of, round_f
 use Rattle.qc_front.specs.Conduct.{appending_takes, called, commits, reading_takes, takes, takes_in}
 use Rattle.qc_front.specs.Counting.{appended_with, learns, lived, read_with, standing_of}
 use Rattle.qc_front.specs.Front.{FrontMove, aborts, begins, gives_up, moved, next_tx, turned}
+use Rattle.qc_client.specs.Inputs.{name_of}
 use Rattle.qc_front.specs.Rounds.{answered, append_by, doomed, performs, read_by, reads, with_asked}
-
-abbrev pub name_of : Option Transaction → Option TxId
-name_of transaction = option_map (λ (t : Transaction). t.begun.tx) transaction
 
 -- what a front end sends: requests of its rounds, or that the transaction that was begun aborted, which has ended
 

@@ -32,8 +32,8 @@ use Rattle.qc_msg.specs.declared.step.Given.TheVariants as given
 use Rattle.qc_client.specs.declared.client.Client.{Client}
 use Rattle.qc_client.specs.Client.{ClientMove, by_desk, by_front, moved, new_client}
 use Rattle.qc_client.specs.Conduct.{answered, answered_by, called, client_takes, commits, heard, sent, sent_by}
-use Rattle.qc_client.specs.Inputs.{AreReady, Input, IsFree, IsReady, after_input, after_inputs}
-use Rattle.qc_client.proofs.Fronts.{IsFrontMove, IsNamed, called-goes, name_of, takes-goes}
+use Rattle.qc_client.specs.Inputs.{AreReady, Input, IsFree, IsReady, after_input, after_inputs, name_of}
+use Rattle.qc_client.proofs.Fronts.{IsFrontMove, IsNamed, called-goes, takes-goes}
 
 -- of what a client has: its records, what the front end has begun and counted, the transaction that the desk has in hand
 pub record AreNamed (commits : List Commit) (count : ℕ) (begun hand : Option TxId) : Type 0 where

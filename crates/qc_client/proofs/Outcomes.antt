@@ -35,8 +35,8 @@ use Rattle.qc_msg.specs.declared.turn.Turn.{Turn}
 use Rattle.qc_client.specs.declared.client.Client.{Client}
 use Rattle.qc_client.specs.Client.{ClientMove, by_desk, by_front, is_begun, outcome_by, outcome_of}
 use Rattle.qc_client.specs.Conduct.{answered, answered_by, called, client_takes, commits, heard, sent, sent_by}
-use Rattle.qc_client.specs.Inputs.{Input, IsReady, TellsOutcome, after_input, after_inputs}
-use Rattle.qc_client.proofs.Fronts.{IsFrontMove, IsSending, IsVerdict, called-goes, name_of, takes-goes}
+use Rattle.qc_client.specs.Inputs.{Input, IsReady, TellsOutcome, after_input, after_inputs, name_of}
+use Rattle.qc_client.proofs.Fronts.{IsFrontMove, IsSending, IsVerdict, called-goes, takes-goes}
 use Rattle.qc_client.proofs.Names.{IsWell}
 
 -- how a transaction stands, by what is known of it

@@ -1,8 +1,9 @@
 -- A client over its inputs, each followed by the numbers of its turn's messages; and what it tells of transactions.
-use Rattle.std.specs.Prelude.{◌≡◌, ℕ, List, [], ◌∷◌, fold, Option, None}
+use Rattle.std.specs.Prelude.{◌≡◌, ℕ, List, [], ◌∷◌, fold, Option, None, option_map}
 use Rattle.qc_decl.specs.declared.declaration.Declaration.{Declaration}
 use Rattle.qc_stamp.specs.declared.stamp.TxId.{TxId}
 use Rattle.qc_front.specs.declared.doing.Doing.TheVariants.{Idle}
+use Rattle.qc_front.specs.declared.transaction.Transaction.{Transaction}
 use Rattle.qc_msg.specs.declared.message.Message.{Message}
 use Rattle.qc_msg.specs.declared.message.Message.TheVariants as messages
 use Rattle.qc_msg.specs.declared.step.Given.{Given}
@@ -37,6 +38,10 @@ IsReady c (given.Lost number) = Unit {0}
 abbrev pub AreReady : Declaration → Client → List Input → Type 0
 AreReady decl c [] = Unit {0}
 AreReady decl c (i ∷ inputs) = IsReady c i.given × AreReady decl (after_input decl c i) inputs
+
+-- the name of the begun transaction
+abbrev pub name_of : Option Transaction → Option TxId
+name_of transaction = option_map (λ (t : Transaction). t.begun.tx) transaction
 
 -- a Decision tells how its transaction stands
 abbrev pub TellsOutcome : Client → Message → Type 0
