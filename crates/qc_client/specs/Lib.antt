@@ -1,3 +1,4 @@
 pub mod Client
 pub mod Conduct
 pub mod Fits
+pub mod Inputs

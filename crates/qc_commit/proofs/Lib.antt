@@ -1,11 +1,12 @@
 mod Once
-mod Learned
+pub mod Learned
 mod Asking
 mod Counting
-mod Going
+pub mod Going
 mod Ends
-mod Records
-mod Rising
-mod Names
-mod Aside
-mod Numbering
+pub mod Moves
+pub mod Records
+pub mod Rising
+pub mod Names
+pub mod Aside
+pub mod Numbering

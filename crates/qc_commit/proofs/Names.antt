@@ -13,7 +13,8 @@ use Rattle.qc_commit.specs.declared.desk.Known.TheVariants.{Uncommitted}
 use Rattle.qc_commit.specs.Calls.{AreNewTo, DeskCall, IsNewTo, Prepares, Votes, Numbers, Sends, after_call, after_calls, handed}
 use Rattle.qc_commit.specs.Conduct.{commit_of}
 use Rattle.qc_commit.specs.Desk.{known, known_by, new_desk, record_of}
-use Rattle.qc_commit.proofs.Records.{Goes, goes, in_hand, tx_of}
+use Rattle.qc_commit.proofs.Moves.{tx_of}
+use Rattle.qc_commit.proofs.Records.{Goes, goes, in_hand}
 
 -- a transaction without a record
 

@@ -1,5 +1,5 @@
 -- The numbers of Prepares: by `sent` once, or by each of them; where one is open, `sent` changes nothing.
-use Rattle.std.proofs.Common.{◌≡◌, ℕ, ◌+◌, ◌<◌, ◌==◌, ◌&&◌, false, cond, List, [], ◌∷◌, ◌++◌, length, max, Option, Some, None, refl, sym, ap, ◌∙◌, arith, append_assoc}
+use Rattle.std.proofs.Common.{◌⊎◌, inl, inr, Bool, true, ◌≡◌, ℕ, ◌+◌, ◌<◌, ◌==◌, ◌&&◌, false, cond, List, [], ◌∷◌, ◌++◌, length, max, Option, Some, None, refl, sym, ap, ◌∙◌, arith, append_assoc}
 use Rattle.std.specs.Option.{is_none, is_some}
 use Rattle.std.proofs.lemmas.List.{append-nil}
 use Rattle.std.proofs.lemmas.Bool.{ne_eqb}
@@ -11,10 +11,17 @@ use Rattle.qc_commit.specs.declared.ballot.Ballot.{Ballot}
 use Rattle.qc_commit.specs.declared.ballot.Vote.{Vote}
 use Rattle.qc_commit.specs.declared.desk.Desk.{Desk}
 use Rattle.qc_commit.specs.declared.desk.Voting.{Voting}
-use Rattle.qc_commit.specs.Conduct.{awaited, passed, prepare, sent, sent_in, with_voting}
+use Rattle.qc_commit.specs.Conduct.{awaited, counted_out, learns, passed, prepare, sent, sent_in, vote, with_voting}
 use Rattle.qc_commit.specs.Course.{Taken, ballots_by, course_ballots, course_desk, open_calls, sent_each}
-use Rattle.qc_commit.specs.Votes.{are_cast, blank, participants}
-use Rattle.qc_commit.proofs.Going.{Waits, waits-on}
+use Rattle.qc_commit.specs.Votes.{are_cast, blank, first_against, participants}
+use Rattle.qc_msg.specs.declared.message.Answer.{Answer}
+use Rattle.qc_msg.specs.declared.reply.Why.{Why}
+use Rattle.qc_commit.specs.Desk.{DeskMove}
+use Rattle.qc_commit.proofs.Aside.{unvoted}
+use Rattle.qc_commit.proofs.Asking.{participants-once}
+use Rattle.qc_commit.proofs.Ends.{commits-at-once}
+use Rattle.qc_commit.proofs.Going.{IsTaken, Waits, starts, takes-one, waits-on}
+use Rattle.qc_commit.proofs.Once.{Once}
 
 -- Prepares that were sent one after another
 
@@ -61,3 +68,71 @@ pub sent-in_course : (decl : Declaration) (desk : Desk) (b : Begun) (clock first
 sent-in_course decl desk b clock first number takes some asks uncast =
     sent-again desk b (max desk.clock.value clock) first (participants decl desk.client b) takes (course_desk decl desk b clock first takes) number
     (waits-on decl desk b clock first takes some asks uncast) uncast
+
+-- a desk between its client's inputs: no commit waits, or one whose Prepares are numbered
+
+pub record IsOpen (desk : Desk) : Type 0 where
+  pub old : Desk
+  pub begun : Begun
+  pub clock : ℕ
+  pub first : ℕ
+  pub sites : List ℕ
+  pub takes : List Taken
+  pub once : Once sites
+  pub waits : Waits old begun clock first sites takes desk
+  pub uncast : are_cast (ballots_by begun takes first sites) ≡ false
+
+abbrev pub IsSettled : Desk → Type 0
+IsSettled desk = (desk.voting ≡ None) ⊎ IsOpen desk
+
+pub settled-sent : (desk : Desk) (number : ℕ) → IsSettled desk → sent desk number ≡ desk
+settled-sent desk number (inl none) = ap (λ (v : Option Voting). sent_in desk v number) none
+settled-sent desk number (inr o) = sent-again o.old o.begun o.clock o.first o.sites o.takes desk number o.waits o.uncast
+
+counted-none : (desk : Desk) (b : Begun) (o : Option Why) → (counted_out desk b o).desk.voting ≡ None
+counted-none desk b None = refl
+counted-none desk b (Some why) = refl
+
+pub settled-vote : (desk : Desk) (number : ℕ) (answer : Option Answer) → IsSettled desk → IsSettled (vote desk number answer).desk
+settled-vote desk number answer (inl none) = inl (ap (λ (m : DeskMove). m.desk.voting) (unvoted desk number answer none) ∙ none)
+settled-vote desk number answer (inr o) = by (are_cast (ballots_by o.begun (o.takes ++ t ∷ []) o.first o.sites)) refl where
+  t : Taken
+  t = record { number = number; answer = answer }
+  one : IsTaken o.old o.begun o.clock o.first o.sites o.takes t desk
+  one = takes-one o.old o.begun o.clock o.first o.sites o.takes t desk o.waits o.once
+  by : (x : Bool) → are_cast (ballots_by o.begun (o.takes ++ t ∷ []) o.first o.sites) ≡ x → IsSettled (vote desk number answer).desk
+  by true all = inl (ap (λ (m : DeskMove). m.desk.voting) (one.ends o.uncast all).0
+      ∙ counted-none (learns desk answer) o.begun (first_against (ballots_by o.begun (o.takes ++ t ∷ []) o.first o.sites)))
+  by false uncast = inr (record {
+    old = o.old;
+    begun = o.begun;
+    clock = o.clock;
+    first = o.first;
+    sites = o.sites;
+    takes = o.takes ++ t ∷ [];
+    once = o.once;
+    waits = (one.goes uncast).0;
+    uncast = uncast;
+  })
+
+blank-uncast : (b : Begun) (n : ℕ) (sites : List ℕ) → (length sites == 0) ≡ false → are_cast (ballots_by b [] n sites) ≡ false
+blank-uncast b n [] some = absurd (let no : ⊥ = cc in no)
+blank-uncast b n (site ∷ sites) some = refl
+
+pub settled-prepare : (decl : Declaration) (desk : Desk) (b : Begun) (clock first : ℕ) → 0 < decl.sites → IsSettled (sent (prepare decl desk b clock).desk first)
+settled-prepare decl desk b clock first some = by (length (participants decl desk.client b) == 0) refl where
+  by : (x : Bool) → (length (participants decl desk.client b) == 0) ≡ x → IsSettled (sent (prepare decl desk b clock).desk first)
+  by true none = inl (ap (λ (v : Option Voting). (sent_in (prepare decl desk b clock).desk v first).voting) ended ∙ ended) where
+    ended : (prepare decl desk b clock).desk.voting ≡ None
+    ended = (commits-at-once decl desk b clock none).ended
+  by false asks = inr (record {
+    old = desk;
+    begun = b;
+    clock = max desk.clock.value clock;
+    first = first;
+    sites = participants decl desk.client b;
+    takes = [];
+    once = participants-once decl desk.client b some;
+    waits = starts decl desk b clock first asks;
+    uncast = blank-uncast b first (participants decl desk.client b) asks;
+  })

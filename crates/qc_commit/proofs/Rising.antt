@@ -88,7 +88,7 @@ known-more commits more tx stamp is = rw (find-append (λ (c : Commit). same_tx 
   by None never = absurd (let no : ⊥ = cc in no)
   by (Some c) told = told
 
-known-call : (desk : Desk) (call : DeskCall) (tx : TxId) (stamp : Stamp) → known desk tx ≡ Committed stamp → known (after_call desk call) tx ≡ Committed stamp
+pub known-call : (desk : Desk) (call : DeskCall) (tx : TxId) (stamp : Stamp) → known desk tx ≡ Committed stamp → known (after_call desk call) tx ≡ Committed stamp
 known-call desk call tx stamp is = by (goes desk call) where
   by : Goes desk (after_call desk call) (in_hand call desk.voting) → known (after_call desk call) tx ≡ Committed stamp
   by (inl s) = ap (λ (cs : List Commit). known_by (record_of cs tx)) s.commits ∙ is

@@ -1,0 +1,54 @@
+-- A client over its inputs, each followed by the numbers of its turn's messages; and what it tells of transactions.
+use Rattle.std.specs.Prelude.{◌≡◌, ℕ, List, [], ◌∷◌, fold, Option, None, option_map}
+use Rattle.qc_decl.specs.declared.declaration.Declaration.{Declaration}
+use Rattle.qc_stamp.specs.declared.stamp.TxId.{TxId}
+use Rattle.qc_front.specs.declared.doing.Doing.TheVariants.{Idle}
+use Rattle.qc_front.specs.declared.transaction.Transaction.{Transaction}
+use Rattle.qc_msg.specs.declared.message.Message.{Message}
+use Rattle.qc_msg.specs.declared.message.Message.TheVariants as messages
+use Rattle.qc_msg.specs.declared.step.Given.{Given}
+use Rattle.qc_msg.specs.declared.step.Given.TheVariants as given
+use Rattle.qc_client.specs.declared.client.Client.{Client}
+use Rattle.qc_client.specs.Client.{outcome_of}
+use Rattle.qc_client.specs.Conduct.{client_takes, sent}
+
+-- what a client takes, and the number of the first message of its turn
+pub record Input : Type 0 where
+  pub given : Given
+  pub first : ℕ
+
+abbrev pub after_input : Declaration → Client → Input → Client
+after_input decl c i = sent (client_takes decl c i.given).client i.first
+
+abbrev pub after_inputs : Declaration → Client → List Input → Client
+after_inputs decl c inputs = fold (after_input decl) c inputs
+
+-- nothing runs: neither a `do` nor a commit
+pub record IsFree (c : Client) : Type 0 where
+  pub voting : c.desk.voting ≡ None
+  pub doing : c.front.doing ≡ Idle
+
+-- a command comes only once the last one has its reply
+
+abbrev pub IsReady : Client → Given → Type 0
+IsReady c (given.Called command) = IsFree c
+IsReady c (given.Got envelope) = Unit {0}
+IsReady c (given.Lost number) = Unit {0}
+
+abbrev pub AreReady : Declaration → Client → List Input → Type 0
+AreReady decl c [] = Unit {0}
+AreReady decl c (i ∷ inputs) = IsReady c i.given × AreReady decl (after_input decl c i) inputs
+
+-- the name of the begun transaction
+abbrev pub name_of : Option Transaction → Option TxId
+name_of transaction = option_map (λ (t : Transaction). t.begun.tx) transaction
+
+-- a Decision tells how its transaction stands
+abbrev pub TellsOutcome : Client → Message → Type 0
+TellsOutcome c (messages.Request tx epoch life want) = Unit {0}
+TellsOutcome c (messages.Answer to answer) = Unit {0}
+TellsOutcome c (messages.Decision tx verdict) = verdict ≡ outcome_of c tx
+TellsOutcome c (messages.Inquiry tx) = Unit {0}
+TellsOutcome c (messages.Ask tx) = Unit {0}
+TellsOutcome c (messages.Close epoch) = Unit {0}
+TellsOutcome c (messages.Install epoch clock log) = Unit {0}
