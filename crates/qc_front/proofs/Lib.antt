@@ -1,4 +1,9 @@
 pub mod OneByOne
+pub mod Apart
+pub mod Awaited
+pub mod Noting
+pub mod Recording
+pub mod Keeping
 pub mod Drafts
 pub mod Learning
 pub mod Moves

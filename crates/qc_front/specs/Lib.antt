@@ -7,3 +7,4 @@ pub mod Conduct
 pub mod Going
 pub mod Drafts
 pub mod Fits
+pub mod Holds
