@@ -4,6 +4,7 @@ pub mod Awaited
 pub mod Noting
 pub mod Recording
 pub mod Keeping
+pub mod Numbering
 pub mod Drafts
 pub mod Learning
 pub mod Moves

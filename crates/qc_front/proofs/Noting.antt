@@ -185,7 +185,7 @@ less_lt x y less = by (nat_lt x y) refl (x == y) less
     by false is true less = let never : ⊥ = cc in absurd never
     by false is false less = let never : ⊥ = cc in absurd never
 
-below_all : (x : ℕ) (ys : List ℕ) → IsBelowAll nat_cmp x ys → (y : ℕ) → In y ys → x < y
+pub below_all : (x : ℕ) (ys : List ℕ) → IsBelowAll nat_cmp x ys → (y : ℕ) → In y ys → x < y
 below_all x [] below y y_in = absurd y_in
 below_all x (z ∷ zs) below y (inl same) = subst (λ (k : ℕ). x < k) (sym same) (less_lt x z below.0)
 below_all x (z ∷ zs) below y (inr later) = below_all x zs below.1 y later

@@ -54,6 +54,10 @@ below_last : (x n : ℕ) (ys : List ℕ) → x < n → IsBelowAll nat_cmp x ys �
 below_last x n [] low below = (lt_less x n low, tt)
 below_last x n (y ∷ ys) low below = (below.0, below_last x n ys low below.1)
 
+pub below_one : (x : ℕ) (ys : List ℕ) → ((y : ℕ) → In y ys → x < y) → IsBelowAll nat_cmp x ys
+below_one x [] low = tt
+below_one x (y ∷ ys) low = (lt_less x y (low y (inl refl)), below_one x ys (λ z among. low z (inr among)))
+
 pub ascends_last : (xs : List ℕ) (n : ℕ) → Ascends nat_cmp xs → ((x : ℕ) → In x xs → x < n) → Ascends nat_cmp (xs ++ n ∷ [])
 ascends_last [] n ascends low = (tt, tt)
 ascends_last (x ∷ xs) n ascends low = (below_last x n xs (low x (inl refl)) ascends.0, ascends_last xs n ascends.1 (λ y among. low y (inr among)))

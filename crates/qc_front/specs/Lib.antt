@@ -8,3 +8,4 @@ pub mod Going
 pub mod Drafts
 pub mod Fits
 pub mod Holds
+pub mod Requests
