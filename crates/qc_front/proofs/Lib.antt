@@ -5,6 +5,8 @@ pub mod Noting
 pub mod Recording
 pub mod Keeping
 pub mod Numbering
+pub mod AtOnce
+pub mod Sending
 pub mod Drafts
 pub mod Learning
 pub mod Moves
