@@ -1,4 +1,12 @@
 pub mod OneByOne
+pub mod Apart
+pub mod Awaited
+pub mod Noting
+pub mod Recording
+pub mod Keeping
+pub mod Numbering
+pub mod AtOnce
+pub mod Sending
 pub mod Drafts
 pub mod Learning
 pub mod Moves

@@ -7,3 +7,5 @@ pub mod Conduct
 pub mod Going
 pub mod Drafts
 pub mod Fits
+pub mod Holds
+pub mod Requests

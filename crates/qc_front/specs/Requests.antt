@@ -1,0 +1,122 @@
+-- Which messages a front end's turns send, and how its requests get their numbers.
+use Rattle.std.specs.Prelude.{◌≡◌, ℕ, ◌+◌, ◌<◌, ◌⊎◌, Bool, true, false, List, [], ◌∷◌, ◌++◌, map, Option, Some, None}
+use Rattle.qc_stamp.specs.declared.stamp.TxId.{TxId}
+use Rattle.qc_list.specs.Members.{In}
+use Rattle.qc_decl.specs.declared.declaration.Declaration.{Declaration}
+use Rattle.qc_msg.specs.declared.begun.Begun.{Begun}
+use Rattle.qc_msg.specs.declared.call.Call.{Call}
+use Rattle.qc_msg.specs.declared.message.Message.{Message}
+use Rattle.qc_msg.specs.declared.message.Message.TheVariants as messages
+use Rattle.qc_msg.specs.declared.message.Outcome.{Outcome}
+use Rattle.qc_msg.specs.declared.message.Outcome.TheVariants.{Aborted}
+use Rattle.qc_msg.specs.declared.message.Want.{Want}
+use Rattle.qc_msg.specs.declared.turn.Posting.{Posting}
+use Rattle.qc_msg.specs.Begun.{life_of}
+use Rattle.qc_plan.specs.Round.{RoundState}
+use Rattle.qc_front.specs.declared.doing.Doing.{Doing}
+use Rattle.qc_front.specs.declared.doing.Doing.TheVariants.{Idle, Reading, Appending}
+use Rattle.qc_front.specs.declared.front.Front.{Front}
+use Rattle.qc_front.specs.declared.transaction.Transaction.{Transaction}
+use Rattle.qc_front.specs.Appending.{append_want, read_want, request_of}
+use Rattle.qc_front.specs.Conduct.{awaited, requested, sent}
+use Rattle.qc_front.specs.Front.{FrontMove}
+use Rattle.qc_front.specs.Holds.{IsNumbered, sites_called}
+
+-- what the running `do` wants of sites: a Read names its object and invocation; an Append carries the object's view and
+-- all own lines of the object that weigh, the new one last
+abbrev pub IsFor : Declaration → Transaction → Doing → Want → Type 0
+IsFor decl t Idle want = ⊥
+IsFor decl t (Reading object inv calls round) want = want ≡ read_want object inv
+IsFor decl t (Appending object inv event calls round) want = want ≡ append_want decl t object event
+
+-- a request is the running `do`'s. It names its transaction, the transaction's epoch, and the life of the receiver's
+-- first grant
+pub record IsRequestOf (decl : Declaration) (front : Front) (to : ℕ) (tx : TxId) (epoch life : ℕ) (want : Want) : Type 0 where
+  pub t : Transaction
+  pub begun : front.transaction ≡ Some t
+  pub tx_is : tx ≡ t.begun.tx
+  pub epoch_is : epoch ≡ t.begun.epoch
+  pub life_is : life ≡ life_of t.begun.lives to
+  pub wants : IsFor decl t front.doing want
+
+-- a verdict is that of the transaction that was given up, to a site that it asked
+pub record IsVerdictOf (front : Front) (to : ℕ) (tx : TxId) (verdict : Outcome) : Type 0 where
+  pub t : Transaction
+  pub begun : front.transaction ≡ Some t
+  pub tx_is : tx ≡ t.begun.tx
+  pub aborted : verdict ≡ Aborted
+  pub asked : In to t.begun.asked
+
+-- what a front end sends as it moves: nothing but these
+abbrev pub IsSent : Declaration → Front → Front → ℕ → Message → Type 0
+IsSent decl before after to (messages.Request tx epoch life want) = IsRequestOf decl after to tx epoch life want
+IsSent decl before after to (messages.Answer number answer) = ⊥
+IsSent decl before after to (messages.Decision tx verdict) = IsVerdictOf before to tx verdict
+IsSent decl before after to (messages.Inquiry tx) = ⊥
+IsSent decl before after to (messages.Ask tx) = ⊥
+IsSent decl before after to (messages.Close epoch) = ⊥
+IsSent decl before after to (messages.Install epoch clock log) = ⊥
+
+abbrev pub AreSent : Declaration → Front → FrontMove → Type 0
+AreSent decl before move = (p : Posting) → In p move.turn.sends → IsSent decl before move.front p.to p.message
+
+-- requests are sent where no request is open, and then to all awaited sites at once, in the order of asking
+
+abbrev pub is_request : Message → Bool
+is_request (messages.Request tx epoch life want) = true
+is_request (messages.Answer number answer) = false
+is_request (messages.Decision tx verdict) = false
+is_request (messages.Inquiry tx) = false
+is_request (messages.Ask tx) = false
+is_request (messages.Close epoch) = false
+is_request (messages.Install epoch clock log) = false
+
+abbrev pub AsksNobody : List Posting → Type 0
+AsksNobody sends = (p : Posting) → In p sends → is_request p.message ≡ false
+
+abbrev pub AsksAll : Begun → Want → List Call → RoundState → List Posting → Type 0
+AsksAll b want calls round sends =
+    ((sends ≡ []) × (sites_called calls ≡ awaited round))
+    ⊎ ((calls ≡ []) × (sends ≡ map (request_of b want) (awaited round)))
+
+abbrev pub AsksIn : Declaration → Option Transaction → Doing → List Posting → Type 0
+AsksIn decl t Idle sends = AsksNobody sends
+AsksIn decl None (Reading object inv calls round) sends = AsksNobody sends
+AsksIn decl None (Appending object inv event calls round) sends = AsksNobody sends
+AsksIn decl (Some t) (Reading object inv calls round) sends =
+    AsksAll t.begun (read_want object inv) calls round sends
+AsksIn decl (Some t) (Appending object inv event calls round) sends =
+    AsksAll t.begun (append_want decl t object event) calls round sends
+
+-- the messages of a turn get their numbers one after another, from this one on
+
+abbrev pub numbered_one : Front → ℕ → ℕ → Message → Front
+numbered_one front number to (messages.Request tx epoch life want) = requested front number to
+numbered_one front number to (messages.Answer asked answer) = front
+numbered_one front number to (messages.Decision tx verdict) = front
+numbered_one front number to (messages.Inquiry tx) = front
+numbered_one front number to (messages.Ask tx) = front
+numbered_one front number to (messages.Close epoch) = front
+numbered_one front number to (messages.Install epoch clock log) = front
+
+abbrev pub numbered_all : Front → ℕ → List Posting → Front
+numbered_all front first [] = front
+numbered_all front first (p ∷ ps) = numbered_all (numbered_one front first p.to p.message) (first + 1) ps
+
+-- a turn asks all at once, and one call of `sent` gives its requests the numbers that they get one after another
+pub record AsksAtOnce (decl : Declaration) (move : FrontMove) : Type 0 where
+  pub asks : AsksIn decl move.front.transaction move.front.doing move.turn.sends
+  pub told : (first : ℕ) → numbered_all move.front first move.turn.sends ≡ sent move.front first
+  pub numbered : (first : ℕ) → IsNumbered (sent move.front first).doing
+
+-- a request was sent to the next awaited site that had none, under a later number
+
+pub record IsNextOpen (calls : List Call) (round : RoundState) (number site : ℕ) : Type 0 where
+  pub later : (c : Call) → In c calls → c.number < number
+  pub more : List ℕ
+  pub next : sites_called calls ++ site ∷ more ≡ awaited round
+
+abbrev pub IsNextCall : Doing → ℕ → ℕ → Type 0
+IsNextCall Idle number site = Unit {0}
+IsNextCall (Reading object inv calls round) number site = IsNextOpen calls round number site
+IsNextCall (Appending object inv event calls round) number site = IsNextOpen calls round number site
