@@ -219,6 +219,7 @@ performs-goes decl front None object inv is = stands front (telling replies.NoTr
 performs-goes decl front (Some t) object inv is = by t.begun.doomed (nat_le most_transaction_operations (length t.begun.ops)) where
   round : RoundState
   round = round_for decl front t (read_need_of decl t.begun.epoch object inv)
+
   by : (dead long : Bool) → IsFrontMove front (cond dead (moved front (telling replies.Doomed)) (cond long (moved front (telling replies.TooLong)) (reads decl front t object inv [] round)))
   by true long = stands front (telling replies.Doomed) refl
   by false true = stands front (telling replies.TooLong) refl
@@ -261,11 +262,13 @@ takes-goes decl front number answer = by front.doing front.transaction refl wher
   reading t is object inv calls round (Some site) =
       read-goes decl front (learns front answer) (read_with t site object answer) object inv (without_call calls number) (note round site (standing_of answer)) (verdict (note round site (standing_of answer))) (learned front answer)
       (ap name_of is ∙ ap (λ (tx : TxId). Some tx) (sym (read-name t site object answer)))
+
   appending : (t : Transaction) → front.transaction ≡ Some t → (object inv event : ℕ) (calls : List Call) (round : RoundState) (o : Option ℕ) → IsFrontMove front (appending_takes decl front t object inv event calls round number answer o)
   appending t is object inv event calls round None = stands front quiet refl
   appending t is object inv event calls round (Some site) =
       append-goes decl front (learns front answer) (appended_with t site answer) object inv event (without_call calls number) (note round site (standing_of answer)) (verdict (note round site (standing_of answer))) (learned front answer)
       (ap name_of is ∙ ap (λ (tx : TxId). Some tx) (sym (appended-name t site answer)))
+
   by : (doing : Doing) (o : Option Transaction) → front.transaction ≡ o → IsFrontMove front (takes_in decl front doing o number answer)
   by Idle None is = stands front quiet refl
   by (Reading object inv calls round) None is = stands front quiet refl

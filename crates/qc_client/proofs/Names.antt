@@ -74,6 +74,7 @@ front-named c m goes idle named = record {
   number (inl none) tx is = absurd (let no : ⊥ = cc in no)
   number (inr (inl same)) tx is = let low : tx.number ≤ c.front.count = named.number tx (sym same ∙ is) in let more : c.front.count ≤ m.front.count = goes.count in omega arith
   number (inr (inr next)) tx is = let it : next_tx c.front ≡ tx = (let first : name_of m.front.transaction ≡ Some (next_tx c.front) = next.0 in cc) in let count : m.front.count ≡ c.front.count + 1 = next.1 in let number : c.front.count + 1 ≡ tx.number = ap (λ (t : TxId). t.number) it in omega arith
+
   unknown : IsNamed c.front m.front → (tx : TxId) → name_of m.front.transaction ≡ Some tx → known_by (record_of c.desk.commits tx) ≡ Uncommitted
   unknown (inl none) tx is = absurd (let no : ⊥ = cc in no)
   unknown (inr (inl same)) tx is = named.unknown tx (sym same ∙ is)

@@ -65,6 +65,7 @@ front-tells c m goes well = every-weaker (λ (p : Posting). IsSending c.front m.
   verdict tx (outcomes.Committed stamp) never = absurd never
   verdict tx outcomes.Aborted is = sym (stands-aborted (by_front c m).client tx (well.unknown tx is.0) (ap (is_begun tx) is.1))
   verdict tx outcomes.Active never = absurd never
+
   tells : (message : Message) → IsSending c.front m.front message → TellsOutcome (by_front c m).client message
   tells (messages.Request tx epoch life want) is = tt
   tells (messages.Answer to answer) is = tt
@@ -124,6 +125,7 @@ commits-tells decl c None is well = front-tells c (fronts.called decl c.front co
 commits-tells decl c (Some t) is well = by t.begun.doomed where
   move : Bool → ClientMove
   move dead = cond dead (by_front c (fronts.called decl c.front commands.Commit)) (by_desk c (desks.prepare decl c.desk t.begun c.front.clock.value))
+
   by : (dead : Bool) → Every (λ (p : Posting). TellsOutcome (move dead).client p.message) (move dead).turn.sends
   by true = front-tells c (fronts.called decl c.front commands.Commit) (called-goes decl c.front commands.Commit) well
   by false = desk-tells c (desks.prepare decl c.desk t.begun c.front.clock.value) (Some t.begun.tx) (prepare-moves decl c.desk t.begun c.front.clock.value) (λ tx same. ap name_of is ∙ same) well

@@ -35,10 +35,10 @@ ghost use Rattle.qc_client.specs.Inputs.{AreReady, Input, TellsOutcome, after_in
 pub fn outcomes_are_told()
     ensures inquiry { (decl : Declaration) (c : Client) (from number : ℕ) (tx : TxId)
         → heard decl c from number (messages.Inquiry tx)
-            ≡ moved c (sending (record { to = from; message = messages.Decision tx (outcome_of c tx) } ∷ [])) }
+        ≡ moved c (sending (record { to = from; message = messages.Decision tx (outcome_of c tx) } ∷ [])) }
     ensures ask { (decl : Declaration) (c : Client) (from number : ℕ) (tx : TxId)
         → heard decl c from number (messages.Ask tx) ≡ moved c (sending
-            (record { to = from; message = messages.Answer number (Answered (outcome_of c tx)) } ∷ [])) }
+        (record { to = from; message = messages.Answer number (Answered (outcome_of c tx)) } ∷ [])) }
     ensures committed { (c : Client) (tx : TxId) (stamp : Stamp) → known c.desk tx ≡ knowns.Committed stamp
         → outcome_of c tx ≡ outcomes.Committed stamp }
     ensures active { (c : Client) (tx : TxId) → known c.desk tx ≡ knowns.Uncommitted
@@ -57,8 +57,8 @@ pub fn decisions_tell_outcomes()
     ensures { (decl : Declaration) (number : ℕ) (inputs : List Input) (given : Given)
         → AreReady decl (new_client number) inputs
         → Every (λ (p : Posting). TellsOutcome
-            (client_takes decl (after_inputs decl (new_client number) inputs) given).client p.message)
-            (client_takes decl (after_inputs decl (new_client number) inputs) given).turn.sends }
+        (client_takes decl (after_inputs decl (new_client number) inputs) given).client p.message)
+        (client_takes decl (after_inputs decl (new_client number) inputs) given).turn.sends }
 {}
 
 /// No two records of a client are of one transaction, and the transaction that
@@ -66,7 +66,7 @@ pub fn decisions_tell_outcomes()
 pub fn transactions_commit_once()
     ensures apart { (decl : Declaration) (number : ℕ) (inputs : List Input) → AreReady decl (new_client number) inputs
         → AllPairs (λ (c d : Commit). same_tx c.tx d.tx ≡ false)
-            (after_inputs decl (new_client number) inputs).desk.commits }
+        (after_inputs decl (new_client number) inputs).desk.commits }
     ensures begun { (decl : Declaration) (number : ℕ) (inputs : List Input) (tx : TxId)
         → AreReady decl (new_client number) inputs
         → name_of (after_inputs decl (new_client number) inputs).front.transaction ≡ Some tx

@@ -132,6 +132,7 @@ vote-moves desk number answer = by desk.voting refl where
   at : (v : Voting) → desk.voting ≡ Some v → (o : Option ℕ) → IsMove desk (tx_of desk.voting) (votes_at desk v number answer o)
   at v is None = stands desk
   at v is (Some site) = counts-moves desk answer v.begun (without_call v.calls number) (cast v.ballots site (vote_of v.begun site answer)) (tx_of desk.voting) (ap tx_of is)
+
   by : (o : Option Voting) → desk.voting ≡ o → IsMove desk (tx_of desk.voting) (votes_in desk o number answer)
   by None is = stands desk
   by (Some v) is = at v is (site_called v.calls number)
@@ -144,6 +145,7 @@ pub prepare-moves : (decl : Declaration) (desk : Desk) (b : Begun) (clock : ℕ)
 prepare-moves decl desk b clock = by (length (participants decl desk.client b) == 0) where
   above : desk.clock.value ≤ (passed desk clock).clock.value
   above = omega arith
+
   by : (t : Bool) → IsMove desk (Some b.tx) (cond t (decides (passed desk clock) b) (moved (record (passed desk clock) { voting = Some (record { begun = b; calls = []; ballots = blank (participants decl desk.client b) }) }) (sending (map (prepares b) (participants decl desk.client b)))))
   by true = decides-moves desk (passed desk clock) b (Some b.tx) above refl refl refl
   by false = inl (record { told = refl; sends = asked b (participants decl desk.client b); commits = refl; clock = above; client = refl; voting = refl })

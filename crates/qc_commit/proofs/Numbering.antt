@@ -98,8 +98,10 @@ settled-vote desk number answer (inl none) = inl (ap (λ (m : DeskMove). m.desk.
 settled-vote desk number answer (inr o) = by (are_cast (ballots_by o.begun (o.takes ++ t ∷ []) o.first o.sites)) refl where
   t : Taken
   t = record { number = number; answer = answer }
+
   one : IsTaken o.old o.begun o.clock o.first o.sites o.takes t desk
   one = takes-one o.old o.begun o.clock o.first o.sites o.takes t desk o.waits o.once
+
   by : (x : Bool) → are_cast (ballots_by o.begun (o.takes ++ t ∷ []) o.first o.sites) ≡ x → IsSettled (vote desk number answer).desk
   by true all = inl (ap (λ (m : DeskMove). m.desk.voting) (one.ends o.uncast all).0
       ∙ counted-none (learns desk answer) o.begun (first_against (ballots_by o.begun (o.takes ++ t ∷ []) o.first o.sites)))
