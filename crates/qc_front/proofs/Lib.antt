@@ -7,6 +7,8 @@ pub mod Keeping
 pub mod Numbering
 pub mod AtOnce
 pub mod Sending
+pub mod Telling
+pub mod Lives
 pub mod Drafts
 pub mod Learning
 pub mod Moves
