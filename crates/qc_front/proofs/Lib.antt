@@ -9,6 +9,9 @@ pub mod AtOnce
 pub mod Sending
 pub mod Telling
 pub mod Lives
+pub mod Goes
+pub mod Once
+pub mod Clocks
 pub mod Drafts
 pub mod Learning
 pub mod Moves
