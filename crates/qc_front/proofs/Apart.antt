@@ -51,17 +51,18 @@ in_range first (suc count) x (inr among) =
 
 apart_range : (first count : ℕ) → AreApart (range_with_len first count)
 apart_range first zero = tt
-apart_range first (suc count) =
-    (λ y among same. (let more : (first + 1 ≤ y) × (y < (first + 1) + count) = in_range (first + 1) count y among in let low : first + 1 ≤ y = more.0 in omega arith),
-    apart_range (first + 1) count)
+apart_range first (suc count) = (
+  λ y among same. (let more : (first + 1 ≤ y) × (y < (first + 1) + count) = in_range (first + 1) count y among in let low : first + 1 ≤ y = more.0 in omega arith),
+  apart_range (first + 1) count,
+)
 
 apart_cyclic : (sites first : ℕ) → AreApart (cyclic sites first)
 apart_cyclic sites first =
     both_apart (range_with_len first (sites - first)) (range_with_len 0 first) (apart_range first (sites - first)) (apart_range 0 first)
     (λ x y later sooner same.
-      (let a : (first ≤ x) × (x < first + (sites - first)) = in_range first (sites - first) x later in
-        let b : (0 ≤ y) × (y < 0 + first) = in_range 0 first y sooner in
-        let low : first ≤ x = a.0 in let high : y < 0 + first = b.1 in omega arith))
+    (let a : (first ≤ x) × (x < first + (sites - first)) = in_range first (sites - first) x later in
+    let b : (0 ≤ y) × (y < 0 + first) = in_range 0 first y sooner in
+    let low : first ≤ x = a.0 in let high : y < 0 + first = b.1 in omega arith))
 
 pub apart_weighing : (weights : List ℕ) (sites first : ℕ) → AreApart (weighing weights (cyclic sites first))
 apart_weighing weights sites first = apart_filter (λ site. nat_lt 0 (weight_at weights site)) (cyclic sites first) (apart_cyclic sites first)

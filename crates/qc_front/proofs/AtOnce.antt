@@ -176,8 +176,8 @@ takes_in_asks decl front (Reading object inv calls round) (Some t) number answer
     by (Some site) is =
         subst (MoveAsks decl) (sym (read_learns decl front answer (read_with t site object answer) object inv (without_call calls number) (note round site (standing_of answer))))
         (learns_asks decl answer (reads decl front (read_with t site object answer) object inv (without_call calls number) (note round site (standing_of answer)))
-          (read_by_asks decl front (read_with t site object answer) object inv (without_call calls number) (note round site (standing_of answer)) (verdict (note round site (standing_of answer)))
-            (full_after calls round number site answer is h.1.calls_are h.1.awaits (round_apart decl front.client t.begun.epoch (read_need_of decl t.begun.epoch object inv) round h.1.round_is) full)))
+        (read_by_asks decl front (read_with t site object answer) object inv (without_call calls number) (note round site (standing_of answer)) (verdict (note round site (standing_of answer)))
+        (full_after calls round number site answer is h.1.calls_are h.1.awaits (round_apart decl front.client t.begun.epoch (read_need_of decl t.begun.epoch object inv) round h.1.round_is) full)))
 takes_in_asks decl front (Appending object inv event calls round) (Some t) number answer h full same = by (site_called calls number) refl
   where
     by : (o : Option ℕ) → site_called calls number ≡ o → MoveAsks decl (appending_takes decl front t object inv event calls round number answer o)
@@ -185,8 +185,8 @@ takes_in_asks decl front (Appending object inv event calls round) (Some t) numbe
     by (Some site) is =
         subst (MoveAsks decl) (sym (append_learns decl front answer (appended_with t site answer) object inv event (without_call calls number) (note round site (standing_of answer))))
         (learns_asks decl answer (appends decl front (appended_with t site answer) object inv event (without_call calls number) (note round site (standing_of answer)))
-          (append_by_asks decl front (appended_with t site answer) object inv event (without_call calls number) (note round site (standing_of answer)) (verdict (note round site (standing_of answer)))
-            (full_after calls round number site answer is h.1.calls_are h.1.awaits (round_apart decl front.client t.begun.epoch (append_need_of decl t.begun.epoch object event) round h.1.round_is) full)))
+        (append_by_asks decl front (appended_with t site answer) object inv event (without_call calls number) (note round site (standing_of answer)) (verdict (note round site (standing_of answer)))
+        (full_after calls round number site answer is h.1.calls_are h.1.awaits (round_apart decl front.client t.begun.epoch (append_need_of decl t.begun.epoch object event) round h.1.round_is) full)))
 
 takes_asks : (decl : Declaration) (front : Front) (number : ℕ) (answer : Option Answer) → FrontHolds decl front → IsNumbered front.doing → MoveAsks decl (takes decl front number answer)
 takes_asks decl front number answer h full = takes_in_asks decl front front.doing front.transaction number answer h full (stays_asks decl front.transaction front.doing full)

@@ -82,14 +82,16 @@ MoveHolds decl move = FrontHolds decl move.front
 append_by_holds : (decl : Declaration) (front : Front) (t : Transaction) (object inv event : ℕ) (calls : List Call) (r : RoundState) (v : Verdict) → verdict r ≡ v
     → RecordsHold decl t.views t.own t.begun.ops → length t.begun.ops < most_transaction_operations → answer_of decl t object inv ≡ Some event
     → IsRound decl front.client t.begun.epoch (append_need_of decl t.begun.epoch object event) r → AreOpen calls r → MoveHolds decl (append_by decl front t object inv event calls r v)
-append_by_holds decl front t object inv event calls r verdicts.Waiting is records few chosen round calls_are =
-    (records, record {
-      room = few;
-      chosen = chosen;
-      round_is = asking_round decl front.client t.begun.epoch (append_need_of decl t.begun.epoch object event) r round;
-      awaits = asking_waits r is;
-      calls_are = asking_calls calls r calls_are;
-    })
+append_by_holds decl front t object inv event calls r verdicts.Waiting is records few chosen round calls_are = (
+  records,
+  record {
+    room = few;
+    chosen = chosen;
+    round_is = asking_round decl front.client t.begun.epoch (append_need_of decl t.begun.epoch object event) r round;
+    awaits = asking_waits r is;
+    calls_are = asking_calls calls r calls_are;
+  },
+)
 append_by_holds decl front t object inv event calls r verdicts.Met is records few chosen round calls_are =
     (event_recorded decl t object inv event (resp_of decl object event) records, room_after t object inv event (resp_of decl object event) few)
 append_by_holds decl front t object inv event calls r (verdicts.Closed epoch site) is records few chosen round calls_are = (records, at_most (length t.begun.ops) few)
@@ -113,13 +115,15 @@ answered_holds decl front t object inv (Some event) chosen records few =
 read_by_holds : (decl : Declaration) (front : Front) (t : Transaction) (object inv : ℕ) (calls : List Call) (r : RoundState) (v : Verdict) → verdict r ≡ v
     → RecordsHold decl t.views t.own t.begun.ops → length t.begun.ops < most_transaction_operations
     → IsRound decl front.client t.begun.epoch (read_need_of decl t.begun.epoch object inv) r → AreOpen calls r → MoveHolds decl (read_by decl front t object inv calls r v)
-read_by_holds decl front t object inv calls r verdicts.Waiting is records few round calls_are =
-    (records, record {
-      room = few;
-      round_is = asking_round decl front.client t.begun.epoch (read_need_of decl t.begun.epoch object inv) r round;
-      awaits = asking_waits r is;
-      calls_are = asking_calls calls r calls_are;
-    })
+read_by_holds decl front t object inv calls r verdicts.Waiting is records few round calls_are = (
+  records,
+  record {
+    room = few;
+    round_is = asking_round decl front.client t.begun.epoch (read_need_of decl t.begun.epoch object inv) r round;
+    awaits = asking_waits r is;
+    calls_are = asking_calls calls r calls_are;
+  },
+)
 read_by_holds decl front t object inv calls r verdicts.Met is records few round calls_are = answered_holds decl front t object inv (answer_of decl t object inv) refl records few
 read_by_holds decl front t object inv calls r (verdicts.Closed epoch site) is records few round calls_are = (records, at_most (length t.begun.ops) few)
 read_by_holds decl front t object inv calls r (verdicts.Clash tx site) is records few round calls_are = (records, at_most (length t.begun.ops) few)
@@ -239,23 +243,23 @@ read_counts_holds decl front t object inv calls r number site answer called reco
     let keeps : KeepsOps t (read_with t site object answer) = read_keeps t site object answer in
     subst (MoveHolds decl) (sym (read_learns decl front answer (read_with t site object answer) object inv (without_call calls number) (note r site (standing_of answer))))
     (learns_holds decl front answer (reads decl front (read_with t site object answer) object inv (without_call calls number) (note r site (standing_of answer)))
-      (reads_holds decl front (read_with t site object answer) object inv (without_call calls number) (note r site (standing_of answer))
-        (read_recorded decl t site object answer records)
-        (subst (λ (ops : List Op). length ops < most_transaction_operations) (sym keeps.ops) h.room)
-        (subst (λ (epoch : ℕ). IsRound decl front.client epoch (read_need_of decl epoch object inv) (note r site (standing_of answer))) (sym keeps.epoch)
-          (note_round decl front.client t.begun.epoch (read_need_of decl t.begun.epoch object inv) r site (standing_of answer) h.round_is))
-        (note_open calls r number site (standing_of answer) h.calls_are called (round_apart decl front.client t.begun.epoch (read_need_of decl t.begun.epoch object inv) r h.round_is))))
+    (reads_holds decl front (read_with t site object answer) object inv (without_call calls number) (note r site (standing_of answer))
+    (read_recorded decl t site object answer records)
+    (subst (λ (ops : List Op). length ops < most_transaction_operations) (sym keeps.ops) h.room)
+    (subst (λ (epoch : ℕ). IsRound decl front.client epoch (read_need_of decl epoch object inv) (note r site (standing_of answer))) (sym keeps.epoch)
+    (note_round decl front.client t.begun.epoch (read_need_of decl t.begun.epoch object inv) r site (standing_of answer) h.round_is))
+    (note_open calls r number site (standing_of answer) h.calls_are called (round_apart decl front.client t.begun.epoch (read_need_of decl t.begun.epoch object inv) r h.round_is))))
 
 append_counts_holds : (decl : Declaration) (front : Front) (t : Transaction) (object inv event : ℕ) (calls : List Call) (r : RoundState) (number site : ℕ) (answer : Option Answer) → site_called calls number ≡ Some site
     → RecordsHold decl t.views t.own t.begun.ops → AppendingHolds decl front.client t object inv event calls r → MoveHolds decl (append_counts decl (learns front answer) t object inv event calls r number site answer)
 append_counts_holds decl front t object inv event calls r number site answer called records h =
     let lives : List LifeAt = (appended_with t site answer).begun.lives in
     subst (MoveHolds decl) (sym (append_learns decl front answer (appended_with t site answer) object inv event (without_call calls number) (note r site (standing_of answer))
-      ∙ ap (λ (u : Transaction). learned answer (appends decl front u object inv event (without_call calls number) (note r site (standing_of answer)))) (appended_is t site answer)))
+    ∙ ap (λ (u : Transaction). learned answer (appends decl front u object inv event (without_call calls number) (note r site (standing_of answer)))) (appended_is t site answer)))
     (learns_holds decl front answer (appends decl front (relived t lives) object inv event (without_call calls number) (note r site (standing_of answer)))
-      (appends_holds decl front (relived t lives) object inv event (without_call calls number) (note r site (standing_of answer)) records h.room h.chosen
-        (note_round decl front.client t.begun.epoch (append_need_of decl t.begun.epoch object event) r site (standing_of answer) h.round_is)
-        (note_open calls r number site (standing_of answer) h.calls_are called (round_apart decl front.client t.begun.epoch (append_need_of decl t.begun.epoch object event) r h.round_is))))
+    (appends_holds decl front (relived t lives) object inv event (without_call calls number) (note r site (standing_of answer)) records h.room h.chosen
+    (note_round decl front.client t.begun.epoch (append_need_of decl t.begun.epoch object event) r site (standing_of answer) h.round_is)
+    (note_open calls r number site (standing_of answer) h.calls_are called (round_apart decl front.client t.begun.epoch (append_need_of decl t.begun.epoch object event) r h.round_is))))
 
 takes_in_holds : (decl : Declaration) (front : Front) (doing : Doing) (t : Option Transaction) (number : ℕ) (answer : Option Answer) → BegunHolds decl front.client t doing → MoveHolds decl (moved front quiet) → MoveHolds decl (takes_in decl front doing t number answer)
 takes_in_holds decl front doing None number answer here same = same

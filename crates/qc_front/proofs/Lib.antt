@@ -12,6 +12,7 @@ pub mod Lives
 pub mod Goes
 pub mod Once
 pub mod Clocks
+pub mod Fitting
 pub mod Drafts
 pub mod Learning
 pub mod Moves

@@ -112,9 +112,10 @@ or_none false is = is
 kept_by : (lives : List LifeAt) (site life s : ℕ) → has_granted lives s ≡ true → (t : Bool)
     → (has_granted (cond t lives (lives ++ record { site = site; life = life } ∷ [])) s ≡ true) × (life_of (cond t lives (lives ++ record { site = site; life = life } ∷ [])) s ≡ life_of lives s)
 kept_by lives site life s has true = (has, refl)
-kept_by lives site life s has false =
-    (granted_more lives site life s ∙ or_true (has_granted lives s) has ((site == s) || false),
-    ap (λ (o : Option LifeAt). option_map_or (λ (l : LifeAt). l.life) o 0) (find_first s lives (record { site = site; life = life } ∷ []) has))
+kept_by lives site life s has false = (
+  granted_more lives site life s ∙ or_true (has_granted lives s) has ((site == s) || false),
+  ap (λ (o : Option LifeAt). option_map_or (λ (l : LifeAt). l.life) o 0) (find_first s lives (record { site = site; life = life } ∷ []) has),
+)
 
 gained_by : (lives : List LifeAt) (site life s : ℕ) → has_granted lives s ≡ false → (t : Bool) → has_granted (cond t lives (lives ++ record { site = site; life = life } ∷ [])) s ≡ true
     → (site ≡ s) × (life_of (cond t lives (lives ++ record { site = site; life = life } ∷ [])) s ≡ life)
@@ -122,10 +123,11 @@ gained_by lives site life s none true has = let never : ⊥ = cc in absurd never
 gained_by lives site life s none false has =
     let or_is : (has_granted lives s || ((site == s) || false)) ≡ true = sym (granted_more lives site life s) ∙ has in
     let here : ((site == s) || false) ≡ true = subst (λ (b : Bool). (b || ((site == s) || false)) ≡ true) none or_is in
-    let test : (site == s) ≡ true = or_none (site == s) here in
-    (eqb-true site s test,
-    ap (λ (o : Option LifeAt). option_map_or (λ (l : LifeAt). l.life) o 0)
-      (find_second s lives (record { site = site; life = life } ∷ []) none ∙ ap (λ (b : Bool). cond b (Some (record { site = site; life = life })) None) test))
+    let test : (site == s) ≡ true = or_none (site == s) here in (
+      eqb-true site s test,
+      ap (λ (o : Option LifeAt). option_map_or (λ (l : LifeAt). l.life) o 0)
+          (find_second s lives (record { site = site; life = life } ∷ []) none ∙ ap (λ (b : Bool). cond b (Some (record { site = site; life = life })) None) test),
+    )
 
 has_by : (lives : List LifeAt) (site life : ℕ) (t : Bool) → has_granted lives site ≡ t → has_granted (cond t lives (lives ++ record { site = site; life = life } ∷ [])) site ≡ true
 has_by lives site life true is = is
@@ -145,11 +147,11 @@ with_keeps lives site None = no_grant lives (Some site) None (λ s life g. (let 
 with_keeps lives site (Some (answers.Granted life clock log)) = record {
   kept = λ s has. kept_by lives site life s has (has_granted lives site);
   gained = λ s none has.
-  (let both : (site ≡ s) × (life_of (with_life lives site life) s ≡ life) = gained_by lives site life s none (has_granted lives site) has in
-    record { clock = clock; log = log; is = ap (λ (l : ℕ). Some (answers.Granted l clock log)) (sym both.1); counts = ap (λ (n : ℕ). Some n) both.0 });
+      (let both : (site ≡ s) × (life_of (with_life lives site life) s ≡ life) = gained_by lives site life s none (has_granted lives site) has in
+      record { clock = clock; log = log; is = ap (λ (l : ℕ). Some (answers.Granted l clock log)) (sym both.1); counts = ap (λ (n : ℕ). Some n) both.0 });
   counted = λ s told g.
-  (let asked : Some site ≡ Some s = g.counts in let same : site ≡ s = cc in
-    subst (λ (k : ℕ). has_granted (with_life lives site life) k ≡ true) same (has_by lives site life (has_granted lives site) refl));
+      (let asked : Some site ≡ Some s = g.counts in let same : site ≡ s = cc in
+      subst (λ (k : ℕ). has_granted (with_life lives site life) k ≡ true) same (has_by lives site life (has_granted lives site) refl));
 }
 with_keeps lives site (Some (answers.Clash holder inv event)) = no_grant lives (Some site) (Some (answers.Clash holder inv event)) (λ s life g. (let is : Some (answers.Clash holder inv event) ≡ Some (answers.Granted life g.clock g.log) = g.is in let never : ⊥ = cc in never))
 with_keeps lives site (Some (answers.Closed epoch)) = no_grant lives (Some site) (Some (answers.Closed epoch)) (λ s life g. (let is : Some (answers.Closed epoch) ≡ Some (answers.Granted life g.clock g.log) = g.is in let never : ⊥ = cc in never))

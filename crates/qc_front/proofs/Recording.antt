@@ -142,7 +142,7 @@ event_recorded decl t object inv event resp h = by (slice_get t.views object) re
     by None is = record {
       count = h.count;
       own_events = λ k v at.
-      h.own_events k v at ∙ sym (own_there t.own (next_own t object event) k (λ same. (let has : None ≡ Some v = sym is ∙ ap (slice_get t.views) same ∙ at in let never : ⊥ = cc in never)));
+          h.own_events k v at ∙ sym (own_there t.own (next_own t object event) k (λ same. (let has : None ≡ Some v = sym is ∙ ap (slice_get t.views) same ∙ at in let never : ⊥ = cc in never)));
       ascending = own_numbers t.own (next_own t object event) (length t.begun.ops) h.within refl h.ascending;
       within = own_within t.own (next_own t object event) t.begun.ops (record { object = object; inv = inv; resp = Some resp }) h.within refl;
     }

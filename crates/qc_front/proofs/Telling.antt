@@ -88,13 +88,13 @@ takes_in_told decl front (Reading object inv calls round) (Some t) number answer
         let keeps : KeepsOps t (read_with t site object answer) = read_keeps t site object answer in
         let noted : IsRound decl front.client t.begun.epoch (read_need_of decl t.begun.epoch object inv) (note round site (standing_of answer)) = note_round decl front.client t.begun.epoch (read_need_of decl t.begun.epoch object inv) round site (standing_of answer) h.1.round_is in
         let same : IsRound decl front.client (read_with t site object answer).begun.epoch (read_need_of decl (read_with t site object answer).begun.epoch object inv) (note round site (standing_of answer)) =
-            subst (λ (epoch : ℕ). IsRound decl front.client epoch (read_need_of decl epoch object inv) (note round site (standing_of answer))) (sym keeps.epoch) noted in
+        subst (λ (epoch : ℕ). IsRound decl front.client epoch (read_need_of decl epoch object inv) (note round site (standing_of answer))) (sym keeps.epoch) noted in
         subst (λ (client : ℕ). DoTold decl client front.transaction
-          (read_by decl (learns front answer) (read_with t site object answer) object inv (without_call calls number) (note round site (standing_of answer)) (verdict (note round site (standing_of answer)))).front.transaction
-          (read_by decl (learns front answer) (read_with t site object answer) object inv (without_call calls number) (note round site (standing_of answer)) (verdict (note round site (standing_of answer)))).turn.told)
+        (read_by decl (learns front answer) (read_with t site object answer) object inv (without_call calls number) (note round site (standing_of answer)) (verdict (note round site (standing_of answer)))).front.transaction
+        (read_by decl (learns front answer) (read_with t site object answer) object inv (without_call calls number) (note round site (standing_of answer)) (verdict (note round site (standing_of answer)))).turn.told)
         (client_kept front answer)
         (read_by_told decl front.transaction (learns front answer) (read_with t site object answer) object inv (without_call calls number) (note round site (standing_of answer)) (verdict (note round site (standing_of answer))) refl
-          (subst (λ (client : ℕ). IsRound decl client (read_with t site object answer).begun.epoch (read_need_of decl (read_with t site object answer).begun.epoch object inv) (note round site (standing_of answer))) (sym (client_kept front answer)) same))
+        (subst (λ (client : ℕ). IsRound decl client (read_with t site object answer).begun.epoch (read_need_of decl (read_with t site object answer).begun.epoch object inv) (note round site (standing_of answer))) (sym (client_kept front answer)) same))
 takes_in_told decl front (Appending object inv event calls round) (Some t) number answer h = by (site_called calls number)
   where
     by : (o : Option ℕ) → DoTold decl front.client front.transaction (appending_takes decl front t object inv event calls round number answer o).front.transaction (appending_takes decl front t object inv event calls round number answer o).turn.told
@@ -102,14 +102,14 @@ takes_in_told decl front (Appending object inv event calls round) (Some t) numbe
     by (Some site) =
         let noted : IsRound decl front.client t.begun.epoch (append_need_of decl t.begun.epoch object event) (note round site (standing_of answer)) = note_round decl front.client t.begun.epoch (append_need_of decl t.begun.epoch object event) round site (standing_of answer) h.1.round_is in
         let same : IsRound decl front.client (appended_with t site answer).begun.epoch (append_need_of decl (appended_with t site answer).begun.epoch object event) (note round site (standing_of answer)) =
-            subst (λ (u : Transaction). IsRound decl front.client u.begun.epoch (append_need_of decl u.begun.epoch object event) (note round site (standing_of answer))) (sym (appended_is t site answer)) noted in
+        subst (λ (u : Transaction). IsRound decl front.client u.begun.epoch (append_need_of decl u.begun.epoch object event) (note round site (standing_of answer))) (sym (appended_is t site answer)) noted in
         subst (λ (client : ℕ). DoTold decl client front.transaction
-          (append_by decl (learns front answer) (appended_with t site answer) object inv event (without_call calls number) (note round site (standing_of answer)) (verdict (note round site (standing_of answer)))).front.transaction
-          (append_by decl (learns front answer) (appended_with t site answer) object inv event (without_call calls number) (note round site (standing_of answer)) (verdict (note round site (standing_of answer)))).turn.told)
+        (append_by decl (learns front answer) (appended_with t site answer) object inv event (without_call calls number) (note round site (standing_of answer)) (verdict (note round site (standing_of answer)))).front.transaction
+        (append_by decl (learns front answer) (appended_with t site answer) object inv event (without_call calls number) (note round site (standing_of answer)) (verdict (note round site (standing_of answer)))).turn.told)
         (client_kept front answer)
         (append_by_told decl front.transaction (learns front answer) (appended_with t site answer) object inv event (without_call calls number) (note round site (standing_of answer)) (verdict (note round site (standing_of answer))) refl
-          (subst (λ (u : Transaction). answer_of decl u object inv ≡ Some event) (sym (appended_is t site answer)) h.1.chosen)
-          (subst (λ (client : ℕ). IsRound decl client (appended_with t site answer).begun.epoch (append_need_of decl (appended_with t site answer).begun.epoch object event) (note round site (standing_of answer))) (sym (client_kept front answer)) same))
+        (subst (λ (u : Transaction). answer_of decl u object inv ≡ Some event) (sym (appended_is t site answer)) h.1.chosen)
+        (subst (λ (client : ℕ). IsRound decl client (appended_with t site answer).begun.epoch (append_need_of decl (appended_with t site answer).begun.epoch object event) (note round site (standing_of answer))) (sym (client_kept front answer)) same))
 
 pub takes_told : (decl : Declaration) (front : Front) (number : ℕ) (answer : Option Answer) → FrontHolds decl front
     → DoTold decl front.client front.transaction (takes decl front number answer).front.transaction (takes decl front number answer).turn.told
