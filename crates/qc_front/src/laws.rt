@@ -1,7 +1,7 @@
 //! Laws of a front end's conduct, each the contract of a function with nothing
 //! to do. First what holds of it in every run, and that each move keeps it.
 
-ghost use Rattle.std.specs.Prelude.{◌≡◌, ℕ, ◌-◌, ◌^◌, ◌<◌, ◌≤◌, true, false, Option, None, Some, length};
+ghost use Rattle.std.specs.Prelude.{◌≡◌, ℕ, ◌+◌, ◌-◌, ◌^◌, ◌<◌, ◌≤◌, true, false, Option, None, Some, length};
 ghost use Rattle.qc_decl.specs.Accepted.{IsAccepted};
 ghost use Rattle.qc_decl.specs.declared.declaration.Declaration.{Declaration};
 ghost use Rattle.qc_front.specs.Conduct.{called, requested, sent, takes};
@@ -131,4 +131,12 @@ pub fn clocks_pass_grants()
         → (called decl front command).front.epoch ≡ front.epoch }
     ensures ended { (front : Front) (clock epoch : ℕ) → (front.clock.value ≤ (ended front clock epoch).clock.value)
         × (front.epoch ≤ (ended front clock epoch).epoch) }
+{}
+
+/// A command begins one transaction at most, and nothing else does.
+pub fn counts_rise_by_one()
+    ensures commands { (decl : Declaration) (front : Front) (command : Command)
+        → (called decl front command).front.count ≤ front.count + 1 }
+    ensures answers { (decl : Declaration) (front : Front) (number : ℕ) (answer : Option Answer)
+        → (takes decl front number answer).front.count ≡ front.count }
 {}
