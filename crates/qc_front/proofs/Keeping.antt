@@ -63,7 +63,7 @@ asking_calls calls r o = record {
 room_left : (ops : List Op) (op : Op) → length ops < 16 → length (ops ++ op ∷ []) ≤ 16
 room_left ops op few = let more : length (ops ++ op ∷ []) ≡ length ops + 1 = length-append ops (op ∷ []) in omega arith
 
-view_keeps : (t : Transaction) (object : ℕ) (view : Option View) → (with_view t object view).begun ≡ t.begun
+pub view_keeps : (t : Transaction) (object : ℕ) (view : Option View) → (with_view t object view).begun ≡ t.begun
 view_keeps t object None = refl
 view_keeps t object (Some v) = refl
 

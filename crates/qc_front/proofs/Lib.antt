@@ -7,6 +7,12 @@ pub mod Keeping
 pub mod Numbering
 pub mod AtOnce
 pub mod Sending
+pub mod Telling
+pub mod Lives
+pub mod Goes
+pub mod Once
+pub mod Clocks
+pub mod Fitting
 pub mod Drafts
 pub mod Learning
 pub mod Moves

@@ -9,3 +9,5 @@ pub mod Drafts
 pub mod Fits
 pub mod Holds
 pub mod Requests
+pub mod Replies
+pub mod Counted

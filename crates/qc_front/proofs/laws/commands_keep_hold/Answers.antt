@@ -1,0 +1,5 @@
+use Rattle.qc_front.proofs.Keeping.{called_holds}
+use Rattle.qc_front.proofs.laws.commands_keep_hold.Goals as goal
+
+pub returns : goal.returns
+returns c = called_holds
