@@ -1,6 +1,6 @@
 -- Every copy in an inbox is a message that was sent, under its number, to the inbox's actor; so what is ready for an
 -- actor was sent to it.
-use Rattle.std.proofs.Common.{◌≡◌, ℕ, zero, suc, ◌+◌, ◌-◌, ◌==◌, ◌&&◌, not, Bool, true, false, cond, if◌then◌else◌, List, [], ◌∷◌, ◌++◌, length, Option, Some, None, slice_get, refl, sym, ap, ◌∙◌, subst, arith, eqb-true, append_assoc}
+use Rattle.std.proofs.Common.{◌≡◌, ℕ, ◌+◌, ◌-◌, ◌==◌, ◌&&◌, not, Bool, true, false, cond, if◌then◌else◌, List, [], ◌∷◌, ◌++◌, length, Option, Some, None, slice_get, refl, sym, ap, ◌∙◌, subst, arith, eqb-true, append_assoc}
 use Rattle.std.specs.Prelude.{drop, option_to_list}
 use Rattle.std.specs.List.{cons_option, fold}
 use Rattle.std.specs.Option.{option_map_or}
@@ -24,7 +24,7 @@ use Rattle.qc_msg.specs.Deeds.{Deed, WasSentTo, envelope_of, mail}
 use Rattle.qc_msg.specs.Steps.{Entry, marked}
 use Rattle.qc_script.specs.declared.script.PhaseLines.{PhaseLines}
 use Rattle.qc_script.specs.declared.script.Script.{Script}
-use Rattle.qc_script.specs.Inbox.{Inbox, answers_by, comes, comes_at_once, comes_with, command_called, commands_for, control_acted, copies_at_once, copy_taken, count_of, empty_inbox, goes, goes_with, has_number, inbox, inbox_at, is_request, late_copies, loss_taken, one_more, opened, opened_by, phase_begun, reply_told, request_answered, request_sent, with_copies, with_number, without_number}
+use Rattle.qc_script.specs.Inbox.{Inbox, answers_by, comes, comes_at_once, comes_with, command_called, commands_for, control_acted, copies_at_once, copy_taken, count_of, empty_inbox, goes, goes_with, has_number, inbox, inbox_at, is_request, late_copies, loss_taken, one_more, opened, opened_by, phase_begun, reply_told, request_answered, request_sent, with_copies}
 use Rattle.qc_script.specs.Ready.{after_controls, command_in, first_command, first_copy, first_lost, ready, ready_in, takes_commands}
 use Rattle.qc_script.specs.Runs.{Runs}
 use Rattle.qc_laws.proofs.Numbered.{AreNumbered, run_numbered}

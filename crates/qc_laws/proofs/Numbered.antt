@@ -11,7 +11,7 @@ use Rattle.qc_msg.specs.declared.step.Step.TheVariants as steps
 use Rattle.qc_msg.specs.declared.turn.Posting.{Posting}
 use Rattle.qc_msg.specs.declared.turn.Turn.{Turn}
 use Rattle.qc_msg.specs.Deeds.{Deed, deed_at, envelope_at, envelopes, mail}
-use Rattle.qc_msg.specs.Steps.{Entry, by, marked, posted, step_of}
+use Rattle.qc_msg.specs.Steps.{Entry, by, marked, posted}
 use Rattle.qc_msg.proofs.Growth.{mail-append, mail-posted, mail-taken}
 use Rattle.qc_script.specs.Ready.{phase_of, step_of_control}
 use Rattle.qc_script.specs.Runs.{Runs, begins, takes, posts, phase, control}

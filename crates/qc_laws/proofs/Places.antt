@@ -1,5 +1,5 @@
 -- Elements of a list by their places.
-use Rattle.std.proofs.Common.{◌≡◌, ℕ, zero, suc, ◌<◌, false, true, Bool, List, [], ◌∷◌, ◌++◌, length, Option, Some, None, slice_get, refl, ap, arith}
+use Rattle.std.proofs.Common.{◌≡◌, ℕ, zero, suc, ◌<◌, List, [], ◌∷◌, ◌++◌, length, Some, slice_get, refl, ap, arith}
 use Rattle.std.specs.Prelude.{slice_set, replicate}
 
 pub slice_get-set_other : {X : Type 0} (xs : List X) (b a : ℕ) (v : X) → (b ≡ a → ⊥) → slice_get (slice_set xs b v) a ≡ slice_get xs a

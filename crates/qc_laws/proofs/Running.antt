@@ -22,7 +22,7 @@ use Rattle.qc_msg.specs.Deeds.{Deed, deed_at, deeds, envelope_of, heard}
 use Rattle.qc_msg.specs.Steps.{Entry}
 use Rattle.qc_script.specs.declared.script.PhaseLines.{PhaseLines}
 use Rattle.qc_script.specs.declared.script.Script.{Script}
-use Rattle.qc_script.specs.Inbox.{Inbox, answers_by, comes, comes_at_once, comes_with, command_called, commands_for, copy_taken, count_of, empty_inbox, goes, goes_with, has_number, inbox, inbox_at, is_request, loss_taken, one_more, opened, opened_by, phase_begun, reply_told, request_answered, request_sent, with_copies, with_number, without_number}
+use Rattle.qc_script.specs.Inbox.{Inbox, answers_by, comes, comes_at_once, command_called, commands_for, copy_taken, count_of, empty_inbox, goes, goes_with, has_number, inbox, inbox_at, is_request, loss_taken, opened, opened_by, phase_begun, reply_told, with_copies}
 use Rattle.qc_script.specs.Ready.{after_controls, command_in, first_command, first_copy, first_lost, ready, ready_in, takes_commands}
 
 busy_if : (t : Bool) (i j : Inbox) (b : Bool) → i.busy ≡ b → j.busy ≡ b → (if t then i else j).busy ≡ b

@@ -12,5 +12,6 @@
 mod order;
 
 pub use order::{
-    actors_take_and_post_by_turns, messages_are_numbered_in_order, others_do_nothing, what_is_ready_was_sent,
+    actors_take_and_post_by_turns, messages_are_numbered_in_order, others_do_nothing,
+    what_is_ready_was_sent,
 };
