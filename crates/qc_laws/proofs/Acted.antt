@@ -19,7 +19,7 @@ use Rattle.qc_script.specs.Runs.{Runs, begins, takes, posts, phase, control}
 use Rattle.qc_script.specs.declared.script.Script.{Script}
 use Rattle.qc_laws.proofs.Arrivals.{what_is_ready_was_sent}
 use Rattle.qc_laws.proofs.Numbered.{IsSilent, control_silent, phase_silent}
-use Rattle.qc_laws.proofs.Places.{replicate_at, replicate_within, slice_get-set_other, slice_get-set_same}
+use Rattle.qc_laws.proofs.Places.{length-replicate, length-slice_set, replicate_at, replicate_within, slice_get-set_other, slice_get-set_same, slice_get-within}
 use Rattle.qc_laws.proofs.Running.{what_is_ready_may_be_taken}
 use Rattle.qc_laws.specs.Turns.{ActsIn}
 
@@ -146,3 +146,16 @@ module _ (lawful : ℕ → List Deed → Turn → Type 0) (decl : Declaration) (
       deeds-silent a (controller decl) older (steps.Phase (phase_of older + 1)) (phase_silent (phase_of older + 1)) ∙ others_do_nothing older before run a past
   others_do_nothing h open_inputs (control line lines step before older run left is_step) a past =
       deeds-silent a (controller decl) older step (control_silent line step is_step) ∙ others_do_nothing older before run a past
+
+-- and each actor has a place
+
+module _ (lawful : ℕ → List Deed → Turn → Type 0) (decl : Declaration) (script : Script) where
+  pub as_many : (h : List Entry) (open_inputs : List Bool) → Runs lawful decl script h open_inputs → length open_inputs ≡ actors decl
+  as_many h open_inputs begins = length-replicate (actors decl) false
+  as_many h open_inputs (takes c given before older run free rdy) = length-slice_set before c true ∙ as_many older before run
+  as_many h open_inputs (posts c turn before older run taken law) = length-slice_set before c false ∙ as_many older before run
+  as_many h open_inputs (phase before older run none done quiet more) = as_many older before run
+  as_many h open_inputs (control line lines step before older run left is_step) = as_many older before run
+
+  pub has_entry : (h : List Entry) (open_inputs : List Bool) → Runs lawful decl script h open_inputs → (a : ℕ) → a < actors decl → (t : Bool) × (slice_get open_inputs a ≡ Some t)
+  has_entry h open_inputs run a within = slice_get-within open_inputs a (let long : length open_inputs ≡ actors decl = as_many h open_inputs run in omega arith)

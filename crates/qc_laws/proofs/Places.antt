@@ -36,3 +36,19 @@ pub replicate_within : {X : Type 0} (n a : ℕ) (x y : X) → slice_get (replica
 replicate_within zero a x y is = absurd (let never : ⊥ = cc in never)
 replicate_within (suc n) zero x y is = omega arith
 replicate_within (suc n) (suc a) x y is = let within : a < n = replicate_within n a x y is in omega arith
+
+-- lengths
+
+pub length-replicate : {X : Type 0} (n : ℕ) (x : X) → length (replicate n x) ≡ n
+length-replicate zero x = refl
+length-replicate (suc n) x = ap suc (length-replicate n x)
+
+pub length-slice_set : {X : Type 0} (xs : List X) (a : ℕ) (v : X) → length (slice_set xs a v) ≡ length xs
+length-slice_set [] a v = refl
+length-slice_set (x ∷ xs) zero v = refl
+length-slice_set (x ∷ xs) (suc a) v = ap suc (length-slice_set xs a v)
+
+pub slice_get-within : {X : Type 0} (xs : List X) (a : ℕ) → a < length xs → (x : X) × (slice_get xs a ≡ Some x)
+slice_get-within [] a below = absurd (omega arith)
+slice_get-within (x ∷ xs) zero below = (x, refl)
+slice_get-within (x ∷ xs) (suc a) below = slice_get-within xs a (omega arith)
