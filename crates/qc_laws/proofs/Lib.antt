@@ -7,3 +7,7 @@ pub mod OwnFronts
 pub mod Stamped
 pub mod Mailed
 pub mod Served
+pub mod Waiting
+pub mod Replying
+pub mod Calling
+pub mod Ordered
