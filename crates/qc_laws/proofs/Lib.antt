@@ -11,3 +11,6 @@ pub mod Waiting
 pub mod Replying
 pub mod Calling
 pub mod Ordered
+pub mod Awaiting
+pub mod Fewer
+pub mod Covered

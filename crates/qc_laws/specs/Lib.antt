@@ -1,3 +1,4 @@
 pub mod Turns
 pub mod Order
 pub mod Whole
+pub mod Calls

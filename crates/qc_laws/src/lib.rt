@@ -15,10 +15,13 @@
 //!    `phases_are_the_scripts`); each reply answers the one that runs
 //!    (`replies_answer_commands`), and each command that was called has its
 //!    reply but the one that runs (`calls_are_replied`).
+//! 5. A request that a client waits for is lost, or unanswered, or its answer is
+//!    ready (`open_requests_are_awaited`).
 #![tactic(auto)]
 
 mod commands;
 mod order;
+mod requests;
 mod sites;
 
 pub use commands::{
@@ -28,6 +31,7 @@ pub use order::{
     actors_take_and_post_by_turns, messages_are_numbered_in_order, others_do_nothing,
     what_is_ready_was_sent,
 };
+pub use requests::open_requests_are_awaited;
 pub use sites::{
     decisions_name_stamps_of_their_clients, sites_are_what_their_steps_show, sites_serve,
     what_sites_post_is_due,
