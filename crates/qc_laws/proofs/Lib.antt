@@ -14,3 +14,8 @@ pub mod Ordered
 pub mod Awaiting
 pub mod Fewer
 pub mod Covered
+pub mod Rounds
+pub mod SiteReplies
+pub mod Proper
+pub mod Answering
+pub mod Kept

@@ -54,7 +54,7 @@ of_two P false x y here there = there
 
 -- the name stays
 
-read_name : (t : Transaction) (site object : ℕ) (answer : Option Answer) → (read_with t site object answer).begun.tx ≡ t.begun.tx
+pub read_name : (t : Transaction) (site object : ℕ) (answer : Option Answer) → (read_with t site object answer).begun.tx ≡ t.begun.tx
 read_name t site object None = refl
 read_name t site object (Some (answers.Granted life clock log)) = ap (λ (b : Begun). b.tx) (view_keeps (lived t site life) object (option_map (λ (v : View). with_log v log) (slice_get t.views object)))
 read_name t site object (Some (answers.Clash holder inv event)) = refl
@@ -68,7 +68,7 @@ read_name t site object (Some (answers.Shut clock log prepared)) = refl
 read_name t site object (Some answers.Installed) = refl
 read_name t site object (Some (answers.Answered verdict)) = refl
 
-appended_name : (t : Transaction) (site : ℕ) (answer : Option Answer) → (appended_with t site answer).begun.tx ≡ t.begun.tx
+pub appended_name : (t : Transaction) (site : ℕ) (answer : Option Answer) → (appended_with t site answer).begun.tx ≡ t.begun.tx
 appended_name t site None = refl
 appended_name t site (Some (answers.Granted life clock log)) = refl
 appended_name t site (Some (answers.Clash holder inv event)) = refl
