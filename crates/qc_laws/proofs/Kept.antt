@@ -56,7 +56,7 @@ module _ (script : Script) (X : Envelope → Type 0) (a : ℕ) where
       at x (inl there) = inl (subst (λ (i : Inbox). In x i.copies) (sym (inbox_one x.to h b step)) (copies x.to x there))
       at x (inr taken) = inr taken
 
-  mail_first : (h k : List Entry) (x : Envelope) → In x (mail h) → In x (mail (h ++ k))
+  pub mail_first : (h k : List Entry) (x : Envelope) → In x (mail h) → In x (mail (h ++ k))
   mail_first h k x member = subst (In x) (sym (mail-append h k)) (In-first x (mail h) (mail k) member)
 
   -- a message of another, or one that asks nothing

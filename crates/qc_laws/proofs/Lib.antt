@@ -19,3 +19,5 @@ pub mod SiteReplies
 pub mod Proper
 pub mod Answering
 pub mod Kept
+pub mod Reached
+pub mod Ends

@@ -3,3 +3,4 @@ pub mod Order
 pub mod Whole
 pub mod Calls
 pub mod Asked
+pub mod Waits

@@ -16,7 +16,9 @@
 //!    (`replies_answer_commands`), and each command that was called has its
 //!    reply but the one that runs (`calls_are_replied`).
 //! 5. A request that a client waits for is lost, or unanswered, or its answer is
-//!    ready (`open_requests_are_awaited`).
+//!    ready (`open_requests_are_awaited`); an unanswered one is at its site
+//!    (`unanswered_requests_are_at_their_sites`). So none is open where nothing
+//!    is left to happen (`no_request_is_open_at_the_end`).
 #![tactic(auto)]
 
 mod commands;
@@ -31,7 +33,10 @@ pub use order::{
     actors_take_and_post_by_turns, messages_are_numbered_in_order, others_do_nothing,
     what_is_ready_was_sent,
 };
-pub use requests::open_requests_are_awaited;
+pub use requests::{
+    no_request_is_open_at_the_end, open_requests_are_awaited,
+    unanswered_requests_are_at_their_sites,
+};
 pub use sites::{
     decisions_name_stamps_of_their_clients, sites_are_what_their_steps_show, sites_serve,
     what_sites_post_is_due,
