@@ -49,7 +49,7 @@ module _ (decl : Declaration) (script : Script) (accepted : IsAccepted decl) (as
   no_controls : (a : ℕ) → a < actors decl → (inbox script a h).controls ≡ []
   no_controls a within = let common : InCommon a 0 (inbox script a h) (inbox script 0 h) = inboxes_have_in_common script a 0 h (low a within) (omega arith) in common.controls ∙ done
 
-  nothing_ready : (a : ℕ) → a < actors decl → first_copy (inbox script a h).copies (first_lost (inbox script a h).lost (command_in decl a (inbox script a h))) ≡ None
+  pub nothing_ready : (a : ℕ) → a < actors decl → first_copy (inbox script a h).copies (first_lost (inbox script a h).lost (command_in decl a (inbox script a h))) ≡ None
   nothing_ready a within =
       ap (λ (lines : List Control). after_controls lines (first_copy (inbox script a h).copies (first_lost (inbox script a h).lost (command_in decl a (inbox script a h))))) (sym (no_controls a within)) ∙ quiet a within
 

@@ -21,3 +21,4 @@ pub mod Answering
 pub mod Kept
 pub mod Reached
 pub mod Ends
+pub mod WholeLaw

@@ -19,12 +19,15 @@
 //!    ready (`open_requests_are_awaited`); an unanswered one is at its site
 //!    (`unanswered_requests_are_at_their_sites`). So none is open where nothing
 //!    is left to happen (`no_request_is_open_at_the_end`).
+//! 6. Where no command runs then, and every phase began, the run is whole
+//!    (`runs_without_commands_are_whole`).
 #![tactic(auto)]
 
 mod commands;
 mod order;
 mod requests;
 mod sites;
+mod whole;
 
 pub use commands::{
     calls_are_asked, calls_are_replied, phases_are_the_scripts, replies_answer_commands,
@@ -41,3 +44,4 @@ pub use sites::{
     decisions_name_stamps_of_their_clients, sites_are_what_their_steps_show, sites_serve,
     what_sites_post_is_due,
 };
+pub use whole::runs_without_commands_are_whole;
