@@ -21,4 +21,5 @@ pub mod Answering
 pub mod Kept
 pub mod Reached
 pub mod Ends
+pub mod Busy
 pub mod WholeLaw

@@ -76,16 +76,16 @@ asked_phases decl a [] (suc k) all = tt
 asked_phases decl a (p ∷ phases) zero all = tt
 asked_phases decl a (p ∷ phases) (suc k) all = both_all (IsAskable decl a) (commands_for a p.commands) (asked_in_all a (take k phases)) (asked_line decl a p.commands all.0) (asked_phases decl a phases k all.1)
 
-front_part : {A : Type 0} (P : A → Type 0) (xs ys : List A) → Every P (xs ++ ys) → Every P xs
+pub front_part : {A : Type 0} (P : A → Type 0) (xs ys : List A) → Every P (xs ++ ys) → Every P xs
 front_part P [] ys all = tt
 front_part P (x ∷ xs) ys all = (all.0, front_part P xs ys all.1)
 
-abbrev IsAskableGiven : Declaration → ℕ → Given → Type 0
+abbrev pub IsAskableGiven : Declaration → ℕ → Given → Type 0
 IsAskableGiven decl a (given.Called command) = IsAskable decl a command
 IsAskableGiven decl a (given.Got envelope) = Unit {0}
 IsAskableGiven decl a (given.Lost number) = Unit {0}
 
-abbrev IsAskableDeed : Declaration → ℕ → Deed → Type 0
+abbrev pub IsAskableDeed : Declaration → ℕ → Deed → Type 0
 IsAskableDeed decl a (Takes g) = IsAskableGiven decl a g
 IsAskableDeed decl a (Writes written) = Unit {0}
 IsAskableDeed decl a (Sends number to message) = Unit {0}
@@ -100,7 +100,7 @@ askable_deeds decl a (Writes written ∷ ds) all = (tt, askable_deeds decl a ds 
 askable_deeds decl a (Sends number to message ∷ ds) all = (tt, askable_deeds decl a ds all)
 askable_deeds decl a (Tells reply ∷ ds) all = (tt, askable_deeds decl a ds all)
 
-run_askable : (decl : Declaration) (script : Script) (a : ℕ) (h : List Entry) (open_inputs : List Bool) → AsksDeclared decl script → Runs (IsLawful decl) decl script h open_inputs → Every (IsAskableDeed decl a) (deeds a [] h)
+pub run_askable : (decl : Declaration) (script : Script) (a : ℕ) (h : List Entry) (open_inputs : List Bool) → AsksDeclared decl script → Runs (IsLawful decl) decl script h open_inputs → Every (IsAskableDeed decl a) (deeds a [] h)
 run_askable decl script a h open_inputs asks run =
     askable_deeds decl a (deeds a [] h) (front_part (IsAskable decl a) (calls_of a h) (inbox script a h).commands
     (subst (Every (IsAskable decl a)) (sym (run_asked decl script a h open_inputs run)) (asked_phases decl a script.phases (phase_of h) asks)))

@@ -22,10 +22,11 @@ use Rattle.qc_msg.specs.Turns.{quiet}
 use Rattle.qc_client.specs.Client.{ClientMove, moved, new_client}
 use Rattle.qc_client.specs.Conduct.{client_after, client_does, client_takes}
 use Rattle.qc_site.specs.Conduct.{site_after}
+use Rattle.qc_laws.specs.Calls.{is_waiting}
 use Rattle.qc_laws.specs.Order.{AreInOrder, IsInOrder}
 use Rattle.qc_laws.specs.Whole.{call_in, reply_in}
 use Rattle.qc_laws.proofs.Stamped.{site_answering}
-use Rattle.qc_laws.proofs.Waiting.{Ends, IsNoCall, Rests, called_ends, epoch_rests, is_waiting, sent_waits, takes_ends, takes_rests}
+use Rattle.qc_laws.proofs.Waiting.{Ends, IsNoCall, Rests, called_ends, epoch_rests, sent_waits, takes_ends, takes_rests}
 
 -- whether a command runs, as deeds go on
 

@@ -30,15 +30,9 @@ use Rattle.qc_front.specs.Front.{FrontMove, aborts, begins, ended, gives_up, mov
 use Rattle.qc_front.specs.Going.{GoesOn, is_idle}
 use Rattle.qc_front.proofs.Goes.{do_goes, takes_goes}
 use Rattle.qc_client.specs.declared.client.Client.{Client}
+use Rattle.qc_laws.specs.Calls.{is_waiting, waits}
 use Rattle.qc_client.specs.Client.{ClientMove, by_desk, by_front}
 use Rattle.qc_client.specs.Conduct.{answered, answered_by, called, client_takes, commits, heard, requested, sent_one}
-
--- whether a client waits: for the votes of a commit, or for what its running `do` asked
-abbrev pub waits : Option Voting → Doing → Bool
-waits voting doing = is_some voting || not (is_idle doing)
-
-abbrev pub is_waiting : Client → Bool
-is_waiting c = waits c.desk.voting c.front.doing
 
 -- it tells a reply just where it doesn't wait any more
 abbrev pub Ends : ClientMove → Type 0

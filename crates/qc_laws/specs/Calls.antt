@@ -1,10 +1,10 @@
 -- The open requests of a client, and what becomes of each.
-use Rattle.std.specs.Prelude.{◌≡◌, ℕ, ◌⊎◌, List, Option, Some, None}
+use Rattle.std.specs.Prelude.{◌≡◌, ℕ, ◌⊎◌, ◌||◌, not, Bool, List, Option, Some, None, is_some}
 use Rattle.qc_list.specs.Members.{In}
 use Rattle.qc_client.specs.declared.client.Client.{Client}
 use Rattle.qc_commit.specs.declared.desk.Voting.{Voting}
 use Rattle.qc_front.specs.declared.doing.Doing.{Doing}
-use Rattle.qc_front.specs.Going.{calls_in}
+use Rattle.qc_front.specs.Going.{calls_in, is_idle}
 use Rattle.qc_msg.specs.declared.call.Call.{Call}
 use Rattle.qc_msg.specs.declared.message.Envelope.{Envelope}
 use Rattle.qc_msg.specs.declared.message.Message.{Message}
@@ -19,6 +19,14 @@ calls_by (Some v) doing = v.calls
 
 abbrev pub open_calls : Client → List Call
 open_calls c = calls_by c.desk.voting c.front.doing
+
+-- whether a client waits: for the votes of a commit, or for what its running `do` asked
+
+abbrev pub waits : Option Voting → Doing → Bool
+waits voting doing = is_some voting || not (is_idle doing)
+
+abbrev pub is_waiting : Client → Bool
+is_waiting c = waits c.desk.voting c.front.doing
 
 -- a message that answers the request of this number
 abbrev pub IsAnswerTo : ℕ → Message → Type 0

@@ -1,9 +1,12 @@
 //! Laws of commands and replies, each the contract of a function with nothing
 //! to do.
 
-ghost use Rattle.std.specs.Prelude.{◌≡◌, ◌+◌, ◌≤◌, ◌++◌, ℕ, Bool, List, [], cond, length};
+ghost use Rattle.std.specs.Prelude.{◌≡◌, ◌+◌, ◌-◌, ◌≤◌, ◌++◌, ℕ, Bool, true, false, List, [], Some, cond, length};
+ghost use Rattle.std.specs.Prelude.{slice_get};
+ghost use Rattle.qc_client.specs.Conduct.{client_after};
 ghost use Rattle.qc_core.specs.Acts.{is_running};
 ghost use Rattle.qc_core.specs.Conduct.{IsLawful};
+ghost use Rattle.qc_decl.specs.Actors.{is_client};
 ghost use Rattle.qc_decl.specs.declared.declaration.Declaration.{Declaration};
 ghost use Rattle.qc_msg.specs.Deeds.{deeds};
 ghost use Rattle.qc_msg.specs.Steps.{Entry};
@@ -11,6 +14,8 @@ ghost use Rattle.qc_script.specs.Inbox.{inbox};
 ghost use Rattle.qc_script.specs.Ready.{phase_of};
 ghost use Rattle.qc_script.specs.Runs.{Runs};
 ghost use Rattle.qc_script.specs.declared.script.Script.{Script};
+ghost use Rattle.qc_laws.specs.Asked.{AsksDeclared};
+ghost use Rattle.qc_laws.specs.Calls.{is_waiting};
 ghost use Rattle.qc_laws.specs.Order.{AreInOrder};
 ghost use Rattle.qc_laws.specs.Whole.{asked_until, calls_of, replies_of};
 
@@ -45,4 +50,14 @@ pub fn calls_are_replied()
     ensures { (decl : Declaration) (script : Script) (h : List Entry) (open_inputs : List Bool) (a : ℕ)
         → Runs (IsLawful decl) decl script h open_inputs
         → length (calls_of a h) ≡ length (replies_of a h) + cond (is_running (deeds a [] h)) 1 0 }
+{}
+
+/// Where the script asks clients to move no epoch, a client without an open
+/// input waits for something just while a command of it runs.
+#[tactic(auto, using(crate::proofs::Busy::run_waits))]
+pub fn clients_wait_while_commands_run()
+    ensures { (decl : Declaration) (script : Script) → AsksDeclared decl script → (h : List Entry)
+        (open_inputs : List Bool) → Runs (IsLawful decl) decl script h open_inputs
+        → (a : ℕ) → is_client decl a ≡ true → slice_get open_inputs a ≡ Some false
+        → is_waiting (client_after decl (a - decl.sites) (deeds a [] h)).client ≡ is_running (deeds a [] h) }
 {}

@@ -14,7 +14,8 @@
 //! 4. Commands are called as the script asks them (`calls_are_asked`,
 //!    `phases_are_the_scripts`); each reply answers the one that runs
 //!    (`replies_answer_commands`), and each command that was called has its
-//!    reply but the one that runs (`calls_are_replied`).
+//!    reply but the one that runs (`calls_are_replied`). A client waits just
+//!    while one runs (`clients_wait_while_commands_run`).
 //! 5. A request that a client waits for is lost, or unanswered, or its answer is
 //!    ready (`open_requests_are_awaited`); an unanswered one is at its site
 //!    (`unanswered_requests_are_at_their_sites`). So none is open where nothing
@@ -30,7 +31,8 @@ mod sites;
 mod whole;
 
 pub use commands::{
-    calls_are_asked, calls_are_replied, phases_are_the_scripts, replies_answer_commands,
+    calls_are_asked, calls_are_replied, clients_wait_while_commands_run, phases_are_the_scripts,
+    replies_answer_commands,
 };
 pub use order::{
     actors_take_and_post_by_turns, messages_are_numbered_in_order, others_do_nothing,
