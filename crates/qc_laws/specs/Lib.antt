@@ -1,0 +1,6 @@
+pub mod Turns
+pub mod Order
+pub mod Whole
+pub mod Calls
+pub mod Asked
+pub mod Waits
