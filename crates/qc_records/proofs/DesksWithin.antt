@@ -48,7 +48,7 @@ abbrev pub CameWithin : ℕ → Option Answer → Type 0
 CameWithin bound None = Unit {0}
 CameWithin bound (Some answer) = AnswerWithin bound answer
 
-promised-within : (bound : ℕ) (answer : Option Answer) → CameWithin bound answer → promised answer ≤ bound
+pub promised-within : (bound : ℕ) (answer : Option Answer) → CameWithin bound answer → promised answer ≤ bound
 promised-within bound None here = omega arith
 promised-within bound (Some (answers.Granted life clock log)) here = omega arith
 promised-within bound (Some (answers.Clash holder inv event)) here = omega arith

@@ -6,3 +6,5 @@ pub mod ClientsWithin
 pub mod Bounding
 pub mod Asked
 pub mod DesksShort
+pub mod Short
+pub mod Needs

@@ -4,4 +4,4 @@
 
 mod bounds;
 
-pub use bounds::clocks_and_counts_are_bounded;
+pub use bounds::{clients_calls_are_bounded, clocks_and_counts_are_bounded};
