@@ -9,3 +9,6 @@ pub mod SiteDecisions
 pub mod SiteMoves
 pub mod SiteDues
 pub mod SiteLaws
+pub mod ActorLaws
+pub mod ClientStands
+pub mod ActorSent

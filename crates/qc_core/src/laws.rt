@@ -21,3 +21,19 @@ pub fn sites_are_read_off_their_steps()
 pub fn answers_of_sites_are_due()
     ensures { (decl : Declaration) (site : ℕ) (ds : List Deed) → Serves decl site ds → AreDue decl [] ds }
 {}
+
+/// An actor is a fold over its deeds: an input moves it, and it stays where it
+/// writes and tells.
+pub fn actors_are_folds()
+    ensures input { (decl : Declaration) (a : ℕ) (ds : List Deed) (given : Given)
+        → actor_after decl a (ds ++ Takes given ∷ []) ≡ actor_takes decl (actor_after decl a ds).actor given }
+    ensures message { (decl : Declaration) (actor : Actor) (envelope : Envelope)
+        → actor_takes decl actor (given.Got envelope)
+        ≡ actor_hears decl actor envelope.from envelope.number envelope.message }
+{}
+
+/// The turn that an actor's deeds call for is the last one of that fold.
+pub fn turns_are_those_of_actors()
+    ensures { (decl : Declaration) (a : ℕ) (ds : List Deed) → a < actors decl
+        → turn_after decl a ds ≡ Some (actor_after decl a ds).turn }
+{}
