@@ -10,10 +10,16 @@ use Rattle.qc_msg.specs.declared.step.Given.{Given}
 use Rattle.qc_msg.specs.declared.turn.Posting.{Posting}
 use Rattle.qc_msg.specs.declared.turn.Turn.{Turn}
 use Rattle.qc_msg.specs.Deeds.{Deed, Takes, sends_of, tells_of, turn_deeds, writes_of}
+use Rattle.qc_msg.specs.Turns.{quiet}
 use Rattle.qc_client.specs.declared.client.Client.{Client}
 use Rattle.qc_client.specs.Client.{ClientMove, new_client}
 use Rattle.qc_client.specs.Conduct.{client_after, client_does, client_takes, sent, sent_one}
 use Rattle.qc_site.specs.Conduct.{site_after}
+use Rattle.qc_msg.specs.declared.message.Message.{Message}
+use Rattle.qc_site.specs.Conduct.{site_does, site_takes}
+use Rattle.qc_site.specs.Site.{SiteMove}
+use Rattle.qc_core.specs.Actors.{ActorMove, actor_after, actor_sent, actor_takes, by_client, by_site}
+use Rattle.qc_core.proofs.ActorLaws.{at_client, at_site, other_client}
 use Rattle.qc_core.specs.Acts.{Acts, MayTake, is_running, runs_at, runs_given, starts, takes, posts}
 use Rattle.qc_core.specs.Conduct.{IsLawful, turn_after}
 use Rattle.qc_core.proofs.ClientStands.{Lands, Stands, lands, new_stands, runs_told, sends_all}
@@ -141,3 +147,45 @@ known decl a ds b n some most no_site client (posts before turn m first acts abo
         subst (λ (t : Turn). Stands decl (is_running (before ++ turn_deeds first t)) (client_after decl (a - decl.sites) (before ++ turn_deeds first t)).client) same
         (subst (λ (xs : List Deed). Stands decl (is_running (xs ++ turn_deeds first (client_takes decl (client_after decl (a - decl.sites) o.before).client o.input).turn)) (client_after decl (a - decl.sites) (xs ++ turn_deeds first (client_takes decl (client_after decl (a - decl.sites) o.before).client o.input).turn)).client) (sym o.deeds_are)
         (stands_on decl (a - decl.sites) o.before o.input first some most o.stood o.might))
+
+-- a site keeps none of its messages
+
+site_writes : (decl : Declaration) (m : SiteMove) (write : Option Record) → fold (site_does decl) m (writes_of write) ≡ m
+site_writes decl m None = refl
+site_writes decl m (Some written) = refl
+
+site_tells : (decl : Declaration) (m : SiteMove) (told : Option Reply) → fold (site_does decl) m (tells_of told) ≡ m
+site_tells decl m None = refl
+site_tells decl m (Some reply) = refl
+
+site_sends : (decl : Declaration) (m : SiteMove) (first : ℕ) (ps : List Posting) → fold (site_does decl) m (sends_of first ps) ≡ m
+site_sends decl m first [] = refl
+site_sends decl m first (p ∷ ps) = site_sends decl m (first + 1) ps
+
+pub site_turn : (decl : Declaration) (m : SiteMove) (first : ℕ) (turn : Turn) → fold (site_does decl) m (turn_deeds first turn) ≡ m
+site_turn decl m first turn =
+    fold-append (site_does decl) m (writes_of turn.write) (sends_of first turn.sends ++ tells_of turn.told)
+    ∙ ap (λ (v : SiteMove). fold (site_does decl) v (sends_of first turn.sends ++ tells_of turn.told)) (site_writes decl m turn.write)
+    ∙ fold-append (site_does decl) m (sends_of first turn.sends) (tells_of turn.told)
+    ∙ ap (λ (v : SiteMove). fold (site_does decl) v (tells_of turn.told)) (site_sends decl m first turn.sends)
+    ∙ site_tells decl m turn.told
+
+-- any actor
+
+pub actor_sent_at_once : (decl : Declaration) (a : ℕ) (ds : List Deed) (n : ℕ) (g : Given) (first : ℕ) → 0 < decl.sites → decl.sites ≤ most_sites → a < actors decl → Acts decl a ds false n → MayTake ds g
+    → (actor_after decl a ((ds ++ Takes g ∷ []) ++ turn_deeds first (actor_takes decl (actor_after decl a ds).actor g).turn)).actor ≡ actor_sent (actor_takes decl (actor_after decl a ds).actor g).actor first
+actor_sent_at_once decl a ds n g first some most below acts may = by (is_site decl a) refl
+  where
+    by : (b : Bool) → is_site decl a ≡ b → (actor_after decl a ((ds ++ Takes g ∷ []) ++ turn_deeds first (actor_takes decl (actor_after decl a ds).actor g).turn)).actor ≡ actor_sent (actor_takes decl (actor_after decl a ds).actor g).actor first
+    by true is =
+        subst (λ (m : ActorMove). (actor_after decl a ((ds ++ Takes g ∷ []) ++ turn_deeds first (actor_takes decl m.actor g).turn)).actor ≡ actor_sent (actor_takes decl m.actor g).actor first) (sym (at_site decl a ds is))
+        (ap (λ (m : ActorMove). m.actor) (at_site decl a ((ds ++ Takes g ∷ []) ++ turn_deeds first (site_takes decl (site_after decl a ds).site g).turn) is)
+        ∙ ap (λ (m : SiteMove). (by_site m).actor)
+        (fold-append (site_does decl) _ (ds ++ Takes g ∷ []) (turn_deeds first (site_takes decl (site_after decl a ds).site g).turn)
+        ∙ site_turn decl (site_after decl a (ds ++ Takes g ∷ [])) first (site_takes decl (site_after decl a ds).site g).turn
+        ∙ fold-append (site_does decl) _ ds (Takes g ∷ [])))
+    by false is =
+        subst (λ (m : ActorMove). (actor_after decl a ((ds ++ Takes g ∷ []) ++ turn_deeds first (actor_takes decl m.actor g).turn)).actor ≡ actor_sent (actor_takes decl m.actor g).actor first) (sym (at_client decl a ds is))
+        (ap (λ (m : ActorMove). m.actor) (at_client decl a ((ds ++ Takes g ∷ []) ++ turn_deeds first (client_takes decl (client_after decl (a - decl.sites) ds).client g).turn) is)
+        ∙ ap (λ (c : Client). (by_client (record { client = c; turn = quiet })).actor)
+        (sent_at_once decl (a - decl.sites) ds g first some most (known decl a ds false n some most is (other_client decl a below is) acts) may))

@@ -16,7 +16,6 @@ use Rattle.qc_commit.specs.Desk.{DeskMove, new_desk, moved as desk_moved}
 use Rattle.qc_commit.specs.Fits.{AsksFew}
 use Rattle.qc_commit.specs.Votes.{are_cast, blank, cast, first_against, participants, prepares, vote_of}
 use Rattle.qc_commit.proofs.Aside.{few-after}
-use Rattle.qc_commit.proofs.Ends.{commits-at-once}
 use Rattle.qc_commit.proofs.Moves.{Aborts, Commits, IsMove, IsPrepare, IsPromiseWanted, Waits, prepare-moves, tx_of, vote-moves}
 use Rattle.qc_commit.proofs.Numbering.{IsSettled, each-sent, settled-prepare, settled-sent, settled-vote}
 use Rattle.qc_front.specs.declared.doing.Doing.{Doing}
@@ -27,11 +26,13 @@ use Rattle.qc_front.specs.Conduct as fronts
 use Rattle.qc_front.specs.Front.{FrontMove, aborts, begins, ended, gives_up, moved as front_moved, new_front}
 use Rattle.qc_front.specs.Going.{GoesOn, is_idle}
 use Rattle.qc_front.specs.Holds.{FrontHolds, IsNumbered}
-use Rattle.qc_front.specs.Requests.{AsksAtOnce, numbered_all, numbered_one}
+use Rattle.qc_front.specs.Requests.{AreSent, AsksAtOnce, IsFor, IsRequestOf, IsSent, numbered_all, numbered_one}
 use Rattle.qc_front.proofs.AtOnce.{called_at_once, takes_at_once}
 use Rattle.qc_front.proofs.Goes.{do_goes, takes_goes}
 use Rattle.qc_front.proofs.Keeping.{called_holds, ended_holds, new_holds, takes_holds}
 use Rattle.qc_front.proofs.Numbering.{sent_holds}
+use Rattle.qc_front.proofs.Sending.{called_sent, takes_sent}
+use Rattle.qc_list.specs.Members.{In}
 use Rattle.qc_msg.specs.declared.begun.Begun.{Begun}
 use Rattle.qc_msg.specs.declared.message.Answer.{Answer}
 use Rattle.qc_msg.specs.declared.message.Message.{Message}
@@ -58,7 +59,6 @@ use Rattle.qc_client.specs.declared.client.Client.{Client}
 use Rattle.qc_client.specs.Client.{ClientMove, by_desk, by_front, moved, new_client}
 use Rattle.qc_client.specs.Conduct.{answered, answered_by, called, client_after, client_does, client_takes, commits, heard, requested, sent, sent_by, sent_one}
 use Rattle.qc_client.specs.Inputs.{IsFree}
-use Rattle.qc_client.proofs.Fronts.{IsFrontMove, IsSending, IsWanted, called-goes, takes-goes}
 use Rattle.qc_core.specs.Acts.{MayTake, is_running, runs_at, runs_given}
 
 -- whether a command runs after a turn
@@ -77,7 +77,7 @@ pub new_stands : (decl : Declaration) (k : ℕ) → Stands decl false (new_clien
 new_stands decl k = record { front = new_holds decl k; numbered = tt; settled = inl refl; few = tt; free = λ is. record { voting = refl; doing = refl } }
 
 -- the messages of a turn, numbered one after another
-pub sends_all : Client → ℕ → List Posting → Client
+abbrev pub sends_all : Client → ℕ → List Posting → Client
 sends_all c first [] = c
 sends_all c first (p ∷ ps) = sends_all (sent_one c first p.to p.message) (first + 1) ps
 
@@ -111,19 +111,25 @@ tells_one decl running c first turn st none same = record {
 
 -- the front end moves, while no commit waits
 
-front_sends : (decl : Declaration) (c : Client) (before next front : Front) (first : ℕ) (ps : List Posting) → Every (λ (p : Posting). IsSending before next p.message) ps
+-- the front end asks sites to read and append, and never to prepare
+no_prepare : (decl : Declaration) (t : Transaction) (d : Doing) → IsFor decl t d Prepare → ⊥
+no_prepare decl t Idle never = never
+no_prepare decl t (Reading object inv calls round) is = let no : ⊥ = cc in no
+no_prepare decl t (Appending object inv event calls round) is = let no : ⊥ = cc in no
+
+front_sends : (decl : Declaration) (c : Client) (before next front : Front) (first : ℕ) (ps : List Posting) → ((p : Posting) → In p ps → IsSent decl before next p.to p.message)
     → sends_all (record c { front = front }) first ps ≡ record c { front = numbered_all front first ps }
 front_sends decl c before next front first [] all = refl
 front_sends decl c before next front first (p ∷ ps) all =
-    ap (λ (v : Client). sends_all v (first + 1) ps) (one p.message all.0)
-    ∙ front_sends decl c before next (numbered_one front first p.to p.message) (first + 1) ps all.1
+    ap (λ (v : Client). sends_all v (first + 1) ps) (one p.message (all p (inl refl)))
+    ∙ front_sends decl c before next (numbered_one front first p.to p.message) (first + 1) ps (λ q among. all q (inr among))
   where
-    wants : (tx : TxId) (epoch life : ℕ) (want : Want) → IsWanted want → requested (record c { front = front }) first p.to want ≡ record c { front = fronts.requested front first p.to }
+    wants : (tx : TxId) (epoch life : ℕ) (want : Want) → IsRequestOf decl next p.to tx epoch life want → requested (record c { front = front }) first p.to want ≡ record c { front = fronts.requested front first p.to }
     wants tx epoch life (Read object inv) is = refl
     wants tx epoch life (Append object view own) is = refl
-    wants tx epoch life Prepare never = absurd never
+    wants tx epoch life Prepare is = absurd (no_prepare decl is.t next.doing is.wants)
 
-    one : (m : Message) → IsSending before next m → sent_one (record c { front = front }) first p.to m ≡ record c { front = numbered_one front first p.to m }
+    one : (m : Message) → IsSent decl before next p.to m → sent_one (record c { front = front }) first p.to m ≡ record c { front = numbered_one front first p.to m }
     one (messages.Request tx epoch life want) is = wants tx epoch life want is
     one (messages.Answer to answer) never = absurd never
     one (messages.Decision tx verdict) is = refl
@@ -132,9 +138,9 @@ front_sends decl c before next front first (p ∷ ps) all =
     one (messages.Close epoch) never = absurd never
     one (messages.Install epoch clock log) never = absurd never
 
-front_lands : (decl : Declaration) (running : Bool) (c : Client) (first : ℕ) (m : FrontMove) → c.desk.voting ≡ None → IsFrontMove c.front m → FrontHolds decl m.front → AsksAtOnce decl m
+front_lands : (decl : Declaration) (running : Bool) (c : Client) (first : ℕ) (m : FrontMove) → c.desk.voting ≡ None → AreSent decl c.front m → FrontHolds decl m.front → AsksAtOnce decl m
     → (runs_told running m.turn.told ≡ false → m.front.doing ≡ Idle) → Lands decl running first (by_front c m)
-front_lands decl running c first m none goes holds asks free = record {
+front_lands decl running c first m none told holds asks free = record {
   stands = subst (Stands decl (runs_told running m.turn.told)) (sym here) (record {
     front = sent_holds decl m.front first holds;
     numbered = asks.numbered first;
@@ -142,7 +148,7 @@ front_lands decl running c first m none goes holds asks free = record {
     few = subst AsksFew (sym none) tt;
     free = λ is. record { voting = none; doing = ap (λ (d : Doing). fronts.numbered d first) (free is) };
   });
-  once = front_sends decl c c.front m.front m.front first m.turn.sends goes.sends ∙ ap (λ (f : Front). record c { front = f }) (asks.told first) ∙ sym here;
+  once = front_sends decl c c.front m.front m.front first m.turn.sends told ∙ ap (λ (f : Front). record c { front = f }) (asks.told first) ∙ sym here;
 } where
   here : sent (by_front c m).client first ≡ record c { front = fronts.sent m.front first }
   here = ap (λ (o : Option Voting). sent_by (by_front c m).client o first) none
@@ -218,13 +224,8 @@ prepare_lands decl c first b clock some most st = by (length (participants decl 
     going = record { front = st.front; numbered = st.numbered; settled = st.settled; few = st.few; free = λ is. absurd (let no : ⊥ = cc in no) }
 
     by : (x : Bool) → (length sites == 0) ≡ x → Lands decl true first (by_desk c (desks.prepare decl c.desk b clock))
-    by true none = ended_lands decl true c first (desks.prepare decl c.desk b clock).desk (desks.prepare decl c.desk b clock).turn b (outcomes.Committed stamp) (replies.Committed stamp) st.front
-        (commits-at-once decl c.desk b clock none).ended
-        (ap (λ (t : Turn). t.told) (commits-at-once decl c.desk b clock none).turn)
-        (ap (λ (t : Turn). t.sends) (commits-at-once decl c.desk b clock none).turn)
-      where
-        stamp : Stamp
-        stamp = stamp_after (max c.desk.clock.value clock) c.desk.client
+    by true none = subst (λ (x : Bool). Lands decl true first (by_desk c (begins x))) (sym none)
+        (ended_lands decl true c first (begins true).desk (begins true).turn b (outcomes.Committed (desks.next_stamp (desks.passed c.desk clock))) (replies.Committed (desks.next_stamp (desks.passed c.desk clock))) st.front refl refl refl)
     by false asks = subst (λ (x : Bool). Lands decl true first (by_desk c (begins x))) (sym asks)
         (waits_lands decl true c first (begins false) going refl refl refl
         (subst (λ (x : Bool). IsSettled (desks.sent (begins x).desk first)) asks (settled-prepare decl c.desk b clock first some))
@@ -252,7 +253,7 @@ told_idle running (Some reply) d goes never is = idle_is d (sym goes)
 
 takes_lands : (decl : Declaration) (running : Bool) (c : Client) (first number : ℕ) (answer : Option Answer) → c.desk.voting ≡ None → Stands decl running c → Lands decl running first (by_front c (fronts.takes decl c.front number answer))
 takes_lands decl running c first number answer none st =
-    front_lands decl running c first (fronts.takes decl c.front number answer) none (takes-goes decl c.front number answer) (takes_holds decl c.front number answer st.front)
+    front_lands decl running c first (fronts.takes decl c.front number answer) none (takes_sent decl c.front number answer) (takes_holds decl c.front number answer st.front)
     (takes_at_once decl c.front number answer st.front st.numbered) (free (is_idle c.front.doing) refl)
   where
     free : (x : Bool) → is_idle c.front.doing ≡ x → runs_told running (fronts.takes decl c.front number answer).turn.told ≡ false → (fronts.takes decl c.front number answer).front.doing ≡ Idle
@@ -341,7 +342,7 @@ command_idle decl front (commands.Epoch number) idle is = idle
 
 front_command : (decl : Declaration) (c : Client) (first : ℕ) (command : Command) → Stands decl false c → Lands decl true first (by_front c (fronts.called decl c.front command))
 front_command decl c first command st =
-    front_lands decl true c first (fronts.called decl c.front command) (st.free refl).voting (called-goes decl c.front command) (called_holds decl c.front command st.front)
+    front_lands decl true c first (fronts.called decl c.front command) (st.free refl).voting (called_sent decl c.front command) (called_holds decl c.front command st.front)
     (called_at_once decl c.front command st.front st.numbered) (command_idle decl c.front command (st.free refl).doing)
 
 commits_lands : (decl : Declaration) (c : Client) (first : ℕ) → 0 < decl.sites → decl.sites ≤ most_sites → Stands decl false c → (o : Option Transaction) → Lands decl true first (commits decl c o)

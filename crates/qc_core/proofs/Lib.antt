@@ -12,3 +12,4 @@ pub mod SiteLaws
 pub mod ActorLaws
 pub mod ClientStands
 pub mod ActorSent
+pub mod FrontReaches
