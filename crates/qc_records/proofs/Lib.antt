@@ -8,3 +8,6 @@ pub mod Asked
 pub mod DesksShort
 pub mod Short
 pub mod Needs
+pub mod Dealing
+pub mod DealtFronts
+pub mod DealtClients

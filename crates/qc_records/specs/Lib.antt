@@ -6,3 +6,4 @@ pub mod Committed
 pub mod Deals
 pub mod Status
 pub mod Told
+pub mod Books
