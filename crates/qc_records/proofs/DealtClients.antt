@@ -1,6 +1,7 @@
 -- A client's inputs, and what it was told of a transaction then.
-use Rattle.std.proofs.Common.{◌≡◌, ◌≤◌, ◌<◌, ◌⊎◌, inl, inr, ℕ, ◌+◌, ◌-◌, ◌==◌, Bool, true, false, cond, List, [], ◌∷◌, ◌++◌, fold, map, length, Option, Some, None, is_some, option_map, refl, sym, ap, ◌∙◌, subst, arith}
+use Rattle.std.proofs.Common.{◌≡◌, ◌≤◌, ◌<◌, ◌⊎◌, inl, inr, ℕ, ◌+◌, ◌-◌, ◌==◌, Bool, true, false, cond, List, [], ◌∷◌, ◌++◌, fold, map, length, Option, Some, None, is_some, option_map, option_to_list, refl, sym, ap, ◌∙◌, subst, arith}
 use Rattle.std.specs.List.{AllByRecursion as Every}
+use Rattle.std.proofs.lemmas.List.{append-nil}
 use Rattle.std.proofs.lemmas.List.Sums.{fold-append}
 use Rattle.qc_list.specs.Members.{In}
 use Rattle.qc_stamp.specs.declared.stamp.Stamp.{Stamp}
@@ -26,6 +27,7 @@ use Rattle.qc_msg.specs.declared.step.Given.TheVariants as given
 use Rattle.qc_msg.specs.declared.turn.Posting.{Posting}
 use Rattle.qc_msg.specs.declared.turn.Turn.{Turn}
 use Rattle.qc_msg.specs.Calls.{site_called, without_call}
+use Rattle.qc_msg.specs.Counts.{commit_of as commit_of_record}
 use Rattle.qc_msg.specs.Deeds.{Deed, Takes, Writes, Sends, Tells, sends_of, tells_of, turn_deeds, writes_of}
 use Rattle.qc_msg.specs.Turns.{quiet, sending}
 use Rattle.qc_commit.specs.declared.ballot.Ballot.{Ballot}
@@ -123,6 +125,11 @@ prepare-it decl desk b clock = by (length (participants decl desk.client b) == 0
   by true = decides-it desk (desks.passed desk clock) b above refl refl
   by false = inl (record { told = refl; write = refl; commits = refl; clock = above; client = refl; voting = refl })
 
+-- the commit record that a turn writes
+abbrev pub commits_of : Option Record → List Commit
+commits_of None = []
+commits_of (Some written) = option_to_list (commit_of_record written)
+
 -- what is known of a client and a transaction, once this was told
 
 -- the desk waits for votes on the begun transaction alone
@@ -138,34 +145,45 @@ pub record Keeps (k : ℕ) (tx : TxId) (told asked : Dealing) (c : Client) : Typ
   pub asked_for : AskedFor asked.asked c.front.doing
   pub hand : IsInHand c.desk.voting c.front.transaction
 
+-- a client that took an input
+pub record IsAfter (k : ℕ) (tx : TxId) (d : Dealing) (c : Client) (m : ClientMove) : Type 0 where
+  pub keeps : Keeps k tx (told_deal tx d m.turn.told) d m.client
+  pub written : m.client.desk.commits ≡ c.desk.commits ++ commits_of m.turn.write
+
 module _ (decl : Declaration) (k : ℕ) (tx : TxId) (d : Dealing) (c : Client) (w : Keeps k tx d d c) where
   abbrev After : ClientMove → Type 0
-  After m = Keeps k tx (told_deal tx d m.turn.told) d m.client
+  After m = IsAfter k tx d c m
+
+  none_written : (o : Option Record) → o ≡ None → c.desk.commits ≡ c.desk.commits ++ commits_of o
+  none_written o none = subst (λ (o : Option Record). c.desk.commits ≡ c.desk.commits ++ commits_of o) (sym none) (sym (append-nil c.desk.commits))
 
   front-keeps : (m : FrontMove) → c.desk.voting ≡ None → FrontAfter k tx c.desk.clock.value c.desk.commits d m → After (by_front c m)
   front-keeps m free after = record {
-    own = after.own;
-    desk = w.desk;
-    dealing = after.dealing;
-    book = after.book;
-    asked_for = after.asked;
-    hand = subst (λ (o : Option Voting). IsInHand o m.front.transaction) (sym free) tt;
+    keeps = record {
+      own = after.own;
+      desk = w.desk;
+      dealing = after.dealing;
+      book = after.book;
+      asked_for = after.asked;
+      hand = subst (λ (o : Option Voting). IsInHand o m.front.transaction) (sym free) tt;
+    };
+    written = none_written m.turn.write after.write;
   }
 
   -- the desk moves, where its transaction is the begun one
   desk-keeps : (b : Begun) (m : DeskMove) → begun_in c.front.transaction ≡ Some b → IsHandMove c.desk b m → After (by_desk c m)
-  desk-keeps b m is (inl v) = subst (λ (o : Option Reply). Keeps k tx (told_deal tx d o) d (record { front = cond (is_some o) (front_ended c.front m.desk.clock.value m.desk.epoch) c.front; desk = m.desk })) (sym v.told) (record {
+  desk-keeps b m is (inl v) = record { written = v.commits ∙ none_written m.turn.write v.write; keeps = subst (λ (o : Option Reply). Keeps k tx (told_deal tx d o) d (record { front = cond (is_some o) (front_ended c.front m.desk.clock.value m.desk.epoch) c.front; desk = m.desk })) (sym v.told) (record {
     own = w.own;
     desk = v.client ∙ w.desk;
     dealing = subst (λ (cs : List Commit). IsDealing tx d (book_with c.front cs)) (sym v.commits) w.dealing;
     book = subst (λ (cs : List Commit). IsBook m.desk.clock.value (book_with c.front cs)) (sym v.commits) (later_book c.desk.clock.value m.desk.clock.value (book_of c) v.clock w.book);
     asked_for = w.asked_for;
     hand = in_hand m.desk.voting v.voting;
-  }) where
+  }) } where
     in_hand : (o : Option Voting) → Holds o b → IsInHand o c.front.transaction
     in_hand None h = tt
     in_hand (Some x) h = is ∙ sym h
-  desk-keeps b m is (inr (inl r)) = subst (λ (o : Option Reply). Keeps k tx (told_deal tx d o) d (record { front = cond (is_some o) (front_ended c.front m.desk.clock.value m.desk.epoch) c.front; desk = m.desk })) (sym (ap (λ (t : Turn). t.told) r.turn)) (record {
+  desk-keeps b m is (inr (inl r)) = record { written = r.commits ∙ ap (λ (t : Turn). c.desk.commits ++ commits_of t.write) (sym r.turn); keeps = subst (λ (o : Option Reply). Keeps k tx (told_deal tx d o) d (record { front = cond (is_some o) (front_ended c.front m.desk.clock.value m.desk.epoch) c.front; desk = m.desk })) (sym (ap (λ (t : Turn). t.told) r.turn)) (record {
     own = w.own;
     desk = r.client ∙ w.desk;
     dealing = subst (λ (cs : List Commit). IsDealing tx (ended tx d (replies.Committed r.stamp)) (book_with (front_ended c.front m.desk.clock.value m.desk.epoch) cs)) (sym r.commits)
@@ -175,8 +193,8 @@ module _ (decl : Declaration) (k : ℕ) (tx : TxId) (d : Dealing) (c : Client) (
         (committed_book c.desk.clock.value (book_of c) b (commit_of r.stamp b) is refl r.clock (r.stamped ∙ w.desk ∙ sym w.own) w.book));
     asked_for = tt;
     hand = subst (λ (o : Option Voting). IsInHand o None) (sym r.voting) tt;
-  })
-  desk-keeps b m is (inr (inr a)) = subst (λ (o : Option Reply). Keeps k tx (told_deal tx d o) d (record { front = cond (is_some o) (front_ended c.front m.desk.clock.value m.desk.epoch) c.front; desk = m.desk })) (sym (ap (λ (t : Turn). t.told) a.turn)) (record {
+  }) }
+  desk-keeps b m is (inr (inr a)) = record { written = a.commits ∙ none_written m.turn.write (ap (λ (t : Turn). t.write) a.turn); keeps = subst (λ (o : Option Reply). Keeps k tx (told_deal tx d o) d (record { front = cond (is_some o) (front_ended c.front m.desk.clock.value m.desk.epoch) c.front; desk = m.desk })) (sym (ap (λ (t : Turn). t.told) a.turn)) (record {
     own = w.own;
     desk = a.client ∙ w.desk;
     dealing = subst (λ (cs : List Commit). IsDealing tx (ended tx d (replies.Aborted a.why)) (book_with (front_ended c.front m.desk.clock.value m.desk.epoch) cs)) (sym a.commits)
@@ -185,7 +203,7 @@ module _ (decl : Declaration) (k : ℕ) (tx : TxId) (d : Dealing) (c : Client) (
         (later_book c.desk.clock.value m.desk.clock.value (book_with (front_ended c.front m.desk.clock.value m.desk.epoch) c.desk.commits) a.clock (free_book c.desk.clock.value (book_of c) w.book));
     asked_for = tt;
     hand = subst (λ (o : Option Voting). IsInHand o None) (sym a.voting) tt;
-  })
+  }) }
 
   -- a command, which is the last one, where nothing runs
   fronted : (command : Command) → IsFree c → d.asked ≡ Some command → After (by_front c (fronts.called decl c.front command))
@@ -215,27 +233,33 @@ module _ (decl : Declaration) (k : ℕ) (tx : TxId) (d : Dealing) (c : Client) (
         (takes-after k tx c.desk.clock.value c.desk.commits d decl c.front number answer w.own w.book w.dealing w.asked_for)
     by (Some v) is hand = desk-keeps v.begun (desks.vote c.desk number answer) hand (vote-it c.desk v number answer is)
 
+  silent : (turn : Turn) → turn.told ≡ None → turn.write ≡ None → After (moved c turn)
+  silent turn quiet unwritten = record { keeps = subst (λ (o : Option Reply). Keeps k tx (told_deal tx d o) d c) (sym quiet) w; written = none_written turn.write unwritten }
+
   pub hears-keep : (from number : ℕ) (message : Message) → After (heard decl c from number message)
-  hears-keep from number (messages.Request other epoch life want) = w
+  hears-keep from number (messages.Request other epoch life want) = silent (heard decl c from number (messages.Request other epoch life want)).turn refl refl
   hears-keep from number (messages.Answer to answer) = comes-keep to (Some answer)
-  hears-keep from number (messages.Decision other verdict) = w
-  hears-keep from number (messages.Inquiry other) = w
-  hears-keep from number (messages.Ask other) = w
-  hears-keep from number (messages.Close epoch) = w
-  hears-keep from number (messages.Install epoch clock log) = w
+  hears-keep from number (messages.Decision other verdict) = silent (heard decl c from number (messages.Decision other verdict)).turn refl refl
+  hears-keep from number (messages.Inquiry other) = silent (heard decl c from number (messages.Inquiry other)).turn refl refl
+  hears-keep from number (messages.Ask other) = silent (heard decl c from number (messages.Ask other)).turn refl refl
+  hears-keep from number (messages.Close epoch) = silent (heard decl c from number (messages.Close epoch)).turn refl refl
+  hears-keep from number (messages.Install epoch clock log) = silent (heard decl c from number (messages.Install epoch clock log)).turn refl refl
 
 -- one input
-pub input-keeps : (decl : Declaration) (k : ℕ) (tx : TxId) (d : Dealing) (c : Client) (g : Given) → Keeps k tx d d c → IsReady c g → Keeps k tx (told_deal tx (deal_taken d g) (client_takes decl c g).turn.told) (deal_taken d g) (client_takes decl c g).client
-input-keeps decl k tx d c (given.Called command) w free =
-    let now : Keeps k tx (record d { asked = Some command }) (record d { asked = Some command }) c = record {
-      own = w.own;
-      desk = w.desk;
-      dealing = as_asked tx d (book_of c) (Some command) w.dealing;
-      book = w.book;
-      asked_for = subst (AskedFor (Some command)) (sym free.doing) tt;
-      hand = w.hand;
-    } in
-    calls-keep decl k tx (record d { asked = Some command }) c now command free refl
+pub taken-keeps : (k : ℕ) (tx : TxId) (d : Dealing) (c : Client) (g : Given) → Keeps k tx d d c → IsReady c g → Keeps k tx (deal_taken d g) (deal_taken d g) c
+taken-keeps k tx d c (given.Called command) w free = record {
+  own = w.own;
+  desk = w.desk;
+  dealing = as_asked tx d (book_of c) (Some command) w.dealing;
+  book = w.book;
+  asked_for = subst (AskedFor (Some command)) (sym free.doing) tt;
+  hand = w.hand;
+}
+taken-keeps k tx d c (given.Got e) w ready = w
+taken-keeps k tx d c (given.Lost number) w ready = w
+
+pub input-keeps : (decl : Declaration) (k : ℕ) (tx : TxId) (d : Dealing) (c : Client) (g : Given) → Keeps k tx d d c → IsReady c g → IsAfter k tx (deal_taken d g) c (client_takes decl c g)
+input-keeps decl k tx d c (given.Called command) w free = calls-keep decl k tx (record d { asked = Some command }) c (taken-keeps k tx d c (given.Called command) w free) command free refl
 input-keeps decl k tx d c (given.Got e) w ready = hears-keep decl k tx d c w e.from e.number e.message
 input-keeps decl k tx d c (given.Lost number) w ready = comes-keep decl k tx d c w number None
 

@@ -55,6 +55,7 @@ told_deal tx d (Some reply) = deal_told tx d reply
 -- after a move's reply
 pub record FrontAfter (k : ℕ) (tx : TxId) (clock : ℕ) (commits : List Commit) (d : Dealing) (m : FrontMove) : Type 0 where
   pub own : m.front.client ≡ k
+  pub write : m.turn.write ≡ None
   pub dealing : IsDealing tx (told_deal tx d m.turn.told) (book_with m.front commits)
   pub book : IsBook clock (book_with m.front commits)
   pub asked : AskedFor d.asked m.front.doing
@@ -73,10 +74,11 @@ module _ (k : ℕ) (tx : TxId) (clock : ℕ) (records : List Commit) (d : Dealin
     dealing : IsDealing tx d (book_with front records)
 
   -- it goes on, and no operation is told
-  goes : (front : Front) (b : Begun) (t : Transaction) (doing : Doing) (turn : Turn) → Stands front b → IsLike t b → told_deal tx d turn.told ≡ d → AskedFor d.asked doing
+  goes : (front : Front) (b : Begun) (t : Transaction) (doing : Doing) (turn : Turn) → Stands front b → IsLike t b → told_deal tx d turn.told ≡ d → turn.write ≡ None → AskedFor d.asked doing
       → FrontAfter k tx clock records d (moved (turned front (Some t) doing) turn)
-  goes front b t doing turn s like neutral asked = record {
+  goes front b t doing turn s like neutral unwritten asked = record {
     own = s.own;
+    write = unwritten;
     dealing = subst (λ (e : Dealing). IsDealing tx e (book_with (turned front (Some t) doing) records)) (sym neutral) (as_begun tx d (book_with front records) b t.begun s.is like.tx like.ops s.dealing);
     book = begun_book clock (book_with front records) b t.begun s.is like.tx s.book;
     asked = asked;
@@ -84,9 +86,10 @@ module _ (k : ℕ) (tx : TxId) (clock : ℕ) (records : List Commit) (d : Dealin
 
   -- an operation is told
   answers_do : (front : Front) (b : Begun) (t : Transaction) (object inv : ℕ) (resp : Option ℕ) (turn : Turn) → Stands front b → d.asked ≡ Some (commands.Do object inv) → t.begun.tx ≡ b.tx
-      → t.begun.ops ≡ b.ops ++ op_of object inv resp ∷ [] → told_deal tx d turn.told ≡ dealt tx d resp → FrontAfter k tx clock records d (moved (turned front (Some t) Idle) turn)
-  answers_do front b t object inv resp turn s asked same ops told = record {
+      → t.begun.ops ≡ b.ops ++ op_of object inv resp ∷ [] → told_deal tx d turn.told ≡ dealt tx d resp → turn.write ≡ None → FrontAfter k tx clock records d (moved (turned front (Some t) Idle) turn)
+  answers_do front b t object inv resp turn s asked same ops told unwritten = record {
     own = s.own;
+    write = unwritten;
     dealing = subst (λ (e : Dealing). IsDealing tx e (book_with (turned front (Some t) Idle) records)) (sym told)
         (told_op clock tx d (book_with front records) b s.is s.book s.dealing t.begun object inv resp asked same ops);
     book = begun_book clock (book_with front records) b t.begun s.is same s.book;
@@ -100,32 +103,32 @@ module _ (k : ℕ) (tx : TxId) (clock : ℕ) (records : List Commit) (d : Dealin
 
     append_by-after : (t : Transaction) (object inv event : ℕ) (calls : List Call) (r : RoundState) (v : Verdict) → IsLike t b → d.asked ≡ Some (commands.Do object inv)
         → FrontAfter k tx clock records d (append_by decl front t object inv event calls r v)
-    append_by-after t object inv event calls r verdicts.Waiting like asked = goes front b _ _ _ s (record { tx = like.tx; ops = like.ops }) refl asked
+    append_by-after t object inv event calls r verdicts.Waiting like asked = goes front b _ _ _ s (record { tx = like.tx; ops = like.ops }) refl refl asked
     append_by-after t object inv event calls r verdicts.Met like asked =
         answers_do front b (with_event t object inv event (resp_of decl object event)) object inv (Some (resp_of decl object event)) (telling (replies.Response (resp_of decl object event))) s asked
         (ap (λ (x : Begun). x.tx) (event_begun t object inv event (resp_of decl object event)) ∙ like.tx)
-        (ap (λ (x : Begun). x.ops) (event_begun t object inv event (resp_of decl object event)) ∙ ap (λ (ops : List Op). ops ++ op_of object inv (Some (resp_of decl object event)) ∷ []) like.ops) refl
-    append_by-after t object inv event calls r (verdicts.Closed epoch site) like asked = goes front b (record t { begun = record t.begun { doomed = true } }) Idle (telling (replies.Closed epoch site)) s (record { tx = like.tx; ops = like.ops }) refl tt
-    append_by-after t object inv event calls r (verdicts.Clash other site) like asked = goes front b (record t { begun = record t.begun { doomed = true } }) Idle (telling (replies.Conflict other site)) s (record { tx = like.tx; ops = like.ops }) refl tt
-    append_by-after t object inv event calls r (verdicts.Short got need) like asked = goes front b (record t { begun = record t.begun { doomed = true } }) Idle (telling (replies.Quorum halves.Append got need)) s (record { tx = like.tx; ops = like.ops }) refl tt
+        (ap (λ (x : Begun). x.ops) (event_begun t object inv event (resp_of decl object event)) ∙ ap (λ (ops : List Op). ops ++ op_of object inv (Some (resp_of decl object event)) ∷ []) like.ops) refl refl
+    append_by-after t object inv event calls r (verdicts.Closed epoch site) like asked = goes front b (record t { begun = record t.begun { doomed = true } }) Idle (telling (replies.Closed epoch site)) s (record { tx = like.tx; ops = like.ops }) refl refl tt
+    append_by-after t object inv event calls r (verdicts.Clash other site) like asked = goes front b (record t { begun = record t.begun { doomed = true } }) Idle (telling (replies.Conflict other site)) s (record { tx = like.tx; ops = like.ops }) refl refl tt
+    append_by-after t object inv event calls r (verdicts.Short got need) like asked = goes front b (record t { begun = record t.begun { doomed = true } }) Idle (telling (replies.Quorum halves.Append got need)) s (record { tx = like.tx; ops = like.ops }) refl refl tt
 
     answered-after : (t : Transaction) (object inv : ℕ) (event : Option ℕ) → IsLike t b → d.asked ≡ Some (commands.Do object inv) → FrontAfter k tx clock records d (answered decl front t object inv event)
     answered-after t object inv None like asked =
-        answers_do front b _ object inv None (telling replies.Absent) s asked like.tx (ap (λ (ops : List Op). ops ++ op_of object inv None ∷ []) like.ops) refl
+        answers_do front b _ object inv None (telling replies.Absent) s asked like.tx (ap (λ (ops : List Op). ops ++ op_of object inv None ∷ []) like.ops) refl refl
     answered-after t object inv (Some event) like asked =
         append_by-after t object inv event [] (round_for decl front t (append_need_of decl t.begun.epoch object event)) (verdict (round_for decl front t (append_need_of decl t.begun.epoch object event))) like asked
 
     read_by-after : (t : Transaction) (object inv : ℕ) (calls : List Call) (r : RoundState) (v : Verdict) → IsLike t b → d.asked ≡ Some (commands.Do object inv) → FrontAfter k tx clock records d (read_by decl front t object inv calls r v)
-    read_by-after t object inv calls r verdicts.Waiting like asked = goes front b _ _ _ s (record { tx = like.tx; ops = like.ops }) refl asked
+    read_by-after t object inv calls r verdicts.Waiting like asked = goes front b _ _ _ s (record { tx = like.tx; ops = like.ops }) refl refl asked
     read_by-after t object inv calls r verdicts.Met like asked = answered-after t object inv (answer_of decl t object inv) like asked
-    read_by-after t object inv calls r (verdicts.Closed epoch site) like asked = goes front b t Idle (telling (replies.Closed epoch site)) s like refl tt
-    read_by-after t object inv calls r (verdicts.Clash other site) like asked = goes front b t Idle (telling (replies.Conflict other site)) s like refl tt
-    read_by-after t object inv calls r (verdicts.Short got need) like asked = goes front b t Idle (telling (replies.Quorum halves.Read got need)) s like refl tt
+    read_by-after t object inv calls r (verdicts.Closed epoch site) like asked = goes front b t Idle (telling (replies.Closed epoch site)) s like refl refl tt
+    read_by-after t object inv calls r (verdicts.Clash other site) like asked = goes front b t Idle (telling (replies.Conflict other site)) s like refl refl tt
+    read_by-after t object inv calls r (verdicts.Short got need) like asked = goes front b t Idle (telling (replies.Quorum halves.Read got need)) s like refl refl tt
 
   module _ (decl : Declaration) (front : Front) (own : front.client ≡ k) (book : IsBook clock (book_with front records)) (w : IsDealing tx d (book_with front records)) where
     -- nothing is done, or what is told ends nothing
-    still : (turn : Turn) → told_deal tx d turn.told ≡ d → AskedFor d.asked front.doing → FrontAfter k tx clock records d (moved front turn)
-    still turn neutral asked = record { own = own; dealing = subst (λ (e : Dealing). IsDealing tx e (book_with front records)) (sym neutral) w; book = book; asked = asked }
+    still : (turn : Turn) → told_deal tx d turn.told ≡ d → turn.write ≡ None → AskedFor d.asked front.doing → FrontAfter k tx clock records d (moved front turn)
+    still turn neutral unwritten asked = record { own = own; write = unwritten; dealing = subst (λ (e : Dealing). IsDealing tx e (book_with front records)) (sym neutral) w; book = book; asked = asked }
 
     stands : (t : Transaction) → front.transaction ≡ Some t → Stands front t.begun
     stands t is = record { own = own; is = ap begun_in is; book = book; dealing = w }
@@ -136,38 +139,40 @@ module _ (k : ℕ) (tx : TxId) (clock : ℕ) (records : List Commit) (d : Dealin
     gives-after : (t : Transaction) (reply : Reply) → front.transaction ≡ Some t → deal_told tx d reply ≡ ended tx d reply → ((stamp : Stamp) → replies.Committed stamp ≡ reply → ⊥) → FrontAfter k tx clock records d (gives_up front t reply)
     gives-after t reply is ends no_commit = record {
       own = own;
+      write = refl;
       dealing = subst (λ (e : Dealing). IsDealing tx e (book_with (turned front None Idle) records)) (sym ends) (gave_up clock tx d (book_with front records) t.begun (ap begun_in is) book w reply no_commit);
       book = free_book clock (book_with front records) book;
       asked = tt;
     }
 
     performs-after : (o : Option Transaction) (object inv : ℕ) → front.transaction ≡ o → AskedFor d.asked front.doing → d.asked ≡ Some (commands.Do object inv) → FrontAfter k tx clock records d (performs decl front o object inv)
-    performs-after None object inv is rests asked = still (telling replies.NoTransaction) refl rests
+    performs-after None object inv is rests asked = still (telling replies.NoTransaction) refl refl rests
     performs-after (Some t) object inv is rests asked = by t.begun.doomed (nat_le most_transaction_operations (length t.begun.ops)) where
       by : (doomed long : Bool) → FrontAfter k tx clock records d (cond doomed (moved front (telling replies.Doomed)) (cond long (moved front (telling replies.TooLong)) (reads decl front t object inv [] (round_for decl front t (read_need_of decl t.begun.epoch object inv)))))
-      by true long = still (telling replies.Doomed) refl rests
-      by false true = still (telling replies.TooLong) refl rests
+      by true long = still (telling replies.Doomed) refl refl rests
+      by false true = still (telling replies.TooLong) refl refl rests
       by false false =
           read_by-after decl front t.begun (stands t is) t object inv [] (round_for decl front t (read_need_of decl t.begun.epoch object inv)) (verdict (round_for decl front t (read_need_of decl t.begun.epoch object inv))) (itself t) asked
 
     begins-after : (o : Option Transaction) → front.transaction ≡ o → AskedFor d.asked front.doing → FrontAfter k tx clock records d (begins decl front o)
-    begins-after (Some t) is rests = still (telling (replies.Already t.begun.tx)) refl rests
+    begins-after (Some t) is rests = still (telling (replies.Already t.begun.tx)) refl refl rests
     begins-after None is rests = record {
       own = own;
+      write = refl;
       dealing = began_one clock tx d (book_with front records) (fresh decl (next_tx front) front.epoch).begun (ap begun_in is) book refl refl w;
       book = began_book clock (book_with front records) (fresh decl (next_tx front) front.epoch).begun book refl;
       asked = rests;
     }
 
     commits-after : (o : Option Transaction) → front.transaction ≡ o → AskedFor d.asked front.doing → FrontAfter k tx clock records d (commits front o)
-    commits-after None is rests = still (telling replies.NoTransaction) refl rests
+    commits-after None is rests = still (telling replies.NoTransaction) refl refl rests
     commits-after (Some t) is rests = by t.begun.doomed where
       by : (doomed : Bool) → FrontAfter k tx clock records d (cond doomed (gives_up front t (replies.Aborted causes.Doomed)) (moved front quiet))
       by true = gives-after t (replies.Aborted causes.Doomed) is refl (λ stamp e. (let never : ⊥ = cc in never))
-      by false = still quiet refl rests
+      by false = still quiet refl refl rests
 
     aborts-after : (o : Option Transaction) → front.transaction ≡ o → AskedFor d.asked front.doing → FrontAfter k tx clock records d (aborts front o)
-    aborts-after None is rests = still (telling replies.NoTransaction) refl rests
+    aborts-after None is rests = still (telling replies.NoTransaction) refl refl rests
     aborts-after (Some t) is rests = gives-after t replies.Dropped is refl (λ stamp e. (let never : ⊥ = cc in never))
 
     -- a command, which is now the last one, where nothing is waited for
@@ -176,7 +181,7 @@ module _ (k : ℕ) (tx : TxId) (clock : ℕ) (records : List Commit) (d : Dealin
     called-after (commands.Do object inv) rests asked = performs-after front.transaction object inv refl rests asked
     called-after commands.Commit rests asked = commits-after front.transaction refl rests
     called-after commands.Abort rests asked = aborts-after front.transaction refl rests
-    called-after (commands.Epoch number) rests asked = still quiet refl rests
+    called-after (commands.Epoch number) rests asked = still quiet refl refl rests
 
   -- what comes of a request
 
@@ -225,17 +230,17 @@ module _ (k : ℕ) (tx : TxId) (clock : ℕ) (records : List Commit) (d : Dealin
 
   takes_in-after : (decl : Declaration) (front : Front) (doing : Doing) (o : Option Transaction) (number : ℕ) (answer : Option Answer) → front.transaction ≡ o → front.doing ≡ doing → front.client ≡ k → IsBook clock (book_with front records)
       → IsDealing tx d (book_with front records) → AskedFor d.asked doing → FrontAfter k tx clock records d (takes_in decl front doing o number answer)
-  takes_in-after decl front doing None number answer is does own book w asked = still decl front own book w quiet refl (subst (AskedFor d.asked) (sym does) asked)
-  takes_in-after decl front Idle (Some t) number answer is does own book w asked = still decl front own book w quiet refl (subst (AskedFor d.asked) (sym does) asked)
+  takes_in-after decl front doing None number answer is does own book w asked = still decl front own book w quiet refl refl (subst (AskedFor d.asked) (sym does) asked)
+  takes_in-after decl front Idle (Some t) number answer is does own book w asked = still decl front own book w quiet refl refl (subst (AskedFor d.asked) (sym does) asked)
   takes_in-after decl front (Reading object inv calls round) (Some t) number answer is does own book w asked = by (site_called calls number) where
     by : (s : Option ℕ) → FrontAfter k tx clock records d (reading_takes decl front t object inv calls round number answer s)
-    by None = still decl front own book w quiet refl (subst (AskedFor d.asked) (sym does) asked)
+    by None = still decl front own book w quiet refl refl (subst (AskedFor d.asked) (sym does) asked)
     by (Some site) =
         read_by-after decl (learns front answer) t.begun (learned front answer t.begun (stands decl front own book w t is)) (read_with t site object answer) object inv (without_call calls number) (note round site (standing_of answer)) (verdict (note round site (standing_of answer)))
         (read_like t site object answer) asked
   takes_in-after decl front (Appending object inv event calls round) (Some t) number answer is does own book w asked = by (site_called calls number) where
     by : (s : Option ℕ) → FrontAfter k tx clock records d (appending_takes decl front t object inv event calls round number answer s)
-    by None = still decl front own book w quiet refl (subst (AskedFor d.asked) (sym does) asked)
+    by None = still decl front own book w quiet refl refl (subst (AskedFor d.asked) (sym does) asked)
     by (Some site) =
         append_by-after decl (learns front answer) t.begun (learned front answer t.begun (stands decl front own book w t is)) (appended_with t site answer) object inv event (without_call calls number) (note round site (standing_of answer)) (verdict (note round site (standing_of answer)))
         (appended_like t site answer) asked

@@ -11,3 +11,6 @@ pub mod Needs
 pub mod Dealing
 pub mod DealtFronts
 pub mod DealtClients
+pub mod WrittenDeeds
+pub mod InRuns
+pub mod RecordLaws

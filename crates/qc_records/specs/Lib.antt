@@ -7,3 +7,4 @@ pub mod Deals
 pub mod Status
 pub mod Told
 pub mod Books
+pub mod Written

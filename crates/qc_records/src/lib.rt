@@ -1,7 +1,17 @@
 //! Laws of every run: clocks and counts are bounded, and what becomes of
 //! transactions.
+//!
+//! 1. Every clock and count is at most the number of steps
+//!    (`clocks_and_counts_are_bounded`, `clients_calls_are_bounded`).
+//! 2. No two commit records have one stamp or one transaction
+//!    (`records_are_apart`).
+//! 3. A record's operations are those that its client was told
+//!    (`records_are_what_was_told`), and the ends that clients were told agree
+//!    with the records (`clients_are_told`).
 #![tactic(auto)]
 
 mod bounds;
+mod records;
 
 pub use bounds::{clients_calls_are_bounded, clocks_and_counts_are_bounded};
+pub use records::{clients_are_told, records_are_apart, records_are_what_was_told};
