@@ -24,7 +24,7 @@ use Rattle.qc_core.specs.Conduct.{IsLawful}
 use Rattle.qc_site.specs.Conduct.{site_after, site_does, site_takes}
 use Rattle.qc_site.specs.Site.{SiteMove, moved as site_moved, new_site}
 use Rattle.qc_records.specs.Bounds.{IsBounded}
-use Rattle.qc_records.specs.Events.{Events, IsControl, begins, controls, posts, takes}
+use Rattle.qc_records.proofs.Events.{Events, IsControl, begins, controls, posts, takes}
 use Rattle.qc_records.specs.Within.{ClientMoveWithin, GivenWithin, MailWithin, MessageWithin, SendsWithin, SiteMoveWithin}
 use Rattle.qc_records.proofs.ClientsWithin.{IsPost, all_posts-within, client_move-le, client_takes_within}
 use Rattle.qc_records.proofs.Greater.{mail_le}

@@ -35,8 +35,8 @@ use Rattle.qc_laws.proofs.Numbered.{IsSilent, control_silent, phase_silent}
 use Rattle.qc_laws.proofs.Places.{slice_get-set_other, slice_get-set_same}
 use Rattle.qc_records.specs.Books.{book_of}
 use Rattle.qc_records.specs.Deals.{Dealing, deal, deal_taken, dealing_in, no_dealing}
-use Rattle.qc_records.specs.Events.{Events, IsControl}
-use Rattle.qc_records.specs.Events as events
+use Rattle.qc_records.proofs.Events.{Events, IsControl}
+use Rattle.qc_records.proofs.Events as events
 use Rattle.qc_records.specs.Written.{written_in, written_by}
 use Rattle.qc_records.proofs.Bounding.{lawful_turn, turn-posts}
 use Rattle.qc_records.proofs.Dealing.{IsBook}

@@ -1,3 +1,4 @@
+pub mod Events
 pub mod Greater
 pub mod SitesWithin
 pub mod DesksWithin
@@ -7,10 +8,10 @@ pub mod Bounding
 pub mod Asked
 pub mod DesksShort
 pub mod Short
-pub mod Needs
 pub mod Dealing
 pub mod DealtFronts
 pub mod DealtClients
 pub mod WrittenDeeds
 pub mod InRuns
 pub mod RecordLaws
+pub mod Needs

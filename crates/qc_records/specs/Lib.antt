@@ -1,5 +1,4 @@
 pub mod Within
-pub mod Events
 pub mod Bounds
 pub mod Asked
 pub mod Committed

@@ -2,7 +2,8 @@
 //! transactions.
 //!
 //! 1. Every clock and count is at most the number of steps
-//!    (`clocks_and_counts_are_bounded`, `clients_calls_are_bounded`).
+//!    (`clocks_and_counts_are_bounded`), so a client's calls may be made
+//!    (`clients_calls_may_be_made`), and turns are short (`turns_are_short`).
 //! 2. No two commit records have one stamp or one transaction
 //!    (`records_are_apart`).
 //! 3. A record's operations are those that its client was told
@@ -13,5 +14,5 @@
 mod bounds;
 mod records;
 
-pub use bounds::{clients_calls_are_bounded, clocks_and_counts_are_bounded};
+pub use bounds::{clients_calls_may_be_made, clocks_and_counts_are_bounded, turns_are_short};
 pub use records::{clients_are_told, records_are_apart, records_are_what_was_told};
