@@ -15,3 +15,4 @@ pub mod WrittenDeeds
 pub mod InRuns
 pub mod RecordLaws
 pub mod Needs
+pub mod FrontKinds
