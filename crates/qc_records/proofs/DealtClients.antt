@@ -52,6 +52,7 @@ use Rattle.qc_records.specs.Books.{Book, begun_in, book_of, book_with}
 use Rattle.qc_records.specs.Deals.{Dealing, deal, deal_taken, deal_told, dealing_in, ended, no_dealing}
 use Rattle.qc_records.proofs.ClientsWithin.{IsPost}
 use Rattle.qc_records.proofs.Dealing.{IsBook, IsDealing, as_asked, committed_book, committed_one, free_book, gave_up, later_book}
+use Rattle.qc_records.proofs.FrontKinds.{IsRequestFor}
 use Rattle.qc_records.proofs.DealtFronts.{AskedFor, FrontAfter, called-after, takes-after, told_deal}
 
 -- what a desk's move does with the transaction that it has in hand
@@ -63,6 +64,7 @@ Holds voting b = option_map (λ (v : Voting). v.begun) voting ≡ Some b
 pub record WaitsOn (desk : Desk) (b : Begun) (m : DeskMove) : Type 0 where
   pub told : m.turn.told ≡ None
   pub write : m.turn.write ≡ None
+  pub sends : Every (λ (p : Posting). IsRequestFor (Some b.tx) p.message) m.turn.sends
   pub commits : m.desk.commits ≡ desk.commits
   pub clock : desk.clock.value ≤ m.desk.clock.value
   pub client : m.desk.client ≡ desk.client
@@ -110,20 +112,24 @@ vote-it desk v number answer is = subst (λ (o : Option Voting). IsHandMove desk
   by : (site : ℕ) (t : Bool) → IsHandMove desk v.begun (cond t (desks.counted_out (desks.learns desk answer) v.begun (first_against (cast v.ballots site (vote_of v.begun site answer))))
       (desk_moved (record (desks.learns desk answer) { voting = Some (record { begun = v.begun; calls = without_call v.calls number; ballots = cast v.ballots site (vote_of v.begun site answer) }) }) quiet))
   by site true = out-it desk answer v.begun (first_against (cast v.ballots site (vote_of v.begun site answer)))
-  by site false = inl (record { told = refl; write = refl; commits = learned-commits desk answer; clock = learned-above desk answer; client = learned-client desk answer; voting = refl })
+  by site false = inl (record { told = refl; write = refl; sends = tt; commits = learned-commits desk answer; clock = learned-above desk answer; client = learned-client desk answer; voting = refl })
 
   at : (o : Option ℕ) → IsHandMove desk v.begun (desks.votes_at desk v number answer o)
-  at None = inl (record { told = refl; write = refl; commits = refl; clock = omega arith; client = refl; voting = ap (λ (o : Option Voting). option_map (λ (w : Voting). w.begun) o) is })
+  at None = inl (record { told = refl; write = refl; sends = tt; commits = refl; clock = omega arith; client = refl; voting = ap (λ (o : Option Voting). option_map (λ (w : Voting). w.begun) o) is })
   at (Some site) = by site (are_cast (cast v.ballots site (vote_of v.begun site answer)))
 
 pub prepare-it : (decl : Declaration) (desk : Desk) (b : Begun) (clock : ℕ) → IsHandMove desk b (desks.prepare decl desk b clock)
 prepare-it decl desk b clock = by (length (participants decl desk.client b) == 0) where
+  asked_for : (sites : List ℕ) → Every (λ (p : Posting). IsRequestFor (Some b.tx) p.message) (map (prepares b) sites)
+  asked_for [] = tt
+  asked_for (site ∷ sites) = (refl, asked_for sites)
+
   above : desk.clock.value ≤ (desks.passed desk clock).clock.value
   above = omega arith
 
   by : (t : Bool) → IsHandMove desk b (cond t (desks.decides (desks.passed desk clock) b) (desk_moved (record (desks.passed desk clock) { voting = Some (record { begun = b; calls = []; ballots = blank (participants decl desk.client b) }) }) (sending (map (prepares b) (participants decl desk.client b)))))
   by true = decides-it desk (desks.passed desk clock) b above refl refl
-  by false = inl (record { told = refl; write = refl; commits = refl; clock = above; client = refl; voting = refl })
+  by false = inl (record { told = refl; write = refl; sends = asked_for (participants decl desk.client b); commits = refl; clock = above; client = refl; voting = refl })
 
 -- the commit record that a turn writes
 abbrev pub commits_of : Option Record → List Commit

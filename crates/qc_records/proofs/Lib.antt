@@ -9,10 +9,11 @@ pub mod Asked
 pub mod DesksShort
 pub mod Short
 pub mod Dealing
+pub mod FrontKinds
 pub mod DealtFronts
 pub mod DealtClients
 pub mod WrittenDeeds
 pub mod InRuns
 pub mod RecordLaws
 pub mod Needs
-pub mod FrontKinds
+pub mod Statuses
