@@ -123,15 +123,15 @@ module _ (decl : Declaration) (accepted : IsAccepted decl) (a : ℕ) (no_site : 
   abbrev k : ℕ
   k = a - decl.sites
 
-  record IsTaken (ds : List Deed) : Type 0 where
-    kept : IsKept (a - decl.sites) tx ds
-    after : IsAfter (a - decl.sites) tx (dealing_in ds tx) kept.client (client_after decl (a - decl.sites) ds)
+  pub record IsTaken (ds : List Deed) : Type 0 where
+    pub kept : IsKept (a - decl.sites) tx ds
+    pub after : IsAfter (a - decl.sites) tx (dealing_in ds tx) kept.client (client_after decl (a - decl.sites) ds)
 
-  record IsResting (ds : List Deed) : Type 0 where
-    keeps : Keeps (a - decl.sites) tx (dealing_in ds tx) (dealing_in ds tx) (client_after decl (a - decl.sites) ds).client
-    written : (client_after decl (a - decl.sites) ds).client.desk.commits ≡ written_in ds
+  pub record IsResting (ds : List Deed) : Type 0 where
+    pub keeps : Keeps (a - decl.sites) tx (dealing_in ds tx) (dealing_in ds tx) (client_after decl (a - decl.sites) ds).client
+    pub written : (client_after decl (a - decl.sites) ds).client.desk.commits ≡ written_in ds
 
-  abbrev KeptBy : List Deed → Bool → Type 0
+  abbrev pub KeptBy : List Deed → Bool → Type 0
   KeptBy ds true = IsTaken ds
   KeptBy ds false = IsResting ds
 
@@ -140,7 +140,7 @@ module _ (decl : Declaration) (accepted : IsAccepted decl) (a : ℕ) (no_site : 
   ready_for before (given.Got e) c stands may = tt
   ready_for before (given.Lost number) c stands may = tt
 
-  deals_acts : (ds : List Deed) (b : Bool) (n : ℕ) → Acts decl a ds b n → KeptBy ds b
+  pub deals_acts : (ds : List Deed) (b : Bool) (n : ℕ) → Acts decl a ds b n → KeptBy ds b
   deals_acts ds b n acts.starts = record {
     keeps = record {
       own = refl;

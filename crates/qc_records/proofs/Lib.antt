@@ -17,3 +17,4 @@ pub mod InRuns
 pub mod RecordLaws
 pub mod Needs
 pub mod Statuses
+pub mod StatusActs
