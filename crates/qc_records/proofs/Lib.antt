@@ -18,3 +18,4 @@ pub mod RecordLaws
 pub mod Needs
 pub mod Statuses
 pub mod StatusActs
+pub mod SitesAsk

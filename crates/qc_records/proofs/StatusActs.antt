@@ -187,7 +187,7 @@ module _ (decl : Declaration) (tx : TxId) (s : Status) (c : Client) (w : IsStatu
       (λ same. let e : x ≡ tx = same_tx_is x tx same in subst (λ (t : TxId). IsExact s (outcome_of c t)) (sym e) (exact (known same)))
 
   answers_right : (from number : ℕ) (x : TxId) → Right (heard decl c from number (messages.Ask x))
-  answers_right from number x = record { right = λ n. (tt, tt); status = λ n. w }
+  answers_right from number x = record { asks = (tt, tt); right = λ n. (tt, tt); status = λ n. w }
 
   hears : (from number : ℕ) (message : Message) → IsKnownIn tx s message → Right (heard decl c from number message)
   hears from number (messages.Request other epoch life want) known = silent quiet refl refl refl

@@ -4,7 +4,7 @@ use Rattle.std.specs.List.{AllByRecursion as Every}
 use Rattle.std.proofs.lemmas.List.{append-nil}
 use Rattle.std.proofs.lemmas.List.Sums.{fold-append}
 use Rattle.qc_list.specs.Members.{In}
-use Rattle.qc_list.proofs.Members.{In-first, In-last, In-more}
+use Rattle.qc_list.proofs.Members.{In-first, In-last, In-more, every-weaker}
 use Rattle.qc_stamp.specs.declared.stamp.Stamp.{Stamp}
 use Rattle.qc_stamp.specs.declared.stamp.TxId.{TxId}
 use Rattle.qc_stamp.specs.Order.{same_tx}
@@ -145,8 +145,35 @@ commits_one tx s p x named w = by (same_tx x.tx tx) refl where
     one c its (inl old) = w.committed c old its
     one c its (inr new) = absurd (let same : x.tx ≡ tx = ap (λ (y : Commit). y.tx) (sym new) ∙ its in let yes : same_tx x.tx tx ≡ true = tx_test x.tx tx same in let no : ⊥ = cc in no)
 
+-- a client asks nobody how a transaction stands
+abbrev pub IsNoInquiry : Message → Type 0
+IsNoInquiry (messages.Request other epoch life want) = Unit {0}
+IsNoInquiry (messages.Answer to answer) = Unit {0}
+IsNoInquiry (messages.Decision other verdict) = Unit {0}
+IsNoInquiry (messages.Inquiry other) = ⊥
+IsNoInquiry (messages.Ask other) = Unit {0}
+IsNoInquiry (messages.Close epoch) = Unit {0}
+IsNoInquiry (messages.Install epoch clock log) = Unit {0}
+
+request_asks : (name : Option TxId) (m : Message) → IsRequestFor name m → IsNoInquiry m
+request_asks name (messages.Request other epoch life want) is = tt
+request_asks name (messages.Answer to answer) never = absurd never
+request_asks name (messages.Decision other verdict) never = absurd never
+request_asks name (messages.Inquiry other) never = absurd never
+request_asks name (messages.Ask other) never = absurd never
+request_asks name (messages.Close epoch) never = absurd never
+request_asks name (messages.Install epoch clock log) never = absurd never
+
+verdicts_ask : (x : TxId) (v : Outcome) (sites : List ℕ) → Every (λ (q : Posting). IsNoInquiry q.message) (map (λ site. record { to = site; message = messages.Decision x v }) sites)
+verdicts_ask x v [] = tt
+verdicts_ask x v (site ∷ sites) = (tt, verdicts_ask x v sites)
+
+abbrev pub NoInquiries : List Posting → Type 0
+NoInquiries ps = Every (λ (q : Posting). IsNoInquiry q.message) ps
+
 -- a turn: its deeds are right, and leave this status
 pub record TurnRight (tx : TxId) (s : Status) (turn : Turn) (p : Page) : Type 0 where
+  pub asks : NoInquiries turn.sends
   pub right : (n : ℕ) → AreRightFrom tx s (turn_deeds n turn)
   pub status : (n : ℕ) → IsStatus tx (fold (status_at tx) s (turn_deeds n turn)) p
 
@@ -228,6 +255,7 @@ module _ (tx : TxId) (s : Status) (name : Option TxId) (live : name ≡ Some tx 
 -- the transaction goes on: its requests, and such a reply
 pub goes_right : (tx : TxId) (s : Status) (turn : Turn) (p : Page) → IsStatus tx s p → turn.write ≡ None → Every (λ (q : Posting). IsRequestFor p.name q.message) turn.sends → ToldNeutral p.name turn.told → TurnRight tx s turn p
 goes_right tx s turn p w unwritten sends told = record {
+  asks = every-weaker (λ (q : Posting). IsRequestFor p.name q.message) (λ (q : Posting). IsNoInquiry q.message) (λ q. request_asks p.name q.message) turn.sends sends;
   right = λ n. subst (AreRightFrom tx s) (sym (turn_is turn None turn.sends turn.told n unwritten refl refl)) (talk_right tx s p.name w.begun n turn.sends turn.told sends told);
   status = λ n. subst (λ (ds : List Deed). IsStatus tx (fold (status_at tx) s ds) p) (sym (turn_is turn None turn.sends turn.told n unwritten refl refl))
   (subst (λ (v : Status). IsStatus tx v p) (sym (talk_same tx s p.name w.begun n turn.sends turn.told sends told)) w);
@@ -310,6 +338,7 @@ module _ (tx x : TxId) (reply : Reply) (abort : IsAbort reply) where
 pub gives_right : (tx : TxId) (s : Status) (turn : Turn) (p : Page) (b : BegunTransaction) (reply : Reply) → IsStatus tx s p → p.name ≡ Some b.tx → IsAbort reply → turn.write ≡ None
     → turn.sends ≡ map (λ site. record { to = site; message = messages.Decision b.tx outcomes.Aborted }) b.asked → turn.told ≡ Some reply → TurnRight tx s turn (record p { name = None })
 gives_right tx s turn p b reply w named abort unwritten sends told = record {
+  asks = subst NoInquiries (sym sends) (verdicts_ask b.tx outcomes.Aborted b.asked);
   right = λ n. subst (AreRightFrom tx s) (sym (turn_is turn None (aborts_of b.tx b.asked) (Some reply) n unwritten sends told))
   (aborts_right tx b.tx reply abort s n b.asked (λ is. inl (w.begun (named ∙ ap (λ (t : TxId). Some t) (same_tx_is b.tx tx is)))));
   status = λ n. subst (λ (ds : List Deed). IsStatus tx (fold (status_at tx) s ds) (record p { name = None })) (sym (turn_is turn None (aborts_of b.tx b.asked) (Some reply) n unwritten sends told))
@@ -320,6 +349,7 @@ gives_right tx s turn p b reply w named abort unwritten sends told = record {
 pub begins_right : (tx : TxId) (s : Status) (turn : Turn) (p : Page) (x : TxId) → IsStatus tx s p → p.name ≡ None → x ≡ record { client = p.client; life = p.life; number = p.count + 1 } → turn.write ≡ None → turn.sends ≡ []
     → turn.told ≡ Some (replies.Began x) → TurnRight tx s turn (record p { count = p.count + 1; name = Some x })
 begins_right tx s turn p x w free named unwritten unsent told = record {
+  asks = subst NoInquiries (sym unsent) tt;
   right = λ n. subst (AreRightFrom tx s) (sym (turn_is turn None [] (Some (replies.Began x)) n unwritten unsent told)) ((λ is. fresh (same_tx_is x tx is)), tt);
   status = λ n. subst (λ (ds : List Deed). IsStatus tx (fold (status_at tx) s ds) (record p { count = p.count + 1; name = Some x })) (sym (turn_is turn None [] (Some (replies.Began x)) n unwritten unsent told)) (began tx s p x free named w);
 } where
@@ -346,6 +376,7 @@ pub commits_right : (tx : TxId) (s : Status) (turn : Turn) (p : Page) (c : Commi
     → turn.sends ≡ map (λ site. record { to = site; message = messages.Decision c.tx (outcomes.Committed c.stamp) }) sites → turn.told ≡ Some (replies.Committed c.stamp)
     → TurnRight tx s turn (record p { commits = p.commits ++ c ∷ []; name = None })
 commits_right tx s turn p c sites w named write sends told = record {
+  asks = subst NoInquiries (sym sends) (verdicts_ask c.tx (outcomes.Committed c.stamp) sites);
   right = λ n. subst (AreRightFrom tx s) (sym (turn_is turn (Some (records.Commit c)) (commits_of c.tx c.stamp sites) (Some (replies.Committed c.stamp)) n write sends told))
   ((λ is. w.begun (named ∙ ap (λ (t : TxId). Some t) (same_tx_is c.tx tx is))), told_right tx c.tx c.stamp (cond (same_tx c.tx tx) (Committed c.stamp) s) n sites (λ is. ap (λ (t : Bool). cond t (Committed c.stamp) s) is));
   status = λ n. subst (λ (ds : List Deed). IsStatus tx (fold (status_at tx) s ds) (record p { commits = p.commits ++ c ∷ []; name = None })) (sym (turn_is turn (Some (records.Commit c)) (commits_of c.tx c.stamp sites) (Some (replies.Committed c.stamp)) n write sends told))
@@ -375,6 +406,7 @@ verdict_same tx s x n to outcomes.Active is = refl
 pub verdict_right : (tx : TxId) (s : Status) (turn : Turn) (p : Page) (x : TxId) (to : ℕ) (verdict : Outcome) → IsStatus tx s p → turn.write ≡ None → turn.sends ≡ record { to = to; message = messages.Decision x verdict } ∷ [] → turn.told ≡ None
     → (same_tx x tx ≡ true → IsExact s verdict) → TurnRight tx s turn p
 verdict_right tx s turn p x to verdict w unwritten sends told is = record {
+  asks = subst NoInquiries (sym sends) (tt, tt);
   right = λ n. subst (AreRightFrom tx s) (sym (turn_is turn None (record { to = to; message = messages.Decision x verdict } ∷ []) None n unwritten sends told)) ((λ same. exact_right s verdict (is same)), tt);
   status = λ n. subst (λ (ds : List Deed). IsStatus tx (fold (status_at tx) s ds) p) (sym (turn_is turn None (record { to = to; message = messages.Decision x verdict } ∷ []) None n unwritten sends told))
   (subst (λ (v : Status). IsStatus tx v p) (sym (verdict_same tx s x n to verdict is)) w);
