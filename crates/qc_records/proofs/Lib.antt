@@ -19,3 +19,4 @@ pub mod Needs
 pub mod Statuses
 pub mod StatusActs
 pub mod SitesAsk
+pub mod Lasting
