@@ -46,7 +46,7 @@ use Rattle.qc_records.proofs.WrittenDeeds.{desk_posts, written-more, written-tur
 
 -- every run goes event by event
 
-silent_is : (a : ℕ) (step : Step) → IsSilent step → IsControl a step
+pub silent_is : (a : ℕ) (step : Step) → IsSilent step → IsControl a step
 silent_is a step silent = record { undone = silent.deeds; unsent = silent.sends a }
 
 pub run_events : (decl : Declaration) (script : Script) (h : List Entry) (open_inputs : List Bool) → Runs (IsLawful decl) decl script h open_inputs → Events decl h
@@ -92,7 +92,7 @@ client_above decl a is = by (nat_le decl.sites a) refl is where
   by true low named = leb-true decl.sites a low
   by false low never = absurd (let no : ⊥ = cc in no)
 
-client_low : (decl : Declaration) (a : ℕ) → is_client decl a ≡ true → a < actors decl
+pub client_low : (decl : Declaration) (a : ℕ) → is_client decl a ≡ true → a < actors decl
 client_low decl a is = by (nat_le decl.sites a) (nat_lt a (actors decl)) refl is where
   by : (s t : Bool) → nat_lt a (actors decl) ≡ t → (s && t) ≡ true → a < actors decl
   by s true low named = ltb-true a (actors decl) low

@@ -20,3 +20,4 @@ pub mod Statuses
 pub mod StatusActs
 pub mod SitesAsk
 pub mod Lasting
+pub mod Moving

@@ -48,7 +48,9 @@ use Rattle.qc_records.proofs.ClientsWithin.{IsPost}
 use Rattle.qc_records.proofs.Dealing.{HasRecord, begun_tx}
 use Rattle.qc_records.proofs.DealtClients.{Holds, IsHandMove, IsInHand, prepare-it, vote-it}
 use Rattle.qc_records.proofs.FrontKinds.{BeginsOne, FrontKind, GivesUp, GoesOn, IsRequestFor, ToldNeutral, called-kind, name_in, takes-kind}
-use Rattle.qc_records.proofs.InRuns.{IsResting, deals_acts}
+use Rattle.qc_records.proofs.InRuns.{IsResting, KeptBy, deals_acts}
+use Rattle.qc_records.specs.Written.{written_in}
+use Rattle.qc_records.proofs.WrittenDeeds.{written-more}
 use Rattle.qc_records.proofs.Statuses.{IsExact, IsStatus, Page, TurnRight, begins_right, commits_right, gives_right, goes_right, new_status, verdict_right}
 
 abbrev pub page_of : Client → Page
@@ -268,8 +270,15 @@ module _ (decl : Declaration) (accepted : IsAccepted decl) (a : ℕ) (no_site : 
     pub right : AreRight tx ds
     pub status : IsStatus tx (status ds tx) (page_of (client_after decl (a - decl.sites) ds).client)
 
+  -- the status is that of the records written
+  pub record HasPage (ds : List Deed) : Type 0 where
+    pub page : Page
+    pub is : IsStatus tx (status ds tx) page
+    pub commits : page.commits ≡ written_in ds
+
   pub record Turns (ds : List Deed) : Type 0 where
     pub right : AreRight tx ds
+    pub page : HasPage ds
     pub turn : TurnRight tx (status ds tx) (client_after decl (a - decl.sites) ds).turn (page_of (client_after decl (a - decl.sites) ds).client)
 
   abbrev pub StatusBy : List Deed → Bool → Type 0
@@ -286,6 +295,11 @@ module _ (decl : Declaration) (accepted : IsAccepted decl) (a : ℕ) (no_site : 
       let here : IsKnown tx (status before tx) g = (known-second tx Unborn before (Takes g ∷ []) known).0 in
       record {
         right = right-append tx Unborn before (Takes g ∷ []) old.right (tt, tt);
+        page = record {
+          page = page_of (client_after decl (a - decl.sites) before).client;
+          is = subst (λ (s : Status). IsStatus tx s (page_of (client_after decl (a - decl.sites) before).client)) (sym same) old.status;
+          commits = kept.written ∙ sym (written-more before g);
+        };
         turn = subst (λ (s : Status). TurnRight tx s (client_after decl (a - decl.sites) (before ++ Takes g ∷ [])).turn (page_of (client_after decl (a - decl.sites) (before ++ Takes g ∷ [])).client)) (sym same)
             (subst (λ (x : ClientMove). TurnRight tx (status before tx) x.turn (page_of x.client)) (sym move)
             (input_right decl tx (status before tx) (client_after decl (a - decl.sites) before).client old.status kept.keeps.hand g here));
@@ -303,3 +317,15 @@ module _ (decl : Declaration) (accepted : IsAccepted decl) (a : ℕ) (no_site : 
             (subst (λ (s : Status). IsStatus tx s (page_of (client_after decl (a - decl.sites) before).client)) (sym same)
             (subst (λ (t : Turn). IsStatus tx (fold (status_at tx) (status before tx) (turn_deeds first t)) (page_of (client_after decl (a - decl.sites) before).client)) its (old.turn.status first)));
       }
+
+  pub pages : (ds : List Deed) (b : Bool) (n : ℕ) → Acts decl a ds b n → KnownFrom tx Unborn ds → HasPage ds
+  pages ds b n done known = by b (status_acts ds b n done known) (deals_acts decl accepted a no_site named tx ds b n done) where
+    by : (b : Bool) → StatusBy ds b → KeptBy decl accepted a no_site named tx ds b → HasPage ds
+    by true turns taken = turns.page
+    by false rests resting = record { page = page_of (client_after decl (a - decl.sites) ds).client; is = rests.status; commits = resting.written }
+
+  pub rights : (ds : List Deed) (b : Bool) (n : ℕ) → Acts decl a ds b n → KnownFrom tx Unborn ds → AreRight tx ds
+  rights ds b n done known = by b (status_acts ds b n done known) where
+    by : (b : Bool) → StatusBy ds b → AreRight tx ds
+    by true turns = turns.right
+    by false rests = rests.right
