@@ -1,6 +1,8 @@
 -- What a client was told of a transaction is what it keeps of it: how that stays, as it begins, goes on and ends.
-use Rattle.std.proofs.Common.{◌≡◌, ◌≢◌, ◌≤◌, ◌<◌, ℕ, ◌+◌, Bool, true, false, cond, ◌⊎◌, inl, inr, List, [], ◌∷◌, ◌++◌, Option, Some, None, option_map, refl, sym, ap, ◌∙◌, subst, arith}
+use Rattle.std.proofs.Common.{◌≡◌, ◌≢◌, ◌≤◌, ◌<◌, ℕ, zero, suc, ◌+◌, get_or, length, Bool, true, false, cond, ◌⊎◌, inl, inr, List, [], ◌∷◌, ◌++◌, Option, Some, None, option_map, refl, sym, ap, ◌∙◌, subst, arith}
+use Rattle.std.specs.List.{AllPairs}
 use Rattle.std.proofs.lemmas.List.{append-nil}
+use Rattle.std.proofs.lemmas.List.Quantifiers.{all_pairs_push}
 use Rattle.qc_list.specs.Members.{In}
 use Rattle.qc_list.proofs.Members.{In-first, In-last, In-more, In-second}
 use Rattle.qc_stamp.specs.declared.stamp.Stamp.{Stamp}
@@ -38,6 +40,7 @@ pub record IsBook (clock : ℕ) (k : Book) : Type 0 where
   pub below : (c : Commit) → In c k.commits → c.stamp.clock ≤ clock
   pub stamps : (c d : Commit) → In c k.commits → In d k.commits → c.stamp ≡ d.stamp → c ≡ d
   pub transactions : (c d : Commit) → In c k.commits → In d k.commits → c.tx ≡ d.tx → c ≡ d
+  pub rising : AllPairs (λ (c d : Commit). c.stamp.clock < d.stamp.clock) k.commits
 
 -- of one transaction: what it was told of it
 
@@ -82,6 +85,11 @@ pub record IsDealing (tx : TxId) (d : Dealing) (k : Book) : Type 0 where
   pub mine : (r : Reply) → In r d.ends → tx.client ≡ k.client
   pub new : k.life ≡ tx.life → k.client ≡ tx.client → k.count < tx.number → (d.ops ≡ []) × (d.ends ≡ [])
 
+in_at : (xs : List Commit) (j : ℕ) (d : Commit) → j < length xs → In (get_or xs j d) xs
+in_at [] j d low = absurd (omega arith)
+in_at (x ∷ xs) zero d low = inl refl
+in_at (x ∷ xs) (suc j) d low = inr (in_at xs j d (omega arith))
+
 -- what is asked is nothing to it
 pub as_asked : (tx : TxId) (d : Dealing) (k : Book) (c : Option Command) → IsDealing tx d k → IsDealing tx (record d { asked = c }) k
 as_asked tx d k c w = record { is = w.is; ops = by k.begun w.ops; done = w.done; told = w.told; others = w.others; mine = w.mine; new = w.new } where
@@ -102,6 +110,7 @@ begun_book clock k b c is same w = record {
   below = w.below;
   stamps = w.stamps;
   transactions = w.transactions;
+  rising = w.rising;
 }
 
 pub as_begun : (tx : TxId) (d : Dealing) (k : Book) (b c : Begun) → k.begun ≡ Some b → c.tx ≡ b.tx → c.ops ≡ b.ops → IsDealing tx d k → IsDealing tx d (with_begun k (Some c))
@@ -280,13 +289,14 @@ began_book clock k b w named = record {
   below = w.below;
   stamps = w.stamps;
   transactions = w.transactions;
+  rising = w.rising;
 }
 
 pub free_book : (clock : ℕ) (k : Book) → IsBook clock k → IsBook clock (with_begun k None)
-free_book clock k w = record { past = w.past; named = tt; own = w.own; below = w.below; stamps = w.stamps; transactions = w.transactions }
+free_book clock k w = record { past = w.past; named = tt; own = w.own; below = w.below; stamps = w.stamps; transactions = w.transactions; rising = w.rising }
 
 pub later_book : (low high : ℕ) (k : Book) → low ≤ high → IsBook low k → IsBook high k
-later_book low high k le w = record { past = w.past; named = w.named; own = w.own; below = λ c among. (let b : c.stamp.clock ≤ low = w.below c among in omega arith); stamps = w.stamps; transactions = w.transactions }
+later_book low high k le w = record { past = w.past; named = w.named; own = w.own; below = λ c among. (let b : c.stamp.clock ≤ low = w.below c among in omega arith); stamps = w.stamps; transactions = w.transactions; rising = w.rising }
 
 pub committed_book : (clock : ℕ) (k : Book) (b : Begun) (x : Commit) → k.begun ≡ Some b → x.tx ≡ b.tx → clock < x.stamp.clock → x.stamp.client ≡ k.client → IsBook clock k
     → IsBook x.stamp.clock (record k { commits = k.commits ++ x ∷ []; begun = None })
@@ -297,6 +307,7 @@ committed_book clock k b x is its above mine w = record {
   below = λ c among. below c (In-more c x k.commits among);
   stamps = λ c e one two. stamps c e (In-more c x k.commits one) (In-more e x k.commits two);
   transactions = λ c e one two. transactions c e (In-more c x k.commits one) (In-more e x k.commits two);
+  rising = all_pairs_push (λ (c d : Commit). c.stamp.clock < d.stamp.clock) k.commits x w.rising (λ j d l. let low : (get_or k.commits j d).stamp.clock ≤ clock = w.below (get_or k.commits j d) (in_at k.commits j d l) in omega arith);
 } where
   names : IsNamed k (Some b)
   names = subst (IsNamed k) is w.named

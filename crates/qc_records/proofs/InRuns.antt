@@ -161,6 +161,7 @@ module _ (decl : Declaration) (accepted : IsAccepted decl) (a : ℕ) (no_site : 
         below = λ c among. absurd among;
         stamps = λ c d one two same. absurd one;
         transactions = λ c d one two same. absurd one;
+        rising = λ i j d l m. absurd (omega arith);
       };
       asked_for = tt;
       hand = tt;

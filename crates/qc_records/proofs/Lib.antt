@@ -21,3 +21,4 @@ pub mod StatusActs
 pub mod SitesAsk
 pub mod Lasting
 pub mod Moving
+pub mod DecisionLaws

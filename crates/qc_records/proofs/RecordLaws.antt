@@ -1,5 +1,6 @@
 -- In every run records are apart, and just what their clients were told.
 use Rattle.std.proofs.Common.{◌≡◌, ◌≢◌, ℕ, ◌+◌, ◌-◌, ◌<◌, ◌≤◌, ◌↔◌, nat_le, nat_lt, Bool, true, List, [], refl, sym, ap, ◌∙◌, subst, arith}
+use Rattle.std.specs.List.{AllPairs}
 use Rattle.std.proofs.lemmas.Bool.{le-leb, lt-ltb}
 use Rattle.qc_list.specs.Members.{In}
 use Rattle.qc_decl.specs.Accepted.{IsAccepted}
@@ -93,11 +94,23 @@ module _ (decl : Declaration) (script : Script) (h : List Entry) (open_inputs : 
   in_order : IsOrdered IsStampedBefore (committed decl h) × ((d : Commit) → In d (committed decl h) ↔ In d (records decl h))
   in_order = sorts (records decl h) stamps_apart
 
-  listed_in : (c : Commit) → In c (committed decl h) → In c (records decl h)
+  pub listed_in : (c : Commit) → In c (committed decl h) → In c (records decl h)
   listed_in c = (in_order.1 c).0
 
-  in_listed : (c : Commit) → In c (records decl h) → In c (committed decl h)
+  pub in_listed : (c : Commit) → In c (records decl h) → In c (committed decl h)
   in_listed c = (in_order.1 c).1
+
+  -- a record is among those that its own client wrote
+  pub wrote_own : (c : Commit) → In c (committed decl h) → In c (written_in (deeds (client_actor decl c.tx.client) [] h))
+  wrote_own c among =
+      let listed : In c (records decl h) = listed_in c among in
+      subst (In c) (kept (client_actor decl c.tx.client) (its_client c listed) c.tx).written (its_record c listed c.tx)
+
+  -- the stamps of one client rise
+  pub rising : (a : ℕ) → is_client decl a ≡ true → AllPairs (λ (c d : Commit). c.stamp.clock < d.stamp.clock) (written_in (deeds a [] h))
+  rising a named = let k : IsKept (a - decl.sites) no_tx (deeds a [] h) = kept a named no_tx in subst (AllPairs (λ (c d : Commit). c.stamp.clock < d.stamp.clock)) k.written k.keeps.book.rising where
+    no_tx : TxId
+    no_tx = record { client = 0; life = 0; number = 0 }
 
   pub apart : AreApart (committed decl h)
   apart = record {

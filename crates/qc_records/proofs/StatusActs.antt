@@ -275,6 +275,7 @@ module _ (decl : Declaration) (accepted : IsAccepted decl) (a : ℕ) (no_site : 
     pub page : Page
     pub is : IsStatus tx (status ds tx) page
     pub commits : page.commits ≡ written_in ds
+    pub client : page.client ≡ a - decl.sites
 
   pub record Turns (ds : List Deed) : Type 0 where
     pub right : AreRight tx ds
@@ -299,6 +300,7 @@ module _ (decl : Declaration) (accepted : IsAccepted decl) (a : ℕ) (no_site : 
           page = page_of (client_after decl (a - decl.sites) before).client;
           is = subst (λ (s : Status). IsStatus tx s (page_of (client_after decl (a - decl.sites) before).client)) (sym same) old.status;
           commits = kept.written ∙ sym (written-more before g);
+          client = kept.keeps.own;
         };
         turn = subst (λ (s : Status). TurnRight tx s (client_after decl (a - decl.sites) (before ++ Takes g ∷ [])).turn (page_of (client_after decl (a - decl.sites) (before ++ Takes g ∷ [])).client)) (sym same)
             (subst (λ (x : ClientMove). TurnRight tx (status before tx) x.turn (page_of x.client)) (sym move)
@@ -322,7 +324,7 @@ module _ (decl : Declaration) (accepted : IsAccepted decl) (a : ℕ) (no_site : 
   pages ds b n done known = by b (status_acts ds b n done known) (deals_acts decl accepted a no_site named tx ds b n done) where
     by : (b : Bool) → StatusBy ds b → KeptBy decl accepted a no_site named tx ds b → HasPage ds
     by true turns taken = turns.page
-    by false rests resting = record { page = page_of (client_after decl (a - decl.sites) ds).client; is = rests.status; commits = resting.written }
+    by false rests resting = record { page = page_of (client_after decl (a - decl.sites) ds).client; is = rests.status; commits = resting.written; client = resting.keeps.own }
 
   pub rights : (ds : List Deed) (b : Bool) (n : ℕ) → Acts decl a ds b n → KnownFrom tx Unborn ds → AreRight tx ds
   rights ds b n done known = by b (status_acts ds b n done known) where

@@ -9,10 +9,15 @@
 //! 3. A record's operations are those that its client was told
 //!    (`records_are_what_was_told`), and the ends that clients were told agree
 //!    with the records (`clients_are_told`).
+//! 4. A transaction begins once, and moves on as it may (`transactions_move_on`);
+//!    each Decision that is sent agrees with the records for ever
+//!    (`decisions_agree_with_records`); stamps of one client rise (`stamps_rise`).
 #![tactic(auto)]
 
 mod bounds;
 mod records;
+mod transactions;
 
 pub use bounds::{clients_calls_may_be_made, clocks_and_counts_are_bounded, turns_are_short};
 pub use records::{clients_are_told, records_are_apart, records_are_what_was_told};
+pub use transactions::{decisions_agree_with_records, stamps_rise, transactions_move_on};
