@@ -22,3 +22,4 @@ pub mod SitesAsk
 pub mod Lasting
 pub mod Moving
 pub mod DecisionLaws
+pub mod WrongOnes

@@ -7,3 +7,6 @@ pub mod Status
 pub mod Told
 pub mod Books
 pub mod Written
+pub mod Seen
+pub mod Atomic
+pub mod Wrong
