@@ -1,5 +1,5 @@
 -- Every clock and count in a history is at most its number of steps.
-use Rattle.std.proofs.Common.{◌≡◌, ℕ, ◌+◌, ◌-◌, ◌≤◌, ◌==◌, Bool, true, false, cond, List, [], ◌∷◌, ◌++◌, fold, length, Option, Some, None, option_to_list, eqb-true, refl, sym, ap, ◌∙◌, subst, arith, length-append}
+use Rattle.std.proofs.Common.{◌≡◌, ℕ, ◌+◌, ◌-◌, ◌≤◌, ◌==◌, Bool, true, false, cond, List, [], ◌∷◌, ◌++◌, fold, length, Option, Some, None, eqb-true, refl, sym, ap, ◌∙◌, subst, arith, length-append}
 use Rattle.std.specs.List.{AllByRecursion as Every}
 use Rattle.std.proofs.lemmas.List.{append-nil}
 use Rattle.std.proofs.lemmas.List.Sums.{fold-append}
@@ -14,12 +14,12 @@ use Rattle.qc_msg.specs.declared.step.Given.TheVariants as given
 use Rattle.qc_msg.specs.declared.step.Step.{Step}
 use Rattle.qc_msg.specs.declared.turn.Posting.{Posting}
 use Rattle.qc_msg.specs.declared.turn.Turn.{Turn}
-use Rattle.qc_msg.specs.Deeds.{Deed, Takes, Writes, Sends, Tells, WasSentTo, deed_at, deeds, envelope_at, envelopes, mail, sends_of, tells_of, turn_deeds, writes_of}
+use Rattle.qc_msg.specs.Deeds.{Deed, Takes, Writes, Sends, Tells, WasSentTo, deed_at, deeds, envelopes, mail, sends_of, tells_of, turn_deeds, writes_of}
 use Rattle.qc_msg.specs.Steps.{Entry, by, marked, posted, step_of}
 use Rattle.qc_msg.specs.Turns.{quiet}
 use Rattle.qc_msg.proofs.Growth.{deeds-append, deeds-other, deeds-posted, deeds-taken, length-mail, mail-append, mail-posted, mail-taken}
 use Rattle.qc_client.specs.Client.{ClientMove, moved as client_moved, new_client}
-use Rattle.qc_client.specs.Conduct.{client_after, client_does, client_takes}
+use Rattle.qc_client.specs.Conduct.{client_after, client_does}
 use Rattle.qc_core.specs.Conduct.{IsLawful}
 use Rattle.qc_site.specs.Conduct.{site_after, site_does, site_takes}
 use Rattle.qc_site.specs.Site.{SiteMove, moved as site_moved, new_site}

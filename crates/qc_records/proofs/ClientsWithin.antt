@@ -1,37 +1,31 @@
 -- What a client becomes and sends for one input stays within a bound that what it takes keeps to, and one more.
-use Rattle.std.proofs.Common.{◌≡◌, ℕ, ◌+◌, ◌≤◌, Bool, true, false, cond, List, [], ◌∷◌, ◌++◌, fold, Option, Some, None, is_some, refl, sym, ap, subst, arith}
+use Rattle.std.proofs.Common.{◌≡◌, ℕ, ◌+◌, ◌≤◌, Bool, true, false, cond, List, [], ◌∷◌, fold, Option, Some, None, is_some, refl, arith}
 use Rattle.std.specs.List.{AllByRecursion as Every}
 use Rattle.qc_stamp.specs.declared.stamp.TxId.{TxId}
 use Rattle.qc_decl.specs.declared.declaration.Declaration.{Declaration}
 use Rattle.qc_msg.specs.declared.message.Answer.{Answer}
-use Rattle.qc_msg.specs.declared.message.Answer.TheVariants as answers
 use Rattle.qc_msg.specs.declared.message.Message.{Message}
 use Rattle.qc_msg.specs.declared.message.Message.TheVariants as messages
-use Rattle.qc_msg.specs.declared.message.Outcome.{Outcome}
-use Rattle.qc_msg.specs.declared.message.Outcome.TheVariants.{Aborted, Active, Committed}
 use Rattle.qc_msg.specs.declared.message.Want.{Want}
 use Rattle.qc_msg.specs.declared.message.Want.TheVariants.{Append, Prepare, Read}
 use Rattle.qc_msg.specs.declared.step.Command.{Command}
 use Rattle.qc_msg.specs.declared.step.Command.TheVariants as commands
 use Rattle.qc_msg.specs.declared.step.Given.{Given}
 use Rattle.qc_msg.specs.declared.step.Given.TheVariants as given
-use Rattle.qc_msg.specs.declared.turn.Posting.{Posting}
 use Rattle.qc_msg.specs.Deeds.{Deed, Takes, Writes, Sends, Tells}
 use Rattle.qc_msg.specs.Turns.{quiet}
-use Rattle.qc_commit.specs.declared.desk.Desk.{Desk}
 use Rattle.qc_commit.specs.declared.desk.Known.{Known}
 use Rattle.qc_commit.specs.declared.desk.Known.TheVariants as knowns
 use Rattle.qc_commit.specs.declared.desk.Voting.{Voting}
 use Rattle.qc_commit.specs.Conduct as desks
 use Rattle.qc_commit.specs.Desk.{DeskMove, known}
-use Rattle.qc_front.specs.declared.front.Front.{Front}
 use Rattle.qc_front.specs.declared.transaction.Transaction.{Transaction}
 use Rattle.qc_front.specs.Conduct as fronts
 use Rattle.qc_front.specs.Front.{FrontMove, ended}
 use Rattle.qc_client.specs.declared.client.Client.{Client}
 use Rattle.qc_client.specs.Client.{ClientMove, by_desk, by_front, is_begun, moved, outcome_by, outcome_of}
 use Rattle.qc_client.specs.Conduct.{answered, answered_by, called, client_does, client_takes, commits, heard, requested, sent_one}
-use Rattle.qc_records.specs.Within.{ClientMoveWithin, ClientWithin, DeskWithin, FrontWithin, GivenWithin, MessageWithin, OutcomeWithin, SendsWithin}
+use Rattle.qc_records.specs.Within.{ClientMoveWithin, ClientWithin, DeskWithin, FrontWithin, GivenWithin, MessageWithin, OutcomeWithin}
 use Rattle.qc_records.proofs.DesksWithin.{CameWithin, DeskGoes, desk-le, known-within, prepare-within, vote_within}
 use Rattle.qc_records.proofs.FrontsWithin.{FrontGoes, called-goes, ended_within, front-le, takes-goes}
 use Rattle.qc_records.proofs.Greater.{answer-le, sends-le}

@@ -1,5 +1,5 @@
 -- What a client was told of a transaction is what it keeps of it: how that stays, as it begins, goes on and ends.
-use Rattle.std.proofs.Common.{◌≡◌, ◌≢◌, ◌≤◌, ◌<◌, ℕ, zero, suc, ◌+◌, get_or, length, Bool, true, false, cond, ◌⊎◌, inl, inr, List, [], ◌∷◌, ◌++◌, Option, Some, None, option_map, refl, sym, ap, ◌∙◌, subst, arith}
+use Rattle.std.proofs.Common.{◌≡◌, ◌≤◌, ◌<◌, ℕ, zero, suc, ◌+◌, get_or, length, Bool, true, false, cond, ◌⊎◌, inl, inr, List, [], ◌∷◌, ◌++◌, Option, Some, None, option_map, refl, sym, ap, ◌∙◌, subst, arith}
 use Rattle.std.specs.List.{AllPairs}
 use Rattle.std.proofs.lemmas.List.{append-nil}
 use Rattle.std.proofs.lemmas.List.Quantifiers.{all_pairs_push}
@@ -18,7 +18,7 @@ use Rattle.qc_msg.specs.declared.step.Command.{Command}
 use Rattle.qc_msg.specs.declared.step.Command.TheVariants as commands
 use Rattle.qc_front.specs.Answering.{op_of}
 use Rattle.qc_records.specs.Books.{Book}
-use Rattle.qc_records.specs.Deals.{Dealing, deal_told, dealt, ended, is_begun, operation}
+use Rattle.qc_records.specs.Deals.{Dealing, dealt, ended, is_begun, operation}
 
 -- the name of the next transaction, or of the last one
 abbrev pub tx_at : Book → ℕ → TxId
@@ -240,11 +240,12 @@ module _ (clock : ℕ) (tx : TxId) (d : Dealing) (k : Book) (b : Begun) (is : k.
     done : (c : Commit) → c.tx ≡ tx → In c k.commits ⊎ (c ≡ x) → (d.ops ≡ c.ops) × In (replies.Committed c.stamp) (d.ends ++ cond (is_begun tx d.begun) (replies.Committed x.stamp ∷ []) [])
     done c its (inl old) = (let r : (d.ops ≡ c.ops) × In (replies.Committed c.stamp) d.ends = w.done c old its in (r.0, more_ends (replies.Committed x.stamp) (replies.Committed c.stamp) r.1))
     done c its (inr new) =
-        let e : b.tx ≡ tx = sym its_tx ∙ sym (ap (λ (y : Commit). y.tx) new) ∙ its in
-        ((own_ops e).0 ∙ sym its_ops ∙ sym (ap (λ (y : Commit). y.ops) new),
-        subst (λ (y : Commit). In (replies.Committed y.stamp) (d.ends ++ cond (is_begun tx d.begun) (replies.Committed x.stamp ∷ []) [])) (sym new)
-        (In-second (replies.Committed x.stamp) d.ends (cond (is_begun tx d.begun) (replies.Committed x.stamp ∷ []) [])
-        (subst (λ (t : Bool). In (replies.Committed x.stamp) (cond t (replies.Committed x.stamp ∷ []) [])) (sym (begun_test tx d b here ∙ tx_test b.tx tx e)) (inl refl))))
+        let e : b.tx ≡ tx = sym its_tx ∙ sym (ap (λ (y : Commit). y.tx) new) ∙ its in (
+          (own_ops e).0 ∙ sym its_ops ∙ sym (ap (λ (y : Commit). y.ops) new),
+          subst (λ (y : Commit). In (replies.Committed y.stamp) (d.ends ++ cond (is_begun tx d.begun) (replies.Committed x.stamp ∷ []) [])) (sym new)
+              (In-second (replies.Committed x.stamp) d.ends (cond (is_begun tx d.begun) (replies.Committed x.stamp ∷ []) [])
+              (subst (λ (t : Bool). In (replies.Committed x.stamp) (cond t (replies.Committed x.stamp ∷ []) [])) (sym (begun_test tx d b here ∙ tx_test b.tx tx e)) (inl refl))),
+        )
 
     told : (stamp : Stamp) → In (replies.Committed stamp) d.ends ⊎ IsEnd (replies.Committed x.stamp) (replies.Committed stamp) → HasRecord (k.commits ++ x ∷ []) tx stamp
     told stamp (inl old) =
@@ -270,8 +271,8 @@ pub began_one : (clock : ℕ) (tx : TxId) (d : Dealing) (k : Book) (b : Begun) �
 began_one clock tx d k b free book named none w = record {
   is = refl;
   ops = λ e. (let x : tx ≡ tx_at k (k.count + 1) = sym e ∙ named in
-    let r : (d.ops ≡ []) × (d.ends ≡ []) = w.new (sym (ap (λ (t : TxId). t.life) x)) (sym (ap (λ (t : TxId). t.client) x)) (let n : tx.number ≡ k.count + 1 = ap (λ (t : TxId). t.number) x in omega arith) in
-    (r.0 ∙ sym none, r.1));
+      let r : (d.ops ≡ []) × (d.ends ≡ []) = w.new (sym (ap (λ (t : TxId). t.life) x)) (sym (ap (λ (t : TxId). t.client) x)) (let n : tx.number ≡ k.count + 1 = ap (λ (t : TxId). t.number) x in omega arith) in
+      (r.0 ∙ sym none, r.1));
   done = w.done;
   told = w.told;
   others = w.others;

@@ -1,20 +1,15 @@
 -- A client's inputs, and what it was told of a transaction then.
-use Rattle.std.proofs.Common.{◌≡◌, ◌≤◌, ◌<◌, ◌⊎◌, inl, inr, ℕ, ◌+◌, ◌-◌, ◌==◌, Bool, true, false, cond, List, [], ◌∷◌, ◌++◌, fold, map, length, Option, Some, None, is_some, option_map, option_to_list, refl, sym, ap, ◌∙◌, subst, arith}
+use Rattle.std.proofs.Common.{◌≡◌, ◌≤◌, ◌<◌, ◌⊎◌, inl, inr, ℕ, ◌+◌, ◌==◌, Bool, true, false, cond, List, [], ◌∷◌, ◌++◌, fold, map, length, Option, Some, None, is_some, option_map, option_to_list, refl, sym, ap, ◌∙◌, subst, arith}
 use Rattle.std.specs.List.{AllByRecursion as Every}
 use Rattle.std.proofs.lemmas.List.{append-nil}
-use Rattle.std.proofs.lemmas.List.Sums.{fold-append}
-use Rattle.qc_list.specs.Members.{In}
 use Rattle.qc_stamp.specs.declared.stamp.Stamp.{Stamp}
 use Rattle.qc_stamp.specs.declared.stamp.TxId.{TxId}
 use Rattle.qc_entry.specs.declared.record.Commit.{Commit}
-use Rattle.qc_decl.specs.Actors.{is_client, is_site}
 use Rattle.qc_decl.specs.declared.declaration.Declaration.{Declaration}
 use Rattle.qc_msg.specs.declared.begun.Begun.{Begun}
-use Rattle.qc_msg.specs.declared.call.Call.{Call}
 use Rattle.qc_msg.specs.declared.message.Answer.{Answer}
 use Rattle.qc_msg.specs.declared.message.Message.{Message}
 use Rattle.qc_msg.specs.declared.message.Message.TheVariants as messages
-use Rattle.qc_msg.specs.declared.message.Want.{Want}
 use Rattle.qc_msg.specs.declared.message.Want.TheVariants.{Append, Prepare, Read}
 use Rattle.qc_msg.specs.declared.record.Record.{Record}
 use Rattle.qc_msg.specs.declared.reply.Reply.{Reply}
@@ -30,7 +25,6 @@ use Rattle.qc_msg.specs.Calls.{site_called, without_call}
 use Rattle.qc_msg.specs.Counts.{commit_of as commit_of_record}
 use Rattle.qc_msg.specs.Deeds.{Deed, Takes, Writes, Sends, Tells, sends_of, tells_of, turn_deeds, writes_of}
 use Rattle.qc_msg.specs.Turns.{quiet, sending}
-use Rattle.qc_commit.specs.declared.ballot.Ballot.{Ballot}
 use Rattle.qc_commit.specs.declared.desk.Desk.{Desk}
 use Rattle.qc_commit.specs.declared.desk.Voting.{Voting}
 use Rattle.qc_commit.specs.Conduct as desks
@@ -40,16 +34,15 @@ use Rattle.qc_commit.specs.Votes.{are_cast, blank, cast, first_against, particip
 use Rattle.qc_commit.proofs.Learned.{learned-above, learned-client, learned-commits}
 use Rattle.qc_front.specs.declared.doing.Doing.{Doing}
 use Rattle.qc_front.specs.declared.doing.Doing.TheVariants.{Idle, Reading, Appending}
-use Rattle.qc_front.specs.declared.front.Front.{Front}
 use Rattle.qc_front.specs.declared.transaction.Transaction.{Transaction}
 use Rattle.qc_front.specs.Conduct as fronts
 use Rattle.qc_front.specs.Front.{FrontMove, ended as front_ended}
 use Rattle.qc_client.specs.declared.client.Client.{Client}
-use Rattle.qc_client.specs.Client.{ClientMove, by_desk, by_front, moved, new_client}
-use Rattle.qc_client.specs.Conduct.{answered, answered_by, called, client_after, client_does, client_takes, commits, heard, sent_one}
+use Rattle.qc_client.specs.Client.{ClientMove, by_desk, by_front, moved}
+use Rattle.qc_client.specs.Conduct.{answered, answered_by, called, client_does, client_takes, commits, heard, sent_one}
 use Rattle.qc_client.specs.Inputs.{IsFree, IsReady}
-use Rattle.qc_records.specs.Books.{Book, begun_in, book_of, book_with}
-use Rattle.qc_records.specs.Deals.{Dealing, deal, deal_taken, deal_told, dealing_in, ended, no_dealing}
+use Rattle.qc_records.specs.Books.{begun_in, book_of, book_with}
+use Rattle.qc_records.specs.Deals.{Dealing, deal, deal_taken, deal_told, ended}
 use Rattle.qc_records.proofs.ClientsWithin.{IsPost}
 use Rattle.qc_records.proofs.Dealing.{IsBook, IsDealing, as_asked, committed_book, committed_one, free_book, gave_up, later_book}
 use Rattle.qc_records.proofs.FrontKinds.{IsRequestFor}
@@ -178,38 +171,47 @@ module _ (decl : Declaration) (k : ℕ) (tx : TxId) (d : Dealing) (c : Client) (
 
   -- the desk moves, where its transaction is the begun one
   desk-keeps : (b : Begun) (m : DeskMove) → begun_in c.front.transaction ≡ Some b → IsHandMove c.desk b m → After (by_desk c m)
-  desk-keeps b m is (inl v) = record { written = v.commits ∙ none_written m.turn.write v.write; keeps = subst (λ (o : Option Reply). Keeps k tx (told_deal tx d o) d (record { front = cond (is_some o) (front_ended c.front m.desk.clock.value m.desk.epoch) c.front; desk = m.desk })) (sym v.told) (record {
-    own = w.own;
-    desk = v.client ∙ w.desk;
-    dealing = subst (λ (cs : List Commit). IsDealing tx d (book_with c.front cs)) (sym v.commits) w.dealing;
-    book = subst (λ (cs : List Commit). IsBook m.desk.clock.value (book_with c.front cs)) (sym v.commits) (later_book c.desk.clock.value m.desk.clock.value (book_of c) v.clock w.book);
-    asked_for = w.asked_for;
-    hand = in_hand m.desk.voting v.voting;
-  }) } where
+  desk-keeps b m is (inl v) = record {
+    written = v.commits ∙ none_written m.turn.write v.write;
+    keeps = subst (λ (o : Option Reply). Keeps k tx (told_deal tx d o) d (record { front = cond (is_some o) (front_ended c.front m.desk.clock.value m.desk.epoch) c.front; desk = m.desk })) (sym v.told) (record {
+      own = w.own;
+      desk = v.client ∙ w.desk;
+      dealing = subst (λ (cs : List Commit). IsDealing tx d (book_with c.front cs)) (sym v.commits) w.dealing;
+      book = subst (λ (cs : List Commit). IsBook m.desk.clock.value (book_with c.front cs)) (sym v.commits) (later_book c.desk.clock.value m.desk.clock.value (book_of c) v.clock w.book);
+      asked_for = w.asked_for;
+      hand = in_hand m.desk.voting v.voting;
+    });
+  } where
     in_hand : (o : Option Voting) → Holds o b → IsInHand o c.front.transaction
     in_hand None h = tt
     in_hand (Some x) h = is ∙ sym h
-  desk-keeps b m is (inr (inl r)) = record { written = r.commits ∙ ap (λ (t : Turn). c.desk.commits ++ commits_of t.write) (sym r.turn); keeps = subst (λ (o : Option Reply). Keeps k tx (told_deal tx d o) d (record { front = cond (is_some o) (front_ended c.front m.desk.clock.value m.desk.epoch) c.front; desk = m.desk })) (sym (ap (λ (t : Turn). t.told) r.turn)) (record {
-    own = w.own;
-    desk = r.client ∙ w.desk;
-    dealing = subst (λ (cs : List Commit). IsDealing tx (ended tx d (replies.Committed r.stamp)) (book_with (front_ended c.front m.desk.clock.value m.desk.epoch) cs)) (sym r.commits)
-        (committed_one c.desk.clock.value tx d (book_of c) b is w.book w.dealing (commit_of r.stamp b) refl refl);
-    book = subst (λ (cs : List Commit). IsBook m.desk.clock.value (book_with (front_ended c.front m.desk.clock.value m.desk.epoch) cs)) (sym r.commits)
-        (subst (λ (n : ℕ). IsBook n (book_with (front_ended c.front m.desk.clock.value m.desk.epoch) (c.desk.commits ++ commit_of r.stamp b ∷ []))) (sym r.passed)
-        (committed_book c.desk.clock.value (book_of c) b (commit_of r.stamp b) is refl r.clock (r.stamped ∙ w.desk ∙ sym w.own) w.book));
-    asked_for = tt;
-    hand = subst (λ (o : Option Voting). IsInHand o None) (sym r.voting) tt;
-  }) }
-  desk-keeps b m is (inr (inr a)) = record { written = a.commits ∙ none_written m.turn.write (ap (λ (t : Turn). t.write) a.turn); keeps = subst (λ (o : Option Reply). Keeps k tx (told_deal tx d o) d (record { front = cond (is_some o) (front_ended c.front m.desk.clock.value m.desk.epoch) c.front; desk = m.desk })) (sym (ap (λ (t : Turn). t.told) a.turn)) (record {
-    own = w.own;
-    desk = a.client ∙ w.desk;
-    dealing = subst (λ (cs : List Commit). IsDealing tx (ended tx d (replies.Aborted a.why)) (book_with (front_ended c.front m.desk.clock.value m.desk.epoch) cs)) (sym a.commits)
-        (gave_up c.desk.clock.value tx d (book_of c) b is w.book w.dealing (replies.Aborted a.why) (λ stamp e. (let never : ⊥ = cc in never)));
-    book = subst (λ (cs : List Commit). IsBook m.desk.clock.value (book_with (front_ended c.front m.desk.clock.value m.desk.epoch) cs)) (sym a.commits)
-        (later_book c.desk.clock.value m.desk.clock.value (book_with (front_ended c.front m.desk.clock.value m.desk.epoch) c.desk.commits) a.clock (free_book c.desk.clock.value (book_of c) w.book));
-    asked_for = tt;
-    hand = subst (λ (o : Option Voting). IsInHand o None) (sym a.voting) tt;
-  }) }
+  desk-keeps b m is (inr (inl r)) = record {
+    written = r.commits ∙ ap (λ (t : Turn). c.desk.commits ++ commits_of t.write) (sym r.turn);
+    keeps = subst (λ (o : Option Reply). Keeps k tx (told_deal tx d o) d (record { front = cond (is_some o) (front_ended c.front m.desk.clock.value m.desk.epoch) c.front; desk = m.desk })) (sym (ap (λ (t : Turn). t.told) r.turn)) (record {
+      own = w.own;
+      desk = r.client ∙ w.desk;
+      dealing = subst (λ (cs : List Commit). IsDealing tx (ended tx d (replies.Committed r.stamp)) (book_with (front_ended c.front m.desk.clock.value m.desk.epoch) cs)) (sym r.commits)
+          (committed_one c.desk.clock.value tx d (book_of c) b is w.book w.dealing (commit_of r.stamp b) refl refl);
+      book = subst (λ (cs : List Commit). IsBook m.desk.clock.value (book_with (front_ended c.front m.desk.clock.value m.desk.epoch) cs)) (sym r.commits)
+          (subst (λ (n : ℕ). IsBook n (book_with (front_ended c.front m.desk.clock.value m.desk.epoch) (c.desk.commits ++ commit_of r.stamp b ∷ []))) (sym r.passed)
+          (committed_book c.desk.clock.value (book_of c) b (commit_of r.stamp b) is refl r.clock (r.stamped ∙ w.desk ∙ sym w.own) w.book));
+      asked_for = tt;
+      hand = subst (λ (o : Option Voting). IsInHand o None) (sym r.voting) tt;
+    });
+  }
+  desk-keeps b m is (inr (inr a)) = record {
+    written = a.commits ∙ none_written m.turn.write (ap (λ (t : Turn). t.write) a.turn);
+    keeps = subst (λ (o : Option Reply). Keeps k tx (told_deal tx d o) d (record { front = cond (is_some o) (front_ended c.front m.desk.clock.value m.desk.epoch) c.front; desk = m.desk })) (sym (ap (λ (t : Turn). t.told) a.turn)) (record {
+      own = w.own;
+      desk = a.client ∙ w.desk;
+      dealing = subst (λ (cs : List Commit). IsDealing tx (ended tx d (replies.Aborted a.why)) (book_with (front_ended c.front m.desk.clock.value m.desk.epoch) cs)) (sym a.commits)
+          (gave_up c.desk.clock.value tx d (book_of c) b is w.book w.dealing (replies.Aborted a.why) (λ stamp e. (let never : ⊥ = cc in never)));
+      book = subst (λ (cs : List Commit). IsBook m.desk.clock.value (book_with (front_ended c.front m.desk.clock.value m.desk.epoch) cs)) (sym a.commits)
+          (later_book c.desk.clock.value m.desk.clock.value (book_with (front_ended c.front m.desk.clock.value m.desk.epoch) c.desk.commits) a.clock (free_book c.desk.clock.value (book_of c) w.book));
+      asked_for = tt;
+      hand = subst (λ (o : Option Voting). IsInHand o None) (sym a.voting) tt;
+    });
+  }
 
   -- a command, which is the last one, where nothing runs
   fronted : (command : Command) → IsFree c → d.asked ≡ Some command → After (by_front c (fronts.called decl c.front command))

@@ -1,14 +1,12 @@
 -- In every run transactions move on as they may, and each Decision that is sent agrees with the records.
-use Rattle.std.proofs.Common.{◌≡◌, ◌≢◌, ℕ, ◌+◌, ◌-◌, ◌==◌, Bool, true, false, cond, List, [], ◌∷◌, ◌++◌, Option, Some, None, option_to_list, slice_get, inl, inr, ◌⊎◌, refl, sym, ap, ◌∙◌, subst, eq-eqb}
+use Rattle.std.proofs.Common.{◌≡◌, ℕ, ◌+◌, ◌-◌, ◌==◌, Bool, true, cond, List, [], ◌∷◌, ◌++◌, Option, Some, None, option_to_list, inl, inr, ◌⊎◌, refl, sym, ap, ◌∙◌, subst, eq-eqb}
 use Rattle.std.specs.List.{cons_option}
 use Rattle.qc_list.specs.Members.{In}
 use Rattle.qc_list.proofs.Members.{In-first, In-second, every-In}
-use Rattle.qc_stamp.specs.declared.stamp.Stamp.{Stamp}
 use Rattle.qc_stamp.specs.declared.stamp.TxId.{TxId}
 use Rattle.qc_decl.specs.Accepted.{IsAccepted}
-use Rattle.qc_decl.specs.Actors.{client_actor, is_client, is_site}
+use Rattle.qc_decl.specs.Actors.{client_actor, is_client}
 use Rattle.qc_decl.specs.declared.declaration.Declaration.{Declaration}
-use Rattle.qc_entry.specs.declared.record.Commit.{Commit}
 use Rattle.qc_msg.specs.declared.message.Envelope.{Envelope}
 use Rattle.qc_msg.specs.declared.message.Message.{Message}
 use Rattle.qc_msg.specs.declared.message.Message.TheVariants as messages
@@ -16,7 +14,7 @@ use Rattle.qc_msg.specs.declared.message.Outcome.{Outcome}
 use Rattle.qc_msg.specs.declared.message.Outcome.TheVariants as outcomes
 use Rattle.qc_msg.specs.declared.step.Step.{Step}
 use Rattle.qc_msg.specs.declared.step.Step.TheVariants as steps
-use Rattle.qc_msg.specs.Deeds.{Deed, Sends, deed_at, deeds, envelope_at, envelope_of, mail}
+use Rattle.qc_msg.specs.Deeds.{Sends, deed_at, deeds, envelope_at, envelope_of, mail}
 use Rattle.qc_msg.specs.Steps.{Entry}
 use Rattle.qc_script.specs.Runs.{Runs}
 use Rattle.qc_script.specs.declared.script.Script.{Script}
@@ -24,9 +22,9 @@ use Rattle.qc_core.specs.Conduct.{IsLawful}
 use Rattle.qc_laws.specs.Turns.{ActsIn}
 use Rattle.qc_laws.proofs.Acted.{run_acts}
 use Rattle.qc_records.specs.Committed.{committed, records}
-use Rattle.qc_records.specs.Status.{AreRight, Status, status}
-use Rattle.qc_records.specs.Status.{Unborn, Begun, Committed, Dead}
-use Rattle.qc_records.specs.Told.{DecisionAgrees, HasCommit, VerdictAgrees}
+use Rattle.qc_records.specs.Status.{AreRight, status}
+use Rattle.qc_records.specs.Status.{Unborn, Committed, Dead}
+use Rattle.qc_records.specs.Told.{DecisionAgrees, VerdictAgrees}
 use Rattle.qc_records.specs.Written.{written_in}
 use Rattle.qc_records.proofs.Dealing.{HasRecord}
 use Rattle.qc_records.proofs.InRuns.{HasPlace, client_low, client_no_site, client_number, run_place}

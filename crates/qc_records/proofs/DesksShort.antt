@@ -1,5 +1,5 @@
 -- A desk sends at most as many messages as there are sites.
-use Rattle.std.proofs.Common.{◌≡◌, ℕ, ◌<◌, ◌≤◌, ◌==◌, Bool, true, false, cond, List, [], ◌∷◌, length, map, Option, Some, None, refl, sym, subst, arith}
+use Rattle.std.proofs.Common.{◌≡◌, ℕ, ◌≤◌, ◌==◌, Bool, true, false, cond, List, [], length, map, Option, Some, None, arith}
 use Rattle.std.proofs.lemmas.List.{length-map}
 use Rattle.qc_decl.specs.Accepted.{IsAccepted}
 use Rattle.qc_decl.specs.declared.declaration.Declaration.{Declaration}
@@ -10,7 +10,6 @@ use Rattle.qc_msg.specs.declared.message.Message.TheVariants as messages
 use Rattle.qc_msg.specs.declared.message.Outcome.{Outcome}
 use Rattle.qc_msg.specs.declared.message.Outcome.TheVariants.{Aborted, Committed}
 use Rattle.qc_msg.specs.declared.reply.Why.{Why}
-use Rattle.qc_msg.specs.declared.turn.Posting.{Posting}
 use Rattle.qc_msg.specs.Begun.{decisions}
 use Rattle.qc_msg.specs.Calls.{site_called, without_call}
 use Rattle.qc_msg.specs.Turns.{quiet, sending}

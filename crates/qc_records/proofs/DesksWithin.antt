@@ -1,5 +1,5 @@
 -- What a desk becomes and sends stays within a bound that what it takes keeps to, and one more where it commits.
-use Rattle.std.proofs.Common.{◌≡◌, ℕ, ◌+◌, ◌≤◌, ◌==◌, max, Bool, true, false, cond, List, [], ◌∷◌, ◌++◌, map, length, Option, Some, None, refl, sym, ap, subst, arith}
+use Rattle.std.proofs.Common.{◌≡◌, ℕ, ◌+◌, ◌≤◌, ◌==◌, max, Bool, true, false, cond, List, [], ◌∷◌, map, length, Option, Some, None, sym, subst, arith}
 use Rattle.std.specs.List.{AllByRecursion as Every}
 use Rattle.qc_list.proofs.Members.{every-append, every-weaker}
 use Rattle.qc_stamp.specs.declared.stamp.Stamp.{Stamp}
@@ -15,9 +15,6 @@ use Rattle.qc_msg.specs.declared.message.Message.TheVariants as messages
 use Rattle.qc_msg.specs.declared.message.Outcome.{Outcome}
 use Rattle.qc_msg.specs.declared.message.Outcome.TheVariants.{Aborted, Committed}
 use Rattle.qc_msg.specs.declared.reply.Why.{Why}
-use Rattle.qc_msg.specs.declared.turn.Posting.{Posting}
-use Rattle.qc_msg.specs.declared.turn.Turn.{Turn}
-use Rattle.qc_msg.specs.Begun.{decisions}
 use Rattle.qc_msg.specs.Calls.{site_called, without_call}
 use Rattle.qc_msg.specs.Turns.{quiet, sending}
 use Rattle.qc_commit.specs.declared.ballot.Ballot.{Ballot}
@@ -26,7 +23,7 @@ use Rattle.qc_commit.specs.declared.desk.Known.{Known}
 use Rattle.qc_commit.specs.declared.desk.Known.TheVariants as knowns
 use Rattle.qc_commit.specs.declared.desk.Voting.{Voting}
 use Rattle.qc_commit.specs.Conduct.{commit_of, counted_out, counts, decides, learns, next_stamp, passed, prepare, vote, votes_at, votes_in}
-use Rattle.qc_commit.specs.Desk.{DeskMove, known, known_by, moved, record_of}
+use Rattle.qc_commit.specs.Desk.{DeskMove, known_by, moved, record_of}
 use Rattle.qc_commit.specs.Learning.{promised}
 use Rattle.qc_commit.specs.Votes.{are_cast, blank, cast, first_against, participants, prepares, vote_of}
 use Rattle.qc_commit.proofs.Learned.{learned-clock, learned-commits}

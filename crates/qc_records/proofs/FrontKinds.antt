@@ -38,7 +38,7 @@ use Rattle.qc_front.specs.Answering.{answer_of, next_own, op_of, resp_of, with_e
 use Rattle.qc_front.specs.Appending.{append_want, read_want, request_of, round_for}
 use Rattle.qc_front.specs.Conduct.{appending_takes, called, commits, reading_takes, takes, takes_in}
 use Rattle.qc_front.specs.Counting.{appended_with, learns, lived, read_with, standing_of}
-use Rattle.qc_front.specs.Front.{FrontMove, aborts, begins, fresh, gives_up, moved, next_tx, turned}
+use Rattle.qc_front.specs.Front.{FrontMove, aborts, begins, gives_up, moved, next_tx, turned}
 use Rattle.qc_front.specs.Rounds.{answered, append_by, doomed, performs, read_by, reads, with_asked}
 use Rattle.qc_front.proofs.Keeping.{appended_is, view_keeps}
 use Rattle.qc_records.specs.Books.{begun_in}

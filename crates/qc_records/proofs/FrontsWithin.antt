@@ -1,9 +1,8 @@
 -- What a front end becomes and sends stays within a bound that what it takes keeps to, and one more where it begins.
-use Rattle.std.proofs.Common.{◌≡◌, ℕ, zero, suc, ◌+◌, ◌≤◌, max, Bool, true, false, cond, nat_le, List, [], ◌∷◌, ◌++◌, length, replicate, Option, Some, None, option_map, refl, sym, ap, subst, arith}
+use Rattle.std.proofs.Common.{◌≡◌, ℕ, zero, suc, ◌+◌, ◌≤◌, max, Bool, true, false, cond, nat_le, List, [], ◌∷◌, ◌++◌, length, replicate, Option, Some, None, option_map, refl, sym, subst, arith}
 use Rattle.std.specs.Prelude.{slice_get, slice_set}
 use Rattle.std.specs.List.{AllByRecursion as Every}
 use Rattle.std.specs.Option.{option_map_or}
-use Rattle.qc_list.specs.Members.{In}
 use Rattle.qc_list.proofs.Members.{every-at, every-from_In, every-weaker}
 use Rattle.qc_entry.specs.declared.line.Line.{Line}
 use Rattle.qc_entry.proofs.Union.{every-union}
@@ -15,7 +14,6 @@ use Rattle.qc_msg.specs.declared.message.Answer.{Answer}
 use Rattle.qc_msg.specs.declared.message.Answer.TheVariants as answers
 use Rattle.qc_msg.specs.declared.message.Message.{Message}
 use Rattle.qc_msg.specs.declared.message.Message.TheVariants as messages
-use Rattle.qc_msg.specs.declared.message.Outcome.{Outcome}
 use Rattle.qc_msg.specs.declared.message.Want.{Want}
 use Rattle.qc_msg.specs.declared.reply.Reply.TheVariants as replies
 use Rattle.qc_msg.specs.declared.reply.Why.TheVariants as causes
@@ -33,15 +31,15 @@ use Rattle.qc_front.specs.declared.doing.Doing.{Doing}
 use Rattle.qc_front.specs.declared.doing.Doing.TheVariants.{Idle, Reading, Appending}
 use Rattle.qc_front.specs.declared.front.Front.{Front}
 use Rattle.qc_front.specs.declared.transaction.Transaction.{Transaction}
-use Rattle.qc_front.specs.Answering.{answer_of, next_own, resp_of, view_log, with_event, with_granted, with_op, with_view}
-use Rattle.qc_front.specs.Appending.{append_want, read_want, round_for}
+use Rattle.qc_front.specs.Answering.{answer_of, next_own, resp_of, view_log, with_event, with_view}
+use Rattle.qc_front.specs.Appending.{round_for}
 use Rattle.qc_front.specs.Conduct.{appending_takes, called, commits, reading_takes, takes, takes_in}
 use Rattle.qc_front.specs.Counting.{appended_with, learns, lived, read_with, standing_of}
 use Rattle.qc_front.specs.Front.{FrontMove, aborts, begins, ended, gives_up, moved}
-use Rattle.qc_front.specs.Requests.{AreSent, IsFor, IsRequestOf, IsSent, IsVerdictOf}
+use Rattle.qc_front.specs.Requests.{AreSent, IsFor, IsSent}
 use Rattle.qc_front.specs.Rounds.{answered, append_by, performs, read_by, reads}
 use Rattle.qc_front.proofs.Sending.{called_sent, takes_sent}
-use Rattle.qc_records.specs.Within.{AnswerWithin, FrontWithin, LinesWithin, MessageWithin, OutcomeWithin, SendsWithin, TransactionWithin, ViewsWithin, WantWithin}
+use Rattle.qc_records.specs.Within.{FrontWithin, LinesWithin, MessageWithin, OutcomeWithin, SendsWithin, TransactionWithin, ViewsWithin, WantWithin}
 use Rattle.qc_records.proofs.DesksWithin.{CameWithin}
 use Rattle.qc_records.proofs.Greater.{lines-le}
 

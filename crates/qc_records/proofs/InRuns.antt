@@ -1,7 +1,7 @@
 -- What every run has: it goes event by event, each actor has a place, and a client keeps what it was told.
-use Rattle.std.proofs.Common.{◌≡◌, ℕ, zero, suc, ◌+◌, ◌-◌, ◌<◌, ◌≤◌, ◌==◌, ◌&&◌, nat_le, nat_lt, Bool, true, false, cond, List, [], ◌∷◌, ◌++◌, fold, length, Option, Some, None, slice_get, refl, sym, ap, ◌∙◌, subst, arith, eq-eqb, eqb-true}
+use Rattle.std.proofs.Common.{◌≡◌, ℕ, zero, suc, ◌+◌, ◌-◌, ◌<◌, ◌≤◌, ◌==◌, ◌&&◌, nat_le, nat_lt, Bool, true, false, List, [], ◌∷◌, ◌++◌, fold, Some, slice_get, refl, sym, ap, ◌∙◌, subst, arith, eq-eqb, eqb-true}
 use Rattle.std.specs.Prelude.{replicate, slice_set}
-use Rattle.std.proofs.lemmas.Bool.{leb-true, ltb-false, ltb-true}
+use Rattle.std.proofs.lemmas.Bool.{leb-true, ltb-true}
 use Rattle.std.proofs.lemmas.List.Sums.{fold-append}
 use Rattle.qc_decl.specs.Accepted.{IsAccepted}
 use Rattle.qc_decl.specs.Actors.{actors, controller, is_client, is_site}
@@ -12,8 +12,8 @@ use Rattle.qc_msg.specs.declared.step.Given.{Given}
 use Rattle.qc_msg.specs.declared.step.Given.TheVariants as given
 use Rattle.qc_msg.specs.declared.step.Step.{Step}
 use Rattle.qc_msg.specs.declared.turn.Turn.{Turn}
-use Rattle.qc_msg.specs.Deeds.{Deed, Takes, deeds, mail, turn_deeds}
-use Rattle.qc_msg.specs.Steps.{Entry, by, marked, posted, step_of}
+use Rattle.qc_msg.specs.Deeds.{Deed, Takes, deeds, turn_deeds}
+use Rattle.qc_msg.specs.Steps.{Entry}
 use Rattle.qc_msg.specs.Turns.{quiet}
 use Rattle.qc_script.specs.Ready.{phase_of}
 use Rattle.qc_script.specs.Runs.{Runs}
@@ -26,20 +26,18 @@ use Rattle.qc_client.specs.Inputs.{IsReady}
 use Rattle.qc_core.specs.Acts.{Acts, MayTake, is_running}
 use Rattle.qc_core.specs.Acts as acts
 use Rattle.qc_core.specs.Conduct.{IsLawful}
-use Rattle.qc_core.proofs.ActorSent.{Known, known}
+use Rattle.qc_core.proofs.ActorSent.{known}
 use Rattle.qc_core.proofs.ClientStands.{Stands}
 use Rattle.qc_laws.specs.Turns.{ActsIn}
 use Rattle.qc_laws.proofs.Acted.{run_acts}
 use Rattle.qc_laws.proofs.Arrivals.{what_is_ready_was_sent}
 use Rattle.qc_laws.proofs.Numbered.{IsSilent, control_silent, phase_silent}
 use Rattle.qc_laws.proofs.Places.{slice_get-set_other, slice_get-set_same}
-use Rattle.qc_records.specs.Books.{book_of}
 use Rattle.qc_records.specs.Deals.{Dealing, deal, deal_taken, dealing_in, no_dealing}
 use Rattle.qc_records.proofs.Events.{Events, IsControl}
 use Rattle.qc_records.proofs.Events as events
-use Rattle.qc_records.specs.Written.{written_in, written_by}
+use Rattle.qc_records.specs.Written.{written_in}
 use Rattle.qc_records.proofs.Bounding.{lawful_turn, turn-posts}
-use Rattle.qc_records.proofs.Dealing.{IsBook}
 use Rattle.qc_records.proofs.DealtClients.{IsAfter, Keeps, at_rest, commits_of, input-keeps, posts-keep, taken-keeps, turn_told}
 use Rattle.qc_records.proofs.DealtFronts.{told_deal}
 use Rattle.qc_records.proofs.WrittenDeeds.{desk_posts, written-more, written-turn}
@@ -189,9 +187,9 @@ module _ (decl : Declaration) (accepted : IsAccepted decl) (a : ℕ) (no_site : 
       let old : IsTaken before = deals_acts before true m done in
       let its : turn ≡ (client_after decl (a - decl.sites) before).turn = lawful_turn (λ (t : Turn). t ≡ (client_after decl (a - decl.sites) before).turn) decl a before turn lawful (λ is. absurd (let no : ⊥ = cc in no)) (λ is named. refl) in
       let told : dealing_in (before ++ turn_deeds first turn) tx ≡ told_deal tx (dealing_in before tx) (client_after decl (a - decl.sites) before).turn.told =
-          fold-append (deal tx) no_dealing before (turn_deeds first turn) ∙ turn_told tx (dealing_in before tx) first turn ∙ ap (λ (t : Turn). told_deal tx (dealing_in before tx) t.told) its in
+      fold-append (deal tx) no_dealing before (turn_deeds first turn) ∙ turn_told tx (dealing_in before tx) first turn ∙ ap (λ (t : Turn). told_deal tx (dealing_in before tx) t.told) its in
       let move : client_after decl (a - decl.sites) (before ++ turn_deeds first turn) ≡ fold (client_does decl) (client_after decl (a - decl.sites) before) (turn_deeds first turn) =
-          fold-append (client_does decl) (moved (new_client (a - decl.sites)) quiet) before (turn_deeds first turn) in
+      fold-append (client_does decl) (moved (new_client (a - decl.sites)) quiet) before (turn_deeds first turn) in
       record {
         keeps = subst (λ (d : Dealing). Keeps (a - decl.sites) tx d d (client_after decl (a - decl.sites) (before ++ turn_deeds first turn)).client) (sym told)
             (subst (λ (x : ClientMove). Keeps (a - decl.sites) tx (told_deal tx (dealing_in before tx) (client_after decl (a - decl.sites) before).turn.told) (told_deal tx (dealing_in before tx) (client_after decl (a - decl.sites) before).turn.told) x.client) (sym move)

@@ -1,29 +1,25 @@
 -- In every run each deed of a client is right for each transaction: questions come only about begun ones.
-use Rattle.std.proofs.Common.{◌≡◌, ◌≢◌, ℕ, ◌+◌, ◌-◌, ◌==◌, Bool, true, false, cond, List, [], ◌∷◌, ◌++◌, fold, length, Option, Some, None, slice_get, inl, inr, refl, sym, ap, ◌∙◌, subst, eqb-true}
+use Rattle.std.proofs.Common.{◌≡◌, ◌≢◌, ℕ, ◌+◌, ◌-◌, ◌==◌, Bool, true, false, List, [], ◌∷◌, ◌++◌, fold, length, Some, slice_get, inl, inr, refl, sym, ap, ◌∙◌, subst, eqb-true}
 use Rattle.std.specs.List.{AllByRecursion as Every}
 use Rattle.std.specs.Prelude.{slice_set}
 use Rattle.std.proofs.lemmas.List.Sums.{fold-append}
 use Rattle.qc_list.specs.Members.{In}
 use Rattle.qc_list.proofs.Members.{In-first, In-second, every-In, every-append, every-at, every-from_In, every-weaker}
 use Rattle.qc_stamp.specs.declared.stamp.TxId.{TxId}
-use Rattle.qc_stamp.specs.Order.{same_tx}
 use Rattle.qc_stamp.proofs.Orders.{same_tx_is}
 use Rattle.qc_decl.specs.Accepted.{IsAccepted}
-use Rattle.qc_decl.specs.Actors.{actors, client_actor, controller, is_client, is_site}
+use Rattle.qc_decl.specs.Actors.{client_actor, controller, is_client, is_site}
 use Rattle.qc_decl.specs.declared.declaration.Declaration.{Declaration}
 use Rattle.qc_lock.specs.declared.held.Held.{Held}
 use Rattle.qc_msg.specs.declared.message.Envelope.{Envelope}
 use Rattle.qc_msg.specs.declared.message.Message.{Message}
 use Rattle.qc_msg.specs.declared.message.Message.TheVariants as messages
-use Rattle.qc_msg.specs.declared.message.Want.{Want}
-use Rattle.qc_msg.specs.declared.record.Record.{Record}
-use Rattle.qc_msg.specs.declared.reply.Reply.{Reply}
 use Rattle.qc_msg.specs.declared.step.Given.{Given}
 use Rattle.qc_msg.specs.declared.step.Given.TheVariants as given
 use Rattle.qc_msg.specs.declared.step.Step.{Step}
 use Rattle.qc_msg.specs.declared.turn.Posting.{Posting}
 use Rattle.qc_msg.specs.declared.turn.Turn.{Turn}
-use Rattle.qc_msg.specs.Deeds.{Deed, Takes, Writes, Sends, Tells as Replies, WasSentTo, deeds, envelopes, mail, sends_of, tells_of, turn_deeds, writes_of}
+use Rattle.qc_msg.specs.Deeds.{Deed, Takes, Sends, WasSentTo, deeds, envelopes, mail, sends_of, tells_of, turn_deeds, writes_of}
 use Rattle.qc_msg.specs.Steps.{Entry, by, marked, posted, step_of}
 use Rattle.qc_msg.specs.Turns.{quiet}
 use Rattle.qc_msg.proofs.Growth.{deeds-append, deeds-other, deeds-posted, deeds-taken, mail-append, mail-posted, mail-taken}
@@ -31,24 +27,22 @@ use Rattle.qc_script.specs.Ready.{phase_of}
 use Rattle.qc_script.specs.Runs.{Runs}
 use Rattle.qc_script.specs.Runs as runs
 use Rattle.qc_script.specs.declared.script.Script.{Script}
-use Rattle.qc_client.specs.Client.{ClientMove}
-use Rattle.qc_client.specs.Conduct.{client_after}
 use Rattle.qc_core.specs.Conduct.{IsLawful}
 use Rattle.qc_site.specs.Conduct.{site_after, site_does, site_takes}
 use Rattle.qc_site.specs.Site.{SiteMove, moved as site_moved, new_site}
 use Rattle.qc_laws.specs.Turns.{ActsIn}
-use Rattle.qc_laws.proofs.Acted.{has_place, run_acts}
+use Rattle.qc_laws.proofs.Acted.{run_acts}
 use Rattle.qc_laws.proofs.Arrivals.{what_is_ready_was_sent}
 use Rattle.qc_laws.proofs.Numbered.{control_silent, phase_silent}
 use Rattle.qc_laws.proofs.Places.{slice_get-set_same}
-use Rattle.qc_records.specs.Status.{AreRight, Status, status, status_at}
+use Rattle.qc_records.specs.Status.{Status, status, status_at}
 use Rattle.qc_records.specs.Status.{Unborn}
 use Rattle.qc_records.proofs.Bounding.{control-deeds, control-mail, lawful_turn, site_posts, turn-posts}
 use Rattle.qc_records.proofs.Events.{IsControl}
-use Rattle.qc_records.proofs.InRuns.{HasPlace, IsResting, client_no_site, client_number, deals_acts, run_place, silent_is}
+use Rattle.qc_records.proofs.InRuns.{IsResting, client_no_site, client_number, deals_acts, silent_is}
 use Rattle.qc_records.proofs.Lasting.{born_on, request_born}
-use Rattle.qc_records.proofs.SitesAsk.{Asks, GivenTells, HeldFor, SiteTells, Tells, site_asks}
-use Rattle.qc_records.proofs.StatusActs.{HasPage, IsKnown, IsKnownIn, KnownFrom, Rests, Turns, known-append, known-posts, pages, rights, status_acts}
+use Rattle.qc_records.proofs.SitesAsk.{Asks, GivenTells, SiteTells, Tells, site_asks}
+use Rattle.qc_records.proofs.StatusActs.{IsKnown, IsKnownIn, KnownFrom, Rests, Turns, known-append, known-posts, status_acts}
 use Rattle.qc_records.proofs.Statuses.{IsNoInquiry, NoInquiries}
 
 -- the transaction was begun, as its client's deeds show
@@ -159,9 +153,9 @@ module _ (decl : Declaration) where
     known_in tx to (messages.Answer asked answer) at tells = tt
     known_in tx to (messages.Decision other verdict) at tells = tt
     known_in tx to (messages.Inquiry other) at tells = λ same. (let is : other ≡ tx = same_tx_is other tx same in
-      let its : Born decl h tx = subst (Born decl h) is tells.1 in
-      let actor : client_actor decl tx.client ≡ b = ap (λ (t : TxId). client_actor decl t.client) (sym is) ∙ sym tells.0 ∙ at in
-      subst (λ (a : ℕ). status (deeds a [] h) tx ≢ Unborn) actor its)
+        let its : Born decl h tx = subst (Born decl h) is tells.1 in
+        let actor : client_actor decl tx.client ≡ b = ap (λ (t : TxId). client_actor decl t.client) (sym is) ∙ sym tells.0 ∙ at in
+        subst (λ (a : ℕ). status (deeds a [] h) tx ≢ Unborn) actor its)
     known_in tx to (messages.Ask other) at tells = tt
     known_in tx to (messages.Close epoch) at tells = tt
     known_in tx to (messages.Install epoch clock log) at tells = tt
@@ -294,9 +288,9 @@ module _ (decl : Declaration) (script : Script) (accepted : IsAccepted decl) whe
     said p among (messages.Request tx epoch life want) is =
         let d : IsDone p (turn_deeds (length (mail older)) turn) = in_turn (length (mail older)) turn p among in
         let whole : In (Sends d.number p.to p.message) (deeds b [] (older ++ by b (posted (length (mail older)) turn))) =
-            subst (In (Sends d.number p.to p.message)) (sym (deeds-posted b (length (mail older)) older turn)) (In-second (Sends d.number p.to p.message) (deeds b [] older) (turn_deeds (length (mail older)) turn) d.among) in
+        subst (In (Sends d.number p.to p.message)) (sym (deeds-posted b (length (mail older)) older turn)) (In-second (Sends d.number p.to p.message) (deeds b [] older) (turn_deeds (length (mail older)) turn) d.among) in
         let asked : In (Sends d.number p.to (messages.Request tx epoch life want)) (deeds b [] (older ++ by b (posted (length (mail older)) turn))) =
-            subst (λ (x : Message). In (Sends d.number p.to x) (deeds b [] (older ++ by b (posted (length (mail older)) turn)))) is whole in
+        subst (λ (x : Message). In (Sends d.number p.to x) (deeds b [] (older ++ by b (posted (length (mail older)) turn)))) is whole in
         born_here tx (request_born tx Unborn (deeds b [] (older ++ by b (posted (length (mail older)) turn))) d.number p.to epoch life want (rests tx).right asked)
     said p among (messages.Answer asked answer) is = tt
     said p among (messages.Decision tx verdict) is = tt

@@ -1,5 +1,5 @@
 -- What the calls of a client ask of clocks and counts, from the bounds of a history.
-use Rattle.std.proofs.Common.{◌≡◌, ℕ, ◌+◌, ◌-◌, ◌^◌, ◌<◌, ◌≤◌, Bool, true, false, List, [], length, Option, Some, slice_get, arith}
+use Rattle.std.proofs.Common.{◌≡◌, ℕ, ◌+◌, ◌-◌, ◌^◌, ◌<◌, ◌≤◌, Bool, true, false, List, [], length, Some, slice_get, arith}
 use Rattle.qc_list.specs.Members.{In}
 use Rattle.qc_list.proofs.Members.{every-In}
 use Rattle.qc_decl.specs.Accepted.{IsAccepted}
@@ -8,8 +8,6 @@ use Rattle.qc_decl.specs.Limits.{most_steps}
 use Rattle.qc_decl.specs.declared.declaration.Declaration.{Declaration}
 use Rattle.qc_client.specs.Conduct.{client_after}
 use Rattle.qc_client.specs.Fits.{ClientFits, promise_in}
-use Rattle.qc_client.specs.declared.client.Client.{Client}
-use Rattle.qc_msg.specs.declared.message.Answer.{Answer}
 use Rattle.qc_msg.specs.declared.message.Envelope.{Envelope}
 use Rattle.qc_msg.specs.declared.message.Message.{Message}
 use Rattle.qc_msg.specs.declared.message.Message.TheVariants as messages
@@ -97,8 +95,8 @@ module _ (decl : Declaration) (script : Script) (h : List Entry) (open_inputs : 
       lawful_turn (λ (t : Turn). length t.sends ≤ 16) decl a (deeds a [] h) turn lawful
       (λ is. (let few : length (site_after decl a (deeds a [] h)).turn.sends ≤ 2 = sites_short decl a (deeds a [] h) in omega arith))
       (λ is named. (let turns : ActsIn decl a h true = run_acts decl script h open_inputs run a true taken in
-        let short : IsClientShort decl (client_after decl (a - decl.sites) (deeds a [] h)) = clients_short decl a accepted (stands a accepted named) (deeds a [] h) true turns.above turns.acts in
-        short.few))
+      let short : IsClientShort decl (client_after decl (a - decl.sites) (deeds a [] h)) = clients_short decl a accepted (stands a accepted named) (deeds a [] h) true turns.above turns.acts in
+      short.few))
 
   pub run_numbers : length h < most_steps → length (mail h) + 16 < 2 ^ 32
   run_numbers short = let low : length (mail h) ≤ length h = length-mail h in omega arith

@@ -1,5 +1,5 @@
 -- In every run records are apart, and just what their clients were told.
-use Rattle.std.proofs.Common.{◌≡◌, ◌≢◌, ℕ, ◌+◌, ◌-◌, ◌<◌, ◌≤◌, ◌↔◌, nat_le, nat_lt, Bool, true, List, [], refl, sym, ap, ◌∙◌, subst, arith}
+use Rattle.std.proofs.Common.{◌≡◌, ◌≢◌, ℕ, ◌+◌, ◌-◌, ◌<◌, ◌↔◌, nat_le, nat_lt, Bool, true, List, [], refl, sym, ap, ◌∙◌, subst, arith}
 use Rattle.std.specs.List.{AllPairs}
 use Rattle.std.proofs.lemmas.Bool.{le-leb, lt-ltb}
 use Rattle.qc_list.specs.Members.{In}
@@ -8,11 +8,9 @@ use Rattle.qc_decl.specs.Actors.{client_actor, is_client}
 use Rattle.qc_decl.specs.declared.declaration.Declaration.{Declaration}
 use Rattle.qc_stamp.specs.declared.stamp.Stamp.{Stamp}
 use Rattle.qc_stamp.specs.declared.stamp.TxId.{TxId}
-use Rattle.qc_entry.specs.declared.line.Op.{Op}
 use Rattle.qc_entry.specs.declared.record.Commit.{Commit}
 use Rattle.qc_msg.specs.declared.reply.Reply.{Reply}
 use Rattle.qc_msg.specs.declared.reply.Reply.TheVariants as replies
-use Rattle.qc_msg.specs.declared.reply.Why.{Why}
 use Rattle.qc_msg.specs.Deeds.{deeds}
 use Rattle.qc_msg.specs.Steps.{Entry}
 use Rattle.qc_onecopy.specs.Committed.{AreApart, IsStampedBefore}
@@ -22,7 +20,7 @@ use Rattle.qc_script.specs.Runs.{Runs}
 use Rattle.qc_script.specs.declared.script.Script.{Script}
 use Rattle.qc_core.specs.Conduct.{IsLawful}
 use Rattle.qc_records.specs.Committed.{committed, records}
-use Rattle.qc_records.specs.Deals.{dealing_in, deals, endings}
+use Rattle.qc_records.specs.Deals.{endings}
 use Rattle.qc_records.specs.Told.{AreDealt, AreTold, HasCommit}
 use Rattle.qc_records.specs.Written.{written_in}
 use Rattle.qc_records.proofs.Dealing.{HasRecord, IsAbort}
@@ -151,5 +149,5 @@ module _ (decl : Declaration) (script : Script) (h : List Entry) (open_inputs : 
     aborted = λ n tx why c low among listed_c. no_abort n tx (replies.Aborted why) c low among tt listed_c;
     dropped = λ n tx c low among listed_c. no_abort n tx replies.Dropped c low among tt listed_c;
     each = λ c among. (let listed : In c (records decl h) = listed_in c among in
-      ((kept (client_actor decl c.tx.client) (its_client c listed) c.tx).keeps.dealing.done c (its_record c listed c.tx) refl).1);
+        ((kept (client_actor decl c.tx.client) (its_client c listed) c.tx).keeps.dealing.done c (its_record c listed c.tx) refl).1);
   }

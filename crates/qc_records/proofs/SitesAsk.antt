@@ -1,9 +1,7 @@
 -- A site holds something only for transactions that it was asked for, and asks clients only about these.
-use Rattle.std.proofs.Common.{◌≡◌, ℕ, ◌+◌, ◌&&◌, ◌==◌, not, Bool, true, false, cond, List, [], ◌∷◌, ◌++◌, fold, length, Option, Some, None, inl, inr, refl, sym, ap, subst}
-use Rattle.std.specs.Prelude.{filter}
+use Rattle.std.proofs.Common.{◌≡◌, ℕ, ◌&&◌, ◌==◌, not, Bool, true, false, cond, List, [], ◌∷◌, length, Some, refl, sym, subst}
 use Rattle.std.specs.List.{AllByRecursion as Every}
 use Rattle.qc_list.proofs.Members.{every-In, every-filter}
-use Rattle.qc_stamp.specs.declared.stamp.Stamp.{Stamp}
 use Rattle.qc_stamp.specs.declared.stamp.TxId.{TxId}
 use Rattle.qc_stamp.specs.Order.{same_tx}
 use Rattle.qc_entry.specs.declared.line.OwnLine.{OwnLine}
@@ -13,7 +11,7 @@ use Rattle.qc_decl.specs.declared.declaration.Declaration.{Declaration}
 use Rattle.qc_lock.specs.declared.clash.Clash.{Clash}
 use Rattle.qc_lock.specs.declared.held.Held.{Held}
 use Rattle.qc_lock.specs.Clash.{append_clash, read_clash}
-use Rattle.qc_lock.specs.Conflict.{In, IsAppendConflict, IsReadConflict, IsSmallest}
+use Rattle.qc_lock.specs.Conflict.{IsAppendConflict, IsReadConflict, IsSmallest}
 use Rattle.qc_lock.proofs.Conflicts.{append_smallest, read_smallest}
 use Rattle.qc_lock.specs.Held.{held_of, with_entry, with_held, with_locks, with_owns, without_held}
 use Rattle.qc_msg.specs.declared.message.Answer.{Answer}
@@ -28,7 +26,6 @@ use Rattle.qc_msg.specs.declared.step.Given.TheVariants as given
 use Rattle.qc_msg.specs.declared.turn.Posting.{Posting}
 use Rattle.qc_msg.specs.Turns.{quiet}
 use Rattle.qc_site.specs.Conduct.{passed, site_at, site_takes}
-use Rattle.qc_site.specs.Promise.{finishes, lines_of}
 use Rattle.qc_site.specs.Requests.{clashing, grants, relation_at}
 use Rattle.qc_site.specs.Site.{SiteMove, SiteState, answers, moved}
 use Rattle.qc_site.proofs.Cases.{append_cases, join_cases, prepare_cases, read_cases, request_cases}

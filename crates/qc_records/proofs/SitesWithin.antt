@@ -1,13 +1,10 @@
 -- What a site becomes and sends stays within a bound that what it takes keeps to.
-use Rattle.std.proofs.Common.{◌≡◌, ℕ, ◌≤◌, ◌==◌, max, Bool, cond, List, [], ◌∷◌, ◌++◌, fold, filter, Option, Some, None, refl, sym, ap, subst, arith}
-use Rattle.std.specs.List.{AllByRecursion as Every}
+use Rattle.std.proofs.Common.{ℕ, ◌≤◌, ◌==◌, max, List, [], ◌∷◌, fold, arith}
 use Rattle.qc_list.proofs.Members.{every-filter}
 use Rattle.qc_stamp.specs.declared.stamp.Stamp.{Stamp}
 use Rattle.qc_stamp.specs.declared.stamp.TxId.{TxId}
 use Rattle.qc_entry.specs.declared.line.Line.{Line}
 use Rattle.qc_entry.specs.declared.line.OwnLine.{OwnLine}
-use Rattle.qc_entry.specs.declared.record.Prepared.{Prepared}
-use Rattle.qc_entry.specs.Log.{union}
 use Rattle.qc_entry.proofs.Union.{every-union}
 use Rattle.qc_decl.specs.declared.declaration.Declaration.{Declaration}
 use Rattle.qc_lock.specs.declared.clash.Clash.{Clash as Conflict}
@@ -22,13 +19,13 @@ use Rattle.qc_msg.specs.declared.message.Want.TheVariants.{Read, Append, Prepare
 use Rattle.qc_msg.specs.declared.step.Given.{Given}
 use Rattle.qc_msg.specs.declared.step.Given.TheVariants as given
 use Rattle.qc_msg.specs.Turns.{quiet}
-use Rattle.qc_site.specs.Conduct.{latest, passed, site_at, site_on, site_takes}
-use Rattle.qc_site.specs.Promise.{dropped, finishes, joins, lines_of, prepares, promise_of, promised, stamped, votes, with_stamped}
-use Rattle.qc_site.specs.Requests.{appends, clashing, fault_of, grants, reads}
+use Rattle.qc_site.specs.Conduct.{latest, passed, site_at, site_takes}
+use Rattle.qc_site.specs.Promise.{finishes, lines_of, stamped, with_stamped}
+use Rattle.qc_site.specs.Requests.{clashing, grants}
 use Rattle.qc_site.specs.Site.{SiteMove, SiteState, answers, moved}
 use Rattle.qc_site.proofs.Cases.{append_cases, fault_is, join_cases, prepare_cases, read_cases, request_cases}
 use Rattle.qc_records.proofs.Greater.{lines-le, sends-le}
-use Rattle.qc_records.specs.Within.{AnswerWithin, GivenWithin, LinesWithin, MessageWithin, OutcomeWithin, SendsWithin, SiteMoveWithin, SiteWithin, WantWithin}
+use Rattle.qc_records.specs.Within.{AnswerWithin, GivenWithin, LinesWithin, MessageWithin, OutcomeWithin, SiteMoveWithin, SiteWithin, WantWithin}
 
 -- a greater bound
 

@@ -1,10 +1,8 @@
 -- Over all that a client does by turns, each deed is right for each transaction.
-use Rattle.std.proofs.Common.{◌≡◌, ◌≢◌, ℕ, ◌+◌, ◌-◌, ◌⊎◌, inl, inr, Bool, true, false, cond, List, [], ◌∷◌, ◌++◌, fold, Option, Some, None, is_some, refl, sym, ap, ◌∙◌, subst}
+use Rattle.std.proofs.Common.{◌≡◌, ◌≢◌, ℕ, ◌+◌, ◌-◌, inl, inr, Bool, true, false, cond, List, [], ◌∷◌, ◌++◌, fold, Option, Some, None, is_some, refl, sym, ap, ◌∙◌, subst}
 use Rattle.std.specs.List.{AllByRecursion as Every}
 use Rattle.std.proofs.lemmas.List.Sums.{fold-append}
 use Rattle.qc_list.specs.Members.{In}
-use Rattle.qc_list.proofs.Members.{every-weaker}
-use Rattle.qc_stamp.specs.declared.stamp.Stamp.{Stamp}
 use Rattle.qc_stamp.specs.declared.stamp.TxId.{TxId}
 use Rattle.qc_stamp.specs.Order.{same_tx}
 use Rattle.qc_stamp.proofs.Orders.{same_tx_is, same_tx_itself}
@@ -16,7 +14,6 @@ use Rattle.qc_msg.specs.declared.begun.Begun.{Begun as BegunTransaction}
 use Rattle.qc_msg.specs.declared.message.Answer.{Answer}
 use Rattle.qc_msg.specs.declared.message.Message.{Message}
 use Rattle.qc_msg.specs.declared.message.Message.TheVariants as messages
-use Rattle.qc_msg.specs.declared.message.Outcome.{Outcome}
 use Rattle.qc_msg.specs.declared.message.Want.TheVariants.{Append, Prepare, Read}
 use Rattle.qc_msg.specs.declared.reply.Reply.{Reply}
 use Rattle.qc_msg.specs.declared.reply.Reply.TheVariants as replies
@@ -32,7 +29,6 @@ use Rattle.qc_commit.specs.declared.desk.Voting.{Voting}
 use Rattle.qc_commit.specs.Conduct as desks
 use Rattle.qc_commit.specs.Conduct.{commit_of}
 use Rattle.qc_commit.specs.Desk.{DeskMove, known_by, record_of}
-use Rattle.qc_front.specs.declared.front.Front.{Front}
 use Rattle.qc_front.specs.declared.transaction.Transaction.{Transaction}
 use Rattle.qc_front.specs.Conduct as fronts
 use Rattle.qc_front.specs.Front.{FrontMove, ended, next_tx}
@@ -46,8 +42,8 @@ use Rattle.qc_records.specs.Status.{Unborn, Begun, Committed, Dead}
 use Rattle.qc_records.proofs.Bounding.{lawful_turn, turn-posts}
 use Rattle.qc_records.proofs.ClientsWithin.{IsPost}
 use Rattle.qc_records.proofs.Dealing.{HasRecord, begun_tx}
-use Rattle.qc_records.proofs.DealtClients.{Holds, IsHandMove, IsInHand, prepare-it, vote-it}
-use Rattle.qc_records.proofs.FrontKinds.{BeginsOne, FrontKind, GivesUp, GoesOn, IsRequestFor, ToldNeutral, called-kind, name_in, takes-kind}
+use Rattle.qc_records.proofs.DealtClients.{IsHandMove, IsInHand, prepare-it, vote-it}
+use Rattle.qc_records.proofs.FrontKinds.{FrontKind, IsRequestFor, ToldNeutral, called-kind, name_in, takes-kind}
 use Rattle.qc_records.proofs.InRuns.{IsResting, KeptBy, deals_acts}
 use Rattle.qc_records.specs.Written.{written_in}
 use Rattle.qc_records.proofs.WrittenDeeds.{written-more}
@@ -311,8 +307,8 @@ module _ (decl : Declaration) (accepted : IsAccepted decl) (a : ℕ) (no_site : 
       let its : (client_after decl (a - decl.sites) before).turn ≡ turn = sym (lawful_turn (λ (t : Turn). t ≡ (client_after decl (a - decl.sites) before).turn) decl a before turn lawful (λ is. absurd (let no : ⊥ = cc in no)) (λ is named. refl)) in
       let same : status (before ++ turn_deeds first turn) tx ≡ fold (status_at tx) (status before tx) (turn_deeds first turn) = fold-append (status_at tx) Unborn before (turn_deeds first turn) in
       let page : page_of (client_after decl (a - decl.sites) (before ++ turn_deeds first turn)).client ≡ page_of (client_after decl (a - decl.sites) before).client =
-          ap (λ (x : ClientMove). page_of x.client) (fold-append (client_does decl) (moved (new_client (a - decl.sites)) quiet) before (turn_deeds first turn))
-          ∙ page_posts decl (client_after decl (a - decl.sites) before) (turn_deeds first turn) (turn-posts first turn) in
+      ap (λ (x : ClientMove). page_of x.client) (fold-append (client_does decl) (moved (new_client (a - decl.sites)) quiet) before (turn_deeds first turn))
+      ∙ page_posts decl (client_after decl (a - decl.sites) before) (turn_deeds first turn) (turn-posts first turn) in
       record {
         right = right-append tx Unborn before (turn_deeds first turn) old.right (subst (λ (t : Turn). AreRightFrom tx (status before tx) (turn_deeds first t)) its (old.turn.right first));
         status = subst (λ (p : Page). IsStatus tx (status (before ++ turn_deeds first turn) tx) p) (sym page)

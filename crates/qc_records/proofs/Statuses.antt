@@ -1,8 +1,6 @@
 -- How a transaction's status goes on over a client's turns, and that each of their deeds is right for it.
-use Rattle.std.proofs.Common.{◌≡◌, ◌≢◌, ℕ, ◌+◌, ◌<◌, ◌≤◌, ◌⊎◌, inl, inr, Bool, true, false, cond, List, [], ◌∷◌, ◌++◌, fold, map, Option, Some, None, refl, sym, ap, ◌∙◌, subst, arith}
+use Rattle.std.proofs.Common.{◌≡◌, ◌≢◌, ℕ, ◌+◌, ◌<◌, ◌⊎◌, inl, inr, Bool, true, false, cond, List, [], ◌∷◌, ◌++◌, fold, map, Option, Some, None, refl, sym, ap, ◌∙◌, subst, arith}
 use Rattle.std.specs.List.{AllByRecursion as Every}
-use Rattle.std.proofs.lemmas.List.{append-nil}
-use Rattle.std.proofs.lemmas.List.Sums.{fold-append}
 use Rattle.qc_list.specs.Members.{In}
 use Rattle.qc_list.proofs.Members.{In-first, In-last, In-more, every-weaker}
 use Rattle.qc_stamp.specs.declared.stamp.Stamp.{Stamp}
@@ -21,8 +19,8 @@ use Rattle.qc_msg.specs.declared.reply.Reply.{Reply}
 use Rattle.qc_msg.specs.declared.reply.Reply.TheVariants as replies
 use Rattle.qc_msg.specs.declared.turn.Posting.{Posting}
 use Rattle.qc_msg.specs.declared.turn.Turn.{Turn}
-use Rattle.qc_msg.specs.Deeds.{Deed, Takes, Writes, Sends, Tells, sends_of, tells_of, turn_deeds, writes_of}
-use Rattle.qc_records.specs.Status.{AreRightFrom, IsRightReply, IsRightVerdict, Status, given_up, status_at, status_told}
+use Rattle.qc_msg.specs.Deeds.{Deed, Sends, Tells, sends_of, tells_of, turn_deeds, writes_of}
+use Rattle.qc_records.specs.Status.{AreRightFrom, IsRightVerdict, Status, given_up, status_at, status_told}
 use Rattle.qc_records.specs.Status.{Unborn, Begun, Committed, Dead}
 use Rattle.qc_records.proofs.Dealing.{HasRecord, IsAbort}
 use Rattle.qc_records.proofs.FrontKinds.{IsRequestFor, ToldNeutral}
@@ -137,7 +135,7 @@ commits_one tx s p x named w = by (same_tx x.tx tx) refl where
     is_begun = λ e. absurd (let old : p.name ≡ Some tx = w.is_begun e in let same : x.tx ≡ tx = cc in let yes : same_tx x.tx tx ≡ true = tx_test x.tx tx same in let no : ⊥ = cc in no);
     committed = λ c among its. one c its (In-more c x p.commits among);
     is_committed = λ stamp e. (let r : HasRecord p.commits tx stamp = w.is_committed stamp e in
-      record { commit = r.commit; listed = In-first r.commit p.commits (x ∷ []) r.listed; named = r.named; stamped = r.stamped });
+        record { commit = r.commit; listed = In-first r.commit p.commits (x ∷ []) r.listed; named = r.named; stamped = r.stamped });
     unborn = w.unborn;
     mine = w.mine;
   } where
@@ -258,7 +256,7 @@ goes_right tx s turn p w unwritten sends told = record {
   asks = every-weaker (λ (q : Posting). IsRequestFor p.name q.message) (λ (q : Posting). IsNoInquiry q.message) (λ q. request_asks p.name q.message) turn.sends sends;
   right = λ n. subst (AreRightFrom tx s) (sym (turn_is turn None turn.sends turn.told n unwritten refl refl)) (talk_right tx s p.name w.begun n turn.sends turn.told sends told);
   status = λ n. subst (λ (ds : List Deed). IsStatus tx (fold (status_at tx) s ds) p) (sym (turn_is turn None turn.sends turn.told n unwritten refl refl))
-  (subst (λ (v : Status). IsStatus tx v p) (sym (talk_same tx s p.name w.begun n turn.sends turn.told sends told)) w);
+      (subst (λ (v : Status). IsStatus tx v p) (sym (talk_same tx s p.name w.begun n turn.sends turn.told sends told)) w);
 }
 
 -- it is given up: that is told to sites and to the caller
@@ -340,9 +338,9 @@ pub gives_right : (tx : TxId) (s : Status) (turn : Turn) (p : Page) (b : BegunTr
 gives_right tx s turn p b reply w named abort unwritten sends told = record {
   asks = subst NoInquiries (sym sends) (verdicts_ask b.tx outcomes.Aborted b.asked);
   right = λ n. subst (AreRightFrom tx s) (sym (turn_is turn None (aborts_of b.tx b.asked) (Some reply) n unwritten sends told))
-  (aborts_right tx b.tx reply abort s n b.asked (λ is. inl (w.begun (named ∙ ap (λ (t : TxId). Some t) (same_tx_is b.tx tx is)))));
+      (aborts_right tx b.tx reply abort s n b.asked (λ is. inl (w.begun (named ∙ ap (λ (t : TxId). Some t) (same_tx_is b.tx tx is)))));
   status = λ n. subst (λ (ds : List Deed). IsStatus tx (fold (status_at tx) s ds) (record p { name = None })) (sym (turn_is turn None (aborts_of b.tx b.asked) (Some reply) n unwritten sends told))
-  (subst (λ (v : Status). IsStatus tx v (record p { name = None })) (sym (aborts_same tx b.tx reply abort s n b.asked)) (gave_up tx s p w));
+      (subst (λ (v : Status). IsStatus tx v (record p { name = None })) (sym (aborts_same tx b.tx reply abort s n b.asked)) (gave_up tx s p w));
 }
 
 -- one begins
@@ -378,9 +376,9 @@ pub commits_right : (tx : TxId) (s : Status) (turn : Turn) (p : Page) (c : Commi
 commits_right tx s turn p c sites w named write sends told = record {
   asks = subst NoInquiries (sym sends) (verdicts_ask c.tx (outcomes.Committed c.stamp) sites);
   right = λ n. subst (AreRightFrom tx s) (sym (turn_is turn (Some (records.Commit c)) (commits_of c.tx c.stamp sites) (Some (replies.Committed c.stamp)) n write sends told))
-  ((λ is. w.begun (named ∙ ap (λ (t : TxId). Some t) (same_tx_is c.tx tx is))), told_right tx c.tx c.stamp (cond (same_tx c.tx tx) (Committed c.stamp) s) n sites (λ is. ap (λ (t : Bool). cond t (Committed c.stamp) s) is));
+      ((λ is. w.begun (named ∙ ap (λ (t : TxId). Some t) (same_tx_is c.tx tx is))), told_right tx c.tx c.stamp (cond (same_tx c.tx tx) (Committed c.stamp) s) n sites (λ is. ap (λ (t : Bool). cond t (Committed c.stamp) s) is));
   status = λ n. subst (λ (ds : List Deed). IsStatus tx (fold (status_at tx) s ds) (record p { commits = p.commits ++ c ∷ []; name = None })) (sym (turn_is turn (Some (records.Commit c)) (commits_of c.tx c.stamp sites) (Some (replies.Committed c.stamp)) n write sends told))
-  (subst (λ (v : Status). IsStatus tx v (record p { commits = p.commits ++ c ∷ []; name = None })) (sym (told_same tx c.tx c.stamp (cond (same_tx c.tx tx) (Committed c.stamp) s) n sites)) (commits_one tx s p c named w));
+      (subst (λ (v : Status). IsStatus tx v (record p { commits = p.commits ++ c ∷ []; name = None })) (sym (told_same tx c.tx c.stamp (cond (same_tx c.tx tx) (Committed c.stamp) s) n sites)) (commits_one tx s p c named w));
 }
 
 -- a question is answered by how the transaction stands
@@ -409,5 +407,5 @@ verdict_right tx s turn p x to verdict w unwritten sends told is = record {
   asks = subst NoInquiries (sym sends) (tt, tt);
   right = λ n. subst (AreRightFrom tx s) (sym (turn_is turn None (record { to = to; message = messages.Decision x verdict } ∷ []) None n unwritten sends told)) ((λ same. exact_right s verdict (is same)), tt);
   status = λ n. subst (λ (ds : List Deed). IsStatus tx (fold (status_at tx) s ds) p) (sym (turn_is turn None (record { to = to; message = messages.Decision x verdict } ∷ []) None n unwritten sends told))
-  (subst (λ (v : Status). IsStatus tx v p) (sym (verdict_same tx s x n to verdict is)) w);
+      (subst (λ (v : Status). IsStatus tx v p) (sym (verdict_same tx s x n to verdict is)) w);
 }

@@ -1,6 +1,6 @@
 -- The commit records of a client's deeds, as they go on; and those of a history.
 use Rattle.std.proofs.Common.{◌≡◌, ℕ, ◌+◌, ◌==◌, Bool, true, false, cond, List, [], ◌∷◌, ◌++◌, ◌⊎◌, inl, inr, fold, Option, Some, None, option_to_list, slice_get, refl, sym, ap, ◌∙◌, subst, eqb-true, eq-eqb}
-use Rattle.std.specs.List.{AllByRecursion as Every, cons_option, filter_map}
+use Rattle.std.specs.List.{AllByRecursion as Every, cons_option}
 use Rattle.std.proofs.lemmas.List.{append-nil}
 use Rattle.std.proofs.lemmas.List.Elements.{filter_map-append}
 use Rattle.qc_list.specs.Members.{In}

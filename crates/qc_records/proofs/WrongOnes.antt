@@ -9,7 +9,7 @@ use Rattle.qc_msg.specs.declared.reply.Reply.TheVariants as replies
 use Rattle.qc_records.specs.Deals.{dealing_in}
 use Rattle.qc_records.specs.Status.{AreRight, Status}
 use Rattle.qc_records.specs.Status.{Unborn, Begun, Committed, Dead}
-use Rattle.qc_records.specs.Told.{HasCommit, VerdictAgrees}
+use Rattle.qc_records.specs.Told.{VerdictAgrees}
 use Rattle.qc_records.specs.Wrong.{asks, begun, commit, committed, first, none_read, read_it, reading, says, second, tx}
 
 -- courses

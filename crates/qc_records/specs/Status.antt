@@ -1,7 +1,6 @@
 -- How far a transaction is, as its client's deeds show (presumed abort: without a commit record it is given up), and
 -- which deeds are right for it.
-use Rattle.std.specs.Prelude.{◌≡◌, ◌⊎◌, ℕ, true, if◌then◌else◌, List, [], ◌∷◌, ◌++◌, fold}
-use Rattle.qc_entry.specs.declared.record.Commit.{Commit}
+use Rattle.std.specs.Prelude.{◌≡◌, ◌⊎◌, true, if◌then◌else◌, List, [], ◌∷◌, fold}
 use Rattle.qc_msg.specs.Deeds.{Deed, Sends, Takes, Tells, Writes}
 use Rattle.qc_msg.specs.declared.message.Message.{Message}
 use Rattle.qc_msg.specs.declared.message.Message.TheVariants as messages

@@ -1,11 +1,10 @@
 -- Wrong deeds of a client, which the definitions refuse: one transaction, two stamps, two operations.
-use Rattle.std.specs.Prelude.{ℕ, List, [], ◌∷◌, Option, Some, None}
+use Rattle.std.specs.Prelude.{List, [], ◌∷◌, Some, None}
 use Rattle.qc_entry.specs.declared.line.Op.{Op}
 use Rattle.qc_entry.specs.declared.record.Commit.{Commit}
 use Rattle.qc_msg.specs.Deeds.{Deed, Sends, Takes, Tells, Writes}
 use Rattle.qc_msg.specs.declared.message.Message.TheVariants.{Decision, Request}
 use Rattle.qc_msg.specs.declared.message.Outcome.{Outcome}
-use Rattle.qc_msg.specs.declared.message.Outcome.TheVariants as outcomes
 use Rattle.qc_msg.specs.declared.message.Want.TheVariants.{Prepare}
 use Rattle.qc_msg.specs.declared.record.Record.TheVariants as records
 use Rattle.qc_msg.specs.declared.reply.Reply.TheVariants as replies

@@ -21,8 +21,7 @@ ghost use Rattle.qc_script.specs.declared.script.Script.{Script};
 /// Every clock and count, of each message, site and client, is at most the
 /// number of steps. So are those that a client's calls rely on, and the clock
 /// of the promise that a message brings.
-#[tactic(auto, using(crate::proofs::Needs::run_bounded, crate::proofs::Needs::run_client,
-    crate::proofs::Needs::run_promise))]
+#[tactic(auto, using(crate::proofs::Needs::run_bounded, crate::proofs::Needs::run_client, crate::proofs::Needs::run_promise))]
 pub fn clocks_and_counts_are_bounded()
     ensures all { (decl : Declaration) (script : Script) (h : List Entry) (open_inputs : List Bool)
         → Runs (IsLawful decl) decl script h open_inputs → IsBounded decl (length h) h }
@@ -37,8 +36,7 @@ pub fn clocks_and_counts_are_bounded()
 /// Where there are fewer steps than there may be, a client without an open
 /// input, and what it takes, have all that its calls require; and so have the
 /// numbers of messages.
-#[tactic(auto, using(crate::proofs::Needs::run_fits, crate::proofs::Needs::run_promise_fits,
-    crate::proofs::Needs::run_numbers))]
+#[tactic(auto, using(crate::proofs::Needs::run_fits, crate::proofs::Needs::run_promise_fits, crate::proofs::Needs::run_numbers))]
 pub fn clients_calls_may_be_made()
     ensures clients { (decl : Declaration) (script : Script) (h : List Entry) (open_inputs : List Bool)
         → IsAccepted decl → Runs (IsLawful decl) decl script h open_inputs → length h < most_steps
