@@ -44,7 +44,8 @@ use Rattle.qc_client.specs.Inputs.{IsFree, IsReady}
 use Rattle.qc_records.specs.Books.{begun_in, book_of, book_with}
 use Rattle.qc_records.specs.Deals.{Dealing, deal, deal_taken, deal_told, ended}
 use Rattle.qc_records.proofs.ClientsWithin.{IsPost}
-use Rattle.qc_records.proofs.Dealing.{IsBook, IsDealing, as_asked, committed_book, committed_one, free_book, gave_up, later_book}
+use Rattle.qc_records.proofs.BooksKept.{committed_book, free_book, later_book}
+use Rattle.qc_records.proofs.Dealing.{IsBook, IsDealing, as_asked, committed_one, gave_up}
 use Rattle.qc_records.proofs.FrontKinds.{IsRequestFor}
 use Rattle.qc_records.proofs.DealtFronts.{AskedFor, FrontAfter, called-after, takes-after, told_deal}
 

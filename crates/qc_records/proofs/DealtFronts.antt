@@ -39,7 +39,8 @@ use Rattle.qc_front.specs.Rounds.{answered, append_by, performs, read_by, reads}
 use Rattle.qc_front.proofs.Keeping.{appended_is, view_keeps}
 use Rattle.qc_records.specs.Books.{Book, begun_in, book_with}
 use Rattle.qc_records.specs.Deals.{Dealing, deal_told, dealt, ended}
-use Rattle.qc_records.proofs.Dealing.{IsBook, IsDealing, as_begun, began_book, began_one, begun_book, free_book, gave_up, told_op}
+use Rattle.qc_records.proofs.BooksKept.{began_book, free_book}
+use Rattle.qc_records.proofs.Dealing.{IsBook, IsDealing, as_begun, began_one, begun_book, gave_up, told_op}
 
 -- a running `do` is the command that was called last
 abbrev pub AskedFor : Option Command → Doing → Type 0

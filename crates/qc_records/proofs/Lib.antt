@@ -6,9 +6,11 @@ pub mod FrontsWithin
 pub mod ClientsWithin
 pub mod Bounding
 pub mod Asked
+pub mod AskedMoves
 pub mod DesksShort
 pub mod Short
 pub mod Dealing
+pub mod BooksKept
 pub mod FrontKinds
 pub mod DealtFronts
 pub mod DealtClients
@@ -17,6 +19,7 @@ pub mod InRuns
 pub mod RecordLaws
 pub mod Needs
 pub mod Statuses
+pub mod RightTurns
 pub mod StatusActs
 pub mod SitesAsk
 pub mod Lasting

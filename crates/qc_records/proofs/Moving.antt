@@ -43,7 +43,7 @@ use Rattle.qc_records.proofs.InRuns.{IsResting, client_no_site, client_number, d
 use Rattle.qc_records.proofs.Lasting.{born_on, request_born}
 use Rattle.qc_records.proofs.SitesAsk.{Asks, GivenTells, SiteTells, Tells, site_asks}
 use Rattle.qc_records.proofs.StatusActs.{IsKnown, IsKnownIn, KnownFrom, Rests, Turns, known-append, known-posts, status_acts}
-use Rattle.qc_records.proofs.Statuses.{IsNoInquiry, NoInquiries}
+use Rattle.qc_records.proofs.RightTurns.{IsNoInquiry, NoInquiries}
 
 -- the transaction was begun, as its client's deeds show
 abbrev pub Born : Declaration → List Entry → TxId → Type 0

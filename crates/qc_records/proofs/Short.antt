@@ -31,7 +31,7 @@ use Rattle.qc_site.specs.Conduct.{passed, site_after, site_at, site_does, site_t
 use Rattle.qc_site.specs.Site.{SiteMove, SiteState, moved as site_moved, new_site}
 use Rattle.qc_site.proofs.Cases.{append_cases, join_cases, prepare_cases, read_cases, request_cases}
 use Rattle.qc_records.specs.Asked.{AskedSites, AsksSites, VotedSites}
-use Rattle.qc_records.proofs.Asked.{IsShort, called-short, takes_short}
+use Rattle.qc_records.proofs.AskedMoves.{IsShort, called-short, takes_short}
 use Rattle.qc_records.proofs.Bounding.{turn-posts}
 use Rattle.qc_records.proofs.ClientsWithin.{IsPost}
 use Rattle.qc_records.proofs.DesksShort.{IsDeskShort, prepare_short, vote_short}

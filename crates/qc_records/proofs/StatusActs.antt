@@ -47,7 +47,8 @@ use Rattle.qc_records.proofs.FrontKinds.{FrontKind, IsRequestFor, ToldNeutral, c
 use Rattle.qc_records.proofs.InRuns.{IsResting, KeptBy, deals_acts}
 use Rattle.qc_records.specs.Written.{written_in}
 use Rattle.qc_records.proofs.WrittenDeeds.{written-more}
-use Rattle.qc_records.proofs.Statuses.{IsExact, IsStatus, Page, TurnRight, begins_right, commits_right, gives_right, goes_right, new_status, verdict_right}
+use Rattle.qc_records.proofs.RightTurns.{IsExact, TurnRight, begins_right, commits_right, gives_right, goes_right, verdict_right}
+use Rattle.qc_records.proofs.Statuses.{IsStatus, Page, new_status}
 
 abbrev pub page_of : Client → Page
 page_of c = record { client = c.front.client; life = c.front.life; count = c.front.count; commits = c.desk.commits; name = name_in c.front }
