@@ -1,6 +1,6 @@
 -- A front end asks sites alone, and what it asked stays in order: so its turns are short.
-use Rattle.std.proofs.Common.{◌≡◌, ℕ, ◌+◌, ◌-◌, ◌<◌, ◌≤◌, ◌==◌, ◌⊎◌, inl, inr, nat_lt, nat_le, Bool, true, false, cond, List, [], ◌∷◌, ◌++◌, map, filter, fold, length, Option, Some, None, option_map, refl, sym, ap, ◌∙◌, subst, arith, length-append}
-use Rattle.std.specs.Prelude.{is_none, slice_get}
+use Rattle.std.proofs.Common.{◌≡◌, ℕ, ◌+◌, ◌-◌, ◌<◌, ◌≤◌, ◌==◌, ◌⊎◌, inl, inr, nat_lt, Bool, true, false, cond, List, [], ◌∷◌, ◌++◌, fold, length, Option, Some, None, refl, subst, arith}
+use Rattle.std.specs.Prelude.{slice_get}
 use Rattle.std.specs.List.{AllByRecursion as Every}
 use Rattle.std.specs.Option.{option_map_or}
 use Rattle.std.specs.Ordering.{nat_cmp}
@@ -8,55 +8,24 @@ use Rattle.std.specs.declared.cmp.Ordering.{Ordering}
 use Rattle.std.specs.declared.cmp.Ordering.TheVariants.{Equal, Greater, Less}
 use Rattle.std.proofs.lemmas.Bool.{ltb-false, ltb-true}
 use Rattle.std.proofs.lemmas.Cmp.{nat_cmp_total}
-use Rattle.std.proofs.lemmas.List.{get_or_past, length-map}
+use Rattle.std.proofs.lemmas.List.{get_or_past}
 use Rattle.qc_list.specs.Members.{In}
 use Rattle.qc_list.specs.Order.{Ascends, IsBelowAll, by_order, inserted}
-use Rattle.qc_list.proofs.Members.{In-first, In-passes, In-second, every-In, every-from_In}
+use Rattle.qc_list.proofs.Members.{In-first, In-passes}
 use Rattle.qc_list.proofs.Order.{ascends-inserted}
 use Rattle.qc_decl.specs.declared.declaration.Declaration.{Declaration}
 use Rattle.qc_decl.specs.Accepted.{IsAccepted, IsGood}
 use Rattle.qc_decl.specs.Actors.{first_site}
-use Rattle.qc_decl.specs.Limits.{most_transaction_operations}
 use Rattle.qc_decl.specs.Lookup.{append_need_of, plan_in, read_need_of}
 use Rattle.qc_plan.specs.declared.plan.Plan.{Plan}
-use Rattle.qc_plan.specs.declared.standing.Asked.{Asked}
-use Rattle.qc_plan.specs.declared.standing.Verdict.{Verdict}
-use Rattle.qc_plan.specs.declared.standing.Verdict.TheVariants as verdicts
-use Rattle.qc_plan.specs.Round.{RoundState, asking_all, cyclic, note, start, verdict, wanted, weighing, weight_at}
-use Rattle.qc_msg.specs.declared.begun.Begun.{Begun}
-use Rattle.qc_msg.specs.declared.call.Call.{Call}
-use Rattle.qc_msg.specs.declared.message.Answer.{Answer}
-use Rattle.qc_msg.specs.declared.message.Answer.TheVariants as answers
-use Rattle.qc_msg.specs.declared.message.Message.TheVariants as messages
-use Rattle.qc_msg.specs.declared.message.Outcome.TheVariants.{Aborted}
-use Rattle.qc_msg.specs.declared.message.Want.{Want}
-use Rattle.qc_msg.specs.declared.reply.Reply.{Reply}
-use Rattle.qc_msg.specs.declared.reply.Reply.TheVariants as replies
-use Rattle.qc_msg.specs.declared.reply.Why.TheVariants as causes
-use Rattle.qc_msg.specs.declared.step.Command.{Command}
-use Rattle.qc_msg.specs.declared.step.Command.TheVariants as commands
-use Rattle.qc_msg.specs.declared.turn.Turn.{Turn}
+use Rattle.qc_plan.specs.Round.{RoundState, cyclic, start, weighing, weight_at}
 use Rattle.qc_msg.specs.Begun.{with_site}
-use Rattle.qc_msg.specs.Calls.{site_called, without_call}
-use Rattle.qc_msg.specs.Turns.{quiet, telling}
-use Rattle.qc_view.specs.declared.view.View.{View}
-use Rattle.qc_view.specs.View.{with_log, with_own}
 use Rattle.qc_front.specs.declared.doing.Doing.{Doing}
 use Rattle.qc_front.specs.declared.doing.Doing.TheVariants.{Idle, Reading, Appending}
-use Rattle.qc_front.specs.declared.front.Front.{Front}
 use Rattle.qc_front.specs.declared.transaction.Transaction.{Transaction}
-use Rattle.qc_front.specs.Answering.{answer_of, next_own, resp_of, with_event}
-use Rattle.qc_front.specs.Appending.{append_want, read_want, request_of, round_for, weights_of}
-use Rattle.qc_front.specs.Conduct.{appending_takes, awaited, called, commits, reading_takes, takes, takes_in}
-use Rattle.qc_front.specs.Counting.{appended_with, learns, lived, read_with, standing_of}
-use Rattle.qc_front.specs.Fits.{AsksFew, FrontFits}
-use Rattle.qc_front.specs.Front.{FrontMove, aborts, begins, fresh, gives_up, moved, next_tx}
-use Rattle.qc_front.specs.Holds.{BegunHolds, FrontHolds, IsRound, sites_of}
-use Rattle.qc_front.specs.Rounds.{answered, append_by, performs, read_by, reads}
-use Rattle.qc_front.proofs.Awaited.{asking_awaits}
-use Rattle.qc_front.proofs.Fitting.{fits}
-use Rattle.qc_front.proofs.Keeping.{appended_is, called_holds, takes_holds, view_keeps}
-use Rattle.qc_records.specs.Asked.{AreSites, AskedSites}
+use Rattle.qc_front.specs.Appending.{weights_of}
+use Rattle.qc_front.specs.Holds.{BegunHolds, IsRound, sites_of}
+use Rattle.qc_records.specs.Asked.{AreSites}
 
 -- members of lists
 

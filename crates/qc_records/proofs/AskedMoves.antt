@@ -1,28 +1,19 @@
 -- What a front end's move asks and sends: so its turns are short.
-use Rattle.std.proofs.Common.{◌≡◌, ℕ, ◌+◌, ◌-◌, ◌<◌, ◌≤◌, ◌==◌, ◌⊎◌, inl, inr, nat_lt, nat_le, Bool, true, false, cond, List, [], ◌∷◌, ◌++◌, map, filter, fold, length, Option, Some, None, option_map, refl, sym, ap, ◌∙◌, subst, arith, length-append}
+use Rattle.std.proofs.Common.{◌≡◌, ℕ, ◌+◌, ◌<◌, ◌≤◌, ◌⊎◌, inl, inr, nat_le, Bool, true, false, cond, List, [], ◌∷◌, ◌++◌, map, filter, fold, length, Option, Some, None, option_map, refl, sym, ap, ◌∙◌, subst, arith, length-append}
 use Rattle.std.specs.Prelude.{is_none, slice_get}
-use Rattle.std.specs.List.{AllByRecursion as Every}
-use Rattle.std.specs.Option.{option_map_or}
 use Rattle.std.specs.Ordering.{nat_cmp}
-use Rattle.std.specs.declared.cmp.Ordering.{Ordering}
-use Rattle.std.specs.declared.cmp.Ordering.TheVariants.{Equal, Greater, Less}
-use Rattle.std.proofs.lemmas.Bool.{ltb-false, ltb-true}
-use Rattle.std.proofs.lemmas.Cmp.{nat_cmp_total}
-use Rattle.std.proofs.lemmas.List.{get_or_past, length-map}
+use Rattle.std.proofs.lemmas.List.{length-map}
 use Rattle.qc_list.specs.Members.{In}
-use Rattle.qc_list.specs.Order.{Ascends, IsBelowAll, by_order, inserted}
-use Rattle.qc_list.proofs.Members.{In-first, In-passes, In-second, every-In, every-from_In}
-use Rattle.qc_list.proofs.Order.{ascends-inserted}
+use Rattle.qc_list.specs.Order.{Ascends}
+use Rattle.qc_list.proofs.Members.{In-second, every-In, every-from_In}
 use Rattle.qc_decl.specs.declared.declaration.Declaration.{Declaration}
-use Rattle.qc_decl.specs.Accepted.{IsAccepted, IsGood}
-use Rattle.qc_decl.specs.Actors.{first_site}
+use Rattle.qc_decl.specs.Accepted.{IsAccepted}
 use Rattle.qc_decl.specs.Limits.{most_transaction_operations}
-use Rattle.qc_decl.specs.Lookup.{append_need_of, plan_in, read_need_of}
-use Rattle.qc_plan.specs.declared.plan.Plan.{Plan}
+use Rattle.qc_decl.specs.Lookup.{append_need_of, read_need_of}
 use Rattle.qc_plan.specs.declared.standing.Asked.{Asked}
 use Rattle.qc_plan.specs.declared.standing.Verdict.{Verdict}
 use Rattle.qc_plan.specs.declared.standing.Verdict.TheVariants as verdicts
-use Rattle.qc_plan.specs.Round.{RoundState, asking_all, cyclic, note, start, verdict, wanted, weighing, weight_at}
+use Rattle.qc_plan.specs.Round.{RoundState, asking_all, note, verdict, wanted}
 use Rattle.qc_msg.specs.declared.begun.Begun.{Begun}
 use Rattle.qc_msg.specs.declared.call.Call.{Call}
 use Rattle.qc_msg.specs.declared.message.Answer.{Answer}
@@ -46,12 +37,12 @@ use Rattle.qc_front.specs.declared.doing.Doing.TheVariants.{Idle, Reading, Appen
 use Rattle.qc_front.specs.declared.front.Front.{Front}
 use Rattle.qc_front.specs.declared.transaction.Transaction.{Transaction}
 use Rattle.qc_front.specs.Answering.{answer_of, next_own, resp_of, with_event}
-use Rattle.qc_front.specs.Appending.{append_want, read_want, request_of, round_for, weights_of}
+use Rattle.qc_front.specs.Appending.{append_want, read_want, request_of, round_for}
 use Rattle.qc_front.specs.Conduct.{appending_takes, awaited, called, commits, reading_takes, takes, takes_in}
 use Rattle.qc_front.specs.Counting.{appended_with, learns, lived, read_with, standing_of}
 use Rattle.qc_front.specs.Fits.{AsksFew, FrontFits}
 use Rattle.qc_front.specs.Front.{FrontMove, aborts, begins, fresh, gives_up, moved, next_tx}
-use Rattle.qc_front.specs.Holds.{BegunHolds, FrontHolds, IsRound, sites_of}
+use Rattle.qc_front.specs.Holds.{FrontHolds, sites_of}
 use Rattle.qc_front.specs.Rounds.{answered, append_by, performs, read_by, reads}
 use Rattle.qc_front.proofs.Awaited.{asking_awaits}
 use Rattle.qc_front.proofs.Fitting.{fits}

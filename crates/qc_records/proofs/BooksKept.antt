@@ -1,24 +1,13 @@
 -- The book of a client that began a transaction, gave it up, or committed it.
-use Rattle.std.proofs.Common.{◌≡◌, ◌≤◌, ◌<◌, ℕ, zero, suc, ◌+◌, get_or, length, Bool, true, false, cond, ◌⊎◌, inl, inr, List, [], ◌∷◌, ◌++◌, Option, Some, None, option_map, refl, sym, ap, ◌∙◌, subst, arith}
-use Rattle.std.specs.List.{AllPairs}
-use Rattle.std.proofs.lemmas.List.{append-nil}
+use Rattle.std.proofs.Common.{◌≡◌, ◌≤◌, ◌<◌, ℕ, ◌+◌, get_or, ◌⊎◌, inl, inr, [], ◌∷◌, ◌++◌, Some, None, sym, ap, ◌∙◌, subst, arith}
 use Rattle.std.proofs.lemmas.List.Quantifiers.{all_pairs_push}
 use Rattle.qc_list.specs.Members.{In}
-use Rattle.qc_list.proofs.Members.{In-first, In-last, In-more, In-second}
+use Rattle.qc_list.proofs.Members.{In-more}
 use Rattle.qc_stamp.specs.declared.stamp.Stamp.{Stamp}
 use Rattle.qc_stamp.specs.declared.stamp.TxId.{TxId}
-use Rattle.qc_stamp.specs.Order.{same_tx}
-use Rattle.qc_stamp.proofs.Orders.{same_tx_is, same_tx_itself}
-use Rattle.qc_entry.specs.declared.line.Op.{Op}
 use Rattle.qc_entry.specs.declared.record.Commit.{Commit}
 use Rattle.qc_msg.specs.declared.begun.Begun.{Begun}
-use Rattle.qc_msg.specs.declared.reply.Reply.{Reply}
-use Rattle.qc_msg.specs.declared.reply.Reply.TheVariants as replies
-use Rattle.qc_msg.specs.declared.step.Command.{Command}
-use Rattle.qc_msg.specs.declared.step.Command.TheVariants as commands
-use Rattle.qc_front.specs.Answering.{op_of}
 use Rattle.qc_records.specs.Books.{Book}
-use Rattle.qc_records.specs.Deals.{Dealing, dealt, ended, is_begun, operation}
 use Rattle.qc_records.proofs.Dealing.{IsBook, IsNamed, in_at, tx_at, with_begun}
 
 -- the book of a client that began one, gave one up, or committed one

@@ -13,6 +13,7 @@ pub mod Dealing
 pub mod BooksKept
 pub mod FrontKinds
 pub mod DealtFronts
+pub mod HandMoves
 pub mod DealtClients
 pub mod WrittenDeeds
 pub mod InRuns
@@ -20,6 +21,7 @@ pub mod RecordLaws
 pub mod Needs
 pub mod Statuses
 pub mod RightTurns
+pub mod KnownDeeds
 pub mod StatusActs
 pub mod SitesAsk
 pub mod Lasting

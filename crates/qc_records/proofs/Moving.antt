@@ -42,7 +42,8 @@ use Rattle.qc_records.proofs.Events.{IsControl}
 use Rattle.qc_records.proofs.InRuns.{IsResting, client_no_site, client_number, deals_acts, silent_is}
 use Rattle.qc_records.proofs.Lasting.{born_on, request_born}
 use Rattle.qc_records.proofs.SitesAsk.{Asks, GivenTells, SiteTells, Tells, site_asks}
-use Rattle.qc_records.proofs.StatusActs.{IsKnown, IsKnownIn, KnownFrom, Rests, Turns, known-append, known-posts, status_acts}
+use Rattle.qc_records.proofs.KnownDeeds.{IsKnown, IsKnownIn, KnownFrom, known-append, known-posts}
+use Rattle.qc_records.proofs.StatusActs.{Rests, Turns, status_acts}
 use Rattle.qc_records.proofs.RightTurns.{IsNoInquiry, NoInquiries}
 
 -- the transaction was begun, as its client's deeds show

@@ -1,12 +1,11 @@
 -- A client's turn: its deeds are right for each transaction, and leave its status so.
-use Rattle.std.proofs.Common.{◌≡◌, ◌≢◌, ℕ, ◌+◌, ◌<◌, ◌⊎◌, inl, inr, Bool, true, false, cond, List, [], ◌∷◌, ◌++◌, fold, map, Option, Some, None, refl, sym, ap, ◌∙◌, subst, arith}
+use Rattle.std.proofs.Common.{◌≡◌, ℕ, ◌+◌, ◌⊎◌, inl, inr, Bool, true, false, cond, List, [], ◌∷◌, ◌++◌, fold, map, Option, Some, None, refl, sym, ap, ◌∙◌, subst, arith}
 use Rattle.std.specs.List.{AllByRecursion as Every}
-use Rattle.qc_list.specs.Members.{In}
-use Rattle.qc_list.proofs.Members.{In-first, In-last, In-more, every-weaker}
+use Rattle.qc_list.proofs.Members.{every-weaker}
 use Rattle.qc_stamp.specs.declared.stamp.Stamp.{Stamp}
 use Rattle.qc_stamp.specs.declared.stamp.TxId.{TxId}
 use Rattle.qc_stamp.specs.Order.{same_tx}
-use Rattle.qc_stamp.proofs.Orders.{same_tx_is, same_tx_itself}
+use Rattle.qc_stamp.proofs.Orders.{same_tx_is}
 use Rattle.qc_entry.specs.declared.record.Commit.{Commit}
 use Rattle.qc_msg.specs.declared.begun.Begun.{Begun as BegunTransaction}
 use Rattle.qc_msg.specs.declared.message.Message.{Message}
@@ -22,7 +21,7 @@ use Rattle.qc_msg.specs.declared.turn.Turn.{Turn}
 use Rattle.qc_msg.specs.Deeds.{Deed, Sends, Tells, sends_of, tells_of, turn_deeds, writes_of}
 use Rattle.qc_records.specs.Status.{AreRightFrom, IsRightVerdict, Status, given_up, status_at, status_told}
 use Rattle.qc_records.specs.Status.{Unborn, Begun, Committed, Dead}
-use Rattle.qc_records.proofs.Dealing.{HasRecord, IsAbort}
+use Rattle.qc_records.proofs.Dealing.{IsAbort}
 use Rattle.qc_records.proofs.FrontKinds.{IsRequestFor, ToldNeutral}
 use Rattle.qc_records.proofs.Statuses.{IsStatus, Page, began, commits_one, gave_up}
 

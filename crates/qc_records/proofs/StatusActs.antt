@@ -42,39 +42,18 @@ use Rattle.qc_records.specs.Status.{Unborn, Begun, Committed, Dead}
 use Rattle.qc_records.proofs.Bounding.{lawful_turn, turn-posts}
 use Rattle.qc_records.proofs.ClientsWithin.{IsPost}
 use Rattle.qc_records.proofs.Dealing.{HasRecord, begun_tx}
-use Rattle.qc_records.proofs.DealtClients.{IsHandMove, IsInHand, prepare-it, vote-it}
+use Rattle.qc_records.proofs.DealtClients.{IsInHand}
+use Rattle.qc_records.proofs.HandMoves.{IsHandMove, prepare-it, vote-it}
 use Rattle.qc_records.proofs.FrontKinds.{FrontKind, IsRequestFor, ToldNeutral, called-kind, name_in, takes-kind}
 use Rattle.qc_records.proofs.InRuns.{IsResting, KeptBy, deals_acts}
 use Rattle.qc_records.specs.Written.{written_in}
 use Rattle.qc_records.proofs.WrittenDeeds.{written-more}
 use Rattle.qc_records.proofs.RightTurns.{IsExact, TurnRight, begins_right, commits_right, gives_right, goes_right, verdict_right}
 use Rattle.qc_records.proofs.Statuses.{IsStatus, Page, new_status}
+use Rattle.qc_records.proofs.KnownDeeds.{IsKnown, IsKnownIn, KnownFrom, known-first, known-second, right-append}
 
 abbrev pub page_of : Client → Page
 page_of c = record { client = c.front.client; life = c.front.life; count = c.front.count; commits = c.desk.commits; name = name_in c.front }
-
--- a question about a transaction comes only once that has begun
-
-abbrev pub IsKnownIn : TxId → Status → Message → Type 0
-IsKnownIn tx s (messages.Request other epoch life want) = Unit {0}
-IsKnownIn tx s (messages.Answer to answer) = Unit {0}
-IsKnownIn tx s (messages.Decision other verdict) = Unit {0}
-IsKnownIn tx s (messages.Inquiry other) = same_tx other tx ≡ true → s ≢ Unborn
-IsKnownIn tx s (messages.Ask other) = Unit {0}
-IsKnownIn tx s (messages.Close epoch) = Unit {0}
-IsKnownIn tx s (messages.Install epoch clock log) = Unit {0}
-
-abbrev pub IsKnown : TxId → Status → Given → Type 0
-IsKnown tx s (given.Called command) = Unit {0}
-IsKnown tx s (given.Got envelope) = IsKnownIn tx s envelope.message
-IsKnown tx s (given.Lost number) = Unit {0}
-
-abbrev pub KnownFrom : TxId → Status → List Deed → Type 0
-KnownFrom tx s [] = Unit {0}
-KnownFrom tx s (Takes given ∷ ds) = IsKnown tx s given × KnownFrom tx s ds
-KnownFrom tx s (Writes written ∷ ds) = KnownFrom tx (status_at tx s (Writes written)) ds
-KnownFrom tx s (Sends number to message ∷ ds) = KnownFrom tx (status_at tx s (Sends number to message)) ds
-KnownFrom tx s (Tells reply ∷ ds) = KnownFrom tx (status_at tx s (Tells reply)) ds
 
 -- what a record of a transaction tells
 
@@ -225,40 +204,6 @@ page_posts decl m (Takes g ∷ ds) all = absurd all.0
 page_posts decl m (Writes written ∷ ds) all = page_posts decl m ds all.1
 page_posts decl m (Sends number to message ∷ ds) all = page_posts decl (record m { client = sent_one m.client number to message }) ds all.1 ∙ page_one m.client number to message
 page_posts decl m (Tells reply ∷ ds) all = page_posts decl m ds all.1
-
--- lists of deeds one after another
-
-pub right-append : (tx : TxId) (s : Status) (xs ys : List Deed) → AreRightFrom tx s xs → AreRightFrom tx (fold (status_at tx) s xs) ys → AreRightFrom tx s (xs ++ ys)
-right-append tx s [] ys first second = second
-right-append tx s (x ∷ xs) ys first second = (first.0, right-append tx (status_at tx s x) xs ys first.1 second)
-
-pub known-first : (tx : TxId) (s : Status) (xs ys : List Deed) → KnownFrom tx s (xs ++ ys) → KnownFrom tx s xs
-known-first tx s [] ys all = tt
-known-first tx s (Takes g ∷ xs) ys all = (all.0, known-first tx s xs ys all.1)
-known-first tx s (Writes written ∷ xs) ys all = known-first tx (status_at tx s (Writes written)) xs ys all
-known-first tx s (Sends number to message ∷ xs) ys all = known-first tx (status_at tx s (Sends number to message)) xs ys all
-known-first tx s (Tells reply ∷ xs) ys all = known-first tx (status_at tx s (Tells reply)) xs ys all
-
-pub known-second : (tx : TxId) (s : Status) (xs ys : List Deed) → KnownFrom tx s (xs ++ ys) → KnownFrom tx (fold (status_at tx) s xs) ys
-known-second tx s [] ys all = all
-known-second tx s (Takes g ∷ xs) ys all = known-second tx s xs ys all.1
-known-second tx s (Writes written ∷ xs) ys all = known-second tx (status_at tx s (Writes written)) xs ys all
-known-second tx s (Sends number to message ∷ xs) ys all = known-second tx (status_at tx s (Sends number to message)) xs ys all
-known-second tx s (Tells reply ∷ xs) ys all = known-second tx (status_at tx s (Tells reply)) xs ys all
-
-pub known-append : (tx : TxId) (s : Status) (xs ys : List Deed) → KnownFrom tx s xs → KnownFrom tx (fold (status_at tx) s xs) ys → KnownFrom tx s (xs ++ ys)
-known-append tx s [] ys first second = second
-known-append tx s (Takes g ∷ xs) ys first second = (first.0, known-append tx s xs ys first.1 second)
-known-append tx s (Writes written ∷ xs) ys first second = known-append tx (status_at tx s (Writes written)) xs ys first second
-known-append tx s (Sends number to message ∷ xs) ys first second = known-append tx (status_at tx s (Sends number to message)) xs ys first second
-known-append tx s (Tells reply ∷ xs) ys first second = known-append tx (status_at tx s (Tells reply)) xs ys first second
-
-pub known-posts : (tx : TxId) (s : Status) (ds : List Deed) → Every IsPost ds → KnownFrom tx s ds
-known-posts tx s [] all = tt
-known-posts tx s (Takes g ∷ ds) all = absurd all.0
-known-posts tx s (Writes written ∷ ds) all = known-posts tx (status_at tx s (Writes written)) ds all.1
-known-posts tx s (Sends number to message ∷ ds) all = known-posts tx (status_at tx s (Sends number to message)) ds all.1
-known-posts tx s (Tells reply ∷ ds) all = known-posts tx (status_at tx s (Tells reply)) ds all.1
 
 -- over all that a client does by turns
 

@@ -1,29 +1,15 @@
 -- How a transaction's status goes on over a client's turns, and that each of their deeds is right for it.
-use Rattle.std.proofs.Common.{◌≡◌, ◌≢◌, ℕ, ◌+◌, ◌<◌, ◌⊎◌, inl, inr, Bool, true, false, cond, List, [], ◌∷◌, ◌++◌, fold, map, Option, Some, None, refl, sym, ap, ◌∙◌, subst, arith}
-use Rattle.std.specs.List.{AllByRecursion as Every}
+use Rattle.std.proofs.Common.{◌≡◌, ◌≢◌, ℕ, ◌+◌, ◌<◌, ◌⊎◌, inl, inr, Bool, true, false, cond, List, [], ◌∷◌, ◌++◌, Option, Some, None, refl, sym, ap, ◌∙◌, subst, arith}
 use Rattle.qc_list.specs.Members.{In}
-use Rattle.qc_list.proofs.Members.{In-first, In-last, In-more, every-weaker}
+use Rattle.qc_list.proofs.Members.{In-first, In-last, In-more}
 use Rattle.qc_stamp.specs.declared.stamp.Stamp.{Stamp}
 use Rattle.qc_stamp.specs.declared.stamp.TxId.{TxId}
 use Rattle.qc_stamp.specs.Order.{same_tx}
 use Rattle.qc_stamp.proofs.Orders.{same_tx_is, same_tx_itself}
 use Rattle.qc_entry.specs.declared.record.Commit.{Commit}
-use Rattle.qc_msg.specs.declared.begun.Begun.{Begun as BegunTransaction}
-use Rattle.qc_msg.specs.declared.message.Message.{Message}
-use Rattle.qc_msg.specs.declared.message.Message.TheVariants as messages
-use Rattle.qc_msg.specs.declared.message.Outcome.{Outcome}
-use Rattle.qc_msg.specs.declared.message.Outcome.TheVariants as outcomes
-use Rattle.qc_msg.specs.declared.record.Record.{Record}
-use Rattle.qc_msg.specs.declared.record.Record.TheVariants as records
-use Rattle.qc_msg.specs.declared.reply.Reply.{Reply}
-use Rattle.qc_msg.specs.declared.reply.Reply.TheVariants as replies
-use Rattle.qc_msg.specs.declared.turn.Posting.{Posting}
-use Rattle.qc_msg.specs.declared.turn.Turn.{Turn}
-use Rattle.qc_msg.specs.Deeds.{Deed, Sends, Tells, sends_of, tells_of, turn_deeds, writes_of}
-use Rattle.qc_records.specs.Status.{AreRightFrom, IsRightVerdict, Status, given_up, status_at, status_told}
+use Rattle.qc_records.specs.Status.{Status, given_up}
 use Rattle.qc_records.specs.Status.{Unborn, Begun, Committed, Dead}
-use Rattle.qc_records.proofs.Dealing.{HasRecord, IsAbort}
-use Rattle.qc_records.proofs.FrontKinds.{IsRequestFor, ToldNeutral}
+use Rattle.qc_records.proofs.Dealing.{HasRecord}
 
 -- what a client keeps of its transactions, as far as their statuses go
 pub record Page : Type 0 where
