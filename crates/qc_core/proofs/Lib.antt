@@ -9,3 +9,7 @@ pub mod SiteDecisions
 pub mod SiteMoves
 pub mod SiteDues
 pub mod SiteLaws
+pub mod ActorLaws
+pub mod ClientStands
+pub mod ActorSent
+pub mod FrontReaches

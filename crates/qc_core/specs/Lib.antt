@@ -1,3 +1,4 @@
 pub mod Conduct
 pub mod Sites
 pub mod Acts
+pub mod Actors

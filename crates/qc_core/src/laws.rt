@@ -1,9 +1,18 @@
 //! Laws of the conduct, each the contract of a function with nothing to do.
 
-ghost use Rattle.std.specs.Prelude.{ℕ, List, []};
+ghost use Rattle.std.specs.Prelude.{◌≡◌, ℕ, ◌<◌, ◌≤◌, false, List, [], ◌∷◌, ◌++◌, Some};
+ghost use Rattle.qc_core.specs.declared.actor.Actor.{Actor};
+ghost use Rattle.qc_core.specs.Actors.{actor_after, actor_hears, actor_sent, actor_takes};
+ghost use Rattle.qc_core.specs.Acts.{Acts, MayTake};
+ghost use Rattle.qc_core.specs.Conduct.{turn_after};
 ghost use Rattle.qc_core.specs.Sites.{IsShown, Serves};
+ghost use Rattle.qc_decl.specs.Actors.{actors};
+ghost use Rattle.qc_decl.specs.Limits.{most_sites};
 ghost use Rattle.qc_decl.specs.declared.declaration.Declaration.{Declaration};
-ghost use Rattle.qc_msg.specs.Deeds.{Deed};
+ghost use Rattle.qc_msg.specs.Deeds.{Deed, Takes, turn_deeds};
+ghost use Rattle.qc_msg.specs.declared.message.Envelope.{Envelope};
+ghost use Rattle.qc_msg.specs.declared.step.Given.{Given};
+ghost use Rattle.qc_msg.specs.declared.step.Given.TheVariants as given;
 ghost use Rattle.qc_promise.specs.SiteDue.{AreDue};
 ghost use Rattle.qc_site.specs.Conduct.{site_after};
 
@@ -20,4 +29,34 @@ pub fn sites_are_read_off_their_steps()
 #[tactic(auto, using(crate::proofs::SiteLaws::are_due))]
 pub fn answers_of_sites_are_due()
     ensures { (decl : Declaration) (site : ℕ) (ds : List Deed) → Serves decl site ds → AreDue decl [] ds }
+{}
+
+/// An actor is a fold over its deeds: an input moves it, and it stays where it
+/// writes and tells.
+#[tactic(auto, using(crate::proofs::ActorLaws::input, crate::proofs::ActorLaws::message))]
+pub fn actors_are_folds()
+    ensures input { (decl : Declaration) (a : ℕ) (ds : List Deed) (given : Given)
+        → actor_after decl a (ds ++ Takes given ∷ []) ≡ actor_takes decl (actor_after decl a ds).actor given }
+    ensures message { (decl : Declaration) (actor : Actor) (envelope : Envelope)
+        → actor_takes decl actor (given.Got envelope)
+        ≡ actor_hears decl actor envelope.from envelope.number envelope.message }
+{}
+
+/// The turn that an actor's deeds call for is the last one of that fold.
+#[tactic(auto, using(crate::proofs::ActorLaws::turn))]
+pub fn turns_are_those_of_actors()
+    ensures { (decl : Declaration) (a : ℕ) (ds : List Deed) → a < actors decl
+        → turn_after decl a ds ≡ Some (actor_after decl a ds).turn }
+{}
+
+/// After the turn of an input that an actor of a run may take, one call with
+/// the number of the first message gives what the messages give one after
+/// another.
+#[tactic(auto, using(crate::proofs::ActorSent::actor_sent_at_once))]
+pub fn requests_are_numbered_at_once()
+    ensures { (decl : Declaration) (a : ℕ) (ds : List Deed) (n : ℕ) (given : Given) (first : ℕ)
+        → 0 < decl.sites → decl.sites ≤ most_sites → a < actors decl → Acts decl a ds false n → MayTake ds given
+        → (actor_after decl a ((ds ++ Takes given ∷ [])
+        ++ turn_deeds first (actor_takes decl (actor_after decl a ds).actor given).turn)).actor
+        ≡ actor_sent (actor_takes decl (actor_after decl a ds).actor given).actor first }
 {}

@@ -1,0 +1,81 @@
+-- An actor is a site or a client over its deeds.
+use Rattle.std.proofs.Common.{◌≡◌, ℕ, ◌+◌, ◌-◌, ◌<◌, ◌≤◌, ◌&&◌, nat_le, nat_lt, Bool, true, false, cond, List, [], ◌∷◌, ◌++◌, fold, Option, Some, None, refl, ap, sym, ◌∙◌, arith}
+use Rattle.std.proofs.lemmas.Bool.Decides.{nat_tests}
+use Rattle.std.proofs.lemmas.List.Sums.{fold-append}
+use Rattle.qc_decl.specs.declared.declaration.Declaration.{Declaration}
+use Rattle.qc_decl.specs.Actors.{actors, is_client, is_site}
+use Rattle.qc_client.specs.Client.{ClientMove, new_client, moved as client_moved}
+use Rattle.qc_client.specs.Conduct.{client_after, client_does}
+use Rattle.qc_msg.specs.declared.message.Envelope.{Envelope}
+use Rattle.qc_msg.specs.declared.step.Given.{Given}
+use Rattle.qc_msg.specs.declared.step.Given.TheVariants as given
+use Rattle.qc_msg.specs.declared.turn.Turn.{Turn}
+use Rattle.qc_msg.specs.Deeds.{Deed, Takes, Writes, Sends, Tells}
+use Rattle.qc_msg.specs.Turns.{quiet}
+use Rattle.qc_site.specs.Conduct.{site_after, site_does}
+use Rattle.qc_site.specs.Site.{SiteMove, new_site, moved as site_moved}
+use Rattle.qc_core.specs.declared.actor.Actor.{Actor}
+use Rattle.qc_core.specs.declared.actor.Actor.TheVariants.{Site, Client}
+use Rattle.qc_core.specs.Actors.{ActorMove, actor_after, actor_does, actor_hears, actor_takes, by_client, by_site, moved}
+use Rattle.qc_core.specs.Conduct.{turn_after}
+
+-- one more input
+
+pub input : (decl : Declaration) (a : ℕ) (ds : List Deed) (g : Given) → actor_after decl a (ds ++ Takes g ∷ []) ≡ actor_takes decl (actor_after decl a ds).actor g
+input decl a ds g = fold-append (actor_does decl) _ ds (Takes g ∷ [])
+
+pub message : (decl : Declaration) (actor : Actor) (e : Envelope) → actor_takes decl actor (given.Got e) ≡ actor_hears decl actor e.from e.number e.message
+message decl (Site s) e = refl
+message decl (Client c) e = refl
+
+-- a site's fold, and a client's
+
+site_deed : (decl : Declaration) (m : SiteMove) (d : Deed) → actor_does decl (by_site m) d ≡ by_site (site_does decl m d)
+site_deed decl m (Takes g) = refl
+site_deed decl m (Writes written) = refl
+site_deed decl m (Sends number to message) = refl
+site_deed decl m (Tells reply) = refl
+
+sites : (decl : Declaration) (m : SiteMove) (ds : List Deed) → fold (actor_does decl) (by_site m) ds ≡ by_site (fold (site_does decl) m ds)
+sites decl m [] = refl
+sites decl m (d ∷ ds) = ap (λ (v : ActorMove). fold (actor_does decl) v ds) (site_deed decl m d) ∙ sites decl (site_does decl m d) ds
+
+client_deed : (decl : Declaration) (m : ClientMove) (d : Deed) → actor_does decl (by_client m) d ≡ by_client (client_does decl m d)
+client_deed decl m (Takes g) = refl
+client_deed decl m (Writes written) = refl
+client_deed decl m (Sends number to message) = refl
+client_deed decl m (Tells reply) = refl
+
+clients : (decl : Declaration) (m : ClientMove) (ds : List Deed) → fold (actor_does decl) (by_client m) ds ≡ by_client (fold (client_does decl) m ds)
+clients decl m [] = refl
+clients decl m (d ∷ ds) = ap (λ (v : ActorMove). fold (actor_does decl) v ds) (client_deed decl m d) ∙ clients decl (client_does decl m d) ds
+
+pub at_site : (decl : Declaration) (a : ℕ) (ds : List Deed) → is_site decl a ≡ true → actor_after decl a ds ≡ by_site (site_after decl a ds)
+at_site decl a ds is =
+    ap (λ (b : Bool). fold (actor_does decl) (moved (cond b (Site (new_site a)) (Client (new_client (a - decl.sites)))) quiet) ds) is
+    ∙ sites decl (site_moved (new_site a) quiet) ds
+
+pub at_client : (decl : Declaration) (a : ℕ) (ds : List Deed) → is_site decl a ≡ false → actor_after decl a ds ≡ by_client (client_after decl (a - decl.sites) ds)
+at_client decl a ds is =
+    ap (λ (b : Bool). fold (actor_does decl) (moved (cond b (Site (new_site a)) (Client (new_client (a - decl.sites)))) quiet) ds) is
+    ∙ clients decl (client_moved (new_client (a - decl.sites)) quiet) ds
+
+-- who is no site is a client
+
+pub other_client : (decl : Declaration) (a : ℕ) → a < actors decl → is_site decl a ≡ false → is_client decl a ≡ true
+other_client decl a below is = is_there decl.sites (actors decl) a below is
+  where
+    is_there : (s n k : ℕ) → k < n → nat_lt k s ≡ false → (nat_le s k && nat_lt k n) ≡ true
+    is_there s n k below is = grind (arith, nat_tests)
+
+turn_by : (decl : Declaration) (a : ℕ) (ds : List Deed) → a < actors decl → (b : Bool) → is_site decl a ≡ b → turn_after decl a ds ≡ Some (actor_after decl a ds).turn
+turn_by decl a ds below true is =
+    ap (λ (b : Bool). cond b (Some (site_after decl a ds).turn) (cond (is_client decl a) (Some (client_after decl (a - decl.sites) ds).turn) None)) is
+    ∙ ap (λ (m : ActorMove). Some m.turn) (sym (at_site decl a ds is))
+turn_by decl a ds below false is =
+    ap (λ (b : Bool). cond b (Some (site_after decl a ds).turn) (cond (is_client decl a) (Some (client_after decl (a - decl.sites) ds).turn) None)) is
+    ∙ ap (λ (b : Bool). cond b (Some (client_after decl (a - decl.sites) ds).turn) None) (other_client decl a below is)
+    ∙ ap (λ (m : ActorMove). Some m.turn) (sym (at_client decl a ds is))
+
+pub turn : (decl : Declaration) (a : ℕ) (ds : List Deed) → a < actors decl → turn_after decl a ds ≡ Some (actor_after decl a ds).turn
+turn decl a ds below = turn_by decl a ds below (is_site decl a) refl

@@ -1,0 +1,366 @@
+-- A front end's turns go to sites, and are short: it asks sites, and tells a verdict to those that it asked.
+use Rattle.std.proofs.Common.{◌≡◌, ℕ, zero, suc, ◌+◌, ◌-◌, ◌%◌, ◌<◌, ◌≤◌, ◌==◌, nat_le, nat_lt, Bool, true, false, cond, ◌⊎◌, inl, inr, List, [], ◌∷◌, ◌++◌, filter, fold, length, map, Option, Some, None, option_map, refl, sym, ap, ◌∙◌, subst, arith}
+use Rattle.std.specs.Prelude.{slice_get, slice_index}
+use Rattle.std.specs.List.{AllByRecursion as Every, range_with_len}
+use Rattle.std.specs.Option.{option_map_or}
+use Rattle.std.specs.Ordering.{nat_cmp}
+use Rattle.std.specs.declared.cmp.Ordering.{Ordering}
+use Rattle.std.specs.declared.cmp.Ordering.TheVariants.{Less, Equal, Greater}
+use Rattle.std.proofs.lemmas.Cmp.{nat_cmp_total}
+use Rattle.std.proofs.lemmas.Bool.Decides.{nat_tests}
+use Rattle.std.proofs.lemmas.List.{length-append, length-map}
+use Rattle.std.proofs.lemmas.List.FromFn.{length-range_with_len}
+use Rattle.qc_list.specs.Members.{In}
+use Rattle.qc_list.specs.Order.{Ascends, IsBelowAll, by_order, inserted}
+use Rattle.qc_list.proofs.Members.{In-passes, every-from_In}
+use Rattle.qc_list.proofs.Order.{ascends-inserted}
+use Rattle.qc_decl.specs.declared.declaration.Declaration.{Declaration}
+use Rattle.qc_decl.specs.Accepted.{IsAccepted, IsGood}
+use Rattle.qc_decl.specs.Actors.{first_site}
+use Rattle.qc_decl.specs.Limits.{most_transaction_operations}
+use Rattle.qc_decl.specs.Lookup.{append_need_of, plan_in, read_need_of}
+use Rattle.qc_plan.specs.declared.plan.Plan.{Plan}
+use Rattle.qc_plan.specs.declared.standing.Verdict.{Verdict}
+use Rattle.qc_plan.specs.declared.standing.Verdict.TheVariants as verdicts
+use Rattle.qc_plan.specs.Round.{RoundState, asking_all, cyclic, note, start, verdict, wanted, weighing, weight_at}
+use Rattle.qc_entry.specs.declared.line.Line.{Line}
+use Rattle.qc_view.specs.declared.view.View.{View}
+use Rattle.qc_view.specs.View.{with_log, with_own}
+use Rattle.qc_msg.specs.declared.begun.Begun.{Begun}
+use Rattle.qc_msg.specs.declared.call.Call.{Call}
+use Rattle.qc_msg.specs.declared.message.Answer.{Answer}
+use Rattle.qc_msg.specs.declared.message.Answer.TheVariants as answers
+use Rattle.qc_msg.specs.declared.message.Message.TheVariants as messages
+use Rattle.qc_msg.specs.declared.message.Outcome.{Outcome}
+use Rattle.qc_msg.specs.declared.message.Outcome.TheVariants.{Aborted}
+use Rattle.qc_msg.specs.declared.message.Want.{Want}
+use Rattle.qc_msg.specs.declared.reply.Reply.{Reply}
+use Rattle.qc_msg.specs.declared.reply.Reply.TheVariants as replies
+use Rattle.qc_msg.specs.declared.reply.Why.TheVariants as causes
+use Rattle.qc_msg.specs.declared.step.Command.{Command}
+use Rattle.qc_msg.specs.declared.step.Command.TheVariants as commands
+use Rattle.qc_msg.specs.declared.turn.Posting.{Posting}
+use Rattle.qc_msg.specs.declared.turn.Turn.{Turn}
+use Rattle.qc_msg.specs.Begun.{decisions, with_site}
+use Rattle.qc_msg.specs.Calls.{site_called, without_call}
+use Rattle.qc_msg.specs.Turns.{quiet, telling}
+use Rattle.qc_front.specs.declared.doing.Doing.{Doing}
+use Rattle.qc_front.specs.declared.doing.Doing.TheVariants.{Idle, Reading, Appending}
+use Rattle.qc_front.specs.declared.front.Front.{Front}
+use Rattle.qc_front.specs.declared.transaction.Transaction.{Transaction}
+use Rattle.qc_front.specs.Answering.{answer_of, next_own, op_of, resp_of, with_event, with_granted, with_op, with_view}
+use Rattle.qc_front.specs.Appending.{append_want, read_want, request_of, round_for, weights_of}
+use Rattle.qc_front.specs.Conduct.{appending_takes, called, commits, reading_takes, takes, takes_in}
+use Rattle.qc_front.specs.Counting.{appended_with, learns, lived, read_with, standing_of}
+use Rattle.qc_front.specs.Front.{FrontMove, aborts, begins, gives_up, moved}
+use Rattle.qc_front.specs.Holds.{AppendingHolds, BegunHolds, FrontHolds, IsPrefix, IsRound, ReadingHolds, sites_of}
+use Rattle.qc_front.specs.Rounds.{answered, append_by, goes_on, performs, read_by, reads, with_asked}
+use Rattle.qc_front.proofs.Awaited.{wanted_is}
+
+-- sites, ascending, each once: so they are few
+
+pub record AreSites (n : ℕ) (xs : List ℕ) : Type 0 where
+  pub below : Every (λ site. site < n) xs
+  pub ascends : Ascends nat_cmp xs
+
+less : (x y : ℕ) → nat_cmp x y ≡ Less → x < y
+less x y is = grind (arith, nat_tests)
+
+above : (x : ℕ) (ys : List ℕ) → IsBelowAll nat_cmp x ys → Every (λ y. x + 1 ≤ y) ys
+above x [] is = tt
+above x (y ∷ ys) is = (let low : x < y = less x y is.0 in omega arith, above x ys is.1)
+
+few_between : (m n : ℕ) (xs : List ℕ) → Every (λ x. m ≤ x) xs → Every (λ x. x < n) xs → Ascends nat_cmp xs → length xs ≤ n - m
+few_between m n [] low high order = omega arith
+few_between m n (x ∷ xs) low high order =
+    let rest : length xs ≤ n - (x + 1) = few_between (x + 1) n xs (above x xs order.0) high.1 order.1 in
+    let least : m ≤ x = low.0 in
+    let most : x < n = high.0 in
+    omega arith
+
+none_low : (xs : List ℕ) → Every (λ x. 0 ≤ x) xs
+none_low [] = tt
+none_low (x ∷ xs) = (omega arith, none_low xs)
+
+pub few_sites : (n : ℕ) (xs : List ℕ) → AreSites n xs → length xs ≤ n
+few_sites n xs are = let few : length xs ≤ n - 0 = few_between 0 n xs (none_low xs) are.below are.ascends in omega arith
+
+with_below : (n : ℕ) (xs : List ℕ) (x : ℕ) → x < n → Every (λ y. y < n) xs → Every (λ y. y < n) (with_site xs x)
+with_below n [] x low all = (low, tt)
+with_below n (y ∷ ys) x low all = by (nat_cmp x y) (with_below n ys x low all.1)
+  where
+    by : (o : Ordering) → Every (λ z. z < n) (with_site ys x) → Every (λ z. z < n) (by_order o (x ∷ y ∷ ys) (x ∷ ys) (y ∷ inserted nat_cmp ys x))
+    by Less rest = (low, all)
+    by Equal rest = (low, all.1)
+    by Greater rest = (all.0, rest)
+
+more_sites : (n : ℕ) (xs sites : List ℕ) → AreSites n xs → Every (λ x. x < n) sites → AreSites n (fold with_site xs sites)
+more_sites n xs [] are low = are
+more_sites n xs (x ∷ sites) are low =
+    more_sites n (with_site xs x) sites (record { below = with_below n xs x low.0 are.below; ascends = ascends-inserted nat_cmp nat_cmp_total xs x are.ascends }) low.1
+
+-- the sites that a round may still ask
+
+pub record RestFits (n : ℕ) (r : RoundState) : Type 0 where
+  pub below : Every (λ site. site < n) r.rest
+  pub few : length r.rest ≤ n
+
+first_below : (n : ℕ) (xs ys : List ℕ) → Every (λ x. x < n) (xs ++ ys) → Every (λ x. x < n) xs
+first_below n [] ys all = tt
+first_below n (x ∷ xs) ys all = (all.0, first_below n xs ys all.1)
+
+last_below : (n : ℕ) (xs ys : List ℕ) → Every (λ x. x < n) (xs ++ ys) → Every (λ x. x < n) ys
+last_below n [] ys all = all
+last_below n (x ∷ xs) ys all = last_below n xs ys all.1
+
+wanted_below : (n : ℕ) (r : RoundState) → RestFits n r → Every (λ site. site < n) (wanted r)
+wanted_below n r f = first_below n (wanted r) (wanted_is r).more (subst (Every (λ site. site < n)) (sym (wanted_is r).is) f.below)
+
+wanted_few : (n : ℕ) (r : RoundState) → RestFits n r → length (wanted r) ≤ n
+wanted_few n r f =
+    let whole : length (wanted r ++ (wanted_is r).more) ≡ length r.rest = ap length (wanted_is r).is in
+    let both : length (wanted r ++ (wanted_is r).more) ≡ length (wanted r) + length (wanted_is r).more = length-append (wanted r) (wanted_is r).more in
+    let few : length r.rest ≤ n = f.few in
+    omega arith
+
+pub length_filter : (test : ℕ → Bool) (xs : List ℕ) → length (filter test xs) ≤ length xs
+length_filter test [] = omega arith
+length_filter test (x ∷ xs) = by (test x) (length_filter test xs)
+  where
+    by : (t : Bool) → length (filter test xs) ≤ length xs → length (cond t (x ∷ filter test xs) (filter test xs)) ≤ length (x ∷ xs)
+    by true few = omega arith
+    by false few = omega arith
+
+pub cyclic_length : (sites from : ℕ) → from ≤ sites → length (cyclic sites from) ≡ sites
+cyclic_length sites from low =
+    let whole : length (cyclic sites from) ≡ length (range_with_len from (sites - from)) + length (range_with_len 0 from) = length-append (range_with_len from (sites - from)) (range_with_len 0 from) in
+    let a : length (range_with_len from (sites - from)) ≡ sites - from = length-range_with_len from (sites - from) in
+    let b : length (range_with_len 0 from) ≡ from = length-range_with_len 0 from in
+    omega arith
+
+-- a site of positive weight has one
+weighs_below : (weights : List ℕ) (site : ℕ) → nat_lt 0 (slice_index weights site) ≡ true → site < length weights
+weighs_below [] site is = absurd (let no : ⊥ = cc in no)
+weighs_below (w ∷ ws) zero is = omega arith
+weighs_below (w ∷ ws) (suc site) is = let low : site < length ws = weighs_below ws site is in omega arith
+
+no_weights : (xs : List ℕ) → weighing [] xs ≡ []
+no_weights [] = refl
+no_weights (x ∷ xs) = no_weights xs
+
+plan_weights : (decl : Declaration) (epoch : ℕ) → IsAccepted decl → (p : Plan) → plan_in decl epoch ≡ Some p → length p.weights ≡ decl.sites
+plan_weights decl epoch accepted p is = by (epoch == 0) is
+  where
+    by : (t : Bool) → cond t None (slice_get decl.plans (epoch - 1)) ≡ Some p → length p.weights ≡ decl.sites
+    by true never = absurd (let no : ⊥ = cc in no)
+    by false at = let good : IsGood decl p = accepted.good (epoch - 1) p at in good.weights
+
+start_fits_at : (decl : Declaration) (client need : ℕ) (weights : List ℕ) → IsAccepted decl → length weights ≡ decl.sites → RestFits decl.sites (start weights (first_site decl client) need)
+start_fits_at decl client need weights accepted same = record {
+  below = every-from_In (λ site. site < decl.sites) (weighing weights around) (λ site among.
+      let low : site < length weights = weighs_below weights site (In-passes (λ s. nat_lt 0 (weight_at weights s)) site around among) in omega arith);
+  few =
+      let some : 0 < decl.sites = accepted.has_site in
+      let low : client % decl.sites < decl.sites = omega arith in
+      let whole : length around ≡ length weights = cyclic_length (length weights) (first_site decl client) (omega arith) in
+      let fewer : length (weighing weights around) ≤ length around = length_filter (λ s. nat_lt 0 (weight_at weights s)) around in
+      omega arith;
+} where
+  around : List ℕ
+  around = cyclic (length weights) (first_site decl client)
+
+pub start_fits : (decl : Declaration) (client epoch need : ℕ) → IsAccepted decl → RestFits decl.sites (start (weights_of decl epoch) (first_site decl client) need)
+start_fits decl client epoch need accepted = by (plan_in decl epoch) refl
+  where
+    by : (o : Option Plan) → plan_in decl epoch ≡ o → RestFits decl.sites (start (option_map_or (λ (p : Plan). p.weights) o []) (first_site decl client) need)
+    by None is = subst (λ (rest : List ℕ). RestFits decl.sites (record { weights = []; need = need; asked = []; rest = rest })) (sym (no_weights (cyclic 0 (first_site decl client)))) (record { below = tt; few = omega arith })
+    by (Some p) is = start_fits_at decl client need p.weights accepted (plan_weights decl epoch accepted p is)
+
+round_fits : (decl : Declaration) (client epoch need : ℕ) (r : RoundState) → IsAccepted decl → IsRound decl client epoch need r → RestFits decl.sites r
+round_fits decl client epoch need r accepted is =
+    let first : RestFits decl.sites (start (weights_of decl epoch) (first_site decl client) need) = start_fits decl client epoch need accepted in
+    record {
+      below = last_below decl.sites (sites_of r.asked) r.rest (subst (Every (λ site. site < decl.sites)) (sym is.sites) first.below);
+      few =
+          let whole : length (sites_of r.asked ++ r.rest) ≡ length (start (weights_of decl epoch) (first_site decl client) need).rest = ap length is.sites in
+          let both : length (sites_of r.asked ++ r.rest) ≡ length (sites_of r.asked) + length r.rest = length-append (sites_of r.asked) r.rest in
+          let most : length (start (weights_of decl epoch) (first_site decl client) need).rest ≤ decl.sites = first.few in
+          omega arith;
+    }
+
+-- a move sends few messages, to sites; and the sites that its transaction asked are sites
+
+abbrev pub asked_in : Option Transaction → List ℕ
+asked_in None = []
+asked_in (Some t) = t.begun.asked
+
+pub record Reaches (n : ℕ) (m : FrontMove) : Type 0 where
+  pub sends : Every (λ (p : Posting). p.to < n) m.turn.sends
+  pub few : length m.turn.sends ≤ n
+  pub asked : AreSites n (asked_in m.front.transaction)
+
+tells : (n : ℕ) (front : Front) (turn : Turn) → turn.sends ≡ [] → AreSites n (asked_in front.transaction) → Reaches n (moved front turn)
+tells n front turn none asked = record {
+  sends = subst (Every (λ (p : Posting). p.to < n)) (sym none) tt;
+  few = subst (λ (ps : List Posting). length ps ≤ n) (sym none) (omega arith);
+  asked = asked;
+}
+
+requests_reach : (n : ℕ) (b : Begun) (want : Want) (sites : List ℕ) → Every (λ site. site < n) sites → Every (λ (p : Posting). p.to < n) (map (request_of b want) sites)
+requests_reach n b want [] low = tt
+requests_reach n b want (site ∷ sites) low = (low.0, requests_reach n b want sites low.1)
+
+pub verdicts_reach : (n : ℕ) (b : Begun) (v : Outcome) (sites : List ℕ) → Every (λ site. site < n) sites
+    → Every (λ (p : Posting). p.to < n) (map (λ site. record { to = site; message = messages.Decision b.tx v }) sites)
+verdicts_reach n b v [] low = tt
+verdicts_reach n b v (site ∷ sites) low = (low.0, verdicts_reach n b v sites low.1)
+
+pub verdicts_few : (n : ℕ) (b : Begun) (v : Outcome) → AreSites n b.asked → length (decisions b v) ≤ n
+verdicts_few n b v are =
+    let same : length (decisions b v) ≡ length b.asked = length-map b.asked (λ site. record { to = site; message = messages.Decision b.tx v }) in
+    let few : length b.asked ≤ n = few_sites n b.asked are in
+    omega arith
+
+goes_reaches : (n : ℕ) (front : Front) (t : Transaction) (doing : RoundState → Doing) (want : Want) (r : RoundState) → AreSites n t.begun.asked → RestFits n r → Reaches n (goes_on front t doing want r)
+goes_reaches n front t doing want r are f = record {
+  sends = requests_reach n t.begun want (wanted r) (wanted_below n r f);
+  few =
+      let same : length (map (request_of t.begun want) (wanted r)) ≡ length (wanted r) = length-map (wanted r) (request_of t.begun want) in
+      let few : length (wanted r) ≤ n = wanted_few n r f in
+      omega arith;
+  asked = more_sites n t.begun.asked (wanted r) are (wanted_below n r f);
+}
+
+gives_reaches : (n : ℕ) (front : Front) (t : Transaction) (reply : Reply) → AreSites n t.begun.asked → Reaches n (gives_up front t reply)
+gives_reaches n front t reply are = record {
+  sends = verdicts_reach n t.begun Aborted t.begun.asked are.below;
+  few = verdicts_few n t.begun Aborted are;
+  asked = record { below = tt; ascends = tt };
+}
+
+-- the asked sites stay, whatever joins the transaction
+
+view_asked : (t : Transaction) (object : ℕ) (o : Option View) → (with_view t object o).begun ≡ t.begun
+view_asked t object None = refl
+view_asked t object (Some v) = refl
+
+event_asked : (t : Transaction) (object inv event resp : ℕ) → (with_event t object inv event resp).begun.asked ≡ t.begun.asked
+event_asked t object inv event resp =
+    ap (λ (b : Begun). b.asked) (view_asked (record t { own = t.own ++ next_own t object event ∷ [] }) object (option_map (λ (v : View). with_own v event) (slice_get t.views object)))
+
+read_asked : (t : Transaction) (site object : ℕ) (answer : Option Answer) → (read_with t site object answer).begun.asked ≡ t.begun.asked
+read_asked t site object None = refl
+read_asked t site object (Some (answers.Granted life clock log)) =
+    ap (λ (b : Begun). b.asked) (view_asked (lived t site life) object (option_map (λ (v : View). with_log v log) (slice_get t.views object)))
+read_asked t site object (Some (answers.Clash holder inv event)) = refl
+read_asked t site object (Some (answers.Closed epoch)) = refl
+read_asked t site object (Some (answers.Behind epoch)) = refl
+read_asked t site object (Some (answers.Restarted life)) = refl
+read_asked t site object (Some answers.Stale) = refl
+read_asked t site object (Some answers.Fault) = refl
+read_asked t site object (Some (answers.Yes clock)) = refl
+read_asked t site object (Some (answers.Shut clock log prepared)) = refl
+read_asked t site object (Some answers.Installed) = refl
+read_asked t site object (Some (answers.Answered verdict)) = refl
+
+appended_asked : (t : Transaction) (site : ℕ) (answer : Option Answer) → (appended_with t site answer).begun.asked ≡ t.begun.asked
+appended_asked t site None = refl
+appended_asked t site (Some (answers.Granted life clock log)) = refl
+appended_asked t site (Some (answers.Clash holder inv event)) = refl
+appended_asked t site (Some (answers.Closed epoch)) = refl
+appended_asked t site (Some (answers.Behind epoch)) = refl
+appended_asked t site (Some (answers.Restarted life)) = refl
+appended_asked t site (Some answers.Stale) = refl
+appended_asked t site (Some answers.Fault) = refl
+appended_asked t site (Some (answers.Yes clock)) = refl
+appended_asked t site (Some (answers.Shut clock log prepared)) = refl
+appended_asked t site (Some answers.Installed) = refl
+appended_asked t site (Some (answers.Answered verdict)) = refl
+
+-- rounds
+
+module _ (decl : Declaration) (accepted : IsAccepted decl) where
+  append_reaches : (front : Front) (t : Transaction) (object inv event : ℕ) (calls : List Call) (r : RoundState) (v : Verdict) → AreSites decl.sites t.begun.asked → RestFits decl.sites r
+      → Reaches decl.sites (append_by decl front t object inv event calls r v)
+  append_reaches front t object inv event calls r verdicts.Waiting are f = goes_reaches decl.sites front t (Appending object inv event calls) (append_want decl t object event) r are f
+  append_reaches front t object inv event calls r verdicts.Met are f =
+      tells decl.sites _ (telling (replies.Response (resp_of decl object event))) refl (subst (AreSites decl.sites) (sym (event_asked t object inv event (resp_of decl object event))) are)
+  append_reaches front t object inv event calls r (verdicts.Closed epoch site) are f = tells decl.sites _ _ refl are
+  append_reaches front t object inv event calls r (verdicts.Clash tx site) are f = tells decl.sites _ _ refl are
+  append_reaches front t object inv event calls r (verdicts.Short got need) are f = tells decl.sites _ _ refl are
+
+  answered_reaches : (front : Front) (t : Transaction) (object inv : ℕ) (event : Option ℕ) → AreSites decl.sites t.begun.asked → Reaches decl.sites (answered decl front t object inv event)
+  answered_reaches front t object inv None are = tells decl.sites _ _ refl are
+  answered_reaches front t object inv (Some event) are =
+      append_reaches front t object inv event [] (round_for decl front t (append_need_of decl t.begun.epoch object event)) (verdict (round_for decl front t (append_need_of decl t.begun.epoch object event))) are
+      (start_fits decl front.client t.begun.epoch (append_need_of decl t.begun.epoch object event) accepted)
+
+  read_reaches : (front : Front) (t : Transaction) (object inv : ℕ) (calls : List Call) (r : RoundState) (v : Verdict) → AreSites decl.sites t.begun.asked → RestFits decl.sites r
+      → Reaches decl.sites (read_by decl front t object inv calls r v)
+  read_reaches front t object inv calls r verdicts.Waiting are f = goes_reaches decl.sites front t (Reading object inv calls) (read_want object inv) r are f
+  read_reaches front t object inv calls r verdicts.Met are f = answered_reaches front t object inv (answer_of decl t object inv) are
+  read_reaches front t object inv calls r (verdicts.Closed epoch site) are f = tells decl.sites _ _ refl are
+  read_reaches front t object inv calls r (verdicts.Clash tx site) are f = tells decl.sites _ _ refl are
+  read_reaches front t object inv calls r (verdicts.Short got need) are f = tells decl.sites _ _ refl are
+
+  -- commands
+
+  performs_reaches : (front : Front) (o : Option Transaction) (object inv : ℕ) → AreSites decl.sites (asked_in front.transaction) → AreSites decl.sites (asked_in o) → Reaches decl.sites (performs decl front o object inv)
+  performs_reaches front None object inv same are = tells decl.sites front _ refl same
+  performs_reaches front (Some t) object inv same are = by t.begun.doomed (nat_le most_transaction_operations (length t.begun.ops))
+    where
+      by : (dead long : Bool) → Reaches decl.sites (cond dead (moved front (telling replies.Doomed)) (cond long (moved front (telling replies.TooLong)) (reads decl front t object inv [] (round_for decl front t (read_need_of decl t.begun.epoch object inv)))))
+      by true long = tells decl.sites front _ refl same
+      by false true = tells decl.sites front _ refl same
+      by false false =
+          read_reaches front t object inv [] (round_for decl front t (read_need_of decl t.begun.epoch object inv)) (verdict (round_for decl front t (read_need_of decl t.begun.epoch object inv))) are
+          (start_fits decl front.client t.begun.epoch (read_need_of decl t.begun.epoch object inv) accepted)
+
+  begins_reaches : (front : Front) (o : Option Transaction) → AreSites decl.sites (asked_in front.transaction) → Reaches decl.sites (begins decl front o)
+  begins_reaches front None same = tells decl.sites _ _ refl (record { below = tt; ascends = tt })
+  begins_reaches front (Some t) same = tells decl.sites front _ refl same
+
+  commits_reaches : (front : Front) (o : Option Transaction) → AreSites decl.sites (asked_in front.transaction) → AreSites decl.sites (asked_in o) → Reaches decl.sites (commits front o)
+  commits_reaches front None same are = tells decl.sites front _ refl same
+  commits_reaches front (Some t) same are = by t.begun.doomed
+    where
+      by : (dead : Bool) → Reaches decl.sites (cond dead (gives_up front t (replies.Aborted causes.Doomed)) (moved front quiet))
+      by true = gives_reaches decl.sites front t (replies.Aborted causes.Doomed) are
+      by false = tells decl.sites front quiet refl same
+
+  aborts_reaches : (front : Front) (o : Option Transaction) → AreSites decl.sites (asked_in front.transaction) → AreSites decl.sites (asked_in o) → Reaches decl.sites (aborts front o)
+  aborts_reaches front None same are = tells decl.sites front _ refl same
+  aborts_reaches front (Some t) same are = gives_reaches decl.sites front t replies.Dropped are
+
+  pub called_reaches : (front : Front) (command : Command) → AreSites decl.sites (asked_in front.transaction) → Reaches decl.sites (called decl front command)
+  called_reaches front commands.Begin are = begins_reaches front front.transaction are
+  called_reaches front (commands.Do object inv) are = performs_reaches front front.transaction object inv are are
+  called_reaches front commands.Commit are = commits_reaches front front.transaction are are
+  called_reaches front commands.Abort are = aborts_reaches front front.transaction are are
+  called_reaches front (commands.Epoch number) are = tells decl.sites front quiet refl are
+
+  -- answers
+
+  takes_in_reaches : (front : Front) (doing : Doing) (o : Option Transaction) (number : ℕ) (answer : Option Answer) → BegunHolds decl front.client o doing → AreSites decl.sites (asked_in front.transaction) → AreSites decl.sites (asked_in o)
+      → Reaches decl.sites (takes_in decl front doing o number answer)
+  takes_in_reaches front doing None number answer h same are = tells decl.sites front quiet refl same
+  takes_in_reaches front Idle (Some t) number answer h same are = tells decl.sites front quiet refl same
+  takes_in_reaches front (Reading object inv calls round) (Some t) number answer h same are = by (site_called calls number)
+    where
+      by : (o : Option ℕ) → Reaches decl.sites (reading_takes decl front t object inv calls round number answer o)
+      by None = tells decl.sites front quiet refl same
+      by (Some site) =
+          read_reaches (learns front answer) (read_with t site object answer) object inv (without_call calls number) (note round site (standing_of answer)) (verdict (note round site (standing_of answer)))
+          (subst (AreSites decl.sites) (sym (read_asked t site object answer)) are)
+          (record { below = (round_fits decl front.client t.begun.epoch (read_need_of decl t.begun.epoch object inv) round accepted h.1.round_is).below; few = (round_fits decl front.client t.begun.epoch (read_need_of decl t.begun.epoch object inv) round accepted h.1.round_is).few })
+  takes_in_reaches front (Appending object inv event calls round) (Some t) number answer h same are = by (site_called calls number)
+    where
+      by : (o : Option ℕ) → Reaches decl.sites (appending_takes decl front t object inv event calls round number answer o)
+      by None = tells decl.sites front quiet refl same
+      by (Some site) =
+          append_reaches (learns front answer) (appended_with t site answer) object inv event (without_call calls number) (note round site (standing_of answer)) (verdict (note round site (standing_of answer)))
+          (subst (AreSites decl.sites) (sym (appended_asked t site answer)) are)
+          (record { below = (round_fits decl front.client t.begun.epoch (append_need_of decl t.begun.epoch object event) round accepted h.1.round_is).below; few = (round_fits decl front.client t.begun.epoch (append_need_of decl t.begun.epoch object event) round accepted h.1.round_is).few })
+
+  pub takes_reaches : (front : Front) (number : ℕ) (answer : Option Answer) → FrontHolds decl front → AreSites decl.sites (asked_in front.transaction) → Reaches decl.sites (takes decl front number answer)
+  takes_reaches front number answer h are = takes_in_reaches front front.doing front.transaction number answer h are are

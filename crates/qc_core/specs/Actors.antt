@@ -1,0 +1,86 @@
+-- An actor's state: a site's, or a client's. What it becomes and does for each input, and over all its deeds.
+use Rattle.std.specs.Prelude.{ℕ, ◌-◌, ◌^◌, ◌<◌, if◌then◌else◌, List, fold}
+use Rattle.qc_decl.specs.declared.declaration.Declaration.{Declaration}
+use Rattle.qc_decl.specs.Actors.{is_site}
+use Rattle.qc_commit.specs.Fits as votes
+use Rattle.qc_front.specs.Fits as rounds
+use Rattle.qc_client.specs.Client.{ClientMove, new_client}
+use Rattle.qc_client.specs.Conduct as clients
+use Rattle.qc_client.specs.Fits.{ClientFits, promise_in}
+use Rattle.qc_msg.specs.declared.message.Message.{Message}
+use Rattle.qc_msg.specs.declared.step.Given.{Given}
+use Rattle.qc_msg.specs.declared.step.Given.TheVariants as given
+use Rattle.qc_msg.specs.declared.turn.Turn.{Turn}
+use Rattle.qc_msg.specs.Deeds.{Deed, Takes, Writes, Sends, Tells}
+use Rattle.qc_msg.specs.Turns.{quiet}
+use Rattle.qc_site.specs.Conduct.{site_on, site_takes}
+use Rattle.qc_site.specs.Site.{SiteMove, new_site}
+use Rattle.qc_core.specs.declared.actor.Actor.{Actor}
+use Rattle.qc_core.specs.declared.actor.Actor.TheVariants.{Site, Client}
+
+-- what an actor becomes, and what it does
+pub record ActorMove : Type 0 where
+  pub actor : Actor
+  pub turn : Turn
+
+abbrev pub moved : Actor → Turn → ActorMove
+moved actor turn = record { actor = actor; turn = turn }
+
+abbrev pub by_site : SiteMove → ActorMove
+by_site move = moved (Site move.site) move.turn
+
+abbrev pub by_client : ClientMove → ActorMove
+by_client move = moved (Client move.client) move.turn
+
+-- an actor that has done nothing: sites are numbered first, then clients
+abbrev pub new_actor : Declaration → ℕ → Actor
+new_actor decl a = if is_site decl a then Site (new_site a) else Client (new_client (a - decl.sites))
+
+-- what it takes
+abbrev pub actor_takes : Declaration → Actor → Given → ActorMove
+actor_takes decl (Site s) given = by_site (site_takes decl s given)
+actor_takes decl (Client c) given = by_client (clients.client_takes decl c given)
+
+-- the same of a message of this sender and number
+abbrev pub actor_hears : Declaration → Actor → ℕ → ℕ → Message → ActorMove
+actor_hears decl (Site s) from number message = by_site (site_on decl s from number message)
+actor_hears decl (Client c) from number message = by_client (clients.heard decl c from number message)
+
+-- a message of its own was sent under this number; a site keeps none
+abbrev pub actor_sends : Actor → ℕ → ℕ → Message → Actor
+actor_sends (Site s) number to message = Site s
+actor_sends (Client c) number to message = Client (clients.sent_one c number to message)
+
+-- the messages of its last turn have the numbers from this one on
+abbrev pub actor_sent : Actor → ℕ → Actor
+actor_sent (Site s) first = Site s
+actor_sent (Client c) first = Client (clients.sent c first)
+
+-- an actor over its deeds
+
+abbrev pub actor_does : Declaration → ActorMove → Deed → ActorMove
+actor_does decl move (Takes given) = actor_takes decl move.actor given
+actor_does decl move (Writes written) = move
+actor_does decl move (Sends number to message) = record move { actor = actor_sends move.actor number to message }
+actor_does decl move (Tells reply) = move
+
+-- what an actor is after these deeds, and its turn for the last input
+abbrev pub actor_after : Declaration → ℕ → List Deed → ActorMove
+actor_after decl a deeds = fold (actor_does decl) (moved (new_actor decl a) quiet) deeds
+
+-- What holds of an actor, and of what it takes, in every run of fewer steps than the limit, and its calls rely on. A
+-- site's calls rely on nothing.
+
+abbrev pub ActorFits : Actor → Type 0
+ActorFits (Site s) = Unit {0}
+ActorFits (Client c) = ClientFits c
+
+abbrev pub IsInputFit : Given → Type 0
+IsInputFit (given.Called command) = Unit {0}
+IsInputFit (given.Got envelope) = promise_in envelope.message < 2 ^ 63
+IsInputFit (given.Lost number) = Unit {0}
+
+-- the actor has asked few sites, so that it can number what it asked
+abbrev pub AsksFew : Actor → Type 0
+AsksFew (Site s) = Unit {0}
+AsksFew (Client c) = votes.AsksFew c.desk.voting × rounds.AsksFew c.front.doing

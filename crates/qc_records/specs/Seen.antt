@@ -1,0 +1,128 @@
+-- What a transaction's client had seen of other transactions, by the end of this one.
+use Rattle.std.specs.Prelude.{ℕ, ◌==◌, Bool, not, if◌then◌else◌, List, [], ◌∷◌, ◌++◌, Option, Some, None, fold, filter}
+use Rattle.std.specs.Prelude.{map, option_to_list}
+use Rattle.std.specs.List.{list_any}
+use Rattle.qc_decl.specs.Actors.{client_actor}
+use Rattle.qc_decl.specs.declared.declaration.Declaration.{Declaration}
+use Rattle.qc_entry.specs.declared.line.Line.{Line}
+use Rattle.qc_msg.specs.Deeds.{Deed, Sends, Takes, Tells, Writes, deeds}
+use Rattle.qc_msg.specs.Steps.{Entry}
+use Rattle.qc_msg.specs.declared.message.Answer.{Answer}
+use Rattle.qc_msg.specs.declared.message.Answer.TheVariants as answers
+use Rattle.qc_msg.specs.declared.message.Message.{Message}
+use Rattle.qc_msg.specs.declared.message.Message.TheVariants as messages
+use Rattle.qc_msg.specs.declared.reply.Reply.{Reply}
+use Rattle.qc_msg.specs.declared.reply.Reply.TheVariants as replies
+use Rattle.qc_msg.specs.declared.step.Given.{Given}
+use Rattle.qc_msg.specs.declared.step.Given.TheVariants as given
+use Rattle.qc_records.specs.Deals.{is_begun}
+use Rattle.qc_stamp.specs.Order.{same_tx}
+use Rattle.qc_stamp.specs.declared.stamp.TxId.{TxId}
+
+-- a client's sight of transactions so far, and what of it counts for one transaction
+pub record Sight : Type 0 where
+  -- the transaction that it has begun and that hasn't ended
+  pub begun : Option TxId
+  -- its requests that nothing was taken for yet
+  pub waiting : List ℕ
+  -- the transactions with a line in a grant that counted, and those it was told that they committed
+  pub known : List TxId
+  -- those of them that it knew as the one transaction began, and those with a line in a grant that counted since, until
+  -- that one ended
+  pub seen : List TxId
+
+-- the transactions of these lines join
+abbrev pub sees : TxId → Sight → List Line → Sight
+sees tx s lines =
+    let txs : List TxId = map (λ (l : Line). l.tx) lines in
+    record s { known = s.known ++ txs; seen = if is_begun tx s.begun then s.seen ++ txs else s.seen }
+
+-- the first thing that is taken for a request counts
+
+abbrev pub waits : Sight → ℕ → Bool
+waits s number = list_any (λ n. n == number) s.waiting
+
+abbrev pub answered : Sight → ℕ → Sight
+answered s number = record s { waiting = filter (λ n. not (n == number)) s.waiting }
+
+-- the lines that an answer grants
+abbrev pub granted : Answer → List Line
+granted (answers.Granted life clock log) = log
+granted (answers.Clash holder inv event) = []
+granted (answers.Closed epoch) = []
+granted (answers.Behind epoch) = []
+granted (answers.Restarted life) = []
+granted answers.Stale = []
+granted answers.Fault = []
+granted (answers.Yes clock) = []
+granted (answers.Shut clock log prepared) = []
+granted answers.Installed = []
+granted (answers.Answered verdict) = []
+
+abbrev pub sight_heard : TxId → Sight → Message → Sight
+sight_heard tx s (messages.Request other epoch life want) = s
+sight_heard tx s (messages.Answer to answer) = if waits s to then sees tx (answered s to) (granted answer) else s
+sight_heard tx s (messages.Decision other verdict) = s
+sight_heard tx s (messages.Inquiry other) = s
+sight_heard tx s (messages.Ask other) = s
+sight_heard tx s (messages.Close epoch) = s
+sight_heard tx s (messages.Install epoch clock log) = s
+
+abbrev pub sight_taken : TxId → Sight → Given → Sight
+sight_taken tx s (given.Called command) = s
+sight_taken tx s (given.Got envelope) = sight_heard tx s envelope.message
+sight_taken tx s (given.Lost number) = answered s number
+
+-- a request waits
+abbrev pub sight_sent : Sight → ℕ → Message → Sight
+sight_sent s number (messages.Request other epoch life want) = record s { waiting = s.waiting ++ number ∷ [] }
+sight_sent s number (messages.Answer to answer) = s
+sight_sent s number (messages.Decision other verdict) = s
+sight_sent s number (messages.Inquiry other) = s
+sight_sent s number (messages.Ask other) = s
+sight_sent s number (messages.Close epoch) = s
+sight_sent s number (messages.Install epoch clock log) = s
+
+-- the transaction has ended
+abbrev pub over : Sight → Sight
+over s = record s { begun = None }
+
+abbrev pub sight_told : TxId → Sight → Reply → Sight
+sight_told tx s replies.Down = s
+sight_told tx s (replies.Already other) = s
+sight_told tx s (replies.Began other) =
+    record s { begun = Some other; seen = if same_tx other tx then s.known else s.seen }
+sight_told tx s replies.NoTransaction = s
+sight_told tx s replies.Doomed = s
+sight_told tx s replies.TooLong = s
+sight_told tx s (replies.Closed epoch site) = s
+sight_told tx s (replies.Conflict holder site) = s
+sight_told tx s (replies.Quorum half got need) = s
+sight_told tx s replies.Absent = s
+sight_told tx s (replies.Response resp) = s
+sight_told tx s (replies.Aborted why) = over s
+sight_told tx s replies.Unknown = over s
+sight_told tx s (replies.Committed stamp) = over (record s { known = s.known ++ option_to_list s.begun })
+sight_told tx s replies.Dropped = over s
+sight_told tx s (replies.Order current) = s
+sight_told tx s (replies.InDoubt holder site) = s
+sight_told tx s replies.Fault = s
+sight_told tx s (replies.Moved closed installed) = s
+
+-- one deed more
+abbrev pub sight : TxId → Sight → Deed → Sight
+sight tx s (Takes given) = sight_taken tx s given
+sight tx s (Writes written) = s
+sight tx s (Sends number to message) = sight_sent s number message
+sight tx s (Tells reply) = sight_told tx s reply
+
+abbrev pub no_sight : Sight
+no_sight = record { begun = None; waiting = []; known = []; seen = [] }
+
+abbrev pub seen_in : List Deed → TxId → List TxId
+seen_in ds tx = (fold (sight tx) no_sight ds).seen
+
+-- the transactions that a transaction's client had seen: before it began, by counted grants and by replies, and by
+-- counted grants until it ended
+abbrev pub seen : Declaration → List Entry → TxId → List TxId
+seen decl h tx = seen_in (deeds (client_actor decl tx.client) [] h) tx
