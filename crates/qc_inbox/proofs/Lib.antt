@@ -1,0 +1,5 @@
+pub mod Shown
+pub mod Counting
+pub mod Sent
+pub mod Shipping
+pub mod Taking
