@@ -3,3 +3,4 @@ pub mod Counting
 pub mod Sent
 pub mod Shipping
 pub mod Taking
+pub mod Keeping

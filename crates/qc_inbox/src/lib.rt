@@ -21,6 +21,7 @@
 
 mod inboxes;
 mod input;
+mod laws;
 mod pick;
 mod queue;
 mod tally;
@@ -29,6 +30,7 @@ mod trays;
 
 pub use inboxes::Inboxes;
 pub use input::Input;
+pub use laws::new_trays_are_kept;
 pub use pick::{Candidate, Rank};
 pub use queue::Queue;
 pub use tally::Counts;
