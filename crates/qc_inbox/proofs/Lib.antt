@@ -4,3 +4,5 @@ pub mod Sent
 pub mod Shipping
 pub mod Taking
 pub mod Keeping
+pub mod Acting
+pub mod Seeing

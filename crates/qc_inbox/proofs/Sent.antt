@@ -15,13 +15,13 @@ pub record Counts (i j : Inbox) (from_now to_now : List ℕ) : Type 0 where
   pub from_each : j.from_each ≡ from_now
   pub to_each : j.to_each ≡ to_now
 
-abbrev Keeps : Inbox → Inbox → Type 0
+abbrev pub Keeps : Inbox → Inbox → Type 0
 Keeps i j = Counts i j i.from_each i.to_each
 
-same : (i : Inbox) → Keeps i i
+pub same : (i : Inbox) → Keeps i i
 same i = record { cuts = refl; controls = refl; from_each = refl; to_each = refl }
 
-by_test : (P : Inbox → Type 0) (t : Bool) (i j : Inbox) → P i → P j → P (if t then i else j)
+pub by_test : (P : Inbox → Type 0) (t : Bool) (i j : Inbox) → P i → P j → P (if t then i else j)
 by_test P true i j here there = here
 by_test P false i j here there = there
 

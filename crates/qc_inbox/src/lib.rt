@@ -30,7 +30,9 @@ mod trays;
 
 pub use inboxes::Inboxes;
 pub use input::Input;
-pub use laws::new_trays_are_kept;
+pub use laws::{
+    inputs_keep_trays, new_trays_are_kept, trays_show_what_is_ready, turns_keep_trays,
+};
 pub use pick::{Candidate, Rank};
 pub use queue::Queue;
 pub use tally::Counts;
