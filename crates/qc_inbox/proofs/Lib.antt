@@ -6,3 +6,4 @@ pub mod Taking
 pub mod Keeping
 pub mod Acting
 pub mod Seeing
+pub mod Controlling

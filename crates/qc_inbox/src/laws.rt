@@ -1,18 +1,22 @@
 //! Laws of what is kept, each the contract of a function with nothing to do.
 
-ghost use Rattle.std.specs.Prelude.{◌≡◌, ℕ, ◌+◌, ◌<◌, List, [], ◌∷◌, ◌++◌, Some, length, option_map};
+ghost use Rattle.std.specs.Prelude.{◌≡◌, ℕ, ◌+◌, ◌<◌, List, [], ◌∷◌, ◌++◌, Some, length, option_map, slice_get};
 ghost use Rattle.std.specs.List.{AllByRecursion as Every};
 ghost use Rattle.qc_decl.specs.declared.declaration.Declaration.{Declaration};
 ghost use Rattle.qc_msg.specs.Deeds.{mail};
 ghost use Rattle.qc_msg.specs.Steps.{Entry, by, marked, posted, step_of};
+ghost use Rattle.qc_msg.specs.declared.step.Control.{Control};
 ghost use Rattle.qc_msg.specs.declared.step.Given.{Given};
+ghost use Rattle.qc_msg.specs.declared.step.Step.{Step};
+ghost use Rattle.qc_msg.specs.declared.step.Step.TheVariants.{Phase};
 ghost use Rattle.qc_msg.specs.declared.turn.Posting.{Posting};
 ghost use Rattle.qc_msg.specs.declared.turn.Turn.{Turn};
-ghost use Rattle.qc_script.specs.Ready.{ready};
+ghost use Rattle.qc_script.specs.Ready.{ready, step_of_control};
+ghost use Rattle.qc_script.specs.declared.script.PhaseLines.{PhaseLines};
 ghost use Rattle.qc_script.specs.declared.script.Script.{Script};
 ghost use Rattle.qc_inbox.specs.Inputs.{input_in, input_of};
 ghost use Rattle.qc_inbox.specs.Kept.{IsKept};
-ghost use Rattle.qc_inbox.specs.Rooms.{after_take, after_turn, empty_inboxes};
+ghost use Rattle.qc_inbox.specs.Rooms.{after_control, after_phase, after_take, after_turn, empty_inboxes};
 ghost use Rattle.qc_inbox.specs.declared.inboxes.Inboxes.{Inboxes};
 
 /// Before the first step, nothing waits for anybody.
@@ -38,4 +42,18 @@ pub fn turns_keep_trays()
     ensures { (script : Script) (h : List Entry) (kept : Inboxes) (a : ℕ) (turn : Turn)
         → IsKept script h kept → a < 34 → Every (λ (p : Posting). p.to < 34) turn.sends
         → IsKept script (h ++ by a (posted (length (mail h)) turn)) (after_turn kept a turn) }
+{}
+
+/// So does the next phase.
+pub fn phases_keep_trays()
+    ensures { (script : Script) (h : List Entry) (kept : Inboxes) (n : ℕ) (phase : PhaseLines) (controller : ℕ)
+        → IsKept script h kept → slice_get script.phases n ≡ Some phase
+        → IsKept script (h ++ marked controller (Phase (n + 1)) ∷ []) (after_phase kept phase) }
+{}
+
+/// So does a control line that has a step.
+pub fn controls_keep_trays()
+    ensures { (script : Script) (h : List Entry) (kept : Inboxes) (line : Control) (step : Step) (controller : ℕ)
+        → IsKept script h kept → step_of_control line ≡ Some step
+        → IsKept script (h ++ marked controller step ∷ []) (after_control kept line) }
 {}
