@@ -7,3 +7,4 @@ pub mod Keeping
 pub mod Acting
 pub mod Seeing
 pub mod Controlling
+pub mod Picking

@@ -1,7 +1,9 @@
 //! Laws of what is kept, each the contract of a function with nothing to do.
 
-ghost use Rattle.std.specs.Prelude.{◌≡◌, ℕ, ◌+◌, ◌<◌, List, [], ◌∷◌, ◌++◌, Some, length, option_map, slice_get};
+ghost use Rattle.std.specs.Prelude.{◌≡◌, ℕ, ◌+◌, ◌<◌, ◌≤◌, Bool, false, List, [], ◌∷◌, ◌++◌, Some, None, length, option_map, slice_get};
 ghost use Rattle.std.specs.List.{AllByRecursion as Every};
+ghost use Rattle.std.specs.Option.{IsSome};
+ghost use Rattle.qc_decl.specs.Actors.{actors};
 ghost use Rattle.qc_decl.specs.declared.declaration.Declaration.{Declaration};
 ghost use Rattle.qc_msg.specs.Deeds.{mail};
 ghost use Rattle.qc_msg.specs.Steps.{Entry, by, marked, posted, step_of};
@@ -16,6 +18,8 @@ ghost use Rattle.qc_script.specs.declared.script.PhaseLines.{PhaseLines};
 ghost use Rattle.qc_script.specs.declared.script.Script.{Script};
 ghost use Rattle.qc_inbox.specs.Inputs.{input_in, input_of};
 ghost use Rattle.qc_inbox.specs.Kept.{IsKept};
+ghost use Rattle.qc_inbox.specs.Picks.{is_held, picked};
+ghost use Rattle.qc_inbox.specs.PicksKept.{picked_in};
 ghost use Rattle.qc_inbox.specs.Rooms.{after_control, after_phase, after_take, after_turn, empty_inboxes};
 ghost use Rattle.qc_inbox.specs.declared.inboxes.Inboxes.{Inboxes};
 
@@ -56,4 +60,24 @@ pub fn controls_keep_trays()
     ensures { (script : Script) (h : List Entry) (kept : Inboxes) (line : Control) (step : Step) (controller : ℕ)
         → IsKept script h kept → step_of_control line ≡ Some step
         → IsKept script (h ++ marked controller step ∷ []) (after_control kept line) }
+{}
+
+/// The trays tell which actor comes next.
+pub fn picks_are_made_by_trays()
+    ensures { (decl : Declaration) (script : Script) (held : List Bool) (h : List Entry) (kept : Inboxes)
+        → IsKept script h kept → actors decl ≤ 34 → picked_in decl held kept ≡ picked decl script held h }
+{}
+
+/// None comes next exactly where nothing is ready for any site or client that
+/// isn't held, and something is ready for the one that does.
+pub fn who_comes_next_has_something_ready()
+    ensures none { (decl : Declaration) (script : Script) (held : List Bool) (h : List Entry)
+        → picked decl script held h ≡ None
+        → (a : ℕ) → a < actors decl → is_held held a ≡ false → ready decl script a h ≡ None }
+    ensures only { (decl : Declaration) (script : Script) (held : List Bool) (h : List Entry)
+        → ((a : ℕ) → a < actors decl → is_held held a ≡ false → ready decl script a h ≡ None)
+        → picked decl script held h ≡ None }
+    ensures some { (decl : Declaration) (script : Script) (held : List Bool) (h : List Entry) (a : ℕ)
+        → picked decl script held h ≡ Some a
+        → (a < actors decl) × (is_held held a ≡ false) × IsSome (ready decl script a h) }
 {}
