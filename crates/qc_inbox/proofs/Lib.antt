@@ -8,3 +8,4 @@ pub mod Acting
 pub mod Seeing
 pub mod Controlling
 pub mod Picking
+pub mod Among

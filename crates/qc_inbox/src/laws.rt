@@ -5,14 +5,17 @@ ghost use Rattle.std.specs.List.{AllByRecursion as Every};
 ghost use Rattle.std.specs.Option.{IsSome};
 ghost use Rattle.qc_decl.specs.Actors.{actors};
 ghost use Rattle.qc_decl.specs.declared.declaration.Declaration.{Declaration};
-ghost use Rattle.qc_msg.specs.Deeds.{mail};
+ghost use Rattle.qc_msg.specs.Deeds.{WasSentTo, mail};
 ghost use Rattle.qc_msg.specs.Steps.{Entry, by, marked, posted, step_of};
+ghost use Rattle.qc_msg.specs.declared.message.Envelope.{Envelope};
 ghost use Rattle.qc_msg.specs.declared.step.Control.{Control};
 ghost use Rattle.qc_msg.specs.declared.step.Given.{Given};
+ghost use Rattle.qc_msg.specs.declared.step.Given.TheVariants.{Got};
 ghost use Rattle.qc_msg.specs.declared.step.Step.{Step};
 ghost use Rattle.qc_msg.specs.declared.step.Step.TheVariants.{Phase};
 ghost use Rattle.qc_msg.specs.declared.turn.Posting.{Posting};
 ghost use Rattle.qc_msg.specs.declared.turn.Turn.{Turn};
+ghost use Rattle.qc_script.specs.Inbox.{inbox};
 ghost use Rattle.qc_script.specs.Ready.{ready, step_of_control};
 ghost use Rattle.qc_script.specs.declared.script.PhaseLines.{PhaseLines};
 ghost use Rattle.qc_script.specs.declared.script.Script.{Script};
@@ -80,4 +83,17 @@ pub fn who_comes_next_has_something_ready()
     ensures some { (decl : Declaration) (script : Script) (held : List Bool) (h : List Entry) (a : ℕ)
         → picked decl script held h ≡ Some a
         → (a < actors decl) × (is_held held a ≡ false) × IsSome (ready decl script a h) }
+{}
+
+/// What is ready for an actor and is a message was sent to it, and is found
+/// under its number.
+pub fn ready_messages_were_sent()
+    ensures { (decl : Declaration) (script : Script) (h : List Entry) (kept : Inboxes) (a : ℕ) (given : Given)
+        → IsKept script h kept → ready decl script a h ≡ Some given → WasSentTo a (mail h) given }
+{}
+
+/// So is each copy that waits.
+pub fn waiting_messages_were_sent()
+    ensures { (script : Script) (h : List Entry) (kept : Inboxes) (a : ℕ) → IsKept script h kept
+        → Every (λ (e : Envelope). WasSentTo a (mail h) (Got e)) (inbox script a h).copies }
 {}
