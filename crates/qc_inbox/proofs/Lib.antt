@@ -9,3 +9,4 @@ pub mod Seeing
 pub mod Controlling
 pub mod Picking
 pub mod Among
+pub mod Bounds

@@ -2,8 +2,8 @@
 
 ghost use Rattle.std.specs.Prelude.{◌≡◌, ℕ, ◌+◌, ◌<◌, ◌≤◌, Bool, false, List, [], ◌∷◌, ◌++◌, Some, None, length, option_map, slice_get};
 ghost use Rattle.std.specs.List.{AllByRecursion as Every};
-ghost use Rattle.std.specs.Option.{IsSome};
-ghost use Rattle.qc_decl.specs.Actors.{actors};
+ghost use Rattle.std.specs.Option.{IfSome, IsSome};
+ghost use Rattle.qc_decl.specs.Actors.{actors, administrator};
 ghost use Rattle.qc_decl.specs.declared.declaration.Declaration.{Declaration};
 ghost use Rattle.qc_msg.specs.Deeds.{WasSentTo, mail};
 ghost use Rattle.qc_msg.specs.Steps.{Entry, by, marked, posted, step_of};
@@ -16,14 +16,15 @@ ghost use Rattle.qc_msg.specs.declared.step.Step.TheVariants.{Phase};
 ghost use Rattle.qc_msg.specs.declared.turn.Posting.{Posting};
 ghost use Rattle.qc_msg.specs.declared.turn.Turn.{Turn};
 ghost use Rattle.qc_script.specs.Inbox.{inbox};
-ghost use Rattle.qc_script.specs.Ready.{ready, step_of_control};
+ghost use Rattle.qc_script.specs.Ready.{controls_left, ready, step_of_control};
+ghost use Rattle.qc_script.specs.Sound.{IsScriptFor};
 ghost use Rattle.qc_script.specs.declared.script.PhaseLines.{PhaseLines};
 ghost use Rattle.qc_script.specs.declared.script.Script.{Script};
-ghost use Rattle.qc_inbox.specs.Inputs.{input_in, input_of};
+ghost use Rattle.qc_inbox.specs.Inputs.{IsWithin, input_in, input_of};
 ghost use Rattle.qc_inbox.specs.Kept.{IsKept};
 ghost use Rattle.qc_inbox.specs.Picks.{is_held, picked};
 ghost use Rattle.qc_inbox.specs.PicksKept.{picked_in};
-ghost use Rattle.qc_inbox.specs.Rooms.{after_control, after_phase, after_take, after_turn, empty_inboxes};
+ghost use Rattle.qc_inbox.specs.Rooms.{after_control, after_phase, after_take, after_turn, empty_inboxes, tray_at};
 ghost use Rattle.qc_inbox.specs.declared.inboxes.Inboxes.{Inboxes};
 
 /// Before the first step, nothing waits for anybody.
@@ -96,4 +97,20 @@ pub fn ready_messages_were_sent()
 pub fn waiting_messages_were_sent()
     ensures { (script : Script) (h : List Entry) (kept : Inboxes) (a : ℕ) → IsKept script h kept
         → Every (λ (e : Envelope). WasSentTo a (mail h) (Got e)) (inbox script a h).copies }
+{}
+
+/// The control lines left are those of the history.
+pub fn trays_show_controls()
+    ensures { (script : Script) (h : List Entry) (kept : Inboxes)
+        → IsKept script h kept → kept.controls ≡ controls_left script h }
+{}
+
+/// What the calls require holds: the first control line left names actors where
+/// the script is sound, and an actor's calls are no more than the steps.
+pub fn trays_are_in_range()
+    ensures control { (decl : Declaration) (script : Script) (h : List Entry) (kept : Inboxes)
+        → IsKept script h kept → IsScriptFor decl script → administrator decl < 34
+        → IfSome (slice_get kept.controls 0) IsWithin }
+    ensures calls { (script : Script) (h : List Entry) (kept : Inboxes) (a : ℕ)
+        → IsKept script h kept → a < 34 → (tray_at kept.trays a).calls ≤ length h }
 {}
