@@ -10,3 +10,4 @@ pub mod Controlling
 pub mod Picking
 pub mod Among
 pub mod Bounds
+pub mod Apart

@@ -1,6 +1,6 @@
 //! Laws of what is kept, each the contract of a function with nothing to do.
 
-ghost use Rattle.std.specs.Prelude.{◌≡◌, ℕ, ◌+◌, ◌<◌, ◌≤◌, Bool, false, List, [], ◌∷◌, ◌++◌, Some, None, length, option_map, slice_get};
+ghost use Rattle.std.specs.Prelude.{◌≡◌, ℕ, ◌+◌, ◌<◌, ◌≤◌, ◌==◌, Bool, false, List, [], ◌∷◌, ◌++◌, Some, None, length, option_map, slice_get};
 ghost use Rattle.std.specs.List.{AllByRecursion as Every};
 ghost use Rattle.std.specs.Option.{IfSome, IsSome};
 ghost use Rattle.qc_decl.specs.Actors.{actors, administrator};
@@ -8,14 +8,16 @@ ghost use Rattle.qc_decl.specs.declared.declaration.Declaration.{Declaration};
 ghost use Rattle.qc_msg.specs.Deeds.{WasSentTo, mail};
 ghost use Rattle.qc_msg.specs.Steps.{Entry, by, marked, posted, step_of};
 ghost use Rattle.qc_msg.specs.declared.message.Envelope.{Envelope};
+ghost use Rattle.qc_msg.specs.declared.message.Message.{Message};
+ghost use Rattle.qc_msg.specs.declared.reply.Reply.{Reply};
 ghost use Rattle.qc_msg.specs.declared.step.Control.{Control};
 ghost use Rattle.qc_msg.specs.declared.step.Given.{Given};
 ghost use Rattle.qc_msg.specs.declared.step.Given.TheVariants.{Got};
 ghost use Rattle.qc_msg.specs.declared.step.Step.{Step};
-ghost use Rattle.qc_msg.specs.declared.step.Step.TheVariants.{Phase};
+ghost use Rattle.qc_msg.specs.declared.step.Step.TheVariants.{Phase, Sent, Told};
 ghost use Rattle.qc_msg.specs.declared.turn.Posting.{Posting};
 ghost use Rattle.qc_msg.specs.declared.turn.Turn.{Turn};
-ghost use Rattle.qc_script.specs.Inbox.{inbox};
+ghost use Rattle.qc_script.specs.Inbox.{count_of, inbox};
 ghost use Rattle.qc_script.specs.Ready.{controls_left, ready, step_of_control};
 ghost use Rattle.qc_script.specs.Sound.{IsScriptFor};
 ghost use Rattle.qc_script.specs.declared.script.PhaseLines.{PhaseLines};
@@ -113,4 +115,27 @@ pub fn trays_are_in_range()
         → IfSome (slice_get kept.controls 0) IsWithin }
     ensures calls { (script : Script) (h : List Entry) (kept : Inboxes) (a : ℕ)
         → IsKept script h kept → a < 34 → (tray_at kept.trays a).calls ≤ length h }
+{}
+
+/// A message changes the inboxes of its sender and its receiver alone; an input,
+/// and a reply, that of its actor.
+pub fn steps_leave_other_inboxes()
+    ensures sends { (script : Script) (h : List Entry) (a from n to : ℕ) (message : Message)
+        → (from == a) ≡ false → (to == a) ≡ false
+        → inbox script a (h ++ marked from (Sent n to message) ∷ []) ≡ inbox script a h }
+    ensures inputs { (script : Script) (h : List Entry) (a b : ℕ) (given : Given) → (b == a) ≡ false
+        → inbox script a (h ++ marked b (step_of given) ∷ []) ≡ inbox script a h }
+    ensures replies { (script : Script) (h : List Entry) (a b : ℕ) (reply : Reply) → (b == a) ≡ false
+        → inbox script a (h ++ marked b (Told reply) ∷ []) ≡ inbox script a h }
+{}
+
+/// All inboxes have the same cuts and control lines, and a message is counted
+/// alike by its sender and its receiver.
+pub fn inboxes_agree()
+    ensures cuts { (script : Script) (h : List Entry) (a b : ℕ) → a < 34 → b < 34
+        → (inbox script a h).cuts ≡ (inbox script b h).cuts }
+    ensures controls { (script : Script) (h : List Entry) (a b : ℕ) → a < 34 → b < 34
+        → (inbox script a h).controls ≡ (inbox script b h).controls }
+    ensures counts { (script : Script) (h : List Entry) (a b : ℕ) → a < 34 → b < 34
+        → count_of (inbox script a h).from_each b ≡ count_of (inbox script b h).to_each a }
 {}
