@@ -11,3 +11,4 @@ pub mod Picking
 pub mod Among
 pub mod Bounds
 pub mod Apart
+pub mod Ranking

@@ -79,7 +79,7 @@ sooner_none (Some best) a (Some rank) is = absurd (by (comes_before rank best.ra
     by true h = some_none _ h
     by false h = some_none _ h
 
-none_first : (f : ℕ → Option Rank) (n : ℕ) → first_of f n ≡ None → (a : ℕ) → a < n → f a ≡ None
+pub none_first : (f : ℕ → Option Rank) (n : ℕ) → first_of f n ≡ None → (a : ℕ) → a < n → f a ≡ None
 none_first f zero is a below = absurd (omega arith)
 none_first f (suc n) is a below = by (none_first f n) (a == n) refl
   where
@@ -106,7 +106,7 @@ sooner_some (Some best) a (Some rank) c is = by (comes_before rank best.rank) is
     by true h = let new : Candidate = record { actor = a; rank = rank } in let same : new ≡ c = cc in inr (ap (λ (x : Candidate). x.actor) (sym same), ap (λ (x : Candidate). Some x.rank) same)
     by false h = inl h
 
-some_first : (f : ℕ → Option Rank) (n : ℕ) (c : Candidate) → first_of f n ≡ Some c → (c.actor < n) × (f c.actor ≡ Some c.rank)
+pub some_first : (f : ℕ → Option Rank) (n : ℕ) (c : Candidate) → first_of f n ≡ Some c → (c.actor < n) × (f c.actor ≡ Some c.rank)
 some_first f zero c is = absurd (let never : ⊥ = cc in never)
 some_first f (suc n) c is = by (some_first f n c) (sooner_some (first_of f n) n (f n) c is)
   where

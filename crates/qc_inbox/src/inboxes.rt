@@ -55,6 +55,14 @@ impl Inboxes {
         self.counts.all()
     }
 
+    /// How many commands an actor called in this phase.
+    pub fn calls(&self, actor: u8) -> u32
+        requires { actor < 34 }
+        ensures { result ≡ (tray_at self.now.trays actor).calls }
+    {
+        self.trays.of(actor).calls
+    }
+
     /// What is ready next for an actor.
     pub fn ready(&self, decl: &Declaration, actor: u8) -> Option<Input>
         requires { actor < 34 }

@@ -1,6 +1,6 @@
 //! Laws of what is kept, each the contract of a function with nothing to do.
 
-ghost use Rattle.std.specs.Prelude.{◌≡◌, ℕ, ◌+◌, ◌<◌, ◌≤◌, ◌==◌, Bool, false, List, [], ◌∷◌, ◌++◌, Some, None, length, option_map, slice_get};
+ghost use Rattle.std.specs.Prelude.{◌≡◌, ℕ, ◌+◌, ◌<◌, ◌≤◌, ◌==◌, Bool, true, false, List, [], ◌∷◌, ◌++◌, Some, None, length, option_map, slice_get};
 ghost use Rattle.std.specs.List.{AllByRecursion as Every};
 ghost use Rattle.std.specs.Option.{IfSome, IsSome};
 ghost use Rattle.qc_decl.specs.Actors.{actors, administrator};
@@ -24,9 +24,10 @@ ghost use Rattle.qc_script.specs.declared.script.PhaseLines.{PhaseLines};
 ghost use Rattle.qc_script.specs.declared.script.Script.{Script};
 ghost use Rattle.qc_inbox.specs.Inputs.{IsWithin, input_in, input_of};
 ghost use Rattle.qc_inbox.specs.Kept.{IsKept};
-ghost use Rattle.qc_inbox.specs.Picks.{is_held, picked};
+ghost use Rattle.qc_inbox.specs.Picks.{comes_before, is_held, picked, rank_at};
 ghost use Rattle.qc_inbox.specs.PicksKept.{picked_in};
 ghost use Rattle.qc_inbox.specs.Rooms.{after_control, after_phase, after_take, after_turn, empty_inboxes, tray_at};
+ghost use Rattle.qc_inbox.specs.declared.pick.Rank.{Rank};
 ghost use Rattle.qc_inbox.specs.declared.inboxes.Inboxes.{Inboxes};
 
 /// Before the first step, nothing waits for anybody.
@@ -86,6 +87,17 @@ pub fn who_comes_next_has_something_ready()
     ensures some { (decl : Declaration) (script : Script) (held : List Bool) (h : List Entry) (a : ℕ)
         → picked decl script held h ≡ Some a
         → (a < actors decl) × (is_held held a ≡ false) × IsSome (ready decl script a h) }
+{}
+
+/// Who comes next has the best rank of all, and the lowest number of those that
+/// have it.
+pub fn who_comes_next_is_first()
+    ensures first { (decl : Declaration) (script : Script) (held : List Bool) (h : List Entry) (a b : ℕ) (best rank : Rank)
+        → picked decl script held h ≡ Some a → rank_at decl script held h a ≡ Some best
+        → b < actors decl → rank_at decl script held h b ≡ Some rank → comes_before rank best ≡ false }
+    ensures lowest { (decl : Declaration) (script : Script) (held : List Bool) (h : List Entry) (a b : ℕ) (best rank : Rank)
+        → picked decl script held h ≡ Some a → rank_at decl script held h a ≡ Some best
+        → b < a → rank_at decl script held h b ≡ Some rank → comes_before best rank ≡ true }
 {}
 
 /// What is ready for an actor and is a message was sent to it, and is found

@@ -79,7 +79,7 @@ impl Inboxes {
             return None;
         }
         match self.ready(decl, actor) {
-            Some(input) => Some(rank_of(self.trays.of(actor).calls, input)),
+            Some(input) => Some(rank_of(self.calls(actor), input)),
             None => None,
         }
     }
