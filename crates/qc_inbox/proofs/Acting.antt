@@ -1,5 +1,5 @@
 -- An actor's inputs and turns keep what is kept.
-use Rattle.std.proofs.Common.{◌≡◌, ℕ, ◌+◌, ◌<◌, ◌==◌, Bool, true, false, if◌then◌else◌, List, [], ◌∷◌, ◌++◌, length, map, set, Option, Some, None, refl, ap, sym, subst, ◌∙◌, append_assoc}
+use Rattle.std.proofs.Common.{◌≡◌, ℕ, ◌+◌, ◌<◌, ◌==◌, Bool, true, false, if◌then◌else◌, List, [], ◌∷◌, ◌++◌, length, set, Option, Some, None, refl, ap, sym, subst, ◌∙◌, append_assoc}
 use Rattle.std.specs.List.{AllByRecursion as Every}
 use Rattle.std.proofs.lemmas.Bool.{eqb-false, eqb-true}
 use Rattle.std.proofs.lemmas.List.{append-nil, get_or-set_other, get_or-set_same, length-set}
@@ -8,7 +8,6 @@ use Rattle.qc_msg.specs.declared.record.Record.{Record}
 use Rattle.qc_msg.specs.declared.reply.Reply.{Reply}
 use Rattle.qc_msg.specs.declared.step.Given.{Given}
 use Rattle.qc_msg.specs.declared.step.Given.TheVariants as given
-use Rattle.qc_msg.specs.declared.step.Step.{Step}
 use Rattle.qc_msg.specs.declared.step.Step.TheVariants.{Sent, Told, Wrote}
 use Rattle.qc_msg.specs.declared.turn.Posting.{Posting}
 use Rattle.qc_msg.specs.declared.turn.Turn.{Turn}
@@ -16,7 +15,7 @@ use Rattle.qc_msg.specs.Deeds.{envelope_of, mail}
 use Rattle.qc_msg.specs.Steps.{Entry, by, marked, posted, sents, step_of, told, wrote}
 use Rattle.qc_msg.proofs.Growth.{by-posted}
 use Rattle.qc_script.specs.Inbox.{Inbox, command_called, copy_taken, count_of, inbox, inbox_at, loss_taken, reply_told}
-use Rattle.qc_script.specs.Ready.{ready, ready_in}
+use Rattle.qc_script.specs.Ready.{ready}
 use Rattle.qc_script.specs.declared.script.Script.{Script}
 use Rattle.qc_inbox.specs.Kept.{IsKept, Shows, tray_of}
 use Rattle.qc_inbox.specs.Picks.{calls_at, calls_of}
@@ -25,7 +24,7 @@ use Rattle.qc_inbox.specs.Trays.{empty_tray, tray_taken, tray_told}
 use Rattle.qc_inbox.specs.declared.inboxes.Inboxes.{Inboxes}
 use Rattle.qc_inbox.specs.declared.tray.Tray.{Tray}
 use Rattle.qc_inbox.proofs.Keeping.{kept_send, kept_step}
-use Rattle.qc_inbox.proofs.Sent.{Counts, Keeps, by_test, same}
+use Rattle.qc_inbox.proofs.Sent.{Keeps, by_test, same}
 use Rattle.qc_inbox.proofs.Taking.{taken_shown}
 
 -- the trays, where one of them is changed

@@ -1,5 +1,5 @@
 -- What waits for an actor was sent to it.
-use Rattle.std.proofs.Common.{◌≡◌, ℕ, zero, suc, ◌+◌, ◌-◌, ◌==◌, ◌&&◌, Bool, true, false, cond, not, if◌then◌else◌, List, [], ◌∷◌, ◌++◌, map, Option, Some, None, inl, inr, option_to_list, refl, ap, sym, subst, ◌∙◌, append_assoc}
+use Rattle.std.proofs.Common.{◌≡◌, ℕ, zero, suc, ◌+◌, ◌-◌, ◌==◌, ◌&&◌, Bool, true, false, cond, not, if◌then◌else◌, List, [], ◌∷◌, ◌++◌, Option, Some, None, inl, inr, option_to_list, refl, ap, sym, subst, ◌∙◌, append_assoc}
 use Rattle.std.specs.Prelude.{drop, slice_get}
 use Rattle.std.specs.List.{AllByRecursion as Every, cons_option, fold}
 use Rattle.std.specs.Option.{option_map_or}
@@ -23,7 +23,7 @@ use Rattle.qc_msg.specs.declared.step.Step.{Step}
 use Rattle.qc_msg.specs.declared.step.Step.TheVariants as steps
 use Rattle.qc_msg.specs.Deeds.{WasSentTo, envelope_at, envelope_of, mail}
 use Rattle.qc_msg.specs.Steps.{Entry}
-use Rattle.qc_script.specs.Inbox.{Inbox, answers_by, comes, comes_at_once, comes_with, command_called, copies_at_once, copy_taken, count_of, empty_inbox, goes, goes_with, has_number, inbox, inbox_at, is_request, late_copies, loss_taken, one_more, opened, opened_by, phase_begun, reply_told, request_answered, request_sent, with_copies}
+use Rattle.qc_script.specs.Inbox.{Inbox, answers_by, comes, comes_at_once, comes_with, command_called, copies_at_once, copy_taken, count_of, empty_inbox, goes, goes_with, has_number, inbox, inbox_at, is_request, late_copies, loss_taken, one_more, opened_by, phase_begun, reply_told, request_answered, request_sent, with_copies}
 use Rattle.qc_script.specs.Ready as ready
 use Rattle.qc_script.specs.Ready.{ready_in, takes_commands}
 use Rattle.qc_script.specs.declared.script.PhaseLines.{PhaseLines}

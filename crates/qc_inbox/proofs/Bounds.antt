@@ -1,19 +1,17 @@
 -- What the calls on what is kept require holds: calls are few, and control lines name actors.
-use Rattle.std.proofs.Common.{◌≡◌, ℕ, ◌+◌, ◌-◌, ◌<◌, ◌≤◌, ◌==◌, Bool, true, false, if◌then◌else◌, List, [], ◌∷◌, ◌++◌, length, Option, Some, None, refl, ap, sym, subst, ◌∙◌, arith}
+use Rattle.std.proofs.Common.{◌≡◌, ℕ, ◌+◌, ◌-◌, ◌<◌, ◌≤◌, ◌==◌, Bool, true, false, if◌then◌else◌, List, [], ◌∷◌, length, Option, Some, None, refl, ap, sym, subst, arith}
 use Rattle.std.specs.Prelude.{drop, slice_get}
 use Rattle.std.specs.List.{AllByRecursion as Every, fold}
 use Rattle.std.specs.Option.{IfSome, option_map_or}
 use Rattle.qc_decl.specs.Actors.{administrator}
 use Rattle.qc_decl.specs.declared.declaration.Declaration.{Declaration}
 use Rattle.qc_list.proofs.Members.{every-at, every-weaker}
-use Rattle.qc_link.specs.declared.plan.Link.{Link}
-use Rattle.qc_msg.specs.declared.message.Envelope.{Envelope}
 use Rattle.qc_msg.specs.declared.step.Control.{Control}
 use Rattle.qc_msg.specs.declared.step.Control.TheVariants as controls
 use Rattle.qc_msg.specs.declared.step.Step.{Step}
 use Rattle.qc_msg.specs.declared.step.Step.TheVariants as steps
 use Rattle.qc_msg.specs.Steps.{Entry}
-use Rattle.qc_script.specs.Inbox.{Inbox, comes, empty_inbox, goes, inbox, inbox_at, opened_by, phase_begun}
+use Rattle.qc_script.specs.Inbox.{Inbox, empty_inbox, inbox, inbox_at, opened_by, phase_begun}
 use Rattle.qc_script.specs.Ready.{controls_left}
 use Rattle.qc_script.specs.Sound.{IsControlFor, IsPhaseFor, IsScriptFor}
 use Rattle.qc_script.specs.declared.script.PhaseLines.{PhaseLines}

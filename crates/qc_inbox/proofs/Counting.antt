@@ -1,7 +1,7 @@
 -- Counts of messages, by pairs of actors, and lists with one item changed.
 use Rattle.std.proofs.Common.{◌≡◌, ℕ, zero, suc, replicate, ◌+◌, ◌*◌, ◌<◌, ◌≤◌, ◌==◌, Bool, true, false, if◌then◌else◌, List, length, get_or, set, refl, ap, sym, subst, ◌∙◌, arith}
 use Rattle.std.proofs.lemmas.Bool.{eq-eqb, eqb-false, eqb-true}
-use Rattle.std.proofs.lemmas.List.{get_or-set_other, get_or-set_same, length-set}
+use Rattle.std.proofs.lemmas.List.{get_or-set_other, get_or-set_same}
 use Rattle.qc_script.specs.Inbox.{count_of, one_more}
 use Rattle.qc_inbox.specs.Few.{AreFew}
 use Rattle.qc_inbox.specs.Tallies.{Tally, count, one_message_more, place}

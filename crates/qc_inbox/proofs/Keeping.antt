@@ -1,22 +1,21 @@
 -- Each step of a history keeps what is kept: what all of them have in common, and messages.
-use Rattle.std.proofs.Common.{◌≡◌, ℕ, zero, suc, ◌+◌, ◌<◌, ◌≤◌, ◌==◌, Bool, true, false, List, [], ◌∷◌, ◌++◌, length, replicate, Option, Some, None, refl, ap, sym, subst, ◌∙◌, arith, append_assoc, length-append}
+use Rattle.std.proofs.Common.{◌≡◌, ℕ, zero, suc, ◌+◌, ◌<◌, List, [], ◌∷◌, ◌++◌, length, Option, Some, None, refl, ap, sym, subst, ◌∙◌, arith, length-append}
 use Rattle.std.specs.Prelude.{slice_get}
-use Rattle.std.specs.List.{cons_option, fold}
-use Rattle.std.proofs.lemmas.List.{append-nil, get_or-replicate, length-replicate, length-set}
+use Rattle.std.specs.List.{cons_option}
+use Rattle.std.proofs.lemmas.List.{append-nil, get_or-replicate, length-set}
 use Rattle.std.proofs.lemmas.List.Elements.{filter_map-append}
 use Rattle.std.proofs.lemmas.List.Sums.{fold-append}
 use Rattle.qc_link.specs.declared.plan.Link.{Link}
 use Rattle.qc_msg.specs.declared.message.Envelope.{Envelope}
-use Rattle.qc_msg.specs.declared.step.Step.{Step}
 use Rattle.qc_msg.specs.declared.step.Step.TheVariants.{Sent}
 use Rattle.qc_msg.specs.declared.turn.Posting.{Posting}
 use Rattle.qc_msg.specs.Deeds.{envelope_of, mail}
 use Rattle.qc_msg.specs.Steps.{Entry, marked}
 use Rattle.qc_script.specs.Inbox.{Inbox, comes, empty_inbox, goes, inbox, inbox_at}
 use Rattle.qc_script.specs.declared.script.Script.{Script}
-use Rattle.qc_inbox.specs.Kept.{AreNumbered, IsKept, Shows, tray_of}
+use Rattle.qc_inbox.specs.Kept.{AreNumbered, IsKept, Shows}
 use Rattle.qc_inbox.specs.Picks.{calls_at, calls_of}
-use Rattle.qc_inbox.specs.Rooms.{after_send, empty_inboxes, tray_at}
+use Rattle.qc_inbox.specs.Rooms.{after_send, empty_inboxes}
 use Rattle.qc_inbox.specs.Tallies.{Tally, place}
 use Rattle.qc_inbox.specs.Trays.{empty_tray}
 use Rattle.qc_inbox.specs.declared.inboxes.Inboxes.{Inboxes}

@@ -3,15 +3,13 @@ use Rattle.std.proofs.Common.{◌≡◌, ℕ, ◌+◌, ◌<◌, ◌==◌, Bool, 
 use Rattle.std.proofs.lemmas.Bool.{eqb-true}
 use Rattle.std.proofs.lemmas.List.{length-set}
 use Rattle.qc_link.specs.Fate.{fate}
-use Rattle.qc_link.specs.declared.plan.Link.{Link}
 use Rattle.qc_link.specs.declared.rule.Fate.{Fate}
 use Rattle.qc_msg.specs.declared.message.Envelope.{Envelope}
-use Rattle.qc_msg.specs.declared.message.Message.{Message}
 use Rattle.qc_msg.specs.declared.turn.Posting.{Posting}
 use Rattle.qc_script.specs.Inbox.{Inbox, comes, comes_with, count_of, goes, goes_with, one_more}
 use Rattle.qc_inbox.specs.Kept.{Shows, tray_of}
 use Rattle.qc_inbox.specs.Rooms.{after_send, tray_at, with_coming, with_going}
-use Rattle.qc_inbox.specs.Tallies.{count, one_message_more}
+use Rattle.qc_inbox.specs.Tallies.{count}
 use Rattle.qc_inbox.specs.Trays.{empty_tray, tray_comes, tray_goes}
 use Rattle.qc_inbox.specs.declared.inboxes.Inboxes.{Inboxes}
 use Rattle.qc_inbox.specs.declared.tray.Tray.{Tray}

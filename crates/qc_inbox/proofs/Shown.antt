@@ -1,13 +1,12 @@
 -- What changes in an inbox changes in its tray.
-use Rattle.std.proofs.Common.{◌≡◌, ℕ, ◌+◌, ◌==◌, Bool, true, false, if◌then◌else◌, List, [], ◌∷◌, ◌++◌, map, refl, ap, sym, ◌∙◌, append_assoc}
+use Rattle.std.proofs.Common.{◌≡◌, ℕ, Bool, true, false, if◌then◌else◌, List, [], ◌∷◌, ◌++◌, refl, ap, sym, ◌∙◌, append_assoc}
 use Rattle.std.proofs.lemmas.List.{append-nil, map-append}
 use Rattle.qc_link.specs.declared.rule.Fate.{Fate}
 use Rattle.qc_link.specs.declared.rule.Fate.TheVariants.{Pass, Drop, Twice, Late, Again}
 use Rattle.qc_msg.specs.declared.message.Envelope.{Envelope}
 use Rattle.qc_msg.specs.declared.message.Message.{Message}
 use Rattle.qc_msg.specs.declared.message.Message.TheVariants as messages
-use Rattle.qc_script.specs.Inbox.{Inbox, answers_by, comes_at_once, comes_with, goes_with, has_number, is_request, one_more, opened, opened_by, request_answered, request_sent, with_copies, with_number, without_number}
-use Rattle.qc_script.specs.declared.script.PhaseLines.{PhaseLines}
+use Rattle.qc_script.specs.Inbox.{Inbox, answers_by, comes_at_once, comes_with, goes_with, has_number, is_request, one_more, request_answered, request_sent, with_copies, with_number, without_number}
 use Rattle.qc_inbox.specs.Kept.{numbers_of, tray_of}
 use Rattle.qc_inbox.specs.Trays.{tray_answered, tray_answered_by, tray_asks, tray_comes, tray_goes, tray_lost_unless, tray_with_copies}
 use Rattle.qc_inbox.specs.declared.tray.Tray.{Tray}

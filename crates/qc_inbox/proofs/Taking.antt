@@ -1,5 +1,5 @@
 -- What is ready for an actor is what its tray shows, and is taken from both.
-use Rattle.std.proofs.Common.{◌≡◌, ℕ, ◌+◌, ◌==◌, ◌&&◌, Bool, true, false, cond, not, if◌then◌else◌, List, [], ◌∷◌, Option, Some, None, refl, ap, sym, subst, ◌∙◌}
+use Rattle.std.proofs.Common.{◌≡◌, ℕ, ◌+◌, ◌==◌, ◌&&◌, Bool, true, false, cond, not, if◌then◌else◌, List, [], ◌∷◌, Option, Some, None, refl, ap, subst, ◌∙◌}
 use Rattle.std.specs.Prelude.{option_map}
 use Rattle.std.proofs.lemmas.Bool.{eq-eqb}
 use Rattle.qc_decl.specs.declared.declaration.Declaration.{Declaration}
@@ -8,18 +8,16 @@ use Rattle.qc_msg.specs.declared.step.Command.{Command}
 use Rattle.qc_msg.specs.declared.step.Control.{Control}
 use Rattle.qc_msg.specs.declared.step.Given.{Given}
 use Rattle.qc_msg.specs.declared.step.Given.TheVariants as given
-use Rattle.qc_msg.specs.declared.step.Step.{Step}
 use Rattle.qc_msg.specs.Steps.{step_of}
 use Rattle.qc_script.specs.Inbox.{Inbox, command_called, inbox_at}
 use Rattle.qc_script.specs.Ready as ready
 use Rattle.qc_script.specs.Ready.{ready_in, takes_commands}
 use Rattle.qc_script.specs.declared.script.Script.{Script}
-use Rattle.qc_inbox.specs.Inputs.{after_controls, command_in, first_command, first_copy, first_lost, input_of, next_in}
+use Rattle.qc_inbox.specs.Inputs.{after_controls, first_command, first_copy, first_lost, input_of, next_in}
 use Rattle.qc_inbox.specs.Kept.{numbers_of, tray_of}
 use Rattle.qc_inbox.specs.Picks.{calls_at}
-use Rattle.qc_inbox.specs.Trays.{tray_called, tray_taken}
+use Rattle.qc_inbox.specs.Trays.{tray_taken}
 use Rattle.qc_inbox.specs.declared.input.Input.{Input}
-use Rattle.qc_inbox.specs.declared.tray.Tray.{Tray}
 
 -- what is ready
 

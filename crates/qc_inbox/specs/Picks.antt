@@ -1,5 +1,6 @@
 -- Which actor comes next after a history.
-use Rattle.std.specs.Prelude.{ℕ, zero, suc, ◌+◌, ◌==◌, nat_lt, Bool, true, false, if◌then◌else◌, List, Option, Some, None}
+use Rattle.std.specs.Prelude.{ℕ, zero, suc, ◌+◌, ◌==◌, nat_lt, Bool, true, false, if◌then◌else◌, List, Option, Some}
+use Rattle.std.specs.Prelude.{None}
 use Rattle.std.specs.Prelude.{fold, get_or, option_map}
 use Rattle.qc_decl.specs.Actors.{actors}
 use Rattle.qc_decl.specs.declared.declaration.Declaration.{Declaration}
@@ -77,7 +78,8 @@ unless_held true rank = None
 unless_held false rank = rank
 
 abbrev pub rank_at : Declaration → Script → List Bool → List Entry → ℕ → Option Rank
-rank_at decl script held h a = unless_held (is_held held a) (option_map (rank_of (calls_of a h)) (ready decl script a h))
+rank_at decl script held h a =
+    unless_held (is_held held a) (option_map (rank_of (calls_of a h)) (ready decl script a h))
 
 abbrev pub picked : Declaration → Script → List Bool → List Entry → Option ℕ
 picked decl script held h =

@@ -1,5 +1,6 @@
 -- What is kept of all inboxes, and what changes in it as actors and the controller act.
-use Rattle.std.specs.Prelude.{ℕ, ◌+◌, ◌==◌, Bool, List, [], ◌∷◌, Option, Some, None, drop, get_or, length, map, replicate, set}
+use Rattle.std.specs.Prelude.{ℕ, ◌+◌, ◌==◌, Bool, List, [], ◌∷◌, Option, Some, None, drop, get_or, length, map}
+use Rattle.std.specs.Prelude.{replicate, set}
 use Rattle.qc_link.specs.Cuts.{no_cuts, with_cut, without_cut}
 use Rattle.qc_link.specs.Fate.{fate}
 use Rattle.qc_link.specs.declared.rule.Fate.{Fate}
@@ -13,7 +14,8 @@ use Rattle.qc_script.specs.declared.script.CommandLine.{CommandLine}
 use Rattle.qc_script.specs.declared.script.PhaseLines.{PhaseLines}
 use Rattle.qc_script.specs.declared.script.Script.{Script}
 use Rattle.qc_inbox.specs.Tallies.{count, no_messages, one_message_more}
-use Rattle.qc_inbox.specs.Trays.{empty_tray, tray_asked, tray_begun, tray_comes, tray_goes, tray_opened, tray_taken, tray_told}
+use Rattle.qc_inbox.specs.Trays.{empty_tray, tray_asked, tray_begun, tray_comes, tray_goes, tray_opened, tray_taken}
+use Rattle.qc_inbox.specs.Trays.{tray_told}
 use Rattle.qc_inbox.specs.declared.inboxes.Inboxes.{Inboxes}
 use Rattle.qc_inbox.specs.declared.tray.Tray.{Tray}
 

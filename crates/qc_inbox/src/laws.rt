@@ -1,6 +1,7 @@
 //! Laws of what is kept, each the contract of a function with nothing to do.
 
-ghost use Rattle.std.specs.Prelude.{◌≡◌, ℕ, ◌+◌, ◌<◌, ◌≤◌, ◌==◌, Bool, true, false, List, [], ◌∷◌, ◌++◌, Some, None, length, option_map, slice_get};
+ghost use Rattle.std.specs.Prelude.{◌≡◌, ℕ, ◌+◌, ◌<◌, ◌≤◌, ◌==◌, Bool, true, false, List, [], ◌∷◌, ◌++◌, Some, None};
+ghost use Rattle.std.specs.Prelude.{length, option_map, slice_get};
 ghost use Rattle.std.specs.List.{AllByRecursion as Every};
 ghost use Rattle.std.specs.Option.{IfSome, IsSome};
 ghost use Rattle.qc_decl.specs.Actors.{actors, administrator};
@@ -92,10 +93,12 @@ pub fn who_comes_next_has_something_ready()
 /// Who comes next has the best rank of all, and the lowest number of those that
 /// have it.
 pub fn who_comes_next_is_first()
-    ensures first { (decl : Declaration) (script : Script) (held : List Bool) (h : List Entry) (a b : ℕ) (best rank : Rank)
+    ensures first { (decl : Declaration) (script : Script) (held : List Bool) (h : List Entry)
+        (a b : ℕ) (best rank : Rank)
         → picked decl script held h ≡ Some a → rank_at decl script held h a ≡ Some best
         → b < actors decl → rank_at decl script held h b ≡ Some rank → comes_before rank best ≡ false }
-    ensures lowest { (decl : Declaration) (script : Script) (held : List Bool) (h : List Entry) (a b : ℕ) (best rank : Rank)
+    ensures lowest { (decl : Declaration) (script : Script) (held : List Bool) (h : List Entry)
+        (a b : ℕ) (best rank : Rank)
         → picked decl script held h ≡ Some a → rank_at decl script held h a ≡ Some best
         → b < a → rank_at decl script held h b ≡ Some rank → comes_before best rank ≡ true }
 {}

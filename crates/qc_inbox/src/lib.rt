@@ -6,17 +6,19 @@
 //! (`specs/Kept.antt`) says that the trays show the inboxes of the history.
 //! What holds:
 //!
-//! 1. The trays of a script's beginning are kept (`new_trays_are_kept`).
-//! 2. Each step keeps them: an input that is taken, a turn that is posted, a
+//! 1. Before the first step the trays show the inboxes (`new_trays_are_kept`),
+//!    and each step keeps that: an input that is taken, a turn that is posted, a
 //!    phase that begins, a control line that acts (`inputs_keep_trays`,
 //!    `turns_keep_trays`, `phases_keep_trays`, `controls_keep_trays`).
-//! 3. What `ready` answers is ready, and is a message that was sent to the
-//!    actor, where it is one (`trays_show_what_is_ready`,
+//! 2. What `ready` answers is ready, and where it is a message, that was sent to
+//!    the actor and is found under its number (`trays_show_what_is_ready`,
 //!    `ready_messages_were_sent`).
-//! 4. `pick` answers the actor that comes next, and none exactly where nothing
-//!    is ready (`picks_are_made_by_trays`, `none_is_picked_where_nothing_is_ready`).
-//! 5. A message takes one look at its fate, and no work grows with the history,
+//! 3. `pick` answers who comes next: none just where nothing is ready, else one
+//!    that comes before all others (`picks_are_made_by_trays`,
+//!    `who_comes_next_has_something_ready`, `who_comes_next_is_first`).
+//! 4. A message takes one look at its fate, and no work grows with the history,
 //!    the script or its rules.
+//! 5. After want of memory an `Inboxes` shows nothing, and is to be dropped.
 #![tactic(auto)]
 
 mod inboxes;

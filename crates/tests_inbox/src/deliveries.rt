@@ -7,7 +7,6 @@
 
 ghost use Rattle.std.specs.Prelude.{◌≡◌, ◌∷◌, [], IfOk};
 ghost use Rattle.qc_decl.specs.Actors.{actors};
-ghost use Rattle.qc_msg.specs.Turns.{sending, telling};
 
 use qc_decl::Declaration;
 use qc_inbox::{Inboxes, Input};
@@ -17,8 +16,6 @@ use qc_msg::{Answer, Command, Control, Message, Reply, Turn};
 use qc_script::{CommandLine, PhaseLines, Script};
 use std::alloc::Global;
 use std::test::Fail;
-
-const FREE: [bool; 34] = [false; 34];
 
 fn declaration(alloc: Global) -> Declaration
     ensures { actors result ≡ 4 }
@@ -73,14 +70,25 @@ fn phase(
     })
 }
 
-/// An actor takes what is ready for it.
-fn take(inboxes: &mut Inboxes, actor: u8) {
-    if actor < 34 && inboxes.calls(actor) < 1000 {
-        inboxes.take(actor);
-    }
+/// What happens to the inboxes.
+#[derive(Clone, Copy)]
+enum Act {
+    /// An actor takes what is ready for it.
+    Take(u8),
+    /// An actor sends a request to another.
+    Ask(u8, u8),
+    /// An actor sends another the answer to the request of a number.
+    Answer(u8, u8, u32),
+    /// An actor tells a reply.
+    Tell(u8),
+    /// The control line that is next acts.
+    Control,
+    /// A phase of three commands begins.
+    Commands,
+    /// A phase of a cut and a heal begins.
+    Controls,
 }
 
-/// An actor sends a message.
 fn send(
     alloc: Global,
     inboxes: &mut Inboxes,
@@ -95,7 +103,6 @@ fn send(
     Ok(())
 }
 
-/// An actor tells a reply.
 fn tell(alloc: Global, inboxes: &mut Inboxes, actor: u8) -> Result<(), OutOfMemory> {
     if actor < 34 && inboxes.sent() < 1000 {
         inboxes.post(actor, &Turn::telling(alloc, Reply::NoTransaction))?;
@@ -103,7 +110,12 @@ fn tell(alloc: Global, inboxes: &mut Inboxes, actor: u8) -> Result<(), OutOfMemo
     Ok(())
 }
 
-/// The control line that is next acts.
+fn take(inboxes: &mut Inboxes, actor: u8) {
+    if actor < 34 && inboxes.calls(actor) < 1000 {
+        inboxes.take(actor);
+    }
+}
+
 fn control(inboxes: &mut Inboxes) -> Result<(), OutOfMemory> {
     match inboxes.next_control() {
         Some(Control::Cut(a, b) | Control::Heal(a, b)) if a < 34 && b < 34 => inboxes.control(),
@@ -111,85 +123,157 @@ fn control(inboxes: &mut Inboxes) -> Result<(), OutOfMemory> {
     }
 }
 
-fn installed(to: u32) -> Message {
-    Message::Answer {
-        to,
-        answer: Answer::Installed,
+fn play(alloc: Global, inboxes: &mut Inboxes, act: Act) -> Result<(), OutOfMemory> {
+    match act {
+        Act::Take(actor) => {
+            take(inboxes, actor);
+            Ok(())
+        }
+        Act::Ask(from, to) => send(alloc, inboxes, from, to, Message::Close { epoch: 2 }),
+        Act::Answer(from, to, number) => {
+            let answer = Answer::Installed;
+            send(
+                alloc,
+                inboxes,
+                from,
+                to,
+                Message::Answer { to: number, answer },
+            )
+        }
+        Act::Tell(actor) => tell(alloc, inboxes, actor),
+        Act::Control => control(inboxes),
+        Act::Commands => inboxes.begin_phase(&phase(alloc, &[], &ASKED)?),
+        Act::Controls => {
+            let lines = [Control::Cut(2, 0), Control::Heal(0, 2)];
+            inboxes.begin_phase(&phase(alloc, &lines, &[])?)
+        }
     }
 }
 
-#[test]
-fn what_is_ready_and_who_comes_next(rt: HostRuntime) -> Result<(), Fail> {
-    let alloc = rt.alloc();
-    let decl = declaration(alloc);
+/// The inboxes after so many of the acts.
+fn after(alloc: Global, count: usize) -> Result<Inboxes, OutOfMemory> {
     let mut inboxes = Inboxes::new(alloc, &script(alloc)?)?;
-    assert!(rt; inboxes.is_quiet(&decl));
-    let asked = [
-        (2, Command::Begin),
-        (2, Command::Commit),
-        (3, Command::Begin),
-    ];
-    inboxes.begin_phase(&phase(alloc, &[], &asked)?)?;
-    // nobody called a command: the lower client comes first, then the other
-    assert_eq!(rt; inboxes.pick(&decl, &FREE), Some(2));
-    assert_eq!(rt;
-        inboxes.ready(&decl, 2),
-        Some(Input::Command(Command::Begin))
-    );
-    take(&mut inboxes, 2);
-    assert_eq!(rt; inboxes.ready(&decl, 2), None);
-    assert_eq!(rt; inboxes.pick(&decl, &FREE), Some(3));
-    // message 0 comes, message 1 is dropped: a copy comes before a lost request, that before a command
-    send(alloc, &mut inboxes, 2, 0, Message::Close { epoch: 2 })?;
-    send(alloc, &mut inboxes, 2, 1, Message::Close { epoch: 2 })?;
-    assert_eq!(rt; inboxes.ready(&decl, 0), Some(Input::Copy(0)));
-    assert_eq!(rt; inboxes.ready(&decl, 2), Some(Input::Lost(1)));
-    assert_eq!(rt; inboxes.pick(&decl, &FREE), Some(0));
-    let mut held = FREE;
-    held[0] = true;
-    assert_eq!(rt; inboxes.pick(&decl, &held), Some(2));
-    held[2] = true;
-    assert_eq!(rt; inboxes.pick(&decl, &held), Some(3));
-    // the answer comes twice, as message 2
-    take(&mut inboxes, 0);
-    send(alloc, &mut inboxes, 0, 2, installed(0))?;
-    for want in [Input::Copy(2), Input::Copy(2), Input::Lost(1)] {
-        assert_eq!(rt; inboxes.ready(&decl, 2), Some(want));
-        take(&mut inboxes, 2);
+    for act in ACTS.iter().take(count) {
+        play(alloc, &mut inboxes, *act)?;
     }
-    // who called fewer commands in this phase comes first
-    tell(alloc, &mut inboxes, 2)?;
-    assert_eq!(rt;
-        inboxes.ready(&decl, 2),
-        Some(Input::Command(Command::Commit))
-    );
-    assert_eq!(rt; inboxes.pick(&decl, &FREE), Some(3));
-    take(&mut inboxes, 3);
-    tell(alloc, &mut inboxes, 3)?;
-    take(&mut inboxes, 2);
-    // message 3 is late: it is lost for its sender at once, and comes in the next phase, behind the cut
-    send(alloc, &mut inboxes, 2, 0, Message::Close { epoch: 2 })?;
-    assert_eq!(rt; inboxes.ready(&decl, 2), Some(Input::Lost(3)));
-    assert_eq!(rt; inboxes.ready(&decl, 0), None);
-    take(&mut inboxes, 2);
-    tell(alloc, &mut inboxes, 2)?;
-    assert!(rt; inboxes.is_quiet(&decl));
-    assert_eq!(rt; inboxes.sent(), 4);
-    inboxes.begin_phase(&phase(alloc, &[Control::Cut(2, 0), Control::Heal(0, 2)], &[])?)?;
-    assert_eq!(rt; inboxes.ready(&decl, 0), None);
-    assert_eq!(rt; inboxes.next_control(), Some(Control::Cut(2, 0)));
-    control(&mut inboxes)?;
-    assert_eq!(rt; inboxes.ready(&decl, 0), None);
-    // nothing comes between the two in either direction, until they are joined
-    send(alloc, &mut inboxes, 0, 2, installed(3))?;
-    send(alloc, &mut inboxes, 2, 0, Message::Close { epoch: 2 })?;
-    control(&mut inboxes)?;
-    assert_eq!(rt; inboxes.next_control(), None);
-    assert_eq!(rt; inboxes.ready(&decl, 0), Some(Input::Copy(3)));
-    assert_eq!(rt; inboxes.ready(&decl, 2), Some(Input::Lost(5)));
-    take(&mut inboxes, 0);
-    take(&mut inboxes, 2);
-    send(alloc, &mut inboxes, 2, 0, Message::Close { epoch: 2 })?;
-    assert_eq!(rt; inboxes.ready(&decl, 0), Some(Input::Copy(6)));
+    Ok(inboxes)
+}
+
+const ASKED: [(u8, Command); 3] = [
+    (2, Command::Begin),
+    (2, Command::Commit),
+    (3, Command::Begin),
+];
+
+/// Messages 0 and 1 are requests of client 2, the second of which is dropped;
+/// message 2 is the answer, twice; message 3 is late; messages 4 and 5 are sent
+/// while client 2 and site 0 are cut from each other.
+const ACTS: [Act; 23] = [
+    Act::Commands,
+    Act::Take(2),
+    Act::Ask(2, 0),
+    Act::Ask(2, 1),
+    Act::Take(0),
+    Act::Answer(0, 2, 0),
+    Act::Take(2),
+    Act::Take(2),
+    Act::Take(2),
+    Act::Tell(2),
+    Act::Take(3),
+    Act::Tell(3),
+    Act::Take(2),
+    Act::Ask(2, 0),
+    Act::Take(2),
+    Act::Tell(2),
+    Act::Controls,
+    Act::Control,
+    Act::Answer(0, 2, 3),
+    Act::Ask(2, 0),
+    Act::Control,
+    Act::Take(0),
+    Act::Take(2),
+];
+
+const BEGIN: Option<Input> = Some(Input::Command(Command::Begin));
+
+const COMMIT: Option<Input> = Some(Input::Command(Command::Commit));
+
+#[test]
+fn what_is_ready_for_a_site_and_a_client(rt: HostRuntime) -> Result<(), Fail> {
+    let decl = declaration(rt.alloc());
+    for (count, site, client) in [
+        (0, None, None),
+        (1, None, BEGIN),
+        (2, None, None),
+        (3, Some(Input::Copy(0)), None),
+        (4, Some(Input::Copy(0)), Some(Input::Lost(1))),
+        (5, None, Some(Input::Lost(1))),
+        (6, None, Some(Input::Copy(2))),
+        (7, None, Some(Input::Copy(2))),
+        (8, None, Some(Input::Lost(1))),
+        (9, None, None),
+        (10, None, COMMIT),
+        (13, None, None),
+        (14, None, Some(Input::Lost(3))),
+        (16, None, None),
+        (17, None, None),
+        (18, None, None),
+        (20, None, None),
+        (21, Some(Input::Copy(3)), Some(Input::Lost(5))),
+        (23, None, None),
+    ] {
+        let inboxes = after(rt.alloc(), count)?;
+        assert_eq!(rt; inboxes.ready(&decl, 0), site, "site 0 after {count}");
+        assert_eq!(rt; inboxes.ready(&decl, 2), client, "client 2 after {count}");
+    }
+    Ok(())
+}
+
+#[test]
+fn who_comes_next(rt: HostRuntime) -> Result<(), Fail> {
+    let decl = declaration(rt.alloc());
+    let mut held = [false; 34];
+    held[2] = true;
+    for (count, of_all, of_others) in [
+        (0, None, None),
+        (1, Some(2), Some(3)),
+        (2, Some(3), Some(3)),
+        (4, Some(0), Some(0)),
+        (5, Some(2), Some(3)),
+        (10, Some(3), Some(3)),
+        (12, Some(2), None),
+        (16, None, None),
+        (17, None, None),
+        (21, Some(0), Some(0)),
+        (22, Some(2), None),
+    ] {
+        let inboxes = after(rt.alloc(), count)?;
+        assert_eq!(rt; inboxes.pick(&decl, &[false; 34]), of_all, "after {count}");
+        assert_eq!(rt;
+            inboxes.pick(&decl, &held),
+            of_others,
+            "without 2 after {count}"
+        );
+        assert_eq!(rt; inboxes.is_quiet(&decl), of_all.is_none(), "after {count}");
+    }
+    Ok(())
+}
+
+#[test]
+fn control_lines_act_in_order(rt: HostRuntime) -> Result<(), Fail> {
+    for (count, line) in [
+        (16, None),
+        (17, Some(Control::Cut(2, 0))),
+        (18, Some(Control::Heal(0, 2))),
+        (21, None),
+    ] {
+        let inboxes = after(rt.alloc(), count)?;
+        assert_eq!(rt; inboxes.next_control(), line, "after {count}");
+        assert_eq!(rt;
+            inboxes.next_step().is_some(),
+            line.is_some(),
+            "after {count}"
+        );
+    }
     Ok(())
 }

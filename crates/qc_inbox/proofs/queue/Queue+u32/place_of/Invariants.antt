@@ -1,4 +1,4 @@
-use Rattle.std.proofs.Common.{◌≡◌, ◌∷◌, ◌++◌, drop, length, take, ◌-◌, ◌≤◌}
+use Rattle.std.proofs.Common.{◌≡◌, ◌++◌, drop, length, take, ◌-◌, ◌≤◌}
 use Rattle.qc_script.specs.Inbox.{with_number}
 use Rattle.qc_inbox.proofs.queue.Queue+u32.place_of.Given as goal
 
