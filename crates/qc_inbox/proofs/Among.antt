@@ -1,5 +1,5 @@
 -- What waits for an actor was sent to it.
-use Rattle.std.proofs.Common.{◌≡◌, ℕ, zero, suc, ◌+◌, ◌-◌, ◌==◌, ◌&&◌, Bool, true, false, cond, not, if◌then◌else◌, List, [], ◌∷◌, ◌++◌, Option, Some, None, inl, inr, option_to_list, refl, ap, sym, subst, ◌∙◌, append_assoc}
+use Rattle.std.proofs.Common.{◌≡◌, ℕ, zero, suc, ◌+◌, ◌-◌, ◌<◌, ◌==◌, ◌&&◌, Bool, true, false, cond, not, if◌then◌else◌, List, [], ◌∷◌, ◌++◌, Option, Some, None, inl, inr, option_to_list, refl, ap, sym, subst, ◌∙◌, append_assoc}
 use Rattle.std.specs.Prelude.{drop, slice_get}
 use Rattle.std.specs.List.{AllByRecursion as Every, cons_option, fold}
 use Rattle.std.specs.Option.{option_map_or}
@@ -11,7 +11,7 @@ use Rattle.qc_link.specs.declared.plan.Link.{Link}
 use Rattle.qc_link.specs.declared.rule.Fate.{Fate}
 use Rattle.qc_link.specs.declared.rule.Fate.TheVariants as fates
 use Rattle.qc_list.specs.Members.{In}
-use Rattle.qc_list.proofs.Members.{In-first, In-last, every-append, every-weaker}
+use Rattle.qc_list.proofs.Members.{In-first, In-last, every-append, every-at, every-weaker}
 use Rattle.qc_msg.specs.declared.message.Envelope.{Envelope}
 use Rattle.qc_msg.specs.declared.message.Message.{Message}
 use Rattle.qc_msg.specs.declared.message.Message.TheVariants as messages
@@ -225,3 +225,10 @@ ready_found decl script h kept a g is ready_ = first_found decl a (mail h) (inbo
 pub copies_found : (script : Script) (h : List Entry) (kept : Inboxes) (a : ℕ) → IsKept script h kept → Every (λ (e : Envelope). WasSentTo a (mail h) (given.Got e)) (inbox script a h).copies
 copies_found script h kept a is =
     every-weaker (IsSentTo (mail h) a) (λ (e : Envelope). WasSentTo a (mail h) (given.Got e)) (λ e sent. found (mail h) a e is.numbered sent) (inbox script a h).copies (inbox_waits script a h).copies
+
+-- who sent a message that is ready is an actor
+pub sender_within : (decl : Declaration) (script : Script) (h : List Entry) (kept : Inboxes) (a : ℕ) (e : Envelope) → IsKept script h kept → ready.ready decl script a h ≡ Some (given.Got e)
+    → e.from < 34
+sender_within decl script h kept a e is ready_ =
+    let at : WasSentTo a (mail h) (given.Got e) = ready_found decl script h kept a (given.Got e) is ready_ in
+    (every-at (λ (x : Envelope). (x.from < 34) × (x.to < 34)) (mail h) e.number e is.ends at.0).0

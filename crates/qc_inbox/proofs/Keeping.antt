@@ -6,6 +6,7 @@ use Rattle.std.proofs.lemmas.List.{append-nil, get_or-replicate, length-set}
 use Rattle.std.proofs.lemmas.List.Elements.{filter_map-append}
 use Rattle.std.proofs.lemmas.List.Sums.{fold-append}
 use Rattle.qc_link.specs.declared.plan.Link.{Link}
+use Rattle.qc_list.proofs.Members.{every-append}
 use Rattle.qc_msg.specs.declared.message.Envelope.{Envelope}
 use Rattle.qc_msg.specs.declared.step.Step.TheVariants.{Sent}
 use Rattle.qc_msg.specs.declared.turn.Posting.{Posting}
@@ -13,7 +14,7 @@ use Rattle.qc_msg.specs.Deeds.{envelope_of, mail}
 use Rattle.qc_msg.specs.Steps.{Entry, marked}
 use Rattle.qc_script.specs.Inbox.{Inbox, comes, empty_inbox, goes, inbox, inbox_at}
 use Rattle.qc_script.specs.declared.script.Script.{Script}
-use Rattle.qc_inbox.specs.Kept.{AreNumbered, IsKept, Shows}
+use Rattle.qc_inbox.specs.Kept.{AreBetweenActors, AreNumbered, IsKept, Shows}
 use Rattle.qc_inbox.specs.Picks.{calls_at, calls_of}
 use Rattle.qc_inbox.specs.Rooms.{after_send, empty_inboxes}
 use Rattle.qc_inbox.specs.Tallies.{Tally, place}
@@ -62,6 +63,7 @@ kept_step script h e old new kept none links counts trays each = record {
   links = links ∙ kept.links;
   sent = ap (λ (t : Tally). t.all) counts ∙ (kept.sent ∙ ap (λ (ms : List Envelope). length ms) (sym (same_mail h e none)));
   numbered = subst AreNumbered (sym (same_mail h e none)) kept.numbered;
+  ends = subst AreBetweenActors (sym (same_mail h e none)) kept.ends;
   counts = ap (λ (t : Tally). length t.each) counts ∙ kept.counts;
   trays = trays;
   inboxes = λ a within. after_entry script h e new a (each a within (kept.inboxes a within));
@@ -99,6 +101,8 @@ kept_send script h old from p kept from_within to_within = record {
       ap (λ (n : ℕ). n + 1) kept.sent
       ∙ sym (ap (λ (ms : List Envelope). length ms) (mail_after h sends) ∙ length-append (mail h) (mail (sends ∷ [])));
   numbered = subst AreNumbered (sym (mail_after h sends)) (numbered_more (mail h) (record { number = old.counts.all; from = from; to = p.to; message = p.message }) kept.numbered kept.sent);
+  ends = subst AreBetweenActors (sym (mail_after h sends))
+      (every-append (λ (e : Envelope). (e.from < 34) × (e.to < 34)) (mail h) (record { number = old.counts.all; from = from; to = p.to; message = p.message } ∷ []) kept.ends ((from_within, to_within), tt));
   counts = length-set old.counts.each _ _ ∙ kept.counts;
   trays = length-set _ from _ ∙ (length-set old.trays p.to _ ∙ kept.trays);
   inboxes = λ a within. after_entry script h sends (after_send old from p) a
@@ -117,6 +121,7 @@ kept_begins script = record {
   links = refl;
   sent = refl;
   numbered = λ n e found. absurd (let never : ⊥ = cc in never);
+  ends = tt;
   counts = refl;
   trays = refl;
   inboxes = λ a within. record {

@@ -1,5 +1,6 @@
 -- What is kept of the inboxes is what the history gives.
 use Rattle.std.specs.Prelude.{◌≡◌, ℕ, ◌<◌, List, Some, length, map, slice_get}
+use Rattle.std.specs.List.{AllByRecursion as Every}
 use Rattle.qc_msg.specs.declared.message.Envelope.{Envelope}
 use Rattle.qc_msg.specs.Deeds.{mail}
 use Rattle.qc_msg.specs.Steps.{Entry}
@@ -43,10 +44,15 @@ pub record Shows (kept : Inboxes) (a calls : ℕ) (i : Inbox) : Type 0 where
 abbrev pub AreNumbered : List Envelope → Type 0
 AreNumbered ms = (n : ℕ) (e : Envelope) → slice_get ms n ≡ Some e → e.number ≡ n
 
+-- each message goes from an actor to one
+abbrev pub AreBetweenActors : List Envelope → Type 0
+AreBetweenActors ms = Every (λ (e : Envelope). (e.from < 34) × (e.to < 34)) ms
+
 pub record IsKept (script : Script) (h : List Entry) (kept : Inboxes) : Type 0 where
   pub links : kept.links ≡ script.links
   pub sent : kept.counts.all ≡ length (mail h)
   pub numbered : AreNumbered (mail h)
+  pub ends : AreBetweenActors (mail h)
   pub counts : length kept.counts.each ≡ 1156
   pub trays : length kept.trays ≡ 34
   pub inboxes : (a : ℕ) → a < 34 → Shows kept a (calls_of a h) (inbox script a h)

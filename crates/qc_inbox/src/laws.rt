@@ -110,7 +110,13 @@ pub fn ready_messages_were_sent()
         → IsKept script h kept → ready decl script a h ≡ Some given → WasSentTo a (mail h) given }
 {}
 
-/// So is each copy that waits.
+/// Who sent it is an actor.
+pub fn ready_messages_have_senders()
+    ensures { (decl : Declaration) (script : Script) (h : List Entry) (kept : Inboxes) (a : ℕ) (e : Envelope)
+        → IsKept script h kept → ready decl script a h ≡ Some (Got e) → e.from < 34 }
+{}
+
+/// Each copy that waits was sent to the actor too.
 pub fn waiting_messages_were_sent()
     ensures { (script : Script) (h : List Entry) (kept : Inboxes) (a : ℕ) → IsKept script h kept
         → Every (λ (e : Envelope). WasSentTo a (mail h) (Got e)) (inbox script a h).copies }
