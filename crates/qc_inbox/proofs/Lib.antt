@@ -1,0 +1,14 @@
+pub mod Shown
+pub mod Counting
+pub mod Sent
+pub mod Shipping
+pub mod Taking
+pub mod Keeping
+pub mod Acting
+pub mod Seeing
+pub mod Controlling
+pub mod Picking
+pub mod Among
+pub mod Bounds
+pub mod Apart
+pub mod Ranking
