@@ -119,7 +119,7 @@ Known decl k ds false = Stands decl (is_running ds) (client_after decl k ds).cli
 Known decl k ds true = IsOpen decl k ds
 
 -- a lawful turn is that of the client's last input
-lawful_turn : (decl : Declaration) (a : ℕ) (ds : List Deed) (turn : Turn) → is_site decl a ≡ false → is_client decl a ≡ true → IsLawful decl a ds turn → (client_after decl (a - decl.sites) ds).turn ≡ turn
+pub lawful_turn : (decl : Declaration) (a : ℕ) (ds : List Deed) (turn : Turn) → is_site decl a ≡ false → is_client decl a ≡ true → IsLawful decl a ds turn → (client_after decl (a - decl.sites) ds).turn ≡ turn
 lawful_turn decl a ds turn no_site client lawful =
     let is : Some (client_after decl (a - decl.sites) ds).turn ≡ Some turn =
         sym (ap (λ (b : Bool). cond b (Some (site_after decl a ds).turn) (cond (is_client decl a) (Some (client_after decl (a - decl.sites) ds).turn) None)) no_site
