@@ -1,18 +1,15 @@
 -- What an actor's calls rely on, in a run: it fits, and its turns are short.
-use Rattle.std.proofs.Common.{◌≡◌, ℕ, ◌+◌, ◌-◌, ◌^◌, ◌<◌, ◌≤◌, Bool, true, false, cond, List, [], ◌∷◌, ◌++◌, fold, length, Option, Some, None, refl, sym, ap, ◌∙◌, subst, arith}
+use Rattle.std.proofs.Common.{◌≡◌, ℕ, ◌-◌, ◌^◌, ◌<◌, ◌≤◌, Bool, true, false, List, [], ◌∷◌, ◌++◌, fold, Option, Some, None, refl, sym, ap, ◌∙◌, subst, arith}
 use Rattle.std.specs.List.{AllByRecursion as Every}
 use Rattle.std.proofs.lemmas.List.Sums.{fold-append}
 use Rattle.qc_decl.specs.declared.declaration.Declaration.{Declaration}
 use Rattle.qc_decl.specs.Accepted.{IsAccepted}
 use Rattle.qc_decl.specs.Actors.{actors, is_client, is_site}
-use Rattle.qc_decl.specs.Limits.{most_sites}
-use Rattle.qc_commit.specs.declared.desk.Desk.{Desk}
 use Rattle.qc_commit.specs.declared.desk.Voting.{Voting}
 use Rattle.qc_commit.specs.Conduct as desks
 use Rattle.qc_commit.specs.Fits as votes
 use Rattle.qc_front.specs.declared.doing.Doing.{Doing}
 use Rattle.qc_front.specs.declared.doing.Doing.TheVariants.{Idle, Reading, Appending}
-use Rattle.qc_front.specs.declared.front.Front.{Front}
 use Rattle.qc_front.specs.Conduct as fronts
 use Rattle.qc_front.specs.Fits as rounds
 use Rattle.qc_front.specs.Fits.{FrontFits}
@@ -21,22 +18,20 @@ use Rattle.qc_msg.specs.declared.step.Given.{Given}
 use Rattle.qc_msg.specs.declared.turn.Turn.{Turn}
 use Rattle.qc_msg.specs.Deeds.{Deed, Takes, Writes, Sends, Tells, turn_deeds}
 use Rattle.qc_client.specs.declared.client.Client.{Client}
-use Rattle.qc_client.specs.Client.{ClientMove, new_client}
+use Rattle.qc_client.specs.Client.{ClientMove}
 use Rattle.qc_client.specs.Conduct.{client_after, client_does, client_takes, sent, sent_by}
 use Rattle.qc_client.specs.Fits.{ClientFits}
 use Rattle.qc_site.specs.Conduct.{site_after, site_does, site_takes}
 use Rattle.qc_site.specs.Holders.{AreOfClients}
 use Rattle.qc_site.specs.Site.{SiteMove}
-use Rattle.qc_core.specs.declared.actor.Actor.{Actor}
 use Rattle.qc_core.specs.declared.actor.Actor.TheVariants as actor
-use Rattle.qc_core.specs.Actors.{ActorFits, ActorMove, ActorWithin, AsksFew, IsFrom, IsFromActor, IsShort, actor_after, actor_sent, actor_takes, by_client, by_site}
+use Rattle.qc_core.specs.Actors.{ActorFits, ActorMove, ActorWithin, AsksFew, IsFrom, IsFromActor, IsShort, actor_after, actor_takes}
 use Rattle.qc_core.specs.Acts.{Acts, MayTake, is_running, starts, takes, posts}
-use Rattle.qc_core.specs.Conduct.{IsLawful, turn_after}
 use Rattle.qc_core.proofs.ActorLaws.{at_client, at_site, other_client}
-use Rattle.qc_core.proofs.ActorSent.{IsOpen, Known, does_turn, known, lawful_turn, sent_at_once, site_turn}
-use Rattle.qc_core.proofs.ClientReaches.{AskedFit, ClientReach, client_reach, new_asked, sent_asked}
+use Rattle.qc_core.proofs.ActorSent.{known, lawful_turn, sent_at_once}
+use Rattle.qc_core.proofs.ClientReaches.{AskedFit, client_reach, new_asked, sent_asked}
 use Rattle.qc_core.proofs.ClientStands.{Lands, Stands, lands}
-use Rattle.qc_core.proofs.SiteReaches.{SiteReach, site_reach}
+use Rattle.qc_core.proofs.SiteReaches.{site_reach}
 
 -- few sites are asked, before the numbers of a turn's messages are known as after
 
@@ -144,9 +139,9 @@ client_asked decl a ds b n accepted no_site client (posts before turn m first ac
     ends : IsOpenFor decl (a - decl.sites) before → AskedFit decl.sites (client_after decl (a - decl.sites) (before ++ turn_deeds first turn)).client
     ends o =
         let now : client_after decl (a - decl.sites) before ≡ client_takes decl (client_after decl (a - decl.sites) o.before).client o.input =
-            ap (client_after decl (a - decl.sites)) o.deeds_are ∙ fold-append (client_does decl) _ o.before (Takes o.input ∷ []) in
+        ap (client_after decl (a - decl.sites)) o.deeds_are ∙ fold-append (client_does decl) _ o.before (Takes o.input ∷ []) in
         let same : (client_takes decl (client_after decl (a - decl.sites) o.before).client o.input).turn ≡ turn =
-            sym (ap (λ (m : ClientMove). m.turn) now) ∙ lawful_turn decl a before turn no_site client lawful in
+        sym (ap (λ (m : ClientMove). m.turn) now) ∙ lawful_turn decl a before turn no_site client lawful in
         subst (λ (t : Turn). AskedFit decl.sites (client_after decl (a - decl.sites) (before ++ turn_deeds first t)).client) same
         (subst (λ (xs : List Deed). AskedFit decl.sites (client_after decl (a - decl.sites) (xs ++ turn_deeds first (client_takes decl (client_after decl (a - decl.sites) o.before).client o.input).turn)).client) (sym o.deeds_are)
         (subst (AskedFit decl.sites) (sym (sent_at_once decl (a - decl.sites) o.before o.input first accepted.has_site accepted.sites o.stood o.might))

@@ -1,5 +1,5 @@
 -- A site's turns go to actors, and are short.
-use Rattle.std.proofs.Common.{◌≡◌, ℕ, ◌+◌, ◌<◌, ◌≤◌, ◌&&◌, not, nat_le, nat_lt, Bool, true, false, cond, List, [], ◌∷◌, length, Option, Some, None, refl, sym, ap, ◌∙◌, subst, arith}
+use Rattle.std.proofs.Common.{◌≡◌, ℕ, ◌<◌, ◌≤◌, ◌&&◌, not, nat_le, nat_lt, Bool, true, false, cond, List, [], ◌∷◌, Option, Some, None, refl, arith}
 use Rattle.std.proofs.lemmas.Bool.Decides.{nat_tests}
 use Rattle.qc_stamp.specs.declared.stamp.Stamp.{Stamp}
 use Rattle.qc_stamp.specs.declared.stamp.TxId.{TxId}
@@ -24,10 +24,10 @@ use Rattle.qc_msg.specs.declared.message.Want.TheVariants.{Read, Append, Prepare
 use Rattle.qc_msg.specs.declared.step.Given.{Given}
 use Rattle.qc_msg.specs.declared.step.Given.TheVariants as given
 use Rattle.qc_msg.specs.Turns.{quiet}
-use Rattle.qc_site.specs.Conduct.{passed, site_at, site_on, site_takes}
+use Rattle.qc_site.specs.Conduct.{passed, site_at, site_takes}
 use Rattle.qc_site.specs.Holders.{AreOfClients}
-use Rattle.qc_site.specs.Promise.{finishes, is_prepared, joins, prepare_length, prepared_of, prepares, promise_of, promised, promises, votes}
-use Rattle.qc_site.specs.Requests.{appends, appends_by, clashing, fault_of, grants, names_declared, names_object, reads, reads_by, relation_at, requested}
+use Rattle.qc_site.specs.Promise.{finishes, is_prepared, joins, prepare_length, prepared_of, prepares, promise_of, promised, votes}
+use Rattle.qc_site.specs.Requests.{appends_by, clashing, fault_of, grants, names_declared, names_object, reads_by, relation_at, requested}
 use Rattle.qc_site.specs.Site.{SiteMove, SiteState, answers as answered, moved}
 use Rattle.qc_site.proofs.Holders.{append_client, clients-held, clients-without, read_client}
 use Rattle.qc_core.specs.Actors.{IsFrom, IsShort}
