@@ -1,0 +1,5 @@
+pub mod Places
+pub mod Numbered
+pub mod Arrivals
+pub mod Running
+pub mod Acted

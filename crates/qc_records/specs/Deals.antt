@@ -1,0 +1,97 @@
+-- What a client was told in a transaction, from its begin to its end.
+use Rattle.std.specs.Prelude.{ℕ, Bool, false, if◌then◌else◌, List, [], ◌∷◌, ◌++◌, Option, Some, None, fold}
+use Rattle.qc_decl.specs.Actors.{client_actor}
+use Rattle.qc_decl.specs.declared.declaration.Declaration.{Declaration}
+use Rattle.qc_entry.specs.declared.line.Op.{Op}
+use Rattle.qc_msg.specs.Deeds.{Deed, Sends, Takes, Tells, Writes, deeds}
+use Rattle.qc_msg.specs.Steps.{Entry}
+use Rattle.qc_msg.specs.declared.reply.Reply.{Reply}
+use Rattle.qc_msg.specs.declared.reply.Reply.TheVariants as replies
+use Rattle.qc_msg.specs.declared.step.Command.{Command}
+use Rattle.qc_msg.specs.declared.step.Command.TheVariants as commands
+use Rattle.qc_msg.specs.declared.step.Given.{Given}
+use Rattle.qc_msg.specs.declared.step.Given.TheVariants as given
+use Rattle.qc_stamp.specs.Order.{same_tx}
+use Rattle.qc_stamp.specs.declared.stamp.TxId.{TxId}
+
+-- a client's dealings in one transaction, so far
+pub record Dealing : Type 0 where
+  -- the command that it called last
+  pub asked : Option Command
+  -- the transaction that it has begun and that hasn't ended
+  pub begun : Option TxId
+  -- the operations that it was told while the one transaction was begun
+  pub ops : List Op
+  -- the replies that ended the one transaction
+  pub ends : List Reply
+
+abbrev pub is_begun : TxId → Option TxId → Bool
+is_begun tx None = false
+is_begun tx (Some other) = same_tx other tx
+
+-- the operation of a `do`, with its response or none; other commands have none
+
+abbrev pub operation_of : Command → Option ℕ → List Op
+operation_of commands.Begin resp = []
+operation_of (commands.Do object inv) resp = record { object = object; inv = inv; resp = resp } ∷ []
+operation_of commands.Commit resp = []
+operation_of commands.Abort resp = []
+operation_of (commands.Epoch number) resp = []
+
+abbrev pub operation : Option Command → Option ℕ → List Op
+operation None resp = []
+operation (Some command) resp = operation_of command resp
+
+abbrev pub dealt : TxId → Dealing → Option ℕ → Dealing
+dealt tx d resp = record d { ops = d.ops ++ (if is_begun tx d.begun then operation d.asked resp else []) }
+
+abbrev pub ended : TxId → Dealing → Reply → Dealing
+ended tx d reply = record d { begun = None; ends = d.ends ++ (if is_begun tx d.begun then reply ∷ [] else []) }
+
+abbrev pub deal_told : TxId → Dealing → Reply → Dealing
+deal_told tx d replies.Down = d
+deal_told tx d (replies.Already other) = d
+deal_told tx d (replies.Began other) = record d { begun = Some other }
+deal_told tx d replies.NoTransaction = d
+deal_told tx d replies.Doomed = d
+deal_told tx d replies.TooLong = d
+deal_told tx d (replies.Closed epoch site) = d
+deal_told tx d (replies.Conflict holder site) = d
+deal_told tx d (replies.Quorum half got need) = d
+deal_told tx d replies.Absent = dealt tx d None
+deal_told tx d (replies.Response resp) = dealt tx d (Some resp)
+deal_told tx d (replies.Aborted why) = ended tx d (replies.Aborted why)
+deal_told tx d replies.Unknown = ended tx d replies.Unknown
+deal_told tx d (replies.Committed stamp) = ended tx d (replies.Committed stamp)
+deal_told tx d replies.Dropped = ended tx d replies.Dropped
+deal_told tx d (replies.Order current) = d
+deal_told tx d (replies.InDoubt holder site) = d
+deal_told tx d replies.Fault = d
+deal_told tx d (replies.Moved closed installed) = d
+
+abbrev pub deal_taken : Dealing → Given → Dealing
+deal_taken d (given.Called command) = record d { asked = Some command }
+deal_taken d (given.Got envelope) = d
+deal_taken d (given.Lost number) = d
+
+-- one deed more
+abbrev pub deal : TxId → Dealing → Deed → Dealing
+deal tx d (Takes given) = deal_taken d given
+deal tx d (Writes written) = d
+deal tx d (Sends number to message) = d
+deal tx d (Tells reply) = deal_told tx d reply
+
+abbrev pub no_dealing : Dealing
+no_dealing = record { asked = None; begun = None; ops = []; ends = [] }
+
+-- a client's dealings in a transaction, by its deeds
+abbrev pub dealing_in : List Deed → TxId → Dealing
+dealing_in ds tx = fold (deal tx) no_dealing ds
+
+-- the operations that a transaction's client was told for it, from its begin to its end
+abbrev pub deals : Declaration → List Entry → TxId → List Op
+deals decl h tx = (dealing_in (deeds (client_actor decl tx.client) [] h) tx).ops
+
+-- the replies that ended a transaction, as this client was told
+abbrev pub endings : Declaration → List Entry → ℕ → TxId → List Reply
+endings decl h client tx = (dealing_in (deeds (client_actor decl client) [] h) tx).ends
