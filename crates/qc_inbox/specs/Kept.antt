@@ -1,0 +1,52 @@
+-- What is kept of the inboxes is what the history gives.
+use Rattle.std.specs.Prelude.{◌≡◌, ℕ, ◌<◌, List, Some, length, map, slice_get}
+use Rattle.qc_msg.specs.declared.message.Envelope.{Envelope}
+use Rattle.qc_msg.specs.Deeds.{mail}
+use Rattle.qc_msg.specs.Steps.{Entry}
+use Rattle.qc_script.specs.Inbox.{Inbox, count_of, inbox}
+use Rattle.qc_script.specs.declared.script.Script.{Script}
+use Rattle.qc_inbox.specs.Picks.{calls_of}
+use Rattle.qc_inbox.specs.Rooms.{tray_at}
+use Rattle.qc_inbox.specs.Tallies.{count}
+use Rattle.qc_inbox.specs.declared.inboxes.Inboxes.{Inboxes}
+use Rattle.qc_inbox.specs.declared.tray.Tray.{Tray}
+
+abbrev pub numbers_of : List Envelope → List ℕ
+numbers_of es = map (λ (e : Envelope). e.number) es
+
+-- the tray of an inbox whose actor called so many commands in this phase
+abbrev pub tray_of : ℕ → Inbox → Tray
+tray_of calls i =
+    record {
+      copies = numbers_of i.copies;
+      opening = numbers_of i.opening;
+      late = numbers_of i.late;
+      unanswered = i.unanswered;
+      lost = i.lost;
+      commands = i.commands;
+      busy = i.busy;
+      calls = calls;
+    }
+
+-- what is kept shows an inbox of actor a
+pub record Shows (kept : Inboxes) (a calls : ℕ) (i : Inbox) : Type 0 where
+  pub cuts : i.cuts ≡ kept.cuts
+  pub controls : i.controls ≡ kept.controls
+  -- one table of counts serves senders and receivers
+  pub from_each : (b : ℕ) → b < 34 → count_of i.from_each b ≡ count kept.counts b a
+  pub to_each : (b : ℕ) → b < 34 → count_of i.to_each b ≡ count kept.counts a b
+  pub from_length : length i.from_each ≡ 34
+  pub to_length : length i.to_each ≡ 34
+  pub tray : tray_at kept.trays a ≡ tray_of calls i
+
+-- each message is found under its number
+abbrev pub AreNumbered : List Envelope → Type 0
+AreNumbered ms = (n : ℕ) (e : Envelope) → slice_get ms n ≡ Some e → e.number ≡ n
+
+pub record IsKept (script : Script) (h : List Entry) (kept : Inboxes) : Type 0 where
+  pub links : kept.links ≡ script.links
+  pub sent : kept.counts.all ≡ length (mail h)
+  pub numbered : AreNumbered (mail h)
+  pub counts : length kept.counts.each ≡ 1156
+  pub trays : length kept.trays ≡ 34
+  pub inboxes : (a : ℕ) → a < 34 → Shows kept a (calls_of a h) (inbox script a h)
