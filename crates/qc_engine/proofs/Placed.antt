@@ -42,7 +42,7 @@ kind_of place a (steps.Rose records) = inl (record { sent = refl; stands = refl 
 kind_of place a (steps.Damaged offset) = inl (record { sent = refl; stands = refl })
 
 -- there are as many places as messages
-mail-cons : (e : Entry) (h : List Entry) → mail (e ∷ h) ≡ option_to_list (envelope_of e) ++ mail h
+pub mail-cons : (e : Entry) (h : List Entry) → mail (e ∷ h) ≡ option_to_list (envelope_of e) ++ mail h
 mail-cons e h = by (envelope_of e) refl
   where
     by : (o : Option Envelope) → envelope_of e ≡ o → mail (e ∷ h) ≡ option_to_list (envelope_of e) ++ mail h
