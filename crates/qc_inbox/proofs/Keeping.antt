@@ -57,7 +57,7 @@ same_mail h e none = mail_after h e ∙ (ap (λ (ms : List Envelope). mail h ++ 
 pub kept_step : (script : Script) (h : List Entry) (e : Entry) (old new : Inboxes) → IsKept script h old → envelope_of e ≡ None
     → new.links ≡ old.links → new.counts ≡ old.counts → length new.trays ≡ 34
     → ((a : ℕ) → a < 34 → Shows old a (calls_of a h) (inbox script a h)
-      → Shows new a (calls_at a (calls_of a h) e.actor e.step) (inbox_at script a (inbox script a h) e.actor e.step))
+    → Shows new a (calls_at a (calls_of a h) e.actor e.step) (inbox_at script a (inbox script a h) e.actor e.step))
     → IsKept script (h ++ e ∷ []) new
 kept_step script h e old new kept none links counts trays each = record {
   links = links ∙ kept.links;

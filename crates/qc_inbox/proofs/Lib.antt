@@ -6,3 +6,8 @@ pub mod Taking
 pub mod Keeping
 pub mod Acting
 pub mod Seeing
+pub mod Controlling
+pub mod Picking
+pub mod Among
+pub mod Bounds
+pub mod Apart

@@ -33,7 +33,6 @@ copies_shown calls i e Again = λ j. record (tray_of calls i) { copies = numbers
 answered_shown : (calls : ℕ) (i : Inbox) (number : ℕ) (f : Fate) → tray_of calls (request_answered i number f) ≡ tray_answered (tray_of calls i) number f
 answered_shown calls i number f = by (has_number i.unanswered number)
   where
-
     lost : (t : Bool)
         → tray_of calls (record i { unanswered = without_number i.unanswered number; lost = if t then i.lost else with_number i.lost number })
         ≡ tray_lost_unless t (record (tray_of calls i) { unanswered = without_number i.unanswered number }) number

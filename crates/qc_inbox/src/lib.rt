@@ -31,7 +31,10 @@ mod trays;
 pub use inboxes::Inboxes;
 pub use input::Input;
 pub use laws::{
-    inputs_keep_trays, new_trays_are_kept, trays_show_what_is_ready, turns_keep_trays,
+    controls_keep_trays, inboxes_agree, inputs_keep_trays, new_trays_are_kept, phases_keep_trays,
+    picks_are_made_by_trays, ready_messages_were_sent, steps_leave_other_inboxes,
+    trays_are_in_range, trays_show_controls, trays_show_what_is_ready, turns_keep_trays,
+    waiting_messages_were_sent, who_comes_next_has_something_ready,
 };
 pub use pick::{Candidate, Rank};
 pub use queue::Queue;

@@ -1,0 +1,227 @@
+-- What waits for an actor was sent to it.
+use Rattle.std.proofs.Common.{◌≡◌, ℕ, zero, suc, ◌+◌, ◌-◌, ◌==◌, ◌&&◌, Bool, true, false, cond, not, if◌then◌else◌, List, [], ◌∷◌, ◌++◌, map, Option, Some, None, inl, inr, option_to_list, refl, ap, sym, subst, ◌∙◌, append_assoc}
+use Rattle.std.specs.Prelude.{drop, slice_get}
+use Rattle.std.specs.List.{AllByRecursion as Every, cons_option, fold}
+use Rattle.std.specs.Option.{option_map_or}
+use Rattle.std.proofs.lemmas.Bool.{eqb-true}
+use Rattle.std.proofs.lemmas.List.{append-nil}
+use Rattle.qc_decl.specs.declared.declaration.Declaration.{Declaration}
+use Rattle.qc_link.specs.Fate.{fate}
+use Rattle.qc_link.specs.declared.plan.Link.{Link}
+use Rattle.qc_link.specs.declared.rule.Fate.{Fate}
+use Rattle.qc_link.specs.declared.rule.Fate.TheVariants as fates
+use Rattle.qc_list.specs.Members.{In}
+use Rattle.qc_list.proofs.Members.{In-first, In-last, every-append, every-weaker}
+use Rattle.qc_msg.specs.declared.message.Envelope.{Envelope}
+use Rattle.qc_msg.specs.declared.message.Message.{Message}
+use Rattle.qc_msg.specs.declared.message.Message.TheVariants as messages
+use Rattle.qc_msg.specs.declared.step.Command.{Command}
+use Rattle.qc_msg.specs.declared.step.Control.{Control}
+use Rattle.qc_msg.specs.declared.step.Given.{Given}
+use Rattle.qc_msg.specs.declared.step.Given.TheVariants as given
+use Rattle.qc_msg.specs.declared.step.Step.{Step}
+use Rattle.qc_msg.specs.declared.step.Step.TheVariants as steps
+use Rattle.qc_msg.specs.Deeds.{WasSentTo, envelope_at, envelope_of, mail}
+use Rattle.qc_msg.specs.Steps.{Entry}
+use Rattle.qc_script.specs.Inbox.{Inbox, answers_by, comes, comes_at_once, comes_with, command_called, copies_at_once, copy_taken, count_of, empty_inbox, goes, goes_with, has_number, inbox, inbox_at, is_request, late_copies, loss_taken, one_more, opened, opened_by, phase_begun, reply_told, request_answered, request_sent, with_copies}
+use Rattle.qc_script.specs.Ready as ready
+use Rattle.qc_script.specs.Ready.{ready_in, takes_commands}
+use Rattle.qc_script.specs.declared.script.PhaseLines.{PhaseLines}
+use Rattle.qc_script.specs.declared.script.Script.{Script}
+use Rattle.qc_inbox.specs.Kept.{AreNumbered, IsKept}
+use Rattle.qc_inbox.specs.declared.inboxes.Inboxes.{Inboxes}
+
+-- an envelope is one of some messages, and for actor a
+abbrev IsSentTo : List Envelope → ℕ → Envelope → Type 0
+IsSentTo ms a e = In e ms × (e.to ≡ a)
+
+-- so are all that wait
+record Waits (ms : List Envelope) (a : ℕ) (i : Inbox) : Type 0 where
+  copies : Every (IsSentTo ms a) i.copies
+  opening : Every (IsSentTo ms a) i.opening
+  late : Every (IsSentTo ms a) i.late
+
+-- where the same waits
+record SameWaits (i j : Inbox) : Type 0 where
+  copies : j.copies ≡ i.copies
+  opening : j.opening ≡ i.opening
+  late : j.late ≡ i.late
+
+same_waits : (i : Inbox) → SameWaits i i
+same_waits i = record { copies = refl; opening = refl; late = refl }
+
+by_test : (P : Inbox → Type 0) (t : Bool) (i j : Inbox) → P i → P j → P (if t then i else j)
+by_test P true i j here there = here
+by_test P false i j here there = there
+
+waits_along : (ms : List Envelope) (a : ℕ) (i j : Inbox) → SameWaits i j → Waits ms a i → Waits ms a j
+waits_along ms a i j same waits = record {
+  copies = subst (λ (es : List Envelope). Every (IsSentTo ms a) es) (sym same.copies) waits.copies;
+  opening = subst (λ (es : List Envelope). Every (IsSentTo ms a) es) (sym same.opening) waits.opening;
+  late = subst (λ (es : List Envelope). Every (IsSentTo ms a) es) (sym same.late) waits.late;
+}
+
+-- more messages
+waits_more : (ms ns : List Envelope) (a : ℕ) (i : Inbox) → Waits ms a i → Waits (ms ++ ns) a i
+waits_more ms ns a i waits = record {
+  copies = every-weaker (IsSentTo ms a) (IsSentTo (ms ++ ns) a) weaker i.copies waits.copies;
+  opening = every-weaker (IsSentTo ms a) (IsSentTo (ms ++ ns) a) weaker i.opening waits.opening;
+  late = every-weaker (IsSentTo ms a) (IsSentTo (ms ++ ns) a) weaker i.late waits.late;
+}
+  where
+    weaker : (e : Envelope) → IsSentTo ms a e → IsSentTo (ms ++ ns) a e
+    weaker e sent = (In-first e ms ns sent.0, sent.1)
+
+-- a message that is sent
+
+answered_waits : (i : Inbox) (number : ℕ) (f : Fate) → SameWaits i (request_answered i number f)
+answered_waits i number f = by_test (SameWaits i) (has_number i.unanswered number) _ i (record { copies = refl; opening = refl; late = refl }) (same_waits i)
+
+answers_wait : (i : Inbox) (m : Message) (f : Fate) → SameWaits i (answers_by i m f)
+answers_wait i (messages.Request tx epoch life want) f = same_waits i
+answers_wait i (messages.Answer to answer) f = answered_waits i to f
+answers_wait i (messages.Decision tx verdict) f = same_waits i
+answers_wait i (messages.Inquiry tx) f = same_waits i
+answers_wait i (messages.Ask tx) f = same_waits i
+answers_wait i (messages.Close epoch) f = same_waits i
+answers_wait i (messages.Install epoch clock log) f = same_waits i
+
+every_copy : (P : Envelope → Type 0) (f : Fate) (e : Envelope) → P e → Every P (copies_at_once f e)
+every_copy P fates.Pass e is = (is, tt)
+every_copy P fates.Drop e is = tt
+every_copy P fates.Twice e is = (is, (is, tt))
+every_copy P fates.Late e is = tt
+every_copy P fates.Again e is = (is, tt)
+
+every_late : (P : Envelope → Type 0) (f : Fate) (e : Envelope) → P e → Every P (late_copies f e)
+every_late P fates.Pass e is = tt
+every_late P fates.Drop e is = tt
+every_late P fates.Twice e is = tt
+every_late P fates.Late e is = (is, tt)
+every_late P fates.Again e is = (is, tt)
+
+comes_wait : (ms : List Envelope) (a : ℕ) (i : Inbox) (e : Envelope) (f : Fate) → IsSentTo ms a e → Waits ms a i → Waits ms a (comes_with i e f)
+comes_wait ms a i e f sent waits =
+    waits_along ms a (with_copies i e f) (comes_with i e f) (answers_wait (with_copies i e f) e.message f) (record {
+      copies = every-append (IsSentTo ms a) i.copies (copies_at_once f e) waits.copies (every_copy (IsSentTo ms a) f e sent);
+      opening = waits.opening;
+      late = every-append (IsSentTo ms a) i.late (late_copies f e) waits.late (every_late (IsSentTo ms a) f e sent);
+    })
+
+goes_wait : (i : Inbox) (e : Envelope) (f : Fate) → SameWaits i (goes_with i e f)
+goes_wait i e f =
+    by_test (SameWaits i) (is_request e.message) (request_sent (record i { to_each = one_more i.to_each e.to }) e.number f) (record i { to_each = one_more i.to_each e.to })
+    (by_test (SameWaits i) (comes_at_once f) _ _ (record { copies = refl; opening = refl; late = refl }) (record { copies = refl; opening = refl; late = refl }))
+    (record { copies = refl; opening = refl; late = refl })
+
+sends_wait : (links : List Link) (ms : List Envelope) (a : ℕ) (i : Inbox) (e : Envelope) → Waits ms a i → Waits (ms ++ e ∷ []) a (goes links a (comes links a i e) e)
+sends_wait links ms a i e waits =
+    waits_along (ms ++ e ∷ []) a (comes links a i e) (goes links a (comes links a i e) e)
+    (by_test (SameWaits (comes links a i e)) (e.from == a) (goes_with (comes links a i e) e (fate links (comes links a i e).cuts e.from e.to (count_of (comes links a i e).to_each e.to + 1))) (comes links a i e)
+    (goes_wait (comes links a i e) e _) (same_waits (comes links a i e)))
+    (by (e.to == a) refl)
+  where
+    more : Waits (ms ++ e ∷ []) a i
+    more = waits_more ms (e ∷ []) a i waits
+
+    by : (t : Bool) → (e.to == a) ≡ t → Waits (ms ++ e ∷ []) a (if t then comes_with i e (fate links i.cuts e.from e.to (count_of i.from_each e.from + 1)) else i)
+    by true is = comes_wait (ms ++ e ∷ []) a i e _ (In-last e ms, eqb-true e.to a is) more
+    by false is = more
+
+-- each step
+
+opened_wait : (ms : List Envelope) (a : ℕ) (cs : List Control) (i : Inbox) → Waits ms a i → Waits ms a (opened_by cs i)
+opened_wait ms a [] i waits = record { copies = every-append (IsSentTo ms a) i.opening i.copies waits.opening waits.copies; opening = tt; late = waits.late }
+opened_wait ms a (c ∷ cs) i waits = waits
+
+begun_wait : (ms : List Envelope) (a : ℕ) (i : Inbox) (o : Option PhaseLines) → Waits ms a i → Waits ms a (option_map_or (phase_begun a i) o i)
+begun_wait ms a i None waits = waits
+begun_wait ms a i (Some phase) waits =
+    opened_wait ms a phase.controls _ (record { copies = waits.copies; opening = every-append (IsSentTo ms a) i.opening i.late waits.opening waits.late; late = tt })
+
+acted_wait : (ms : List Envelope) (a : ℕ) (i : Inbox) (cuts : List Bool) → Waits ms a i → Waits ms a (opened_by (drop 1 i.controls) (record i { cuts = cuts; controls = drop 1 i.controls }))
+acted_wait ms a i cuts waits = opened_wait ms a (drop 1 i.controls) _ (record { copies = waits.copies; opening = waits.opening; late = waits.late })
+
+every_drop : (P : Envelope → Type 0) (es : List Envelope) → Every P es → Every P (drop 1 es)
+every_drop P [] every = tt
+every_drop P (e ∷ es) every = every.1
+
+nothing : (ms : List Envelope) (a : ℕ) (i : Inbox) → Waits ms a i → Waits (ms ++ []) a i
+nothing ms a i waits = waits_more ms [] a i waits
+
+step_waits : (script : Script) (ms : List Envelope) (a : ℕ) (i : Inbox) (by : ℕ) (step : Step) → Waits ms a i → Waits (ms ++ option_to_list (envelope_at by step)) a (inbox_at script a i by step)
+step_waits script ms a i by (steps.Phase k) waits = nothing ms a _ (begun_wait ms a i (slice_get script.phases (k - 1)) waits)
+step_waits script ms a i by (steps.Cut x y) waits = nothing ms a _ (acted_wait ms a i _ waits)
+step_waits script ms a i by (steps.Heal x y) waits = nothing ms a _ (acted_wait ms a i _ waits)
+step_waits script ms a i by (steps.Armed actor kind at) waits = nothing ms a i waits
+step_waits script ms a i by (steps.Called command) waits =
+    nothing ms a _ (by_test (Waits ms a) (by == a) (command_called i) i (record { copies = waits.copies; opening = waits.opening; late = waits.late }) waits)
+step_waits script ms a i by (steps.Got n) waits =
+    nothing ms a _ (by_test (Waits ms a) (by == a) (copy_taken i) i (record { copies = every_drop (IsSentTo ms a) i.copies waits.copies; opening = waits.opening; late = waits.late }) waits)
+step_waits script ms a i by (steps.Lost n) waits =
+    nothing ms a _ (by_test (Waits ms a) (by == a) (loss_taken i) i (record { copies = waits.copies; opening = waits.opening; late = waits.late }) waits)
+step_waits script ms a i by (steps.Wrote written) waits = nothing ms a i waits
+step_waits script ms a i by (steps.Sent n to message) waits = sends_wait script.links ms a i (record { number = n; from = by; to = to; message = message }) waits
+step_waits script ms a i by (steps.Told reply) waits =
+    nothing ms a _ (by_test (Waits ms a) (by == a) (reply_told i) i (record { copies = waits.copies; opening = waits.opening; late = waits.late }) waits)
+step_waits script ms a i by (steps.Fell cause pending) waits = nothing ms a i waits
+step_waits script ms a i by (steps.Rose records) waits = nothing ms a i waits
+step_waits script ms a i by (steps.Damaged offset) waits = nothing ms a i waits
+
+mail_cons : (ms : List Envelope) (o : Option Envelope) (ns : List Envelope) → (ms ++ option_to_list o) ++ ns ≡ ms ++ cons_option o ns
+mail_cons ms None ns = ap (λ (x : List Envelope). x ++ ns) (append-nil ms)
+mail_cons ms (Some e) ns = append_assoc ms (e ∷ []) ns
+
+steps_wait : (script : Script) (a : ℕ) (h : List Entry) (ms : List Envelope) (i : Inbox) → Waits ms a i
+    → Waits (ms ++ mail h) a (fold (λ (i : Inbox) (e : Entry). inbox_at script a i e.actor e.step) i h)
+steps_wait script a [] ms i waits = nothing ms a i waits
+steps_wait script a (e ∷ h) ms i waits =
+    subst (λ (x : List Envelope). Waits x a (fold (λ (i : Inbox) (e : Entry). inbox_at script a i e.actor e.step) (inbox_at script a i e.actor e.step) h))
+    (mail_cons ms (envelope_of e) (mail h))
+    (steps_wait script a h (ms ++ option_to_list (envelope_of e)) (inbox_at script a i e.actor e.step) (step_waits script ms a i e.actor e.step waits))
+
+inbox_waits : (script : Script) (a : ℕ) (h : List Entry) → Waits (mail h) a (inbox script a h)
+inbox_waits script a h = steps_wait script a h [] empty_inbox (record { copies = tt; opening = tt; late = tt })
+
+-- by their numbers
+
+place_of : (e : Envelope) (ms : List Envelope) → In e ms → (n : ℕ) × (slice_get ms n ≡ Some e)
+place_of e [] member = absurd member
+place_of e (m ∷ ms) (inl same) = (zero, ap (λ (x : Envelope). Some x) (sym same))
+place_of e (m ∷ ms) (inr later) = let found : (n : ℕ) × (slice_get ms n ≡ Some e) = place_of e ms later in (suc found.0, found.1)
+
+found : (ms : List Envelope) (a : ℕ) (e : Envelope) → AreNumbered ms → IsSentTo ms a e → WasSentTo a ms (given.Got e)
+found ms a e numbered sent =
+    let at : (n : ℕ) × (slice_get ms n ≡ Some e) = place_of e ms sent.0 in
+    (ap (λ (n : ℕ). slice_get ms n) (numbered at.0 e at.1) ∙ at.1, sent.1)
+
+first_found : (decl : Declaration) (a : ℕ) (ms : List Envelope) (i : Inbox) (g : Given) → AreNumbered ms → Waits ms a i → ready_in decl a i ≡ Some g → WasSentTo a ms g
+first_found decl a ms i g numbered waits is = controls i.controls is
+  where
+    command : (commands : List Command) → ready.first_command commands ≡ Some g → WasSentTo a ms g
+    command [] is = absurd (let never : ⊥ = cc in never)
+    command (c ∷ commands) is = let said : given.Called c ≡ g = cc in subst (λ (x : Given). WasSentTo a ms x) said tt
+
+    allowed : (t : Bool) → cond t (ready.first_command i.commands) None ≡ Some g → WasSentTo a ms g
+    allowed true is = command i.commands is
+    allowed false is = absurd (let never : ⊥ = cc in never)
+
+    loss : (ns : List ℕ) → ready.first_lost ns (cond (takes_commands decl a && not i.busy) (ready.first_command i.commands) None) ≡ Some g → WasSentTo a ms g
+    loss [] is = allowed (takes_commands decl a && not i.busy) is
+    loss (n ∷ ns) is = let said : given.Lost n ≡ g = cc in subst (λ (x : Given). WasSentTo a ms x) said tt
+
+    copy : (es : List Envelope) → Every (IsSentTo ms a) es → ready.first_copy es (ready.first_lost i.lost (cond (takes_commands decl a && not i.busy) (ready.first_command i.commands) None)) ≡ Some g → WasSentTo a ms g
+    copy [] every is = loss i.lost is
+    copy (e ∷ es) every is = let said : given.Got e ≡ g = cc in subst (λ (x : Given). WasSentTo a ms x) said (found ms a e numbered every.0)
+
+    controls : (cs : List Control) → ready.after_controls cs (ready.first_copy i.copies (ready.first_lost i.lost (cond (takes_commands decl a && not i.busy) (ready.first_command i.commands) None))) ≡ Some g → WasSentTo a ms g
+    controls [] is = copy i.copies waits.copies is
+    controls (c ∷ cs) is = absurd (let never : ⊥ = cc in never)
+
+pub ready_found : (decl : Declaration) (script : Script) (h : List Entry) (kept : Inboxes) (a : ℕ) (g : Given) → IsKept script h kept → ready.ready decl script a h ≡ Some g → WasSentTo a (mail h) g
+ready_found decl script h kept a g is ready_ = first_found decl a (mail h) (inbox script a h) g is.numbered (inbox_waits script a h) ready_
+
+-- all that waits
+pub copies_found : (script : Script) (h : List Entry) (kept : Inboxes) (a : ℕ) → IsKept script h kept → Every (λ (e : Envelope). WasSentTo a (mail h) (given.Got e)) (inbox script a h).copies
+copies_found script h kept a is =
+    every-weaker (IsSentTo (mail h) a) (λ (e : Envelope). WasSentTo a (mail h) (given.Got e)) (λ e sent. found (mail h) a e is.numbered sent) (inbox script a h).copies (inbox_waits script a h).copies
