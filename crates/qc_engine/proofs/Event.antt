@@ -1,7 +1,7 @@
 -- One event of the loop: an actor takes what is ready for it, and posts its turn.
 use Rattle.std.proofs.Common.{◌≡◌, ℕ, zero, suc, ◌+◌, ◌-◌, ◌^◌, ◌<◌, ◌≤◌, ◌==◌, Bool, true, false, cond, List, [], ◌∷◌, ◌++◌, fold, length, Option, Some, None, option_map, refl, sym, ap, ◌∙◌, subst, arith, slice_get, append_assoc, eqb-true, eq-eqb, zero-add}
 use Rattle.std.specs.Prelude.{replicate, set, slice_set}
-use Rattle.std.specs.List.{AllByRecursion as Every}
+use Rattle.std.specs.List.{AllByRecursion as Every, list_all}
 use Rattle.std.proofs.lemmas.List.Sums.{fold-append}
 use Rattle.std.proofs.Math.ListN.{length-set}
 use Rattle.qc_list.proofs.Members.{every-at}
@@ -17,7 +17,7 @@ use Rattle.qc_decl.specs.Actors.{actors}
 use Rattle.qc_decl.specs.declared.declaration.Declaration.{Declaration}
 use Rattle.qc_inbox.proofs.Acting.{kept_take, kept_turn}
 use Rattle.qc_inbox.specs.Kept.{IsKept}
-use Rattle.qc_inbox.specs.Rooms.{after_take, after_turn}
+use Rattle.qc_inbox.specs.Rooms.{after_reply, after_send, after_sends, after_take, after_turn}
 use Rattle.qc_inbox.specs.declared.inboxes.Inboxes.{Inboxes}
 use Rattle.qc_laws.specs.Turns.{ActsIn}
 use Rattle.qc_laws.proofs.Acted.{run_acts}
@@ -29,6 +29,7 @@ use Rattle.qc_msg.specs.declared.record.Record.{Record}
 use Rattle.qc_msg.specs.declared.reply.Reply.{Reply}
 use Rattle.qc_msg.specs.declared.step.Given.{Given}
 use Rattle.qc_msg.specs.declared.step.Given.TheVariants as given
+use Rattle.qc_msg.specs.declared.step.Control.{Control}
 use Rattle.qc_msg.specs.declared.step.Step.{Step}
 use Rattle.qc_msg.specs.declared.turn.Posting.{Posting}
 use Rattle.qc_msg.specs.declared.turn.Turn.{Turn}
@@ -39,6 +40,7 @@ use Rattle.qc_script.specs.Ready.{phase_at, phase_of, ready}
 use Rattle.qc_script.specs.Runs.{Runs, posts, takes}
 use Rattle.qc_script.specs.declared.script.Script.{Script}
 use Rattle.qc_engine.specs.At.{Stands}
+use Rattle.qc_engine.specs.Built.{is_built_control}
 use Rattle.qc_engine.specs.Places.{places_of}
 use Rattle.qc_engine.proofs.Placed.{places-append}
 use Rattle.qc_engine.proofs.Senders.{deeds_from, low_from, run_senders}
@@ -82,6 +84,19 @@ phase_event a n h g t =
     fold-append (λ k e. phase_at k e.step) 0 h (marked a (step_of g) ∷ by a (posted n t))
     ∙ ap (λ (k : ℕ). phase_on k (by a (posted n t))) (phase_given (phase_of h) g)
     ∙ phase_wrote (phase_of h) a n t.write t.sends t.told
+
+-- the control lines stay
+
+sends_controls : (i : Inboxes) (a : ℕ) (ps : List Posting) → (after_sends i a ps).controls ≡ i.controls
+sends_controls i a [] = refl
+sends_controls i a (p ∷ ps) = sends_controls (after_send i a p) a ps
+
+reply_controls : (i : Inboxes) (a : ℕ) (reply : Option Reply) → (after_reply i a reply).controls ≡ i.controls
+reply_controls i a None = refl
+reply_controls i a (Some reply) = refl
+
+turn_controls : (i : Inboxes) (a : ℕ) (t : Turn) → (after_turn i a t).controls ≡ i.controls
+turn_controls i a t = reply_controls (after_sends i a t.sends) a t.told ∙ sends_controls i a t.sends
 
 module _ (decl : Declaration) (script : Script) (accepted : IsAccepted decl) (h : List Entry) (seats : List Actor) (inboxes : Inboxes) (places : List ℕ) (last_phase : ℕ) (st : Stands decl script h seats inboxes places last_phase)
     (a : ℕ) (below : a < actors decl) (g : Given) (rdy : ready decl script a h ≡ Some g) where
@@ -184,6 +199,7 @@ module _ (decl : Declaration) (script : Script) (accepted : IsAccepted decl) (h 
     seated = length-set seats a (actor_sent move.actor number) ∙ st.seated;
     actor = λ b there. seat_later b there (a == b) refl;
     kept = kept_later;
+    built = ap (λ (cs : List Control). list_all is_built_control cs) (turn_controls (after_take inboxes a) a move.turn) ∙ st.built;
     places_are =
         ap (λ (ps : List ℕ). ps ++ places_of (length h) (marked a (step_of g) ∷ by a (posted number move.turn))) st.places_are
         ∙ ap (λ (n : ℕ). places_of 0 h ++ places_of n (marked a (step_of g) ∷ by a (posted number move.turn))) (sym (zero-add (length h)))

@@ -1,5 +1,6 @@
 -- The loop's invariant, and what one event makes of the loop.
-use Rattle.std.specs.Prelude.{◌≡◌, ℕ, ◌<◌, ◌++◌, false, List, [], ◌∷◌, Some, length, replicate, slice_get, slice_set}
+use Rattle.std.specs.Prelude.{◌≡◌, ℕ, ◌<◌, ◌++◌, true, false, List, [], ◌∷◌, Some, length, replicate, slice_get, slice_set}
+use Rattle.std.specs.List.{list_all}
 use Rattle.qc_core.specs.declared.actor.Actor.{Actor}
 use Rattle.qc_core.specs.Actors.{actor_after, actor_sent}
 use Rattle.qc_core.specs.Conduct.{IsLawful}
@@ -16,6 +17,7 @@ use Rattle.qc_script.specs.Ready.{phase_of}
 use Rattle.qc_script.specs.Runs.{Runs}
 use Rattle.qc_script.specs.declared.script.Script.{Script}
 use Rattle.qc_engine.specs.declared.engine.Engine.{Engine}
+use Rattle.qc_engine.specs.Built.{is_built_control}
 use Rattle.qc_engine.specs.Full.{before_last_event}
 use Rattle.qc_engine.specs.Places.{places_of}
 
@@ -27,6 +29,8 @@ pub record Stands (decl : Declaration) (script : Script) (h : List Entry) (seats
   pub seated : length seats ≡ actors decl
   pub actor : (a : ℕ) → a < actors decl → slice_get seats a ≡ Some (actor_after decl a (deeds a [] h)).actor
   pub kept : IsKept script h inboxes
+  -- the control lines left can act
+  pub built : list_all is_built_control inboxes.controls ≡ true
   pub places_are : places ≡ places_of 0 h
   pub phase_is : last_phase ≡ phase_of h
 
@@ -48,4 +52,12 @@ pub record IsPosted (old new : Engine) (a : ℕ) (input : Step) (turn : Turn) : 
   pub inboxes : new.inboxes ≡ after_turn old.inboxes a turn
   pub places : new.places.items
       ≡ old.places.items ++ places_of (length old.history) (marked a input ∷ by a (posted old.inboxes.counts.all turn))
+  pub last_phase : new.last_phase ≡ old.last_phase
+
+-- entries were added to the history, and the places of their messages to the places
+pub record IsNoted (old new : Engine) (entries : List Entry) : Type 0 where
+  pub history : new.history ≡ old.history ++ entries
+  pub places : new.places.items ≡ old.places.items ++ places_of (length old.history) entries
+  pub seats : new.seats.items ≡ old.seats.items
+  pub inboxes : new.inboxes ≡ old.inboxes
   pub last_phase : new.last_phase ≡ old.last_phase

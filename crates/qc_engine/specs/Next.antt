@@ -1,10 +1,9 @@
 -- What comes next, and how the loop ends.
-use Rattle.std.specs.Prelude.{◌≡◌, ℕ, ◌<◌, ◌≤◌, nat_lt, Bool, false, if◌then◌else◌, List, [], ◌∷◌, Option, Some, None}
-use Rattle.std.specs.Prelude.{length, replicate}
+use Rattle.std.specs.Prelude.{◌≡◌, ℕ, ◌<◌, ◌≤◌, Bool, true, false, List, [], Option, Some, None}
+use Rattle.std.specs.Prelude.{is_some, length, replicate, slice_get}
 use Rattle.qc_decl.specs.Actors.{actors}
 use Rattle.qc_decl.specs.declared.declaration.Declaration.{Declaration}
 use Rattle.qc_inbox.specs.PicksKept.{picked_in}
-use Rattle.qc_msg.specs.declared.step.Control.{Control}
 use Rattle.qc_msg.specs.Steps.{Entry}
 use Rattle.qc_script.specs.Ready.{controls_left, phase_of, ready}
 use Rattle.qc_script.specs.declared.script.Script.{Script}
@@ -15,22 +14,26 @@ use Rattle.qc_engine.specs.declared.next.Next.{Next}
 use Rattle.qc_engine.specs.declared.next.Next.TheVariants as nexts
 use Rattle.qc_engine.specs.Full.{HasReached, IsBelow}
 
--- a control line of the phase that hasn't acted; else the actor that is picked; else the next phase; else nothing
+-- no actor is passed over
+abbrev pub nobody_held : List Bool
+nobody_held = replicate 34 false
 
-abbrev pub phase_or_nothing : Bool → Next
-phase_or_nothing more = if more then nexts.Phase else nexts.Nothing
+-- whether a control line of the phase hasn't acted
+abbrev pub has_control : Engine → Bool
+has_control e = is_some (slice_get e.inboxes.controls 0)
 
-abbrev pub turn_or : Option ℕ → Next → Next
-turn_or None other = other
-turn_or (Some a) other = nexts.Turn a
+-- no control line is left, and nothing is ready for any actor
+pub record IsIdle (decl : Declaration) (e : Engine) : Type 0 where
+  pub controls : has_control e ≡ false
+  pub inputs : picked_in decl nobody_held e.inboxes ≡ None
 
-abbrev pub control_or : List Control → Next → Next
-control_or [] other = other
-control_or (c ∷ cs) other = nexts.Control
-
-abbrev pub next_in : Declaration → Script → Engine → Next
-next_in decl script e = control_or e.inboxes.controls
-    (turn_or (picked_in decl (replicate 34 false) e.inboxes) (phase_or_nothing (nat_lt e.last_phase (length script.phases))))
+-- What comes next, exactly: a control line that hasn't acted; else the actor that is picked; else the next phase; else
+-- nothing.
+abbrev pub IsNext : Declaration → Script → Engine → Next → Type 0
+IsNext decl script e nexts.Control = has_control e ≡ true
+IsNext decl script e (nexts.Turn a) = picked_in decl nobody_held e.inboxes ≡ Some a
+IsNext decl script e nexts.Phase = IsIdle decl e × (e.last_phase < length script.phases)
+IsNext decl script e nexts.Nothing = IsIdle decl e × (length script.phases ≤ e.last_phase)
 
 -- nothing is left to do after a history: no control line, nothing for any actor, and no phase
 pub record IsQuiet (decl : Declaration) (script : Script) (h : List Entry) : Type 0 where
