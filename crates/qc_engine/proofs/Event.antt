@@ -59,12 +59,12 @@ written_back (x ∷ xs) (suc a) v w there = ap (λ (ys : List Bool). x ∷ ys) (
 
 -- the phase stays
 
-phase_given : (k : ℕ) (g : Given) → phase_at k (step_of g) ≡ k
+pub phase_given : (k : ℕ) (g : Given) → phase_at k (step_of g) ≡ k
 phase_given k (given.Called command) = refl
 phase_given k (given.Got e) = refl
 phase_given k (given.Lost number) = refl
 
-abbrev phase_on : ℕ → List Entry → ℕ
+abbrev pub phase_on : ℕ → List Entry → ℕ
 phase_on k h = fold (λ n e. phase_at n e.step) k h
 
 phase_told : (k a : ℕ) (reply : Option Reply) → phase_on k (by a (told reply)) ≡ k
@@ -75,7 +75,7 @@ phase_sents : (k a n : ℕ) (ps : List Posting) (reply : Option Reply) → phase
 phase_sents k a n [] reply = phase_told k a reply
 phase_sents k a n (p ∷ ps) reply = phase_sents k a (n + 1) ps reply
 
-phase_wrote : (k a n : ℕ) (write : Option Record) (ps : List Posting) (reply : Option Reply) → phase_on k (by a (wrote write ++ (sents n ps ++ told reply))) ≡ k
+pub phase_wrote : (k a n : ℕ) (write : Option Record) (ps : List Posting) (reply : Option Reply) → phase_on k (by a (wrote write ++ (sents n ps ++ told reply))) ≡ k
 phase_wrote k a n None ps reply = phase_sents k a n ps reply
 phase_wrote k a n (Some written) ps reply = phase_sents k a n ps reply
 

@@ -1,8 +1,8 @@
 -- One event of the loop: a control line acts, or the next phase begins; its beginning, and its end.
-use Rattle.std.proofs.Common.{◌≡◌, ℕ, zero, suc, ◌+◌, ◌-◌, ◌^◌, ◌<◌, ◌≤◌, ◌&&◌, nat_lt, Bool, true, false, List, [], ◌∷◌, ◌++◌, fold, length, get_or, Option, Some, None, refl, sym, ap, ◌∙◌, subst, arith, slice_get, zero-add, length-append}
+use Rattle.std.proofs.Common.{◌≡◌, ℕ, zero, suc, ◌+◌, ◌-◌, ◌^◌, ◌<◌, ◌≤◌, ◌&&◌, nat_lt, Bool, true, false, List, [], ◌∷◌, ◌++◌, fold, length, get_or, Option, Some, None, option_map, refl, sym, ap, ◌∙◌, subst, arith, slice_get, zero-add, length-append}
 use Rattle.std.specs.Prelude.{drop, is_some, replicate}
 use Rattle.std.specs.List.{list_all}
-use Rattle.std.specs.Option.{IfSome}
+use Rattle.std.specs.Option.{IfSome, IsSome}
 use Rattle.std.proofs.lemmas.Bool.Decides.{nat_tests}
 use Rattle.std.proofs.lemmas.List.Sums.{fold-append}
 use Rattle.qc_core.specs.declared.actor.Actor.{Actor}
@@ -15,12 +15,15 @@ use Rattle.qc_inbox.proofs.Bounds.{controls_shown}
 use Rattle.qc_inbox.proofs.Controlling.{kept_control, kept_phase}
 use Rattle.qc_inbox.proofs.Keeping.{kept_begins}
 use Rattle.qc_inbox.proofs.Picking.{none_ready, picked_kept, some_picked}
-use Rattle.qc_inbox.specs.Inputs.{IsWithin, first_step}
+use Rattle.qc_inbox.specs.Inputs.{IsWithin, first_step, input_in, input_of}
 use Rattle.qc_inbox.specs.Kept.{IsKept}
 use Rattle.qc_inbox.specs.Picks.{is_held}
 use Rattle.qc_inbox.specs.PicksKept.{picked_in}
 use Rattle.qc_inbox.specs.Rooms.{after_control, after_first, after_phase, empty_inboxes}
+use Rattle.qc_inbox.proofs.Seeing.{ready_kept}
 use Rattle.qc_inbox.specs.declared.inboxes.Inboxes.{Inboxes}
+use Rattle.qc_inbox.specs.declared.input.Input.{Input}
+use Rattle.qc_msg.specs.declared.step.Given.{Given}
 use Rattle.qc_laws.proofs.Acted.{deeds-silent}
 use Rattle.qc_laws.proofs.Numbered.{IsSilent, control_silent, phase_silent}
 use Rattle.qc_laws.proofs.Places.{replicate_at, slice_get-last, slice_get-more}
@@ -29,9 +32,9 @@ use Rattle.qc_msg.specs.declared.step.Control.TheVariants as controls
 use Rattle.qc_msg.specs.declared.step.Step.{Step}
 use Rattle.qc_msg.specs.declared.step.Step.TheVariants as steps
 use Rattle.qc_msg.specs.Deeds.{Deed, deeds, mail}
-use Rattle.qc_msg.specs.Steps.{Entry, marked}
+use Rattle.qc_msg.specs.Steps.{Entry, by, marked, posted, step_of}
 use Rattle.qc_script.specs.Ready.{controls_left, phase_at, phase_of, ready, step_of_control}
-use Rattle.qc_script.specs.Runs.{Runs, begins, control, phase}
+use Rattle.qc_script.specs.Runs.{Runs, begins, control, phase, posts, takes}
 use Rattle.qc_script.specs.declared.script.PhaseLines.{PhaseLines}
 use Rattle.qc_script.specs.declared.script.Script.{Script}
 use Rattle.qc_engine.specs.declared.engine.Engine.{Engine}
@@ -41,6 +44,7 @@ use Rattle.qc_engine.specs.Full.{begins_event}
 use Rattle.qc_engine.specs.Next.{IsIdle, IsQuiet, nobody_held}
 use Rattle.qc_engine.specs.Places.{places_of}
 use Rattle.qc_engine.specs.Seats.{seats_below}
+use Rattle.qc_engine.proofs.Event.{phase_given, phase_wrote}
 use Rattle.qc_engine.proofs.Lands.{lands, later_by}
 use Rattle.qc_engine.proofs.Placed.{places-append}
 
@@ -127,6 +131,43 @@ module _ (decl : Declaration) (script : Script) (h : List Entry) (seats : List A
 phase_by : (h : List Entry) (a : ℕ) (step : Step) → phase_of (h ++ marked a step ∷ []) ≡ phase_at (phase_of h) step
 phase_by h a step = fold-append (λ k e. phase_at k e.step) 0 h (marked a step ∷ [])
 
+-- phases are no more than steps
+
+control_phase : (k : ℕ) (c : Control) (step : Step) → step_of_control c ≡ Some step → phase_at k step ≡ k
+control_phase k (controls.Phase n) step is = absurd (let no : ⊥ = cc in no)
+control_phase k (controls.Cut a b) step is = subst (λ (s : Step). phase_at k s ≡ k) (let same : steps.Cut a b ≡ step = cc in same) refl
+control_phase k (controls.Heal a b) step is = subst (λ (s : Step). phase_at k s ≡ k) (let same : steps.Heal a b ≡ step = cc in same) refl
+control_phase k (controls.Armed actor kind at) step is = absurd (let no : ⊥ = cc in no)
+control_phase k (controls.Crash a) step is = absurd (let no : ⊥ = cc in no)
+control_phase k (controls.Restart a) step is = absurd (let no : ⊥ = cc in no)
+
+phase_few : (decl : Declaration) (script : Script) (h : List Entry) (open_inputs : List Bool) → Runs (IsLawful decl) decl script h open_inputs → phase_of h ≤ length h
+phase_few decl script h open_inputs begins = omega arith
+phase_few decl script h open_inputs (takes a g before older run free rdy) =
+    let rest : phase_of older ≤ length older = phase_few decl script older before run in
+    let same : phase_of (older ++ marked a (step_of g) ∷ []) ≡ phase_of older = phase_by older a (step_of g) ∙ phase_given (phase_of older) g in
+    let more : length (older ++ marked a (step_of g) ∷ []) ≡ length older + 1 = length-append older (marked a (step_of g) ∷ []) in
+    omega arith
+phase_few decl script h open_inputs (posts a turn before older run taken law) =
+    let rest : phase_of older ≤ length older = phase_few decl script older before run in
+    let same : phase_of (older ++ by a (posted (length (mail older)) turn)) ≡ phase_of older =
+        fold-append (λ k e. phase_at k e.step) 0 older (by a (posted (length (mail older)) turn)) ∙ phase_wrote (phase_of older) a (length (mail older)) turn.write turn.sends turn.told in
+    let more : length (older ++ by a (posted (length (mail older)) turn)) ≡ length older + length (by a (posted (length (mail older)) turn)) = length-append older (by a (posted (length (mail older)) turn)) in
+    omega arith
+phase_few decl script h open_inputs (phase before older run none done quiet more) =
+    let rest : phase_of older ≤ length older = phase_few decl script older before run in
+    let same : phase_of (older ++ marked (controller decl) (steps.Phase (phase_of older + 1)) ∷ []) ≡ phase_of older + 1 = phase_by older (controller decl) (steps.Phase (phase_of older + 1)) in
+    let longer : length (older ++ marked (controller decl) (steps.Phase (phase_of older + 1)) ∷ []) ≡ length older + 1 = length-append older (marked (controller decl) (steps.Phase (phase_of older + 1)) ∷ []) in
+    omega arith
+phase_few decl script h open_inputs (control line lines step before older run left is) =
+    let rest : phase_of older ≤ length older = phase_few decl script older before run in
+    let same : phase_of (older ++ marked (controller decl) step ∷ []) ≡ phase_of older = phase_by older (controller decl) step ∙ control_phase (phase_of older) line step is in
+    let longer : length (older ++ marked (controller decl) step ∷ []) ≡ length older + 1 = length-append older (marked (controller decl) step ∷ []) in
+    omega arith
+
+pub phase_low : (decl : Declaration) (script : Script) (e : Engine) → IsAt decl script e → e.last_phase ≤ length e.history
+phase_low decl script e st = subst (λ (k : ℕ). k ≤ length e.history) (sym st.phase_is) (phase_few decl script e.history (replicate (actors decl) false) st.runs)
+
 -- nothing is ready
 
 module _ (decl : Declaration) (script : Script) (accepted : IsAccepted decl) (e : Engine) (st : IsAt decl script e) (idle : IsIdle decl e) where
@@ -181,14 +222,6 @@ phase_lands decl script accepted old mid new p ctl entries built st idle more th
         (kept_phase script old.history old.inboxes old.last_phase p (controller decl) st.kept there) all (sym (phase_by old.history (controller decl) x))
 
 -- a control line acts
-
-control_phase : (k : ℕ) (c : Control) (step : Step) → step_of_control c ≡ Some step → phase_at k step ≡ k
-control_phase k (controls.Phase n) step is = absurd (let no : ⊥ = cc in no)
-control_phase k (controls.Cut a b) step is = subst (λ (s : Step). phase_at k s ≡ k) (let same : steps.Cut a b ≡ step = cc in same) refl
-control_phase k (controls.Heal a b) step is = subst (λ (s : Step). phase_at k s ≡ k) (let same : steps.Heal a b ≡ step = cc in same) refl
-control_phase k (controls.Armed actor kind at) step is = absurd (let no : ⊥ = cc in no)
-control_phase k (controls.Crash a) step is = absurd (let no : ⊥ = cc in no)
-control_phase k (controls.Restart a) step is = absurd (let no : ⊥ = cc in no)
 
 control_begins : (c : Control) (step : Step) → step_of_control c ≡ Some step → begins_event step ≡ true
 control_begins (controls.Phase n) step is = absurd (let no : ⊥ = cc in no)
@@ -253,7 +286,7 @@ get-seats decl (suc n) a below = by (nat_lt a n) refl (λ low. get-seats decl n 
         (ap (slice_get (seats_below decl (suc n))) (sym (length-seats decl n)) ∙ slice_get-last (seats_below decl n) (new_actor decl n))
 
     same_at : (t : Bool) → nat_lt a n ≡ t → t ≡ false → a ≡ n
-    same_at t is no = grind (arith, nat_tests)
+    same_at t is past = grind (arith, nat_tests)
 
     by : (t : Bool) → nat_lt a n ≡ t → (a < n → slice_get (seats_below decl n) a ≡ Some (new_actor decl a)) → slice_get (seats_below decl (suc n)) a ≡ Some (new_actor decl a)
     by true is rest = slice_get-more (seats_below decl n) (new_actor decl n ∷ []) a (new_actor decl a) (rest (low_number a n is))
@@ -269,3 +302,16 @@ starts decl script = record {
   places_are = refl;
   phase_is = refl;
 }
+
+-- what is picked is ready
+
+some_input : (o : Option Given) (p : Option Input) → option_map input_of o ≡ p → IsSome o → is_some p ≡ true
+some_input None p same none = absurd (let no_way : ⊥ = cc in no_way)
+some_input (Some g) p same some = ap is_some (sym same)
+
+pub picked_ready : (decl : Declaration) (script : Script) (e : Engine) (a : ℕ) → IsAccepted decl → IsAt decl script e → picked_in decl nobody_held e.inboxes ≡ Some a → is_some (input_in decl a e.inboxes) ≡ true
+picked_ready decl script e a accepted st is =
+    let picked_is = some_picked decl script nobody_held e.history a (sym (picked_kept decl script nobody_held e.history e.inboxes st.kept (few_actors decl accepted)) ∙ is) in
+    let low : a < actors decl = picked_is.0 in
+    let few : actors decl ≤ 34 = few_actors decl accepted in
+    some_input (ready decl script a e.history) (input_in decl a e.inboxes) (ready_kept decl script e.history e.inboxes a st.kept (omega arith)) picked_is.2

@@ -42,7 +42,7 @@ pub record IsQuiet (decl : Declaration) (script : Script) (h : List Entry) : Typ
   pub phases : length script.phases ≤ phase_of h
 
 -- how the loop ended
-abbrev pub IsEnd : Declaration → Script → End → List Entry → Type 0
-IsEnd decl script ends.Quiet h = IsBelow h × IsQuiet decl script h
-IsEnd decl script (ends.Full what number) h = HasReached what number h
-IsEnd decl script ends.OutOfMemory h = Unit {0}
+abbrev pub IsEnd : End → List Entry → Type 0
+IsEnd ends.Quiet h = IsBelow h
+IsEnd (ends.Full what number) h = HasReached what number h
+IsEnd ends.OutOfMemory h = Unit {0}

@@ -21,7 +21,7 @@ ghost use Rattle.qc_script.specs.Runs.{Runs};
 ghost use Rattle.qc_engine.specs.At.{IsAt, IsLater, IsNoted, IsPosted};
 ghost use Rattle.qc_engine.specs.Built.{is_built};
 ghost use Rattle.qc_engine.specs.Full.{IsBelow, before_last_event};
-ghost use Rattle.qc_engine.specs.Next.{IsEnd, IsNext, has_control, nobody_held};
+ghost use Rattle.qc_engine.specs.Next.{IsEnd, IsNext, IsQuiet};
 ghost use Rattle.qc_engine.specs.Seats.{seats_below};
 
 use crate::limits::full;
@@ -104,7 +104,7 @@ impl Engine {
         requires accepted { IsAccepted decl.now }
         requires at { IsAt decl.now script.now self.old }
         requires actor { actor < actors decl.now }
-        requires next { IsNext decl.now script.now self.old (Next.Turn actor) }
+        requires ready { is_some (input_in decl.now actor self.old.inboxes) ≡ true }
         requires below { length self.old.history < most_steps }
         ensures ok { OnOk result (IsLater decl.now script.now self.old self.new) }
         ensures err { OnErr result (self.new.history ≡ self.old.history) }
@@ -239,7 +239,8 @@ impl Engine {
         requires before { IsBelow (before_last_event self.old.history) }
         ensures run { Runs (IsLawful decl.now) decl.now script.now self.new.history
             (replicate (actors decl.now) false) }
-        ensures end { IsEnd decl.now script.now result self.new.history }
+        ensures quiet { result ≡ End.Quiet → IsQuiet decl.now script.now self.new.history }
+        ensures end { IsEnd result self.new.history }
         ensures before { IsBelow (before_last_event self.new.history) }
     {
         'events: loop {

@@ -9,6 +9,9 @@ use Rattle.qc_inbox.specs.Rooms.{tray_at}
 use Rattle.qc_inbox.specs.declared.inboxes.Inboxes.{Inboxes}
 use Rattle.qc_laws.proofs.Places.{slice_get-set_same}
 use Rattle.qc_msg.specs.Deeds.{mail}
+use Rattle.std.specs.Vec.{with_item}
+use Rattle.qc_msg.specs.declared.step.Step.{Step}
+use Rattle.qc_engine.specs.declared.engine.Engine.{Engine}
 use Rattle.qc_engine.specs.At.{IsPosted}
 use Rattle.qc_engine.proofs.Lands.{on_ok, there, turn_lands, turn_short}
 use Rattle.qc_engine.proofs.Needs.{few_asked, low, mail_few, readable, seat_fits}
@@ -61,8 +64,9 @@ post-requires-clause-sent c =
 
 pub returns-clause-ok : goal.returns-clause-ok
 returns-clause-ok c =
+    let mid : Engine = record c.args.self.now { seats = with_item c.args.self.now.seats c.args.actor c.take.new.seat; inboxes = c.take-2.new.self } in
     on_ok c.post.result c.post.ensures.ok
     (λ p. turn_lands c.args.decl.now c.args.script.now c.requires.accepted c.args.self.now c.requires.at c.args.actor c.requires.actor c.in-Some.input (sym c.in-Some.ensures) c.index_mut-seat.result.now c.take.new.seat c.in_ok-turn.turn
     (there c.args.self.now.seats.items c.args.actor (actors c.args.decl.now) c.index_mut-seat.result.now c.requires.at.seated c.requires.actor c.index_mut-seat.ensures.value)
-    c.in_ok-turn.ensures.ok _ c.post.new.self refl refl c.take-2.ensures refl refl
-    (subst (λ x. IsPosted _ c.post.new.self c.args.actor x c.in_ok-turn.turn) c.step_of.ensures p))
+    c.in_ok-turn.ensures.ok mid c.post.new.self refl refl c.take-2.ensures refl refl
+    (subst (λ (x : Step). IsPosted mid c.post.new.self c.args.actor x c.in_ok-turn.turn) c.step_of.ensures p))
