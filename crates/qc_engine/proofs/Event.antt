@@ -1,13 +1,13 @@
 -- One event of the loop: an actor takes what is ready for it, and posts its turn.
-use Rattle.std.proofs.Common.{◌≡◌, ℕ, zero, suc, ◌+◌, ◌-◌, ◌^◌, ◌<◌, ◌≤◌, ◌==◌, Bool, true, false, cond, List, [], ◌∷◌, ◌++◌, fold, length, Option, Some, None, option_map, refl, sym, ap, ◌∙◌, subst, arith, slice_get, append_assoc, eqb-true, eq-eqb, zero-add}
-use Rattle.std.specs.Prelude.{replicate, set, slice_set}
+use Rattle.std.proofs.Common.{◌≡◌, ℕ, zero, suc, ◌+◌, ◌<◌, ◌≤◌, ◌==◌, Bool, true, false, List, [], ◌∷◌, ◌++◌, fold, length, Option, Some, None, refl, sym, ap, ◌∙◌, subst, arith, slice_get, append_assoc, eqb-true, eq-eqb, zero-add}
+use Rattle.std.specs.Prelude.{replicate, slice_set}
 use Rattle.std.specs.List.{AllByRecursion as Every, list_all}
 use Rattle.std.proofs.lemmas.List.Sums.{fold-append}
 use Rattle.std.proofs.Math.ListN.{length-set}
 use Rattle.qc_list.proofs.Members.{every-at}
 use Rattle.qc_core.specs.declared.actor.Actor.{Actor}
-use Rattle.qc_core.specs.Actors.{ActorMove, IsFrom, IsFromActor, IsShort, actor_after, actor_sent, actor_takes}
-use Rattle.qc_core.specs.Acts.{Acts, MayTake}
+use Rattle.qc_core.specs.Actors.{ActorMove, IsFrom, IsShort, actor_after, actor_sent, actor_takes}
+use Rattle.qc_core.specs.Acts.{MayTake}
 use Rattle.qc_core.specs.Conduct.{IsLawful, turn_after}
 use Rattle.qc_core.proofs.ActorFits.{actor_short}
 use Rattle.qc_core.proofs.ActorLaws.{input, turn}
@@ -30,7 +30,6 @@ use Rattle.qc_msg.specs.declared.reply.Reply.{Reply}
 use Rattle.qc_msg.specs.declared.step.Given.{Given}
 use Rattle.qc_msg.specs.declared.step.Given.TheVariants as given
 use Rattle.qc_msg.specs.declared.step.Control.{Control}
-use Rattle.qc_msg.specs.declared.step.Step.{Step}
 use Rattle.qc_msg.specs.declared.turn.Posting.{Posting}
 use Rattle.qc_msg.specs.declared.turn.Turn.{Turn}
 use Rattle.qc_msg.specs.Deeds.{Deed, Takes, WasSentTo, deeds, mail, turn_deeds}

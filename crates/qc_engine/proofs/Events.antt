@@ -1,7 +1,7 @@
 -- The history before its last event: an input with what is posted for it, a control line, or a phase.
 use Rattle.std.proofs.Common.{◌≡◌, ℕ, ◌+◌, ◌<◌, Bool, true, false, List, [], ◌∷◌, ◌++◌, length, Option, Some, None, refl, ap, sym, subst, ◌∙◌, arith, length-append}
 use Rattle.std.specs.Prelude.{◌||◌, if◌then◌else◌}
-use Rattle.qc_msg.specs.Steps.{Entry, by, marked, posted, sents, told, wrote}
+use Rattle.qc_msg.specs.Steps.{Entry, by, posted, sents, told, wrote}
 use Rattle.qc_msg.specs.declared.turn.Posting.{Posting}
 use Rattle.qc_msg.specs.declared.record.Record.{Record}
 use Rattle.qc_msg.specs.declared.reply.Reply.{Reply}

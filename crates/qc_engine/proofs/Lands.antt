@@ -1,10 +1,9 @@
 -- The loop's state after one event.
-use Rattle.std.proofs.Common.{◌≡◌, ℕ, zero, suc, ◌+◌, ◌<◌, ◌≤◌, Bool, true, false, List, [], ◌∷◌, ◌++◌, length, get_or, Option, Some, None, Result, Ok, Err, OnOk, option_map, refl, sym, ap, ◌∙◌, subst, arith, slice_get}
+use Rattle.std.proofs.Common.{◌≡◌, ℕ, zero, suc, ◌+◌, ◌<◌, ◌≤◌, true, false, List, [], ◌∷◌, ◌++◌, length, get_or, Option, Some, None, Result, Ok, Err, OnOk, option_map, refl, sym, ap, ◌∙◌, subst, arith, slice_get}
 use Rattle.std.specs.Prelude.{slice_set}
-use Rattle.std.specs.List.{AllByRecursion as Every}
 use Rattle.std.proofs.lemmas.Option.{slice_get-get_or}
 use Rattle.qc_core.specs.declared.actor.Actor.{Actor}
-use Rattle.qc_core.specs.Actors.{ActorMove, IsShort, actor_after, actor_sent, actor_takes, moved}
+use Rattle.qc_core.specs.Actors.{ActorMove, IsShort, actor_sent, actor_takes, moved}
 use Rattle.qc_decl.specs.Accepted.{IsAccepted}
 use Rattle.qc_decl.specs.Actors.{actors}
 use Rattle.qc_decl.specs.declared.declaration.Declaration.{Declaration}
@@ -17,7 +16,7 @@ use Rattle.qc_msg.specs.declared.step.Given.{Given}
 use Rattle.qc_msg.specs.declared.step.Given.TheVariants as given
 use Rattle.qc_msg.specs.declared.step.Step.{Step}
 use Rattle.qc_msg.specs.declared.turn.Turn.{Turn}
-use Rattle.qc_msg.specs.Deeds.{deeds, mail}
+use Rattle.qc_msg.specs.Deeds.{mail}
 use Rattle.qc_msg.specs.Steps.{Entry, by, marked, posted, sents, step_of, told, wrote}
 use Rattle.qc_msg.specs.declared.record.Record.{Record}
 use Rattle.qc_msg.specs.declared.reply.Reply.{Reply}
@@ -28,7 +27,7 @@ use Rattle.qc_engine.specs.At.{IsAt, IsLater, IsNoted, IsPosted, Stands}
 use Rattle.qc_engine.specs.Full.{before_last_event, begins_event, has_event}
 use Rattle.qc_engine.specs.Inputs.{given_by, step_by}
 use Rattle.qc_engine.specs.Places.{places_of}
-use Rattle.qc_engine.proofs.Event.{later, move, short, stands_on}
+use Rattle.qc_engine.proofs.Event.{move, short, stands_on}
 use Rattle.qc_engine.proofs.Events.{before_event, grows, post_none}
 use Rattle.qc_engine.proofs.Needs.{move_is, step_same, taken}
 
@@ -96,13 +95,13 @@ module _ (decl : Declaration) (script : Script) (accepted : IsAccepted decl) (ol
   turn_lands mid new eh es ei ep el p =
       let numbered : mid.inboxes.counts.all ≡ number = ap (λ (i : Inboxes). i.counts.all) ei ∙ st.kept.sent in
       let grown : new.history ≡ old.history ++ marked a (step_of g) ∷ by a (posted number turn) =
-          p.history ∙ (λ i. (eh i) ++ marked a (step_at i) ∷ by a (posted (numbered i) turn)) in
+      p.history ∙ (λ i. (eh i) ++ marked a (step_at i) ∷ by a (posted (numbered i) turn)) in
       let here : slice_get mid.seats.items a ≡ Some after =
-          ap (λ (xs : List Actor). slice_get xs a) es ∙ slice_get-set_same old.seats.items a after seat there in
+      ap (λ (xs : List Actor). slice_get xs a) es ∙ slice_get-set_same old.seats.items a after seat there in
       let seated : new.seats.items ≡ slice_set old.seats.items a (actor_sent after number) =
-          p.seats after here ∙ (λ i. slice_set (es i) a (actor_sent after (numbered i))) ∙ set_twice old.seats.items a after (actor_sent after number) in
+      p.seats after here ∙ (λ i. slice_set (es i) a (actor_sent after (numbered i))) ∙ set_twice old.seats.items a after (actor_sent after number) in
       let placed : new.places.items ≡ old.places.items ++ places_of (length old.history) (marked a (step_of g) ∷ by a (posted number turn)) =
-          p.places ∙ (λ i. (ep i) ++ places_of (length (eh i)) (marked a (step_at i) ∷ by a (posted (numbered i) turn))) in
+      p.places ∙ (λ i. (ep i) ++ places_of (length (eh i)) (marked a (step_at i) ∷ by a (posted (numbered i) turn))) in
       later_by decl script old new a (step_of g) (by a (posted number turn))
       (lands decl script new _ _ _ _ _ grown seated (p.inboxes ∙ ap (λ (v : Inboxes). after_turn v a turn) ei) placed (p.last_phase ∙ el) stands)
       grown (begins_given g) (post_none a number turn)

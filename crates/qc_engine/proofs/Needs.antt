@@ -1,7 +1,6 @@
 -- What the calls of one event need.
-use Rattle.std.proofs.Common.{◌≡◌, ℕ, zero, suc, ◌+◌, ◌-◌, ◌^◌, ◌<◌, ◌≤◌, Bool, true, false, List, [], ◌∷◌, ◌++◌, length, Option, Some, None, option_map, inl, inr, refl, sym, ap, ◌∙◌, subst, arith, slice_get}
-use Rattle.std.specs.Prelude.{is_some, replicate}
-use Rattle.std.specs.Option.{IfSome}
+use Rattle.std.proofs.Common.{◌≡◌, ℕ, zero, suc, ◌+◌, ◌^◌, ◌<◌, ◌≤◌, Bool, true, false, List, [], ◌∷◌, length, Option, Some, None, option_map, inl, inr, refl, sym, ap, ◌∙◌, subst, arith, slice_get}
+use Rattle.std.specs.Prelude.{replicate}
 use Rattle.qc_client.specs.Fits.{promise_in}
 use Rattle.qc_core.specs.declared.actor.Actor.{Actor}
 use Rattle.qc_core.specs.Actors.{ActorFits, ActorMove, ActorWithin, AsksFew, actor_after, actor_takes, moved}
@@ -116,9 +115,10 @@ module _ (decl : Declaration) (script : Script) (accepted : IsAccepted decl) (h 
 
     readable_given : length h < 2 ^ 31 → (g : Given) → WasSentTo a (mail h) g → IsReadable (mail h) (input_of g)
     readable_given few (given.Called command) is = tt
-    readable_given few (given.Got e) is =
-        (within_mail (mail h) e.number e is.0,
-        λ x there. let bound : promise_in x.message ≤ length h = promise_bounds decl h x events_of (in_mail (mail h) e.number x there) in omega arith)
+    readable_given few (given.Got e) is = (
+      within_mail (mail h) e.number e is.0,
+      λ x there. let bound : promise_in x.message ≤ length h = promise_bounds decl h x events_of (in_mail (mail h) e.number x there) in omega arith,
+    )
     readable_given few (given.Lost number) is = tt
 
     pub readable : length h < 2 ^ 31 → IsReadable (mail h) input

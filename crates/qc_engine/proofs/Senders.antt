@@ -1,7 +1,7 @@
 -- In each run messages come from actors, and so does what an actor takes.
 use Rattle.std.proofs.Common.{◌≡◌, ℕ, ◌+◌, ◌<◌, ◌≤◌, ◌==◌, Bool, true, false, cond, List, [], ◌∷◌, ◌++◌, length, Option, Some, None, option_to_list, refl, sym, ap, ◌∙◌, subst, arith, slice_get}
 use Rattle.std.specs.List.{AllByRecursion as Every}
-use Rattle.qc_core.specs.Actors.{IsFrom, IsFromActor}
+use Rattle.qc_core.specs.Actors.{IsFromActor}
 use Rattle.qc_core.specs.Conduct.{IsLawful}
 use Rattle.qc_decl.specs.Actors.{actors, controller}
 use Rattle.qc_decl.specs.declared.declaration.Declaration.{Declaration}
@@ -9,13 +9,11 @@ use Rattle.qc_laws.proofs.Acted.{has_place}
 use Rattle.qc_laws.proofs.Numbered.{control_silent, mail-silent, phase_silent}
 use Rattle.qc_list.proofs.Members.{every-append, every-at, every-weaker}
 use Rattle.qc_msg.specs.declared.message.Envelope.{Envelope}
-use Rattle.qc_msg.specs.declared.step.Given.{Given}
-use Rattle.qc_msg.specs.declared.step.Given.TheVariants as given
 use Rattle.qc_msg.specs.declared.step.Step.{Step}
 use Rattle.qc_msg.specs.declared.step.Step.TheVariants as steps
 use Rattle.qc_msg.specs.declared.turn.Posting.{Posting}
 use Rattle.qc_msg.specs.Deeds.{Deed, deed_at, deeds, envelope_of, envelopes, heard, mail}
-use Rattle.qc_msg.specs.Steps.{Entry, by, marked, posted}
+use Rattle.qc_msg.specs.Steps.{Entry, by, posted}
 use Rattle.qc_msg.proofs.Growth.{mail-append, mail-posted, mail-taken}
 use Rattle.qc_script.specs.Ready.{phase_of}
 use Rattle.qc_script.specs.Runs.{Runs, begins, takes, posts, phase, control}

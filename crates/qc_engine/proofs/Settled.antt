@@ -1,5 +1,5 @@
 -- One event of the loop: a control line acts, or the next phase begins; its beginning, and its end.
-use Rattle.std.proofs.Common.{◌≡◌, ℕ, zero, suc, ◌+◌, ◌-◌, ◌^◌, ◌<◌, ◌≤◌, ◌&&◌, nat_lt, Bool, true, false, List, [], ◌∷◌, ◌++◌, fold, length, get_or, Option, Some, None, option_map, refl, sym, ap, ◌∙◌, subst, arith, slice_get, zero-add, length-append}
+use Rattle.std.proofs.Common.{◌≡◌, ℕ, zero, suc, ◌+◌, ◌<◌, ◌≤◌, ◌&&◌, nat_lt, Bool, true, false, List, [], ◌∷◌, ◌++◌, length, get_or, Option, Some, None, option_map, refl, sym, ap, ◌∙◌, subst, arith, slice_get, zero-add, length-append}
 use Rattle.std.specs.Prelude.{drop, is_some, replicate}
 use Rattle.std.specs.List.{list_all}
 use Rattle.std.specs.Option.{IfSome, IsSome}
@@ -17,7 +17,6 @@ use Rattle.qc_inbox.proofs.Keeping.{kept_begins}
 use Rattle.qc_inbox.proofs.Picking.{none_ready, picked_kept, some_picked}
 use Rattle.qc_inbox.specs.Inputs.{IsWithin, first_step, input_in, input_of}
 use Rattle.qc_inbox.specs.Kept.{IsKept}
-use Rattle.qc_inbox.specs.Picks.{is_held}
 use Rattle.qc_inbox.specs.PicksKept.{picked_in}
 use Rattle.qc_inbox.specs.Rooms.{after_control, after_first, after_phase, empty_inboxes}
 use Rattle.qc_inbox.proofs.Seeing.{ready_kept}
@@ -31,7 +30,7 @@ use Rattle.qc_msg.specs.declared.step.Control.{Control}
 use Rattle.qc_msg.specs.declared.step.Control.TheVariants as controls
 use Rattle.qc_msg.specs.declared.step.Step.{Step}
 use Rattle.qc_msg.specs.declared.step.Step.TheVariants as steps
-use Rattle.qc_msg.specs.Deeds.{Deed, deeds, mail}
+use Rattle.qc_msg.specs.Deeds.{Deed, mail}
 use Rattle.qc_msg.specs.Steps.{Entry, by, marked, posted, step_of}
 use Rattle.qc_script.specs.Ready.{controls_left, phase_at, phase_of, ready, step_of_control}
 use Rattle.qc_script.specs.Runs.{Runs, begins, control, phase, posts, takes}
@@ -151,7 +150,7 @@ phase_few decl script h open_inputs (takes a g before older run free rdy) =
 phase_few decl script h open_inputs (posts a turn before older run taken law) =
     let rest : phase_of older ≤ length older = phase_few decl script older before run in
     let same : phase_of (older ++ by a (posted (length (mail older)) turn)) ≡ phase_of older =
-        fold-append (λ k e. phase_at k e.step) 0 older (by a (posted (length (mail older)) turn)) ∙ phase_wrote (phase_of older) a (length (mail older)) turn.write turn.sends turn.told in
+    fold-append (λ k e. phase_at k e.step) 0 older (by a (posted (length (mail older)) turn)) ∙ phase_wrote (phase_of older) a (length (mail older)) turn.write turn.sends turn.told in
     let more : length (older ++ by a (posted (length (mail older)) turn)) ≡ length older + length (by a (posted (length (mail older)) turn)) = length-append older (by a (posted (length (mail older)) turn)) in
     omega arith
 phase_few decl script h open_inputs (phase before older run none done quiet more) =

@@ -121,13 +121,7 @@ impl Engine {
 
     /// Adds an input and its turn to the history and to all that is kept beside
     /// it. After want of memory the history is as it was.
-    fn post(
-        &mut self,
-        alloc: Global,
-        actor: u8,
-        input: Step,
-        turn: Turn,
-    ) -> Result<(), OutOfMemory>
+    fn post(&mut self, alloc: Global, actor: u8, input: Step, turn: Turn) -> Result<(), OutOfMemory>
         requires actor { actor < 34 }
         requires seat { IfSome (slice_get self.old.seats.items actor) AsksFew }
         requires seated { actor < length self.old.seats.items }

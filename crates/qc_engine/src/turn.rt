@@ -70,7 +70,9 @@ fn hear(
 {
     let entry = entry_of(history, places, number);
     let Step::Sent {
-        number, message, ..
+        number,
+        message,
+        ..
     } = &entry.step
     else {
         unreachable!()

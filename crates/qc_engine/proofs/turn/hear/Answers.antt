@@ -1,6 +1,5 @@
-use Rattle.std.proofs.Common.{◌≡◌, Some, sym, ap, ◌∙◌, slice_get}
-use Rattle.qc_msg.specs.Deeds.{envelope_at, mail}
-use Rattle.qc_msg.specs.declared.message.Envelope.{Envelope}
+use Rattle.std.proofs.Common.{sym, ap, ◌∙◌}
+use Rattle.qc_msg.specs.Deeds.{envelope_at}
 use Rattle.qc_msg.specs.declared.step.Step.{Step}
 use Rattle.qc_engine.proofs.turn.hear.Goals as goal
 

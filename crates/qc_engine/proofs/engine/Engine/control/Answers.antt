@@ -1,4 +1,4 @@
-use Rattle.std.proofs.Common.{◌≡◌, Some, refl, sym}
+use Rattle.std.proofs.Common.{refl, sym}
 use Rattle.qc_engine.specs.declared.engine.Engine.{Engine}
 use Rattle.qc_engine.proofs.Lands.{on_ok}
 use Rattle.qc_engine.proofs.Settled.{control_lands, first_within}

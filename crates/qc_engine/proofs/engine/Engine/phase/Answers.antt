@@ -1,7 +1,6 @@
-use Rattle.std.proofs.Common.{◌≡◌, ◌+◌, ◌<◌, ◌≤◌, ◌^◌, ◌∙◌, arith, List, Some, ap, get_or, length, refl, slice_get, subst, sym}
+use Rattle.std.proofs.Common.{◌≡◌, ◌+◌, ◌≤◌, ◌∙◌, arith, List, Some, ap, get_or, length, refl, slice_get, subst, sym}
 use Rattle.std.proofs.lemmas.Option.{slice_get-get_or}
 use Rattle.qc_script.specs.declared.script.PhaseLines.{PhaseLines}
-use Rattle.qc_inbox.specs.Rooms.{after_phase}
 use Rattle.qc_engine.specs.declared.engine.Engine.{Engine}
 use Rattle.qc_engine.proofs.Lands.{on_ok}
 use Rattle.qc_engine.proofs.Settled.{phase_lands, phase_low}

@@ -1,10 +1,9 @@
-use Rattle.std.proofs.Common.{◌≡◌, ℕ, ◌+◌, ◌^◌, ◌<◌, ◌≤◌, List, ◌∷◌, Some, refl, sym, ap, ◌∙◌, arith, get_or, length, slice_get}
+use Rattle.std.proofs.Common.{◌≡◌, ℕ, ◌+◌, ◌^◌, ◌<◌, ◌≤◌, ◌∷◌, refl, ap, ◌∙◌, arith, length}
 use Rattle.std.specs.Prelude.{slice_set}
 use Rattle.std.specs.Vec.{with_item}
 use Rattle.qc_core.specs.declared.actor.Actor.{Actor}
 use Rattle.qc_core.specs.Actors.{actor_sent}
-use Rattle.qc_decl.specs.Limits.{most_sites}
-use Rattle.qc_msg.specs.Steps.{Entry, by, marked, posted}
+use Rattle.qc_msg.specs.Steps.{by, marked, posted}
 use Rattle.qc_engine.specs.declared.engine.Engine.{Engine}
 use Rattle.qc_engine.proofs.Lands.{entries_few, on_ok, posted_by}
 use Rattle.qc_engine.proofs.Placed.{get-same}
@@ -23,7 +22,7 @@ returns-clause-ok c =
     on_ok c.note.result c.note.ensures.ok
     (λ n. posted_by c.args.self.now mid c.note.new.self c.args.actor c.args.input c.args.turn c.in_ok-entries.entries.items
     (λ seat here.
-        let same : c.index_mut.result.now ≡ seat = c.index_mut.ensures.value ∙ get-same c.args.self.now.seats.items c.args.actor seat c.index_mut.result.now here in
-        ap (λ (v : Actor). slice_set c.args.self.now.seats.items c.args.actor v) (c.sent.ensures ∙ (λ i. actor_sent (same i) (c.sent-first.ensures i))))
+    let same : c.index_mut.result.now ≡ seat = c.index_mut.ensures.value ∙ get-same c.args.self.now.seats.items c.args.actor seat c.index_mut.result.now here in
+    ap (λ (v : Actor). slice_set c.args.self.now.seats.items c.args.actor v) (c.sent.ensures ∙ (λ i. actor_sent (same i) (c.sent-first.ensures i))))
     refl c.in_ok-post.ensures refl refl
     (c.in_ok-entries.ensures ∙ ap (λ (k : ℕ). marked c.args.actor c.args.input ∷ by c.args.actor (posted k c.args.turn)) c.sent-first.ensures) n)

@@ -1,14 +1,12 @@
-use Rattle.std.proofs.Common.{◌≡◌, ℕ, ◌+◌, ◌^◌, ◌<◌, ◌≤◌, Option, Some, sym, ap, ◌∙◌, refl, subst, arith, slice_get, length}
+use Rattle.std.proofs.Common.{ℕ, ◌^◌, ◌<◌, ◌≤◌, Option, sym, ap, ◌∙◌, refl, subst, arith, length}
 use Rattle.std.specs.Option.{IfSome}
 use Rattle.qc_core.specs.declared.actor.Actor.{Actor}
 use Rattle.qc_core.specs.Actors.{AsksFew}
 use Rattle.qc_decl.specs.Actors.{actors}
 use Rattle.qc_inbox.proofs.Bounds.{calls_few}
-use Rattle.qc_inbox.specs.Inputs.{input_in}
 use Rattle.qc_inbox.specs.Rooms.{tray_at}
 use Rattle.qc_inbox.specs.declared.inboxes.Inboxes.{Inboxes}
 use Rattle.qc_laws.proofs.Places.{slice_get-set_same}
-use Rattle.qc_msg.specs.Deeds.{mail}
 use Rattle.std.specs.Vec.{with_item}
 use Rattle.qc_msg.specs.declared.step.Step.{Step}
 use Rattle.qc_engine.specs.declared.engine.Engine.{Engine}
