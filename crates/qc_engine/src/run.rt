@@ -31,11 +31,7 @@ pub struct Ran {
 /// nothing is left to do at the script's end. Before its last event it was below
 /// every limit.
 #[tactic(auto, using(crate::proofs::Events::begun_below))]
-pub fn run_script(
-    alloc: Global,
-    decl: &Declaration,
-    script: &Script,
-) -> Result<Ran, OutOfMemory>
+pub fn run_script(alloc: Global, decl: &Declaration, script: &Script) -> Result<Ran, OutOfMemory>
     requires accepted { IsAccepted decl.now }
     requires built { is_built decl.now script.now ≡ true }
     ensures run { IfOk result (λ ran. Runs (IsLawful decl.now) decl.now script.now ran.history
