@@ -1,5 +1,5 @@
 -- Over all that a client does in a run: what holds of it, and that one call numbers all messages of a turn.
-use Rattle.std.proofs.Common.{◌≡◌, ℕ, ◌+◌, ◌-◌, ◌<◌, ◌≤◌, Bool, true, false, cond, List, [], ◌∷◌, ◌++◌, fold, length, Option, Some, None, refl, sym, ap, ◌∙◌, subst, append_assoc}
+use Rattle.std.proofs.Common.{◌≡◌, ℕ, ◌+◌, ◌-◌, ◌<◌, ◌≤◌, Bool, true, false, cond, List, [], ◌∷◌, ◌++◌, fold, Option, Some, None, refl, sym, ap, ◌∙◌, subst}
 use Rattle.std.proofs.lemmas.List.Sums.{fold-append}
 use Rattle.qc_decl.specs.declared.declaration.Declaration.{Declaration}
 use Rattle.qc_decl.specs.Actors.{actors, is_client, is_site}
@@ -12,17 +12,16 @@ use Rattle.qc_msg.specs.declared.turn.Turn.{Turn}
 use Rattle.qc_msg.specs.Deeds.{Deed, Takes, sends_of, tells_of, turn_deeds, writes_of}
 use Rattle.qc_msg.specs.Turns.{quiet}
 use Rattle.qc_client.specs.declared.client.Client.{Client}
-use Rattle.qc_client.specs.Client.{ClientMove, new_client}
+use Rattle.qc_client.specs.Client.{ClientMove}
 use Rattle.qc_client.specs.Conduct.{client_after, client_does, client_takes, sent, sent_one}
 use Rattle.qc_site.specs.Conduct.{site_after}
-use Rattle.qc_msg.specs.declared.message.Message.{Message}
 use Rattle.qc_site.specs.Conduct.{site_does, site_takes}
 use Rattle.qc_site.specs.Site.{SiteMove}
 use Rattle.qc_core.specs.Actors.{ActorMove, actor_after, actor_sent, actor_takes, by_client, by_site}
 use Rattle.qc_core.proofs.ActorLaws.{at_client, at_site, other_client}
 use Rattle.qc_core.specs.Acts.{Acts, MayTake, is_running, runs_at, runs_given, starts, takes, posts}
-use Rattle.qc_core.specs.Conduct.{IsLawful, turn_after}
-use Rattle.qc_core.proofs.ClientStands.{Lands, Stands, lands, new_stands, runs_told, sends_all}
+use Rattle.qc_core.specs.Conduct.{IsLawful}
+use Rattle.qc_core.proofs.ClientStands.{Stands, lands, new_stands, runs_told, sends_all}
 
 -- a client over the deeds of a turn
 
@@ -119,11 +118,11 @@ Known decl k ds false = Stands decl (is_running ds) (client_after decl k ds).cli
 Known decl k ds true = IsOpen decl k ds
 
 -- a lawful turn is that of the client's last input
-lawful_turn : (decl : Declaration) (a : ℕ) (ds : List Deed) (turn : Turn) → is_site decl a ≡ false → is_client decl a ≡ true → IsLawful decl a ds turn → (client_after decl (a - decl.sites) ds).turn ≡ turn
+pub lawful_turn : (decl : Declaration) (a : ℕ) (ds : List Deed) (turn : Turn) → is_site decl a ≡ false → is_client decl a ≡ true → IsLawful decl a ds turn → (client_after decl (a - decl.sites) ds).turn ≡ turn
 lawful_turn decl a ds turn no_site client lawful =
     let is : Some (client_after decl (a - decl.sites) ds).turn ≡ Some turn =
-        sym (ap (λ (b : Bool). cond b (Some (site_after decl a ds).turn) (cond (is_client decl a) (Some (client_after decl (a - decl.sites) ds).turn) None)) no_site
-        ∙ ap (λ (b : Bool). cond b (Some (client_after decl (a - decl.sites) ds).turn) None) client) ∙ lawful in
+    sym (ap (λ (b : Bool). cond b (Some (site_after decl a ds).turn) (cond (is_client decl a) (Some (client_after decl (a - decl.sites) ds).turn) None)) no_site
+    ∙ ap (λ (b : Bool). cond b (Some (client_after decl (a - decl.sites) ds).turn) None) client) ∙ lawful in
     cc
 
 pub known : (decl : Declaration) (a : ℕ) (ds : List Deed) (b : Bool) (n : ℕ) → 0 < decl.sites → decl.sites ≤ most_sites → is_site decl a ≡ false → is_client decl a ≡ true → Acts decl a ds b n
@@ -141,9 +140,9 @@ known decl a ds b n some most no_site client (posts before turn m first acts abo
     ends : IsOpen decl (a - decl.sites) before → Stands decl (is_running (before ++ turn_deeds first turn)) (client_after decl (a - decl.sites) (before ++ turn_deeds first turn)).client
     ends o =
         let now : client_after decl (a - decl.sites) before ≡ client_takes decl (client_after decl (a - decl.sites) o.before).client o.input =
-            ap (client_after decl (a - decl.sites)) o.deeds_are ∙ fold-append (client_does decl) _ o.before (Takes o.input ∷ []) in
+        ap (client_after decl (a - decl.sites)) o.deeds_are ∙ fold-append (client_does decl) _ o.before (Takes o.input ∷ []) in
         let same : (client_takes decl (client_after decl (a - decl.sites) o.before).client o.input).turn ≡ turn =
-            sym (ap (λ (m : ClientMove). m.turn) now) ∙ lawful_turn decl a before turn no_site client lawful in
+        sym (ap (λ (m : ClientMove). m.turn) now) ∙ lawful_turn decl a before turn no_site client lawful in
         subst (λ (t : Turn). Stands decl (is_running (before ++ turn_deeds first t)) (client_after decl (a - decl.sites) (before ++ turn_deeds first t)).client) same
         (subst (λ (xs : List Deed). Stands decl (is_running (xs ++ turn_deeds first (client_takes decl (client_after decl (a - decl.sites) o.before).client o.input).turn)) (client_after decl (a - decl.sites) (xs ++ turn_deeds first (client_takes decl (client_after decl (a - decl.sites) o.before).client o.input).turn)).client) (sym o.deeds_are)
         (stands_on decl (a - decl.sites) o.before o.input first some most o.stood o.might))

@@ -1,30 +1,26 @@
 -- What holds of a client in a run between two inputs, and that one call numbers all messages of its turn.
-use Rattle.std.proofs.Common.{◌≡◌, ℕ, ◌+◌, ◌<◌, ◌≤◌, ◌==◌, ◌⊎◌, Bool, true, false, cond, List, [], ◌∷◌, ◌++◌, map, fold, length, max, Option, Some, None, is_some, inl, inr, refl, sym, ap, ◌∙◌, subst, arith}
-use Rattle.std.specs.List.{AllByRecursion as Every}
-use Rattle.std.proofs.lemmas.List.Sums.{fold-append}
+use Rattle.std.proofs.Common.{◌≡◌, ℕ, ◌+◌, ◌<◌, ◌≤◌, ◌==◌, Bool, true, false, cond, List, [], ◌∷◌, map, length, Option, Some, None, is_some, inl, inr, refl, sym, ap, ◌∙◌, subst}
 use Rattle.qc_decl.specs.declared.declaration.Declaration.{Declaration}
 use Rattle.qc_decl.specs.Limits.{most_sites}
-use Rattle.qc_stamp.specs.declared.stamp.Stamp.{Stamp}
 use Rattle.qc_stamp.specs.declared.stamp.TxId.{TxId}
 use Rattle.qc_commit.specs.declared.ballot.Ballot.{Ballot}
 use Rattle.qc_commit.specs.declared.desk.Desk.{Desk}
 use Rattle.qc_commit.specs.declared.desk.Voting.{Voting}
 use Rattle.qc_commit.specs.Calls.{Numbers, Prepares, Votes}
 use Rattle.qc_commit.specs.Conduct as desks
-use Rattle.qc_commit.specs.Course.{sent_each, stamp_after}
-use Rattle.qc_commit.specs.Desk.{DeskMove, new_desk, moved as desk_moved}
+use Rattle.qc_commit.specs.Course.{sent_each}
+use Rattle.qc_commit.specs.Desk.{DeskMove, moved as desk_moved}
 use Rattle.qc_commit.specs.Fits.{AsksFew}
 use Rattle.qc_commit.specs.Votes.{are_cast, blank, cast, first_against, participants, prepares, vote_of}
 use Rattle.qc_commit.proofs.Aside.{few-after}
-use Rattle.qc_commit.proofs.Moves.{Aborts, Commits, IsMove, IsPrepare, IsPromiseWanted, Waits, prepare-moves, tx_of, vote-moves}
 use Rattle.qc_commit.proofs.Numbering.{IsSettled, each-sent, settled-prepare, settled-sent, settled-vote}
 use Rattle.qc_front.specs.declared.doing.Doing.{Doing}
 use Rattle.qc_front.specs.declared.doing.Doing.TheVariants.{Idle, Reading, Appending}
 use Rattle.qc_front.specs.declared.front.Front.{Front}
 use Rattle.qc_front.specs.declared.transaction.Transaction.{Transaction}
 use Rattle.qc_front.specs.Conduct as fronts
-use Rattle.qc_front.specs.Front.{FrontMove, aborts, begins, ended, gives_up, moved as front_moved, new_front}
-use Rattle.qc_front.specs.Going.{GoesOn, is_idle}
+use Rattle.qc_front.specs.Front.{FrontMove, aborts, begins, ended, gives_up, moved as front_moved}
+use Rattle.qc_front.specs.Going.{is_idle}
 use Rattle.qc_front.specs.Holds.{FrontHolds, IsNumbered}
 use Rattle.qc_front.specs.Requests.{AreSent, AsksAtOnce, IsFor, IsRequestOf, IsSent, numbered_all, numbered_one}
 use Rattle.qc_front.proofs.AtOnce.{called_at_once, takes_at_once}
@@ -41,7 +37,6 @@ use Rattle.qc_msg.specs.declared.message.Outcome.{Outcome}
 use Rattle.qc_msg.specs.declared.message.Outcome.TheVariants as outcomes
 use Rattle.qc_msg.specs.declared.message.Want.{Want}
 use Rattle.qc_msg.specs.declared.message.Want.TheVariants.{Read, Append, Prepare}
-use Rattle.qc_msg.specs.declared.record.Record.{Record}
 use Rattle.qc_msg.specs.declared.reply.Reply.{Reply}
 use Rattle.qc_msg.specs.declared.reply.Reply.TheVariants as replies
 use Rattle.qc_msg.specs.declared.reply.Why.{Why}
@@ -52,14 +47,14 @@ use Rattle.qc_msg.specs.declared.step.Given.{Given}
 use Rattle.qc_msg.specs.declared.step.Given.TheVariants as given
 use Rattle.qc_msg.specs.declared.turn.Posting.{Posting}
 use Rattle.qc_msg.specs.declared.turn.Turn.{Turn}
-use Rattle.qc_msg.specs.Deeds.{Deed, Takes, Writes, Sends, Tells, sends_of, tells_of, turn_deeds, writes_of}
+use Rattle.qc_msg.specs.Deeds.{Deed}
 use Rattle.qc_msg.specs.Calls.{site_called, without_call}
 use Rattle.qc_msg.specs.Turns.{quiet, sending}
 use Rattle.qc_client.specs.declared.client.Client.{Client}
 use Rattle.qc_client.specs.Client.{ClientMove, by_desk, by_front, moved, new_client}
-use Rattle.qc_client.specs.Conduct.{answered, answered_by, called, client_after, client_does, client_takes, commits, heard, requested, sent, sent_by, sent_one}
+use Rattle.qc_client.specs.Conduct.{answered, answered_by, called, client_takes, commits, heard, requested, sent, sent_by, sent_one}
 use Rattle.qc_client.specs.Inputs.{IsFree}
-use Rattle.qc_core.specs.Acts.{MayTake, is_running, runs_at, runs_given}
+use Rattle.qc_core.specs.Acts.{MayTake, is_running, runs_given}
 
 -- whether a command runs after a turn
 abbrev pub runs_told : Bool → Option Reply → Bool

@@ -1,5 +1,5 @@
 -- A front end's turns go to sites, and are short: it asks sites, and tells a verdict to those that it asked.
-use Rattle.std.proofs.Common.{◌≡◌, ℕ, zero, suc, ◌+◌, ◌-◌, ◌%◌, ◌<◌, ◌≤◌, ◌==◌, nat_le, nat_lt, Bool, true, false, cond, ◌⊎◌, inl, inr, List, [], ◌∷◌, ◌++◌, filter, fold, length, map, Option, Some, None, option_map, refl, sym, ap, ◌∙◌, subst, arith}
+use Rattle.std.proofs.Common.{◌≡◌, ℕ, zero, suc, ◌+◌, ◌-◌, ◌%◌, ◌<◌, ◌≤◌, ◌==◌, nat_le, nat_lt, Bool, true, false, cond, List, [], ◌∷◌, ◌++◌, filter, fold, length, map, Option, Some, None, option_map, refl, sym, ap, subst, arith}
 use Rattle.std.specs.Prelude.{slice_get, slice_index}
 use Rattle.std.specs.List.{AllByRecursion as Every, range_with_len}
 use Rattle.std.specs.Option.{option_map_or}
@@ -10,7 +10,6 @@ use Rattle.std.proofs.lemmas.Cmp.{nat_cmp_total}
 use Rattle.std.proofs.lemmas.Bool.Decides.{nat_tests}
 use Rattle.std.proofs.lemmas.List.{length-append, length-map}
 use Rattle.std.proofs.lemmas.List.FromFn.{length-range_with_len}
-use Rattle.qc_list.specs.Members.{In}
 use Rattle.qc_list.specs.Order.{Ascends, IsBelowAll, by_order, inserted}
 use Rattle.qc_list.proofs.Members.{In-passes, every-from_In}
 use Rattle.qc_list.proofs.Order.{ascends-inserted}
@@ -22,8 +21,7 @@ use Rattle.qc_decl.specs.Lookup.{append_need_of, plan_in, read_need_of}
 use Rattle.qc_plan.specs.declared.plan.Plan.{Plan}
 use Rattle.qc_plan.specs.declared.standing.Verdict.{Verdict}
 use Rattle.qc_plan.specs.declared.standing.Verdict.TheVariants as verdicts
-use Rattle.qc_plan.specs.Round.{RoundState, asking_all, cyclic, note, start, verdict, wanted, weighing, weight_at}
-use Rattle.qc_entry.specs.declared.line.Line.{Line}
+use Rattle.qc_plan.specs.Round.{RoundState, cyclic, note, start, verdict, wanted, weighing, weight_at}
 use Rattle.qc_view.specs.declared.view.View.{View}
 use Rattle.qc_view.specs.View.{with_log, with_own}
 use Rattle.qc_msg.specs.declared.begun.Begun.{Begun}
@@ -48,13 +46,13 @@ use Rattle.qc_front.specs.declared.doing.Doing.{Doing}
 use Rattle.qc_front.specs.declared.doing.Doing.TheVariants.{Idle, Reading, Appending}
 use Rattle.qc_front.specs.declared.front.Front.{Front}
 use Rattle.qc_front.specs.declared.transaction.Transaction.{Transaction}
-use Rattle.qc_front.specs.Answering.{answer_of, next_own, op_of, resp_of, with_event, with_granted, with_op, with_view}
+use Rattle.qc_front.specs.Answering.{answer_of, next_own, resp_of, with_event, with_view}
 use Rattle.qc_front.specs.Appending.{append_want, read_want, request_of, round_for, weights_of}
 use Rattle.qc_front.specs.Conduct.{appending_takes, called, commits, reading_takes, takes, takes_in}
 use Rattle.qc_front.specs.Counting.{appended_with, learns, lived, read_with, standing_of}
 use Rattle.qc_front.specs.Front.{FrontMove, aborts, begins, gives_up, moved}
-use Rattle.qc_front.specs.Holds.{AppendingHolds, BegunHolds, FrontHolds, IsPrefix, IsRound, ReadingHolds, sites_of}
-use Rattle.qc_front.specs.Rounds.{answered, append_by, goes_on, performs, read_by, reads, with_asked}
+use Rattle.qc_front.specs.Holds.{BegunHolds, FrontHolds, IsRound, sites_of}
+use Rattle.qc_front.specs.Rounds.{answered, append_by, goes_on, performs, read_by, reads}
 use Rattle.qc_front.proofs.Awaited.{wanted_is}
 
 -- sites, ascending, each once: so they are few

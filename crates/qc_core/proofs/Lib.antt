@@ -13,3 +13,6 @@ pub mod ActorLaws
 pub mod ClientStands
 pub mod ActorSent
 pub mod FrontReaches
+pub mod ClientReaches
+pub mod SiteReaches
+pub mod ActorFits

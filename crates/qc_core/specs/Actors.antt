@@ -1,7 +1,9 @@
 -- An actor's state: a site's, or a client's. What it becomes and does for each input, and over all its deeds.
-use Rattle.std.specs.Prelude.{ℕ, ◌-◌, ◌^◌, ◌<◌, if◌then◌else◌, List, fold}
+use Rattle.std.specs.Prelude.{ℕ, ◌-◌, ◌^◌, ◌<◌, ◌≤◌, if◌then◌else◌, List, fold, length}
+use Rattle.std.specs.List.{AllByRecursion as Every}
 use Rattle.qc_decl.specs.declared.declaration.Declaration.{Declaration}
 use Rattle.qc_decl.specs.Actors.{is_site}
+use Rattle.qc_decl.specs.Limits.{most_sites}
 use Rattle.qc_commit.specs.Fits as votes
 use Rattle.qc_front.specs.Fits as rounds
 use Rattle.qc_client.specs.Client.{ClientMove, new_client}
@@ -10,6 +12,7 @@ use Rattle.qc_client.specs.Fits.{ClientFits, promise_in}
 use Rattle.qc_msg.specs.declared.message.Message.{Message}
 use Rattle.qc_msg.specs.declared.step.Given.{Given}
 use Rattle.qc_msg.specs.declared.step.Given.TheVariants as given
+use Rattle.qc_msg.specs.declared.turn.Posting.{Posting}
 use Rattle.qc_msg.specs.declared.turn.Turn.{Turn}
 use Rattle.qc_msg.specs.Deeds.{Deed, Takes, Writes, Sends, Tells}
 use Rattle.qc_msg.specs.Turns.{quiet}
@@ -75,6 +78,11 @@ abbrev pub ActorFits : Actor → Type 0
 ActorFits (Site s) = Unit {0}
 ActorFits (Client c) = ClientFits c
 
+-- the count and the clocks of a client are at most this
+abbrev pub ActorWithin : ℕ → Actor → Type 0
+ActorWithin n (Site s) = Unit {0}
+ActorWithin n (Client c) = (c.front.count ≤ n) × (c.front.clock.value ≤ n) × (c.desk.clock.value ≤ n)
+
 abbrev pub IsInputFit : Given → Type 0
 IsInputFit (given.Called command) = Unit {0}
 IsInputFit (given.Got envelope) = promise_in envelope.message < 2 ^ 63
@@ -84,3 +92,20 @@ IsInputFit (given.Lost number) = Unit {0}
 abbrev pub AsksFew : Actor → Type 0
 AsksFew (Site s) = Unit {0}
 AsksFew (Client c) = votes.AsksFew c.desk.voting × rounds.AsksFew c.front.doing
+
+-- a message comes from an actor; actors are numbered below 34
+abbrev pub IsFrom : Given → Type 0
+IsFrom (given.Called command) = Unit {0}
+IsFrom (given.Got envelope) = envelope.from < 34
+IsFrom (given.Lost number) = Unit {0}
+
+abbrev pub IsFromActor : Deed → Type 0
+IsFromActor (Takes given) = IsFrom given
+IsFromActor (Writes written) = Unit {0}
+IsFromActor (Sends number to message) = Unit {0}
+IsFromActor (Tells reply) = Unit {0}
+
+-- a turn goes to actors, and has few messages: at most one for each site
+pub record IsShort (turn : Turn) : Type 0 where
+  pub receivers : Every (λ (p : Posting). p.to < 34) turn.sends
+  pub few : length turn.sends ≤ most_sites

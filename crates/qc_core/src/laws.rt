@@ -1,11 +1,14 @@
 //! Laws of the conduct, each the contract of a function with nothing to do.
 
-ghost use Rattle.std.specs.Prelude.{◌≡◌, ℕ, ◌<◌, ◌≤◌, false, List, [], ◌∷◌, ◌++◌, Some};
+ghost use Rattle.std.specs.Prelude.{◌≡◌, ℕ, ◌^◌, ◌<◌, ◌≤◌, false, List, [], ◌∷◌, ◌++◌, Some};
+ghost use Rattle.std.specs.List.{AllByRecursion as Every};
 ghost use Rattle.qc_core.specs.declared.actor.Actor.{Actor};
+ghost use Rattle.qc_core.specs.Actors.{ActorFits, ActorWithin, AsksFew, IsFrom, IsFromActor, IsShort};
 ghost use Rattle.qc_core.specs.Actors.{actor_after, actor_hears, actor_sent, actor_takes};
 ghost use Rattle.qc_core.specs.Acts.{Acts, MayTake};
 ghost use Rattle.qc_core.specs.Conduct.{turn_after};
 ghost use Rattle.qc_core.specs.Sites.{IsShown, Serves};
+ghost use Rattle.qc_decl.specs.Accepted.{IsAccepted};
 ghost use Rattle.qc_decl.specs.Actors.{actors};
 ghost use Rattle.qc_decl.specs.Limits.{most_sites};
 ghost use Rattle.qc_decl.specs.declared.declaration.Declaration.{Declaration};
@@ -59,4 +62,25 @@ pub fn requests_are_numbered_at_once()
         → (actor_after decl a ((ds ++ Takes given ∷ [])
         ++ turn_deeds first (actor_takes decl (actor_after decl a ds).actor given).turn)).actor
         ≡ actor_sent (actor_takes decl (actor_after decl a ds).actor given).actor first }
+{}
+
+/// Where the count and the clocks of an actor of a run are far from the ends of
+/// their types, it fits: its calls may be made.
+#[tactic(auto, using(crate::proofs::ActorFits::actor_fits, crate::proofs::ActorFits::actor_asks_few))]
+pub fn actors_fit()
+    ensures fits { (decl : Declaration) (a : ℕ) (ds : List Deed) (m n : ℕ) → IsAccepted decl → a < actors decl
+        → Acts decl a ds false m → n < 2 ^ 31 → ActorWithin n (actor_after decl a ds).actor
+        → ActorFits (actor_after decl a ds).actor }
+    ensures few { (decl : Declaration) (a : ℕ) (ds : List Deed) (m : ℕ) (given : Given) → IsAccepted decl
+        → a < actors decl → Acts decl a ds false m → MayTake ds given
+        → AsksFew (actor_takes decl (actor_after decl a ds).actor given).actor }
+{}
+
+/// An actor's turn has few messages, and they go to actors, where those that
+/// it took came from actors.
+#[tactic(auto, using(crate::proofs::ActorFits::actor_short))]
+pub fn turns_are_short()
+    ensures { (decl : Declaration) (a : ℕ) (ds : List Deed) (m : ℕ) (given : Given) → IsAccepted decl
+        → a < actors decl → Acts decl a ds false m → Every IsFromActor ds → IsFrom given
+        → IsShort (actor_takes decl (actor_after decl a ds).actor given).turn }
 {}

@@ -18,6 +18,6 @@ mod laws;
 
 pub use actor::Actor;
 pub use laws::{
-    actors_are_folds, answers_of_sites_are_due, requests_are_numbered_at_once,
-    sites_are_read_off_their_steps, turns_are_those_of_actors,
+    actors_are_folds, actors_fit, answers_of_sites_are_due, requests_are_numbered_at_once,
+    sites_are_read_off_their_steps, turns_are_short, turns_are_those_of_actors,
 };

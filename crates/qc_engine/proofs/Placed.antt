@@ -1,5 +1,5 @@
 -- Where a message's entry stands.
-use Rattle.std.proofs.Common.{◌≡◌, ℕ, zero, suc, ◌+◌, ◌-◌, ◌<◌, ◌≤◌, ◌⊎◌, inl, inr, List, [], ◌∷◌, ◌++◌, length, get_or, Option, Some, None, option_to_list, refl, ap, sym, subst, ◌∙◌, arith, slice_get, append_assoc}
+use Rattle.std.proofs.Common.{◌≡◌, ℕ, zero, suc, ◌+◌, ◌<◌, ◌⊎◌, inl, inr, List, [], ◌∷◌, ◌++◌, length, get_or, Option, Some, None, option_to_list, refl, ap, sym, subst, ◌∙◌, arith, slice_get, append_assoc}
 use Rattle.qc_msg.specs.declared.message.Envelope.{Envelope}
 use Rattle.qc_msg.specs.declared.step.Step.{Step}
 use Rattle.qc_msg.specs.declared.step.Step.TheVariants as steps
@@ -42,7 +42,7 @@ kind_of place a (steps.Rose records) = inl (record { sent = refl; stands = refl 
 kind_of place a (steps.Damaged offset) = inl (record { sent = refl; stands = refl })
 
 -- there are as many places as messages
-mail-cons : (e : Entry) (h : List Entry) → mail (e ∷ h) ≡ option_to_list (envelope_of e) ++ mail h
+pub mail-cons : (e : Entry) (h : List Entry) → mail (e ∷ h) ≡ option_to_list (envelope_of e) ++ mail h
 mail-cons e h = by (envelope_of e) refl
   where
     by : (o : Option Envelope) → envelope_of e ≡ o → mail (e ∷ h) ≡ option_to_list (envelope_of e) ++ mail h

@@ -2,7 +2,6 @@ use Rattle.std.proofs.Common.{◌≡◌, ℕ, ◌<◌, List, length, get_or, sym
 use Rattle.qc_msg.specs.Deeds.{mail}
 use Rattle.qc_msg.specs.Steps.{Entry}
 use Rattle.qc_engine.proofs.Placed.{entry_is, entry_there, length-places}
-use Rattle.qc_engine.specs.Places.{places_of}
 use Rattle.qc_engine.proofs.places.entry_of.Goals as goal
 
 pub bounds-places-number : goal.bounds-places-number

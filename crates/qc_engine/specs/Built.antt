@@ -1,0 +1,41 @@
+-- The scripts that the loop runs to their ends: of control lines they have cuts and heals alone, of actors, and they ask
+-- clients alone, and no epoch. Disks, crashes and the administrator come later.
+use Rattle.std.specs.Prelude.{ℕ, nat_lt, Bool, true, false, ◌&&◌}
+use Rattle.std.specs.List.{list_all}
+use Rattle.qc_decl.specs.Actors.{is_client}
+use Rattle.qc_decl.specs.declared.declaration.Declaration.{Declaration}
+use Rattle.qc_msg.specs.declared.step.Command.{Command}
+use Rattle.qc_msg.specs.declared.step.Command.TheVariants as commands
+use Rattle.qc_msg.specs.declared.step.Control.{Control}
+use Rattle.qc_msg.specs.declared.step.Control.TheVariants as controls
+use Rattle.qc_script.specs.declared.script.CommandLine.{CommandLine}
+use Rattle.qc_script.specs.declared.script.PhaseLines.{PhaseLines}
+use Rattle.qc_script.specs.declared.script.Script.{Script}
+
+-- actors are numbered below 34
+abbrev pub is_actor : ℕ → Bool
+is_actor a = nat_lt a 34
+
+abbrev pub is_built_control : Control → Bool
+is_built_control (controls.Phase number) = false
+is_built_control (controls.Cut a b) = is_actor a && is_actor b
+is_built_control (controls.Heal a b) = is_actor a && is_actor b
+is_built_control (controls.Armed actor kind at) = false
+is_built_control (controls.Crash actor) = false
+is_built_control (controls.Restart actor) = false
+
+abbrev pub is_built_command : Command → Bool
+is_built_command commands.Begin = true
+is_built_command (commands.Do object inv) = true
+is_built_command commands.Commit = true
+is_built_command commands.Abort = true
+is_built_command (commands.Epoch number) = false
+
+abbrev pub is_built_line : Declaration → CommandLine → Bool
+is_built_line decl line = is_client decl line.actor && is_built_command line.command
+
+abbrev pub is_built_phase : Declaration → PhaseLines → Bool
+is_built_phase decl phase = list_all is_built_control phase.controls && list_all (is_built_line decl) phase.commands
+
+abbrev pub is_built : Declaration → Script → Bool
+is_built decl script = list_all (is_built_phase decl) script.phases

@@ -1,0 +1,73 @@
+//! Which scripts the loop runs.
+
+ghost use Rattle.std.specs.Prelude.{◌≡◌};
+ghost use Rattle.std.specs.List.{list_all};
+ghost use Rattle.qc_engine.specs.Built.{is_built, is_built_command, is_built_control, is_built_line, is_built_phase};
+
+use qc_decl::Declaration;
+use qc_msg::{Command, Control};
+use qc_script::{CommandLine, PhaseLines, Script};
+
+/// The number below which actors are numbered.
+const MOST_ACTORS: u8 = 34;
+
+/// Whether the loop runs this script: of control lines it has cuts and heals
+/// alone, and it asks clients alone, and no epoch.
+pub fn is_built(decl: &Declaration, script: &Script) -> bool
+    ensures { result ≡ is_built decl.now script.now }
+{
+    let phases = script.phases.items();
+    phases.iter().all(|phase| is_built_phase(decl, phase))
+}
+
+/// Whether it runs this phase.
+fn is_built_phase(decl: &Declaration, phase: &PhaseLines) -> bool
+    ensures { result ≡ is_built_phase decl.now phase.now }
+{
+    are_built_controls(phase.controls.items()) && are_built_lines(decl, phase.commands.items())
+}
+
+/// Whether each control line acts.
+fn are_built_controls(controls: &[Control]) -> bool
+    ensures { result ≡ list_all is_built_control controls.now }
+{
+    controls.iter().all(|control| is_built_control(*control))
+}
+
+/// Whether each command is a client's, and no epoch.
+fn are_built_lines(decl: &Declaration, lines: &[CommandLine]) -> bool
+    ensures { result ≡ list_all (is_built_line decl.now) lines.now }
+{
+    lines.iter().all(|line| is_built_line(decl, *line))
+}
+
+/// Whether a control line acts.
+fn is_built_control(control: Control) -> bool
+    ensures { result ≡ is_built_control control }
+{
+    match control {
+        Control::Cut(a, b) | Control::Heal(a, b) => a < MOST_ACTORS && b < MOST_ACTORS,
+        Control::Phase(_) | Control::Armed { .. } | Control::Crash(_) | Control::Restart(_) => {
+            false
+        }
+    }
+}
+
+/// Whether a command is a client's, and no epoch.
+fn is_built_line(decl: &Declaration, line: CommandLine) -> bool
+    ensures { result ≡ is_built_line decl.now line }
+{
+    let (actor, first) = (line.actor as u16, decl.sites as u16);
+    let is_client = first <= actor && actor < first + decl.clients as u16;
+    is_client && is_built_command(line.command)
+}
+
+/// Whether a command is none that moves an epoch.
+fn is_built_command(command: Command) -> bool
+    ensures { result ≡ is_built_command command }
+{
+    match command {
+        Command::Begin | Command::Do { .. } | Command::Commit | Command::Abort => true,
+        Command::Epoch { .. } => false,
+    }
+}
