@@ -20,7 +20,9 @@ use Rattle.qc_plan.specs.Weights.{weight}
 use Rattle.qc_promise.specs.Account.{Account, ClientRequest, Current, requests_for}
 use Rattle.qc_promise.specs.Accounting.{is_open, taken_for}
 use Rattle.qc_promise.specs.Rounds.{asked_by, round_of, standing_of, weights_of}
-use Rattle.qc_account.proofs.Requests.{Apart, OpenIn, calls_half, find_half, first_set, half_taken, length_taken, numbers_open, request_at, requests_from, set_taken, sites_in}
+use Rattle.qc_account.specs.Calls.{AreApart}
+use Rattle.qc_account.specs.Told.{IsOpenIn}
+use Rattle.qc_account.proofs.Requests.{calls_half, find_half, first_set, half_taken, length_taken, numbers_open, request_at, requests_from, set_taken, sites_in}
 
 -- a round's one site more
 abbrev asking_one : RoundState → ℕ → RoundState
@@ -75,8 +77,8 @@ module _ (decl : Declaration) (d : Account) (t : Current) (half : Want → Bool)
 
   -- what is taken for one of them
 
-  pub round_taken : (number : ℕ) (answer : Option Answer) (q : ClientRequest) (qs : List ClientRequest) → Every (OpenIn half) qs
-      → Apart (sites_in (filter (λ (x : ClientRequest). half x.want) qs)) → Apart (numbers_open qs) → find (is_open number) qs ≡ Some q
+  pub round_taken : (number : ℕ) (answer : Option Answer) (q : ClientRequest) (qs : List ClientRequest) → Every (IsOpenIn half) qs
+      → AreApart (sites_in (filter (λ (x : ClientRequest). half x.want) qs)) → AreApart (numbers_open qs) → find (is_open number) qs ≡ Some q
       → note (round_at qs) q.site (standing_of answer) ≡ round_at (taken_for number answer qs)
   round_taken number answer q qs open_in sites numbers is =
       (λ i. record (round_at qs) { asked = asked_are i; rest = drop (same_length i) sites_all })
@@ -88,7 +90,7 @@ module _ (decl : Declaration) (d : Account) (t : Current) (half : Want → Bool)
       asked_are =
           note_first q.site (standing_of answer) (map asked_by (filter (λ (x : ClientRequest). half x.want) qs))
           ∙ set_taken (λ (a : Asked). a.site) asked_by (λ x. refl) number answer q (filter (λ (x : ClientRequest). half x.want) qs) sites
-          (subst Apart (sym (ap (map (λ c. c.number)) (calls_half half qs open_in))) numbers) (find_half half number qs open_in ∙ is)
+          (subst AreApart (sym (ap (map (λ c. c.number)) (calls_half half qs open_in))) numbers) (find_half half number qs open_in ∙ is)
           ∙ ap (map asked_by) (sym (half_taken half number answer qs))
 
       same_length : length (map asked_by (filter (λ (x : ClientRequest). half x.want) qs)) ≡ length (map asked_by (filter (λ (x : ClientRequest). half x.want) (taken_for number answer qs)))

@@ -1,3 +1,4 @@
 pub mod Requests
 pub mod Halves
 pub mod Asks
+pub mod Views

@@ -12,12 +12,8 @@ use Rattle.qc_msg.specs.Calls.{calls_from, site_called, without_call}
 use Rattle.qc_msg.specs.Begun.{life_of}
 use Rattle.qc_promise.specs.Account.{ClientRequest, Current}
 use Rattle.qc_promise.specs.Accounting.{is_open, taken_for}
-use Rattle.qc_account.specs.Calls.{call_of, calls_in}
-
--- no two numbers are the same
-abbrev pub Apart : List ℕ → Type 0
-Apart [] = Unit {0}
-Apart (x ∷ xs) = ((y : ℕ) → In y xs → x ≢ y) × Apart xs
+use Rattle.qc_account.specs.Calls.{AreApart, call_of, calls_in}
+use Rattle.qc_account.specs.Told.{IsOpenIn}
 
 abbrev pub sites_in : List ClientRequest → List ℕ
 sites_in qs = map (λ (q : ClientRequest). q.site) qs
@@ -131,10 +127,7 @@ found number (p ∷ qs) q e = by (is_open number p) refl e (found number qs q)
 
 -- where each open request is of a half, that half has all of them
 
-abbrev pub OpenIn : (Want → Bool) → ClientRequest → Type 0
-OpenIn half q = is_none q.taken ≡ true → half q.want ≡ true
-
-pub find_half : (half : Want → Bool) (number : ℕ) (qs : List ClientRequest) → Every (OpenIn half) qs → find (is_open number) (filter (λ (q : ClientRequest). half q.want) qs) ≡ find (is_open number) qs
+pub find_half : (half : Want → Bool) (number : ℕ) (qs : List ClientRequest) → Every (IsOpenIn half) qs → find (is_open number) (filter (λ (q : ClientRequest). half q.want) qs) ≡ find (is_open number) qs
 find_half half number [] all = refl
 find_half half number (q ∷ qs) all = by (half q.want) refl (is_none q.taken) refl (find_half half number qs all.1)
   where
@@ -144,7 +137,7 @@ find_half half number (q ∷ qs) all = by (half q.want) refl (is_none q.taken) r
     by false is true is_n e = absurd (let no : half q.want ≡ true = all.0 is_n in let never : ⊥ = cc in never)
     by false is false is_n e = rw is (e ∙ sym (ap (λ (b : Bool). cond ((q.number == number) && b) (Some q) (find (is_open number) qs)) is_n ∙ ap (λ (b : Bool). cond b (Some q) (find (is_open number) qs)) (and_false (q.number == number))))
 
-pub calls_half : (half : Want → Bool) (qs : List ClientRequest) → Every (OpenIn half) qs → calls_in (filter (λ (q : ClientRequest). half q.want) qs) ≡ calls_in qs
+pub calls_half : (half : Want → Bool) (qs : List ClientRequest) → Every (IsOpenIn half) qs → calls_in (filter (λ (q : ClientRequest). half q.want) qs) ≡ calls_in qs
 calls_half half [] all = refl
 calls_half half (q ∷ qs) all = by (half q.want) refl (is_none q.taken) refl (calls_half half qs all.1)
   where
@@ -173,10 +166,10 @@ none_taken number answer (q ∷ qs) others = by (q.number == number) refl (is_no
     by true same false is more = rw (same, is) (ap (λ (v : List ClientRequest). q ∷ v) (more (rest false is)))
     by false same n is more = rw same (ap (λ (v : List ClientRequest). q ∷ v) (more (rest n is)))
 
-open_rest : (q : ClientRequest) (qs : List ClientRequest) → Apart (numbers_open (q ∷ qs)) → Apart (numbers_open qs)
+open_rest : (q : ClientRequest) (qs : List ClientRequest) → AreApart (numbers_open (q ∷ qs)) → AreApart (numbers_open qs)
 open_rest q qs apart = by (is_none q.taken) apart
   where
-    by : (n : Bool) → Apart (map (λ (c : Call). c.number) (map call_of (cond n (q ∷ filter (λ (x : ClientRequest). is_none x.taken) qs) (filter (λ (x : ClientRequest). is_none x.taken) qs)))) → Apart (numbers_open qs)
+    by : (n : Bool) → AreApart (map (λ (c : Call). c.number) (map call_of (cond n (q ∷ filter (λ (x : ClientRequest). is_none x.taken) qs) (filter (λ (x : ClientRequest). is_none x.taken) qs)))) → AreApart (numbers_open qs)
     by true a = a.1
     by false a = a
 
@@ -186,7 +179,7 @@ site_in q (p ∷ qs) (inl same) = inl (ap (λ (x : ClientRequest). x.site) same)
 site_in q (p ∷ qs) (inr later) = inr (site_in q qs later)
 
 pub set_taken : {A : Type 0} (key : A → ℕ) (make : ClientRequest → A) → ((q : ClientRequest) → key (make q) ≡ q.site) → (number : ℕ) (answer : Option Answer) (q : ClientRequest) (qs : List ClientRequest)
-    → Apart (sites_in qs) → Apart (numbers_open qs) → find (is_open number) qs ≡ Some q
+    → AreApart (sites_in qs) → AreApart (numbers_open qs) → find (is_open number) qs ≡ Some q
     → first_set key q.site (make (record q { taken = Some answer })) (map make qs) ≡ map make (taken_for number answer qs)
 set_taken key make keys number answer q [] sites numbers e = absurd (let never : ⊥ = cc in never)
 set_taken {A} key make keys number answer q (p ∷ qs) sites numbers e = by (is_open number p) refl e (set_taken key make keys number answer q qs)
@@ -204,12 +197,12 @@ set_taken {A} key make keys number answer q (p ∷ qs) sites numbers e = by (is_
         apart_first : is_none p.taken ≡ true → (y : ℕ) → In y (numbers_open qs) → p.number ≢ y
         apart_first open_still = at (is_none p.taken) open_still numbers
           where
-            at : (n : Bool) → n ≡ true → Apart (map (λ (c : Call). c.number) (map call_of (cond n (p ∷ filter (λ (x : ClientRequest). is_none x.taken) qs) (filter (λ (x : ClientRequest). is_none x.taken) qs)))) → (y : ℕ) → In y (numbers_open qs) → p.number ≢ y
+            at : (n : Bool) → n ≡ true → AreApart (map (λ (c : Call). c.number) (map call_of (cond n (p ∷ filter (λ (x : ClientRequest). is_none x.taken) qs) (filter (λ (x : ClientRequest). is_none x.taken) qs)))) → (y : ℕ) → In y (numbers_open qs) → p.number ≢ y
             at true seen a = a.0
             at false seen a = absurd (let never : ⊥ = cc in never)
 
     by : (o : Bool) → is_open number p ≡ o → cond o (Some p) (find (is_open number) qs) ≡ Some q
-        → (Apart (sites_in qs) → Apart (numbers_open qs) → find (is_open number) qs ≡ Some q → first_set key q.site (make (took q answer)) (map make qs) ≡ map make (taken_for number answer qs))
+        → (AreApart (sites_in qs) → AreApart (numbers_open qs) → find (is_open number) qs ≡ Some q → first_set key q.site (make (took q answer)) (map make qs) ≡ map make (taken_for number answer qs))
         → first_set key q.site (make (took q answer)) (map make (p ∷ qs)) ≡ map make (taken_for number answer (p ∷ qs))
     by true is e more = here (let same : p ≡ q = cc in same) is
     by false is e more =
