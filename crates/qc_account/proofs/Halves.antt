@@ -53,6 +53,10 @@ module _ (decl : Declaration) (d : Account) (t : Current) (half : Want → Bool)
   abbrev sites_all : List ℕ
   sites_all = (start (weights_of decl t.epoch) (first_site decl d.client) need).rest
 
+  -- the same round, by its half's requests alone
+  abbrev pub round_from : List ClientRequest → RoundState
+  round_from hs = record (start (weights_of decl t.epoch) (first_site decl d.client) need) { asked = map asked_by hs; rest = drop (length (map asked_by hs)) sites_all }
+
   -- one request more
 
   half_one : (qs : List ClientRequest) (q : ClientRequest) → half q.want ≡ true → half_of (qs ++ q ∷ []) ≡ half_of qs ++ q ∷ []

@@ -1,3 +1,5 @@
 pub mod Calls
 pub mod Told
+pub mod Ties
 pub mod DeedsDue
+pub mod Goes
