@@ -152,7 +152,7 @@ module _ (decl : Declaration) (number : ℕ) (d : Account) (desk : Desk) (t : Cu
       ∙ ap (λ (o : Option ℕ). answer_row decl (run d t object inv qs) t object o) chosen
 
   -- the tie while it appends
-  appends_tie : (asked_now : List ℕ) (qs : List ClientRequest) → verdict (read_round qs) ≡ verdicts.Met → Every (IsOpenIn is_append) qs
+  pub appends_tie : (asked_now : List ℕ) (qs : List ClientRequest) → verdict (read_round qs) ≡ verdicts.Met → Every (IsOpenIn is_append) qs
       → Ties decl (run d t object inv qs) (client_at d desk (Some (transaction_of t asked_now views)) (Appending object inv event (calls_in qs) (round qs)))
   appends_tie asked_now qs met open_in = appends (record {
     object = object; inv = inv; event = event; t = t; x = transaction_of t asked_now views;

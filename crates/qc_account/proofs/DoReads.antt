@@ -103,7 +103,7 @@ module _ (decl : Declaration) (number : ℕ) (d : Account) (desk : Desk) (t : Cu
   abbrev want : Want
   want = Read object inv
 
-  reads_tie : (asked_now : List ℕ) (qs : List ClientRequest) → Every (IsRead object inv) qs
+  pub reads_tie : (asked_now : List ℕ) (qs : List ClientRequest) → Every (IsRead object inv) qs
       → Ties decl (run d t object inv qs) (client_at d desk (Some (transaction_of t asked_now views)) (Reading object inv (calls_in qs) (round qs)))
   reads_tie asked_now qs all = reads (record {
     object = object; inv = inv; t = t; x = transaction_of t asked_now views;

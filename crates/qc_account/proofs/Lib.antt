@@ -5,3 +5,4 @@ pub mod Views
 pub mod Turns
 pub mod DoAppends
 pub mod DoReads
+pub mod Hears
