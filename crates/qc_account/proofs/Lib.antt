@@ -6,3 +6,5 @@ pub mod Turns
 pub mod DoAppends
 pub mod DoReads
 pub mod Hears
+pub mod Commits
+pub mod VotesIn
