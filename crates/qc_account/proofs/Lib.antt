@@ -8,3 +8,4 @@ pub mod DoReads
 pub mod Hears
 pub mod Commits
 pub mod VotesIn
+pub mod Ends
