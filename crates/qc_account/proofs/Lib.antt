@@ -9,3 +9,5 @@ pub mod Hears
 pub mod Commits
 pub mod VotesIn
 pub mod Ends
+pub mod Fits
+pub mod Step
