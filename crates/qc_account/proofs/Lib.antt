@@ -11,3 +11,5 @@ pub mod VotesIn
 pub mod Ends
 pub mod Fits
 pub mod Step
+pub mod Commands
+pub mod Courses

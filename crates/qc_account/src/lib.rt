@@ -1,2 +1,15 @@
-//! Each reply and each commit record of a client is due, in every run.
+//! The account of a client's deeds is the client, and so all that a client
+//! records, asks and tells is due: laws alone, there is no code here.
+//!
+//! 1. Where a client has no open input, the account of its deeds tells it
+//!    (`accounts_are_their_clients`).
+//! 2. One input keeps that, and all that its turn records, asks and tells is due
+//!    (`inputs_are_answered_as_is_due`).
+//! 3. So all deeds of a client are due (`deeds_of_clients_are_due`).
 #![tactic(auto)]
+
+mod clients;
+
+pub use clients::{
+    accounts_are_their_clients, deeds_of_clients_are_due, inputs_are_answered_as_is_due,
+};
