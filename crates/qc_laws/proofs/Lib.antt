@@ -1,0 +1,9 @@
+pub mod Places
+pub mod Numbered
+pub mod Arrivals
+pub mod Running
+pub mod Acted
+pub mod OwnFronts
+pub mod Stamped
+pub mod Mailed
+pub mod Served
