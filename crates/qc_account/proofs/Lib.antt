@@ -13,3 +13,6 @@ pub mod Fits
 pub mod Step
 pub mod Commands
 pub mod Courses
+pub mod Mute
+pub mod Lifts
+pub mod Whole

@@ -6,10 +6,14 @@
 //! 2. One input keeps that, and all that its turn records, asks and tells is due
 //!    (`inputs_are_answered_as_is_due`).
 //! 3. So all deeds of a client are due (`deeds_of_clients_are_due`).
+//! 4. In every run each reply and each commit record is due (`replies_are_due`),
+//!    and all else that is promised to be (`runs_are_due`).
 #![tactic(auto)]
 
 mod clients;
+mod runs;
 
 pub use clients::{
     accounts_are_their_clients, deeds_of_clients_are_due, inputs_are_answered_as_is_due,
 };
+pub use runs::{replies_are_due, runs_are_due};
