@@ -67,7 +67,7 @@ voting_desk d epoch commits voting = record { client = d.client; clock = record 
 
 -- lists of requests for promises
 
-all_prepare : (t : Current) (qs : List ClientRequest) → Every (IsPrepare t) qs → filter (λ (q : ClientRequest). is_prepare q.want) qs ≡ qs
+pub all_prepare : (t : Current) (qs : List ClientRequest) → Every (IsPrepare t) qs → filter (λ (q : ClientRequest). is_prepare q.want) qs ≡ qs
 all_prepare t [] all = refl
 all_prepare t (q ∷ qs) all =
     ap (λ (b : Bool). cond b (q ∷ filter (λ (p : ClientRequest). is_prepare p.want) qs) (filter (λ (p : ClientRequest). is_prepare p.want) qs)) (ap is_prepare all.0.want)
@@ -205,12 +205,13 @@ module _ (decl : Declaration) (number : ℕ) (d : Account) (t : Current) (asked 
           ∙ ap (λ (hs : List ClientRequest). list_all (λ (q : ClientRequest). is_some q.taken) hs) (all_prepare t qs all) ∙ taken
 
   pub votes_tie : (qs : List ClientRequest) → Every (IsPrepare t) qs → sites_in qs ≡ participants decl d t → AreApart (map (λ (q : ClientRequest). q.number) qs)
+      → list_all (λ (q : ClientRequest). is_some q.taken) qs ≡ false
       → Ties decl (commit_at d t qs) (record { front = front; desk = desk (Some (record { begun = b; calls = calls_in qs; ballots = map (ballot_of b) qs })) })
-  votes_tie qs all sites numbers = votes (record {
+  votes_tie qs all sites numbers waits = votes (record {
     t = t; x = x;
     command = refl; current = refl; written = refl; live = live;
     begun = record { is = refl; logs = logs };
-    prepares = all; sites = sites; numbers = numbers;
+    prepares = all; sites = sites; numbers = numbers; waits = waits;
     front = refl; low = low; known = known; desk = refl;
   })
 
@@ -232,7 +233,7 @@ module _ (decl : Declaration) (number : ℕ) (d : Account) (t : Current) (asked 
       by false open_still =
           subst (λ (z : Bool). Goes decl number (commit_at d t qs) (by_desk (record { front = front; desk = f }) (cond z (desks.counted_out (desk voting) b (ballots.first_against (map (ballot_of b) qs)))
           (desk_moved (desks.with_voting (desk voting) (Some (record { begun = b; calls = calls_in qs; ballots = map (ballot_of b) qs }))) quiet)))) (sym (cast_are b qs ∙ open_still))
-          (record { due = tt; ties = votes_tie qs all sites numbers })
+          (record { due = tt; ties = votes_tie qs all sites numbers open_still })
 
   -- the participants are asked
 
@@ -252,9 +253,13 @@ module _ (decl : Declaration) (number : ℕ) (d : Account) (t : Current) (asked 
           ap (λ (v : List ClientRequest). length v) (filter-append (λ (q : ClientRequest). is_prepare q.want) qs (request_at n t Prepare site ∷ []))
           ∙ (let more : length (filter (λ (q : ClientRequest). is_prepare q.want) qs ++ request_at n t Prepare site ∷ []) ≡ length (filter (λ (q : ClientRequest). is_prepare q.want) qs) + 1 = length-append (filter (λ (q : ClientRequest). is_prepare q.want) qs) (request_at n t Prepare site ∷ []) in omega arith)
 
-  pub votes_start : (f : Desk) → Goes decl number (commit_at d t [])
+  some_open : (n : ℕ) (ss : List ℕ) → (length ss == 0) ≡ false → list_all (λ (q : ClientRequest). is_some q.taken) (requests_from n t Prepare ss) ≡ false
+  some_open n [] some = absurd (let never : ⊥ = cc in never)
+  some_open n (s ∷ ss) some = refl
+
+  pub votes_start : (f : Desk) → (length (participants decl d t) == 0) ≡ false → Goes decl number (commit_at d t [])
       (by_desk (record { front = front; desk = f }) (desk_moved (desk (Some (record { begun = b; calls = []; ballots = blank (participants decl d t) }))) (sending (map (ballots.prepares b) (participants decl d t)))))
-  votes_start f = record { due = a.due; ties = a.ties }
+  votes_start f some = record { due = a.due; ties = a.ties }
     where
       new : List ClientRequest
       new = requests_from number t Prepare (participants decl d t)
@@ -264,7 +269,7 @@ module _ (decl : Declaration) (number : ℕ) (d : Account) (t : Current) (asked 
       tie = subst (λ (c : Client). Ties decl (commit_at d t (requests_from number t Prepare (participants decl d t))) c)
           (λ i. record { front = front; desk = desk (Some (record { begun = b; calls = calls_new number t Prepare (participants decl d t) i; ballots = sym (new_ballots b number t (participants decl d t)) i })) })
           (votes_tie (requests_from number t Prepare (participants decl d t)) (every_new (IsPrepare t) t Prepare (λ n s. record { want = refl; life = refl }) number (participants decl d t))
-          (new_sites number t Prepare (participants decl d t)) (new_numbers number t Prepare (participants decl d t)))
+          (new_sites number t Prepare (participants decl d t)) (new_numbers number t Prepare (participants decl d t)) (some_open number (participants decl d t) some))
 
       a : Asking decl number (record d { command = Some commands.Commit; written = None }) t Prepare P step
           (λ (cs : List Call). record { front = front; desk = desk (Some (record { begun = b; calls = cs; ballots = blank (participants decl d t) })) })

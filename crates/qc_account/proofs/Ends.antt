@@ -139,7 +139,7 @@ module _ (decl : Declaration) (number : ℕ) (d : Account) (desk : Desk) (k : Is
             (ap (λ (z : Bool). cond z (Some (replies.Aborted causes.Doomed)) (cond ((length (participants decl d t) == 0) && true) (vote_row (called_at d (Some t) commands.Commit) [] None) None)) live
             ∙ ap (λ (z : Bool). cond (z && true) (vote_row (called_at d (Some t) commands.Commit) [] None) None) none)
         ready live false some =
-            votes_start decl number d t asked views d.clock d.known desk.epoch desk.commits live logs (let same : d.clock ≡ d.clock = refl in omega arith) (let low : desk.epoch ≤ d.known = k.epoch in omega arith) desk
+            votes_start decl number d t asked views d.clock d.known desk.epoch desk.commits live logs (let same : d.clock ≡ d.clock = refl in omega arith) (let low : desk.epoch ≤ d.known = k.epoch in omega arith) desk some
 
         highest : d.clock ≡ max desk.clock.value d.clock
         highest = (let low : desk.clock.value ≤ d.clock = k.clock in omega arith)

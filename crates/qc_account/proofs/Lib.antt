@@ -16,3 +16,4 @@ pub mod Courses
 pub mod Mute
 pub mod Lifts
 pub mod Whole
+pub mod Awaits

@@ -173,7 +173,7 @@ module _ (decl : Declaration) (number : ℕ) (d : Account) (c : Client) (h : Hol
       (voting_goes decl number d r.t r.x.begun.asked r.x.views c.front.clock.value c.front.epoch c.desk.epoch c.desk.commits r.live r.begun.logs r.low r.known
       d.requests r.prepares r.sites
       (subst AreApart (sym r.sites) (apart_filter (has_granted r.t.lives) (cyclic decl.sites (first_site decl d.client)) (apart_cyclic decl.sites (first_site decl d.client))))
-      r.numbers n answer))
+      r.numbers r.waits n answer))
     where
       shown_at : Transaction → Client
       shown_at x = record {

@@ -1,7 +1,7 @@
 -- What is taken while a commit waits for votes: the first thing for an open Prepare is its vote, all else changes nothing.
-use Rattle.std.proofs.Common.{◌≡◌, ◌≢◌, ◌≤◌, ℕ, ◌+◌, ◌==◌, ◌&&◌, Bool, true, false, cond, List, [], ◌∷◌, ◌++◌, map, filter, max, Option, Some, None, option_map, inl, inr, refl, sym, ap, ◌∙◌, subst, arith}
+use Rattle.std.proofs.Common.{◌≡◌, ◌≢◌, ◌≤◌, ℕ, ◌+◌, ◌==◌, ◌&&◌, Bool, true, false, cond, List, [], ◌∷◌, ◌++◌, map, filter, max, Option, Some, None, option_map, is_some, inl, inr, refl, sym, ap, ◌∙◌, subst, arith}
 use Rattle.std.specs.Prelude.{is_none}
-use Rattle.std.specs.List.{find, AllByRecursion as Every}
+use Rattle.std.specs.List.{find, list_all, AllByRecursion as Every}
 use Rattle.qc_list.specs.Members.{In}
 use Rattle.qc_list.proofs.Members.{every-In}
 use Rattle.qc_entry.specs.declared.line.Line.{Line}
@@ -72,7 +72,7 @@ open_apart (q ∷ qs) apart = by (is_none q.taken) (open_apart qs apart.1)
 
 module _ (decl : Declaration) (number : ℕ) (d : Account) (t : Current) (asked : List ℕ) (views : List View) (clock epoch desk_epoch : ℕ) (commits : List Commit)
     (live : t.doomed ≡ false) (logs : LogsAre (view_of t) views) (low : clock ≤ d.clock) (known : max epoch desk_epoch ≡ d.known)
-    (qs : List ClientRequest) (all : Every (IsPrepare t) qs) (sites : sites_in qs ≡ participants decl d t) (apart : AreApart (sites_in qs)) (numbers : AreApart (map (λ (q : ClientRequest). q.number) qs)) where
+    (qs : List ClientRequest) (all : Every (IsPrepare t) qs) (sites : sites_in qs ≡ participants decl d t) (apart : AreApart (sites_in qs)) (numbers : AreApart (map (λ (q : ClientRequest). q.number) qs)) (waits : list_all (λ (q : ClientRequest). is_some q.taken) qs ≡ false) where
   abbrev b : Begun
   b = begun_of t asked
 
@@ -141,5 +141,5 @@ module _ (decl : Declaration) (number : ℕ) (d : Account) (t : Current) (asked 
     where
       by : (o : Option ClientRequest) → find (is_open n) qs ≡ o
           → Goes decl number (counted_for (commit_at d t qs) n answer o) (by_desk here (desks.votes_at desk waiting n answer (option_map (λ (q : ClientRequest). q.site) o)))
-      by None is = still_goes decl number (commit_at d t qs) here (votes_tie decl number d t asked views clock epoch desk_epoch commits live logs low known qs all sites numbers)
+      by None is = still_goes decl number (commit_at d t qs) here (votes_tie decl number d t asked views clock epoch desk_epoch commits live logs low known qs all sites numbers waits)
       by (Some q) is = counts_go n q is (every-In (IsPrepare t) q qs all (found n qs q is).among).want answer

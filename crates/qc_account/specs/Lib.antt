@@ -4,3 +4,4 @@ pub mod Ties
 pub mod DeedsDue
 pub mod Said
 pub mod Goes
+pub mod Waits

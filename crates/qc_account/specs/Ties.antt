@@ -1,6 +1,6 @@
 -- What ties the account of a client's deeds to the client, where it has no open input: the one tells the other.
-use Rattle.std.specs.Prelude.{◌≡◌, ◌≤◌, ℕ, max, nat_le, Bool, true, false, List, [], length, map, slice_get, is_none, Option, Some, None}
-use Rattle.std.specs.List.{AllByRecursion as Every}
+use Rattle.std.specs.Prelude.{◌≡◌, ◌≤◌, ℕ, max, nat_le, Bool, true, false, List, [], length, map, is_some, Option, Some, None}
+use Rattle.std.specs.List.{AllByRecursion as Every, list_all}
 use Rattle.qc_plan.specs.declared.standing.Verdict.TheVariants.{Met}
 use Rattle.qc_plan.specs.Round.{verdict}
 use Rattle.qc_decl.specs.declared.declaration.Declaration.{Declaration}
@@ -97,6 +97,8 @@ pub record Votes (decl : Declaration) (d : Account) (c : Client) : Type 0 where
   pub prepares : Every (IsPrepare t) d.requests
   pub sites : map (λ (q : ClientRequest). q.site) d.requests ≡ participants decl d t
   pub numbers : AreApart (map (λ (q : ClientRequest). q.number) d.requests)
+  -- and one of them is open
+  pub waits : list_all (λ (q : ClientRequest). is_some q.taken) d.requests ≡ false
   pub front : c.front
       ≡ record (front_of d (Some x) Idle) { clock = c.front.clock; epoch = c.front.epoch }
   pub low : c.front.clock.value ≤ d.clock

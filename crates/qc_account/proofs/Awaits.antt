@@ -1,0 +1,175 @@
+-- Between two inputs a running command waits for an open request, and nothing is due.
+use Rattle.std.proofs.Common.{◌≡◌, ◌⊎◌, ◌≤◌, ◌<◌, ℕ, ◌+◌, ◌-◌, ◌==◌, ◌&&◌, nat_le, Bool, true, false, cond, List, [], ◌∷◌, length, map, filter, inl, inr, Option, Some, None, option_map, is_some, unwrap_or, refl, sym, ap, ◌∙◌, subst, arith}
+use Rattle.std.specs.Prelude.{is_none, option_and_then}
+use Rattle.std.specs.List.{list_all, AllByRecursion as Every}
+use Rattle.std.specs.Option.{option_or}
+use Rattle.std.proofs.lemmas.Bool.{le-leb}
+use Rattle.qc_list.specs.Members.{In}
+use Rattle.qc_list.proofs.Members.{every-filter}
+use Rattle.qc_core.specs.Acts.{Acts}
+use Rattle.qc_decl.specs.declared.declaration.Declaration.{Declaration}
+use Rattle.qc_decl.specs.Actors.{is_client}
+use Rattle.qc_decl.specs.Limits.{most_transaction_operations}
+use Rattle.qc_decl.specs.Lookup.{append_need_of, read_need_of}
+use Rattle.qc_front.specs.declared.doing.Doing.{Doing}
+use Rattle.qc_front.specs.declared.doing.Doing.TheVariants.{Reading, Appending}
+use Rattle.qc_front.specs.declared.front.Front.{Front}
+use Rattle.qc_front.specs.declared.transaction.Transaction.{Transaction}
+use Rattle.qc_front.specs.Going as going
+use Rattle.qc_front.specs.Holds.{AppendingHolds, FrontHolds, ReadingHolds, RecordsHold}
+use Rattle.qc_front.proofs.Goes.{waits}
+use Rattle.qc_client.specs.declared.client.Client.{Client}
+use Rattle.qc_msg.specs.declared.call.Call.{Call}
+use Rattle.qc_msg.specs.declared.message.Answer.{Answer}
+use Rattle.qc_msg.specs.declared.message.Answer.TheVariants as answers
+use Rattle.qc_msg.specs.declared.message.Want.{Want}
+use Rattle.qc_msg.specs.declared.reply.Reply.{Reply}
+use Rattle.qc_msg.specs.declared.reply.Reply.TheVariants as replies
+use Rattle.qc_msg.specs.declared.reply.Why.TheVariants as causes
+use Rattle.qc_msg.specs.declared.step.Command.{Command}
+use Rattle.qc_msg.specs.declared.step.Command.TheVariants as commands
+use Rattle.qc_msg.specs.Deeds.{Deed}
+use Rattle.qc_plan.specs.declared.standing.Asked.{Asked}
+use Rattle.qc_plan.specs.declared.standing.Verdict.{Verdict}
+use Rattle.qc_plan.specs.declared.standing.Verdict.TheVariants as verdicts
+use Rattle.qc_plan.specs.Round.{RoundState, all_noted, has_granted, refusal, settled, verdict, first_clash, first_closed}
+use Rattle.qc_plan.specs.Weights.{weight}
+use Rattle.qc_promise.specs.Account.{Account, ClientRequest, Current, is_append, is_prepare, is_read}
+use Rattle.qc_promise.specs.Rounds.{answer_of, are_votes_in, asked_by, first_against, participants, resp_of, round_of, weights_of}
+use Rattle.qc_promise.specs.Rows.{answer_row, append_row, due, read_row, row_of, vote_row}
+use Rattle.qc_account.specs.Calls.{call_of, calls_in}
+use Rattle.qc_account.specs.Goes.{Holds}
+use Rattle.qc_account.specs.Told.{front_of}
+use Rattle.qc_account.specs.Ties.{Appends, IsDo, IsNone, Reads, Rests, Ties, Votes, appends, reads, rests, votes}
+use Rattle.qc_account.specs.Waits.{IsEnough, IsGranted, IsWaiting}
+use Rattle.qc_account.proofs.Commits.{all_prepare}
+use Rattle.qc_account.proofs.Courses.{account_of, clients_hold, clients_tied, move_of}
+
+-- an open request
+
+called_open : (d : Account) (qs : List ClientRequest) → ((q : ClientRequest) → In q qs → In q d.requests) → 0 < length (calls_in qs) → IsWaiting d
+called_open d [] within some = absurd (omega arith)
+called_open d (q ∷ qs) within some = by q.taken refl some (called_open d qs (λ r among. within r (inr among)))
+  where
+    by : (o : Option (Option Answer)) → q.taken ≡ o
+        → 0 < length (map call_of (cond (is_none o) (q ∷ filter (λ (p : ClientRequest). is_none p.taken) qs) (filter (λ (p : ClientRequest). is_none p.taken) qs)))
+        → (0 < length (calls_in qs) → IsWaiting d) → IsWaiting d
+    by None is some more = record { request = q; among = within q (inl refl); open_still = is }
+    by (Some a) is some more = more some
+
+untaken_open : (d : Account) (qs : List ClientRequest) → ((q : ClientRequest) → In q qs → In q d.requests) → list_all (λ (q : ClientRequest). is_some q.taken) qs ≡ false → IsWaiting d
+untaken_open d [] within some = absurd (let never : ⊥ = cc in never)
+untaken_open d (q ∷ qs) within some = by q.taken refl some (untaken_open d qs (λ r among. within r (inr among)))
+  where
+    by : (o : Option (Option Answer)) → q.taken ≡ o → (is_some o && list_all (λ (p : ClientRequest). is_some p.taken) qs) ≡ false
+        → (list_all (λ (p : ClientRequest). is_some p.taken) qs ≡ false → IsWaiting d) → IsWaiting d
+    by None is some more = record { request = q; among = within q (inl refl); open_still = is }
+    by (Some a) is some more = more some
+
+-- the row of a `do` that nothing refuses at once
+pub do_row_is : (decl : Declaration) (d : Account) (t : Current) (object inv : ℕ) → IsDo d t object inv → due decl d [] ≡ read_row decl d t object inv (verdict (round_of decl d t is_read (read_need_of decl t.epoch object inv)))
+do_row_is decl d t object inv r =
+    ap (λ (o : Option Command). option_and_then (row_of decl d [] d.current) o) r.command
+    ∙ ap (λ (o : Option Current). row_of decl d [] o (commands.Do object inv)) r.current
+    ∙ ap (λ (b : Bool). cond b (Some replies.Doomed) (cond (nat_le most_transaction_operations (length t.ops)) (Some replies.TooLong) (read_row decl d t object inv (verdict (round_of decl d t is_read (read_need_of decl t.epoch object inv)))))) r.live
+    ∙ ap (λ (b : Bool). cond b (Some replies.TooLong) (read_row decl d t object inv (verdict (round_of decl d t is_read (read_need_of decl t.epoch object inv))))) r.room
+
+module _ (decl : Declaration) (d : Account) (c : Client) (h : Holds decl c) where
+  doing_waits : (tr : Option Transaction) (doing : Doing) → c.front ≡ front_of d tr doing → going.is_idle doing ≡ false → going.calls_in doing ≡ calls_in d.requests → IsWaiting d
+  doing_waits tr doing is busy calls =
+      called_open d d.requests (λ q among. among)
+      (subst (λ (cs : List Call). 0 < length cs) (ap (λ (f : Front). going.calls_in f.doing) is ∙ calls)
+      (waits decl c.front h.front h.numbered (ap (λ (f : Front). going.is_idle f.doing) is ∙ busy)))
+
+  pub tied_waits : Ties decl d c → IsNone d.command ⊎ IsWaiting d
+  tied_waits (rests r) = inl r.command
+  tied_waits (reads r) = inr (doing_waits (Some r.x) (Reading r.object r.inv (calls_in d.requests) (round_of decl d r.t is_read (read_need_of decl r.t.epoch r.object r.inv))) r.front refl refl)
+  tied_waits (appends r) = inr (doing_waits (Some r.x) (Appending r.object r.inv r.event (calls_in d.requests) (round_of decl d r.t is_append (append_need_of decl r.t.epoch r.object r.event))) r.front refl refl)
+  tied_waits (votes r) = inr (untaken_open d d.requests (λ q among. among) r.waits)
+
+  -- nothing is due
+
+  none_due : (o : Option Command) → IsNone o → (t : Option Current) → option_and_then (row_of decl d [] t) o ≡ None
+  none_due None is t = refl
+  none_due (Some commands.Begin) is t = absurd is
+  none_due (Some (commands.Do object inv)) is t = absurd is
+  none_due (Some commands.Commit) is t = absurd is
+  none_due (Some commands.Abort) is t = absurd is
+  none_due (Some (commands.Epoch number)) is None = refl
+  none_due (Some (commands.Epoch number)) is (Some t) = refl
+
+  waiting_verdict : (r : RoundState) → all_noted r.asked ≡ false → verdict r ≡ verdicts.Waiting
+  waiting_verdict r open_still = ap (λ (b : Bool). cond b (unwrap_or (refusal r.asked) (settled r (weight (has_granted r.asked) r.weights))) verdicts.Waiting) open_still
+
+  reads_none : Reads decl d c → due decl d [] ≡ None
+  reads_none r = do_row_is decl d r.t r.object r.inv r.runs ∙ ap (read_row decl d r.t r.object r.inv) (waiting_verdict (round_of decl d r.t is_read (read_need_of decl r.t.epoch r.object r.inv)) held.1.awaits.open_still)
+    where
+      held : RecordsHold decl r.x.views r.x.own r.x.begun.ops × ReadingHolds decl d.client r.x r.object r.inv (calls_in d.requests) (round_of decl d r.t is_read (read_need_of decl r.t.epoch r.object r.inv))
+      held = subst (FrontHolds decl) r.front h.front
+
+  appends_none : Appends decl d c → due decl d [] ≡ None
+  appends_none r =
+      do_row_is decl d r.t r.object r.inv r.runs ∙ ap (read_row decl d r.t r.object r.inv) r.met ∙ ap (answer_row decl d r.t r.object) r.chosen
+      ∙ ap (append_row decl r.object r.event) (waiting_verdict (round_of decl d r.t is_append (append_need_of decl r.t.epoch r.object r.event)) held.1.awaits.open_still)
+    where
+      held : RecordsHold decl r.x.views r.x.own r.x.begun.ops × AppendingHolds decl d.client r.x r.object r.inv r.event (calls_in d.requests) (round_of decl d r.t is_append (append_need_of decl r.t.epoch r.object r.event))
+      held = subst (FrontHolds decl) r.front h.front
+
+  votes_none : Votes decl d c → due decl d [] ≡ None
+  votes_none r =
+      ap (λ (o : Option Command). option_and_then (row_of decl d [] d.current) o) r.command
+      ∙ ap (λ (o : Option Current). row_of decl d [] o commands.Commit) r.current
+      ∙ ap (λ (b : Bool). cond b (Some (replies.Aborted causes.Doomed)) (cond (are_votes_in decl d r.t) (vote_row d [] (first_against (filter (λ (q : ClientRequest). is_prepare q.want) d.requests))) None)) r.live
+      ∙ ap (λ (b : Bool). cond b (vote_row d [] (first_against (filter (λ (q : ClientRequest). is_prepare q.want) d.requests))) None) out
+    where
+      last_false : (b : Bool) → (b && false) ≡ false
+      last_false true = refl
+      last_false false = refl
+
+      out : are_votes_in decl d r.t ≡ false
+      out =
+          ap (λ (hs : List ClientRequest). (length (participants decl d r.t) == length hs) && list_all (λ (q : ClientRequest). is_some q.taken) hs) (all_prepare r.t d.requests r.prepares)
+          ∙ ap (λ (b : Bool). (length (participants decl d r.t) == length d.requests) && b) r.waits ∙ last_false (length (participants decl d r.t) == length d.requests)
+
+  pub tied_none : Ties decl d c → due decl d [] ≡ None
+  tied_none (rests r) = none_due d.command r.command d.current
+  tied_none (reads r) = reads_none r
+  tied_none (appends r) = appends_none r
+  tied_none (votes r) = votes_none r
+
+-- a half that everybody grants, with weight enough, is met
+
+granted_noted : (hs : List ClientRequest) → Every IsGranted hs → (all_noted (map asked_by hs) ≡ true) × ((first_closed (map asked_by hs) ≡ None) × (first_clash (map asked_by hs) ≡ None))
+granted_noted [] all = (refl, (refl, refl))
+granted_noted (q ∷ hs) all =
+    let more : (all_noted (map asked_by hs) ≡ true) × ((first_closed (map asked_by hs) ≡ None) × (first_clash (map asked_by hs) ≡ None)) = granted_noted hs all.1 in
+    (rw all.0.is more.0, (rw all.0.is more.1.0, rw all.0.is more.1.1))
+
+granted_met : (decl : Declaration) (d : Account) (t : Current) (half : Want → Bool) (need : ℕ) → Every IsGranted d.requests → IsEnough decl d t half need → verdict (round_of decl d t half need) ≡ verdicts.Met
+granted_met decl d t half need all enough =
+    let hs : Every IsGranted (filter (λ (q : ClientRequest). half q.want) d.requests) = every-filter IsGranted (λ (q : ClientRequest). half q.want) d.requests all in
+    let g = granted_noted (filter (λ (q : ClientRequest). half q.want) d.requests) hs in
+    ap (λ (b : Bool). cond b (unwrap_or (refusal (round_of decl d t half need).asked) (settled (round_of decl d t half need) (weight (has_granted (round_of decl d t half need).asked) (weights_of decl t.epoch)))) verdicts.Waiting) g.0
+    ∙ (λ i. unwrap_or (option_or (g.1.0 i) (g.1.1 i)) (settled (round_of decl d t half need) (weight (has_granted (round_of decl d t half need).asked) (weights_of decl t.epoch))))
+    ∙ ap (λ (b : Bool). cond b verdicts.Met (cond (length (round_of decl d t half need).rest == 0) (verdicts.Short (weight (has_granted (round_of decl d t half need).asked) (weights_of decl t.epoch)) need) verdicts.Waiting))
+    (le-leb need (weight (has_granted (round_of decl d t half need).asked) (weights_of decl t.epoch)) enough)
+
+pub granted_absent : (decl : Declaration) (d : Account) (t : Current) (object inv : ℕ) → IsDo d t object inv → Every IsGranted d.requests → IsEnough decl d t is_read (read_need_of decl t.epoch object inv)
+    → answer_of decl t object inv ≡ None → due decl d [] ≡ Some replies.Absent
+granted_absent decl d t object inv r all enough none =
+    do_row_is decl d t object inv r ∙ ap (read_row decl d t object inv) (granted_met decl d t is_read (read_need_of decl t.epoch object inv) all enough) ∙ ap (answer_row decl d t object) none
+
+pub granted_answered : (decl : Declaration) (d : Account) (t : Current) (object inv event : ℕ) → IsDo d t object inv → Every IsGranted d.requests → IsEnough decl d t is_read (read_need_of decl t.epoch object inv)
+    → answer_of decl t object inv ≡ Some event → IsEnough decl d t is_append (append_need_of decl t.epoch object event) → due decl d [] ≡ Some (replies.Response (resp_of decl object event))
+granted_answered decl d t object inv event r all enough some appended =
+    do_row_is decl d t object inv r ∙ ap (read_row decl d t object inv) (granted_met decl d t is_read (read_need_of decl t.epoch object inv) all enough) ∙ ap (answer_row decl d t object) some
+    ∙ ap (append_row decl object event) (granted_met decl d t is_append (append_need_of decl t.epoch object event) all appended)
+
+-- over all deeds of a client
+
+module _ (decl : Declaration) (a : ℕ) (client : is_client decl a ≡ true) (ds : List Deed) (n : ℕ) (acts : Acts decl a ds false n) where
+  pub clients_wait : IsNone (account_of decl a client ds).command ⊎ IsWaiting (account_of decl a client ds)
+  clients_wait = tied_waits decl (account_of decl a client ds) (move_of decl a client ds).client (clients_hold decl a client ds n acts) (clients_tied decl a client ds n acts)
+
+  pub clients_owe_nothing : due decl (account_of decl a client ds) [] ≡ None
+  clients_owe_nothing = tied_none decl (account_of decl a client ds) (move_of decl a client ds).client (clients_hold decl a client ds n acts) (clients_tied decl a client ds n acts)
