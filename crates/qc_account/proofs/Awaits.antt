@@ -1,4 +1,4 @@
--- Between two inputs a running command waits for an open request, and nothing is due.
+-- Between two inputs a running command waits for an open request, and nothing is due; what everybody grants is answered.
 use Rattle.std.proofs.Common.{◌≡◌, ◌⊎◌, ◌≤◌, ◌<◌, ℕ, ◌+◌, ◌-◌, ◌==◌, ◌&&◌, nat_le, Bool, true, false, cond, List, [], ◌∷◌, length, map, filter, inl, inr, Option, Some, None, option_map, is_some, unwrap_or, refl, sym, ap, ◌∙◌, subst, arith}
 use Rattle.std.specs.Prelude.{is_none, option_and_then}
 use Rattle.std.specs.List.{list_all, AllByRecursion as Every}
@@ -42,7 +42,7 @@ use Rattle.qc_account.specs.Goes.{Holds}
 use Rattle.qc_account.specs.Told.{front_of}
 use Rattle.qc_account.specs.Ties.{Appends, IsDo, IsNone, Reads, Rests, Ties, Votes, appends, reads, rests, votes}
 use Rattle.qc_account.specs.Waits.{IsEnough, IsGranted, IsWaiting}
-use Rattle.qc_account.proofs.Commits.{all_prepare}
+use Rattle.qc_account.proofs.Nothing.{do_row_is, tied_none}
 use Rattle.qc_account.proofs.Courses.{account_of, clients_hold, clients_tied, move_of}
 
 -- an open request
@@ -66,14 +66,6 @@ untaken_open d (q ∷ qs) within some = by q.taken refl some (untaken_open d qs 
     by None is some more = record { request = q; among = within q (inl refl); open_still = is }
     by (Some a) is some more = more some
 
--- the row of a `do` that nothing refuses at once
-pub do_row_is : (decl : Declaration) (d : Account) (t : Current) (object inv : ℕ) → IsDo d t object inv → due decl d [] ≡ read_row decl d t object inv (verdict (round_of decl d t is_read (read_need_of decl t.epoch object inv)))
-do_row_is decl d t object inv r =
-    ap (λ (o : Option Command). option_and_then (row_of decl d [] d.current) o) r.command
-    ∙ ap (λ (o : Option Current). row_of decl d [] o (commands.Do object inv)) r.current
-    ∙ ap (λ (b : Bool). cond b (Some replies.Doomed) (cond (nat_le most_transaction_operations (length t.ops)) (Some replies.TooLong) (read_row decl d t object inv (verdict (round_of decl d t is_read (read_need_of decl t.epoch object inv)))))) r.live
-    ∙ ap (λ (b : Bool). cond b (Some replies.TooLong) (read_row decl d t object inv (verdict (round_of decl d t is_read (read_need_of decl t.epoch object inv))))) r.room
-
 module _ (decl : Declaration) (d : Account) (c : Client) (h : Holds decl c) where
   doing_waits : (tr : Option Transaction) (doing : Doing) → c.front ≡ front_of d tr doing → going.is_idle doing ≡ false → going.calls_in doing ≡ calls_in d.requests → IsWaiting d
   doing_waits tr doing is busy calls =
@@ -86,56 +78,6 @@ module _ (decl : Declaration) (d : Account) (c : Client) (h : Holds decl c) wher
   tied_waits (reads r) = inr (doing_waits (Some r.x) (Reading r.object r.inv (calls_in d.requests) (round_of decl d r.t is_read (read_need_of decl r.t.epoch r.object r.inv))) r.front refl refl)
   tied_waits (appends r) = inr (doing_waits (Some r.x) (Appending r.object r.inv r.event (calls_in d.requests) (round_of decl d r.t is_append (append_need_of decl r.t.epoch r.object r.event))) r.front refl refl)
   tied_waits (votes r) = inr (untaken_open d d.requests (λ q among. among) r.waits)
-
-  -- nothing is due
-
-  none_due : (o : Option Command) → IsNone o → (t : Option Current) → option_and_then (row_of decl d [] t) o ≡ None
-  none_due None is t = refl
-  none_due (Some commands.Begin) is t = absurd is
-  none_due (Some (commands.Do object inv)) is t = absurd is
-  none_due (Some commands.Commit) is t = absurd is
-  none_due (Some commands.Abort) is t = absurd is
-  none_due (Some (commands.Epoch number)) is None = refl
-  none_due (Some (commands.Epoch number)) is (Some t) = refl
-
-  waiting_verdict : (r : RoundState) → all_noted r.asked ≡ false → verdict r ≡ verdicts.Waiting
-  waiting_verdict r open_still = ap (λ (b : Bool). cond b (unwrap_or (refusal r.asked) (settled r (weight (has_granted r.asked) r.weights))) verdicts.Waiting) open_still
-
-  reads_none : Reads decl d c → due decl d [] ≡ None
-  reads_none r = do_row_is decl d r.t r.object r.inv r.runs ∙ ap (read_row decl d r.t r.object r.inv) (waiting_verdict (round_of decl d r.t is_read (read_need_of decl r.t.epoch r.object r.inv)) held.1.awaits.open_still)
-    where
-      held : RecordsHold decl r.x.views r.x.own r.x.begun.ops × ReadingHolds decl d.client r.x r.object r.inv (calls_in d.requests) (round_of decl d r.t is_read (read_need_of decl r.t.epoch r.object r.inv))
-      held = subst (FrontHolds decl) r.front h.front
-
-  appends_none : Appends decl d c → due decl d [] ≡ None
-  appends_none r =
-      do_row_is decl d r.t r.object r.inv r.runs ∙ ap (read_row decl d r.t r.object r.inv) r.met ∙ ap (answer_row decl d r.t r.object) r.chosen
-      ∙ ap (append_row decl r.object r.event) (waiting_verdict (round_of decl d r.t is_append (append_need_of decl r.t.epoch r.object r.event)) held.1.awaits.open_still)
-    where
-      held : RecordsHold decl r.x.views r.x.own r.x.begun.ops × AppendingHolds decl d.client r.x r.object r.inv r.event (calls_in d.requests) (round_of decl d r.t is_append (append_need_of decl r.t.epoch r.object r.event))
-      held = subst (FrontHolds decl) r.front h.front
-
-  votes_none : Votes decl d c → due decl d [] ≡ None
-  votes_none r =
-      ap (λ (o : Option Command). option_and_then (row_of decl d [] d.current) o) r.command
-      ∙ ap (λ (o : Option Current). row_of decl d [] o commands.Commit) r.current
-      ∙ ap (λ (b : Bool). cond b (Some (replies.Aborted causes.Doomed)) (cond (are_votes_in decl d r.t) (vote_row d [] (first_against (filter (λ (q : ClientRequest). is_prepare q.want) d.requests))) None)) r.live
-      ∙ ap (λ (b : Bool). cond b (vote_row d [] (first_against (filter (λ (q : ClientRequest). is_prepare q.want) d.requests))) None) out
-    where
-      last_false : (b : Bool) → (b && false) ≡ false
-      last_false true = refl
-      last_false false = refl
-
-      out : are_votes_in decl d r.t ≡ false
-      out =
-          ap (λ (hs : List ClientRequest). (length (participants decl d r.t) == length hs) && list_all (λ (q : ClientRequest). is_some q.taken) hs) (all_prepare r.t d.requests r.prepares)
-          ∙ ap (λ (b : Bool). (length (participants decl d r.t) == length d.requests) && b) r.waits ∙ last_false (length (participants decl d r.t) == length d.requests)
-
-  pub tied_none : Ties decl d c → due decl d [] ≡ None
-  tied_none (rests r) = none_due d.command r.command d.current
-  tied_none (reads r) = reads_none r
-  tied_none (appends r) = appends_none r
-  tied_none (votes r) = votes_none r
 
 -- a half that everybody grants, with weight enough, is met
 

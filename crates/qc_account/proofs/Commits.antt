@@ -173,6 +173,7 @@ module _ (decl : Declaration) (number : ℕ) (d : Account) (t : Current) (asked 
   pub decides_go : (f : Desk) (qs : List ClientRequest) (voting : Option Voting) → due decl (commit_at d t qs) [] ≡ Some (replies.Committed next)
       → Goes decl number (commit_at d t qs) (by_desk (record { front = front; desk = f }) (desks.decides (desk voting) b))
   decides_go f qs voting is = record {
+    tells = sym is;
     due = ((is, refl, refl), decided_due decl number b (outcomes.Committed next) wrote number asked (Tells (replies.Committed next) ∷ []) ((is, refl), tt));
     ties =
     subst (λ (e : Account). Ties decl e (fold (client_does decl) move (sends_of number (decisions b (outcomes.Committed next)) ++ Tells (replies.Committed next) ∷ [])).client)
@@ -204,6 +205,20 @@ module _ (decl : Declaration) (number : ℕ) (d : Account) (t : Current) (asked 
           ap (λ (z : Bool). z && list_all (λ (q : ClientRequest). is_some q.taken) (filter (λ (q : ClientRequest). is_prepare q.want) qs)) (eq-eqb (length (participants decl d t)) (length (filter (λ (q : ClientRequest). is_prepare q.want) qs)) same_length)
           ∙ ap (λ (hs : List ClientRequest). list_all (λ (q : ClientRequest). is_some q.taken) hs) (all_prepare t qs all) ∙ taken
 
+  last_false : (z : Bool) → (z && false) ≡ false
+  last_false true = refl
+  last_false false = refl
+
+  pub votes_out : (qs : List ClientRequest) → Every (IsPrepare t) qs → list_all (λ (q : ClientRequest). is_some q.taken) qs ≡ false → due decl (commit_at d t qs) [] ≡ None
+  votes_out qs all open_still =
+      ap (λ (z : Bool). cond z (Some (replies.Aborted causes.Doomed)) (cond (are_votes_in decl (commit_at d t qs) t) (vote_row (commit_at d t qs) [] (first_against (filter (λ (q : ClientRequest). is_prepare q.want) qs))) None)) live
+      ∙ ap (λ (z : Bool). cond z (vote_row (commit_at d t qs) [] (first_against (filter (λ (q : ClientRequest). is_prepare q.want) qs))) None) out
+    where
+      out : are_votes_in decl (commit_at d t qs) t ≡ false
+      out =
+          ap (λ (hs : List ClientRequest). (length (participants decl d t) == length hs) && list_all (λ (q : ClientRequest). is_some q.taken) hs) (all_prepare t qs all)
+          ∙ ap (λ (z : Bool). (length (participants decl d t) == length qs) && z) open_still ∙ last_false (length (participants decl d t) == length qs)
+
   pub votes_tie : (qs : List ClientRequest) → Every (IsPrepare t) qs → sites_in qs ≡ participants decl d t → AreApart (map (λ (q : ClientRequest). q.number) qs)
       → list_all (λ (q : ClientRequest). is_some q.taken) qs ≡ false
       → Ties decl (commit_at d t qs) (record { front = front; desk = desk (Some (record { begun = b; calls = calls_in qs; ballots = map (ballot_of b) qs })) })
@@ -233,7 +248,7 @@ module _ (decl : Declaration) (number : ℕ) (d : Account) (t : Current) (asked 
       by false open_still =
           subst (λ (z : Bool). Goes decl number (commit_at d t qs) (by_desk (record { front = front; desk = f }) (cond z (desks.counted_out (desk voting) b (ballots.first_against (map (ballot_of b) qs)))
           (desk_moved (desks.with_voting (desk voting) (Some (record { begun = b; calls = calls_in qs; ballots = map (ballot_of b) qs }))) quiet)))) (sym (cast_are b qs ∙ open_still))
-          (record { due = tt; ties = votes_tie qs all sites numbers open_still })
+          (record { tells = sym (votes_out qs all open_still); due = tt; ties = votes_tie qs all sites numbers open_still })
 
   -- the participants are asked
 
@@ -259,7 +274,12 @@ module _ (decl : Declaration) (number : ℕ) (d : Account) (t : Current) (asked 
 
   pub votes_start : (f : Desk) → (length (participants decl d t) == 0) ≡ false → Goes decl number (commit_at d t [])
       (by_desk (record { front = front; desk = f }) (desk_moved (desk (Some (record { begun = b; calls = []; ballots = blank (participants decl d t) }))) (sending (map (ballots.prepares b) (participants decl d t)))))
-  votes_start f some = record { due = a.due; ties = a.ties }
+  votes_start f some = record {
+    tells = sym (ap (λ (z : Bool). cond z (Some (replies.Aborted causes.Doomed)) (cond ((length (participants decl d t) == 0) && true) (vote_row (commit_at d t []) [] None) None)) live
+        ∙ ap (λ (z : Bool). cond (z && true) (vote_row (commit_at d t []) [] None) None) some);
+    due = a.due;
+    ties = a.ties;
+  }
     where
       new : List ClientRequest
       new = requests_from number t Prepare (participants decl d t)

@@ -145,7 +145,7 @@ module _ (decl : Declaration) (number : ℕ) (d : Account) (desk : Desk) (t : Cu
   want_is : append_want decl x object event ≡ want
   want_is = ap (λ (v : List Line). Append object v (own_appended decl t object event)) (view_same decl t asked views object inv event k.records k.logs chosen)
 
-  row_is : (qs : List ClientRequest) → verdict (read_round qs) ≡ verdicts.Met → due decl (run d t object inv qs) [] ≡ append_row decl object event (verdict (round qs))
+  pub row_is : (qs : List ClientRequest) → verdict (read_round qs) ≡ verdicts.Met → due decl (run d t object inv qs) [] ≡ append_row decl object event (verdict (round qs))
   row_is qs met =
       due_do decl d desk t views object inv qs k
       ∙ ap (λ (v : Verdict). read_row decl (run d t object inv qs) t object inv v) met
@@ -188,9 +188,9 @@ module _ (decl : Declaration) (number : ℕ) (d : Account) (desk : Desk) (t : Cu
     (still_met qs (request_at n t want site ∷ []) refl p.0, next_one decl d t is_append want refl qs n site ss p.1),
   )
 
-  waits : (qs : List ClientRequest) (f : Front) (tr : Option Transaction) (doing : Doing) → verdict (read_round qs) ≡ verdicts.Met → Every (IsOpenIn is_append) qs
+  waits : (qs : List ClientRequest) (f : Front) (tr : Option Transaction) (doing : Doing) → verdict (read_round qs) ≡ verdicts.Met → verdict (round qs) ≡ verdicts.Waiting → Every (IsOpenIn is_append) qs
       → Goes decl number (run d t object inv qs) (by_front (record { front = f; desk = desk }) (fronts.goes_on (front_of d tr doing) x (Appending object inv event (calls_in qs)) want (round qs)))
-  waits qs f tr doing met open_in = record { due = a.due; ties = a.ties }
+  waits qs f tr doing met still open_in = record { tells = sym (row_is qs met ∙ ap (append_row decl object event) still); due = a.due; ties = a.ties }
     where
       sites : List ℕ
       sites = wanted (round qs)
@@ -246,7 +246,7 @@ module _ (decl : Declaration) (number : ℕ) (d : Account) (desk : Desk) (t : Cu
       by : (v : Verdict) → verdict (round qs) ≡ v → Goes decl number (run d t object inv qs) (by_front (record { front = f; desk = desk }) (fronts.append_by decl (front_of d tr doing) x object inv event (calls_in qs) (round qs) v))
       by verdicts.Waiting is =
           subst (λ (w : Want). Goes decl number (run d t object inv qs) (by_front (record { front = f; desk = desk }) (fronts.goes_on (front_of d tr doing) x (Appending object inv event (calls_in qs)) w (round qs)))) (sym want_is)
-          (waits qs f tr doing met open_in)
+          (waits qs f tr doing met is open_in)
       by verdicts.Met is = responds qs f tr doing met is
       by (verdicts.Closed epoch site) is =
           tells_goes decl number (run d t object inv qs) (replies.Closed epoch site) (client_at d desk (Some (fronts.doomed x)) Idle)

@@ -130,9 +130,9 @@ module _ (decl : Declaration) (number : ℕ) (d : Account) (desk : Desk) (t : Cu
     (filter-append (λ (q : ClientRequest). is_append q.want) qs (request_at n t want site ∷ []) ∙ ap (λ (hs : List ClientRequest). hs ++ []) p.0, next_one decl d t is_read want refl qs n site ss p.1),
   )
 
-  waits : (qs : List ClientRequest) (f : Front) (tr : Option Transaction) (doing : Doing) → Every (IsRead object inv) qs
+  waits : (qs : List ClientRequest) (f : Front) (tr : Option Transaction) (doing : Doing) → verdict (round qs) ≡ verdicts.Waiting → Every (IsRead object inv) qs
       → Goes decl number (run d t object inv qs) (by_front (record { front = f; desk = desk }) (fronts.goes_on (front_of d tr doing) x (Reading object inv (calls_in qs)) want (round qs)))
-  waits qs f tr doing all = record { due = a.due; ties = a.ties }
+  waits qs f tr doing still all = record { tells = sym (due_do decl d desk t views object inv qs k ∙ ap (read_row decl (run d t object inv qs) t object inv) still); due = a.due; ties = a.ties }
     where
       calls_path : calls_in (qs ++ requests_from number t want (wanted (round qs))) ≡ calls_in qs ++ calls_from number (wanted (round qs))
       calls_path = calls_more qs (requests_from number t want (wanted (round qs))) ∙ ap (λ (cs : List Call). calls_in qs ++ cs) (calls_new number t want (wanted (round qs)))
@@ -196,7 +196,7 @@ module _ (decl : Declaration) (number : ℕ) (d : Account) (desk : Desk) (t : Cu
   reads_go qs f tr doing all = by (verdict (round qs)) refl
     where
       by : (v : Verdict) → verdict (round qs) ≡ v → Goes decl number (run d t object inv qs) (by_front (record { front = f; desk = desk }) (fronts.read_by decl (front_of d tr doing) x object inv (calls_in qs) (round qs) v))
-      by verdicts.Waiting is = waits qs f tr doing all
+      by verdicts.Waiting is = waits qs f tr doing is all
       by verdicts.Met is =
           subst (λ (o : Option ℕ). Goes decl number (run d t object inv qs) (by_front (record { front = f; desk = desk }) (fronts.answered decl (front_of d tr doing) x object inv o)))
           (sym (answer_same decl t asked views object inv k.records k.logs)) (answers_go qs f tr doing all is (answer_of decl t object inv) refl)

@@ -80,7 +80,7 @@ module _ (decl : Declaration) (number : ℕ) (d : Account) (desk : Desk) (k : Is
   without_go (commands.Do object inv) = none_go (commands.Do object inv) refl
   without_go commands.Commit = none_go commands.Commit refl
   without_go commands.Abort = none_go commands.Abort refl
-  without_go (commands.Epoch n) = still_goes decl number (called_at d None (commands.Epoch n)) free (rests (record {
+  without_go (commands.Epoch n) = still_goes decl number (called_at d None (commands.Epoch n)) free refl (rests (record {
     command = tt; requests = refl; written = refl; begun = tt; front = refl; desk = record { client = k.client; clock = k.clock; epoch = k.epoch; voting = k.voting };
   }))
 
@@ -163,6 +163,6 @@ module _ (decl : Declaration) (number : ℕ) (d : Account) (desk : Desk) (k : Is
     within_go (commands.Do object inv) = performs_go object inv
     within_go commands.Commit = commits_go
     within_go commands.Abort = aborts_go
-    within_go (commands.Epoch n) = still_goes decl number (called_at d (Some t) (commands.Epoch n)) idle (rests (record {
+    within_go (commands.Epoch n) = still_goes decl number (called_at d (Some t) (commands.Epoch n)) idle refl (rests (record {
       command = tt; requests = refl; written = refl; begun = record { is = refl; logs = logs }; front = refl; desk = record { client = k.client; clock = k.clock; epoch = k.epoch; voting = k.voting };
     }))

@@ -108,6 +108,10 @@ module _ (decl : Declaration) (d : Account) (t : Current) (half : Want → Bool)
           length-mapped [] = refl
           length-mapped (x ∷ xs) = ap (λ (k : ℕ). suc k) (length-mapped xs)
 
+-- a round that waits for somebody
+pub waiting_verdict : (r : RoundState) → all_noted r.asked ≡ false → verdict r ≡ verdicts.Waiting
+waiting_verdict r open_still = ap (λ (b : Bool). cond b (unwrap_or (refusal r.asked) (settled r (weight (has_granted r.asked) r.weights))) verdicts.Waiting) open_still
+
 -- a round that is refused has asked somebody
 
 some : (n : ℕ) → (suc n == 0) ≡ false

@@ -8,7 +8,7 @@ use Rattle.qc_decl.specs.Lookup.{append_need_of, read_need_of}
 use Rattle.qc_entry.specs.declared.line.Line.{Line}
 use Rattle.qc_plan.specs.declared.standing.Verdict.{Verdict}
 use Rattle.qc_plan.specs.declared.standing.Verdict.TheVariants as verdicts
-use Rattle.qc_plan.specs.Round.{RoundState, note, verdict}
+use Rattle.qc_plan.specs.Round.{RoundState, all_noted, note, verdict}
 use Rattle.qc_view.specs.declared.view.View.{View}
 use Rattle.qc_commit.specs.declared.desk.Desk.{Desk}
 use Rattle.qc_front.specs.declared.doing.Doing.{Doing}
@@ -32,18 +32,20 @@ use Rattle.qc_msg.specs.Calls.{site_called, without_call}
 use Rattle.qc_promise.specs.Account.{Account, ClientRequest, Current, is_append, is_read, view_of}
 use Rattle.qc_promise.specs.Accounting.{counted, counted_for, granted, is_open, lived, promised, taken_for, told_by, with_read}
 use Rattle.qc_promise.specs.Rounds.{answer_of, standing_of}
+use Rattle.qc_promise.specs.Rows.{append_row, read_row}
 use Rattle.qc_account.specs.Calls.{AreApart, calls_in}
 use Rattle.qc_account.specs.Goes.{Goes}
 use Rattle.qc_account.specs.Told.{IsBegun, IsOpenIn, front_of, transaction_of}
-use Rattle.qc_account.proofs.DoAppends.{Runs, appends_go, appends_tie, run}
+use Rattle.qc_account.proofs.DoAppends.{Runs, appends_go, appends_tie, due_do, row_is, run}
 use Rattle.qc_account.proofs.DoReads.{IsRead, open_read, reads_go, reads_tie}
-use Rattle.qc_account.proofs.Halves.{round_at, round_from, round_taken}
+use Rattle.qc_account.proofs.Halves.{round_at, round_from, round_taken, waiting_verdict}
 use Rattle.qc_account.proofs.Requests.{IsFound, calls_taken, every_taken, find_call, found, numbers_open, sites_in}
 use Rattle.qc_account.proofs.Turns.{client_at, desk_kept, still_goes}
 use Rattle.qc_account.proofs.Views.{granted_begun}
 
 module _ (decl : Declaration) (number : ℕ) (d : Account) (desk : Desk) (t : Current) (asked : List ℕ) (views : List View) (object inv : ℕ) (k : Runs decl d desk t views)
-    (qs : List ClientRequest) (all : Every (IsRead object inv) qs) (sites : AreApart (sites_in (filter (λ (q : ClientRequest). is_read q.want) qs))) (numbers : AreApart (numbers_open qs)) where
+    (qs : List ClientRequest) (all : Every (IsRead object inv) qs) (sites : AreApart (sites_in (filter (λ (q : ClientRequest). is_read q.want) qs))) (numbers : AreApart (numbers_open qs))
+    (awaits : all_noted (round_at decl d t is_read (read_need_of decl t.epoch object inv) qs).asked ≡ false) where
   abbrev x : Transaction
   x = transaction_of t asked views
 
@@ -137,7 +139,7 @@ module _ (decl : Declaration) (number : ℕ) (d : Account) (desk : Desk) (t : Cu
     where
       by : (o : Option ClientRequest) → find (is_open n) qs ≡ o
           → Goes decl number (counted_for (run d t object inv qs) n answer o) (by_front here (reading_takes decl now x object inv (calls_in qs) round n answer (option_map (λ (q : ClientRequest). q.site) o)))
-      by None is = still_goes decl number (run d t object inv qs) here (reads_tie decl number d desk t asked views object inv k asked qs all)
+      by None is = still_goes decl number (run d t object inv qs) here (due_do decl d desk t views object inv qs k ∙ ap (read_row decl (run d t object inv qs) t object inv) (waiting_verdict round awaits)) (reads_tie decl number d desk t asked views object inv k asked qs all)
       by (Some q) is = counts_go n q is (every-In (IsRead object inv) q qs all (found n qs q is).among) answer
 
 -- Appends
@@ -162,7 +164,8 @@ reads_kept n answer (q ∷ qs) all = by (q.number == n) (is_none q.taken) refl (
 
 module _ (decl : Declaration) (number : ℕ) (d : Account) (desk : Desk) (t : Current) (asked : List ℕ) (views : List View) (object inv event : ℕ) (k : Runs decl d desk t views) (chosen : answer_of decl t object inv ≡ Some event)
     (qs : List ClientRequest) (met : verdict (round_at decl d t is_read (read_need_of decl t.epoch object inv) qs) ≡ verdicts.Met) (all : Every (IsOpenIn is_append) qs)
-    (sites : AreApart (sites_in (filter (λ (q : ClientRequest). is_append q.want) qs))) (numbers : AreApart (numbers_open qs)) where
+    (sites : AreApart (sites_in (filter (λ (q : ClientRequest). is_append q.want) qs))) (numbers : AreApart (numbers_open qs))
+    (awaits : all_noted (round_at decl d t is_append (append_need_of decl t.epoch object event) qs).asked ≡ false) where
   abbrev ax : Transaction
   ax = transaction_of t asked views
 
@@ -240,7 +243,7 @@ module _ (decl : Declaration) (number : ℕ) (d : Account) (desk : Desk) (t : Cu
     where
       by : (o : Option ClientRequest) → find (is_open n) qs ≡ o
           → Goes decl number (counted_for (run d t object inv qs) n answer o) (by_front ahere (appending_takes decl anow ax object inv event (calls_in qs) around n answer (option_map (λ (q : ClientRequest). q.site) o)))
-      by None is = still_goes decl number (run d t object inv qs) ahere (appends_tie decl number d desk t asked views object inv event k chosen asked qs met all)
+      by None is = still_goes decl number (run d t object inv qs) ahere (row_is decl number d desk t asked views object inv event k chosen qs met ∙ ap (append_row decl object event) (waiting_verdict around awaits)) (appends_tie decl number d desk t asked views object inv event k chosen asked qs met all)
       by (Some q) is =
           let f : IsFound n qs q = found n qs q is in
           acounts_go n q is q.want (every-In (IsOpenIn is_append) q qs all f.among f.open_still) refl answer

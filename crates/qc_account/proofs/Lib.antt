@@ -10,6 +10,7 @@ pub mod Commits
 pub mod VotesIn
 pub mod Ends
 pub mod Fits
+pub mod Nothing
 pub mod Step
 pub mod Commands
 pub mod Courses

@@ -44,6 +44,7 @@ use Rattle.qc_account.proofs.Commits.{commit_at, voting_desk, voting_front}
 use Rattle.qc_account.proofs.DoAppends.{Runs, run}
 use Rattle.qc_account.proofs.Ends.{called_at, within_go, without_go}
 use Rattle.qc_account.proofs.Hears.{appending_goes, reading_goes}
+use Rattle.qc_account.proofs.Nothing.{tied_none}
 use Rattle.qc_account.proofs.Requests.{sites_in}
 use Rattle.qc_account.proofs.Turns.{client_at, still_goes}
 use Rattle.qc_account.proofs.VotesIn.{voting_goes}
@@ -110,7 +111,7 @@ module _ (decl : Declaration) (number : ℕ) (d : Account) (c : Client) (h : Hol
       subst (λ (qs : List ClientRequest). Goes decl number (counted_for d n answer (find (is_open n) qs)) (answered decl c n answer)) (sym r.requests)
       (subst (λ (o : Option Voting). Goes decl number d (answered_by decl c o n answer)) (sym r.desk.voting)
       (subst (λ (m : FrontMove). Goes decl number d (by_front c m)) (sym (idle_takes c.front c.front.doing c.front.transaction n answer (ap (λ (f : Front). f.doing) r.front)))
-      (still_goes decl number d c (rests r))))
+      (still_goes decl number d c (tied_none decl d c h (rests r)) (rests r))))
 
   reads_answer : (n : ℕ) (answer : Option Answer) → Reads decl d c → Goes decl number (counted d n answer) (answered decl c n answer)
   reads_answer n answer r =
@@ -121,7 +122,7 @@ module _ (decl : Declaration) (number : ℕ) (d : Account) (c : Client) (h : Hol
       (record { live = r.runs.live; room = r.runs.room; records = held.0; logs = r.begun.logs; desk_is = r.desk })
       d.requests r.reads
       (subst AreApart (asked_sites (filter (λ (q : ClientRequest). is_read q.want) d.requests)) (round_apart decl d.client r.t.epoch (read_need_of decl r.t.epoch r.object r.inv) round held.1.round_is))
-      (ascends_apart (map (λ (k : Call). k.number) (calls_in d.requests)) held.1.calls_are.numbers) n answer)))
+      (ascends_apart (map (λ (k : Call). k.number) (calls_in d.requests)) held.1.calls_are.numbers) held.1.awaits.open_still n answer)))
     where
       round : RoundState
       round = round_of decl d r.t is_read (read_need_of decl r.t.epoch r.object r.inv)
@@ -148,7 +149,7 @@ module _ (decl : Declaration) (number : ℕ) (d : Account) (c : Client) (h : Hol
       (record { live = r.runs.live; room = r.runs.room; records = held.0; logs = r.begun.logs; desk_is = r.desk }) r.chosen
       d.requests r.met r.appends
       (subst AreApart (asked_sites (filter (λ (q : ClientRequest). is_append q.want) d.requests)) (round_apart decl d.client r.t.epoch (append_need_of decl r.t.epoch r.object r.event) round held.1.round_is))
-      (ascends_apart (map (λ (k : Call). k.number) (calls_in d.requests)) held.1.calls_are.numbers) n answer)))
+      (ascends_apart (map (λ (k : Call). k.number) (calls_in d.requests)) held.1.calls_are.numbers) held.1.awaits.open_still n answer)))
     where
       round : RoundState
       round = round_of decl d r.t is_append (append_need_of decl r.t.epoch r.object r.event)
@@ -232,13 +233,13 @@ module _ (decl : Declaration) (number : ℕ) (d : Account) (c : Client) (h : Hol
   commands_go command free (votes r) = absurd (let is : d.command ≡ Some commands.Commit = r.command in let never : ⊥ = cc in never)
 
   heard_go : (from n : ℕ) (m : Message) → Ties decl d c → Goes decl number (account_taken d (given.Got (record { number = n; from = from; to = 0; message = m }))) (heard decl c from n m)
-  heard_go from n (messages.Request tx epoch life want) ties = still_goes decl number d c ties
+  heard_go from n (messages.Request tx epoch life want) ties = still_goes decl number d c (tied_none decl d c h ties) ties
   heard_go from n (messages.Answer to answer) ties = answers_go to (Some answer) ties
-  heard_go from n (messages.Decision tx verdict) ties = still_goes decl number d c ties
-  heard_go from n (messages.Inquiry tx) ties = record { due = (tt, tt); ties = ties }
-  heard_go from n (messages.Ask tx) ties = record { due = (tt, tt); ties = ties }
-  heard_go from n (messages.Close epoch) ties = still_goes decl number d c ties
-  heard_go from n (messages.Install epoch clock log) ties = still_goes decl number d c ties
+  heard_go from n (messages.Decision tx verdict) ties = still_goes decl number d c (tied_none decl d c h ties) ties
+  heard_go from n (messages.Inquiry tx) ties = record { tells = sym (tied_none decl d c h ties); due = (tt, tt); ties = ties }
+  heard_go from n (messages.Ask tx) ties = record { tells = sym (tied_none decl d c h ties); due = (tt, tt); ties = ties }
+  heard_go from n (messages.Close epoch) ties = still_goes decl number d c (tied_none decl d c h ties) ties
+  heard_go from n (messages.Install epoch clock log) ties = still_goes decl number d c (tied_none decl d c h ties) ties
 
   pub takes_go : (g : Given) → MayGive d g → Ties decl d c → Goes decl number (account_taken d g) (client_takes decl c g)
   takes_go (given.Called command) may ties = commands_go command may ties

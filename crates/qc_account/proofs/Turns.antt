@@ -28,6 +28,7 @@ use Rattle.qc_msg.specs.Turns.{ending, quiet, sending, telling}
 use Rattle.qc_promise.specs.Account.{Account, ClientRequest, Current, view_of}
 use Rattle.qc_promise.specs.Accounting.{account_at, account_told, doomed_if}
 use Rattle.qc_promise.specs.Replies.{IsReplyDue}
+use Rattle.qc_promise.specs.Rows.{due}
 use Rattle.qc_promise.specs.Asked.{command_asks}
 use Rattle.qc_account.specs.Calls.{calls_in}
 use Rattle.qc_account.specs.DeedsDue.{AreDeedsDue}
@@ -80,12 +81,12 @@ doomed_begun t asked views b e logs is = record { is = λ i. transaction_of (rec
 
 module _ (decl : Declaration) (number : ℕ) where
   -- nothing is done
-  pub still_goes : (d : Account) (c : Client) → Ties decl d c → Goes decl number d (moved c quiet)
-  still_goes d c ties = record { due = tt; ties = ties }
+  pub still_goes : (d : Account) (c : Client) → due decl d [] ≡ None → Ties decl d c → Goes decl number d (moved c quiet)
+  still_goes d c none ties = record { tells = sym none; due = tt; ties = ties }
 
   -- a reply alone
   pub tells_goes : (d : Account) (reply : Reply) (c : Client) → IsReplyDue decl d [] reply → Ties decl (account_told decl d reply) c → Goes decl number d (moved c (telling reply))
-  tells_goes d reply c is ties = record { due = (is, tt); ties = ties }
+  tells_goes d reply c is ties = record { tells = sym is.0; due = (is, tt); ties = ties }
 
   -- decisions are nothing to the account and to the client
 
@@ -107,6 +108,7 @@ module _ (decl : Declaration) (number : ℕ) where
   -- a reply after decisions
   pub ends_goes : (d : Account) (b : Begun) (o : Outcome) (reply : Reply) (c : Client) → IsReplyDue decl d [] reply → Ties decl (account_told decl d reply) c → Goes decl number d (moved c (ending (decisions b o) reply))
   ends_goes d b o reply c is ties = record {
+    tells = sym is.0;
     due = decided_due b o d number b.asked (Tells reply ∷ []) (is, tt);
     ties =
     subst (λ (e : Account). Ties decl e (fold (client_does decl) (moved c (ending (decisions b o) reply)) (sends_of number (decisions b o) ++ Tells reply ∷ [])).client) (sym (decided_account b o d number b.asked (Tells reply ∷ [])))

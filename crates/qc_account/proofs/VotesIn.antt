@@ -33,7 +33,7 @@ use Rattle.qc_account.specs.Calls.{AreApart, ballot_of, calls_in}
 use Rattle.qc_account.specs.Goes.{Goes}
 use Rattle.qc_account.specs.Told.{begun_of, transaction_of}
 use Rattle.qc_account.specs.Ties.{IsPrepare}
-use Rattle.qc_account.proofs.Commits.{commit_at, votes_go, votes_tie, voting_desk, voting_front}
+use Rattle.qc_account.proofs.Commits.{commit_at, votes_go, votes_out, votes_tie, voting_desk, voting_front}
 use Rattle.qc_account.proofs.Requests.{IsFound, calls_taken, every_taken, find_call, first_set, found, numbers_open, set_taken, sites_in, sites_taken}
 use Rattle.qc_account.proofs.Turns.{still_goes}
 use Rattle.qc_account.proofs.Views.{LogsAre}
@@ -141,5 +141,5 @@ module _ (decl : Declaration) (number : ℕ) (d : Account) (t : Current) (asked 
     where
       by : (o : Option ClientRequest) → find (is_open n) qs ≡ o
           → Goes decl number (counted_for (commit_at d t qs) n answer o) (by_desk here (desks.votes_at desk waiting n answer (option_map (λ (q : ClientRequest). q.site) o)))
-      by None is = still_goes decl number (commit_at d t qs) here (votes_tie decl number d t asked views clock epoch desk_epoch commits live logs low known qs all sites numbers waits)
+      by None is = still_goes decl number (commit_at d t qs) here (votes_out decl number d t asked views clock epoch desk_epoch commits live logs low known qs all waits) (votes_tie decl number d t asked views clock epoch desk_epoch commits live logs low known qs all sites numbers waits)
       by (Some q) is = counts_go n q is (every-In (IsPrepare t) q qs all (found n qs q is).among).want answer

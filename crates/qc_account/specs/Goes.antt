@@ -1,5 +1,6 @@
--- A move of a client: all that its turn records, asks and tells is due, and the tie holds after it.
-use Rattle.std.specs.Prelude.{◌≡◌, ℕ, fold, None}
+-- A move of a client: all that its turn records, asks and tells is due, it tells just what is due, and the tie holds
+-- after it.
+use Rattle.std.specs.Prelude.{◌≡◌, ℕ, [], fold, None}
 use Rattle.qc_client.specs.declared.client.Client.{Client}
 use Rattle.qc_client.specs.Client.{ClientMove}
 use Rattle.qc_client.specs.Conduct.{client_does}
@@ -10,6 +11,7 @@ use Rattle.qc_msg.specs.declared.step.Given.TheVariants as given
 use Rattle.qc_msg.specs.Deeds.{turn_deeds}
 use Rattle.qc_promise.specs.Account.{Account}
 use Rattle.qc_promise.specs.Accounting.{account_at}
+use Rattle.qc_promise.specs.Rows.{due}
 use Rattle.qc_account.specs.DeedsDue.{AreDeedsDue}
 use Rattle.qc_account.specs.Ties.{Ties}
 
@@ -26,6 +28,7 @@ MayGive d (given.Lost number) = Unit {0}
 
 -- the account after the input being d, and the messages of the turn numbered from this number on
 pub record Goes (decl : Declaration) (number : ℕ) (d : Account) (move : ClientMove) : Type 0 where
+  pub tells : move.turn.told ≡ due decl d []
   pub due : AreDeedsDue decl d (turn_deeds number move.turn)
   pub ties : Ties decl (fold (account_at decl) d (turn_deeds number move.turn))
       (fold (client_does decl) move (turn_deeds number move.turn)).client
