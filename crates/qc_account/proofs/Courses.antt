@@ -14,6 +14,7 @@ use Rattle.qc_msg.specs.Deeds.{Deed, Takes, turn_deeds}
 use Rattle.qc_msg.specs.Turns.{quiet}
 use Rattle.qc_promise.specs.Account.{Account, new_account}
 use Rattle.qc_promise.specs.Accounting.{account_at, account_taken}
+use Rattle.qc_promise.specs.Rows.{due}
 use Rattle.qc_account.specs.DeedsDue.{AreDeedsDue}
 use Rattle.qc_account.specs.Goes.{Goes, Holds}
 use Rattle.qc_account.specs.Ties.{Ties, rests}
@@ -113,3 +114,10 @@ module _ (decl : Declaration) (a : ℕ) (client : is_client decl a ≡ true) whe
 
   pub clients_hold : (ds : List Deed) (n : ℕ) → Acts decl a ds false n → Holds decl (move_of ds).client
   clients_hold ds n acts = (client_acts ds false n acts).holds
+
+  pub turns_tell : (ds : List Deed) (n : ℕ) (turn : Turn) → Acts decl a ds true n → IsLawful decl a ds turn → turn.told ≡ due decl (account_of ds) []
+  turns_tell ds n turn acts law =
+      let at : IsAtInput ds = client_acts ds true n acts in
+      ap (λ (t : Turn). t.told) (lawful_turn decl a ds turn client law ∙ ap (λ (v : List Deed). (move_of v).turn) at.is ∙ ap (λ (m : ClientMove). m.turn) (after_take at.before at.given))
+      ∙ (takes_go decl 0 (account_of at.before) (move_of at.before).client at.rest.holds at.given (may_give decl (a - decl.sites) at.before at.given at.may) at.rest.ties).tells
+      ∙ sym (ap (λ (v : List Deed). due decl (account_of v) []) at.is ∙ ap (λ (d : Account). due decl d []) (account_take at.before at.given))

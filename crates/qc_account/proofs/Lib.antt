@@ -14,6 +14,7 @@ pub mod Nothing
 pub mod Step
 pub mod Commands
 pub mod Courses
+pub mod Said
 pub mod Mute
 pub mod Lifts
 pub mod Whole

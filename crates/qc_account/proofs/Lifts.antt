@@ -25,7 +25,7 @@ use Rattle.qc_promise.specs.Replies.{AreRepliesDue, IsRecordDue, IsReplyDue, IsS
 use Rattle.qc_promise.specs.Rounds.{are_votes_in, first_against}
 use Rattle.qc_promise.specs.Rows.{due, falls_at, next_stamp, row_of, vote_row}
 use Rattle.qc_account.specs.DeedsDue.{AreDeedsDue}
-use Rattle.qc_account.specs.Said.{AreSaidDue, IsSaidDue}
+use Rattle.qc_account.proofs.Said.{AreSaidDue, IsSaidDue}
 
 -- steps behind one are nothing to it, where none of them is a fall
 

@@ -38,7 +38,7 @@ use Rattle.qc_site.specs.Promise.{finishes, is_prepared, joins, prepare_length, 
 use Rattle.qc_decl.specs.Limits.{most_record_bytes}
 use Rattle.qc_site.specs.Requests.{appends_by, fault_of, grants, names_declared, reads_by, relation_at, requested}
 use Rattle.qc_site.specs.Site.{SiteMove, SiteState, answers, moved, new_site}
-use Rattle.qc_account.specs.Said.{AreSaidDue}
+use Rattle.qc_account.proofs.Said.{AreSaidDue}
 
 abbrev pub NoCommit : Record → Type 0
 NoCommit records.Life = Unit {0}

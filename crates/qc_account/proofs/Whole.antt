@@ -28,7 +28,7 @@ use Rattle.qc_promise.specs.Rows.{falls_at}
 use Rattle.qc_script.specs.Ready.{step_of_control}
 use Rattle.qc_script.specs.Runs.{Runs, begins, takes, posts, phase, control}
 use Rattle.qc_script.specs.declared.script.Script.{Script}
-use Rattle.qc_account.specs.Said.{AreSaidDue}
+use Rattle.qc_account.proofs.Said.{AreSaidDue}
 use Rattle.qc_account.proofs.Courses.{clients_due}
 use Rattle.qc_account.proofs.Lifts.{NoFall, all_due, said_due}
 use Rattle.qc_account.proofs.Mute.{mute_due, sites_mute}

@@ -2,6 +2,5 @@ pub mod Calls
 pub mod Told
 pub mod Ties
 pub mod DeedsDue
-pub mod Said
 pub mod Goes
 pub mod Waits

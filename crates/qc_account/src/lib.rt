@@ -8,9 +8,10 @@
 //! 3. So all deeds of a client are due (`deeds_of_clients_are_due`).
 //! 4. In every run each reply and each commit record is due (`replies_are_due`),
 //!    and all else that is promised to be (`runs_are_due`).
-//! 5. A running command waits for an open request (`commands_wait_for_requests`),
+//! 5. A turn tells just what is due after its input (`turns_tell_what_is_due`),
 //!    and nothing that is due is left untold (`what_is_due_is_told`): so a `do`
 //!    that everybody grants is answered (`granted_dos_are_answered`).
+//! 6. A running command waits for an open request (`commands_wait_for_requests`).
 #![tactic(auto)]
 
 mod clients;
@@ -19,6 +20,7 @@ mod waiting;
 
 pub use clients::{
     accounts_are_their_clients, deeds_of_clients_are_due, inputs_are_answered_as_is_due,
+    turns_tell_what_is_due,
 };
 pub use runs::{replies_are_due, runs_are_due};
 pub use waiting::{commands_wait_for_requests, granted_dos_are_answered, what_is_due_is_told};
