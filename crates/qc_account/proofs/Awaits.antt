@@ -7,6 +7,7 @@ use Rattle.std.proofs.lemmas.Bool.{le-leb}
 use Rattle.qc_list.specs.Members.{In}
 use Rattle.qc_list.proofs.Members.{every-filter}
 use Rattle.qc_core.specs.Acts.{Acts}
+use Rattle.qc_core.specs.Conduct.{IsLawful}
 use Rattle.qc_decl.specs.declared.declaration.Declaration.{Declaration}
 use Rattle.qc_decl.specs.Actors.{is_client}
 use Rattle.qc_decl.specs.Limits.{most_transaction_operations}
@@ -28,6 +29,7 @@ use Rattle.qc_msg.specs.declared.reply.Reply.TheVariants as replies
 use Rattle.qc_msg.specs.declared.reply.Why.TheVariants as causes
 use Rattle.qc_msg.specs.declared.step.Command.{Command}
 use Rattle.qc_msg.specs.declared.step.Command.TheVariants as commands
+use Rattle.qc_msg.specs.declared.turn.Turn.{Turn}
 use Rattle.qc_msg.specs.Deeds.{Deed}
 use Rattle.qc_plan.specs.declared.standing.Asked.{Asked}
 use Rattle.qc_plan.specs.declared.standing.Verdict.{Verdict}
@@ -40,10 +42,10 @@ use Rattle.qc_promise.specs.Rows.{answer_row, append_row, due, read_row, row_of,
 use Rattle.qc_account.specs.Calls.{call_of, calls_in}
 use Rattle.qc_account.specs.Goes.{Holds}
 use Rattle.qc_account.specs.Told.{front_of}
-use Rattle.qc_account.specs.Ties.{Appends, IsDo, IsNone, Reads, Rests, Ties, Votes, appends, reads, rests, votes}
-use Rattle.qc_account.specs.Waits.{IsEnough, IsGranted, IsWaiting}
+use Rattle.qc_account.specs.Ties.{Appends, IsDo, NoneRuns, Reads, Rests, Ties, Votes, appends, reads, rests, votes}
+use Rattle.qc_account.specs.Waits.{IsEnough, IsGranted, IsGrantedDo, IsWaiting}
 use Rattle.qc_account.proofs.Nothing.{do_row_is, tied_none}
-use Rattle.qc_account.proofs.Courses.{account_of, clients_hold, clients_tied, move_of}
+use Rattle.qc_account.proofs.Courses.{account_of, clients_hold, clients_tied, move_of, turns_tell}
 
 -- an open request
 
@@ -73,7 +75,7 @@ module _ (decl : Declaration) (d : Account) (c : Client) (h : Holds decl c) wher
       (subst (λ (cs : List Call). 0 < length cs) (ap (λ (f : Front). going.calls_in f.doing) is ∙ calls)
       (waits decl c.front h.front h.numbered (ap (λ (f : Front). going.is_idle f.doing) is ∙ busy)))
 
-  pub tied_waits : Ties decl d c → IsNone d.command ⊎ IsWaiting d
+  pub tied_waits : Ties decl d c → NoneRuns d.command ⊎ IsWaiting d
   tied_waits (rests r) = inl r.command
   tied_waits (reads r) = inr (doing_waits (Some r.x) (Reading r.object r.inv (calls_in d.requests) (round_of decl d r.t is_read (read_need_of decl r.t.epoch r.object r.inv))) r.front refl refl)
   tied_waits (appends r) = inr (doing_waits (Some r.x) (Appending r.object r.inv r.event (calls_in d.requests) (round_of decl d r.t is_append (append_need_of decl r.t.epoch r.object r.event))) r.front refl refl)
@@ -96,12 +98,12 @@ granted_met decl d t half need all enough =
     ∙ ap (λ (b : Bool). cond b verdicts.Met (cond (length (round_of decl d t half need).rest == 0) (verdicts.Short (weight (has_granted (round_of decl d t half need).asked) (weights_of decl t.epoch)) need) verdicts.Waiting))
     (le-leb need (weight (has_granted (round_of decl d t half need).asked) (weights_of decl t.epoch)) enough)
 
-pub granted_absent : (decl : Declaration) (d : Account) (t : Current) (object inv : ℕ) → IsDo d t object inv → Every IsGranted d.requests → IsEnough decl d t is_read (read_need_of decl t.epoch object inv)
+granted_absent : (decl : Declaration) (d : Account) (t : Current) (object inv : ℕ) → IsDo d t object inv → Every IsGranted d.requests → IsEnough decl d t is_read (read_need_of decl t.epoch object inv)
     → answer_of decl t object inv ≡ None → due decl d [] ≡ Some replies.Absent
 granted_absent decl d t object inv r all enough none =
     do_row_is decl d t object inv r ∙ ap (read_row decl d t object inv) (granted_met decl d t is_read (read_need_of decl t.epoch object inv) all enough) ∙ ap (answer_row decl d t object) none
 
-pub granted_answered : (decl : Declaration) (d : Account) (t : Current) (object inv event : ℕ) → IsDo d t object inv → Every IsGranted d.requests → IsEnough decl d t is_read (read_need_of decl t.epoch object inv)
+granted_answered : (decl : Declaration) (d : Account) (t : Current) (object inv event : ℕ) → IsDo d t object inv → Every IsGranted d.requests → IsEnough decl d t is_read (read_need_of decl t.epoch object inv)
     → answer_of decl t object inv ≡ Some event → IsEnough decl d t is_append (append_need_of decl t.epoch object event) → due decl d [] ≡ Some (replies.Response (resp_of decl object event))
 granted_answered decl d t object inv event r all enough some appended =
     do_row_is decl d t object inv r ∙ ap (read_row decl d t object inv) (granted_met decl d t is_read (read_need_of decl t.epoch object inv) all enough) ∙ ap (answer_row decl d t object) some
@@ -110,8 +112,21 @@ granted_answered decl d t object inv event r all enough some appended =
 -- over all deeds of a client
 
 module _ (decl : Declaration) (a : ℕ) (client : is_client decl a ≡ true) (ds : List Deed) (n : ℕ) (acts : Acts decl a ds false n) where
-  pub clients_wait : IsNone (account_of decl a client ds).command ⊎ IsWaiting (account_of decl a client ds)
+  pub clients_wait : NoneRuns (account_of decl a client ds).command ⊎ IsWaiting (account_of decl a client ds)
   clients_wait = tied_waits decl (account_of decl a client ds) (move_of decl a client ds).client (clients_hold decl a client ds n acts) (clients_tied decl a client ds n acts)
 
   pub clients_owe_nothing : due decl (account_of decl a client ds) [] ≡ None
   clients_owe_nothing = tied_none decl (account_of decl a client ds) (move_of decl a client ds).client (clients_hold decl a client ds n acts) (clients_tied decl a client ds n acts)
+
+-- so a `do` that everybody grants is told its answer
+
+pub told_absent : (decl : Declaration) (a : ℕ) (client : is_client decl a ≡ true) (ds : List Deed) (n : ℕ) (turn : Turn) → Acts decl a ds true n → IsLawful decl a ds turn → (t : Current) (object inv : ℕ)
+    → IsGrantedDo decl (account_of decl a client ds) t object inv → answer_of decl t object inv ≡ None → turn.told ≡ Some replies.Absent
+told_absent decl a client ds n turn acts law t object inv g none =
+    turns_tell decl a client ds n turn acts law ∙ granted_absent decl (account_of decl a client ds) t object inv g.runs g.all g.enough none
+
+pub told_response : (decl : Declaration) (a : ℕ) (client : is_client decl a ≡ true) (ds : List Deed) (n : ℕ) (turn : Turn) → Acts decl a ds true n → IsLawful decl a ds turn → (t : Current) (object inv event : ℕ)
+    → IsGrantedDo decl (account_of decl a client ds) t object inv → answer_of decl t object inv ≡ Some event
+    → IsEnough decl (account_of decl a client ds) t is_append (append_need_of decl t.epoch object event) → turn.told ≡ Some (replies.Response (resp_of decl object event))
+told_response decl a client ds n turn acts law t object inv event g some appended =
+    turns_tell decl a client ds n turn acts law ∙ granted_answered decl (account_of decl a client ds) t object inv event g.runs g.all g.enough some appended

@@ -40,7 +40,7 @@ use Rattle.qc_promise.specs.Rows.{answer_row, append_row, due, read_row, row_of,
 use Rattle.qc_account.specs.Calls.{call_of, calls_in}
 use Rattle.qc_account.specs.Goes.{Holds}
 use Rattle.qc_account.specs.Told.{front_of}
-use Rattle.qc_account.specs.Ties.{Appends, IsDo, IsNone, Reads, Rests, Ties, Votes, appends, reads, rests, votes}
+use Rattle.qc_account.specs.Ties.{Appends, IsDo, NoneRuns, Reads, Rests, Ties, Votes, appends, reads, rests, votes}
 use Rattle.qc_account.specs.Waits.{IsEnough, IsGranted, IsWaiting}
 use Rattle.qc_account.proofs.Commits.{votes_out}
 use Rattle.qc_account.proofs.Halves.{waiting_verdict}
@@ -56,7 +56,7 @@ do_row_is decl d t object inv r =
 module _ (decl : Declaration) (d : Account) (c : Client) (h : Holds decl c) where
   -- nothing is due
 
-  none_due : (o : Option Command) → IsNone o → (t : Option Current) → option_and_then (row_of decl d [] t) o ≡ None
+  none_due : (o : Option Command) → NoneRuns o → (t : Option Current) → option_and_then (row_of decl d [] t) o ≡ None
   none_due None is t = refl
   none_due (Some commands.Begin) is t = absurd is
   none_due (Some (commands.Do object inv)) is t = absurd is

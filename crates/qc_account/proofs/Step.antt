@@ -39,7 +39,7 @@ use Rattle.qc_promise.specs.Rounds.{asked_by, participants, round_of}
 use Rattle.qc_account.specs.Calls.{AreApart, ballot_of, calls_in}
 use Rattle.qc_account.specs.Goes.{Goes, Holds, MayGive}
 use Rattle.qc_account.specs.Told.{AreBegun, IsBegun, front_of, transaction_of}
-use Rattle.qc_account.specs.Ties.{Appends, IsNone, Reads, Rests, Ties, Votes, appends, reads, rests, votes}
+use Rattle.qc_account.specs.Ties.{Appends, NoneRuns, Reads, Rests, Ties, Votes, appends, reads, rests, votes}
 use Rattle.qc_account.proofs.Commits.{commit_at, voting_desk, voting_front}
 use Rattle.qc_account.proofs.DoAppends.{Runs, run}
 use Rattle.qc_account.proofs.Ends.{called_at, within_go, without_go}

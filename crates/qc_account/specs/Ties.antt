@@ -27,16 +27,16 @@ pub record IsIdleDesk (d : Account) (desk : Desk) : Type 0 where
   pub voting : desk.voting ≡ None
 
 -- no command runs, or one that nobody asks a client
-abbrev pub IsNone : Option Command → Type 0
-IsNone None = Unit {0}
-IsNone (Some commands.Begin) = ⊥
-IsNone (Some (commands.Do object inv)) = ⊥
-IsNone (Some commands.Commit) = ⊥
-IsNone (Some commands.Abort) = ⊥
-IsNone (Some (commands.Epoch number)) = Unit {0}
+abbrev pub NoneRuns : Option Command → Type 0
+NoneRuns None = Unit {0}
+NoneRuns (Some commands.Begin) = ⊥
+NoneRuns (Some (commands.Do object inv)) = ⊥
+NoneRuns (Some commands.Commit) = ⊥
+NoneRuns (Some commands.Abort) = ⊥
+NoneRuns (Some (commands.Epoch number)) = Unit {0}
 
 pub record Rests (d : Account) (c : Client) : Type 0 where
-  pub command : IsNone d.command
+  pub command : NoneRuns d.command
   pub requests : d.requests ≡ []
   pub written : d.written ≡ None
   pub begun : AreBegun d.current c.front.transaction

@@ -2,16 +2,17 @@
 //! do.
 
 ghost use Rattle.std.specs.Prelude.{◌≡◌, ◌⊎◌, ◌-◌, ℕ, true, false, List, [], Some, None, fold};
-ghost use Rattle.std.specs.List.{AllByRecursion as Every};
-ghost use Rattle.qc_account.specs.Ties.{IsDo, IsNone};
-ghost use Rattle.qc_account.specs.Waits.{IsEnough, IsGranted, IsWaiting};
+ghost use Rattle.qc_account.specs.Ties.{NoneRuns};
+ghost use Rattle.qc_account.specs.Waits.{IsEnough, IsGrantedDo, IsWaiting};
 ghost use Rattle.qc_core.specs.Acts.{Acts};
+ghost use Rattle.qc_core.specs.Conduct.{IsLawful};
 ghost use Rattle.qc_decl.specs.Actors.{is_client};
-ghost use Rattle.qc_decl.specs.Lookup.{append_need_of, read_need_of};
+ghost use Rattle.qc_decl.specs.Lookup.{append_need_of};
 ghost use Rattle.qc_decl.specs.declared.declaration.Declaration.{Declaration};
 ghost use Rattle.qc_msg.specs.Deeds.{Deed};
 ghost use Rattle.qc_msg.specs.declared.reply.Reply.TheVariants as replies;
-ghost use Rattle.qc_promise.specs.Account.{Account, Current, is_append, is_read, new_account};
+ghost use Rattle.qc_msg.specs.declared.turn.Turn.{Turn};
+ghost use Rattle.qc_promise.specs.Account.{Current, is_append, new_account};
 ghost use Rattle.qc_promise.specs.Accounting.{account_at};
 ghost use Rattle.qc_promise.specs.Rounds.{answer_of, resp_of};
 ghost use Rattle.qc_promise.specs.Rows.{due};
@@ -23,7 +24,7 @@ ghost use Rattle.qc_promise.specs.Rows.{due};
 pub fn commands_wait_for_requests()
     ensures { (decl : Declaration) (a : ℕ) → is_client decl a ≡ true → (ds : List Deed) (n : ℕ)
         → Acts decl a ds false n
-        → IsNone (fold (account_at decl) (new_account (a - decl.sites)) ds).command
+        → NoneRuns (fold (account_at decl) (new_account (a - decl.sites)) ds).command
         ⊎ IsWaiting (fold (account_at decl) (new_account (a - decl.sites)) ds) }
 {}
 
@@ -35,14 +36,18 @@ pub fn what_is_due_is_told()
 {}
 
 /// A `do` whose requests are all granted, by sites that weigh what it needs, is
-/// due its response, or Absent where the view has none: so it is told that.
+/// told its response, or Absent where the view has none, by the turn for the
+/// last of them.
 pub fn granted_dos_are_answered()
-    ensures absent { (decl : Declaration) (d : Account) (t : Current) (object inv : ℕ) → IsDo d t object inv
-        → Every IsGranted d.requests → IsEnough decl d t is_read (read_need_of decl t.epoch object inv)
-        → answer_of decl t object inv ≡ None → due decl d [] ≡ Some replies.Absent }
-    ensures response { (decl : Declaration) (d : Account) (t : Current) (object inv event : ℕ) → IsDo d t object inv
-        → Every IsGranted d.requests → IsEnough decl d t is_read (read_need_of decl t.epoch object inv)
+    ensures absent { (decl : Declaration) (a : ℕ) → is_client decl a ≡ true → (ds : List Deed) (n : ℕ) (turn : Turn)
+        → Acts decl a ds true n → IsLawful decl a ds turn → (t : Current) (object inv : ℕ)
+        → IsGrantedDo decl (fold (account_at decl) (new_account (a - decl.sites)) ds) t object inv
+        → answer_of decl t object inv ≡ None → turn.told ≡ Some replies.Absent }
+    ensures response { (decl : Declaration) (a : ℕ) → is_client decl a ≡ true → (ds : List Deed) (n : ℕ) (turn : Turn)
+        → Acts decl a ds true n → IsLawful decl a ds turn → (t : Current) (object inv event : ℕ)
+        → IsGrantedDo decl (fold (account_at decl) (new_account (a - decl.sites)) ds) t object inv
         → answer_of decl t object inv ≡ Some event
-        → IsEnough decl d t is_append (append_need_of decl t.epoch object event)
-        → due decl d [] ≡ Some (replies.Response (resp_of decl object event)) }
+        → IsEnough decl (fold (account_at decl) (new_account (a - decl.sites)) ds) t is_append
+        (append_need_of decl t.epoch object event)
+        → turn.told ≡ Some (replies.Response (resp_of decl object event)) }
 {}
