@@ -1,5 +1,5 @@
 -- Requests that are sent one after another are those that the command asks for, and stand in the account as they went.
-use Rattle.std.proofs.Common.{◌≡◌, ℕ, ◌+◌, ◌==◌, ◌&&◌, Bool, true, false, cond, List, [], ◌∷◌, ◌++◌, map, Some, refl, sym, ap, ◌∙◌, subst, eq-eqb, append_assoc}
+use Rattle.std.proofs.Common.{◌≡◌, ℕ, ◌+◌, ◌==◌, ◌&&◌, Bool, true, cond, List, [], ◌∷◌, ◌++◌, map, Some, refl, sym, ap, ◌∙◌, subst, eq-eqb, append_assoc}
 use Rattle.std.specs.Prelude.{fold}
 use Rattle.std.proofs.lemmas.List.{append-nil}
 use Rattle.qc_stamp.proofs.Orders.{same_tx_itself}
@@ -8,7 +8,7 @@ use Rattle.qc_msg.specs.declared.message.Message.TheVariants as messages
 use Rattle.qc_msg.specs.declared.message.Want.{Want}
 use Rattle.qc_msg.specs.declared.turn.Posting.{Posting}
 use Rattle.qc_msg.specs.Begun.{life_of}
-use Rattle.qc_msg.specs.Deeds.{Deed, Takes, Writes, Sends, Tells, sends_of}
+use Rattle.qc_msg.specs.Deeds.{Deed, Sends, sends_of}
 use Rattle.qc_promise.specs.Account.{Account, ClientRequest, Current}
 use Rattle.qc_promise.specs.Accounting.{account_at}
 use Rattle.qc_promise.specs.Asked.{command_asks, is_asked_for}
@@ -27,7 +27,7 @@ due_more decl d (x ∷ xs) ys first second = (first.0, due_more decl (account_at
 -- the sites of `P qs ss` are those that are to be asked next
 module _ (decl : Declaration) (d : Account) (t : Current) (want : Want) (P : List ClientRequest → List ℕ → Type 0)
     (step : (number site : ℕ) (ss : List ℕ) (qs : List ClientRequest) → P qs (site ∷ ss)
-        → (command_asks decl (record d { requests = qs; current = Some t }) t site want d.command ≡ true) × P (qs ++ request_at number t want site ∷ []) ss) where
+    → (command_asks decl (record d { requests = qs; current = Some t }) t site want d.command ≡ true) × P (qs ++ request_at number t want site ∷ []) ss) where
   abbrev run : List ClientRequest → Account
   run qs = record d { requests = qs; current = Some t }
 
@@ -46,7 +46,7 @@ module _ (decl : Declaration) (d : Account) (t : Current) (want : Want) (P : Lis
   asks_due (s ∷ ss) number qs p = (
     asked_for number s ss qs p,
     subst (λ (e : Account). AreDeedsDue decl e (sends_of (number + 1) (map (asking t want) ss))) (sym (one_asked number s ss qs p))
-    (asks_due ss (number + 1) (qs ++ request_at number t want s ∷ []) (step number s ss qs p).1),
+        (asks_due ss (number + 1) (qs ++ request_at number t want s ∷ []) (step number s ss qs p).1),
   )
 
   pub asks_fold : (ss : List ℕ) (number : ℕ) (qs : List ClientRequest) → P qs ss → fold (account_at decl) (run qs) (sends_of number (map (asking t want) ss)) ≡ run (qs ++ requests_from number t want ss)

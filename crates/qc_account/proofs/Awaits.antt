@@ -1,6 +1,6 @@
 -- Between two inputs a running command waits for an open request, and nothing is due; what everybody grants is answered.
-use Rattle.std.proofs.Common.{◌≡◌, ◌⊎◌, ◌≤◌, ◌<◌, ℕ, ◌+◌, ◌-◌, ◌==◌, ◌&&◌, nat_le, Bool, true, false, cond, List, [], ◌∷◌, length, map, filter, inl, inr, Option, Some, None, option_map, is_some, unwrap_or, refl, sym, ap, ◌∙◌, subst, arith}
-use Rattle.std.specs.Prelude.{is_none, option_and_then}
+use Rattle.std.proofs.Common.{◌≡◌, ◌⊎◌, ◌<◌, ℕ, ◌==◌, ◌&&◌, Bool, true, false, cond, List, [], ◌∷◌, length, map, filter, inl, inr, Option, Some, None, is_some, unwrap_or, refl, ap, ◌∙◌, subst, arith}
+use Rattle.std.specs.Prelude.{is_none}
 use Rattle.std.specs.List.{list_all, AllByRecursion as Every}
 use Rattle.std.specs.Option.{option_or}
 use Rattle.std.proofs.lemmas.Bool.{le-leb}
@@ -10,39 +10,30 @@ use Rattle.qc_core.specs.Acts.{Acts}
 use Rattle.qc_core.specs.Conduct.{IsLawful}
 use Rattle.qc_decl.specs.declared.declaration.Declaration.{Declaration}
 use Rattle.qc_decl.specs.Actors.{is_client}
-use Rattle.qc_decl.specs.Limits.{most_transaction_operations}
 use Rattle.qc_decl.specs.Lookup.{append_need_of, read_need_of}
 use Rattle.qc_front.specs.declared.doing.Doing.{Doing}
 use Rattle.qc_front.specs.declared.doing.Doing.TheVariants.{Reading, Appending}
 use Rattle.qc_front.specs.declared.front.Front.{Front}
 use Rattle.qc_front.specs.declared.transaction.Transaction.{Transaction}
 use Rattle.qc_front.specs.Going as going
-use Rattle.qc_front.specs.Holds.{AppendingHolds, FrontHolds, ReadingHolds, RecordsHold}
 use Rattle.qc_front.proofs.Goes.{waits}
 use Rattle.qc_client.specs.declared.client.Client.{Client}
 use Rattle.qc_msg.specs.declared.call.Call.{Call}
 use Rattle.qc_msg.specs.declared.message.Answer.{Answer}
-use Rattle.qc_msg.specs.declared.message.Answer.TheVariants as answers
 use Rattle.qc_msg.specs.declared.message.Want.{Want}
-use Rattle.qc_msg.specs.declared.reply.Reply.{Reply}
 use Rattle.qc_msg.specs.declared.reply.Reply.TheVariants as replies
-use Rattle.qc_msg.specs.declared.reply.Why.TheVariants as causes
-use Rattle.qc_msg.specs.declared.step.Command.{Command}
-use Rattle.qc_msg.specs.declared.step.Command.TheVariants as commands
 use Rattle.qc_msg.specs.declared.turn.Turn.{Turn}
 use Rattle.qc_msg.specs.Deeds.{Deed}
-use Rattle.qc_plan.specs.declared.standing.Asked.{Asked}
-use Rattle.qc_plan.specs.declared.standing.Verdict.{Verdict}
 use Rattle.qc_plan.specs.declared.standing.Verdict.TheVariants as verdicts
-use Rattle.qc_plan.specs.Round.{RoundState, all_noted, has_granted, refusal, settled, verdict, first_clash, first_closed}
+use Rattle.qc_plan.specs.Round.{all_noted, has_granted, refusal, settled, verdict, first_clash, first_closed}
 use Rattle.qc_plan.specs.Weights.{weight}
-use Rattle.qc_promise.specs.Account.{Account, ClientRequest, Current, is_append, is_prepare, is_read}
-use Rattle.qc_promise.specs.Rounds.{answer_of, are_votes_in, asked_by, first_against, participants, resp_of, round_of, weights_of}
-use Rattle.qc_promise.specs.Rows.{answer_row, append_row, due, read_row, row_of, vote_row}
+use Rattle.qc_promise.specs.Account.{Account, ClientRequest, Current, is_append, is_read}
+use Rattle.qc_promise.specs.Rounds.{answer_of, asked_by, resp_of, round_of, weights_of}
+use Rattle.qc_promise.specs.Rows.{answer_row, append_row, due, read_row}
 use Rattle.qc_account.specs.Calls.{call_of, calls_in}
 use Rattle.qc_account.specs.Goes.{Holds}
 use Rattle.qc_account.specs.Told.{front_of}
-use Rattle.qc_account.specs.Ties.{Appends, IsDo, NoneRuns, Reads, Rests, Ties, Votes, appends, reads, rests, votes}
+use Rattle.qc_account.specs.Ties.{IsDo, NoneRuns, Ties, appends, reads, rests, votes}
 use Rattle.qc_account.specs.Waits.{IsEnough, IsGranted, IsGrantedDo, IsWaiting}
 use Rattle.qc_account.proofs.Nothing.{do_row_is, tied_none}
 use Rattle.qc_account.proofs.Courses.{account_of, clients_hold, clients_tied, move_of, turns_tell}

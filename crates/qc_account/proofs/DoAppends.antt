@@ -1,31 +1,26 @@
 -- A `do` that appends: whatever its round comes to is due.
-use Rattle.std.proofs.Common.{◌≡◌, ◌≤◌, ◌<◌, ℕ, ◌+◌, ◌==◌, ◌&&◌, ◌||◌, not, nat_le, nat_lt, Bool, true, false, cond, List, [], ◌∷◌, ◌++◌, length, map, filter, drop, Option, Some, None, refl, sym, ap, ◌∙◌, subst, eq-eqb, arith}
-use Rattle.std.specs.Prelude.{fold, is_none}
+use Rattle.std.proofs.Common.{◌≡◌, ℕ, ◌+◌, ◌==◌, ◌&&◌, ◌||◌, not, nat_le, Bool, true, false, cond, List, [], ◌∷◌, ◌++◌, length, map, filter, drop, Option, Some, None, refl, sym, ap, ◌∙◌, subst, eq-eqb}
+use Rattle.std.specs.Prelude.{fold}
 use Rattle.std.specs.List.{AllByRecursion as Every}
-use Rattle.std.specs.Option.{option_map_or}
 use Rattle.std.specs.Ordering.{is_eq}
 use Rattle.std.specs.Cmp.Lexicographic.{pointwise}
-use Rattle.std.specs.declared.cmp.Ordering.{Ordering}
 use Rattle.std.proofs.lemmas.Cmp.{tied_itself}
 use Rattle.std.proofs.lemmas.List.{append-nil, length-map}
 use Rattle.std.proofs.lemmas.List.Elements.{filter-append}
 use Rattle.qc_list.proofs.Members.{every-append}
-use Rattle.qc_stamp.specs.declared.stamp.TxId.{TxId}
 use Rattle.qc_decl.specs.declared.declaration.Declaration.{Declaration}
 use Rattle.qc_decl.specs.Limits.{most_transaction_operations}
 use Rattle.qc_decl.specs.Lookup.{append_need_of, read_need_of}
 use Rattle.qc_entry.specs.declared.line.Line.{Line}
 use Rattle.qc_entry.specs.declared.line.OwnLine.{OwnLine}
-use Rattle.qc_entry.specs.Line.{line_cmp}
 use Rattle.qc_entry.proofs.Orders.{line_order}
-use Rattle.qc_plan.specs.declared.standing.Asked.{Asked}
 use Rattle.qc_plan.specs.declared.standing.Verdict.{Verdict}
 use Rattle.qc_plan.specs.declared.standing.Verdict.TheVariants as verdicts
 use Rattle.qc_plan.specs.Round.{RoundState, asking_all, first, verdict, wanted}
 use Rattle.qc_view.specs.declared.view.View.{View}
 use Rattle.qc_commit.specs.declared.desk.Desk.{Desk}
 use Rattle.qc_front.specs.declared.doing.Doing.{Doing}
-use Rattle.qc_front.specs.declared.doing.Doing.TheVariants.{Idle, Reading, Appending}
+use Rattle.qc_front.specs.declared.doing.Doing.TheVariants.{Idle, Appending}
 use Rattle.qc_front.specs.declared.front.Front.{Front}
 use Rattle.qc_front.specs.declared.transaction.Transaction.{Transaction}
 use Rattle.qc_front.specs.Answering.{with_event}
@@ -34,30 +29,30 @@ use Rattle.qc_front.specs.Holds.{IsPrefix, RecordsHold}
 use Rattle.qc_front.specs.Rounds as fronts
 use Rattle.qc_front.proofs.Awaited.{wanted_is}
 use Rattle.qc_client.specs.declared.client.Client.{Client}
-use Rattle.qc_client.specs.Client.{ClientMove, by_front, moved}
+use Rattle.qc_client.specs.Client.{by_front}
 use Rattle.qc_msg.specs.declared.call.Call.{Call}
 use Rattle.qc_msg.specs.declared.message.Want.{Want}
-use Rattle.qc_msg.specs.declared.message.Want.TheVariants.{Read, Append, Prepare}
+use Rattle.qc_msg.specs.declared.message.Want.TheVariants.{Append}
 use Rattle.qc_msg.specs.declared.reply.Half.TheVariants as halves
 use Rattle.qc_msg.specs.declared.reply.Reply.{Reply}
 use Rattle.qc_msg.specs.declared.reply.Reply.TheVariants as replies
 use Rattle.qc_msg.specs.declared.step.Command.TheVariants as commands
 use Rattle.qc_msg.specs.Begun.{with_site}
 use Rattle.qc_msg.specs.Calls.{calls_from}
-use Rattle.qc_msg.specs.Turns.{sending, telling}
-use Rattle.qc_promise.specs.Account.{Account, ClientRequest, Current, is_append, is_read, requests_for, view_of}
-use Rattle.qc_promise.specs.Accounting.{account_told, doomed_if, with_response}
+use Rattle.qc_msg.specs.Turns.{sending}
+use Rattle.qc_promise.specs.Account.{Account, ClientRequest, Current, is_append, is_read, view_of}
+use Rattle.qc_promise.specs.Accounting.{doomed_if, with_response}
 use Rattle.qc_promise.specs.Asked.{are_reads_met, carries, command_asks, is_met, is_next_voter, is_this, own_appended, same_line, same_own}
-use Rattle.qc_promise.specs.Rounds.{answer_of, asked_by, resp_of, round_of}
+use Rattle.qc_promise.specs.Rounds.{answer_of, asked_by, resp_of}
 use Rattle.qc_promise.specs.Rows.{answer_row, append_row, due, read_row}
 use Rattle.qc_account.specs.Calls.{calls_in}
 use Rattle.qc_account.specs.Goes.{Goes}
-use Rattle.qc_account.specs.Told.{IsBegun, IsOpenIn, front_of, transaction_of}
-use Rattle.qc_account.specs.Ties.{IsDo, IsIdleDesk, Ties, appends}
+use Rattle.qc_account.specs.Told.{IsOpenIn, front_of, transaction_of}
+use Rattle.qc_account.specs.Ties.{IsIdleDesk, Ties, appends}
 use Rattle.qc_account.proofs.Halves.{clash_asked, closed_asked, round_asked, round_at, round_from, round_one}
 use Rattle.qc_account.proofs.Asks.{asking}
 use Rattle.qc_account.proofs.Requests.{calls_more, calls_new, every_new, request_at, requests_from}
-use Rattle.qc_account.proofs.Turns.{Asked as Asking, asks_go, client_at, desk_kept, doomed_begun, rest_ties, rested, tells_goes}
+use Rattle.qc_account.proofs.Turns.{Asked as Asking, asks_go, client_at, doomed_begun, rest_ties, rested, tells_goes}
 use Rattle.qc_account.proofs.Views.{LogsAre, event_begun, view_same}
 
 -- the account while a `do` runs
@@ -155,7 +150,11 @@ module _ (decl : Declaration) (number : ℕ) (d : Account) (desk : Desk) (t : Cu
   pub appends_tie : (asked_now : List ℕ) (qs : List ClientRequest) → verdict (read_round qs) ≡ verdicts.Met → Every (IsOpenIn is_append) qs
       → Ties decl (run d t object inv qs) (client_at d desk (Some (transaction_of t asked_now views)) (Appending object inv event (calls_in qs) (round qs)))
   appends_tie asked_now qs met open_in = appends (record {
-    object = object; inv = inv; event = event; t = t; x = transaction_of t asked_now views;
+    object = object;
+    inv = inv;
+    event = event;
+    t = t;
+    x = transaction_of t asked_now views;
     runs = record { command = refl; current = refl; written = refl; live = k.live; room = k.room };
     begun = record { is = refl; logs = k.logs };
     met = met;
@@ -181,10 +180,10 @@ module _ (decl : Declaration) (number : ℕ) (d : Account) (desk : Desk) (t : Cu
       × ((verdict (read_round (qs ++ request_at n t want site ∷ [])) ≡ verdicts.Met) × IsNext decl d t is_append (qs ++ request_at n t want site ∷ []) ss)
   step n site ss qs p = (
     ap (λ (b : Bool). (b && carries decl t object (view_of t object) (own_appended decl t object event) (answer_of decl t object inv)) && (is_next_voter decl (run d t object inv qs) t is_append site && are_reads_met decl (run d t object inv qs) t object inv)) (eq-eqb object object refl)
-    ∙ ap (λ (o : Option ℕ). carries decl t object (view_of t object) (own_appended decl t object event) o && (is_next_voter decl (run d t object inv qs) t is_append site && are_reads_met decl (run d t object inv qs) t object inv)) chosen
-    ∙ ap (λ (b : Bool). b && (is_next_voter decl (run d t object inv qs) t is_append site && are_reads_met decl (run d t object inv qs) t object inv)) (carried decl t object event)
-    ∙ ap (λ (b : Bool). b && are_reads_met decl (run d t object inv qs) t object inv) (next_voter decl d t is_append qs site ss p.1)
-    ∙ ap is_met p.0,
+        ∙ ap (λ (o : Option ℕ). carries decl t object (view_of t object) (own_appended decl t object event) o && (is_next_voter decl (run d t object inv qs) t is_append site && are_reads_met decl (run d t object inv qs) t object inv)) chosen
+        ∙ ap (λ (b : Bool). b && (is_next_voter decl (run d t object inv qs) t is_append site && are_reads_met decl (run d t object inv qs) t object inv)) (carried decl t object event)
+        ∙ ap (λ (b : Bool). b && are_reads_met decl (run d t object inv qs) t object inv) (next_voter decl d t is_append qs site ss p.1)
+        ∙ ap is_met p.0,
     (still_met qs (request_at n t want site ∷ []) refl p.0, next_one decl d t is_append want refl qs n site ss p.1),
   )
 

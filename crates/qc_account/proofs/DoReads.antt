@@ -1,13 +1,11 @@
 -- A `do` that reads: whatever its round comes to is due.
-use Rattle.std.proofs.Common.{◌≡◌, ℕ, ◌+◌, ◌==◌, ◌&&◌, ◌||◌, not, nat_le, Bool, true, false, cond, List, [], ◌∷◌, ◌++◌, length, map, filter, Option, Some, None, option_map, is_some, unwrap_or, refl, sym, ap, ◌∙◌, subst, eq-eqb}
+use Rattle.std.proofs.Common.{◌≡◌, ℕ, ◌==◌, ◌&&◌, ◌||◌, not, Bool, true, false, cond, List, [], ◌∷◌, ◌++◌, length, map, filter, Option, Some, None, option_map, is_some, unwrap_or, refl, sym, ap, ◌∙◌, subst, eq-eqb}
 use Rattle.std.specs.Prelude.{fold, is_none}
 use Rattle.std.specs.List.{AllByRecursion as Every}
-use Rattle.std.proofs.lemmas.List.{append-nil}
 use Rattle.std.proofs.lemmas.List.Elements.{filter-append}
 use Rattle.qc_list.proofs.Members.{every-append, every-weaker}
 use Rattle.qc_decl.specs.declared.declaration.Declaration.{Declaration}
 use Rattle.qc_decl.specs.Lookup.{append_need_of, read_need_of}
-use Rattle.qc_entry.specs.declared.line.Op.{Op}
 use Rattle.qc_plan.specs.declared.standing.Verdict.{Verdict}
 use Rattle.qc_plan.specs.declared.standing.Verdict.TheVariants as verdicts
 use Rattle.qc_plan.specs.Round.{RoundState, all_noted, asking_all, has_granted, refusal, settled, verdict, wanted}
@@ -18,7 +16,6 @@ use Rattle.qc_front.specs.declared.doing.Doing.{Doing}
 use Rattle.qc_front.specs.declared.doing.Doing.TheVariants.{Idle, Reading}
 use Rattle.qc_front.specs.declared.front.Front.{Front}
 use Rattle.qc_front.specs.declared.transaction.Transaction.{Transaction}
-use Rattle.qc_front.specs.Answering as fronts_answer
 use Rattle.qc_front.specs.Answering.{op_of, with_op}
 use Rattle.qc_front.specs.Appending.{round_for}
 use Rattle.qc_front.specs.Rounds as fronts
@@ -106,7 +103,10 @@ module _ (decl : Declaration) (number : ℕ) (d : Account) (desk : Desk) (t : Cu
   pub reads_tie : (asked_now : List ℕ) (qs : List ClientRequest) → Every (IsRead object inv) qs
       → Ties decl (run d t object inv qs) (client_at d desk (Some (transaction_of t asked_now views)) (Reading object inv (calls_in qs) (round qs)))
   reads_tie asked_now qs all = reads (record {
-    object = object; inv = inv; t = t; x = transaction_of t asked_now views;
+    object = object;
+    inv = inv;
+    t = t;
+    x = transaction_of t asked_now views;
     runs = record { command = refl; current = refl; written = refl; live = k.live; room = k.room };
     begun = record { is = refl; logs = k.logs };
     reads = all;
@@ -124,9 +124,9 @@ module _ (decl : Declaration) (number : ℕ) (d : Account) (desk : Desk) (t : Cu
       × ((filter (λ (q : ClientRequest). is_append q.want) (qs ++ request_at n t want site ∷ []) ≡ []) × IsNext decl d t is_read (qs ++ request_at n t want site ∷ []) ss)
   step n site ss qs p = (
     ap (λ (b : Bool). (b && (inv == inv)) && (is_next_voter decl (run d t object inv qs) t is_read site && (length (requests_for is_append (run d t object inv qs)) == 0))) (eq-eqb object object refl)
-    ∙ ap (λ (b : Bool). b && (is_next_voter decl (run d t object inv qs) t is_read site && (length (requests_for is_append (run d t object inv qs)) == 0))) (eq-eqb inv inv refl)
-    ∙ ap (λ (b : Bool). b && (length (requests_for is_append (run d t object inv qs)) == 0)) (next_voter decl d t is_read qs site ss p.1)
-    ∙ ap (λ (hs : List ClientRequest). length hs == 0) p.0,
+        ∙ ap (λ (b : Bool). b && (is_next_voter decl (run d t object inv qs) t is_read site && (length (requests_for is_append (run d t object inv qs)) == 0))) (eq-eqb inv inv refl)
+        ∙ ap (λ (b : Bool). b && (length (requests_for is_append (run d t object inv qs)) == 0)) (next_voter decl d t is_read qs site ss p.1)
+        ∙ ap (λ (hs : List ClientRequest). length hs == 0) p.0,
     (filter-append (λ (q : ClientRequest). is_append q.want) qs (request_at n t want site ∷ []) ∙ ap (λ (hs : List ClientRequest). hs ++ []) p.0, next_one decl d t is_read want refl qs n site ss p.1),
   )
 

@@ -1,9 +1,8 @@
 -- Commands, which come where nothing runs.
-use Rattle.std.proofs.Common.{◌≡◌, ◌≤◌, ℕ, zero, suc, ◌+◌, ◌==◌, ◌&&◌, nat_le, Bool, true, false, cond, List, [], ◌∷◌, length, map, max, replicate, Option, Some, None, refl, sym, ap, ◌∙◌, subst, arith}
+use Rattle.std.proofs.Common.{◌≡◌, ◌≤◌, ℕ, zero, suc, ◌+◌, ◌==◌, ◌&&◌, nat_le, Bool, true, false, cond, List, [], length, map, max, replicate, Option, Some, None, refl, sym, ap, ◌∙◌, subst, arith}
 use Rattle.std.specs.Prelude.{slice_get}
 use Rattle.qc_stamp.specs.declared.stamp.TxId.{TxId}
 use Rattle.qc_stamp.specs.Lives.{first_life}
-use Rattle.qc_entry.specs.declared.record.Commit.{Commit}
 use Rattle.qc_decl.specs.declared.declaration.Declaration.{Declaration}
 use Rattle.qc_decl.specs.Limits.{most_transaction_operations}
 use Rattle.qc_decl.specs.Lookup.{read_need_of}
@@ -14,17 +13,15 @@ use Rattle.qc_commit.specs.Conduct as desks
 use Rattle.qc_commit.specs.Desk.{DeskMove, moved as desk_moved}
 use Rattle.qc_commit.specs.Votes.{blank, participants as desk_participants, prepares}
 use Rattle.qc_front.specs.declared.doing.Doing.TheVariants.{Idle}
-use Rattle.qc_front.specs.declared.front.Front.{Front}
 use Rattle.qc_front.specs.declared.transaction.Transaction.{Transaction}
 use Rattle.qc_front.specs.Appending.{round_for}
 use Rattle.qc_front.specs.Conduct as fronts
-use Rattle.qc_front.specs.Front.{FrontMove, aborts, begins, fresh, gives_up, moved as front_moved}
+use Rattle.qc_front.specs.Front.{fresh, gives_up, moved as front_moved}
 use Rattle.qc_front.specs.Holds.{RecordsHold}
 use Rattle.qc_front.specs.Rounds.{performs, reads}
 use Rattle.qc_client.specs.declared.client.Client.{Client}
 use Rattle.qc_client.specs.Client.{by_desk, by_front}
 use Rattle.qc_client.specs.Conduct as clients
-use Rattle.qc_msg.specs.declared.begun.Begun.{Begun}
 use Rattle.qc_msg.specs.declared.message.Outcome.TheVariants as outcomes
 use Rattle.qc_msg.specs.declared.reply.Reply.{Reply}
 use Rattle.qc_msg.specs.declared.reply.Reply.TheVariants as replies
@@ -34,16 +31,16 @@ use Rattle.qc_msg.specs.declared.step.Command.TheVariants as commands
 use Rattle.qc_msg.specs.Turns.{quiet, sending, telling}
 use Rattle.qc_plan.specs.Round.{verdict}
 use Rattle.qc_promise.specs.Account.{Account, Current, is_read, new_current, view_of}
-use Rattle.qc_promise.specs.Rounds.{are_votes_in, participants}
-use Rattle.qc_promise.specs.Rows.{do_row, due, read_row, vote_row}
+use Rattle.qc_promise.specs.Rounds.{participants}
+use Rattle.qc_promise.specs.Rows.{due, read_row, vote_row}
 use Rattle.qc_account.specs.Goes.{Goes}
-use Rattle.qc_account.specs.Told.{IsBegun, begun_of, front_of, transaction_of}
+use Rattle.qc_account.specs.Told.{begun_of, transaction_of}
 use Rattle.qc_account.specs.Ties.{IsIdleDesk, Ties, rests}
 use Rattle.qc_account.proofs.Commits.{decides_go, votes_start, voting_desk}
-use Rattle.qc_account.proofs.DoAppends.{Runs, run}
+use Rattle.qc_account.proofs.DoAppends.{run}
 use Rattle.qc_account.proofs.DoReads.{reads_go}
 use Rattle.qc_account.proofs.Halves.{round_at}
-use Rattle.qc_account.proofs.Turns.{client_at, desk_kept, ends_goes, none_ties, rest_ties, still_goes, tells_goes}
+use Rattle.qc_account.proofs.Turns.{client_at, ends_goes, none_ties, rest_ties, still_goes, tells_goes}
 use Rattle.qc_account.proofs.Views.{LogsAre}
 
 -- the account once a command is called
@@ -81,7 +78,12 @@ module _ (decl : Declaration) (number : ℕ) (d : Account) (desk : Desk) (k : Is
   without_go commands.Commit = none_go commands.Commit refl
   without_go commands.Abort = none_go commands.Abort refl
   without_go (commands.Epoch n) = still_goes decl number (called_at d None (commands.Epoch n)) free refl (rests (record {
-    command = tt; requests = refl; written = refl; begun = tt; front = refl; desk = record { client = k.client; clock = k.clock; epoch = k.epoch; voting = k.voting };
+    command = tt;
+    requests = refl;
+    written = refl;
+    begun = tt;
+    front = refl;
+    desk = record { client = k.client; clock = k.clock; epoch = k.epoch; voting = k.voting };
   }))
 
   -- with one
@@ -110,9 +112,11 @@ module _ (decl : Declaration) (number : ℕ) (d : Account) (desk : Desk) (k : Is
             (cond w (front_moved idle.front (telling replies.TooLong)) (reads decl idle.front x object inv [] (round_for decl idle.front x (read_need_of decl t.epoch object inv))))))
         by true is w is_w = tells_goes decl number (called_at d (Some t) (commands.Do object inv)) replies.Doomed idle
             (ap (λ (z : Bool). cond z (Some replies.Doomed) (cond (nat_le most_transaction_operations (length t.ops)) (Some replies.TooLong) (first_row object inv))) is, refl) (same_go (commands.Do object inv) replies.Doomed)
-        by false is true is_w = tells_goes decl number (called_at d (Some t) (commands.Do object inv)) replies.TooLong idle
-            (ap (λ (z : Bool). cond z (Some replies.Doomed) (cond (nat_le most_transaction_operations (length t.ops)) (Some replies.TooLong) (first_row object inv))) is
-            ∙ ap (λ (w : Bool). cond w (Some replies.TooLong) (first_row object inv)) is_w, refl) (same_go (commands.Do object inv) replies.TooLong)
+        by false is true is_w = tells_goes decl number (called_at d (Some t) (commands.Do object inv)) replies.TooLong idle (
+          ap (λ (z : Bool). cond z (Some replies.Doomed) (cond (nat_le most_transaction_operations (length t.ops)) (Some replies.TooLong) (first_row object inv))) is
+              ∙ ap (λ (w : Bool). cond w (Some replies.TooLong) (first_row object inv)) is_w,
+          refl,
+        ) (same_go (commands.Do object inv) replies.TooLong)
         by false is false is_w = reads_go decl number d desk t asked views object inv (record { live = is; room = is_w; records = records; logs = logs; desk_is = k }) [] idle.front (Some x) Idle tt
 
     aborts_go : Goes decl number (called_at d (Some t) commands.Abort) (clients.called decl idle commands.Abort)
@@ -164,5 +168,10 @@ module _ (decl : Declaration) (number : ℕ) (d : Account) (desk : Desk) (k : Is
     within_go commands.Commit = commits_go
     within_go commands.Abort = aborts_go
     within_go (commands.Epoch n) = still_goes decl number (called_at d (Some t) (commands.Epoch n)) idle refl (rests (record {
-      command = tt; requests = refl; written = refl; begun = record { is = refl; logs = logs }; front = refl; desk = record { client = k.client; clock = k.clock; epoch = k.epoch; voting = k.voting };
+      command = tt;
+      requests = refl;
+      written = refl;
+      begun = record { is = refl; logs = logs };
+      front = refl;
+      desk = record { client = k.client; clock = k.clock; epoch = k.epoch; voting = k.voting };
     }))

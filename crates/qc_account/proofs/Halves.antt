@@ -1,8 +1,7 @@
 -- The round of a half by an account: one request more, and what is taken for one.
-use Rattle.std.proofs.Common.{◌≡◌, ◌≢◌, ℕ, zero, suc, ◌+◌, ◌==◌, ◌&&◌, not, nat_le, Bool, true, false, cond, List, [], ◌∷◌, ◌++◌, length, map, filter, drop, Option, Some, None, option_map, is_some, unwrap_or, refl, sym, ap, ◌∙◌, subst, append_assoc, eqb-true, arith}
-use Rattle.std.specs.Option.{option_or}
-use Rattle.std.specs.List.{find, list_all, AllByRecursion as Every}
-use Rattle.std.proofs.lemmas.List.{append-nil, length-append, map-append}
+use Rattle.std.proofs.Common.{◌≡◌, ℕ, zero, suc, ◌+◌, ◌==◌, nat_le, Bool, true, false, cond, List, [], ◌∷◌, ◌++◌, length, map, filter, drop, Option, Some, None, unwrap_or, refl, sym, ap, ◌∙◌, subst, append_assoc, eqb-true, arith}
+use Rattle.std.specs.List.{find, AllByRecursion as Every}
+use Rattle.std.proofs.lemmas.List.{append-nil, map-append}
 use Rattle.std.proofs.lemmas.List.Elements.{filter-append}
 use Rattle.std.proofs.Math.Seq.{drop-nil}
 use Rattle.qc_stamp.specs.declared.stamp.TxId.{TxId}
@@ -12,12 +11,10 @@ use Rattle.qc_msg.specs.declared.message.Answer.{Answer}
 use Rattle.qc_msg.specs.declared.message.Want.{Want}
 use Rattle.qc_plan.specs.declared.standing.Asked.{Asked}
 use Rattle.qc_plan.specs.declared.standing.Standing.{Standing}
-use Rattle.qc_plan.specs.declared.standing.Standing.TheVariants as standings
-use Rattle.qc_plan.specs.declared.standing.Verdict.{Verdict}
 use Rattle.qc_plan.specs.declared.standing.Verdict.TheVariants as verdicts
 use Rattle.qc_plan.specs.Round.{RoundState, asking_all, note, note_in, start, verdict, all_noted, refusal, settled, has_granted}
 use Rattle.qc_plan.specs.Weights.{weight}
-use Rattle.qc_promise.specs.Account.{Account, ClientRequest, Current, requests_for}
+use Rattle.qc_promise.specs.Account.{Account, ClientRequest, Current}
 use Rattle.qc_promise.specs.Accounting.{is_open, taken_for}
 use Rattle.qc_promise.specs.Rounds.{asked_by, round_of, standing_of, weights_of}
 use Rattle.qc_account.specs.Calls.{AreApart}
@@ -132,7 +129,6 @@ closed_asked r epoch site is = by r.asked is
         at false true e = let never : ⊥ = cc in never
         at false false e = let never : ⊥ = cc in never
     by (a ∷ rest) e = some (length rest)
-
 
 pub clash_asked : (r : RoundState) (tx : TxId) (site : ℕ) → verdict r ≡ verdicts.Clash tx site → (length r.asked == 0) ≡ false
 clash_asked r tx site is = by r.asked is

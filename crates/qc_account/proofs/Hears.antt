@@ -1,18 +1,16 @@
 -- What is taken while a `do` runs: the first thing for an open request counts, all else changes nothing.
-use Rattle.std.proofs.Common.{◌≡◌, ◌≤◌, ℕ, ◌+◌, ◌==◌, ◌&&◌, Bool, true, false, cond, List, [], ◌∷◌, ◌++◌, map, filter, max, Option, Some, None, option_map, refl, sym, ap, ◌∙◌, subst, arith}
+use Rattle.std.proofs.Common.{◌≡◌, ℕ, ◌==◌, ◌&&◌, Bool, true, false, cond, List, [], ◌∷◌, filter, max, Option, Some, None, option_map, refl, sym, ap, ◌∙◌, subst, arith}
 use Rattle.std.specs.Prelude.{is_none}
 use Rattle.std.specs.List.{find, AllByRecursion as Every}
 use Rattle.qc_list.proofs.Members.{every-In, every-weaker}
 use Rattle.qc_decl.specs.declared.declaration.Declaration.{Declaration}
 use Rattle.qc_decl.specs.Lookup.{append_need_of, read_need_of}
 use Rattle.qc_entry.specs.declared.line.Line.{Line}
-use Rattle.qc_plan.specs.declared.standing.Verdict.{Verdict}
 use Rattle.qc_plan.specs.declared.standing.Verdict.TheVariants as verdicts
 use Rattle.qc_plan.specs.Round.{RoundState, all_noted, note, verdict}
 use Rattle.qc_view.specs.declared.view.View.{View}
 use Rattle.qc_commit.specs.declared.desk.Desk.{Desk}
-use Rattle.qc_front.specs.declared.doing.Doing.{Doing}
-use Rattle.qc_front.specs.declared.doing.Doing.TheVariants.{Idle, Reading, Appending}
+use Rattle.qc_front.specs.declared.doing.Doing.TheVariants.{Reading, Appending}
 use Rattle.qc_front.specs.declared.front.Front.{Front}
 use Rattle.qc_front.specs.declared.transaction.Transaction.{Transaction}
 use Rattle.qc_front.specs.Answering.{with_granted}
@@ -28,8 +26,8 @@ use Rattle.qc_msg.specs.declared.message.Answer.{Answer}
 use Rattle.qc_msg.specs.declared.message.Answer.TheVariants as answers
 use Rattle.qc_msg.specs.declared.message.Want.{Want}
 use Rattle.qc_msg.specs.declared.message.Want.TheVariants.{Read, Append, Prepare}
-use Rattle.qc_msg.specs.Calls.{site_called, without_call}
-use Rattle.qc_promise.specs.Account.{Account, ClientRequest, Current, is_append, is_read, view_of}
+use Rattle.qc_msg.specs.Calls.{without_call}
+use Rattle.qc_promise.specs.Account.{Account, ClientRequest, Current, is_append, is_read}
 use Rattle.qc_promise.specs.Accounting.{counted, counted_for, granted, is_open, lived, promised, taken_for, told_by, with_read}
 use Rattle.qc_promise.specs.Rounds.{answer_of, standing_of}
 use Rattle.qc_promise.specs.Rows.{append_row, read_row}
@@ -40,7 +38,7 @@ use Rattle.qc_account.proofs.DoAppends.{Runs, appends_go, appends_tie, due_do, r
 use Rattle.qc_account.proofs.DoReads.{IsRead, open_read, reads_go, reads_tie}
 use Rattle.qc_account.proofs.Halves.{round_at, round_from, round_taken, waiting_verdict}
 use Rattle.qc_account.proofs.Requests.{IsFound, calls_taken, every_taken, find_call, found, numbers_open, sites_in}
-use Rattle.qc_account.proofs.Turns.{client_at, desk_kept, still_goes}
+use Rattle.qc_account.proofs.Turns.{desk_kept, still_goes}
 use Rattle.qc_account.proofs.Views.{granted_begun}
 
 module _ (decl : Declaration) (number : ℕ) (d : Account) (desk : Desk) (t : Current) (asked : List ℕ) (views : List View) (object inv : ℕ) (k : Runs decl d desk t views)

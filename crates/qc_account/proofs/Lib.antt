@@ -6,6 +6,7 @@ pub mod Turns
 pub mod DoAppends
 pub mod DoReads
 pub mod Hears
+pub mod Ballots
 pub mod Commits
 pub mod VotesIn
 pub mod Ends

@@ -25,7 +25,7 @@ use Rattle.qc_promise.specs.Replies.{AreRepliesDue, IsRecordDue, IsReplyDue, IsS
 use Rattle.qc_promise.specs.Rounds.{are_votes_in, first_against}
 use Rattle.qc_promise.specs.Rows.{due, falls_at, next_stamp, row_of, vote_row}
 use Rattle.qc_account.specs.DeedsDue.{AreDeedsDue}
-use Rattle.qc_account.proofs.Said.{AreSaidDue, IsSaidDue}
+use Rattle.qc_account.proofs.Said.{AreSaidDue}
 
 -- steps behind one are nothing to it, where none of them is a fall
 
@@ -127,6 +127,6 @@ module _ (decl : Declaration) where
   all_due before [] none said = tt
   all_due before (e ∷ h) none said = (
     step_due before e.actor e.step h (mail before ++ option_to_list (envelope_of e)) none.1
-    (subst (λ (b : Bool). AreSaidDue decl (account decl e.actor before) (cond b (deed_at (mail before) e.step) [] ++ deeds e.actor (mail before ++ option_to_list (envelope_of e)) h)) (eq-eqb e.actor e.actor refl) (said e.actor)),
+        (subst (λ (b : Bool). AreSaidDue decl (account decl e.actor before) (cond b (deed_at (mail before) e.step) [] ++ deeds e.actor (mail before ++ option_to_list (envelope_of e)) h)) (eq-eqb e.actor e.actor refl) (said e.actor)),
     all_due (before ++ e ∷ []) h none.1 (said_on before e h said),
   )

@@ -1,9 +1,8 @@
 -- A site tells no reply and writes no commit record.
-use Rattle.std.proofs.Common.{◌≡◌, ℕ, ◌+◌, not, nat_le, Bool, true, false, cond, List, [], ◌∷◌, ◌++◌, Option, Some, None, refl, sym, ap, ◌∙◌, subst}
+use Rattle.std.proofs.Common.{◌≡◌, ℕ, ◌+◌, not, nat_le, Bool, true, false, cond, List, [], ◌∷◌, ◌++◌, Option, Some, None, refl, sym, subst}
 use Rattle.std.specs.Prelude.{fold}
 use Rattle.std.specs.List.{AllByRecursion as Every}
 use Rattle.qc_list.proofs.Members.{every-append}
-use Rattle.qc_stamp.specs.declared.stamp.Stamp.{Stamp}
 use Rattle.qc_stamp.specs.declared.stamp.TxId.{TxId}
 use Rattle.qc_decl.specs.declared.declaration.Declaration.{Declaration}
 use Rattle.qc_decl.specs.Actors.{is_site}
@@ -12,7 +11,6 @@ use Rattle.qc_lock.specs.declared.clash.Clash.{Clash as Conflict}
 use Rattle.qc_lock.specs.Clash.{append_clash, read_clash}
 use Rattle.qc_lock.specs.Held.{is_held}
 use Rattle.qc_core.specs.Acts.{Acts, starts, takes, posts}
-use Rattle.qc_core.specs.Conduct.{IsLawful}
 use Rattle.qc_laws.proofs.Served.{lawful_site}
 use Rattle.qc_msg.specs.declared.message.Answer.{Answer}
 use Rattle.qc_msg.specs.declared.message.Answer.TheVariants as answers_of
@@ -33,7 +31,7 @@ use Rattle.qc_msg.specs.Deeds.{Deed, Takes, Writes, Sends, Tells, sends_of, tell
 use Rattle.qc_msg.specs.Turns.{quiet}
 use Rattle.qc_promise.specs.Account.{Account}
 use Rattle.qc_promise.specs.Accounting.{account_at}
-use Rattle.qc_site.specs.Conduct.{passed, site_after, site_at, site_does, site_takes}
+use Rattle.qc_site.specs.Conduct.{passed, site_at, site_does, site_takes}
 use Rattle.qc_site.specs.Promise.{finishes, is_prepared, joins, prepare_length, prepared_of, prepares, promise_of, promised, votes}
 use Rattle.qc_decl.specs.Limits.{most_record_bytes}
 use Rattle.qc_site.specs.Requests.{appends_by, fault_of, grants, names_declared, reads_by, relation_at, requested}

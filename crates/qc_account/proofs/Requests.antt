@@ -1,7 +1,7 @@
 -- The requests of an account: the first thing that is taken for one, in the client's calls and round as in the account.
-use Rattle.std.proofs.Common.{◌≡◌, ◌≢◌, ℕ, suc, ◌+◌, ◌==◌, ◌&&◌, not, Bool, true, false, cond, List, [], ◌∷◌, ◌++◌, length, map, filter, Option, Some, None, option_map, is_some, refl, sym, ap, ◌∙◌, subst, eq-eqb, eqb-true, inl, inr}
+use Rattle.std.proofs.Common.{◌≡◌, ◌≢◌, ℕ, suc, ◌+◌, ◌==◌, ◌&&◌, Bool, true, false, cond, List, [], ◌∷◌, ◌++◌, length, map, filter, Option, Some, None, option_map, refl, sym, ap, ◌∙◌, subst, eq-eqb, eqb-true, inl, inr}
 use Rattle.std.specs.Prelude.{is_none}
-use Rattle.std.specs.List.{find, list_all, AllByRecursion as Every}
+use Rattle.std.specs.List.{find, AllByRecursion as Every}
 use Rattle.std.proofs.lemmas.List.{map-append}
 use Rattle.std.proofs.lemmas.List.Elements.{filter-append}
 use Rattle.qc_list.specs.Members.{In}

@@ -1,16 +1,12 @@
 -- One input of a client: its turn is due, and the tie holds after it.
-use Rattle.std.proofs.Common.{◌≡◌, ◌≢◌, ◌≤◌, ◌<◌, ℕ, zero, suc, ◌+◌, ◌-◌, Bool, true, false, cond, ◌⊎◌, inl, inr, List, [], ◌∷◌, ◌++◌, map, filter, Option, Some, None, refl, sym, ap, ◌∙◌, subst, arith}
+use Rattle.std.proofs.Common.{◌≡◌, ◌≢◌, ◌≤◌, ◌<◌, ℕ, zero, suc, ◌+◌, ◌-◌, ◌⊎◌, inl, inr, List, [], ◌∷◌, ◌++◌, map, filter, Option, Some, None, refl, sym, ap, ◌∙◌, subst, arith}
 use Rattle.std.specs.List.{find, range_with_len}
 use Rattle.qc_list.specs.Members.{In}
-use Rattle.qc_entry.specs.declared.record.Commit.{Commit}
 use Rattle.qc_decl.specs.declared.declaration.Declaration.{Declaration}
 use Rattle.qc_decl.specs.Actors.{first_site}
 use Rattle.qc_decl.specs.Lookup.{append_need_of, read_need_of}
 use Rattle.qc_plan.specs.Round.{RoundState, cyclic}
-use Rattle.qc_view.specs.declared.view.View.{View}
-use Rattle.qc_commit.specs.declared.desk.Desk.{Desk}
 use Rattle.qc_commit.specs.declared.desk.Voting.{Voting}
-use Rattle.qc_commit.specs.Conduct as desks
 use Rattle.qc_front.specs.declared.doing.Doing.{Doing}
 use Rattle.qc_front.specs.declared.doing.Doing.TheVariants.{Idle, Reading, Appending}
 use Rattle.qc_front.specs.declared.front.Front.{Front}
@@ -21,7 +17,7 @@ use Rattle.qc_front.specs.Holds.{AppendingHolds, FrontHolds, ReadingHolds, Recor
 use Rattle.qc_front.proofs.Apart.{apart_filter}
 use Rattle.qc_front.proofs.Noting.{ascends_apart, round_apart}
 use Rattle.qc_client.specs.declared.client.Client.{Client}
-use Rattle.qc_client.specs.Client.{ClientMove, by_desk, by_front, moved}
+use Rattle.qc_client.specs.Client.{by_front}
 use Rattle.qc_client.specs.Conduct.{answered, answered_by, called, client_takes, heard}
 use Rattle.qc_msg.specs.declared.call.Call.{Call}
 use Rattle.qc_msg.specs.declared.message.Answer.{Answer}
@@ -35,13 +31,13 @@ use Rattle.qc_msg.specs.Begun.{has_granted}
 use Rattle.qc_msg.specs.Turns.{quiet}
 use Rattle.qc_promise.specs.Account.{Account, ClientRequest, Current, is_append, is_read}
 use Rattle.qc_promise.specs.Accounting.{account_taken, counted, counted_for, is_open}
-use Rattle.qc_promise.specs.Rounds.{asked_by, participants, round_of}
+use Rattle.qc_promise.specs.Rounds.{asked_by, round_of}
 use Rattle.qc_account.specs.Calls.{AreApart, ballot_of, calls_in}
 use Rattle.qc_account.specs.Goes.{Goes, Holds, MayGive}
-use Rattle.qc_account.specs.Told.{AreBegun, IsBegun, front_of, transaction_of}
-use Rattle.qc_account.specs.Ties.{Appends, NoneRuns, Reads, Rests, Ties, Votes, appends, reads, rests, votes}
+use Rattle.qc_account.specs.Told.{AreBegun, front_of, transaction_of}
+use Rattle.qc_account.specs.Ties.{Appends, Reads, Rests, Ties, Votes, appends, reads, rests, votes}
 use Rattle.qc_account.proofs.Commits.{commit_at, voting_desk, voting_front}
-use Rattle.qc_account.proofs.DoAppends.{Runs, run}
+use Rattle.qc_account.proofs.DoAppends.{run}
 use Rattle.qc_account.proofs.Ends.{called_at, within_go, without_go}
 use Rattle.qc_account.proofs.Hears.{appending_goes, reading_goes}
 use Rattle.qc_account.proofs.Nothing.{tied_none}

@@ -1,14 +1,12 @@
 -- Turns that tell a reply, that send decisions before it, or that ask sites.
-use Rattle.std.proofs.Common.{◌≡◌, ◌≤◌, ◌<◌, ℕ, ◌+◌, ◌||◌, Bool, true, false, List, [], ◌∷◌, ◌++◌, map, Option, Some, None, refl, sym, ap, ◌∙◌, subst, arith, append_assoc}
+use Rattle.std.proofs.Common.{◌≡◌, ◌≤◌, ℕ, ◌+◌, ◌||◌, Bool, true, List, [], ◌∷◌, ◌++◌, map, Option, Some, None, refl, sym, ap, ◌∙◌, subst, arith, append_assoc}
 use Rattle.std.specs.Prelude.{fold}
 use Rattle.std.proofs.lemmas.List.{append-nil}
-use Rattle.std.proofs.lemmas.List.Sums.{fold-append}
 use Rattle.qc_decl.specs.declared.declaration.Declaration.{Declaration}
 use Rattle.qc_view.specs.declared.view.View.{View}
 use Rattle.qc_commit.specs.declared.desk.Desk.{Desk}
 use Rattle.qc_front.specs.declared.doing.Doing.{Doing}
 use Rattle.qc_front.specs.declared.doing.Doing.TheVariants.{Idle}
-use Rattle.qc_front.specs.declared.front.Front.{Front}
 use Rattle.qc_front.specs.declared.transaction.Transaction.{Transaction}
 use Rattle.qc_client.specs.declared.client.Client.{Client}
 use Rattle.qc_client.specs.Client.{ClientMove, moved}
@@ -19,22 +17,20 @@ use Rattle.qc_msg.specs.declared.message.Message.TheVariants as messages
 use Rattle.qc_msg.specs.declared.message.Outcome.{Outcome}
 use Rattle.qc_msg.specs.declared.message.Want.{Want}
 use Rattle.qc_msg.specs.declared.reply.Reply.{Reply}
-use Rattle.qc_msg.specs.declared.step.Command.TheVariants as commands
 use Rattle.qc_msg.specs.declared.turn.Turn.{Turn}
 use Rattle.qc_msg.specs.Begun.{decisions}
 use Rattle.qc_msg.specs.Calls.{calls_from, with_call}
 use Rattle.qc_msg.specs.Deeds.{Deed, Tells, sends_of}
-use Rattle.qc_msg.specs.Turns.{ending, quiet, sending, telling}
+use Rattle.qc_msg.specs.Turns.{ending, quiet, telling}
 use Rattle.qc_promise.specs.Account.{Account, ClientRequest, Current, view_of}
 use Rattle.qc_promise.specs.Accounting.{account_at, account_told, doomed_if}
 use Rattle.qc_promise.specs.Replies.{IsReplyDue}
 use Rattle.qc_promise.specs.Rows.{due}
 use Rattle.qc_promise.specs.Asked.{command_asks}
-use Rattle.qc_account.specs.Calls.{calls_in}
 use Rattle.qc_account.specs.DeedsDue.{AreDeedsDue}
 use Rattle.qc_account.specs.Goes.{Goes}
 use Rattle.qc_account.specs.Told.{IsBegun, front_of, transaction_of}
-use Rattle.qc_account.specs.Ties.{IsIdleDesk, Rests, Ties, rests}
+use Rattle.qc_account.specs.Ties.{IsIdleDesk, Ties, rests}
 use Rattle.qc_account.proofs.Asks.{asking, asks_due, asks_fold}
 use Rattle.qc_account.proofs.Requests.{request_at, requests_from}
 use Rattle.qc_account.proofs.Views.{LogsAre}
@@ -111,15 +107,15 @@ module _ (decl : Declaration) (number : ℕ) where
     tells = sym is.0;
     due = decided_due b o d number b.asked (Tells reply ∷ []) (is, tt);
     ties =
-    subst (λ (e : Account). Ties decl e (fold (client_does decl) (moved c (ending (decisions b o) reply)) (sends_of number (decisions b o) ++ Tells reply ∷ [])).client) (sym (decided_account b o d number b.asked (Tells reply ∷ [])))
-    (subst (λ (m : ClientMove). Ties decl (account_told decl d reply) m.client) (sym (decided_client b o (moved c (ending (decisions b o) reply)) number b.asked (Tells reply ∷ []))) ties);
+        subst (λ (e : Account). Ties decl e (fold (client_does decl) (moved c (ending (decisions b o) reply)) (sends_of number (decisions b o) ++ Tells reply ∷ [])).client) (sym (decided_account b o d number b.asked (Tells reply ∷ [])))
+        (subst (λ (m : ClientMove). Ties decl (account_told decl d reply) m.client) (sym (decided_client b o (moved c (ending (decisions b o) reply)) number b.asked (Tells reply ∷ []))) ties);
   }
 
   -- requests, which get their numbers
 
   module _ (d : Account) (t : Current) (want : Want) (P : List ClientRequest → List ℕ → Type 0)
       (step : (n site : ℕ) (ss : List ℕ) (qs : List ClientRequest) → P qs (site ∷ ss)
-          → (command_asks decl (record d { requests = qs; current = Some t }) t site want d.command ≡ true) × P (qs ++ request_at n t want site ∷ []) ss)
+      → (command_asks decl (record d { requests = qs; current = Some t }) t site want d.command ≡ true) × P (qs ++ request_at n t want site ∷ []) ss)
       (make : List Call → Client) (turn : Turn) (sent_one : (calls : List Call) (n site : ℕ) → requested (make calls) n site want ≡ make (with_call calls n site)) where
     numbered : (ss : List ℕ) (n : ℕ) (calls : List Call) → fold (client_does decl) (moved (make calls) turn) (sends_of n (map (asking t want) ss)) ≡ moved (make (calls ++ calls_from n ss)) turn
     numbered [] n calls = ap (λ (cs : List Call). moved (make cs) turn) (sym (append-nil calls))

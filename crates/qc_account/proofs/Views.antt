@@ -1,5 +1,5 @@
 -- The begun transaction as the account tells it: the view's answer, its lines, and what a grant and an event change.
-use Rattle.std.proofs.Common.{◌≡◌, ◌≢◌, ℕ, zero, suc, ◌+◌, ◌==◌, Bool, true, false, cond, List, [], ◌∷◌, ◌++◌, length, map, filter, Option, Some, None, option_map, refl, sym, ap, ◌∙◌, subst, eq-eqb, eqb-true, arith}
+use Rattle.std.proofs.Common.{◌≡◌, ◌≢◌, ℕ, zero, suc, ◌==◌, Bool, true, false, cond, List, [], ◌∷◌, ◌++◌, length, map, filter, Option, Some, None, option_map, refl, sym, ap, ◌∙◌, eq-eqb, eqb-true, arith}
 use Rattle.std.specs.Prelude.{fold, option_and_then, slice_get, slice_set}
 use Rattle.std.specs.Option.{option_map_or}
 use Rattle.std.proofs.lemmas.List.Elements.{filter-append}
@@ -10,18 +10,16 @@ use Rattle.qc_table.specs.declared.kind.Kind.{Kind}
 use Rattle.qc_decl.specs.declared.declaration.Declaration.{Declaration}
 use Rattle.qc_decl.specs.Lookup.{table_at}
 use Rattle.qc_entry.specs.declared.line.Line.{Line}
-use Rattle.qc_entry.specs.declared.line.OwnLine.{OwnLine}
 use Rattle.qc_entry.specs.Log.{union}
 use Rattle.qc_view.specs.declared.view.View.{View}
 use Rattle.qc_view.specs.View.{answer_in, with_log, with_own}
-use Rattle.qc_front.specs.declared.transaction.Transaction.{Transaction}
 use Rattle.qc_front.specs.Answering as fronts
 use Rattle.qc_front.specs.Answering.{view_log, with_event, with_granted, with_view}
-use Rattle.qc_front.specs.Holds.{RecordsHold, own_on}
+use Rattle.qc_front.specs.Holds.{RecordsHold}
 use Rattle.qc_front.proofs.Recording.{get_set}
 use Rattle.qc_promise.specs.Account.{Current, ReadGrant, view_of}
 use Rattle.qc_promise.specs.Accounting.{with_read, with_response}
-use Rattle.qc_promise.specs.Rounds.{answer_by, answer_of, events_seen, resp_of}
+use Rattle.qc_promise.specs.Rounds.{answer_by, answer_of, resp_of}
 use Rattle.qc_account.specs.Told.{IsBegun, transaction_of}
 
 -- lists of one length have items at the same places

@@ -1,14 +1,11 @@
 -- What is taken while a commit waits for votes: the first thing for an open Prepare is its vote, all else changes nothing.
-use Rattle.std.proofs.Common.{◌≡◌, ◌≢◌, ◌≤◌, ℕ, ◌+◌, ◌==◌, ◌&&◌, Bool, true, false, cond, List, [], ◌∷◌, ◌++◌, map, filter, max, Option, Some, None, option_map, is_some, inl, inr, refl, sym, ap, ◌∙◌, subst, arith}
+use Rattle.std.proofs.Common.{◌≡◌, ◌≤◌, ℕ, ◌==◌, Bool, true, false, cond, List, [], ◌∷◌, map, filter, max, Option, Some, None, option_map, is_some, inl, inr, refl, sym, ap, ◌∙◌, subst, arith}
 use Rattle.std.specs.Prelude.{is_none}
 use Rattle.std.specs.List.{find, list_all, AllByRecursion as Every}
 use Rattle.qc_list.specs.Members.{In}
 use Rattle.qc_list.proofs.Members.{every-In}
-use Rattle.qc_entry.specs.declared.line.Line.{Line}
 use Rattle.qc_entry.specs.declared.record.Commit.{Commit}
 use Rattle.qc_decl.specs.declared.declaration.Declaration.{Declaration}
-use Rattle.qc_plan.specs.Round.{cyclic}
-use Rattle.qc_decl.specs.Actors.{first_site}
 use Rattle.qc_view.specs.declared.view.View.{View}
 use Rattle.qc_commit.specs.declared.ballot.Ballot.{Ballot}
 use Rattle.qc_commit.specs.declared.ballot.Vote.{Vote}
@@ -34,7 +31,7 @@ use Rattle.qc_account.specs.Goes.{Goes}
 use Rattle.qc_account.specs.Told.{begun_of, transaction_of}
 use Rattle.qc_account.specs.Ties.{IsPrepare}
 use Rattle.qc_account.proofs.Commits.{commit_at, votes_go, votes_out, votes_tie, voting_desk, voting_front}
-use Rattle.qc_account.proofs.Requests.{IsFound, calls_taken, every_taken, find_call, first_set, found, numbers_open, set_taken, sites_in, sites_taken}
+use Rattle.qc_account.proofs.Requests.{calls_taken, every_taken, find_call, first_set, found, numbers_open, set_taken, sites_in, sites_taken}
 use Rattle.qc_account.proofs.Turns.{still_goes}
 use Rattle.qc_account.proofs.Views.{LogsAre}
 

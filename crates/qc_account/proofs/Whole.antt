@@ -1,11 +1,11 @@
 -- In each run all replies and commit records are due.
-use Rattle.std.proofs.Common.{◌≡◌, ◌⊎◌, ◌≤◌, ◌<◌, ℕ, ◌+◌, ◌-◌, nat_le, nat_lt, ◌&&◌, Bool, true, false, List, [], ◌∷◌, ◌++◌, inl, inr, length, Option, Some, None, slice_get, refl, sym, ap, ◌∙◌, subst, arith}
+use Rattle.std.proofs.Common.{◌≡◌, ◌⊎◌, ◌≤◌, ◌<◌, ℕ, ◌+◌, ◌&&◌, Bool, false, List, [], ◌∷◌, ◌++◌, inl, inr, length, Option, Some, None, slice_get, refl, sym, subst}
 use Rattle.std.specs.List.{AllByRecursion as Every}
 use Rattle.std.proofs.lemmas.Bool.{cases_lt, le-leb, lt-ltb}
 use Rattle.qc_list.proofs.Members.{every-append}
 use Rattle.qc_core.specs.Conduct.{IsLawful}
 use Rattle.qc_decl.specs.declared.declaration.Declaration.{Declaration}
-use Rattle.qc_decl.specs.Actors.{actors, is_client}
+use Rattle.qc_decl.specs.Actors.{actors}
 use Rattle.qc_laws.proofs.Acted.{has_entry, others_do_nothing, run_acts}
 use Rattle.qc_laws.proofs.Served.{run_due}
 use Rattle.qc_laws.specs.Turns.{ActsIn}
@@ -19,7 +19,7 @@ use Rattle.qc_msg.specs.declared.step.Step.{Step}
 use Rattle.qc_msg.specs.declared.step.Step.TheVariants as steps
 use Rattle.qc_msg.specs.declared.turn.Posting.{Posting}
 use Rattle.qc_msg.specs.declared.turn.Turn.{Turn}
-use Rattle.qc_msg.specs.Deeds.{Deed, deeds, mail}
+use Rattle.qc_msg.specs.Deeds.{deeds, mail}
 use Rattle.qc_msg.specs.Steps.{Entry, by, marked, posted, sents, step_of, told, wrote}
 use Rattle.qc_promise.specs.Accounting.{account}
 use Rattle.qc_promise.specs.Due.{Due}

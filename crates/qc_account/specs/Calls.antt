@@ -1,5 +1,5 @@
 -- The requests of an account, as its client keeps them.
-use Rattle.std.specs.Prelude.{◌≡◌, ◌≢◌, ℕ, List, [], ◌∷◌, map, filter, is_none, option_map}
+use Rattle.std.specs.Prelude.{◌≢◌, ℕ, List, [], ◌∷◌, map, filter, is_none, option_map}
 use Rattle.qc_list.specs.Members.{In}
 use Rattle.qc_commit.specs.declared.ballot.Ballot.{Ballot}
 use Rattle.qc_commit.specs.Votes.{vote_of}

@@ -1,4 +1,4 @@
--- What is due of an actor's deeds: each reply and each commit record, and each request is one that its command asks for.
+-- What is due of an actor's deeds: each reply, each commit record, and each request, which its command asks for.
 use Rattle.std.specs.Prelude.{◌≡◌, ℕ, true, List, [], ◌∷◌}
 use Rattle.qc_decl.specs.declared.declaration.Declaration.{Declaration}
 use Rattle.qc_msg.specs.declared.message.Message.{Message}

@@ -1,12 +1,12 @@
 -- What ties the account of a client's deeds to the client, where it has no open input: the one tells the other.
-use Rattle.std.specs.Prelude.{◌≡◌, ◌≤◌, ℕ, max, nat_le, Bool, true, false, List, [], length, map, is_some, Option, Some, None}
+use Rattle.std.specs.Prelude.{◌≡◌, ◌≤◌, ℕ, max, nat_le, false, [], length, map, is_some, Option, Some, None}
 use Rattle.std.specs.List.{AllByRecursion as Every, list_all}
 use Rattle.qc_plan.specs.declared.standing.Verdict.TheVariants.{Met}
 use Rattle.qc_plan.specs.Round.{verdict}
 use Rattle.qc_decl.specs.declared.declaration.Declaration.{Declaration}
 use Rattle.qc_decl.specs.Limits.{most_transaction_operations}
 use Rattle.qc_decl.specs.Lookup.{append_need_of, read_need_of}
-use Rattle.qc_msg.specs.declared.message.Want.TheVariants.{Read, Append, Prepare}
+use Rattle.qc_msg.specs.declared.message.Want.TheVariants.{Read, Prepare}
 use Rattle.qc_msg.specs.declared.step.Command.{Command}
 use Rattle.qc_msg.specs.declared.step.Command.TheVariants as commands
 use Rattle.qc_msg.specs.Begun.{life_of}
@@ -14,7 +14,7 @@ use Rattle.qc_commit.specs.declared.desk.Desk.{Desk}
 use Rattle.qc_front.specs.declared.doing.Doing.TheVariants.{Idle, Reading, Appending}
 use Rattle.qc_front.specs.declared.transaction.Transaction.{Transaction}
 use Rattle.qc_client.specs.declared.client.Client.{Client}
-use Rattle.qc_promise.specs.Account.{Account, ClientRequest, Current, is_append, is_prepare, is_read, view_of}
+use Rattle.qc_promise.specs.Account.{Account, ClientRequest, Current, is_append, is_read}
 use Rattle.qc_promise.specs.Rounds.{answer_of, participants, round_of}
 use Rattle.qc_account.specs.Calls.{AreApart, ballot_of, calls_in}
 use Rattle.qc_account.specs.Told.{AreBegun, IsBegun, IsOpenIn, front_of}

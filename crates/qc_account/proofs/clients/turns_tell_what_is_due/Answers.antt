@@ -1,4 +1,3 @@
-use Rattle.std.proofs.Common.{◌≡◌, ◌-◌, ℕ, true, List}
 use Rattle.qc_account.proofs.Courses.{turns_tell}
 use Rattle.qc_account.proofs.clients.turns_tell_what_is_due.Goals as goal
 
