@@ -20,3 +20,4 @@ pub mod Mute
 pub mod Lifts
 pub mod Whole
 pub mod Awaits
+pub mod Awaited

@@ -11,7 +11,9 @@
 //! 5. A turn tells just what is due after its input (`turns_tell_what_is_due`),
 //!    and nothing that is due is left untold (`what_is_due_is_told`): so a `do`
 //!    that everybody grants is answered (`granted_dos_are_answered`).
-//! 6. A running command waits for an open request (`commands_wait_for_requests`).
+//! 6. A running command waits for an open request (`commands_wait_for_requests`),
+//!    and nothing was taken for that since it was sent
+//!    (`open_requests_are_awaited`).
 #![tactic(auto)]
 
 mod clients;
@@ -23,4 +25,7 @@ pub use clients::{
     turns_tell_what_is_due,
 };
 pub use runs::{replies_are_due, runs_are_due};
-pub use waiting::{commands_wait_for_requests, granted_dos_are_answered, what_is_due_is_told};
+pub use waiting::{
+    commands_wait_for_requests, granted_dos_are_answered, open_requests_are_awaited,
+    what_is_due_is_told,
+};

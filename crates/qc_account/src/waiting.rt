@@ -3,16 +3,17 @@
 
 ghost use Rattle.std.specs.Prelude.{◌≡◌, ◌⊎◌, ◌-◌, ℕ, true, false, List, [], Some, None, fold};
 ghost use Rattle.qc_account.specs.Ties.{NoneRuns};
-ghost use Rattle.qc_account.specs.Waits.{IsEnough, IsGrantedDo, IsWaiting};
+ghost use Rattle.qc_account.specs.Waits.{IsAwaited, IsEnough, IsGrantedDo, IsWaiting};
 ghost use Rattle.qc_core.specs.Acts.{Acts};
 ghost use Rattle.qc_core.specs.Conduct.{IsLawful};
 ghost use Rattle.qc_decl.specs.Actors.{is_client};
 ghost use Rattle.qc_decl.specs.Lookup.{append_need_of};
 ghost use Rattle.qc_decl.specs.declared.declaration.Declaration.{Declaration};
+ghost use Rattle.qc_list.specs.Members.{In};
 ghost use Rattle.qc_msg.specs.Deeds.{Deed};
 ghost use Rattle.qc_msg.specs.declared.reply.Reply.TheVariants as replies;
 ghost use Rattle.qc_msg.specs.declared.turn.Turn.{Turn};
-ghost use Rattle.qc_promise.specs.Account.{Current, is_append, new_account};
+ghost use Rattle.qc_promise.specs.Account.{ClientRequest, Current, is_append, new_account};
 ghost use Rattle.qc_promise.specs.Accounting.{account_at};
 ghost use Rattle.qc_promise.specs.Rounds.{answer_of, resp_of};
 ghost use Rattle.qc_promise.specs.Rows.{due};
@@ -26,6 +27,14 @@ pub fn commands_wait_for_requests()
         → Acts decl a ds false n
         → NoneRuns (fold (account_at decl) (new_account (a - decl.sites)) ds).command
         ⊎ IsWaiting (fold (account_at decl) (new_account (a - decl.sites)) ds) }
+{}
+
+/// An open request was sent, and neither an answer to it nor its loss was taken
+/// since.
+#[tactic(auto, using(crate::proofs::Awaited::open_awaited))]
+pub fn open_requests_are_awaited()
+    ensures { (decl : Declaration) (client : ℕ) (ds : List Deed) (q : ClientRequest)
+        → In q (fold (account_at decl) (new_account client) ds).requests → q.taken ≡ None → IsAwaited ds q }
 {}
 
 /// Nothing is due then: whatever was due has been told.
