@@ -18,6 +18,6 @@ pub mod Courses
 pub mod Said
 pub mod Mute
 pub mod Lifts
-pub mod Whole
 pub mod Awaits
 pub mod Awaited
+pub mod Whole

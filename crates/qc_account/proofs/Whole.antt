@@ -1,11 +1,11 @@
 -- In each run all replies and commit records are due.
-use Rattle.std.proofs.Common.{◌≡◌, ◌⊎◌, ◌≤◌, ◌<◌, ℕ, ◌+◌, ◌&&◌, Bool, false, List, [], ◌∷◌, ◌++◌, inl, inr, length, Option, Some, None, slice_get, refl, sym, subst}
+use Rattle.std.proofs.Common.{true, false, None, ◌≡◌, ◌⊎◌, ◌≤◌, ◌<◌, ℕ, ◌+◌, ◌&&◌, Bool, List, [], ◌∷◌, ◌++◌, inl, inr, length, Option, Some, slice_get, refl, sym, subst}
 use Rattle.std.specs.List.{AllByRecursion as Every}
 use Rattle.std.proofs.lemmas.Bool.{cases_lt, le-leb, lt-ltb}
 use Rattle.qc_list.proofs.Members.{every-append}
 use Rattle.qc_core.specs.Conduct.{IsLawful}
 use Rattle.qc_decl.specs.declared.declaration.Declaration.{Declaration}
-use Rattle.qc_decl.specs.Actors.{actors}
+use Rattle.qc_decl.specs.Actors.{actors, is_client}
 use Rattle.qc_laws.proofs.Acted.{has_entry, others_do_nothing, run_acts}
 use Rattle.qc_laws.proofs.Served.{run_due}
 use Rattle.qc_laws.specs.Turns.{ActsIn}
@@ -24,11 +24,14 @@ use Rattle.qc_msg.specs.Steps.{Entry, by, marked, posted, sents, step_of, told, 
 use Rattle.qc_promise.specs.Accounting.{account}
 use Rattle.qc_promise.specs.Due.{Due}
 use Rattle.qc_promise.specs.Replies.{AreRepliesDue}
-use Rattle.qc_promise.specs.Rows.{falls_at}
+use Rattle.qc_promise.specs.Rows.{due, falls_at}
 use Rattle.qc_script.specs.Ready.{step_of_control}
 use Rattle.qc_script.specs.Runs.{Runs, begins, takes, posts, phase, control}
 use Rattle.qc_script.specs.declared.script.Script.{Script}
 use Rattle.qc_account.proofs.Said.{AreSaidDue}
+use Rattle.qc_account.specs.Ties.{NoneRuns}
+use Rattle.qc_account.specs.Waits.{IsWaiting}
+use Rattle.qc_account.proofs.Awaits.{clients_owe_nothing, clients_wait}
 use Rattle.qc_account.proofs.Courses.{clients_due}
 use Rattle.qc_account.proofs.Lifts.{NoFall, all_due, said_due}
 use Rattle.qc_account.proofs.Mute.{mute_due, sites_mute}
@@ -91,3 +94,15 @@ module _ (decl : Declaration) (script : Script) where
 
     pub all_is_due : Due decl h
     all_is_due = record { replies = replies_due; sites = λ site within. run_due decl script h open_inputs run site within }
+
+    -- a client without an open input
+
+    module _ (a : ℕ) (client : is_client decl a ≡ true) (free : slice_get open_inputs a ≡ Some false) where
+      acted : ActsIn decl a h false
+      acted = run_acts decl script h open_inputs run a false free
+
+      pub commands_wait : NoneRuns (account decl a h).command ⊎ IsWaiting (account decl a h)
+      commands_wait = clients_wait decl a client (deeds a [] h) acted.above acted.acts
+
+      pub nothing_due : due decl (account decl a h) [] ≡ None
+      nothing_due = clients_owe_nothing decl a client (deeds a [] h) acted.above acted.acts

@@ -13,7 +13,8 @@
 //!    that everybody grants is answered (`granted_dos_are_answered`).
 //! 6. A running command waits for an open request (`commands_wait_for_requests`),
 //!    and nothing was taken for that since it was sent
-//!    (`open_requests_are_awaited`).
+//!    (`open_requests_are_awaited`). So it is in every run
+//!    (`commands_of_runs_wait`).
 #![tactic(auto)]
 
 mod clients;
@@ -24,7 +25,7 @@ pub use clients::{
     accounts_are_their_clients, deeds_of_clients_are_due, inputs_are_answered_as_is_due,
     turns_tell_what_is_due,
 };
-pub use runs::{replies_are_due, runs_are_due};
+pub use runs::{commands_of_runs_wait, replies_are_due, runs_are_due};
 pub use waiting::{
     commands_wait_for_requests, granted_dos_are_answered, open_requests_are_awaited,
     what_is_due_is_told,

@@ -37,7 +37,8 @@ pub fn open_requests_are_awaited()
         → In q (fold (account_at decl) (new_account client) ds).requests → q.taken ≡ None → IsAwaited ds q }
 {}
 
-/// Nothing is due then: whatever was due has been told.
+/// Where a client has no open input nothing is due: whatever was due has been
+/// told.
 pub fn what_is_due_is_told()
     ensures { (decl : Declaration) (a : ℕ) → is_client decl a ≡ true → (ds : List Deed) (n : ℕ)
         → Acts decl a ds false n
