@@ -1,57 +1,25 @@
 -- Requests for promises, as a desk's ballots.
-use Rattle.std.proofs.Common.{◌≡◌, ◌≢◌, ◌≤◌, ◌<◌, ℕ, zero, suc, ◌+◌, ◌==◌, ◌&&◌, Bool, true, false, cond, List, [], ◌∷◌, ◌++◌, length, map, filter, drop, max, Option, Some, None, option_map, is_some, inl, inr, refl, sym, ap, ◌∙◌, subst, eq-eqb, arith}
-use Rattle.std.specs.Prelude.{fold, slice_get}
+use Rattle.std.proofs.Common.{◌≡◌, ◌≢◌, ◌<◌, ℕ, zero, suc, ◌+◌, ◌&&◌, Bool, cond, List, [], ◌∷◌, map, filter, drop, Option, Some, None, option_map, is_some, inl, inr, refl, sym, ap, ◌∙◌, arith}
+use Rattle.std.specs.Prelude.{slice_get}
 use Rattle.std.specs.List.{list_all, AllByRecursion as Every}
 use Rattle.std.specs.Option.{option_or}
-use Rattle.std.proofs.lemmas.List.{length-append, length-map}
-use Rattle.std.proofs.lemmas.List.Elements.{filter-append}
 use Rattle.qc_list.specs.Members.{In}
-use Rattle.qc_stamp.specs.declared.stamp.Stamp.{Stamp}
-use Rattle.qc_entry.specs.declared.record.Commit.{Commit}
-use Rattle.qc_decl.specs.declared.declaration.Declaration.{Declaration}
-use Rattle.qc_view.specs.declared.view.View.{View}
 use Rattle.qc_commit.specs.declared.ballot.Ballot.{Ballot}
-use Rattle.qc_commit.specs.declared.desk.Desk.{Desk}
-use Rattle.qc_commit.specs.declared.desk.Voting.{Voting}
-use Rattle.qc_commit.specs.Conduct as desks
-use Rattle.qc_commit.specs.Desk.{moved as desk_moved}
 use Rattle.qc_commit.specs.Votes as ballots
 use Rattle.qc_commit.specs.Votes.{are_cast, blank, cast, vote_of}
-use Rattle.qc_front.specs.declared.doing.Doing.TheVariants.{Idle}
-use Rattle.qc_front.specs.declared.front.Front.{Front}
-use Rattle.qc_front.specs.declared.transaction.Transaction.{Transaction}
-use Rattle.qc_front.specs.Front.{ended}
-use Rattle.qc_client.specs.declared.client.Client.{Client}
-use Rattle.qc_client.specs.Client.{ClientMove, by_desk}
-use Rattle.qc_client.specs.Conduct.{client_does}
 use Rattle.qc_msg.specs.declared.begun.Begun.{Begun}
-use Rattle.qc_msg.specs.declared.call.Call.{Call}
 use Rattle.qc_msg.specs.declared.message.Answer.{Answer}
 use Rattle.qc_msg.specs.declared.message.Answer.TheVariants as answers
-use Rattle.qc_msg.specs.declared.message.Outcome.TheVariants as outcomes
 use Rattle.qc_msg.specs.declared.message.Want.{Want}
 use Rattle.qc_msg.specs.declared.message.Want.TheVariants.{Prepare}
-use Rattle.qc_msg.specs.declared.reply.Reply.TheVariants as replies
-use Rattle.qc_msg.specs.declared.reply.Why.{Why}
 use Rattle.qc_msg.specs.declared.reply.Why.TheVariants as causes
-use Rattle.qc_msg.specs.declared.step.Command.TheVariants as commands
-use Rattle.qc_msg.specs.Begun.{decisions, life_of}
-use Rattle.qc_msg.specs.Calls.{calls_from}
-use Rattle.qc_msg.specs.Deeds.{Tells, sends_of}
-use Rattle.qc_msg.specs.Turns.{quiet, sending}
-use Rattle.qc_promise.specs.Account.{Account, ClientRequest, Current, is_prepare, view_of}
-use Rattle.qc_promise.specs.Accounting.{account_told}
-use Rattle.qc_promise.specs.Asked.{command_asks, is_this}
-use Rattle.qc_promise.specs.Rounds.{against, are_votes_in, first_against, participants}
-use Rattle.qc_promise.specs.Rows.{due, vote_row}
-use Rattle.qc_account.specs.Calls.{AreApart, ballot_of, calls_in}
-use Rattle.qc_account.specs.Goes.{Goes}
-use Rattle.qc_account.specs.Told.{begun_of, front_of, transaction_of}
-use Rattle.qc_account.specs.Ties.{IsPrepare, Ties, rests, votes}
-use Rattle.qc_account.proofs.Asks.{asking}
-use Rattle.qc_account.proofs.Requests.{calls_new, every_new, request_at, requests_from, sites_in}
-use Rattle.qc_account.proofs.Turns.{Asked as Asking, asks_go, decided_account, decided_client, decided_due, ends_goes, rested}
-use Rattle.qc_account.proofs.Views.{LogsAre}
+use Rattle.qc_msg.specs.Begun.{life_of}
+use Rattle.qc_promise.specs.Account.{ClientRequest, Current, is_prepare}
+use Rattle.qc_promise.specs.Rounds.{against, first_against}
+use Rattle.qc_account.specs.Calls.{AreApart, ballot_of}
+use Rattle.qc_account.specs.Told.{begun_of}
+use Rattle.qc_account.specs.Ties.{IsPrepare}
+use Rattle.qc_account.proofs.Requests.{requests_from, sites_in}
 
 -- lists of requests for promises
 

@@ -1,16 +1,13 @@
 -- A commit: its Prepares, its votes, and its end.
-use Rattle.std.proofs.Common.{◌≡◌, ◌≢◌, ◌≤◌, ◌<◌, ℕ, zero, suc, ◌+◌, ◌==◌, ◌&&◌, Bool, true, false, cond, List, [], ◌∷◌, ◌++◌, length, map, filter, drop, max, Option, Some, None, option_map, is_some, inl, inr, refl, sym, ap, ◌∙◌, subst, eq-eqb, arith}
-use Rattle.std.specs.Prelude.{fold, slice_get}
+use Rattle.std.proofs.Common.{◌≡◌, ◌≤◌, ℕ, suc, ◌+◌, ◌==◌, ◌&&◌, Bool, true, false, cond, List, [], ◌∷◌, ◌++◌, length, map, filter, drop, max, Option, Some, None, is_some, refl, sym, ap, ◌∙◌, subst, eq-eqb, arith}
+use Rattle.std.specs.Prelude.{fold}
 use Rattle.std.specs.List.{list_all, AllByRecursion as Every}
-use Rattle.std.specs.Option.{option_or}
 use Rattle.std.proofs.lemmas.List.{length-append, length-map}
 use Rattle.std.proofs.lemmas.List.Elements.{filter-append}
-use Rattle.qc_list.specs.Members.{In}
 use Rattle.qc_stamp.specs.declared.stamp.Stamp.{Stamp}
 use Rattle.qc_entry.specs.declared.record.Commit.{Commit}
 use Rattle.qc_decl.specs.declared.declaration.Declaration.{Declaration}
 use Rattle.qc_view.specs.declared.view.View.{View}
-use Rattle.qc_commit.specs.declared.ballot.Ballot.{Ballot}
 use Rattle.qc_commit.specs.declared.desk.Desk.{Desk}
 use Rattle.qc_commit.specs.declared.desk.Voting.{Voting}
 use Rattle.qc_commit.specs.Conduct as desks
@@ -26,23 +23,20 @@ use Rattle.qc_client.specs.Client.{ClientMove, by_desk}
 use Rattle.qc_client.specs.Conduct.{client_does}
 use Rattle.qc_msg.specs.declared.begun.Begun.{Begun}
 use Rattle.qc_msg.specs.declared.call.Call.{Call}
-use Rattle.qc_msg.specs.declared.message.Answer.{Answer}
-use Rattle.qc_msg.specs.declared.message.Answer.TheVariants as answers
 use Rattle.qc_msg.specs.declared.message.Outcome.TheVariants as outcomes
-use Rattle.qc_msg.specs.declared.message.Want.{Want}
 use Rattle.qc_msg.specs.declared.message.Want.TheVariants.{Prepare}
 use Rattle.qc_msg.specs.declared.reply.Reply.TheVariants as replies
 use Rattle.qc_msg.specs.declared.reply.Why.{Why}
 use Rattle.qc_msg.specs.declared.reply.Why.TheVariants as causes
 use Rattle.qc_msg.specs.declared.step.Command.TheVariants as commands
-use Rattle.qc_msg.specs.Begun.{decisions, life_of}
+use Rattle.qc_msg.specs.Begun.{decisions}
 use Rattle.qc_msg.specs.Calls.{calls_from}
 use Rattle.qc_msg.specs.Deeds.{Tells, sends_of}
 use Rattle.qc_msg.specs.Turns.{quiet, sending}
 use Rattle.qc_promise.specs.Account.{Account, ClientRequest, Current, is_prepare, view_of}
 use Rattle.qc_promise.specs.Accounting.{account_told}
 use Rattle.qc_promise.specs.Asked.{command_asks, is_this}
-use Rattle.qc_promise.specs.Rounds.{against, are_votes_in, first_against, participants}
+use Rattle.qc_promise.specs.Rounds.{are_votes_in, first_against, participants}
 use Rattle.qc_promise.specs.Rows.{due, vote_row}
 use Rattle.qc_account.specs.Calls.{AreApart, ballot_of, calls_in}
 use Rattle.qc_account.specs.Goes.{Goes}
