@@ -1,0 +1,25 @@
+-- The requests of an account, as its client keeps them.
+use Rattle.std.specs.Prelude.{◌≢◌, ℕ, List, [], ◌∷◌, map, filter, is_none, option_map}
+use Rattle.qc_list.specs.Members.{In}
+use Rattle.qc_commit.specs.declared.ballot.Ballot.{Ballot}
+use Rattle.qc_commit.specs.Votes.{vote_of}
+use Rattle.qc_msg.specs.declared.begun.Begun.{Begun}
+use Rattle.qc_msg.specs.declared.call.Call.{Call}
+use Rattle.qc_promise.specs.Account.{ClientRequest}
+
+-- the open ones: those that nothing was taken for
+
+abbrev pub call_of : ClientRequest → Call
+call_of q = record { number = q.number; site = q.site }
+
+abbrev pub calls_in : List ClientRequest → List Call
+calls_in qs = map call_of (filter (λ (q : ClientRequest). is_none q.taken) qs)
+
+-- those for promises, with what was taken for each
+abbrev pub ballot_of : Begun → ClientRequest → Ballot
+ballot_of b q = record { site = q.site; vote = option_map (vote_of b q.site) q.taken }
+
+-- no two numbers are the same
+abbrev pub AreApart : List ℕ → Type 0
+AreApart [] = Unit {0}
+AreApart (x ∷ xs) = ((y : ℕ) → In y xs → x ≢ y) × AreApart xs

@@ -1,0 +1,6 @@
+pub mod Calls
+pub mod Told
+pub mod Ties
+pub mod DeedsDue
+pub mod Goes
+pub mod Waits

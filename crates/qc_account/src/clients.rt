@@ -1,0 +1,52 @@
+//! Laws of a client and the account of its deeds, each the contract of a
+//! function with nothing to do.
+
+ghost use Rattle.std.specs.Prelude.{◌≡◌, ◌-◌, ℕ, Bool, true, false, List, [], fold};
+ghost use Rattle.qc_account.specs.DeedsDue.{AreDeedsDue};
+ghost use Rattle.qc_account.specs.Goes.{Goes, Holds, MayGive};
+ghost use Rattle.qc_account.specs.Ties.{Ties};
+ghost use Rattle.qc_client.specs.Conduct.{client_after, client_takes};
+ghost use Rattle.qc_client.specs.declared.client.Client.{Client};
+ghost use Rattle.qc_core.specs.Acts.{Acts};
+ghost use Rattle.qc_core.specs.Conduct.{IsLawful};
+ghost use Rattle.qc_decl.specs.Actors.{is_client};
+ghost use Rattle.qc_decl.specs.declared.declaration.Declaration.{Declaration};
+ghost use Rattle.qc_msg.specs.Deeds.{Deed};
+ghost use Rattle.qc_msg.specs.declared.step.Given.{Given};
+ghost use Rattle.qc_msg.specs.declared.turn.Turn.{Turn};
+ghost use Rattle.qc_promise.specs.Account.{Account, new_account};
+ghost use Rattle.qc_promise.specs.Accounting.{account_at, account_taken};
+ghost use Rattle.qc_promise.specs.Rows.{due};
+
+/// What a client does for an input that it may take is due: its commit record,
+/// the requests that it sends, in order, and its reply. It tells just what is
+/// due after the input. The account and the client are tied again after it.
+pub fn inputs_are_answered_as_is_due()
+    ensures { (decl : Declaration) (number : ℕ) (d : Account) (c : Client) → Holds decl c → (given : Given)
+        → MayGive d given → Ties decl d c → Goes decl number (account_taken d given) (client_takes decl c given) }
+{}
+
+/// Where a client has no open input, the account of its deeds tells it.
+#[tactic(auto, using(crate::proofs::Courses::clients_tied))]
+pub fn accounts_are_their_clients()
+    ensures { (decl : Declaration) (a : ℕ) → is_client decl a ≡ true → (ds : List Deed) (n : ℕ)
+        → Acts decl a ds false n
+        → Ties decl (fold (account_at decl) (new_account (a - decl.sites)) ds)
+        (client_after decl (a - decl.sites) ds).client }
+{}
+
+/// A client's turn tells the reply that is due after its input, and none where
+/// none is.
+pub fn turns_tell_what_is_due()
+    ensures { (decl : Declaration) (a : ℕ) → is_client decl a ≡ true → (ds : List Deed) (n : ℕ) (turn : Turn)
+        → Acts decl a ds true n → IsLawful decl a ds turn
+        → turn.told ≡ due decl (fold (account_at decl) (new_account (a - decl.sites)) ds) [] }
+{}
+
+/// All that a client records, asks and tells is due, by the account of what it
+/// did before.
+#[tactic(auto, using(crate::proofs::Courses::clients_due))]
+pub fn deeds_of_clients_are_due()
+    ensures { (decl : Declaration) (a : ℕ) → is_client decl a ≡ true → (ds : List Deed) (is_open : Bool) (n : ℕ)
+        → Acts decl a ds is_open n → AreDeedsDue decl (new_account (a - decl.sites)) ds }
+{}

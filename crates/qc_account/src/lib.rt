@@ -1,0 +1,32 @@
+//! The account of a client's deeds is the client, and so all that a client
+//! records, asks and tells is due: laws alone, there is no code here.
+//!
+//! 1. Where a client has no open input, the account of its deeds tells it
+//!    (`accounts_are_their_clients`).
+//! 2. One input keeps that, and all that its turn records, asks and tells is due
+//!    (`inputs_are_answered_as_is_due`).
+//! 3. So all deeds of a client are due (`deeds_of_clients_are_due`).
+//! 4. In every run each reply and each commit record is due (`replies_are_due`),
+//!    and all else that is promised to be (`runs_are_due`).
+//! 5. A turn tells just what is due after its input (`turns_tell_what_is_due`),
+//!    and nothing that is due is left untold (`what_is_due_is_told`): so a `do`
+//!    that everybody grants is answered (`granted_dos_are_answered`).
+//! 6. A running command waits for an open request (`commands_wait_for_requests`),
+//!    and nothing was taken for that since it was sent
+//!    (`open_requests_are_awaited`). So it is in every run
+//!    (`commands_of_runs_wait`).
+#![tactic(auto)]
+
+mod clients;
+mod runs;
+mod waiting;
+
+pub use clients::{
+    accounts_are_their_clients, deeds_of_clients_are_due, inputs_are_answered_as_is_due,
+    turns_tell_what_is_due,
+};
+pub use runs::{commands_of_runs_wait, replies_are_due, runs_are_due};
+pub use waiting::{
+    commands_wait_for_requests, granted_dos_are_answered, open_requests_are_awaited,
+    what_is_due_is_told,
+};
