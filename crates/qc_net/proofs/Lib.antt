@@ -1,0 +1,14 @@
+pub mod Machine
+pub mod Held
+pub mod Frames
+pub mod Posts
+pub mod Promises
+pub mod SiteSteps
+pub mod SiteActs
+pub mod SiteCases
+pub mod SiteRefines
+pub mod ClientPosts
+pub mod Rounds
+pub mod Answers
+pub mod ClientSteps
+pub mod Recorded
