@@ -12,3 +12,4 @@ pub mod Rounds
 pub mod Answers
 pub mod ClientSteps
 pub mod Recorded
+pub mod ClientActs
