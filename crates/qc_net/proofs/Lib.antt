@@ -13,3 +13,5 @@ pub mod Answers
 pub mod ClientSteps
 pub mod Recorded
 pub mod ClientActs
+pub mod Counts
+pub mod ClientRounds

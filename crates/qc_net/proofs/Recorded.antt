@@ -63,7 +63,7 @@ own_keeps_logs t object event other = by (slice_get t.views object) refl
     by None is = refl
     by (Some v) is = same_log t.views object other v (with_own v event) is refl
 
-views_keep_own : (t : Transaction) (object : ℕ) (view : Option View) → (with_view t object view).own ≡ t.own
+pub views_keep_own : (t : Transaction) (object : ℕ) (view : Option View) → (with_view t object view).own ≡ t.own
 views_keep_own t object None = refl
 views_keep_own t object (Some v) = refl
 

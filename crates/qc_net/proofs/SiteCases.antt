@@ -298,7 +298,7 @@ module _ (decl : Declaration) (accepted : IsAccepted decl) (acts : List Act) (ne
   request_case from to number epoch life tx want backed request =
       request_cases (λ (move : SiteMove). Refines decl (after_site net a move)) decl (passed (net.sites a) (messages.Request tx epoch life want)) from number tx epoch life want
       (stands decl acts net a run plain m site (clock_after (net.sites a).clock (messages.Request tx epoch life want)) (moved (passed (net.sites a) (messages.Request tx epoch life want)) quiet) (grows want) refl (λ p never. absurd never))
-      (λ fault is. says decl acts net a run plain m site (clock_after (net.sites a).clock (messages.Request tx epoch life want)) from number fault (grows want) (refused fault is))
+      (λ refusal is. says decl acts net a run plain m site (clock_after (net.sites a).clock (messages.Request tx epoch life want)) from number refusal (grows want) (refused refusal is))
       (λ is. looked_at want backed request)
     where
       grows : (w : Want) → (net.sites a).clock ≤ clock_after (net.sites a).clock (messages.Request tx epoch life w)
@@ -306,12 +306,12 @@ module _ (decl : Declaration) (accepted : IsAccepted decl) (acts : List Act) (ne
       grows (Append object view own) = latest_grows (net.sites a).clock view
       grows Prepare = omega arith
 
-      refuses : (fault : Answer) (o : Option Answer) → o ≡ Some fault → IsRefusal (state acts) net.mail a from number o → Backed decl (state acts) net.mail a from (messages.Answer number fault)
-      refuses fault None same r = absurd (let never : ⊥ = cc in never)
-      refuses fault (Some other) same r = let e : other ≡ fault = cc in subst (λ (x : Answer). Backed decl (state acts) net.mail a from (messages.Answer number x)) e r
+      refuses : (refusal : Answer) (o : Option Answer) → o ≡ Some refusal → IsRefusal (state acts) net.mail a from number o → Backed decl (state acts) net.mail a from (messages.Answer number refusal)
+      refuses refusal None same r = absurd (let never : ⊥ = cc in never)
+      refuses refusal (Some other) same r = let e : other ≡ refusal = cc in subst (λ (x : Answer). Backed decl (state acts) net.mail a from (messages.Answer number x)) e r
 
-      refused : (fault : Answer) → fault_of (passed (net.sites a) (messages.Request tx epoch life want)) epoch life ≡ Some fault → Backed decl (state acts) net.mail a from (messages.Answer number fault)
-      refused fault is = refuses fault (fault_of (passed (net.sites a) (messages.Request tx epoch life want)) epoch life) is
+      refused : (refusal : Answer) → fault_of (passed (net.sites a) (messages.Request tx epoch life want)) epoch life ≡ Some refusal → Backed decl (state acts) net.mail a from (messages.Answer number refusal)
+      refused refusal is = refuses refusal (fault_of (passed (net.sites a) (messages.Request tx epoch life want)) epoch life) is
           (fault_refuses (state acts) net.mail a from number (passed (net.sites a) (messages.Request tx epoch life want)) epoch life (m.sites a site).epoch (m.sites a site).closed_for backed.2)
 
       looked_at : (w : Want) → Backed decl (state acts) net.mail from to (messages.Request tx epoch life w) → IsRequest net.mail number a tx w
