@@ -15,3 +15,4 @@ pub mod Recorded
 pub mod ClientActs
 pub mod Counts
 pub mod ClientRounds
+pub mod ClientAnswers
