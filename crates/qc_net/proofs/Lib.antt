@@ -16,3 +16,4 @@ pub mod ClientActs
 pub mod Counts
 pub mod ClientRounds
 pub mod ClientAnswers
+pub mod ClientEnds
