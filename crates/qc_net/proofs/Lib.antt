@@ -17,3 +17,4 @@ pub mod Counts
 pub mod ClientRounds
 pub mod ClientAnswers
 pub mod ClientEnds
+pub mod ClientBegins
