@@ -18,3 +18,4 @@ pub mod ClientRounds
 pub mod ClientAnswers
 pub mod ClientEnds
 pub mod ClientBegins
+pub mod ClientCommits
