@@ -19,3 +19,5 @@ pub mod ClientAnswers
 pub mod ClientEnds
 pub mod ClientBegins
 pub mod ClientCommits
+pub mod Standing
+pub mod Refining
