@@ -21,3 +21,4 @@ pub mod ClientBegins
 pub mod ClientCommits
 pub mod Standing
 pub mod Refining
+pub mod NetLaws

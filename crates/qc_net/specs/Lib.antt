@@ -4,3 +4,4 @@ pub mod Sites
 pub mod Messages
 pub mod Clients
 pub mod Mirrors
+pub mod Lines
