@@ -43,14 +43,14 @@ module _ (decl : Declaration) where
 
   pub appended_own : (t : Transaction) (object event : ℕ) (o : OwnLine) → In o (own_appended decl t object event) → (o ≡ next_own t object event) ⊎ In o (own_on t.own object)
   appended_own t object event o h = elim (in_split o (filter (weighs decl t.begun.epoch object) t.own) (next_own t object event ∷ []) h) [
-    inl old ↦ inr (In-filter (λ (l : OwnLine). l.object == object) o t.own (In-unfiltered (weighs decl t.begun.epoch object) o t.own old)
-    (both_first (o.object == object) (nat_lt 0 (append_need_of decl t.begun.epoch object o.event)) (In-passes (weighs decl t.begun.epoch object) o t.own old)))
+    | inl old ↦ inr (In-filter (λ (l : OwnLine). l.object == object) o t.own (In-unfiltered (weighs decl t.begun.epoch object) o t.own old)
+        (both_first (o.object == object) (nat_lt 0 (append_need_of decl t.begun.epoch object o.event)) (In-passes (weighs decl t.begun.epoch object) o t.own old)))
     | inr new ↦ elim new [ inl same ↦ inl same | inr never ↦ absurd never ]
   ]
 
   pub appended_on : (t : Transaction) (object event : ℕ) (o : OwnLine) → In o (own_appended decl t object event) → o.object ≡ object
   appended_on t object event o h = elim (appended_own t object event o h) [
-    inl same ↦ ap (λ (x : OwnLine). x.object) same
+    | inl same ↦ ap (λ (x : OwnLine). x.object) same
     | inr old ↦ eqb-true o.object object (In-passes (λ (l : OwnLine). l.object == object) o t.own old)
   ]
 
@@ -59,7 +59,7 @@ module _ (decl : Declaration) where
     view = refl;
     items = λ x among. (let r : Mapped own_item x (own_appended decl t object event) = map_in own_item x (own_appended decl t object event) among in (r.from, r.is, appended_own t object event r.from r.listed));
     whole = λ o among heavy. in_map own_item o (own_appended decl t object event) (In-first o (filter (weighs decl t.begun.epoch object) t.own) (next_own t object event ∷ [])
-    (In-filter (weighs decl t.begun.epoch object) o t.own (In-unfiltered (λ (l : OwnLine). l.object == object) o t.own among) (test o among heavy)));
+        (In-filter (weighs decl t.begun.epoch object) o t.own (In-unfiltered (λ (l : OwnLine). l.object == object) o t.own among) (test o among heavy)));
   }
     where
       test : (o : OwnLine) → In o (own_on t.own object) → 0 < append_need_of decl 1 o.object o.event → ((o.object == object) && nat_lt 0 (append_need_of decl t.begun.epoch object o.event)) ≡ true
@@ -106,7 +106,13 @@ module _ (decl : Declaration) where
         (core.active, none, subst (λ (e : ℕ). IsExecutedFrom decl e (state acts).counted ((state acts).executed t.begun.tx) t.begun.tx (chosen_of decl t object inv event)) (sym (epoch_one t.begun.tx)) (is_executed (state acts) a c t object inv event (Some (resp_of decl object event)) core named answered met), refl) tt
         (same_later (state (Choose t.begun.tx (chosen_of decl t object inv event) ∷ acts)) refl refl refl refl (λ s h. h))
         (λ d other. record {
-          status = λ u h. refl; executed = λ u h. refl; clock = refl; counted = λ g theirs h. h; more = λ g h. h; votes = λ x h. h; appends = λ s h. h;
+          status = λ u h. refl;
+          executed = λ u h. refl;
+          clock = refl;
+          counted = λ g theirs h. h;
+          more = λ g h. h;
+          votes = λ x h. h;
+          appends = λ s h. h;
           chosen = λ u h. elsewhere (state acts).chosen t.begun.tx (Some (chosen_of decl t object inv event)) u n d (mine decl (state acts) a c t core ∙ its) h other;
         }) refl refl
 
@@ -124,7 +130,12 @@ module _ (decl : Declaration) where
         (core.active, none, subst (λ (e : ℕ). IsExecutedFrom decl e (state acts).counted ((state acts).executed t.begun.tx) t.begun.tx (absent_of t object inv)) (sym (epoch_one t.begun.tx)) (is_executed (state acts) a c t object inv 0 None core named answered met), refl) tt
         (same_later (state (ExecuteAbsent t.begun.tx (absent_of t object inv) ∷ acts)) refl refl refl refl (λ s h. h))
         (λ d other. record {
-          status = λ u h. refl; clock = refl; counted = λ g theirs h. h; more = λ g h. h; votes = λ x h. h; appends = λ s h. h;
+          status = λ u h. refl;
+          clock = refl;
+          counted = λ g theirs h. h;
+          more = λ g h. h;
+          votes = λ x h. h;
+          appends = λ s h. h;
           executed = λ u h. elsewhere (state acts).executed t.begun.tx ((state acts).executed t.begun.tx ++ absent_of t object inv ∷ []) u n d (mine decl (state acts) a c t core ∙ its) h other;
           chosen = λ u h. elsewhere (state acts).chosen t.begun.tx None u n d (mine decl (state acts) a c t core ∙ its) h other;
         }) refl refl
@@ -136,7 +147,12 @@ module _ (decl : Declaration) where
         (chosen_of decl t object inv event, chosen, subst (λ (e : ℕ). HasQuorum decl e (state acts).counted t.begun.tx (Own (next_own t object event)) (append_need_of decl e object event)) (sym (epoch_one t.begun.tx)) met) tt
         (same_later (state (Execute t.begun.tx ∷ acts)) refl refl refl refl (λ s h. h))
         (λ d other. record {
-          status = λ u h. refl; clock = refl; counted = λ g theirs h. h; more = λ g h. h; votes = λ x h. h; appends = λ s h. h;
+          status = λ u h. refl;
+          clock = refl;
+          counted = λ g theirs h. h;
+          more = λ g h. h;
+          votes = λ x h. h;
+          appends = λ s h. h;
           executed = λ u h. elsewhere (state acts).executed t.begun.tx ((state acts).executed t.begun.tx ++ chosen_list ((state acts).chosen t.begun.tx)) u n d (mine decl (state acts) a c t core ∙ its) h other;
           chosen = λ u h. elsewhere (state acts).chosen t.begun.tx None u n d (mine decl (state acts) a c t core ∙ its) h other;
         }) refl refl
@@ -147,7 +163,12 @@ module _ (decl : Declaration) where
         (given, active, current ∙ sym (epoch_one g.tx)) tt
         (same_later (state (Count g ∷ acts)) refl refl refl refl (λ s h. h))
         (λ d other. record {
-          status = λ u h. refl; executed = λ u h. refl; chosen = λ u h. refl; votes = λ x h. h; appends = λ s h. h; more = λ x h. inr h;
+          status = λ u h. refl;
+          executed = λ u h. refl;
+          chosen = λ u h. refl;
+          votes = λ x h. h;
+          appends = λ s h. h;
+          more = λ x h. inr h;
           clock = put_other (state acts).clock g.tx.client _ d (λ e. other (e ∙ its));
           counted = λ x theirs h. elim h [ inl same ↦ absurd (other (sym theirs ∙ ap (λ (y : Granted). y.tx.client) same ∙ its)) | inr old ↦ old ];
         }) refl refl

@@ -217,7 +217,7 @@ module _ (decl : Declaration) where
             (counted_later decl (state acts).counted (g.grant ∷ (state acts).counted) t.begun.tx (Lock (record { object = object; inv = inv })) round.asked (λ x h. inr h) counted.1)
             (λ e. record { grant = g.grant; counts = inl refl; its = g.its; from = g.by; has = subst (λ (xs : List Item). In (Lock (record { object = object; inv = inv })) xs) (sym g.items_are) (inl refl) })))
             (λ call more. (let q : IsAskedBy decl net.mail t (Reading object inv calls round) call = asked call (still_called calls number call more) in
-              (q.0, subst (λ (u : TxId). IsRequest net.mail call.number call.site u q.0) (sym given.tx) q.1, q.2))) (verdict (note round site standings.Granted)) refl)
+            (q.0, subst (λ (u : TxId). IsRequest net.mail call.number call.site u q.0) (sym given.tx) q.1, q.2))) (verdict (note round site standings.Granted)) refl)
 
     append_case : (from number : ℕ) (t : Transaction) (object inv event : ℕ) (calls : List Call) (round : RoundState) (answer : Option Answer) → (net.clients a).front.transaction ≡ Some t → (net.clients a).front.doing ≡ Appending object inv event calls round
         → AnswerBacked (state acts) net.mail from number answer → (site : ℕ) → site_called calls number ≡ Some site
@@ -275,8 +275,14 @@ module _ (decl : Declaration) where
             (note_round decl (net.clients a).front.client 1 (append_need_of decl 1 object event) round site standings.Granted round_is)
             (noted_counted (g.grant ∷ (state acts).counted) t.begun.tx (Own (next_own t object event)) site standings.Granted round.asked
             (counted_later decl (state acts).counted (g.grant ∷ (state acts).counted) t.begun.tx (Own (next_own t object event)) round.asked (λ x h. inr h) counted)
-            (λ e. record { grant = g.grant; counts = inl refl; its = g.its; from = g.by; has = subst (λ (xs : List Item). In (Own (next_own t object event)) xs) (sym g.items_are)
-            (in_map own_item (next_own t object event) (own_appended decl t object event) (In-second (next_own t object event) (filter (weighs decl t.begun.epoch object) t.own) (next_own t object event ∷ []) (inl refl))) }))
+            (λ e. record {
+              grant = g.grant;
+              counts = inl refl;
+              its = g.its;
+              from = g.by;
+              has = subst (λ (xs : List Item). In (Own (next_own t object event)) xs) (sym g.items_are)
+                  (in_map own_item (next_own t object event) (own_appended decl t object event) (In-second (next_own t object event) (filter (weighs decl t.begun.epoch object) t.own) (next_own t object event ∷ []) (inl refl)));
+            }))
             (λ call more. asked call (still_called calls number call more)) (verdict (note round site standings.Granted)) refl)
 
     -- whatever comes of a request, while no commit waits for votes

@@ -109,12 +109,17 @@ module _ (decl : Declaration) (acts : List Act) (net : Net) (a : ℕ) (run : IsR
       (mid_begin decl w acts f.client (mid_first decl acts f.client run plain) tx (first_plan accepted).0 refl fresh_tx (first_plan accepted).1) refl
       (record {
         own = record {
-          actor = own.actor; desk = own.desk; life = own.life; epoch = own.epoch; desk_epoch = own.desk_epoch; clock = own.clock;
+          actor = own.actor;
+          desk = own.desk;
+          life = own.life;
+          epoch = own.epoch;
+          desk_epoch = own.desk_epoch;
+          clock = own.clock;
           to_come = λ n later. put_tx_other w.status tx Active (name_at f n) (λ same. (let k : n ≡ f.count + 1 = ap (λ (t : TxId). t.number) same in absurd (omega arith))) ∙ own.to_come n (omega arith);
           committed = λ r among. ((own.committed r among).0, put_tx_other w.status tx Active r.tx (λ same. (let k : NotBegun ≡ Committed r = sym fresh_tx ∙ ap w.status (sym same) ∙ (own.committed r among).1 in let never : ⊥ = cc in never)) ∙ (own.committed r among).1);
           aborted = λ t its born other none.
-          (let apart : t ≡ tx → ⊥ = (λ e. (let s : same_tx tx t ≡ true = tx_test tx t (sym e) in let never : ⊥ = cc in never)) in
-            put_tx_other w.status tx Active t apart ∙ own.aborted t its (λ e. born (put_tx_other w.status tx Active t apart ∙ e)) (subst (λ (x : Option Transaction). is_begun t x ≡ false) (sym is) refl) none);
+              (let apart : t ≡ tx → ⊥ = (λ e. (let s : same_tx tx t ≡ true = tx_test tx t (sym e) in let never : ⊥ = cc in never)) in
+              put_tx_other w.status tx Active t apart ∙ own.aborted t its (λ e. born (put_tx_other w.status tx Active t apart ∙ e)) (subst (λ (x : Option Transaction). is_begun t x ≡ false) (sym is) refl) none);
         };
         begun = (
           record {
@@ -128,13 +133,13 @@ module _ (decl : Declaration) (acts : List Act) (net : Net) (a : ℕ) (run : IsR
             whole = λ l s. absurd ((laws decl acts run).begun s.grant s.counts (ap w.status s.its ∙ fresh_tx));
           },
           subst (λ (d : Doing). RunningMirrors decl (state (Begin tx 1 ∷ acts)) net.mail (record (net.clients a) { front = record f { count = f.count + 1; transaction = Some (fresh decl tx f.epoch); doing = d } }) (fresh decl tx f.epoch)) (sym rests)
-          (record {
-            status_is = put_tx_here w.status tx Active ∙ sym (ap (λ (o : Option Voting). status_by o) free);
-            chosen = λ e. nothing_chosen;
-            counted = tt;
-            calls = λ call never. absurd never;
-            votes = no_votes (record (net.clients a) { front = record f { count = f.count + 1; transaction = Some (fresh decl tx f.epoch); doing = Idle } }) (fresh decl tx f.epoch) (state (Begin tx 1 ∷ acts)) (net.clients a).desk.voting free;
-          }),
+              (record {
+                status_is = put_tx_here w.status tx Active ∙ sym (ap (λ (o : Option Voting). status_by o) free);
+                chosen = λ e. nothing_chosen;
+                counted = tt;
+                calls = λ call never. absurd never;
+                votes = no_votes (record (net.clients a) { front = record f { count = f.count + 1; transaction = Some (fresh decl tx f.epoch); doing = Idle } }) (fresh decl tx f.epoch) (state (Begin tx 1 ∷ acts)) (net.clients a).desk.voting free;
+              }),
         );
       })
       (no_sends decl (state (Begin tx 1 ∷ acts)) net.mail a) (no_asks decl (by_front (net.clients a) (begins decl f None)).client))

@@ -308,7 +308,7 @@ module _ (decl : Declaration) where
 
         request : IsRequest net.mail number site t.begun.tx wants.Prepare
         request = (let found : IsCalled v.calls number site = called_in v.calls number site called in
-          subst (λ (s : ℕ). IsRequest net.mail number s t.begun.tx wants.Prepare) found.at (subst (λ (n : ℕ). IsRequest net.mail n found.call.site t.begun.tx wants.Prepare) found.numbered (vm.calls found.call found.among)))
+            subst (λ (s : ℕ). IsRequest net.mail number s t.begun.tx wants.Prepare) found.at (subst (λ (n : ℕ). IsRequest net.mail n found.call.site t.begun.tx wants.Prepare) found.numbered (vm.calls found.call found.among)))
 
         each : (g : Granted) → In g (state acts).counted → g.tx ≡ t.begun.tx → (d : Ballot) × In {X = Ballot} d (cast v.ballots site (vote_of t.begun site answer)) × (d.site ≡ g.site)
         each g among its =
@@ -318,9 +318,9 @@ module _ (decl : Declaration) where
 
         for_all : (d : Ballot) → In d (cast v.ballots site (vote_of t.begun site answer)) → d.vote ≡ Some For → In {X = YesVote} (record { tx = t.begun.tx; site = d.site }) (state acts).votes
         for_all d among for = elim (cast_votes v.ballots site (vote_of t.begun site answer) d among) [
-          inl old ↦ vm.voted d old for
+          | inl old ↦ vm.voted d old for
           | inr new ↦ subst (λ (s : ℕ). In {X = YesVote} (record { tx = t.begun.tx; site = s }) (state acts).votes) (sym new.0)
-          (voted (state acts) net.mail from number site t.begun t.begun.tx answer backed request (let same : Some (vote_of t.begun site answer) ≡ Some For = sym new.1 ∙ for in cc))
+              (voted (state acts) net.mail from number site t.begun t.begun.tx answer backed request (let same : Some (vote_of t.begun site answer) ≡ Some For = sym new.1 ∙ for in cc))
         ]
 
         -- the client with what its desk learned

@@ -95,10 +95,10 @@ module _ (decl : Declaration) where
     desk_epoch = r.desk_epoch;
     clock = subst (λ (n : ℕ). v.clock n ≤ d.front.clock.value) (sym r.client) clock;
     to_come = λ n later. ap (λ (g : TxId → Status). g (name_at d.front n)) status
-    ∙ put_tx_other w.status t.begun.tx s (name_at d.front n) (λ same. (let k : n ≡ c.front.count = ap (λ (u : TxId). u.number) (same ∙ e.begun.named) in let l : c.front.count < n = subst (λ (x : ℕ). x < n) r.count later in absurd (omega arith)))
-    ∙ subst (λ (x : ℕ). w.status (record { client = x; life = 1; number = n }) ≡ NotBegun) (sym r.client) (e.own.to_come n (subst (λ (x : ℕ). x < n) r.count later));
+        ∙ put_tx_other w.status t.begun.tx s (name_at d.front n) (λ same. (let k : n ≡ c.front.count = ap (λ (u : TxId). u.number) (same ∙ e.begun.named) in let l : c.front.count < n = subst (λ (x : ℕ). x < n) r.count later in absurd (omega arith)))
+        ∙ subst (λ (x : ℕ). w.status (record { client = x; life = 1; number = n }) ≡ NotBegun) (sym r.client) (e.own.to_come n (subst (λ (x : ℕ). x < n) r.count later));
     committed = λ x among. elim (commits x among) [
-      inl old ↦ ((e.own.committed x old).0 ∙ sym r.client, ap (λ (g : TxId → Status). g x.tx) status ∙ put_tx_other w.status t.begun.tx s x.tx (λ same. not_committed (w.status t.begun.tx) x e.live (ap w.status (sym same) ∙ (e.own.committed x old).1)) ∙ (e.own.committed x old).1)
+      | inl old ↦ ((e.own.committed x old).0 ∙ sym r.client, ap (λ (g : TxId → Status). g x.tx) status ∙ put_tx_other w.status t.begun.tx s x.tx (λ same. not_committed (w.status t.begun.tx) x e.live (ap w.status (sym same) ∙ (e.own.committed x old).1)) ∙ (e.own.committed x old).1)
       | inr new ↦ (ap (λ (u : TxId). u.client) new.0 ∙ ends_mine w a c t e ∙ sym r.client, ap (λ (g : TxId → Status). g x.tx) status ∙ ap (λ (u : TxId). put_tx w.status t.begun.tx s u) new.0 ∙ put_tx_here w.status t.begun.tx s ∙ new.1)
     ];
     aborted = λ u mine born other none. by u mine born other none (same_tx t.begun.tx u) refl;
@@ -148,7 +148,10 @@ module _ (decl : Declaration) where
         (record {
           born = λ t h. put_tx_case (λ (s : Status). s ≢ NotBegun) (state acts).status tx Active t (λ e k. (let never : ⊥ = cc in never)) (λ e. h);
           asked = λ t h. put_tx_case MayPrepare (state acts).status tx Active t (λ e. absurd (subst MayPrepare (ap (state acts).status e ∙ fresh) h)) (λ e. h);
-          granted = λ g h. h; votes = λ x h. h; verdicts = λ t h. h; appends = λ s h. h;
+          granted = λ g h. h;
+          votes = λ x h. h;
+          verdicts = λ t h. h;
+          appends = λ s h. h;
         })
         (λ d other. record { status = λ t h. elsewhere (state acts).status tx Active t n d its h other; executed = λ t h. refl; chosen = λ t h. refl; clock = refl; counted = λ g theirs h. h; more = λ g h. h; votes = λ x h. h; appends = λ s h. h }) refl refl
 

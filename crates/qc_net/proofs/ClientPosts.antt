@@ -83,16 +83,16 @@ module _ (decl : Declaration) where
       → ((call : Call) → In call (calls_in d) → IsAskedBy decl ms t d call) → (call : Call) → In call (calls_in (requested_in d n to)) → IsAskedBy decl ms t (requested_in d n to) call
   calls_more ms t Idle n to want for r old call among = absurd for
   calls_more ms t (Reading object inv calls round) n to want for r old call among = elim (in_split call calls (record { number = n; site = to } ∷ []) among) [
-    inl h ↦ old call h
+    | inl h ↦ old call h
     | inr h ↦ elim h [
-      inl same ↦ subst (λ (y : Call). IsAskedBy decl ms t (Reading object inv (with_call calls n to) round) y) (sym same) (want, r, for)
+      | inl same ↦ subst (λ (y : Call). IsAskedBy decl ms t (Reading object inv (with_call calls n to) round) y) (sym same) (want, r, for)
       | inr never ↦ absurd never
     ]
   ]
   calls_more ms t (Appending object inv event calls round) n to want for r old call among = elim (in_split call calls (record { number = n; site = to } ∷ []) among) [
-    inl h ↦ old call h
+    | inl h ↦ old call h
     | inr h ↦ elim h [
-      inl same ↦ subst (λ (y : Call). IsAskedBy decl ms t (Appending object inv event (with_call calls n to) round) y) (sym same) (want, r, for)
+      | inl same ↦ subst (λ (y : Call). IsAskedBy decl ms t (Appending object inv event (with_call calls n to) round) y) (sym same) (want, r, for)
       | inr never ↦ absurd never
     ]
   ]
@@ -140,9 +140,9 @@ module _ (decl : Declaration) where
 
       calls : (call : Call) → In call (with_call v.calls n to) → IsRequest ms call.number call.site t.begun.tx Prepare
       calls call among = elim (in_split call v.calls (record { number = n; site = to } ∷ []) among) [
-        inl old ↦ vm.calls call old
+        | inl old ↦ vm.calls call old
         | inr new ↦ elim new [
-          inl same ↦ subst (λ (y : Call). IsRequest ms y.number y.site t.begun.tx Prepare) (sym same) r
+          | inl same ↦ subst (λ (y : Call). IsRequest ms y.number y.site t.begun.tx Prepare) (sym same) r
           | inr never ↦ absurd never
         ]
       ]
@@ -237,8 +237,8 @@ module _ (decl : Declaration) where
     sites = λ b is. subst (λ (ds : ℕ → List Deed). SiteMirrors (net.sites b) (ds b)) (sym g.deeds) (m.sites b is);
     holders = λ b t is held. g.later.born t (m.holders b t is held);
     clients = λ b is. put_one (λ (k : ℕ) (c : Client). is_client decl k ≡ true → ClientMirrors decl v (net.mail ++ more) k c) net.clients a (sent_all move.client (length net.mail) move.turn.sends) b
-    (λ k. here)
-    (λ other k. keep_client decl w v (net.clients b).front.client (g.keeps (net.clients b).front.client (λ same. other ((m.clients b k).own.actor ∙ ap (λ (n : ℕ). client_actor decl n) same ∙ sym (m.clients a client).own.actor))) net.mail more b (net.clients b) refl (m.clients b k)) is;
+        (λ k. here)
+        (λ other k. keep_client decl w v (net.clients b).front.client (g.keeps (net.clients b).front.client (λ same. other ((m.clients b k).own.actor ∙ ap (λ (n : ℕ). client_actor decl n) same ∙ sym (m.clients a client).own.actor))) net.mail more b (net.clients b) refl (m.clients b k)) is;
     mail = more_mail decl w v net.mail a move.turn.sends g.later m.mail g.turn;
     numbered = more_numbered decl net.mail a move.turn.sends m.numbered;
     records = λ c among. subst (λ (cs : List CommitRecord). In c cs) (sym g.records) (elim (in_split c net.written (commits_in move.turn.write) among) [ inl old ↦ In-second c (commits_in move.turn.write) w.records (m.records c old) | inr new ↦ In-first c (commits_in move.turn.write) w.records new ]);

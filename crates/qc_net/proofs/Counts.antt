@@ -115,10 +115,14 @@ pub counted_core : (decl : Declaration) (w : State) (a : ℕ) (c : Client) (t u 
     → Core decl (after_act w (Count k.grant)) a (learned c clock) u
 counted_core decl w a c t u site life clock log want k core is sorted shown whole = record {
   own = record {
-    actor = core.own.actor; desk = core.own.desk; life = core.own.life; epoch = core.own.epoch; desk_epoch = core.own.desk_epoch;
+    actor = core.own.actor;
+    desk = core.own.desk;
+    life = core.own.life;
+    epoch = core.own.epoch;
+    desk_epoch = core.own.desk_epoch;
     clock = put_case (λ (n : ℕ). n ≤ max c.front.clock.value clock) w.clock k.grant.tx.client (max (w.clock k.grant.tx.client) k.grant.clock) c.front.client
-    (λ e. (let l : w.clock c.front.client ≤ c.front.clock.value = core.own.clock in let x : w.clock k.grant.tx.client ≡ w.clock c.front.client = ap w.clock (sym e) in let y : k.grant.clock ≡ clock = k.clock_is in omega arith))
-    (λ ne. (let l : w.clock c.front.client ≤ c.front.clock.value = core.own.clock in omega arith));
+        (λ e. (let l : w.clock c.front.client ≤ c.front.clock.value = core.own.clock in let x : w.clock k.grant.tx.client ≡ w.clock c.front.client = ap w.clock (sym e) in let y : k.grant.clock ≡ clock = k.clock_is in omega arith))
+        (λ ne. (let l : w.clock c.front.client ≤ c.front.clock.value = core.own.clock in omega arith));
     to_come = core.own.to_come;
     committed = core.own.committed;
     aborted = subst (λ (n : TxId). (x : TxId) → x.client ≡ c.front.client → w.status x ≢ NotBegun → is_begun x (Some (record t { begun = record t.begun { tx = n } })) ≡ false → record_of c.desk.commits x ≡ None → w.status x ≡ Aborted) (sym is.tx) core.own.aborted;
@@ -127,7 +131,7 @@ counted_core decl w a c t u site life clock log want k core is sorted shown whol
     named = is.tx ∙ core.begun.named;
     epoch = is.epoch ∙ core.begun.epoch;
     participants = λ g among its. subst (λ (ls : List LifeAt). has_granted ls g.site ≡ true) (sym is.lives) (elim among [
-      inl same ↦ subst (λ (s : ℕ). has_granted (with_life t.begun.lives site life) s ≡ true) (sym (ap (λ (x : Granted). x.site) same ∙ k.by)) (life_new t.begun.lives site life)
+      | inl same ↦ subst (λ (s : ℕ). has_granted (with_life t.begun.lives site life) s ≡ true) (sym (ap (λ (x : Granted). x.site) same ∙ k.by)) (life_new t.begun.lives site life)
       | inr old ↦ life_kept t.begun.lives site life g.site (core.begun.participants g old (its ∙ is.tx))
     ]);
     ops = is.ops ∙ core.begun.ops ∙ ap (λ (n : TxId). map op_of (w.executed n)) (sym is.tx);
@@ -167,35 +171,40 @@ read_counted decl w a c t site life clock object inv log k v is core =
     sorted = each (λ n ls. IsAscending ls) (ascending-union (view_log t object) log (core.begun.sorted object) k.sorted) core.begun.sorted
 
     fresh : (l : Line) → In l log → (l.object ≡ object) × IsShown (k.grant ∷ w.counted) t.begun.tx l
-    fresh l among = (k.shown object inv refl l among, record {
-      grant = k.grant; counts = inl refl; its = k.its;
-      shows = record { stands = k.lines l among; lock = record { object = object; inv = inv }; granted = subst (λ (xs : List Item). In (Lock (record { object = object; inv = inv })) xs) (sym k.items_are) (inl refl); on = sym (k.shown object inv refl l among) };
-    })
+    fresh l among = (
+      k.shown object inv refl l among,
+      record {
+        grant = k.grant;
+        counts = inl refl;
+        its = k.its;
+        shows = record { stands = k.lines l among; lock = record { object = object; inv = inv }; granted = subst (λ (xs : List Item). In (Lock (record { object = object; inv = inv })) xs) (sym k.items_are) (inl refl); on = sym (k.shown object inv refl l among) };
+      },
+    )
 
     shown : (other : ℕ) (l : Line) → In l (view_log (with_granted (lived t site life) object log) other) → (l.object ≡ other) × IsShown (k.grant ∷ w.counted) t.begun.tx l
     shown = each (λ n ls. (l : Line) → In l ls → (l.object ≡ n) × IsShown (k.grant ∷ w.counted) t.begun.tx l)
         (λ l among. elim (in_either l (view_log t object) log among) [
-          inl old ↦ ((core.begun.shown object l old).0, more_shown w.counted k.grant t.begun.tx l (core.begun.shown object l old).1)
+          | inl old ↦ ((core.begun.shown object l old).0, more_shown w.counted k.grant t.begun.tx l (core.begun.shown object l old).1)
           | inr new ↦ fresh l new
         ])
         (λ n l among. ((core.begun.shown n l among).0, more_shown w.counted k.grant t.begun.tx l (core.begun.shown n l among).1))
 
     locked : (l : Line) → Shows k.grant l → l.object ≡ object
     locked l s = elim (subst (λ (xs : List Item). In (Lock s.lock) xs) k.items_are s.granted) [
-      inl same ↦ (let e : s.lock ≡ record { object = object; inv = inv } = cc in sym s.on ∙ ap (λ (y : ReadLock). y.object) e)
+      | inl same ↦ (let e : s.lock ≡ record { object = object; inv = inv } = cc in sym s.on ∙ ap (λ (y : ReadLock). y.object) e)
       | inr never ↦ absurd never
     ]
 
     -- a line that a counted grant showed is of the object, and new or old; or it is of another, and old
     at_object : (l : Line) → IsShown (k.grant ∷ w.counted) t.begun.tx l → l.object ≡ object → In l (union (view_log t object) log)
     at_object l s on = elim s.counts [
-      inl same ↦ in_second l (view_log t object) log (k.whole object inv refl l (subst (λ (g : Granted). In l (site_after g.before).volatile) same s.shows.stands) on)
+      | inl same ↦ in_second l (view_log t object) log (k.whole object inv refl l (subst (λ (g : Granted). In l (site_after g.before).volatile) same s.shows.stands) on)
       | inr old ↦ in_first l (view_log t object) log (subst (λ (n : ℕ). In l (view_log t n)) on (core.begun.whole l (record { grant = s.grant; counts = old; its = s.its; shows = s.shows })))
     ]
 
     elsewhere : (l : Line) → IsShown (k.grant ∷ w.counted) t.begun.tx l → l.object ≢ object → In l (view_log t l.object)
     elsewhere l s apart = elim s.counts [
-      inl same ↦ absurd (apart (locked l (subst (λ (g : Granted). Shows g l) same s.shows)))
+      | inl same ↦ absurd (apart (locked l (subst (λ (g : Granted). Shows g l) same s.shows)))
       | inr old ↦ core.begun.whole l (record { grant = s.grant; counts = old; its = s.its; shows = s.shows })
     ]
 
@@ -223,6 +232,6 @@ append_counted decl w a c t site life clock object view own log k core =
     counted_core decl w a c t (lived t site life) site life clock log (Append object view own) k core (lived_given t site life) core.begun.sorted
     (λ n l among. ((core.begun.shown n l among).0, more_shown w.counted k.grant t.begun.tx l (core.begun.shown n l among).1))
     (λ l s. elim s.counts [
-      inl same ↦ (let g : Shows k.grant l = subst (λ (g : Granted). Shows g l) same s.shows in absurd (no_lock g.lock own (subst (λ (xs : List Item). In (Lock g.lock) xs) k.items_are g.granted)))
+      | inl same ↦ (let g : Shows k.grant l = subst (λ (g : Granted). Shows g l) same s.shows in absurd (no_lock g.lock own (subst (λ (xs : List Item). In (Lock g.lock) xs) k.items_are g.granted)))
       | inr old ↦ core.begun.whole l (record { grant = s.grant; counts = old; its = s.its; shows = s.shows })
     ])

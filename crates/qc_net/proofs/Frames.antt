@@ -88,7 +88,19 @@ request_later ms more number site tx want r = record { envelope = r.envelope; ep
 module _ (decl : Declaration) where
   grant_later : (gs hs : List Granted) (site life clock : ℕ) (log : List Line) (tx : TxId) (want : Want) → ((g : Granted) → In g gs → In g hs) → IsGrant decl gs site life clock log tx want → IsGrant decl hs site life clock log tx want
   grant_later gs hs site life clock log tx want more g = record {
-    grant = g.grant; given = more g.grant g.given; its = g.its; by = g.by; place = g.place; epoch_is = g.epoch_is; life_is = g.life_is; clock_is = g.clock_is; items_are = g.items_are; sorted = g.sorted; lines = g.lines; shown = g.shown; whole = g.whole;
+    grant = g.grant;
+    given = more g.grant g.given;
+    its = g.its;
+    by = g.by;
+    place = g.place;
+    epoch_is = g.epoch_is;
+    life_is = g.life_is;
+    clock_is = g.clock_is;
+    items_are = g.items_are;
+    sorted = g.sorted;
+    lines = g.lines;
+    shown = g.shown;
+    whole = g.whole;
   }
 
   wanted_later : (w v : State) (tx : TxId) (want : Want) → Later w v → IsWanted w tx want → IsWanted v tx want

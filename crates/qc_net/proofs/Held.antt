@@ -106,7 +106,7 @@ owns_new ls (l ∷ own) x agree (inr rest) = owns_new (with_own ls l) own x (λ 
 pub owns_back : (ls own : List OwnLine) (x : OwnLine) → In x (with_owns ls own) → In x ls ⊎ In x own
 owns_back ls [] x h = inl h
 owns_back ls (l ∷ own) x h = elim (owns_back (with_own ls l) own x h) [
-  inl a ↦ elim (own_back ls l x a) [ inl b ↦ inl b | inr same ↦ inr (inl same) ]
+  | inl a ↦ elim (own_back ls l x a) [ inl b ↦ inl b | inr same ↦ inr (inl same) ]
   | inr c ↦ inr (inr c)
 ]
 
@@ -143,8 +143,8 @@ dropped_held Q held tx old t is = by (same_tx tx t) refl
   where
     by : (b : Bool) → same_tx tx t ≡ b → Q t
     by true same = absurd (
-      let none : is_held (without_held held tx) t ≡ false = subst (λ (u : TxId). is_held (without_held held tx) u ≡ false) (same_tx_is tx t same) (ap (λ (o : Option Held). is_some o) (entry-without held tx)) in
-      let never : ⊥ = cc in never)
+        let none : is_held (without_held held tx) t ≡ false = subst (λ (u : TxId). is_held (without_held held tx) u ≡ false) (same_tx_is tx t same) (ap (λ (o : Option Held). is_some o) (entry-without held tx)) in
+        let never : ⊥ = cc in never)
     by false other = old t (subst (λ (o : Option Held). is_some o ≡ true) (entry-without_other held tx t other) is)
 
 -- an entry that has something is listed, and so is that of each member
@@ -165,8 +165,8 @@ entry_held (x ∷ xs) h among = by (same_tx x.tx h.tx) refl among (entry_held xs
     by : (t : Bool) → same_tx x.tx h.tx ≡ t → (h ≡ x) ⊎ In h xs → (In h xs → is_held xs h.tx ≡ true) → is_some (cond t (Some x) (entry_of xs h.tx)) ≡ true
     by true is a rest = refl
     by false is (inl same) rest = absurd (
-      let itself : same_tx x.tx h.tx ≡ true = subst (λ (y : Held). same_tx x.tx y.tx ≡ true) (sym same) (same_tx_itself x.tx) in
-      let never : ⊥ = cc in never)
+        let itself : same_tx x.tx h.tx ≡ true = subst (λ (y : Held). same_tx x.tx y.tx ≡ true) (sym same) (same_tx_itself x.tx) in
+        let never : ⊥ = cc in never)
     by false is (inr a) rest = rest a
 
 other_by : (a t tx : TxId) → same_tx a t ≡ true → same_tx t tx ≡ false → same_tx a tx ≡ false
@@ -216,7 +216,7 @@ pub given_back : (held : List Held) (tx t : TxId) (locks : List ReadLock) (own :
 given_back held tx t locks own o =
     given_case (λ (ls : List ReadLock) (os : List OwnLine). In o os → In o (held_of held t).own ⊎ ((t ≡ tx) × In o own)) held tx t locks own
     (λ same h. elim (owns_back (held_of held tx).own own o h) [
-      inl a ↦ inl (subst (λ (u : TxId). In o (held_of held u).own) same a)
+      | inl a ↦ inl (subst (λ (u : TxId). In o (held_of held u).own) same a)
       | inr b ↦ inr (sym same, b)
     ])
     (λ h. inl h)

@@ -81,10 +81,10 @@ module _ (decl : Declaration) where
   pub more_mail : (w v : State) (ms : List Envelope) (a : ℕ) (ps : List Posting) → Later w v → ((e : Envelope) → In e ms → Backed decl w ms e.from e.to e.message) → ((p : Posting) → In p ps → Backed decl v ms a p.to p.message)
       → (e : Envelope) → In e (ms ++ envelopes a (length ms) ps) → Backed decl v (ms ++ envelopes a (length ms) ps) e.from e.to e.message
   more_mail w v ms a ps later old new e among = elim (in_split e ms more among) [
-    inl h ↦ backed_later decl w v ms more e.from e.to e.message later (old e h)
+    | inl h ↦ backed_later decl w v ms more e.from e.to e.message later (old e h)
     | inr h ↦ (let r : Place a ps (ms ++ more) e = placed ms a (length ms) ps e refl h in
-      let b = backed_later decl v v ms more a r.posting.to r.posting.message (same_state v) (new r.posting r.among) in
-      subst (λ (x : ℕ). Backed decl v (ms ++ more) x e.to e.message) (sym r.from) (subst (λ (x : ℕ). Backed decl v (ms ++ more) a x e.message) (sym r.to) (subst (λ (x : Message). Backed decl v (ms ++ more) a r.posting.to x) (sym r.message) b)))
+        let b = backed_later decl v v ms more a r.posting.to r.posting.message (same_state v) (new r.posting r.among) in
+        subst (λ (x : ℕ). Backed decl v (ms ++ more) x e.to e.message) (sym r.from) (subst (λ (x : ℕ). Backed decl v (ms ++ more) a x e.message) (sym r.to) (subst (λ (x : Message). Backed decl v (ms ++ more) a r.posting.to x) (sym r.message) b)))
   ]
     where
       more : List Envelope
@@ -92,7 +92,7 @@ module _ (decl : Declaration) where
 
   pub more_numbered : (ms : List Envelope) (a : ℕ) (ps : List Posting) → ((e : Envelope) → In e ms → slice_get ms e.number ≡ Some e) → (e : Envelope) → In e (ms ++ envelopes a (length ms) ps) → slice_get (ms ++ envelopes a (length ms) ps) e.number ≡ Some e
   more_numbered ms a ps old e among = elim (in_split e ms (envelopes a (length ms) ps) among) [
-    inl h ↦ slice_get-append ms (envelopes a (length ms) ps) e.number e (old e h)
+    | inl h ↦ slice_get-append ms (envelopes a (length ms) ps) e.number e (old e h)
     | inr h ↦ (let r : Place a ps (ms ++ envelopes a (length ms) ps) e = placed ms a (length ms) ps e refl h in r.numbered)
   ]
 
@@ -111,7 +111,7 @@ module _ (decl : Declaration) where
   site_goes w v net a move m site g = record {
     placed = g.placed_at;
     sites = λ b is. put_one (λ (k : ℕ) (s : SiteState). is_site decl k ≡ true → SiteMirrors s (v.deeds k)) net.sites a move.site b
-    (λ k. g.here) (λ other k. subst (λ (ds : List Deed). SiteMirrors (net.sites b) ds) (sym (g.there b other)) (m.sites b k)) is;
+        (λ k. g.here) (λ other k. subst (λ (ds : List Deed). SiteMirrors (net.sites b) ds) (sym (g.there b other)) (m.sites b k)) is;
     holders = λ b t is held. g.later.born t (put_one (λ (k : ℕ) (s : SiteState). is_site decl k ≡ true → is_held s.held t ≡ true → w.status t ≢ NotBegun) net.sites a move.site b (λ k. g.holders t) (λ other k. m.holders b t k) is held);
     clients = λ b is. keep_client decl w v (net.clients b).front.client (g.keeps (net.clients b).front.client) net.mail (envelopes a (length net.mail) move.turn.sends) b (net.clients b) refl (m.clients b is);
     mail = more_mail w v net.mail a move.turn.sends g.later m.mail g.turn;

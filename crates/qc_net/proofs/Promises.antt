@@ -97,14 +97,14 @@ stamped_in stamp tx [] old l (inl h) = h
 stamped_in stamp tx [] old l (inr h) = absurd h.1
 stamped_in stamp tx (k ∷ ks) old l (inl h) = stamped_in stamp tx ks (union old (stamped stamp tx k ∷ [])) l (inl (in_first l old (stamped stamp tx k ∷ []) h))
 stamped_in stamp tx (k ∷ ks) old l (inr h) = elim h.1 [
-  inl same ↦ stamped_in stamp tx ks (union old (stamped stamp tx k ∷ [])) l (inl (in_second l old (stamped stamp tx k ∷ []) (inl (h.2 ∙ ap (stamped stamp tx) same))))
+  | inl same ↦ stamped_in stamp tx ks (union old (stamped stamp tx k ∷ [])) l (inl (in_second l old (stamped stamp tx k ∷ []) (inl (h.2 ∙ ap (stamped stamp tx) same))))
   | inr rest ↦ stamped_in stamp tx ks (union old (stamped stamp tx k ∷ [])) l (inr (h.0, rest, h.2))
 ]
 
 in_stamped : (stamp : Stamp) (tx : TxId) (own : List OwnLine) (old : List Line) (l : Line) → In l (fold (with_stamped stamp tx) old own) → In l old ⊎ ((o : OwnLine) × In o own × (l ≡ stamped stamp tx o))
 in_stamped stamp tx [] old l h = inl h
 in_stamped stamp tx (k ∷ ks) old l h = elim (in_stamped stamp tx ks (union old (stamped stamp tx k ∷ [])) l h) [
-  inl a ↦ elim (in_either l old (stamped stamp tx k ∷ []) a) [ inl b ↦ inl b | inr c ↦ elim c [ inl same ↦ inr (k, inl refl, same) | inr never ↦ absurd never ] ]
+  | inl a ↦ elim (in_either l old (stamped stamp tx k ∷ []) a) [ inl b ↦ inl b | inr c ↦ elim c [ inl same ↦ inr (k, inl refl, same) | inr never ↦ absurd never ] ]
   | inr b ↦ inr (b.0, inr b.1, b.2)
 ]
 
@@ -133,7 +133,7 @@ commit_log s k old tx stamp None None same l among = old l among
 commit_log s k old tx stamp None (Some q) same l among = absurd same
 commit_log s k old tx stamp (Some p) None same l among = absurd same
 commit_log s k old tx stamp (Some p) (Some q) same l among = elim (in_split l (stamped_lines tx stamp p.items) k.volatile among) [
-  inl new ↦ (let r : (o : OwnLine) × In (Own o) p.items × (l ≡ stamped stamp tx o) = stamped_from stamp tx p.items l new in in_second l s.log (lines_of stamp tx q.own) (stamped_in stamp tx q.own [] l (inr (r.0, same.0 (Own r.0) r.1, r.2))))
+  | inl new ↦ (let r : (o : OwnLine) × In (Own o) p.items × (l ≡ stamped stamp tx o) = stamped_from stamp tx p.items l new in in_second l s.log (lines_of stamp tx q.own) (stamped_in stamp tx q.own [] l (inr (r.0, same.0 (Own r.0) r.1, r.2))))
   | inr there ↦ in_first l s.log (lines_of stamp tx q.own) (old l there)
 ]
 
@@ -143,9 +143,9 @@ commit_logged s k old tx stamp None None same l among = old l among
 commit_logged s k old tx stamp None (Some q) same l among = absurd same
 commit_logged s k old tx stamp (Some p) None same l among = absurd same
 commit_logged s k old tx stamp (Some p) (Some q) same l among = elim (in_either l s.log (lines_of stamp tx q.own) among) [
-  inl there ↦ In-second l (stamped_lines tx stamp p.items) k.volatile (old l there)
+  | inl there ↦ In-second l (stamped_lines tx stamp p.items) k.volatile (old l there)
   | inr new ↦ elim (in_stamped stamp tx q.own [] l new) [
-    inl never ↦ absurd never
+    | inl never ↦ absurd never
     | inr r ↦ In-first l (stamped_lines tx stamp p.items) k.volatile (subst (λ (x : Line). In x (stamped_lines tx stamp p.items)) (sym r.2) (from_items stamp tx p.items r.0 (same.1 r.0 r.1)))
   ]
 ]
@@ -153,7 +153,7 @@ commit_logged s k old tx stamp (Some p) (Some q) same l among = elim (in_either 
 pub commit_passed : (k : Site) (clock : ℕ) → ((l : Line) → In l k.volatile → l.stamp.clock ≤ clock) → (tx : TxId) (stamp : Stamp) (p : Option Promise) → stamp.clock ≤ clock → (l : Line) → In l (after_commit tx stamp p k).volatile → l.stamp.clock ≤ clock
 commit_passed k clock old tx stamp None low l among = old l among
 commit_passed k clock old tx stamp (Some p) low l among = elim (in_split l (stamped_lines tx stamp p.items) k.volatile among) [
-  inl new ↦ (let r : (o : OwnLine) × In (Own o) p.items × (l ≡ stamped stamp tx o) = stamped_from stamp tx p.items l new in let e : l.stamp.clock ≡ stamp.clock = ap (λ (x : Line). x.stamp.clock) r.2 in omega arith)
+  | inl new ↦ (let r : (o : OwnLine) × In (Own o) p.items × (l ≡ stamped stamp tx o) = stamped_from stamp tx p.items l new in let e : l.stamp.clock ≡ stamp.clock = ap (λ (x : Line). x.stamp.clock) r.2 in omega arith)
   | inr there ↦ old l there
 ]
 

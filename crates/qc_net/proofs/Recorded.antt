@@ -120,12 +120,16 @@ absent_is_with t object inv = record { tx = refl; epoch = refl; lives = refl; op
 pub executed_core : (decl : Declaration) (w v : State) (a : ℕ) (c : Client) (t u : Transaction) (d : Executed) → Core decl w a c t → v.status ≡ w.status → v.clock ≡ w.clock → v.counted ≡ w.counted → v.executed t.begun.tx ≡ w.executed t.begun.tx ++ d ∷ [] → IsWith t u d → Core decl v a c u
 executed_core decl w v a c t u d k status clock counted executed is = record {
   own = record {
-    actor = k.own.actor; desk = k.own.desk; life = k.own.life; epoch = k.own.epoch; desk_epoch = k.own.desk_epoch;
+    actor = k.own.actor;
+    desk = k.own.desk;
+    life = k.own.life;
+    epoch = k.own.epoch;
+    desk_epoch = k.own.desk_epoch;
     clock = subst (λ (f : ℕ → ℕ). f c.front.client ≤ c.front.clock.value) (sym clock) k.own.clock;
     to_come = λ n later. subst (λ (s : TxId → Status). s (name_at c.front n) ≡ NotBegun) (sym status) (k.own.to_come n later);
     committed = λ x among. subst (λ (s : TxId → Status). (x.tx.client ≡ c.front.client) × (s x.tx ≡ Committed x)) (sym status) (k.own.committed x among);
     aborted = subst (λ (n : TxId). (x : TxId) → x.client ≡ c.front.client → v.status x ≢ NotBegun → is_begun x (Some (record t { begun = record t.begun { tx = n } })) ≡ false → record_of c.desk.commits x ≡ None → v.status x ≡ Aborted) (sym is.tx)
-    (subst (λ (s : TxId → Status). (x : TxId) → x.client ≡ c.front.client → s x ≢ NotBegun → is_begun x (Some t) ≡ false → record_of c.desk.commits x ≡ None → s x ≡ Aborted) (sym status) k.own.aborted);
+        (subst (λ (s : TxId → Status). (x : TxId) → x.client ≡ c.front.client → s x ≢ NotBegun → is_begun x (Some t) ≡ false → record_of c.desk.commits x ≡ None → s x ≡ Aborted) (sym status) k.own.aborted);
   };
   begun = record {
     named = is.tx ∙ k.begun.named;
@@ -133,10 +137,10 @@ executed_core decl w v a c t u d k status clock counted executed is = record {
     participants = λ g among its. subst (λ (ls : List LifeAt). has_granted ls g.site ≡ true) (sym is.lives) (k.begun.participants g (subst (λ (gs : List Granted). In g gs) counted among) (its ∙ is.tx));
     ops = is.ops ∙ ap (λ (l : List Op). l ++ d.op ∷ []) k.begun.ops ∙ sym (map-append op_of (w.executed t.begun.tx) (d ∷ [])) ∙ ap (λ (ds : List Executed). map op_of ds) (sym executed_now);
     own = λ object. ap (λ (os : List OwnLine). own_on os object) is.own ∙ filter-append (λ (l : OwnLine). l.object == object) t.own (lines_of d) ∙ ap (λ (l : List OwnLine). l ++ own_on (lines_of d) object) (k.begun.own object)
-    ∙ ap (λ (l : List OwnLine). machine_own_on (w.executed t.begun.tx) object ++ l) (own_last d object) ∙ sym (own_on-append (w.executed t.begun.tx) d object) ∙ ap (λ (ds : List Executed). machine_own_on ds object) (sym executed_now);
+        ∙ ap (λ (l : List OwnLine). machine_own_on (w.executed t.begun.tx) object ++ l) (own_last d object) ∙ sym (own_on-append (w.executed t.begun.tx) d object) ∙ ap (λ (ds : List Executed). machine_own_on ds object) (sym executed_now);
     sorted = λ object. subst (λ (ls : List Line). IsAscending ls) (sym (is.logs object)) (k.begun.sorted object);
     shown = λ object l among. (let r : (l.object ≡ object) × IsShown w.counted t.begun.tx l = k.begun.shown object l (subst (λ (ls : List Line). In l ls) (is.logs object) among) in
-      (r.0, subst (λ (n : TxId). IsShown v.counted n l) (sym is.tx) (subst (λ (gs : List Granted). IsShown gs t.begun.tx l) (sym counted) r.1)));
+        (r.0, subst (λ (n : TxId). IsShown v.counted n l) (sym is.tx) (subst (λ (gs : List Granted). IsShown gs t.begun.tx l) (sym counted) r.1)));
     whole = λ l s. subst (λ (ls : List Line). In l ls) (sym (is.logs l.object)) (k.begun.whole l (subst (λ (n : TxId). IsShown w.counted n l) is.tx (subst (λ (gs : List Granted). IsShown gs u.begun.tx l) counted s)));
   };
   active = ap v.status is.tx ∙ subst (λ (s : TxId → Status). s t.begun.tx ≡ Active) (sym status) k.active;

@@ -76,7 +76,17 @@ module _ (decl : Declaration) (accepted : IsAccepted decl) where
   at_first = record {
     placed = λ g never. absurd never;
     sites = λ a is. record {
-      life = refl; epoch = refl; closed_for = refl; held = λ u x never. absurd never; owned = λ u o never. absurd never; done = λ d never. absurd never; passed = λ l never. absurd never; log = λ l never. absurd never; logged = λ l never. absurd never; sorted = tt; promised = λ t. tt;
+      life = refl;
+      epoch = refl;
+      closed_for = refl;
+      held = λ u x never. absurd never;
+      owned = λ u o never. absurd never;
+      done = λ d never. absurd never;
+      passed = λ l never. absurd never;
+      log = λ l never. absurd never;
+      logged = λ l never. absurd never;
+      sorted = tt;
+      promised = λ t. tt;
     };
     holders = λ a t is held. absurd (let never : ⊥ = cc in never);
     clients = λ a is. record {

@@ -23,7 +23,7 @@ pub asked_counted : (counted : List Granted) (tx : TxId) (item : Item) (r : Roun
 asked_counted counted tx item r [] h = h
 asked_counted counted tx item r (site ∷ sites) h = asked_counted counted tx item (record r { asked = r.asked ++ record { site = site; standing = None } ∷ []; rest = drop 1 r.rest }) sites
     (λ x among is. elim (in_split x r.asked (record { site = site; standing = None } ∷ []) among) [
-      inl old ↦ h x old is
+      | inl old ↦ h x old is
       | inr new ↦ elim new [ inl same ↦ absurd (let k : None ≡ Some standings.Granted = sym (ap (λ (y : Asked). y.standing) same) ∙ is in let never : ⊥ = cc in never) | inr never ↦ absurd never ]
     ])
 

@@ -157,14 +157,14 @@ module _ (decl : Declaration) (acts : List Act) (net : Net) (a : ℕ) (run : IsR
       records = refl;
       placed_at = m.placed;
       here = subst (λ (ds : List Deed). SiteMirrors move.site ds) (sym (put_here w.deeds a (w.deeds a ++ Prepares tx ∷ [])))
-      (subst (λ (s : SiteState). SiteMirrors s (w.deeds a ++ Prepares tx ∷ [])) (sym same)
-      (mirrors_more (net.sites a) (record (net.sites a) { clock = clock; prepared = ps; recorded = rs }) (w.deeds a) (Prepares tx) ms (record { life = refl; epoch = refl; closed_for = refl }) more
-      (λ t x among. ms.held t x (subst (λ (h : List machine.Held). In x (items_of t h)) (same_held k tx (promise_of tx k.prepared)) among))
-      (λ t o among. subst (λ (h : List machine.Held). In (Own o) (items_of t h)) (sym (same_held k tx (promise_of tx k.prepared))) (ms.owned t o among))
-      (λ x never. absurd never)
-      (λ l among. (let c : l.stamp.clock ≤ (net.sites a).clock = ms.passed l (subst (λ (ls : List Line). In l ls) (same_log k tx (promise_of tx k.prepared)) among) in omega arith))
-      (λ l among. ms.log l (subst (λ (ls : List Line). In l ls) (same_log k tx (promise_of tx k.prepared)) among))
-      (λ l among. subst (λ (ls : List Line). In l ls) (sym (same_log k tx (promise_of tx k.prepared))) (ms.logged l among)) ms.sorted promised));
+          (subst (λ (s : SiteState). SiteMirrors s (w.deeds a ++ Prepares tx ∷ [])) (sym same)
+          (mirrors_more (net.sites a) (record (net.sites a) { clock = clock; prepared = ps; recorded = rs }) (w.deeds a) (Prepares tx) ms (record { life = refl; epoch = refl; closed_for = refl }) more
+          (λ t x among. ms.held t x (subst (λ (h : List machine.Held). In x (items_of t h)) (same_held k tx (promise_of tx k.prepared)) among))
+          (λ t o among. subst (λ (h : List machine.Held). In (Own o) (items_of t h)) (sym (same_held k tx (promise_of tx k.prepared))) (ms.owned t o among))
+          (λ x never. absurd never)
+          (λ l among. (let c : l.stamp.clock ≤ (net.sites a).clock = ms.passed l (subst (λ (ls : List Line). In l ls) (same_log k tx (promise_of tx k.prepared)) among) in omega arith))
+          (λ l among. ms.log l (subst (λ (ls : List Line). In l ls) (same_log k tx (promise_of tx k.prepared)) among))
+          (λ l among. subst (λ (ls : List Line). In l ls) (sym (same_log k tx (promise_of tx k.prepared))) (ms.logged l among)) ms.sorted promised));
       there = λ b other. put_other w.deeds a _ b other;
       holders = λ t is. m.holders a t site (subst (λ (s : SiteState). is_held s.held t ≡ true) same is);
       turn = λ p among. one_answer decl v net.mail a from number (answers.Yes clock) (record { tx = tx; request = request; vote = inl refl }) p (subst (λ (xs : List Posting). In p xs) sends among);
@@ -201,13 +201,13 @@ module _ (decl : Declaration) (acts : List Act) (net : Net) (a : ℕ) (run : IsR
       records = refl;
       placed_at = m.placed;
       here = subst (λ (ds : List Deed). SiteMirrors move.site ds) (sym (put_here w.deeds a (w.deeds a ++ deed_of t ∷ [])))
-      (mirrors_more (net.sites a) move.site (w.deeds a) (deed_of t) ms stays (let c : move.site.clock ≡ clock = at in omega arith)
-      (λ u x among. subst (λ (h : List Held). IsHeld (held_of h u) x) (sym held)
-      (without_has (net.sites a) tx (w.deeds a) u x ms (subst (λ (h : List machine.Held). In x (items_of u h)) (drops (site_after (w.deeds a))) among)))
-      (λ u o among. subst (λ (h : List machine.Held). In (Own o) (items_of u h)) (sym (drops (site_after (w.deeds a))))
-      (without_owns (net.sites a) tx (w.deeds a) u o ms (subst (λ (h : List Held). In o (held_of h u).own) held among)))
-      (λ x is. (let c : move.site.clock ≡ clock = at in let k : x.stamp.clock ≤ clock = done x is in omega arith))
-      (λ l among. (let c : move.site.clock ≡ clock = at in let k : l.stamp.clock ≤ clock = passed l among in omega arith)) log logged sorted promised);
+          (mirrors_more (net.sites a) move.site (w.deeds a) (deed_of t) ms stays (let c : move.site.clock ≡ clock = at in omega arith)
+          (λ u x among. subst (λ (h : List Held). IsHeld (held_of h u) x) (sym held)
+          (without_has (net.sites a) tx (w.deeds a) u x ms (subst (λ (h : List machine.Held). In x (items_of u h)) (drops (site_after (w.deeds a))) among)))
+          (λ u o among. subst (λ (h : List machine.Held). In (Own o) (items_of u h)) (sym (drops (site_after (w.deeds a))))
+          (without_owns (net.sites a) tx (w.deeds a) u o ms (subst (λ (h : List Held). In o (held_of h u).own) held among)))
+          (λ x is. (let c : move.site.clock ≡ clock = at in let k : x.stamp.clock ≤ clock = done x is in omega arith))
+          (λ l among. (let c : move.site.clock ≡ clock = at in let k : l.stamp.clock ≤ clock = passed l among in omega arith)) log logged sorted promised);
       there = λ b other. put_other w.deeds a _ b other;
       holders = λ u is. dropped_held (λ (n : TxId). w.status n ≢ NotBegun) (net.sites a).held tx (λ k h. m.holders a k site h) u (subst (λ (h : List Held). is_held h u ≡ true) held is);
       turn = λ p among. absurd (subst (λ (ps : List Posting). In p ps) sends among);

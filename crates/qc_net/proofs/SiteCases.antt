@@ -180,7 +180,7 @@ module _ (decl : Declaration) (accepted : IsAccepted decl) (acts : List Act) (ne
               (subst (λ (k : Site). In (Own x) (items_of tx k.held)) (sym (site_more ((state acts).deeds a) (Grants tx (own_items own) view)))
               (subst (λ (xs : List Item). In (Own x) xs) (sym (items_of-append tx (each_held tx (own_items own)) (site_after ((state acts).deeds a)).held))
               (elim h [
-                inl fresh ↦ In-first (Own x) (items_of tx (each_held tx (own_items own))) (items_of tx (site_after ((state acts).deeds a)).held) (subst (λ (xs : List Item). In (Own x) xs) (sym (items_of-each_held tx (own_items own))) fresh)
+                | inl fresh ↦ In-first (Own x) (items_of tx (each_held tx (own_items own))) (items_of tx (site_after ((state acts).deeds a)).held) (subst (λ (xs : List Item). In (Own x) xs) (sym (items_of-each_held tx (own_items own))) fresh)
                 | inr old ↦ In-second (Own x) (items_of tx (each_held tx (own_items own))) (items_of tx (site_after ((state acts).deeds a)).held) old
               ])))
 

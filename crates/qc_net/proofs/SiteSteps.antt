@@ -102,21 +102,29 @@ grants_more s r ds tx items view m stays clock old new back passed new_lines old
 
     held : (t : TxId) (x : Item) → In x (items_of t (each_held tx items ++ (site_after ds).held)) → IsHeld (held_of r.held t) x
     held t x among = elim (in_split x (items_of t (each_held tx items)) (items_of t (site_after ds).held) (subst (λ (xs : List Item). In x xs) (items_of-append t (each_held tx items) (site_after ds).held) among)) [
-      inl a ↦ fresh t x (same_tx t tx) refl a
+      | inl a ↦ fresh t x (same_tx t tx) refl a
       | inr b ↦ old t x b
     ]
 
     owned : (t : TxId) (o : OwnLine) → In o (held_of r.held t).own → In (Own o) (items_of t (each_held tx items ++ (site_after ds).held))
     owned t o among = subst (λ (xs : List Item). In (Own o) xs) (sym (items_of-append t (each_held tx items) (site_after ds).held)) (elim (back t o among) [
-      inl a ↦ In-second (Own o) (items_of t (each_held tx items)) (items_of t (site_after ds).held) (m.owned t o a)
+      | inl a ↦ In-second (Own o) (items_of t (each_held tx items)) (items_of t (site_after ds).held) (m.owned t o a)
       | inr b ↦ In-first (Own o) (items_of t (each_held tx items)) (items_of t (site_after ds).held)
-      (subst (λ (u : TxId). In (Own o) (items_of u (each_held tx items))) (sym b.0) (subst (λ (xs : List Item). In (Own o) xs) (sym (items_of-each_held tx items)) b.1))
+          (subst (λ (u : TxId). In (Own o) (items_of u (each_held tx items))) (sym b.0) (subst (λ (xs : List Item). In (Own o) xs) (sym (items_of-each_held tx items)) b.1))
     ])
 
 -- a site whose clock went on
 pub clock_mirrors : (s : SiteState) (ds : List Deed) (clock : ℕ) → s.clock ≤ clock → SiteMirrors s ds → SiteMirrors (record s { clock = clock }) ds
 clock_mirrors s ds clock more m = record {
-  life = m.life; epoch = m.epoch; closed_for = m.closed_for; held = m.held; owned = m.owned; log = m.log; logged = m.logged; sorted = m.sorted; promised = m.promised;
+  life = m.life;
+  epoch = m.epoch;
+  closed_for = m.closed_for;
+  held = m.held;
+  owned = m.owned;
+  log = m.log;
+  logged = m.logged;
+  sorted = m.sorted;
+  promised = m.promised;
   done = λ x among. (let c : x.stamp.clock ≤ s.clock = m.done x among in omega arith);
   passed = λ l among. (let c : l.stamp.clock ≤ s.clock = m.passed l among in omega arith);
 }
@@ -134,7 +142,6 @@ latest_passes clock (x ∷ xs) l (inl same) =
     let e : l.stamp.clock ≡ x.stamp.clock = ap (λ (k : Line). k.stamp.clock) same in
     omega arith
 latest_passes clock (x ∷ xs) l (inr more) = latest_passes (max clock x.stamp.clock) xs l more
-
 
 module _ (decl : Declaration) where
   -- the machine may grant where nothing of others is in the way

@@ -18,7 +18,8 @@ use Rattle.qc_msg.specs.Begun.{first_epoch, has_granted}
 use Rattle.qc_onecopy.specs.Executed.{Executed}
 use Rattle.qc_protocol.specs.Guards.{HasGranted, IsShown, op_of, own_on as machine_own_on}
 use Rattle.qc_protocol.specs.Site.{Item, Lock, Own}
-use Rattle.qc_protocol.specs.State.{Aborted, Active, AppendRequest, Committed, Granted, NotBegun, State, Status, YesVote}
+use Rattle.qc_protocol.specs.State.{Aborted, Active, Committed, NotBegun, Status}
+use Rattle.qc_protocol.specs.State.{AppendRequest, Granted, State, YesVote}
 use Rattle.qc_protocol.specs.State as machine
 use Rattle.qc_commit.specs.declared.ballot.Ballot.{Ballot}
 use Rattle.qc_commit.specs.declared.ballot.Vote.TheVariants.{For}
