@@ -1,0 +1,13 @@
+pub mod Places
+pub mod Numbered
+pub mod Arrivals
+pub mod Running
+pub mod Acted
+pub mod OwnFronts
+pub mod Stamped
+pub mod Mailed
+pub mod Served
+pub mod Waiting
+pub mod Replying
+pub mod Calling
+pub mod Ordered
