@@ -1,25 +1,23 @@
 -- The machine's acts in a client's turn: those of an operation.
-use Rattle.std.proofs.Common.{◌≡◌, ◌≢◌, ◌≤◌, ◌<◌, ℕ, suc, ◌==◌, ◌&&◌, ◌+◌, nat_lt, Bool, true, false, cond, ◌⊎◌, inl, inr, List, [], ◌∷◌, ◌++◌, map, filter, length, Option, Some, None, IsSome, refl, sym, ap, ◌∙◌, subst, eq-eqb, eqb-true, arith}
-use Rattle.std.proofs.lemmas.Bool.{ltb-true, lt-ltb}
+use Rattle.std.proofs.Common.{◌≡◌, ◌≢◌, ◌<◌, ℕ, suc, ◌==◌, ◌&&◌, ◌+◌, nat_lt, Bool, true, false, ◌⊎◌, inl, inr, List, [], ◌∷◌, ◌++◌, map, filter, length, Option, Some, None, refl, sym, ap, ◌∙◌, subst, eqb-true, arith}
+use Rattle.std.proofs.lemmas.Bool.{lt-ltb}
 use Rattle.qc_stamp.specs.declared.stamp.TxId.{TxId}
 use Rattle.qc_list.specs.Members.{In}
-use Rattle.qc_list.proofs.Members.{In-filter, In-first, In-passes, In-second, In-unfiltered}
-use Rattle.qc_entry.specs.declared.line.Line.{Line}
+use Rattle.qc_list.proofs.Members.{In-filter, In-first, In-passes, In-unfiltered}
 use Rattle.qc_entry.specs.declared.line.Op.{Op}
 use Rattle.qc_entry.specs.declared.line.OwnLine.{OwnLine}
 use Rattle.qc_table.specs.declared.kind.Kind.{Kind}
 use Rattle.qc_decl.specs.declared.declaration.Declaration.{Declaration}
 use Rattle.qc_decl.specs.Lookup.{append_need_of, read_need_of}
-use Rattle.qc_onecopy.specs.Executed.{Executed, IsAnswered, own_line}
+use Rattle.qc_onecopy.specs.Executed.{IsAnswered}
 use Rattle.qc_onecopy.proofs.Lists.{Mapped, in_map, in_split, map_in}
-use Rattle.qc_protocol.specs.Acts.{Act, Choose, Count, Execute, ExecuteAbsent, SendAppend, after_act, chosen_list, state}
-use Rattle.qc_protocol.specs.Guards.{HasQuorum, IsAppendOf, IsExecutedFrom, IsShown, MayPrepare, op_of}
-use Rattle.qc_protocol.specs.Plain.{IsFirst}
-use Rattle.qc_protocol.specs.Site.{Item, Lock, Own}
+use Rattle.qc_protocol.specs.Acts.{Act, Choose, Count, Execute, ExecuteAbsent, SendAppend, chosen_list, state}
+use Rattle.qc_protocol.specs.Guards.{HasQuorum, IsAppendOf, IsExecutedFrom, MayPrepare, op_of}
+use Rattle.qc_protocol.specs.Site.{Lock, Own}
 use Rattle.qc_protocol.specs.State.{Active, AppendRequest, Granted, NotBegun, State, Status, Verdict, YesVote}
 use Rattle.qc_protocol.proofs.Plain.{first}
 use Rattle.qc_front.specs.declared.transaction.Transaction.{Transaction}
-use Rattle.qc_front.specs.Answering.{next_own, op_of as operation_of, resp_of, view_log}
+use Rattle.qc_front.specs.Answering.{next_own, resp_of, view_log}
 use Rattle.qc_front.specs.Appending.{own_appended, weighs}
 use Rattle.qc_front.specs.Holds.{own_on}
 use Rattle.qc_client.specs.declared.client.Client.{Client}
@@ -27,7 +25,7 @@ use Rattle.qc_net.specs.Clients.{absent_of, append_of, chosen_of}
 use Rattle.qc_net.specs.Items.{own_item}
 use Rattle.qc_net.specs.Net.{IsNamedAt}
 use Rattle.qc_net.proofs.ClientSteps.{Core, Mid, elsewhere, mid_more, mine}
-use Rattle.qc_net.proofs.Frames.{Keeps, Later}
+use Rattle.qc_net.proofs.Frames.{Later}
 use Rattle.qc_net.proofs.Machine.{put_other}
 
 both_first : (x y : Bool) → (x && y) ≡ true → x ≡ true

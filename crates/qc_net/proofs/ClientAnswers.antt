@@ -1,14 +1,12 @@
 -- A `do`, and whatever comes of a request of its rounds.
-use Rattle.std.proofs.Common.{◌≡◌, ◌≢◌, ◌≤◌, ◌<◌, ℕ, ◌==◌, max, nat_le, not, Bool, true, false, cond, ◌⊎◌, inl, inr, List, [], ◌∷◌, ◌++◌, map, filter, length, Option, Some, None, slice_get, refl, sym, ap, ◌∙◌, subst, eq-eqb, eqb-true}
+use Rattle.std.proofs.Common.{◌≡◌, ℕ, ◌==◌, nat_le, not, Bool, true, false, cond, inl, inr, List, [], ◌∷◌, filter, length, Option, Some, None, slice_get, refl, sym, ap, ◌∙◌, subst, eqb-true}
 use Rattle.std.specs.Prelude.{option_map}
 use Rattle.std.specs.List.{find}
 use Rattle.qc_stamp.specs.declared.stamp.TxId.{TxId}
 use Rattle.qc_list.specs.Members.{In}
 use Rattle.qc_list.proofs.Members.{In-second, In-unfiltered}
 use Rattle.qc_entry.specs.declared.line.Line.{Line}
-use Rattle.qc_entry.specs.declared.line.OwnLine.{OwnLine}
 use Rattle.qc_plan.specs.Round.{RoundState, note, verdict}
-use Rattle.qc_plan.specs.declared.standing.Asked.{Asked}
 use Rattle.qc_plan.specs.declared.standing.Standing.TheVariants as standings
 use Rattle.qc_decl.specs.declared.declaration.Declaration.{Declaration}
 use Rattle.qc_decl.specs.Actors.{is_client}
@@ -21,16 +19,16 @@ use Rattle.qc_msg.specs.declared.message.Envelope.{Envelope}
 use Rattle.qc_msg.specs.declared.message.Message.{Message}
 use Rattle.qc_msg.specs.declared.message.Message.TheVariants as messages
 use Rattle.qc_msg.specs.declared.message.Want.{Want}
-use Rattle.qc_msg.specs.declared.message.Want.TheVariants.{Read, Append, Prepare}
+use Rattle.qc_msg.specs.declared.message.Want.TheVariants.{Read}
 use Rattle.qc_msg.specs.declared.reply.Reply.TheVariants as replies
 use Rattle.qc_msg.specs.Calls.{site_called, without_call}
 use Rattle.qc_msg.specs.Turns.{quiet, telling}
 use Rattle.qc_onecopy.proofs.Lists.{in_map}
 use Rattle.qc_protocol.specs.Acts.{Act, Count, state}
-use Rattle.qc_protocol.specs.Guards.{HasGranted, IsRun}
+use Rattle.qc_protocol.specs.Guards.{IsRun}
 use Rattle.qc_protocol.specs.Plain.{ArePlain}
 use Rattle.qc_protocol.specs.Site.{Item, Lock, Own}
-use Rattle.qc_protocol.specs.State.{Active, Granted, State}
+use Rattle.qc_protocol.specs.State.{Active, State}
 use Rattle.qc_commit.specs.declared.desk.Voting.{Voting}
 use Rattle.qc_view.specs.declared.view.View.{View}
 use Rattle.qc_front.specs.declared.doing.Doing.{Doing}
@@ -38,10 +36,10 @@ use Rattle.qc_front.specs.declared.doing.Doing.TheVariants.{Idle, Reading, Appen
 use Rattle.qc_front.specs.declared.front.Front.{Front}
 use Rattle.qc_front.specs.declared.transaction.Transaction.{Transaction}
 use Rattle.qc_front.specs.Answering.{next_own, view_log, with_granted}
-use Rattle.qc_front.specs.Appending.{append_want, own_appended, read_want, round_for, weighs}
+use Rattle.qc_front.specs.Appending.{append_want, own_appended, round_for, weighs}
 use Rattle.qc_front.specs.Conduct.{append_counts, appending_takes, read_counts, reading_takes, takes_in}
-use Rattle.qc_front.specs.Counting.{appended_with, learns, lived, read_with, standing_of}
-use Rattle.qc_front.specs.Front.{FrontMove, moved}
+use Rattle.qc_front.specs.Counting.{learns, lived, standing_of}
+use Rattle.qc_front.specs.Front.{moved}
 use Rattle.qc_front.specs.Going.{calls_in}
 use Rattle.qc_front.specs.Holds.{AppendingHolds, BegunHolds, DoingHolds, FrontHolds, IsRound, ReadingHolds, RecordsHold}
 use Rattle.qc_front.specs.Rounds.{append_by, performs, read_by}
@@ -50,7 +48,7 @@ use Rattle.qc_front.proofs.Noting.{note_round}
 use Rattle.qc_front.proofs.Recording.{granted_recorded}
 use Rattle.qc_client.specs.Client.{by_front}
 use Rattle.qc_client.specs.declared.client.Client.{Client}
-use Rattle.qc_net.specs.Clients.{AreCounted, AreVotes, BegunMirrors, ClientMirrors, IsAskedBy, IsChosen, IsRoundCounted, OwnMirrors, RunningMirrors, TransactionMirrors, append_of, chosen_of, status_by}
+use Rattle.qc_net.specs.Clients.{AreCounted, BegunMirrors, ClientMirrors, IsAskedBy, IsChosen, IsRoundCounted, OwnMirrors, RunningMirrors, TransactionMirrors, append_of, chosen_of, status_by}
 use Rattle.qc_net.specs.Items.{own_item}
 use Rattle.qc_net.specs.Messages.{IsAnswerBacked, IsGrant, IsGrantTo, IsRequest}
 use Rattle.qc_net.specs.Mirrors.{FrontStands, Mirrors, Refines}

@@ -1,5 +1,5 @@
 -- A client begins a transaction, gives it up, and tells how one stands.
-use Rattle.std.proofs.Common.{◌≡◌, ◌≢◌, ◌≤◌, ◌<◌, ℕ, zero, suc, ◌==◌, ◌+◌, Bool, true, false, cond, ◌⊎◌, inl, inr, List, [], ◌∷◌, ◌++◌, map, length, Option, Some, None, slice_get, refl, sym, ap, ◌∙◌, subst, eq-eqb, eqb-true, arith}
+use Rattle.std.proofs.Common.{◌≡◌, ◌≢◌, ◌<◌, ℕ, zero, suc, ◌+◌, Bool, true, false, cond, inl, inr, List, [], ◌∷◌, ◌++◌, map, length, Option, Some, None, slice_get, refl, sym, ap, ◌∙◌, subst, arith}
 use Rattle.std.specs.Prelude.{replicate}
 use Rattle.std.specs.List.{find}
 use Rattle.std.specs.Option.{option_map_or}
@@ -24,7 +24,7 @@ use Rattle.qc_msg.specs.declared.message.Outcome.TheVariants as outcomes
 use Rattle.qc_msg.specs.declared.reply.Reply.{Reply}
 use Rattle.qc_msg.specs.declared.reply.Reply.TheVariants as replies
 use Rattle.qc_msg.specs.declared.turn.Posting.{Posting}
-use Rattle.qc_msg.specs.Turns.{quiet, sending}
+use Rattle.qc_msg.specs.Turns.{sending}
 use Rattle.qc_onecopy.specs.Executed.{Executed}
 use Rattle.qc_protocol.specs.Acts.{Act, Announce, Begin, state, verdict_of}
 use Rattle.qc_protocol.specs.Guards.{IsRun, op_of, own_on}
@@ -41,11 +41,10 @@ use Rattle.qc_front.specs.declared.doing.Doing.{Doing}
 use Rattle.qc_front.specs.declared.doing.Doing.TheVariants.{Idle}
 use Rattle.qc_front.specs.declared.front.Front.{Front}
 use Rattle.qc_front.specs.declared.transaction.Transaction.{Transaction}
-use Rattle.qc_front.specs.Answering.{view_log}
 use Rattle.qc_front.specs.Front.{aborts, begins, fresh, gives_up, next_tx}
 use Rattle.qc_client.specs.Client.{by_front, is_begun, moved, outcome_by, outcome_of}
 use Rattle.qc_client.specs.declared.client.Client.{Client}
-use Rattle.qc_net.specs.Clients.{AreVotes, ClientMirrors, OwnMirrors, RunningMirrors, TransactionMirrors, name_at, status_by}
+use Rattle.qc_net.specs.Clients.{AreVotes, ClientMirrors, OwnMirrors, RunningMirrors, name_at, status_by}
 use Rattle.qc_net.specs.Messages.{Backed}
 use Rattle.qc_net.specs.Mirrors.{Mirrors, Refines}
 use Rattle.qc_net.specs.Net.{Net, after_client}
@@ -53,7 +52,7 @@ use Rattle.qc_net.proofs.ClientEnds.{Ending, aborts_it, ending_of, mid_announce,
 use Rattle.qc_net.proofs.ClientPosts.{IsAsking}
 use Rattle.qc_net.proofs.ClientRounds.{no_asks, no_sends, nothing}
 use Rattle.qc_net.proofs.ClientSteps.{mid_first, put_tx_other, refined, turns}
-use Rattle.qc_net.proofs.Frames.{keep_client, keeps_same}
+use Rattle.qc_net.proofs.Frames.{keep_client}
 
 none_in : {A : Type 0} (xs : List A) → ((x : A) → In x xs → ⊥) → xs ≡ []
 none_in [] none = refl

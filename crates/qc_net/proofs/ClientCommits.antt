@@ -1,19 +1,16 @@
 -- A commit: promises are asked for, votes come, and the transaction commits or doesn't.
-use Rattle.std.proofs.Common.{◌≡◌, ◌≢◌, ◌≤◌, ◌<◌, ℕ, zero, suc, ◌==◌, ◌&&◌, ◌+◌, ◌-◌, ◌%◌, max, Bool, true, false, cond, ◌⊎◌, inl, inr, List, [], ◌∷◌, ◌++◌, map, filter, length, Option, Some, None, is_some, refl, sym, ap, ◌∙◌, subst, eq-eqb, eqb-true, arith}
-use Rattle.std.specs.List.{list_all, range_with_len}
+use Rattle.std.proofs.Common.{◌≡◌, ◌≢◌, ◌≤◌, ◌<◌, ℕ, zero, suc, ◌==◌, ◌&&◌, ◌+◌, ◌-◌, max, Bool, true, false, cond, ◌⊎◌, inl, inr, List, [], ◌∷◌, map, length, Option, Some, None, is_some, refl, sym, ap, ◌∙◌, subst, eq-eqb, eqb-true, arith}
+use Rattle.std.specs.List.{range_with_len}
 use Rattle.std.specs.Option.{option_or}
 use Rattle.std.proofs.lemmas.Bool.{cases_lt, ltb-true}
-use Rattle.qc_stamp.specs.Order.{same_tx}
 use Rattle.qc_stamp.specs.declared.stamp.TxId.{TxId}
 use Rattle.qc_list.specs.Members.{In}
 use Rattle.qc_list.proofs.Members.{In-filter, In-first, In-second}
 use Rattle.qc_entry.specs.declared.record.Commit.{Commit as CommitRecord}
 use Rattle.qc_plan.specs.Round.{cyclic}
 use Rattle.qc_decl.specs.declared.declaration.Declaration.{Declaration}
-use Rattle.qc_decl.specs.Accepted.{IsAccepted}
 use Rattle.qc_decl.specs.Actors.{client_actor, first_site, is_client, is_site}
 use Rattle.qc_msg.specs.declared.begun.Begun.{Begun}
-use Rattle.qc_msg.specs.declared.call.Call.{Call}
 use Rattle.qc_msg.specs.declared.message.Answer.{Answer}
 use Rattle.qc_msg.specs.declared.message.Answer.TheVariants as answers
 use Rattle.qc_msg.specs.declared.message.Envelope.{Envelope}
@@ -30,7 +27,7 @@ use Rattle.qc_msg.specs.Turns.{quiet, sending}
 use Rattle.qc_protocol.specs.Acts.{Act, Prepare, state}
 use Rattle.qc_protocol.specs.Guards.{IsLive, IsRun, MayPrepare}
 use Rattle.qc_protocol.specs.Plain.{ArePlain}
-use Rattle.qc_protocol.specs.State.{Active, Aborted, Granted, NotBegun, State, Voting, YesVote}
+use Rattle.qc_protocol.specs.State.{Active, Granted, NotBegun, State, Voting, YesVote}
 use Rattle.qc_protocol.proofs.Keeps.{laws}
 use Rattle.qc_protocol.proofs.Names.{put_tx_here}
 use Rattle.qc_commit.specs.declared.ballot.Ballot.{Ballot}
@@ -38,29 +35,27 @@ use Rattle.qc_commit.specs.declared.ballot.Vote.{Vote}
 use Rattle.qc_commit.specs.declared.ballot.Vote.TheVariants.{For, Against}
 use Rattle.qc_commit.specs.declared.desk.Desk.{Desk}
 use Rattle.qc_commit.specs.declared.desk.Voting.{Voting as DeskVoting}
-use Rattle.qc_commit.specs.Conduct.{abort_turn, counted_out, counts, decides, gives_up as desk_gives_up, learns, passed, prepare, votes_at, votes_in, with_voting}
+use Rattle.qc_commit.specs.Conduct.{counted_out, counts, decides, gives_up as desk_gives_up, learns, passed, prepare, votes_at, with_voting}
 use Rattle.qc_commit.specs.Desk.{DeskMove, moved as desk_moved, record_of}
 use Rattle.qc_commit.specs.Votes.{against, are_cast, blank, cast, first_against, participants, prepares, vote_of}
 use Rattle.qc_front.specs.declared.doing.Doing.{Doing}
 use Rattle.qc_front.specs.declared.doing.Doing.TheVariants.{Idle}
-use Rattle.qc_front.specs.declared.front.Front.{Front}
 use Rattle.qc_front.specs.declared.transaction.Transaction.{Transaction}
 use Rattle.qc_front.specs.Conduct as fronts
-use Rattle.qc_front.specs.Front.{FrontMove, gives_up, moved as front_moved}
-use Rattle.qc_client.specs.Client.{ClientMove, by_desk, by_front}
+use Rattle.qc_front.specs.Front.{gives_up, moved as front_moved}
+use Rattle.qc_client.specs.Client.{by_desk, by_front}
 use Rattle.qc_client.specs.Conduct.{commits}
 use Rattle.qc_client.specs.declared.client.Client.{Client}
-use Rattle.qc_net.specs.Clients.{AreVotes, BegunMirrors, ClientMirrors, IsChosen, OwnMirrors, RunningMirrors, TransactionMirrors, VotesMirror, status_by}
-use Rattle.qc_net.specs.Messages.{Backed, IsRequest, IsVoteTo}
+use Rattle.qc_net.specs.Clients.{AreVotes, BegunMirrors, IsChosen, OwnMirrors, RunningMirrors, TransactionMirrors, VotesMirror, status_by}
+use Rattle.qc_net.specs.Messages.{Backed, IsRequest}
 use Rattle.qc_net.specs.Mirrors.{Mirrors, Refines}
 use Rattle.qc_net.specs.Net.{Net, after_client}
 use Rattle.qc_net.proofs.ClientAnswers.{AnswerBacked, IsCalled, called_in, one_request, still_called}
 use Rattle.qc_net.proofs.ClientBegins.{gives_up_case}
-use Rattle.qc_net.proofs.ClientEnds.{Ending, Gone, Remains, aborts_it, commits_it, ending_of, ends_mine, mid_prepare, own_put}
-use Rattle.qc_net.proofs.ClientPosts.{AsksFor, IsAsking}
+use Rattle.qc_net.proofs.ClientEnds.{Ending, aborts_it, commits_it, ending_of, ends_mine, mid_prepare, own_put}
+use Rattle.qc_net.proofs.ClientPosts.{IsAsking}
 use Rattle.qc_net.proofs.ClientRounds.{no_asks, no_sends, nothing}
-use Rattle.qc_net.proofs.ClientSteps.{Mid, Turned, mid_first, refined, turns}
-use Rattle.qc_net.proofs.Frames.{request_later}
+use Rattle.qc_net.proofs.ClientSteps.{Mid, mid_first, refined, turns}
 
 -- the sites of a declaration, in a client's order
 

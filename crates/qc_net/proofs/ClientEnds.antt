@@ -1,8 +1,7 @@
 -- How a client's transaction ends: the machine's acts, and what the client is then.
-use Rattle.std.proofs.Common.{◌≡◌, ◌≢◌, ◌≤◌, ◌<◌, ℕ, ◌==◌, ◌+◌, max, Bool, true, false, cond, ◌⊎◌, inl, inr, List, [], ◌∷◌, ◌++◌, map, Option, Some, None, refl, sym, ap, ◌∙◌, subst, eq-eqb, eqb-true, arith}
+use Rattle.std.proofs.Common.{◌≡◌, ◌≢◌, ◌≤◌, ◌<◌, ℕ, ◌+◌, max, Bool, true, false, cond, ◌⊎◌, inl, inr, List, [], ◌∷◌, ◌++◌, map, Option, Some, None, refl, sym, ap, ◌∙◌, subst, arith}
 use Rattle.std.specs.List.{find}
 use Rattle.qc_stamp.specs.Order.{same_tx}
-use Rattle.qc_stamp.specs.declared.stamp.Stamp.{Stamp}
 use Rattle.qc_stamp.specs.declared.stamp.TxId.{TxId}
 use Rattle.qc_stamp.proofs.Orders.{same_tx_is}
 use Rattle.qc_list.specs.Members.{In}
@@ -12,7 +11,6 @@ use Rattle.qc_plan.specs.declared.plan.Plan.{Plan}
 use Rattle.qc_decl.specs.declared.declaration.Declaration.{Declaration}
 use Rattle.qc_decl.specs.Actors.{client_actor}
 use Rattle.qc_decl.specs.Lookup.{plan_in}
-use Rattle.qc_msg.specs.declared.begun.Begun.{Begun}
 use Rattle.qc_msg.specs.declared.message.Envelope.{Envelope}
 use Rattle.qc_msg.specs.declared.message.Message.TheVariants as messages
 use Rattle.qc_msg.specs.declared.message.Outcome.{Outcome}
@@ -22,10 +20,9 @@ use Rattle.qc_msg.specs.Begun.{decisions}
 use Rattle.qc_onecopy.proofs.Lists.{in_split}
 use Rattle.qc_protocol.specs.Names.{put, put_tx}
 use Rattle.qc_protocol.specs.Acts.{Act, Abort, Announce, Begin, Commit, Prepare, state, verdict_of}
-use Rattle.qc_protocol.specs.Guards.{IsLive, MayCommit, MayPrepare, op_of}
+use Rattle.qc_protocol.specs.Guards.{IsLive, MayCommit, MayPrepare}
 use Rattle.qc_protocol.specs.State.{Aborted, Active, AppendRequest, Committed, Granted, NotBegun, Pending, State, Status, Verdict, Voting, YesVote}
 use Rattle.qc_protocol.proofs.Names.{put_here, put_tx_case, put_tx_here, tx_test}
-use Rattle.qc_commit.specs.declared.desk.Desk.{Desk}
 use Rattle.qc_commit.specs.declared.desk.Voting.{Voting as DeskVoting}
 use Rattle.qc_commit.specs.Conduct.{commit_of, decides, next_stamp}
 use Rattle.qc_commit.specs.Desk.{record_of}
@@ -38,7 +35,7 @@ use Rattle.qc_net.specs.Messages.{Backed}
 use Rattle.qc_net.specs.Net.{Net, commits_in}
 use Rattle.qc_net.proofs.ClientPosts.{IsAsking}
 use Rattle.qc_net.proofs.ClientSteps.{Mid, Turned, elsewhere, mid_more, put_tx_other, turns}
-use Rattle.qc_net.proofs.Frames.{Keeps, Later}
+use Rattle.qc_net.proofs.Frames.{Later}
 use Rattle.qc_net.proofs.Machine.{put_other}
 
 live_only : (s : Status) → IsLive s → (s ≡ Active) ⊎ (s ≡ Voting)

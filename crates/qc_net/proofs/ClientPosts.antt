@@ -1,12 +1,12 @@
 -- A client's turn is posted: its requests have their numbers, and all of its messages are in the mail.
-use Rattle.std.proofs.Common.{◌≡◌, ◌≢◌, ◌≤◌, ℕ, ◌==◌, ◌+◌, Bool, true, false, ◌⊎◌, inl, inr, List, [], ◌∷◌, ◌++◌, length, Option, Some, None, slice_get, refl, sym, ap, ◌∙◌, subst, eq-eqb, eqb-true}
+use Rattle.std.proofs.Common.{◌≡◌, ◌≢◌, ℕ, ◌==◌, ◌+◌, Bool, true, false, inl, inr, List, [], ◌∷◌, ◌++◌, length, Option, Some, None, slice_get, refl, sym, ap, ◌∙◌, subst, eq-eqb, eqb-true}
 use Rattle.qc_stamp.specs.declared.stamp.TxId.{TxId}
 use Rattle.qc_list.specs.Members.{In}
 use Rattle.qc_list.proofs.Members.{In-first, In-second}
 use Rattle.qc_entry.specs.declared.record.Commit.{Commit as CommitRecord}
 use Rattle.qc_onecopy.proofs.Lists.{in_split}
 use Rattle.qc_decl.specs.declared.declaration.Declaration.{Declaration}
-use Rattle.qc_decl.specs.Actors.{client_actor, is_client, is_site}
+use Rattle.qc_decl.specs.Actors.{client_actor, is_client}
 use Rattle.qc_msg.specs.declared.call.Call.{Call}
 use Rattle.qc_msg.specs.declared.message.Envelope.{Envelope}
 use Rattle.qc_msg.specs.declared.message.Message.{Message}
@@ -23,7 +23,6 @@ use Rattle.qc_commit.specs.declared.desk.Voting.{Voting}
 use Rattle.qc_commit.specs.Conduct.{prepared, prepared_in, with_voting}
 use Rattle.qc_front.specs.declared.doing.Doing.{Doing}
 use Rattle.qc_front.specs.declared.doing.Doing.TheVariants.{Idle, Reading, Appending}
-use Rattle.qc_front.specs.declared.front.Front.{Front}
 use Rattle.qc_front.specs.declared.transaction.Transaction.{Transaction}
 use Rattle.qc_front.specs.Conduct.{requested, requested_in}
 use Rattle.qc_front.specs.Going.{calls_in}
@@ -31,8 +30,7 @@ use Rattle.qc_front.specs.Requests.{IsFor}
 use Rattle.qc_client.specs.Client.{ClientMove}
 use Rattle.qc_client.specs.Conduct.{sent_one}
 use Rattle.qc_client.specs.declared.client.Client.{Client}
-use Rattle.qc_site.specs.Site.{SiteState}
-use Rattle.qc_net.specs.Clients.{AreVotes, BegunMirrors, ClientMirrors, IsAskedBy, IsChosen, IsRoundCounted, OwnMirrors, RunningMirrors, TransactionMirrors, VotesMirror, status_by}
+use Rattle.qc_net.specs.Clients.{AreVotes, BegunMirrors, ClientMirrors, IsAskedBy, IsChosen, IsRoundCounted, RunningMirrors, TransactionMirrors, VotesMirror, status_by}
 use Rattle.qc_net.specs.Messages.{Backed, IsRequest}
 use Rattle.qc_net.specs.Mirrors.{Mirrors}
 use Rattle.qc_net.specs.Net.{Net, after_client, commits_in, sent_all}

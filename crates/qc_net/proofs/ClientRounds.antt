@@ -1,43 +1,34 @@
 -- An operation's turns, as far as its round has come: acts of the machine, or none.
-use Rattle.std.proofs.Common.{◌≡◌, ◌≢◌, ◌≤◌, ◌<◌, ℕ, ◌==◌, nat_le, Bool, true, false, cond, ◌⊎◌, inl, inr, List, [], ◌∷◌, ◌++◌, map, fold, length, Option, Some, None, refl, sym, ap, ◌∙◌, subst}
-use Rattle.qc_stamp.specs.declared.stamp.TxId.{TxId}
+use Rattle.std.proofs.Common.{◌≡◌, ℕ, true, false, inl, inr, List, [], ◌∷◌, ◌++◌, map, fold, Option, Some, None, refl, sym, ap, ◌∙◌, subst}
 use Rattle.qc_list.specs.Members.{In}
-use Rattle.qc_entry.specs.declared.line.OwnLine.{OwnLine}
-use Rattle.qc_entry.specs.Line.{IsAscending}
 use Rattle.qc_plan.specs.Round.{RoundState, asking_all, verdict, wanted}
 use Rattle.qc_plan.specs.declared.standing.Verdict.{Verdict}
 use Rattle.qc_plan.specs.declared.standing.Verdict.TheVariants as verdicts
 use Rattle.qc_decl.specs.declared.declaration.Declaration.{Declaration}
 use Rattle.qc_decl.specs.Actors.{client_actor, is_client}
-use Rattle.qc_decl.specs.Limits.{most_transaction_operations}
 use Rattle.qc_decl.specs.Lookup.{append_need_of, read_need_of}
 use Rattle.qc_msg.specs.declared.call.Call.{Call}
 use Rattle.qc_msg.specs.declared.message.Envelope.{Envelope}
 use Rattle.qc_msg.specs.declared.message.Want.{Want}
-use Rattle.qc_msg.specs.declared.message.Want.TheVariants.{Read, Append, Prepare}
 use Rattle.qc_msg.specs.declared.record.Record.{Record}
 use Rattle.qc_msg.specs.declared.reply.Half.TheVariants as halves
 use Rattle.qc_msg.specs.declared.reply.Reply.{Reply}
 use Rattle.qc_msg.specs.declared.reply.Reply.TheVariants as replies
 use Rattle.qc_msg.specs.declared.turn.Posting.{Posting}
 use Rattle.qc_msg.specs.Begun.{with_site}
-use Rattle.qc_msg.specs.Turns.{telling}
 use Rattle.qc_onecopy.specs.Executed.{Executed}
 use Rattle.qc_protocol.specs.Acts.{Act, Choose, Execute, ExecuteAbsent, SendAppend, chosen_list, state}
 use Rattle.qc_protocol.specs.Guards.{HasQuorum, IsRun}
 use Rattle.qc_protocol.specs.Plain.{ArePlain}
-use Rattle.qc_protocol.specs.Site.{Item, Lock, Own}
-use Rattle.qc_protocol.specs.State.{Active, NotBegun, State}
+use Rattle.qc_protocol.specs.Site.{Lock, Own}
+use Rattle.qc_protocol.specs.State.{Active, State}
 use Rattle.qc_protocol.proofs.Names.{put_tx_here}
-use Rattle.qc_front.specs.declared.doing.Doing.{Doing}
 use Rattle.qc_front.specs.declared.doing.Doing.TheVariants.{Idle, Reading, Appending}
-use Rattle.qc_front.specs.declared.front.Front.{Front}
 use Rattle.qc_front.specs.declared.transaction.Transaction.{Transaction}
-use Rattle.qc_front.specs.Answering.{answer_of, next_own, op_of as operation_of, resp_of, view_log, with_event, with_op}
+use Rattle.qc_front.specs.Answering.{answer_of, next_own, op_of as operation_of, resp_of, with_event, with_op}
 use Rattle.qc_front.specs.Appending.{append_want, read_want, request_of, round_for}
-use Rattle.qc_front.specs.Front.{FrontMove, moved}
 use Rattle.qc_front.specs.Holds.{IsRound, RecordsHold}
-use Rattle.qc_front.specs.Rounds.{absents, answered, append_by, doomed, performs, read_by, refuses, responds, with_asked}
+use Rattle.qc_front.specs.Rounds.{absents, answered, append_by, doomed, read_by, refuses, responds, with_asked}
 use Rattle.qc_front.proofs.Keeping.{started_round}
 use Rattle.qc_client.specs.Client.{ClientMove, by_front}
 use Rattle.qc_client.specs.declared.client.Client.{Client}
@@ -47,9 +38,9 @@ use Rattle.qc_net.specs.Mirrors.{Mirrors, Refines}
 use Rattle.qc_net.specs.Net.{IsNamedAt, Net, after_client, commits_in}
 use Rattle.qc_net.proofs.Answers.{absent_answered, chosen_answered}
 use Rattle.qc_net.proofs.ClientActs.{appended_on, mid_absent, mid_choose, mid_execute, mid_send}
-use Rattle.qc_net.proofs.ClientPosts.{AsksFor, IsAsking, IsWantOf}
-use Rattle.qc_net.proofs.ClientSteps.{Core, Does, Mid, Turned, actor, born, client_of, core_asked, idle_does, mid_first, refined, turns}
-use Rattle.qc_net.proofs.Recorded.{IsWith, absent_is_with, event_is_with, executed_core}
+use Rattle.qc_net.proofs.ClientPosts.{IsAsking, IsWantOf}
+use Rattle.qc_net.proofs.ClientSteps.{Core, Mid, Turned, actor, born, client_of, core_asked, idle_does, mid_first, refined, turns}
+use Rattle.qc_net.proofs.Recorded.{absent_is_with, event_is_with, executed_core}
 use Rattle.qc_net.proofs.Rounds.{asked_counted, met_quorum}
 
 module _ (decl : Declaration) where

@@ -1,38 +1,29 @@
 -- A client's turn as acts of the machine: what each act keeps, and what is left to show.
-use Rattle.std.proofs.Common.{◌≡◌, ◌≢◌, ◌≤◌, ◌<◌, ℕ, suc, ◌==◌, ◌&&◌, ◌+◌, Bool, true, false, cond, ◌⊎◌, inl, inr, List, [], ◌∷◌, ◌++◌, map, filter, length, Option, Some, None, is_some, refl, sym, ap, ◌∙◌, subst, eq-eqb, eqb-true, arith, append_assoc}
-use Rattle.std.proofs.lemmas.List.{map-append}
-use Rattle.std.proofs.lemmas.List.Elements.{filter-append}
+use Rattle.std.proofs.Common.{◌≡◌, ◌≢◌, ℕ, Bool, true, false, cond, List, ◌∷◌, ◌++◌, Option, Some, None, refl, sym, ap, ◌∙◌}
 use Rattle.qc_stamp.specs.declared.stamp.TxId.{TxId}
 use Rattle.qc_stamp.specs.Order.{same_tx}
 use Rattle.qc_stamp.proofs.Orders.{same_tx_is}
 use Rattle.qc_list.specs.Members.{In}
-use Rattle.qc_entry.specs.declared.line.Line.{Line}
-use Rattle.qc_entry.specs.declared.line.Op.{Op}
-use Rattle.qc_entry.specs.declared.line.OwnLine.{OwnLine}
-use Rattle.qc_entry.specs.declared.record.Commit.{Commit as CommitRecord}
 use Rattle.qc_decl.specs.declared.declaration.Declaration.{Declaration}
 use Rattle.qc_decl.specs.Actors.{client_actor, is_client}
 use Rattle.qc_msg.specs.declared.call.Call.{Call}
 use Rattle.qc_msg.specs.declared.message.Envelope.{Envelope}
 use Rattle.qc_msg.specs.declared.turn.Posting.{Posting}
-use Rattle.qc_onecopy.specs.Executed.{Executed, own_line}
 use Rattle.qc_protocol.specs.Names.{put_tx}
 use Rattle.qc_protocol.specs.Acts.{Act, state}
-use Rattle.qc_protocol.specs.Guards.{IsAllowed, IsRun, IsShown, op_of, own_on as machine_own_on}
+use Rattle.qc_protocol.specs.Guards.{IsAllowed, IsRun}
 use Rattle.qc_protocol.specs.Plain.{ArePlain, IsPlain}
-use Rattle.qc_protocol.specs.State.{Aborted, Active, Committed, Granted, NotBegun, State, Status}
+use Rattle.qc_protocol.specs.State.{Active, NotBegun, State, Status}
 use Rattle.qc_protocol.proofs.Keeps.{laws}
 use Rattle.qc_commit.specs.declared.desk.Voting.{Voting}
 use Rattle.qc_front.specs.declared.doing.Doing.{Doing}
-use Rattle.qc_front.specs.declared.doing.Doing.TheVariants.{Idle, Reading, Appending}
-use Rattle.qc_front.specs.declared.front.Front.{Front}
+use Rattle.qc_front.specs.declared.doing.Doing.TheVariants.{Idle}
 use Rattle.qc_front.specs.declared.transaction.Transaction.{Transaction}
 use Rattle.qc_front.specs.Front.{turned}
 use Rattle.qc_front.specs.Going.{calls_in}
-use Rattle.qc_front.specs.Holds.{own_on}
 use Rattle.qc_client.specs.Client.{ClientMove}
 use Rattle.qc_client.specs.declared.client.Client.{Client}
-use Rattle.qc_net.specs.Clients.{AreVotes, BegunMirrors, ClientMirrors, IsAskedBy, IsChosen, IsRoundCounted, OwnMirrors, RunningMirrors, TransactionMirrors, status_by}
+use Rattle.qc_net.specs.Clients.{AreVotes, ClientMirrors, IsAskedBy, IsChosen, IsRoundCounted, OwnMirrors, TransactionMirrors, status_by}
 use Rattle.qc_net.specs.Messages.{Backed}
 use Rattle.qc_net.specs.Mirrors.{Mirrors, Refines}
 use Rattle.qc_net.specs.Net.{Net, after_client, commits_in}

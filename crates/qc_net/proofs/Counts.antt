@@ -1,27 +1,25 @@
 -- A grant that counts: its site is a participant, and the lines that it shows join the object's view.
-use Rattle.std.proofs.Common.{◌≡◌, ◌≢◌, ◌≤◌, ◌<◌, ℕ, ◌==◌, ◌||◌, max, Bool, true, false, cond, ◌⊎◌, inl, inr, List, [], ◌∷◌, ◌++◌, map, Option, Some, None, slice_get, refl, sym, ap, ◌∙◌, subst, eq-eqb, eqb-true, arith}
-use Rattle.std.specs.Prelude.{option_map, slice_set}
-use Rattle.std.specs.List.{list_any}
+use Rattle.std.proofs.Common.{◌≡◌, ◌≢◌, ◌≤◌, ℕ, ◌==◌, ◌||◌, max, Bool, true, false, cond, inl, inr, List, [], ◌∷◌, ◌++◌, map, Option, Some, None, slice_get, refl, sym, ap, ◌∙◌, subst, eq-eqb, eqb-true, arith}
+use Rattle.std.specs.Prelude.{option_map}
 use Rattle.std.specs.Option.{option_map_or}
 use Rattle.qc_stamp.specs.declared.stamp.TxId.{TxId}
 use Rattle.qc_list.specs.Members.{In}
 use Rattle.qc_entry.specs.declared.line.Line.{Line}
 use Rattle.qc_entry.specs.declared.line.OwnLine.{OwnLine}
 use Rattle.qc_entry.specs.declared.line.ReadLock.{ReadLock}
-use Rattle.qc_entry.specs.declared.record.Commit.{Commit as CommitRecord}
 use Rattle.qc_entry.specs.Line.{IsAscending}
 use Rattle.qc_entry.specs.Log.{union}
 use Rattle.qc_entry.proofs.Union.{ascending-union, in_either, in_first, in_second}
 use Rattle.qc_decl.specs.declared.declaration.Declaration.{Declaration}
 use Rattle.qc_msg.specs.declared.begun.LifeAt.{LifeAt}
 use Rattle.qc_msg.specs.declared.message.Want.{Want}
-use Rattle.qc_msg.specs.declared.message.Want.TheVariants.{Read, Append, Prepare}
+use Rattle.qc_msg.specs.declared.message.Want.TheVariants.{Read, Append}
 use Rattle.qc_msg.specs.Begun.{has_granted, with_life}
 use Rattle.qc_protocol.specs.Acts.{Count, after_act}
 use Rattle.qc_protocol.specs.Guards.{IsShown, Shows, op_of, own_on as machine_own_on}
 use Rattle.qc_front.specs.Holds.{own_on}
-use Rattle.qc_protocol.specs.Site.{Item, Lock, Own, site_after}
-use Rattle.qc_protocol.specs.State.{Aborted, Active, Granted, NotBegun, State}
+use Rattle.qc_protocol.specs.Site.{Item, Lock, site_after}
+use Rattle.qc_protocol.specs.State.{Aborted, Granted, NotBegun, State}
 use Rattle.qc_protocol.proofs.Names.{put_case}
 use Rattle.qc_commit.specs.Desk.{record_of}
 use Rattle.qc_view.specs.declared.view.View.{View}
@@ -32,7 +30,7 @@ use Rattle.qc_front.specs.Counting.{lived}
 use Rattle.qc_front.proofs.Keeping.{view_keeps}
 use Rattle.qc_client.specs.Client.{is_begun}
 use Rattle.qc_client.specs.declared.client.Client.{Client}
-use Rattle.qc_net.specs.Items.{items_wanted, own_item, own_items}
+use Rattle.qc_net.specs.Items.{own_items}
 use Rattle.qc_net.specs.Messages.{IsGrant}
 use Rattle.qc_net.proofs.ClientSteps.{Core}
 use Rattle.qc_net.proofs.Recorded.{log_here, log_there, views_keep_own}

@@ -1,5 +1,5 @@
 -- What stands behind messages stays there as the machine goes on and more is sent; what a client has stays where others act.
-use Rattle.std.proofs.Common.{◌≡◌, ◌≢◌, ◌≤◌, ◌<◌, ℕ, zero, suc, ◌==◌, Bool, true, false, cond, ◌⊎◌, inl, inr, List, [], ◌∷◌, ◌++◌, map, Option, Some, None, slice_get, refl, sym, ap, ◌∙◌, subst, eq-eqb, eqb-true, arith}
+use Rattle.std.proofs.Common.{◌≡◌, ◌≢◌, ◌≤◌, ℕ, zero, suc, ◌==◌, Bool, true, false, cond, List, [], ◌∷◌, ◌++◌, map, Option, Some, None, slice_get, refl, sym, ap, ◌∙◌, subst, eq-eqb, eqb-true, arith}
 use Rattle.qc_stamp.specs.declared.stamp.TxId.{TxId}
 use Rattle.qc_list.specs.Members.{In}
 use Rattle.qc_entry.specs.declared.line.Line.{Line}
@@ -18,7 +18,7 @@ use Rattle.qc_msg.specs.declared.message.Want.TheVariants.{Read, Append, Prepare
 use Rattle.qc_onecopy.specs.Executed.{Executed}
 use Rattle.qc_protocol.specs.Names.{put}
 use Rattle.qc_protocol.specs.Guards.{IsShown, MayPrepare, op_of, own_on}
-use Rattle.qc_protocol.specs.Site.{Item, Lock, Own}
+use Rattle.qc_protocol.specs.Site.{Item}
 use Rattle.qc_protocol.specs.State.{AppendRequest, Granted, NotBegun, State, Verdict, YesVote}
 use Rattle.qc_commit.specs.declared.desk.Voting.{Voting}
 use Rattle.qc_front.specs.declared.doing.Doing.{Doing}
@@ -26,8 +26,8 @@ use Rattle.qc_front.specs.declared.doing.Doing.TheVariants.{Idle, Reading, Appen
 use Rattle.qc_front.specs.declared.front.Front.{Front}
 use Rattle.qc_front.specs.declared.transaction.Transaction.{Transaction}
 use Rattle.qc_client.specs.declared.client.Client.{Client}
-use Rattle.qc_net.specs.Clients.{AreCounted, AreVotes, BegunMirrors, ClientMirrors, IsAskedBy, IsChosen, IsRoundCounted, OwnMirrors, RunningMirrors, TransactionMirrors, VotesMirror, name_at}
-use Rattle.qc_net.specs.Messages.{Backed, IsAnswerBacked, IsGrant, IsGrantTo, IsRequest, IsVerdictBacked, IsVoteTo, IsWanted}
+use Rattle.qc_net.specs.Clients.{AreCounted, AreVotes, BegunMirrors, ClientMirrors, IsAskedBy, IsChosen, IsRoundCounted, OwnMirrors, RunningMirrors, TransactionMirrors, name_at}
+use Rattle.qc_net.specs.Messages.{Backed, IsAnswerBacked, IsGrant, IsRequest, IsVerdictBacked, IsWanted}
 
 pub slice_get-append : {X : Type 0} (xs ys : List X) (n : ℕ) (x : X) → slice_get xs n ≡ Some x → slice_get (xs ++ ys) n ≡ Some x
 slice_get-append [] ys n x h = absurd (let never : ⊥ = cc in never)

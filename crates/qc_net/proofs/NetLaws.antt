@@ -1,10 +1,9 @@
 -- The laws of the machine, of every net that may come about.
-use Rattle.std.proofs.Common.{◌≡◌, ◌↔◌, ℕ, true, inl, inr, List, [], ◌∷◌, Option, Some, None, refl, sym, subst}
+use Rattle.std.proofs.Common.{◌≡◌, ◌↔◌, ℕ, true, Option, Some, None, refl, subst}
 use Rattle.qc_stamp.specs.declared.stamp.Stamp.{Stamp}
 use Rattle.qc_stamp.specs.declared.stamp.TxId.{TxId}
 use Rattle.qc_list.specs.Members.{In}
 use Rattle.qc_entry.specs.declared.line.Line.{Line}
-use Rattle.qc_entry.specs.declared.line.OwnLine.{OwnLine}
 use Rattle.qc_entry.specs.declared.record.Commit.{Commit as CommitRecord}
 use Rattle.qc_decl.specs.declared.declaration.Declaration.{Declaration}
 use Rattle.qc_decl.specs.Accepted.{IsAccepted}
@@ -24,7 +23,7 @@ use Rattle.qc_onecopy.specs.Logged.{IsLogged}
 use Rattle.qc_onecopy.specs.OneCopy.{OneCopy}
 use Rattle.qc_onecopy.proofs.Committed.{sorts}
 use Rattle.qc_protocol.specs.Acts.{state}
-use Rattle.qc_protocol.specs.Claims.{IsLogOf, IsVerdictOf, OfAppend, OfGrant, OfSite}
+use Rattle.qc_protocol.specs.Claims.{IsVerdictOf, OfAppend, OfGrant, OfSite}
 use Rattle.qc_protocol.specs.Site.{site_after}
 use Rattle.qc_protocol.proofs.ClaimLaws as claims
 use Rattle.qc_protocol.proofs.OneCopyLaw.{runs_are_one_copy}

@@ -1,6 +1,5 @@
 -- Promises of a site and of the machine's: one more, and those of one transaction dropped; and the lines of their own lines.
-use Rattle.std.proofs.Common.{◌≡◌, ◌≤◌, ℕ, not, Bool, true, false, cond, ◌⊎◌, inl, inr, List, [], ◌∷◌, ◌++◌, Option, Some, None, is_some, unwrap_or, fold, refl, sym, ap, ◌∙◌, subst, arith}
-use Rattle.std.specs.List.{find}
+use Rattle.std.proofs.Common.{◌≡◌, ◌≤◌, ℕ, Bool, true, false, cond, ◌⊎◌, inl, inr, List, [], ◌∷◌, ◌++◌, Option, Some, None, fold, refl, sym, ap, ◌∙◌, subst, arith}
 use Rattle.qc_stamp.specs.declared.stamp.Stamp.{Stamp}
 use Rattle.qc_stamp.specs.declared.stamp.TxId.{TxId}
 use Rattle.qc_stamp.specs.Order.{same_tx}
@@ -13,7 +12,6 @@ use Rattle.qc_entry.specs.declared.record.Prepared.{Prepared}
 use Rattle.qc_entry.specs.Log.{union}
 use Rattle.qc_entry.specs.Line.{IsAscending}
 use Rattle.qc_entry.proofs.Union.{ascending-union, in_either, in_first, in_second}
-use Rattle.qc_onecopy.specs.Executed.{committed_line}
 use Rattle.qc_onecopy.proofs.Lists.{in_split}
 use Rattle.qc_protocol.specs.Site.{Item, Lock, Own, Promise, Site, after_commit, promise_of, stamped_lines, without_promise}
 use Rattle.qc_protocol.proofs.Names.{tx_test}

@@ -1,5 +1,5 @@
 -- One operation more at a client: its transaction agrees with the machine's still.
-use Rattle.std.proofs.Common.{◌≡◌, ◌≢◌, ◌≤◌, ◌<◌, ℕ, zero, suc, ◌==◌, ◌&&◌, ◌+◌, Bool, true, false, cond, ◌⊎◌, inl, inr, List, [], ◌∷◌, ◌++◌, map, filter, length, Option, Some, None, is_some, slice_get, refl, sym, ap, ◌∙◌, subst, eq-eqb, eqb-true, append_assoc}
+use Rattle.std.proofs.Common.{◌≡◌, ◌≢◌, ◌≤◌, ℕ, zero, suc, ◌==◌, ◌&&◌, Bool, true, false, cond, List, [], ◌∷◌, ◌++◌, map, Option, Some, None, is_some, slice_get, refl, sym, ap, ◌∙◌, subst, eq-eqb, eqb-true, append_assoc}
 use Rattle.std.specs.Prelude.{option_map, slice_set}
 use Rattle.std.specs.Option.{option_map_or}
 use Rattle.std.proofs.lemmas.List.{map-append}
@@ -9,7 +9,6 @@ use Rattle.qc_list.specs.Members.{In}
 use Rattle.qc_entry.specs.declared.line.Line.{Line}
 use Rattle.qc_entry.specs.declared.line.Op.{Op}
 use Rattle.qc_entry.specs.declared.line.OwnLine.{OwnLine}
-use Rattle.qc_entry.specs.declared.record.Commit.{Commit as CommitRecord}
 use Rattle.qc_entry.specs.Line.{IsAscending}
 use Rattle.qc_decl.specs.declared.declaration.Declaration.{Declaration}
 use Rattle.qc_msg.specs.declared.begun.LifeAt.{LifeAt}
@@ -26,7 +25,7 @@ use Rattle.qc_front.specs.Holds.{own_on}
 use Rattle.qc_front.proofs.Keeping.{view_keeps}
 use Rattle.qc_client.specs.Client.{is_begun}
 use Rattle.qc_client.specs.declared.client.Client.{Client}
-use Rattle.qc_net.specs.Clients.{OwnMirrors, absent_of, chosen_of, name_at}
+use Rattle.qc_net.specs.Clients.{absent_of, chosen_of, name_at}
 use Rattle.qc_net.proofs.ClientSteps.{Core}
 
 -- logs of views, where one view has another log or the same

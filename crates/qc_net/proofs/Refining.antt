@@ -1,12 +1,10 @@
 -- Every net that may come about is what a run of the machine may look like.
-use Rattle.std.proofs.Common.{◌≡◌, ◌≢◌, ◌≤◌, ◌<◌, ℕ, ◌+◌, ◌-◌, ◌&&◌, nat_le, nat_lt, Bool, true, false, List, [], ◌∷◌, Option, Some, None, refl, sym, ap, ◌∙◌, subst, arith}
+use Rattle.std.proofs.Common.{◌≡◌, ◌≤◌, ℕ, ◌+◌, ◌-◌, ◌&&◌, nat_le, nat_lt, Bool, true, false, List, [], Option, Some, None, refl, sym, ◌∙◌, subst, arith}
 use Rattle.std.proofs.lemmas.Bool.{leb-true}
-use Rattle.qc_stamp.specs.declared.stamp.TxId.{TxId}
 use Rattle.qc_decl.specs.declared.declaration.Declaration.{Declaration}
 use Rattle.qc_decl.specs.Accepted.{IsAccepted}
-use Rattle.qc_decl.specs.Actors.{actors, is_client, is_site}
+use Rattle.qc_decl.specs.Actors.{actors, is_client}
 use Rattle.qc_msg.specs.declared.message.Answer.{Answer}
-use Rattle.qc_msg.specs.declared.message.Envelope.{Envelope}
 use Rattle.qc_msg.specs.declared.message.Message.{Message}
 use Rattle.qc_msg.specs.declared.message.Message.TheVariants as messages
 use Rattle.qc_msg.specs.declared.step.Command.TheVariants as commands
@@ -17,14 +15,11 @@ use Rattle.qc_msg.specs.Turns.{quiet}
 use Rattle.qc_protocol.specs.Acts.{Act, state}
 use Rattle.qc_protocol.specs.Guards.{IsRun}
 use Rattle.qc_protocol.specs.Plain.{ArePlain}
-use Rattle.qc_protocol.specs.State.{NotBegun, State}
 use Rattle.qc_commit.specs.declared.desk.Voting.{Voting}
 use Rattle.qc_commit.specs.Conduct.{votes_in}
 use Rattle.qc_front.specs.Front as fronts
 use Rattle.qc_client.specs.Client.{by_desk, by_front, moved}
 use Rattle.qc_client.specs.Conduct.{answered_by, client_takes, heard}
-use Rattle.qc_client.specs.declared.client.Client.{Client}
-use Rattle.qc_site.specs.Site.{SiteState}
 use Rattle.qc_net.specs.Messages.{Backed}
 use Rattle.qc_net.specs.Mirrors.{FrontStands, Mirrors, Refines}
 use Rattle.qc_net.specs.Net.{MayCome, MayCommand, Net, Reaches, after_client, first_net}

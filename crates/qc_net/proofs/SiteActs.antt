@@ -1,5 +1,5 @@
 -- What a site does for a message, as an act of the machine: it grants, votes, learns a verdict, or nothing happens.
-use Rattle.std.proofs.Common.{◌≡◌, ◌≢◌, ◌≤◌, ℕ, Bool, true, false, ◌⊎◌, inl, inr, List, [], ◌∷◌, ◌++◌, Option, Some, None, unwrap_or, is_some, refl, sym, ap, ◌∙◌, subst, arith}
+use Rattle.std.proofs.Common.{◌≡◌, ◌≢◌, ◌≤◌, ℕ, Bool, true, false, inl, inr, List, [], ◌∷◌, ◌++◌, Option, Some, None, unwrap_or, refl, sym, ◌∙◌, subst, arith}
 use Rattle.qc_stamp.specs.declared.stamp.TxId.{TxId}
 use Rattle.qc_stamp.specs.Order.{same_tx}
 use Rattle.qc_stamp.proofs.Orders.{other_tx_sym, same_tx_is}
@@ -17,12 +17,11 @@ use Rattle.qc_msg.specs.declared.message.Answer.{Answer}
 use Rattle.qc_msg.specs.declared.message.Answer.TheVariants as answers
 use Rattle.qc_msg.specs.declared.message.Message.TheVariants as messages
 use Rattle.qc_msg.specs.declared.message.Want.{Want}
-use Rattle.qc_msg.specs.declared.message.Want.TheVariants.{Read, Append, Prepare}
+use Rattle.qc_msg.specs.declared.message.Want.TheVariants.{Read, Prepare}
 use Rattle.qc_msg.specs.declared.turn.Posting.{Posting}
-use Rattle.qc_protocol.specs.Names.{put}
 use Rattle.qc_protocol.specs.Acts.{Act, Grant, Learn, Vote, after_act, deed_of, state}
 use Rattle.qc_protocol.specs.Guards.{IsRun, MayPrepare}
-use Rattle.qc_protocol.specs.Plain.{ArePlain, IsFirst}
+use Rattle.qc_protocol.specs.Plain.{ArePlain}
 use Rattle.qc_protocol.specs.Site.{Item, Own, Promise, Deed, DoneRecord, Grants, Prepares, Site, after_deed, after_prepare, items_of, promise_of, site_after, without_tx}
 use Rattle.qc_protocol.specs.Site as machine
 use Rattle.qc_protocol.specs.State.{Granted, NotBegun, State, Verdict}
@@ -41,7 +40,7 @@ use Rattle.qc_net.specs.Sites.{IsHeld, IsPromiseOf, SiteMirrors}
 use Rattle.qc_net.proofs.Frames.{keeps_same, same_state}
 use Rattle.qc_net.proofs.Held.{dropped_held}
 use Rattle.qc_net.proofs.Machine.{IsDoneOf, put_other}
-use Rattle.qc_net.proofs.Posts.{SiteGoes, site_goes}
+use Rattle.qc_net.proofs.Posts.{site_goes}
 use Rattle.qc_net.proofs.SiteSteps.{Stays, clock_mirrors, grant_of, mirrors_more, one_answer}
 
 -- what stays as the machine's site prepares

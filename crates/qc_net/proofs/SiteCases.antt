@@ -1,5 +1,5 @@
 -- Each message that a site takes: an act of the machine, or none.
-use Rattle.std.proofs.Common.{◌≡◌, ◌≢◌, ◌≤◌, ℕ, ◌==◌, max, nat_lt, Bool, true, false, IsTrue, cond, ◌⊎◌, inl, inr, List, [], ◌∷◌, ◌++◌, map, Option, Some, None, is_some, refl, sym, ap, ◌∙◌, subst, arith}
+use Rattle.std.proofs.Common.{◌≡◌, ◌≢◌, ◌≤◌, ℕ, ◌==◌, max, nat_lt, Bool, true, false, IsTrue, cond, ◌⊎◌, inl, inr, List, [], ◌∷◌, ◌++◌, Option, Some, None, is_some, refl, sym, ap, ◌∙◌, subst, arith}
 use Rattle.qc_stamp.specs.declared.stamp.Stamp.{Stamp}
 use Rattle.qc_stamp.specs.declared.stamp.TxId.{TxId}
 use Rattle.qc_stamp.specs.Order.{same_tx}
@@ -10,7 +10,6 @@ use Rattle.qc_entry.specs.declared.line.OwnLine.{OwnLine}
 use Rattle.qc_entry.specs.declared.line.ReadLock.{ReadLock}
 use Rattle.qc_entry.specs.declared.record.Prepared.{Prepared}
 use Rattle.qc_entry.specs.Log.{of_object, union}
-use Rattle.qc_entry.specs.Line.{IsAscending}
 use Rattle.qc_entry.proofs.Members.{ascending-of_object}
 use Rattle.qc_entry.proofs.Union.{ascending-union, in_either, in_first, in_second}
 use Rattle.std.proofs.Common.{eq-eqb, eqb-true}
@@ -20,7 +19,7 @@ use Rattle.qc_decl.specs.Actors.{is_site}
 use Rattle.qc_table.specs.Depends.{depends}
 use Rattle.qc_lock.specs.declared.clash.Clash.{Clash}
 use Rattle.qc_lock.specs.Clash.{append_clash, read_clash}
-use Rattle.qc_lock.specs.Held.{held_of, is_held, with_held, without_held}
+use Rattle.qc_lock.specs.Held.{held_of, with_held, without_held}
 use Rattle.qc_msg.specs.declared.message.Answer.{Answer}
 use Rattle.qc_msg.specs.declared.message.Answer.TheVariants as answers
 use Rattle.qc_msg.specs.declared.message.Envelope.{Envelope}
@@ -49,7 +48,7 @@ use Rattle.qc_site.specs.Promise as sites
 use Rattle.qc_site.specs.Requests.{appends, clashing, closed_fault, fault_of, life_fault, grants, reads, relation_at}
 use Rattle.qc_site.specs.Site.{SiteMove, SiteState, answers as answers_with, moved}
 use Rattle.qc_site.proofs.Cases.{append_cases, prepare_cases, read_cases, request_cases}
-use Rattle.qc_net.specs.Items.{items_wanted, own_item, own_items}
+use Rattle.qc_net.specs.Items.{own_item, own_items}
 use Rattle.qc_net.specs.Messages.{Backed, IsRequest, IsVerdictBacked, IsWanted}
 use Rattle.qc_net.specs.Mirrors.{Mirrors, Refines}
 use Rattle.qc_net.specs.Net.{MayCome, Net, after_site}
@@ -57,7 +56,7 @@ use Rattle.qc_net.specs.Sites.{IsHeld, IsPromiseOf, IsPromised, SiteMirrors}
 use Rattle.qc_net.proofs.Held.{append_holder, append_is_free, given_back, given_held, given_keeps, lock_given_here, own_given_here, read_holder, read_is_free}
 use Rattle.qc_net.proofs.Machine.{site_more}
 use Rattle.qc_net.proofs.Promises.{commit_log, commit_logged, commit_passed, commit_promised, commit_sorted, dropped_promise, more_promise}
-use Rattle.qc_net.proofs.SiteActs.{at_clock, grants_it, learns_it, says, stands, votes_it}
+use Rattle.qc_net.proofs.SiteActs.{grants_it, learns_it, says, stands, votes_it}
 use Rattle.qc_net.proofs.SiteSteps.{Stays, by_relation, clash_turn, grant_allowed, grant_of, grants_more, latest_grows, latest_passes}
 
 object_in : (l : Line) (xs : List Line) (object : ℕ) → In l (of_object xs object) → In l xs × (l.object ≡ object)

@@ -1,5 +1,5 @@
 -- What a site does, as one deed more of the machine's site.
-use Rattle.std.proofs.Common.{◌≡◌, ◌≢◌, ◌≤◌, ℕ, max, Bool, true, false, IsTrue, ◌⊎◌, inl, inr, List, [], ◌∷◌, ◌++◌, map, Option, Some, None, refl, sym, ap, ◌∙◌, subst, arith}
+use Rattle.std.proofs.Common.{◌≡◌, ◌≢◌, ◌≤◌, ℕ, max, Bool, true, false, IsTrue, ◌⊎◌, inl, inr, List, [], ◌∷◌, ◌++◌, Option, Some, None, refl, sym, ap, ◌∙◌, subst, arith}
 use Rattle.std.specs.Option.{option_map_or}
 use Rattle.qc_stamp.specs.declared.stamp.TxId.{TxId}
 use Rattle.qc_stamp.specs.Order.{same_tx}
@@ -8,7 +8,6 @@ use Rattle.qc_list.specs.Members.{In}
 use Rattle.qc_list.proofs.Members.{In-first, In-second}
 use Rattle.qc_entry.specs.declared.line.Line.{Line}
 use Rattle.qc_entry.specs.declared.line.OwnLine.{OwnLine}
-use Rattle.qc_entry.specs.declared.line.ReadLock.{ReadLock}
 use Rattle.qc_entry.specs.declared.record.Prepared.{Prepared}
 use Rattle.qc_entry.specs.Line.{IsAscending}
 use Rattle.qc_table.specs.Depends.{depends}
@@ -27,7 +26,7 @@ use Rattle.qc_msg.specs.declared.turn.Posting.{Posting}
 use Rattle.qc_protocol.specs.Acts.{Act, Grant, state}
 use Rattle.qc_protocol.specs.Guards.{Conflict, IsAllowed, IsRequested, IsRun}
 use Rattle.qc_protocol.specs.Plain.{ArePlain, IsFirst}
-use Rattle.qc_protocol.specs.Site.{Item, Lock, Own, Deed, DoneRecord, Grants, Installs, Site, after_deed, done_records, each_held, empty_site, items_of, promise_of, site_after}
+use Rattle.qc_protocol.specs.Site.{Item, Own, Deed, DoneRecord, Grants, Installs, Site, after_deed, done_records, each_held, empty_site, items_of, promise_of, site_after}
 use Rattle.qc_protocol.specs.State.{Granted, NotBegun, State}
 use Rattle.qc_protocol.proofs.Plain.{first, plain_epoch, plain_shut}
 use Rattle.qc_protocol.proofs.SiteLists.{items_of-append, items_of-each_held, items_of-other}

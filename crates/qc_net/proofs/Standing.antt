@@ -1,19 +1,15 @@
 -- What holds of each front end in every net that may come about.
-use Rattle.std.proofs.Common.{◌≡◌, ◌≢◌, ℕ, ◌+◌, ◌-◌, Bool, true, false, cond, ◌⊎◌, inl, inr, List, [], ◌∷◌, ◌++◌, map, length, is_some, Option, Some, None, refl, sym, ap, ◌∙◌, subst}
-use Rattle.std.specs.List.{AllByRecursion as Every}
+use Rattle.std.proofs.Common.{◌≡◌, ℕ, ◌+◌, ◌-◌, Bool, true, false, cond, inl, inr, List, [], ◌∷◌, map, length, is_some, Option, Some, None, refl, sym, ap, ◌∙◌, subst}
 use Rattle.qc_stamp.specs.declared.stamp.TxId.{TxId}
 use Rattle.qc_list.specs.Members.{In}
 use Rattle.qc_list.proofs.Members.{every-In}
 use Rattle.qc_decl.specs.declared.declaration.Declaration.{Declaration}
-use Rattle.qc_decl.specs.Actors.{is_client}
-use Rattle.qc_msg.specs.declared.begun.Begun.{Begun}
 use Rattle.qc_msg.specs.declared.message.Answer.{Answer}
 use Rattle.qc_msg.specs.declared.message.Message.{Message}
 use Rattle.qc_msg.specs.declared.message.Message.TheVariants as messages
 use Rattle.qc_msg.specs.declared.message.Outcome.{Outcome}
 use Rattle.qc_msg.specs.declared.message.Want.{Want}
 use Rattle.qc_msg.specs.declared.message.Want.TheVariants.{Read, Append, Prepare}
-use Rattle.qc_msg.specs.declared.reply.Reply.{Reply}
 use Rattle.qc_msg.specs.declared.step.Command.{Command}
 use Rattle.qc_msg.specs.declared.step.Command.TheVariants as commands
 use Rattle.qc_msg.specs.declared.step.Given.{Given}
@@ -24,7 +20,7 @@ use Rattle.qc_commit.specs.declared.desk.Desk.{Desk}
 use Rattle.qc_commit.specs.declared.desk.Voting.{Voting}
 use Rattle.qc_commit.specs.Desk.{DeskMove}
 use Rattle.qc_commit.specs.Conduct as desks
-use Rattle.qc_commit.proofs.Moves.{Aborts, Commits, IsMove, IsPrepare, Waits, prepare-moves, vote-moves}
+use Rattle.qc_commit.proofs.Moves.{IsMove, IsPrepare, prepare-moves, vote-moves}
 use Rattle.qc_front.specs.declared.doing.Doing.{Doing}
 use Rattle.qc_front.specs.declared.doing.Doing.TheVariants.{Idle, Reading, Appending}
 use Rattle.qc_front.specs.declared.front.Front.{Front}
@@ -32,12 +28,12 @@ use Rattle.qc_front.specs.declared.transaction.Transaction.{Transaction}
 use Rattle.qc_front.specs.Conduct as fronts
 use Rattle.qc_front.specs.Front.{FrontMove, ended}
 use Rattle.qc_front.specs.Holds.{FrontHolds, IsNumbered}
-use Rattle.qc_front.specs.Requests.{AreSent, AsksAtOnce, IsFor, IsRequestOf, IsSent, numbered_all, numbered_one}
+use Rattle.qc_front.specs.Requests.{AreSent, AsksAtOnce, IsFor, IsSent, numbered_all, numbered_one}
 use Rattle.qc_front.proofs.AtOnce.{called_at_once, takes_at_once}
 use Rattle.qc_front.proofs.Keeping.{called_holds, ended_holds, new_holds, takes_holds}
 use Rattle.qc_front.proofs.Numbering.{sent_holds}
 use Rattle.qc_front.proofs.Sending.{called_sent, takes_sent}
-use Rattle.qc_client.specs.Client.{ClientMove, by_desk, by_front}
+use Rattle.qc_client.specs.Client.{by_desk, by_front}
 use Rattle.qc_client.specs.Conduct.{answered_by, called, client_takes, commits, heard, sent_one}
 use Rattle.qc_client.specs.declared.client.Client.{Client}
 use Rattle.qc_net.specs.Mirrors.{FrontStands}

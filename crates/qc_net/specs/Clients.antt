@@ -23,7 +23,6 @@ use Rattle.qc_protocol.specs.State.{AppendRequest, Granted, State, YesVote}
 use Rattle.qc_protocol.specs.State as machine
 use Rattle.qc_commit.specs.declared.ballot.Ballot.{Ballot}
 use Rattle.qc_commit.specs.declared.ballot.Vote.TheVariants.{For}
-use Rattle.qc_commit.specs.declared.desk.Desk.{Desk}
 use Rattle.qc_commit.specs.declared.desk.Voting.{Voting}
 use Rattle.qc_commit.specs.Desk.{record_of}
 use Rattle.qc_front.specs.declared.doing.Doing.{Doing}

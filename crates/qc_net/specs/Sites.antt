@@ -1,5 +1,5 @@
 -- A site agrees with what the machine says that it did.
-use Rattle.std.specs.Prelude.{◌≡◌, ℕ, ◌≤◌, List, Option, Some, None}
+use Rattle.std.specs.Prelude.{◌≡◌, ◌≤◌, List, Option, Some, None}
 use Rattle.qc_stamp.specs.declared.stamp.TxId.{TxId}
 use Rattle.qc_stamp.specs.Lives.{first_life}
 use Rattle.qc_list.specs.Members.{In}
