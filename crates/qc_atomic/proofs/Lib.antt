@@ -1,0 +1,6 @@
+pub mod Silent
+pub mod Posted
+pub mod Names
+pub mod Asked
+pub mod Stood
+pub mod Runs
