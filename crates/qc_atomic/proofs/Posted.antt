@@ -1,5 +1,5 @@
 -- What an actor is, and what was written, after a turn and after an input.
-use Rattle.std.proofs.Common.{◌≡◌, ℕ, ◌+◌, ◌-◌, List, [], ◌∷◌, ◌++◌, Option, Some, None, option_to_list, refl, sym, ap, ◌∙◌}
+use Rattle.std.proofs.Common.{◌≡◌, ℕ, ◌+◌, List, [], ◌∷◌, ◌++◌, Option, Some, None, option_to_list, refl, ap, ◌∙◌}
 use Rattle.std.specs.List.{cons_option, fold}
 use Rattle.std.proofs.lemmas.List.{append-nil}
 use Rattle.std.proofs.lemmas.List.Elements.{filter_map-append}
@@ -20,7 +20,6 @@ use Rattle.qc_msg.specs.Counts.{commit_in, commit_of, written}
 use Rattle.qc_msg.specs.Deeds.{Deed, Takes, Sends, sends_of, tells_of, turn_deeds, writes_of}
 use Rattle.qc_msg.specs.Steps.{Entry, by, marked, posted, sents, step_of, told, wrote}
 use Rattle.qc_msg.specs.Turns.{quiet}
-use Rattle.qc_msg.proofs.Growth.{by-posted}
 use Rattle.qc_script.specs.Ready.{step_of_control}
 use Rattle.qc_client.specs.Client.{ClientMove, moved as client_moved, new_client}
 use Rattle.qc_client.specs.Conduct.{client_after, client_does}

@@ -7,7 +7,7 @@ use Rattle.qc_list.specs.Members.{In}
 use Rattle.qc_list.proofs.Members.{every-at, every-from_In}
 use Rattle.qc_entry.specs.declared.record.Commit.{Commit as CommitRecord}
 use Rattle.qc_core.specs.Acts.{MayTake}
-use Rattle.qc_core.specs.Conduct.{IsLawful, turn_after}
+use Rattle.qc_core.specs.Conduct.{IsLawful}
 use Rattle.qc_decl.specs.declared.declaration.Declaration.{Declaration}
 use Rattle.qc_decl.specs.Actors.{actors, controller, is_client, is_site}
 use Rattle.qc_msg.specs.declared.message.Envelope.{Envelope}
@@ -19,16 +19,14 @@ use Rattle.qc_msg.specs.declared.step.Step.TheVariants as steps
 use Rattle.qc_msg.specs.declared.turn.Posting.{Posting}
 use Rattle.qc_msg.specs.declared.turn.Turn.{Turn}
 use Rattle.qc_msg.specs.Counts.{commit_in, written}
-use Rattle.qc_msg.specs.Deeds.{Deed, Takes, WasSentTo, deeds, envelopes, mail, turn_deeds}
+use Rattle.qc_msg.specs.Deeds.{Deed, WasSentTo, deeds, envelopes, mail}
 use Rattle.qc_msg.specs.Steps.{Entry, by, marked, posted, step_of}
 use Rattle.qc_msg.proofs.Growth.{deeds-other, deeds-posted, deeds-taken, mail-append, mail-posted, mail-taken}
-use Rattle.qc_protocol.specs.Names.{put}
 use Rattle.qc_script.specs.Ready.{phase_of, ready}
 use Rattle.qc_script.specs.Runs.{Runs, begins, takes, posts, phase, control}
 use Rattle.qc_script.specs.declared.script.Script.{Script}
 use Rattle.qc_client.specs.Client.{ClientMove}
 use Rattle.qc_client.specs.Conduct.{client_after, client_takes}
-use Rattle.qc_client.specs.Inputs.{IsFree}
 use Rattle.qc_client.specs.declared.client.Client.{Client}
 use Rattle.qc_front.specs.Going.{is_idle}
 use Rattle.qc_front.specs.declared.doing.Doing.{Doing}
