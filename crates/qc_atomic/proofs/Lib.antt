@@ -3,4 +3,5 @@ pub mod Posted
 pub mod Names
 pub mod Asked
 pub mod Stood
+pub mod Closed
 pub mod Runs

@@ -2,19 +2,21 @@
 use Rattle.std.proofs.Common.{◌≡◌, ℕ, Bool, true, false, List, [], Some, slice_get, sym, subst}
 use Rattle.qc_list.specs.Members.{In}
 use Rattle.qc_entry.specs.declared.line.Line.{Line}
+use Rattle.qc_entry.specs.declared.line.OwnLine.{OwnLine}
 use Rattle.qc_entry.specs.declared.record.Commit.{Commit as CommitRecord}
 use Rattle.qc_core.specs.Conduct.{IsLawful}
 use Rattle.qc_decl.specs.Accepted.{IsAccepted}
 use Rattle.qc_decl.specs.Actors.{is_site}
 use Rattle.qc_decl.specs.declared.declaration.Declaration.{Declaration}
 use Rattle.qc_msg.specs.declared.message.Envelope.{Envelope}
-use Rattle.qc_msg.specs.declared.message.Message.TheVariants.{Decision}
+use Rattle.qc_msg.specs.declared.message.Message.TheVariants.{Decision, Request}
 use Rattle.qc_msg.specs.declared.message.Outcome.{Outcome}
+use Rattle.qc_msg.specs.declared.message.Want.TheVariants.{Append}
 use Rattle.qc_msg.specs.Counts.{written}
 use Rattle.qc_msg.specs.Deeds.{deeds, mail}
 use Rattle.qc_msg.specs.Steps.{Entry}
 use Rattle.qc_onecopy.specs.Committed.{AreApart, sorted}
-use Rattle.qc_onecopy.specs.Logged.{IsLogged}
+use Rattle.qc_onecopy.specs.Logged.{IsClosedLog, IsLogged}
 use Rattle.qc_onecopy.specs.OneCopy.{OneCopy}
 use Rattle.qc_script.specs.Runs.{Runs}
 use Rattle.qc_script.specs.Sound.{IsScriptFor}
@@ -25,6 +27,7 @@ use Rattle.qc_stamp.specs.declared.stamp.TxId.{TxId}
 use Rattle.qc_net.specs.Lines.{IsTrueVerdict, lines_in}
 use Rattle.qc_net.proofs.NetLaws as nets
 use Rattle.qc_atomic.specs.Reached.{IsReached}
+use Rattle.qc_atomic.proofs.Closed as closed_logs
 use Rattle.qc_atomic.proofs.Names.{script_named}
 use Rattle.qc_atomic.proofs.Stood.{Stood, runs_stand}
 
@@ -61,3 +64,13 @@ module _ (decl : Declaration) (script : Script) (h : List Entry) (open_inputs : 
   decisions_agree e tx verdict sent is =
       subst (λ (cs : List CommitRecord). IsTrueVerdict cs tx verdict) net_of.written_is
       (nets.decisions_agree decl accepted net_of.net net_of.reached e tx verdict (subst (λ (ms : List Envelope). In e ms) (sym net_of.mail_is) sent) is)
+
+  pub site_closed : (a : ℕ) → is_site decl a ≡ true → slice_get open_inputs a ≡ Some false → IsClosedLog decl (written h) (site_after decl a (deeds a [] h)).site.log
+  site_closed a site closed =
+      subst (λ (cs : List CommitRecord). IsClosedLog decl cs (site_after decl a (deeds a [] h)).site.log) net_of.written_is
+      (subst (λ (s : SiteState). IsClosedLog decl net_of.net.written s.log) (net_of.sites_are a site closed) (closed_logs.site_closed decl accepted net_of.net net_of.reached a site))
+
+  pub view_closed : (e : Envelope) (tx : TxId) (epoch life object : ℕ) (view : List Line) (own : List OwnLine) → In e (mail h) → e.message ≡ Request tx epoch life (Append object view own) → IsClosedLog decl (written h) view
+  view_closed e tx epoch life object view own sent is =
+      subst (λ (cs : List CommitRecord). IsClosedLog decl cs view) net_of.written_is
+      (closed_logs.view_closed decl accepted net_of.net net_of.reached e tx epoch life object view own (subst (λ (ms : List Envelope). In e ms) (sym net_of.mail_is) sent) is)

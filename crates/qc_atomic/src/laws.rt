@@ -7,16 +7,18 @@ ghost use Rattle.qc_decl.specs.Accepted.{IsAccepted};
 ghost use Rattle.qc_decl.specs.Actors.{is_site};
 ghost use Rattle.qc_decl.specs.declared.declaration.Declaration.{Declaration};
 ghost use Rattle.qc_entry.specs.declared.line.Line.{Line};
+ghost use Rattle.qc_entry.specs.declared.line.OwnLine.{OwnLine};
 ghost use Rattle.qc_list.specs.Members.{In};
 ghost use Rattle.qc_msg.specs.declared.message.Envelope.{Envelope};
-ghost use Rattle.qc_msg.specs.declared.message.Message.TheVariants.{Decision};
+ghost use Rattle.qc_msg.specs.declared.message.Message.TheVariants.{Decision, Request};
 ghost use Rattle.qc_msg.specs.declared.message.Outcome.{Outcome};
+ghost use Rattle.qc_msg.specs.declared.message.Want.TheVariants.{Append};
 ghost use Rattle.qc_msg.specs.Counts.{written};
 ghost use Rattle.qc_msg.specs.Deeds.{deeds, mail};
 ghost use Rattle.qc_msg.specs.Steps.{Entry};
 ghost use Rattle.qc_net.specs.Lines.{IsTrueVerdict, lines_in};
 ghost use Rattle.qc_onecopy.specs.Committed.{AreApart, sorted};
-ghost use Rattle.qc_onecopy.specs.Logged.{IsLogged};
+ghost use Rattle.qc_onecopy.specs.Logged.{IsClosedLog, IsLogged};
 ghost use Rattle.qc_onecopy.specs.OneCopy.{OneCopy};
 ghost use Rattle.qc_script.specs.Runs.{Runs};
 ghost use Rattle.qc_script.specs.Sound.{IsScriptFor};
@@ -56,6 +58,21 @@ pub fn lines_are_operations_of_records()
         (e : Envelope) (line : Line) → IsAccepted decl → IsScriptFor decl script
         → Runs (IsLawful decl) decl script h open_inputs → In e (mail h) → In line (lines_in e.message)
         → IsLogged decl (written h) line }
+{}
+
+/// With a line, the log of a site without an open input, and the view of an
+/// Append, have each committed line of its object before it on which its
+/// invocation depends.
+pub fn logs_and_views_are_closed()
+    ensures sites { (decl : Declaration) (script : Script) (h : List Entry) (open_inputs : List Bool) (a : ℕ)
+        → IsAccepted decl → IsScriptFor decl script → Runs (IsLawful decl) decl script h open_inputs
+        → is_site decl a ≡ true → slice_get open_inputs a ≡ Some false
+        → IsClosedLog decl (written h) (site_after decl a (deeds a [] h)).site.log }
+    ensures views { (decl : Declaration) (script : Script) (h : List Entry) (open_inputs : List Bool)
+        (e : Envelope) (tx : TxId) (epoch life object : ℕ) (view : List Line) (own : List OwnLine)
+        → IsAccepted decl → IsScriptFor decl script → Runs (IsLawful decl) decl script h open_inputs
+        → In e (mail h) → e.message ≡ Request tx epoch life (Append object view own)
+        → IsClosedLog decl (written h) view }
 {}
 
 /// A Decision Committed is of a transaction with a record of its stamp, and a

@@ -8,12 +8,14 @@
 //!    the post (`runs_are_nets`).
 //! 2. So what every net keeps, every run keeps: its commit records are one
 //!    copy's and apart (`runs_are_one_copy`), lines are operations of them
-//!    (`lines_are_operations_of_records`), Decisions agree with them
+//!    (`lines_are_operations_of_records`), logs and views are closed
+//!    (`logs_and_views_are_closed`), Decisions agree with them
 //!    (`decisions_tell_the_records`).
 #![tactic(auto)]
 
 mod laws;
 
 pub use laws::{
-    decisions_tell_the_records, lines_are_operations_of_records, runs_are_nets, runs_are_one_copy,
+    decisions_tell_the_records, lines_are_operations_of_records, logs_and_views_are_closed,
+    runs_are_nets, runs_are_one_copy,
 };
