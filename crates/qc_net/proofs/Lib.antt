@@ -18,6 +18,7 @@ pub mod ClientRounds
 pub mod ClientAnswers
 pub mod ClientEnds
 pub mod ClientBegins
+pub mod Ballots
 pub mod ClientCommits
 pub mod Standing
 pub mod Refining
