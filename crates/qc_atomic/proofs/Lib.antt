@@ -1,0 +1,7 @@
+pub mod Silent
+pub mod Posted
+pub mod Names
+pub mod Asked
+pub mod Stood
+pub mod Closed
+pub mod Runs

@@ -1,0 +1,76 @@
+-- So each run of a script is a net's, and what every net keeps, every run keeps.
+use Rattle.std.proofs.Common.{◌≡◌, ℕ, Bool, true, false, List, [], Some, slice_get, sym, subst}
+use Rattle.qc_list.specs.Members.{In}
+use Rattle.qc_entry.specs.declared.line.Line.{Line}
+use Rattle.qc_entry.specs.declared.line.OwnLine.{OwnLine}
+use Rattle.qc_entry.specs.declared.record.Commit.{Commit as CommitRecord}
+use Rattle.qc_core.specs.Conduct.{IsLawful}
+use Rattle.qc_decl.specs.Accepted.{IsAccepted}
+use Rattle.qc_decl.specs.Actors.{is_site}
+use Rattle.qc_decl.specs.declared.declaration.Declaration.{Declaration}
+use Rattle.qc_msg.specs.declared.message.Envelope.{Envelope}
+use Rattle.qc_msg.specs.declared.message.Message.TheVariants.{Decision, Request}
+use Rattle.qc_msg.specs.declared.message.Outcome.{Outcome}
+use Rattle.qc_msg.specs.declared.message.Want.TheVariants.{Append}
+use Rattle.qc_msg.specs.Counts.{written}
+use Rattle.qc_msg.specs.Deeds.{deeds, mail}
+use Rattle.qc_msg.specs.Steps.{Entry}
+use Rattle.qc_onecopy.specs.Committed.{AreApart, sorted}
+use Rattle.qc_onecopy.specs.Logged.{IsClosedLog, IsLogged}
+use Rattle.qc_onecopy.specs.OneCopy.{OneCopy}
+use Rattle.qc_script.specs.Runs.{Runs}
+use Rattle.qc_script.specs.Sound.{IsScriptFor}
+use Rattle.qc_script.specs.declared.script.Script.{Script}
+use Rattle.qc_site.specs.Conduct.{site_after}
+use Rattle.qc_site.specs.Site.{SiteState}
+use Rattle.qc_stamp.specs.declared.stamp.TxId.{TxId}
+use Rattle.qc_net.specs.Lines.{IsTrueVerdict, lines_in}
+use Rattle.qc_net.proofs.NetLaws as nets
+use Rattle.qc_atomic.specs.Reached.{IsReached}
+use Rattle.qc_atomic.proofs.Closed as closed_logs
+use Rattle.qc_atomic.proofs.Names.{script_named}
+use Rattle.qc_atomic.proofs.Stood.{Stood, runs_stand}
+
+module _ (decl : Declaration) (script : Script) (h : List Entry) (open_inputs : List Bool) (accepted : IsAccepted decl) (sound : IsScriptFor decl script) (run : Runs (IsLawful decl) decl script h open_inputs) where
+  pub net_of : IsReached decl h open_inputs
+  net_of =
+      let s : Stood decl script h open_inputs = runs_stand decl script (script_named decl accepted script sound) h open_inputs run in
+      record {
+        net = s.net;
+        reached = s.reached;
+        mail_is = s.mail_is;
+        written_is = s.written_is;
+        sites_are = λ a site closed. (s.sites_are a site).closed closed;
+        clients_are = λ a client closed. (s.clients_are a client).closed closed;
+      }
+
+  pub one_copy : OneCopy decl (sorted (written h))
+  one_copy = subst (λ (cs : List CommitRecord). OneCopy decl (sorted cs)) net_of.written_is (nets.one_copy decl accepted net_of.net net_of.reached)
+
+  pub apart : AreApart (written h)
+  apart = subst AreApart net_of.written_is (nets.apart decl accepted net_of.net net_of.reached)
+
+  pub site_lines : (a : ℕ) (line : Line) → is_site decl a ≡ true → slice_get open_inputs a ≡ Some false → In line (site_after decl a (deeds a [] h)).site.log → IsLogged decl (written h) line
+  site_lines a line site closed among =
+      subst (λ (cs : List CommitRecord). IsLogged decl cs line) net_of.written_is
+      (nets.site_lines decl accepted net_of.net net_of.reached a line site (subst (λ (s : SiteState). In line s.log) (sym (net_of.sites_are a site closed)) among))
+
+  pub message_lines : (e : Envelope) (line : Line) → In e (mail h) → In line (lines_in e.message) → IsLogged decl (written h) line
+  message_lines e line sent among =
+      subst (λ (cs : List CommitRecord). IsLogged decl cs line) net_of.written_is
+      (nets.message_lines decl accepted net_of.net net_of.reached e line (subst (λ (ms : List Envelope). In e ms) (sym net_of.mail_is) sent) among)
+
+  pub decisions_agree : (e : Envelope) (tx : TxId) (verdict : Outcome) → In e (mail h) → e.message ≡ Decision tx verdict → IsTrueVerdict (written h) tx verdict
+  decisions_agree e tx verdict sent is =
+      subst (λ (cs : List CommitRecord). IsTrueVerdict cs tx verdict) net_of.written_is
+      (nets.decisions_agree decl accepted net_of.net net_of.reached e tx verdict (subst (λ (ms : List Envelope). In e ms) (sym net_of.mail_is) sent) is)
+
+  pub site_closed : (a : ℕ) → is_site decl a ≡ true → slice_get open_inputs a ≡ Some false → IsClosedLog decl (written h) (site_after decl a (deeds a [] h)).site.log
+  site_closed a site closed =
+      subst (λ (cs : List CommitRecord). IsClosedLog decl cs (site_after decl a (deeds a [] h)).site.log) net_of.written_is
+      (subst (λ (s : SiteState). IsClosedLog decl net_of.net.written s.log) (net_of.sites_are a site closed) (closed_logs.site_closed decl accepted net_of.net net_of.reached a site))
+
+  pub view_closed : (e : Envelope) (tx : TxId) (epoch life object : ℕ) (view : List Line) (own : List OwnLine) → In e (mail h) → e.message ≡ Request tx epoch life (Append object view own) → IsClosedLog decl (written h) view
+  view_closed e tx epoch life object view own sent is =
+      subst (λ (cs : List CommitRecord). IsClosedLog decl cs view) net_of.written_is
+      (closed_logs.view_closed decl accepted net_of.net net_of.reached e tx epoch life object view own (subst (λ (ms : List Envelope). In e ms) (sym net_of.mail_is) sent) is)

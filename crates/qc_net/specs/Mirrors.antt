@@ -1,0 +1,48 @@
+-- The net agrees with a state of the protocol's machine, and is thereby what a run of the machine may look like.
+use Rattle.std.specs.Prelude.{◌≡◌, ◌≢◌, ℕ, true, List, Some, slice_get}
+use Rattle.qc_stamp.specs.declared.stamp.TxId.{TxId}
+use Rattle.qc_list.specs.Members.{In}
+use Rattle.qc_entry.specs.declared.record.Commit.{Commit as CommitRecord}
+use Rattle.qc_decl.specs.Actors.{client_actor, is_client, is_site}
+use Rattle.qc_decl.specs.declared.declaration.Declaration.{Declaration}
+use Rattle.qc_lock.specs.Held.{is_held}
+use Rattle.qc_msg.specs.declared.message.Envelope.{Envelope}
+use Rattle.qc_front.specs.Holds.{FrontHolds, IsNumbered}
+use Rattle.qc_protocol.specs.Acts.{Act, state}
+use Rattle.qc_protocol.specs.Guards.{IsRun}
+use Rattle.qc_protocol.specs.Plain.{ArePlain}
+use Rattle.qc_protocol.specs.State.{Committed, Granted, NotBegun, State}
+use Rattle.qc_net.specs.Clients.{ClientMirrors}
+use Rattle.qc_net.specs.Messages.{Backed}
+use Rattle.qc_net.specs.Net.{Net}
+use Rattle.qc_net.specs.Sites.{SiteMirrors}
+
+pub record Mirrors (decl : Declaration) (now : State) (net : Net) : Type 0 where
+  -- only sites grant
+  pub placed : (g : Granted) → In g now.granted → is_site decl g.site ≡ true
+  pub sites : (a : ℕ) → is_site decl a ≡ true → SiteMirrors (net.sites a) (now.deeds a)
+  -- what holds something at a site was begun
+  pub holders : (a : ℕ) (t : TxId) → is_site decl a ≡ true → is_held (net.sites a).held t ≡ true
+      → now.status t ≢ NotBegun
+  pub clients : (a : ℕ) → is_client decl a ≡ true → ClientMirrors decl now net.mail a (net.clients a)
+  -- each message is backed, and stands at its number
+  pub mail : (e : Envelope) → In e net.mail → Backed decl now net.mail e.from e.to e.message
+  pub numbered : (e : Envelope) → In e net.mail → slice_get net.mail e.number ≡ Some e
+  -- the records that were written are the machine's
+  pub records : (r : CommitRecord) → In r net.written → In r now.records
+  pub written : (r : CommitRecord) → In r now.records → In r net.written
+  -- each is a client's, of a transaction that committed by it
+  pub of_client : (r : CommitRecord) → In r now.records → is_client decl (client_actor decl r.tx.client) ≡ true
+  pub settled : (t : TxId) (r : CommitRecord) → now.status t ≡ Committed r → In r now.records
+
+-- a run of the machine, without falls and changes of quorums, whose state agrees with the net
+pub record Refines (decl : Declaration) (net : Net) : Type 0 where
+  pub acts : List Act
+  pub run : IsRun decl acts
+  pub plain : ArePlain acts
+  pub agrees : Mirrors decl (state acts) net
+
+-- what holds of each front end between two of its steps
+pub record FrontStands (decl : Declaration) (net : Net) (a : ℕ) : Type 0 where
+  pub holds : FrontHolds decl (net.clients a).front
+  pub numbered : IsNumbered (net.clients a).front.doing
