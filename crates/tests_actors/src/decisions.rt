@@ -1,7 +1,7 @@
 //! Decisions: Committed of a prepared and of another transaction, Aborted,
 //! Active.
 
-use crate::sites::{READ, Taken, WROTE_0, WROTE_1, check_site, own};
+use crate::sites::{READ, Taken, WROTE_0, WROTE_1, check_site};
 use std::test::Fail;
 
 /// The own lines become lines with the stamp, nothing is held any more, and the
@@ -13,7 +13,7 @@ fn what_was_promised_joins_the_log(rt: HostRuntime) -> Result<(), Fail> {
         rt.alloc(),
         &[
             (
-                Taken::Append(0, &[], &[own(1, WROTE_1), own(3, WROTE_0)]),
+                Taken::Append(0, &[], &[(1, WROTE_1), (3, WROTE_0)]),
                 "3: 10 granted life 1 clock 0 []",
             ),
             (
@@ -45,7 +45,7 @@ fn what_was_not_promised_does_not_join(rt: HostRuntime) -> Result<(), Fail> {
         rt.alloc(),
         &[
             (
-                Taken::Append(0, &[], &[own(1, WROTE_1)]),
+                Taken::Append(0, &[], &[(1, WROTE_1)]),
                 "3: 10 granted life 1 clock 0 []",
             ),
             (
@@ -53,7 +53,7 @@ fn what_was_not_promised_does_not_join(rt: HostRuntime) -> Result<(), Fail> {
                 "write prepare 0.1.1 epoch 1 [][1 0 3][]; 3: 11 yes 0; else 3: 11 fault",
             ),
             (
-                Taken::Append(0, &[], &[own(2, WROTE_0)]),
+                Taken::Append(0, &[], &[(2, WROTE_0)]),
                 "3: 12 granted life 1 clock 0 []",
             ),
             (Taken::Committed(0, 4), "write done 0.1.1 clock 4"),
@@ -75,7 +75,7 @@ fn what_is_not_prepared_is_dropped(rt: HostRuntime) -> Result<(), Fail> {
         rt.alloc(),
         &[
             (
-                Taken::Append(0, &[], &[own(1, WROTE_1)]),
+                Taken::Append(0, &[], &[(1, WROTE_1)]),
                 "3: 10 granted life 1 clock 0 []",
             ),
             (
@@ -101,7 +101,7 @@ fn what_aborted_is_dropped(rt: HostRuntime) -> Result<(), Fail> {
         &[
             (Taken::Read(0, READ), "3: 10 granted life 1 clock 0 []"),
             (
-                Taken::Append(0, &[], &[own(1, WROTE_1)]),
+                Taken::Append(0, &[], &[(1, WROTE_1)]),
                 "3: 11 granted life 1 clock 0 []",
             ),
             (
@@ -127,7 +127,7 @@ fn what_is_active_stays(rt: HostRuntime) -> Result<(), Fail> {
         rt.alloc(),
         &[
             (
-                Taken::Append(0, &[], &[own(1, WROTE_0)]),
+                Taken::Append(0, &[], &[(1, WROTE_0)]),
                 "3: 10 granted life 1 clock 0 []",
             ),
             (Taken::Active(0), ""),

@@ -1,6 +1,6 @@
 //! Reads and Appends that are granted, and those that are refused with a Clash.
 
-use crate::sites::{READ, READ_0, Taken, WRITE_0, WROTE_0, WROTE_1, check_site, line, own};
+use crate::sites::{READ, READ_0, Taken, WRITE_0, WROTE_0, WROTE_1, check_site};
 use std::test::Fail;
 
 #[test]
@@ -32,15 +32,11 @@ fn appends_are_granted(rt: HostRuntime) -> Result<(), Fail> {
         rt.alloc(),
         &[
             (
-                Taken::Append(0, &[line(5, 1, WROTE_1)], &[own(1, WROTE_0)]),
+                Taken::Append(0, &[(5, 1, WROTE_1)], &[(1, WROTE_0)]),
                 "3: 10 granted life 1 clock 5 []",
             ),
             (
-                Taken::Append(
-                    0,
-                    &[line(2, 2, WROTE_0)],
-                    &[own(1, WROTE_0), own(2, WROTE_1)],
-                ),
+                Taken::Append(0, &[(2, 2, WROTE_0)], &[(1, WROTE_0), (2, WROTE_1)]),
                 "3: 11 granted life 1 clock 5 []",
             ),
             (
@@ -66,11 +62,11 @@ fn reads_are_refused(rt: HostRuntime) -> Result<(), Fail> {
         rt.alloc(),
         &[
             (
-                Taken::Append(2, &[], &[own(1, WROTE_1)]),
+                Taken::Append(2, &[], &[(1, WROTE_1)]),
                 "5: 10 granted life 1 clock 0 []",
             ),
             (
-                Taken::Append(1, &[], &[own(1, WROTE_1), own(2, WROTE_0)]),
+                Taken::Append(1, &[], &[(1, WROTE_1), (2, WROTE_0)]),
                 "4: 11 granted life 1 clock 0 []",
             ),
             (
@@ -100,20 +96,16 @@ fn appends_are_refused(rt: HostRuntime) -> Result<(), Fail> {
             (Taken::Read(2, READ), "5: 10 granted life 1 clock 0 []"),
             (Taken::Read(1, READ), "4: 11 granted life 1 clock 0 []"),
             (
-                Taken::Append(
-                    0,
-                    &[line(7, 2, WROTE_1)],
-                    &[own(1, WROTE_1), own(2, WROTE_0)],
-                ),
+                Taken::Append(0, &[(7, 2, WROTE_1)], &[(1, WROTE_1), (2, WROTE_0)]),
                 "3: 12 clash 1.1.1 0 2; 4: how is 1.1.1",
             ),
             (Taken::Read(1, READ), "4: 13 granted life 1 clock 7 []"),
             (
-                Taken::Append(1, &[], &[own(1, WROTE_1)]),
+                Taken::Append(1, &[], &[(1, WROTE_1)]),
                 "4: 14 clash 2.1.1 0 3; 5: how is 2.1.1",
             ),
             (
-                Taken::Append(0, &[], &[own(1, READ_0)]),
+                Taken::Append(0, &[], &[(1, READ_0)]),
                 "3: 15 granted life 1 clock 7 []",
             ),
         ],

@@ -1,6 +1,6 @@
 //! Prepares: Stale, Yes with its record, Yes again.
 
-use crate::sites::{READ, Taken, WROTE_0, WROTE_1, check_prepare, check_site, line, own};
+use crate::sites::{READ, Taken, WROTE_0, WROTE_1, check_prepare, check_site};
 use std::test::Fail;
 
 #[test]
@@ -47,7 +47,7 @@ fn promises_have_the_lines_that_no_record_gives(rt: HostRuntime) -> Result<(), F
         rt.alloc(),
         &[
             (
-                Taken::Append(0, &[line(5, 1, WROTE_1)], &[own(1, WROTE_0)]),
+                Taken::Append(0, &[(5, 1, WROTE_1)], &[(1, WROTE_0)]),
                 "3: 10 granted life 1 clock 5 []",
             ),
             (
@@ -55,11 +55,7 @@ fn promises_have_the_lines_that_no_record_gives(rt: HostRuntime) -> Result<(), F
                 "write prepare 0.1.1 epoch 1 [][1 0 2][5.1 1.1.1 1 0 3]; 3: 11 yes 5; else 3: 11 fault",
             ),
             (
-                Taken::Append(
-                    1,
-                    &[line(5, 1, WROTE_1), line(6, 2, WROTE_0)],
-                    &[own(1, WROTE_1)],
-                ),
+                Taken::Append(1, &[(5, 1, WROTE_1), (6, 2, WROTE_0)], &[(1, WROTE_1)]),
                 "4: 12 granted life 1 clock 6 []",
             ),
             (

@@ -1,7 +1,7 @@
 //! Requests that a site may not grant: of another epoch, that name another life,
 //! of what isn't declared; and what nobody sends.
 
-use crate::sites::{READ, Taken, WROTE_1, check_site, line};
+use crate::sites::{READ, Taken, WROTE_1, check_site};
 use std::test::Fail;
 
 /// The epoch is tested before the life.
@@ -38,8 +38,8 @@ fn clocks_pass_what_is_refused(rt: HostRuntime) -> Result<(), Fail> {
         &rt,
         rt.alloc(),
         &[
-            (Taken::AppendIn(2, &[line(6, 1, WROTE_1)]), "3: 10 behind 1"),
-            (Taken::AppendIn(0, &[line(3, 1, WROTE_1)]), "3: 11 closed 1"),
+            (Taken::AppendIn(2, &[(6, 1, WROTE_1)]), "3: 10 behind 1"),
+            (Taken::AppendIn(0, &[(3, 1, WROTE_1)]), "3: 11 closed 1"),
             (Taken::Read(1, READ), "4: 12 granted life 1 clock 6 []"),
         ],
         0,
@@ -56,7 +56,7 @@ fn what_is_not_declared_is_put_aside(rt: HostRuntime) -> Result<(), Fail> {
             (Taken::Read(3, READ), ""),
             (Taken::Prepare(3), ""),
             (Taken::ReadOf(0, 1), ""),
-            (Taken::Append(200, &[line(6, 1, WROTE_1)], &[]), ""),
+            (Taken::Append(200, &[(6, 1, WROTE_1)], &[]), ""),
             (Taken::Read(1, READ), "4: 14 granted life 1 clock 6 []"),
         ],
         0,

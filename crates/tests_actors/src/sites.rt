@@ -35,8 +35,9 @@ pub(crate) const WROTE_1: u8 = 3;
 pub(crate) enum Taken<'a> {
     /// A Read of x, by a client.
     Read(u8, u8),
-    /// An Append to x by a client, with a view and own lines.
-    Append(u8, &'a [Line], &'a [OwnLine]),
+    /// An Append to x by a client, with a view, each line by clock, client and
+    /// event, and own lines, each by operation and event.
+    Append(u8, &'a [(u64, u8, u8)], &'a [(u8, u8)]),
     /// A Prepare of a client.
     Prepare(u8),
     /// A Read of x by client 0, of an epoch, that names a life.
@@ -44,7 +45,7 @@ pub(crate) enum Taken<'a> {
     /// A Prepare of client 0, of an epoch, that names a life.
     PrepareIn(u8, u32),
     /// An Append to x by client 0, of an epoch, with a view.
-    AppendIn(u8, &'a [Line]),
+    AppendIn(u8, &'a [(u64, u8, u8)]),
     /// A Read of an object by a client.
     ReadOf(u8, u8),
     /// A client's transaction committed with a clock.
@@ -63,7 +64,7 @@ pub(crate) enum Taken<'a> {
 }
 
 /// The first transaction of a client.
-pub(crate) fn tx(client: u8) -> TxId {
+fn tx(client: u8) -> TxId {
     TxId {
         client,
         life: 1,
@@ -72,7 +73,7 @@ pub(crate) fn tx(client: u8) -> TxId {
 }
 
 /// A line of the first operation of a client's first transaction, on x.
-pub(crate) fn line(clock: u64, client: u8, event: u8) -> Line {
+fn line(clock: u64, client: u8, event: u8) -> Line {
     Line {
         stamp: Stamp { clock, client },
         tx: tx(client),
@@ -83,7 +84,7 @@ pub(crate) fn line(clock: u64, client: u8, event: u8) -> Line {
 }
 
 /// An own line on x.
-pub(crate) fn own(op: u8, event: u8) -> OwnLine {
+fn own(op: u8, event: u8) -> OwnLine {
     OwnLine {
         op,
         object: X,
@@ -121,16 +122,30 @@ fn committed(client: u8, clock: u64) -> Message {
 }
 
 /// What is wanted by an Append to x.
-fn append(alloc: Global, view: &[Line], own: &[OwnLine]) -> Result<Want, OutOfMemory> {
-    let mut log = Log::new(alloc)?;
-    for line in view {
-        log.add(*line)?;
-    }
+fn append(alloc: Global, view: &[(u64, u8, u8)], owns: &[(u8, u8)]) -> Result<Want, OutOfMemory> {
     Ok(Want::Append {
         object: X,
-        view: log,
-        own: Owns::from_slice(alloc, own)?,
+        view: log(alloc, view)?,
+        own: own_lines(alloc, owns)?,
     })
+}
+
+/// A log of these lines.
+fn log(alloc: Global, view: &[(u64, u8, u8)]) -> Result<Log, OutOfMemory> {
+    let mut log = Log::new(alloc)?;
+    for (clock, client, event) in view {
+        log.add(line(*clock, *client, *event))?;
+    }
+    Ok(log)
+}
+
+/// These own lines.
+fn own_lines(alloc: Global, owns: &[(u8, u8)]) -> Result<Owns, OutOfMemory> {
+    let mut lines = Owns::new(alloc);
+    for (op, event) in owns {
+        lines.push(own(*op, *event))?;
+    }
+    Ok(lines)
 }
 
 /// The message, with its sender.

@@ -1,6 +1,8 @@
 //! Messages.
 
 use crate::lists::{At, Tx, put_lines, put_owns};
+use crate::record::put_promise;
+use qc_entry::Prepared;
 use qc_list::OutOfMemory;
 use qc_msg::{Answer, Message, Outcome, Want};
 
@@ -27,7 +29,10 @@ pub(crate) fn put_message(text: &mut String, message: &Message) -> Result<(), Ou
         Message::Inquiry { tx } => write!(text, "how is {}", Tx(*tx)),
         Message::Ask { tx } => write!(text, "ask {}", Tx(*tx)),
         Message::Close { epoch } => write!(text, "close {epoch}"),
-        Message::Install { epoch, .. } => write!(text, "install {epoch}"),
+        Message::Install { epoch, clock, log } => {
+            write!(text, "install {epoch} clock {clock} ")?;
+            put_lines(text, log.lines())
+        }
     }
 }
 
@@ -69,8 +74,25 @@ fn put_answer(text: &mut String, answer: &Answer) -> Result<(), OutOfMemory> {
         Answer::Stale => text.push_str("stale"),
         Answer::Fault => text.push_str("fault"),
         Answer::Yes { clock } => write!(text, "yes {clock}"),
-        Answer::Shut { clock, .. } => write!(text, "shut {clock}"),
+        Answer::Shut {
+            clock,
+            log,
+            prepared,
+        } => {
+            write!(text, "shut clock {clock} ")?;
+            put_lines(text, log.lines())?;
+            put_promises(text, prepared.items())
+        }
         Answer::Installed => text.push_str("installed"),
         Answer::Answered { verdict } => put_outcome(text, *verdict),
     }
+}
+
+/// Adds promises.
+fn put_promises(text: &mut String, promises: &[Prepared]) -> Result<(), OutOfMemory> {
+    for promise in promises {
+        text.push_str(", ")?;
+        put_promise(text, promise)?;
+    }
+    Ok(())
 }

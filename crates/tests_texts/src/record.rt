@@ -19,7 +19,7 @@ pub(crate) fn put_record(text: &mut String, record: &Record) -> Result<(), OutOf
 }
 
 /// Adds a promise: its locks, its own lines, its lines.
-fn put_promise(text: &mut String, promise: &Prepared) -> Result<(), OutOfMemory> {
+pub(crate) fn put_promise(text: &mut String, promise: &Prepared) -> Result<(), OutOfMemory> {
     write!(text, "prepare {} epoch {} ", Tx(promise.tx), promise.epoch)?;
     put_locks(text, promise.locks.items())?;
     put_owns(text, promise.own.items())?;
