@@ -2,12 +2,12 @@
 //! Active.
 
 use crate::sites::{READ, Taken, WROTE_0, WROTE_1, check_site};
-use std::test::Fail;
+use qc_list::OutOfMemory;
 
 /// The own lines become lines with the stamp, nothing is held any more, and the
 /// lines are those of a record, so that no later promise has them.
 #[test]
-fn what_was_promised_joins_the_log(rt: HostRuntime) -> Result<(), Fail> {
+fn what_was_promised_joins_the_log(rt: HostRuntime) -> Result<(), OutOfMemory> {
     check_site(
         &rt,
         rt.alloc(),
@@ -39,7 +39,7 @@ fn what_was_promised_joins_the_log(rt: HostRuntime) -> Result<(), Fail> {
 
 /// An own line that was granted behind the promise doesn't join.
 #[test]
-fn what_was_not_promised_does_not_join(rt: HostRuntime) -> Result<(), Fail> {
+fn what_was_not_promised_does_not_join(rt: HostRuntime) -> Result<(), OutOfMemory> {
     check_site(
         &rt,
         rt.alloc(),
@@ -69,7 +69,7 @@ fn what_was_not_promised_does_not_join(rt: HostRuntime) -> Result<(), Fail> {
 
 /// What isn't prepared is dropped, and nothing is written; the clock passes.
 #[test]
-fn what_is_not_prepared_is_dropped(rt: HostRuntime) -> Result<(), Fail> {
+fn what_is_not_prepared_is_dropped(rt: HostRuntime) -> Result<(), OutOfMemory> {
     check_site(
         &rt,
         rt.alloc(),
@@ -94,7 +94,7 @@ fn what_is_not_prepared_is_dropped(rt: HostRuntime) -> Result<(), Fail> {
 
 /// Nothing is written, and the promise is gone.
 #[test]
-fn what_aborted_is_dropped(rt: HostRuntime) -> Result<(), Fail> {
+fn what_aborted_is_dropped(rt: HostRuntime) -> Result<(), OutOfMemory> {
     check_site(
         &rt,
         rt.alloc(),
@@ -121,7 +121,7 @@ fn what_aborted_is_dropped(rt: HostRuntime) -> Result<(), Fail> {
 
 /// What is active stays held and promised.
 #[test]
-fn what_is_active_stays(rt: HostRuntime) -> Result<(), Fail> {
+fn what_is_active_stays(rt: HostRuntime) -> Result<(), OutOfMemory> {
     check_site(
         &rt,
         rt.alloc(),

@@ -1,10 +1,10 @@
 //! Reads and Appends that are granted, and those that are refused with a Clash.
 
 use crate::sites::{READ, READ_0, Taken, WRITE_0, WROTE_0, WROTE_1, check_site};
-use std::test::Fail;
+use qc_list::OutOfMemory;
 
 #[test]
-fn reads_are_granted(rt: HostRuntime) -> Result<(), Fail> {
+fn reads_are_granted(rt: HostRuntime) -> Result<(), OutOfMemory> {
     check_site(
         &rt,
         rt.alloc(),
@@ -26,7 +26,7 @@ fn reads_are_granted(rt: HostRuntime) -> Result<(), Fail> {
 /// The view joins the log, the clock passes its stamps, and the own lines are
 /// held, one for each operation.
 #[test]
-fn appends_are_granted(rt: HostRuntime) -> Result<(), Fail> {
+fn appends_are_granted(rt: HostRuntime) -> Result<(), OutOfMemory> {
     check_site(
         &rt,
         rt.alloc(),
@@ -56,7 +56,7 @@ fn appends_are_granted(rt: HostRuntime) -> Result<(), Fail> {
 /// The smallest holder is told, then the smallest event, and the holder's client
 /// is asked. Nothing is held then.
 #[test]
-fn reads_are_refused(rt: HostRuntime) -> Result<(), Fail> {
+fn reads_are_refused(rt: HostRuntime) -> Result<(), OutOfMemory> {
     check_site(
         &rt,
         rt.alloc(),
@@ -88,7 +88,7 @@ fn reads_are_refused(rt: HostRuntime) -> Result<(), Fail> {
 /// The smallest holder is told, then the smallest invocation, then the smallest
 /// event. The view doesn't join the log, though the clock passes its stamps.
 #[test]
-fn appends_are_refused(rt: HostRuntime) -> Result<(), Fail> {
+fn appends_are_refused(rt: HostRuntime) -> Result<(), OutOfMemory> {
     check_site(
         &rt,
         rt.alloc(),

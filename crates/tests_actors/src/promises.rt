@@ -1,10 +1,10 @@
 //! Prepares: Stale, Yes with its record, Yes again.
 
 use crate::sites::{READ, Taken, WROTE_0, WROTE_1, check_prepare, check_site};
-use std::test::Fail;
+use qc_list::OutOfMemory;
 
 #[test]
-fn what_holds_nothing_is_stale(rt: HostRuntime) -> Result<(), Fail> {
+fn what_holds_nothing_is_stale(rt: HostRuntime) -> Result<(), OutOfMemory> {
     check_site(
         &rt,
         rt.alloc(),
@@ -20,7 +20,7 @@ fn what_holds_nothing_is_stale(rt: HostRuntime) -> Result<(), Fail> {
 
 /// The promise stands, and is told with the clock of the moment.
 #[test]
-fn promises_are_told_again(rt: HostRuntime) -> Result<(), Fail> {
+fn promises_are_told_again(rt: HostRuntime) -> Result<(), OutOfMemory> {
     check_site(
         &rt,
         rt.alloc(),
@@ -41,7 +41,7 @@ fn promises_are_told_again(rt: HostRuntime) -> Result<(), Fail> {
 
 /// A line that a record of the site gives isn't in a later one.
 #[test]
-fn promises_have_the_lines_that_no_record_gives(rt: HostRuntime) -> Result<(), Fail> {
+fn promises_have_the_lines_that_no_record_gives(rt: HostRuntime) -> Result<(), OutOfMemory> {
     check_site(
         &rt,
         rt.alloc(),
@@ -71,15 +71,15 @@ fn promises_have_the_lines_that_no_record_gives(rt: HostRuntime) -> Result<(), F
 /// A record's body is 18 bytes, and 2 for each lock, 3 for each own line and 20
 /// for each line. One of 65,536 bytes fits.
 #[test]
-fn promises_fit_a_record(rt: HostRuntime) -> Result<(), Fail> {
-    for (locks, owns, lines, is_promised) in [
-        (0, 6, 3_275, true),
-        (1, 6, 3_275, false),
-        (2, 5, 3_275, false),
-        (1, 5, 3_275, true),
-        (0, 1, 3_276, false),
+fn promises_fit_a_record(rt: HostRuntime) -> Result<(), OutOfMemory> {
+    for (counts, is_promised) in [
+        ((0, 6, 3_275), true),
+        ((1, 6, 3_275), false),
+        ((2, 5, 3_275), false),
+        ((1, 5, 3_275), true),
+        ((0, 1, 3_276), false),
     ] {
-        check_prepare(&rt, rt.alloc(), locks, owns, lines, is_promised)?;
+        check_prepare(&rt, rt.alloc(), counts, is_promised)?;
     }
     Ok(())
 }

@@ -2,11 +2,11 @@
 //! of what isn't declared; and what nobody sends.
 
 use crate::sites::{READ, Taken, WROTE_1, check_site};
-use std::test::Fail;
+use qc_list::OutOfMemory;
 
 /// The epoch is tested before the life.
 #[test]
-fn other_epochs_and_lives(rt: HostRuntime) -> Result<(), Fail> {
+fn other_epochs_and_lives(rt: HostRuntime) -> Result<(), OutOfMemory> {
     check_site(
         &rt,
         rt.alloc(),
@@ -33,7 +33,7 @@ fn other_epochs_and_lives(rt: HostRuntime) -> Result<(), Fail> {
 
 /// The clock passes the stamps of a view that comes too early.
 #[test]
-fn clocks_pass_what_is_refused(rt: HostRuntime) -> Result<(), Fail> {
+fn clocks_pass_what_is_refused(rt: HostRuntime) -> Result<(), OutOfMemory> {
     check_site(
         &rt,
         rt.alloc(),
@@ -48,7 +48,7 @@ fn clocks_pass_what_is_refused(rt: HostRuntime) -> Result<(), Fail> {
 }
 
 #[test]
-fn what_is_not_declared_is_put_aside(rt: HostRuntime) -> Result<(), Fail> {
+fn what_is_not_declared_is_put_aside(rt: HostRuntime) -> Result<(), OutOfMemory> {
     check_site(
         &rt,
         rt.alloc(),
@@ -65,7 +65,7 @@ fn what_is_not_declared_is_put_aside(rt: HostRuntime) -> Result<(), Fail> {
 }
 
 #[test]
-fn what_nobody_sends_is_put_aside(rt: HostRuntime) -> Result<(), Fail> {
+fn what_nobody_sends_is_put_aside(rt: HostRuntime) -> Result<(), OutOfMemory> {
     check_site(
         &rt,
         rt.alloc(),

@@ -11,7 +11,6 @@ use qc_site::Site;
 use qc_stamp::{Stamp, TxId};
 use std::alloc::Global;
 use std::process::Abort;
-use std::test::Fail;
 use tests_texts::turn_text;
 
 /// The only object of `@three`: a register, of which R is the invocation 0 and
@@ -31,7 +30,7 @@ pub(crate) const WROTE_0: u8 = 2;
 pub(crate) const WROTE_1: u8 = 3;
 
 /// What a site takes. Where no transaction is named, it is the client's first.
-#[derive(Clone, Copy, Debug)]
+#[derive(Clone, Copy)]
 pub(crate) enum Taken<'a> {
     /// A Read of x, by a client.
     Read(u8, u8),
@@ -121,13 +120,27 @@ fn committed(client: u8, clock: u64) -> Message {
     decision(client, Outcome::Committed { stamp })
 }
 
-/// What is wanted by an Append to x.
-fn append(alloc: Global, view: &[(u64, u8, u8)], owns: &[(u8, u8)]) -> Result<Want, OutOfMemory> {
-    Ok(Want::Append {
-        object: X,
-        view: log(alloc, view)?,
-        own: own_lines(alloc, owns)?,
-    })
+/// An Append to x of the first epoch.
+fn append(
+    alloc: Global,
+    client: u8,
+    view: &[(u64, u8, u8)],
+    owns: &[(u8, u8)],
+) -> Result<Message, OutOfMemory> {
+    let own = own_lines(alloc, owns)?;
+    let view = log(alloc, view)?;
+    append_in(client, 1, view, own)
+}
+
+/// An Append to x of an epoch.
+fn append_in(client: u8, epoch: u8, view: Log, own: Owns) -> Result<Message, OutOfMemory> {
+    let object = X;
+    Ok(request_in(client, epoch, 0, Want::Append { object, view, own }))
+}
+
+/// An Append to x of an epoch without own lines.
+fn early_append(alloc: Global, epoch: u8, view: &[(u64, u8, u8)]) -> Result<Message, OutOfMemory> {
+    append_in(0, epoch, log(alloc, view)?, Owns::new(alloc))
 }
 
 /// A log of these lines.
@@ -148,67 +161,167 @@ fn own_lines(alloc: Global, owns: &[(u8, u8)]) -> Result<Owns, OutOfMemory> {
     Ok(lines)
 }
 
-/// The message, with its sender.
-fn message(alloc: Global, taken: Taken<'_>) -> Result<(u8, Message), OutOfMemory> {
-    Ok(match taken {
-        Taken::Read(client, inv) => (from(client), request(client, Want::Read { object: X, inv })),
-        Taken::Append(client, view, own) => (
-            from(client),
-            request(client, append(alloc, view, own)?),
-        ),
-        Taken::Prepare(client) => (from(client), request(client, Want::Prepare)),
-        Taken::ReadIn(epoch, life) => (
-            3,
-            request_in(
-                0,
-                epoch,
-                life,
-                Want::Read {
-                    object: X,
-                    inv: READ,
-                },
-            ),
-        ),
-        Taken::PrepareIn(epoch, life) => (3, request_in(0, epoch, life, Want::Prepare)),
-        Taken::AppendIn(epoch, view) => (3, request_in(0, epoch, 0, append(alloc, view, &[])?)),
-        Taken::ReadOf(client, object) => (
-            from(client),
-            request(client, Want::Read { object, inv: READ }),
-        ),
-        Taken::Committed(client, clock) => (from(client), committed(client, clock)),
-        Taken::Aborted(client) => (from(client), decision(client, Outcome::Aborted)),
-        Taken::Active(client) => (from(client), decision(client, Outcome::Active)),
-        Taken::Answer => (
-            3,
-            Message::Answer {
-                to: 0,
-                answer: Answer::Stale,
+/// The message.
+fn message(alloc: Global, taken: Taken<'_>) -> Result<Message, OutOfMemory> {
+    match taken {
+        Taken::Read(client, inv) => Ok(request(client, Want::Read { object: X, inv })),
+        Taken::ReadOf(client, object) => Ok(request(client, Want::Read { object, inv: READ })),
+        Taken::Prepare(client) => Ok(request(client, Want::Prepare)),
+        Taken::Append(client, view, own) => append(alloc, client, view, own),
+        Taken::ReadIn(..) | Taken::PrepareIn(..) | Taken::AppendIn(..) => other_epoch(alloc, taken),
+        Taken::Committed(..) | Taken::Aborted(_) | Taken::Active(_) => Ok(verdict(taken)),
+        _ => unasked(alloc, taken),
+    }
+}
+
+/// The request of client 0 in an epoch and a life.
+fn other_epoch(alloc: Global, taken: Taken<'_>) -> Result<Message, OutOfMemory> {
+    match taken {
+        Taken::ReadIn(epoch, life) => Ok(request_in(
+            0,
+            epoch,
+            life,
+            Want::Read {
+                object: X,
+                inv: READ,
             },
-        ),
-        Taken::Inquiry => (1, Message::Inquiry { tx: tx(0) }),
-        Taken::Ask => (6, Message::Ask { tx: tx(0) }),
-        Taken::Close => (6, Message::Close { epoch: 2 }),
-        Taken::Install => (
-            6,
-            Message::Install {
-                epoch: 2,
-                clock: 9,
-                log: Log::new(alloc)?,
-            },
-        ),
+        )),
+        Taken::AppendIn(epoch, view) => early_append(alloc, epoch, view),
+        Taken::PrepareIn(epoch, life) => Ok(request_in(0, epoch, life, Want::Prepare)),
+        _ => Ok(request(0, Want::Prepare)),
+    }
+}
+
+/// The Decision.
+fn verdict(taken: Taken<'_>) -> Message {
+    match taken {
+        Taken::Committed(client, clock) => committed(client, clock),
+        Taken::Active(client) => decision(client, Outcome::Active),
+        Taken::Aborted(client) => decision(client, Outcome::Aborted),
+        _ => decision(0, Outcome::Aborted),
+    }
+}
+
+/// What nobody sends a site.
+fn unasked(alloc: Global, taken: Taken<'_>) -> Result<Message, OutOfMemory> {
+    match taken {
+        Taken::Answer => Ok(Message::Answer {
+            to: 0,
+            answer: Answer::Stale,
+        }),
+        Taken::Inquiry => Ok(Message::Inquiry { tx: tx(0) }),
+        Taken::Ask => Ok(Message::Ask { tx: tx(0) }),
+        Taken::Install => install(alloc),
+        _ => Ok(Message::Close { epoch: 2 }),
+    }
+}
+
+fn install(alloc: Global) -> Result<Message, OutOfMemory> {
+    Ok(Message::Install {
+        epoch: 2,
+        clock: 9,
+        log: Log::new(alloc)?,
     })
 }
 
-/// The actor's number of a client of `@three`.
-fn from(client: u8) -> u8 {
-    client.saturating_add(3)
+/// Who sends it: the client, the actor 3 for client 0; of what nobody sends, the
+/// administrator.
+fn sender(taken: Taken<'_>) -> u8 {
+    match taken {
+        Taken::Read(client, _)
+        | Taken::ReadOf(client, _)
+        | Taken::Append(client, _, _)
+        | Taken::Prepare(client)
+        | Taken::Committed(client, _)
+        | Taken::Aborted(client)
+        | Taken::Active(client) => client.saturating_add(3),
+        Taken::ReadIn(..) | Taken::PrepareIn(..) | Taken::AppendIn(..) => 3,
+        _ => 6,
+    }
 }
 
 /// `@three`.
-fn three(alloc: Global) -> Result<Declaration, Fail>
+fn three(rt: &impl Abort, alloc: Global) -> Result<Declaration, OutOfMemory>
     ensures { IfOk result IsAccepted }
 {
-    Ok(built_in(alloc, "@three")?.ok_or("no @three")?)
+    match built_in(alloc, "@three")? {
+        Some(decl) => Ok(decl),
+        None => panic!(rt; "no @three"),
+    }
+}
+
+/// What a site does for what it takes, as a text.
+fn answer(
+    alloc: Global,
+    decl: &Declaration,
+    site: &mut Site,
+    number: u32,
+    taken: Taken<'_>,
+) -> Result<String, OutOfMemory>
+    requires { IsAccepted decl.now }
+{
+    let message = message(alloc, taken)?;
+    let turn = site.handle(alloc, decl, sender(taken), number, &message)?;
+    turn_text(alloc, &turn)
+}
+
+/// A site does what is wanted for what it takes.
+fn check_row(
+    rt: &impl Abort,
+    alloc: Global,
+    decl: &Declaration,
+    site: &mut Site,
+    number: u32,
+    row: (Taken<'_>, &str),
+) -> Result<(), OutOfMemory>
+    requires { IsAccepted decl.now }
+{
+    let text = answer(alloc, decl, site, number, row.0)?;
+    assert_eq!(rt; text.as_str(), row.1, "at message {number}");
+    Ok(())
+}
+
+/// A site does what the rows say, one after another, from message number 10 on.
+fn check_rows(
+    rt: &impl Abort,
+    alloc: Global,
+    decl: &Declaration,
+    site: &mut Site,
+    rows: &[(Taken<'_>, &str)],
+) -> Result<(), OutOfMemory>
+    requires { IsAccepted decl.now }
+{
+    let mut number = 10u32;
+    for row in rows {
+        check_row(rt, alloc, decl, site, number, *row)?;
+        number = number.saturating_add(1);
+    }
+    Ok(())
+}
+
+/// A site of `@three`, after it took what the rows have from message number 10
+/// on, and did what they say.
+fn site_after(
+    rt: &impl Abort,
+    alloc: Global,
+    decl: &Declaration,
+    rows: &[(Taken<'_>, &str)],
+) -> Result<Site, OutOfMemory>
+    requires { IsAccepted decl.now }
+{
+    let mut site = Site::new(alloc, 1)?;
+    check_rows(rt, alloc, decl, &mut site, rows)?;
+    Ok(site)
+}
+
+/// A new site of `@three` does what the rows say.
+fn new_site_after(
+    rt: &impl Abort,
+    alloc: Global,
+    rows: &[(Taken<'_>, &str)],
+) -> Result<Site, OutOfMemory> {
+    let decl = three(rt, alloc)?;
+    site_after(rt, alloc, &decl, rows)
 }
 
 /// A new site takes what the rows have, one after another, from message number
@@ -220,20 +333,16 @@ pub(crate) fn check_site(
     rows: &[(Taken<'_>, &str)],
     lines: u64,
     holders: u64,
-) -> Result<(), Fail> {
-    let decl = three(alloc)?;
-    let mut site = Site::new(alloc, 1)?;
-    let mut number = 10u32;
-    for (taken, want) in rows {
-        let (from, message) = message(alloc, *taken)?;
-        let turn = site.handle(alloc, &decl, from, number, &message)?;
-        let text = turn_text(alloc, &turn)?;
-        assert_eq!(rt; text.as_str(), *want, "at message {number}");
-        number = number.saturating_add(1);
-    }
+) -> Result<(), OutOfMemory> {
+    let site = new_site_after(rt, alloc, rows)?;
+    check_counts(rt, &site, lines, holders);
+    Ok(())
+}
+
+/// What is read off a site.
+fn check_counts(rt: &impl Abort, site: &Site, lines: u64, holders: u64) {
     assert_eq!(rt; (site.number(), site.life(), site.epoch()), (1, 1, 1));
     assert_eq!(rt; (site.lines(), site.holders()), (lines, holders));
-    Ok(())
 }
 
 /// A new site is asked for a promise of a transaction that holds so many locks
@@ -241,42 +350,73 @@ pub(crate) fn check_site(
 pub(crate) fn check_prepare(
     rt: &impl Abort,
     alloc: Global,
-    locks: u8,
-    owns: u8,
-    lines: u64,
+    counts: (u8, u8, u64),
     is_promised: bool,
-) -> Result<(), Fail> {
-    let decl = three(alloc)?;
-    let mut site = Site::new(alloc, 1)?;
-    for inv in 0..locks {
-        let read = request(0, Want::Read { object: X, inv });
-        let _granted = site.handle(alloc, &decl, 3, 10, &read)?;
-    }
-    let append = request(0, long_append(alloc, owns, lines)?);
-    let _granted = site.handle(alloc, &decl, 3, 10, &append)?;
-    assert_eq!(rt; (site.lines(), site.holders()), (lines, 1));
-    let turn = site.handle(alloc, &decl, 3, 11, &request(0, Want::Prepare))?;
-    assert_eq!(rt;
-        turn.write.is_some(),
-        is_promised,
-        "{locks}, {owns} and {lines}"
-    );
+) -> Result<(), OutOfMemory> {
+    let decl = three(rt, alloc)?;
+    let is_stale = is_stale(alloc, &decl, counts)?;
+    assert_eq!(rt; is_stale, !is_promised, "at {counts:?}");
     Ok(())
 }
 
-/// An Append to x with so many own lines, and as many lines as asked.
-fn long_append(alloc: Global, owns: u8, lines: u64) -> Result<Want, OutOfMemory> {
-    let mut view = Log::new(alloc)?;
+/// Whether a promise is refused that would have so many locks, own lines and
+/// lines.
+fn is_stale(alloc: Global, decl: &Declaration, counts: (u8, u8, u64)) -> Result<bool, OutOfMemory>
+    requires { IsAccepted decl.now }
+{
+    let (locks, owns, lines) = counts;
+    let mut site = Site::new(alloc, 1)?;
+    read_many(alloc, decl, &mut site, locks)?;
+    append_many(alloc, decl, &mut site, owns, lines)?;
+    let answer = answer(alloc, decl, &mut site, 11, Taken::Prepare(0))?;
+    Ok(answer.as_str() == "3: 11 stale")
+}
+
+/// The site takes so many Reads of x.
+fn read_many(
+    alloc: Global,
+    decl: &Declaration,
+    site: &mut Site,
+    locks: u8,
+) -> Result<(), OutOfMemory>
+    requires { IsAccepted decl.now }
+{
+    for inv in 0..locks {
+        let _granted = answer(alloc, decl, site, 10, Taken::Read(0, inv))?;
+    }
+    Ok(())
+}
+
+/// The site takes an Append to x with so many own lines and so many lines.
+fn append_many(
+    alloc: Global,
+    decl: &Declaration,
+    site: &mut Site,
+    owns: u8,
+    lines: u64,
+) -> Result<(), OutOfMemory>
+    requires { IsAccepted decl.now }
+{
+    let own = many_owns(alloc, owns)?;
+    let append = append_in(0, 1, many_lines(alloc, lines)?, own)?;
+    let _granted = site.handle(alloc, decl, 3, 10, &append)?;
+    Ok(())
+}
+
+/// A log of so many lines.
+fn many_lines(alloc: Global, lines: u64) -> Result<Log, OutOfMemory> {
+    let mut log = Log::new(alloc)?;
     for clock in 0..lines {
-        view.add(line(clock, 1, WROTE_1))?;
+        log.add(line(clock, 1, WROTE_1))?;
     }
-    let mut own_lines = Owns::new(alloc);
+    Ok(log)
+}
+
+/// So many own lines, on which nothing depends.
+fn many_owns(alloc: Global, owns: u8) -> Result<Owns, OutOfMemory> {
+    let mut lines = Owns::new(alloc);
     for op in 0..owns {
-        own_lines.push(own(op, READ_0))?;
+        lines.push(own(op, READ_0))?;
     }
-    Ok(Want::Append {
-        object: X,
-        view,
-        own: own_lines,
-    })
+    Ok(lines)
 }

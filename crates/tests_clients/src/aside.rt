@@ -3,13 +3,13 @@
 use crate::clients::check_client;
 use crate::declared::X;
 use crate::given::Given;
+use qc_list::OutOfMemory;
 use qc_msg::Command;
-use std::test::Fail;
 
 /// What is put aside doesn't even move the clock: the stamp is above the counted
 /// ones alone.
 #[test]
-fn only_the_first_answer_counts(rt: HostRuntime) -> Result<(), Fail> {
+fn only_the_first_answer_counts(rt: HostRuntime) -> Result<(), OutOfMemory> {
     check_client(
         &rt,
         rt.alloc(),
@@ -51,7 +51,7 @@ fn only_the_first_answer_counts(rt: HostRuntime) -> Result<(), Fail> {
 
 /// A lost request stays so: a late grant doesn't count, and shows no line.
 #[test]
-fn late_grants_do_not_count(rt: HostRuntime) -> Result<(), Fail> {
+fn late_grants_do_not_count(rt: HostRuntime) -> Result<(), OutOfMemory> {
     check_client(
         &rt,
         rt.alloc(),
@@ -86,7 +86,7 @@ fn late_grants_do_not_count(rt: HostRuntime) -> Result<(), Fail> {
 }
 
 #[test]
-fn what_nobody_gives_does_nothing(rt: HostRuntime) -> Result<(), Fail> {
+fn what_nobody_gives_does_nothing(rt: HostRuntime) -> Result<(), OutOfMemory> {
     check_client(
         &rt,
         rt.alloc(),

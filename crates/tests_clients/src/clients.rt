@@ -12,11 +12,10 @@ use qc_list::OutOfMemory;
 use qc_msg::{Answer, Command, Message, Turn};
 use std::alloc::Global;
 use std::process::Abort;
-use std::test::Fail;
 use tests_texts::turn_text;
 
 /// The most inputs of a test.
-const MOST_INPUTS: u32 = 1_000;
+const MOST_INPUTS: u32 = 999;
 
 /// The most messages of a test.
 const MOST_MESSAGES: u32 = 100_000;
@@ -103,6 +102,26 @@ fn told(message: &Message) -> u64
     }
 }
 
+/// The client hears the message that is given.
+fn hear_given(
+    rt: &impl Abort,
+    alloc: Global,
+    decl: &Declaration,
+    client: &mut Client,
+    age: u32,
+    given: Given<'_>,
+) -> Result<Turn, OutOfMemory>
+    requires accepted { IsAccepted decl.now }
+    requires young { IsYoung decl.now client.old age }
+    requires few { age < 1000 }
+    ensures { OnOk result (IsYoung decl.now client.new (age + 1)) }
+{
+    let (from, number, message) = message(alloc, given)?;
+    let clock = told(&message);
+    assert!(rt; clock <= GREATEST_CLOCK);
+    hear(alloc, decl, client, age, from, number, &message)
+}
+
 /// The client takes an input.
 fn take(
     rt: &impl Abort,
@@ -121,18 +140,79 @@ fn take(
         Given::Called(command) => call(alloc, decl, client, age, command),
         Given::Do(object, inv) => call(alloc, decl, client, age, Command::Do { object, inv }),
         Given::Lost(number) => lose(alloc, decl, client, age, number),
-        _ => {
-            let (from, number, message) = message(alloc, given)?;
-            let clock = told(&message);
-            assert!(rt; clock <= GREATEST_CLOCK);
-            hear(alloc, decl, client, age, from, number, &message)
-        }
+        _ => hear_given(rt, alloc, decl, client, age, given),
     }
 }
 
 /// How many messages a turn sends, if they are few.
 fn sent(turn: &Turn) -> u32 {
     turn.sends.items().len().min(100) as u32
+}
+
+/// A turn is what is wanted.
+fn check_turn(rt: &impl Abort, alloc: Global, turn: &Turn, want: &str) -> Result<(), OutOfMemory> {
+    let text = turn_text(alloc, turn)?;
+    assert_eq!(rt; text.as_str(), want);
+    Ok(())
+}
+
+/// The client does what is wanted for an input. Its messages get numbers from
+/// `first` on; the next number is answered.
+fn check_row(
+    rt: &impl Abort,
+    alloc: Global,
+    decl: &Declaration,
+    client: &mut Client,
+    age: u32,
+    first: u32,
+    row: (Given<'_>, &str),
+) -> Result<u32, OutOfMemory>
+    requires accepted { IsAccepted decl.now }
+    requires young { IsYoung decl.now client.old age }
+    requires few { age < 999 }
+    requires numbers { first < 100000 }
+    ensures { OnOk result (IsYoung decl.now client.new (age + 1)) }
+{
+    let turn = take(rt, alloc, decl, client, age, row.0)?;
+    number(decl, client, age + 1, first);
+    check_turn(rt, alloc, &turn, row.1)?;
+    Ok(first.saturating_add(sent(&turn)))
+}
+
+/// The client does what the rows say, one after another.
+fn check_rows(
+    rt: &impl Abort,
+    alloc: Global,
+    decl: &Declaration,
+    client: &mut Client,
+    rows: &[(Given<'_>, &str)],
+) -> Result<(), OutOfMemory>
+    requires accepted { IsAccepted decl.now }
+    requires young { IsYoung decl.now client.old 0 }
+{
+    let mut age = 0u32;
+    let mut first = 0u32;
+    for row in rows {
+        assert!(rt; age < MOST_INPUTS);
+        assert!(rt; first < MOST_MESSAGES);
+        first = check_row(rt, alloc, decl, client, age, first, *row)?;
+        age += 1;
+    }
+    Ok(())
+}
+
+/// A new client does what the rows say.
+#[tactic(auto, using(crate::proofs::Young::new_young))]
+fn check_new(
+    rt: &impl Abort,
+    alloc: Global,
+    decl: &Declaration,
+    rows: &[(Given<'_>, &str)],
+) -> Result<(), OutOfMemory>
+    requires { IsAccepted decl.now }
+{
+    let mut client = Client::new(alloc, 1);
+    check_rows(rt, alloc, decl, &mut client, rows)
 }
 
 /// A new client 1, which is actor 4 and asks the sites 1, 2 and 0, takes what
@@ -142,20 +222,7 @@ pub(crate) fn check_client(
     rt: &impl Abort,
     alloc: Global,
     rows: &[(Given<'_>, &str)],
-) -> Result<(), Fail> {
+) -> Result<(), OutOfMemory> {
     let decl = declared(rt, alloc)?;
-    let mut client = Client::new(alloc, 1);
-    let mut age = 0u32;
-    let mut first = 0u32;
-    for (given, want) in rows {
-        assert!(rt; age < MOST_INPUTS - 1);
-        assert!(rt; first < MOST_MESSAGES);
-        let turn = take(rt, alloc, &decl, &mut client, age, *given)?;
-        age += 1;
-        number(&decl, &mut client, age, first);
-        first = first.saturating_add(sent(&turn));
-        let text = turn_text(alloc, &turn)?;
-        assert_eq!(rt; text.as_str(), *want, "at input {age}");
-    }
-    Ok(())
+    check_new(rt, alloc, &decl, rows)
 }

@@ -3,13 +3,13 @@
 use crate::clients::check_client;
 use crate::declared::{BELL, X};
 use crate::given::Given;
+use qc_list::OutOfMemory;
 use qc_msg::Command;
-use std::test::Fail;
 
 const BEGAN: &str = "tell Began { tx: TxId { client: 1, life: 1, number: 1 } }";
 
 #[test]
-fn without_a_transaction(rt: HostRuntime) -> Result<(), Fail> {
+fn without_a_transaction(rt: HostRuntime) -> Result<(), OutOfMemory> {
     check_client(
         &rt,
         rt.alloc(),
@@ -34,7 +34,7 @@ fn without_a_transaction(rt: HostRuntime) -> Result<(), Fail> {
 
 /// Sixteen operations are the most.
 #[test]
-fn transactions_are_not_too_long(rt: HostRuntime) -> Result<(), Fail> {
+fn transactions_are_not_too_long(rt: HostRuntime) -> Result<(), OutOfMemory> {
     let ring = (Given::Do(BELL, 0), "tell Response { resp: 0 }");
     check_client(
         &rt,
@@ -69,7 +69,7 @@ fn transactions_are_not_too_long(rt: HostRuntime) -> Result<(), Fail> {
 
 /// An Inquiry is answered to the site that asks, an Ask under its own number.
 #[test]
-fn outcomes_are_told(rt: HostRuntime) -> Result<(), Fail> {
+fn outcomes_are_told(rt: HostRuntime) -> Result<(), OutOfMemory> {
     check_client(
         &rt,
         rt.alloc(),

@@ -3,15 +3,15 @@
 use crate::clients::check_client;
 use crate::declared::X;
 use crate::given::Given;
+use qc_list::OutOfMemory;
 use qc_msg::Command;
-use std::test::Fail;
 
 /// The participants are the sites 1 and 2, in the lives 3 and 4; the Prepares
 /// are the messages 2 and 3. Each row has what comes first, what comes second,
 /// and the cause: that of the first against in the client's order of sites, and
 /// not of the first that came.
 #[test]
-fn the_first_vote_against_is_the_cause(rt: HostRuntime) -> Result<(), Fail> {
+fn the_first_vote_against_is_the_cause(rt: HostRuntime) -> Result<(), OutOfMemory> {
     for (one, two, want) in [
         (
             Given::Restarted(2, 5),
@@ -89,7 +89,7 @@ fn the_first_vote_against_is_the_cause(rt: HostRuntime) -> Result<(), Fail> {
 
 /// A vote that tells of a closed epoch tells the client: it begins in that.
 #[test]
-fn closed_votes_tell_the_epoch(rt: HostRuntime) -> Result<(), Fail> {
+fn closed_votes_tell_the_epoch(rt: HostRuntime) -> Result<(), OutOfMemory> {
     check_client(
         &rt,
         rt.alloc(),

@@ -3,8 +3,8 @@
 use crate::clients::check_client;
 use crate::declared::X;
 use crate::given::Given;
+use qc_list::OutOfMemory;
 use qc_msg::Command;
-use std::test::Fail;
 
 const BEGAN: &str = "tell Began { tx: TxId { client: 1, life: 1, number: 1 } }";
 
@@ -12,7 +12,7 @@ const BEGAN: &str = "tell Began { tx: TxId { client: 1, life: 1, number: 1 } }";
 /// first of several in asked order. The transaction goes on, with the lines that
 /// it was granted and the lives that it knows.
 #[test]
-fn refused_while_reading(rt: HostRuntime) -> Result<(), Fail> {
+fn refused_while_reading(rt: HostRuntime) -> Result<(), OutOfMemory> {
     check_client(
         &rt,
         rt.alloc(),
@@ -55,7 +55,7 @@ fn refused_while_reading(rt: HostRuntime) -> Result<(), Fail> {
 /// Behind, Restarted, Stale and what isn't an answer to it are as if the site
 /// were missing.
 #[test]
-fn missing_sites_are_short(rt: HostRuntime) -> Result<(), Fail> {
+fn missing_sites_are_short(rt: HostRuntime) -> Result<(), OutOfMemory> {
     check_client(
         &rt,
         rt.alloc(),
@@ -105,7 +105,7 @@ fn missing_sites_are_short(rt: HostRuntime) -> Result<(), Fail> {
 
 /// A transaction that was refused while appending can only be given up.
 #[test]
-fn refused_while_appending(rt: HostRuntime) -> Result<(), Fail> {
+fn refused_while_appending(rt: HostRuntime) -> Result<(), OutOfMemory> {
     check_client(
         &rt,
         rt.alloc(),
@@ -135,7 +135,7 @@ fn refused_while_appending(rt: HostRuntime) -> Result<(), Fail> {
 /// So is one that was told of a closed epoch while appending, or for which too
 /// few sites are left; both can be given up by `abort` too.
 #[test]
-fn closed_or_short_while_appending(rt: HostRuntime) -> Result<(), Fail> {
+fn closed_or_short_while_appending(rt: HostRuntime) -> Result<(), OutOfMemory> {
     check_client(
         &rt,
         rt.alloc(),

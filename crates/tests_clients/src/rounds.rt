@@ -4,14 +4,14 @@
 use crate::clients::check_client;
 use crate::declared::{BELL, SLOT, X};
 use crate::given::Given;
+use qc_list::OutOfMemory;
 use qc_msg::Command;
-use std::test::Fail;
 
 /// W1 appends at two sites; R reads at two, and its event needs none. The views
 /// and the own lines that weigh go along with the next Append. A lost request
 /// is one further site's, once all others are noted.
 #[test]
-fn transactions_run_by_rounds(rt: HostRuntime) -> Result<(), Fail> {
+fn transactions_run_by_rounds(rt: HostRuntime) -> Result<(), OutOfMemory> {
     check_client(
         &rt,
         rt.alloc(),
@@ -62,7 +62,7 @@ fn transactions_run_by_rounds(rt: HostRuntime) -> Result<(), Fail> {
 /// A stamp is above the grants' clocks too, and above the last one. With no
 /// participant a commit is at once, and all sites that were asked hear of it.
 #[test]
-fn commits_without_a_participant(rt: HostRuntime) -> Result<(), Fail> {
+fn commits_without_a_participant(rt: HostRuntime) -> Result<(), OutOfMemory> {
     check_client(
         &rt,
         rt.alloc(),
@@ -119,7 +119,7 @@ fn commits_without_a_participant(rt: HostRuntime) -> Result<(), Fail> {
 
 /// An operation without a response is counted, and has no own line.
 #[test]
-fn absent_operations_are_recorded(rt: HostRuntime) -> Result<(), Fail> {
+fn absent_operations_are_recorded(rt: HostRuntime) -> Result<(), OutOfMemory> {
     check_client(
         &rt,
         rt.alloc(),
@@ -161,7 +161,7 @@ fn absent_operations_are_recorded(rt: HostRuntime) -> Result<(), Fail> {
 /// In the second epoch site 1 alone weighs what is needed, and site 2, which
 /// weighs nothing, is never asked.
 #[test]
-fn known_epochs_are_begun_in(rt: HostRuntime) -> Result<(), Fail> {
+fn known_epochs_are_begun_in(rt: HostRuntime) -> Result<(), OutOfMemory> {
     check_client(
         &rt,
         rt.alloc(),

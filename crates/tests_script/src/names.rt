@@ -2,11 +2,11 @@
 //! range. They are told before the line's place.
 
 use crate::reading::check_lines;
+use qc_list::OutOfMemory;
 use qc_script::LineKind;
-use std::test::Fail;
 
 #[test]
-fn actors(rt: HostRuntime) -> Result<(), Fail> {
+fn actors(rt: HostRuntime) -> Result<(), OutOfMemory> {
     check_lines(
         &rt,
         rt.alloc(),
@@ -31,7 +31,7 @@ fn actors(rt: HostRuntime) -> Result<(), Fail> {
 }
 
 #[test]
-fn objects_and_invocations(rt: HostRuntime) -> Result<(), Fail> {
+fn objects_and_invocations(rt: HostRuntime) -> Result<(), OutOfMemory> {
     check_lines(
         &rt,
         rt.alloc(),
@@ -52,7 +52,7 @@ fn objects_and_invocations(rt: HostRuntime) -> Result<(), Fail> {
 }
 
 #[test]
-fn numbers(rt: HostRuntime) -> Result<(), Fail> {
+fn numbers(rt: HostRuntime) -> Result<(), OutOfMemory> {
     check_lines(
         &rt,
         rt.alloc(),

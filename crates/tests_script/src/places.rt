@@ -2,11 +2,11 @@
 //! for on one line, and the first refused line of several.
 
 use crate::reading::{check_faults, check_lines};
+use qc_list::OutOfMemory;
 use qc_script::LineKind;
-use std::test::Fail;
 
 #[test]
-fn lines_before_the_first_phase(rt: HostRuntime) -> Result<(), Fail> {
+fn lines_before_the_first_phase(rt: HostRuntime) -> Result<(), OutOfMemory> {
     check_lines(
         &rt,
         rt.alloc(),
@@ -28,7 +28,7 @@ fn lines_before_the_first_phase(rt: HostRuntime) -> Result<(), Fail> {
 }
 
 #[test]
-fn lines_behind_a_phase_or_a_command(rt: HostRuntime) -> Result<(), Fail> {
+fn lines_behind_a_phase_or_a_command(rt: HostRuntime) -> Result<(), OutOfMemory> {
     check_faults(
         &rt,
         rt.alloc(),
@@ -50,7 +50,7 @@ fn lines_behind_a_phase_or_a_command(rt: HostRuntime) -> Result<(), Fail> {
 }
 
 #[test]
-fn faults_of_one_line_are_in_order(rt: HostRuntime) -> Result<(), Fail> {
+fn faults_of_one_line_are_in_order(rt: HostRuntime) -> Result<(), OutOfMemory> {
     check_faults(
         &rt,
         rt.alloc(),
@@ -78,7 +78,7 @@ fn faults_of_one_line_are_in_order(rt: HostRuntime) -> Result<(), Fail> {
 }
 
 #[test]
-fn the_first_refused_line_is_named(rt: HostRuntime) -> Result<(), Fail> {
+fn the_first_refused_line_is_named(rt: HostRuntime) -> Result<(), OutOfMemory> {
     check_faults(
         &rt,
         rt.alloc(),

@@ -10,7 +10,6 @@ use qc_list::OutOfMemory;
 use qc_script::{LineKind, Script, ScriptFault, read};
 use std::alloc::{AllocError, Global};
 use std::process::Abort;
-use std::test::Fail;
 
 /// Two sites and three clients, so that s1 is actor 1, c0 is 2, c2 is 4 and the
 /// administrator 5; a register `x` and a flag `f`; two epochs.
@@ -76,38 +75,78 @@ pub(crate) fn script_of(
     read(alloc, text.as_bytes(), decl)
 }
 
-/// Each row has a text, the number of its first refused line, and what is wrong
-/// with that.
-pub(crate) fn check_faults(
+/// What is wrong with a text is this.
+fn check_fault(
     rt: &impl Abort,
     alloc: Global,
-    rows: &[(&str, u32, LineKind)],
-) -> Result<(), Fail> {
-    let decl = declared(rt, alloc)?;
-    for (text, number, kind) in rows {
-        match script_of(rt, alloc, &decl, text) {
-            Err(
-                ScriptFault::Line {
-                    number: line,
-                    kind: what,
-                },
-            ) => assert_eq!(rt; (line, what), (*number, *kind), "at `{text}`"),
-            Err(fault) => return Err(fault.into()),
-            Ok(_) => panic!(rt; "`{text}` is read"),
+    decl: &Declaration,
+    text: &str,
+    want: (u32, LineKind),
+) -> Result<(), OutOfMemory>
+    requires accepted { IsAccepted decl.now }
+    requires named { IsNamed decl.now }
+{
+    match script_of(rt, alloc, decl, text) {
+        Err(ScriptFault::Line { number, kind }) => {
+            assert_eq!(rt; (number, kind), want, "at `{text}`");
+            Ok(())
         }
+        Err(ScriptFault::OutOfMemory) => Err(AllocError),
+        Ok(_) => panic!(rt; "`{text}` is read"),
+    }
+}
+
+/// Each row has a text, the number of its first refused line, and what is wrong
+/// with that.
+fn check_rows(
+    rt: &impl Abort,
+    alloc: Global,
+    decl: &Declaration,
+    rows: &[(&str, u32, LineKind)],
+) -> Result<(), OutOfMemory>
+    requires accepted { IsAccepted decl.now }
+    requires named { IsNamed decl.now }
+{
+    for (text, number, kind) in rows {
+        check_fault(rt, alloc, decl, text, (*number, *kind))?;
     }
     Ok(())
 }
 
+/// The same over the declaration.
+pub(crate) fn check_faults(
+    rt: &impl Abort,
+    alloc: Global,
+    rows: &[(&str, u32, LineKind)],
+) -> Result<(), OutOfMemory> {
+    let decl = declared(rt, alloc)?;
+    check_rows(rt, alloc, &decl, rows)
+}
+
 /// Each text is refused in its first line, and this is wrong with it.
+fn check_texts(
+    rt: &impl Abort,
+    alloc: Global,
+    decl: &Declaration,
+    kind: LineKind,
+    texts: &[&str],
+) -> Result<(), OutOfMemory>
+    requires accepted { IsAccepted decl.now }
+    requires named { IsNamed decl.now }
+{
+    for text in texts {
+        check_fault(rt, alloc, decl, text, (1, kind))?;
+    }
+    Ok(())
+}
+
+/// The same over the declaration.
 pub(crate) fn check_lines(
     rt: &impl Abort,
     alloc: Global,
     kind: LineKind,
     texts: &[&str],
-) -> Result<(), Fail> {
-    for text in texts {
-        check_faults(rt, alloc, &[(text, 1, kind)])?;
-    }
-    Ok(())
+) -> Result<(), OutOfMemory> {
+    let decl = declared(rt, alloc)?;
+    check_texts(rt, alloc, &decl, kind, texts)
 }

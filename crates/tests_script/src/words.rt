@@ -1,11 +1,11 @@
 //! Words that have none of the forms.
 
 use crate::reading::check_lines;
+use qc_list::OutOfMemory;
 use qc_script::LineKind;
-use std::test::Fail;
 
 #[test]
-fn phases_and_first_words(rt: HostRuntime) -> Result<(), Fail> {
+fn phases_and_first_words(rt: HostRuntime) -> Result<(), OutOfMemory> {
     check_lines(
         &rt,
         rt.alloc(),
@@ -29,7 +29,7 @@ fn phases_and_first_words(rt: HostRuntime) -> Result<(), Fail> {
 }
 
 #[test]
-fn links(rt: HostRuntime) -> Result<(), Fail> {
+fn links(rt: HostRuntime) -> Result<(), OutOfMemory> {
     check_lines(
         &rt,
         rt.alloc(),
@@ -58,7 +58,7 @@ fn links(rt: HostRuntime) -> Result<(), Fail> {
 }
 
 #[test]
-fn cuts_and_heals(rt: HostRuntime) -> Result<(), Fail> {
+fn cuts_and_heals(rt: HostRuntime) -> Result<(), OutOfMemory> {
     check_lines(
         &rt,
         rt.alloc(),
@@ -78,7 +78,7 @@ fn cuts_and_heals(rt: HostRuntime) -> Result<(), Fail> {
 }
 
 #[test]
-fn falls_and_disks(rt: HostRuntime) -> Result<(), Fail> {
+fn falls_and_disks(rt: HostRuntime) -> Result<(), OutOfMemory> {
     check_lines(
         &rt,
         rt.alloc(),
@@ -105,7 +105,7 @@ fn falls_and_disks(rt: HostRuntime) -> Result<(), Fail> {
 }
 
 #[test]
-fn commands(rt: HostRuntime) -> Result<(), Fail> {
+fn commands(rt: HostRuntime) -> Result<(), OutOfMemory> {
     check_lines(
         &rt,
         rt.alloc(),
