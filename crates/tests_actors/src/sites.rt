@@ -1,0 +1,422 @@
+//! A site of `@three`, what it takes, and what it is to do.
+
+ghost use Rattle.std.specs.Prelude.{IfOk};
+ghost use Rattle.qc_decl.specs.Accepted.{IsAccepted};
+
+use qc_decl::{Declaration, built_in};
+use qc_entry::{Line, Log, OwnLine, Owns};
+use qc_list::OutOfMemory;
+use qc_msg::{Answer, Message, Outcome, Want};
+use qc_site::Site;
+use qc_stamp::{Stamp, TxId};
+use std::alloc::Global;
+use std::process::Abort;
+use tests_texts::turn_text;
+
+/// The only object of `@three`: a register, of which R is the invocation 0 and
+/// depends on the events W0:ok and W1:ok, which are 2 and 3.
+pub(crate) const X: u8 = 0;
+
+/// The invocations of the register.
+pub(crate) const READ: u8 = 0;
+
+pub(crate) const WRITE_0: u8 = 1;
+
+/// The events of the register.
+pub(crate) const READ_0: u8 = 0;
+
+pub(crate) const WROTE_0: u8 = 2;
+
+pub(crate) const WROTE_1: u8 = 3;
+
+/// What a site takes. Where no transaction is named, it is the client's first.
+#[derive(Clone, Copy)]
+pub(crate) enum Taken<'a> {
+    /// A Read of x, by a client.
+    Read(u8, u8),
+    /// An Append to x by a client, with a view, each line by clock, client and
+    /// event, and own lines, each by operation and event.
+    Append(u8, &'a [(u64, u8, u8)], &'a [(u8, u8)]),
+    /// A Prepare of a client.
+    Prepare(u8),
+    /// A Read of x by client 0, of an epoch, that names a life.
+    ReadIn(u8, u32),
+    /// A Prepare of client 0, of an epoch, that names a life.
+    PrepareIn(u8, u32),
+    /// An Append to x by client 0, of an epoch, with a view.
+    AppendIn(u8, &'a [(u64, u8, u8)]),
+    /// A Read of an object by a client.
+    ReadOf(u8, u8),
+    /// A client's transaction committed with a clock.
+    Committed(u8, u64),
+    /// A client's transaction aborted.
+    Aborted(u8),
+    /// A client's transaction is active.
+    Active(u8),
+    /// What nobody sends a site: an answer, an Inquiry, an Ask.
+    Answer,
+    Inquiry,
+    Ask,
+    /// What only the administrator sends: a Close, an Install.
+    Close,
+    Install,
+}
+
+/// The first transaction of a client.
+fn tx(client: u8) -> TxId {
+    TxId {
+        client,
+        life: 1,
+        number: 1,
+    }
+}
+
+/// A line of the first operation of a client's first transaction, on x.
+fn line(clock: u64, client: u8, event: u8) -> Line {
+    Line {
+        stamp: Stamp { clock, client },
+        tx: tx(client),
+        op: 1,
+        object: X,
+        event,
+    }
+}
+
+/// An own line on x.
+fn own(op: u8, event: u8) -> OwnLine {
+    OwnLine {
+        op,
+        object: X,
+        event,
+    }
+}
+
+/// A request of the first epoch that names no life.
+fn request(client: u8, want: Want) -> Message {
+    request_in(client, 1, 0, want)
+}
+
+/// A request of an epoch that names a life.
+fn request_in(client: u8, epoch: u8, life: u32, want: Want) -> Message {
+    Message::Request {
+        tx: tx(client),
+        epoch,
+        life,
+        want,
+    }
+}
+
+/// A Decision on a client's first transaction.
+fn decision(client: u8, verdict: Outcome) -> Message {
+    Message::Decision {
+        tx: tx(client),
+        verdict,
+    }
+}
+
+/// That a client's first transaction committed with a clock.
+fn committed(client: u8, clock: u64) -> Message {
+    let stamp = Stamp { clock, client };
+    decision(client, Outcome::Committed { stamp })
+}
+
+/// An Append to x of the first epoch.
+fn append(
+    alloc: Global,
+    client: u8,
+    view: &[(u64, u8, u8)],
+    owns: &[(u8, u8)],
+) -> Result<Message, OutOfMemory> {
+    let own = own_lines(alloc, owns)?;
+    let view = log(alloc, view)?;
+    append_in(client, 1, view, own)
+}
+
+/// An Append to x of an epoch.
+fn append_in(client: u8, epoch: u8, view: Log, own: Owns) -> Result<Message, OutOfMemory> {
+    let object = X;
+    Ok(request_in(client, epoch, 0, Want::Append { object, view, own }))
+}
+
+/// An Append to x of an epoch without own lines.
+fn early_append(alloc: Global, epoch: u8, view: &[(u64, u8, u8)]) -> Result<Message, OutOfMemory> {
+    append_in(0, epoch, log(alloc, view)?, Owns::new(alloc))
+}
+
+/// A log of these lines.
+fn log(alloc: Global, view: &[(u64, u8, u8)]) -> Result<Log, OutOfMemory> {
+    let mut log = Log::new(alloc)?;
+    for (clock, client, event) in view {
+        log.add(line(*clock, *client, *event))?;
+    }
+    Ok(log)
+}
+
+/// These own lines.
+fn own_lines(alloc: Global, owns: &[(u8, u8)]) -> Result<Owns, OutOfMemory> {
+    let mut lines = Owns::new(alloc);
+    for (op, event) in owns {
+        lines.push(own(*op, *event))?;
+    }
+    Ok(lines)
+}
+
+/// The message.
+fn message(alloc: Global, taken: Taken<'_>) -> Result<Message, OutOfMemory> {
+    match taken {
+        Taken::Read(client, inv) => Ok(request(client, Want::Read { object: X, inv })),
+        Taken::ReadOf(client, object) => Ok(request(client, Want::Read { object, inv: READ })),
+        Taken::Prepare(client) => Ok(request(client, Want::Prepare)),
+        Taken::Append(client, view, own) => append(alloc, client, view, own),
+        Taken::ReadIn(..) | Taken::PrepareIn(..) | Taken::AppendIn(..) => other_epoch(alloc, taken),
+        Taken::Committed(..) | Taken::Aborted(_) | Taken::Active(_) => Ok(verdict(taken)),
+        _ => unasked(alloc, taken),
+    }
+}
+
+/// The request of client 0 in an epoch and a life.
+fn other_epoch(alloc: Global, taken: Taken<'_>) -> Result<Message, OutOfMemory> {
+    match taken {
+        Taken::ReadIn(epoch, life) => Ok(request_in(
+            0,
+            epoch,
+            life,
+            Want::Read {
+                object: X,
+                inv: READ,
+            },
+        )),
+        Taken::AppendIn(epoch, view) => early_append(alloc, epoch, view),
+        Taken::PrepareIn(epoch, life) => Ok(request_in(0, epoch, life, Want::Prepare)),
+        _ => Ok(request(0, Want::Prepare)),
+    }
+}
+
+/// The Decision.
+fn verdict(taken: Taken<'_>) -> Message {
+    match taken {
+        Taken::Committed(client, clock) => committed(client, clock),
+        Taken::Active(client) => decision(client, Outcome::Active),
+        Taken::Aborted(client) => decision(client, Outcome::Aborted),
+        _ => decision(0, Outcome::Aborted),
+    }
+}
+
+/// What nobody sends a site.
+fn unasked(alloc: Global, taken: Taken<'_>) -> Result<Message, OutOfMemory> {
+    match taken {
+        Taken::Answer => Ok(Message::Answer {
+            to: 0,
+            answer: Answer::Stale,
+        }),
+        Taken::Inquiry => Ok(Message::Inquiry { tx: tx(0) }),
+        Taken::Ask => Ok(Message::Ask { tx: tx(0) }),
+        Taken::Install => install(alloc),
+        _ => Ok(Message::Close { epoch: 2 }),
+    }
+}
+
+fn install(alloc: Global) -> Result<Message, OutOfMemory> {
+    Ok(Message::Install {
+        epoch: 2,
+        clock: 9,
+        log: Log::new(alloc)?,
+    })
+}
+
+/// Who sends it: the client, the actor 3 for client 0; of what nobody sends, the
+/// administrator.
+fn sender(taken: Taken<'_>) -> u8 {
+    match taken {
+        Taken::Read(client, _)
+        | Taken::ReadOf(client, _)
+        | Taken::Append(client, _, _)
+        | Taken::Prepare(client)
+        | Taken::Committed(client, _)
+        | Taken::Aborted(client)
+        | Taken::Active(client) => client.saturating_add(3),
+        Taken::ReadIn(..) | Taken::PrepareIn(..) | Taken::AppendIn(..) => 3,
+        _ => 6,
+    }
+}
+
+/// `@three`.
+fn three(rt: &impl Abort, alloc: Global) -> Result<Declaration, OutOfMemory>
+    ensures { IfOk result IsAccepted }
+{
+    match built_in(alloc, "@three")? {
+        Some(decl) => Ok(decl),
+        None => panic!(rt; "no @three"),
+    }
+}
+
+/// What a site does for what it takes, as a text.
+fn answer(
+    alloc: Global,
+    decl: &Declaration,
+    site: &mut Site,
+    number: u32,
+    taken: Taken<'_>,
+) -> Result<String, OutOfMemory>
+    requires { IsAccepted decl.now }
+{
+    let message = message(alloc, taken)?;
+    let turn = site.handle(alloc, decl, sender(taken), number, &message)?;
+    turn_text(alloc, &turn)
+}
+
+/// A site does what is wanted for what it takes.
+fn check_row(
+    rt: &impl Abort,
+    alloc: Global,
+    decl: &Declaration,
+    site: &mut Site,
+    number: u32,
+    row: (Taken<'_>, &str),
+) -> Result<(), OutOfMemory>
+    requires { IsAccepted decl.now }
+{
+    let text = answer(alloc, decl, site, number, row.0)?;
+    assert_eq!(rt; text.as_str(), row.1, "at message {number}");
+    Ok(())
+}
+
+/// A site does what the rows say, one after another, from message number 10 on.
+fn check_rows(
+    rt: &impl Abort,
+    alloc: Global,
+    decl: &Declaration,
+    site: &mut Site,
+    rows: &[(Taken<'_>, &str)],
+) -> Result<(), OutOfMemory>
+    requires { IsAccepted decl.now }
+{
+    let mut number = 10u32;
+    for row in rows {
+        check_row(rt, alloc, decl, site, number, *row)?;
+        number = number.saturating_add(1);
+    }
+    Ok(())
+}
+
+/// A site of `@three`, after it took what the rows have from message number 10
+/// on, and did what they say.
+fn site_after(
+    rt: &impl Abort,
+    alloc: Global,
+    decl: &Declaration,
+    rows: &[(Taken<'_>, &str)],
+) -> Result<Site, OutOfMemory>
+    requires { IsAccepted decl.now }
+{
+    let mut site = Site::new(alloc, 1)?;
+    check_rows(rt, alloc, decl, &mut site, rows)?;
+    Ok(site)
+}
+
+/// A new site of `@three` does what the rows say.
+fn new_site_after(
+    rt: &impl Abort,
+    alloc: Global,
+    rows: &[(Taken<'_>, &str)],
+) -> Result<Site, OutOfMemory> {
+    let decl = three(rt, alloc)?;
+    site_after(rt, alloc, &decl, rows)
+}
+
+/// A new site takes what the rows have, one after another, from message number
+/// 10 on, and does what they say. Then it knows so many lines, and so many
+/// transactions hold something.
+pub(crate) fn check_site(
+    rt: &impl Abort,
+    alloc: Global,
+    rows: &[(Taken<'_>, &str)],
+    lines: u64,
+    holders: u64,
+) -> Result<(), OutOfMemory> {
+    let site = new_site_after(rt, alloc, rows)?;
+    check_counts(rt, &site, lines, holders);
+    Ok(())
+}
+
+/// What is read off a site.
+fn check_counts(rt: &impl Abort, site: &Site, lines: u64, holders: u64) {
+    assert_eq!(rt; (site.number(), site.life(), site.epoch()), (1, 1, 1));
+    assert_eq!(rt; (site.lines(), site.holders()), (lines, holders));
+}
+
+/// A new site is asked for a promise of a transaction that holds so many locks
+/// and own lines, where its log has so many lines that no record gives.
+pub(crate) fn check_prepare(
+    rt: &impl Abort,
+    alloc: Global,
+    counts: (u8, u8, u64),
+    is_promised: bool,
+) -> Result<(), OutOfMemory> {
+    let decl = three(rt, alloc)?;
+    let is_stale = is_stale(alloc, &decl, counts)?;
+    assert_eq!(rt; is_stale, !is_promised, "at {counts:?}");
+    Ok(())
+}
+
+/// Whether a promise is refused that would have so many locks, own lines and
+/// lines.
+fn is_stale(alloc: Global, decl: &Declaration, counts: (u8, u8, u64)) -> Result<bool, OutOfMemory>
+    requires { IsAccepted decl.now }
+{
+    let (locks, owns, lines) = counts;
+    let mut site = Site::new(alloc, 1)?;
+    read_many(alloc, decl, &mut site, locks)?;
+    append_many(alloc, decl, &mut site, owns, lines)?;
+    let answer = answer(alloc, decl, &mut site, 11, Taken::Prepare(0))?;
+    Ok(answer.as_str() == "3: 11 stale")
+}
+
+/// The site takes so many Reads of x.
+fn read_many(
+    alloc: Global,
+    decl: &Declaration,
+    site: &mut Site,
+    locks: u8,
+) -> Result<(), OutOfMemory>
+    requires { IsAccepted decl.now }
+{
+    for inv in 0..locks {
+        let _granted = answer(alloc, decl, site, 10, Taken::Read(0, inv))?;
+    }
+    Ok(())
+}
+
+/// The site takes an Append to x with so many own lines and so many lines.
+fn append_many(
+    alloc: Global,
+    decl: &Declaration,
+    site: &mut Site,
+    owns: u8,
+    lines: u64,
+) -> Result<(), OutOfMemory>
+    requires { IsAccepted decl.now }
+{
+    let own = many_owns(alloc, owns)?;
+    let append = append_in(0, 1, many_lines(alloc, lines)?, own)?;
+    let _granted = site.handle(alloc, decl, 3, 10, &append)?;
+    Ok(())
+}
+
+/// A log of so many lines.
+fn many_lines(alloc: Global, lines: u64) -> Result<Log, OutOfMemory> {
+    let mut log = Log::new(alloc)?;
+    for clock in 0..lines {
+        log.add(line(clock, 1, WROTE_1))?;
+    }
+    Ok(log)
+}
+
+/// So many own lines, on which nothing depends.
+fn many_owns(alloc: Global, owns: u8) -> Result<Owns, OutOfMemory> {
+    let mut lines = Owns::new(alloc);
+    for op in 0..owns {
+        lines.push(own(op, READ_0))?;
+    }
+    Ok(lines)
+}
