@@ -22,9 +22,14 @@ use std::alloc::Global;
 use toml::Value;
 
 /// Distinct names. A name's number is its place.
-#[derive(Drop)]
 pub(crate) struct Index<'a> {
     texts: IndexSet<&'a str>,
+}
+
+impl Drop for Index<'_> {
+    fn drop(self) {
+        let Index { texts: _ } = self;
+    }
 }
 
 impl<'a> Index<'a> {
@@ -110,9 +115,14 @@ pub(crate) fn read_index<'a>(alloc: Global, items: &'a [Value]) -> Result<Index<
 }
 
 /// The events of a type. An event's number is its place.
-#[derive(Drop)]
 pub(crate) struct Events {
     events: IndexSet<Event>,
+}
+
+impl Drop for Events {
+    fn drop(self) {
+        let Events { events: _ } = self;
+    }
 }
 
 impl Events {
