@@ -12,6 +12,7 @@ ghost use Rattle.qc_accept.specs.Views.{draft_in};
 
 use crate::acceptance::Draft;
 use crate::fault::DeclFault;
+use crate::names::tell;
 use qc_cert::{CertFault, Triple};
 use qc_decl::{Declaration, KindNames, Names};
 use qc_list::{List, Name, OutOfMemory};
@@ -173,13 +174,6 @@ fn tell_pair(
     };
     tell(alloc, told, name_at(&names.invs, inv))?;
     tell_event(alloc, told, names, table, event)
-}
-
-/// Tells one name more.
-fn tell(alloc: Global, told: &mut Names, text: &str) -> Result<(), OutOfMemory>
-    ensures { OnOk result (told.new ≡ told.old ++ text.now ∷ []) }
-{
-    told.push(Name::new(alloc, text)?)
 }
 
 /// Tells the name of an event, as `INV:RESP`.

@@ -4,7 +4,7 @@ ghost use Rattle.std.specs.Prelude.{◌≡◌, ◌<◌, ◌≤◌, ◌++◌, [],
 ghost use Rattle.toml.specs.View.{view};
 ghost use Rattle.qc_table.specs.Rules.{events_of};
 ghost use Rattle.qc_decl.specs.Limits.{most_events, most_rows, most_types};
-ghost use Rattle.qc_accept.specs.Accept.{all_names, kind_names};
+ghost use Rattle.qc_accept.specs.Accept.{all_names, kind_names, names_of_words};
 ghost use Rattle.qc_list.specs.Results.{and_then};
 ghost use Rattle.qc_accept.specs.Answers.{IsAnswer, IsReading};
 ghost use Rattle.qc_accept.specs.Certificates.{certificate_of, rest_of};
@@ -41,12 +41,22 @@ const KEYS: [&str; 8] = [
 ];
 
 /// The words of a type.
-#[derive(Drop)]
 pub(crate) struct Words<'a> {
     pub(crate) states: Index<'a>,
     pub(crate) start: u8,
     pub(crate) invs: Index<'a>,
     pub(crate) resps: Index<'a>,
+}
+
+impl Drop for Words<'_> {
+    fn drop(self) {
+        let Words {
+            states: _,
+            start: _,
+            invs: _,
+            resps: _,
+        } = self;
+    }
 }
 
 /// A type's relation, with the triples that are to show it exact.
@@ -315,33 +325,72 @@ impl Sorted {
             × (self.new.names ≡ self.old.names ++ kind_names name (type_in read.entry) ∷ [])
             × (self.new.triples ≡ self.old.triples ++ read.entry.triples ∷ [])) }
     {
-        let TypeRead {
-            words,
-            events,
-            kind,
-            triples,
-        } = read;
-        self.names.push(words.names(alloc, name)?)?;
+        self.add_names(alloc, &read.words, name)?;
+        self.add_kind(read)
+    }
+
+    /// Adds the names of a type.
+    fn add_names(&mut self, alloc: Global, words: &Words<'_>, name: Name) -> Result<(), OutOfMemory>
+        ensures { OnOk result ((self.new.kinds ≡ self.old.kinds)
+            × (self.new.names ≡ self.old.names ++ names_of_words name (words_in words.now) ∷ [])
+            × (self.new.triples ≡ self.old.triples)) }
+    {
+        self.names.push(words.names(alloc, name)?)
+    }
+
+    /// Adds what a type is, and its triples.
+    fn add_kind(&mut self, read: TypeRead<'_>) -> Result<(), OutOfMemory>
+        ensures { OnOk result ((self.new.kinds ≡ self.old.kinds ++ read.entry.kind ∷ [])
+            × (self.new.names ≡ self.old.names)
+            × (self.new.triples ≡ self.old.triples ++ read.entry.triples ∷ [])) }
+    {
+        let (kind, triples) = read.into_kind();
         self.kinds.push(kind)?;
         self.triples.push(triples)
+    }
+}
+
+impl TypeRead<'_> {
+    /// What the type is, and its triples.
+    fn into_kind(self) -> (Kind, List<Triple>)
+        ensures { result ≡ (self.entry.kind, self.entry.triples) }
+    {
+        let TypeRead {
+            words: _,
+            events: _,
+            kind,
+            triples,
+        } = self;
+        (kind, triples)
     }
 }
 
 impl Words<'_> {
     /// The names of the type of this name.
     fn names(&self, alloc: Global, name: Name) -> Result<KindNames, OutOfMemory>
-        ensures { IfOk result (λ n. n ≡ record {
-          name = name;
-          states = names_in self.now.states;
-          invs = names_in self.now.invs;
-          resps = names_in self.now.resps;
+        ensures { IfOk result (λ n. n ≡ names_of_words name (words_in self.now)) }
+    {
+        let mut names = KindNames {
+            name,
+            states: List::new(alloc),
+            invs: List::new(alloc),
+            resps: List::new(alloc),
+        };
+        self.tell(alloc, &mut names)?;
+        Ok(names)
+    }
+
+    /// Tells the names of the parts, behind others.
+    fn tell(&self, alloc: Global, names: &mut KindNames) -> Result<(), OutOfMemory>
+        ensures { OnOk result (names.new ≡ record {
+          name = names.old.name;
+          states = names.old.states ++ names_in self.now.states;
+          invs = names.old.invs ++ names_in self.now.invs;
+          resps = names.old.resps ++ names_in self.now.resps;
         }) }
     {
-        Ok(KindNames {
-            name,
-            states: self.states.names(alloc)?,
-            invs: self.invs.names(alloc)?,
-            resps: self.resps.names(alloc)?,
-        })
+        self.states.tell(alloc, &mut names.states)?;
+        self.invs.tell(alloc, &mut names.invs)?;
+        self.resps.tell(alloc, &mut names.resps)
     }
 }
