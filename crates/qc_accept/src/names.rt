@@ -26,6 +26,9 @@ pub(crate) struct Index<'a> {
     texts: IndexSet<&'a str>,
 }
 
+/// By hand, as for each owner of one of the kit's sets or maps: so a caller
+/// drops it by one call. A derived impl would have each way out of the caller
+/// drop each part of the set, and the check pays for each.
 impl Drop for Index<'_> {
     fn drop(self) {
         let Index { texts: _ } = self;
