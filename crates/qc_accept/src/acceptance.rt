@@ -9,12 +9,12 @@ ghost use Rattle.qc_decl.specs.Named.{IsNamed};
 ghost use Rattle.qc_accept.specs.Views.{draft_in, objects_in, path_in, table_in, types_in};
 ghost use Rattle.qc_decl.specs.Limits.{most_sites};
 
-use crate::checks;
 use crate::epochs::{self, Store};
 use crate::fault::DeclFault;
 use crate::fields::Fields;
 use crate::kinds::{self, Types};
 use crate::objects::{self, ObjectsRead};
+use crate::{checks, sorting};
 use qc_cert::Triple;
 use qc_decl::{Declaration, MOST_CLIENTS, MOST_SITES, Plans};
 use qc_list::{List, OutOfMemory};
@@ -105,7 +105,7 @@ fn gathered(
         (objects_in objects.entry) plans) }
 {
     let object_names = objects.names.names(alloc)?;
-    let sorted = kinds::sort_types(alloc, types)?;
+    let sorted = sorting::sort_types(alloc, types)?;
     let (sites, clients) = counts;
     let decl = Declaration {
         sites,

@@ -259,12 +259,8 @@ impl Listed {
         ensures { IfOk result (λ is_new. with_entry (listed_in self.old)
             (entry_of entry) ≡ (if is_new then Some (listed_in self.new) else None)) }
     {
-        let Entry {
-            object,
-            place,
-            threshold,
-        } = entry;
-        let before = self.thresholds.insert((object, place), threshold)?;
+        let at = (entry.object, entry.place);
+        let before = self.thresholds.insert(at, entry.threshold)?;
         Ok(before.is_none())
     }
 
