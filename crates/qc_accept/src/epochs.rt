@@ -4,9 +4,9 @@ ghost use Rattle.std.specs.Prelude.{◌≡◌, ◌+◌, ◌<◌, ◌≤◌, [], 
 ghost use Rattle.toml.specs.View.{view};
 ghost use Rattle.qc_decl.specs.Limits.{most_epochs, most_events};
 ghost use Rattle.qc_accept.specs.Answers.{IsAnswer, IsReading, read_each};
-ghost use Rattle.qc_accept.specs.Epochs.{IsFit, entries_in, entry_in, needs as needs_of_key, needs_of, place_in, plan_in};
-ghost use Rattle.qc_accept.specs.Epochs.{places, places_of, plan_of, plans_of, threshold_of, thresholds, with_entry};
-ghost use Rattle.qc_accept.specs.Epochs.{weights, with_item, with_plan, with_weight};
+ghost use Rattle.qc_accept.specs.Epochs.{IsFit, entries_in, entry_in, needs as needs_of_key, needs_of, place_in};
+ghost use Rattle.qc_accept.specs.Epochs.{places, places_of, plan_in, plan_of, plans_of, threshold_of, thresholds};
+ghost use Rattle.qc_accept.specs.Epochs.{weights, with_entry, with_item, with_plan, with_weight};
 ghost use Rattle.qc_accept.specs.Types.{AreFew};
 ghost use Rattle.qc_accept.specs.Views.{data_of, entry_of, events_in, listed_in, path_in, store_in, table_in, type_in};
 ghost use Rattle.qc_accept.specs.Views.{words_in};
