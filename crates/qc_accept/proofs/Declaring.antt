@@ -14,7 +14,7 @@ use Rattle.qc_decl.specs.declared.declaration.Declaration.{Declaration}
 use Rattle.qc_accept.specs.declared.epochs.Side.TheVariants.{Initial, Final}
 use Rattle.qc_accept.specs.Accept.{DraftOf, accepted, all_admitted, all_certified, declared, document_of, draft, draft_of, keys}
 use Rattle.qc_accept.specs.Answers.{Answer, each, read_each}
-use Rattle.qc_accept.specs.Epochs.{StoreOf, epoch_keys, needs, plan_of, plans_of, weights, with_plan, with_weight}
+use Rattle.qc_accept.specs.Epochs.{StoreOf, epoch_keys, needs, plan_in, plan_of, plans_of, weights, with_plan, with_weight}
 use Rattle.qc_accept.specs.Fields.{item_path, item_table, items, keys_path, name_among, no_others, number, number_between, required, told, with_name, with_text}
 use Rattle.qc_accept.specs.Objects.{ObjectsOf, object_keys, objects_of, with_object}
 use Rattle.qc_accept.specs.Spelled.{AreListed, IsDeclared, IsSpelled, array_at, text_at}
@@ -216,16 +216,16 @@ plans_list plans = plans
 plan_from : (store : StoreOf) (plans : List Plan) (d : Data) (next : List Plan) → with_plan store plans d ≡ Ok next → Adds plans_list (IsPlanFrom store) plans d next
 plan_from store plans d next is =
     let path : List ℕ = keys_path (codes "epoch") (length plans) in
-    let a = came (item_table (codes "epoch") (length plans) d) _ next is in
-    let b = came (plan_of path a.value store) _ next a.rest in
-    let both = plan_listed path a.value store b.value b.first in
+    let b = came (plan_in store (length plans) d) _ next is in
+    let a = came (item_table (codes "epoch") (length plans) d) _ b.value b.first in
+    let both = plan_listed path a.value store b.value a.rest in
     record {
       one = b.value;
       grown = same_ok (plans ++ b.value ∷ []) next b.rest;
       from = record {
         item = a.value;
         is = is_table (codes "epoch") (length plans) d a.value a.first;
-        weights = weights_of path a.value store b.value b.first;
+        weights = weights_of path a.value store b.value a.rest;
         initial = both.0;
         last = both.1;
       };

@@ -11,7 +11,7 @@ use Rattle.qc_decl.specs.Limits.{greatest_weight, most_epochs, most_objects}
 use Rattle.qc_accept.specs.declared.epochs.Side.{Side}
 use Rattle.qc_accept.specs.declared.epochs.Side.TheVariants.{Initial, Final}
 use Rattle.qc_accept.specs.Answers.{read_each}
-use Rattle.qc_accept.specs.Epochs.{StoreOf, EntryOf, entries_in, epoch_keys, needs, needs_of, places, places_of, plan_of, plans_of, weights, with_plan, with_weight}
+use Rattle.qc_accept.specs.Epochs.{StoreOf, EntryOf, entries_in, epoch_keys, needs, needs_of, places, places_of, plan_in, plan_of, plans_of, weights, with_plan, with_weight}
 use Rattle.qc_accept.specs.Fields.{told, required, items, number, number_between, natural, name_among, with_name, no_others, item_table, keys_path, optional}
 use Rattle.qc_accept.specs.Objects.{ObjectsOf, kind_of, object_keys, objects_of, with_object}
 use Rattle.qc_accept.specs.Types.{TypeOf, TypesOf}
@@ -169,13 +169,13 @@ record ArePlans (store : StoreOf) (n : ℕ) (plans : List Plan) : Type 0 where
 plan_more : (store : StoreOf) (n : ℕ) (plans : List Plan) (d : Data) (next : List Plan) → ArePlans store n plans → with_plan store plans d ≡ Ok next → ArePlans store (suc n) next
 plan_more store n plans d next are is =
     let path : List ℕ = keys_path (codes "epoch") (length plans) in
-    let a = came (item_table (codes "epoch") (length plans) d) _ next is in
-    let b = came (plan_of path a.value store) _ next a.rest in
+    let b = came (plan_in store (length plans) d) _ next is in
+    let a = came (item_table (codes "epoch") (length plans) d) _ b.value b.first in
     let long : length (plans ++ b.value ∷ []) ≡ length plans + 1 = length-append plans (b.value ∷ []) in
     let before : length plans ≡ n = are.long in
     subst (ArePlans store (suc n)) (same_ok (plans ++ b.value ∷ []) next b.rest) (record {
       long = long ∙ omega arith;
-      each_is = one_more (IsPlanOf store) plans b.value are.each_is (plan_is path a.value store b.value b.first);
+      each_is = one_more (IsPlanOf store) plans b.value are.each_is (plan_is path a.value store b.value a.rest);
     })
 
 pub record ArePlansKept (store : StoreOf) (plans : List Plan) : Type 0 where

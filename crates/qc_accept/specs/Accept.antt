@@ -31,7 +31,7 @@ use Rattle.qc_accept.specs.Fields.{number, no_others}
 use Rattle.qc_decl.specs.Lookup.{kind_at}
 use Rattle.qc_decl.specs.Named.{names_of}
 use Rattle.qc_accept.specs.Objects.{ObjectsOf, objects_of}
-use Rattle.qc_accept.specs.Types.{TypeOf, TypesOf, types_of, name_at}
+use Rattle.qc_accept.specs.Types.{TypeOf, TypesOf, WordsOf, types_of, name_at}
 
 -- the document: UTF-8 that is TOML
 abbrev pub document_of : List ℕ → Answer Members
@@ -44,8 +44,11 @@ pub record DraftOf : Type 0 where
   pub triples : List (List Triple)
 
 -- the names of a type and of its parts
+abbrev pub names_of_words : List ℕ → WordsOf → KindNames
+names_of_words name w = record { name = name; states = w.states; invs = w.invs; resps = w.resps }
+
 abbrev pub kind_names : List ℕ → TypeOf → KindNames
-kind_names name t = record { name = name; states = t.words.states; invs = t.words.invs; resps = t.words.resps }
+kind_names name t = names_of_words name t.words
 
 -- each type's names, with the types' names in the same order
 abbrev pub all_names : List (List ℕ) → List TypeOf → List KindNames
@@ -70,16 +73,21 @@ draft sites clients types objects plans = record {
 abbrev pub keys : List (List ℕ)
 keys = codes "sites" ∷ codes "clients" ∷ codes "type" ∷ codes "object" ∷ codes "epoch" ∷ []
 
+-- the fields behind the two counts
+abbrev pub lists_of : List ℕ → Members → ℕ → ℕ → Answer DraftOf
+lists_of path table sites clients =
+    types_of path table >>= (λ types.
+    objects_of path table types >>= (λ objects.
+    plans_of path table (record { sites = sites; types = types; objects = objects }) >>= (λ plans.
+    no_others path table keys >>= (λ _.
+    Ok (draft sites clients types objects plans)))))
+
 -- the fields
 abbrev pub draft_of : Members → Answer DraftOf
 draft_of table =
     number [] table (codes "sites") 1 most_sites >>= (λ sites.
     number [] table (codes "clients") 1 most_clients >>= (λ clients.
-    types_of [] table >>= (λ types.
-    objects_of [] table types >>= (λ objects.
-    plans_of [] table (record { sites = sites; types = types; objects = objects }) >>= (λ plans.
-    no_others [] table keys >>= (λ _.
-    Ok (draft sites clients types objects plans)))))))
+    lists_of [] table sites clients))
 
 -- the name of an event, `INV:RESP`
 abbrev pub event_name : KindNames → Rules → ℕ → List ℕ

@@ -119,10 +119,15 @@ plan_of path table store =
     no_others path table epoch_keys >>= (λ _.
     Ok (record { weights = ws; initial = initial; last = last })))))
 
+-- the plan that an item of the epochs is, the one at a place
+abbrev pub plan_in : StoreOf → ℕ → Data → Answer Plan
+plan_in store place d =
+    item_table (codes "epoch") place d >>= (λ table. plan_of (keys_path (codes "epoch") place) table store)
+
+-- one plan more
 abbrev pub with_plan : StoreOf → List Plan → Data → Answer (List Plan)
 with_plan store plans d =
-    item_table (codes "epoch") (length plans) d >>= (λ table.
-    plan_of (keys_path (codes "epoch") (length plans)) table store >>= (λ plan. Ok (plans ++ plan ∷ [])))
+    plan_in store (length plans) d >>= (λ plan. Ok (plans ++ plan ∷ []))
 
 -- the plans
 abbrev pub plans_of : List ℕ → Members → StoreOf → Answer (List Plan)

@@ -24,13 +24,16 @@ with_kind types objects known path table =
     no_others path table object_keys >>= (λ _.
     Ok (record { names = known; kinds = objects.kinds ++ kind ∷ [] }))))
 
-abbrev pub with_object : List (List ℕ) → ObjectsOf → Data → Answer ObjectsOf
-with_object types objects d =
-    let path = keys_path (codes "object") (length objects.names) in
-    item_table (codes "object") (length objects.names) d >>= (λ table.
+abbrev pub with_fields : List (List ℕ) → ObjectsOf → List ℕ → Members → Answer ObjectsOf
+with_fields types objects path table =
     required path table (codes "name") >>= (λ name.
     told (path ++ codes "name") (with_name objects.names name) >>= (λ known.
-    with_kind types objects known path table)))
+    with_kind types objects known path table))
+
+abbrev pub with_object : List (List ℕ) → ObjectsOf → Data → Answer ObjectsOf
+with_object types objects d =
+    item_table (codes "object") (length objects.names) d
+    >>= with_fields types objects (keys_path (codes "object") (length objects.names))
 
 -- the objects
 abbrev pub objects_of : List ℕ → Members → TypesOf → Answer ObjectsOf

@@ -1,21 +1,22 @@
 //! Accepting a declaration.
 
-ghost use Rattle.std.specs.Prelude.{◌≡◌, IfOk};
+ghost use Rattle.std.specs.Prelude.{◌≡◌, ◌≤◌, length, IfOk};
 ghost use Rattle.toml.specs.View.{table_view};
-ghost use Rattle.qc_accept.specs.Accept.{accepted, document_of, draft_of};
+ghost use Rattle.qc_accept.specs.Accept.{accepted, document_of, draft, draft_of, lists_of};
 ghost use Rattle.qc_decl.specs.Accepted.{IsAccepted};
 ghost use Rattle.qc_accept.specs.Answers.{IsAnswer};
 ghost use Rattle.qc_decl.specs.Named.{IsNamed};
-ghost use Rattle.qc_accept.specs.Views.{draft_in};
+ghost use Rattle.qc_accept.specs.Views.{draft_in, objects_in, path_in, table_in, types_in};
+ghost use Rattle.qc_decl.specs.Limits.{most_sites};
 
-use crate::checks;
 use crate::epochs::{self, Store};
 use crate::fault::DeclFault;
 use crate::fields::Fields;
-use crate::kinds::{self, Sorted};
+use crate::kinds::{self, Types};
 use crate::objects::{self, ObjectsRead};
+use crate::{checks, sorting};
 use qc_cert::Triple;
-use qc_decl::{Declaration, MOST_CLIENTS, MOST_SITES};
+use qc_decl::{Declaration, MOST_CLIENTS, MOST_SITES, Plans};
 use qc_list::{List, OutOfMemory};
 use std::alloc::Global;
 use toml::Table;
@@ -69,37 +70,54 @@ fn read_draft(alloc: Global, table: &Table) -> Result<Draft, DeclFault>
     let root = Fields::of_document(alloc, table);
     let sites = root.number("sites", 1, MOST_SITES)?;
     let clients = root.number("clients", 1, MOST_CLIENTS)?;
-    let types = kinds::read_types(&root)?;
-    let objects = objects::read_objects(&root, &types)?;
-    let plans = epochs::read_plans(
-        &root,
-        &Store {
-            sites,
-            types: &types,
-            objects: &objects,
-        },
-    )?;
+    read_lists(&root, sites, clients)
+}
+
+/// Reads what follows the two counts of a declaration.
+fn read_lists(root: &Fields<'_>, sites: u8, clients: u8) -> Result<Draft, DeclFault>
+    requires { sites ≤ most_sites }
+    ensures { IsAnswer draft_in result (lists_of (path_in root.now) (table_in root.now) sites clients) }
+{
+    let types = kinds::read_types(root)?;
+    let objects = objects::read_objects(root, &types)?;
+    let store = Store {
+        sites,
+        types: &types,
+        objects: &objects,
+    };
+    let plans = epochs::read_plans(root, &store)?;
     root.no_others(&KEYS)?;
+    let draft = gathered(root.alloc, (sites, clients), types, objects, plans)?;
+    Ok(draft)
+}
+
+/// The draft of these counts, of sites and of clients, types, objects and
+/// plans.
+fn gathered(
+    alloc: Global,
+    counts: (u8, u8),
+    types: Types<'_>,
+    objects: ObjectsRead<'_>,
+    plans: Plans,
+) -> Result<Draft, OutOfMemory>
+    requires { length (types_in types).names ≡ length (types_in types).list }
+    ensures { IfOk result (λ d. draft_in d ≡ draft counts.0 counts.1 (types_in types.entry)
+        (objects_in objects.entry) plans) }
+{
     let object_names = objects.names.names(alloc)?;
-    let ObjectsRead {
-        names: _,
-        kinds: objects,
-    } = objects;
-    let Sorted {
-        kinds,
-        names: kind_names,
-        triples,
-    } = kinds::sort_types(alloc, types)?;
+    let sorted = sorting::sort_types(alloc, types)?;
+    let (sites, clients) = counts;
+    let decl = Declaration {
+        sites,
+        clients,
+        kinds: sorted.kinds,
+        objects: objects.kinds,
+        plans,
+        kind_names: sorted.names,
+        object_names,
+    };
     Ok(Draft {
-        decl: Declaration {
-            sites,
-            clients,
-            kinds,
-            objects,
-            plans,
-            kind_names,
-            object_names,
-        },
-        triples,
+        decl,
+        triples: sorted.triples,
     })
 }

@@ -1,16 +1,18 @@
 //! The checks behind the fields: certificates and plans.
 
-ghost use Rattle.std.specs.Prelude.{◌≡◌, ◌<◌, ◌≤◌, length, All, IfOk};
+ghost use Rattle.std.specs.Prelude.{◌≡◌, ◌<◌, ◌≤◌, ◌++◌, [], ◌∷◌, length, All, IfOk, OnOk};
 ghost use Rattle.qc_cert.specs.declared.triple.Triple.{Triple};
 ghost use Rattle.qc_decl.specs.Limits.{most_triples};
 ghost use Rattle.qc_accept.specs.Accept.{AreChecked, ArePlanned, IsShaped, admitted, all_admitted, all_certified};
 ghost use Rattle.qc_accept.specs.Accept.{cert_names, certified, event_name, plan_names};
 ghost use Rattle.qc_accept.specs.Answers.{IsAnswer};
-ghost use Rattle.qc_accept.specs.Types.{name_at};
+ghost use Rattle.qc_accept.specs.Types.{name_at as name_of};
+ghost use Rattle.qc_plan.specs.declared.fault.PlanFault.TheVariants.{CanMiss};
 ghost use Rattle.qc_accept.specs.Views.{draft_in};
 
 use crate::acceptance::Draft;
 use crate::fault::DeclFault;
+use crate::names::tell;
 use qc_cert::{CertFault, Triple};
 use qc_decl::{Declaration, KindNames, Names};
 use qc_list::{List, Name, OutOfMemory};
@@ -72,18 +74,30 @@ fn cert_names(
     ensures { IfOk result (λ told. told ≡ cert_names names.now kind.now fault) }
 {
     let mut told = List::new(alloc);
-    told.push(Name::new(alloc, names.name.text())?)?;
-    match fault {
-        CertFault::Uncovered { event, .. } => {
-            told.push(event_name(alloc, names, &kind.table, event)?)?;
-        }
-        CertFault::Unequal { inv, resp, .. } => {
-            told.push(Name::new(alloc, name_at(&names.invs, inv))?)?;
-            told.push(Name::new(alloc, name_at(&names.resps, resp))?)?;
-        }
-        CertFault::NoStart | CertFault::OutOfMemory => {}
-    }
+    tell_cert(alloc, &mut told, names, kind, fault)?;
     Ok(told)
+}
+
+/// Tells the names that the text of a certificate's fault has.
+fn tell_cert(
+    alloc: Global,
+    told: &mut Names,
+    names: &KindNames,
+    kind: &Kind,
+    fault: CertFault,
+) -> Result<(), OutOfMemory>
+    requires { told.old ≡ [] }
+    ensures { OnOk result (told.new ≡ cert_names names.now kind.now fault) }
+{
+    tell(alloc, told, names.name.text())?;
+    match fault {
+        CertFault::Uncovered { event, .. } => tell_event(alloc, told, names, &kind.table, event),
+        CertFault::Unequal { inv, resp, .. } => {
+            tell(alloc, told, name_at(&names.invs, inv))?;
+            tell(alloc, told, name_at(&names.resps, resp))
+        }
+        CertFault::NoStart | CertFault::OutOfMemory => Ok(()),
+    }
 }
 
 /// Checks that each epoch's plan is admitted.
@@ -118,20 +132,61 @@ fn plan_names(alloc: Global, decl: &Declaration, fault: PlanFault) -> Result<Nam
     ensures { IfOk result (λ told. told ≡ plan_names decl.now fault) }
 {
     let mut told = List::new(alloc);
+    tell_plan(alloc, &mut told, decl, fault)?;
+    Ok(told)
+}
+
+/// Tells the names that the text of a plan's fault has.
+fn tell_plan(
+    alloc: Global,
+    told: &mut Names,
+    decl: &Declaration,
+    fault: PlanFault,
+) -> Result<(), OutOfMemory>
+    requires { told.old ≡ [] }
+    ensures { OnOk result (told.new ≡ plan_names decl.now fault) }
+{
     match fault {
-        PlanFault::NoWeight => {}
-        PlanFault::TooHeavy { object } => {
-            told.push(Name::new(alloc, name_at(&decl.object_names, object))?)?;
-        }
+        PlanFault::NoWeight => Ok(()),
+        PlanFault::TooHeavy { object } => tell(alloc, told, name_at(&decl.object_names, object)),
         PlanFault::CanMiss { object, inv, event } => {
-            told.push(Name::new(alloc, name_at(&decl.object_names, object))?)?;
-            if let (Some(names), Some(table)) = (decl.names_of(object), decl.table(object)) {
-                told.push(Name::new(alloc, name_at(&names.invs, inv))?)?;
-                told.push(event_name(alloc, names, table, event)?)?;
-            }
+            tell(alloc, told, name_at(&decl.object_names, object))?;
+            tell_pair(alloc, told, decl, object, inv, event)
         }
     }
-    Ok(told)
+}
+
+/// Tells the names of an invocation and an event of an object, where it has a
+/// type, behind the object's name.
+fn tell_pair(
+    alloc: Global,
+    told: &mut Names,
+    decl: &Declaration,
+    object: u8,
+    inv: u8,
+    event: u8,
+) -> Result<(), OutOfMemory>
+    requires { told.old ≡ name_of decl.now.object_names object ∷ [] }
+    ensures { OnOk result (told.new ≡ plan_names decl.now (CanMiss object inv event)) }
+{
+    let (Some(names), Some(table)) = (decl.names_of(object), decl.table(object)) else {
+        return Ok(());
+    };
+    tell(alloc, told, name_at(&names.invs, inv))?;
+    tell_event(alloc, told, names, table, event)
+}
+
+/// Tells the name of an event, as `INV:RESP`.
+fn tell_event(
+    alloc: Global,
+    told: &mut Names,
+    names: &KindNames,
+    table: &Table,
+    event: u8,
+) -> Result<(), OutOfMemory>
+    ensures { OnOk result (told.new ≡ told.old ++ event_name names.now table.now event ∷ []) }
+{
+    told.push(event_name(alloc, names, table, event)?)
 }
 
 /// The name of an event, as `INV:RESP`.
@@ -154,7 +209,7 @@ fn event_name(
 
 /// The name with this number, or no byte where there is none.
 fn name_at(names: &Names, number: u8) -> &str
-    ensures { result.now ≡ name_at names.now number }
+    ensures { result.now ≡ name_of names.now number }
 {
     match names.items().get(number as usize) {
         Some(name) => name.text(),

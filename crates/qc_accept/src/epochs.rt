@@ -5,8 +5,8 @@ ghost use Rattle.toml.specs.View.{view};
 ghost use Rattle.qc_decl.specs.Limits.{most_epochs, most_events};
 ghost use Rattle.qc_accept.specs.Answers.{IsAnswer, IsReading, read_each};
 ghost use Rattle.qc_accept.specs.Epochs.{IsFit, entries_in, entry_in, needs as needs_of_key, needs_of, place_in};
-ghost use Rattle.qc_accept.specs.Epochs.{places, places_of, plan_of, plans_of, threshold_of, thresholds, with_entry};
-ghost use Rattle.qc_accept.specs.Epochs.{with_item, with_plan, with_weight};
+ghost use Rattle.qc_accept.specs.Epochs.{places, places_of, plan_in, plan_of, plans_of, threshold_of, thresholds};
+ghost use Rattle.qc_accept.specs.Epochs.{weights, with_entry, with_item, with_plan, with_weight};
 ghost use Rattle.qc_accept.specs.Types.{AreFew};
 ghost use Rattle.qc_accept.specs.Views.{data_of, entry_of, events_in, listed_in, path_in, store_in, table_in, type_in};
 ghost use Rattle.qc_accept.specs.Views.{words_in};
@@ -68,10 +68,24 @@ fn add_plan(
     ensures plans { IsAnswer (λ _. plans.new) result (with_plan (store_in store.now) plans.old (view item.now)) }
     ensures one_more { OnOk result (length plans.new ≡ length plans.old + 1) }
 {
-    let fields = Fields::of_item(alloc, "epoch", plans.items().len() as u8, item)?;
-    let plan = read_plan(&fields, store)?;
+    let plan = plan_in(alloc, plans, store, item)?;
     plans.push(plan)?;
     Ok(())
+}
+
+/// Reads the plan of the epoch behind these.
+fn plan_in(
+    alloc: Global,
+    plans: &Plans,
+    store: &Store<'_, '_>,
+    item: &Value,
+) -> Result<Plan, DeclFault>
+    requires store { IsFit (store_in store.now) }
+    requires plans { length plans.now < most_epochs }
+    ensures { IsAnswer (λ plan. plan) result (plan_in (store_in store.now) (length plans.now) (view item.now)) }
+{
+    let fields = Fields::of_item(alloc, "epoch", plans.items().len() as u8, item)?;
+    read_plan(&fields, store)
 }
 
 /// Reads a plan.
@@ -79,10 +93,7 @@ fn read_plan(fields: &Fields<'_>, store: &Store<'_, '_>) -> Result<Plan, DeclFau
     requires { IsFit (store_in store.now) }
     ensures { IsAnswer (λ plan. plan) result (plan_of (path_in fields.now) (table_in fields.now) (store_in store.now)) }
 {
-    let sites = store.sites as usize;
-    let items = fields.items("weights", sites, sites)?;
-    let read = read_weights(fields.alloc, items);
-    let weights = fields.told("weights", read)?;
+    let weights = weights(fields, store.sites)?;
     let initial = needs(fields, store, "initial", Side::Initial)?;
     let last = needs(fields, store, "final", Side::Final)?;
     fields.no_others(&KEYS)?;
@@ -91,6 +102,15 @@ fn read_plan(fields: &Fields<'_>, store: &Store<'_, '_>) -> Result<Plan, DeclFau
         initial,
         last,
     })
+}
+
+/// Reads the weights, one for each site.
+fn weights(fields: &Fields<'_>, sites: u8) -> Result<Weights, DeclFault>
+    ensures { IsAnswer (λ ws. ws) result (weights (path_in fields.now) (table_in fields.now) sites) }
+{
+    let sites = sites as usize;
+    let items = fields.items("weights", sites, sites)?;
+    fields.told("weights", read_weights(fields.alloc, items))
 }
 
 /// The weights that an array's items are.
@@ -124,9 +144,14 @@ fn needs(
 }
 
 /// The thresholds that are listed, by object and place.
-#[derive(Drop)]
 struct Listed {
     thresholds: IndexMap<(u8, u8), u16>,
+}
+
+impl Drop for Listed {
+    fn drop(self) {
+        let Listed { thresholds: _ } = self;
+    }
 }
 
 /// The thresholds that an array's items are.
@@ -234,12 +259,8 @@ impl Listed {
         ensures { IfOk result (λ is_new. with_entry (listed_in self.old)
             (entry_of entry) ≡ (if is_new then Some (listed_in self.new) else None)) }
     {
-        let Entry {
-            object,
-            place,
-            threshold,
-        } = entry;
-        let before = self.thresholds.insert((object, place), threshold)?;
+        let at = (entry.object, entry.place);
+        let before = self.thresholds.insert(at, entry.threshold)?;
         Ok(before.is_none())
     }
 

@@ -1,15 +1,14 @@
 //! The types of a declaration.
 
-ghost use Rattle.std.specs.Prelude.{◌≡◌, ◌<◌, ◌≤◌, ◌++◌, [], ◌∷◌, length, map, IfOk, OnOk};
+ghost use Rattle.std.specs.Prelude.{◌≡◌, ◌<◌, ◌≤◌, ◌++◌, [], ◌∷◌, length, OnOk};
 ghost use Rattle.toml.specs.View.{view};
 ghost use Rattle.qc_table.specs.Rules.{events_of};
 ghost use Rattle.qc_decl.specs.Limits.{most_events, most_rows, most_types};
-ghost use Rattle.qc_accept.specs.Accept.{all_names, kind_names};
 ghost use Rattle.qc_list.specs.Results.{and_then};
 ghost use Rattle.qc_accept.specs.Answers.{IsAnswer, IsReading};
 ghost use Rattle.qc_accept.specs.Certificates.{certificate_of, rest_of};
 ghost use Rattle.qc_accept.specs.Fields.{name_among, names as names_of};
-ghost use Rattle.qc_accept.specs.Types.{AreFew, AreSome, TypeOf, name_at, relation as relation_in, rows as rows_of};
+ghost use Rattle.qc_accept.specs.Types.{AreFew, AreSome, name_at, relation as relation_in, rows as rows_of};
 ghost use Rattle.qc_accept.specs.Types.{table_of, triples as triples_of, type_of, types_of, with_type};
 ghost use Rattle.qc_accept.specs.Types.{words as words_of};
 ghost use Rattle.qc_accept.specs.Views.{events_in, names_in, path_in, table_in, type_in, types_in, words_in};
@@ -19,11 +18,8 @@ use crate::fields::{self, Fields};
 use crate::names::{self, Events, Index};
 use crate::{certificates, rows};
 use qc_cert::Triple;
-use qc_decl::{
-    KindNames, KindNamesList, Kinds, MOST_INVOCATIONS, MOST_RESPONSES, MOST_ROWS, MOST_STATES,
-    MOST_TYPES, Names,
-};
-use qc_list::{List, Name, OutOfMemory};
+use qc_decl::{MOST_INVOCATIONS, MOST_RESPONSES, MOST_ROWS, MOST_STATES, MOST_TYPES};
+use qc_list::{List, OutOfMemory};
 use qc_table::{Kind, Relation, Row, Table, TableFault};
 use std::alloc::Global;
 use toml::Value;
@@ -41,12 +37,22 @@ const KEYS: [&str; 8] = [
 ];
 
 /// The words of a type.
-#[derive(Drop)]
 pub(crate) struct Words<'a> {
     pub(crate) states: Index<'a>,
     pub(crate) start: u8,
     pub(crate) invs: Index<'a>,
     pub(crate) resps: Index<'a>,
+}
+
+impl Drop for Words<'_> {
+    fn drop(self) {
+        let Words {
+            states: _,
+            start: _,
+            invs: _,
+            resps: _,
+        } = self;
+    }
 }
 
 /// A type's relation, with the triples that are to show it exact.
@@ -276,72 +282,5 @@ fn table_of(
             fault,
             names: names.single(alloc, kind)?,
         }),
-    }
-}
-
-/// The types, their names and their triples, each by number.
-#[derive(Drop)]
-pub(crate) struct Sorted {
-    pub(crate) kinds: Kinds,
-    pub(crate) names: KindNamesList,
-    pub(crate) triples: List<List<Triple>>,
-}
-
-/// Sorts what was read of the types.
-pub(crate) fn sort_types(alloc: Global, types: Types<'_>) -> Result<Sorted, OutOfMemory>
-    requires { length (types_in types).names ≡ length (types_in types).list }
-    ensures { IfOk result (λ sorted.
-        (sorted.kinds ≡ map (λ (t : TypeOf). t.kind) (types_in types.entry).list)
-        × (sorted.names ≡ all_names (types_in types.entry).names (types_in types.entry).list)
-        × (sorted.triples ≡ map (λ (t : TypeOf). t.triples) (types_in types.entry).list)) }
-{
-    let mut sorted = Sorted {
-        kinds: List::new(alloc),
-        names: List::new(alloc),
-        triples: List::new(alloc),
-    };
-    let Types { names, list } = types;
-    let names = names.names(alloc)?;
-    for (read, name) in list.into_iter().zip(names.into_vec()) {
-        sorted.add(alloc, read, name)?;
-    }
-    Ok(sorted)
-}
-
-impl Sorted {
-    /// Adds a type.
-    fn add(&mut self, alloc: Global, read: TypeRead<'_>, name: Name) -> Result<(), OutOfMemory>
-        ensures { OnOk result ((self.new.kinds ≡ self.old.kinds ++ read.entry.kind ∷ [])
-            × (self.new.names ≡ self.old.names ++ kind_names name (type_in read.entry) ∷ [])
-            × (self.new.triples ≡ self.old.triples ++ read.entry.triples ∷ [])) }
-    {
-        let TypeRead {
-            words,
-            events,
-            kind,
-            triples,
-        } = read;
-        self.names.push(words.names(alloc, name)?)?;
-        self.kinds.push(kind)?;
-        self.triples.push(triples)
-    }
-}
-
-impl Words<'_> {
-    /// The names of the type of this name.
-    fn names(&self, alloc: Global, name: Name) -> Result<KindNames, OutOfMemory>
-        ensures { IfOk result (λ n. n ≡ record {
-          name = name;
-          states = names_in self.now.states;
-          invs = names_in self.now.invs;
-          resps = names_in self.now.resps;
-        }) }
-    {
-        Ok(KindNames {
-            name,
-            states: self.states.names(alloc)?,
-            invs: self.invs.names(alloc)?,
-            resps: self.resps.names(alloc)?,
-        })
     }
 }

@@ -18,6 +18,7 @@ mod laws;
 mod names;
 mod objects;
 mod rows;
+mod sorting;
 mod words;
 
 pub use acceptance::accept;

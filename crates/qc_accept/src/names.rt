@@ -1,6 +1,6 @@
 //! Names and events, each with its number.
 
-ghost use Rattle.std.specs.Prelude.{◌≡◌, ◌<◌, ◌≤◌, ◌++◌, [], ◌∷◌, if◌then◌else◌, not, length, IfOk, IfSome};
+ghost use Rattle.std.specs.Prelude.{◌≡◌, ◌<◌, ◌≤◌, ◌++◌, [], ◌∷◌, if◌then◌else◌, not, length, IfOk, IfSome, OnOk};
 ghost use Rattle.std.specs.List.{list_any};
 ghost use Rattle.std.specs.Str.{bytes_eq};
 ghost use Rattle.qc_table.specs.Rules.{events_of, event_number};
@@ -22,9 +22,17 @@ use std::alloc::Global;
 use toml::Value;
 
 /// Distinct names. A name's number is its place.
-#[derive(Drop)]
 pub(crate) struct Index<'a> {
     texts: IndexSet<&'a str>,
+}
+
+/// By hand, as for each owner of one of the kit's sets or maps: so a caller
+/// drops it by one call. A derived impl would have each way out of the caller
+/// drop each part of the set, and the check pays for each.
+impl Drop for Index<'_> {
+    fn drop(self) {
+        let Index { texts: _ } = self;
+    }
 }
 
 impl<'a> Index<'a> {
@@ -81,7 +89,7 @@ impl<'a> Index<'a> {
     {
         let mut names = List::new(alloc);
         if let Some(text) = self.texts.get_index(number as usize) {
-            names.push(Name::new(alloc, text)?)?;
+            tell(alloc, &mut names, text)?;
         }
         Ok(names)
     }
@@ -91,11 +99,26 @@ impl<'a> Index<'a> {
         ensures { IfOk result (λ names. names ≡ names_in self.now) }
     {
         let mut names = List::new(alloc);
-        for text in self.texts.as_slice() {
-            names.push(Name::new(alloc, text)?)?;
-        }
+        self.tell(alloc, &mut names)?;
         Ok(names)
     }
+
+    /// Tells the names, in their order, behind others.
+    pub(crate) fn tell(&self, alloc: Global, told: &mut Names) -> Result<(), OutOfMemory>
+        ensures { OnOk result (told.new ≡ told.old ++ names_in self.now) }
+    {
+        for text in self.texts.as_slice() {
+            tell(alloc, told, text)?;
+        }
+        Ok(())
+    }
+}
+
+/// Tells one name more.
+pub(crate) fn tell(alloc: Global, told: &mut Names, text: &str) -> Result<(), OutOfMemory>
+    ensures { OnOk result (told.new ≡ told.old ++ text.now ∷ []) }
+{
+    told.push(Name::new(alloc, text)?)
 }
 
 /// The names that an array's items are.
@@ -110,9 +133,14 @@ pub(crate) fn read_index<'a>(alloc: Global, items: &'a [Value]) -> Result<Index<
 }
 
 /// The events of a type. An event's number is its place.
-#[derive(Drop)]
 pub(crate) struct Events {
     events: IndexSet<Event>,
+}
+
+impl Drop for Events {
+    fn drop(self) {
+        let Events { events: _ } = self;
+    }
 }
 
 impl Events {

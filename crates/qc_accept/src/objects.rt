@@ -4,7 +4,7 @@ ghost use Rattle.std.specs.Prelude.{◌≡◌, ◌<◌, ◌≤◌, length, optio
 ghost use Rattle.toml.specs.View.{view};
 ghost use Rattle.qc_decl.specs.Limits.{most_objects};
 ghost use Rattle.qc_accept.specs.Answers.{IsAnswer};
-ghost use Rattle.qc_accept.specs.Objects.{kind_of, objects_of, with_object};
+ghost use Rattle.qc_accept.specs.Objects.{kind_of, objects_of, with_fields, with_object};
 ghost use Rattle.qc_accept.specs.Views.{names_in, objects_in, path_in, table_in, type_in, types_in};
 
 use crate::fault::DeclFault;
@@ -59,14 +59,25 @@ fn add_object<'a>(
         (objects_in objects.old) (view item.now)) }
 {
     let fields = Fields::of_item(alloc, "object", objects.names.count(), item)?;
-    let name = fields.required("name")?;
-    let added = objects.names.add(name);
-    fields.told("name", added)?;
-    let name_of_kind = fields.required("type")?;
-    let read = kinds::name_among(types, name_of_kind);
-    let kind = fields.told("type", read)?;
-    objects.kinds.push(kind)?;
-    fields.no_others(&KEYS)
+    objects.add(&fields, types)
+}
+
+impl<'a> ObjectsRead<'a> {
+    /// Adds the object of a table.
+    fn add(&mut self, fields: &Fields<'a>, types: &Index<'_>) -> Result<(), DeclFault>
+        requires { length (names_in types.now) ≤ 256 }
+        ensures { IsAnswer (λ _. objects_in self.new) result (with_fields (names_in types.now)
+            (objects_in self.old) (path_in fields.now) (table_in fields.now)) }
+    {
+        let name = fields.required("name")?;
+        let added = self.names.add(name);
+        fields.told("name", added)?;
+        let name_of_kind = fields.required("type")?;
+        let read = kinds::name_among(types, name_of_kind);
+        let kind = fields.told("type", read)?;
+        self.kinds.push(kind)?;
+        fields.no_others(&KEYS)
+    }
 }
 
 impl ObjectsRead<'_> {

@@ -1,6 +1,6 @@
 //! The rows of a type.
 
-ghost use Rattle.std.specs.Prelude.{◌≤◌, length};
+ghost use Rattle.std.specs.Prelude.{◌≡◌, ◌≤◌, length};
 ghost use Rattle.qc_accept.specs.Answers.{IsReading};
 ghost use Rattle.qc_accept.specs.Types.{AreFew, rows_in, row_in, number_or_unknown};
 ghost use Rattle.qc_accept.specs.Views.{data_of, names_in, words_in};
@@ -25,18 +25,18 @@ pub(crate) fn rows(alloc: Global, words: &Words<'_>, items: &[Value]) -> Result<
 {
     let mut rows = List::new(alloc);
     for item in items {
-        rows.push(row(words, fields::text(item)?)?)?;
+        rows.push(row(words, fields::text(item)?).ok_or(Wrong::Form)?)?;
     }
     Ok(rows)
 }
 
 /// The row that a text is, as `STATE INV RESP NEXT`.
-fn row(words: &Words<'_>, text: &str) -> Result<Row, Wrong>
+fn row(words: &Words<'_>, text: &str) -> Option<Row>
     requires { AreFew (words_in words.now) }
-    ensures { IsReading (λ row. row) result (row_in (words_in words.now) text.now) }
+    ensures { result ≡ row_in (words_in words.now) text.now }
 {
-    let (state, inv, resp, next) = words::four(text).ok_or(Wrong::Form)?;
-    Ok(Row {
+    let (state, inv, resp, next) = words::four(text)?;
+    Some(Row {
         state: number_or_unknown(&words.states, state)?,
         inv: number_or_unknown(&words.invs, inv)?,
         resp: number_or_unknown(&words.resps, resp)?,
@@ -45,12 +45,12 @@ fn row(words: &Words<'_>, text: &str) -> Result<Row, Wrong>
 }
 
 /// The number of a name, or the unknown one where no such name is declared.
-fn number_or_unknown(names: &Index<'_>, name: &str) -> Result<u8, Wrong>
+fn number_or_unknown(names: &Index<'_>, name: &str) -> Option<u8>
     requires { length (names_in names.now) ≤ 256 }
-    ensures { IsReading (λ n. n) result (number_or_unknown (names_in names.now) name.now) }
+    ensures { result ≡ number_or_unknown (names_in names.now) name.now }
 {
     if !words::is_name(name) {
-        return Err(Wrong::Form);
+        return None;
     }
-    Ok(names.number(name).unwrap_or(UNKNOWN))
+    Some(names.number(name).unwrap_or(UNKNOWN))
 }

@@ -2,7 +2,7 @@ use Rattle.std.proofs.Common.{◌≡◌, length, map, take}
 use Rattle.std.specs.List.{zip}
 use Rattle.qc_accept.specs.Views.{names_in}
 use Rattle.qc_accept.proofs.Sorted.{kind_in, triples_in, names_in_pair}
-use Rattle.qc_accept.proofs.kinds.sort_types.Given as goal
+use Rattle.qc_accept.proofs.sorting.sort_types.Given as goal
 
 abbrev pub invariant-loop-read : goal.invariant-loop-read
 invariant-loop-read l = record {

@@ -6,7 +6,7 @@ use Rattle.std.proofs.lemmas.Iterator.Consumers.{YieldsList-at, YieldsList-end, 
 use Rattle.std.specs.List.{zip}
 use Rattle.qc_accept.specs.Views.{names_in, type_in}
 use Rattle.qc_accept.proofs.Sorted.{kept_all, kept_more, kind_in, kinds_sorted, names_in_pair, names_sorted, triples_in, triples_sorted}
-use Rattle.qc_accept.proofs.kinds.sort_types.Goals as goal
+use Rattle.qc_accept.proofs.sorting.sort_types.Goals as goal
 
 pub loop-read-preserved : goal.loop-read-preserved
 loop-read-preserved c =
