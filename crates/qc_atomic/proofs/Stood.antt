@@ -39,7 +39,8 @@ use Rattle.qc_laws.proofs.Numbered.{IsSilent, control_silent, mail-silent, phase
 use Rattle.qc_laws.proofs.Places.{replicate_at, slice_get-more, slice_get-set_other, slice_get-set_same}
 use Rattle.qc_laws.proofs.Replying.{after_taken, client_replies}
 use Rattle.qc_laws.proofs.Running.{what_is_ready_may_be_taken}
-use Rattle.qc_laws.proofs.Waiting.{is_waiting, round_none, votes_none}
+use Rattle.qc_laws.specs.Calls.{is_waiting}
+use Rattle.qc_laws.proofs.Waiting.{round_none, votes_none}
 use Rattle.qc_net.specs.Net.{MayCome, MayCommand, Net, Reaches, after_client, after_site, commits_in, first_net, sent_all}
 use Rattle.qc_net.specs.Net as nets
 use Rattle.qc_net.proofs.Frames.{put_one}
