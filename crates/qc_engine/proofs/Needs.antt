@@ -29,8 +29,8 @@ use Rattle.qc_msg.specs.Deeds.{WasSentTo, deeds, mail}
 use Rattle.qc_msg.specs.Steps.{Entry, step_of}
 use Rattle.qc_msg.proofs.Growth.{length-mail}
 use Rattle.qc_records.specs.Bounds.{ClockBounds}
-use Rattle.qc_records.specs.Events as events
-use Rattle.qc_records.specs.Events.{Events, IsControl}
+use Rattle.qc_records.proofs.Events as events
+use Rattle.qc_records.proofs.Events.{Events, IsControl}
 use Rattle.qc_records.proofs.Needs.{client_bounds, promise_bounds}
 use Rattle.qc_script.specs.Ready.{phase_of, ready}
 use Rattle.qc_script.specs.Runs.{Runs, begins, takes, posts, phase, control}
