@@ -21,3 +21,4 @@ pub mod Lifts
 pub mod Awaits
 pub mod Awaited
 pub mod Whole
+pub mod Ended
