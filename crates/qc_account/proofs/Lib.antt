@@ -22,3 +22,4 @@ pub mod Awaits
 pub mod Awaited
 pub mod Whole
 pub mod Ended
+pub mod Declared
