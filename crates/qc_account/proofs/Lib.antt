@@ -21,3 +21,5 @@ pub mod Lifts
 pub mod Awaits
 pub mod Awaited
 pub mod Whole
+pub mod Ended
+pub mod Declared

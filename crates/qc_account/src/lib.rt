@@ -15,17 +15,31 @@
 //!    and nothing was taken for that since it was sent
 //!    (`open_requests_are_awaited`). So it is in every run
 //!    (`commands_of_runs_wait`).
+//! 7. A client waits for nothing but open requests
+//!    (`clients_wait_only_for_requests`). So where nothing is left to happen each
+//!    command has ended (`commands_end`) and has its reply
+//!    (`each_call_has_its_reply`), and where no phase is left the run is whole
+//!    (`runs_are_whole`).
+//! 8. What the laws of 7 want of a script, each has that is read for an accepted
+//!    declaration (`read_scripts_ask_what_is_declared`), since it names what is
+//!    declared (`scripts_ask_what_is_declared`).
 #![tactic(auto)]
 
 mod clients;
+mod endings;
 mod runs;
+mod scripts;
 mod waiting;
 
 pub use clients::{
     accounts_are_their_clients, deeds_of_clients_are_due, inputs_are_answered_as_is_due,
     turns_tell_what_is_due,
 };
+pub use endings::{
+    clients_wait_only_for_requests, commands_end, each_call_has_its_reply, runs_are_whole,
+};
 pub use runs::{commands_of_runs_wait, replies_are_due, runs_are_due};
+pub use scripts::{read_scripts_ask_what_is_declared, scripts_ask_what_is_declared};
 pub use waiting::{
     commands_wait_for_requests, granted_dos_are_answered, open_requests_are_awaited,
     what_is_due_is_told,
