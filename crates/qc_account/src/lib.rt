@@ -13,7 +13,7 @@
 //!    that everybody grants is answered (`granted_dos_are_answered`).
 //! 6. A running command waits for an open request (`commands_wait_for_requests`),
 //!    and nothing was taken for that since it was sent
-//!    (`open_requests_are_awaited`). So it is in every run
+//!    (`open_requests_were_sent`). So it is in every run
 //!    (`commands_of_runs_wait`).
 //! 7. A client waits for nothing but open requests
 //!    (`clients_wait_only_for_requests`). So where nothing is left to happen each
@@ -41,6 +41,6 @@ pub use endings::{
 pub use runs::{commands_of_runs_wait, replies_are_due, runs_are_due};
 pub use scripts::{read_scripts_ask_what_is_declared, scripts_ask_what_is_declared};
 pub use waiting::{
-    commands_wait_for_requests, granted_dos_are_answered, open_requests_are_awaited,
+    commands_wait_for_requests, granted_dos_are_answered, open_requests_were_sent,
     what_is_due_is_told,
 };
