@@ -1,3 +1,11 @@
+pub mod Committed
+pub mod Deals
+pub mod Status
+pub mod Told
+pub mod Seen
+pub mod Atomic
+pub mod Kept
+pub mod Spent
 pub mod SiteRecords
 pub mod SitePosts
 pub mod SiteEnds

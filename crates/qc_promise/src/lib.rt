@@ -14,4 +14,10 @@
 //! come to (`Rounds`). The reply that is due is the first row of a table that
 //! applies (`Rows`); `Replies` says of a history that each is, and each commit
 //! record. `Due` is all of both.
+//!
+//! What committed is one copy's. The commit records of a history (`Committed`),
+//! what clients were told of their transactions (`Deals`, `Told`), what they had
+//! seen (`Seen`), what becomes of a transaction (`Status`), and all of it as one
+//! record (`Atomic`). Its premise is that no record is lost (`Kept`); falls are
+//! held against what was armed and what disks counted (`Spent`).
 #![tactic(auto)]

@@ -17,7 +17,7 @@ use Rattle.qc_msg.specs.declared.step.Command.{Command}
 use Rattle.qc_msg.specs.declared.step.Command.TheVariants as commands
 use Rattle.qc_front.specs.Answering.{op_of}
 use Rattle.qc_records.specs.Books.{Book}
-use Rattle.qc_records.specs.Deals.{Dealing, dealt, ended, is_begun, operation}
+use Rattle.qc_promise.specs.Deals.{Dealing, dealt, ended, is_begun, operation}
 
 -- the name of the next transaction, or of the last one
 abbrev pub tx_at : Book → ℕ → TxId

@@ -36,7 +36,7 @@ use Rattle.qc_client.specs.Client.{ClientMove, by_desk, by_front, moved}
 use Rattle.qc_client.specs.Conduct.{answered, answered_by, called, client_does, client_takes, commits, heard, sent_one}
 use Rattle.qc_client.specs.Inputs.{IsFree, IsReady}
 use Rattle.qc_records.specs.Books.{begun_in, book_of, book_with}
-use Rattle.qc_records.specs.Deals.{Dealing, deal, deal_taken, deal_told, ended}
+use Rattle.qc_promise.specs.Deals.{Dealing, deal, deal_taken, deal_told, ended}
 use Rattle.qc_records.proofs.ClientsWithin.{IsPost}
 use Rattle.qc_records.proofs.BooksKept.{committed_book, free_book, later_book}
 use Rattle.qc_records.proofs.Dealing.{IsBook, IsDealing, as_asked, committed_one, gave_up}

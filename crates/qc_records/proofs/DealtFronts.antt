@@ -38,7 +38,7 @@ use Rattle.qc_front.specs.Front.{FrontMove, aborts, begins, fresh, gives_up, mov
 use Rattle.qc_front.specs.Rounds.{answered, append_by, performs, read_by, reads}
 use Rattle.qc_front.proofs.Keeping.{appended_is, view_keeps}
 use Rattle.qc_records.specs.Books.{Book, begun_in, book_with}
-use Rattle.qc_records.specs.Deals.{Dealing, deal_told, dealt, ended}
+use Rattle.qc_promise.specs.Deals.{Dealing, deal_told, dealt, ended}
 use Rattle.qc_records.proofs.BooksKept.{began_book, free_book}
 use Rattle.qc_records.proofs.Dealing.{IsBook, IsDealing, as_begun, began_one, begun_book, gave_up, told_op}
 

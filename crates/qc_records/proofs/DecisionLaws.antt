@@ -21,10 +21,10 @@ use Rattle.qc_script.specs.declared.script.Script.{Script}
 use Rattle.qc_core.specs.Conduct.{IsLawful}
 use Rattle.qc_laws.specs.Turns.{ActsIn}
 use Rattle.qc_laws.proofs.Acted.{run_acts}
-use Rattle.qc_records.specs.Committed.{committed, records}
-use Rattle.qc_records.specs.Status.{AreRight, status}
-use Rattle.qc_records.specs.Status.{Unborn, Committed, Dead}
-use Rattle.qc_records.specs.Told.{DecisionAgrees, VerdictAgrees}
+use Rattle.qc_promise.specs.Committed.{committed, records}
+use Rattle.qc_promise.specs.Status.{AreRight, status}
+use Rattle.qc_promise.specs.Status.{Unborn, Committed, Dead}
+use Rattle.qc_promise.specs.Told.{DecisionAgrees, VerdictAgrees}
 use Rattle.qc_records.specs.Written.{written_in}
 use Rattle.qc_records.proofs.Dealing.{HasRecord}
 use Rattle.qc_records.proofs.InRuns.{HasPlace, client_low, client_no_site, client_number, run_place}

@@ -33,7 +33,7 @@ use Rattle.qc_laws.proofs.Acted.{run_acts}
 use Rattle.qc_laws.proofs.Arrivals.{what_is_ready_was_sent}
 use Rattle.qc_laws.proofs.Numbered.{IsSilent, control_silent, phase_silent}
 use Rattle.qc_laws.proofs.Places.{slice_get-set_other, slice_get-set_same}
-use Rattle.qc_records.specs.Deals.{Dealing, deal, deal_taken, dealing_in, no_dealing}
+use Rattle.qc_promise.specs.Deals.{Dealing, deal, deal_taken, dealing_in, no_dealing}
 use Rattle.qc_records.proofs.Events.{Events, IsControl}
 use Rattle.qc_records.proofs.Events as events
 use Rattle.qc_records.specs.Written.{written_in}

@@ -8,8 +8,8 @@ use Rattle.qc_msg.specs.declared.message.Message.TheVariants as messages
 use Rattle.qc_msg.specs.declared.step.Given.{Given}
 use Rattle.qc_msg.specs.declared.step.Given.TheVariants as given
 use Rattle.qc_msg.specs.Deeds.{Deed, Takes, Writes, Sends, Tells}
-use Rattle.qc_records.specs.Status.{AreRightFrom, Status, status_at}
-use Rattle.qc_records.specs.Status.{Unborn}
+use Rattle.qc_promise.specs.Status.{AreRightFrom, Status, status_at}
+use Rattle.qc_promise.specs.Status.{Unborn}
 use Rattle.qc_records.proofs.ClientsWithin.{IsPost}
 
 -- a question about a transaction comes only once that has begun

@@ -14,8 +14,8 @@ use Rattle.qc_msg.specs.declared.record.Record.TheVariants as records
 use Rattle.qc_msg.specs.declared.reply.Reply.{Reply}
 use Rattle.qc_msg.specs.declared.reply.Reply.TheVariants as replies
 use Rattle.qc_msg.specs.Deeds.{Deed, Takes, Writes, Sends, Tells}
-use Rattle.qc_records.specs.Status.{AreRightFrom, IsRight, IsRightVerdict, Status, given_up, status_at}
-use Rattle.qc_records.specs.Status.{Unborn, Begun, Committed, Dead}
+use Rattle.qc_promise.specs.Status.{AreRightFrom, IsRight, IsRightVerdict, Status, given_up, status_at}
+use Rattle.qc_promise.specs.Status.{Unborn, Begun, Committed, Dead}
 
 -- a transaction that was begun is never unborn again
 

@@ -35,8 +35,8 @@ use Rattle.qc_laws.proofs.Acted.{run_acts}
 use Rattle.qc_laws.proofs.Arrivals.{what_is_ready_was_sent}
 use Rattle.qc_laws.proofs.Numbered.{control_silent, phase_silent}
 use Rattle.qc_laws.proofs.Places.{slice_get-set_same}
-use Rattle.qc_records.specs.Status.{Status, status, status_at}
-use Rattle.qc_records.specs.Status.{Unborn}
+use Rattle.qc_promise.specs.Status.{Status, status, status_at}
+use Rattle.qc_promise.specs.Status.{Unborn}
 use Rattle.qc_records.proofs.Bounding.{control-deeds, control-mail, lawful_turn, site_posts, turn-posts}
 use Rattle.qc_records.proofs.Events.{IsControl}
 use Rattle.qc_records.proofs.InRuns.{IsResting, client_no_site, client_number, deals_acts, silent_is}

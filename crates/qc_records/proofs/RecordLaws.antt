@@ -19,9 +19,9 @@ use Rattle.qc_onecopy.proofs.Committed.{sorts}
 use Rattle.qc_script.specs.Runs.{Runs}
 use Rattle.qc_script.specs.declared.script.Script.{Script}
 use Rattle.qc_core.specs.Conduct.{IsLawful}
-use Rattle.qc_records.specs.Committed.{committed, records}
-use Rattle.qc_records.specs.Deals.{endings}
-use Rattle.qc_records.specs.Told.{AreDealt, AreTold, HasCommit}
+use Rattle.qc_promise.specs.Committed.{committed, records}
+use Rattle.qc_promise.specs.Deals.{endings}
+use Rattle.qc_promise.specs.Told.{AreDealt, AreTold, HasCommit}
 use Rattle.qc_records.specs.Written.{written_in}
 use Rattle.qc_records.proofs.Dealing.{HasRecord, IsAbort}
 use Rattle.qc_records.proofs.InRuns.{IsKept, client_number, run_kept}

@@ -19,8 +19,8 @@ use Rattle.qc_msg.specs.declared.reply.Reply.TheVariants as replies
 use Rattle.qc_msg.specs.declared.turn.Posting.{Posting}
 use Rattle.qc_msg.specs.declared.turn.Turn.{Turn}
 use Rattle.qc_msg.specs.Deeds.{Deed, Sends, Tells, sends_of, tells_of, turn_deeds, writes_of}
-use Rattle.qc_records.specs.Status.{AreRightFrom, IsRightVerdict, Status, given_up, status_at, status_told}
-use Rattle.qc_records.specs.Status.{Unborn, Begun, Committed, Dead}
+use Rattle.qc_promise.specs.Status.{AreRightFrom, IsRightVerdict, Status, given_up, status_at, status_told}
+use Rattle.qc_promise.specs.Status.{Unborn, Begun, Committed, Dead}
 use Rattle.qc_records.proofs.Dealing.{IsAbort}
 use Rattle.qc_records.proofs.FrontKinds.{IsRequestFor, ToldNeutral}
 use Rattle.qc_records.proofs.Statuses.{IsStatus, Page, began, commits_one, gave_up}

@@ -37,8 +37,8 @@ use Rattle.qc_client.specs.Client.{ClientMove, by_desk, by_front, is_begun, move
 use Rattle.qc_client.specs.Conduct.{answered, answered_by, called, client_after, client_does, client_takes, commits, heard, sent_one}
 use Rattle.qc_core.specs.Acts.{Acts, posts, starts, takes}
 use Rattle.qc_records.specs.Books.{begun_in}
-use Rattle.qc_records.specs.Status.{AreRight, AreRightFrom, Status, status, status_at}
-use Rattle.qc_records.specs.Status.{Unborn, Begun, Committed, Dead}
+use Rattle.qc_promise.specs.Status.{AreRight, AreRightFrom, Status, status, status_at}
+use Rattle.qc_promise.specs.Status.{Unborn, Begun, Committed, Dead}
 use Rattle.qc_records.proofs.Bounding.{lawful_turn, turn-posts}
 use Rattle.qc_records.proofs.ClientsWithin.{IsPost}
 use Rattle.qc_records.proofs.Dealing.{HasRecord, begun_tx}

@@ -7,8 +7,8 @@ use Rattle.qc_stamp.specs.declared.stamp.TxId.{TxId}
 use Rattle.qc_stamp.specs.Order.{same_tx}
 use Rattle.qc_stamp.proofs.Orders.{same_tx_is, same_tx_itself}
 use Rattle.qc_entry.specs.declared.record.Commit.{Commit}
-use Rattle.qc_records.specs.Status.{Status, given_up}
-use Rattle.qc_records.specs.Status.{Unborn, Begun, Committed, Dead}
+use Rattle.qc_promise.specs.Status.{Status, given_up}
+use Rattle.qc_promise.specs.Status.{Unborn, Begun, Committed, Dead}
 use Rattle.qc_records.proofs.Dealing.{HasRecord}
 
 -- what a client keeps of its transactions, as far as their statuses go

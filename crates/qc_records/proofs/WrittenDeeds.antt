@@ -27,7 +27,7 @@ use Rattle.qc_commit.specs.Conduct as desks
 use Rattle.qc_client.specs.declared.client.Client.{Client}
 use Rattle.qc_client.specs.Client.{ClientMove}
 use Rattle.qc_client.specs.Conduct.{client_does, sent_one}
-use Rattle.qc_records.specs.Committed.{commit_by, records}
+use Rattle.qc_promise.specs.Committed.{commit_by, records}
 use Rattle.qc_records.specs.Written.{written_by, written_in}
 use Rattle.qc_records.proofs.ClientsWithin.{IsPost}
 use Rattle.qc_records.proofs.DealtClients.{commits_of}

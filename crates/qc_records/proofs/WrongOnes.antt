@@ -6,10 +6,10 @@ use Rattle.qc_entry.specs.declared.line.Op.{Op}
 use Rattle.qc_msg.specs.Deeds.{Tells}
 use Rattle.qc_msg.specs.declared.message.Outcome.TheVariants as outcomes
 use Rattle.qc_msg.specs.declared.reply.Reply.TheVariants as replies
-use Rattle.qc_records.specs.Deals.{dealing_in}
-use Rattle.qc_records.specs.Status.{AreRight, Status}
-use Rattle.qc_records.specs.Status.{Unborn, Begun, Committed, Dead}
-use Rattle.qc_records.specs.Told.{VerdictAgrees}
+use Rattle.qc_promise.specs.Deals.{dealing_in}
+use Rattle.qc_promise.specs.Status.{AreRight, Status}
+use Rattle.qc_promise.specs.Status.{Unborn, Begun, Committed, Dead}
+use Rattle.qc_promise.specs.Told.{VerdictAgrees}
 use Rattle.qc_records.specs.Wrong.{asks, begun, commit, committed, first, none_read, read_it, reading, says, second, tx}
 
 -- courses

@@ -1,12 +1,6 @@
 pub mod Within
 pub mod Bounds
 pub mod Asked
-pub mod Committed
-pub mod Deals
-pub mod Status
-pub mod Told
 pub mod Books
 pub mod Written
-pub mod Seen
-pub mod Atomic
 pub mod Wrong

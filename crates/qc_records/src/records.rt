@@ -8,8 +8,8 @@ ghost use Rattle.qc_decl.specs.declared.declaration.Declaration.{Declaration};
 ghost use Rattle.qc_msg.specs.Steps.{Entry};
 ghost use Rattle.qc_onecopy.specs.Committed.{AreApart, IsStampedBefore};
 ghost use Rattle.qc_onecopy.specs.Lists.{IsOrdered};
-ghost use Rattle.qc_records.specs.Committed.{committed};
-ghost use Rattle.qc_records.specs.Told.{AreDealt, AreTold};
+ghost use Rattle.qc_promise.specs.Committed.{committed};
+ghost use Rattle.qc_promise.specs.Told.{AreDealt, AreTold};
 ghost use Rattle.qc_script.specs.Runs.{Runs};
 ghost use Rattle.qc_script.specs.declared.script.Script.{Script};
 

@@ -5,9 +5,9 @@ ghost use Rattle.qc_list.specs.Members.{In};
 ghost use Rattle.qc_msg.specs.Deeds.{Tells};
 ghost use Rattle.qc_msg.specs.declared.message.Outcome.TheVariants.{Aborted, Active, Committed};
 ghost use Rattle.qc_msg.specs.declared.reply.Reply.TheVariants as replies;
-ghost use Rattle.qc_records.specs.Deals.{dealing_in};
-ghost use Rattle.qc_records.specs.Status.{AreRight};
-ghost use Rattle.qc_records.specs.Told.{VerdictAgrees};
+ghost use Rattle.qc_promise.specs.Deals.{dealing_in};
+ghost use Rattle.qc_promise.specs.Status.{AreRight};
+ghost use Rattle.qc_promise.specs.Told.{VerdictAgrees};
 ghost use Rattle.qc_records.specs.Wrong.{asks, begun, commit, committed, first, none_read, read_it, reading, says, second, tx};
 
 /// A transaction doesn't begin twice, has no record before it begins, no

@@ -15,7 +15,7 @@ use Rattle.qc_msg.specs.declared.reply.Reply.{Reply}
 use Rattle.qc_msg.specs.declared.reply.Reply.TheVariants as replies
 use Rattle.qc_msg.specs.declared.step.Given.{Given}
 use Rattle.qc_msg.specs.declared.step.Given.TheVariants as given
-use Rattle.qc_records.specs.Deals.{is_begun}
+use Rattle.qc_promise.specs.Deals.{is_begun}
 use Rattle.qc_stamp.specs.Order.{same_tx}
 use Rattle.qc_stamp.specs.declared.stamp.TxId.{TxId}
 

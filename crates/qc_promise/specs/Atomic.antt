@@ -8,9 +8,9 @@ use Rattle.qc_list.specs.Members.{In}
 use Rattle.qc_msg.specs.Steps.{Entry}
 use Rattle.qc_onecopy.specs.Committed.{AreApart}
 use Rattle.qc_onecopy.specs.OneCopy.{OneCopy}
-use Rattle.qc_records.specs.Committed.{committed}
-use Rattle.qc_records.specs.Seen.{seen}
-use Rattle.qc_records.specs.Told.{AreDealt, AreTold}
+use Rattle.qc_promise.specs.Committed.{committed}
+use Rattle.qc_promise.specs.Seen.{seen}
+use Rattle.qc_promise.specs.Told.{AreDealt, AreTold}
 use Rattle.qc_stamp.specs.Order.{stamp_cmp}
 use Rattle.qc_stamp.specs.declared.stamp.Stamp.{Stamp}
 use Rattle.qc_stamp.specs.declared.stamp.TxId.{TxId}

@@ -12,7 +12,7 @@ use Rattle.qc_msg.specs.declared.reply.Reply.TheVariants.{Aborted, Committed, Dr
 use Rattle.qc_msg.specs.declared.reply.Why.{Why}
 use Rattle.qc_stamp.specs.declared.stamp.Stamp.{Stamp}
 use Rattle.qc_stamp.specs.declared.stamp.TxId.{TxId}
-use Rattle.qc_records.specs.Deals.{deals, endings}
+use Rattle.qc_promise.specs.Deals.{deals, endings}
 
 -- a record of the transaction with this stamp
 pub record HasCommit (commits : List Commit) (tx : TxId) (stamp : Stamp) : Type 0 where
