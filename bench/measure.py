@@ -1,24 +1,36 @@
 #!/usr/bin/env python3
-"""Measures the built program: time and peak memory, medians over several runs.
+"""Measures the built program: processor time and peak memory, medians over several runs.
 
 usage: bench/measure.py [PROGRAM] [RUNS]
 
-PROGRAM is crates/quorum/out/quorum unless it is given, and RUNS is 7. Each
-round runs every case once, so that a slow moment of the machine falls on all
-of them. The least peak that can be seen is this program's own, some 17 MB. Ends
-with status 1 where a bar isn't met.
+PROGRAM is crates/quorum/out/quorum unless it is given, and RUNS is 7. Each round runs every case once, so that a slow
+moment of the machine falls on all of them. Seconds are those of the processor, of whole calls. The least peak that can be
+seen is this program's own, some 17 MB. Cases:
+
+- begins: one phase of N commands `c0 begin` over @one, of which all but the first are refused;
+- load: transactions that write, read and commit over @three, one a phase, of three clients in turn; beside them
+  load_walk.rs, compiled with `rustc -O`: a plain program for the same transactions without links, refusals and proofs;
+- triples: `check` of six types with 64 groups of 1,024 triples each, those of a group all equal;
+- start: `check @one`.
+
+Ends with status 1 where a bar isn't met.
 """
 
 import os
 import statistics
+import string
 import subprocess
 import sys
 import tempfile
-import time
+
+sys.dont_write_bytecode = True
+
+from runs import load
 
 ROOT = os.path.dirname(os.path.dirname(os.path.abspath(__file__)))
 BEGINS = (25_000, 50_000, 100_000)
 TRANSACTIONS = (125, 250, 500)
+SEED = 7
 NOTHING = "python3 -c pass"
 
 
@@ -27,33 +39,51 @@ def begins(count):
     return "phase\n" + "c0 begin\n" * count
 
 
-def transactions(count):
-    """One phase of transactions that write, read and commit."""
-    return "phase\n" + "c0 begin\nc0 do x W1\nc0 do x R\nc0 commit\n" * count
+def equal_triples():
+    """Six types of 64 states, each with 64 groups of 1,024 equal triples."""
+    states = [*string.ascii_letters, *string.digits, "aa", "bb"]
+    lines = ["sites = 1", "clients = 1"]
+    for number in range(6):
+        rows = ['"%s I r %s"' % (state, states[(at + 1) % 64]) for at, state in enumerate(states)]
+        triples = ['"%s %s -"' % (state, state) for state in states for _ in range(1024)]
+        lines += ["[[type]]", 'name = "t%d"' % number, "states = [%s]" % ",".join('"%s"' % state for state in states),
+                  'start = "a"', 'invocations = ["I"]', 'responses = ["r"]', "rows = [%s]" % ",".join(rows),
+                  "triples = [%s]" % ",".join(triples)]
+    lines += ["[[object]]", 'name = "x"', 'type = "t0"', "[[epoch]]", "weights = [1]"]
+    return "\n".join(lines) + "\n"
 
 
 def run(words):
-    """The seconds, the peak memory in KB and the status of one run."""
-    start = time.perf_counter()
+    """The processor seconds, the peak memory in KB and the status of one run."""
     child = subprocess.Popen(words, stdout=subprocess.DEVNULL, stderr=subprocess.PIPE)
     told = child.stderr.read().decode(errors="replace")
     _, status, usage = os.wait4(child.pid, 0)
-    seconds = time.perf_counter() - start
     child.returncode = os.waitstatus_to_exitcode(status)
     if child.returncode != 0:
         sys.exit("status %d of %s: %s" % (child.returncode, " ".join(words), told.strip()))
-    return seconds, usage.ru_maxrss
+    return usage.ru_utime + usage.ru_stime, usage.ru_maxrss
+
+
+def written(folder, name, text):
+    """The path of a file of the folder with this text."""
+    path = os.path.join(folder, name)
+    with open(path, "w") as file:
+        file.write(text)
+    return path
 
 
 def cases(program, folder):
     """The words of each case, by its name."""
-    words = {NOTHING: [sys.executable, "-c", "pass"]}
-    for name, script, counts in (("begins", begins, BEGINS), ("transactions", transactions, TRANSACTIONS)):
-        for count in counts:
-            path = os.path.join(folder, "%s_%d" % (name, count))
-            with open(path, "w") as file:
-                file.write(script(count))
-            words["%d %s" % (count, name)] = [program, "run", "@one", path]
+    walk = os.path.join(folder, "load_walk")
+    subprocess.run(["rustc", "-O", "-o", walk, os.path.join(ROOT, "bench", "load_walk.rs")], check=True)
+    words = {NOTHING: [sys.executable, "-c", "pass"], "start": [program, "check", "@one"]}
+    for count in BEGINS:
+        words["%d begins" % count] = [program, "run", "@one", written(folder, "begins_%d" % count, begins(count))]
+    for count in TRANSACTIONS:
+        text = "\n".join(load(count, SEED)) + "\n"
+        words["load %d" % count] = [program, "run", "@three", written(folder, "load_%d" % count, text)]
+    words["walk 500"] = [walk, "500", str(SEED)]
+    words["triples"] = [program, "check", written(folder, "triples.toml", equal_triples())]
     return words
 
 
@@ -67,7 +97,7 @@ def measure(words, runs):
 
 
 def bars(found):
-    """Each ratio that matters, with the most that it may be."""
+    """Each figure that matters, with the most that it may be."""
     seconds = {name: found[name][0] for name in found}
     yield "100000 begins / %s" % NOTHING, seconds["100000 begins"] / seconds[NOTHING], 20
     for count in BEGINS[:-1]:
@@ -75,7 +105,10 @@ def bars(found):
         yield "%d begins / %d begins" % (2 * count, count), ratio, 2.3
     steps = 1 + 2 * 100_000
     yield "KB a step, of %d" % steps, found["100000 begins"][1] / steps, 1
-    yield "500 transactions / 250", seconds["500 transactions"] / seconds["250 transactions"], 5
+    yield "load 500 / load 250", seconds["load 500"] / seconds["load 250"], 5
+    yield "load 500 / walk 500", seconds["load 500"] / seconds["walk 500"], 2
+    yield "triples, s", seconds["triples"], 1
+    yield "start, ms", 1e3 * seconds["start"], 2
 
 
 def main():
@@ -88,9 +121,9 @@ def main():
     for name, (seconds, memory) in found.items():
         print("%-24s %9.4f s %9d KB" % (name, seconds, memory))
     missed = 0
-    for name, ratio, most in bars(found):
-        missed += ratio > most
-        print("%-38s %7.2f  (at most %s)%s" % (name, ratio, most, "" if ratio <= most else "  MISSED"))
+    for name, figure, most in bars(found):
+        missed += figure > most
+        print("%-38s %7.2f  (at most %s)%s" % (name, figure, most, "" if figure <= most else "  MISSED"))
     return 1 if missed else 0
 
 
