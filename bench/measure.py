@@ -44,7 +44,7 @@ def equal_triples():
     states = [*string.ascii_letters, *string.digits, "aa", "bb"]
     lines = ["sites = 1", "clients = 1"]
     for number in range(6):
-        rows = ['"%s I r %s"' % (state, states[(at + 1) % 64]) for at, state in enumerate(states)]
+        rows = ['"%s I r %s"' % (state, state) for state in states]
         triples = ['"%s %s -"' % (state, state) for state in states for _ in range(1024)]
         lines += ["[[type]]", 'name = "t%d"' % number, "states = [%s]" % ",".join('"%s"' % state for state in states),
                   'start = "a"', 'invocations = ["I"]', 'responses = ["r"]', "rows = [%s]" % ",".join(rows),
