@@ -1,0 +1,6 @@
+pub mod Counted
+pub mod Stamps
+pub mod Sights
+pub mod Tellings
+pub mod Ended
+pub mod Alone
