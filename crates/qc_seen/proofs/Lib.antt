@@ -4,3 +4,5 @@ pub mod Sights
 pub mod Tellings
 pub mod Ended
 pub mod Alone
+pub mod Founded
+pub mod Courses
