@@ -1,5 +1,5 @@
 -- A client's turn that tells a reply asks nobody.
-use Rattle.std.proofs.Common.{◌≡◌, ℕ, nat_le, Bool, true, false, cond, List, [], ◌∷◌, ◌⊎◌, inl, inr, length, map, Option, Some, None, refl, sym, ap, subst}
+use Rattle.std.proofs.Common.{◌≡◌, ℕ, nat_le, Bool, true, false, cond, List, [], ◌∷◌, inl, inr, length, map, Option, Some, None, refl, sym, ap, subst}
 use Rattle.std.specs.Prelude.{is_some}
 use Rattle.std.specs.List.{AllByRecursion as Every}
 use Rattle.qc_decl.specs.declared.declaration.Declaration.{Declaration}
@@ -40,11 +40,10 @@ use Rattle.qc_front.specs.Conduct as fronts
 use Rattle.qc_front.specs.Counting.{appended_with, learns, read_with, standing_of}
 use Rattle.qc_front.specs.Front.{aborts, begins, gives_up, moved}
 use Rattle.qc_front.specs.Requests.{is_request}
-use Rattle.qc_front.specs.Rounds.{answered, append_by, appends, performs, read_by, reads}
+use Rattle.qc_front.specs.Rounds.{answered, append_by, performs, read_by, reads}
 use Rattle.qc_client.specs.declared.client.Client.{Client}
 use Rattle.qc_client.specs.Client as clients
 use Rattle.qc_client.specs.Conduct.{answered_by, called, client_takes, commits, heard}
-use Rattle.qc_client.specs.Conduct as conduct
 use Rattle.qc_records.proofs.HandMoves.{IsHandMove, prepare-it, vote-it}
 
 -- a message that asks nothing of a site

@@ -1,6 +1,6 @@
 -- What is taken for a request, in the account of a client: what the account keeps of it, and that its clock passes a
 -- grant's.
-use Rattle.std.proofs.Common.{◌≡◌, ◌≤◌, ℕ, ◌==◌, ◌&&◌, max, Bool, true, false, cond, List, [], ◌∷◌, ◌⊎◌, inl, inr, Option, Some, None, option_map, refl, sym, ap, ◌∙◌, subst, arith, eq-eqb, eqb-true}
+use Rattle.std.proofs.Common.{◌≡◌, ◌≤◌, ℕ, ◌==◌, ◌&&◌, Bool, true, false, cond, List, [], ◌∷◌, inl, inr, Option, Some, None, option_map, refl, sym, ap, ◌∙◌, subst, arith, eq-eqb, eqb-true}
 use Rattle.std.specs.Prelude.{is_none}
 use Rattle.std.specs.List.{find}
 use Rattle.qc_stamp.specs.declared.stamp.TxId.{TxId}
@@ -11,7 +11,7 @@ use Rattle.qc_msg.specs.declared.message.Answer.TheVariants as answers
 use Rattle.qc_msg.specs.declared.message.Want.{Want}
 use Rattle.qc_msg.specs.declared.message.Want.TheVariants.{Read, Append, Prepare}
 use Rattle.qc_promise.specs.Account.{Account, ClientRequest, Current, is_append, is_prepare}
-use Rattle.qc_promise.specs.Accounting.{counted, counted_for, granted, is_open, lived, promised, taken_for, told_by, with_current, with_read}
+use Rattle.qc_promise.specs.Accounting.{counted, counted_for, granted, is_open, lived, promised, taken_for, told_by, with_read}
 use Rattle.qc_account.proofs.Requests.{IsFound, found}
 
 -- the name of the begun transaction

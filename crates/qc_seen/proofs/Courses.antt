@@ -1,5 +1,5 @@
 -- Over all that a client does by turns, what it has seen has records with stamps that its clock has passed.
-use Rattle.std.proofs.Common.{◌≡◌, ℕ, ◌+◌, ◌-◌, ◌≤◌, length, Bool, true, false, cond, List, [], ◌∷◌, ◌++◌, ◌⊎◌, inl, inr, fold, Option, Some, None, refl, sym, ap, ◌∙◌, subst}
+use Rattle.std.proofs.Common.{◌≡◌, ℕ, ◌+◌, ◌-◌, ◌≤◌, length, Bool, true, false, List, [], ◌∷◌, ◌++◌, inl, fold, Option, Some, None, refl, sym, ap, ◌∙◌, subst}
 use Rattle.std.specs.Prelude.{is_some}
 use Rattle.std.specs.List.{AllByRecursion as Every}
 use Rattle.std.proofs.lemmas.List.Sums.{fold-append}
@@ -8,23 +8,19 @@ use Rattle.qc_list.specs.Members.{In}
 use Rattle.qc_list.proofs.Members.{In-first, In-last, In-second}
 use Rattle.qc_decl.specs.declared.declaration.Declaration.{Declaration}
 use Rattle.qc_decl.specs.Actors.{is_client}
-use Rattle.qc_entry.specs.declared.line.Line.{Line}
 use Rattle.qc_entry.specs.declared.record.Commit.{Commit}
 use Rattle.qc_msg.specs.declared.message.Answer.{Answer}
-use Rattle.qc_msg.specs.declared.message.Answer.TheVariants as answers
-use Rattle.qc_msg.specs.declared.message.Envelope.{Envelope}
 use Rattle.qc_msg.specs.declared.message.Message.{Message}
 use Rattle.qc_msg.specs.declared.message.Message.TheVariants as messages
 use Rattle.qc_msg.specs.declared.record.Record.{Record}
 use Rattle.qc_msg.specs.declared.record.Record.TheVariants as records
 use Rattle.qc_msg.specs.declared.reply.Reply.{Reply}
-use Rattle.qc_msg.specs.declared.step.Command.{Command}
 use Rattle.qc_msg.specs.declared.step.Command.TheVariants as commands
 use Rattle.qc_msg.specs.declared.step.Given.{Given}
 use Rattle.qc_msg.specs.declared.step.Given.TheVariants as given
 use Rattle.qc_msg.specs.declared.turn.Posting.{Posting}
 use Rattle.qc_msg.specs.declared.turn.Turn.{Turn}
-use Rattle.qc_msg.specs.Deeds.{Deed, Sends, Takes, Tells, Writes, sends_of, tells_of, turn_deeds, writes_of}
+use Rattle.qc_msg.specs.Deeds.{Deed, Sends, Takes, Writes, sends_of, tells_of, turn_deeds, writes_of}
 use Rattle.qc_msg.specs.Turns.{quiet}
 use Rattle.qc_client.specs.declared.client.Client.{Client}
 use Rattle.qc_client.specs.Client.{ClientMove, moved, new_client}
@@ -39,16 +35,17 @@ use Rattle.qc_promise.specs.Seen.{Sight, no_sight, sight, sight_sent, sight_take
 use Rattle.qc_promise.specs.Status.{AreRightFrom, Status, status_at}
 use Rattle.qc_promise.specs.Status as statuses
 use Rattle.qc_account.specs.DeedsDue.{AreDeedsDue}
-use Rattle.qc_account.specs.Ties.{NoneRuns, Ties, appends, reads, rests, votes}
+use Rattle.qc_account.specs.Ties.{Ties, appends, reads, rests, votes}
 use Rattle.qc_account.specs.Waits.{IsAwaited}
 use Rattle.qc_account.proofs.Awaited.{open_awaited}
 use Rattle.qc_account.proofs.Commands.{lawful_turn, may_give}
 use Rattle.qc_account.proofs.Courses.{clients_due, clients_tied, turns_tell}
 use Rattle.qc_seen.proofs.Alone.{AsksNothing, IsAlone, replies_alone}
-use Rattle.qc_seen.proofs.Counted.{AsksForGrants, IsOpen, counts}
+use Rattle.qc_seen.proofs.Counted.{IsOpen, counts}
 use Rattle.qc_seen.proofs.Ended.{Goes, asks_none, counted_goes, goes_of, none_open, unwritten_of}
 use Rattle.qc_seen.proofs.Founded.{AreFounded, founded-first}
-use Rattle.qc_seen.proofs.Sights.{IsFounded, IsUpTo, Sees, answer_sees, called_sees, lost_sees, sent_sees, wrote_at, wrote_sees}
+use Rattle.qc_seen.proofs.Seeing.{Sees, wrote_at}
+use Rattle.qc_seen.proofs.Sights.{answer_sees, called_sees, lost_sees, sent_sees, wrote_sees}
 use Rattle.qc_seen.proofs.Tellings.{told_sees}
 
 -- a turn

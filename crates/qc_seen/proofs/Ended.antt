@@ -1,14 +1,13 @@
 -- A reply is due only where no request of the command is open.
-use Rattle.std.proofs.Common.{◌≡◌, ℕ, ◌==◌, ◌&&◌, nat_le, Bool, true, false, cond, List, [], ◌∷◌, ◌⊎◌, inl, inr, filter, length, map, Option, Some, None, option_map, refl, sym, ap, ◌∙◌, subst}
+use Rattle.std.proofs.Common.{◌≡◌, ℕ, ◌==◌, ◌&&◌, nat_le, Bool, true, false, cond, List, [], ◌∷◌, inl, inr, filter, length, map, Option, Some, None, option_map, refl, sym, ap, ◌∙◌, subst}
 use Rattle.std.specs.Prelude.{drop, is_none, is_some, option_and_then}
 use Rattle.std.specs.List.{AllByRecursion as Every, find, list_all}
 use Rattle.qc_list.specs.Members.{In}
 use Rattle.qc_list.proofs.Members.{In-filter, every-In}
-use Rattle.qc_table.specs.Rules.{Rules}
 use Rattle.qc_decl.specs.Actors.{first_site}
 use Rattle.qc_decl.specs.declared.declaration.Declaration.{Declaration}
 use Rattle.qc_decl.specs.Limits.{most_transaction_operations}
-use Rattle.qc_decl.specs.Lookup.{append_need_of, read_need_of, table_at}
+use Rattle.qc_decl.specs.Lookup.{append_need_of, read_need_of}
 use Rattle.qc_msg.specs.declared.message.Answer.{Answer}
 use Rattle.qc_msg.specs.declared.message.Want.{Want}
 use Rattle.qc_msg.specs.declared.message.Want.TheVariants.{Read, Append, Prepare}
@@ -18,16 +17,15 @@ use Rattle.qc_msg.specs.declared.reply.Why.TheVariants as causes
 use Rattle.qc_msg.specs.declared.step.Command.{Command}
 use Rattle.qc_msg.specs.declared.step.Command.TheVariants as commands
 use Rattle.qc_plan.specs.declared.standing.Asked.{Asked}
-use Rattle.qc_plan.specs.declared.standing.Verdict.{Verdict}
 use Rattle.qc_plan.specs.declared.standing.Verdict.TheVariants as verdicts
 use Rattle.qc_plan.specs.Round.{RoundState, all_noted, start, verdict}
-use Rattle.qc_promise.specs.Account.{Account, ClientRequest, Current, ReadGrant, is_append, is_prepare, is_read, requests_for}
+use Rattle.qc_promise.specs.Account.{Account, ClientRequest, Current, is_append, is_prepare, is_read, requests_for}
 use Rattle.qc_promise.specs.Accounting.{counted, counted_for, is_open, taken_for, told_by}
 use Rattle.qc_promise.specs.Rounds.{answer_of, are_votes_in, asked_by, first_against, participants, round_of, standing_of, weights_of}
 use Rattle.qc_promise.specs.Rows.{answer_row, append_row, due, read_row, row_of, vote_row}
 use Rattle.qc_entry.specs.declared.line.Op.{Op}
 use Rattle.qc_client.specs.declared.client.Client.{Client}
-use Rattle.qc_account.specs.Ties.{Appends, IsDo, IsPrepare, NoneRuns, Reads, Rests, Ties, Votes, appends, reads, rests, votes}
+use Rattle.qc_account.specs.Ties.{IsDo, IsPrepare, Ties, appends, reads, rests, votes}
 use Rattle.qc_account.specs.Told.{IsOpenIn}
 use Rattle.qc_account.proofs.Halves.{waiting_verdict}
 use Rattle.qc_account.proofs.Nothing.{do_row_is}

@@ -1,6 +1,6 @@
 -- What a client's deeds have to rest on: the lines that it was granted have records, and it asked for no promise by the
 -- requests that were granted.
-use Rattle.std.proofs.Common.{◌≡◌, ℕ, Bool, true, false, List, [], ◌∷◌, ◌++◌, ◌⊎◌, inl, inr, Option, Some, None, refl, sym, ap, subst}
+use Rattle.std.proofs.Common.{◌≡◌, ℕ, false, List, ◌++◌}
 use Rattle.qc_stamp.specs.declared.stamp.TxId.{TxId}
 use Rattle.qc_list.specs.Members.{In}
 use Rattle.qc_list.proofs.Members.{In-first}
@@ -14,7 +14,7 @@ use Rattle.qc_msg.specs.declared.record.Record.TheVariants as records
 use Rattle.qc_msg.specs.declared.step.Given.TheVariants as given
 use Rattle.qc_msg.specs.Deeds.{Deed, Sends, Takes, Writes}
 use Rattle.qc_promise.specs.Account.{is_prepare}
-use Rattle.qc_seen.proofs.Sights.{IsUpTo}
+use Rattle.qc_seen.proofs.Seeing.{IsUpTo}
 
 pub record AreFounded (commits : List Commit) (ds : List Deed) : Type 0 where
   pub wrote : (c : Commit) → In (Writes (records.Commit c)) ds → In c commits

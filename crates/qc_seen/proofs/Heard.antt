@@ -10,7 +10,7 @@ use Rattle.qc_msg.specs.declared.step.Step.{Step}
 use Rattle.qc_msg.specs.declared.step.Step.TheVariants as steps
 use Rattle.qc_msg.specs.Deeds.{Deed, Sends, Takes, Tells, Writes, deed_at, deeds, envelope_at, envelope_of, heard, mail}
 use Rattle.qc_msg.specs.Steps.{Entry}
-use Rattle.qc_seen.proofs.Sights.{in_split}
+use Rattle.qc_seen.proofs.Seeing.{in_split}
 
 pub cons_is : {A : Type 0} (o : Option A) (xs : List A) → cons_option o xs ≡ option_to_list o ++ xs
 cons_is None xs = refl

@@ -1,6 +1,6 @@
 -- Only clients write commit records.
-use Rattle.std.proofs.Common.{◌≡◌, ◌≤◌, ◌<◌, ℕ, ◌==◌, ◌&&◌, nat_le, nat_lt, Bool, true, false, cond, List, [], ◌∷◌, ◌++◌, ◌⊎◌, inl, inr, Option, Some, None, option_to_list, slice_get, refl, sym, ap, ◌∙◌, subst, eq-eqb}
-use Rattle.std.specs.List.{AllByRecursion as Every, cons_option}
+use Rattle.std.proofs.Common.{◌≡◌, ◌≤◌, ◌<◌, ℕ, ◌==◌, ◌&&◌, Bool, true, false, cond, List, [], ◌∷◌, ◌++◌, ◌⊎◌, inl, inr, Option, Some, None, option_to_list, slice_get, refl, sym, ap, ◌∙◌, subst, eq-eqb}
+use Rattle.std.specs.List.{cons_option}
 use Rattle.std.proofs.lemmas.Bool.{cases_lt, le-leb, lt-ltb}
 use Rattle.qc_list.specs.Members.{In}
 use Rattle.qc_list.proofs.Members.{In-first, In-second, every-In}
@@ -15,24 +15,16 @@ use Rattle.qc_msg.specs.declared.record.Record.{Record}
 use Rattle.qc_msg.specs.declared.record.Record.TheVariants as records_of
 use Rattle.qc_msg.specs.declared.step.Step.{Step}
 use Rattle.qc_msg.specs.declared.step.Step.TheVariants as steps
-use Rattle.qc_msg.specs.Counts.{commit_in, commit_of, written}
-use Rattle.qc_msg.specs.Deeds.{Deed, Writes, deed_at, deeds, envelope_of}
+use Rattle.qc_msg.specs.Counts.{commit_in, written}
+use Rattle.qc_msg.specs.Deeds.{Writes, deed_at, deeds, envelope_of}
 use Rattle.qc_msg.specs.Steps.{Entry}
-use Rattle.qc_promise.specs.Committed.{commit_by, records}
+use Rattle.qc_promise.specs.Committed.{records}
 use Rattle.qc_script.specs.Runs.{Runs}
 use Rattle.qc_script.specs.declared.script.Script.{Script}
 use Rattle.qc_account.proofs.Mute.{IsMuteDeed, sites_mute}
+use Rattle.qc_seen.proofs.Written.{record_is}
 
 -- a record that was written is a deed
-
-record_is : (w : Record) (c : Commit) → commit_of w ≡ Some c → w ≡ records_of.Commit c
-record_is records_of.Life c is = absurd (let never : ⊥ = cc in never)
-record_is (records_of.Prepare prepared) c is = absurd (let never : ⊥ = cc in never)
-record_is (records_of.Done tx clock) c is = absurd (let never : ⊥ = cc in never)
-record_is (records_of.Close epoch) c is = absurd (let never : ⊥ = cc in never)
-record_is (records_of.Install epoch clock lines) c is = absurd (let never : ⊥ = cc in never)
-record_is (records_of.Commit commit) c is = ap (λ (x : Commit). records_of.Commit x) (let same : commit ≡ c = cc in same)
-record_is (records_of.Decide epoch clock lines) c is = absurd (let never : ⊥ = cc in never)
 
 step_wrote : (ms : List Envelope) (step : Step) (c : Commit) → commit_in step ≡ Some c → In (Writes (records_of.Commit c)) (deed_at ms step)
 step_wrote ms (steps.Phase k) c is = absurd (let never : ⊥ = cc in never)
@@ -51,7 +43,7 @@ step_wrote ms (steps.Damaged offset) c is = absurd (let never : ⊥ = cc in neve
 
 -- who isn't a client writes none
 
-abbrev NoneWrite : Declaration → List Envelope → List Entry → Type 0
+abbrev pub NoneWrite : Declaration → List Envelope → List Entry → Type 0
 NoneWrite decl ms h = (a : ℕ) → is_client decl a ≡ false → (c : Commit) → In (Writes (records_of.Commit c)) (deeds a ms h) → ⊥
 
 clients_only : (decl : Declaration) (ms : List Envelope) (h : List Entry) → NoneWrite decl ms h → records decl h ≡ written h
@@ -81,7 +73,7 @@ module _ (decl : Declaration) (script : Script) (h : List Entry) (open_inputs : 
           let r : ActsIn decl a h place.0 = run_acts decl script h open_inputs run a place.0 place.1 in
           every-In IsMuteDeed (Writes (records_of.Commit c)) (deeds a [] h) (sites_mute decl a (lt-ltb a decl.sites site) (deeds a [] h) place.0 r.above r.acts) among
 
-  none_write : NoneWrite decl [] h
+  pub none_write : NoneWrite decl [] h
   none_write a other c among = by (cases_lt a (actors decl)) (cases_lt a decl.sites)
     where
       by : (a < actors decl) ⊎ (actors decl ≤ a) → (a < decl.sites) ⊎ (decl.sites ≤ a) → ⊥

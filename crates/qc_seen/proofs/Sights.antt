@@ -1,11 +1,10 @@
--- What a client's deeds show of its sight, and the account of them: what was seen has a record with a stamp that the
--- clock has passed.
-use Rattle.std.proofs.Common.{◌≡◌, ◌≢◌, ◌≤◌, ◌<◌, ℕ, ◌+◌, ◌==◌, ◌||◌, max, not, Bool, true, false, cond, List, [], ◌∷◌, ◌++◌, ◌⊎◌, inl, inr, filter, map, Option, Some, None, option_map, option_to_list, refl, sym, ap, ◌∙◌, subst, arith, eq-eqb, eqb-true}
-use Rattle.std.specs.List.{list_any}
+-- What a client takes, sends and writes keeps its sight and the account of its deeds in agreement.
+use Rattle.std.proofs.Common.{◌≡◌, ◌≢◌, ◌<◌, ℕ, ◌+◌, ◌==◌, ◌||◌, not, Bool, true, false, cond, List, [], ◌∷◌, ◌++◌, ◌⊎◌, inl, inr, filter, map, Option, Some, None, option_map, refl, sym, ap, ◌∙◌, subst, arith, eq-eqb, eqb-true}
+use Rattle.std.specs.List.{cons_option, list_any}
 use Rattle.qc_stamp.specs.declared.stamp.Stamp.{Stamp}
 use Rattle.qc_stamp.specs.declared.stamp.TxId.{TxId}
 use Rattle.qc_stamp.specs.Order.{same_tx}
-use Rattle.qc_stamp.proofs.Orders.{same_tx_is, same_tx_itself}
+use Rattle.qc_stamp.proofs.Orders.{same_tx_itself}
 use Rattle.qc_list.specs.Members.{In}
 use Rattle.qc_list.proofs.Members.{In-first, In-last, In-more, In-passes, In-unfiltered}
 use Rattle.qc_decl.specs.declared.declaration.Declaration.{Declaration}
@@ -15,90 +14,23 @@ use Rattle.qc_msg.specs.declared.message.Answer.{Answer}
 use Rattle.qc_msg.specs.declared.message.Answer.TheVariants as answers
 use Rattle.qc_msg.specs.declared.message.Message.{Message}
 use Rattle.qc_msg.specs.declared.message.Message.TheVariants as messages
-use Rattle.qc_msg.specs.declared.message.Outcome.{Outcome}
 use Rattle.qc_msg.specs.declared.message.Outcome.TheVariants as outcomes
 use Rattle.qc_msg.specs.declared.record.Record.{Record}
 use Rattle.qc_msg.specs.declared.record.Record.TheVariants as records
 use Rattle.qc_msg.specs.declared.step.Command.{Command}
-use Rattle.qc_msg.specs.Deeds.{Deed, Takes, Writes, Sends, Tells}
-use Rattle.qc_onecopy.proofs.Orders.{clock_less}
+use Rattle.qc_msg.specs.Counts.{commit_of as commit_in}
 use Rattle.qc_promise.specs.Account.{Account, ClientRequest, Current}
 use Rattle.qc_promise.specs.Accounting.{account_sent, account_written, counted}
-use Rattle.qc_promise.specs.Asked.{is_asked_for}
 use Rattle.qc_promise.specs.Atomic.{HasBefore}
 use Rattle.qc_promise.specs.Deals.{is_begun}
 use Rattle.qc_promise.specs.Replies.{IsRecordDue}
-use Rattle.qc_promise.specs.Rows.{commit_of, due, next_stamp}
 use Rattle.qc_promise.specs.Seen.{Sight, answered, granted, sees, sight_sent, waits}
 use Rattle.qc_promise.specs.Status.{Status, given_up, status_sent, status_written}
 use Rattle.qc_promise.specs.Status as statuses
 use Rattle.qc_account.specs.DeedsDue.{IsSendDue}
 use Rattle.qc_seen.proofs.Counted.{AsksForGrants, IsCounted, IsOpen, counts, name_of, passes}
+use Rattle.qc_seen.proofs.Seeing.{HasCommitted, IsUpTo, Sees, higher, in_split, is_before, stays_committed}
 use Rattle.qc_seen.proofs.Stamps.{due_stamp}
-
--- a record of the transaction whose stamp's clock is at most this
-pub record IsUpTo (commits : List Commit) (tx : TxId) (clock : ℕ) : Type 0 where
-  pub commit : Commit
-  pub listed : In commit commits
-  pub named : commit.tx ≡ tx
-  pub low : commit.stamp.clock ≤ clock
-
-pub higher : (commits : List Commit) (tx : TxId) (a b : ℕ) → a ≤ b → IsUpTo commits tx a → IsUpTo commits tx b
-higher commits tx a b more u = record { commit = u.commit; listed = u.listed; named = u.named; low = (let low : u.commit.stamp.clock ≤ a = u.low in omega arith) }
-
-pub is_before : (commits : List Commit) (tx : TxId) (clock : ℕ) (stamp : Stamp) → clock < stamp.clock → IsUpTo commits tx clock → HasBefore commits tx stamp
-is_before commits tx clock stamp less u = record {
-  commit = u.commit;
-  listed = u.listed;
-  named = u.named;
-  before = clock_less u.commit.stamp stamp (let low : u.commit.stamp.clock ≤ clock = u.low in omega arith);
-}
-
--- a record was written
-abbrev pub HasCommitted : Status → Type 0
-HasCommitted statuses.Unborn = ⊥
-HasCommitted statuses.Begun = ⊥
-HasCommitted (statuses.Committed stamp) = Unit {0}
-HasCommitted statuses.Dead = ⊥
-
--- the commit records of a client's deeds
-
-abbrev pub wrote_one : List Commit → Record → List Commit
-wrote_one wrote records.Life = wrote
-wrote_one wrote (records.Prepare prepared) = wrote
-wrote_one wrote (records.Done tx clock) = wrote
-wrote_one wrote (records.Close epoch) = wrote
-wrote_one wrote (records.Install epoch clock lines) = wrote
-wrote_one wrote (records.Commit commit) = commit ∷ wrote
-wrote_one wrote (records.Decide epoch clock lines) = wrote
-
-abbrev pub wrote_at : List Commit → Deed → List Commit
-wrote_at wrote (Takes given) = wrote
-wrote_at wrote (Writes written) = wrote_one wrote written
-wrote_at wrote (Sends number to message) = wrote
-wrote_at wrote (Tells reply) = wrote
-
--- among the records of all clients: a client's account and its sight of a transaction, its records, and how far the
--- transaction is
-pub record Sees (commits : List Commit) (tx : TxId) (d : Account) (s : Sight) (wrote : List Commit) (st : Status)
-    : Type 0 where
-  pub begun : s.begun ≡ name_of d.current
-  pub waiting : (n : ℕ) → In n s.waiting → IsOpen n d.requests
-  pub known : (t : TxId) → In t s.known → IsUpTo commits t d.clock
-  pub seen : is_begun tx s.begun ≡ true → (t : TxId) → In t s.seen → IsUpTo commits t d.clock
-  pub before : (r : Commit) → In r wrote → r.tx ≡ tx → (t : TxId) → In t s.seen → t ≢ tx → HasBefore commits t r.stamp
-  pub ended : (r : Commit) → In r wrote → r.tx ≡ tx → HasCommitted st
-  pub stands : (r : Commit) → In r wrote → r.tx ≡ tx → is_begun tx s.begun ≡ true → d.written ≡ Some r
-  pub listed : (r : Commit) → d.written ≡ Some r → In r commits
-
-pub in_split : {X : Type 0} (x : X) (xs ys : List X) → In x (xs ++ ys) → In x xs ⊎ In x ys
-in_split x [] ys among = inr among
-in_split x (y ∷ xs) ys (inl same) = inl (inl same)
-in_split x (y ∷ xs) ys (inr later) = by (in_split x xs ys later)
-  where
-    by : In x xs ⊎ In x ys → In x (y ∷ xs) ⊎ In x ys
-    by (inl old) = inl (inr old)
-    by (inr new) = inr new
 
 -- an answer is taken, or that a request is lost
 
@@ -231,14 +163,8 @@ module _ (commits : List Commit) (tx : TxId) (d : Account) (s : Sight) (wrote : 
   sent_status st (messages.Decision other (outcomes.Committed stamp)) is = is
   sent_status st (messages.Decision other outcomes.Aborted) is = by (same_tx other tx)
     where
-      up_given : (st : Status) → HasCommitted st → HasCommitted (given_up st)
-      up_given statuses.Unborn is = is
-      up_given statuses.Begun is = absurd is
-      up_given (statuses.Committed stamp) is = is
-      up_given statuses.Dead is = is
-
       by : (b : Bool) → HasCommitted (cond b (given_up st) st)
-      by true = up_given st is
+      by true = stays_committed st is
       by false = is
   sent_status st (messages.Decision other outcomes.Active) is = is
   sent_status st (messages.Inquiry other) is = is
@@ -326,7 +252,7 @@ module _ (commits : List Commit) (tx : TxId) (d : Account) (s : Sight) (wrote : 
       stands_one r (inl same) its is = ap (λ (x : Commit). Some x) (sym same)
       stands_one r (inr old) its is = absurd (let wrote_it : d.written ≡ Some r = w.stands r old its is in let none : d.written ≡ None = due_is.2 in let never : ⊥ = cc in never)
 
-  pub wrote_sees : (decl : Declaration) (written : Record) → ((c : Commit) → written ≡ records.Commit c → In c commits) → IsRecordDue decl d [] written → Sees commits tx (account_written d written) s (wrote_one wrote written) (status_written tx st written)
+  pub wrote_sees : (decl : Declaration) (written : Record) → ((c : Commit) → written ≡ records.Commit c → In c commits) → IsRecordDue decl d [] written → Sees commits tx (account_written d written) s (cons_option (commit_in written) wrote) (status_written tx st written)
   wrote_sees decl records.Life there is = w
   wrote_sees decl (records.Prepare prepared) there is = w
   wrote_sees decl (records.Done other clock) there is = w

@@ -1,5 +1,5 @@
 -- A Committed that is due names the stamp above the clock.
-use Rattle.std.proofs.Common.{◌≡◌, ℕ, nat_le, Bool, true, false, cond, List, [], length, Option, Some, None, refl}
+use Rattle.std.proofs.Common.{◌≡◌, ℕ, nat_le, Bool, true, false, cond, [], length, Option, Some, None}
 use Rattle.std.specs.Prelude.{option_and_then}
 use Rattle.qc_stamp.specs.declared.stamp.Stamp.{Stamp}
 use Rattle.qc_decl.specs.Limits.{most_transaction_operations}

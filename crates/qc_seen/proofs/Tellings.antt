@@ -1,6 +1,5 @@
 -- A client tells a reply that is due, where it waits for no request.
-use Rattle.std.proofs.Common.{◌≡◌, ◌≢◌, ◌≤◌, ◌<◌, ℕ, ◌+◌, ◌==◌, not, Bool, true, false, cond, List, [], ◌∷◌, ◌++◌, ◌⊎◌, inl, inr, length, Option, Some, None, option_map, option_to_list, refl, sym, ap, ◌∙◌, subst, arith}
-use Rattle.std.specs.Prelude.{option_and_then}
+use Rattle.std.proofs.Common.{◌≡◌, ◌≢◌, ◌≤◌, ℕ, ◌+◌, ◌==◌, not, Bool, true, false, cond, List, [], ◌++◌, ◌⊎◌, inl, inr, length, Option, Some, None, option_map, option_to_list, refl, sym, ap, ◌∙◌, subst, arith}
 use Rattle.qc_stamp.specs.declared.stamp.Stamp.{Stamp}
 use Rattle.qc_stamp.specs.declared.stamp.TxId.{TxId}
 use Rattle.qc_stamp.specs.Order.{same_tx}
@@ -14,7 +13,7 @@ use Rattle.qc_msg.specs.declared.reply.Reply.TheVariants as replies
 use Rattle.qc_msg.specs.declared.step.Command.{Command}
 use Rattle.qc_msg.specs.declared.step.Command.TheVariants as commands
 use Rattle.qc_promise.specs.Account.{Account, Current, is_append, requests_for}
-use Rattle.qc_promise.specs.Accounting.{account_told, account_told_in, doomed_if, found_absent, refused, responded, short_of, with_absent, with_response}
+use Rattle.qc_promise.specs.Accounting.{account_told, doomed_if, found_absent, refused, responded, short_of, with_absent, with_response}
 use Rattle.qc_promise.specs.Atomic.{HasBefore}
 use Rattle.qc_promise.specs.Deals.{is_begun}
 use Rattle.qc_promise.specs.Replies.{IsReplyDue}
@@ -23,8 +22,8 @@ use Rattle.qc_promise.specs.Rows.{commit_of}
 use Rattle.qc_promise.specs.Seen.{Sight, sight_told}
 use Rattle.qc_promise.specs.Status.{IsRightReply, Status, given_up, status_told}
 use Rattle.qc_promise.specs.Status as statuses
-use Rattle.qc_seen.proofs.Counted.{IsOpen, name_of}
-use Rattle.qc_seen.proofs.Sights.{HasCommitted, IsUpTo, Sees, higher, in_split}
+use Rattle.qc_seen.proofs.Counted.{name_of}
+use Rattle.qc_seen.proofs.Seeing.{HasCommitted, IsUpTo, Sees, higher, in_split, stays_committed}
 use Rattle.qc_seen.proofs.Stamps.{due_stamp}
 
 -- most replies leave the begun transaction its name, and the clock
@@ -92,12 +91,6 @@ module _ (decl : Declaration) (commits : List Commit) (tx : TxId) (d : Account) 
   }
 
   -- it is given up
-
-  up_given : (x : Status) → HasCommitted x → HasCommitted (given_up x)
-  up_given statuses.Unborn is = is
-  up_given statuses.Begun is = absurd is
-  up_given (statuses.Committed stamp) is = is
-  up_given statuses.Dead is = is
 
   ends : (x : Status) → (HasCommitted st → HasCommitted x) → Sees commits tx (done (record d { current = None })) (record s { begun = None }) wrote x
   ends x keeps = record {
@@ -178,11 +171,11 @@ module _ (decl : Declaration) (commits : List Commit) (tx : TxId) (d : Account) 
   told_sees (replies.Quorum half got need) due right = goes_on (short_of d half) (short_leaves d half) due.1
   told_sees replies.Absent due right = goes_on (found_absent d d.command) (absent_leaves d d.command) due.1
   told_sees (replies.Response resp) due right = goes_on (responded decl d d.command) (responded_leaves decl d d.command) due.1
-  told_sees (replies.Aborted why) due right = ends (given_up st) (up_given st)
+  told_sees (replies.Aborted why) due right = ends (given_up st) (stays_committed st)
   told_sees replies.Unknown due right = ends st (λ is. is)
   told_sees (replies.Committed stamp) due right =
       commits_one stamp (let e : stamp.clock ≡ d.clock + 1 = ap (λ (x : Stamp). x.clock) (due_stamp decl d stamp due.0) in omega arith) due.1
-  told_sees replies.Dropped due right = ends (given_up st) (up_given st)
+  told_sees replies.Dropped due right = ends (given_up st) (stays_committed st)
   told_sees (replies.Order current) due right = goes_on d (as_it_is d) due.1
   told_sees (replies.InDoubt holder site) due right = goes_on d (as_it_is d) due.1
   told_sees replies.Fault due right = goes_on d (as_it_is d) due.1

@@ -13,11 +13,11 @@
 //! 3. So every run of a script is atomic (`runs_are_atomic`).
 //! 4. Histories whose records don't follow what was seen are refused, and a line
 //!    that came late wasn't seen (`wrong_orders_are_refused`,
-//!    `what_came_late_was_not_seen`).
+//!    `right_orders_are_taken`).
 #![tactic(auto)]
 
 mod laws;
 mod wrong;
 
 pub use laws::{clients_alone_write_records, records_follow_what_was_seen, runs_are_atomic};
-pub use wrong::{what_came_late_was_not_seen, wrong_orders_are_refused};
+pub use wrong::{right_orders_are_taken, wrong_orders_are_refused};
