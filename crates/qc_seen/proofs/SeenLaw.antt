@@ -1,5 +1,5 @@
 -- In every run each record comes after all that its client had seen, and so the run is atomic.
-use Rattle.std.proofs.Common.{◌≡◌, ◌≢◌, ◌≤◌, ℕ, Bool, true, false, cond, List, [], ◌∷◌, ◌++◌, ◌⊎◌, inl, inr, fold, Option, Some, None, slice_get, refl, sym, ap, ◌∙◌, subst, arith}
+use Rattle.std.proofs.Common.{◌≡◌, ◌≤◌, ℕ, Bool, true, false, List, [], inr, Some, slice_get, refl, sym, ap, ◌∙◌, subst, arith}
 use Rattle.qc_stamp.specs.declared.stamp.Stamp.{Stamp}
 use Rattle.qc_stamp.specs.declared.stamp.TxId.{TxId}
 use Rattle.qc_list.specs.Members.{In}
@@ -16,10 +16,9 @@ use Rattle.qc_msg.specs.declared.message.Envelope.{Envelope}
 use Rattle.qc_msg.specs.declared.message.Message.{Message}
 use Rattle.qc_msg.specs.declared.message.Message.TheVariants.{Answer, Request}
 use Rattle.qc_msg.specs.declared.message.Want.{Want}
-use Rattle.qc_msg.specs.declared.record.Record.TheVariants as records_of
 use Rattle.qc_msg.specs.declared.step.Given.TheVariants as given
 use Rattle.qc_msg.specs.Counts.{written}
-use Rattle.qc_msg.specs.Deeds.{Sends, Takes, Writes, deeds}
+use Rattle.qc_msg.specs.Deeds.{Sends, Takes, deeds}
 use Rattle.qc_msg.specs.Steps.{Entry}
 use Rattle.qc_net.specs.Lines.{lines_in}
 use Rattle.qc_net.proofs.Refining.{refines}
@@ -27,9 +26,8 @@ use Rattle.qc_onecopy.specs.Committed.{sorted}
 use Rattle.qc_onecopy.specs.Logged.{IsLogged}
 use Rattle.qc_onecopy.specs.OneCopy.{OneCopy}
 use Rattle.qc_promise.specs.Account.{is_prepare}
-use Rattle.qc_promise.specs.Atomic.{Atomic, HasBefore, IsAfterSeen}
+use Rattle.qc_promise.specs.Atomic.{Atomic, IsAfterSeen}
 use Rattle.qc_promise.specs.Committed.{committed, records}
-use Rattle.qc_promise.specs.Seen.{seen}
 use Rattle.qc_script.specs.Runs.{Runs}
 use Rattle.qc_script.specs.Sound.{IsScriptFor}
 use Rattle.qc_script.specs.declared.script.Script.{Script}
@@ -45,7 +43,7 @@ use Rattle.qc_seen.proofs.Grants.{IsAsked, all_asked, lines_passed}
 use Rattle.qc_seen.proofs.Heard.{sent_mailed, took_sent}
 use Rattle.qc_seen.proofs.Records.{none_write, records_are_clients}
 use Rattle.qc_seen.proofs.Replying.{AsksForGrant}
-use Rattle.qc_seen.proofs.Seeing.{IsUpTo, Sees}
+use Rattle.qc_seen.proofs.Seeing.{IsUpTo}
 use Rattle.qc_seen.proofs.Written.{all_wrote, deed_written, written_deed}
 
 module _ (decl : Declaration) (script : Script) (h : List Entry) (open_inputs : List Bool) (accepted : IsAccepted decl) (sound : IsScriptFor decl script) (run : Runs (IsLawful decl) decl script h open_inputs) where
