@@ -27,8 +27,8 @@ pub fn clients_alone_write_records()
 /// stamp.
 #[tactic(auto, using(crate::proofs::SeenLaw::after_seen))]
 pub fn records_follow_what_was_seen()
-    ensures { (decl : Declaration) (script : Script) (h : List Entry) (open_inputs : List Bool) → IsAccepted decl
-        → IsScriptFor decl script → Runs (IsLawful decl) decl script h open_inputs
+    ensures { (decl : Declaration) (script : Script) (h : List Entry) (open_inputs : List Bool)
+        → IsAccepted decl → IsScriptFor decl script → Runs (IsLawful decl) decl script h open_inputs
         → IsAfterSeen decl (committed decl h) h }
 {}
 
