@@ -2,7 +2,7 @@
 //! atomic.
 //!
 //! There is no code here: each law is the contract of a function with nothing
-//! to do. Its invariants:
+//! to do. What a call promises of its history rests on the third:
 //!
 //! 1. Only clients write commit records (`clients_alone_write_records`).
 //! 2. What a client has seen has a record whose stamp the client's clock has
