@@ -1,5 +1,5 @@
 -- A young client stays young over any input, and its calls ask no more.
-use Rattle.std.proofs.Common.{◌≡◌, ℕ, ◌+◌, ◌-◌, ◌^◌, ◌<◌, ◌≤◌, ◌==◌, max, Bool, true, false, cond, List, [], length, map, Option, Some, None, is_some, refl, sym, ap, ◌∙◌, subst, arith}
+use Rattle.std.proofs.Common.{◌≡◌, ℕ, ◌+◌, ◌^◌, ◌<◌, ◌≤◌, ◌==◌, Bool, true, false, cond, List, [], length, Option, Some, None, is_some, Result, Ok, Err, IfOk, OnOk, refl, sym, subst, arith}
 use Rattle.qc_decl.specs.declared.declaration.Declaration.{Declaration}
 use Rattle.qc_decl.specs.Accepted.{IsAccepted}
 use Rattle.qc_decl.specs.Lookup.{append_need_of}
@@ -16,15 +16,14 @@ use Rattle.qc_msg.specs.declared.message.Message.TheVariants as messages
 use Rattle.qc_msg.specs.declared.reply.Why.{Why}
 use Rattle.qc_msg.specs.declared.step.Command.{Command}
 use Rattle.qc_msg.specs.declared.step.Command.TheVariants as commands
+use Rattle.qc_msg.specs.declared.turn.Turn.{Turn}
 use Rattle.qc_msg.specs.Calls.{site_called, without_call}
-use Rattle.qc_msg.specs.Turns.{quiet}
 use Rattle.qc_commit.specs.declared.ballot.Ballot.{Ballot}
 use Rattle.qc_commit.specs.declared.desk.Desk.{Desk}
 use Rattle.qc_commit.specs.declared.desk.Voting.{Voting}
 use Rattle.qc_commit.specs.Calls.{Prepares, Votes, Numbers}
 use Rattle.qc_commit.specs.Conduct as desks
 use Rattle.qc_commit.specs.Desk.{DeskMove}
-use Rattle.qc_commit.specs.Desk as moves
 use Rattle.qc_commit.specs.Fits.{AsksFew}
 use Rattle.qc_commit.specs.Votes.{are_cast, cast, first_against, participants, vote_of}
 use Rattle.qc_commit.proofs.Aside.{few-after}
@@ -44,7 +43,7 @@ use Rattle.qc_front.proofs.Fitting.{fits}
 use Rattle.qc_front.proofs.Keeping.{called_holds, takes_holds, new_holds, ended_holds}
 use Rattle.qc_front.proofs.Numbering.{sent_holds}
 use Rattle.qc_client.specs.declared.client.Client.{Client}
-use Rattle.qc_client.specs.Client.{ClientMove, by_desk, by_front, moved, new_client}
+use Rattle.qc_client.specs.Client.{ClientMove, by_desk, by_front, new_client}
 use Rattle.qc_client.specs.Conduct as clients
 use Rattle.qc_client.specs.Fits.{ClientFits, promise_in}
 use Rattle.tests_clients.specs.Young.{IsYoung, most_told, told, told_in}
@@ -230,19 +229,22 @@ heard-young decl c age from number (messages.Ask tx) small young = older decl c 
 heard-young decl c age from number (messages.Close epoch) small young = older decl c age young
 heard-young decl c age from number (messages.Install epoch clock log) small young = older decl c age young
 
--- the same of a call's move
+-- the same of a call's answer
 
-pub after_command : (decl : Declaration) (c : Client) (age : ℕ) (command : Command) (m : ClientMove) → IsAccepted decl → IsYoung decl c age → clients.called decl c command ≡ m → IsYoung decl m.client (age + 1)
-after_command decl c age command m accepted young is = subst (λ (n : ClientMove). IsYoung decl n.client (age + 1)) is (called-young decl c age command accepted young)
+pub after_command : {E : Type 0} (decl : Declaration) (c d : Client) (age : ℕ) (command : Command) (r : Result Turn E) → IsAccepted decl → IsYoung decl c age → IfOk r (λ turn. clients.called decl c command ≡ record { client = d; turn = turn }) → OnOk r (IsYoung decl d (age + 1))
+after_command decl c d age command (Ok turn) accepted young is = subst (λ (m : ClientMove). IsYoung decl m.client (age + 1)) is (called-young decl c age command accepted young)
+after_command decl c d age command (Err e) accepted young is = is
 
-pub after_lost : (decl : Declaration) (c : Client) (age number : ℕ) (m : ClientMove) → IsYoung decl c age → clients.answered decl c number None ≡ m → IsYoung decl m.client (age + 1)
-after_lost decl c age number m young is = subst (λ (n : ClientMove). IsYoung decl n.client (age + 1)) is (answered-young decl c age number None (omega arith) young)
+pub after_lost : {E : Type 0} (decl : Declaration) (c d : Client) (age number : ℕ) (r : Result Turn E) → IsYoung decl c age → IfOk r (λ turn. clients.answered decl c number None ≡ record { client = d; turn = turn }) → OnOk r (IsYoung decl d (age + 1))
+after_lost decl c d age number (Ok turn) young is = subst (λ (m : ClientMove). IsYoung decl m.client (age + 1)) is (answered-young decl c age number None (omega arith) young)
+after_lost decl c d age number (Err e) young is = is
 
-pub after_message : (decl : Declaration) (c : Client) (age from number : ℕ) (message : Message) (m : ClientMove) → told_in message ≤ most_told → IsYoung decl c age → clients.heard decl c from number message ≡ m → IsYoung decl m.client (age + 1)
-after_message decl c age from number message m small young is = subst (λ (n : ClientMove). IsYoung decl n.client (age + 1)) is (heard-young decl c age from number message small young)
+pub after_message : {E : Type 0} (decl : Declaration) (c d : Client) (age from number : ℕ) (message : Message) (r : Result Turn E) → told_in message ≤ most_told → IsYoung decl c age → IfOk r (λ turn. clients.heard decl c from number message ≡ record { client = d; turn = turn }) → OnOk r (IsYoung decl d (age + 1))
+after_message decl c d age from number message (Ok turn) small young is = subst (λ (m : ClientMove). IsYoung decl m.client (age + 1)) is (heard-young decl c age from number message small young)
+after_message decl c d age from number message (Err e) small young is = is
 
-pub after_numbers : (decl : Declaration) (c : Client) (age first : ℕ) → IsYoung decl c age → IsYoung decl (clients.sent c first) age
-after_numbers decl c age first young = by c.desk.voting refl where
+numbered-young : (decl : Declaration) (c : Client) (age first : ℕ) → IsYoung decl c age → IsYoung decl (clients.sent c first) age
+numbered-young decl c age first young = by c.desk.voting refl where
   by : (o : Option Voting) → c.desk.voting ≡ o → IsYoung decl (clients.sent_by c o first) age
   by None is = record { holds = sent_holds decl c.front first young.holds; count = young.count; clock = young.clock; desk = young.desk; few = young.few }
   by (Some v) is = record { holds = young.holds; count = young.count; clock = young.clock; desk = clock; few = few-after c.desk (Numbers first) tt young.few } where
@@ -251,6 +253,9 @@ after_numbers decl c age first young = by c.desk.voting refl where
       on : (p : Option Voting) → (desks.sent_in c.desk p first).clock.value ≤ most_told + age
       on None = young.desk
       on (Some w) = young.desk
+
+pub after_numbers : (decl : Declaration) (c d : Client) (age first : ℕ) → IsYoung decl c age → d ≡ clients.sent c first → IsYoung decl d age
+after_numbers decl c d age first young is = subst (λ (x : Client). IsYoung decl x age) (sym is) (numbered-young decl c age first young)
 
 pub new_young : (decl : Declaration) (number : ℕ) → IsYoung decl (new_client number) 0
 new_young decl number = record { holds = new_holds decl number; count = omega arith; clock = omega arith; desk = omega arith; few = tt }

@@ -5,8 +5,8 @@ use crate::declared::{READ, WRITE_1, WROTE_1, X};
 use crate::taken::{Said, Taken};
 use qc_list::OutOfMemory;
 
-/// What is put aside doesn't even move the clock: the stamp is above the counted ones
-/// alone.
+/// What is put aside doesn't even move the clock: the stamp is above the
+/// counted ones alone.
 #[test]
 fn only_the_first_answer_counts(rt: HostRuntime) -> Result<(), OutOfMemory> {
     check_three(

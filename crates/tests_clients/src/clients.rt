@@ -21,7 +21,6 @@ pub(crate) const BEGAN: &str = "tell Began { tx: TxId { client: 1, life: 1, numb
 const MOST_INPUTS: u32 = 999;
 
 /// The client takes a command.
-#[tactic(auto, using(crate::proofs::Young::after_command, crate::proofs::Young::young_fits))]
 fn call(
     alloc: Global,
     decl: &Declaration,
@@ -38,7 +37,6 @@ fn call(
 }
 
 /// The client learns that a request is lost.
-#[tactic(auto, using(crate::proofs::Young::after_lost, crate::proofs::Young::young_fits))]
 fn lose(
     alloc: Global,
     decl: &Declaration,
@@ -55,7 +53,6 @@ fn lose(
 }
 
 /// The client hears a message of an actor, of number 77.
-#[tactic(auto, using(crate::proofs::Young::after_message, crate::proofs::Young::young_fits, crate::proofs::Young::few_promised))]
 fn hear(
     alloc: Global,
     decl: &Declaration,
@@ -123,11 +120,10 @@ fn take(
 }
 
 /// The messages of the last turn get the numbers from `first` on.
-#[tactic(auto, using(crate::proofs::Young::after_numbers, crate::proofs::Young::young_fits))]
 fn number(decl: &Declaration, client: &mut Client, age: u32, first: u32)
     requires accepted { IsAccepted decl.now }
     requires young { IsYoung decl.now client.old age }
-    requires few { age ≤ 1000 }
+    requires few { age < 1000 }
     requires numbers { first < 100000 }
     ensures { IsYoung decl.now client.new age }
 {

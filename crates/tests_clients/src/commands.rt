@@ -1,11 +1,13 @@
-//! Commands that have no transaction, or one with too many operations; Inquiries.
+//! Commands that have no transaction, or one with too many operations;
+//! Inquiries.
 
 use crate::clients::{BEGAN, check_three, check_weighed};
 use crate::declared::{BELL, READ, RING, X};
 use crate::taken::Taken;
 use qc_list::OutOfMemory;
 
-/// A transaction begins once; commands that want one are told that there is none.
+/// A transaction begins once; commands that want one are told that there is
+/// none.
 #[test]
 fn begins_are_told(rt: HostRuntime) -> Result<(), OutOfMemory> {
     check_three(

@@ -7,10 +7,10 @@ use qc_list::OutOfMemory;
 use std::alloc::Global;
 use std::process::Abort;
 
-/// The participants are the sites 1 and 2, in the lives 3 and 4; the Prepares are the
-/// messages 40 and 41. Each row has what comes first, what comes second, and what the
-/// client does then. The cause is the first against in the client's order of sites, and
-/// not the first that came.
+/// The participants are the sites 1 and 2, in the lives 3 and 4; the Prepares
+/// are the messages 40 and 41. Each row has what comes first, what comes
+/// second, and what the client does then. The cause is the first against in the
+/// client's order of sites, and not the first that came.
 #[test]
 fn the_first_vote_against_is_the_cause(rt: HostRuntime) -> Result<(), OutOfMemory> {
     for (one, two, want) in [
@@ -66,12 +66,12 @@ fn the_first_vote_against_is_the_cause(rt: HostRuntime) -> Result<(), OutOfMemor
 }
 
 /// A write at the sites 1 and 2 is committed, of which this comes.
-fn check_votes(
+fn check_votes<'a>(
     rt: &impl Abort,
     alloc: Global,
-    one: Taken<'_>,
-    two: Taken<'_>,
-    want: &str,
+    one: Taken<'a>,
+    two: Taken<'a>,
+    want: &'a str,
 ) -> Result<(), OutOfMemory> {
     check_three(
         rt,

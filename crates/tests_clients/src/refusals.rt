@@ -5,9 +5,9 @@ use crate::declared::{READ, WRITE_0, WRITE_1, WROTE_1, X};
 use crate::taken::{Said, Taken};
 use qc_list::OutOfMemory;
 
-/// The refusal waits for all answers; a Closed comes before a Clash, and the first of
-/// several in asked order. The transaction goes on, with the lines that it was granted
-/// and the lives that it knows.
+/// The refusal waits for all answers; a Closed comes before a Clash, and the
+/// first of several in asked order. The transaction goes on, with the lines
+/// that it was granted and the lives that it knows.
 #[test]
 fn reads_are_refused(rt: HostRuntime) -> Result<(), OutOfMemory> {
     check_three(
@@ -127,8 +127,8 @@ fn refused_appends_doom(rt: HostRuntime) -> Result<(), OutOfMemory> {
     )
 }
 
-/// So is one that was told of a closed epoch while appending, or for which too few
-/// sites are left; `abort` gives it up as well.
+/// So is one that was told of a closed epoch while appending, or for which too
+/// few sites are left; `abort` gives it up as well.
 #[test]
 fn closed_or_short_appends_doom(rt: HostRuntime) -> Result<(), OutOfMemory> {
     check_three(

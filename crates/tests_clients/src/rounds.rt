@@ -5,10 +5,10 @@ use crate::declared::{GET, PUT, READ, SLOT, WRITE_0, WRITE_1, WROTE_0, WROTE_1, 
 use crate::taken::{Said, Taken};
 use qc_list::OutOfMemory;
 
-/// W1 appends at two sites; R reads at two, and its event needs no append. The view and
-/// the own lines that weigh go along with the next Append. A lost request is one
-/// further site's, once all others are noted. The stamp is above all clocks that
-/// counted, and the next one above it.
+/// W1 appends at two sites; R reads at two, and its event needs no append. The
+/// view and the own lines that weigh go along with the next Append. A lost
+/// request is one further site's, once all others are noted. The stamp is above
+/// all clocks that counted, and the next one above it.
 #[test]
 fn a_transaction_runs(rt: HostRuntime) -> Result<(), OutOfMemory> {
     check_three(
@@ -88,7 +88,8 @@ fn a_transaction_runs(rt: HostRuntime) -> Result<(), OutOfMemory> {
     )
 }
 
-/// With no participant a commit is at once, and all sites that were asked hear of it.
+/// With no participant a commit is at once, and all sites that were asked hear
+/// of it.
 #[test]
 fn commits_without_a_participant(rt: HostRuntime) -> Result<(), OutOfMemory> {
     check_three(
@@ -162,8 +163,8 @@ fn absent_operations_are_recorded(rt: HostRuntime) -> Result<(), OutOfMemory> {
     )
 }
 
-/// A round asks for what it needs at once, and then for one site more at a time; what
-/// is granted may weigh more than the sites that are left.
+/// A round asks for what it needs at once, and then for one site more at a
+/// time; what is granted may weigh more than the sites that are left.
 #[test]
 fn weights_are_met(rt: HostRuntime) -> Result<(), OutOfMemory> {
     check_weighed(
