@@ -65,7 +65,7 @@ fn the_first_vote_against_is_the_cause(rt: HostRuntime) -> Result<(), OutOfMemor
     Ok(())
 }
 
-/// A write at the sites 1 and 2 is committed, of which this comes.
+/// A write that the sites 1 and 2 granted is to commit, and this comes of it.
 fn check_votes<'a>(
     rt: &impl Abort,
     alloc: Global,

@@ -163,8 +163,8 @@ fn absent_operations_are_recorded(rt: HostRuntime) -> Result<(), OutOfMemory> {
     )
 }
 
-/// A round asks for what it needs at once, and then for one site more at a
-/// time; what is granted may weigh more than the sites that are left.
+/// A site of weight 2 is as good as two of weight 1: without it two grants meet
+/// a read, and are too few for a write.
 #[test]
 fn weights_are_met(rt: HostRuntime) -> Result<(), OutOfMemory> {
     check_weighed(
