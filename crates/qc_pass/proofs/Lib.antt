@@ -1,0 +1,4 @@
+pub mod Places
+pub mod Owns
+pub mod Keeps
+pub mod Making
