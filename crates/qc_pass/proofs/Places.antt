@@ -35,3 +35,14 @@ module _ {A : Type 0} where
 
   pub prefix_all : (xs ys : List A) → xs ≡ ys → IsPrefix xs ys
   prefix_all xs ys same = ([], append-nil xs ∙ same)
+
+  -- of two beginnings of a list the one begins with the other
+  pub prefixes : (xs ys zs : List A) → IsPrefix xs zs → IsPrefix ys zs → IsPrefix xs ys ⊎ IsPrefix ys xs
+  prefixes [] ys zs p q = inl (ys, refl)
+  prefixes (x ∷ xs) [] zs p q = inr (x ∷ xs, refl)
+  prefixes (x ∷ xs) (y ∷ ys) [] p q = absurd (cc p.1)
+  prefixes (x ∷ xs) (y ∷ ys) (z ∷ zs) p q =
+      let same : x ≡ y = cc (p.1, q.1) in
+      let p' : xs ++ p.0 ≡ zs = cc p.1 in
+      let q' : ys ++ q.0 ≡ zs = cc q.1 in
+      ⊎_elim (λ (t : IsPrefix xs ys). inl (t.0, λ k. same k ∷ t.1 k)) (λ (t : IsPrefix ys xs). inr (t.0, λ k. sym same k ∷ t.1 k)) (prefixes xs ys zs (p.0, p') (q.0, q'))
