@@ -1,17 +1,17 @@
 -- Each kind of step keeps the pass rule.
-use Rattle.std.proofs.Common.{◌≡◌, ℕ, zero, suc, ◌+◌, ◌==◌, ◌%◌, ◌^◌, ◌<◌, ◌≤◌, ◌≢◌, true, cond, List, [], ◌∷◌, ◌++◌, length, set, refl, ap, sym, ◌∙◌, subst, arith, length-append, length-set, eq-eqb, ne_eqb, Option, Some}
+use Rattle.std.proofs.Common.{◌≡◌, ℕ, zero, suc, ◌+◌, ◌==◌, ◌%◌, ◌^◌, ◌<◌, ◌≤◌, ◌≢◌, true, false, cond, List, [], ◌∷◌, ◌++◌, length, set, refl, ap, sym, ◌∙◌, subst, arith, length-append, length-set, eq-eqb, ne_eqb, Option, Some, slice_get}
 use Rattle.std.specs.Prelude.{slice_index}
 use Rattle.std.proofs.Math.Nat.{mod-add-mod}
-use mathlib.Core.Option.{none, some, some-injective, some-ne-none}
+use mathlib.Core.Option.{none, some}
 use lib.ListN.{get_elem?}
 use lib.Seq.{set-get_or}
 use Rattle.atomic_table.specs.Table.{State, step, keeps, opening, Allows, Splits, Joins}
-use Rattle.atomic_table.proofs.Lists.{set_again, set_else, set_here, at_longer, at_last}
+use Rattle.atomic_table.proofs.Lists.{set_again}
 use Rattle.qc_list.specs.declared.marked.Marked.{Marked}
 use Rattle.qc_pass.specs.declared.view.View.{View}
 use Rattle.qc_pass.specs.Views.{marked, pass_view, right_view, spent, with_pass, next_pass, joined, with_entry, pass_apart, right_apart, Knows, Loads, Adds}
 use Rattle.qc_pass.specs.Rule.{IsPassOf, IsRightTo, IsOneHistory}
-use Rattle.qc_pass.proofs.Places.{at_inside, set_fact, end_fact, prefix_more, prefix_all}
+use Rattle.qc_pass.proofs.Places.{got, at_inside, set_here, set_else, at_longer, at_last, set_fact, end_fact, prefix_more, prefix_all}
 use Rattle.qc_pass.proofs.Owns.{own_mine, own_other}
 
 counted : (n k : ℕ) → n ≡ k % 2 ^ 64 → (n + 1) % 2 ^ 64 ≡ (k + 1) % 2 ^ 64
@@ -39,19 +39,20 @@ module _ {E : Type 0} where
     pass = first_pass;
   }
     where
-      first_right : (k : ℕ) (v : View E) → get_elem? (first_view ∷ []) k ≡ some v → v.has_right ≡ true → IsRightTo [] [] [] 0 k v
-      first_right zero v e f = let s = some-injective _ v e in subst (λ (u : View E). IsRightTo [] [] [] 0 0 u) s record { own_seat = refl; all_is = refl; rooms_is = refl; ends_is = refl }
-      first_right (suc k) v e f = absurd (some-ne-none v (sym e))
+      first_right : (k : ℕ) (v : View E) → slice_get (first_view ∷ []) k ≡ Some v → v.has_right ≡ true → IsRightTo [] [] [] 0 k v
+      first_right zero v e f = let s : first_view ≡ v = cc e in subst (λ (u : View E). IsRightTo [] [] [] 0 0 u) s record { own_seat = refl; all_is = refl; rooms_is = refl; ends_is = refl }
+      first_right (suc k) v e f = absurd (cc e)
 
-      first_pass : (k : ℕ) (v : View E) → get_elem? (first_view ∷ []) k ≡ some v → v.is_pass ≡ true → IsPassOf [] [] [] (λ n. 0) k v
-      first_pass zero v e f = let s = some-injective _ v e in let t = ap (λ (u : View E). u.is_pass) s ∙ f in absurd (cc t)
-      first_pass (suc k) v e f = absurd (some-ne-none v (sym e))
+      first_pass : (k : ℕ) (v : View E) → slice_get (first_view ∷ []) k ≡ Some v → v.is_pass ≡ true → IsPassOf [] [] [] (λ n. 0) k v
+      first_pass zero v e f = let s : first_view ≡ v = cc e in let t : false ≡ true = ap (λ (u : View E). u.is_pass) s ∙ f in absurd (cc t)
+      first_pass (suc k) v e f = absurd (cc e)
 
   -- the right makes a pass
   pub makes : (id : ℕ) (all : List (Marked E)) (rooms ends : List ℕ)
       → Splits IsOneHistory id (right_view all rooms ends) (with_pass (right_view all rooms ends)) (next_pass (right_view all rooms ends))
-  makes id all rooms ends s h at =
+  makes id all rooms ends s h here =
       let v : View E = right_view all rooms ends in
+      let at : slice_get s.views id ≡ Some v = got s.views id v here in
       let r : IsRightTo h.history h.rooms h.ends h.holder id v = h.right id v at refl in
       let rooms' : List ℕ = h.rooms ++ 0 ∷ [] in
       let ends' : List ℕ = h.ends ++ 0 ∷ [] in
@@ -101,11 +102,12 @@ module _ {E : Type 0} where
   -- a pass takes the right over
   pub joins : (id n : ℕ) (seen : List (Marked E)) (mine : List E) (room other : ℕ) (all : List (Marked E)) (rooms ends : List ℕ)
       → Joins IsOneHistory id (pass_view n seen mine room) other (right_view all rooms ends) (joined (pass_view n seen mine room) (right_view all rooms ends)) spent
-  joins id n seen mine room other all rooms ends s h at ne at' =
+  joins id n seen mine room other all rooms ends s h here ne there' =
       let v : View E = pass_view n seen mine room in
       let w : View E = right_view all rooms ends in
       let j : View E = joined v w in
-      let there : get_elem? s.views other ≡ some w = sym (set_else s.views id other j ne) ∙ at' in
+      let at : slice_get s.views id ≡ Some v = got s.views id v here in
+      let there : slice_get s.views other ≡ Some w = sym (set_else s.views id other j ne) ∙ got (set s.views id j) other w there' in
       let r : IsRightTo h.history h.rooms h.ends h.holder other w = h.right other w there refl in
       let p : IsPassOf h.history h.rooms h.ends h.seats id v = h.pass id v at refl in
       record {
@@ -131,7 +133,7 @@ module _ {E : Type 0} where
       }
 
   -- what a pass that has the right knows
-  knows : (s : State (Unit {0}) (View E)) (h : IsOneHistory s) (id : ℕ) (v : View E) → get_elem? s.views id ≡ some v → v.is_pass ≡ true → v.has_right ≡ true → Knows v
+  knows : (s : State (Unit {0}) (View E)) (h : IsOneHistory s) (id : ℕ) (v : View E) → slice_get s.views id ≡ Some v → v.is_pass ≡ true → v.has_right ≡ true → Knows v
   knows s h id v at is has =
       let r : IsRightTo h.history h.rooms h.ends h.holder id v = h.right id v at has in
       let p : IsPassOf h.history h.rooms h.ends h.seats id v = h.pass id v at is in
@@ -146,15 +148,17 @@ module _ {E : Type 0} where
   -- it reads the word
   pub loads : (slots id : ℕ) (v : View E) → v.is_pass ≡ true → v.has_right ≡ true
       → Allows IsOneHistory slots id (v, []) 0 (λ n. n) (Loads (step slots 0 0 0 none) (v, []))
-  loads slots id v is has s h len at small =
+  loads slots id v is has s h len here small =
+      let at : slice_get s.views id ≡ Some v = got s.views id v here in
       let same : set s.words 0 (slice_index s.words 0) ≡ s.words = set-get_or s.words 0 0 in
-      let kept : IsOneHistory record { words = s.words; homes = s.homes; views = set s.views id v } = rw (set_again s.views id v at) h in
+      let kept : IsOneHistory record { words = s.words; homes = s.homes; views = set s.views id v } = rw (set_again s.views id v here) h in
       (v, keeps, tt, rw same kept, (knows s h id v at is has, refl))
 
   -- it adds an entry
   pub adds : (slots id : ℕ) (v : View E) (picked : Option E) (e : E) → picked ≡ Some e → v.is_pass ≡ true → v.has_right ≡ true
       → Allows IsOneHistory slots id (v, []) 0 (λ n. (n + 1) % 2 ^ 64) (Adds picked (step slots 0 1 0 none) (v, []))
-  adds slots id v picked e is_picked is has s h len at small =
+  adds slots id v picked e is_picked is has s h len here small =
+      let at : slice_get s.views id ≡ Some v = got s.views id v here in
       let r : IsRightTo h.history h.rooms h.ends h.holder id v = h.right id v at has in
       let p : IsPassOf h.history h.rooms h.ends h.seats id v = h.pass id v at is in
       let history' : List (Marked E) = h.history ++ marked v.number e ∷ [] in
@@ -197,7 +201,8 @@ module _ {E : Type 0} where
 
   -- it gives the right off
   pub gives : (id : ℕ) (v : View E) (room : ℕ) → v.is_pass ≡ true → v.has_right ≡ true → Splits IsOneHistory id v (pass_apart room v) (right_apart room v)
-  gives id v room is has s h at =
+  gives id v room is has s h here =
+      let at : slice_get s.views id ≡ Some v = got s.views id v here in
       let r : IsRightTo h.history h.rooms h.ends h.holder id v = h.right id v at has in
       let p : IsPassOf h.history h.rooms h.ends h.seats id v = h.pass id v at is in
       let rooms' : List ℕ = set h.rooms v.number room in

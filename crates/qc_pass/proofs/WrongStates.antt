@@ -1,9 +1,7 @@
 -- States that the pass rule refuses, and one that it allows.
 use Rattle.std.proofs.Common.{◌≡◌, ℕ, zero, suc, ◌%◌, ◌^◌, ◌<◌, ◌≤◌, true, false, List, [], ◌∷◌, ◌++◌, length, refl, ap, sym, ◌∙◌, subst, arith}
-use Rattle.std.specs.Prelude.{slice_index}
-use mathlib.Core.Option.{none, some, some-injective, some-ne-none}
+use Rattle.std.specs.Prelude.{slice_get, slice_index, Option, Some}
 use mathlib.Core.List.{IsPrefix}
-use lib.ListN.{get_elem?}
 use Rattle.qc_list.specs.declared.marked.Marked.{Marked}
 use Rattle.qc_pass.specs.declared.view.View.{View}
 use Rattle.qc_pass.specs.Views.{marked, pass_view, right_view, own}
@@ -15,9 +13,9 @@ module _ {E : Type 0} where
   pub no_right : IsOneHistory {E = E} (word_of 0 (pass_view 0 [] [] 0 ∷ [])) → ⊥
   no_right h = at h.holder h.view h.there h.holds
     where
-      at : (k : ℕ) (v : View E) → get_elem? (pass_view 0 [] [] 0 ∷ []) k ≡ some v → v.has_right ≡ true → ⊥
-      at zero v e f = let s : pass_view 0 [] [] 0 ≡ v = some-injective _ v e in let t : false ≡ true = ap (λ (u : View E). u.has_right) s ∙ f in absurd (cc t)
-      at (suc k) v e f = absurd (some-ne-none v (sym e))
+      at : (k : ℕ) (v : View E) → slice_get (pass_view 0 [] [] 0 ∷ []) k ≡ Some v → v.has_right ≡ true → ⊥
+      at zero v e f = let s : pass_view 0 [] [] 0 ≡ v = cc e in let t : false ≡ true = ap (λ (u : View E). u.has_right) s ∙ f in absurd (cc t)
+      at (suc k) v e f = absurd (cc e)
 
   pub second_right : IsOneHistory {E = E} (word_of 0 (right_view [] [] [] ∷ right_view [] [] [] ∷ [])) → ⊥
   second_right h =
@@ -104,16 +102,16 @@ module _ {E : Type 0} where
   other_room h =
       let r = h.right 0 (right_view [] (2 ∷ []) (0 ∷ [])) refl refl in
       let p = h.pass 1 (pass_view 0 [] [] 3) refl refl in
-      let found : some 2 ≡ some 3 = ap (λ (l : List ℕ). get_elem? l 0) r.rooms_is ∙ p.had_room in
-      let same : 2 ≡ 3 = some-injective 2 3 found in
+      let found : ◌≡◌ {A = Option ℕ} (Some 2) (Some 3) = ap (λ (l : List ℕ). slice_get l 0) r.rooms_is ∙ p.had_room in
+      let same : ◌≡◌ {A = ℕ} 2 3 = cc found in
       omega (arith, same)
 
   pub other_end : (e : E) → IsOneHistory (word_of 1 (right_view (marked 0 e ∷ []) (0 ∷ []) (0 ∷ []) ∷ pass_view 0 (marked 0 e ∷ []) (e ∷ []) 0 ∷ [])) → ⊥
   other_end e h =
       let r = h.right 0 (right_view (marked 0 e ∷ []) (0 ∷ []) (0 ∷ [])) refl refl in
       let p = h.pass 1 (pass_view 0 (marked 0 e ∷ []) (e ∷ []) 0) refl refl in
-      let found : some 0 ≡ some 1 = ap (λ (l : List ℕ). get_elem? l 0) r.ends_is ∙ p.had_end in
-      let same : 0 ≡ 1 = some-injective 0 1 found in
+      let found : ◌≡◌ {A = Option ℕ} (Some 0) (Some 1) = ap (λ (l : List ℕ). slice_get l 0) r.ends_is ∙ p.had_end in
+      let same : ◌≡◌ {A = ℕ} 0 1 = cc found in
       omega (arith, same)
 
   -- two actors added an entry each, and one has seen both
@@ -124,19 +122,19 @@ module _ {E : Type 0} where
     abbrev views : List (View E)
     views = right_view both (3 ∷ 0 ∷ []) (1 ∷ 2 ∷ []) ∷ pass_view 0 (marked 0 d ∷ []) (d ∷ []) 3 ∷ pass_view 1 both (e ∷ []) 0 ∷ []
 
-    stand_right : (k : ℕ) (v : View E) → get_elem? views k ≡ some v → v.has_right ≡ true → IsRightTo both (3 ∷ 0 ∷ []) (1 ∷ 2 ∷ []) 0 k v
-    stand_right zero v at f = subst (λ (u : View E). IsRightTo both (3 ∷ 0 ∷ []) (1 ∷ 2 ∷ []) 0 0 u) (some-injective _ v at) record { own_seat = refl; all_is = refl; rooms_is = refl; ends_is = refl }
-    stand_right (suc zero) v at f = let s = some-injective _ v at in let t = ap (λ (u : View E). u.has_right) s ∙ f in absurd (cc t)
-    stand_right (suc (suc zero)) v at f = let s = some-injective _ v at in let t = ap (λ (u : View E). u.has_right) s ∙ f in absurd (cc t)
-    stand_right (suc (suc (suc k))) v at f = absurd (some-ne-none v (sym at))
+    stand_right : (k : ℕ) (v : View E) → slice_get views k ≡ Some v → v.has_right ≡ true → IsRightTo both (3 ∷ 0 ∷ []) (1 ∷ 2 ∷ []) 0 k v
+    stand_right zero v at f = let s : right_view both (3 ∷ 0 ∷ []) (1 ∷ 2 ∷ []) ≡ v = cc at in subst (λ (u : View E). IsRightTo both (3 ∷ 0 ∷ []) (1 ∷ 2 ∷ []) 0 0 u) s record { own_seat = refl; all_is = refl; rooms_is = refl; ends_is = refl }
+    stand_right (suc zero) v at f = let s : pass_view 0 (marked 0 d ∷ []) (d ∷ []) 3 ≡ v = cc at in let t : false ≡ true = ap (λ (u : View E). u.has_right) s ∙ f in absurd (cc t)
+    stand_right (suc (suc zero)) v at f = let s : pass_view 1 both (e ∷ []) 0 ≡ v = cc at in let t : false ≡ true = ap (λ (u : View E). u.has_right) s ∙ f in absurd (cc t)
+    stand_right (suc (suc (suc k))) v at f = absurd (cc at)
 
-    stand_pass : (k : ℕ) (v : View E) → get_elem? views k ≡ some v → v.is_pass ≡ true → IsPassOf both (3 ∷ 0 ∷ []) (1 ∷ 2 ∷ []) suc k v
-    stand_pass zero v at f = let s = some-injective _ v at in let t = ap (λ (u : View E). u.is_pass) s ∙ f in absurd (cc t)
-    stand_pass (suc zero) v at f = subst (λ (u : View E). IsPassOf both (3 ∷ 0 ∷ []) (1 ∷ 2 ∷ []) suc 1 u) (some-injective _ v at)
+    stand_pass : (k : ℕ) (v : View E) → slice_get views k ≡ Some v → v.is_pass ≡ true → IsPassOf both (3 ∷ 0 ∷ []) (1 ∷ 2 ∷ []) suc k v
+    stand_pass zero v at f = let s : right_view both (3 ∷ 0 ∷ []) (1 ∷ 2 ∷ []) ≡ v = cc at in let t : false ≡ true = ap (λ (u : View E). u.is_pass) s ∙ f in absurd (cc t)
+    stand_pass (suc zero) v at f = let s : pass_view 0 (marked 0 d ∷ []) (d ∷ []) 3 ≡ v = cc at in subst (λ (u : View E). IsPassOf both (3 ∷ 0 ∷ []) (1 ∷ 2 ∷ []) suc 1 u) s
         record { own_seat = refl; made = omega arith; part = refl; begins = (marked 1 e ∷ [], refl); had_room = refl; had_end = refl }
-    stand_pass (suc (suc zero)) v at f = subst (λ (u : View E). IsPassOf both (3 ∷ 0 ∷ []) (1 ∷ 2 ∷ []) suc 2 u) (some-injective _ v at)
+    stand_pass (suc (suc zero)) v at f = let s : pass_view 1 both (e ∷ []) 0 ≡ v = cc at in subst (λ (u : View E). IsPassOf both (3 ∷ 0 ∷ []) (1 ∷ 2 ∷ []) suc 2 u) s
         record { own_seat = refl; made = omega arith; part = refl; begins = ([], refl); had_room = refl; had_end = refl }
-    stand_pass (suc (suc (suc k))) v at f = absurd (some-ne-none v (sym at))
+    stand_pass (suc (suc (suc k))) v at f = absurd (cc at)
 
     stand_unmade : (n : ℕ) → 2 ≤ n → own n both ≡ []
     stand_unmade n le = own_other n 1 (marked 0 d ∷ []) e (λ q. omega (arith, le, q)) ∙ own_other n 0 [] d (λ q. omega (arith, le, q))

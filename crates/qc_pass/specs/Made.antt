@@ -1,7 +1,5 @@
 -- Passes and a right that are newly made.
-use Rattle.std.specs.Prelude.{ℕ, ◌≡◌, List, [], length, replicate}
-use mathlib.Core.Option.{some}
-use lib.ListN.{get_elem?}
+use Rattle.std.specs.Prelude.{ℕ, ◌≡◌, List, [], length, replicate, slice_get, Some}
 use Rattle.atomic_table.specs.Seated.{TableId}
 use Rattle.qc_pass.specs.declared.token.Pass.{Pass}
 use Rattle.qc_pass.specs.declared.token.Right.{Right}
@@ -18,7 +16,7 @@ module _ {E : Type 0} where
 
   -- new passes with the numbers from 0 on
   abbrev pub AreNew : TableId → List (Pass E) → Type 0
-  AreNew z ps = (n : ℕ) (p : Pass E) → get_elem? ps n ≡ some p → IsNew z n p
+  AreNew z ps = (n : ℕ) (p : Pass E) → slice_get ps n ≡ Some p → IsNew z n p
 
   -- the right to a history without entries, with n passes that have seen nothing
   pub record IsFirst (z : TableId) (n : ℕ) (r : Right E) : Type 0 where

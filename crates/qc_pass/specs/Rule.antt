@@ -1,8 +1,6 @@
 -- The pass rule: all seats of the word are of one history. It says nothing of a seat that is spent.
-use Rattle.std.specs.Prelude.{ℕ, ◌≡◌, ◌%◌, ◌^◌, ◌<◌, ◌≤◌, true, List, [], ◌∷◌, length}
-use mathlib.Core.Option.{some}
+use Rattle.std.specs.Prelude.{ℕ, ◌≡◌, ◌%◌, ◌^◌, ◌<◌, ◌≤◌, true, List, [], ◌∷◌, length, slice_get, Some}
 use mathlib.Core.List.{IsPrefix}
-use lib.ListN.{get_elem?}
 use Rattle.atomic_table.specs.Table.{State}
 use Rattle.qc_list.specs.declared.marked.Marked.{Marked}
 use Rattle.qc_pass.specs.declared.view.View.{View}
@@ -16,8 +14,8 @@ module _ {E : Type 0} where
     pub made : v.number < length rooms
     pub part : own v.number history ≡ v.mine
     pub begins : IsPrefix v.seen history
-    pub had_room : get_elem? rooms v.number ≡ some v.room
-    pub had_end : get_elem? ends v.number ≡ some (length v.seen)
+    pub had_room : slice_get rooms v.number ≡ Some v.room
+    pub had_end : slice_get ends v.number ≡ Some (length v.seen)
 
   -- the right at the seat k knows the history, each room and each end, and the seat is the one that holds the right
   pub record IsRightTo (history : List (Marked E)) (rooms ends : List ℕ) (holder k : ℕ) (v : View E) : Type 0 where
@@ -34,7 +32,7 @@ module _ {E : Type 0} where
     -- the seat that has the right
     pub holder : ℕ
     pub view : View E
-    pub there : get_elem? s.views holder ≡ some view
+    pub there : slice_get s.views holder ≡ Some view
     pub holds : view.has_right ≡ true
     -- the word counts the entries, modulo its size
     pub word : s.words ≡ (length history % 2 ^ 64) ∷ []
@@ -42,7 +40,7 @@ module _ {E : Type 0} where
     pub as_many : length ends ≡ length rooms
     pub unmade : (n : ℕ) → length rooms ≤ n → own n history ≡ []
     -- whoever has the right knows the history, and is that seat; each pass is of the history
-    pub right : (k : ℕ) (v : View E) → get_elem? s.views k ≡ some v → v.has_right ≡ true
+    pub right : (k : ℕ) (v : View E) → slice_get s.views k ≡ Some v → v.has_right ≡ true
         → IsRightTo history rooms ends holder k v
-    pub pass : (k : ℕ) (v : View E) → get_elem? s.views k ≡ some v → v.is_pass ≡ true
+    pub pass : (k : ℕ) (v : View E) → slice_get s.views k ≡ Some v → v.is_pass ≡ true
         → IsPassOf history rooms ends seats k v

@@ -1,8 +1,6 @@
 -- What contracts name of the word, a pass and the right, and what happens where a pass and the right meet.
-use Rattle.std.specs.Prelude.{ℕ, ◌≡◌, ◌<◌, List, ◌++◌, length, slice_set}
-use mathlib.Core.Option.{some}
+use Rattle.std.specs.Prelude.{ℕ, ◌≡◌, ◌<◌, List, ◌++◌, length, slice_get, slice_set, Some}
 use mathlib.Core.List.{IsPrefix}
-use lib.ListN.{get_elem?}
 use Rattle.atomic_table.specs.Seated.{TableId}
 use Rattle.qc_list.specs.declared.marked.Marked.{Marked}
 use Rattle.qc_pass.specs.declared.token.Passes.{Passes}
@@ -57,8 +55,8 @@ module _ {E : Type 0} where
     pub made : number p < length (rooms r)
     pub part : own (number p) (all r) ≡ mine p
     pub begins : IsPrefix (seen p) (all r)
-    pub had_room : get_elem? (rooms r) (number p) ≡ some (room p)
-    pub had_end : get_elem? (ends r) (number p) ≡ some (length (seen p))
+    pub had_room : slice_get (rooms r) (number p) ≡ Some (room p)
+    pub had_end : slice_get (ends r) (number p) ≡ Some (length (seen p))
     -- after
     pub mine_is : mine q ≡ mine p ++ added
     pub seen_is : seen q ≡ all t

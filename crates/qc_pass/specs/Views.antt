@@ -1,9 +1,7 @@
 -- What a seat knows, how each kind of step changes that, and what a step tells.
-use Rattle.std.specs.Prelude.{ℕ, ◌≡◌, ◌==◌, ◌<◌, true, false, List, [], ◌∷◌, ◌++◌, map, filter, length, slice_set}
+use Rattle.std.specs.Prelude.{ℕ, ◌≡◌, ◌==◌, ◌<◌, true, false, List, [], ◌∷◌, ◌++◌, map, filter, length, slice_get, slice_set}
 use Rattle.std.specs.Prelude.{Option, Some}
-use mathlib.Core.Option.{some}
 use mathlib.Core.List.{IsPrefix}
-use lib.ListN.{get_elem?}
 use Rattle.atomic_table.specs.Table.{Me, Step}
 use Rattle.qc_list.specs.declared.marked.Marked.{Marked}
 use Rattle.qc_pass.specs.declared.view.View.{View}
@@ -80,8 +78,8 @@ module _ {E : Type 0} where
     -- the history begins with what it has seen
     pub begins : IsPrefix v.seen v.all
     -- the right knows its room, and how much it has seen
-    pub had_room : get_elem? v.rooms v.number ≡ some v.room
-    pub had_end : get_elem? v.ends v.number ≡ some (length v.seen)
+    pub had_room : slice_get v.rooms v.number ≡ Some v.room
+    pub had_end : slice_get v.ends v.number ≡ Some (length v.seen)
 
   -- a load leaves the seat as it was
   abbrev pub Loads : Step (Unit {0}) → Me (Unit {0}) (View E) → ℕ → Me (Unit {0}) (View E) → Type 0
