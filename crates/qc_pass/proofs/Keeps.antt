@@ -1,9 +1,8 @@
 -- Each kind of step keeps the pass rule.
-use Rattle.std.proofs.Common.{◌≡◌, ℕ, zero, suc, ◌+◌, ◌==◌, ◌%◌, ◌^◌, ◌<◌, ◌≤◌, ◌≢◌, true, false, cond, List, [], ◌∷◌, ◌++◌, length, set, refl, ap, sym, ◌∙◌, subst, arith, length-append, length-set, eq-eqb, ne_eqb, Option, Some, slice_get}
+use Rattle.std.proofs.Common.{◌≡◌, ℕ, zero, suc, ◌+◌, ◌==◌, ◌%◌, ◌^◌, ◌≢◌, true, false, cond, List, [], ◌∷◌, ◌++◌, length, set, refl, ap, sym, ◌∙◌, subst, arith, length-append, length-set, eq-eqb, ne_eqb, Option, Some, slice_get}
 use Rattle.std.specs.Prelude.{slice_index}
 use Rattle.std.proofs.Math.Nat.{mod-add-mod}
-use mathlib.Core.Option.{none, some}
-use lib.ListN.{get_elem?}
+use mathlib.Core.Option.{none}
 use lib.Seq.{set-get_or}
 use Rattle.atomic_table.specs.Table.{State, step, keeps, opening, Allows, Splits, Joins}
 use Rattle.atomic_table.proofs.Lists.{set_again}
@@ -162,42 +161,47 @@ module _ {E : Type 0} where
       let r : IsRightTo h.history h.rooms h.ends h.holder id v = h.right id v at has in
       let p : IsPassOf h.history h.rooms h.ends h.seats id v = h.pass id v at is in
       let history' : List (Marked E) = h.history ++ marked v.number e ∷ [] in
-      let now : slice_index s.words 0 ≡ length h.history % 2 ^ 64 = ap (λ (ws : List ℕ). slice_index ws 0) h.word in
-      (with_entry v e, keeps, tt, record {
-        history = history';
-        rooms = h.rooms;
-        ends = h.ends;
-        seats = h.seats;
-        holder = id;
-        view = with_entry v e;
-        there = set_here s.views id (with_entry v e) (at_inside s.views id v at);
-        holds = refl;
-        word = ap (λ (ws : List ℕ). set ws 0 ((slice_index s.words 0 + 1) % 2 ^ 64)) h.word
-            ∙ ap (λ (n : ℕ). n ∷ []) (counted (slice_index s.words 0) (length h.history) now ∙ ap (λ (n : ℕ). n % 2 ^ 64) (sym (length-append h.history (marked v.number e ∷ []))));
-        as_many = h.as_many;
-        unmade = λ n le. own_other n v.number h.history e (λ q. omega (arith, p.made, le, q)) ∙ h.unmade n le;
-        right = set_fact (λ k u. u.has_right ≡ true → IsRightTo history' h.rooms h.ends id k u) s.views id (with_entry v e)
-            (λ f. record { own_seat = refl; all_is = ap (λ (l : List (Marked E)). l ++ marked v.number e ∷ []) r.all_is; rooms_is = r.rooms_is; ends_is = r.ends_is })
-            (λ k u ne at' f. absurd (ne ((h.right k u at' f).own_seat ∙ sym r.own_seat)));
-        pass = set_fact (λ k u. u.is_pass ≡ true → IsPassOf history' h.rooms h.ends h.seats k u) s.views id (with_entry v e)
-            (λ f. record {
-              own_seat = p.own_seat;
-              made = p.made;
-              part = own_mine v.number h.history e ∙ ap (λ (l : List E). l ++ e ∷ []) p.part;
-              begins = prefix_more v.seen h.history (marked v.number e ∷ []) p.begins;
-              had_room = p.had_room;
-              had_end = p.had_end;
-            })
-            (λ k u ne at' f. let q : IsPassOf h.history h.rooms h.ends h.seats k u = h.pass k u at' f in
-            let apart : v.number ≢ u.number = λ same. ne (sym q.own_seat ∙ (ap h.seats (sym same) ∙ p.own_seat)) in record {
-              own_seat = q.own_seat;
-              made = q.made;
-              part = own_other u.number v.number h.history e apart ∙ q.part;
-              begins = prefix_more u.seen h.history (marked v.number e ∷ []) q.begins;
-              had_room = q.had_room;
-              had_end = q.had_end;
-            });
-      }, (knows s h id v at is has, λ x also. let same : e ≡ x = cc (is_picked, also) in ap (λ (y : E). (with_entry v y, [])) same))
+      let now : slice_index s.words 0 ≡ length h.history % 2 ^ 64 = ap (λ (ws : List ℕ). slice_index ws 0) h.word in (
+        with_entry v e,
+        keeps,
+        tt,
+        record {
+          history = history';
+          rooms = h.rooms;
+          ends = h.ends;
+          seats = h.seats;
+          holder = id;
+          view = with_entry v e;
+          there = set_here s.views id (with_entry v e) (at_inside s.views id v at);
+          holds = refl;
+          word = ap (λ (ws : List ℕ). set ws 0 ((slice_index s.words 0 + 1) % 2 ^ 64)) h.word
+              ∙ ap (λ (n : ℕ). n ∷ []) (counted (slice_index s.words 0) (length h.history) now ∙ ap (λ (n : ℕ). n % 2 ^ 64) (sym (length-append h.history (marked v.number e ∷ []))));
+          as_many = h.as_many;
+          unmade = λ n le. own_other n v.number h.history e (λ q. omega (arith, p.made, le, q)) ∙ h.unmade n le;
+          right = set_fact (λ k u. u.has_right ≡ true → IsRightTo history' h.rooms h.ends id k u) s.views id (with_entry v e)
+              (λ f. record { own_seat = refl; all_is = ap (λ (l : List (Marked E)). l ++ marked v.number e ∷ []) r.all_is; rooms_is = r.rooms_is; ends_is = r.ends_is })
+              (λ k u ne at' f. absurd (ne ((h.right k u at' f).own_seat ∙ sym r.own_seat)));
+          pass = set_fact (λ k u. u.is_pass ≡ true → IsPassOf history' h.rooms h.ends h.seats k u) s.views id (with_entry v e)
+              (λ f. record {
+                own_seat = p.own_seat;
+                made = p.made;
+                part = own_mine v.number h.history e ∙ ap (λ (l : List E). l ++ e ∷ []) p.part;
+                begins = prefix_more v.seen h.history (marked v.number e ∷ []) p.begins;
+                had_room = p.had_room;
+                had_end = p.had_end;
+              })
+              (λ k u ne at' f. let q : IsPassOf h.history h.rooms h.ends h.seats k u = h.pass k u at' f in
+              let apart : v.number ≢ u.number = λ same. ne (sym q.own_seat ∙ (ap h.seats (sym same) ∙ p.own_seat)) in record {
+                own_seat = q.own_seat;
+                made = q.made;
+                part = own_other u.number v.number h.history e apart ∙ q.part;
+                begins = prefix_more u.seen h.history (marked v.number e ∷ []) q.begins;
+                had_room = q.had_room;
+                had_end = q.had_end;
+              });
+        },
+        (knows s h id v at is has, λ x also. let same : e ≡ x = cc (is_picked, also) in ap (λ (y : E). (with_entry v y, [])) same),
+      )
 
   -- it gives the right off
   pub gives : (id : ℕ) (v : View E) (room : ℕ) → v.is_pass ≡ true → v.has_right ≡ true → Splits IsOneHistory id v (pass_apart room v) (right_apart room v)

@@ -1,8 +1,7 @@
 -- What the pass rule says of any two seats.
-use Rattle.std.proofs.Common.{◌≡◌, ℕ, ◌⊎◌, List, [], ◌∷◌, ◌++◌, refl, ap, sym, ◌∙◌, inl, inr, ⊎_elim}
+use Rattle.std.proofs.Common.{◌≡◌, ℕ, ◌⊎◌, ap, sym, ◌∙◌}
 use mathlib.Core.List.{IsPrefix}
 use Rattle.atomic_table.specs.Table.{State}
-use Rattle.qc_list.specs.declared.marked.Marked.{Marked}
 use Rattle.qc_pass.specs.declared.view.View.{View}
 use Rattle.qc_pass.specs.Views.{Knows, joined, own}
 use Rattle.qc_pass.specs.Seats.{IsPassAt, IsRightAt}

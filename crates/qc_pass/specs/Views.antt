@@ -18,20 +18,41 @@ module _ {E : Type 0} where
 
   abbrev pub pass_view : ℕ → List (Marked E) → List E → ℕ → View E
   pass_view number seen mine room = record {
-    is_pass = true; number = number; seen = seen; mine = mine; room = room;
-    has_right = false; all = []; rooms = []; ends = []
+    is_pass = true;
+    number = number;
+    seen = seen;
+    mine = mine;
+    room = room;
+    has_right = false;
+    all = [];
+    rooms = [];
+    ends = [];
   }
 
   abbrev pub right_view : List (Marked E) → List ℕ → List ℕ → View E
   right_view all rooms ends = record {
-    is_pass = false; number = 0; seen = []; mine = []; room = 0;
-    has_right = true; all = all; rooms = rooms; ends = ends
+    is_pass = false;
+    number = 0;
+    seen = [];
+    mine = [];
+    room = 0;
+    has_right = true;
+    all = all;
+    rooms = rooms;
+    ends = ends;
   }
 
   abbrev pub spent : View E
   spent = record {
-    is_pass = false; number = 0; seen = []; mine = []; room = 0;
-    has_right = false; all = []; rooms = []; ends = []
+    is_pass = false;
+    number = 0;
+    seen = [];
+    mine = [];
+    room = 0;
+    has_right = false;
+    all = [];
+    rooms = [];
+    ends = [];
   }
 
   -- the right makes a pass, with the next number: it has seen nothing, and has no room
@@ -45,8 +66,15 @@ module _ {E : Type 0} where
   -- the pass v takes over the right w
   abbrev pub joined : View E → View E → View E
   joined v w = record {
-    is_pass = true; number = v.number; seen = v.seen; mine = v.mine; room = v.room;
-    has_right = true; all = w.all; rooms = w.rooms; ends = w.ends
+    is_pass = true;
+    number = v.number;
+    seen = v.seen;
+    mine = v.mine;
+    room = v.room;
+    has_right = true;
+    all = w.all;
+    rooms = w.rooms;
+    ends = w.ends;
   }
 
   -- a pass's seat that has the right
@@ -56,8 +84,15 @@ module _ {E : Type 0} where
   -- it adds an entry to the history
   abbrev pub with_entry : View E → E → View E
   with_entry v entry = record {
-    is_pass = true; number = v.number; seen = v.seen; mine = v.mine ++ entry ∷ []; room = v.room;
-    has_right = true; all = v.all ++ marked v.number entry ∷ []; rooms = v.rooms; ends = v.ends
+    is_pass = true;
+    number = v.number;
+    seen = v.seen;
+    mine = v.mine ++ entry ∷ [];
+    room = v.room;
+    has_right = true;
+    all = v.all ++ marked v.number entry ∷ [];
+    rooms = v.rooms;
+    ends = v.ends;
   }
 
   -- the pass has seen the history, has this room, and gives the right off, which knows of both
@@ -67,7 +102,7 @@ module _ {E : Type 0} where
 
   abbrev pub right_apart : ℕ → View E → View E
   right_apart room v =
-    right_view v.all (slice_set v.rooms v.number room) (slice_set v.ends v.number (length v.all))
+      right_view v.all (slice_set v.rooms v.number room) (slice_set v.ends v.number (length v.all))
 
   -- what a step on the word tells a pass that has the right: it is a pass of the right's history
   pub record Knows (v : View E) : Type 0 where
@@ -88,4 +123,4 @@ module _ {E : Type 0} where
   -- an addition of the entry that was picked
   abbrev pub Adds : Option E → Step (Unit {0}) → Me (Unit {0}) (View E) → ℕ → Me (Unit {0}) (View E) → Type 0
   Adds picked s before n after =
-    Knows before.0 × ((entry : E) → picked ≡ Some entry → after ≡ (with_entry before.0 entry, before.1))
+      Knows before.0 × ((entry : E) → picked ≡ Some entry → after ≡ (with_entry before.0 entry, before.1))

@@ -34,6 +34,6 @@ pub use steps::{Entering, Keeping};
 pub use token::{Made, Pass, Passes, Right};
 pub use view::View;
 pub use wrong::{
-    two_entries_stand, wrong_counts, wrong_numbers, wrong_own_entries, wrong_rights, wrong_rooms_and_ends,
-    wrong_views,
+    two_entries_stand, wrong_counts, wrong_numbers, wrong_own_entries, wrong_rights,
+    wrong_rooms_and_ends, wrong_views,
 };
