@@ -1,15 +1,16 @@
 //! The calls once each, with ample memory, and passes that may go to other
 //! threads.
 
-ghost use Rattle.std.specs.Prelude.{◌≡◌};
-
 use crate::turns::take_turns;
 use qc_msg::Step;
 use qc_pass::{Pass, Passes, Right};
 use std::test::Fail;
 
-// What may be lent to other threads, or go to them.
-fn crosses<T: Send + Sync>(_value: &T) {}
+// What may go to another thread.
+fn goes<T: Send>(_value: &T) {}
+
+// What threads may share.
+fn is_shared<T: Sync>(_value: &T) {}
 
 #[test]
 fn turns_are_taken(rt: HostRuntime) -> Result<(), Fail> {
@@ -18,8 +19,8 @@ fn turns_are_taken(rt: HostRuntime) -> Result<(), Fail> {
     assert_eq!(rt; turned.second.number(), 1);
     assert_eq!(rt; turned.first.room(), 3);
     assert_eq!(rt; turned.second.room(), 0);
-    crosses(&turned.first);
-    crosses(&turned.right);
+    goes(&turned.first);
+    goes(&turned.right);
     Ok(())
 }
 
@@ -29,6 +30,7 @@ fn a_word_for_the_most_actors(rt: HostRuntime) -> Result<(), Fail> {
     assert_eq!(rt; made.each.len(), 64);
     let numbers = made.each.iter().map(|pass| pass.number());
     assert!(rt; numbers.eq(0..64u8));
-    crosses(&made.passes);
+    goes(&made.passes);
+    is_shared(&made.passes);
     Ok(())
 }
