@@ -4,11 +4,11 @@ use Rattle.std.specs.Prelude.{slice_index}
 use Rattle.std.proofs.Math.Nat.{mod-add-mod}
 use mathlib.Core.Option.{none}
 use lib.Seq.{set-get_or}
-use Rattle.atomic_table.specs.Table.{State, step, keeps, opening, Allows, Splits, Joins}
+use Rattle.atomic_table.specs.Table.{State, Me, step, keeps, opening, Allows, Splits, Joins}
 use Rattle.atomic_table.proofs.Lists.{set_again}
 use Rattle.qc_list.specs.declared.marked.Marked.{Marked}
 use Rattle.qc_pass.specs.declared.view.View.{View}
-use Rattle.qc_pass.specs.Views.{marked, pass_view, right_view, spent, with_pass, next_pass, joined, with_entry, pass_apart, right_apart, Knows, Loads, Adds}
+use Rattle.qc_pass.specs.Views.{marked, pass_view, right_view, spent, with_pass, next_pass, joined, IsJoined, with_entry, pass_apart, right_apart, Knows, Loads, Adds}
 use Rattle.qc_pass.specs.Rule.{IsPassOf, IsRightTo, IsOneHistory}
 use Rattle.qc_pass.proofs.Places.{got, at_inside, set_here, set_else, at_longer, at_last, set_fact, end_fact, prefix_more, prefix_all}
 use Rattle.qc_pass.proofs.Owns.{own_mine, own_other}
@@ -145,18 +145,21 @@ module _ {E : Type 0} where
       }
 
   -- it reads the word
-  pub loads : (slots id : ℕ) (v : View E) → v.is_pass ≡ true → v.has_right ≡ true
+  loads_view : (slots id : ℕ) (v : View E) → v.is_pass ≡ true → v.has_right ≡ true
       → Allows IsOneHistory slots id (v, []) 0 (λ n. n) (Loads (step slots 0 0 0 none) (v, []))
-  loads slots id v is has s h len here small =
+  loads_view slots id v is has s h len here small =
       let at : slice_get s.views id ≡ Some v = got s.views id v here in
       let same : set s.words 0 (slice_index s.words 0) ≡ s.words = set-get_or s.words 0 0 in
       let kept : IsOneHistory record { words = s.words; homes = s.homes; views = set s.views id v } = rw (set_again s.views id v here) h in
       (v, keeps, tt, rw same kept, (knows s h id v at is has, refl))
 
+  pub loads : (slots id : ℕ) (me : Me (Unit {0}) (View E)) → IsJoined me → Allows IsOneHistory slots id me 0 (λ n. n) (Loads (step slots 0 0 0 none) me)
+  loads slots id me joined = rw joined.2 (loads_view slots id me.0 joined.0 joined.1)
+
   -- it adds an entry
-  pub adds : (slots id : ℕ) (v : View E) (picked : Option E) (e : E) → picked ≡ Some e → v.is_pass ≡ true → v.has_right ≡ true
+  adds_view : (slots id : ℕ) (v : View E) (picked : Option E) (e : E) → picked ≡ Some e → v.is_pass ≡ true → v.has_right ≡ true
       → Allows IsOneHistory slots id (v, []) 0 (λ n. (n + 1) % 2 ^ 64) (Adds picked (step slots 0 1 0 none) (v, []))
-  adds slots id v picked e is_picked is has s h len here small =
+  adds_view slots id v picked e is_picked is has s h len here small =
       let at : slice_get s.views id ≡ Some v = got s.views id v here in
       let r : IsRightTo h.history h.rooms h.ends h.holder id v = h.right id v at has in
       let p : IsPassOf h.history h.rooms h.ends h.seats id v = h.pass id v at is in
@@ -202,6 +205,10 @@ module _ {E : Type 0} where
         },
         (knows s h id v at is has, λ x also. let same : e ≡ x = cc (is_picked, also) in ap (λ (y : E). (with_entry v y, [])) same),
       )
+
+  pub adds : (slots id : ℕ) (me : Me (Unit {0}) (View E)) (picked : Option E) (e : E) → picked ≡ Some e → IsJoined me
+      → Allows IsOneHistory slots id me 0 (λ n. (n + 1) % 2 ^ 64) (Adds picked (step slots 0 1 0 none) me)
+  adds slots id me picked e is_picked joined = rw joined.2 (adds_view slots id me.0 picked e is_picked joined.0 joined.1)
 
   -- it gives the right off
   pub gives : (id : ℕ) (v : View E) (room : ℕ) → v.is_pass ≡ true → v.has_right ≡ true → Splits IsOneHistory id v (pass_apart room v) (right_apart room v)

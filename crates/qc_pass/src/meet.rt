@@ -68,6 +68,7 @@ impl<E> Passes<E> {
         self.table.shared.fetch_add::<Add<N>>(pass, 0, 1);
     }
 
+    #[tactic(auto, using(crate::proofs::Keeps::gives))]
     fn split_right<N: Keeping>(&self, pass: &mut Seat<(), View<E>>, room: u64) -> Right<E>
         requires table { pass.old.table_id ≡ table_of self.now }
         requires joined { IsJoined pass.old.me }

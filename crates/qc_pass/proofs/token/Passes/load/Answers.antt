@@ -3,4 +3,4 @@ use Rattle.qc_pass.proofs.Keeps.{loads}
 use Rattle.qc_pass.proofs.token.Passes.load.Goals as goal
 
 pub load-requires : goal.load-requires
-load-requires g c = (search rules, search rules, rw c.requires.joined.2 (loads _ _ _ c.requires.joined.0 c.requires.joined.1))
+load-requires g c = (search rules, search rules, loads _ _ _ c.requires.joined)
