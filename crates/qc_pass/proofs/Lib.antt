@@ -1,0 +1,6 @@
+pub mod Places
+pub mod Owns
+pub mod Keeps
+pub mod Making
+pub mod RuleLaws
+pub mod WrongStates

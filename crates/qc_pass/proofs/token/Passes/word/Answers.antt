@@ -1,0 +1,5 @@
+use Rattle.qc_pass.proofs.Keeps.{opens}
+use Rattle.qc_pass.proofs.token.Passes.word.Goals as goal
+
+pub of_words-requires : goal.of_words-requires
+of_words-requires g c = opens
