@@ -1,0 +1,10 @@
+pub mod Names
+pub mod Parts
+pub mod Pieces
+pub mod Asked
+pub mod Results
+pub mod Replies
+pub mod Log
+pub mod States
+pub mod Sites
+pub mod Text
