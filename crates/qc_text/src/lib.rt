@@ -17,5 +17,20 @@
 //! The top call prints this text.
 #![tactic(auto)]
 
+mod asked;
+mod committed;
+mod deeds;
+mod grants;
+mod lines;
+mod log;
+mod names;
 mod page;
+mod parts;
+mod queues;
+mod replies;
+mod report;
+mod results;
+mod sites;
+mod states;
 
+pub use report::text;

@@ -11,6 +11,7 @@ use std::alloc::Global;
 use std::marker::Model;
 
 /// A part of a line.
+#[derive(Clone, Copy)]
 pub(crate) enum Piece<'a> {
     /// These words.
     Words(&'a str),
