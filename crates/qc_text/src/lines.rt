@@ -1,15 +1,15 @@
 //! The lines that a site's deeds show.
 
-ghost use Rattle.std.specs.Prelude.{◌≡◌, ◌<◌, OnOk, IfOk, MatchOption, None, Some, length, map};
+ghost use Rattle.std.specs.Prelude.{◌≡◌, ◌<◌, [], OnOk, IfOk, MatchOption, length, map};
 ghost use Rattle.qc_entry.specs.Log.{union};
 ghost use Rattle.qc_promise.specs.SiteLogs.{lines_done, lines_of, log_shown, view_by};
-ghost use Rattle.qc_promise.specs.SiteRecords.{last_prepare};
 ghost use Rattle.qc_text.specs.Deeds.{deed_of};
-ghost use Rattle.qc_text.specs.Lines.{joined_at, prepare_in};
+ghost use Rattle.qc_text.specs.Lines.{joined_at, view_asked};
 
 use crate::deeds::{Deed, Letter};
 use crate::grants::is_granted;
-use qc_entry::{Line, Log, OwnLine, Prepared};
+use crate::records::last_prepare;
+use qc_entry::{Line, Log, OwnLine};
 use qc_list::OutOfMemory;
 use qc_msg::{Message, Record, Want};
 use qc_stamp::{Stamp, TxId};
@@ -43,16 +43,25 @@ fn join_view(log: &mut Log, letter: &Letter<'_>, after: &[Deed<'_>]) -> Result<(
     ensures { OnOk result (log.new
         ≡ union log.old (view_by letter.now.number letter.now.message.now (map deed_of after.now))) }
 {
-    let Message::Request { want, .. } = letter.message else {
-        return Ok(());
-    };
-    let Want::Append { view, .. } = want else {
-        return Ok(());
-    };
-    if is_granted(after, letter.number) {
-        log.merge(view)?;
+    if let Some(view) = view_asked(letter.message) {
+        if is_granted(after, letter.number) {
+            log.merge(view)?;
+        }
     }
     Ok(())
+}
+
+/// The view that an Append brings.
+fn view_asked(message: &Message) -> Option<&Log>
+    ensures { MatchOption result (view_asked message.now ≡ []) (λ view. view_asked message.now ≡ view.now) }
+{
+    match message {
+        Message::Request {
+            want: Want::Append { view, .. },
+            ..
+        } => Some(view),
+        _ => None,
+    }
 }
 
 /// Adds the own lines that a Done gives.
@@ -76,32 +85,6 @@ fn join_done(
     };
     let lines = lines_of(alloc, stamp, *tx, prepared.own.items())?;
     log.merge(&lines)
-}
-
-/// The last Prepare of a transaction.
-fn last_prepare<'a>(deeds: &[Deed<'a>], tx: TxId) -> Option<&'a Prepared>
-    ensures { MatchOption result (last_prepare tx (map deed_of deeds.now) ≡ None)
-        (λ p. last_prepare tx (map deed_of deeds.now) ≡ Some p.now) }
-{
-    let mut place = deeds.len();
-    'deeds: while place > 0 {
-        place -= 1;
-        if let Some(prepared) = prepare_in(&deeds[place], tx) {
-            return Some(prepared);
-        }
-    }
-    None
-}
-
-/// The Prepare of a transaction that a deed writes.
-fn prepare_in<'a>(deed: &Deed<'a>, tx: TxId) -> Option<&'a Prepared>
-    ensures { MatchOption result (prepare_in tx (deed_of deed.now) ≡ None)
-        (λ p. prepare_in tx (deed_of deed.now) ≡ Some p.now) }
-{
-    match deed {
-        Deed::Wrote(Record::Prepare(prepared)) if prepared.tx == tx => Some(prepared),
-        _ => None,
-    }
 }
 
 /// Own lines of a transaction as lines with this stamp.
