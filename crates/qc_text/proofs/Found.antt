@@ -1,6 +1,7 @@
 -- Deeds as code has them, one at a time.
-use Rattle.std.proofs.Common.{◌≡◌, ℕ, ◌+◌, ◌<◌, ◌||◌, Bool, true, false, List, [], ◌∷◌, ◌++◌, Some, None, length, get_or, map, take, drop, sym, ap, refl, ◌∙◌, append_assoc, cond, Option, zero, suc}
+use Rattle.std.proofs.Common.{◌≡◌, ℕ, ◌+◌, ◌<◌, ◌||◌, Bool, true, false, List, [], ◌∷◌, ◌++◌, Some, None, length, get_or, map, take, drop, sym, ap, refl, ◌∙◌, append_assoc, cond, Option}
 use Rattle.std.specs.Prelude.{◌==◌, fold, option_to_list}
+use Rattle.std.specs.Option.{option_map_or}
 use Rattle.std.proofs.lemmas.List.{map-append}
 use Rattle.std.proofs.lemmas.List.Sums.{fold-append}
 use Rattle.std.proofs.lemmas.List.Elements.{filter_map-append}
@@ -18,11 +19,11 @@ use Rattle.qc_msg.specs.declared.record.Record.TheVariants as records
 use Rattle.qc_msg.specs.Deeds.{Deed, Takes, Writes, Sends, Tells, deeds, envelope_of, own}
 use Rattle.qc_msg.specs.Steps.{Entry}
 use Rattle.qc_promise.specs.SiteHeld.{is_granted}
-use Rattle.qc_promise.specs.SiteLogs.{joining, log_from, view_by}
+use Rattle.qc_promise.specs.SiteLogs.{done_lines, done_stamp, joining, lines_of, log_from, view_by}
 use Rattle.qc_promise.specs.SiteRecords.{epoch_by, last_prepare, life_by, prepare_by, records_in, record_in}
 use Rattle.qc_text.specs.Deeds.{deed_of, deeds_at}
 use Rattle.qc_text.specs.Holders.{is_take, sends_grant}
-use Rattle.qc_text.specs.Lines.{joined_at, joined_first, view_asked}
+use Rattle.qc_text.specs.Lines.{view_asked}
 use Rattle.qc_text.specs.Records.{epoch_at, life_at, prepare_in}
 use Rattle.qc_text.specs.Sites.{down_after, down_by}
 use Rattle.qc_text.specs.declared.deeds.Deed.{Deed as Found}
@@ -160,28 +161,15 @@ prepare_before tx xs i x d all l e is known =
 
 -- the log
 
-take-map : {A B : Type 0} (f : A → B) (i : ℕ) (xs : List A) → take i (map f xs) ≡ map f (take i xs)
-take-map f zero xs = refl
-take-map f (suc i) [] = refl
-take-map f (suc i) (x ∷ xs) = ap (λ v. f x ∷ v) (take-map f i xs)
-
-drop-map : {A B : Type 0} (f : A → B) (i : ℕ) (xs : List A) → drop i (map f xs) ≡ map f (drop i xs)
-drop-map f zero xs = refl
-drop-map f (suc i) [] = refl
-drop-map f (suc i) (x ∷ xs) = drop-map f i xs
-
-pub joined_here : (xs : List Found) (i : ℕ) (x d : Found) → i < length xs → x ≡ get_or xs i d
-    → joined_at (map deed_of xs) i ≡ joining (map deed_of (take i xs)) (deed_of x) (map deed_of (drop (i + 1) xs))
-joined_here xs i x d l e =
-    ap (λ (v : List Deed). joined_first v (drop i (map deed_of xs))) (take-map deed_of i xs)
-    ∙ ap (joined_first (map deed_of (take i xs))) (drop-map deed_of i xs ∙ found_rest xs i x d l e)
+pub union_none : (lines : List Line) → union lines [] ≡ lines
+union_none lines = union-nil lines
 
 pub log_more : (xs : List Found) (i : ℕ) (x d : Found) (lines after all : List Line) → i < length xs → x ≡ get_or xs i d
-    → after ≡ union lines (joined_at (map deed_of xs) i)
+    → after ≡ union lines (joining (map deed_of (take i xs)) (deed_of x) (map deed_of (drop (i + 1) xs)))
     → log_from lines (map deed_of (take i xs)) (map deed_of (drop i xs)) ≡ all
     → log_from after (map deed_of (take (i + 1) xs)) (map deed_of (drop (i + 1) xs)) ≡ all
 log_more xs i x d lines after all l e a known =
-    ap (λ (v : List Line). log_from v (map deed_of (take (i + 1) xs)) (map deed_of (drop (i + 1) xs))) (a ∙ ap (λ (v : List Line). union lines v) (joined_here xs i x d l e))
+    ap (λ (v : List Line). log_from v (map deed_of (take (i + 1) xs)) (map deed_of (drop (i + 1) xs))) a
     ∙ ap (λ (v : List Deed). log_from (union lines (joining (map deed_of (take i xs)) (deed_of x) (map deed_of (drop (i + 1) xs)))) v (map deed_of (drop (i + 1) xs))) (found_more xs i x d l e)
     ∙ ap (λ (v : List Deed). log_from lines (map deed_of (take i xs)) v) (sym (found_rest xs i x d l e))
     ∙ known
@@ -251,3 +239,9 @@ deeds_more a h i x d ds ds' all ms ms' l e more_ds more_ms known =
     ∙ ap (λ (v : List Envelope). ds ++ (deeds_at a ms x ++ deeds a v (drop (i + 1) h))) more_ms
     ∙ ap (λ (v : List Entry). ds ++ deeds a ms v) (sym (rest h i x d l e))
     ∙ known
+
+-- a Done without a Prepare gives nothing
+pub done_nothing : (before : List Deed) (tx : TxId) (clock : ℕ) (lines : List Line) → last_prepare tx before ≡ None → lines ≡ union lines (done_lines before tx clock)
+done_nothing before tx clock lines none_found =
+    sym (union-nil lines)
+    ∙ ap (λ (p : Option Prepared). union lines (option_map_or (λ (q : Prepared). lines_of (done_stamp tx clock) tx q.own) p [])) (sym none_found)

@@ -4,7 +4,6 @@ use Rattle.std.specs.Prelude.{filter, fold}
 use Rattle.std.proofs.lemmas.List.{append-nil, length-map}
 use Rattle.std.proofs.lemmas.List.Elements.{filter-append}
 use Rattle.std.proofs.lemmas.List.Sums.{fold-append}
-use Rattle.std.specs.List.{list_any}
 use Rattle.qc_stamp.specs.declared.stamp.TxId.{TxId}
 use Rattle.qc_stamp.specs.Order.{same_tx}
 use Rattle.qc_stamp.proofs.Orders.{other_tx_sym, same_tx_is, same_tx_itself}
@@ -16,12 +15,11 @@ use Rattle.qc_msg.specs.declared.message.Outcome.{Outcome}
 use Rattle.qc_msg.specs.declared.message.Outcome.TheVariants.{Committed, Aborted, Active}
 use Rattle.qc_msg.specs.declared.message.Want.{Want}
 use Rattle.qc_msg.specs.declared.message.Want.TheVariants.{Read, Append, Prepare}
-use Rattle.qc_msg.specs.declared.step.Given.{Given}
 use Rattle.qc_msg.specs.declared.step.Given.TheVariants as given
 use Rattle.qc_msg.specs.Deeds.{Deed, Takes, Writes, Sends, Tells}
 use Rattle.qc_promise.specs.SiteEnds.{is_ended, is_final}
-use Rattle.qc_promise.specs.SiteHeld.{Grant, held_shown, holding, is_granted, stands, standing}
-use Rattle.qc_text.specs.Holders.{holders_at, holders_by, holders_from, is_hold, is_holder, with_holder, without_holder}
+use Rattle.qc_promise.specs.SiteHeld.{Grant, held_shown, holding, is_granted, standing}
+use Rattle.qc_text.specs.Holders.{holders_from, is_hold, is_holder, with_holder, without_holder}
 
 -- grants held, by transaction alone
 

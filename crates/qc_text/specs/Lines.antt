@@ -1,10 +1,9 @@
--- The lines that one of a site's deeds gives its log.
-use Rattle.std.specs.Prelude.{ℕ, List, [], ◌∷◌, drop, take}
+-- The view that a message brings.
+use Rattle.std.specs.Prelude.{List, []}
 use Rattle.qc_entry.specs.declared.line.Line.{Line}
-use Rattle.qc_msg.specs.Deeds.{Deed}
 use Rattle.qc_msg.specs.declared.message.Message.{Message}
 use Rattle.qc_msg.specs.declared.message.Message.TheVariants as messages
-use Rattle.qc_promise.specs.SiteLogs.{joining, view_in}
+use Rattle.qc_promise.specs.SiteLogs.{view_in}
 
 -- the view that an Append brings
 abbrev pub view_asked : Message → List Line
@@ -15,12 +14,3 @@ view_asked (messages.Inquiry tx) = []
 view_asked (messages.Ask tx) = []
 view_asked (messages.Close epoch) = []
 view_asked (messages.Install epoch clock log) = []
-
--- what the first of these deeds gives, after those before it
-abbrev pub joined_first : List Deed → List Deed → List Line
-joined_first before [] = []
-joined_first before (d ∷ after) = joining before d after
-
--- the deed at this place
-abbrev pub joined_at : List Deed → ℕ → List Line
-joined_at ds place = joined_first (take place ds) (drop place ds)

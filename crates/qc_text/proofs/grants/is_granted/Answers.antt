@@ -1,4 +1,4 @@
-use Rattle.std.proofs.Common.{refl, sym, ◌∙◌}
+use Rattle.std.proofs.Common.{sym, ◌∙◌}
 use Rattle.qc_text.proofs.Found.{granted_later, granted_now, not_granted}
 use Rattle.qc_text.proofs.grants.is_granted.Goals as goal
 
