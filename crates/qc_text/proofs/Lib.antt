@@ -4,3 +4,5 @@ pub mod Told
 pub mod Taken
 pub mod Keys
 pub mod Sections
+pub mod Found
+pub mod Holding

@@ -1,6 +1,7 @@
 -- The lines of a section, one more line at its end.
-use Rattle.std.proofs.Common.{◌≡◌, ℕ, ◌+◌, ◌<◌, List, [], ◌∷◌, ◌++◌, length, get_or, drop, codes, sym, ap, ◌∙◌, append_assoc, arith}
-use Rattle.std.specs.List.{flat_map, range_with_len}
+use Rattle.std.proofs.Common.{◌≡◌, ℕ, ◌+◌, ◌<◌, List, [], ◌∷◌, ◌++◌, Bool, ◌||◌, false, length, get_or, drop, codes, sym, ap, ◌∙◌, append_assoc, arith}
+use Rattle.std.specs.List.{flat_map, list_any, range_with_len}
+use Rattle.std.proofs.lemmas.List.Folds.{list_any-append}
 use Rattle.std.proofs.lemmas.List.{map-id, flat_map_more}
 use Rattle.std.proofs.lemmas.List.FromFn.{map-range_with_len_more}
 use Rattle.qc_entry.specs.declared.line.Op.{Op}
@@ -42,3 +43,11 @@ sections p₀ p₁ p₂ p₃ p₄ a b c d e₀ e₁ e₂ e₃ e₄ =
     section p₁ (b ++ c) d p₃ p₄ (section p₁ b c p₂ p₃ e₂ e₃) e₄
     ∙ ap (λ p. p ++ ((b ++ c) ++ d)) (e₁ ∙ ap (λ p. p ++ a) e₀)
     ∙ ap (λ p. a ++ p) (append_assoc b c d)
+
+-- a test of the numbers below one more
+pub any_below : (test : ℕ → Bool) (n : ℕ) → list_any test (range_with_len 0 n) ≡ false → test n ≡ false → list_any test (range_with_len 0 (n + 1)) ≡ false
+any_below test n none here =
+    ap (list_any test) (numbers_more n)
+    ∙ list_any-append test (range_with_len 0 n) (n ∷ [])
+    ∙ ap (λ (b : Bool). b || (test n || false)) none
+    ∙ ap (λ (b : Bool). b || false) here

@@ -10,5 +10,6 @@ pub mod States
 pub mod Deeds
 pub mod Holders
 pub mod Lines
+pub mod Records
 pub mod Sites
 pub mod Text

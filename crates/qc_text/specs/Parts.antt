@@ -1,6 +1,6 @@
 -- How stamps, transactions, actors and sets of sites are written.
-use Rattle.std.specs.Prelude.{ℕ, ◌-◌, if◌then◌else◌, List, [], ◌∷◌, ◌++◌, codes, decimal, filter, flat_map}
-use Rattle.std.specs.List.{range_with_len}
+use Rattle.std.specs.Prelude.{ℕ, ◌-◌, Bool, if◌then◌else◌, List, [], ◌++◌, codes, decimal, flat_map}
+use Rattle.std.specs.List.{list_any, range_with_len}
 use Rattle.qc_stamp.specs.declared.stamp.Stamp.{Stamp}
 use Rattle.qc_stamp.specs.declared.stamp.TxId.{TxId}
 use Rattle.qc_table.specs.Sets.{has}
@@ -26,14 +26,13 @@ actor_text decl a =
     if is_site decl a then site_text a
     else (if is_client decl a then codes "c" ++ decimal (a - decl.sites) else codes "admin")
 
--- the sites of a set: site k is in it where bit k of the number is 1
-abbrev pub sites_of : ℕ → List ℕ
-sites_of set = filter (has set) (range_with_len 0 most_sites)
+-- the sites of a set, each after a space, and `-` where there is none: site k is in it where bit k of the number is 1
 
--- each after a space, and `-` where there is none
-abbrev pub listed : List ℕ → List ℕ
-listed [] = codes " -"
-listed (site ∷ sites) = flat_map (λ k. codes " " ++ site_text k) (site ∷ sites)
+abbrev pub has_any : ℕ → Bool
+has_any set = list_any (has set) (range_with_len 0 most_sites)
+
+abbrev pub member_text : ℕ → ℕ → List ℕ
+member_text set site = if has set site then codes " " ++ site_text site else []
 
 abbrev pub set_text : ℕ → List ℕ
-set_text set = listed (sites_of set)
+set_text set = if has_any set then flat_map (member_text set) (range_with_len 0 most_sites) else codes " -"

@@ -1,5 +1,5 @@
 -- The section of sites: one line for each, all of it read off the site's own steps.
-use Rattle.std.specs.Prelude.{ℕ, Bool, true, false, if◌then◌else◌, List, [], ◌++◌, codes, decimal, flat_map, fold, length}
+use Rattle.std.specs.Prelude.{ℕ, ◌==◌, Bool, true, false, if◌then◌else◌, List, [], ◌++◌, codes, decimal, flat_map, fold, length}
 use Rattle.std.specs.List.{range_with_len}
 use Rattle.qc_decl.specs.declared.declaration.Declaration.{Declaration}
 use Rattle.qc_msg.specs.declared.step.Step.{Step}
@@ -27,6 +27,10 @@ down_after down (steps.Told reply) = down
 down_after down (steps.Fell cause pending) = true
 down_after down (steps.Rose written) = false
 down_after down (steps.Damaged offset) = down
+
+-- after an entry of anybody
+abbrev pub down_by : Bool → ℕ → Entry → Bool
+down_by down a e = if e.actor == a then down_after down e.step else down
 
 abbrev pub is_down : ℕ → List Entry → Bool
 is_down a h = fold down_after false (own a h)

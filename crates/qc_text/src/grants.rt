@@ -5,7 +5,7 @@ ghost use Rattle.std.specs.Prelude.{◌≡◌, OnOk, IfOk, length, map};
 ghost use Rattle.qc_promise.specs.SiteEnds.{is_final};
 ghost use Rattle.qc_promise.specs.SiteHeld.{held_shown, is_granted};
 ghost use Rattle.qc_text.specs.Deeds.{deed_of};
-ghost use Rattle.qc_text.specs.Holders.{holders_by, is_hold, is_take, sends_grant, with_holder, without_holder};
+ghost use Rattle.qc_text.specs.Holders.{holders_at, holders_by, is_hold, is_holder, is_take, sends_grant, with_holder, without_holder};
 
 use crate::deeds::{Deed, Letter};
 use qc_list::OutOfMemory;
@@ -61,11 +61,26 @@ pub(crate) fn holders_of(alloc: Global, deeds: &[Deed<'_>]) -> Result<Vec<TxId>,
 {
     let mut holders = Vec::new(alloc);
     'deeds: for place in 0..deeds.len() {
-        if let Deed::Got(letter) = &deeds[place] {
-            take_message(&mut holders, letter, &deeds[place + 1..])?;
-        }
+        take_deed(&mut holders, &deeds[place], &deeds[place + 1..])?;
     }
     Ok(holders)
+}
+
+/// Takes a deed, with those after it.
+fn take_deed(
+    holders: &mut Vec<TxId>,
+    deed: &Deed<'_>,
+    after: &[Deed<'_>],
+) -> Result<(), OutOfMemory>
+    ensures { OnOk result (holders.new.items
+        ≡ holders_at holders.old.items (deed_of deed.now) (map deed_of after.now)) }
+{
+    match deed {
+        Deed::Got(letter) => take_message(holders, letter, after),
+        Deed::Called(_) | Deed::Lost(_) | Deed::Wrote(_) | Deed::Sent { .. } | Deed::Told(_) => Ok(
+            (),
+        ),
+    }
 }
 
 /// Adds the transaction of a request that is granted and holds something, and
@@ -123,10 +138,22 @@ fn is_final(verdict: Outcome) -> bool
 fn add_holder(holders: &mut Vec<TxId>, tx: TxId) -> Result<(), OutOfMemory>
     ensures { OnOk result (holders.new.items ≡ with_holder holders.old.items tx) }
 {
-    if !holders.iter().any(|holder| *holder == tx) {
+    if !is_holder(holders, tx) {
         holders.push(tx)?;
     }
     Ok(())
+}
+
+/// Whether a transaction is there.
+fn is_holder(holders: &[TxId], tx: TxId) -> bool
+    ensures { result ≡ is_holder holders.now tx }
+{
+    'holders: for holder in holders {
+        if *holder == tx {
+            return true;
+        }
+    }
+    false
 }
 
 /// Drops a transaction.

@@ -27,6 +27,7 @@ mod names;
 mod page;
 mod parts;
 mod queues;
+mod records;
 mod replies;
 mod report;
 mod results;

@@ -1,15 +1,15 @@
 //! The lines that a site's deeds show.
 
-ghost use Rattle.std.specs.Prelude.{◌≡◌, ◌<◌, OnOk, IfOk, MatchOption, None, Some, length, map};
+ghost use Rattle.std.specs.Prelude.{◌≡◌, [], OnOk, IfOk, MatchOption, map};
 ghost use Rattle.qc_entry.specs.Log.{union};
-ghost use Rattle.qc_promise.specs.SiteLogs.{lines_done, lines_of, log_shown, view_by};
-ghost use Rattle.qc_promise.specs.SiteRecords.{last_prepare};
+ghost use Rattle.qc_promise.specs.SiteLogs.{done_lines, joining, lines_done, lines_of, log_shown, view_by};
 ghost use Rattle.qc_text.specs.Deeds.{deed_of};
-ghost use Rattle.qc_text.specs.Lines.{joined_at, prepare_in};
+ghost use Rattle.qc_text.specs.Lines.{view_asked};
 
 use crate::deeds::{Deed, Letter};
 use crate::grants::is_granted;
-use qc_entry::{Line, Log, OwnLine, Prepared};
+use crate::records::last_prepare;
+use qc_entry::{Line, Log, OwnLine};
 use qc_list::OutOfMemory;
 use qc_msg::{Message, Record, Want};
 use qc_stamp::{Stamp, TxId};
@@ -21,19 +21,27 @@ pub(crate) fn log_of(alloc: Global, deeds: &[Deed<'_>]) -> Result<Log, OutOfMemo
 {
     let mut log = Log::new(alloc)?;
     'deeds: for place in 0..deeds.len() {
-        join(alloc, &mut log, deeds, place)?;
+        let (before, after) = (&deeds[..place], &deeds[place + 1..]);
+        join(alloc, &mut log, before, &deeds[place], after)?;
     }
     Ok(log)
 }
 
-/// Adds the lines that the deed at this place gives the log.
-fn join(alloc: Global, log: &mut Log, deeds: &[Deed<'_>], place: usize) -> Result<(), OutOfMemory>
-    requires { place < length deeds.now }
-    ensures { OnOk result (log.new ≡ union log.old (joined_at (map deed_of deeds.now) place)) }
+/// Adds the lines that a deed gives the log, among those before and after it.
+#[tactic(auto, using(crate::proofs::Found::union_none))]
+fn join(
+    alloc: Global,
+    log: &mut Log,
+    before: &[Deed<'_>],
+    deed: &Deed<'_>,
+    after: &[Deed<'_>],
+) -> Result<(), OutOfMemory>
+    ensures { OnOk result (log.new
+        ≡ union log.old (joining (map deed_of before.now) (deed_of deed.now) (map deed_of after.now))) }
 {
-    match &deeds[place] {
-        Deed::Got(letter) => join_view(log, letter, &deeds[place + 1..]),
-        Deed::Wrote(written) => join_done(alloc, log, written, &deeds[..place]),
+    match deed {
+        Deed::Got(letter) => join_view(log, letter, after),
+        Deed::Wrote(written) => join_written(alloc, log, before, written),
         Deed::Called(_) | Deed::Lost(_) | Deed::Sent { .. } | Deed::Told(_) => Ok(()),
     }
 }
@@ -43,65 +51,68 @@ fn join_view(log: &mut Log, letter: &Letter<'_>, after: &[Deed<'_>]) -> Result<(
     ensures { OnOk result (log.new
         ≡ union log.old (view_by letter.now.number letter.now.message.now (map deed_of after.now))) }
 {
-    let Message::Request { want, .. } = letter.message else {
-        return Ok(());
-    };
-    let Want::Append { view, .. } = want else {
-        return Ok(());
-    };
-    if is_granted(after, letter.number) {
-        log.merge(view)?;
+    if let Some(view) = view_asked(letter.message) {
+        if is_granted(after, letter.number) {
+            log.merge(view)?;
+        }
     }
     Ok(())
 }
 
-/// Adds the own lines that a Done gives.
-fn join_done(
+/// The view that an Append brings.
+fn view_asked(message: &Message) -> Option<&Log>
+    ensures { MatchOption result (view_asked message.now ≡ []) (λ view. view_asked message.now ≡ view.now) }
+{
+    match message {
+        Message::Request {
+            want: Want::Append { view, .. },
+            ..
+        } => Some(view),
+        _ => None,
+    }
+}
+
+/// Adds the lines that the log has of a record alone: those of a Done.
+#[tactic(auto, using(crate::proofs::Found::union_none))]
+fn join_written(
     alloc: Global,
     log: &mut Log,
-    written: &Record,
     before: &[Deed<'_>],
+    written: &Record,
 ) -> Result<(), OutOfMemory>
     ensures { OnOk result (log.new ≡ union log.old (lines_done (map deed_of before.now) written.now)) }
 {
-    let Record::Done { tx, clock } = written else {
-        return Ok(());
-    };
-    let Some(prepared) = last_prepare(before, *tx) else {
-        return Ok(());
-    };
-    let stamp = Stamp {
-        clock: *clock,
-        client: tx.client,
-    };
-    let lines = lines_of(alloc, stamp, *tx, prepared.own.items())?;
-    log.merge(&lines)
+    match written {
+        Record::Done { tx, clock } => join_done(alloc, log, before, *tx, *clock),
+        Record::Life
+        | Record::Prepare(_)
+        | Record::Close { .. }
+        | Record::Install { .. }
+        | Record::Commit(_)
+        | Record::Decide { .. } => Ok(()),
+    }
 }
 
-/// The last Prepare of a transaction.
-fn last_prepare<'a>(deeds: &[Deed<'a>], tx: TxId) -> Option<&'a Prepared>
-    ensures { MatchOption result (last_prepare tx (map deed_of deeds.now) ≡ None)
-        (λ p. last_prepare tx (map deed_of deeds.now) ≡ Some p.now) }
+/// Adds the own lines of the last Prepare of a transaction that committed with
+/// this clock.
+fn join_done(
+    alloc: Global,
+    log: &mut Log,
+    before: &[Deed<'_>],
+    tx: TxId,
+    clock: u64,
+) -> Result<(), OutOfMemory>
+    ensures { OnOk result (log.new ≡ union log.old (done_lines (map deed_of before.now) tx clock)) }
 {
-    let mut place = deeds.len();
-    'deeds: while place > 0 {
-        place -= 1;
-        if let Some(prepared) = prepare_in(&deeds[place], tx) {
-            return Some(prepared);
-        }
+    if let Some(prepared) = last_prepare(before, tx) {
+        let stamp = Stamp {
+            clock,
+            client: tx.client,
+        };
+        let lines = lines_of(alloc, stamp, tx, prepared.own.items())?;
+        log.merge(&lines)?;
     }
-    None
-}
-
-/// The Prepare of a transaction that a deed writes.
-fn prepare_in<'a>(deed: &Deed<'a>, tx: TxId) -> Option<&'a Prepared>
-    ensures { MatchOption result (prepare_in tx (deed_of deed.now) ≡ None)
-        (λ p. prepare_in tx (deed_of deed.now) ≡ Some p.now) }
-{
-    match deed {
-        Deed::Wrote(Record::Prepare(prepared)) if prepared.tx == tx => Some(prepared),
-        _ => None,
-    }
+    Ok(())
 }
 
 /// Own lines of a transaction as lines with this stamp.

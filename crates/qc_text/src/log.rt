@@ -51,7 +51,12 @@ fn put_ops(page: &mut Page, decl: &Declaration, ops: &[Op]) -> Result<(), OutOfM
 }
 
 /// Adds some words and an operation.
-fn put_op(page: &mut Page, before: &str, decl: &Declaration, op: &Op) -> Result<(), OutOfMemory>
+fn put_op<'a>(
+    page: &mut Page,
+    before: &'a str,
+    decl: &'a Declaration,
+    op: &Op,
+) -> Result<(), OutOfMemory>
     ensures { OnOk result (page.new ≡ page.old ++ op_text decl.now before.now op.now) }
 {
     page.put_all(&[

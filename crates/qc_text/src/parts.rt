@@ -1,10 +1,11 @@
 //! Actors and sets of sites as text.
 
-ghost use Rattle.std.specs.Prelude.{◌≡◌, ◌<◌, ◌++◌, OnOk};
+ghost use Rattle.std.specs.Prelude.{◌≡◌, ◌<◌, ◌++◌, OnOk, flat_map};
+ghost use Rattle.std.specs.List.{range_with_len};
 ghost use Rattle.qc_decl.specs.Actors.{is_client};
 ghost use Rattle.qc_decl.specs.Limits.{most_sites};
 ghost use Rattle.qc_table.specs.Sets.{has};
-ghost use Rattle.qc_text.specs.Parts.{actor_text, set_text};
+ghost use Rattle.qc_text.specs.Parts.{actor_text, has_any, member_text, set_text};
 
 use crate::page::{Page, Piece};
 use qc_decl::{Declaration, MOST_SITES};
@@ -36,15 +37,42 @@ pub(crate) fn is_client(decl: &Declaration, actor: u8) -> bool
 pub(crate) fn put_set(page: &mut Page, set: u16) -> Result<(), OutOfMemory>
     ensures { OnOk result (page.new ≡ page.old ++ set_text set) }
 {
-    let mut is_empty = true;
-    'sites: for site in 0..MOST_SITES as u8 {
+    if has_any(set) {
+        put_members(page, set)
+    } else {
+        page.put(" -")
+    }
+}
+
+/// Whether the set has a site.
+fn has_any(set: u16) -> bool
+    ensures { result ≡ has_any set }
+{
+    'sites: for site in 0..MOST_SITES {
         if has(set, site) {
-            page.put_all(&[Piece::Words(" "), Piece::Site(site)])?;
-            is_empty = false;
+            return true;
         }
     }
-    if is_empty {
-        page.put(" -")?;
+    false
+}
+
+/// Adds the sites of a set, each after a space.
+fn put_members(page: &mut Page, set: u16) -> Result<(), OutOfMemory>
+    ensures { OnOk result (page.new ≡ page.old ++ flat_map (member_text set) (range_with_len 0 most_sites)) }
+{
+    'sites: for site in 0..MOST_SITES {
+        put_member(page, set, site)?;
+    }
+    Ok(())
+}
+
+/// Adds a site, where it is in the set.
+fn put_member(page: &mut Page, set: u16, site: u8) -> Result<(), OutOfMemory>
+    requires { site < most_sites }
+    ensures { OnOk result (page.new ≡ page.old ++ member_text set site) }
+{
+    if has(set, site) {
+        page.put_all(&[Piece::Words(" "), Piece::Site(site)])?;
     }
     Ok(())
 }

@@ -22,7 +22,7 @@ pub(crate) struct Queue {
 
 impl Model for Queue {
     ghost use Rattle.std.specs.Prelude.{List};
-    ghost use Rattle.qc_msg.specs.declared.step.Reply.{Reply};
+    ghost use Rattle.qc_msg.specs.declared.reply.Reply.{Reply};
 
     ghost Value = { List Reply };
 

@@ -1,19 +1,17 @@
 //! The section of sites.
 
-ghost use Rattle.std.specs.Prelude.{◌≡◌, ◌++◌, OnOk, fold, map};
-ghost use Rattle.qc_msg.specs.Begun.{first_epoch};
-ghost use Rattle.qc_promise.specs.SiteRecords.{epoch_shown, life_shown};
+ghost use Rattle.std.specs.Prelude.{◌≡◌, ◌++◌, OnOk, map};
 ghost use Rattle.qc_text.specs.Deeds.{deed_of};
-ghost use Rattle.qc_text.specs.Sites.{down_after, is_down, shown_text, site_line, sites_text};
+ghost use Rattle.qc_text.specs.Sites.{down_after, down_by, is_down, shown_text, site_line, sites_text};
 
 use crate::deeds::{Deed, deeds_of};
 use crate::grants::holders_of;
 use crate::lines::log_of;
 use crate::page::{Page, Piece};
+use crate::records::{epoch_of, life_of};
 use qc_decl::Declaration;
 use qc_list::OutOfMemory;
-use qc_msg::{Entry, FIRST_EPOCH, Record, Step};
-use qc_stamp::FIRST_LIFE;
+use qc_msg::{Entry, Step};
 use std::alloc::Global;
 
 /// Adds the section of sites.
@@ -56,11 +54,20 @@ fn is_down(entries: &[Entry], number: u8) -> bool
 {
     let mut down = false;
     'entries: for entry in entries {
-        if entry.actor == number {
-            down = down_after(down, &entry.step);
-        }
+        down = down_by(down, number, entry);
     }
     down
+}
+
+/// Whether an actor is down after an entry of anybody.
+fn down_by(down: bool, number: u8, entry: &Entry) -> bool
+    ensures { result ≡ down_by down number entry.now }
+{
+    if entry.actor == number {
+        down_after(down, &entry.step)
+    } else {
+        down
+    }
 }
 
 /// Whether an actor is down after a step of its own.
@@ -101,31 +108,4 @@ fn put_shown(page: &mut Page, alloc: Global, deeds: &[Deed<'_>]) -> Result<(), O
         Piece::Words(" held "),
         Piece::Number(holders.len() as u64),
     ])
-}
-
-/// The life that a site's deeds show: one more for each record of a rise and
-/// of a closed epoch.
-fn life_of(deeds: &[Deed<'_>]) -> u64
-    ensures { result ≡ life_shown (map deed_of deeds.now) }
-{
-    let mut life = FIRST_LIFE as u64;
-    'deeds: for deed in deeds {
-        if let Deed::Wrote(Record::Life | Record::Close { .. }) = deed {
-            life += 1;
-        }
-    }
-    life
-}
-
-/// The epoch that a site's deeds show: that of its last Install.
-fn epoch_of(deeds: &[Deed<'_>]) -> u8
-    ensures { result ≡ epoch_shown (map deed_of deeds.now) }
-{
-    let mut last = FIRST_EPOCH;
-    'deeds: for deed in deeds {
-        if let Deed::Wrote(Record::Install { epoch, .. }) = deed {
-            last = *epoch;
-        }
-    }
-    last
 }

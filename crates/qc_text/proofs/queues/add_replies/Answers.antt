@@ -1,6 +1,6 @@
 use Rattle.std.proofs.Common.{[], List, length, get_or, ap, sym, ◌∙◌}
 use Rattle.std.proofs.lemmas.List.{length-set}
-use Rattle.qc_msg.specs.declared.step.Reply.{Reply}
+use Rattle.qc_msg.specs.declared.reply.Reply.{Reply}
 use Rattle.qc_text.proofs.Told.{told_reply, told_nothing}
 use Rattle.qc_text.proofs.queues.add_replies.Goals as goal
 use Rattle.qc_text.proofs.queues.add_replies.Goals.{in-Some+in_ok-add_reply, in_default}

@@ -1,6 +1,6 @@
 use Rattle.std.proofs.Common.{refl, ap, ◌∙◌, length, List, [], get_or}
 use Rattle.std.proofs.lemmas.List.{length-set}
-use Rattle.qc_msg.specs.declared.step.Reply.{Reply}
+use Rattle.qc_msg.specs.declared.reply.Reply.{Reply}
 use Rattle.qc_text.proofs.Taken.{left_more, first_reply, text_more}
 use Rattle.qc_text.proofs.replies.put_lines.Goals as goal
 
