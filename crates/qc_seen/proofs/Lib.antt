@@ -1,0 +1,16 @@
+pub mod Counted
+pub mod Stamps
+pub mod Seeing
+pub mod Sights
+pub mod Tellings
+pub mod Ended
+pub mod Alone
+pub mod Founded
+pub mod Courses
+pub mod Replying
+pub mod Heard
+pub mod Written
+pub mod Records
+pub mod Grants
+pub mod SeenLaw
+pub mod WrongOnes
