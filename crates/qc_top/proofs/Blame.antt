@@ -1,14 +1,13 @@
 -- A shelf that failed is blamed on the file that it failed at.
 use Rattle.std.proofs.Common.{◌≡◌, ℕ, Bool, true, false, List, Option, Some, None, Result, Ok, Err, refl, ap, sym, subst, ◌∙◌, ◌⊎◌, inl, inr}
 use Rattle.std.specs.Option.{option_map_or}
-use Rattle.std.specs.Prelude.{if◌then◌else◌, ◌==◌, IsOk, IsSome}
+use Rattle.std.specs.Prelude.{if◌then◌else◌, IsOk, IsSome}
 use Rattle.qc_accept.specs.Accept.{accepted}
 use Rattle.qc_accept.specs.declared.fault.DeclFault.{DeclFault}
 use Rattle.qc_decl.specs.One.{built_in_of}
 use Rattle.qc_decl.specs.declared.declaration.Declaration.{Declaration}
 use Rattle.qc_outside.specs.Causes.{Rose}
 use Rattle.qc_outside.specs.Shelf.{Answer}
-use Rattle.qc_outside.specs.declared.shelf.ShelfFault.{ShelfFault}
 use Rattle.qc_outside.specs.declared.shelf.ShelfFault.TheVariants as faults
 use Rattle.qc_report.specs.declared.cause.Cause.{Cause}
 use Rattle.qc_report.specs.declared.cause.Cause.TheVariants as causes
@@ -18,7 +17,7 @@ use Rattle.qc_script.specs.declared.script.Script.{Script}
 use Rattle.qc_top.proofs.Ends.{the_err}
 use Rattle.qc_top.specs.Answers.{IsCounted, is_built_in}
 use Rattle.qc_top.specs.Words.{AskedOf}
-use Rattle.qc_top.specs.Work.{Caused, ◌>>=◌, Gives, IsBlamed, built_run, bytes_of, cause_of_shelf, run_of, script_work, spelled_in, unless_a_line_is, unless_refused, work_of, work_on}
+use Rattle.qc_top.specs.Work.{Caused, ◌>>=◌, Gives, IsBlamed, built_run, bytes_of, run_of, spelled_in, unless_a_line_is, unless_refused, work_of, work_on}
 use Rattle.qc_top.specs.declared.answers.Answers.{Answers}
 use Rattle.qc_top.specs.declared.work.Work.{Work}
 use Rattle.qc_top.specs.declared.work.Work.TheVariants.{Accept, Run}

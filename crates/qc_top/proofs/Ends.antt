@@ -1,9 +1,7 @@
 -- How a call ends: with a run of its script and its text, with a word on its declaration, or with a cause that is due.
-use Rattle.std.proofs.Common.{◌≡◌, ℕ, Bool, true, false, List, [], Option, Some, None, Result, Ok, Err, ◌⊎◌, inl, inr, refl, ap, sym, subst, ◌∙◌, arith}
+use Rattle.std.proofs.Common.{◌≡◌, ℕ, false, List, [], Option, Some, None, Result, Ok, Err, inl, inr, refl, sym, subst, arith}
 use Rattle.std.specs.Prelude.{MatchOption, replicate}
 use Rattle.qc_laws.specs.Whole.{IsClosed, IsWhole}
-use Rattle.qc_promise.specs.Kept.{Kept}
-use Rattle.qc_decl.specs.Accepted.{IsAccepted}
 use Rattle.qc_decl.specs.Actors.{actors}
 use Rattle.qc_decl.specs.declared.declaration.Declaration.{Declaration}
 use Rattle.qc_msg.specs.Steps.{Entry}

@@ -1,10 +1,9 @@
 -- What is promised of every run of a script that was read.
-use Rattle.std.proofs.Common.{◌≡◌, ℕ, Bool, true, false, List, Some, None, refl, sym, subst, ap, ◌∙◌}
-use Rattle.std.specs.Prelude.{IsSome, replicate}
+use Rattle.std.proofs.Common.{false, List}
+use Rattle.std.specs.Prelude.{replicate}
 use Rattle.qc_account.proofs.Declared.{asks_declared}
 use Rattle.qc_account.proofs.Ended.{whole}
 use Rattle.qc_account.proofs.Whole.{all_is_due}
-use Rattle.qc_decl.specs.Accepted.{IsAccepted}
 use Rattle.qc_decl.specs.Actors.{actors}
 use Rattle.qc_decl.specs.declared.declaration.Declaration.{Declaration}
 use Rattle.qc_engine.specs.Next.{IsQuiet}
@@ -14,13 +13,13 @@ use Rattle.qc_onecopy.proofs.Copies.{replay_copies}
 use Rattle.qc_promise.specs.Atomic.{Atomic}
 use Rattle.qc_promise.specs.Committed.{committed}
 use Rattle.qc_promise.specs.Due.{Due}
-use Rattle.qc_script.specs.Sound.{IsScriptFor}
+use Rattle.qc_seen.proofs.SeenLaw.{is_atomic}
 use Rattle.qc_script.specs.declared.script.Script.{Script}
 use Rattle.qc_top.specs.Top.{AreStatesKnown, IsRunnable}
 
 module _ (decl : Declaration) (script : Script) (ready : IsRunnable decl script) (h : List Entry) (closed : IsClosed decl script h) where
   pub run_atomic : Atomic decl h
-  run_atomic = ?
+  run_atomic = is_atomic decl script h (replicate (actors decl) false) ready.accepted ready.declared closed
 
   pub run_due : Due decl h
   run_due = all_is_due decl script h (replicate (actors decl) false) closed

@@ -1,5 +1,5 @@
 -- What reading the answers gives, step by step.
-use Rattle.std.proofs.Common.{◌≡◌, ◌≤◌, ℕ, Bool, true, false, List, Option, Some, None, Result, Ok, Err, ◌⊎◌, inl, inr, refl, ap, sym, subst, ◌∙◌}
+use Rattle.std.proofs.Common.{◌≡◌, ◌≤◌, ℕ, Bool, true, false, List, Option, Some, None, Result, Ok, Err, ◌⊎◌, inl, inr, ap, sym, subst, ◌∙◌}
 use Rattle.std.specs.Option.{option_map_or}
 use Rattle.std.specs.Result.{IsErrAnd}
 use Rattle.std.specs.Prelude.{if◌then◌else◌}
@@ -19,7 +19,6 @@ use Rattle.qc_top.specs.Words.{AskedOf}
 use Rattle.qc_top.specs.Work.{Caused, ◌>>=◌, Gives, bytes_of, script_work, spelled_in, unless_refused, work_of, work_on}
 use Rattle.qc_top.specs.declared.answers.Answers.{Answers}
 use Rattle.qc_top.specs.declared.work.Source.{Source}
-use Rattle.qc_top.specs.declared.work.Source.TheVariants.{BuiltIn, Bytes}
 use Rattle.qc_top.specs.declared.work.Work.{Work}
 use Rattle.qc_top.specs.declared.work.Work.TheVariants.{Accept}
 

@@ -1,6 +1,5 @@
 -- A script that is read for an accepted declaration is built but for lines of disks, crashes and the administrator.
-use Rattle.std.proofs.Common.{◌≡◌, ℕ, ◌<◌, ◌≤◌, Bool, true, false, not, ◌&&◌, ◌||◌, List, [], ◌∷◌, refl, sym, ap, ◌∙◌, arith}
-use Rattle.std.specs.Prelude.{IsTrue}
+use Rattle.std.proofs.Common.{◌≡◌, ℕ, ◌≤◌, Bool, true, false, not, ◌&&◌, ◌||◌, List, [], ◌∷◌, refl, ap, ◌∙◌, arith}
 use Rattle.std.specs.List.{AllByRecursion as Every, list_all, list_any}
 use Rattle.std.proofs.lemmas.Bool.{lt-ltb}
 use Rattle.qc_decl.specs.Accepted.{IsAccepted}
@@ -13,7 +12,6 @@ use Rattle.qc_msg.specs.declared.step.Control.TheVariants as controls
 use Rattle.qc_msg.specs.declared.step.Control.{Control}
 use Rattle.qc_decl.specs.Actors.{is_client}
 use Rattle.qc_script.specs.Sound.{IsActor, IsAskedFor, IsCommandFor, IsControlFor, IsPhaseFor, IsScriptFor}
-use Rattle.qc_script.specs.declared.script.CommandLine.{CommandLine}
 use Rattle.qc_script.specs.declared.script.PhaseLines.{PhaseLines}
 use Rattle.qc_script.specs.declared.script.Script.{Script}
 use Rattle.qc_top.specs.Unbuilt.{has_unbuilt_line, is_unbuilt, is_unbuilt_command, is_unbuilt_control, is_unbuilt_line}

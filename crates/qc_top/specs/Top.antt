@@ -111,18 +111,22 @@ pub record LeavesWord (decl : Declaration) (old : Option (List ℕ)) (cause : Ca
 abbrev pub AreStatesKnown : Declaration → List Entry → Type 0
 AreStatesKnown decl h = IsSome (replay decl (committed decl h))
 
--- What a call leaves that runs a script over a declaration: a run in which each input has its turn, a whole one where its
--- text is printed, and that text, whose states are known. All that is posted is due; the history is atomic where it keeps
--- its records.
+-- What a call leaves that runs a script over a declaration.
 pub record LeavesRun (decl : Declaration) (script : Script) (old : Option (List ℕ)) (cause : Cause)
     (new : Option (List ℕ)) (h : List Entry) : Type 0 where
   pub accepted : IsAccepted decl
   pub due : IsRan cause
+  -- what happened is a run of the script, in which each input that was taken has its turn
   pub run : IsClosed decl script h
+  -- where its text is printed, it is a whole one: all that the script asks was done, and nothing is left to do
   pub whole : OnPrinted cause (IsWhole decl script h)
+  -- what is printed is the text of just this history
   pub text : PrintsBetween (text_of decl script h) old cause new
+  -- and each state in it is known
   pub states : OnPrinted cause (AreStatesKnown decl h)
+  -- each reply, each commit record and all that sites post is due
   pub replies : Due decl h
+  -- the history is atomic, where its actors keep their records
   pub atomic : Kept h → Atomic decl h
 
 abbrev pub Leaves : Caused Work → Option (List ℕ) → Cause → Option (List ℕ) → List Entry → Type 0

@@ -1,4 +1,4 @@
-use Rattle.std.proofs.Common.{ap, subst, sym, ◌∙◌, List, Ok}
+use Rattle.std.proofs.Common.{subst, sym, ◌∙◌, List, Ok}
 use Rattle.qc_msg.specs.Steps.{Entry}
 use Rattle.qc_report.specs.declared.cause.Cause.{Cause}
 use Rattle.qc_top.proofs.Blame.{blames}

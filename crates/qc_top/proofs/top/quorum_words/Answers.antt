@@ -1,10 +1,9 @@
-use Rattle.std.proofs.Common.{◌≡◌, ◌∙◌, List, None, Some, ap, refl, subst, sym}
+use Rattle.std.proofs.Common.{◌≡◌, ◌∙◌, Some, ap, sym}
 use Rattle.std.specs.Prelude.{option_map}
 use Rattle.qc_top.proofs.Blame.{blame_rose}
-use Rattle.qc_top.proofs.Calm.{calm_kept, calm_spent, spent_more}
-use Rattle.qc_top.proofs.Ends.{no_words_leave, words_leave}
+use Rattle.qc_top.proofs.Calm.{spent_more}
+use Rattle.qc_top.proofs.Ends.{words_leave}
 use Rattle.qc_top.proofs.Takes.{answers_short}
-use Rattle.qc_engine.proofs.Events.{begun_below}
 use Rattle.qc_top.specs.Words.{asked, asked_in, texts_of}
 use Rattle.qc_top.proofs.top.quorum_words.Goals as goal
 

@@ -1,4 +1,4 @@
-use Rattle.std.proofs.Common.{◌≡◌, Err, None, Ok, Option, List, Some, ℕ, ap, refl}
+use Rattle.std.proofs.Common.{◌≡◌, Err, None, Ok, List, Some, ℕ, ap, refl}
 use Rattle.std.specs.Borrow.{Bor}
 use Rattle.std.specs.Prelude.{option_map}
 use Rattle.qc_top.proofs.Takes.{accept_given, err_as, goes_on, nowhere_given, script_given, stops}
