@@ -3,14 +3,15 @@
 
 usage: tools/definitions.py
 
-The definitions of crates/old_core/specs (Committed, OneCopy, Deals, Seen, Atomic,
-Status) once more, as a plain program, so that they can be read, tried and
-doubted apart from the prover. Each file of tools/histories/ has a history of
-`@one`, step by step, and the text that is printed of it; both came from a model
-that was written apart from this repository. Each history has to be atomic, with
-the committed transactions and the states of its text. Then each is spoiled in
-every way that `spoiled` knows, and no spoiled one may be atomic. Ends with
-status 1 where one of these fails.
+The definitions of hybrid atomicity (crates/qc_onecopy/specs/OneCopy.antt, and
+of crates/qc_promise/specs Committed, Deals, Seen, Told, Atomic) once more, as a
+plain program, so that they can be read, tried and doubted apart from the prover.
+Each file of tools/histories/ has a history of `@one` or of `@three`, step by
+step, and the text that is printed of it; both came from a model that was written
+apart from this repository. Each history has to be atomic, with the committed
+transactions and the states of its text. Then each is spoiled in every way that
+`spoiled` knows, and no spoiled one may be atomic. Ends with status 1 where one
+of these fails.
 """
 
 import ast
@@ -55,8 +56,8 @@ def step(line):
     taken = value(text)
     if taken.name == "Got":
         return Step(actor, "Got", taken.fields["number"], None)
-    if taken.name == "Phase":
-        return Step(actor, "Phase", None, None)
+    if actor == "ctl":
+        return Step(actor, taken.name, None, None)
     return Step(actor, taken.name, None, next(iter(taken.fields.values())))
 
 
@@ -76,7 +77,7 @@ def is_client(actor):
 
 
 def written(history):
-    """The commit records that clients wrote, in the order of their writing."""
+    """The commit records that clients wrote, in the order of their writing. Sites write records of other kinds."""
     records = [s.message for s in history if s.kind == "Wrote" and is_client(s.actor)]
     return [Commit(r.fields["stamp"], r.fields["tx"], r.fields["ops"]) for r in records if r.name == "Commit"]
 
@@ -106,6 +107,15 @@ def own(history, client):
     return [s for s in history if s.actor == "c%d" % client]
 
 
+# The replies that end a transaction; `Unknown` doesn't tell how.
+ENDINGS = ("Committed", "Aborted", "Dropped", "Unknown")
+
+
+def operation(asked, resp):
+    """The operation of a `do`; other commands have none."""
+    return [(asked.fields["object"], asked.fields["inv"], resp)] if asked and asked.name == "Do" else []
+
+
 def dealings(history, client, tx):
     """The operations that the client was told for the transaction, and the replies that ended it."""
     asked, begun, ops, ends = None, None, [], []
@@ -118,21 +128,27 @@ def dealings(history, client, tx):
         if reply.name == "Began":
             begun = reply.fields["tx"]
         elif reply.name in ("Response", "Absent") and begun == tx:
-            ops.append((asked.fields["object"], asked.fields["inv"], reply.fields.get("resp")))
-        elif reply.name in ("Committed", "Aborted", "Dropped"):
+            ops += operation(asked, reply.fields.get("resp"))
+        elif reply.name in ENDINGS:
             if begun == tx:
                 ends.append(reply)
             begun = None
     return tuple(ops), ends
 
 
+REQUESTS = ("Read", "Append", "Prepare")
+
+
 def seen(history, tx):
-    """The transactions that the client had seen: by counted grants and by replies before it began, and by counted grants since."""
+    """The transactions that the client had seen: by counted grants and by replies before it began, and by counted grants
+    until it ended. An answer counts where its request waits: the first thing that is taken for it is all that counts."""
     mail = [s.message for s in history if s.kind == "Sent"]
     begun, waiting, known, had_seen = None, set(), [], []
     for s in own(history, tx[0]):
-        if s.kind == "Sent":
+        if s.kind == "Sent" and s.message.name in REQUESTS:
             waiting.add(s.number)
+        elif s.kind == "Lost":
+            waiting.discard(s.message)
         elif s.kind == "Got":
             answer = mail[s.number]
             to = answer.fields.get("to")
@@ -148,28 +164,35 @@ def seen(history, tx):
                 begun = reply.fields["tx"]
                 if begun == tx:
                     had_seen = list(known)
-            elif reply.name in ("Committed", "Aborted", "Dropped"):
+            elif reply.name in ENDINGS:
                 if reply.name == "Committed" and begun is not None:
                     known.append(begun)
                 begun = None
     return set(had_seen)
 
 
+def endings(history):
+    """Each client's ends of the transactions that it began: the client, the transaction, the reply."""
+    begun = {(s.actor, s.message.fields["tx"]) for s in history if s.kind == "Told" and s.message.name == "Began"}
+    ends = [(int(actor[1:]), tx) for actor, tx in begun if is_client(actor)]
+    return [(client, tx, reply) for client, tx in ends for reply in dealings(history, client, tx)[1]]
+
+
 def faults(history):
     """The parts of atomicity that the history lacks."""
-    commits = committed(history)
-    names = {s.message.fields["tx"] for s in history if s.kind == "Told" and s.message.name == "Began"}
-    ends = {tx: dealings(history, tx[0], tx)[1] for tx in names | {c.tx for c in commits}}
-    told = {(tx, e.fields["stamp"]) for tx in ends for e in ends[tx] if e.name == "Committed"}
-    given_up = {tx for tx in ends for e in ends[tx] if e.name != "Committed"}
+    commits, ends = committed(history), endings(history)
+    records = {(c.tx, c.stamp) for c in commits}
+    told = {(client, tx, reply.fields["stamp"]) for client, tx, reply in ends if reply.name == "Committed"}
+    given_up = {tx for _, tx, reply in ends if reply.name in ("Aborted", "Dropped")}
     before = lambda tx, stamp: any(c.tx == tx and c.stamp < stamp for c in commits)
     found = {
         "apart": len({c.stamp for c in commits}) == len(commits) == len({c.tx for c in commits}),
         "one copy": walk(commits) is not None,
         "dealt": all(c.ops == dealings(history, c.tx[0], c.tx)[0] for c in commits),
         "seen": all(before(tx, c.stamp) for c in commits for tx in seen(history, c.tx) - {c.tx}),
-        "told": told == {(c.tx, c.stamp) for c in commits} and not given_up & {c.tx for c in commits},
-        "rising": all(c.stamp < d.stamp for c, d in zip(written(history), written(history)[1:])),
+        "told": {(tx, stamp) for _, tx, stamp in told} <= records
+        and all((tx[0], tx, stamp) in told for tx, stamp in records)
+        and not given_up & {c.tx for c in commits},
     }
     return [part for part, holds in found.items() if not holds]
 
@@ -194,23 +217,62 @@ def changed(step, **fields):
     return step._replace(message=Value(step.message.name, {**step.message.fields, **fields}))
 
 
+def with_stamp(history, place, stamp):
+    """The commit record that stands there and what its client was told of it, with another stamp."""
+    told = next(k for k in range(place, len(history)) if history[k].kind == "Told" and history[k].actor == history[place].actor)
+    return with_step(with_step(history, place, changed(history[place], stamp=stamp)), told, changed(history[told], stamp=stamp))
+
+
 def spoiled(history):
     """Each spoiled history, and what was done to it."""
     for place, s in enumerate(history):
         if s.kind == "Wrote" and s.message.name == "Commit":
-            ops, stamp = s.message.fields["ops"], s.message.fields["stamp"]
+            ops, stamp, tx = s.message.fields["ops"], s.message.fields["stamp"], s.message.fields["tx"]
             yield "record is missing", history[:place] + history[place + 1 :]
+            yield "record is a site's", with_step(history, place, s._replace(actor="s0"))
             yield "record has another stamp", with_step(history, place, changed(s, stamp=(stamp[0] + 1000, stamp[1])))
             yield "record stands with two stamps", history[: place + 1] + [changed(s, stamp=(stamp[0] + 1000, stamp[1]))] + history[place + 1 :]
+            if seen(history, tx) - {tx}:
+                yield "transaction comes before what its client had seen", with_stamp(history, place, (0, stamp[1]))
+            for c in written(history):
+                if c.tx != tx:
+                    yield "two transactions have one stamp", with_stamp(history, place, c.stamp)
             for k in range(len(ops)):
                 yield "record leaves an operation out", with_step(history, place, changed(s, ops=ops[:k] + ops[k + 1 :]))
                 other = (ops[k][0], ops[k][1], None)
                 yield "record has another response", with_step(history, place, changed(s, ops=ops[:k] + (other,) + ops[k + 1 :]))
         if s.kind == "Told" and s.message.name == "Committed":
+            other = "c%d" % (int(s.actor[1:]) + 1)
             yield "commit isn't told", history[:place] + history[place + 1 :]
+            yield "commit is told to another client", with_step(history, place, s._replace(actor=other))
             yield "commit is told as dropped", with_step(history, place, s._replace(message=Value("Dropped", {})))
         if s.kind == "Told" and s.message.name == "Dropped":
             yield "drop is told as a commit", with_step(history, place, s._replace(message=Value("Committed", {"stamp": (1000, 0)})))
+    yield from misread(history)
+
+
+def misread(history):
+    """Histories in which a committed read was told another state, and recorded so."""
+    for c in committed(history):
+        for k, (thing, invocation, response) in enumerate(c.ops):
+            if invocation == INVOCATIONS.index("R"):
+                wrong = c.ops[:k] + ((thing, invocation, 1 - response),) + c.ops[k + 1 :]
+                yield "read is told another state", retold(history, c, k, wrong)
+
+
+def retold(history, commit, number, ops):
+    """The commit's record with these operations, and what its client was told of the operation of this number."""
+    begun, told = None, []
+    for place, s in enumerate(history):
+        if s.kind == "Told" and s.actor == "c%d" % commit.tx[0]:
+            if s.message.name == "Began":
+                begun = s.message.fields["tx"]
+            elif s.message.name in ("Response", "Absent") and begun == commit.tx:
+                told.append(place)
+        if s.kind == "Wrote" and s.message.name == "Commit" and s.message.fields["tx"] == commit.tx:
+            record = place
+    spoiled_step = changed(history[told[number]], resp=ops[number][2])
+    return with_step(with_step(history, told[number], spoiled_step), record, changed(history[record], ops=ops))
 
 
 def main():

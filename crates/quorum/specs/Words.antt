@@ -1,8 +1,8 @@
 -- Why the program's words couldn't be taken.
 use Rattle.std.specs.declared.io.ErrorKind.{ErrorKind}
 use Rattle.std.specs.declared.io.ErrorKind.TheVariants as kinds
-use Rattle.old_report.specs.declared.cause.Cause.{Cause}
-use Rattle.old_report.specs.declared.cause.Cause.TheVariants as causes
+use Rattle.qc_report.specs.declared.cause.Cause.{Cause}
+use Rattle.qc_report.specs.declared.cause.Cause.TheVariants as causes
 
 -- memory was wanting, or a word isn't text
 abbrev pub cause_of_kind : ErrorKind → Cause

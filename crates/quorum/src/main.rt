@@ -1,6 +1,6 @@
 //! The program `quorum`: the real outside, and the top call.
 //!
-//! All that matters is in `old_top`. Here the words, the files and standard
+//! All that matters is in `qc_top`. Here the words, the files and standard
 //! output of the system are handed in, and the cause of a status other than 0
 //! is told on standard error, whatever that takes.
 #![tactic(auto)]
@@ -8,14 +8,14 @@
 ghost use Rattle.std.specs.Prelude.{◌≡◌};
 ghost use Rattle.std.specs.IoError.{error_kind};
 ghost use Rattle.std.specs.Process.{exit_status};
-ghost use Rattle.old_report.specs.Causes.{status_of};
+ghost use Rattle.qc_report.specs.Causes.{status_of};
 ghost use Rattle.quorum.specs.Words.{cause_of_kind};
 
 mod outside;
 #[cfg(test)]
 mod tests;
 
-use old_top::{Cause, cause_text, quorum_words};
+use qc_top::{Cause, cause_text, quorum_words};
 use outside::{FileShelf, OutSink};
 use qc_outside::{EmptyRack, OpenGate};
 use std::io::{self, ErrorKind, Write};

@@ -1,4 +1,0 @@
-pub mod Steps
-pub mod Mail
-pub mod Counts
-pub mod Within

@@ -1,4 +1,0 @@
-use Rattle.old_report.proofs.cause.full_text.Goals as goal
-
-pub returns : goal.returns
-returns c = rw (← c.what_word.ensures, ← c.format.ensures.text) c.put_all.ensures

@@ -1,6 +1,0 @@
-use Rattle.std.proofs.Common.{◌≡◌, ◌++◌, map}
-use Rattle.old_report.specs.Keys.{commit_of}
-use Rattle.old_report.proofs.committed.commits_of.Given as goal
-
-abbrev pub invariant-keys : goal.invariant-keys
-invariant-keys l = l.commits.items ++ map commit_of l.key-iterator ≡ map commit_of l.fn.keys.keys

@@ -1,7 +1,0 @@
-use Rattle.std.proofs.Common.{◌≡◌, ◌++◌, take}
-use Rattle.std.specs.List.{flat_map}
-use Rattle.old_report.specs.LogText.{commit_line}
-use Rattle.old_report.proofs.log_lines.put_log.Given as goal
-
-abbrev pub invariant-commits : goal.invariant-commits
-invariant-commits l = l.page ≡ l.initial.page ++ flat_map (commit_line l.decl) (take l.commit-index l.commits)

@@ -1,9 +1,0 @@
-use Rattle.std.proofs.Common.{◌≡◌, ◌<◌, ℕ, [], length, take, slice_index_or}
-use Rattle.old_report.specs.Replies.{told_of}
-use Rattle.old_report.proofs.queues.add_replies.Given as goal
-
-abbrev pub invariant-entries : goal.invariant-entries
-invariant-entries l = record {
-  all : length l.queues ≡ 256;
-  told : (a : ℕ) → a < 256 → slice_index_or l.queues a [] ≡ told_of a (take l.entry-index l.entries);
-}

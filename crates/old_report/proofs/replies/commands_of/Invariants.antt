@@ -1,6 +1,0 @@
-use Rattle.std.proofs.Common.{◌≡◌, take}
-use Rattle.std.specs.List.{flat_map}
-use Rattle.old_report.proofs.replies.commands_of.Given as goal
-
-abbrev pub invariant-phases : goal.invariant-phases
-invariant-phases l = l.commands.items ≡ flat_map (λ p. p.commands) (take l.phase-index l.phase-items)

@@ -1,7 +1,0 @@
-use Rattle.std.proofs.Common.{◌≡◌, ◌++◌, option_map}
-use Rattle.std.specs.List.{flat_map, range_with_len}
-use Rattle.old_report.specs.States.{state_line}
-use Rattle.old_report.proofs.states.put_states.Given as goal
-
-abbrev pub invariant-objects : goal.invariant-objects
-invariant-objects l = l.page ≡ l.initial.page ++ flat_map (state_line l.decl (option_map (λ v. v.items) l.states)) (range_with_len 0 l.object)

@@ -1,5 +1,0 @@
-use Rattle.old_site.proofs.Lines.{log_gains}
-use Rattle.old_site.proofs.laws.logs_gain_what_is_brought.Goals as goal
-
-pub returns : goal.returns
-returns c = log_gains

@@ -1,9 +1,0 @@
-mod Asking
-mod Blame
-mod Ends
-mod Events
-mod Inputs
-mod Lands
-mod Right
-mod Takes
-mod Turns

@@ -1,0 +1,6 @@
+use Rattle.std.proofs.Common.{◌≡◌, ◌++◌, drop}
+use Rattle.qc_text.specs.Pieces.{joined}
+use Rattle.qc_text.proofs.page.Page.put_all.Given as goal
+
+abbrev pub invariant-pieces : goal.invariant-pieces
+invariant-pieces l = l.self ++ joined (drop l.piece-index l.pieces) ≡ l.initial.self ++ joined l.pieces

@@ -1,0 +1,24 @@
+-- Messages and deeds as they lie in a history, and what they stand for.
+use Rattle.std.specs.Prelude.{ℕ, ◌==◌, cond, List, []}
+use Rattle.qc_msg.specs.declared.message.Envelope.{Envelope}
+use Rattle.qc_msg.specs.declared.step.Given.TheVariants as given
+use Rattle.qc_msg.specs.Deeds.{Deed, Takes, Writes, Sends, Tells, deed_at}
+use Rattle.qc_msg.specs.Steps.{Entry}
+use Rattle.qc_text.specs.declared.deeds.Deed.{Deed as Found}
+use Rattle.qc_text.specs.declared.deeds.Deed.TheVariants.{Called, Got, Lost, Wrote, Sent, Told}
+use Rattle.qc_text.specs.declared.deeds.Letter.{Letter}
+
+abbrev pub envelope_in : Letter → Envelope
+envelope_in letter = record { number = letter.number; from = letter.from; to = letter.to; message = letter.message.now }
+
+abbrev pub deed_of : Found → Deed
+deed_of (Called command) = Takes (given.Called command)
+deed_of (Got letter) = Takes (given.Got (envelope_in letter))
+deed_of (Lost number) = Takes (given.Lost number)
+deed_of (Wrote written) = Writes written.now
+deed_of (Sent number to message) = Sends number to message.now
+deed_of (Told reply) = Tells reply
+
+-- what an entry's step does, where it is one of this actor
+abbrev pub deeds_at : ℕ → List Envelope → Entry → List Deed
+deeds_at number ms e = cond (e.actor == number) (deed_at ms e.step) []

@@ -1,0 +1,69 @@
+-- The transactions that hold something at a site, one deed after another.
+use Rattle.std.specs.Prelude.{ℕ, ◌==◌, ◌&&◌, not, Bool, true, false, if◌then◌else◌, List, [], ◌∷◌, ◌++◌, filter, length}
+use Rattle.std.specs.List.{list_any}
+use Rattle.qc_stamp.specs.Order.{same_tx}
+use Rattle.qc_stamp.specs.declared.stamp.TxId.{TxId}
+use Rattle.qc_msg.specs.declared.message.Message.{Message}
+use Rattle.qc_msg.specs.declared.message.Message.TheVariants as messages
+use Rattle.qc_msg.specs.declared.message.Want.{Want}
+use Rattle.qc_msg.specs.declared.message.Want.TheVariants.{Read, Append, Prepare}
+use Rattle.qc_msg.specs.declared.step.Given.{Given}
+use Rattle.qc_msg.specs.declared.step.Given.TheVariants as given
+use Rattle.qc_msg.specs.Deeds.{Deed, Takes, Writes, Sends, Tells}
+use Rattle.qc_promise.specs.SiteEnds.{is_final}
+use Rattle.qc_promise.specs.SiteHeld.{grants, is_granted}
+
+-- whether a deed takes an input, and whether it sends the grant of the request of this number
+
+abbrev pub is_take : Deed → Bool
+is_take (Takes given) = true
+is_take (Writes written) = false
+is_take (Sends number to message) = false
+is_take (Tells reply) = false
+
+abbrev pub sends_grant : ℕ → Deed → Bool
+sends_grant number (Takes given) = false
+sends_grant number (Writes written) = false
+sends_grant number (Sends n to message) = grants number message
+sends_grant number (Tells reply) = false
+
+-- whether a transaction that is granted this holds something
+abbrev pub is_hold : Want → Bool
+is_hold (Read object inv) = true
+is_hold (Append object view own) = not (length own == 0)
+is_hold Prepare = false
+
+abbrev pub is_holder : List TxId → TxId → Bool
+is_holder txs tx = list_any (λ t. same_tx t tx) txs
+
+abbrev pub with_holder : List TxId → TxId → List TxId
+with_holder txs tx = if is_holder txs tx then txs else txs ++ tx ∷ []
+
+abbrev pub without_holder : List TxId → TxId → List TxId
+without_holder txs tx = filter (λ t. not (same_tx t tx)) txs
+
+-- the holders after a message of this number is taken, the deeds after it being these
+abbrev pub holders_by : List TxId → ℕ → Message → List Deed → List TxId
+holders_by txs number (messages.Request tx epoch life want) after =
+    if is_hold want && is_granted number after then with_holder txs tx else txs
+holders_by txs number (messages.Answer to answer) after = txs
+holders_by txs number (messages.Decision tx verdict) after = if is_final verdict then without_holder txs tx else txs
+holders_by txs number (messages.Inquiry tx) after = txs
+holders_by txs number (messages.Ask tx) after = txs
+holders_by txs number (messages.Close epoch) after = txs
+holders_by txs number (messages.Install epoch clock log) after = txs
+
+abbrev pub holders_given : List TxId → Given → List Deed → List TxId
+holders_given txs (given.Called command) after = txs
+holders_given txs (given.Got envelope) after = holders_by txs envelope.number envelope.message after
+holders_given txs (given.Lost number) after = txs
+
+abbrev pub holders_at : List TxId → Deed → List Deed → List TxId
+holders_at txs (Takes given) after = holders_given txs given after
+holders_at txs (Writes written) after = txs
+holders_at txs (Sends number to message) after = txs
+holders_at txs (Tells reply) after = txs
+
+abbrev pub holders_from : List TxId → List Deed → List TxId
+holders_from txs [] = txs
+holders_from txs (d ∷ ds) = holders_from (holders_at txs d ds) ds

@@ -1,0 +1,15 @@
+pub mod Names
+pub mod Parts
+pub mod Pieces
+pub mod Asked
+pub mod Results
+pub mod Replies
+pub mod Keys
+pub mod Log
+pub mod States
+pub mod Deeds
+pub mod Holders
+pub mod Lines
+pub mod Records
+pub mod Sites
+pub mod Text

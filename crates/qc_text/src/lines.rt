@@ -1,0 +1,133 @@
+//! The lines that a site's deeds show.
+
+ghost use Rattle.std.specs.Prelude.{◌≡◌, [], OnOk, IfOk, MatchOption, map};
+ghost use Rattle.qc_entry.specs.Log.{union};
+ghost use Rattle.qc_promise.specs.SiteLogs.{done_lines, joining, lines_done, lines_of, log_shown, view_by};
+ghost use Rattle.qc_text.specs.Deeds.{deed_of};
+ghost use Rattle.qc_text.specs.Lines.{view_asked};
+
+use crate::deeds::{Deed, Letter};
+use crate::grants::is_granted;
+use crate::records::last_prepare;
+use qc_entry::{Line, Log, OwnLine};
+use qc_list::OutOfMemory;
+use qc_msg::{Message, Record, Want};
+use qc_stamp::{Stamp, TxId};
+use std::alloc::Global;
+
+/// The log that a site's deeds show.
+pub(crate) fn log_of(alloc: Global, deeds: &[Deed<'_>]) -> Result<Log, OutOfMemory>
+    ensures { IfOk result (λ log. log ≡ log_shown (map deed_of deeds.now)) }
+{
+    let mut log = Log::new(alloc)?;
+    'deeds: for place in 0..deeds.len() {
+        let (before, after) = (&deeds[..place], &deeds[place + 1..]);
+        join(alloc, &mut log, before, &deeds[place], after)?;
+    }
+    Ok(log)
+}
+
+/// Adds the lines that a deed gives the log, among those before and after it.
+#[tactic(auto, using(crate::proofs::Found::union_none))]
+fn join(
+    alloc: Global,
+    log: &mut Log,
+    before: &[Deed<'_>],
+    deed: &Deed<'_>,
+    after: &[Deed<'_>],
+) -> Result<(), OutOfMemory>
+    ensures { OnOk result (log.new
+        ≡ union log.old (joining (map deed_of before.now) (deed_of deed.now) (map deed_of after.now))) }
+{
+    match deed {
+        Deed::Got(letter) => join_view(log, letter, after),
+        Deed::Wrote(written) => join_written(alloc, log, before, written),
+        Deed::Called(_) | Deed::Lost(_) | Deed::Sent { .. } | Deed::Told(_) => Ok(()),
+    }
+}
+
+/// Adds the view of an Append, where it is granted.
+fn join_view(log: &mut Log, letter: &Letter<'_>, after: &[Deed<'_>]) -> Result<(), OutOfMemory>
+    ensures { OnOk result (log.new
+        ≡ union log.old (view_by letter.now.number letter.now.message.now (map deed_of after.now))) }
+{
+    if let Some(view) = view_asked(letter.message) {
+        if is_granted(after, letter.number) {
+            log.merge(view)?;
+        }
+    }
+    Ok(())
+}
+
+/// The view that an Append brings.
+fn view_asked(message: &Message) -> Option<&Log>
+    ensures { MatchOption result (view_asked message.now ≡ []) (λ view. view_asked message.now ≡ view.now) }
+{
+    match message {
+        Message::Request {
+            want: Want::Append { view, .. },
+            ..
+        } => Some(view),
+        _ => None,
+    }
+}
+
+/// Adds the lines that the log has of a record alone: those of a Done.
+#[tactic(auto, using(crate::proofs::Found::union_none))]
+fn join_written(
+    alloc: Global,
+    log: &mut Log,
+    before: &[Deed<'_>],
+    written: &Record,
+) -> Result<(), OutOfMemory>
+    ensures { OnOk result (log.new ≡ union log.old (lines_done (map deed_of before.now) written.now)) }
+{
+    match written {
+        Record::Done { tx, clock } => join_done(alloc, log, before, *tx, *clock),
+        Record::Life
+        | Record::Prepare(_)
+        | Record::Close { .. }
+        | Record::Install { .. }
+        | Record::Commit(_)
+        | Record::Decide { .. } => Ok(()),
+    }
+}
+
+/// Adds the own lines of the last Prepare of a transaction that committed with
+/// this clock.
+fn join_done(
+    alloc: Global,
+    log: &mut Log,
+    before: &[Deed<'_>],
+    tx: TxId,
+    clock: u64,
+) -> Result<(), OutOfMemory>
+    ensures { OnOk result (log.new ≡ union log.old (done_lines (map deed_of before.now) tx clock)) }
+{
+    if let Some(prepared) = last_prepare(before, tx) {
+        let stamp = Stamp {
+            clock,
+            client: tx.client,
+        };
+        let lines = lines_of(alloc, stamp, tx, prepared.own.items())?;
+        log.merge(&lines)?;
+    }
+    Ok(())
+}
+
+/// Own lines of a transaction as lines with this stamp.
+fn lines_of(alloc: Global, stamp: Stamp, tx: TxId, own: &[OwnLine]) -> Result<Log, OutOfMemory>
+    ensures { IfOk result (λ log. log ≡ lines_of stamp tx own.now) }
+{
+    let mut lines = Log::new(alloc)?;
+    'own: for line in own {
+        lines.add(Line {
+            stamp,
+            tx,
+            op: line.op,
+            object: line.object,
+            event: line.event,
+        })?;
+    }
+    Ok(lines)
+}

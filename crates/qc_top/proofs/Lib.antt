@@ -1,0 +1,7 @@
+mod Blame
+mod Calm
+mod Ends
+mod Right
+mod Runs
+mod Takes
+mod Unbuilt

@@ -1,0 +1,117 @@
+-- What the words come to can be done: its declaration keeps the rules, and a script that is run names what is declared and
+-- is built.
+use Rattle.std.proofs.Common.{◌≡◌, ℕ, Bool, true, false, cond, List, Option, Some, None, Result, Ok, Err, refl, ap, subst}
+use Rattle.std.specs.Option.{option_map_or}
+use Rattle.std.specs.Prelude.{if◌then◌else◌, codes}
+use Rattle.std.specs.Str.{bytes_eq}
+use Rattle.qc_accept.proofs.Accepting.{accepted_is}
+use Rattle.qc_accept.specs.Accept.{accepted}
+use Rattle.qc_accept.specs.declared.fault.DeclFault.{DeclFault}
+use Rattle.qc_decl.proofs.BuiltInRules.{one_accepted, three_accepted}
+use Rattle.qc_decl.specs.Accepted.{IsAccepted}
+use Rattle.qc_decl.specs.One.{built_in_of, one, three}
+use Rattle.qc_decl.specs.declared.declaration.Declaration.{Declaration}
+use Rattle.qc_outside.specs.Shelf.{Answer}
+use Rattle.qc_outside.specs.declared.shelf.ShelfFault.TheVariants as faults
+use Rattle.qc_report.specs.declared.cause.Cause.TheVariants as causes
+use Rattle.qc_engine.specs.Built.{is_built}
+use Rattle.qc_script.proofs.SoundScripts.{script_names}
+use Rattle.qc_script.specs.Grammar.{Refusal, script_of}
+use Rattle.qc_script.specs.Sound.{IsScriptFor}
+use Rattle.qc_script.specs.declared.script.Script.{Script}
+use Rattle.qc_top.specs.Top.{IsRight}
+use Rattle.qc_top.specs.Words.{AskedOf}
+use Rattle.qc_top.specs.Answers.{is_built_in}
+use Rattle.qc_top.specs.Work.{Caused, ◌>>=◌, built_run, bytes_of, run_of, spelled_in, unless_a_line_is, unless_refused, work_of, work_on}
+use Rattle.qc_top.specs.declared.answers.Answers.{Answers}
+use Rattle.qc_top.specs.declared.work.Work.{Work}
+use Rattle.qc_top.specs.declared.work.Work.TheVariants.{Accept, Run}
+
+-- what comes of two steps came of the first
+record Came {A B : Type 0} (given : Caused A) (next : A → Caused B) (b : B) : Type 0 where
+  pub first : A
+  pub is : given ≡ Ok first
+  pub rest : next first ≡ Ok b
+
+came : {A B : Type 0} (given : Caused A) (next : A → Caused B) (b : B) → (given >>= next) ≡ Ok b → Came given next b
+came (Ok a) next b is = record { first = a; is = refl; rest = is }
+came (Err cause) next b is = absurd (let never : ⊥ = cc in never)
+
+-- of two answers that are equal, the values are
+inner : {A : Type 0} (a b : A) → (let given : Caused A = Ok a in given) ≡ Ok b → a ≡ b
+inner a b is = cc
+
+abbrev the_ok : Declaration → Result Declaration DeclFault
+the_ok decl = Ok decl
+
+-- a built-in declaration
+
+known : (name : List ℕ) (decl : Declaration) → built_in_of name ≡ Some decl → IsAccepted decl
+known name decl is = by (bytes_eq name (codes "@one")) (bytes_eq name (codes "@three")) is
+  where
+    by : (a b : Bool) → cond a (Some one) (cond b (Some three) None) ≡ Some decl → IsAccepted decl
+    by true b is = let same : one ≡ decl = cc in subst IsAccepted same one_accepted
+    by false true is = let same : three ≡ decl = cc in subst IsAccepted same three_accepted
+    by false false is = absurd (let never : ⊥ = cc in never)
+
+-- what stands under a declaration's name
+
+abbrev IsRightly : Result Declaration DeclFault → Type 0
+IsRightly (Ok decl) = IsAccepted decl
+IsRightly (Err fault) = Unit {0}
+
+rightly : (bytes : List ℕ) (spelled : Result Declaration DeclFault) → accepted bytes ≡ spelled → IsRightly spelled
+rightly bytes (Ok decl) is = accepted_is bytes decl is
+rightly bytes (Err fault) is = tt
+
+spelled_is : (name : List ℕ) (answer : Answer) (spelled : Result Declaration DeclFault) → spelled_in name answer ≡ Ok spelled → IsRightly spelled
+spelled_is name answer spelled is = by (is_built_in name) is
+  where
+    built_in : (o : Option Declaration) → built_in_of name ≡ o → option_map_or (λ d. (let given : Caused (Result Declaration DeclFault) = Ok (Ok d) in given)) o (Err (causes.Shelf false faults.Missing)) ≡ Ok spelled → IsRightly spelled
+    built_in None none is = absurd (let never : ⊥ = cc in never)
+    built_in (Some decl) some is = let same : the_ok decl ≡ spelled = cc in subst IsRightly same (known name decl some)
+
+    taken : (given : Caused (List ℕ)) → (given >>= (λ bytes. Ok (accepted bytes))) ≡ Ok spelled → IsRightly spelled
+    taken (Ok bytes) is = rightly bytes spelled (inner (accepted bytes) spelled is)
+    taken (Err cause) is = absurd (let never : ⊥ = cc in never)
+
+    by : (t : Bool) → (if t then option_map_or (λ d. (let given : Caused (Result Declaration DeclFault) = Ok (Ok d) in given)) (built_in_of name) (Err (causes.Shelf false faults.Missing)) else bytes_of false answer >>= (λ bytes. Ok (accepted bytes))) ≡ Ok spelled
+        → IsRightly spelled
+    by true is = built_in (built_in_of name) refl is
+    by false is = taken (bytes_of false answer) is
+
+declared_is : (spelled : Result Declaration DeclFault) (decl : Declaration) → IsRightly spelled → unless_refused spelled ≡ Ok decl → IsAccepted decl
+declared_is (Ok d) decl right is = let same : d ≡ decl = cc in subst IsAccepted same right
+declared_is (Err fault) decl right is = absurd (let never : ⊥ = cc in never)
+
+-- a run of a script that was read
+
+read_is : (read : Result Script Refusal) (script : Script) → unless_a_line_is read ≡ Ok script → read ≡ Ok script
+read_is (Ok s) script is = ap (λ (x : Script). let r : Result Script Refusal = Ok x in r) (inner s script is)
+read_is (Err refusal) script is = absurd (let never : ⊥ = cc in never)
+
+run_is : (decl : Declaration) (bytes : List ℕ) (work : Work) → IsAccepted decl → run_of decl bytes ≡ Ok work → IsRight work
+run_is decl bytes work right is =
+    let c : Came (unless_a_line_is (script_of decl bytes)) (built_run decl) work = came (unless_a_line_is (script_of decl bytes)) (built_run decl) work is in
+    let sound : IsScriptFor decl c.first = script_names decl bytes c.first (read_is (script_of decl bytes) c.first c.is) in
+    by c.first sound (is_built decl c.first) refl c.rest
+  where
+    by : (script : Script) → IsScriptFor decl script → (t : Bool) → is_built decl script ≡ t → (let given : Caused Work = if t then Ok (Run decl script) else Err causes.NotBuilt in given) ≡ Ok work → IsRight work
+    by script sound true built is = subst IsRight (inner (Run decl script) work is) (record { accepted = right; declared = sound; built = built })
+    by script sound false unbuilt is = absurd (let never : ⊥ = cc in never)
+
+pub work_is : (asked : AskedOf) (answers : Answers) (work : Work) → work_of asked answers ≡ Ok work → IsRight work
+work_is asked answers work is =
+    let c : Came (spelled_in asked.decl answers.decl) (work_on asked.script answers.script) work = came (spelled_in asked.decl answers.decl) (work_on asked.script answers.script) work is in
+    by asked.script c.first (spelled_is asked.decl answers.decl c.first c.is) c.rest
+  where
+    by : (script : Option (List ℕ)) (spelled : Result Declaration DeclFault) → IsRightly spelled → work_on script answers.script spelled ≡ Ok work → IsRight work
+    by None spelled right is =
+        let d : Came (unless_refused spelled) (λ decl. Ok (Accept decl)) work = came (unless_refused spelled) (λ decl. Ok (Accept decl)) work is in
+        let same : Accept d.first ≡ work = let e = d.rest in cc in
+        subst IsRight same (declared_is spelled d.first right d.is)
+    by (Some name) spelled right is =
+        let b : Came (bytes_of true answers.script) (λ bytes. unless_refused spelled >>= (λ decl. run_of decl bytes)) work =
+        came (bytes_of true answers.script) (λ bytes. unless_refused spelled >>= (λ decl. run_of decl bytes)) work is in
+        let d : Came (unless_refused spelled) (λ decl. run_of decl b.first) work = came (unless_refused spelled) (λ decl. run_of decl b.first) work b.rest in
+        run_is d.first b.first work (declared_is spelled d.first right d.is) d.rest

@@ -1,0 +1,54 @@
+use Rattle.std.proofs.Common.{subst, sym, ◌∙◌, List, Ok}
+use Rattle.qc_msg.specs.Steps.{Entry}
+use Rattle.qc_report.specs.declared.cause.Cause.{Cause}
+use Rattle.qc_top.proofs.Blame.{blames}
+use Rattle.qc_top.proofs.Calm.{calm_kept, calm_spent}
+use Rattle.qc_top.proofs.Ends.{leaves_calm, leaves_refused, refused_full}
+use Rattle.qc_top.specs.Calm.{AreCalm}
+use Rattle.qc_engine.proofs.Events.{begun_below}
+use Rattle.qc_top.proofs.Right.{work_is}
+use Rattle.qc_top.specs.Top.{IsFullCause, Leaves}
+use Rattle.qc_top.specs.Words.{asked_in}
+use Rattle.qc_top.specs.Work.{Caused, work_of}
+use Rattle.qc_top.specs.declared.work.Work.{Work}
+use Rattle.qc_top.proofs.top.perform.Goals as goal
+
+pub do_work-requires : goal.do_work-requires
+do_work-requires g c = work_is (asked_in c.args.asked) c.args.answers c.in-Ok.work c.in-Ok.ensures.work
+
+pub returns-in-Ok-clause-leaves : goal.returns-in-Ok-clause-leaves
+returns-in-Ok-clause-leaves g c =
+    subst (λ (w : Caused Work). Leaves w (g.K.Sink.taken c.args.sink.now) c.do_work.result.cause (g.K.Sink.taken c.do_work.new.sink) c.do_work.result.history) (sym c.in-Ok.ensures.work) c.do_work.ensures.leaves
+
+pub returns-in-Ok-clause-blame : goal.returns-in-Ok-clause-blame
+returns-in-Ok-clause-blame g c = λ script same. absurd (c.do_work.ensures.shelf script same)
+
+pub returns-in-Ok-clause-kept : goal.returns-in-Ok-clause-kept
+returns-in-Ok-clause-kept g c =
+    calm_kept c.do_work.result.history (leaves_calm (Ok c.in-Ok.work) (g.K.Sink.taken c.args.sink.now) c.do_work.result.cause (g.K.Sink.taken c.do_work.new.sink) c.do_work.result.history c.do_work.ensures.leaves)
+
+pub returns-in-Ok-clause-spent : goal.returns-in-Ok-clause-spent
+returns-in-Ok-clause-spent g c =
+    calm_spent c.do_work.result.history 0 (leaves_calm (Ok c.in-Ok.work) (g.K.Sink.taken c.args.sink.now) c.do_work.result.cause (g.K.Sink.taken c.do_work.new.sink) c.do_work.result.history c.do_work.ensures.leaves)
+
+pub returns-in-Err-clause-kept : goal.returns-in-Err-clause-kept
+returns-in-Err-clause-kept g c = calm_kept c.without_run.result.history (subst AreCalm (sym c.without_run.ensures.history) tt)
+
+pub returns-in-Err-clause-spent : goal.returns-in-Err-clause-spent
+returns-in-Err-clause-spent g c = calm_spent c.without_run.result.history 0 (subst AreCalm (sym c.without_run.ensures.history) tt)
+
+pub returns-in-Err-clause-leaves : goal.returns-in-Err-clause-leaves
+returns-in-Err-clause-leaves g c =
+    subst (λ (cause : Cause). Leaves (work_of (asked_in c.args.asked) c.args.answers) (g.K.Sink.taken c.args.sink.now) cause (g.K.Sink.taken c.args.sink.now) c.without_run.result.history) (sym c.without_run.ensures.cause)
+    (subst (λ (h : List Entry). Leaves (work_of (asked_in c.args.asked) c.args.answers) (g.K.Sink.taken c.args.sink.now) c.in-Err.cause (g.K.Sink.taken c.args.sink.now) h) (sym c.without_run.ensures.history)
+    (leaves_refused (asked_in c.args.asked) c.args.answers (g.K.Sink.taken c.args.sink.now) c.in-Err.cause c.in-Err.ensures.work))
+
+pub returns-in-Err-clause-blame : goal.returns-in-Err-clause-blame
+returns-in-Err-clause-blame g c = λ script same. blames (asked_in c.args.asked) c.args.answers c.in-Err.cause c.in-Err.ensures.work script (sym c.without_run.ensures.cause ∙ same)
+
+pub returns-in-Err-clause-full : goal.returns-in-Err-clause-full
+returns-in-Err-clause-full g c =
+    subst (λ (cause : Cause). IsFullCause cause c.without_run.result.history) (sym c.without_run.ensures.cause) (refused_full c.in-Err.cause c.without_run.result.history c.in-Err.ensures.refusal c.without_run.ensures.history)
+
+pub returns-in-Err-clause-before : goal.returns-in-Err-clause-before
+returns-in-Err-clause-before g c = begun_below c.without_run.result.history c.without_run.ensures.history

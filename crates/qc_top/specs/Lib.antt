@@ -1,0 +1,7 @@
+pub mod Words
+pub mod Answers
+pub mod Unbuilt
+pub mod Work
+pub mod Source
+pub mod Calm
+pub mod Top

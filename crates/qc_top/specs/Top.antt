@@ -1,0 +1,167 @@
+-- What the top call leaves: a run of the words' script and its text, a word on a declaration, or a cause that is due.
+use Rattle.std.specs.Prelude.{◌≡◌, ℕ, Bool, true, ◌++◌, List, [], Option, Some, None, Ok, Err, IsSome, MatchOption, ◌⊎◌}
+use Rattle.qc_promise.specs.Atomic.{Atomic}
+use Rattle.qc_promise.specs.Committed.{committed}
+use Rattle.qc_promise.specs.Due.{Due}
+use Rattle.qc_promise.specs.Kept.{Kept}
+use Rattle.qc_laws.specs.Whole.{IsClosed, IsWhole}
+use Rattle.qc_onecopy.specs.Replay.{replay}
+use Rattle.qc_decl.specs.Accepted.{IsAccepted}
+use Rattle.qc_decl.specs.declared.declaration.Declaration.{Declaration}
+use Rattle.qc_msg.specs.Steps.{Entry}
+use Rattle.qc_outside.specs.declared.shelf.ShelfFault.TheVariants as faults
+use Rattle.qc_outside.specs.Shelf.{Answer, Files}
+use Rattle.qc_report.specs.Declarations.{accepted_text_of}
+use Rattle.qc_report.specs.declared.cause.Cause.{Cause}
+use Rattle.qc_report.specs.declared.cause.Cause.TheVariants as causes
+use Rattle.qc_text.specs.Text.{text_of}
+use Rattle.qc_script.specs.declared.script.Script.{Script}
+use Rattle.qc_script.specs.Sound.{IsScriptFor}
+use Rattle.qc_engine.specs.Built.{is_built}
+use Rattle.qc_engine.specs.Full.{IsBelow, HasReached}
+use Rattle.qc_top.specs.Answers.{AreAnswers}
+use Rattle.qc_top.specs.Words.{AskedOf, asked}
+use Rattle.qc_top.specs.Work.{Caused, IsBlamed, work_of}
+use Rattle.qc_top.specs.declared.answers.Answers.{Answers}
+use Rattle.qc_top.specs.declared.work.Work.{Work}
+use Rattle.qc_top.specs.declared.work.Work.TheVariants.{Accept, Run}
+
+-- the loop's answers: a limit is told exactly where it was reached
+abbrev pub IsFullCause : Cause → List Entry → Type 0
+IsFullCause (causes.Full what number) h = HasReached what number h
+IsFullCause causes.Done h = IsBelow h
+IsFullCause causes.Sink h = IsBelow h
+IsFullCause (causes.Shelf script fault) h = h ≡ []
+IsFullCause (causes.Declaration fault) h = h ≡ []
+IsFullCause (causes.Script fault) h = h ≡ []
+IsFullCause causes.NotBuilt h = h ≡ []
+IsFullCause causes.OutOfMemory h = Unit {0}
+
+-- what a telling sink took: the whole text where all was done, a part of it where the sink failed, and else nothing
+
+abbrev pub IsPrefixOf : List ℕ → List ℕ → List ℕ → Type 0
+IsPrefixOf old text new = (front : List ℕ) × (back : List ℕ) × (front ++ back ≡ text) × (new ≡ old ++ front)
+
+abbrev pub Printed : List ℕ → List ℕ → Cause → List ℕ → Type 0
+Printed text old causes.Done new = new ≡ old ++ text
+Printed text old causes.Sink new = IsPrefixOf old text new
+Printed text old causes.OutOfMemory new = new ≡ old
+Printed text old causes.NotBuilt new = new ≡ old
+Printed text old (causes.Shelf script fault) new = new ≡ old
+Printed text old (causes.Declaration fault) new = new ≡ old
+Printed text old (causes.Script fault) new = new ≡ old
+Printed text old (causes.Full what number) new = new ≡ old
+
+abbrev pub PrintsBetween : List ℕ → Option (List ℕ) → Cause → Option (List ℕ) → Type 0
+PrintsBetween text (Some old) cause (Some new) = Printed text old cause new
+PrintsBetween text None cause None = Unit {0}
+PrintsBetween text None cause (Some new) = ⊥
+PrintsBetween text (Some old) cause None = ⊥
+
+-- where a text was printed, or a part of it
+abbrev pub OnPrinted : Cause → Type 0 → Type 0
+OnPrinted causes.Done P = P
+OnPrinted causes.Sink P = P
+OnPrinted causes.OutOfMemory P = Unit {0}
+OnPrinted causes.NotBuilt P = Unit {0}
+OnPrinted (causes.Shelf script fault) P = Unit {0}
+OnPrinted (causes.Declaration fault) P = Unit {0}
+OnPrinted (causes.Script fault) P = Unit {0}
+OnPrinted (causes.Full what number) P = Unit {0}
+
+-- the causes with which a call may end that tells of a declaration
+abbrev pub IsTold : Cause → Type 0
+IsTold causes.Done = Unit {0}
+IsTold causes.Sink = Unit {0}
+IsTold causes.OutOfMemory = Unit {0}
+IsTold causes.NotBuilt = ⊥
+IsTold (causes.Shelf script fault) = ⊥
+IsTold (causes.Declaration fault) = ⊥
+IsTold (causes.Script fault) = ⊥
+IsTold (causes.Full what number) = ⊥
+
+-- the causes with which a call may end that runs a script
+abbrev pub IsRan : Cause → Type 0
+IsRan (causes.Full what number) = Unit {0}
+IsRan causes.Done = Unit {0}
+IsRan causes.Sink = Unit {0}
+IsRan causes.OutOfMemory = Unit {0}
+IsRan causes.NotBuilt = ⊥
+IsRan (causes.Shelf script fault) = ⊥
+IsRan (causes.Declaration fault) = ⊥
+IsRan (causes.Script fault) = ⊥
+
+-- What a call leaves that had nothing to do, for this cause: nothing happened, and nothing was printed. Memory may be
+-- wanting before the cause is known.
+pub record LeavesNothing (why : Cause) (old : Option (List ℕ)) (cause : Cause) (new : Option (List ℕ))
+    (h : List Entry) : Type 0 where
+  pub due : (cause ≡ why) ⊎ (cause ≡ causes.OutOfMemory)
+  pub history : h ≡ []
+  pub text : new ≡ old
+
+-- What a call leaves that tells of a declaration: it is accepted, and this is printed.
+pub record LeavesWord (decl : Declaration) (old : Option (List ℕ)) (cause : Cause) (new : Option (List ℕ))
+    (h : List Entry) : Type 0 where
+  pub accepted : IsAccepted decl
+  pub due : IsTold cause
+  pub history : h ≡ []
+  pub text : PrintsBetween (accepted_text_of decl) old cause new
+
+-- each state that is printed of a history is known: every committed operation has its step on one copy
+abbrev pub AreStatesKnown : Declaration → List Entry → Type 0
+AreStatesKnown decl h = IsSome (replay decl (committed decl h))
+
+-- What a call leaves that runs a script over a declaration.
+pub record LeavesRun (decl : Declaration) (script : Script) (old : Option (List ℕ)) (cause : Cause)
+    (new : Option (List ℕ)) (h : List Entry) : Type 0 where
+  pub accepted : IsAccepted decl
+  pub due : IsRan cause
+  -- what happened is a run of the script, in which each input that was taken has its turn
+  pub run : IsClosed decl script h
+  -- where its text is printed, it is a whole one: all that the script asks was done, and nothing is left to do
+  pub whole : OnPrinted cause (IsWhole decl script h)
+  -- what is printed is the text of just this history
+  pub text : PrintsBetween (text_of decl script h) old cause new
+  -- and each state in it is known
+  pub states : OnPrinted cause (AreStatesKnown decl h)
+  -- each reply, each commit record and all that sites post is due
+  pub replies : Due decl h
+  -- the history is atomic, where its actors keep their records
+  pub atomic : Kept h → Atomic decl h
+
+abbrev pub Leaves : Caused Work → Option (List ℕ) → Cause → Option (List ℕ) → List Entry → Type 0
+Leaves (Err why) old cause new h = LeavesNothing why old cause new h
+Leaves (Ok (Accept decl)) old cause new h = LeavesWord decl old cause new h
+Leaves (Ok (Run decl script)) old cause new h = LeavesRun decl script old cause new h
+
+-- What a call leaves whose words ask this, over any shelf: there are the answers that the shelf gave, and all is said
+-- of these bytes and faults.
+pub record LeavesAsked {S : Type 0} (gives : S → List ℕ → ℕ → Answer → S → Type 0) (files : Option Files)
+    (asked : AskedOf) (before after : S) (old : Option (List ℕ)) (cause : Cause) (new : Option (List ℕ))
+    (h : List Entry) : Type 0 where
+  pub answers : Answers
+  pub given : AreAnswers gives files asked before after answers
+  pub leaves : Leaves (work_of asked answers) old cause new h
+  pub blame : (script : Bool) → cause ≡ causes.Shelf script faults.Failed → IsBlamed asked answers script
+
+-- the same of words; words of another form come to nothing
+abbrev pub LeavesWords : {S : Type 0} → (S → List ℕ → ℕ → Answer → S → Type 0) → Option Files → List (List ℕ)
+    → S → S → Option (List ℕ) → Cause → Option (List ℕ) → List Entry → Type 0
+LeavesWords gives files words before after old cause new h =
+    MatchOption (asked words) (LeavesNothing causes.NotBuilt old cause new h)
+    (λ a. LeavesAsked gives files a before after old cause new h)
+
+-- a script that the loop runs, over a declaration: it names what is declared
+pub record IsRunnable (decl : Declaration) (script : Script) : Type 0 where
+  pub accepted : IsAccepted decl
+  pub declared : IsScriptFor decl script
+  pub built : is_built decl script ≡ true
+
+-- work that can be done: what the words come to is such work
+abbrev pub IsRight : Work → Type 0
+IsRight (Accept decl) = IsAccepted decl
+IsRight (Run decl script) = IsRunnable decl script
+
+-- the shelf isn't blamed for a failure
+abbrev pub IsNoShelf : Cause → Type 0
+IsNoShelf cause = (script : Bool) → cause ≡ causes.Shelf script faults.Failed → ⊥
