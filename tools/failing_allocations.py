@@ -66,6 +66,8 @@ def main():
         source = os.path.join(HERE, "malloc_that_fails.c")
         subprocess.run(["cc", "-O1", "-shared", "-fPIC", "-o", shim, source, "-ldl"], check=True)
         for name in sorted(os.listdir(EXAMPLES)):
+            if not os.path.exists(os.path.join(EXAMPLES, name, "words")):
+                continue  # the gallery of types
             counts = sweep(program, shim, os.path.join(EXAMPLES, name))
             print("%s: %s" % (name, ", ".join("%s: %d" % pair for pair in sorted(counts.items()))))
             seen |= set(counts)

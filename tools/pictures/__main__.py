@@ -12,7 +12,7 @@ import sys
 sys.dont_write_bytecode = True
 
 import crates
-import first_run
+import messages
 import quorums
 import states
 
@@ -20,7 +20,8 @@ ROOT = os.path.dirname(os.path.dirname(os.path.dirname(os.path.abspath(__file__)
 FOLDER = os.path.join(ROOT, "docs", "pictures")
 PICTURES = {
     "crates.svg": crates.draw,
-    "first_run.svg": first_run.draw,
+    "first_run.svg": messages.draw_first_run,
+    "one_do.svg": messages.draw_one_do,
     "quorums.svg": quorums.draw,
     "site.svg": states.draw_site,
     "transaction.svg": states.draw_transaction,

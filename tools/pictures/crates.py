@@ -7,7 +7,6 @@ from svg import Picture, WIDTH, width_of
 
 SIZE, HIGH, STEP, MARGIN, GAP = 12, 26, 68, 16, 14
 TESTS = "tests_"
-OLD, ONE_BOX = "old_", "old_.."
 
 
 def crates_of(text):
@@ -18,16 +17,6 @@ def crates_of(text):
         if colon:
             below[head.split()[0]] = deps.split()
     return {name: [d for d in deps if d in below] for name, deps in below.items()}
-
-
-def in_one_box(below):
-    """The same, where the crates of the system that stands aside are one."""
-    box = lambda name: ONE_BOX if name.startswith(OLD) else name
-    joined = {}
-    for name, deps in below.items():
-        known = joined.setdefault(box(name), [])
-        known += dict.fromkeys(box(it) for it in deps if box(it) not in (box(name), *known))
-    return joined
 
 
 def room(place):
@@ -64,16 +53,12 @@ def smooth(points):
 def draw(root):
     with open(os.path.join(root, "crates.txt"), encoding="utf-8") as file:
         below = crates_of(file.read())
-    tests = sorted(name for name in below if name.startswith(TESTS))
-    below = {name: deps for name, deps in below.items() if name not in tests}
-    old = [name for name in below if name.startswith(OLD)]
-    below = in_one_box(below)
+    below = {name: deps for name, deps in below.items() if not name.startswith(TESTS)}
     layers = Layers(below)
     x = {it: MARGIN + at for it, at in layers.across(WIDTH - 2 * MARGIN, room, GAP).items()}
     y = {it: MARGIN + STEP * row for row, its in enumerate(layers.rows) for it in its}
     notes = ["An arrow leads to a crate that is used; arrows that follow from others are left out."]
-    notes += ["Crates of tests aren't drawn: %s." % ", ".join(tests)] if tests else []
-    notes += ["%s is %s." % (ONE_BOX, ", ".join(old))] if old else []
+    notes += ["The crates of tests, %s.., aren't drawn." % TESTS]
     height = MARGIN + STEP * (len(layers.rows) - 1) + HIGH + 20 + 16 * len(notes) + 4
     picture = Picture(height, "The crates, each above those that it stands on")
     out, into = ends(layers, x, layers.down, x, True), ends(layers, x, layers.up, x, False)
