@@ -16,7 +16,7 @@ use std::cmp::Ordering;
 pub(crate) fn merged(alloc: Global, a: &[Line], b: &[Line]) -> Result<Vec<Line>, OutOfMemory>
     ensures { IfOk result (λ v. v.items ≡ union a.now b.now) }
 {
-    let mut out = Vec::new(alloc);
+    let mut out = Vec::with_capacity(alloc, a.len())?;
     let mut i = 0;
     let mut j = 0;
     'lines: while i < a.len() && j < b.len() {
@@ -80,15 +80,18 @@ pub(crate) fn later(alloc: Global, lines: &[Line], stamp: Stamp) -> Result<Vec<L
         .collect(alloc)
 }
 
-/// The lines of one object.
+/// The lines of one object, in memory that holds just these: messages keep it.
 pub(crate) fn of_one(alloc: Global, lines: &[Line], object: u8) -> Result<Vec<Line>, OutOfMemory>
     ensures { IfOk result (λ v. v.items ≡ of_object lines.now object) }
 {
-    lines
-        .iter()
-        .filter(|l| l.object == object)
-        .copied()
-        .collect(alloc)
+    let count = lines.iter().filter(|l| l.object == object).count();
+    let mut found = Vec::with_capacity(alloc, count)?;
+    for line in lines {
+        if line.object == object {
+            found.push(*line)?;
+        }
+    }
+    Ok(found)
 }
 
 /// Whether each of the sorted lines comes before another line.

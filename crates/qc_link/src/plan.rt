@@ -99,6 +99,9 @@ impl LinkPlan {
     fn by_rules(&self, from: u8, to: u8, ordinal: u32) -> Fate
         ensures { result ≡ by_rules self.now from to ordinal }
     {
+        if self.rules.is_empty() {
+            return Fate::Pass;
+        }
         match self.rules.get(self.first(from, to, ordinal)) {
             Some(link) => link.rule.fate(),
             None => Fate::Pass,
