@@ -19,7 +19,7 @@ use Rattle.qc_msg.specs.declared.step.Given.TheVariants as given
 use Rattle.qc_msg.specs.Deeds.{Deed, Takes, Writes, Sends, Tells}
 use Rattle.qc_promise.specs.SiteEnds.{is_ended, is_final}
 use Rattle.qc_promise.specs.SiteHeld.{Grant, held_shown, holding, is_granted, standing}
-use Rattle.qc_text.specs.Holders.{holders_from, is_hold, is_holder, with_holder, without_holder}
+use Rattle.qc_text.specs.Holders.{holders_from, is_holding, is_holder, with_holder, without_holder}
 
 -- grants held, by transaction alone
 
@@ -27,7 +27,7 @@ abbrev hold : List Held → Grant → List Held
 hold held g = holding held g.tx g.want
 
 abbrev hold_tx : List TxId → Grant → List TxId
-hold_tx txs g = cond (is_hold g.want) (with_holder txs g.tx) txs
+hold_tx txs g = cond (is_holding g.want) (with_holder txs g.tx) txs
 
 abbrev name : Held → TxId
 name h = h.tx
@@ -49,7 +49,7 @@ append_named : (held : List Held) (e : Held) (b : Bool) → map name (cond b hel
 append_named held e true = refl
 append_named held e false = put_named held e
 
-hold_named : (held : List Held) (tx : TxId) (want : Want) → map name (holding held tx want) ≡ cond (is_hold want) (with_holder (map name held) tx) (map name held)
+hold_named : (held : List Held) (tx : TxId) (want : Want) → map name (holding held tx want) ≡ cond (is_holding want) (with_holder (map name held) tx) (map name held)
 hold_named held tx (Read object inv) =
     put_named held (record { tx = tx; locks = with_locks (held_of held tx).locks (record { object = object; inv = inv } ∷ []); own = with_owns (held_of held tx).own [] })
 hold_named held tx (Append object view own) =
@@ -109,9 +109,9 @@ dropped tx txs (g ∷ gs) = by (same_tx tx g.tx) refl (dropped tx (hold_tx txs g
       → without_holder (fold hold_tx txs (g ∷ gs)) tx ≡ fold hold_tx (without_holder txs tx) (cond (not b) (g ∷ filter (is_other tx) gs) (filter (is_other tx) gs))
   by true is ih =
       let same : same_tx g.tx tx ≡ true = subst (λ (u : TxId). same_tx u tx ≡ true) (same_tx_is tx g.tx is) (same_tx_itself tx) in
-      ih ∙ ap (λ (v : List TxId). fold hold_tx v (filter (is_other tx) gs)) (one_same (is_hold g.want) txs tx g.tx same)
+      ih ∙ ap (λ (v : List TxId). fold hold_tx v (filter (is_other tx) gs)) (one_same (is_holding g.want) txs tx g.tx same)
   by false is ih =
-      ih ∙ ap (λ (v : List TxId). fold hold_tx v (filter (is_other tx) gs)) (sym (one_other (is_hold g.want) txs tx g.tx (other_tx_sym tx g.tx is)))
+      ih ∙ ap (λ (v : List TxId). fold hold_tx v (filter (is_other tx) gs)) (sym (one_other (is_holding g.want) txs tx g.tx (other_tx_sym tx g.tx is)))
 
 -- the grants so far that stand among the deeds to come
 
@@ -128,10 +128,10 @@ filter_none (g ∷ gs) = ap (λ (v : List Grant). g ∷ v) (filter_none gs)
 -- a request is taken
 
 request_more : (tx : TxId) (want : Want) (ds : List Deed) → Walks ds → (gs : List Grant) (granted : Bool)
-    → holders_from (cond (is_hold want && granted) (with_holder (fold hold_tx [] gs) tx) (fold hold_tx [] gs)) ds
+    → holders_from (cond (is_holding want && granted) (with_holder (fold hold_tx [] gs) tx) (fold hold_tx [] gs)) ds
     ≡ fold hold_tx [] (filter (stays ds) gs ++ (cond (granted && not (is_ended tx ds)) (record { tx = tx; want = want } ∷ []) [] ++ standing ds))
 request_more tx want ds walk gs true =
-    ap (λ (v : List TxId). holders_from v ds) (by (is_hold want) refl)
+    ap (λ (v : List TxId). holders_from v ds) (by (is_holding want) refl)
     ∙ walk (gs ++ g ∷ [])
     ∙ ap (λ (v : List Grant). fold hold_tx [] (v ++ standing ds)) (filter-append (stays ds) gs (g ∷ []))
     ∙ ap (λ (v : List Grant). fold hold_tx [] v) (append_assoc (filter (stays ds) gs) (cond (not (is_ended tx ds)) (g ∷ []) []) (standing ds))
@@ -139,14 +139,14 @@ request_more tx want ds walk gs true =
     g : Grant
     g = record { tx = tx; want = want }
 
-    by : (b : Bool) → is_hold want ≡ b → cond (b && true) (with_holder (fold hold_tx [] gs) tx) (fold hold_tx [] gs) ≡ fold hold_tx [] (gs ++ g ∷ [])
+    by : (b : Bool) → is_holding want ≡ b → cond (b && true) (with_holder (fold hold_tx [] gs) tx) (fold hold_tx [] gs) ≡ fold hold_tx [] (gs ++ g ∷ [])
     by true is =
         ap (λ (b : Bool). cond b (with_holder (fold hold_tx [] gs) tx) (fold hold_tx [] gs)) (sym is)
         ∙ sym (fold-append hold_tx [] gs (g ∷ []))
     by false is =
         ap (λ (b : Bool). cond b (with_holder (fold hold_tx [] gs) tx) (fold hold_tx [] gs)) (sym is)
         ∙ sym (fold-append hold_tx [] gs (g ∷ []))
-request_more tx want ds walk gs false = ap (λ (v : List TxId). holders_from v ds) (by (is_hold want)) ∙ walk gs where
+request_more tx want ds walk gs false = ap (λ (v : List TxId). holders_from v ds) (by (is_holding want)) ∙ walk gs where
   by : (b : Bool) → cond (b && false) (with_holder (fold hold_tx [] gs) tx) (fold hold_tx [] gs) ≡ fold hold_tx [] gs
   by true = refl
   by false = refl

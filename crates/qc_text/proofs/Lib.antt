@@ -5,4 +5,7 @@ pub mod Taken
 pub mod Keys
 pub mod Sections
 pub mod Found
+pub mod Granted
+pub mod Recorded
+pub mod Walked
 pub mod Holding

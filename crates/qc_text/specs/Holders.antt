@@ -28,10 +28,10 @@ sends_grant number (Sends n to message) = grants number message
 sends_grant number (Tells reply) = false
 
 -- whether a transaction that is granted this holds something
-abbrev pub is_hold : Want → Bool
-is_hold (Read object inv) = true
-is_hold (Append object view own) = not (length own == 0)
-is_hold Prepare = false
+abbrev pub is_holding : Want → Bool
+is_holding (Read object inv) = true
+is_holding (Append object view own) = not (length own == 0)
+is_holding Prepare = false
 
 abbrev pub is_holder : List TxId → TxId → Bool
 is_holder txs tx = list_any (λ t. same_tx t tx) txs
@@ -45,7 +45,7 @@ without_holder txs tx = filter (λ t. not (same_tx t tx)) txs
 -- the holders after a message of this number is taken, the deeds after it being these
 abbrev pub holders_by : List TxId → ℕ → Message → List Deed → List TxId
 holders_by txs number (messages.Request tx epoch life want) after =
-    if is_hold want && is_granted number after then with_holder txs tx else txs
+    if is_holding want && is_granted number after then with_holder txs tx else txs
 holders_by txs number (messages.Answer to answer) after = txs
 holders_by txs number (messages.Decision tx verdict) after = if is_final verdict then without_holder txs tx else txs
 holders_by txs number (messages.Inquiry tx) after = txs

@@ -8,8 +8,8 @@ pub mod Keys
 pub mod Log
 pub mod States
 pub mod Deeds
-pub mod Holders
-pub mod Lines
 pub mod Records
+pub mod Views
+pub mod Holders
 pub mod Sites
 pub mod Text

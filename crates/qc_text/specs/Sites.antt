@@ -1,5 +1,6 @@
 -- The section of sites: one line for each, all of it read off the site's own steps.
-use Rattle.std.specs.Prelude.{ℕ, ◌==◌, Bool, true, false, if◌then◌else◌, List, [], ◌++◌, codes, decimal, flat_map, fold, length}
+use Rattle.std.specs.Prelude.{ℕ, ◌==◌, Bool, true, false, if◌then◌else◌, List, [], ◌++◌, codes, decimal, flat_map, fold}
+use Rattle.std.specs.Prelude.{length}
 use Rattle.std.specs.List.{range_with_len}
 use Rattle.qc_decl.specs.declared.declaration.Declaration.{Declaration}
 use Rattle.qc_msg.specs.declared.step.Step.{Step}

@@ -5,7 +5,8 @@ ghost use Rattle.std.specs.Prelude.{◌≡◌, OnOk, IfOk, length, map};
 ghost use Rattle.qc_promise.specs.SiteEnds.{is_final};
 ghost use Rattle.qc_promise.specs.SiteHeld.{held_shown, is_granted};
 ghost use Rattle.qc_text.specs.Deeds.{deed_of};
-ghost use Rattle.qc_text.specs.Holders.{holders_at, holders_by, is_hold, is_holder, is_take, sends_grant, with_holder, without_holder};
+ghost use Rattle.qc_text.specs.Holders.{holders_at, holders_by, is_holding, is_holder, is_take, sends_grant};
+ghost use Rattle.qc_text.specs.Holders.{with_holder, without_holder};
 
 use crate::deeds::{Deed, Letter};
 use qc_list::OutOfMemory;
@@ -76,11 +77,10 @@ fn take_deed(
         ≡ holders_at holders.old.items (deed_of deed.now) (map deed_of after.now)) }
 {
     match deed {
-        Deed::Got(letter) => take_message(holders, letter, after),
-        Deed::Called(_) | Deed::Lost(_) | Deed::Wrote(_) | Deed::Sent { .. } | Deed::Told(_) => Ok(
-            (),
-        ),
+        Deed::Got(letter) => take_message(holders, letter, after)?,
+        Deed::Called(_) | Deed::Lost(_) | Deed::Wrote(_) | Deed::Sent { .. } | Deed::Told(_) => {}
     }
+    Ok(())
 }
 
 /// Adds the transaction of a request that is granted and holds something, and
@@ -95,7 +95,7 @@ fn take_message(
 {
     match letter.message {
         Message::Request { tx, want, .. } => {
-            if is_hold(want) && is_granted(after, letter.number) {
+            if is_holding(want) && is_granted(after, letter.number) {
                 add_holder(holders, *tx)?;
             }
         }
@@ -114,8 +114,8 @@ fn take_message(
 }
 
 /// Whether a transaction that is granted this holds something.
-fn is_hold(want: &Want) -> bool
-    ensures { result ≡ is_hold want.now }
+fn is_holding(want: &Want) -> bool
+    ensures { result ≡ is_holding want.now }
 {
     match want {
         Want::Read { .. } => true,

@@ -6,13 +6,14 @@
 //! history, and nothing is taken from the code that made it. What holds:
 //!
 //! 1. Each function that adds to a page adds exactly what its definition in
-//!    `specs/` says. Each kind of command, reply and cause has its line there.
+//!    `specs/` says, where each kind of command and of reply has its line.
 //! 2. A command takes the oldest reply of its actor that no earlier command
 //!    took.
-//! 3. A site's line is what the promise says that its steps show, and one that
-//!    fell and hasn't risen is down.
+//! 3. A site's line is what the promise says that its own steps show; a site
+//!    that fell and hasn't risen is down.
 //! 4. The work is linear in the history, but for the commits, which are sorted,
-//!    and for a site's log, which is merged as often as the site merged it.
+//!    and for the sites: a log is merged as often as the site merged it, and a
+//!    Done looks back for its Prepare.
 //!
 //! The top call prints this text.
 #![tactic(auto)]
@@ -21,6 +22,7 @@ mod asked;
 mod committed;
 mod deeds;
 mod grants;
+mod laws;
 mod lines;
 mod log;
 mod names;
@@ -34,4 +36,5 @@ mod results;
 mod sites;
 mod states;
 
+pub use laws::{replies_read_so, sites_read_so};
 pub use report::text;

@@ -4,7 +4,7 @@ ghost use Rattle.std.specs.Prelude.{◌≡◌, [], OnOk, IfOk, MatchOption, map}
 ghost use Rattle.qc_entry.specs.Log.{union};
 ghost use Rattle.qc_promise.specs.SiteLogs.{done_lines, joining, lines_done, lines_of, log_shown, view_by};
 ghost use Rattle.qc_text.specs.Deeds.{deed_of};
-ghost use Rattle.qc_text.specs.Lines.{view_asked};
+ghost use Rattle.qc_text.specs.Views.{view_asked};
 
 use crate::deeds::{Deed, Letter};
 use crate::grants::is_granted;
@@ -28,7 +28,7 @@ pub(crate) fn log_of(alloc: Global, deeds: &[Deed<'_>]) -> Result<Log, OutOfMemo
 }
 
 /// Adds the lines that a deed gives the log, among those before and after it.
-#[tactic(auto, using(crate::proofs::Found::union_none))]
+#[tactic(auto, using(crate::proofs::Recorded::union_none))]
 fn join(
     alloc: Global,
     log: &mut Log,
@@ -73,7 +73,7 @@ fn view_asked(message: &Message) -> Option<&Log>
 }
 
 /// Adds the lines that the log has of a record alone: those of a Done.
-#[tactic(auto, using(crate::proofs::Found::union_none))]
+#[tactic(auto, using(crate::proofs::Recorded::union_none))]
 fn join_written(
     alloc: Global,
     log: &mut Log,

@@ -1,7 +1,10 @@
 //! The result of a command.
 
-ghost use Rattle.std.specs.Prelude.{◌≡◌, ◌++◌, OnOk};
-ghost use Rattle.qc_text.specs.Results.{half_text, moved_text, reply_text, response_text, why_text};
+ghost use Rattle.std.specs.Prelude.{◌≡◌, ◌++◌, OnOk, codes};
+ghost use Rattle.qc_text.specs.Parts.{site_text};
+ghost use Rattle.qc_text.specs.Pieces.{piece_text};
+ghost use Rattle.qc_text.specs.Results.{closed_text, half_text, moved_text, quorum_text, reply_text, response_text};
+ghost use Rattle.qc_text.specs.Results.{restarted_text, why_text};
 
 use crate::names::response_name;
 use crate::page::{Page, Piece};
@@ -21,51 +24,71 @@ pub(crate) fn put_reply(
 {
     match reply {
         Reply::Down => page.put("! down"),
-        Reply::Already { tx } => {
-            page.put_all(&[Piece::Words("! already "), Piece::Transaction(tx)])
-        }
-        Reply::Began { tx } => page.put_all(&[Piece::Transaction(tx)]),
+        Reply::Already { tx } => put_with(page, "! already ", Piece::Transaction(tx)),
+        Reply::Began { tx } => put_with(page, "", Piece::Transaction(tx)),
         Reply::NoTransaction => page.put("! no transaction"),
         Reply::Doomed => page.put("! doomed"),
         Reply::TooLong => page.put("! too long"),
-        Reply::Closed { epoch, site } => page.put_all(&[
-            Piece::Words("! closed "),
-            Piece::Number(epoch as u64),
-            Piece::Words(" "),
-            Piece::Site(site),
-        ]),
-        Reply::Conflict { tx, site } => page.put_all(&[
-            Piece::Words("! conflict "),
-            Piece::Transaction(tx),
-            Piece::Words(" "),
-            Piece::Site(site),
-        ]),
-        Reply::Quorum { half, got, need } => page.put_all(&[
-            Piece::Words("! quorum "),
-            Piece::Words(half_text(half)),
-            Piece::Words(" "),
-            Piece::Number(got as u64),
-            Piece::Words(" of "),
-            Piece::Number(need as u64),
-        ]),
+        Reply::Closed { epoch, site } => put_closed(page, epoch, site),
+        Reply::Conflict { tx, site } => put_at(page, "! conflict ", Piece::Transaction(tx), site),
+        Reply::Quorum { half, got, need } => put_quorum(page, half, got, need),
         Reply::Absent => page.put("! absent"),
         Reply::Response { resp } => page.put(response_text(decl, command, resp)),
         Reply::Aborted { why } => put_why(page, why),
         Reply::Unknown => page.put("?"),
-        Reply::Committed { stamp } => page.put_all(&[Piece::Stamp(stamp)]),
+        Reply::Committed { stamp } => put_with(page, "", Piece::Stamp(stamp)),
         Reply::Dropped => page.put("ok"),
-        Reply::Order { current } => {
-            page.put_all(&[Piece::Words("! order "), Piece::Number(current as u64)])
-        }
-        Reply::InDoubt { tx, site } => page.put_all(&[
-            Piece::Words("! in doubt "),
-            Piece::Transaction(tx),
-            Piece::Words(" "),
-            Piece::Site(site),
-        ]),
+        Reply::Order { current } => put_with(page, "! order ", Piece::Number(current as u64)),
+        Reply::InDoubt { tx, site } => put_at(page, "! in doubt ", Piece::Transaction(tx), site),
         Reply::Fault => page.put("! fault"),
         Reply::Moved { closed, installed } => put_moved(page, closed, installed),
     }
+}
+
+/// Adds words and a piece.
+fn put_with<'a>(page: &mut Page, words: &'a str, piece: Piece<'a>) -> Result<(), OutOfMemory>
+    ensures { OnOk result (page.new ≡ page.old ++ (words.now ++ piece_text piece.entry)) }
+{
+    page.put_all(&[Piece::Words(words), piece])
+}
+
+/// Adds words, a piece and a site.
+fn put_at<'a>(
+    page: &mut Page,
+    words: &'a str,
+    piece: Piece<'a>,
+    site: u8,
+) -> Result<(), OutOfMemory>
+    ensures { OnOk result (page.new
+        ≡ page.old ++ (words.now ++ (piece_text piece.entry ++ (codes " " ++ site_text site)))) }
+{
+    page.put_all(&[
+        Piece::Words(words),
+        piece,
+        Piece::Words(" "),
+        Piece::Site(site),
+    ])
+}
+
+/// Adds that a site's epoch is closed, with the one that it told.
+fn put_closed(page: &mut Page, epoch: u8, site: u8) -> Result<(), OutOfMemory>
+    ensures { OnOk result (page.new ≡ page.old ++ closed_text epoch site) }
+{
+    put_at(page, "! closed ", Piece::Number(epoch as u64), site)
+}
+
+/// Adds the weight that was got, and the one that is needed.
+fn put_quorum(page: &mut Page, half: Half, got: u16, need: u16) -> Result<(), OutOfMemory>
+    ensures { OnOk result (page.new ≡ page.old ++ quorum_text half got need) }
+{
+    page.put_all(&[
+        Piece::Words("! quorum "),
+        Piece::Words(half_text(half)),
+        Piece::Words(" "),
+        Piece::Number(got as u64),
+        Piece::Words(" of "),
+        Piece::Number(need as u64),
+    ])
 }
 
 /// A response's name, by the object of the command.
@@ -95,24 +118,26 @@ fn put_why(page: &mut Page, why: Why) -> Result<(), OutOfMemory>
 {
     match why {
         Why::Doomed => page.put("! doomed"),
-        Why::Restarted { site, old, new } => page.put_all(&[
-            Piece::Words("! restarted "),
-            Piece::Site(site),
-            Piece::Words(" "),
-            Piece::Number(old as u64),
-            Piece::Words(" "),
-            Piece::Number(new as u64),
-        ]),
-        Why::Closed { epoch, site } => page.put_all(&[
-            Piece::Words("! closed "),
-            Piece::Number(epoch as u64),
-            Piece::Words(" "),
-            Piece::Site(site),
-        ]),
-        Why::Fault { site } => page.put_all(&[Piece::Words("! fault "), Piece::Site(site)]),
-        Why::NoAnswer { site } => page.put_all(&[Piece::Words("! no answer "), Piece::Site(site)]),
-        Why::Forgot { site } => page.put_all(&[Piece::Words("! forgot "), Piece::Site(site)]),
+        Why::Restarted { site, old, new } => put_restarted(page, site, old, new),
+        Why::Closed { epoch, site } => put_closed(page, epoch, site),
+        Why::Fault { site } => put_with(page, "! fault ", Piece::Site(site)),
+        Why::NoAnswer { site } => put_with(page, "! no answer ", Piece::Site(site)),
+        Why::Forgot { site } => put_with(page, "! forgot ", Piece::Site(site)),
     }
+}
+
+/// Adds a site's life in its first grant, and the one that it is in.
+fn put_restarted(page: &mut Page, site: u8, old: u32, new: u32) -> Result<(), OutOfMemory>
+    ensures { OnOk result (page.new ≡ page.old ++ restarted_text site old new) }
+{
+    page.put_all(&[
+        Piece::Words("! restarted "),
+        Piece::Site(site),
+        Piece::Words(" "),
+        Piece::Number(old as u64),
+        Piece::Words(" "),
+        Piece::Number(new as u64),
+    ])
 }
 
 /// Adds the sites that closed their epoch, and those that installed the next.

@@ -1,5 +1,5 @@
 use Rattle.std.proofs.Common.{sym, ◌∙◌}
-use Rattle.qc_text.proofs.Found.{granted_later, granted_now, not_granted}
+use Rattle.qc_text.proofs.Granted.{granted_later, granted_now, not_granted}
 use Rattle.qc_text.proofs.grants.is_granted.Goals as goal
 
 pub returns-then-takes : goal.returns-then-takes

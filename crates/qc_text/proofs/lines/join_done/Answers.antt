@@ -1,6 +1,6 @@
 use Rattle.std.proofs.Common.{map}
 use Rattle.qc_text.specs.Deeds.{deed_of}
-use Rattle.qc_text.proofs.Found.{done_nothing}
+use Rattle.qc_text.proofs.Recorded.{done_nothing}
 use Rattle.qc_text.proofs.lines.join_done.Goals as goal
 
 pub returns-in_default : goal.returns-in_default

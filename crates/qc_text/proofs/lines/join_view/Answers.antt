@@ -1,6 +1,6 @@
 use Rattle.std.proofs.Common.{map, sym, ◌∙◌}
 use Rattle.qc_text.specs.Deeds.{deed_of}
-use Rattle.qc_text.proofs.Found.{joins_no_view, joins_nothing}
+use Rattle.qc_text.proofs.Granted.{joins_no_view, joins_nothing}
 use Rattle.qc_text.proofs.lines.join_view.Goals as goal
 
 pub returns-else-is_granted : goal.returns-else-is_granted

@@ -4,7 +4,7 @@ use Rattle.qc_entry.specs.Log.{union}
 use Rattle.qc_promise.specs.SiteLogs.{joining}
 use Rattle.qc_text.specs.Deeds.{deed_of}
 use Rattle.qc_text.specs.declared.deeds.Deed.{Deed}
-use Rattle.qc_text.proofs.Found.{log_more}
+use Rattle.qc_text.proofs.Recorded.{log_more}
 use Rattle.qc_text.proofs.lines.log_of.Goals as goal
 
 pub deeds-preserved : goal.deeds-preserved

@@ -1,7 +1,7 @@
 use Rattle.std.proofs.Common.{◌≡◌, ◌<◌, ◌+◌, ◌-◌, length, ℕ, map, take, ap, ◌∙◌, arith}
 use Rattle.qc_promise.specs.SiteRecords.{last_prepare}
 use Rattle.qc_text.specs.Deeds.{deed_of}
-use Rattle.qc_text.proofs.Found.{prepare_before, prepare_here}
+use Rattle.qc_text.proofs.Recorded.{prepare_before, prepare_here}
 use Rattle.qc_text.proofs.records.last_prepare.Goals as goal
 
 pub returns-in-Some : goal.returns-in-Some

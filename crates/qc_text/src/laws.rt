@@ -1,0 +1,62 @@
+//! How results and sites read, each line computed from its definition.
+
+ghost use Rattle.std.specs.Prelude.{◌≡◌, ◌∷◌, [], List, None, codes};
+ghost use Rattle.qc_decl.specs.declared.declaration.Declaration.{Declaration};
+ghost use Rattle.qc_msg.specs.Steps.{by};
+ghost use Rattle.qc_msg.specs.declared.record.Record.TheVariants as records;
+ghost use Rattle.qc_msg.specs.declared.reply.Half.TheVariants as halves;
+ghost use Rattle.qc_msg.specs.declared.reply.Reply.TheVariants as replies;
+ghost use Rattle.qc_msg.specs.declared.reply.Why.TheVariants as whys;
+ghost use Rattle.qc_msg.specs.declared.step.Command.{Command};
+ghost use Rattle.qc_msg.specs.declared.step.Fall.TheVariants as falls;
+ghost use Rattle.qc_msg.specs.declared.step.Step.TheVariants as steps;
+ghost use Rattle.qc_stamp.specs.declared.stamp.Stamp.{Stamp};
+ghost use Rattle.qc_stamp.specs.declared.stamp.TxId.{TxId};
+ghost use Rattle.qc_text.specs.Results.{reply_text};
+ghost use Rattle.qc_text.specs.Sites.{site_line};
+
+/// A reply reads so, whatever the command that it is told for; a response is
+/// the name that the declaration gives it.
+pub fn replies_read_so()
+    ensures began { (decl : Declaration) (command : Command)
+        → reply_text decl command (replies.Began (record { client = 0; life = 1; number = 2 })) ≡ codes "0.1.2" }
+    ensures already { (decl : Declaration) (command : Command)
+        → reply_text decl command (replies.Already (record { client = 0; life = 1; number = 2 }))
+        ≡ codes "! already 0.1.2" }
+    ensures conflict { (decl : Declaration) (command : Command)
+        → reply_text decl command (replies.Conflict (record { client = 0; life = 1; number = 2 }) 3)
+        ≡ codes "! conflict 0.1.2 s3" }
+    ensures closed { (decl : Declaration) (command : Command)
+        → reply_text decl command (replies.Closed 2 3) ≡ codes "! closed 2 s3" }
+    ensures quorum { (decl : Declaration) (command : Command)
+        → reply_text decl command (replies.Quorum halves.Append 1 2) ≡ codes "! quorum append 1 of 2" }
+    ensures committed { (decl : Declaration) (command : Command)
+        → reply_text decl command (replies.Committed (record { clock = 4; client = 1 })) ≡ codes "4.1" }
+    ensures restarted { (decl : Declaration) (command : Command)
+        → reply_text decl command (replies.Aborted (whys.Restarted 1 2 3)) ≡ codes "! restarted s1 2 3" }
+    ensures no_answer { (decl : Declaration) (command : Command)
+        → reply_text decl command (replies.Aborted (whys.NoAnswer 1)) ≡ codes "! no answer s1" }
+    ensures order { (decl : Declaration) (command : Command)
+        → reply_text decl command (replies.Order 1) ≡ codes "! order 1" }
+    ensures in_doubt { (decl : Declaration) (command : Command)
+        → reply_text decl command (replies.InDoubt (record { client = 0; life = 1; number = 2 }) 3)
+        ≡ codes "! in doubt 0.1.2 s3" }
+    ensures moved { (decl : Declaration) (command : Command)
+        → reply_text decl command (replies.Moved 3 7) ≡ codes "closed s0 s1 installed s0 s1 s2" }
+    ensures moved_nobody { (decl : Declaration) (command : Command)
+        → reply_text decl command (replies.Moved 0 0) ≡ codes "closed - installed -" }
+{}
+
+/// A site is down from its own fall to its own rise. That it rises is its own
+/// record, and another's fall isn't its own.
+pub fn sites_read_so()
+    ensures began { site_line [] 0 ≡ codes "s0 life 1 epoch 1 lines 0 held 0\n" }
+    ensures fell { site_line (by 0 (steps.Fell falls.Script None ∷ [])) 0 ≡ codes "s0 down\n" }
+    ensures another_fell { site_line (by 0 (steps.Fell falls.Script None ∷ [])) 1
+        ≡ codes "s1 life 1 epoch 1 lines 0 held 0\n" }
+    ensures damaged { site_line (by 0 (steps.Fell falls.Disk None ∷ steps.Damaged 7 ∷ [])) 0 ≡ codes "s0 down\n" }
+    ensures rose { site_line (by 0 (steps.Fell falls.Stop None ∷ steps.Rose [] ∷ steps.Wrote records.Life ∷ [])) 0
+        ≡ codes "s0 life 2 epoch 1 lines 0 held 0\n" }
+    ensures fell_again { site_line (by 0 (steps.Fell falls.Stop None ∷ steps.Rose [] ∷ steps.Fell falls.Script None
+        ∷ [])) 0 ≡ codes "s0 down\n" }
+{}
