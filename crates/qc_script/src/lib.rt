@@ -17,8 +17,9 @@
 //! 4. A script that is read names only what is declared, and its numbers are in
 //!    range (`scripts_name_what_is_declared`).
 //!
-//! What is ready for an actor and which histories are runs of a script, then the
-//! loop and its laws, are to stand on it.
+//! What is ready for an actor after a history (`specs/Ready.antt`) and which
+//! histories are runs of a script (`specs/Runs.antt`) stand here too, as
+//! definitions: the loop makes such runs, and the laws are of all of them.
 #![tactic(auto)]
 
 mod actor;
