@@ -9,7 +9,8 @@ use Rattle.qc_pass.specs.Views.{own}
 module _ {E : Type 0} where
   -- The pass v at the seat k is of the history, where seats says which seat each number has, and rooms and ends have
   -- each pass's room and how much it has seen
-  pub record IsPassOf (history : List (Marked E)) (rooms ends : List ℕ) (seats : ℕ → ℕ) (k : ℕ) (v : View E) : Type 0 where
+  pub record IsPassOf (history : List (Marked E)) (rooms ends : List ℕ) (seats : ℕ → ℕ) (k : ℕ) (v : View E)
+      : Type 0 where
     pub own_seat : seats v.number ≡ k
     pub made : v.number < length rooms
     pub part : own v.number history ≡ v.mine

@@ -29,10 +29,7 @@ mod view;
 mod wrong;
 
 pub use laws::{numbers_differ, passes_agree, passes_are_of_the_history, there_is_one_right};
-pub use rule::PassRule;
-pub use steps::{Entering, Keeping};
 pub use token::{Made, Pass, Passes, Right};
-pub use view::View;
 pub use wrong::{
     two_entries_stand, wrong_counts, wrong_numbers, wrong_own_entries, wrong_rights,
     wrong_rooms_and_ends, wrong_views,

@@ -35,6 +35,7 @@ impl<E> Passes<E> {
         Ok((Passes { table }, Right { seat }))
     }
 
+    // The passes of this many actors, in the order of their numbers.
     fn fill(
         &self,
         alloc: Global,
@@ -63,6 +64,7 @@ impl<E> Passes<E> {
         Ok(())
     }
 
+    // The right makes the pass with the next number.
     fn split_pass(&self, right: &mut Right<E>, number: u8) -> Pass<E>
         requires next { number ≡ length (rooms right.old) }
         requires table { right_table right.old ≡ table_of self.now }

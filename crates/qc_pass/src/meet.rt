@@ -48,6 +48,7 @@ impl<E> Passes<E> {
         self.table.shared.join_seat::<JoinRight>(pass, seat);
     }
 
+    // The pass's seat has the right, and learns that it is a pass of its history.
     fn load(&self, pass: &mut Seat<(), View<E>>)
         requires table { pass.old.table_id ≡ table_of self.now }
         requires joined { IsJoined pass.old.me }
@@ -57,6 +58,7 @@ impl<E> Passes<E> {
         self.table.shared.load::<Load>(pass, 0);
     }
 
+    // No memory keeps the entry: it stands in what the seats know.
     fn add<N: Entering<E>>(&self, pass: &mut Seat<(), View<E>>, entry: &E)
         requires table { pass.old.table_id ≡ table_of self.now }
         requires joined { IsJoined pass.old.me }
@@ -68,6 +70,7 @@ impl<E> Passes<E> {
         self.table.shared.fetch_add::<Add<N>>(pass, 0, 1);
     }
 
+    // The pass has seen the history, with this room, and the right is apart again.
     #[tactic(auto, using(crate::proofs::Keeps::gives))]
     fn split_right<N: Keeping>(&self, pass: &mut Seat<(), View<E>>, room: u64) -> Right<E>
         requires table { pass.old.table_id ≡ table_of self.now }

@@ -4,7 +4,7 @@ use crate::view::View;
 use atomic_table::TableRule;
 
 /// The pass rule: all seats are of one history.
-pub struct PassRule;
+pub(crate) struct PassRule;
 
 impl<E> TableRule<(), View<E>, ()> for PassRule {
     ghost use Rattle.std.specs.Prelude.{[]};

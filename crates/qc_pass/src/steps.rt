@@ -38,7 +38,7 @@ impl<E> Play<(), View<E>> for Load {
 }
 
 /// The entry that one call adds. The call picks it.
-pub trait Entering<E> {
+pub(crate) trait Entering<E> {
     ghost use Rattle.std.specs.Prelude.{Option};
 
     ghost entry: { Option E };
@@ -62,7 +62,7 @@ impl<E, N: Entering<E>> Play<(), View<E>> for Add<N> {
 }
 
 /// The room that one call leaves the pass. The call picks it.
-pub trait Keeping {
+pub(crate) trait Keeping {
     ghost use Rattle.std.specs.Prelude.{ℕ};
 
     ghost room: { ℕ };

@@ -29,7 +29,8 @@ pub fn take_turns(alloc: Global) -> Result<Turned, OutOfMemory>
     ensures first { IfOk result (λ t. (seen t.first ≡ both) × (mine t.first ≡ Phase 1 ∷ []) × (room t.first ≡ 3)) }
     ensures second { IfOk result (λ t. (seen t.second ≡ both) × (mine t.second ≡ Got 7 ∷ []) × (room t.second ≡ 0)) }
     ensures numbers { IfOk result (λ t. (number t.first ≡ 0) × (number t.second ≡ 1)) }
-    ensures right { IfOk result (λ t. (all t.right ≡ both) × (rooms t.right ≡ 3 ∷ 0 ∷ []) × (ends t.right ≡ 2 ∷ 2 ∷ [])) }
+    ensures right { IfOk result (λ t.
+        (all t.right ≡ both) × (rooms t.right ≡ 3 ∷ 0 ∷ []) × (ends t.right ≡ 2 ∷ 2 ∷ [])) }
 {
     let Made {
         passes,
