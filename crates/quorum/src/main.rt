@@ -15,9 +15,9 @@ mod outside;
 #[cfg(test)]
 mod tests;
 
-use qc_top::{Cause, cause_text, quorum_words};
 use outside::{FileShelf, OutSink};
 use qc_outside::{EmptyRack, OpenGate};
+use qc_top::{Cause, cause_text, quorum_words};
 use std::io::{self, ErrorKind, Write};
 use std::process::ExitCode;
 use std::rt::{Env, Files};
