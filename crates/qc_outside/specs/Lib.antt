@@ -1,6 +1,10 @@
+pub mod Arms
 pub mod Calls
 pub mod Causes
 pub mod Disk
 pub mod Fakes
+pub mod Images
+pub mod Memory
+pub mod Places
 pub mod Shelf
 pub mod Sink

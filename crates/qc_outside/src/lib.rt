@@ -18,18 +18,26 @@
 mod calls;
 mod disk;
 mod empty_rack;
+mod fused;
 mod gate;
+mod mem_disk;
 mod mem_shelf;
 mod mem_sink;
+mod rack;
 mod shelf;
 mod sink;
+mod tear;
 #[cfg(test)]
 mod tests;
 
-pub use disk::{ArmKind, Disk, DiskFault, Rack, RackFault};
+pub use disk::{ArmKind, Disk, DiskFault};
 pub use empty_rack::{EmptyDisk, EmptyRack};
+pub use fused::Fused;
 pub use gate::{Gate, OpenGate};
+pub use mem_disk::MemDisk;
 pub use mem_shelf::MemShelf;
 pub use mem_sink::MemSink;
+pub use rack::{Rack, RackFault};
 pub use shelf::{Shelf, ShelfFault};
 pub use sink::{Sink, SinkFault};
+pub use tear::Tear;

@@ -1,0 +1,4 @@
+pub mod Counted
+pub mod Images
+pub mod Kept
+pub mod Memory
