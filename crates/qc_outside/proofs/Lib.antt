@@ -2,3 +2,4 @@ pub mod Counted
 pub mod Images
 pub mod Kept
 pub mod Memory
+pub mod Racks

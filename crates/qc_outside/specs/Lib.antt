@@ -4,6 +4,7 @@ pub mod Causes
 pub mod Disk
 pub mod Fakes
 pub mod Images
+pub mod MemRack
 pub mod Memory
 pub mod Places
 pub mod Shelf

@@ -9,8 +9,10 @@ ghost use Rattle.std.specs.Prelude.{◌≡◌, Some, [], IfOk, IfErr, IsSome, op
 ghost use Rattle.qc_outside.specs.Images.{Told, settled};
 ghost use Rattle.qc_outside.specs.Disk.{RackRose, IsKept, NamesActor};
 ghost use Rattle.qc_outside.specs.Places.{IsHandedOut, IsPutBack};
+ghost use Rattle.qc_outside.specs.declared.rack.RackFault.TheVariants.{OutOfMemory as RackWants};
 
 use crate::Disk;
+use qc_list::OutOfMemory;
 
 /// Why a rack gave no disk for an actor.
 #[derive(Clone, Copy, Debug, PartialEq, Eq)]
@@ -27,6 +29,14 @@ pub enum RackFault {
     },
     /// Memory was wanting.
     OutOfMemory,
+}
+
+impl From<OutOfMemory> for RackFault {
+    ghost from_gives = { λ _ e. e ≡ RackWants };
+
+    fn from(_error: OutOfMemory) -> RackFault {
+        RackFault::OutOfMemory
+    }
 }
 
 /// Disks, one at a place for each folder and actor, with a count of the rack's
