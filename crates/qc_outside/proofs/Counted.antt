@@ -2,8 +2,7 @@
 use Rattle.std.proofs.Common.{◌≡◌, ℕ, ◌+◌, ◌-◌, ◌^◌, ◌≤◌, min, Err, arith}
 use Rattle.qc_outside.specs.Causes.{Rose}
 use Rattle.qc_outside.specs.Disk.{DiskRose}
-use Rattle.qc_outside.specs.declared.disk.DiskFault.{DiskFault}
-use Rattle.qc_outside.specs.declared.disk.DiskFault.TheVariants.{Failed, Stopped, OutOfMemory}
+use Rattle.qc_outside.specs.declared.disk.DiskFault.TheVariants.{Failed, Stopped}
 
 pub counted_fail : (i a b : ℕ) → a ≤ b → b ≡ min (a + 1) (2 ^ 64 - 1) → DiskRose {T = Unit {0}} (i + a) (i + b) (Err Failed)
 counted_fail i a b up is = record {
@@ -15,6 +14,7 @@ counted_fail i a b up is = record {
   where
     le : i + a ≤ i + b
     le = omega (arith, up)
+
     rose : Rose (i + a) (i + b)
     rose = omega (arith, is)
 

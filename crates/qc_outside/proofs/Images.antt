@@ -1,20 +1,22 @@
 -- Images and moments: from one write to the next, and from one call to the next.
-use Rattle.std.proofs.Common.{◌≡◌, ℕ, ◌+◌, ◌-◌, ◌<◌, ◌≤◌, max, List, [], ◌∷◌, ◌++◌, length, take, drop, replicate}
+use Rattle.std.proofs.Common.{◌≡◌, ℕ, ◌+◌, ◌-◌, max, List, [], ◌∷◌, ◌++◌, length, take, drop, replicate}
 use Rattle.std.proofs.Common.{Option, Some, None, refl, sym, ◌∙◌, ap, subst, arith, append_assoc, length-append}
 use Rattle.std.proofs.Common.{length-take, length-drop}
 use Rattle.std.specs.List.{AllByRecursion}
 use Rattle.std.proofs.lemmas.List.{length-replicate}
-use Rattle.qc_outside.specs.Images.{Write, Stored, overwritten, all_written, as_read, IsOutside, IsImage, wrote, settled, Told, Leaves, Since, Tells}
+use Rattle.qc_outside.specs.Images.{Write, Stored, overwritten, as_read, IsImage, wrote, Told, Leaves, Since, Tells}
 
 pub length-overwritten : (old : List ℕ) (w : Write) → length (overwritten old w) ≡ max (length old) (w.at + length w.bytes)
 length-overwritten old w =
-    omega (arith,
-    length-append (take w.at (old ++ replicate (w.at - length old) 0) ++ w.bytes) (drop (w.at + length w.bytes) old),
-    length-append (take w.at (old ++ replicate (w.at - length old) 0)) w.bytes,
-    length-take w.at (old ++ replicate (w.at - length old) 0),
-    length-append old (replicate (w.at - length old) 0),
-    length-replicate {A = ℕ} (w.at - length old) 0,
-    length-drop (w.at + length w.bytes) old)
+    omega (
+      arith,
+      length-append (take w.at (old ++ replicate (w.at - length old) 0) ++ w.bytes) (drop (w.at + length w.bytes) old),
+      length-append (take w.at (old ++ replicate (w.at - length old) 0)) w.bytes,
+      length-take w.at (old ++ replicate (w.at - length old) 0),
+      length-append old (replicate (w.at - length old) 0),
+      length-replicate {A = ℕ} (w.at - length old) 0,
+      length-drop (w.at + length w.bytes) old,
+    )
 
 -- a stop after a write may leave what one before it might
 pub image_wrote : (s : Stored) (w : Write) (c : List ℕ) → IsImage s c → IsImage (wrote s w) c

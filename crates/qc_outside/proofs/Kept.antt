@@ -1,6 +1,6 @@
 -- What writes keep, and that what a read gives and what a fall leaves are images.
 use Rattle.std.proofs.Common.{◌≡◌, ◌⊎◌, inl, inr, ℕ, ◌+◌, ◌-◌, ◌<◌, ◌≤◌, List, [], ◌∷◌, ◌++◌, length, take, drop}
-use Rattle.std.proofs.Common.{replicate, get_or, refl, ◌∙◌, ap, arith, length-append, length-take, length-drop}
+use Rattle.std.proofs.Common.{replicate, get_or, refl, ◌∙◌, ap, arith, length-append, length-take}
 use Rattle.std.proofs.lemmas.List.{length-replicate, get_or_append_left, get_or-append_right, get_or-take, get_or-drop}
 use Rattle.qc_outside.specs.Images.{Write, Stored, Leaves, IsImage, IsOutside, overwritten, as_read, all_written, settled}
 use Rattle.qc_outside.specs.Memory.{left_by, all_torn, blotted}
@@ -95,4 +95,3 @@ settled_leaves s bytes is c image = record {
   no_longer = omega (arith, is.no_longer, image.no_longer);
   same = λ i within outside. image.same i (omega (arith, within, is.no_shorter)) tt ∙ is.same i within outside;
 }
-

@@ -1,6 +1,6 @@
 -- What the places of a rack in memory hold after a change of one.
-use Rattle.std.proofs.Common.{◌≡◌, ◌≢◌, ℕ, zero, suc, ◌+◌, ◌<◌, Bool, true, false, ◌&&◌, cond, List, [], ◌∷◌, ◌++◌, length, take}
-use Rattle.std.proofs.Common.{find, slice_set, slice_index_or, HoldsAt, Option, Some, None, Result, Ok, Err, refl, sym, ◌∙◌, ap, subst, arith}
+use Rattle.std.proofs.Common.{◌≡◌, ◌≢◌, ℕ, zero, suc, ◌+◌, ◌<◌, Bool, true, false, ◌&&◌, cond, List, [], ◌∷◌, length, take}
+use Rattle.std.proofs.Common.{find, slice_set, slice_index_or, Option, Some, None, refl, sym, ◌∙◌, ap, subst, arith}
 use Rattle.std.specs.Prelude.{nat_eq, option_map, Vec, vec_len}
 use Rattle.std.specs.declared.alloc.Global.{Global}
 use Rattle.std.specs.Option.{option_or}
@@ -8,11 +8,9 @@ use Rattle.std.proofs.lemmas.Bool.{eqb-true, eq-eqb}
 use Rattle.std.specs.Cmp.Derive.{both_true}
 use Rattle.std.proofs.lemmas.List.Folds.{find-append}
 use Rattle.std.proofs.lemmas.Slice.Eq.{bytes_eq-Decides}
-use Rattle.qc_outside.specs.Places.{Place, HandsOut, HoldsNoByte, IsSameElsewhere, held_after}
+use Rattle.qc_outside.specs.Places.{Place, HoldsNoByte, IsSameElsewhere, held_after}
 use Rattle.qc_outside.specs.MemRack.{is_folder, name_of, is_at, held, IsFirstAt, IsAdded}
 use Rattle.qc_outside.specs.declared.mem_rack.Kept.{Kept}
-use Rattle.qc_outside.specs.declared.rack.RackFault.{RackFault}
-use Rattle.qc_outside.specs.declared.rack.RackFault.TheVariants.{NotEmpty}
 
 both : (a b : Bool) → (a && b) ≡ true → (a ≡ true) × (b ≡ true)
 both true true e = (refl, refl)
@@ -77,8 +75,7 @@ pub held_put : (place : Place) (all : List Kept) (i : ℕ) (old new : Kept) (byt
 held_put place all i old new bytes first same there are =
     let here : is_at place new ≡ true = same ∙ ap (is_at place) (sym there) ∙ first.2 old in
     let now : held (slice_set all i new) place ≡ Some bytes = ap bytes_of (found_changed (is_at place) all i new first.0 first.1 here) ∙ ap Some are in
-    let before = held_first place all i old first in
-    (
+    let before = held_first place all i old first in (
       now ∙ sym (ap (λ (h : Option (List ℕ)). held_after h bytes) before),
       λ q other. ap bytes_of (found_same (is_at q) all i new old (elsewhere place q (slice_index_or all i old) (first.2 old) other) (elsewhere place q new here other)),
     )
@@ -89,8 +86,7 @@ held_more place old new none (kept, empty, are) =
     let folder : is_folder place.folder (name_of kept.folder) ≡ true = ap (is_folder place.folder) empty.folder ∙ folder_itself place.folder in
     let actor : nat_eq place.actor kept.actor ≡ true = eq-eqb place.actor kept.actor (sym empty.actor) in
     let here : is_at place kept ≡ true = both_true folder actor in
-    let whole = λ (q : Place). ap (λ (l : List Kept). find (is_at q) l) are ∙ find-append (is_at q) old (kept ∷ []) in
-    (
+    let whole = λ (q : Place). ap (λ (l : List Kept). find (is_at q) l) are ∙ find-append (is_at q) old (kept ∷ []) in (
       subst HoldsNoByte (sym (ap bytes_of none)) tt,
       ap bytes_of (whole place ∙ ap (λ (f : Option Kept). option_or f (find (is_at place) (kept ∷ []))) none ∙ ap (λ b. cond b (Some kept) None) here) ∙ ap Some empty.bytes,
       λ q other. ap bytes_of (whole q ∙ ap (λ (f : Option Kept). option_or (find (is_at q) old) f) (ap (λ b. cond b (Some kept) None) (elsewhere place q kept here other)) ∙ or_none (find (is_at q) old)),
@@ -99,6 +95,7 @@ held_more place old new none (kept, empty, are) =
     folder_itself : (a : Option (List ℕ)) → is_folder a a ≡ true
     folder_itself None = refl
     folder_itself (Some a) = (bytes_eq-Decides a a).1 refl
+
     or_none : (f : Option Kept) → option_or f None ≡ f
     or_none None = refl
     or_none (Some k) = refl

@@ -4,11 +4,13 @@
 //! 1. Each trait states what its calls mean where an implementation tells what
 //!    it holds. Who cannot know what the outside holds, as a real file, tells
 //!    nothing.
-//! 2. A count of faults never falls, and a call answers `Failed` only where the
-//!    count rose, or had come to the most that 64 bits hold. So a run's fault is
-//!    the outside's own.
-//! 3. Where memory was wanting a count stands, and a shelf and a sink are as
-//!    they were.
+//! 2. A disk that tells says for each moment which images a stop then may leave.
+//!    `specs/Images.antt` is all that is assumed of disks.
+//! 3. A count of faults never falls, and a call answers `Failed` or `Stopped`
+//!    only where the count rose, or had come to the most that 64 bits hold. So a
+//!    run's fault is the outside's own.
+//! 4. Where memory was wanting a count stands, and a shelf, a sink and a disk are
+//!    as they were.
 //!
 //! Fakes in memory stand beside the traits: tests and laws on whole calls use
 //! them. `old_top` takes one of each, `old_report` words their faults, and the

@@ -67,7 +67,12 @@ pub(crate) fn overwrite(to: &mut Vec<u8>, at: usize, bytes: &[u8]) -> Result<(),
 }
 
 /// Makes of the bytes that a fall left before a write those that it leaves after.
-pub(crate) fn tear_off(left: &mut Vec<u8>, tear: Tear, at: usize, bytes: &[u8]) -> Result<(), OutOfMemory>
+pub(crate) fn tear_off(
+    left: &mut Vec<u8>,
+    tear: Tear,
+    at: usize,
+    bytes: &[u8],
+) -> Result<(), OutOfMemory>
     requires room { max (vec_len left.old) (at + length bytes.now) ≤ vec_capacity left.old }
     requires fits { at + length bytes.now < 2 ^ 64 }
     ensures items { left.new.items ≡ torn_by tear left.old.items (record { at = at; bytes = bytes.now }) }

@@ -1,8 +1,8 @@
 //! Each trait once, through its bound, at the fake that meets it.
 
 use crate::{
-    ArmKind, Disk, DiskFault, EmptyRack, Fused, MemDisk, MemRack, MemShelf, MemSink, Rack, RackFault, Shelf,
-    ShelfFault, Sink, SinkFault, Tear,
+    ArmKind, Disk, DiskFault, EmptyRack, Fused, MemDisk, MemRack, MemShelf, MemSink, Rack,
+    RackFault, Shelf, ShelfFault, Sink, SinkFault, Tear,
 };
 use qc_list::OutOfMemory;
 use std::alloc::Global;
@@ -94,7 +94,10 @@ fn rack_refuses_a_place_with_bytes(rt: HostRuntime) -> Result<(), Fail> {
     let mut rack = MemRack::new(rt.alloc(), Tear::Nothing)?;
     assert_eq!(rt; write_once(&mut rack, 1), Ok(Ok(())));
     assert_eq!(rt; write_once(&mut rack, 2), Ok(Ok(())));
-    assert_eq!(rt; write_once(&mut rack, 1), Err(RackFault::NotEmpty { actor: 1 }));
+    assert_eq!(rt;
+        write_once(&mut rack, 1),
+        Err(RackFault::NotEmpty { actor: 1 })
+    );
     Ok(())
 }
 
@@ -115,6 +118,9 @@ fn fall_tears_what_was_not_synced(rt: HostRuntime) -> Result<(), Fail> {
     let alloc = rt.alloc();
     assert_eq!(rt; left_by(alloc, Tear::Nothing)?.as_slice(), [7].as_slice());
     assert_eq!(rt; left_by(alloc, Tear::All)?.as_slice(), [7, 8].as_slice());
-    assert_eq!(rt; left_by(alloc, Tear::Fill(9))?.as_slice(), [7, 9].as_slice());
+    assert_eq!(rt;
+        left_by(alloc, Tear::Fill(9))?.as_slice(),
+        [7, 9].as_slice()
+    );
     Ok(())
 }

@@ -1,4 +1,4 @@
-use Rattle.std.proofs.Common.{◌≡◌, ◌+◌, ◌≤◌, ℕ, List, [], ◌∷◌, ◌++◌, length, sym, ◌∙◌, ap, arith}
+use Rattle.std.proofs.Common.{sym, ◌∙◌, ap, arith}
 use Rattle.qc_outside.specs.Images.{Told, IsImage, as_read, settled}
 use Rattle.qc_outside.specs.Memory.{told_by, counts, left_by}
 use Rattle.qc_outside.specs.declared.mem_disk.Change.TheVariants.{Synced}

@@ -1,4 +1,4 @@
-use Rattle.std.proofs.Common.{◌≡◌, ◌+◌, ◌≤◌, ℕ, List, [], ◌∷◌, ◌++◌, length, length-append, refl, sym, ◌∙◌, ap, arith}
+use Rattle.std.proofs.Common.{ℕ, List, [], ◌∷◌, ◌++◌, length, length-append, refl, sym, ◌∙◌, ap, arith}
 use Rattle.qc_outside.specs.Images.{Told, Write, IsImage, as_read, wrote, overwritten}
 use Rattle.qc_outside.specs.Memory.{told_by, counts, torn_by, left_by}
 use Rattle.qc_outside.specs.declared.mem_disk.Change.TheVariants.{Wrote}

@@ -1,4 +1,4 @@
-use Rattle.std.proofs.Common.{◌≡◌, List, [], ◌∷◌, ◌++◌, refl}
+use Rattle.std.proofs.Common.{refl}
 use Rattle.qc_outside.specs.declared.mem_rack.Kept.{Kept}
 use Rattle.qc_outside.proofs.mem_rack.MemRack.add.Goals as goal
 

@@ -1,4 +1,4 @@
-use Rattle.std.proofs.Common.{◌≡◌, Some, refl, sym, ◌∙◌, ap, subst, List, option_copied}
+use Rattle.std.proofs.Common.{Some, refl, sym, subst, List, option_copied}
 use Rattle.qc_outside.specs.Images.{as_read}
 use Rattle.qc_outside.specs.Memory.{told_by}
 use Rattle.qc_outside.specs.Places.{Place}
