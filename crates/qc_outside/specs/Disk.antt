@@ -3,9 +3,9 @@ use Rattle.std.specs.Prelude.{◌≡◌, ℕ, ◌≤◌, Result, Err}
 use Rattle.qc_outside.specs.Causes.{Rose, sum_of_faults}
 use Rattle.qc_outside.specs.declared.disk.DiskFault.{DiskFault}
 use Rattle.qc_outside.specs.declared.disk.DiskFault.TheVariants.{Failed, Stopped, OutOfMemory}
-use Rattle.qc_outside.specs.declared.disk.RackFault.{RackFault}
-use Rattle.qc_outside.specs.declared.disk.RackFault.TheVariants.{NotEmpty, Failed as RackFailed}
-use Rattle.qc_outside.specs.declared.disk.RackFault.TheVariants.{OutOfMemory as RackWants}
+use Rattle.qc_outside.specs.declared.rack.RackFault.{RackFault}
+use Rattle.qc_outside.specs.declared.rack.RackFault.TheVariants.{NotEmpty, Failed as RackFailed}
+use Rattle.qc_outside.specs.declared.rack.RackFault.TheVariants.{OutOfMemory as RackWants}
 
 -- a disk's count never falls, rises where it failed or stopped, and stands where memory was wanting
 pub record DiskRose {T : Type 0} (before now : ℕ) (result : Result T DiskFault) : Type 0 where

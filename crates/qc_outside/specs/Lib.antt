@@ -1,6 +1,11 @@
+pub mod Arms
 pub mod Calls
 pub mod Causes
 pub mod Disk
 pub mod Fakes
+pub mod Images
+pub mod MemRack
+pub mod Memory
+pub mod Places
 pub mod Shelf
 pub mod Sink

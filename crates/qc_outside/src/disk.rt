@@ -1,8 +1,14 @@
-//! Disks, which keep an actor's records, and the rack that hands them out.
+//! Disks, which keep an actor's records.
+//!
+//! 1. Between two syncs a written range, and all past the old end, may hold any
+//!    bytes after a stop; elsewhere the bytes stay.
+//! 2. After a sync that succeeded, a stop leaves what a read gives.
+//! 3. A call's clause on moments speaks of each moment since the call began.
 
-ghost use Rattle.std.specs.Prelude.{◌≡◌, ◌≢◌, ◌≤◌, length, IfOk, IfErr, OnErr};
-ghost use Rattle.qc_outside.specs.Disk.{DiskRose, RackRose, IsKept, NamesActor};
-ghost use Rattle.qc_outside.specs.declared.disk.DiskFault.TheVariants.{OutOfMemory as DiskWants};
+ghost use Rattle.std.specs.Prelude.{◌≡◌, ◌≢◌, ◌≤◌, ◌+◌, ℕ, suc, Some, Err, [], length, take, drop, IfOk, OnOk};
+ghost use Rattle.qc_outside.specs.Disk.{DiskRose};
+ghost use Rattle.qc_outside.specs.Images.{Told, Tells, Since, IsImage, as_read, wrote, settled};
+ghost use Rattle.qc_outside.specs.declared.disk.DiskFault.TheVariants.{Stopped as DiskStops, OutOfMemory as DiskWants};
 
 use qc_list::OutOfMemory;
 
@@ -36,84 +42,77 @@ pub enum ArmKind {
 
 /// Bytes that outlast their writer, with a count of the disk's faults.
 ///
-/// The count never falls, and stands where memory was wanting.
+/// What a disk holds is known where it tells. A disk that tells still tells
+/// after each call, and one that doesn't never begins to. The count never
+/// falls, and stands where memory was wanting.
 pub trait Disk: Send + Drop {
-    ghost use Rattle.std.specs.Prelude.{ℕ};
+    ghost use Rattle.std.specs.Prelude.{ℕ, Option};
+    ghost use Rattle.qc_outside.specs.Images.{Told};
 
     // How many calls failed or stopped so far, or more.
     ghost faults: { Self → ℕ };
 
+    // What it holds and held, where it tells.
+    ghost told: { Self → Option Told };
+
+    // There is memory for so many writes that each end at or before a place.
+    ghost has_room: { Self → ℕ → ℕ → Type 0 };
+
     /// How many bytes the disk holds. It takes no memory.
     fn len(&mut self) -> Result<u64, DiskFault>
+        ensures len { IfOk result (λ n. (t : Told) → told self.old ≡ Some t → n ≡ length (as_read t.now)) }
+        ensures same { told self.new ≡ told self.old }
+        ensures room { (n end : ℕ) → has_room self.old n end → has_room self.new n end }
         ensures cause { DiskRose (faults self.old) (faults self.new) result }
-        ensures room { IfErr result (λ e. e ≢ DiskWants) };
+        ensures memory { result ≢ Err DiskWants };
 
     /// The `count` bytes from `at` on, or fewer where the disk ends.
     fn read(&mut self, at: u64, count: u32) -> Result<Vec<u8>, DiskFault>
         ensures bounded { IfOk result (λ v. length v.items ≤ count) }
+        ensures bytes { IfOk result (λ v. (t : Told) → told self.old ≡ Some t
+            → v.items ≡ take count (drop at (as_read t.now))) }
+        ensures same { told self.new ≡ told self.old }
+        ensures room { (n end : ℕ) → has_room self.old n end → has_room self.new n end }
         ensures cause { DiskRose (faults self.old) (faults self.new) result };
 
     /// Takes the memory for two writes that end at or before `end`.
     fn reserve(&mut self, end: u64) -> Result<(), OutOfMemory>
-        ensures later { faults self.old ≤ faults self.new }
-        ensures err { OnErr result (faults self.new ≡ faults self.old) };
+        ensures same { told self.new ≡ told self.old }
+        ensures room { OnOk result (has_room self.new 2 end) }
+        ensures faults { faults self.new ≡ faults self.old };
 
     /// Writes the bytes from `at` on. They last once `sync` has answered `Ok`.
+    /// A gap before them reads as zeros.
     fn write_at(&mut self, at: u64, bytes: &[u8]) -> Result<(), DiskFault>
+        ensures written { OnOk result (Tells (told self.old) (told self.new) (λ old new.
+            new.now ≡ wrote old.now (record { at = at; bytes = bytes.now }))) }
+        // A stop at a moment of the call leaves what one after it may leave.
+        ensures moments { Tells (told self.old) (told self.new) (λ old new.
+            Since (IsImage (wrote old.now (record { at = at; bytes = bytes.now }))) old new) }
+        ensures fell { result ≡ Err DiskStops
+            → Tells (told self.old) (told self.new) (λ old new. new.now.writes ≡ []) }
+        ensures memory { (n end : ℕ) → has_room self.old (suc n) end → at + length bytes.now ≤ end
+            → result ≢ Err DiskWants }
+        ensures wanting { result ≡ Err DiskWants → told self.new ≡ told self.old }
+        ensures room { OnOk result ((n end : ℕ) → has_room self.old (suc n) end → at + length bytes.now ≤ end
+            → has_room self.new n end) }
         ensures cause { DiskRose (faults self.old) (faults self.new) result };
 
     /// Makes what was written last. It takes no memory.
     fn sync(&mut self) -> Result<(), DiskFault>
+        ensures lasting { OnOk result (Tells (told self.old) (told self.new) (λ old new.
+            new.now ≡ settled (as_read old.now))) }
+        ensures moments { Tells (told self.old) (told self.new) (λ old new. Since (IsImage old.now) old new) }
+        ensures fell { result ≡ Err DiskStops
+            → Tells (told self.old) (told self.new) (λ old new. new.now.writes ≡ []) }
+        ensures room { OnOk result ((n end : ℕ) → has_room self.old n end → has_room self.new n end) }
         ensures cause { DiskRose (faults self.old) (faults self.new) result }
-        ensures room { IfErr result (λ e. e ≢ DiskWants) };
+        ensures memory { result ≢ Err DiskWants };
 
-    /// Stops the disk, as a loss of power does.
+    /// Stops the disk, as a loss of power does: it now holds one of the images
+    /// that a stop might leave, and nothing is pending.
     fn fall(&mut self)
-        ensures { faults self.old ≤ faults self.new };
-}
-
-/// Why a rack gave no disk for an actor.
-#[derive(Clone, Copy, Debug, PartialEq, Eq)]
-pub enum RackFault {
-    /// The actor's place already holds bytes.
-    NotEmpty {
-        /// The actor's number.
-        actor: u8,
-    },
-    /// The rack failed, and its count of faults rose.
-    Failed {
-        /// The number of the actor whose disk was wanted.
-        actor: u8,
-    },
-    /// Memory was wanting.
-    OutOfMemory,
-}
-
-/// Disks, one at a place for each folder and actor, with a count of the rack's
-/// faults. No folder counts as one folder more.
-pub trait Rack {
-    /// The disks that the rack hands out.
-    type D: Disk;
-
-    ghost use Rattle.std.specs.Prelude.{ℕ};
-
-    // How many calls failed so far, on the disks that came back too, or more.
-    ghost faults: { Self → ℕ };
-
-    /// An empty disk for an actor, whose count of faults is 0.
-    ///
-    /// `NotEmpty` and `Failed` name the actor, and `Failed` comes only where
-    /// the count rose. The count never falls, and stands where memory was
-    /// wanting.
-    fn disk(&mut self, dir: Option<&str>, actor: u8) -> Result<Self::D, RackFault>
-        ensures fresh { IfOk result (λ d. Self.D.faults d ≡ 0) }
-        ensures named { IfErr result (NamesActor actor) }
-        ensures cause { RackRose (faults self.old) (faults self.new) result };
-
-    /// Takes an actor's disk back. It takes no memory.
-    ///
-    /// The rack's count rises by at least the disk's, and stands where the
-    /// disk's is 0.
-    fn keep(&mut self, dir: Option<&str>, actor: u8, disk: Self::D)
-        ensures { IsKept (faults self.old) (Self.D.faults disk) (faults self.new) };
+        ensures moments { Tells (told self.old) (told self.new) (λ old new. Since (IsImage old.now) old new) }
+        ensures fell { Tells (told self.old) (told self.new) (λ old new. new.now.writes ≡ []) }
+        ensures later { faults self.old ≤ faults self.new };
 }

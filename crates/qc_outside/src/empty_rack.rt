@@ -26,7 +26,14 @@ impl Model for EmptyDisk {
 }
 
 impl Disk for EmptyDisk {
+    ghost use Rattle.std.specs.Prelude.{Some, ⊤};
+    ghost use Rattle.qc_outside.specs.Images.{told_at_first};
+
     ghost faults = { λ d. d };
+
+    ghost told = { λ d. Some told_at_first };
+
+    ghost has_room = { λ _ _ _. ⊤ };
 
     fn len(&mut self) -> Result<u64, DiskFault>
         ensures empty { result ≡ Ok 0 }
@@ -98,7 +105,11 @@ impl EmptyRack {
 impl Rack for EmptyRack {
     type D = EmptyDisk;
 
+    ghost use Rattle.std.specs.Prelude.{None};
+
     ghost faults = { λ r. r };
+
+    ghost places = { λ r. None };
 
     fn disk(&mut self, _dir: Option<&str>, _actor: u8) -> Result<EmptyDisk, RackFault>
         ensures fresh { result ≡ Ok 0 }

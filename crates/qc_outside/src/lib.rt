@@ -4,11 +4,13 @@
 //! 1. Each trait states what its calls mean where an implementation tells what
 //!    it holds. Who cannot know what the outside holds, as a real file, tells
 //!    nothing.
-//! 2. A count of faults never falls, and a call answers `Failed` only where the
-//!    count rose, or had come to the most that 64 bits hold. So a run's fault is
-//!    the outside's own.
-//! 3. Where memory was wanting a count stands, and a shelf and a sink are as
-//!    they were.
+//! 2. A disk that tells says for each moment which images a stop then may leave.
+//!    `specs/Images.antt` is all that is assumed of disks.
+//! 3. A count of faults never falls, and a call answers `Failed` or `Stopped`
+//!    only where the count rose, or had come to the most that 64 bits hold. So a
+//!    run's fault is the outside's own.
+//! 4. Where memory was wanting a count stands, and a shelf, a sink and a disk are
+//!    as they were.
 //!
 //! Fakes in memory stand beside the traits: tests and laws on whole calls use
 //! them. `old_top` takes one of each, `old_report` words their faults, and the
@@ -18,18 +20,28 @@
 mod calls;
 mod disk;
 mod empty_rack;
+mod fused;
 mod gate;
+mod mem_disk;
+mod mem_rack;
 mod mem_shelf;
 mod mem_sink;
+mod rack;
 mod shelf;
 mod sink;
+mod tear;
 #[cfg(test)]
 mod tests;
 
-pub use disk::{ArmKind, Disk, DiskFault, Rack, RackFault};
+pub use disk::{ArmKind, Disk, DiskFault};
 pub use empty_rack::{EmptyDisk, EmptyRack};
+pub use fused::Fused;
 pub use gate::{Gate, OpenGate};
+pub use mem_disk::MemDisk;
+pub use mem_rack::MemRack;
 pub use mem_shelf::MemShelf;
 pub use mem_sink::MemSink;
+pub use rack::{Rack, RackFault};
 pub use shelf::{Shelf, ShelfFault};
 pub use sink::{Sink, SinkFault};
+pub use tear::Tear;

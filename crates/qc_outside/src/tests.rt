@@ -1,8 +1,8 @@
 //! Each trait once, through its bound, at the fake that meets it.
 
 use crate::{
-    Disk, DiskFault, EmptyRack, MemShelf, MemSink, Rack, RackFault, Shelf, ShelfFault, Sink,
-    SinkFault,
+    ArmKind, Disk, DiskFault, EmptyRack, Fused, MemDisk, MemRack, MemShelf, MemSink, Rack,
+    RackFault, Shelf, ShelfFault, Sink, SinkFault, Tear,
 };
 use qc_list::OutOfMemory;
 use std::alloc::Global;
@@ -68,18 +68,16 @@ fn sink_fails_at_its_first_call(rt: HostRuntime) -> Result<(), Fail> {
 }
 
 /// Makes room for a byte and writes it.
-fn write_to<D: Disk>(disk: &mut D) -> Result<(), DiskFault> {
-    disk.read(0, 1)?;
-    let end = disk.len()?;
-    disk.reserve(end)?;
-    disk.sync()?;
-    disk.write_at(0, b"x")
+fn write_to<D: Disk>(disk: &mut D, byte: u8) -> Result<(), DiskFault> {
+    disk.reserve(1)?;
+    disk.write_at(0, &[byte])?;
+    disk.sync()
 }
 
-/// Writes to an actor's disk, and gives the disk back.
+/// Writes a byte to an actor's disk, and gives the disk back.
 fn write_once<R: Rack>(rack: &mut R, actor: u8) -> Result<Result<(), DiskFault>, RackFault> {
     let mut disk = rack.disk(None, actor)?;
-    let answer = write_to(&mut disk);
+    let answer = write_to(&mut disk, 7);
     disk.fall();
     rack.keep(None, actor, disk);
     Ok(answer)
@@ -89,4 +87,40 @@ fn write_once<R: Rack>(rack: &mut R, actor: u8) -> Result<Result<(), DiskFault>,
 fn empty_disk_refuses_a_write(rt: HostRuntime) {
     let mut rack = EmptyRack::new(rt.alloc());
     assert_eq!(rt; write_once(&mut rack, 1), Ok(Err(DiskFault::Failed)));
+}
+
+#[test]
+fn rack_refuses_a_place_with_bytes(rt: HostRuntime) -> Result<(), Fail> {
+    let mut rack = MemRack::new(rt.alloc(), Tear::Nothing)?;
+    assert_eq!(rt; write_once(&mut rack, 1), Ok(Ok(())));
+    assert_eq!(rt; write_once(&mut rack, 2), Ok(Ok(())));
+    assert_eq!(rt;
+        write_once(&mut rack, 1),
+        Err(RackFault::NotEmpty { actor: 1 })
+    );
+    Ok(())
+}
+
+/// What a stop in the sync leaves of a byte that was synced and one that was not.
+fn left_by(alloc: Global, tear: Tear) -> Result<Vec<u8>, DiskFault> {
+    let mut disk = Fused::new(MemDisk::new(alloc, tear)?);
+    write_to(&mut disk, 7)?;
+    disk.write_at(1, &[8])?;
+    disk.arm(ArmKind::Stop, 1);
+    if disk.sync() != Err(DiskFault::Stopped) {
+        return Err(DiskFault::Failed);
+    }
+    disk.inner().read(0, 3)
+}
+
+#[test]
+fn fall_tears_what_was_not_synced(rt: HostRuntime) -> Result<(), Fail> {
+    let alloc = rt.alloc();
+    assert_eq!(rt; left_by(alloc, Tear::Nothing)?.as_slice(), [7].as_slice());
+    assert_eq!(rt; left_by(alloc, Tear::All)?.as_slice(), [7, 8].as_slice());
+    assert_eq!(rt;
+        left_by(alloc, Tear::Fill(9))?.as_slice(),
+        [7, 9].as_slice()
+    );
+    Ok(())
 }

@@ -1,0 +1,5 @@
+pub mod Counted
+pub mod Images
+pub mod Kept
+pub mod Memory
+pub mod Racks

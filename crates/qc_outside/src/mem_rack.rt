@@ -1,0 +1,132 @@
+//! A rack of disks in memory.
+
+ghost use Rattle.std.specs.Prelude.{◌≡◌, ◌≢◌, ℕ, Some, [], Err, IfOk, IfErr, OnOk, OnErr, option_copied};
+ghost use Rattle.qc_outside.specs.Disk.{NamesActor};
+ghost use Rattle.qc_outside.specs.Places.{HandsOut};
+ghost use Rattle.qc_outside.specs.declared.rack.RackFault.TheVariants.{Failed};
+ghost use Rattle.qc_outside.specs.MemRack.{IsAdded, IsFirstAt, is_at, held, name_of};
+
+use crate::{Disk, MemDisk, Rack, RackFault, Tear};
+use qc_list::OutOfMemory;
+use std::alloc::Global;
+
+/// A place for which a disk was handed out, and the bytes that it holds.
+#[derive(Drop)]
+struct Kept {
+    folder: Option<Vec<u8>>,
+    actor: u8,
+    bytes: Vec<u8>,
+}
+
+impl Kept {
+    /// Whether it is the place of this folder and actor.
+    fn is_at(&self, dir: Option<&str>, actor: u8) -> bool
+        ensures { result ≡ is_at (record { folder = option_copied dir.entry; actor = actor }) self.now }
+    {
+        let is_folder = match (dir, &self.folder) {
+            (None, None) => true,
+            (Some(a), Some(b)) => a.as_bytes() == b.as_slice(),
+            (None, Some(_)) | (Some(_), None) => false,
+        };
+        is_folder && actor == self.actor
+    }
+}
+
+/// The name of a folder, kept.
+fn name_owned(alloc: Global, dir: Option<&str>) -> Result<Option<Vec<u8>>, OutOfMemory>
+    ensures { IfOk result (λ folder. name_of folder ≡ option_copied dir.entry) }
+{
+    match dir {
+        None => Ok(None),
+        Some(name) => Ok(Some(name.as_bytes().to_vec(alloc)?)),
+    }
+}
+
+/// A rack that gives each actor a new disk in memory.
+#[derive(Drop)]
+pub struct MemRack {
+    alloc: Global,
+    tear: Tear,
+    places: Vec<Kept>,
+}
+
+impl MemRack {
+    /// A rack whose places hold no byte, and whose disks' falls tear so.
+    pub fn new(alloc: Global, tear: Tear) -> Result<MemRack, OutOfMemory>
+        ensures none { IfOk result (λ r. r.places.items ≡ []) }
+    {
+        Ok(MemRack {
+            alloc,
+            tear,
+            places: Vec::new(alloc),
+        })
+    }
+
+    /// Adds a place that holds no byte.
+    fn add(&mut self, dir: Option<&str>, actor: u8) -> Result<(), OutOfMemory>
+        ensures added { OnOk result (IsAdded self.old.places.items
+            (record { folder = option_copied dir.entry; actor = actor }) self.new.places.items) }
+        ensures err { OnErr result (self.new.places.items ≡ self.old.places.items) }
+    {
+        let folder = name_owned(self.alloc, dir)?;
+        let bytes = Vec::new(self.alloc);
+        self.places.push(Kept {
+            folder,
+            actor,
+            bytes,
+        })?;
+        Ok(())
+    }
+
+    /// Makes the place ready for a disk, unless it holds bytes.
+    fn lend(&mut self, dir: Option<&str>, actor: u8) -> Result<(), RackFault>
+        ensures handed { HandsOut (held self.old.places.items) (record { folder = option_copied dir.entry; actor = actor })
+            result (held self.new.places.items) }
+        ensures named { IfErr result (NamesActor actor) }
+        ensures whole { (named : ℕ) → result ≢ Err (Failed named) }
+    {
+        match place_at(&self.places, dir, actor) {
+            None => self.add(dir, actor)?,
+            Some(index) => {
+                if !self.places[index].bytes.is_empty() {
+                    return Err(RackFault::NotEmpty { actor });
+                }
+            }
+        }
+        Ok(())
+    }
+}
+
+/// Where the first of this folder and actor stands.
+fn place_at(places: &[Kept], dir: Option<&str>, actor: u8) -> Option<usize>
+    ensures { IsFirstAt (record { folder = option_copied dir.entry; actor = actor }) places.now result }
+{
+    let mut index = 0;
+    for kept in places {
+        if kept.is_at(dir, actor) {
+            return Some(index);
+        }
+        index += 1;
+    }
+    None
+}
+
+impl Rack for MemRack {
+    type D = MemDisk;
+
+    ghost faults = { λ _. 0 };
+
+    ghost places = { λ r. Some (held r.places.items) };
+
+    fn disk(&mut self, dir: Option<&str>, actor: u8) -> Result<MemDisk, RackFault> {
+        let disk = MemDisk::new(self.alloc, self.tear)?;
+        self.lend(dir, actor)?;
+        Ok(disk)
+    }
+
+    fn keep(&mut self, dir: Option<&str>, actor: u8, disk: MemDisk) {
+        if let Some(index) = place_at(&self.places, dir, actor) {
+            self.places[index].bytes = disk.into_bytes();
+        }
+    }
+}
