@@ -13,7 +13,7 @@
 //!    as they were.
 //!
 //! Fakes in memory stand beside the traits: tests and laws on whole calls use
-//! them. `old_top` takes one of each, `old_report` words their faults, and the
+//! them. `qc_top` takes one of each, `qc_report` words their faults, and the
 //! program brings the real ones.
 #![tactic(auto)]
 
