@@ -1,6 +1,6 @@
 -- What the places of a rack in memory hold.
-use Rattle.std.specs.Prelude.{◌≡◌, ℕ, ◌<◌, Bool, true, false, ◌&&◌, nat_eq, List, [], ◌∷◌, ◌++◌, length, take, find, bytes_eq}
-use Rattle.std.specs.Prelude.{HoldsAt, Option, Some, None, option_map, Vec}
+use Rattle.std.specs.Prelude.{◌≡◌, ℕ, ◌<◌, Bool, true, false, ◌&&◌, nat_eq, List, [], ◌∷◌, ◌++◌}
+use Rattle.std.specs.Prelude.{length, take, find, bytes_eq, HoldsAt, Option, Some, None, option_map, Vec}
 use Rattle.std.specs.declared.alloc.Global.{Global}
 use Rattle.qc_outside.specs.Places.{Place, Places}
 use Rattle.qc_outside.specs.declared.mem_rack.Kept.{Kept}
@@ -27,7 +27,8 @@ held all place = option_map (λ kept. kept.bytes.items) (find (is_at place) all)
 abbrev pub IsFirstAt : Place → List Kept → Option ℕ → Type 0
 IsFirstAt place all None = find (is_at place) all ≡ None
 IsFirstAt place all (Some index) =
-    (index < length all) × (find (is_at place) (take index all) ≡ None) × HoldsAt (λ kept. is_at place kept ≡ true) all index
+    (index < length all) × (find (is_at place) (take index all) ≡ None)
+    × HoldsAt (λ kept. is_at place kept ≡ true) all index
 
 -- it is of the place, and holds no byte
 pub record IsEmptyPlace (place : Place) (kept : Kept) : Type 0 where

@@ -80,8 +80,8 @@ impl MemRack {
 
     /// Makes the place ready for a disk, unless it holds bytes.
     fn lend(&mut self, dir: Option<&str>, actor: u8) -> Result<(), RackFault>
-        ensures handed { HandsOut (held self.old.places.items) (record { folder = option_copied dir.entry; actor = actor })
-            result (held self.new.places.items) }
+        ensures handed { HandsOut (held self.old.places.items)
+            (record { folder = option_copied dir.entry; actor = actor }) result (held self.new.places.items) }
         ensures named { IfErr result (NamesActor actor) }
         ensures whole { (named : ℕ) → result ≢ Err (Failed named) }
     {

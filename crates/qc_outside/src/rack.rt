@@ -66,8 +66,8 @@ pub trait Rack {
         ensures fresh { IfOk result (λ d. Self.D.faults d ≡ 0) }
         ensures empty { IfOk result (λ d. (t : Told) → Self.D.told d ≡ Some t → t.now ≡ settled []) }
         ensures tells { IfOk result (λ d. IsSome (places self.old) → IsSome (Self.D.told d)) }
-        ensures handed { IsHandedOut (places self.old) (record { folder = option_copied dir.entry; actor = actor }) result
-            (places self.new) }
+        ensures handed { IsHandedOut (places self.old) (record { folder = option_copied dir.entry; actor = actor })
+            result (places self.new) }
         ensures named { IfErr result (NamesActor actor) }
         ensures cause { RackRose (faults self.old) (faults self.new) result };
 
