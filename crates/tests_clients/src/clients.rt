@@ -52,7 +52,7 @@ fn lose(
     client.lose(alloc, decl, number)
 }
 
-/// The client hears a message of an actor, of number 77.
+/// The client hears a message of number 77.
 fn hear(
     alloc: Global,
     decl: &Declaration,
@@ -70,7 +70,7 @@ fn hear(
     client.hear(alloc, decl, from, 77, message)
 }
 
-/// The client hears an answer.
+/// The client hears an answer. Which site sends it isn't read.
 fn hear_answer(
     alloc: Global,
     decl: &Declaration,
