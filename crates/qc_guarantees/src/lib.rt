@@ -1,0 +1,5 @@
+//! What runs guarantee.
+#![tactic(auto)]
+
+/// A test.
+pub fn nothing() {}
