@@ -1,1 +1,4 @@
 pub mod Mailed
+pub mod Accounts
+pub mod Grounds
+pub mod Lengths
