@@ -2,3 +2,5 @@ pub mod Mailed
 pub mod Accounts
 pub mod Grounds
 pub mod Lengths
+pub mod SiteMoves
+pub mod NetHolds
