@@ -4,3 +4,4 @@ pub mod Grounds
 pub mod Lengths
 pub mod SiteMoves
 pub mod NetHolds
+pub mod Room
