@@ -5,3 +5,6 @@ pub mod Lengths
 pub mod SiteMoves
 pub mod NetHolds
 pub mod Room
+pub mod Requests
+pub mod ClientTalks
+pub mod Rightful
