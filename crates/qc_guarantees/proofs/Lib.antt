@@ -8,3 +8,4 @@ pub mod Room
 pub mod Requests
 pub mod ClientTalks
 pub mod Rightful
+pub mod Voted
