@@ -9,3 +9,4 @@ pub mod Requests
 pub mod ClientTalks
 pub mod Rightful
 pub mod Voted
+pub mod Waiting

@@ -39,7 +39,7 @@ behind x (y ∷ ys) (inl same) = record { before = []; after = ys; is = ap (λ (
 behind x (y ∷ ys) (inr there) = let b : IsBehind x ys = behind x ys there in record { before = y ∷ b.before; after = b.after; is = ap (λ (zs : List _). y ∷ zs) b.is }
 
 module _ (decl : Declaration) where
-  due_at : (before : List Deed) (x : Deed) (after : List Deed) (d : Account) → AreDeedsDue decl d (before ++ x ∷ after) → IsDeedDue decl (fold (account_at decl) d before) x
+  pub due_at : (before : List Deed) (x : Deed) (after : List Deed) (d : Account) → AreDeedsDue decl d (before ++ x ∷ after) → IsDeedDue decl (fold (account_at decl) d before) x
   due_at [] x after d due = due.0
   due_at (y ∷ ys) x after d due = due_at ys x after (account_at decl d y) due.1
 
