@@ -10,3 +10,5 @@ pub mod ClientTalks
 pub mod Rightful
 pub mod Voted
 pub mod Waiting
+pub mod Stale
+pub mod Unforgotten

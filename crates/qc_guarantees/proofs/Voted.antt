@@ -62,6 +62,7 @@ use Rattle.qc_net.specs.Mirrors.{Refines}
 use Rattle.qc_net.specs.Net.{Net}
 use Rattle.qc_atomic.proofs.Names.{script_named}
 use Rattle.qc_atomic.proofs.Stood.{Stood, runs_stand}
+use Rattle.qc_guarantees.specs.Votes.{IsOpenVote}
 use Rattle.qc_guarantees.proofs.Accounts.{HasGrounds, WasGranted, WasSent, WasTaken}
 use Rattle.qc_guarantees.proofs.Grounds.{has_grounds}
 use Rattle.qc_guarantees.proofs.Mailed.{sent_as, sent_mail, taken_mail}
@@ -69,12 +70,6 @@ use Rattle.qc_guarantees.proofs.NetHolds.{AreFullMessages, IsGrantedBy, WasEnded
 use Rattle.qc_guarantees.proofs.Rightful.{mail_full, mail_named}
 use Rattle.qc_guarantees.proofs.Room.{m as refined, promise_fits, votes_of}
 use Rattle.qc_guarantees.proofs.Room.{AreNamedMessages}
-
--- an open Prepare of a client's running command
-pub record IsOpenVote (d : Account) (q : ClientRequest) : Type 0 where
-  pub among : In q d.requests
-  pub want : q.want ≡ Prepare
-  pub untaken : q.taken ≡ None
 
 module _ (decl : Declaration) (d : Account) (c : Client) (q : ClientRequest) (k : IsOpenVote d q) where
   -- its client waits for votes

@@ -43,7 +43,8 @@ use Rattle.qc_net.specs.Net.{commits_in}
 use Rattle.qc_guarantees.proofs.Accounts.{found_in, told_requests}
 use Rattle.qc_guarantees.proofs.Grounds.{open_before}
 use Rattle.qc_guarantees.proofs.Requests.{due_at}
-use Rattle.qc_guarantees.proofs.Voted.{IsOpenVote, voting_tie}
+use Rattle.qc_guarantees.specs.Votes.{IsOpenVote}
+use Rattle.qc_guarantees.proofs.Voted.{voting_tie}
 
 module _ (decl : Declaration) where
   -- what is told for a Prepare leaves command and transaction
