@@ -12,3 +12,4 @@ pub mod Voted
 pub mod Waiting
 pub mod Stale
 pub mod Unforgotten
+pub mod Votes

@@ -136,16 +136,9 @@ module _ (decl : Declaration) (script : Script) (accepted : IsAccepted decl) (so
             at_site = subst (λ (m : Message). In p (site_at decl (passed ((stood decl script accepted sound h open_inputs run).net.sites b) r.envelope.message) r.envelope.from r.envelope.number m).turn.sends) content
                 (subst (λ (g : Given). In p (site_takes decl ((stood decl script accepted sound h open_inputs run).net.sites b) g).turn.sends) r.is posted_here)
 
-  -- the same where the client has an open input: its turn tells nothing, and it waits still after it
-  module _ (h : List Entry) (open_inputs : List Bool) (run : Runs (IsLawful decl) decl script h open_inputs) (few : operations_of h ≤ 2048) (a : ℕ) (client : is_client decl a ≡ true)
-      (q : ClientRequest) (k : IsOpenVote (account decl a h) q) (b : ℕ) (site : is_site decl b ≡ true) (taken : slice_get open_inputs b ≡ Some true) where
-    apart : (a == b) ≡ false
-    apart = at (a == b) refl
-      where
-        at : (t : Bool) → (a == b) ≡ t → t ≡ false
-        at true same = absurd (both decl b site (subst (λ (n : ℕ). is_client decl n ≡ true) (eqb-true a b same) client))
-        at false other = refl
-
+  -- where the client has an open input, its turn tells nothing, and it waits still after it
+  module _ (h : List Entry) (open_inputs : List Bool) (run : Runs (IsLawful decl) decl script h open_inputs) (a : ℕ) (client : is_client decl a ≡ true)
+      (q : ClientRequest) (k : IsOpenVote (account decl a h) q) (opened : slice_get open_inputs a ≡ Some true) where
     no_site : is_site decl a ≡ false
     no_site = at (is_site decl a) refl
       where
@@ -153,53 +146,68 @@ module _ (decl : Declaration) (script : Script) (accepted : IsAccepted decl) (so
         at true here = absurd (both decl a here client)
         at false other = refl
 
-    module _ (opened : slice_get open_inputs a ≡ Some true) where
-      turn : Turn
-      turn = (client_after decl (a - decl.sites) (deeds a [] h)).turn
+    abbrev pub turn : Turn
+    turn = (client_after decl (a - decl.sites) (deeds a [] h)).turn
 
-      law : IsLawful decl a (deeds a [] h) turn
-      unfolding turn
-      law = lawful (is_site decl a) (is_client decl a) no_site client
+    law : IsLawful decl a (deeds a [] h) turn
+    law = lawful (is_site decl a) (is_client decl a) no_site client
+      where
+        lawful : (s c : Bool) → s ≡ false → c ≡ true → cond s (Some (site_after decl a (deeds a [] h)).turn) (cond c (Some (client_after decl (a - decl.sites) (deeds a [] h)).turn) None) ≡ Some (client_after decl (a - decl.sites) (deeds a [] h)).turn
+        lawful true c none is = absurd (let never : ⊥ = cc in never)
+        lawful false true none is = refl
+        lawful false false none is = absurd (let never : ⊥ = cc in never)
+
+    acts : ActsIn decl a h true
+    acts = run_acts decl script h open_inputs run a true opened
+
+    abbrev pub later : List Entry
+    later = h ++ by_actor a (posted (length (mail h)) turn)
+
+    pub later_run : Runs (IsLawful decl) decl script later (slice_set open_inputs a false)
+    later_run = posts a turn open_inputs h run opened law
+
+    pub still : IsOpenVote (account decl a later) q
+    still = subst (λ (ds : List Deed). IsOpenVote (fold (account_at decl) (new_account (a - decl.sites)) ds) q) (sym (deeds-posted a (length (mail h)) h turn))
+        (still_open decl a client (deeds a [] h) acts.above acts.acts q k turn (length (mail h)) acts.within law)
+
+    same_written : written later ≡ written h
+    same_written = written_posted h a (length (mail h)) turn ∙ ap (λ (cs : List CommitRecord). written h ++ cs) (writes_no_commit decl a client (deeds a [] h) acts.above acts.acts q k turn (length (mail h)) acts.within law) ∙ append-nil (written h)
+
+    pub later_few : operations_of h ≤ 2048 → operations_of later ≤ 2048
+    later_few few = subst (λ (n : ℕ). n ≤ 2048) (operations-written h ∙ ap (sum_by (λ (c : CommitRecord). answered c.ops)) (sym same_written) ∙ sym (operations-written later)) few
+
+    pub later_closed : slice_get (slice_set open_inputs a false) a ≡ Some false
+    later_closed = slice_get-set_same open_inputs a false true opened
+
+    module _ (b : ℕ) (site : is_site decl b ≡ true) where
+      apart : (a == b) ≡ false
+      apart = at (a == b) refl
         where
-          lawful : (s c : Bool) → s ≡ false → c ≡ true → cond s (Some (site_after decl a (deeds a [] h)).turn) (cond c (Some (client_after decl (a - decl.sites) (deeds a [] h)).turn) None) ≡ Some (client_after decl (a - decl.sites) (deeds a [] h)).turn
-          lawful true c none is = absurd (let never : ⊥ = cc in never)
-          lawful false true none is = refl
-          lawful false false none is = absurd (let never : ⊥ = cc in never)
+          at : (t : Bool) → (a == b) ≡ t → t ≡ false
+          at true same = absurd (both decl b site (subst (λ (n : ℕ). is_client decl n ≡ true) (eqb-true a b same) client))
+          at false other = refl
 
-      acts : ActsIn decl a h true
-      acts = run_acts decl script h open_inputs run a true opened
-
-      abbrev later : List Entry
-      later = h ++ by_actor a (posted (length (mail h)) turn)
-
-      later_run : Runs (IsLawful decl) decl script later (slice_set open_inputs a false)
-      later_run = posts a turn open_inputs h run opened law
-
-      still : IsOpenVote (account decl a later) q
-      still = subst (λ (ds : List Deed). IsOpenVote (fold (account_at decl) (new_account (a - decl.sites)) ds) q) (sym (deeds-posted a (length (mail h)) h turn))
-          (still_open decl a client (deeds a [] h) acts.above acts.acts q k turn (length (mail h)) acts.within law)
-
-      same_written : written later ≡ written h
-      same_written = written_posted h a (length (mail h)) turn ∙ ap (λ (cs : List CommitRecord). written h ++ cs) (writes_no_commit decl a client (deeds a [] h) acts.above acts.acts q k turn (length (mail h)) acts.within law) ∙ append-nil (written h)
-
-      later_few : operations_of later ≤ 2048
-      later_few = subst (λ (n : ℕ). n ≤ 2048) (operations-written h ∙ ap (sum_by (λ (c : CommitRecord). answered c.ops)) (sym same_written) ∙ sym (operations-written later)) few
-
-      same_deeds : deeds b [] later ≡ deeds b [] h
+      pub same_deeds : deeds b [] later ≡ deeds b [] h
       same_deeds = deeds-other a b [] h (posted (length (mail h)) turn) apart
 
-      later_remembered : (p : Posting) (n : ℕ) (x : Answer) → In p (site_after decl b (deeds b [] h)).turn.sends → p.message ≡ messages.Answer n x → Forgets x → q.number ≡ n → ⊥
-      later_remembered p n x among is forgets same =
-          says_remembered later (slice_set open_inputs a false) later_run later_few a client (slice_get-set_same open_inputs a false true opened) q still b site
-          (slice_get-set_other open_inputs a b false (λ e. (let t : (a == b) ≡ true = eq-eqb a b e in let f : (a == b) ≡ false = apart in let never : ⊥ = cc in never)) ∙ taken)
-          p n x (subst (λ (ds : List Deed). In p (site_after decl b ds).turn.sends) (sym same_deeds) among) is forgets same
+      pub same_slot : slice_get (slice_set open_inputs a false) b ≡ slice_get open_inputs b
+      same_slot = slice_get-set_other open_inputs a b false (λ e. (let t : (a == b) ≡ true = eq-eqb a b e in let f : (a == b) ≡ false = apart in let never : ⊥ = cc in never))
+
+  pub client_slot : (h : List Entry) (open_inputs : List Bool) → Runs (IsLawful decl) decl script h open_inputs → (a : ℕ) → is_client decl a ≡ true → (t : Bool) × (slice_get open_inputs a ≡ Some t)
+  client_slot h open_inputs run a client = has_entry (IsLawful decl) decl script h open_inputs run a (ltb-true a (actors decl) (and_second (nat_le decl.sites a) (nat_lt a (actors decl)) client))
+
+  -- so a site doesn't say either way that it has forgotten
+  module _ (h : List Entry) (open_inputs : List Bool) (run : Runs (IsLawful decl) decl script h open_inputs) (few : operations_of h ≤ 2048) (a : ℕ) (client : is_client decl a ≡ true)
+      (q : ClientRequest) (k : IsOpenVote (account decl a h) q) (b : ℕ) (site : is_site decl b ≡ true) (taken : slice_get open_inputs b ≡ Some true) where
+    later_remembered : (opened : slice_get open_inputs a ≡ Some true) (p : Posting) (n : ℕ) (x : Answer) → In p (site_after decl b (deeds b [] h)).turn.sends → p.message ≡ messages.Answer n x → Forgets x → q.number ≡ n → ⊥
+    later_remembered opened p n x among is forgets same =
+        says_remembered (later h open_inputs run a client q k opened) (slice_set open_inputs a false) (later_run h open_inputs run a client q k opened) (later_few h open_inputs run a client q k opened few) a client
+        (later_closed h open_inputs run a client q k opened) q (still h open_inputs run a client q k opened) b site (same_slot h open_inputs run a client q k opened b site ∙ taken)
+        p n x (subst (λ (ds : List Deed). In p (site_after decl b ds).turn.sends) (sym (same_deeds h open_inputs run a client q k opened b site)) among) is forgets same
 
     pub remembered : (p : Posting) (n : ℕ) (x : Answer) → In p (site_after decl b (deeds b [] h)).turn.sends → p.message ≡ messages.Answer n x → Forgets x → q.number ≡ n → ⊥
-    remembered = by (has_entry (IsLawful decl) decl script h open_inputs run a (client_low client))
+    remembered = by (client_slot h open_inputs run a client)
       where
-        client_low : is_client decl a ≡ true → a < actors decl
-        client_low is = ltb-true a (actors decl) (and_second (nat_le decl.sites a) (nat_lt a (actors decl)) is)
-
         by : (t : Bool) × (slice_get open_inputs a ≡ Some t) → (p : Posting) (n : ℕ) (x : Answer) → In p (site_after decl b (deeds b [] h)).turn.sends → p.message ≡ messages.Answer n x → Forgets x → q.number ≡ n → ⊥
         by (true, opened) = later_remembered opened
         by (false, free) = says_remembered h open_inputs run few a client free q k b site taken

@@ -68,16 +68,16 @@ pub record IsAnswered (mail : List Envelope) (number : ℕ) (answer : Answer) : 
 module _ (decl : Declaration) where
   -- what stays as the history goes on
 
-  account_taken_is : (a : ℕ) (h : List Entry) (g : Given) → WasSentTo a (mail h) g → account decl a (h ++ marked a (step_of g) ∷ []) ≡ account_taken (account decl a h) g
+  pub account_taken_is : (a : ℕ) (h : List Entry) (g : Given) → WasSentTo a (mail h) g → account decl a (h ++ marked a (step_of g) ∷ []) ≡ account_taken (account decl a h) g
   account_taken_is a h g sent = ap (fold (account_at decl) (new_account (a - decl.sites))) (deeds-taken a h g sent) ∙ fold-append (account_at decl) (new_account (a - decl.sites)) (deeds a [] h) (Takes g ∷ [])
 
-  account_posted_is : (a n : ℕ) (h : List Entry) (turn : Turn) → account decl a (h ++ by_actor a (posted n turn)) ≡ fold (account_at decl) (account decl a h) (turn_deeds n turn)
+  pub account_posted_is : (a n : ℕ) (h : List Entry) (turn : Turn) → account decl a (h ++ by_actor a (posted n turn)) ≡ fold (account_at decl) (account decl a h) (turn_deeds n turn)
   account_posted_is a n h turn = ap (fold (account_at decl) (new_account (a - decl.sites))) (deeds-posted a n h turn) ∙ fold-append (account_at decl) (new_account (a - decl.sites)) (deeds a [] h) (turn_deeds n turn)
 
-  account_other : (b a : ℕ) (h : List Entry) (xs : List Step) → (b == a) ≡ false → account decl a (h ++ by_actor b xs) ≡ account decl a h
+  pub account_other : (b a : ℕ) (h : List Entry) (xs : List Step) → (b == a) ≡ false → account decl a (h ++ by_actor b xs) ≡ account decl a h
   account_other b a h xs other = ap (fold (account_at decl) (new_account (a - decl.sites))) (deeds-other b a [] h xs other)
 
-  account_silent : (a b : ℕ) (h : List Entry) (step : Step) → IsSilent step → account decl a (h ++ marked b step ∷ []) ≡ account decl a h
+  pub account_silent : (a b : ℕ) (h : List Entry) (step : Step) → IsSilent step → account decl a (h ++ marked b step ∷ []) ≡ account decl a h
   account_silent a b h step silent = ap (fold (account_at decl) (new_account (a - decl.sites))) (deeds-silent a b h step silent)
 
   -- an open vote after a turn was one before it, or has a number from this one on
@@ -216,7 +216,7 @@ module _ (decl : Declaration) (script : Script) (accepted : IsAccepted decl) (so
             let here : a ≡ b = sym (eqb-true b a same) in
             itself u (subst (λ (n : ℕ). is_client decl n ≡ true) here client) q x (subst (λ (n : ℕ). IsOpenVote (account decl n (h ++ by_actor b (posted (length (mail h)) turn))) q) here vote) k forgets
 
-  few_before : (h k : List Entry) → operations_of (h ++ k) ≤ 2048 → operations_of h ≤ 2048
+  pub few_before : (h k : List Entry) → operations_of (h ++ k) ≤ 2048 → operations_of h ≤ 2048
   few_before h k few = let more : operations_of h ≤ operations_of (h ++ k) = operations_grow h k in omega arith
 
   pub unforgotten : (h : List Entry) (open_inputs : List Bool) → Runs (IsLawful decl) decl script h open_inputs → operations_of h ≤ 2048 → Unforgotten h
@@ -226,7 +226,7 @@ module _ (decl : Declaration) (script : Script) (accepted : IsAccepted decl) (so
   unforgotten h open_inputs (posts b turn before older run taken law) few =
       let less : operations_of older ≤ 2048 = few_before older (by_actor b (posted (length (mail older)) turn)) few in
       unforgotten_posted older before run less b turn taken law (unforgotten older before run less)
-  unforgotten h open_inputs (phase before older run none done quiet_all more) few =
+  unforgotten h open_inputs (phase before older run none done quiet_all left) few =
       same_mail older (older ++ marked (controller decl) (steps.Phase (phase_of older + 1)) ∷ []) (mail-silent older (controller decl) (steps.Phase (phase_of older + 1)) (phase_silent (phase_of older + 1)))
       (λ a q k. subst (λ (d : Account). IsOpenVote d q) (account_silent decl a (controller decl) older (steps.Phase (phase_of older + 1)) (phase_silent (phase_of older + 1))) k)
       (unforgotten older before run (few_before older (marked (controller decl) (steps.Phase (phase_of older + 1)) ∷ []) few))
