@@ -13,3 +13,4 @@ pub mod Waiting
 pub mod Stale
 pub mod Unforgotten
 pub mod Votes
+pub mod Counted

@@ -172,7 +172,7 @@ module _ (decl : Declaration) (script : Script) (accepted : IsAccepted decl) (so
             subst (λ (m : ℕ). m < length (mail h)) r.numbered (below_length (mail h) r.envelope.number r.envelope sent.0)
 
     -- who posts is a site or a client
-    who : (is_site decl b ≡ true) ⊎ (is_client decl b ≡ true)
+    pub who : (is_site decl b ≡ true) ⊎ (is_client decl b ≡ true)
     who = at (is_site decl b) (is_client decl b) refl refl law
       where
         at : (s c : Bool) → is_site decl b ≡ s → is_client decl b ≡ c → cond s (Some (site_after decl b (deeds b [] h)).turn) (cond c (Some (client_after decl (b - decl.sites) (deeds b [] h)).turn) None) ≡ Some turn → (is_site decl b ≡ true) ⊎ (is_client decl b ≡ true)

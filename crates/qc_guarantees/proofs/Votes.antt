@@ -79,14 +79,14 @@ use Rattle.qc_guarantees.proofs.Unforgotten.{IsAnswered, Unforgotten, account_ot
 use Rattle.qc_guarantees.proofs.Voted.{place, site_has_room, site_holds, stood, tie}
 
 -- a request for a promise for which this was taken
-abbrev IsVote : Account → ClientRequest → Answer → Type 0
+abbrev pub IsVote : Account → ClientRequest → Answer → Type 0
 IsVote d q x = In q d.requests × (q.want ≡ Prepare) × (q.taken ≡ Some (Some x))
 
 -- one that counts after something is taken counted before, or was open, and this is its answer
-record IsNewVote (d : Account) (m : Message) (q : ClientRequest) (x : Answer) : Type 0 where
-  old : ClientRequest
-  vote : IsOpenVote d old
-  is : m ≡ messages.Answer old.number x
+pub record IsNewVote (d : Account) (m : Message) (q : ClientRequest) (x : Answer) : Type 0 where
+  pub old : ClientRequest
+  pub vote : IsOpenVote d old
+  pub is : m ≡ messages.Answer old.number x
 
 counted_vote : (d : Account) (n : ℕ) (answer : Option Answer) (q : ClientRequest) (x : Answer) → IsVote (counted d n answer) q x → IsVote d q x ⊎ ((answer ≡ Some x) × ((old : ClientRequest) × IsOpenVote d old × (old.number ≡ n)))
 counted_vote d n answer q x k = by (find (is_open n) d.requests) k
@@ -101,7 +101,7 @@ counted_vote d n answer q x k = by (find (is_open n) d.requests) k
         )
     ]
 
-taken_vote : (d : Account) (e : Envelope) (q : ClientRequest) (x : Answer) → IsVote (account_heard d e.message) q x → IsVote d q x ⊎ IsNewVote d e.message q x
+pub taken_vote : (d : Account) (e : Envelope) (q : ClientRequest) (x : Answer) → IsVote (account_heard d e.message) q x → IsVote d q x ⊎ IsNewVote d e.message q x
 taken_vote d e q x v = by e.message v
   where
     by : (m : Message) → IsVote (account_heard d m) q x → IsVote d q x ⊎ IsNewVote d m q x
@@ -205,11 +205,11 @@ module _ (decl : Declaration) where
   none_some o why none some = absurd (let never : ⊥ = cc in never)
 
   -- a vote that says that its site has forgotten
-  IsForgottenVote : Account → ℕ → Type 0
+  abbrev pub IsForgottenVote : Account → ℕ → Type 0
   IsForgottenVote d site = (q : ClientRequest) × (x : Answer) × IsVote d q x × Forgets x
 
   commit_why : (d : Account) (t : Current) (site : ℕ) → why_of (commit_row decl d [] t) ≡ Some (causes.Forgot site) → IsForgottenVote d site
-  unfolding IsForgottenVote
+
   commit_why d t site is = by t.doomed (are_votes_in decl d t) (first_against (requests_for is_prepare d)) refl is
     where
       by : (x y : Bool) (o : Option Why) → first_against (requests_for is_prepare d) ≡ o → why_of (if x then Some (replies.Aborted causes.Doomed) else (if y then vote_row d [] o else None)) ≡ Some (causes.Forgot site)
@@ -222,7 +222,7 @@ module _ (decl : Declaration) where
           let a : (x : Answer) × (r.0.taken ≡ Some (Some x)) × Forgets x = against_forgets r.0 r.0.taken site (r.2 ∙ is) in
           (r.0, a.0, (In-unfiltered (λ (q : ClientRequest). is_prepare q.want) r.0 d.requests r.1, is_prepared_want r.0.want (In-passes (λ (q : ClientRequest). is_prepare q.want) r.0 d.requests r.1), a.1), a.2)
 
-  due_why : (d : Account) (site : ℕ) → due decl d [] ≡ Some (replies.Aborted (causes.Forgot site)) → IsForgottenVote d site
+  pub due_why : (d : Account) (site : ℕ) → due decl d [] ≡ Some (replies.Aborted (causes.Forgot site)) → IsForgottenVote d site
   due_why d site is = by d.command d.current (ap why_of is)
     where
       by : (c : Option Command) (t : Option Current) → why_of (option_and_then (row_of decl d [] t) c) ≡ Some (causes.Forgot site) → IsForgottenVote d site
@@ -237,3 +237,7 @@ module _ (decl : Declaration) where
       by (Some commands.Commit) (Some t) is = commit_why d t site is
       by (Some commands.Abort) (Some t) is = none_some None (causes.Forgot site) refl is
       by (Some (commands.Epoch number)) (Some t) is = none_some None (causes.Forgot site) refl is
+
+-- a loss makes no vote
+pub lost_vote : (d : Account) (n : ℕ) (q : ClientRequest) (x : Answer) → IsVote (counted d n None) q x → IsVote d q x
+lost_vote d n q x k = elim (counted_vote d n None q x k) [ inl old ↦ old | inr new ↦ absurd (let e : None ≡ Some x = new.0 in let never : ⊥ = cc in never) ]
