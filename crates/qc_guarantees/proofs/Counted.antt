@@ -4,7 +4,7 @@ use Rattle.std.proofs.Common.{◌≡◌, ◌⊎◌, ◌<◌, ◌≤◌, ◌+◌,
 use Rattle.std.specs.Prelude.{fold, slice_set}
 use Rattle.qc_stamp.specs.declared.stamp.TxId.{TxId}
 use Rattle.qc_list.specs.Members.{In}
-use Rattle.qc_list.proofs.Members.{In-more, In-second, every-In}
+use Rattle.qc_list.proofs.Members.{In-first, In-more, In-second, every-In}
 use Rattle.qc_onecopy.proofs.Lists.{in_split}
 use Rattle.qc_core.specs.Conduct.{IsLawful}
 use Rattle.qc_core.specs.Sites.{IsShown}
@@ -19,6 +19,8 @@ use Rattle.qc_lock.specs.Held.{held_of, is_held}
 use Rattle.qc_msg.specs.declared.message.Answer.{Answer}
 use Rattle.qc_msg.specs.declared.message.Envelope.{Envelope}
 use Rattle.qc_msg.specs.declared.message.Message.{Message}
+use Rattle.qc_msg.specs.declared.message.Message.TheVariants as messages
+use Rattle.qc_msg.specs.declared.message.Want.TheVariants.{Prepare}
 use Rattle.qc_msg.specs.declared.record.Record.{Record}
 use Rattle.qc_msg.specs.declared.reply.Reply.{Reply}
 use Rattle.qc_msg.specs.declared.reply.Reply.TheVariants as replies
@@ -30,7 +32,7 @@ use Rattle.qc_msg.specs.declared.step.Step.TheVariants as steps
 use Rattle.qc_msg.specs.declared.turn.Posting.{Posting}
 use Rattle.qc_msg.specs.declared.turn.Turn.{Turn}
 use Rattle.qc_msg.specs.Counts.{operations_of}
-use Rattle.qc_msg.specs.Deeds.{Deed, Takes, Tells, WasSentTo, deeds, mail, sends_of, tells_of, turn_deeds, writes_of}
+use Rattle.qc_msg.specs.Deeds.{Deed, Sends, Takes, Tells, WasSentTo, deeds, mail, sends_of, tells_of, turn_deeds, writes_of}
 use Rattle.qc_msg.specs.Steps.{Entry, by as by_actor, marked, posted, step_of}
 use Rattle.qc_msg.proofs.Growth.{deeds-other, deeds-posted, deeds-taken}
 use Rattle.qc_promise.specs.Account.{Account, ClientRequest, Current}
@@ -53,12 +55,15 @@ use Rattle.qc_account.proofs.Courses.{turns_tell}
 use Rattle.qc_account.proofs.Mute.{IsMuteDeed, sites_mute}
 use Rattle.qc_core.specs.Acts.{posts as acts_post}
 use Rattle.qc_guarantees.specs.Votes.{IsOpenVote, IsRemembered}
-use Rattle.qc_guarantees.proofs.Grounds.{turn_old}
+use Rattle.qc_account.specs.Ties.{Votes}
+use Rattle.qc_client.specs.Conduct.{client_after}
+use Rattle.qc_guarantees.proofs.Accounts.{WasSent}
+use Rattle.qc_guarantees.proofs.Grounds.{has_grounds, turn_old}
 use Rattle.qc_guarantees.proofs.SiteMoves.{Forgets}
-use Rattle.qc_guarantees.proofs.Stale.{at_in, client_slot, later, later_closed, later_few, later_run, same_deeds, same_slot, still}
+use Rattle.qc_guarantees.proofs.Stale.{at_in, client_slot, later, later_closed, later_few, later_run, same_deeds, same_slot, still, turn}
 use Rattle.qc_guarantees.proofs.Unforgotten.{IsAnswered, Unforgotten, account_other, account_posted_is, account_silent, account_taken_is, few_before, unforgotten, who}
-use Rattle.qc_guarantees.proofs.Voted.{place, site_has_room, site_holds, stood, tie}
-use Rattle.qc_guarantees.proofs.Votes.{IsForgottenVote, IsNewVote, IsVote, due_why, taken_vote, lost_vote}
+use Rattle.qc_guarantees.proofs.Voted.{asked, one_request, place, request_sent, site_has_room, site_holds, stood, tie}
+use Rattle.qc_guarantees.proofs.Against.{IsForgottenVote, IsNewVote, IsVote, due_why, taken_vote, lost_vote}
 
 module _ (decl : Declaration) (script : Script) (accepted : IsAccepted decl) (sound : IsScriptFor decl script) where
   -- what counts
@@ -223,3 +228,44 @@ module _ (decl : Declaration) (script : Script) (accepted : IsAccepted decl) (so
         name : (tie decl script accepted sound h open_inputs run a client free q k).t.tx ≡ t.tx
         name = let both_are : Some (tie decl script accepted sound h open_inputs run a client free q k).t ≡ Some t = sym (tie decl script accepted sound h open_inputs run a client free q k).current ∙ current in
             let same : (tie decl script accepted sound h open_inputs run a client free q k).t ≡ t = cc in ap (λ (x : Current). x.tx) same
+
+  pub remembers : (h : List Entry) (open_inputs : List Bool) (run : Runs (IsLawful decl) decl script h open_inputs) → operations_of h ≤ 2048 → (a : ℕ) (q : ClientRequest) (t : Current) → is_client decl a ≡ true → (account decl a h).current ≡ Some t → IsOpenVote (account decl a h) q
+      → slice_get open_inputs q.site ≡ Some false → IsRemembered (deeds q.site [] h) t.tx
+  remembers h open_inputs run few a q t client current k at_rest = by (client_slot decl script accepted sound h open_inputs run a client)
+    where
+      later_remembers : slice_get open_inputs a ≡ Some true → IsRemembered (deeds q.site [] h) t.tx
+      later_remembers opened = subst (λ (ds : List Deed). IsRemembered ds t.tx) (same_deeds decl script accepted sound h open_inputs run a client q k opened q.site site)
+          (subst (IsRemembered (deeds q.site [] (later decl script accepted sound h open_inputs run a client q k opened))) name (closed_remembers (later decl script accepted sound h open_inputs run a client q k opened) (slice_set open_inputs a false) run_after (later_few decl script accepted sound h open_inputs run a client q k opened few) a q it.t client it.current vote free
+          (same_slot decl script accepted sound h open_inputs run a client q k opened q.site site ∙ at_rest)))
+        where
+          run_after : Runs (IsLawful decl) decl script (later decl script accepted sound h open_inputs run a client q k opened) (slice_set open_inputs a false)
+          run_after = later_run decl script accepted sound h open_inputs run a client q k opened
+
+          vote : IsOpenVote (account decl a (later decl script accepted sound h open_inputs run a client q k opened)) q
+          vote = still decl script accepted sound h open_inputs run a client q k opened
+
+          free : slice_get (slice_set open_inputs a false) a ≡ Some false
+          free = later_closed decl script accepted sound h open_inputs run a client q k opened
+
+          it : Votes decl (account decl a (later decl script accepted sound h open_inputs run a client q k opened)) (client_after decl (a - decl.sites) (deeds a [] (later decl script accepted sound h open_inputs run a client q k opened))).client
+          it = tie decl script accepted sound (later decl script accepted sound h open_inputs run a client q k opened) (slice_set open_inputs a false) run_after a client free q vote
+
+          site : is_site decl q.site ≡ true
+          site = place decl script accepted sound (later decl script accepted sound h open_inputs run a client q k opened) (slice_set open_inputs a false) run_after a client free q vote
+
+          sent : WasSent (deeds a [] h) q t.tx
+          sent =
+              let s : (u : Current) × ((account decl a h).current ≡ Some u) × WasSent (deeds a [] h) q u.tx = (has_grounds decl (a - decl.sites) (deeds a [] h)).sent q k.among in
+              let same : s.0 ≡ t = (let both_are : Some s.0 ≡ Some t = sym s.1 ∙ current in cc) in
+              subst (λ (u : Current). WasSent (deeds a [] h) q u.tx) same s.2
+
+          name : it.t.tx ≡ t.tx
+          name = (one_request decl script accepted sound (later decl script accepted sound h open_inputs run a client q k opened) (slice_set open_inputs a false) run_after q.number q.site q.site it.t.tx t.tx Prepare q.want
+              (asked decl script accepted sound (later decl script accepted sound h open_inputs run a client q k opened) (slice_set open_inputs a false) run_after a client free q vote)
+              (request_sent decl script accepted sound (later decl script accepted sound h open_inputs run a client q k opened) (slice_set open_inputs a false) run_after a q.number q.site t.tx sent.epoch q.life q.want
+              (subst (λ (ds : List Deed). In (Sends q.number q.site (messages.Request t.tx sent.epoch q.life q.want)) ds) (sym (deeds-posted a (length (mail h)) h (turn decl script accepted sound h open_inputs run a client q k opened)))
+              (In-first (Sends q.number q.site (messages.Request t.tx sent.epoch q.life q.want)) (deeds a [] h) (turn_deeds (length (mail h)) (turn decl script accepted sound h open_inputs run a client q k opened)) sent.is)))).1
+
+      by : (b : Bool) × (slice_get open_inputs a ≡ Some b) → IsRemembered (deeds q.site [] h) t.tx
+      by (true, opened) = later_remembers opened
+      by (false, free) = closed_remembers h open_inputs run few a q t client current k free at_rest

@@ -12,5 +12,5 @@ pub mod Voted
 pub mod Waiting
 pub mod Stale
 pub mod Unforgotten
-pub mod Votes
+pub mod Against
 pub mod Counted
