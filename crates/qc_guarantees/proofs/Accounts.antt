@@ -1,42 +1,26 @@
 -- What stands behind an account: its requests were sent for its transaction, what counts was taken, each life is of a
 -- site that granted, and the running command was called.
-use Rattle.std.proofs.Common.{◌≡◌, ◌⊎◌, ◌≤◌, ◌+◌, ℕ, ◌==◌, ◌&&◌, ◌||◌, Bool, true, false, cond, List, [], ◌∷◌, ◌++◌, inl, inr, Option, Some, None, option_map, refl, sym, ap, ◌∙◌, subst, arith, append_assoc, eqb-true}
-use Rattle.std.specs.Prelude.{fold, is_none}
+use Rattle.std.proofs.Common.{◌≡◌, ◌⊎◌, ℕ, ◌==◌, ◌&&◌, ◌||◌, Bool, true, false, cond, List, [], ◌∷◌, ◌++◌, inl, inr, Option, Some, None, option_map, refl, sym, ap, ◌∙◌, subst, eqb-true}
+use Rattle.std.specs.Prelude.{is_none}
 use Rattle.std.specs.List.{find}
-use Rattle.std.specs.Option.{option_map_or}
-use Rattle.std.proofs.lemmas.List.{append-nil}
 use Rattle.std.proofs.lemmas.List.Folds.{list_any-append}
-use Rattle.qc_stamp.specs.Order.{same_tx}
 use Rattle.qc_stamp.specs.declared.stamp.TxId.{TxId}
-use Rattle.qc_stamp.proofs.Orders.{same_tx_is}
 use Rattle.qc_list.specs.Members.{In}
-use Rattle.qc_list.proofs.Members.{In-first, In-last, In-more}
-use Rattle.qc_decl.specs.declared.declaration.Declaration.{Declaration}
+use Rattle.qc_list.proofs.Members.{In-first, In-last}
 use Rattle.qc_entry.specs.declared.line.Line.{Line}
 use Rattle.qc_msg.specs.declared.begun.LifeAt.{LifeAt}
 use Rattle.qc_msg.specs.declared.message.Answer.{Answer}
 use Rattle.qc_msg.specs.declared.message.Answer.TheVariants as answers
 use Rattle.qc_msg.specs.declared.message.Envelope.{Envelope}
-use Rattle.qc_msg.specs.declared.message.Message.{Message}
 use Rattle.qc_msg.specs.declared.message.Message.TheVariants as messages
 use Rattle.qc_msg.specs.declared.message.Want.{Want}
 use Rattle.qc_msg.specs.declared.message.Want.TheVariants.{Read, Append, Prepare}
-use Rattle.qc_msg.specs.declared.record.Record.{Record}
-use Rattle.qc_msg.specs.declared.record.Record.TheVariants as records
-use Rattle.qc_msg.specs.declared.reply.Half.{Half}
-use Rattle.qc_msg.specs.declared.reply.Half.TheVariants as halves
-use Rattle.qc_msg.specs.declared.reply.Reply.{Reply}
-use Rattle.qc_msg.specs.declared.reply.Reply.TheVariants as replies
 use Rattle.qc_msg.specs.declared.step.Command.{Command}
-use Rattle.qc_msg.specs.declared.step.Command.TheVariants as commands
-use Rattle.qc_msg.specs.declared.step.Given.{Given}
 use Rattle.qc_msg.specs.declared.step.Given.TheVariants as given
 use Rattle.qc_msg.specs.Begun.{has_granted, with_life}
-use Rattle.qc_msg.specs.Deeds.{Deed, Takes, Writes, Sends, Tells}
-use Rattle.qc_promise.specs.Account.{Account, ClientRequest, Current, new_account}
-use Rattle.qc_promise.specs.Accounting.{account_at, account_heard, account_sent, account_taken, account_told_in, account_written, counted, counted_for, doomed_if, granted, is_open, lived, promised, refused, responded, found_absent, requested, short_of, taken_for, told_by, with_read, with_response}
-use Rattle.qc_promise.specs.Asked.{command_asks, is_asked_for, is_of}
-use Rattle.qc_promise.specs.Rounds.{answer_of}
+use Rattle.qc_msg.specs.Deeds.{Deed, Takes, Sends}
+use Rattle.qc_promise.specs.Account.{Account, ClientRequest, Current}
+use Rattle.qc_promise.specs.Accounting.{counted, counted_for, granted, is_open, lived, promised, taken_for, told_by, with_read}
 
 -- the request was sent for this transaction
 pub record WasSent (ds : List Deed) (q : ClientRequest) (tx : TxId) : Type 0 where
@@ -77,8 +61,15 @@ taken_more ds x number answer t = record { envelope = t.envelope; taken = In-fir
 
 pub granted_more : (ds : List Deed) (x : Deed) (tx : TxId) (site : ℕ) → WasGranted ds tx site → WasGranted (ds ++ x ∷ []) tx site
 granted_more ds x tx site g = record {
-  number = g.number; epoch = g.epoch; named = g.named; want = g.want; asked = In-first (Sends g.number site (messages.Request tx g.epoch g.named g.want)) ds (x ∷ []) g.asked;
-  life = g.life; clock = g.clock; log = g.log; taken = taken_more ds x g.number (answers.Granted g.life g.clock g.log) g.taken;
+  number = g.number;
+  epoch = g.epoch;
+  named = g.named;
+  want = g.want;
+  asked = In-first (Sends g.number site (messages.Request tx g.epoch g.named g.want)) ds (x ∷ []) g.asked;
+  life = g.life;
+  clock = g.clock;
+  log = g.log;
+  taken = taken_more ds x g.number (answers.Granted g.life g.clock g.log) g.taken;
 }
 
 -- the same account

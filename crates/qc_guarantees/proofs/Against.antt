@@ -1,23 +1,11 @@
 -- No vote that counts says that its site has forgotten, nobody is told so, and a site that is asked remembers.
-use Rattle.std.proofs.Common.{◌≡◌, ◌⊎◌, ◌<◌, ◌≤◌, ◌+◌, ◌-◌, ◌==◌, ℕ, nat_le, Bool, true, false, cond, if◌then◌else◌, List, [], ◌∷◌, ◌++◌, inl, inr, length, Option, Some, None, slice_get, refl, sym, ap, ◌∙◌, subst, arith, eqb-true, ltb-true}
-use Rattle.std.specs.Prelude.{fold, option_and_then, slice_set}
-use Rattle.std.specs.List.{AllByRecursion as Every, find}
+use Rattle.std.proofs.Common.{◌≡◌, ◌⊎◌, ℕ, nat_le, Bool, true, false, if◌then◌else◌, List, [], ◌∷◌, inl, inr, length, Option, Some, None, refl, sym, ap, ◌∙◌, subst}
+use Rattle.std.specs.Prelude.{option_and_then}
+use Rattle.std.specs.List.{find}
 use Rattle.std.specs.Option.{option_or}
-use Rattle.qc_stamp.specs.declared.stamp.TxId.{TxId}
 use Rattle.qc_list.specs.Members.{In}
-use Rattle.qc_list.proofs.Members.{In-more, In-passes, In-unfiltered, every-In}
-use Rattle.qc_onecopy.proofs.Lists.{in_split}
-use Rattle.qc_core.specs.Conduct.{IsLawful}
-use Rattle.qc_core.specs.Sites.{IsShown}
+use Rattle.qc_list.proofs.Members.{In-passes, In-unfiltered}
 use Rattle.qc_decl.specs.declared.declaration.Declaration.{Declaration}
-use Rattle.qc_decl.specs.Accepted.{IsAccepted}
-use Rattle.qc_decl.specs.Actors.{actors, controller, is_client, is_site}
-use Rattle.qc_decl.specs.Limits.{most_record_bytes}
-use Rattle.qc_entry.specs.declared.line.Line.{Line}
-use Rattle.qc_entry.specs.declared.record.Prepared.{Prepared}
-use Rattle.qc_entry.specs.Log.{without}
-use Rattle.qc_lock.specs.declared.held.Held.{Held}
-use Rattle.qc_lock.specs.Held.{held_of, is_held}
 use Rattle.qc_msg.specs.declared.message.Answer.{Answer}
 use Rattle.qc_msg.specs.declared.message.Answer.TheVariants as answers
 use Rattle.qc_msg.specs.declared.message.Envelope.{Envelope}
@@ -25,58 +13,24 @@ use Rattle.qc_msg.specs.declared.message.Message.{Message}
 use Rattle.qc_msg.specs.declared.message.Message.TheVariants as messages
 use Rattle.qc_msg.specs.declared.message.Want.{Want}
 use Rattle.qc_msg.specs.declared.message.Want.TheVariants.{Read, Append, Prepare}
-use Rattle.qc_msg.specs.declared.record.Record.{Record}
-use Rattle.qc_msg.specs.declared.reply.Half.TheVariants as halves
 use Rattle.qc_msg.specs.declared.reply.Reply.{Reply}
 use Rattle.qc_msg.specs.declared.reply.Reply.TheVariants as replies
 use Rattle.qc_msg.specs.declared.reply.Why.{Why}
 use Rattle.qc_msg.specs.declared.reply.Why.TheVariants as causes
 use Rattle.qc_msg.specs.declared.step.Command.{Command}
 use Rattle.qc_msg.specs.declared.step.Command.TheVariants as commands
-use Rattle.qc_msg.specs.declared.step.Given.{Given}
-use Rattle.qc_msg.specs.declared.step.Given.TheVariants as given
-use Rattle.qc_msg.specs.declared.step.Step.{Step}
-use Rattle.qc_msg.specs.declared.step.Step.TheVariants as steps
-use Rattle.qc_msg.specs.declared.turn.Posting.{Posting}
-use Rattle.qc_msg.specs.declared.turn.Turn.{Turn}
-use Rattle.qc_msg.specs.Counts.{operations_of}
-use Rattle.qc_msg.specs.Deeds.{Deed, Takes, Tells, WasSentTo, deeds, mail, sends_of, tells_of, turn_deeds, writes_of}
-use Rattle.qc_msg.specs.Steps.{Entry, by as by_actor, marked, posted, step_of}
-use Rattle.qc_msg.proofs.Growth.{deeds-other, deeds-posted, deeds-taken}
 use Rattle.qc_plan.specs.declared.standing.Verdict.{Verdict}
 use Rattle.qc_plan.specs.declared.standing.Verdict.TheVariants as verdicts
 use Rattle.qc_plan.specs.Round.{verdict}
 use Rattle.qc_decl.specs.Lookup.{append_need_of, read_need_of}
 use Rattle.qc_decl.specs.Limits.{most_transaction_operations}
-use Rattle.qc_promise.specs.Account.{Account, ClientRequest, Current, is_append, is_prepare, is_read, new_account, requests_for}
-use Rattle.qc_promise.specs.Accounting.{account, account_at, account_heard, account_taken, counted, counted_for, is_open, taken_for}
-use Rattle.qc_promise.specs.Rounds.{against, answer_of, are_votes_in, first_against, resp_of, round_of}
-use Rattle.qc_promise.specs.Rows.{answer_row, append_row, commit_row, do_row, due, read_row, row_of, row_within, row_without, vote_row}
-use Rattle.qc_promise.specs.SiteDue.{fits_record, promise_due}
-use Rattle.qc_promise.specs.SiteHeld.{held_shown}
-use Rattle.qc_promise.specs.SiteLogs.{log_shown, recorded_shown}
-use Rattle.qc_promise.specs.SiteRecords.{epoch_shown}
-use Rattle.qc_script.specs.Ready.{phase_of, ready}
-use Rattle.qc_script.specs.Runs.{Runs, begins, takes, posts, phase, control}
-use Rattle.qc_script.specs.Sound.{IsScriptFor}
-use Rattle.qc_script.specs.declared.script.Script.{Script}
-use Rattle.qc_site.specs.Conduct.{site_after}
-use Rattle.qc_site.specs.Promise.{prepare_length, promise_of}
-use Rattle.qc_site.specs.Site.{SiteState}
-use Rattle.qc_laws.proofs.Acted.{deeds-silent, run_acts}
-use Rattle.qc_laws.proofs.Arrivals.{what_is_ready_was_sent}
-use Rattle.qc_laws.proofs.Numbered.{IsSilent, control_silent, phase_silent}
-use Rattle.qc_laws.proofs.Served.{run_shown}
-use Rattle.qc_laws.specs.Turns.{ActsIn}
-use Rattle.qc_account.proofs.Courses.{turns_tell}
-use Rattle.qc_account.proofs.Mute.{sites_mute}
-use Rattle.qc_guarantees.specs.Votes.{IsOpenVote, IsRemembered}
-use Rattle.qc_guarantees.proofs.Accounts.{IsTakenNow, after_taken, open_number, open_untaken, told_requests}
-use Rattle.qc_guarantees.proofs.Grounds.{turn_old}
+use Rattle.qc_promise.specs.Account.{Account, ClientRequest, Current, is_append, is_prepare, is_read, requests_for}
+use Rattle.qc_promise.specs.Accounting.{account_heard, counted, counted_for, is_open, taken_for}
+use Rattle.qc_promise.specs.Rounds.{against, answer_of, are_votes_in, first_against, round_of}
+use Rattle.qc_promise.specs.Rows.{answer_row, append_row, commit_row, do_row, due, read_row, row_of, vote_row}
+use Rattle.qc_guarantees.specs.Votes.{IsOpenVote}
+use Rattle.qc_guarantees.proofs.Accounts.{after_taken, open_number, open_untaken, told_requests}
 use Rattle.qc_guarantees.proofs.SiteMoves.{Forgets}
-use Rattle.qc_guarantees.proofs.Stale.{at_in, client_slot, later, later_closed, later_few, later_run, same_deeds, same_slot, still}
-use Rattle.qc_guarantees.proofs.Unforgotten.{IsAnswered, Unforgotten, account_other, account_posted_is, account_silent, account_taken_is, few_before, unforgotten}
-use Rattle.qc_guarantees.proofs.Voted.{place, site_has_room, site_holds, stood, tie}
 
 -- a request for a promise for which this was taken
 abbrev pub IsVote : Account → ClientRequest → Answer → Type 0
@@ -96,9 +50,9 @@ counted_vote d n answer q x k = by (find (is_open n) d.requests) k
     by (Some p) v = elim (after_taken n answer q d.requests (subst (In q) (told_requests (record d { requests = taken_for n answer d.requests }) p answer).0 v.0)) [
       | inl old ↦ inl (old, v.1, v.2)
       | inr now ↦ inr (
-          (let e : Some answer ≡ Some (Some x) = sym (ap (λ (y : ClientRequest). y.taken) now.is) ∙ v.2 in cc),
-          (now.old, record { among = now.among; want = sym (ap (λ (y : ClientRequest). y.want) now.is) ∙ v.1; untaken = open_untaken n now.old now.open_still }, open_number n now.old now.open_still),
-        )
+        (let e : Some answer ≡ Some (Some x) = sym (ap (λ (y : ClientRequest). y.taken) now.is) ∙ v.2 in cc),
+        (now.old, record { among = now.among; want = sym (ap (λ (y : ClientRequest). y.want) now.is) ∙ v.1; untaken = open_untaken n now.old now.open_still }, open_number n now.old now.open_still),
+      )
     ]
 
 pub taken_vote : (d : Account) (e : Envelope) (q : ClientRequest) (x : Answer) → IsVote (account_heard d e.message) q x → IsVote d q x ⊎ IsNewVote d e.message q x
@@ -209,7 +163,6 @@ module _ (decl : Declaration) where
   IsForgottenVote d site = (q : ClientRequest) × (x : Answer) × IsVote d q x × Forgets x
 
   commit_why : (d : Account) (t : Current) (site : ℕ) → why_of (commit_row decl d [] t) ≡ Some (causes.Forgot site) → IsForgottenVote d site
-
   commit_why d t site is = by t.doomed (are_votes_in decl d t) (first_against (requests_for is_prepare d)) refl is
     where
       by : (x y : Bool) (o : Option Why) → first_against (requests_for is_prepare d) ≡ o → why_of (if x then Some (replies.Aborted causes.Doomed) else (if y then vote_row d [] o else None)) ≡ Some (causes.Forgot site)

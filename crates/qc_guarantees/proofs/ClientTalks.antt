@@ -1,11 +1,10 @@
 -- A client answers nothing but an Ask.
-use Rattle.std.proofs.Common.{◌≡◌, ◌==◌, ℕ, Bool, true, false, cond, if◌then◌else◌, List, [], ◌∷◌, inl, inr, length, map, Option, Some, None, is_some, refl, sym, ap, ◌∙◌, subst}
+use Rattle.std.proofs.Common.{◌≡◌, ◌==◌, ℕ, Bool, true, false, if◌then◌else◌, List, [], ◌∷◌, inl, inr, length, map, Option, Some, None, refl, ap}
 use Rattle.qc_stamp.specs.declared.stamp.TxId.{TxId}
 use Rattle.qc_list.specs.Members.{In}
 use Rattle.qc_onecopy.proofs.Lists.{Mapped, map_in}
 use Rattle.qc_decl.specs.declared.declaration.Declaration.{Declaration}
 use Rattle.qc_msg.specs.declared.begun.Begun.{Begun}
-use Rattle.qc_msg.specs.declared.call.Call.{Call}
 use Rattle.qc_msg.specs.declared.message.Answer.{Answer}
 use Rattle.qc_msg.specs.declared.message.Envelope.{Envelope}
 use Rattle.qc_msg.specs.declared.message.Message.{Message}
@@ -19,8 +18,7 @@ use Rattle.qc_msg.specs.declared.step.Given.TheVariants as given
 use Rattle.qc_msg.specs.declared.turn.Posting.{Posting}
 use Rattle.qc_msg.specs.declared.turn.Turn.{Turn}
 use Rattle.qc_msg.specs.Begun.{decisions}
-use Rattle.qc_msg.specs.Calls.{site_called, without_call}
-use Rattle.qc_commit.specs.declared.ballot.Ballot.{Ballot}
+use Rattle.qc_msg.specs.Calls.{site_called}
 use Rattle.qc_commit.specs.declared.desk.Desk.{Desk}
 use Rattle.qc_commit.specs.declared.desk.Voting.{Voting}
 use Rattle.qc_commit.specs.Conduct as desks
@@ -33,7 +31,7 @@ use Rattle.qc_front.specs.Front.{FrontMove}
 use Rattle.qc_front.specs.Requests.{AreSent, IsSent}
 use Rattle.qc_front.proofs.Sending.{called_sent, takes_sent}
 use Rattle.qc_client.specs.declared.client.Client.{Client}
-use Rattle.qc_client.specs.Client.{ClientMove, by_desk, by_front}
+use Rattle.qc_client.specs.Client.{by_desk, by_front}
 use Rattle.qc_client.specs.Conduct.{answered, answered_by, called, client_takes, commits, heard}
 use Rattle.qc_guarantees.proofs.SiteMoves.{answer_in}
 
@@ -109,7 +107,6 @@ module _ (decl : Declaration) where
       by : (o : Option Voting) → AnswersNothing (answered_by decl c o number answer).turn
       by None = front_none decl c (fronts.takes decl c.front number answer) (takes_sent decl c.front number answer)
       by (Some v) = vote_none c.desk c.desk.voting number answer
-
 
   some_none : {A : Type 0} (o : Option Answer) (x : Answer) → o ≡ None → o ≡ Some x → A
   some_none o x none some = absurd (let never : ⊥ = cc in never)

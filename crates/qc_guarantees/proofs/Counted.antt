@@ -1,6 +1,6 @@
 -- So of each run: no vote that counts says that its site has forgotten, and nobody is told so; and a site that is asked
 -- remembers.
-use Rattle.std.proofs.Common.{◌≡◌, ◌⊎◌, ◌<◌, ◌≤◌, ◌+◌, ◌-◌, ◌==◌, ℕ, nat_le, Bool, true, false, cond, List, [], ◌∷◌, ◌++◌, inl, inr, length, Option, Some, None, slice_get, refl, sym, ap, ◌∙◌, subst, arith, eqb-true, ltb-true}
+use Rattle.std.proofs.Common.{◌≡◌, ◌≤◌, ◌+◌, ◌-◌, ◌==◌, ℕ, nat_le, Bool, true, false, List, [], ◌∷◌, ◌++◌, inl, inr, length, Option, Some, None, slice_get, refl, sym, ap, ◌∙◌, subst, eqb-true, ltb-true}
 use Rattle.std.specs.Prelude.{fold, slice_set}
 use Rattle.qc_stamp.specs.declared.stamp.TxId.{TxId}
 use Rattle.qc_list.specs.Members.{In}
@@ -17,8 +17,6 @@ use Rattle.qc_entry.specs.Log.{without}
 use Rattle.qc_lock.specs.declared.held.Held.{Held}
 use Rattle.qc_lock.specs.Held.{held_of, is_held}
 use Rattle.qc_msg.specs.declared.message.Answer.{Answer}
-use Rattle.qc_msg.specs.declared.message.Envelope.{Envelope}
-use Rattle.qc_msg.specs.declared.message.Message.{Message}
 use Rattle.qc_msg.specs.declared.message.Message.TheVariants as messages
 use Rattle.qc_msg.specs.declared.message.Want.TheVariants.{Prepare}
 use Rattle.qc_msg.specs.declared.record.Record.{Record}
@@ -27,7 +25,6 @@ use Rattle.qc_msg.specs.declared.reply.Reply.TheVariants as replies
 use Rattle.qc_msg.specs.declared.reply.Why.TheVariants as causes
 use Rattle.qc_msg.specs.declared.step.Given.{Given}
 use Rattle.qc_msg.specs.declared.step.Given.TheVariants as given
-use Rattle.qc_msg.specs.declared.step.Step.{Step}
 use Rattle.qc_msg.specs.declared.step.Step.TheVariants as steps
 use Rattle.qc_msg.specs.declared.turn.Posting.{Posting}
 use Rattle.qc_msg.specs.declared.turn.Turn.{Turn}
@@ -39,7 +36,7 @@ use Rattle.qc_promise.specs.Account.{Account, ClientRequest, Current}
 use Rattle.qc_promise.specs.Accounting.{account, account_at, account_taken}
 use Rattle.qc_promise.specs.SiteDue.{fits_record, promise_due}
 use Rattle.qc_promise.specs.SiteHeld.{held_shown}
-use Rattle.qc_script.specs.Ready.{phase_of, ready}
+use Rattle.qc_script.specs.Ready.{phase_of}
 use Rattle.qc_script.specs.Runs.{Runs, begins, takes, posts, phase, control}
 use Rattle.qc_script.specs.Sound.{IsScriptFor}
 use Rattle.qc_script.specs.declared.script.Script.{Script}
@@ -48,7 +45,7 @@ use Rattle.qc_site.specs.Promise.{prepare_length, promise_of}
 use Rattle.qc_site.specs.Site.{SiteState}
 use Rattle.qc_laws.proofs.Acted.{deeds-silent, run_acts}
 use Rattle.qc_laws.proofs.Arrivals.{what_is_ready_was_sent}
-use Rattle.qc_laws.proofs.Numbered.{IsSilent, control_silent, phase_silent}
+use Rattle.qc_laws.proofs.Numbered.{control_silent, phase_silent}
 use Rattle.qc_laws.proofs.Served.{run_shown}
 use Rattle.qc_laws.specs.Turns.{ActsIn}
 use Rattle.qc_account.proofs.Courses.{turns_tell}
@@ -61,9 +58,9 @@ use Rattle.qc_guarantees.proofs.Accounts.{WasSent}
 use Rattle.qc_guarantees.proofs.Grounds.{has_grounds, turn_old}
 use Rattle.qc_guarantees.proofs.SiteMoves.{Forgets}
 use Rattle.qc_guarantees.proofs.Stale.{at_in, client_slot, later, later_closed, later_few, later_run, same_deeds, same_slot, still, turn}
-use Rattle.qc_guarantees.proofs.Unforgotten.{IsAnswered, Unforgotten, account_other, account_posted_is, account_silent, account_taken_is, few_before, unforgotten, who}
+use Rattle.qc_guarantees.proofs.Unforgotten.{Unforgotten, account_other, account_posted_is, account_silent, account_taken_is, few_before, unforgotten, who}
 use Rattle.qc_guarantees.proofs.Voted.{asked, one_request, place, request_sent, site_has_room, site_holds, stood, tie}
-use Rattle.qc_guarantees.proofs.Against.{IsForgottenVote, IsNewVote, IsVote, due_why, taken_vote, lost_vote}
+use Rattle.qc_guarantees.proofs.Against.{IsForgottenVote, IsVote, due_why, taken_vote, lost_vote}
 
 module _ (decl : Declaration) (script : Script) (accepted : IsAccepted decl) (sound : IsScriptFor decl script) where
   -- what counts
@@ -171,9 +168,9 @@ module _ (decl : Declaration) (script : Script) (accepted : IsAccepted decl) (so
           at false other = old a site (subst (λ (v : List Deed). In (Tells (replies.Aborted (causes.Forgot site))) v) (deeds-other b a [] older (step_of g ∷ []) other) among)
           at true same = elim (In-more (Tells (replies.Aborted (causes.Forgot site))) (Takes g) (deeds a [] older) (subst (λ (v : List Deed). In (Tells (replies.Aborted (causes.Forgot site))) v)
               (subst (λ (k : ℕ). deeds k [] (older ++ marked b (step_of g) ∷ []) ≡ deeds k [] older ++ Takes g ∷ []) (eqb-true b a same) (deeds-taken b older g (what_is_ready_was_sent (IsLawful decl) decl script older before run b g rdy))) among)) [
-            | inl there ↦ old a site there
-            | inr never ↦ (let none : ⊥ = cc in none)
-          ]
+                | inl there ↦ old a site there
+                | inr never ↦ (let none : ⊥ = cc in none)
+              ]
   never_told h open_inputs (posts b turn before older run taken law) few =
       by (never_told older before run (few_before decl script accepted sound older (by_actor b (posted (length (mail older)) turn)) few)) (few_before decl script accepted sound older (by_actor b (posted (length (mail older)) turn)) few)
     where
@@ -184,15 +181,15 @@ module _ (decl : Declaration) (script : Script) (accepted : IsAccepted decl) (so
           at false other = old a site (subst (λ (v : List Deed). In (Tells (replies.Aborted (causes.Forgot site))) v) (deeds-other b a [] older (posted (length (mail older)) turn) other) among)
           at true same = elim (in_split (Tells (replies.Aborted (causes.Forgot site))) (deeds b [] older) (turn_deeds (length (mail older)) turn) (subst (λ (v : List Deed). In (Tells (replies.Aborted (causes.Forgot site))) v)
               (deeds-posted b (length (mail older)) older turn) (subst (λ (k : ℕ). In (Tells (replies.Aborted (causes.Forgot site))) (deeds k [] (older ++ by_actor b (posted (length (mail older)) turn)))) (sym (eqb-true b a same)) among))) [
-            | inl there ↦ old b site there
-            | inr now ↦ posted_tells older before run less b turn taken law site now
-          ]
+                | inl there ↦ old b site there
+                | inr now ↦ posted_tells older before run less b turn taken law site now
+              ]
   never_told h open_inputs (phase before older run none done quiet_all left) few =
       λ a site among. never_told older before run (few_before decl script accepted sound older (marked (controller decl) (steps.Phase (phase_of older + 1)) ∷ []) few) a site
-          (subst (λ (v : List Deed). In (Tells (replies.Aborted (causes.Forgot site))) v) (deeds-silent a (controller decl) older (steps.Phase (phase_of older + 1)) (phase_silent (phase_of older + 1))) among)
+      (subst (λ (v : List Deed). In (Tells (replies.Aborted (causes.Forgot site))) v) (deeds-silent a (controller decl) older (steps.Phase (phase_of older + 1)) (phase_silent (phase_of older + 1))) among)
   never_told h open_inputs (control line lines step before older run left is) few =
       λ a site among. never_told older before run (few_before decl script accepted sound older (marked (controller decl) step ∷ []) few) a site
-          (subst (λ (v : List Deed). In (Tells (replies.Aborted (causes.Forgot site))) v) (deeds-silent a (controller decl) older step (control_silent line step is)) among)
+      (subst (λ (v : List Deed). In (Tells (replies.Aborted (causes.Forgot site))) v) (deeds-silent a (controller decl) older step (control_silent line step is)) among)
 
   -- a site without an open input that a client waits for
 

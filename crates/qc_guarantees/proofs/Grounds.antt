@@ -30,10 +30,10 @@ use Rattle.qc_msg.specs.declared.turn.Turn.{Turn}
 use Rattle.qc_msg.specs.Begun.{has_granted}
 use Rattle.qc_msg.specs.Deeds.{Deed, Takes, Writes, Sends, Tells, sends_of, tells_of, turn_deeds, writes_of}
 use Rattle.qc_promise.specs.Account.{Account, ClientRequest, Current, new_account, new_current}
-use Rattle.qc_promise.specs.Accounting.{account_at, account_heard, account_sent, account_taken, account_told_in, account_written, counted, counted_for, refused, responded, found_absent, requested, short_of, taken_for, told_by, with_response}
+use Rattle.qc_promise.specs.Accounting.{account_at, account_heard, account_sent, account_taken, account_told_in, account_written, counted, counted_for, refused, responded, found_absent, requested, short_of, taken_for, with_response}
 use Rattle.qc_promise.specs.Asked.{command_asks, is_asked_for, is_of}
 use Rattle.qc_promise.specs.Rounds.{answer_of}
-use Rattle.qc_guarantees.proofs.Accounts.{HasGrounds, IsTakenNow, WasGranted, WasSent, after_taken, and_first, counted_grounds, granted_more, open_untaken, same_grounds, sent_more, taken_more, told_requests}
+use Rattle.qc_guarantees.proofs.Accounts.{HasGrounds, WasGranted, WasSent, after_taken, and_first, counted_grounds, granted_more, same_grounds, sent_more, taken_more, told_requests}
 
 -- a command, a message, a loss
 
@@ -95,9 +95,12 @@ module _ (decl : Declaration) where
       by true is = record {
         sent = λ q among. elim (In-more q (record { number = n; site = to; life = life; want = want; taken = None }) d.requests among) [
           | inl old ↦ (let s : (t : Current) × (d.current ≡ Some t) × WasSent ds q t.tx = k.sent q old in (s.0, s.1, sent_more ds (Sends n to (messages.Request tx epoch life want)) q s.0.tx s.2))
-          | inr new ↦ (let c : (t : Current) × (d.current ≡ Some t) × (t.tx ≡ tx) = asked_current d to tx epoch life want is in
-              (c.0, c.1, subst (λ (y : ClientRequest). WasSent (ds ++ Sends n to (messages.Request tx epoch life want) ∷ []) y c.0.tx) (sym new)
-              (record { epoch = epoch; is = subst (λ (y : TxId). In (Sends n to (messages.Request y epoch life want)) (ds ++ Sends n to (messages.Request tx epoch life want) ∷ [])) (sym c.2) (In-last (Sends n to (messages.Request tx epoch life want)) ds) })))
+          | inr new ↦ (let c : (t : Current) × (d.current ≡ Some t) × (t.tx ≡ tx) = asked_current d to tx epoch life want is in (
+            c.0,
+            c.1,
+            subst (λ (y : ClientRequest). WasSent (ds ++ Sends n to (messages.Request tx epoch life want) ∷ []) y c.0.tx) (sym new)
+                (record { epoch = epoch; is = subst (λ (y : TxId). In (Sends n to (messages.Request y epoch life want)) (ds ++ Sends n to (messages.Request tx epoch life want) ∷ [])) (sym c.2) (In-last (Sends n to (messages.Request tx epoch life want)) ds) }),
+          ))
         ];
         taken = λ q answer among it. elim (In-more q (record { number = n; site = to; life = life; want = want; taken = None }) d.requests among) [
           | inl old ↦ taken_more ds (Sends n to (messages.Request tx epoch life want)) q.number answer (k.taken q answer old it)

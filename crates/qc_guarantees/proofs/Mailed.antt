@@ -7,7 +7,6 @@ use Rattle.qc_list.proofs.Members.{In-first, In-second, every-at, every-from_In}
 use Rattle.qc_onecopy.proofs.Lists.{in_split}
 use Rattle.qc_msg.specs.declared.message.Envelope.{Envelope}
 use Rattle.qc_msg.specs.declared.message.Message.{Message}
-use Rattle.qc_msg.specs.declared.step.Given.{Given}
 use Rattle.qc_msg.specs.declared.step.Given.TheVariants as given
 use Rattle.qc_msg.specs.declared.step.Step.{Step}
 use Rattle.qc_msg.specs.declared.step.Step.TheVariants as steps

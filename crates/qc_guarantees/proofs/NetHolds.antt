@@ -1,25 +1,21 @@
 -- Of every net: what a site granted it holds until a Decision ends its transaction, each lock was asked for, and all
 -- that a site has is sorted.
-use Rattle.std.proofs.Common.{◌≡◌, ◌≢◌, ◌⊎◌, ◌<◌, ◌≤◌, ◌&&◌, nat_le, nat_lt, ℕ, Bool, true, false, List, [], ◌∷◌, ◌++◌, inl, inr, length, Option, Some, None, slice_get, refl, sym, ap, ◌∙◌, subst, arith, ltb-true}
+use Rattle.std.proofs.Common.{◌≡◌, ◌⊎◌, ◌<◌, ◌≤◌, ◌&&◌, nat_le, nat_lt, ℕ, Bool, true, false, List, ◌++◌, inl, inr, length, Option, Some, None, slice_get, refl, sym, ap, ◌∙◌, subst, arith, ltb-true}
 use Rattle.std.proofs.lemmas.Bool.{leb-true}
 use Rattle.qc_stamp.specs.declared.stamp.TxId.{TxId}
 use Rattle.qc_list.specs.Members.{In}
-use Rattle.qc_list.proofs.Members.{In-first, In-second}
+use Rattle.qc_list.proofs.Members.{In-first}
 use Rattle.qc_onecopy.proofs.Lists.{in_split}
 use Rattle.qc_entry.specs.declared.line.Line.{Line}
 use Rattle.qc_entry.specs.declared.line.ReadLock.{ReadLock}
-use Rattle.qc_entry.specs.Line.{IsAscending}
 use Rattle.qc_decl.specs.declared.declaration.Declaration.{Declaration}
 use Rattle.qc_decl.specs.Accepted.{IsAccepted}
 use Rattle.qc_decl.specs.Actors.{actors, is_client, is_site}
-use Rattle.qc_lock.specs.declared.held.Held.{Held}
 use Rattle.qc_lock.specs.Held.{held_of, is_held}
-use Rattle.qc_msg.specs.declared.message.Answer.{Answer}
 use Rattle.qc_msg.specs.declared.message.Answer.TheVariants as answers
 use Rattle.qc_msg.specs.declared.message.Envelope.{Envelope}
 use Rattle.qc_msg.specs.declared.message.Message.{Message}
 use Rattle.qc_msg.specs.declared.message.Message.TheVariants as messages
-use Rattle.qc_msg.specs.declared.message.Outcome.{Outcome}
 use Rattle.qc_msg.specs.declared.message.Want.{Want}
 use Rattle.qc_msg.specs.declared.message.Want.TheVariants.{Read, Append, Prepare}
 use Rattle.qc_msg.specs.declared.step.Given.{Given}
@@ -28,13 +24,12 @@ use Rattle.qc_msg.specs.declared.turn.Posting.{Posting}
 use Rattle.qc_msg.specs.Deeds.{envelopes}
 use Rattle.qc_protocol.specs.Acts.{state}
 use Rattle.qc_site.specs.Conduct.{passed, site_at, site_takes}
-use Rattle.qc_site.specs.Ended.{is_final}
-use Rattle.qc_site.specs.Site.{SiteMove, SiteState, new_site}
+use Rattle.qc_site.specs.Site.{SiteMove, SiteState}
 use Rattle.qc_site.specs.Sorted.{IsMessageSorted, IsSiteSorted}
 use Rattle.qc_site.proofs.Sorted.{stays_sorted}
 use Rattle.qc_client.specs.Conduct.{client_takes}
 use Rattle.qc_net.specs.Messages.{Backed, IsGrantTo, IsRequest}
-use Rattle.qc_net.specs.Mirrors.{Mirrors, Refines}
+use Rattle.qc_net.specs.Mirrors.{Refines}
 use Rattle.qc_net.specs.Net.{MayCome, MayCommand, Net, Reaches, after_client, after_site, first_net}
 use Rattle.qc_net.specs.Net as nets
 use Rattle.qc_net.proofs.Frames.{put_one, slice_get-append}
@@ -175,7 +170,15 @@ module _ (decl : Declaration) (accepted : IsAccepted decl) where
   -- a grant that was sent before had its request then
   granted_before : (before : Net) (more : List Envelope) (site : ℕ) (tx : TxId) → Reaches decl before → (g : IsGrantedBy (before.mail ++ more) site tx) → In g.answer before.mail → IsGrantedBy before.mail site tx
   granted_before before more site tx r g among = record {
-    answer = g.answer; sent = among; from = g.from; number = g.number; life = g.life; clock = g.clock; log = g.log; grants = g.grants; want = g.want;
+    answer = g.answer;
+    sent = among;
+    from = g.from;
+    number = g.number;
+    life = g.life;
+    clock = g.clock;
+    log = g.log;
+    grants = g.grants;
+    want = g.want;
     asked = earlier before.mail more site g.number tx g.want b.request.envelope b.request.numbered g.asked;
   }
     where
@@ -204,7 +207,7 @@ module _ (decl : Declaration) (accepted : IsAccepted decl) where
         let p : Place a step.turn.sends (before.mail ++ posted) k.answer = placed before.mail a (length before.mail) step.turn.sends k.answer refl among in
         let here : site ≡ a = sym k.from ∙ p.from in
         let now : is_held step.site.held tx ≡ true = granted_now before a g p.posting k.number k.life k.clock k.log tx k.want full (numbered_in before r) came p.among (sym p.message ∙ k.grants) posted
-            (subst (λ (n : ℕ). IsRequest (before.mail ++ posted) k.number n tx k.want) here k.asked) (λ n e is. slice_get-append before.mail posted n e is) in
+        (subst (λ (n : ℕ). IsRequest (before.mail ++ posted) k.number n tx k.want) here k.asked) (λ n e is. slice_get-append before.mail posted n e is) in
         inl (put_one (λ (n : ℕ) (s : SiteState). n ≡ a → is_held s.held tx ≡ true) before.sites a step.site site (λ same. now) (λ other same. absurd (other same)) here)
 
     site_step : AreFullMessages before.mail → (IsGrantedBy before.mail site tx → HoldsOrEnded before site tx) → IsGrantedBy (before.mail ++ posted) site tx → HoldsOrEnded (after_site before a step) site tx

@@ -1,11 +1,11 @@
 -- Each request that is due names what a command named, and each Append that is due has own lines.
-use Rattle.std.proofs.Common.{◌≡◌, ◌⊎◌, ◌<◌, ◌≤◌, ◌+◌, ◌==◌, ◌&&◌, ℕ, nat_lt, Bool, true, false, List, [], ◌∷◌, ◌++◌, inl, inr, length, Option, Some, None, refl, sym, ap, ◌∙◌, subst, arith, eqb-true}
+use Rattle.std.proofs.Common.{◌≡◌, ◌<◌, ◌==◌, ◌&&◌, ℕ, true, false, List, [], ◌∷◌, ◌++◌, inl, inr, length, Option, Some, None, refl, sym, ap, subst, arith, eqb-true}
 use Rattle.std.specs.Prelude.{fold, filter}
 use Rattle.std.specs.Cmp.Lexicographic.{pointwise}
 use Rattle.std.specs.Option.{option_map_or}
 use Rattle.qc_stamp.specs.declared.stamp.TxId.{TxId}
 use Rattle.qc_list.specs.Members.{In}
-use Rattle.qc_list.proofs.Members.{In-first, In-second}
+use Rattle.qc_list.proofs.Members.{In-first}
 use Rattle.qc_entry.specs.declared.line.Line.{Line}
 use Rattle.qc_entry.specs.declared.line.OwnLine.{OwnLine}
 use Rattle.qc_decl.specs.declared.declaration.Declaration.{Declaration}
@@ -18,7 +18,7 @@ use Rattle.qc_msg.specs.declared.step.Given.TheVariants as given
 use Rattle.qc_msg.specs.Deeds.{Deed, Takes, Sends}
 use Rattle.qc_promise.specs.Account.{Account, Current, new_account}
 use Rattle.qc_promise.specs.Accounting.{account_at}
-use Rattle.qc_promise.specs.Asked.{carries, command_asks, do_asks, is_asked_for, is_of, own_appended, same_line, same_own, weighs}
+use Rattle.qc_promise.specs.Asked.{carries, command_asks, is_asked_for, is_of, own_appended, same_line, same_own, weighs}
 use Rattle.qc_promise.specs.Rounds.{answer_of, next_own}
 use Rattle.qc_account.specs.DeedsDue.{AreDeedsDue, IsDeedDue}
 use Rattle.qc_net.specs.Net.{IsNamed}

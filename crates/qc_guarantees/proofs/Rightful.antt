@@ -1,6 +1,5 @@
 -- In each run a request names what is declared, and an Append has own lines.
-use Rattle.std.proofs.Common.{◌≡◌, ◌⊎◌, ◌<◌, ◌≤◌, ◌+◌, ◌-◌, ◌==◌, ◌&&◌, nat_le, nat_lt, ℕ, Bool, true, false, cond, List, [], ◌∷◌, ◌++◌, inl, inr, length, Option, Some, None, slice_get, refl, sym, ap, ◌∙◌, subst, arith, eqb-true, le-leb, lt-ltb, ltb-false, ltb-true}
-use Rattle.std.specs.Prelude.{slice_set}
+use Rattle.std.proofs.Common.{◌≡◌, ◌<◌, ◌≤◌, ◌+◌, ◌-◌, ◌==◌, ◌&&◌, nat_lt, ℕ, Bool, true, false, List, [], ◌∷◌, ◌++◌, inl, inr, length, Option, Some, None, slice_get, refl, sym, ap, ◌∙◌, subst, eqb-true, le-leb, lt-ltb, ltb-false, ltb-true}
 use Rattle.qc_stamp.specs.declared.stamp.TxId.{TxId}
 use Rattle.qc_list.specs.Members.{In}
 use Rattle.qc_list.proofs.Members.{In-more, every-In}
@@ -8,7 +7,7 @@ use Rattle.qc_onecopy.proofs.Lists.{in_split}
 use Rattle.qc_core.specs.Conduct.{IsLawful}
 use Rattle.qc_decl.specs.declared.declaration.Declaration.{Declaration}
 use Rattle.qc_decl.specs.Accepted.{IsAccepted}
-use Rattle.qc_decl.specs.Actors.{actors, controller, is_client, is_site}
+use Rattle.qc_decl.specs.Actors.{actors, controller, is_client}
 use Rattle.qc_msg.specs.declared.message.Envelope.{Envelope}
 use Rattle.qc_msg.specs.declared.message.Message.{Message}
 use Rattle.qc_msg.specs.declared.message.Message.TheVariants as messages
@@ -24,7 +23,7 @@ use Rattle.qc_msg.specs.declared.turn.Turn.{Turn}
 use Rattle.qc_msg.specs.Deeds.{Deed, Takes, Sends, deeds, mail, sends_of, tells_of, turn_deeds, writes_of}
 use Rattle.qc_msg.specs.Steps.{Entry, by as by_actor, marked, posted, step_of}
 use Rattle.qc_msg.proofs.Growth.{deeds-other, deeds-posted, deeds-taken}
-use Rattle.qc_script.specs.Ready.{phase_of, ready}
+use Rattle.qc_script.specs.Ready.{phase_of}
 use Rattle.qc_script.specs.Runs.{Runs, begins, takes, posts, phase, control}
 use Rattle.qc_script.specs.Sound.{IsScriptFor}
 use Rattle.qc_script.specs.declared.script.Script.{Script}
@@ -98,9 +97,9 @@ module _ (decl : Declaration) (script : Script) (accepted : IsAccepted decl) (so
       by true same old = elim (in_split (Takes (given.Called c)) (deeds a [] older) (turn_deeds (length (mail older)) turn)
           (subst (λ (v : List Deed). In (Takes (given.Called c)) v) (deeds-posted a (length (mail older)) older turn)
           (subst (λ (k : ℕ). In (Takes (given.Called c)) (deeds a [] (older ++ by_actor k (posted (length (mail older)) turn)))) (eqb-true b a same) among))) [
-        | inl there ↦ old there
-        | inr now ↦ absurd (turn_calls (length (mail older)) turn c now)
-      ]
+            | inl there ↦ old there
+            | inr now ↦ absurd (turn_calls (length (mail older)) turn c now)
+          ]
   called_named h open_inputs (phase before older run none done quiet_all more) a c among = called_named older before run a c (subst (λ (v : List Deed). In (Takes (given.Called c)) v) (deeds-silent a (controller decl) older (steps.Phase (phase_of older + 1)) (phase_silent (phase_of older + 1))) among)
   called_named h open_inputs (control line lines step before older run left is) a c among = called_named older before run a c (subst (λ (v : List Deed). In (Takes (given.Called c)) v) (deeds-silent a (controller decl) older step (control_silent line step is)) among)
 

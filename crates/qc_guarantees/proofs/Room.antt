@@ -1,10 +1,9 @@
 -- What a site would promise of a transaction that is voted on fits a record.
-use Rattle.std.proofs.Common.{◌≡◌, ◌≤◌, ◌<◌, ◌+◌, ◌-◌, ◌*◌, ℕ, zero, suc, nat_le, not, Bool, true, false, List, [], ◌∷◌, ◌++◌, inl, inr, map, length, length-append, Option, Some, None, slice_get, refl, sym, ap, ◌∙◌, subst, arith}
-use Rattle.std.specs.Prelude.{sum_by, filter, count_by, option_and_then}
+use Rattle.std.proofs.Common.{◌≡◌, ◌≤◌, ◌<◌, ◌+◌, ◌-◌, ℕ, zero, suc, nat_le, not, true, List, [], ◌∷◌, ◌++◌, inl, inr, length, length-append, Option, Some, None, slice_get, refl, sym, ap, ◌∙◌, subst, arith}
+use Rattle.std.specs.Prelude.{sum_by, count_by, option_and_then}
 use Rattle.std.proofs.lemmas.Bool.{le-leb}
 use Rattle.std.proofs.lemmas.List.{length-map}
 use Rattle.std.proofs.lemmas.List.Sums.{count_by-le-length, length-filter}
-use Rattle.qc_stamp.specs.declared.stamp.TxId.{TxId}
 use Rattle.qc_list.specs.Members.{In}
 use Rattle.qc_entry.specs.declared.line.Line.{Line}
 use Rattle.qc_entry.specs.declared.line.Op.{Op}
@@ -12,14 +11,11 @@ use Rattle.qc_entry.specs.declared.line.OwnLine.{OwnLine}
 use Rattle.qc_entry.specs.declared.line.ReadLock.{ReadLock}
 use Rattle.qc_entry.specs.declared.record.Commit.{Commit as CommitRecord}
 use Rattle.qc_entry.specs.Log.{has_line, without}
-use Rattle.qc_table.specs.declared.kind.Kind.{Kind}
 use Rattle.qc_decl.specs.declared.declaration.Declaration.{Declaration}
 use Rattle.qc_decl.specs.Accepted.{IsAccepted}
 use Rattle.qc_decl.specs.Actors.{is_client, is_site}
-use Rattle.qc_decl.specs.Limits.{most_record_bytes, most_transaction_operations}
-use Rattle.qc_decl.specs.Lookup.{kind_at}
-use Rattle.qc_lock.specs.declared.held.Held.{Held}
-use Rattle.qc_lock.specs.Held.{held_of, lock_cmp, own_cmp}
+use Rattle.qc_decl.specs.Limits.{most_record_bytes}
+use Rattle.qc_lock.specs.Held.{held_of}
 use Rattle.qc_lock.proofs.Order.{sorted-find}
 use Rattle.qc_msg.specs.declared.message.Envelope.{Envelope}
 use Rattle.qc_msg.specs.declared.message.Message.{Message}
@@ -28,22 +24,19 @@ use Rattle.qc_msg.specs.declared.message.Want.{Want}
 use Rattle.qc_msg.specs.declared.message.Want.TheVariants.{Read, Append, Prepare}
 use Rattle.qc_msg.specs.Counts.{answered}
 use Rattle.qc_onecopy.specs.Executed.{Executed, own_line}
-use Rattle.qc_onecopy.specs.Logged.{IsLogged}
 use Rattle.qc_protocol.specs.Acts.{state}
 use Rattle.qc_protocol.specs.Guards.{op_of}
 use Rattle.qc_protocol.specs.Logs.{AreInOrder, IsExecutedOrChosen, IsOwnClosedAt, LogLaws}
 use Rattle.qc_protocol.specs.Site.{items_of, site_after}
-use Rattle.qc_protocol.specs.State.{State, Voting as IsVoting}
-use Rattle.qc_protocol.specs.StateLaws.{StateLaws}
+use Rattle.qc_protocol.specs.State.{Voting as IsVoting}
 use Rattle.qc_protocol.proofs.Keeps.{laws}
 use Rattle.qc_protocol.proofs.LogKeeps.{log_laws}
 use Rattle.qc_commit.specs.declared.desk.Voting.{Voting}
 use Rattle.qc_front.specs.declared.doing.Doing.{Doing}
 use Rattle.qc_front.specs.declared.doing.Doing.TheVariants.{Idle}
 use Rattle.qc_front.specs.declared.transaction.Transaction.{Transaction}
-use Rattle.qc_front.specs.Holds.{BegunHolds, DoingHolds, RecordsHold}
+use Rattle.qc_front.specs.Holds.{BegunHolds}
 use Rattle.qc_site.specs.Promise.{prepare_length, promise_of}
-use Rattle.qc_site.specs.Site.{SiteState}
 use Rattle.qc_site.specs.Sorted.{IsSiteSorted}
 use Rattle.qc_net.specs.Clients.{AreVotes, BegunMirrors, RunningMirrors, TransactionMirrors, VotesMirror, status_by}
 use Rattle.qc_net.specs.Mirrors.{FrontStands, Refines}

@@ -1,6 +1,5 @@
 -- What a site's step says of grants, of what is held, and of the answers to a Prepare.
-use Rattle.std.proofs.Common.{◌≡◌, ◌⊎◌, ◌<◌, ◌≤◌, ℕ, ◌==◌, ◌&&◌, nat_le, nat_lt, not, Bool, true, false, cond, if◌then◌else◌, List, [], ◌∷◌, inl, inr, length, Option, Some, None, is_some, unwrap_or, refl, sym, ap, ◌∙◌, subst, arith, eqb-true, ltb-true}
-use Rattle.std.proofs.lemmas.Bool.Decides.{nat_tests}
+use Rattle.std.proofs.Common.{◌≡◌, ◌⊎◌, ◌<◌, ℕ, ◌==◌, ◌&&◌, nat_le, nat_lt, not, Bool, true, false, cond, List, [], ◌∷◌, inl, inr, length, Option, Some, None, is_some, unwrap_or, refl, sym, ap, ◌∙◌, subst, arith, eqb-true, ltb-true}
 use Rattle.std.specs.declared.cmp.Ordering.{Ordering}
 use Rattle.std.specs.declared.cmp.Ordering.TheVariants.{Less, Equal, Greater}
 use Rattle.qc_stamp.specs.declared.stamp.TxId.{TxId}
@@ -16,8 +15,8 @@ use Rattle.qc_entry.specs.declared.record.Prepared.{Prepared}
 use Rattle.qc_decl.specs.declared.declaration.Declaration.{Declaration}
 use Rattle.qc_decl.specs.Limits.{most_record_bytes}
 use Rattle.qc_lock.specs.declared.held.Held.{Held}
-use Rattle.qc_lock.specs.Held.{entry_of, held_of, is_held, lock_cmp, with_entry, with_held, with_lock, with_locks, with_owns, without_held}
-use Rattle.qc_lock.proofs.Entries.{entry-put, entry-put_other, entry-without, entry-without_other, held-without_other, locks_given, others_stay, same_self}
+use Rattle.qc_lock.specs.Held.{held_of, is_held, lock_cmp, with_entry, with_held, with_lock, with_locks, with_owns, without_held}
+use Rattle.qc_lock.proofs.Entries.{entry-put, entry-without, entry-without_other, held-without_other, locks_given, others_stay}
 use Rattle.qc_msg.specs.declared.message.Answer.{Answer}
 use Rattle.qc_msg.specs.declared.message.Answer.TheVariants as answers
 use Rattle.qc_msg.specs.declared.message.Envelope.{Envelope}
@@ -30,7 +29,7 @@ use Rattle.qc_msg.specs.declared.message.Want.TheVariants.{Read, Append, Prepare
 use Rattle.qc_msg.specs.declared.step.Given.{Given}
 use Rattle.qc_msg.specs.declared.step.Given.TheVariants as given
 use Rattle.qc_msg.specs.declared.turn.Posting.{Posting}
-use Rattle.qc_site.specs.Conduct.{passed, site_at, site_on, site_takes}
+use Rattle.qc_site.specs.Conduct.{passed, site_at, site_takes}
 use Rattle.qc_site.specs.Ended.{is_final}
 use Rattle.qc_site.specs.Promise.{finishes, is_prepared, joins, prepare_length, prepared_of, prepares, promise_of, promised, votes}
 use Rattle.qc_lock.specs.declared.clash.Clash.{Clash as Conflict}
@@ -38,7 +37,7 @@ use Rattle.qc_msg.specs.Turns.{quiet}
 use Rattle.qc_stamp.specs.declared.stamp.Stamp.{Stamp}
 use Rattle.qc_site.specs.Requests.{appends, clashing, closed_fault, fault_of, grants, reads}
 use Rattle.qc_site.specs.Site.{SiteMove, SiteState, answering, answers as answering_turn, moved}
-use Rattle.qc_site.proofs.Cases.{append_cases, choose, fault_cases, fault_is, prepare_cases, read_cases, request_cases, state_cases}
+use Rattle.qc_site.proofs.Cases.{append_cases, choose, fault_is, prepare_cases, read_cases, request_cases, state_cases}
 
 -- the answers that count as against a promise because the site has forgotten the transaction
 abbrev pub Forgets : Answer → Type 0
@@ -298,10 +297,14 @@ locks_were_asked decl s from number m tx x =
     state_cases (λ (y : SiteState). In x (held_of y.held tx).locks → In x (held_of s.held tx).locks ⊎ Asks m tx x) decl s from number m (λ h. inl h)
     (λ t epoch life object inv same h. elim (given_back s.held t tx (record { object = object; inv = inv } ∷ []) [] x h) [
       | inl old ↦ inl old
-      | inr new ↦ inr (epoch, life, elim new.1 [
-        | inl e ↦ same ∙ (λ i. messages.Request (new.0 i) epoch life (Read (sym e i).object (sym e i).inv))
-        | inr never ↦ absurd never
-      ])
+      | inr new ↦ inr (
+        epoch,
+        life,
+        elim new.1 [
+          | inl e ↦ same ∙ (λ i. messages.Request (new.0 i) epoch life (Read (sym e i).object (sym e i).inv))
+          | inr never ↦ absurd never
+        ],
+      )
     ])
     (λ t epoch life object view own same h. elim (given_back s.held t tx [] own x h) [ inl old ↦ inl old | inr new ↦ absurd new.1 ])
     (λ t h. inl h)

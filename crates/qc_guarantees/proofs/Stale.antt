@@ -1,17 +1,16 @@
 -- No site that a client waits for has forgotten what it is asked to promise, and so no vote says so.
-use Rattle.std.proofs.Common.{◌≡◌, ◌⊎◌, ◌<◌, ◌≤◌, ◌+◌, ◌-◌, ◌==◌, ℕ, zero, suc, nat_le, nat_lt, Bool, true, false, cond, List, [], ◌∷◌, ◌++◌, inl, inr, length, Option, Some, None, slice_get, refl, sym, ap, ◌∙◌, subst, arith, eqb-true, eq-eqb, length-append, ltb-true}
+use Rattle.std.proofs.Common.{◌≡◌, ◌<◌, ◌≤◌, ◌+◌, ◌-◌, ◌==◌, ℕ, zero, suc, nat_le, nat_lt, Bool, true, false, cond, List, [], ◌∷◌, ◌++◌, length, Some, None, slice_get, refl, sym, ap, ◌∙◌, subst, arith, eqb-true, eq-eqb, ltb-true}
 use Rattle.std.specs.Prelude.{fold, slice_set, sum_by}
 use Rattle.std.proofs.lemmas.List.{append-nil}
-use Rattle.std.proofs.lemmas.List.Sums.{fold-append, sum_by-append}
+use Rattle.std.proofs.lemmas.List.Sums.{sum_by-append}
 use Rattle.qc_stamp.specs.declared.stamp.TxId.{TxId}
 use Rattle.qc_list.specs.Members.{In}
-use Rattle.qc_list.proofs.Members.{every-In, every-at, every-from_In}
-use Rattle.qc_onecopy.proofs.Lists.{in_split}
+use Rattle.qc_list.proofs.Members.{every-at, every-from_In}
 use Rattle.qc_entry.specs.declared.record.Commit.{Commit as CommitRecord}
 use Rattle.qc_core.specs.Conduct.{IsLawful}
 use Rattle.qc_decl.specs.declared.declaration.Declaration.{Declaration}
 use Rattle.qc_decl.specs.Accepted.{IsAccepted}
-use Rattle.qc_decl.specs.Actors.{actors, controller, is_client, is_site}
+use Rattle.qc_decl.specs.Actors.{actors, is_client, is_site}
 use Rattle.qc_decl.specs.Limits.{most_record_bytes}
 use Rattle.qc_lock.specs.Held.{is_held}
 use Rattle.qc_msg.specs.declared.message.Answer.{Answer}
@@ -21,51 +20,34 @@ use Rattle.qc_msg.specs.declared.message.Message.TheVariants as messages
 use Rattle.qc_msg.specs.declared.message.Want.{Want}
 use Rattle.qc_msg.specs.declared.message.Want.TheVariants.{Prepare}
 use Rattle.qc_msg.specs.declared.step.Given.{Given}
-use Rattle.qc_msg.specs.declared.step.Given.TheVariants as given
-use Rattle.qc_msg.specs.declared.step.Step.{Step}
-use Rattle.qc_msg.specs.declared.step.Step.TheVariants as steps
 use Rattle.qc_msg.specs.declared.turn.Posting.{Posting}
 use Rattle.qc_msg.specs.declared.turn.Turn.{Turn}
-use Rattle.qc_msg.specs.Begun.{first_epoch}
 use Rattle.qc_msg.specs.Counts.{answered, answered_in, commit_in, operations_of, written}
-use Rattle.qc_msg.specs.Deeds.{Deed, Takes, WasSentTo, deeds, envelopes, mail, turn_deeds}
-use Rattle.qc_msg.specs.Steps.{Entry, by as by_actor, marked, posted, step_of}
-use Rattle.qc_msg.proofs.Growth.{deeds-other, deeds-posted, deeds-taken, mail-append, mail-posted, mail-taken, operations-written}
-use Rattle.qc_promise.specs.Account.{Account, ClientRequest, new_account}
-use Rattle.qc_promise.specs.Accounting.{account, account_at, account_taken}
+use Rattle.qc_msg.specs.Deeds.{Deed, WasSentTo, deeds, mail}
+use Rattle.qc_msg.specs.Steps.{Entry, by as by_actor, posted}
+use Rattle.qc_msg.proofs.Growth.{deeds-other, deeds-posted, operations-written}
+use Rattle.qc_promise.specs.Account.{ClientRequest, new_account}
+use Rattle.qc_promise.specs.Accounting.{account, account_at}
 use Rattle.qc_protocol.specs.Acts.{state}
-use Rattle.qc_script.specs.Ready.{phase_of, ready}
-use Rattle.qc_script.specs.Runs.{Runs, begins, takes, posts, phase, control}
+use Rattle.qc_script.specs.Runs.{Runs, posts}
 use Rattle.qc_script.specs.Sound.{IsScriptFor}
 use Rattle.qc_script.specs.declared.script.Script.{Script}
-use Rattle.qc_client.specs.Conduct.{client_after, client_takes}
+use Rattle.qc_client.specs.Conduct.{client_after}
 use Rattle.qc_site.specs.Conduct.{passed, site_at, site_after, site_takes}
 use Rattle.qc_site.specs.Promise.{prepare_length, promise_of}
-use Rattle.qc_site.specs.Site.{SiteMove, SiteState}
-use Rattle.qc_laws.proofs.Acted.{deeds-silent, has_entry, has_place, run_acts}
-use Rattle.qc_laws.proofs.Arrivals.{what_is_ready_was_sent}
-use Rattle.qc_laws.proofs.Numbered.{IsSilent, control_silent, mail-silent, phase_silent}
-use Rattle.qc_laws.proofs.Places.{slice_get-more, slice_get-set_other, slice_get-set_same}
-use Rattle.qc_laws.proofs.Proper.{run_proper}
-use Rattle.qc_laws.proofs.SiteReplies.{IsProperFrom}
+use Rattle.qc_site.specs.Site.{SiteMove}
+use Rattle.qc_laws.proofs.Acted.{has_entry, run_acts}
+use Rattle.qc_laws.proofs.Places.{slice_get-set_other, slice_get-set_same}
 use Rattle.qc_laws.specs.Turns.{ActsIn}
-use Rattle.qc_account.proofs.Commands.{lawful_turn}
-use Rattle.qc_account.proofs.Courses.{IsAtInput, account_of, client_acts}
-use Rattle.qc_account.proofs.Declared.{asks_declared}
 use Rattle.qc_net.specs.Messages.{Backed, IsRequest}
-use Rattle.qc_net.specs.Net.{Net, commits_in}
 use Rattle.qc_net.specs.Sites.{SiteMirrors}
-use Rattle.qc_net.proofs.Posts.{Place, placed}
 use Rattle.qc_atomic.proofs.Posted.{written_posted}
 use Rattle.qc_atomic.proofs.Stood.{OpenSite}
 use Rattle.qc_guarantees.specs.Votes.{IsOpenVote}
 use Rattle.qc_guarantees.proofs.Accounts.{and_second}
-use Rattle.qc_guarantees.proofs.ClientTalks.{client_answers}
-use Rattle.qc_guarantees.proofs.Grounds.{open_before, turn_old}
-use Rattle.qc_guarantees.proofs.Mailed.{taken_mail}
 use Rattle.qc_guarantees.proofs.NetHolds.{both}
 use Rattle.qc_guarantees.proofs.SiteMoves.{Forgets, IsAnsweringTo, answers_requests, prepares_remembered}
-use Rattle.qc_guarantees.proofs.Voted.{asked, mirror, one_request, place, site_has_room, site_holds, stood, tie}
+use Rattle.qc_guarantees.proofs.Voted.{asked, mirror, one_request, site_has_room, site_holds, stood, tie}
 use Rattle.qc_guarantees.proofs.Waiting.{still_open, writes_no_commit}
 
 pub below_length : {X : Type 0} (xs : List X) (n : ℕ) (x : X) → slice_get xs n ≡ Some x → n < length xs

@@ -1,7 +1,6 @@
 -- So in no run an open vote has an answer that says that its site has forgotten, and none counts.
-use Rattle.std.proofs.Common.{◌≡◌, ◌⊎◌, ◌<◌, ◌≤◌, ◌+◌, ◌-◌, ◌==◌, ℕ, zero, suc, nat_le, nat_lt, Bool, true, false, cond, List, [], ◌∷◌, ◌++◌, inl, inr, length, Option, Some, None, slice_get, refl, sym, ap, ◌∙◌, subst, arith, eqb-true, eq-eqb, length-append, ltb-true}
-use Rattle.std.specs.Prelude.{fold, slice_set, sum_by}
-use Rattle.std.specs.List.{find}
+use Rattle.std.proofs.Common.{◌≡◌, ◌⊎◌, ◌<◌, ◌≤◌, ◌+◌, ◌-◌, ◌==◌, ℕ, Bool, true, false, cond, List, [], ◌∷◌, ◌++◌, inl, inr, length, Some, None, slice_get, refl, sym, ap, ◌∙◌, subst, arith, eqb-true, length-append}
+use Rattle.std.specs.Prelude.{fold}
 use Rattle.std.proofs.lemmas.List.Sums.{fold-append}
 use Rattle.qc_stamp.specs.declared.stamp.TxId.{TxId}
 use Rattle.qc_list.specs.Members.{In}
@@ -10,13 +9,10 @@ use Rattle.qc_onecopy.proofs.Lists.{in_split}
 use Rattle.qc_core.specs.Conduct.{IsLawful}
 use Rattle.qc_decl.specs.declared.declaration.Declaration.{Declaration}
 use Rattle.qc_decl.specs.Accepted.{IsAccepted}
-use Rattle.qc_decl.specs.Actors.{actors, controller, is_client, is_site}
+use Rattle.qc_decl.specs.Actors.{controller, is_client, is_site}
 use Rattle.qc_msg.specs.declared.message.Answer.{Answer}
 use Rattle.qc_msg.specs.declared.message.Envelope.{Envelope}
-use Rattle.qc_msg.specs.declared.message.Message.{Message}
 use Rattle.qc_msg.specs.declared.message.Message.TheVariants as messages
-use Rattle.qc_msg.specs.declared.message.Want.{Want}
-use Rattle.qc_msg.specs.declared.message.Want.TheVariants.{Prepare}
 use Rattle.qc_msg.specs.declared.step.Given.{Given}
 use Rattle.qc_msg.specs.declared.step.Given.TheVariants as given
 use Rattle.qc_msg.specs.declared.step.Step.{Step}
@@ -28,14 +24,14 @@ use Rattle.qc_msg.specs.Deeds.{Deed, Takes, WasSentTo, deeds, envelopes, mail, t
 use Rattle.qc_msg.specs.Steps.{Entry, by as by_actor, marked, posted, step_of}
 use Rattle.qc_msg.proofs.Growth.{deeds-other, deeds-posted, deeds-taken, mail-append, mail-posted, mail-taken}
 use Rattle.qc_promise.specs.Account.{Account, ClientRequest, new_account}
-use Rattle.qc_promise.specs.Accounting.{account, account_at, account_heard, account_taken, counted, counted_for, is_open, taken_for}
-use Rattle.qc_script.specs.Ready.{phase_of, ready}
+use Rattle.qc_promise.specs.Accounting.{account, account_at, account_taken}
+use Rattle.qc_script.specs.Ready.{phase_of}
 use Rattle.qc_script.specs.Runs.{Runs, begins, takes, posts, phase, control}
 use Rattle.qc_script.specs.Sound.{IsScriptFor}
 use Rattle.qc_script.specs.declared.script.Script.{Script}
 use Rattle.qc_client.specs.Client.{ClientMove}
 use Rattle.qc_client.specs.Conduct.{client_after, client_takes}
-use Rattle.qc_site.specs.Conduct.{site_after, site_takes}
+use Rattle.qc_site.specs.Conduct.{site_after}
 use Rattle.qc_site.specs.Site.{SiteMove}
 use Rattle.qc_laws.proofs.Acted.{deeds-silent, run_acts}
 use Rattle.qc_laws.proofs.Arrivals.{what_is_ready_was_sent}
@@ -49,14 +45,13 @@ use Rattle.qc_account.proofs.Commands.{lawful_turn}
 use Rattle.qc_account.proofs.Courses.{IsAtInput, client_acts}
 use Rattle.qc_account.proofs.Declared.{asks_declared}
 use Rattle.qc_net.proofs.Posts.{Place, placed}
-use Rattle.qc_atomic.proofs.Stood.{OpenSite, Stood}
+use Rattle.qc_atomic.proofs.Stood.{OpenSite}
 use Rattle.qc_guarantees.specs.Votes.{IsOpenVote}
-use Rattle.qc_guarantees.proofs.Accounts.{IsTakenNow, after_taken, open_number, open_untaken, told_requests}
 use Rattle.qc_guarantees.proofs.ClientTalks.{client_answers}
 use Rattle.qc_guarantees.proofs.Grounds.{open_before, turn_old}
 use Rattle.qc_guarantees.proofs.Mailed.{taken_mail}
-use Rattle.qc_guarantees.proofs.SiteMoves.{Forgets, IsAnsweringTo, answers_requests, same_answer}
-use Rattle.qc_guarantees.proofs.Stale.{at_in, below_length, operations_grow, remembered}
+use Rattle.qc_guarantees.proofs.SiteMoves.{Forgets, IsAnsweringTo, answers_requests}
+use Rattle.qc_guarantees.proofs.Stale.{below_length, operations_grow, remembered}
 use Rattle.qc_guarantees.proofs.Voted.{stood}
 
 -- an answer to a request of this number was sent
@@ -153,7 +148,7 @@ module _ (decl : Declaration) (script : Script) (accepted : IsAccepted decl) (so
         by at =
             let is : turn ≡ (client_takes decl (client_after decl (b - decl.sites) at.before).client at.given).turn =
             lawful_turn decl b (deeds b [] h) turn client law ∙ ap (λ (ds : List Deed). (client_after decl (b - decl.sites) ds).turn) at.is
-                ∙ ap (λ (m : ClientMove). m.turn) (after_given decl (b - decl.sites) at.before at.given) in
+            ∙ ap (λ (m : ClientMove). m.turn) (after_given decl (b - decl.sites) at.before at.given) in
             asked_nothing at.before at.given at.is (client_answers decl (client_after decl (b - decl.sites) at.before).client at.given k.posting n x (subst (λ (t : Turn). In k.posting t.sends) is k.among) k.is)
 
     -- a site answers a request that it took
@@ -167,7 +162,7 @@ module _ (decl : Declaration) (script : Script) (accepted : IsAccepted decl) (so
         by : OpenSite decl script ((stood decl script accepted sound h open_inputs run).net.sites b) b h → n < length (mail h)
         by o =
             let r : IsAnsweringTo o.given n = answers_requests decl ((stood decl script accepted sound h open_inputs run).net.sites b) o.given k.posting n x
-                (subst (λ (m : SiteMove). In k.posting m.turn.sends) o.is (subst (λ (t : Turn). In k.posting t.sends) (site_turn site) k.among)) k.is in
+            (subst (λ (m : SiteMove). In k.posting m.turn.sends) o.is (subst (λ (t : Turn). In k.posting t.sends) (site_turn site) k.among)) k.is in
             let sent : (slice_get (mail h) r.envelope.number ≡ Some r.envelope) × (r.envelope.to ≡ b) = subst (WasSentTo b (mail h)) r.is o.sent in
             subst (λ (m : ℕ). m < length (mail h)) r.numbered (below_length (mail h) r.envelope.number r.envelope sent.0)
 

@@ -1,9 +1,7 @@
 -- Where a client without an open input waits for a promise, the site that it asked holds something of its transaction,
 -- and what it would promise fits a record.
-use Rattle.std.proofs.Common.{◌≡◌, ◌⊎◌, ◌<◌, ◌≤◌, ◌+◌, ◌-◌, ℕ, nat_le, nat_lt, Bool, true, false, List, [], ◌∷◌, ◌++◌, inl, inr, map, filter, length, Option, Some, None, is_none, slice_get, refl, sym, ap, ◌∙◌, subst, arith, lt-ltb}
+use Rattle.std.proofs.Common.{◌≡◌, ◌⊎◌, ◌≤◌, ◌-◌, ℕ, nat_le, Bool, true, false, List, [], inl, inr, map, Option, Some, None, is_none, slice_get, refl, sym, ap, ◌∙◌, subst, lt-ltb}
 use Rattle.std.specs.Prelude.{sum_by}
-use Rattle.std.specs.List.{AllByRecursion as Every}
-use Rattle.qc_stamp.specs.declared.stamp.Stamp.{Stamp}
 use Rattle.qc_stamp.specs.declared.stamp.TxId.{TxId}
 use Rattle.qc_list.specs.Members.{In}
 use Rattle.qc_list.proofs.Members.{In-passes, every-In}
@@ -15,25 +13,23 @@ use Rattle.qc_decl.specs.Accepted.{IsAccepted}
 use Rattle.qc_decl.specs.Actors.{first_site, is_client, is_site}
 use Rattle.qc_decl.specs.Limits.{most_record_bytes}
 use Rattle.qc_lock.specs.Held.{is_held}
-use Rattle.qc_msg.specs.declared.message.Answer.TheVariants as answers
 use Rattle.qc_msg.specs.declared.message.Envelope.{Envelope}
 use Rattle.qc_msg.specs.declared.message.Message.{Message}
 use Rattle.qc_msg.specs.declared.message.Message.TheVariants as messages
 use Rattle.qc_msg.specs.declared.message.Outcome.{Outcome}
 use Rattle.qc_msg.specs.declared.message.Outcome.TheVariants as outcomes
 use Rattle.qc_msg.specs.declared.message.Want.{Want}
-use Rattle.qc_msg.specs.declared.message.Want.TheVariants.{Read, Append, Prepare}
+use Rattle.qc_msg.specs.declared.message.Want.TheVariants.{Read, Prepare}
 use Rattle.qc_msg.specs.Begun.{has_granted}
-use Rattle.qc_msg.specs.Counts.{answered, operations_of, written}
-use Rattle.qc_msg.specs.Deeds.{Deed, Sends, deeds, mail}
+use Rattle.qc_msg.specs.Counts.{answered, operations_of}
+use Rattle.qc_msg.specs.Deeds.{Sends, deeds, mail}
 use Rattle.qc_msg.specs.Steps.{Entry}
 use Rattle.qc_msg.proofs.Growth.{operations-written}
 use Rattle.qc_plan.specs.Round.{cyclic}
 use Rattle.qc_promise.specs.Account.{Account, ClientRequest, Current, is_append}
 use Rattle.qc_promise.specs.Accounting.{account}
-use Rattle.qc_promise.specs.Rounds.{participants}
 use Rattle.qc_protocol.specs.Acts.{state}
-use Rattle.qc_protocol.specs.State.{State, Status, Voting as IsVoting}
+use Rattle.qc_protocol.specs.State.{Status, Voting as IsVoting}
 use Rattle.qc_protocol.specs.StateLaws.{IsOutcome}
 use Rattle.qc_protocol.proofs.Keeps.{laws}
 use Rattle.qc_script.specs.Runs.{Runs}
@@ -52,18 +48,16 @@ use Rattle.qc_laws.proofs.Proper.{run_proper}
 use Rattle.qc_laws.proofs.SiteReplies.{IsProperFrom}
 use Rattle.qc_laws.specs.Turns.{ActsIn}
 use Rattle.qc_account.specs.Calls.{ballot_of, calls_in}
-use Rattle.qc_account.specs.Ties.{Appends, IsPrepare, Reads, Rests, Ties, Votes, appends, reads, rests, votes}
+use Rattle.qc_account.specs.Ties.{Ties, Votes, appends, reads, rests, votes}
 use Rattle.qc_account.specs.Told.{IsOpenIn}
-use Rattle.qc_account.specs.Waits.{IsAwaited}
 use Rattle.qc_account.proofs.Courses.{clients_tied}
 use Rattle.qc_account.proofs.Declared.{asks_declared}
 use Rattle.qc_net.specs.Messages.{Backed, IsGrantTo, IsRequest, IsVerdictBacked}
 use Rattle.qc_net.specs.Mirrors.{Refines}
-use Rattle.qc_net.specs.Net.{Net}
 use Rattle.qc_atomic.proofs.Names.{script_named}
 use Rattle.qc_atomic.proofs.Stood.{Stood, runs_stand}
 use Rattle.qc_guarantees.specs.Votes.{IsOpenVote}
-use Rattle.qc_guarantees.proofs.Accounts.{HasGrounds, WasGranted, WasSent, WasTaken}
+use Rattle.qc_guarantees.proofs.Accounts.{HasGrounds, WasGranted, WasSent}
 use Rattle.qc_guarantees.proofs.Grounds.{has_grounds}
 use Rattle.qc_guarantees.proofs.Mailed.{sent_as, sent_mail, taken_mail}
 use Rattle.qc_guarantees.proofs.NetHolds.{AreFullMessages, IsGrantedBy, WasEnded, granted_or_ended, same_request}
@@ -120,7 +114,15 @@ module _ (decl : Declaration) (script : Script) (accepted : IsAccepted decl) (so
       let asked : IsRequest (mail h) w.number site tx w.want = request_sent a w.number site tx w.epoch w.named w.want w.asked in
       let from : (w.taken.envelope.from ≡ site) × (b.tx ≡ tx) × (b.want ≡ w.want) = one_request w.number w.taken.envelope.from site b.tx tx b.want w.want (subst (λ (ms : List Envelope). IsRequest ms w.number w.taken.envelope.from b.tx b.want) stood.mail_is b.request) asked in
       record {
-        answer = w.taken.envelope; sent = here; from = from.0; number = w.number; life = w.life; clock = w.clock; log = w.log; grants = w.taken.is; want = w.want;
+        answer = w.taken.envelope;
+        sent = here;
+        from = from.0;
+        number = w.number;
+        life = w.life;
+        clock = w.clock;
+        log = w.log;
+        grants = w.taken.is;
+        want = w.want;
         asked = subst (λ (ms : List Envelope). IsRequest ms w.number site tx w.want) (sym stood.mail_is) asked;
       }
 
@@ -128,7 +130,7 @@ module _ (decl : Declaration) (script : Script) (accepted : IsAccepted decl) (so
   pub asked_site : (a : ℕ) (n to : ℕ) (tx : TxId) (epoch life : ℕ) (want : Want) → In (Sends n to (messages.Request tx epoch life want)) (deeds a [] h) → is_site decl to ≡ true
   asked_site a n to tx epoch life want among =
       let p : IsProperFrom decl a to (messages.Request tx epoch life want) = every-In (λ (x : Envelope). IsProperFrom decl x.from x.to x.message) (sent_as a n to (messages.Request tx epoch life want)) (mail h)
-          (run_proper decl script accepted (asks_declared decl script accepted sound) h open_inputs run) (sent_mail a [] h n to (messages.Request tx epoch life want) among) in
+      (run_proper decl script accepted (asks_declared decl script accepted sound) h open_inputs run) (sent_mail a [] h n to (messages.Request tx epoch life want) among) in
       lt-ltb to decl.sites p.1.0
 
   module _ (a : ℕ) (client : is_client decl a ≡ true) (free : slice_get open_inputs a ≡ Some false) (q : ClientRequest) (k : IsOpenVote (account decl a h) q) where

@@ -1,34 +1,31 @@
 -- A client that waits for a promise still, after an input, tells and writes nothing in its turn, and waits after it.
-use Rattle.std.proofs.Common.{◌≡◌, ◌⊎◌, ◌<◌, ◌≤◌, ◌+◌, ◌-◌, ◌==◌, ◌&&◌, ℕ, nat_le, Bool, true, false, cond, List, [], ◌∷◌, ◌++◌, inl, inr, length, Option, Some, None, is_none, is_some, slice_get, refl, sym, ap, ◌∙◌, subst, arith}
-use Rattle.std.specs.Prelude.{fold, option_and_then, slice_set}
-use Rattle.std.specs.List.{AllByRecursion as Every, find, list_all}
-use Rattle.std.proofs.lemmas.List.{append-nil}
+use Rattle.std.proofs.Common.{◌≡◌, ◌≤◌, ◌+◌, ◌-◌, ◌==◌, ◌&&◌, ℕ, Bool, true, false, cond, List, [], ◌∷◌, ◌++◌, inl, inr, length, Option, Some, None, is_some, refl, sym, ap, ◌∙◌, subst}
+use Rattle.std.specs.Prelude.{fold, option_and_then}
+use Rattle.std.specs.List.{find, list_all}
 use Rattle.std.proofs.lemmas.List.Sums.{fold-append}
 use Rattle.qc_list.specs.Members.{In}
 use Rattle.qc_list.proofs.Members.{In-filter, In-first, every-In}
-use Rattle.qc_entry.specs.declared.record.Commit.{Commit as CommitRecord}
 use Rattle.qc_core.specs.Acts.{Acts, posts}
 use Rattle.qc_core.specs.Conduct.{IsLawful}
 use Rattle.qc_decl.specs.declared.declaration.Declaration.{Declaration}
-use Rattle.qc_decl.specs.Actors.{is_client, is_site}
+use Rattle.qc_decl.specs.Actors.{is_client}
 use Rattle.qc_msg.specs.declared.message.Answer.{Answer}
 use Rattle.qc_msg.specs.declared.message.Answer.TheVariants as answers
 use Rattle.qc_msg.specs.declared.message.Message.{Message}
 use Rattle.qc_msg.specs.declared.message.Message.TheVariants as messages
 use Rattle.qc_msg.specs.declared.message.Want.{Want}
-use Rattle.qc_msg.specs.declared.message.Want.TheVariants.{Read, Append, Prepare}
+use Rattle.qc_msg.specs.declared.message.Want.TheVariants.{Prepare}
 use Rattle.qc_msg.specs.declared.record.Record.{Record}
 use Rattle.qc_msg.specs.declared.record.Record.TheVariants as records
 use Rattle.qc_msg.specs.declared.reply.Reply.{Reply}
 use Rattle.qc_msg.specs.declared.reply.Reply.TheVariants as replies
 use Rattle.qc_msg.specs.declared.reply.Why.TheVariants as causes
-use Rattle.qc_msg.specs.declared.step.Command.{Command}
 use Rattle.qc_msg.specs.declared.step.Command.TheVariants as commands
 use Rattle.qc_msg.specs.declared.step.Given.{Given}
 use Rattle.qc_msg.specs.declared.step.Given.TheVariants as given
 use Rattle.qc_msg.specs.declared.turn.Posting.{Posting}
 use Rattle.qc_msg.specs.declared.turn.Turn.{Turn}
-use Rattle.qc_msg.specs.Deeds.{Deed, Takes, Writes, Sends, Tells, sends_of, tells_of, turn_deeds, writes_of}
+use Rattle.qc_msg.specs.Deeds.{Deed, Takes, Writes, sends_of, tells_of, turn_deeds, writes_of}
 use Rattle.qc_promise.specs.Account.{Account, ClientRequest, Current, is_prepare, new_account, requests_for}
 use Rattle.qc_promise.specs.Accounting.{account_at, account_heard, account_sent, account_taken, account_written, counted, counted_for, granted, is_open, promised, taken_for, told_by}
 use Rattle.qc_promise.specs.Asked.{is_asked_for}
@@ -36,7 +33,7 @@ use Rattle.qc_promise.specs.Rounds.{are_votes_in, first_against, participants}
 use Rattle.qc_promise.specs.Rows.{commit_row, due, row_of, vote_row}
 use Rattle.qc_promise.specs.Rows as rows
 use Rattle.qc_account.specs.DeedsDue.{AreDeedsDue}
-use Rattle.qc_account.specs.Ties.{IsPrepare, Ties, Votes}
+use Rattle.qc_account.specs.Ties.{IsPrepare, Votes}
 use Rattle.qc_account.proofs.Courses.{IsAtInput, account_of, client_acts, clients_due, turns_tell}
 use Rattle.qc_client.specs.Conduct.{client_after}
 use Rattle.qc_net.specs.Net.{commits_in}
@@ -175,7 +172,7 @@ module _ (decl : Declaration) where
     nothing_due : due decl (account_of decl a client ds) [] ≡ None
     nothing_due =
         let same : IsAsBefore (account_of decl a client at.before) (account_taken (account_of decl a client at.before) at.given) = taken_same (account_of decl a client at.before) at.given q taken_among
-            (λ p among. (every-In (IsPrepare tie.t) p (account_of decl a client at.before).requests tie.prepares among).want) in
+        (λ p among. (every-In (IsPrepare tie.t) p (account_of decl a client at.before).requests tie.prepares among).want) in
         none_due (account_of decl a client ds) tie.t q (ap (λ (d : Account). d.command) account_is ∙ same.0 ∙ tie.command) (ap (λ (d : Account). d.current) account_is ∙ same.1 ∙ tie.current) tie.live k
 
     module _ (turn : Turn) (first : ℕ) (low : n ≤ first) (law : IsLawful decl a ds turn) where
