@@ -1,1 +1,3 @@
 pub mod Votes
+pub mod Held
+pub mod Wrong

@@ -8,8 +8,19 @@
 //!    transaction, and what it would promise fits a record
 //!    (`asked_sites_remember`). So no vote that counts is Stale or Behind, and
 //!    nobody is told that a site has forgotten (`votes_are_never_stale`).
+//! 2. What a site granted to a transaction that committed it holds, from that
+//!    turn on, until it takes the Decision (`granted_items_are_held`).
+//! 3. With a line, the log that a Read is granted has each committed line of its
+//!    object before it on which its invocation depends
+//!    (`granted_logs_are_closed`).
+//! 4. The definitions refuse sites that forget (`forgetful_sites_are_refused`,
+//!    `lost_locks_are_refused`).
 #![tactic(auto)]
 
+mod holdings;
 mod votes;
+mod wrong;
 
+pub use holdings::{granted_items_are_held, granted_logs_are_closed};
 pub use votes::{asked_sites_remember, votes_are_never_stale};
+pub use wrong::{forgetful_sites_are_refused, lost_locks_are_refused};
