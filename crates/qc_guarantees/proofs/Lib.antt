@@ -16,3 +16,5 @@ pub mod Against
 pub mod Counted
 pub mod HeldLaw
 pub mod ClosedLogs
+pub mod ClockLaw
+pub mod SiteClocks
