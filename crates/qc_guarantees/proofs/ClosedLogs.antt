@@ -1,5 +1,5 @@
 -- The log that a Read is granted is closed.
-use Rattle.std.proofs.Common.{◌≡◌, ℕ, Bool, List, Some, slice_get, refl, sym, ap, ◌∙◌, subst}
+use Rattle.std.proofs.Common.{◌≡◌, ℕ, Bool, List, Some, slice_get, refl, sym, ◌∙◌, subst}
 use Rattle.qc_stamp.specs.declared.stamp.TxId.{TxId}
 use Rattle.qc_list.specs.Members.{In}
 use Rattle.qc_entry.specs.declared.line.Line.{Line}
@@ -11,7 +11,6 @@ use Rattle.qc_msg.specs.declared.message.Answer.TheVariants.{Granted}
 use Rattle.qc_msg.specs.declared.message.Envelope.{Envelope}
 use Rattle.qc_msg.specs.declared.message.Message.{Message}
 use Rattle.qc_msg.specs.declared.message.Message.TheVariants as messages
-use Rattle.qc_msg.specs.declared.message.Want.{Want}
 use Rattle.qc_msg.specs.declared.message.Want.TheVariants.{Read}
 use Rattle.qc_msg.specs.Counts.{written}
 use Rattle.qc_msg.specs.Deeds.{mail}
