@@ -1,0 +1,18 @@
+//! Laws of undisturbed runs, each the contract of a function with nothing to do.
+
+ghost use Rattle.std.specs.Prelude.{ℕ, Bool, List};
+ghost use Rattle.qc_core.specs.Conduct.{IsLawful};
+ghost use Rattle.qc_decl.specs.declared.declaration.Declaration.{Declaration};
+ghost use Rattle.qc_msg.specs.Steps.{Entry};
+ghost use Rattle.qc_script.specs.Runs.{Runs};
+ghost use Rattle.qc_script.specs.declared.script.Script.{Script};
+ghost use Rattle.qc_undisturbed.specs.Arrives.{Arrives};
+ghost use Rattle.qc_undisturbed.specs.Undisturbed.{IsUndisturbed};
+
+/// Each message that was sent to an actor was taken or is ready, once and in
+/// order.
+#[tactic(auto, using(crate::proofs::Passing::run_arrives))]
+pub fn nothing_is_lost()
+    ensures { (decl : Declaration) (script : Script) (h : List Entry) (open_inputs : List Bool)
+        → IsUndisturbed script → Runs (IsLawful decl) decl script h open_inputs → (a : ℕ) → Arrives script a h }
+{}
