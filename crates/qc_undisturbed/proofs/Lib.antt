@@ -1,3 +1,4 @@
 pub mod Passing
 pub mod Held
 pub mod AskedSites
+pub mod Names

@@ -1,3 +1,5 @@
 pub mod Undisturbed
 pub mod Arrives
 pub mod Open
+pub mod Elsewhere
+pub mod Succeeds
