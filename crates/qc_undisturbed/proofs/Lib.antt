@@ -2,3 +2,5 @@ pub mod Passing
 pub mod Held
 pub mod AskedSites
 pub mod Names
+pub mod OpenDeeds
+pub mod OwnWords
