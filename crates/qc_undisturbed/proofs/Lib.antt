@@ -4,3 +4,7 @@ pub mod AskedSites
 pub mod Names
 pub mod OpenDeeds
 pub mod OwnWords
+pub mod Accounts
+pub mod Grounds
+pub mod Mailed
+pub mod FirstAccounts

@@ -1,5 +1,6 @@
 pub mod Undisturbed
 pub mod Arrives
 pub mod Open
+pub mod First
 pub mod Elsewhere
 pub mod Succeeds
