@@ -8,3 +8,5 @@ pub mod Accounts
 pub mod Grounds
 pub mod Mailed
 pub mod FirstAccounts
+pub mod ClientWords
+pub mod FirstSites
