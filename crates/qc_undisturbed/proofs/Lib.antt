@@ -10,3 +10,6 @@ pub mod Mailed
 pub mod FirstAccounts
 pub mod ClientWords
 pub mod FirstSites
+pub mod Opened
+pub mod FirstRuns
+pub mod AtRest

@@ -3,4 +3,4 @@
 
 mod laws;
 
-pub use laws::nothing_is_lost;
+pub use laws::{lives_and_epochs_are_the_first, no_request_is_lost, what_is_held_at_rest_is_begun};
