@@ -13,3 +13,4 @@ pub mod FirstSites
 pub mod Opened
 pub mod FirstRuns
 pub mod AtRest
+pub mod Still
