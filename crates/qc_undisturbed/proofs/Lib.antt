@@ -14,3 +14,4 @@ pub mod Opened
 pub mod FirstRuns
 pub mod AtRest
 pub mod Still
+pub mod Fitting

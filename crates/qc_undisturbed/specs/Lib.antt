@@ -2,5 +2,6 @@ pub mod Undisturbed
 pub mod Arrives
 pub mod Open
 pub mod First
+pub mod Answers
 pub mod Elsewhere
 pub mod Succeeds
