@@ -56,7 +56,7 @@ first_envelopes a n (p ∷ ps) all = (all.0, first_envelopes a (n + 1) ps all.1)
 
 -- what an actor took is of the mail
 
-given_first : (h : List Entry) (a : ℕ) (g : Given) → AreFirst (mail h) → In (Takes g) (deeds a [] h) → FirstGiven g
+pub given_first : (h : List Entry) (a : ℕ) (g : Given) → AreFirst (mail h) → In (Takes g) (deeds a [] h) → FirstGiven g
 given_first h a (given.Called command) all among = tt
 given_first h a (given.Got e) all among = every-In (λ (e : Envelope). IsFirst e.message) e (mail h) all (taken_mail a [] h e among)
 given_first h a (given.Lost number) all among = tt

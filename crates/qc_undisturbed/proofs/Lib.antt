@@ -15,3 +15,4 @@ pub mod FirstRuns
 pub mod AtRest
 pub mod Still
 pub mod Fitting
+pub mod AnswerRuns
