@@ -16,3 +16,4 @@ pub mod AtRest
 pub mod Still
 pub mod Fitting
 pub mod AnswerRuns
+pub mod Asking
