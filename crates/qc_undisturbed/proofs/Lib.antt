@@ -17,3 +17,4 @@ pub mod Still
 pub mod Fitting
 pub mod AnswerRuns
 pub mod Asking
+pub mod Clear

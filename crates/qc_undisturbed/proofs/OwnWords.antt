@@ -206,7 +206,7 @@ module _ (decl : Declaration) (script : Script) (accepted : IsAccepted decl) (as
 
   -- who sends something is an actor; past the sites it is a client
 
-  client_is : (a : ℕ) → decl.sites ≤ a → a < actors decl → is_client decl a ≡ true
+  pub client_is : (a : ℕ) → decl.sites ≤ a → a < actors decl → is_client decl a ≡ true
   client_is a above low = by (nat_le decl.sites a) (nat_lt a (actors decl)) (le-leb decl.sites a above) (lt-ltb a (actors decl) low)
     where
       by : (t u : Bool) → t ≡ true → u ≡ true → (t && u) ≡ true
