@@ -18,3 +18,4 @@ pub mod Fitting
 pub mod AnswerRuns
 pub mod Asking
 pub mod Clear
+pub mod Counted
