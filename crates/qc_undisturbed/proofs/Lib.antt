@@ -19,3 +19,5 @@ pub mod AnswerRuns
 pub mod Asking
 pub mod Clear
 pub mod Counted
+pub mod Voters
+pub mod Verdicts
