@@ -21,3 +21,5 @@ pub mod Clear
 pub mod Counted
 pub mod Voters
 pub mod Verdicts
+pub mod Each
+pub mod Dos

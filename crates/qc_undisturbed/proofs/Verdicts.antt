@@ -72,7 +72,7 @@ module _ (P : TxId → Type 0) where
 
   -- where all are noted and nobody clashes, all granted
 
-  abbrev AllGranted : List Asked → Type 0
+  abbrev pub AllGranted : List Asked → Type 0
   AllGranted asked = Every (λ (a : Asked). is_granted a.standing ≡ true) asked
 
   all_granted : (asked : List Asked) → AreGood P asked → all_noted asked ≡ true → first_clash asked ≡ None → AllGranted asked
@@ -87,7 +87,7 @@ module _ (P : TxId → Type 0) where
       by (Some (standings.Closed epoch)) is never noted free rest = absurd never
       by (Some standings.Missing) is never noted free rest = absurd never
 
-  granted_sites : (asked : List Asked) (site : ℕ) → AllGranted asked → In site (map (λ (a : Asked). a.site) asked) → has_granted asked site ≡ true
+  pub granted_sites : (asked : List Asked) (site : ℕ) → AllGranted asked → In site (map (λ (a : Asked). a.site) asked) → has_granted asked site ≡ true
   granted_sites [] site all never = absurd never
   granted_sites (a ∷ asked) site all (inl same) =
       ap (λ (t : Bool). (t && is_granted a.standing) || has_granted asked site) (eq-eqb a.site site (sym same))
