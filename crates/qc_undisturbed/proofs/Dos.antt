@@ -45,7 +45,7 @@ use Rattle.qc_promise.specs.Rounds.{answer_of, asked_by, resp_of, round_of, stan
 use Rattle.qc_promise.specs.Rows.{answer_row, append_row, do_row, due, read_row, row_of}
 use Rattle.qc_account.proofs.Courses.{clients_due, turns_tell}
 use Rattle.qc_undisturbed.specs.Elsewhere.{IsOpenElsewhere, before_phase, begun_by, name_of}
-use Rattle.qc_undisturbed.specs.Succeeds.{DoOf, DoSucceeds, EachReply, IsDone, OfRunning}
+use Rattle.qc_undisturbed.specs.Succeeds.{DoOf, DoSucceeds, DosSucceed, EachReply, IsDone, OfRunning}
 use Rattle.qc_undisturbed.specs.Undisturbed.{IsUndisturbed}
 use Rattle.qc_undisturbed.proofs.Asking.{IsBusy, is_busy}
 use Rattle.qc_undisturbed.proofs.Clear.{IsElsewhere}
@@ -273,9 +273,9 @@ module _ (decl : Declaration) (script : Script) (accepted : IsAccepted decl) (as
       ∙ fold-append (account_at decl) (new_account (b - decl.sites)) (deeds b [] older) (turn_deeds (length (mail older)) (untold turn))))
       (untold_stays decl (account decl b older) (length (mail older)) (untold turn) refl)
 
-  reply_succeeds : (older : List Entry) (before : List Bool) → Runs (IsLawful decl) decl script older before → (b : ℕ) → is_client decl b ≡ true → (turn : Turn) → slice_get before b ≡ Some true → IsLawful decl b (deeds b [] older) turn
+  reply_succeeds : (older : List Entry) (before : List Bool) → Runs (IsLawful decl) decl script older before → (b : ℕ) → is_client decl b ≡ true → (turn : Turn) → slice_get before b ≡ Some true → IsLawful decl b (deeds b [] older) turn → Unit {0}
       → (r : Reply) → turn.told ≡ Some r → DoSucceeds decl (older ++ by b (posted (length (mail older)) (untold turn))) b r
-  reply_succeeds older before run b named turn is_opened lawful r told =
+  reply_succeeds older before run b named turn is_opened lawful any r told =
       let s : Stays (account decl b older) (account decl b (older ++ by b (posted (length (mail older)) (untold turn)))) = post_stays older b turn in
       subst (λ (o : Option Current). OfRunning (DoOf decl (older ++ by b (posted (length (mail older)) (untold turn))) b r) o (account decl b (older ++ by b (posted (length (mail older)) (untold turn)))).command) (sym s.current)
       (subst (λ (c : Option Command). OfRunning (DoOf decl (older ++ by b (posted (length (mail older)) (untold turn))) b r) (account decl b older).current c) (sym s.command)
@@ -300,5 +300,8 @@ module _ (decl : Declaration) (script : Script) (accepted : IsAccepted decl) (as
       at (Some t) current (Some commands.Abort) command = tt
       at (Some t) current (Some (commands.Epoch number)) command = tt
 
-  pub run_dos : (h : List Entry) (open_inputs : List Bool) → Runs (IsLawful decl) decl script h open_inputs → EachReply (DoSucceeds decl) [] h
-  run_dos h open_inputs run = run_each (DoSucceeds decl) decl script reply_succeeds h open_inputs run
+  run_dos : (h : List Entry) (open_inputs : List Bool) → Runs (IsLawful decl) decl script h open_inputs → EachReply (DoSucceeds decl) [] h
+  run_dos h open_inputs run = run_each (DoSucceeds decl) (λ h. Unit {0}) (λ h k within. tt) decl script reply_succeeds h open_inputs run tt
+
+pub dos_succeed : (decl : Declaration) (script : Script) → IsAccepted decl → AsksDeclared decl script → IsUndisturbed script → (h : List Entry) (open_inputs : List Bool) → Runs (IsLawful decl) decl script h open_inputs → DosSucceed decl h
+dos_succeed decl script accepted asks calm h open_inputs run = run_dos decl script accepted asks calm h open_inputs run

@@ -78,20 +78,25 @@ module _ (P : List Entry → ℕ → Reply → Type 0) where
   control_quiet before a (controls.Crash x) step is = absurd (let never : ⊥ = cc in never)
   control_quiet before a (controls.Restart x) step is = absurd (let never : ⊥ = cc in never)
 
-  module _ (decl : Declaration) (script : Script)
-      (good : (older : List Entry) (before : List Bool) → Runs (IsLawful decl) decl script older before → (b : ℕ) → is_client decl b ≡ true → (turn : Turn) → slice_get before b ≡ Some true → IsLawful decl b (deeds b [] older) turn
+  -- Q holds of the history, and of what stands before in it
+  module _ (Q : List Entry → Type 0) (shorter : (h k : List Entry) → Q (h ++ k) → Q h) (decl : Declaration) (script : Script)
+      (good : (older : List Entry) (before : List Bool) → Runs (IsLawful decl) decl script older before → (b : ℕ) → is_client decl b ≡ true → (turn : Turn) → slice_get before b ≡ Some true → IsLawful decl b (deeds b [] older) turn → Q older
           → (r : Reply) → turn.told ≡ Some r → P (older ++ by b (posted (length (mail older)) (untold turn))) b r) where
-    replies_good : (older : List Entry) (before : List Bool) → Runs (IsLawful decl) decl script older before → (b : ℕ) (turn : Turn) → slice_get before b ≡ Some true → IsLawful decl b (deeds b [] older) turn
+    replies_good : (older : List Entry) (before : List Bool) → Runs (IsLawful decl) decl script older before → (b : ℕ) (turn : Turn) → slice_get before b ≡ Some true → IsLawful decl b (deeds b [] older) turn → Q older
         → (r : Reply) → turn.told ≡ Some r → P (older ++ by b (posted (length (mail older)) (untold turn))) b r
-    replies_good older before run b turn open_still lawful r is =
+    replies_good older before run b turn open_still lawful within r is =
         lawful_turn (λ (t : Turn). t.told ≡ Some r → P (older ++ by b (posted (length (mail older)) (untold turn))) b r) decl b (deeds b [] older) turn lawful
         (λ site its. absurd (let none : (site_after decl b (deeds b [] older)).turn.told ≡ None = (site_answering decl b (deeds b [] older)).told in let never : ⊥ = cc in never))
-        (λ site named its. good older before run b named turn open_still lawful r is) is
+        (λ site named its. good older before run b named turn open_still lawful within r is) is
 
-    pub run_each : (h : List Entry) (open_inputs : List Bool) → Runs (IsLawful decl) decl script h open_inputs → EachReply P [] h
-    run_each h open_inputs begins = tt
-    run_each h open_inputs (takes b g before older run free rdy) = each_more [] older (marked b (step_of g) ∷ []) (run_each older before run) (input_quiet older b g, tt)
-    run_each h open_inputs (posts b turn before older run open_still lawful) =
-        each_more [] older (by b (posted (length (mail older)) turn)) (run_each older before run) (each_posted older b (length (mail older)) turn (replies_good older before run b turn open_still lawful))
-    run_each h open_inputs (phase before older run none done rests more) = each_more [] older (marked (controller decl) (steps.Phase (phase_of older + 1)) ∷ []) (run_each older before run) (tt, tt)
-    run_each h open_inputs (control line lines step before older run left is) = each_more [] older (marked (controller decl) step ∷ []) (run_each older before run) (control_quiet older (controller decl) line step is, tt)
+    pub run_each : (h : List Entry) (open_inputs : List Bool) → Runs (IsLawful decl) decl script h open_inputs → Q h → EachReply P [] h
+    run_each h open_inputs begins within = tt
+    run_each h open_inputs (takes b g before older run free rdy) within =
+        each_more [] older (marked b (step_of g) ∷ []) (run_each older before run (shorter older (marked b (step_of g) ∷ []) within)) (input_quiet older b g, tt)
+    run_each h open_inputs (posts b turn before older run open_still lawful) within =
+        each_more [] older (by b (posted (length (mail older)) turn)) (run_each older before run (shorter older (by b (posted (length (mail older)) turn)) within))
+        (each_posted older b (length (mail older)) turn (replies_good older before run b turn open_still lawful (shorter older (by b (posted (length (mail older)) turn)) within)))
+    run_each h open_inputs (phase before older run none done rests more) within =
+        each_more [] older (marked (controller decl) (steps.Phase (phase_of older + 1)) ∷ []) (run_each older before run (shorter older (marked (controller decl) (steps.Phase (phase_of older + 1)) ∷ []) within)) (tt, tt)
+    run_each h open_inputs (control line lines step before older run left is) within =
+        each_more [] older (marked (controller decl) step ∷ []) (run_each older before run (shorter older (marked (controller decl) step ∷ []) within)) (control_quiet older (controller decl) line step is, tt)

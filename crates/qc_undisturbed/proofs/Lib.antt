@@ -23,3 +23,4 @@ pub mod Voters
 pub mod Verdicts
 pub mod Each
 pub mod Dos
+pub mod Commits

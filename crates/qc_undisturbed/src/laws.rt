@@ -18,6 +18,7 @@ ghost use Rattle.qc_site.specs.Conduct.{site_after};
 ghost use Rattle.qc_undisturbed.specs.Arrives.{Arrives};
 ghost use Rattle.qc_undisturbed.specs.Elsewhere.{begun_by};
 ghost use Rattle.qc_undisturbed.specs.First.{AreFirst};
+ghost use Rattle.qc_undisturbed.specs.Succeeds.{DosSucceed};
 ghost use Rattle.qc_undisturbed.specs.Undisturbed.{IsUndisturbed};
 
 /// Each message that was sent to an actor was taken or is ready for it, once
@@ -44,4 +45,15 @@ pub fn what_is_held_at_rest_is_begun()
         → Runs (IsLawful decl) decl script h open_inputs → (site : ℕ) → (inbox script site h).copies ≡ []
         → Every (λ (x : Held). begun_by decl (client_actor decl x.tx.client) h ≡ Some x.tx)
         (site_after decl site (deeds site [] h)).site.held }
+{}
+
+/// Each `do` of a begun transaction that isn't doomed and has room is told its
+/// response, or that none is legal, or a transaction that is in its way: one of
+/// another client, which that one began in an earlier phase and which hasn't
+/// ended. So no `do` is short of a quorum, and none finds an epoch closed.
+#[tactic(auto, using(crate::proofs::Dos::dos_succeed))]
+pub fn undisturbed_dos_succeed()
+    ensures { (decl : Declaration) (script : Script) → IsAccepted decl → AsksDeclared decl script
+        → IsUndisturbed script → (h : List Entry) (open_inputs : List Bool)
+        → Runs (IsLawful decl) decl script h open_inputs → DosSucceed decl h }
 {}
