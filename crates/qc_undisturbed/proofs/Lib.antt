@@ -24,3 +24,4 @@ pub mod Verdicts
 pub mod Each
 pub mod Dos
 pub mod Commits
+pub mod WrongOnes

@@ -5,3 +5,4 @@ pub mod First
 pub mod Answers
 pub mod Elsewhere
 pub mod Succeeds
+pub mod Wrong
