@@ -1,0 +1,16 @@
+pub mod Mailed
+pub mod Accounts
+pub mod Grounds
+pub mod Lengths
+pub mod SiteMoves
+pub mod NetHolds
+pub mod Room
+pub mod Requests
+pub mod ClientTalks
+pub mod Rightful
+pub mod Voted
+pub mod Waiting
+pub mod Stale
+pub mod Unforgotten
+pub mod Against
+pub mod Counted

@@ -1,0 +1,195 @@
+-- No site that a client waits for has forgotten what it is asked to promise, and so no vote says so.
+use Rattle.std.proofs.Common.{◌≡◌, ◌<◌, ◌≤◌, ◌+◌, ◌-◌, ◌==◌, ℕ, zero, suc, nat_le, nat_lt, Bool, true, false, cond, List, [], ◌∷◌, ◌++◌, length, Some, None, slice_get, refl, sym, ap, ◌∙◌, subst, arith, eqb-true, eq-eqb, ltb-true}
+use Rattle.std.specs.Prelude.{fold, slice_set, sum_by}
+use Rattle.std.proofs.lemmas.List.{append-nil}
+use Rattle.std.proofs.lemmas.List.Sums.{sum_by-append}
+use Rattle.qc_stamp.specs.declared.stamp.TxId.{TxId}
+use Rattle.qc_list.specs.Members.{In}
+use Rattle.qc_list.proofs.Members.{every-at, every-from_In}
+use Rattle.qc_entry.specs.declared.record.Commit.{Commit as CommitRecord}
+use Rattle.qc_core.specs.Conduct.{IsLawful}
+use Rattle.qc_decl.specs.declared.declaration.Declaration.{Declaration}
+use Rattle.qc_decl.specs.Accepted.{IsAccepted}
+use Rattle.qc_decl.specs.Actors.{actors, is_client, is_site}
+use Rattle.qc_decl.specs.Limits.{most_record_bytes}
+use Rattle.qc_lock.specs.Held.{is_held}
+use Rattle.qc_msg.specs.declared.message.Answer.{Answer}
+use Rattle.qc_msg.specs.declared.message.Envelope.{Envelope}
+use Rattle.qc_msg.specs.declared.message.Message.{Message}
+use Rattle.qc_msg.specs.declared.message.Message.TheVariants as messages
+use Rattle.qc_msg.specs.declared.message.Want.{Want}
+use Rattle.qc_msg.specs.declared.message.Want.TheVariants.{Prepare}
+use Rattle.qc_msg.specs.declared.step.Given.{Given}
+use Rattle.qc_msg.specs.declared.turn.Posting.{Posting}
+use Rattle.qc_msg.specs.declared.turn.Turn.{Turn}
+use Rattle.qc_msg.specs.Counts.{answered, answered_in, commit_in, operations_of, written}
+use Rattle.qc_msg.specs.Deeds.{Deed, WasSentTo, deeds, mail}
+use Rattle.qc_msg.specs.Steps.{Entry, by as by_actor, posted}
+use Rattle.qc_msg.proofs.Growth.{deeds-other, deeds-posted, operations-written}
+use Rattle.qc_promise.specs.Account.{ClientRequest, new_account}
+use Rattle.qc_promise.specs.Accounting.{account, account_at}
+use Rattle.qc_protocol.specs.Acts.{state}
+use Rattle.qc_script.specs.Runs.{Runs, posts}
+use Rattle.qc_script.specs.Sound.{IsScriptFor}
+use Rattle.qc_script.specs.declared.script.Script.{Script}
+use Rattle.qc_client.specs.Conduct.{client_after}
+use Rattle.qc_site.specs.Conduct.{passed, site_at, site_after, site_takes}
+use Rattle.qc_site.specs.Promise.{prepare_length, promise_of}
+use Rattle.qc_site.specs.Site.{SiteMove}
+use Rattle.qc_laws.proofs.Acted.{has_entry, run_acts}
+use Rattle.qc_laws.proofs.Places.{slice_get-set_other, slice_get-set_same}
+use Rattle.qc_laws.specs.Turns.{ActsIn}
+use Rattle.qc_net.specs.Messages.{Backed, IsRequest}
+use Rattle.qc_net.specs.Sites.{SiteMirrors}
+use Rattle.qc_atomic.proofs.Posted.{written_posted}
+use Rattle.qc_atomic.proofs.Stood.{OpenSite}
+use Rattle.qc_guarantees.specs.Votes.{IsOpenVote}
+use Rattle.qc_guarantees.proofs.Accounts.{and_second}
+use Rattle.qc_guarantees.proofs.NetHolds.{both}
+use Rattle.qc_guarantees.proofs.SiteMoves.{Forgets, IsAnsweringTo, answers_requests, prepares_remembered}
+use Rattle.qc_guarantees.proofs.Voted.{asked, mirror, one_request, site_has_room, site_holds, stood, tie}
+use Rattle.qc_guarantees.proofs.Waiting.{still_open, writes_no_commit}
+
+pub below_length : {X : Type 0} (xs : List X) (n : ℕ) (x : X) → slice_get xs n ≡ Some x → n < length xs
+below_length [] n x is = absurd (let never : ⊥ = cc in never)
+below_length (y ∷ ys) zero x is = omega arith
+below_length (y ∷ ys) (suc n) x is = let rest : n < length ys = below_length ys n x is in omega arith
+
+pub at_in : (ms : List Envelope) (n : ℕ) (e : Envelope) → slice_get ms n ≡ Some e → In e ms
+at_in ms n e is = every-at (λ (x : Envelope). In x ms) ms n e (every-from_In (λ (x : Envelope). In x ms) ms (λ x among. among)) is
+
+-- the operations of a history that goes on
+pub operations_grow : (h k : List Entry) → operations_of h ≤ operations_of (h ++ k)
+operations_grow h k = let all : operations_of (h ++ k) ≡ operations_of h + operations_of k = sum_by-append (λ (e : Entry). answered_in (commit_in e.step)) h k in omega arith
+
+module _ (decl : Declaration) (script : Script) (accepted : IsAccepted decl) (sound : IsScriptFor decl script) where
+  -- an answer of a site with an open input doesn't say that it has forgotten what a client waits for, which has none
+
+  module _ (h : List Entry) (open_inputs : List Bool) (run : Runs (IsLawful decl) decl script h open_inputs) (few : operations_of h ≤ 2048) (a : ℕ) (client : is_client decl a ≡ true) (free : slice_get open_inputs a ≡ Some false)
+      (q : ClientRequest) (k : IsOpenVote (account decl a h) q) (b : ℕ) (site : is_site decl b ≡ true) (taken : slice_get open_inputs b ≡ Some true) where
+    pub says_remembered : (p : Posting) (n : ℕ) (x : Answer) → In p (site_after decl b (deeds b [] h)).turn.sends → p.message ≡ messages.Answer n x → Forgets x → q.number ≡ n → ⊥
+    says_remembered p n x among is forgets same = by (answers_requests decl ((stood decl script accepted sound h open_inputs run).net.sites b) o.given p n x posted_here is)
+      where
+        o : OpenSite decl script ((stood decl script accepted sound h open_inputs run).net.sites b) b h
+        o = ((stood decl script accepted sound h open_inputs run).sites_are b site).opened taken
+
+        posted_here : In p (site_takes decl ((stood decl script accepted sound h open_inputs run).net.sites b) o.given).turn.sends
+        posted_here = subst (λ (m : SiteMove). In p m.turn.sends) o.is among
+
+        by : IsAnsweringTo o.given n → ⊥
+        by r = prepares_remembered decl (passed ((stood decl script accepted sound h open_inputs run).net.sites b) r.envelope.message) r.envelope.from r.envelope.number r.tx r.epoch r.life
+            (backed.2 ∙ sym mirrors.epoch) held fits p n x at_site is forgets
+          where
+            sent : (slice_get (mail h) r.envelope.number ≡ Some r.envelope) × (r.envelope.to ≡ b)
+            sent = subst (WasSentTo b (mail h)) r.is o.sent
+
+            number_is : r.envelope.number ≡ q.number
+            number_is = r.numbered ∙ sym same
+
+            here : IsRequest (mail h) q.number b r.tx r.want
+            here = record { envelope = r.envelope; epoch = r.epoch; life = r.life; numbered = ap (slice_get (mail h)) (sym number_is) ∙ sent.0; addressed = sent.1; content = r.content }
+
+            one : (q.site ≡ b) × ((tie decl script accepted sound h open_inputs run a client free q k).t.tx ≡ r.tx) × (Prepare ≡ r.want)
+            one = one_request decl script accepted sound h open_inputs run q.number q.site b (tie decl script accepted sound h open_inputs run a client free q k).t.tx r.tx Prepare r.want
+                (asked decl script accepted sound h open_inputs run a client free q k) here
+
+            among_net : In r.envelope (stood decl script accepted sound h open_inputs run).net.mail
+            among_net = subst (λ (ms : List Envelope). In r.envelope ms) (sym (stood decl script accepted sound h open_inputs run).mail_is) (at_in (mail h) r.envelope.number r.envelope sent.0)
+
+            mirrors : SiteMirrors ((stood decl script accepted sound h open_inputs run).net.sites b) ((state (mirror decl script accepted sound h open_inputs run).acts).deeds b)
+            mirrors = (mirror decl script accepted sound h open_inputs run).agrees.sites b site
+
+            backed : Backed decl (state (mirror decl script accepted sound h open_inputs run).acts) (stood decl script accepted sound h open_inputs run).net.mail r.envelope.from r.envelope.to (messages.Request r.tx r.epoch r.life r.want)
+            backed = subst (λ (m : Message). Backed decl (state (mirror decl script accepted sound h open_inputs run).acts) (stood decl script accepted sound h open_inputs run).net.mail r.envelope.from r.envelope.to m) r.content
+                ((mirror decl script accepted sound h open_inputs run).agrees.mail r.envelope among_net)
+
+            held : is_held ((stood decl script accepted sound h open_inputs run).net.sites b).held r.tx ≡ true
+            held = subst (λ (t : ℕ). is_held ((stood decl script accepted sound h open_inputs run).net.sites t).held r.tx ≡ true) one.0
+                (subst (λ (tx : TxId). is_held ((stood decl script accepted sound h open_inputs run).net.sites q.site).held tx ≡ true) one.1 (site_holds decl script accepted sound h open_inputs run a client free q k))
+
+            fits : nat_le (prepare_length (promise_of ((stood decl script accepted sound h open_inputs run).net.sites b) r.tx)) most_record_bytes ≡ true
+            fits = subst (λ (t : ℕ). nat_le (prepare_length (promise_of ((stood decl script accepted sound h open_inputs run).net.sites t) r.tx)) most_record_bytes ≡ true) one.0
+                (subst (λ (tx : TxId). nat_le (prepare_length (promise_of ((stood decl script accepted sound h open_inputs run).net.sites q.site) tx)) most_record_bytes ≡ true) one.1 (site_has_room decl script accepted sound h open_inputs run a client free q k few))
+
+            content : r.envelope.message ≡ messages.Request r.tx r.epoch r.life Prepare
+            content = r.content ∙ ap (λ (w : Want). messages.Request r.tx r.epoch r.life w) (sym one.2)
+
+            at_site : In p (site_at decl (passed ((stood decl script accepted sound h open_inputs run).net.sites b) r.envelope.message) r.envelope.from r.envelope.number (messages.Request r.tx r.epoch r.life Prepare)).turn.sends
+            at_site = subst (λ (m : Message). In p (site_at decl (passed ((stood decl script accepted sound h open_inputs run).net.sites b) r.envelope.message) r.envelope.from r.envelope.number m).turn.sends) content
+                (subst (λ (g : Given). In p (site_takes decl ((stood decl script accepted sound h open_inputs run).net.sites b) g).turn.sends) r.is posted_here)
+
+  -- where the client has an open input, its turn tells nothing, and it waits still after it
+  module _ (h : List Entry) (open_inputs : List Bool) (run : Runs (IsLawful decl) decl script h open_inputs) (a : ℕ) (client : is_client decl a ≡ true)
+      (q : ClientRequest) (k : IsOpenVote (account decl a h) q) (opened : slice_get open_inputs a ≡ Some true) where
+    no_site : is_site decl a ≡ false
+    no_site = at (is_site decl a) refl
+      where
+        at : (t : Bool) → is_site decl a ≡ t → t ≡ false
+        at true here = absurd (both decl a here client)
+        at false other = refl
+
+    abbrev pub turn : Turn
+    turn = (client_after decl (a - decl.sites) (deeds a [] h)).turn
+
+    law : IsLawful decl a (deeds a [] h) turn
+    law = lawful (is_site decl a) (is_client decl a) no_site client
+      where
+        lawful : (s c : Bool) → s ≡ false → c ≡ true → cond s (Some (site_after decl a (deeds a [] h)).turn) (cond c (Some (client_after decl (a - decl.sites) (deeds a [] h)).turn) None) ≡ Some (client_after decl (a - decl.sites) (deeds a [] h)).turn
+        lawful true c none is = absurd (let never : ⊥ = cc in never)
+        lawful false true none is = refl
+        lawful false false none is = absurd (let never : ⊥ = cc in never)
+
+    acts : ActsIn decl a h true
+    acts = run_acts decl script h open_inputs run a true opened
+
+    abbrev pub later : List Entry
+    later = h ++ by_actor a (posted (length (mail h)) turn)
+
+    pub later_run : Runs (IsLawful decl) decl script later (slice_set open_inputs a false)
+    later_run = posts a turn open_inputs h run opened law
+
+    pub still : IsOpenVote (account decl a later) q
+    still = subst (λ (ds : List Deed). IsOpenVote (fold (account_at decl) (new_account (a - decl.sites)) ds) q) (sym (deeds-posted a (length (mail h)) h turn))
+        (still_open decl a client (deeds a [] h) acts.above acts.acts q k turn (length (mail h)) acts.within law)
+
+    same_written : written later ≡ written h
+    same_written = written_posted h a (length (mail h)) turn ∙ ap (λ (cs : List CommitRecord). written h ++ cs) (writes_no_commit decl a client (deeds a [] h) acts.above acts.acts q k turn (length (mail h)) acts.within law) ∙ append-nil (written h)
+
+    pub later_few : operations_of h ≤ 2048 → operations_of later ≤ 2048
+    later_few few = subst (λ (n : ℕ). n ≤ 2048) (operations-written h ∙ ap (sum_by (λ (c : CommitRecord). answered c.ops)) (sym same_written) ∙ sym (operations-written later)) few
+
+    pub later_closed : slice_get (slice_set open_inputs a false) a ≡ Some false
+    later_closed = slice_get-set_same open_inputs a false true opened
+
+    module _ (b : ℕ) (site : is_site decl b ≡ true) where
+      apart : (a == b) ≡ false
+      apart = at (a == b) refl
+        where
+          at : (t : Bool) → (a == b) ≡ t → t ≡ false
+          at true same = absurd (both decl b site (subst (λ (n : ℕ). is_client decl n ≡ true) (eqb-true a b same) client))
+          at false other = refl
+
+      pub same_deeds : deeds b [] later ≡ deeds b [] h
+      same_deeds = deeds-other a b [] h (posted (length (mail h)) turn) apart
+
+      pub same_slot : slice_get (slice_set open_inputs a false) b ≡ slice_get open_inputs b
+      same_slot = slice_get-set_other open_inputs a b false (λ e. (let t : (a == b) ≡ true = eq-eqb a b e in let f : (a == b) ≡ false = apart in let never : ⊥ = cc in never))
+
+  pub client_slot : (h : List Entry) (open_inputs : List Bool) → Runs (IsLawful decl) decl script h open_inputs → (a : ℕ) → is_client decl a ≡ true → (t : Bool) × (slice_get open_inputs a ≡ Some t)
+  client_slot h open_inputs run a client = has_entry (IsLawful decl) decl script h open_inputs run a (ltb-true a (actors decl) (and_second (nat_le decl.sites a) (nat_lt a (actors decl)) client))
+
+  -- so a site doesn't say either way that it has forgotten
+  module _ (h : List Entry) (open_inputs : List Bool) (run : Runs (IsLawful decl) decl script h open_inputs) (few : operations_of h ≤ 2048) (a : ℕ) (client : is_client decl a ≡ true)
+      (q : ClientRequest) (k : IsOpenVote (account decl a h) q) (b : ℕ) (site : is_site decl b ≡ true) (taken : slice_get open_inputs b ≡ Some true) where
+    later_remembered : (opened : slice_get open_inputs a ≡ Some true) (p : Posting) (n : ℕ) (x : Answer) → In p (site_after decl b (deeds b [] h)).turn.sends → p.message ≡ messages.Answer n x → Forgets x → q.number ≡ n → ⊥
+    later_remembered opened p n x among is forgets same =
+        says_remembered (later h open_inputs run a client q k opened) (slice_set open_inputs a false) (later_run h open_inputs run a client q k opened) (later_few h open_inputs run a client q k opened few) a client
+        (later_closed h open_inputs run a client q k opened) q (still h open_inputs run a client q k opened) b site (same_slot h open_inputs run a client q k opened b site ∙ taken)
+        p n x (subst (λ (ds : List Deed). In p (site_after decl b ds).turn.sends) (sym (same_deeds h open_inputs run a client q k opened b site)) among) is forgets same
+
+    pub remembered : (p : Posting) (n : ℕ) (x : Answer) → In p (site_after decl b (deeds b [] h)).turn.sends → p.message ≡ messages.Answer n x → Forgets x → q.number ≡ n → ⊥
+    remembered = by (client_slot h open_inputs run a client)
+      where
+        by : (t : Bool) × (slice_get open_inputs a ≡ Some t) → (p : Posting) (n : ℕ) (x : Answer) → In p (site_after decl b (deeds b [] h)).turn.sends → p.message ≡ messages.Answer n x → Forgets x → q.number ≡ n → ⊥
+        by (true, opened) = later_remembered opened
+        by (false, free) = says_remembered h open_inputs run few a client free q k b site taken
