@@ -43,7 +43,7 @@ use Rattle.qc_undisturbed.proofs.FirstAccounts.{FirstGiven}
 use Rattle.qc_undisturbed.proofs.FirstRuns.{given_first, run_first}
 use Rattle.qc_undisturbed.proofs.Fitting.{AnswersTo, FitsMessage, IfAnswers, fits_on}
 use Rattle.qc_undisturbed.proofs.Held.{held_open}
-use Rattle.qc_undisturbed.proofs.Mailed.{taken_mail}
+use Rattle.qc_guarantees.proofs.Mailed.{taken_mail}
 use Rattle.qc_undisturbed.proofs.Opened.{IsAtTake, opened}
 use Rattle.qc_undisturbed.proofs.Passing.{run_arrives}
 

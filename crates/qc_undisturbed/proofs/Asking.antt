@@ -34,8 +34,8 @@ use Rattle.qc_account.specs.DeedsDue.{AreDeedsDue, IsSendDue}
 use Rattle.qc_undisturbed.specs.Elsewhere.{name_of}
 use Rattle.qc_undisturbed.specs.Open.{asks_to_hold, open_said}
 use Rattle.qc_undisturbed.specs.Arrives.{sent_to}
-use Rattle.qc_undisturbed.proofs.Accounts.{IsTakenNow, after_taken, told_requests}
-use Rattle.qc_undisturbed.proofs.Grounds.{asked_current}
+use Rattle.qc_guarantees.proofs.Accounts.{IsTakenNow, after_taken, told_requests}
+use Rattle.qc_guarantees.proofs.Grounds.{asked_current}
 use Rattle.qc_undisturbed.proofs.Names.{Stays, sends_stay, stays_named, stays_on, writes_stay}
 
 -- a request after an input was there before it

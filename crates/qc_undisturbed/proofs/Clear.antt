@@ -43,11 +43,11 @@ use Rattle.qc_undisturbed.specs.Arrives.{sent_to}
 use Rattle.qc_undisturbed.specs.Elsewhere.{before_phase, begun_by, name_of}
 use Rattle.qc_undisturbed.specs.Open.{is_open, is_open_at, open_said}
 use Rattle.qc_undisturbed.specs.Undisturbed.{IsUndisturbed}
-use Rattle.qc_undisturbed.proofs.Accounts.{HasGrounds, WasSent}
+use Rattle.qc_guarantees.proofs.Accounts.{HasGrounds, WasSent}
 use Rattle.qc_undisturbed.proofs.AnswerRuns.{number_from}
 use Rattle.qc_undisturbed.proofs.Asking.{IsBusy, IsFrom, IsNamed, due_second, is_busy, less_open, taken_from, told_clears, turn_named}
-use Rattle.qc_undisturbed.proofs.Grounds.{has_grounds, turn_old}
-use Rattle.qc_undisturbed.proofs.Mailed.{sent_as, sent_mail}
+use Rattle.qc_guarantees.proofs.Grounds.{has_grounds, turn_old}
+use Rattle.qc_guarantees.proofs.Mailed.{sent_as, sent_mail}
 use Rattle.qc_undisturbed.proofs.Names.{stays_named, taken_named, untold_stays}
 use Rattle.qc_undisturbed.proofs.OwnWords.{client_is, open_begun}
 use Rattle.qc_undisturbed.proofs.Still.{IsStill, one_still, posted_parts}

@@ -1,5 +1,5 @@
--- In each undisturbed run each commit of a transaction that may commit does, where no vote is Stale.
-use Rattle.std.proofs.Common.{◌≡◌, ◌⊎◌, inl, inr, ℕ, ◌+◌, ◌-◌, ◌≤◌, ◌*◌, ◌==◌, Bool, true, false, cond, List, [], ◌∷◌, ◌++◌, length, Option, Some, None, slice_get, refl, sym, ap, ◌∙◌, subst}
+-- In each undisturbed run each commit of a transaction that may commit does: each vote is a promise, since none is Stale.
+use Rattle.std.proofs.Common.{◌≡◌, ◌⊎◌, inl, inr, ℕ, ◌+◌, ◌-◌, ◌≤◌, ◌*◌, ◌==◌, Bool, true, false, cond, List, [], ◌∷◌, ◌++◌, length, Option, Some, None, slice_get, refl, sym, ap, ◌∙◌, subst, arith}
 use Rattle.std.specs.Prelude.{option_and_then}
 use Rattle.std.specs.Option.{option_or}
 use Rattle.qc_list.specs.Members.{In}
@@ -7,6 +7,7 @@ use Rattle.qc_list.proofs.Members.{In-passes, In-unfiltered}
 use Rattle.qc_core.specs.Conduct.{IsLawful}
 use Rattle.qc_decl.specs.Accepted.{IsAccepted}
 use Rattle.qc_decl.specs.Actors.{is_client}
+use Rattle.qc_decl.specs.Limits.{most_committed_operations}
 use Rattle.qc_decl.specs.declared.declaration.Declaration.{Declaration}
 use Rattle.qc_msg.specs.declared.message.Answer.{Answer}
 use Rattle.qc_msg.specs.declared.message.Answer.TheVariants as answers
@@ -19,9 +20,11 @@ use Rattle.qc_msg.specs.declared.reply.Why.TheVariants as causes
 use Rattle.qc_msg.specs.declared.step.Command.{Command}
 use Rattle.qc_msg.specs.declared.step.Command.TheVariants as commands
 use Rattle.qc_msg.specs.declared.turn.Turn.{Turn}
+use Rattle.qc_msg.specs.Counts.{operations_of}
 use Rattle.qc_msg.specs.Deeds.{deeds, mail}
 use Rattle.qc_msg.specs.Steps.{Entry, by, posted}
 use Rattle.qc_script.specs.Runs.{Runs}
+use Rattle.qc_script.specs.Sound.{IsScriptFor}
 use Rattle.qc_script.specs.declared.script.Script.{Script}
 use Rattle.qc_laws.specs.Asked.{AsksDeclared}
 use Rattle.qc_laws.specs.Turns.{ActsIn}
@@ -31,8 +34,11 @@ use Rattle.qc_promise.specs.Accounting.{account}
 use Rattle.qc_promise.specs.Rounds.{against, are_votes_in, first_against}
 use Rattle.qc_promise.specs.Rows.{commit_row, due, next_stamp, row_of, vote_row}
 use Rattle.qc_account.proofs.Courses.{turns_tell}
+use Rattle.qc_account.proofs.Declared.{asks_declared}
+use Rattle.qc_guarantees.proofs.Counted.{counted_remembered}
+use Rattle.qc_guarantees.proofs.Stale.{operations_grow}
 use Rattle.qc_undisturbed.specs.Answers.{FitsPromise}
-use Rattle.qc_undisturbed.specs.Succeeds.{CommitOf, CommitSucceeds, EachReply, IsCommitted, OfRunning}
+use Rattle.qc_undisturbed.specs.Succeeds.{CommitOf, CommitSucceeds, CommitsSucceed, EachReply, IsCommitted, OfRunning}
 use Rattle.qc_undisturbed.specs.Undisturbed.{IsUndisturbed}
 use Rattle.qc_undisturbed.proofs.Counted.{GoodTaken, taken_good}
 use Rattle.qc_undisturbed.proofs.Dos.{post_stays}
@@ -110,3 +116,17 @@ module _ (decl : Declaration) (script : Script) (accepted : IsAccepted decl) (as
 
   pub run_commits : (h : List Entry) (open_inputs : List Bool) → Runs (IsLawful decl) decl script h open_inputs → Q h → EachReply (CommitSucceeds decl) [] h
   run_commits h open_inputs run within = run_each (CommitSucceeds decl) Q shorter decl script commit_succeeds h open_inputs run within
+
+-- below twice the limit of committed operations no vote is Stale
+
+abbrev IsFew : List Entry → Type 0
+IsFew h = operations_of h ≤ 2 * most_committed_operations
+
+few_before : (h k : List Entry) → IsFew (h ++ k) → IsFew h
+few_before h k few = let less : operations_of h ≤ operations_of (h ++ k) = operations_grow h k in omega arith
+
+pub commits_succeed : (decl : Declaration) (script : Script) → IsAccepted decl → IsScriptFor decl script → IsUndisturbed script → (h : List Entry) (open_inputs : List Bool) → Runs (IsLawful decl) decl script h open_inputs
+    → operations_of h ≤ 2 * most_committed_operations → CommitsSucceed decl h
+commits_succeed decl script accepted sound calm h open_inputs run few =
+    run_commits decl script accepted (asks_declared decl script accepted sound) calm IsFew few_before
+    (λ older before its_run within a named q among want taken. counted_remembered decl script accepted sound older before its_run within a q answers.Stale named (among, want, taken) tt) h open_inputs run few

@@ -47,11 +47,11 @@ use Rattle.qc_undisturbed.specs.Answers.{AnswersFit, Fits, FitsHold, FitsPromise
 use Rattle.qc_undisturbed.specs.Arrives.{Arrives}
 use Rattle.qc_undisturbed.specs.Elsewhere.{begun_by, name_of}
 use Rattle.qc_undisturbed.specs.Undisturbed.{IsUndisturbed}
-use Rattle.qc_undisturbed.proofs.Accounts.{HasGrounds, IsTakenNow, WasSent, WasTaken, after_taken, told_requests}
+use Rattle.qc_guarantees.proofs.Accounts.{HasGrounds, IsTakenNow, WasSent, WasTaken, after_taken, told_requests}
 use Rattle.qc_undisturbed.proofs.AnswerRuns.{number_from, run_answered}
 use Rattle.qc_undisturbed.proofs.Clear.{IsElsewhere, run_clear}
-use Rattle.qc_undisturbed.proofs.Grounds.{has_grounds}
-use Rattle.qc_undisturbed.proofs.Mailed.{sent_as, sent_mail, taken_mail}
+use Rattle.qc_guarantees.proofs.Grounds.{has_grounds}
+use Rattle.qc_guarantees.proofs.Mailed.{sent_as, sent_mail, taken_mail}
 use Rattle.qc_undisturbed.proofs.Passing.{run_arrives}
 
 -- nothing that an account counts is a loss, where no loss was taken

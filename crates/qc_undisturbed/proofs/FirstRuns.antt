@@ -44,7 +44,7 @@ use Rattle.qc_undisturbed.specs.First.{AreFirst, IsFirst}
 use Rattle.qc_undisturbed.proofs.ClientWords.{AreClientWords, IsClientWord, client_words}
 use Rattle.qc_undisturbed.proofs.FirstAccounts.{FirstGiven, RequestIsFirst, SendsFirst, TakesFirst, deeds_first, new_first}
 use Rattle.qc_undisturbed.proofs.FirstSites.{site_first}
-use Rattle.qc_undisturbed.proofs.Mailed.{taken_mail}
+use Rattle.qc_guarantees.proofs.Mailed.{taken_mail}
 use Rattle.qc_undisturbed.proofs.Opened.{IsAtTake, opened}
 
 abbrev SayFirst : List Posting → Type 0

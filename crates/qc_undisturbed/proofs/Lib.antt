@@ -4,9 +4,6 @@ pub mod AskedSites
 pub mod Names
 pub mod OpenDeeds
 pub mod OwnWords
-pub mod Accounts
-pub mod Grounds
-pub mod Mailed
 pub mod FirstAccounts
 pub mod ClientWords
 pub mod FirstSites

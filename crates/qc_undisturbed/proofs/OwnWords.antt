@@ -38,51 +38,12 @@ use Rattle.qc_records.proofs.InRuns.{HasPlace, client_low, client_no_site, clien
 use Rattle.qc_records.proofs.Lasting.{Came, request_born, verdict_came}
 use Rattle.qc_records.proofs.Moving.{Good, IsFromClient, IsMail, all_good}
 use Rattle.qc_records.proofs.StatusActs.{HasPage, pages}
+use Rattle.qc_guarantees.proofs.Mailed.{mail_sent}
 use Rattle.qc_undisturbed.specs.Arrives.{sent_to}
 use Rattle.qc_undisturbed.specs.Elsewhere.{begun_by}
 use Rattle.qc_undisturbed.specs.Open.{asks_to_hold, is_open, is_open_at, open_said}
 use Rattle.qc_undisturbed.proofs.AskedSites.{open_sent}
 use Rattle.qc_undisturbed.proofs.OpenDeeds.{open_did, open_done, open_named}
-
--- a message is a deed of its sender
-
-pub record IsSent (a : ℕ) (ms : List Envelope) (step : Step) (e : Envelope) : Type 0 where
-  pub from : e.from ≡ a
-  pub deed : deed_at ms step ≡ Sends e.number e.to e.message ∷ []
-
-step_sent : (a : ℕ) (ms : List Envelope) (step : Step) (e : Envelope) → In e (option_to_list (envelope_at a step)) → IsSent a ms step e
-step_sent a ms (steps.Phase k) e never = absurd never
-step_sent a ms (steps.Cut x y) e never = absurd never
-step_sent a ms (steps.Heal x y) e never = absurd never
-step_sent a ms (steps.Armed actor kind at) e never = absurd never
-step_sent a ms (steps.Called command) e never = absurd never
-step_sent a ms (steps.Got n) e never = absurd never
-step_sent a ms (steps.Lost n) e never = absurd never
-step_sent a ms (steps.Wrote written) e never = absurd never
-step_sent a ms (steps.Sent n to message) e (inl same) = record { from = ap (λ (x : Envelope). x.from) same; deed = ap (λ (x : Envelope). Sends x.number x.to x.message ∷ []) (sym same) }
-step_sent a ms (steps.Sent n to message) e (inr never) = absurd never
-step_sent a ms (steps.Told reply) e never = absurd never
-step_sent a ms (steps.Fell cause pending) e never = absurd never
-step_sent a ms (steps.Rose records) e never = absurd never
-step_sent a ms (steps.Damaged offset) e never = absurd never
-
-in_cons : (e : Envelope) (o : Option Envelope) (es : List Envelope) → In e (cons_option o es) → In e (option_to_list o) ⊎ In e es
-in_cons e None es among = inr among
-in_cons e (Some d) es (inl same) = inl (inl same)
-in_cons e (Some d) es (inr later) = inr later
-
-pub mail_deed : (ms : List Envelope) (h : List Entry) (e : Envelope) → In e (mail h) → In (Sends e.number e.to e.message) (deeds e.from ms h)
-mail_deed ms [] e among = absurd among
-mail_deed ms (x ∷ h) e among = by (in_cons e (envelope_of x) (mail h) among) (mail_deed (ms ++ option_to_list (envelope_of x)) h e)
-  where
-    here : IsSent x.actor ms x.step e → In (Sends e.number e.to e.message) (cond (x.actor == e.from) (deed_at ms x.step) [])
-    here s =
-        let own : (x.actor == e.from) ≡ true = eq-eqb x.actor e.from (sym s.from) in
-        subst (λ (t : Bool). In (Sends e.number e.to e.message) (cond t (deed_at ms x.step) [])) (sym own) (subst (In (Sends e.number e.to e.message)) (sym s.deed) (inl refl))
-
-    by : In e (option_to_list (envelope_of x)) ⊎ In e (mail h) → (In e (mail h) → In (Sends e.number e.to e.message) (deeds e.from (ms ++ option_to_list (envelope_of x)) h)) → In (Sends e.number e.to e.message) (deeds e.from ms (x ∷ h))
-    by (inl first) rest = In-first (Sends e.number e.to e.message) (cond (x.actor == e.from) (deed_at ms x.step) []) (deeds e.from (ms ++ option_to_list (envelope_of x)) h) (here (step_sent x.actor ms x.step e first))
-    by (inr later) rest = In-second (Sends e.number e.to e.message) (cond (x.actor == e.from) (deed_at ms x.step) []) (deeds e.from (ms ++ option_to_list (envelope_of x)) h) (rest later)
 
 -- a message that changes whether a transaction is open
 
@@ -220,7 +181,7 @@ module _ (decl : Declaration) (script : Script) (accepted : IsAccepted decl) (as
       by true low = client_is e.from above (ltb-true e.from (actors decl) low)
       by false past =
           let none : deeds e.from [] h ≡ [] = others_do_nothing (IsLawful decl) decl script h open_inputs run e.from (ltb-false e.from (actors decl) past) in
-          absurd (subst (In (Sends e.number e.to e.message)) none (mail_deed [] h e among))
+          absurd (subst (In (Sends e.number e.to e.message)) none (mail_sent [] h e among))
 
   born_own : (a : ℕ) (named : is_client decl a ≡ true) (x : TxId) → (status (deeds a [] h) x ≡ Unborn → ⊥) → a ≡ client_actor decl x.client
   born_own a named x born =
@@ -237,7 +198,7 @@ module _ (decl : Declaration) (script : Script) (accepted : IsAccepted decl) (as
   own_word x e among = by e.message refl
     where
       sent : (m : Message) → e.message ≡ m → In (Sends e.number e.to m) (deeds e.from [] h)
-      sent m is = subst (λ (m : Message). In (Sends e.number e.to m) (deeds e.from [] h)) is (mail_deed [] h e among)
+      sent m is = subst (λ (m : Message). In (Sends e.number e.to m) (deeds e.from [] h)) is (mail_sent [] h e among)
 
       proper : IsProperFrom decl e.from e.to e.message
       proper = every-In (λ (e : Envelope). IsProperFrom decl e.from e.to e.message) e (mail h) (run_proper decl script accepted asks h open_inputs run) among

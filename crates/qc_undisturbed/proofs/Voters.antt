@@ -28,7 +28,7 @@ use Rattle.qc_promise.specs.Accounting.{account_at, account_heard, account_sent,
 use Rattle.qc_promise.specs.Asked.{are_reads_met, carries, command_asks, commit_asks, do_asks, is_asked_for, is_next_voter, is_of, is_this}
 use Rattle.qc_promise.specs.Rounds.{answer_of, asked_by, weights_of}
 use Rattle.qc_account.specs.DeedsDue.{AreDeedsDue, IsSendDue}
-use Rattle.qc_undisturbed.proofs.Accounts.{told_requests}
+use Rattle.qc_guarantees.proofs.Accounts.{told_requests}
 
 -- the sites of positive weight in a client's order
 abbrev pub order : Declaration → ℕ → ℕ → List ℕ
