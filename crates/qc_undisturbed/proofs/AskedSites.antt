@@ -1,4 +1,4 @@
--- A client's transaction knows each site that it asked to hold something, and its end is told to them all: one input.
+-- A transaction knows each site that it asked to hold something, and its end is told to them all: of a front end's moves.
 use Rattle.std.proofs.Common.{◌≡◌, ℕ, ◌+◌, ◌-◌, ◌==◌, ◌&&◌, ◌⊎◌, inl, inr, nat_le, Bool, true, false, cond, List, [], ◌∷◌, ◌++◌, map, fold, length, Option, Some, None, option_map, refl, sym, ap, ◌∙◌, subst, eq-eqb, eqb-true}
 use Rattle.std.specs.Prelude.{is_some, slice_get}
 use Rattle.std.specs.Ordering.{nat_cmp}
@@ -131,19 +131,19 @@ module _ (s : ℕ) (x : TxId) where
         asked = subst (In s) (sym (asked ∙ ap (λ (v : Transaction). v.begun.asked) same)) h.asked;
       }
 
-  silent : (old new : Option Transaction) (ps : List Posting) → ps ≡ [] → (HasAsked s x old → HasAsked s x new) → Keeps old new ps
+  pub silent : (old new : Option Transaction) (ps : List Posting) → ps ≡ [] → (HasAsked s x old → HasAsked s x new) → Keeps old new ps
   silent old new ps none on before has is = on (has (ap (open_posted s x before) (sym none) ∙ is))
 
   -- one message
 
-  spoken : (before : Bool) (to : ℕ) (m : Message) → (open_said x before m ≡ true → before ≡ true) → open_sent s x before to m ≡ true → before ≡ true
+  pub spoken : (before : Bool) (to : ℕ) (m : Message) → (open_said x before m ≡ true → before ≡ true) → open_sent s x before to m ≡ true → before ≡ true
   spoken before to m less = by (to == s)
     where
       by : (t : Bool) → cond t (open_said x before m) before ≡ true → before ≡ true
       by true is = less is
       by false is = is
 
-  decision_less : (before : Bool) (y : TxId) (v : Outcome) → open_said x before (messages.Decision y v) ≡ true → before ≡ true
+  pub decision_less : (before : Bool) (y : TxId) (v : Outcome) → open_said x before (messages.Decision y v) ≡ true → before ≡ true
   decision_less before y v = by (same_tx y x && is_final v)
     where
       by : (t : Bool) → cond t false before ≡ true → before ≡ true
@@ -206,7 +206,7 @@ module _ (s : ℕ) (x : TxId) where
               let never : ⊥ = (let now : open_said x before (messages.Decision y v) ≡ true = r.was in cc) in never
 
   -- the end of a transaction is told to each site that it asked
-  ends : (b : Begun) (v : Outcome) (old new : Option Transaction) → begun_in old ≡ Some b → is_final v ≡ true → Keeps old new (decisions b v)
+  pub ends : (b : Begun) (v : Outcome) (old new : Option Transaction) → begun_in old ≡ Some b → is_final v ≡ true → Keeps old new (decisions b v)
   ends b v old new is final before has now =
       let r : IsPast b.tx b.asked before = decided b.tx v final b.asked before now in
       let h : HasAsked s x old = has r.was in
@@ -285,7 +285,7 @@ module _ (s : ℕ) (x : TxId) where
     aborts_keeps None is = still_at None (telling replies.NoTransaction) is refl
     aborts_keeps (Some t) is = gives_keeps t replies.Dropped
 
-    called_keeps : (command : Command) → Front_keeps front.transaction (fronts.called decl front command)
+    pub called_keeps : (command : Command) → Front_keeps front.transaction (fronts.called decl front command)
     called_keeps commands.Begin = begins_keeps front.transaction refl
     called_keeps (commands.Do object inv) = performs_keeps front.transaction object inv refl
     called_keeps commands.Commit = commits_keeps front.transaction refl
@@ -308,7 +308,7 @@ module _ (s : ℕ) (x : TxId) where
     read_begun t site object (Some answers.Installed) = (refl, refl)
     read_begun t site object (Some (answers.Answered verdict)) = (refl, refl)
 
-    takes_keeps : (doing : Doing) (o : Option Transaction) (number : ℕ) (answer : Option Answer) → front.transaction ≡ o → Front_keeps o (fronts.takes_in decl front doing o number answer)
+    pub takes_keeps : (doing : Doing) (o : Option Transaction) (number : ℕ) (answer : Option Answer) → front.transaction ≡ o → Front_keeps o (fronts.takes_in decl front doing o number answer)
     takes_keeps doing None number answer is = still_at None quiet is refl
     takes_keeps Idle (Some t) number answer is = still_at (Some t) quiet is refl
     takes_keeps (Reading object inv calls round) (Some t) number answer is = by (site_called calls number)
@@ -325,95 +325,3 @@ module _ (s : ℕ) (x : TxId) where
         by (Some site) =
             append_keeps decl (learns front answer) t (appended_with t site answer) object inv event (without_call calls number) (note round site (standing_of answer)) (verdict (note round site (standing_of answer)))
             (ap (λ (u : Transaction). u.begun.tx) (appended_is t site answer)) (ap (λ (u : Transaction). u.begun.asked) (appended_is t site answer))
-
-  -- a client's
-
-  module _ (decl : Declaration) (c : Client) where
-    abbrev Client_keeps : ClientMove → Type 0
-    Client_keeps m = Keeps c.front.transaction m.client.front.transaction m.turn.sends
-
-    -- the desk's: it asks for promises, or waits, or tells an end
-    promises : (b : Begun) (sites : List ℕ) (before : Bool) → open_posted s x before (map (prepares b) sites) ≡ before
-    promises b [] before = refl
-    promises b (site ∷ sites) before = ap (λ (was : Bool). open_posted s x was (map (prepares b) sites)) (one (site == s)) ∙ promises b sites before
-      where
-        one : (t : Bool) → cond t (cond (same_tx b.tx x && false) true before) before ≡ before
-        one false = refl
-        one true = by (same_tx b.tx x)
-          where
-            by : (u : Bool) → cond (u && false) true before ≡ before
-            by true = refl
-            by false = refl
-
-    decides_keeps : (desk : Desk) (b : Begun) → begun_in c.front.transaction ≡ Some b → Client_keeps (by_desk c (desks.decides desk b))
-    decides_keeps desk b is = ends b (Committed (desks.next_stamp desk)) c.front.transaction None is refl
-
-    out_keeps : (desk : Desk) (b : Begun) (o : Option Why) → begun_in c.front.transaction ≡ Some b → Client_keeps (by_desk c (desks.counted_out desk b o))
-    out_keeps desk b (Some why) is = ends b Aborted c.front.transaction None is refl
-    out_keeps desk b None is = decides_keeps desk b is
-
-    prepare_keeps : (b : Begun) (clock : ℕ) → begun_in c.front.transaction ≡ Some b → Client_keeps (by_desk c (desks.prepare decl c.desk b clock))
-    prepare_keeps b clock is = by (length (participants decl c.desk.client b) == 0)
-      where
-        by : (t : Bool) → Client_keeps (by_desk c (cond t (desks.decides (desks.passed c.desk clock) b)
-            (desk_moves.moved (desks.with_voting (desks.passed c.desk clock) (Some (record { begun = b; calls = []; ballots = blank (participants decl c.desk.client b) }))) (sending (map (prepares b) (participants decl c.desk.client b))))))
-        by true = decides_keeps (desks.passed c.desk clock) b is
-        by false = λ before has now. has (sym (promises b (participants decl c.desk.client b) before) ∙ now)
-
-    vote_keeps : (v : Voting) (number : ℕ) (answer : Option Answer) → c.desk.voting ≡ Some v → begun_in c.front.transaction ≡ Some v.begun → Client_keeps (by_desk c (desks.vote c.desk number answer))
-    vote_keeps v number answer is hand = subst (λ (o : Option Voting). Client_keeps (by_desk c (desks.votes_in c.desk o number answer))) (sym is) (at (site_called v.calls number))
-      where
-        by : (site : ℕ) (t : Bool) → Client_keeps (by_desk c (cond t (desks.counted_out (desks.learns c.desk answer) v.begun (first_against (cast v.ballots site (vote_of v.begun site answer))))
-            (desk_moves.moved (desks.with_voting (desks.learns c.desk answer) (Some (record { begun = v.begun; calls = without_call v.calls number; ballots = cast v.ballots site (vote_of v.begun site answer) }))) quiet)))
-        by site true = out_keeps (desks.learns c.desk answer) v.begun (first_against (cast v.ballots site (vote_of v.begun site answer))) hand
-        by site false = silent c.front.transaction c.front.transaction [] refl (λ h. h)
-
-        at : (o : Option ℕ) → Client_keeps (by_desk c (desks.votes_at c.desk v number answer o))
-        at None = silent c.front.transaction c.front.transaction [] refl (λ h. h)
-        at (Some site) = by site (are_cast (cast v.ballots site (vote_of v.begun site answer)))
-
-    fronted : (command : Command) → Client_keeps (by_front c (fronts.called decl c.front command))
-    fronted command = called_keeps decl c.front command
-
-    committing : (o : Option Transaction) → c.front.transaction ≡ o → Client_keeps (commits decl c o)
-    committing None is = fronted commands.Commit
-    committing (Some t) is = by t.begun.doomed
-      where
-        by : (dead : Bool) → Client_keeps (cond dead (by_front c (fronts.called decl c.front commands.Commit)) (by_desk c (desks.prepare decl c.desk t.begun c.front.clock.value)))
-        by true = fronted commands.Commit
-        by false = prepare_keeps t.begun c.front.clock.value (ap begun_in is)
-
-    calls_keep : (command : Command) → Client_keeps (called decl c command)
-    calls_keep commands.Begin = fronted commands.Begin
-    calls_keep (commands.Do object inv) = fronted (commands.Do object inv)
-    calls_keep commands.Commit = committing c.front.transaction refl
-    calls_keep commands.Abort = fronted commands.Abort
-    calls_keep (commands.Epoch number) = fronted (commands.Epoch number)
-
-    comes_keep : IsInHand c.desk.voting c.front.transaction → (number : ℕ) (answer : Option Answer) → Client_keeps (answered_by decl c c.desk.voting number answer)
-    comes_keep hand number answer = by c.desk.voting refl hand
-      where
-        by : (o : Option Voting) → c.desk.voting ≡ o → IsInHand o c.front.transaction → Client_keeps (answered_by decl c o number answer)
-        by None is has = takes_keeps decl c.front c.front.doing c.front.transaction number answer refl
-        by (Some v) is has = vote_keeps v number answer is has
-
-    nothing : Keeps c.front.transaction c.front.transaction []
-    nothing = silent c.front.transaction c.front.transaction [] refl (λ h. h)
-
-    said : (to : ℕ) (m : Message) → ((before : Bool) → open_said x before m ≡ true → before ≡ true) → Keeps c.front.transaction c.front.transaction (record { to = to; message = m } ∷ [])
-    said to m less before has now = has (spoken before to m (less before) now)
-
-    hears : IsInHand c.desk.voting c.front.transaction → (from number : ℕ) (m : Message) → Client_keeps (heard decl c from number m)
-    hears hand from number (messages.Request y epoch life want) = nothing
-    hears hand from number (messages.Answer to answer) = comes_keep hand to (Some answer)
-    hears hand from number (messages.Decision y v) = nothing
-    hears hand from number (messages.Inquiry y) = said from (messages.Decision y (outcome_of c y)) (λ before. decision_less before y (outcome_of c y))
-    hears hand from number (messages.Ask y) = said from (messages.Answer number (answers.Answered (outcome_of c y))) (λ before is. is)
-    hears hand from number (messages.Close epoch) = nothing
-    hears hand from number (messages.Install epoch clock log) = nothing
-
-    -- one input
-    pub input_keeps : IsInHand c.desk.voting c.front.transaction → (g : Given) → Client_keeps (client_takes decl c g)
-    input_keeps hand (given.Called command) = calls_keep command
-    input_keeps hand (given.Got e) = hears hand e.from e.number e.message
-    input_keeps hand (given.Lost number) = comes_keep hand number None

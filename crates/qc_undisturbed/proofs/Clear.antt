@@ -50,7 +50,9 @@ use Rattle.qc_guarantees.proofs.Grounds.{has_grounds, turn_old}
 use Rattle.qc_guarantees.proofs.Mailed.{sent_as, sent_mail}
 use Rattle.qc_undisturbed.proofs.Names.{stays_named, taken_named, untold_stays}
 use Rattle.qc_undisturbed.proofs.OwnWords.{client_is, open_begun}
-use Rattle.qc_undisturbed.proofs.Still.{IsStill, one_still, posted_parts}
+use Rattle.qc_undisturbed.proofs.PartsOf.{posted_parts}
+use Rattle.qc_undisturbed.proofs.Still.{one_still}
+use Rattle.qc_undisturbed.specs.Acting.{IsStill}
 
 pub record IsElsewhere (decl : Declaration) (a : ℕ) (h : List Entry) (x : TxId) : Type 0 where
   pub elsewhere : client_actor decl x.client ≡ a → ⊥

@@ -226,7 +226,8 @@ module _ (decl : Declaration) (script : Script) (accepted : IsAccepted decl) (as
       let same : r.request ≡ sent_as a q.number q.site (messages.Request sent.0.tx sent.2.epoch q.life q.want) =
       same_number 0 (mail h) r.request (sent_as a q.number q.site (messages.Request sent.0.tx sent.2.epoch q.life q.want)) (run_numbered (IsLawful decl) decl script h open_inputs run) r.among request r.number_is in
       let site : w.envelope.from ≡ q.site = sym r.site_is ∙ ap (λ (e : Envelope). e.to) same in
-      let message : messages.Request r.tx r.epoch r.life r.want ≡ messages.Request sent.0.tx sent.2.epoch q.life q.want = sym r.is ∙ ap (λ (e : Envelope). e.message) same in
+      let sent_message : r.request.message ≡ messages.Request sent.0.tx sent.2.epoch q.life q.want = ap (λ (e : Envelope). e.message) same in
+      let message : messages.Request r.tx r.epoch r.life r.want ≡ messages.Request sent.0.tx sent.2.epoch q.life q.want = sym r.is ∙ sent_message in
       let tx : r.tx ≡ sent.0.tx = cc in
       let want : r.want ≡ q.want = cc in
       subst (λ (k : ℕ). Fits (sent_before k q.number (mail h)) sent.0.tx q.want answer) site

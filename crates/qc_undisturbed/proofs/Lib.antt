@@ -1,6 +1,8 @@
+pub mod Calm
 pub mod Passing
 pub mod Held
 pub mod AskedSites
+pub mod AskedClients
 pub mod Names
 pub mod OpenDeeds
 pub mod OwnWords
@@ -10,6 +12,7 @@ pub mod FirstSites
 pub mod Opened
 pub mod FirstRuns
 pub mod AtRest
+pub mod PartsOf
 pub mod Still
 pub mod Fitting
 pub mod AnswerRuns
@@ -19,6 +22,7 @@ pub mod Counted
 pub mod Voters
 pub mod Verdicts
 pub mod Each
+pub mod GoodRows
 pub mod Dos
 pub mod Commits
 pub mod WrongOnes

@@ -31,7 +31,8 @@ use Rattle.qc_records.proofs.Bounding.{lawful_turn, turn-posts}
 use Rattle.qc_records.proofs.ClientsWithin.{IsPost}
 use Rattle.qc_records.proofs.InRuns.{IsResting, deals_acts}
 use Rattle.qc_undisturbed.specs.Elsewhere.{name_of}
-use Rattle.qc_undisturbed.proofs.AskedSites.{HasAsked, Keeps, input_keeps, open_posted, open_sent}
+use Rattle.qc_undisturbed.proofs.AskedClients.{input_keeps}
+use Rattle.qc_undisturbed.proofs.AskedSites.{HasAsked, open_posted, open_sent}
 use Rattle.qc_undisturbed.proofs.Names.{front_name, taken_named, tied_named}
 
 -- whether a transaction is open at a site, by what a client sent

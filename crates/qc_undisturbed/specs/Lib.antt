@@ -4,5 +4,6 @@ pub mod Open
 pub mod First
 pub mod Answers
 pub mod Elsewhere
+pub mod Acting
 pub mod Succeeds
 pub mod Wrong
