@@ -1,14 +1,14 @@
 -- In each undisturbed run each answer fits its request, by what its site was sent before.
-use Rattle.std.proofs.Common.{◌≡◌, ℕ, zero, suc, ◌+◌, ◌-◌, ◌<◌, ◌≤◌, ◌==◌, ◌⊎◌, inl, inr, Bool, true, false, cond, List, [], ◌∷◌, ◌++◌, length, Option, Some, None, slice_get, refl, sym, ap, ◌∙◌, subst, arith, eqb-true}
+use Rattle.std.proofs.Common.{◌≡◌, ℕ, zero, suc, ◌+◌, ◌-◌, ◌<◌, ◌≤◌, ◌==◌, inl, inr, Bool, true, false, cond, List, [], ◌∷◌, ◌++◌, length, Some, slice_get, refl, sym, ap, ◌∙◌, subst, arith, eqb-true}
 use Rattle.std.specs.Prelude.{filter, take}
-use Rattle.std.specs.List.{AllByRecursion as Every, cons_option}
-use Rattle.std.proofs.lemmas.List.{append-nil, append_assoc, take-append-le}
+use Rattle.std.specs.List.{AllByRecursion as Every}
+use Rattle.std.proofs.lemmas.List.{append_assoc, take-append-le}
 use Rattle.std.proofs.lemmas.List.Elements.{filter_map-append}
 use Rattle.std.proofs.lemmas.List.Sums.{fold-append}
 use Rattle.qc_list.specs.Members.{In}
-use Rattle.qc_list.proofs.Members.{In-first, In-last, In-passes, In-second, In-unfiltered, every-In, every-append, every-from_In, every-weaker}
+use Rattle.qc_list.proofs.Members.{In-first, In-last, In-passes, In-second, In-unfiltered, every-append, every-weaker}
 use Rattle.qc_core.specs.Conduct.{IsLawful}
-use Rattle.qc_decl.specs.Actors.{controller, is_client, is_site}
+use Rattle.qc_decl.specs.Actors.{controller}
 use Rattle.qc_decl.specs.declared.declaration.Declaration.{Declaration}
 use Rattle.qc_msg.specs.declared.message.Answer.{Answer}
 use Rattle.qc_msg.specs.declared.message.Envelope.{Envelope}
@@ -36,7 +36,7 @@ use Rattle.qc_laws.proofs.Numbered.{AreNumbered, control_silent, mail-silent, ph
 use Rattle.qc_records.proofs.Bounding.{lawful_turn}
 use Rattle.qc_undisturbed.specs.Answers.{AnswersFit, Fits, IfAnswered, IsAnswered, sent_before}
 use Rattle.qc_undisturbed.specs.Arrives.{Arrives, sent_to, taken, taken_by, taken_in}
-use Rattle.qc_undisturbed.specs.First.{AreFirst, IsFirst}
+use Rattle.qc_undisturbed.specs.First.{IsFirst}
 use Rattle.qc_undisturbed.specs.Undisturbed.{IsUndisturbed}
 use Rattle.qc_undisturbed.proofs.ClientWords.{AreClientWords, IsClientWord, client_words}
 use Rattle.qc_undisturbed.proofs.FirstAccounts.{FirstGiven}
@@ -252,3 +252,6 @@ module _ (decl : Declaration) (script : Script) (calm : IsUndisturbed script) wh
       subst AnswersFit (sym (mail-silent older (controller decl) (steps.Phase (phase_of older + 1)) (phase_silent (phase_of older + 1)))) (run_answered older before run)
   run_answered h open_inputs (control line lines step before older run left is) =
       subst AnswersFit (sym (mail-silent older (controller decl) step (control_silent line step is))) (run_answered older before run)
+
+pub answers_fit : (decl : Declaration) (script : Script) → IsUndisturbed script → (h : List Entry) (open_inputs : List Bool) → Runs (IsLawful decl) decl script h open_inputs → AnswersFit (mail h)
+answers_fit decl script calm h open_inputs run = run_answered decl script calm h open_inputs run

@@ -1,6 +1,6 @@
 -- A transaction knows each site that it asked to hold something, and its end is told to them all: of a front end's moves.
-use Rattle.std.proofs.Common.{◌≡◌, ℕ, ◌+◌, ◌-◌, ◌==◌, ◌&&◌, ◌⊎◌, inl, inr, nat_le, Bool, true, false, cond, List, [], ◌∷◌, ◌++◌, map, fold, length, Option, Some, None, option_map, refl, sym, ap, ◌∙◌, subst, eq-eqb, eqb-true}
-use Rattle.std.specs.Prelude.{is_some, slice_get}
+use Rattle.std.proofs.Common.{◌≡◌, ℕ, ◌==◌, ◌&&◌, inl, inr, nat_le, Bool, true, false, cond, List, [], ◌∷◌, ◌++◌, map, fold, length, Option, Some, None, option_map, refl, sym, ap, ◌∙◌, subst, eq-eqb, eqb-true}
+use Rattle.std.specs.Prelude.{slice_get}
 use Rattle.std.specs.Ordering.{nat_cmp}
 use Rattle.std.specs.declared.cmp.Ordering.{Ordering}
 use Rattle.std.specs.declared.cmp.Ordering.TheVariants.{Equal, Greater, Less}
@@ -23,22 +23,18 @@ use Rattle.qc_msg.specs.declared.message.Answer.TheVariants as answers
 use Rattle.qc_msg.specs.declared.message.Message.{Message}
 use Rattle.qc_msg.specs.declared.message.Message.TheVariants as messages
 use Rattle.qc_msg.specs.declared.message.Outcome.{Outcome}
-use Rattle.qc_msg.specs.declared.message.Outcome.TheVariants.{Aborted, Committed}
+use Rattle.qc_msg.specs.declared.message.Outcome.TheVariants.{Aborted}
 use Rattle.qc_msg.specs.declared.message.Want.{Want}
 use Rattle.qc_msg.specs.declared.reply.Reply.{Reply}
 use Rattle.qc_msg.specs.declared.reply.Reply.TheVariants as replies
-use Rattle.qc_msg.specs.declared.reply.Half.TheVariants as halves
-use Rattle.qc_msg.specs.declared.reply.Why.{Why}
 use Rattle.qc_msg.specs.declared.reply.Why.TheVariants as causes
 use Rattle.qc_msg.specs.declared.step.Command.{Command}
 use Rattle.qc_msg.specs.declared.step.Command.TheVariants as commands
-use Rattle.qc_msg.specs.declared.step.Given.{Given}
-use Rattle.qc_msg.specs.declared.step.Given.TheVariants as given
 use Rattle.qc_msg.specs.declared.turn.Posting.{Posting}
 use Rattle.qc_msg.specs.declared.turn.Turn.{Turn}
 use Rattle.qc_msg.specs.Begun.{decisions, with_site}
 use Rattle.qc_msg.specs.Calls.{site_called, without_call}
-use Rattle.qc_msg.specs.Turns.{quiet, sending, telling}
+use Rattle.qc_msg.specs.Turns.{quiet, telling}
 use Rattle.qc_promise.specs.SiteEnds.{is_final}
 use Rattle.qc_view.specs.declared.view.View.{View}
 use Rattle.qc_view.specs.View.{with_log, with_own}
@@ -55,17 +51,7 @@ use Rattle.qc_front.specs.Front.{FrontMove, aborts, begins, fresh, gives_up, nex
 use Rattle.qc_front.specs.Front as front_moves
 use Rattle.qc_front.specs.Rounds.{answered, append_by, doomed, performs, read_by, reads, with_asked}
 use Rattle.qc_front.proofs.Keeping.{appended_is, view_keeps}
-use Rattle.qc_commit.specs.declared.desk.Desk.{Desk}
-use Rattle.qc_commit.specs.declared.desk.Voting.{Voting}
-use Rattle.qc_commit.specs.Conduct as desks
-use Rattle.qc_commit.specs.Desk.{DeskMove}
-use Rattle.qc_commit.specs.Desk as desk_moves
-use Rattle.qc_commit.specs.Votes.{are_cast, blank, cast, first_against, participants, prepares, vote_of}
-use Rattle.qc_client.specs.declared.client.Client.{Client}
-use Rattle.qc_client.specs.Client.{ClientMove, by_desk, by_front, outcome_of}
-use Rattle.qc_client.specs.Conduct.{answered_by, called, client_takes, commits, heard}
 use Rattle.qc_records.specs.Books.{begun_in}
-use Rattle.qc_records.proofs.DealtClients.{IsInHand}
 use Rattle.qc_undisturbed.specs.Open.{asks_to_hold, open_said}
 
 -- sites that join

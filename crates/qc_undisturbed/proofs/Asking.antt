@@ -1,20 +1,18 @@
 -- An account's requests: they stand while a command runs, and are for its transaction.
-use Rattle.std.proofs.Common.{◌≡◌, ℕ, zero, suc, ◌+◌, ◌-◌, ◌==◌, ◌&&◌, ◌⊎◌, inl, inr, Bool, true, false, cond, List, [], ◌∷◌, ◌++◌, fold, length, Option, Some, None, option_map, refl, sym, ap, ◌∙◌, subst}
+use Rattle.std.proofs.Common.{◌≡◌, ℕ, zero, suc, ◌+◌, ◌==◌, ◌&&◌, ◌⊎◌, inl, inr, Bool, true, false, cond, List, [], ◌∷◌, ◌++◌, fold, Option, Some, None, option_map, refl, sym, ap, ◌∙◌, subst}
 use Rattle.std.specs.Prelude.{is_some, take}
 use Rattle.std.specs.List.{AllByRecursion as Every, find}
 use Rattle.std.specs.Option.{option_map_or}
 use Rattle.std.proofs.lemmas.List.Sums.{fold-append}
 use Rattle.qc_list.specs.Members.{In}
-use Rattle.qc_list.proofs.Members.{In-more}
 use Rattle.qc_stamp.specs.declared.stamp.TxId.{TxId}
 use Rattle.qc_stamp.specs.Order.{same_tx}
 use Rattle.qc_decl.specs.declared.declaration.Declaration.{Declaration}
-use Rattle.qc_lock.proofs.Entries.{same_self, tx_apart}
+use Rattle.qc_lock.proofs.Entries.{tx_apart}
 use Rattle.qc_msg.specs.declared.message.Answer.{Answer}
 use Rattle.qc_msg.specs.declared.message.Envelope.{Envelope}
 use Rattle.qc_msg.specs.declared.message.Message.{Message}
 use Rattle.qc_msg.specs.declared.message.Message.TheVariants as messages
-use Rattle.qc_msg.specs.declared.message.Outcome.{Outcome}
 use Rattle.qc_msg.specs.declared.message.Want.{Want}
 use Rattle.qc_msg.specs.declared.record.Record.{Record}
 use Rattle.qc_msg.specs.declared.record.Record.TheVariants as records
@@ -36,7 +34,7 @@ use Rattle.qc_undisturbed.specs.Open.{asks_to_hold, open_said}
 use Rattle.qc_undisturbed.specs.Arrives.{sent_to}
 use Rattle.qc_guarantees.proofs.Accounts.{IsTakenNow, after_taken, told_requests}
 use Rattle.qc_guarantees.proofs.Grounds.{asked_current}
-use Rattle.qc_undisturbed.proofs.Names.{Stays, sends_stay, stays_named, stays_on, writes_stay}
+use Rattle.qc_undisturbed.proofs.Names.{sends_stay, stays_named, writes_stay}
 
 -- a request after an input was there before it
 

@@ -1,15 +1,9 @@
 -- An inbox in which nothing is lost or late stays so, as somebody posts: each message passes.
-use Rattle.std.proofs.Common.{◌≡◌, ℕ, zero, suc, ◌+◌, ◌-◌, ◌==◌, ◌&&◌, not, Bool, true, false, if◌then◌else◌, List, [], ◌∷◌, ◌++◌, length, Option, Some, None, slice_get, refl, sym, ap, ◌∙◌, subst, eq-eqb, eqb-true}
-use Rattle.std.specs.Prelude.{drop, filter, get_or, replicate}
-use Rattle.std.specs.List.{AllByRecursion as Every, cons_option, filter_map, fold}
-use Rattle.std.specs.Option.{option_map_or}
+use Rattle.std.proofs.Common.{◌≡◌, ℕ, zero, suc, ◌+◌, ◌==◌, not, Bool, true, false, if◌then◌else◌, List, [], ◌∷◌, ◌++◌, Option, Some, None, refl, sym, ap, ◌∙◌, subst}
+use Rattle.std.specs.Prelude.{filter, get_or, replicate}
+use Rattle.std.specs.List.{fold}
 use Rattle.std.proofs.lemmas.List.{append-nil, append_assoc}
-use Rattle.std.proofs.lemmas.List.Elements.{filter-append, filter_map-append}
 use Rattle.std.proofs.lemmas.List.Sums.{fold-append}
-use Rattle.qc_list.proofs.Members.{every-at}
-use Rattle.qc_core.specs.Conduct.{IsLawful}
-use Rattle.qc_decl.specs.declared.declaration.Declaration.{Declaration}
-use Rattle.qc_decl.specs.Actors.{controller}
 use Rattle.qc_link.specs.Cuts.{no_cuts, pair_place}
 use Rattle.qc_link.specs.Fate.{fate}
 use Rattle.qc_link.specs.declared.plan.Link.{Link}
@@ -20,27 +14,14 @@ use Rattle.qc_msg.specs.declared.message.Message.{Message}
 use Rattle.qc_msg.specs.declared.message.Message.TheVariants as messages
 use Rattle.qc_msg.specs.declared.record.Record.{Record}
 use Rattle.qc_msg.specs.declared.reply.Reply.{Reply}
-use Rattle.qc_msg.specs.declared.step.Command.{Command}
-use Rattle.qc_msg.specs.declared.step.Control.{Control}
-use Rattle.qc_msg.specs.declared.step.Given.{Given}
-use Rattle.qc_msg.specs.declared.step.Given.TheVariants as given
-use Rattle.qc_msg.specs.declared.step.Step.TheVariants as steps
 use Rattle.qc_msg.specs.declared.turn.Posting.{Posting}
 use Rattle.qc_msg.specs.declared.turn.Turn.{Turn}
-use Rattle.qc_msg.specs.Deeds.{Deed, Takes, Writes, Sends, Tells, deeds, envelopes, mail, sends_of, tells_of, turn_deeds, writes_of}
-use Rattle.qc_msg.specs.Steps.{Entry, by, marked, posted, sents, step_of, told, wrote}
-use Rattle.qc_msg.proofs.Growth.{by-posted, deeds-other, deeds-posted, deeds-taken, mail-append, mail-posted, mail-taken}
-use Rattle.qc_script.specs.Inbox.{Inbox, answers_by, command_called, comes, comes_with, commands_for, copy_taken, count_of, empty_inbox, goes, goes_with, has_number, inbox, inbox_at, is_request, one_more, opened_by, phase_begun, with_copies}
-use Rattle.qc_script.specs.Ready.{after_controls, command_in, first_copy, first_lost, phase_of, ready, ready_in}
-use Rattle.qc_script.specs.Runs.{Runs, begins, takes, posts, phase, control}
-use Rattle.qc_script.specs.declared.script.PhaseLines.{PhaseLines}
+use Rattle.qc_msg.specs.Deeds.{envelopes}
+use Rattle.qc_msg.specs.Steps.{Entry, by, posted, sents, told, wrote}
+use Rattle.qc_msg.proofs.Growth.{by-posted}
+use Rattle.qc_script.specs.Inbox.{Inbox, answers_by, comes, comes_with, count_of, goes, goes_with, has_number, inbox_at, is_request, one_more, with_copies}
 use Rattle.qc_script.specs.declared.script.Script.{Script}
-use Rattle.qc_laws.proofs.Acted.{deeds-silent}
-use Rattle.qc_laws.proofs.Arrivals.{what_is_ready_was_sent}
-use Rattle.qc_laws.proofs.Covered.{ready_copy, ready_loss}
-use Rattle.qc_laws.proofs.Numbered.{mail-silent, phase_silent}
-use Rattle.qc_undisturbed.specs.Arrives.{Arrives, IsCalm, message_in, sent_to, taken, taken_by, taken_in}
-use Rattle.qc_undisturbed.specs.Undisturbed.{IsUndisturbed}
+use Rattle.qc_undisturbed.specs.Arrives.{IsCalm, sent_to}
 
 -- a message passes
 

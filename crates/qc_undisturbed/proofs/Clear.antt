@@ -1,7 +1,7 @@
 -- While a command runs, what was open at a site before one of its requests is its own transaction, or one that another
 -- client has begun and that hasn't ended.
-use Rattle.std.proofs.Common.{◌≡◌, ℕ, ◌+◌, ◌-◌, ◌<◌, ◌≤◌, ◌==◌, ◌⊎◌, inl, inr, Bool, true, false, List, [], ◌∷◌, ◌++◌, fold, length, Option, Some, None, slice_get, refl, sym, ap, ◌∙◌, subst, arith, eq-eqb, eqb-true}
-use Rattle.std.specs.Prelude.{filter, slice_set, take}
+use Rattle.std.proofs.Common.{◌≡◌, ℕ, ◌+◌, ◌-◌, ◌<◌, ◌≤◌, ◌==◌, ◌⊎◌, inl, inr, Bool, true, false, List, [], ◌∷◌, ◌++◌, fold, length, Some, None, slice_get, refl, sym, ap, ◌∙◌, subst, arith, eq-eqb, eqb-true}
+use Rattle.std.specs.Prelude.{slice_set, take}
 use Rattle.std.specs.List.{AllByRecursion as Every}
 use Rattle.std.proofs.lemmas.List.{take-append-le}
 use Rattle.std.proofs.lemmas.List.Elements.{filter-append}
@@ -24,7 +24,6 @@ use Rattle.qc_msg.specs.declared.turn.Turn.{Turn}
 use Rattle.qc_msg.specs.Deeds.{Deed, Takes, WasSentTo, deeds, envelopes, mail, turn_deeds}
 use Rattle.qc_msg.specs.Steps.{Entry, by, marked, posted, step_of}
 use Rattle.qc_msg.proofs.Growth.{deeds-other, deeds-posted, deeds-taken, mail-append, mail-posted, mail-taken}
-use Rattle.qc_script.specs.Inbox.{inbox}
 use Rattle.qc_script.specs.Ready.{phase_of}
 use Rattle.qc_script.specs.Runs.{Runs, begins, takes, posts, phase, control}
 use Rattle.qc_script.specs.declared.script.Script.{Script}
@@ -40,12 +39,12 @@ use Rattle.qc_promise.specs.Account.{Account, ClientRequest, Current, new_accoun
 use Rattle.qc_promise.specs.Accounting.{account, account_at, account_taken}
 use Rattle.qc_undisturbed.specs.Answers.{sent_before}
 use Rattle.qc_undisturbed.specs.Arrives.{sent_to}
-use Rattle.qc_undisturbed.specs.Elsewhere.{before_phase, begun_by, name_of}
+use Rattle.qc_undisturbed.specs.Elsewhere.{begun_by, name_of}
 use Rattle.qc_undisturbed.specs.Open.{is_open, is_open_at, open_said}
 use Rattle.qc_undisturbed.specs.Undisturbed.{IsUndisturbed}
 use Rattle.qc_guarantees.proofs.Accounts.{HasGrounds, WasSent}
 use Rattle.qc_undisturbed.proofs.AnswerRuns.{number_from}
-use Rattle.qc_undisturbed.proofs.Asking.{IsBusy, IsFrom, IsNamed, due_second, is_busy, less_open, taken_from, told_clears, turn_named}
+use Rattle.qc_undisturbed.proofs.Asking.{IsFrom, IsNamed, due_second, is_busy, less_open, taken_from, told_clears, turn_named}
 use Rattle.qc_guarantees.proofs.Grounds.{has_grounds, turn_old}
 use Rattle.qc_guarantees.proofs.Mailed.{sent_as, sent_mail}
 use Rattle.qc_undisturbed.proofs.Names.{stays_named, taken_named, untold_stays}

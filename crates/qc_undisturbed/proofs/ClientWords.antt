@@ -1,5 +1,5 @@
 -- A client that isn't asked how its transactions stand sends requests and verdicts alone.
-use Rattle.std.proofs.Common.{◌≡◌, ℕ, ◌==◌, ◌⊎◌, inl, inr, Bool, true, false, cond, List, [], ◌∷◌, map, Option, Some, None, refl, sym, ap, subst}
+use Rattle.std.proofs.Common.{◌≡◌, ℕ, inl, inr, Bool, true, false, cond, List, [], ◌∷◌, map, Option, Some, None, refl, sym, ap, subst}
 use Rattle.std.specs.List.{AllByRecursion as Every}
 use Rattle.qc_list.proofs.Members.{every-weaker}
 use Rattle.qc_stamp.specs.declared.stamp.TxId.{TxId}
@@ -16,7 +16,6 @@ use Rattle.qc_msg.specs.declared.step.Given.{Given}
 use Rattle.qc_msg.specs.declared.step.Given.TheVariants as given
 use Rattle.qc_msg.specs.declared.turn.Posting.{Posting}
 use Rattle.qc_msg.specs.declared.turn.Turn.{Turn}
-use Rattle.qc_msg.specs.Begun.{decisions}
 use Rattle.qc_commit.specs.declared.desk.Voting.{Voting}
 use Rattle.qc_commit.specs.Conduct as desks
 use Rattle.qc_commit.specs.Desk.{DeskMove}
@@ -26,8 +25,6 @@ use Rattle.qc_front.specs.Front.{FrontMove}
 use Rattle.qc_client.specs.declared.client.Client.{Client}
 use Rattle.qc_client.specs.Client.{ClientMove, by_desk, by_front}
 use Rattle.qc_client.specs.Conduct.{answered_by, called, client_takes, commits, heard}
-use Rattle.qc_records.specs.Books.{begun_in}
-use Rattle.qc_records.proofs.DealtClients.{IsInHand}
 use Rattle.qc_records.proofs.FrontKinds.{FrontKind, IsRequestFor, called-kind, takes-kind}
 use Rattle.qc_records.proofs.HandMoves.{IsHandMove, prepare-it, vote-it}
 use Rattle.qc_undisturbed.proofs.FirstAccounts.{FirstGiven}

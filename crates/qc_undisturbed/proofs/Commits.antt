@@ -1,5 +1,5 @@
 -- In each undisturbed run each commit of a transaction that may commit does: each vote is a promise, since none is Stale.
-use Rattle.std.proofs.Common.{◌≡◌, ◌⊎◌, inl, inr, ℕ, ◌+◌, ◌-◌, ◌≤◌, ◌*◌, ◌==◌, Bool, true, false, cond, List, [], ◌∷◌, ◌++◌, length, Option, Some, None, slice_get, refl, sym, ap, ◌∙◌, subst, arith}
+use Rattle.std.proofs.Common.{◌≡◌, inl, inr, ℕ, ◌≤◌, ◌*◌, Bool, true, false, cond, List, [], ◌∷◌, ◌++◌, length, Option, Some, None, slice_get, refl, sym, ap, ◌∙◌, subst, arith}
 use Rattle.std.specs.Prelude.{option_and_then}
 use Rattle.std.specs.Option.{option_or}
 use Rattle.qc_list.specs.Members.{In}
@@ -37,7 +37,6 @@ use Rattle.qc_account.proofs.Courses.{turns_tell}
 use Rattle.qc_account.proofs.Declared.{asks_declared}
 use Rattle.qc_guarantees.proofs.Counted.{counted_remembered}
 use Rattle.qc_guarantees.proofs.Stale.{operations_grow}
-use Rattle.qc_undisturbed.specs.Answers.{FitsPromise}
 use Rattle.qc_undisturbed.specs.Succeeds.{CommitOf, CommitSucceeds, CommitsSucceed, EachReply, IsCommitted, OfRunning}
 use Rattle.qc_undisturbed.specs.Undisturbed.{IsUndisturbed}
 use Rattle.qc_undisturbed.proofs.Counted.{GoodTaken, taken_good}

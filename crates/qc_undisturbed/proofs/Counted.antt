@@ -1,9 +1,8 @@
 -- In each undisturbed run what counts for a request is an answer that fits it; and a Clash names a transaction that is open
 -- elsewhere.
-use Rattle.std.proofs.Common.{◌≡◌, ℕ, ◌+◌, ◌-◌, ◌<◌, ◌≤◌, ◌==◌, ◌⊎◌, inl, inr, Bool, true, false, cond, List, [], ◌∷◌, ◌++◌, fold, length, Option, Some, None, option_map, slice_get, refl, sym, ap, ◌∙◌, subst, arith, eqb-true}
+use Rattle.std.proofs.Common.{◌≡◌, ℕ, ◌+◌, ◌-◌, ◌≤◌, ◌==◌, ◌⊎◌, inl, inr, Bool, true, false, cond, List, [], ◌∷◌, ◌++◌, fold, length, Option, Some, None, option_map, refl, sym, ap, ◌∙◌, subst, arith, eqb-true}
 use Rattle.std.specs.Prelude.{drop}
 use Rattle.std.specs.List.{AllByRecursion as Every, find}
-use Rattle.std.proofs.lemmas.List.Sums.{fold-append}
 use Rattle.qc_list.specs.Members.{In}
 use Rattle.qc_list.proofs.Members.{In-more, every-In, every-append}
 use Rattle.qc_stamp.specs.declared.stamp.TxId.{TxId}
@@ -25,12 +24,11 @@ use Rattle.qc_msg.specs.declared.record.Record.TheVariants as records
 use Rattle.qc_msg.specs.declared.step.Given.{Given}
 use Rattle.qc_msg.specs.declared.step.Given.TheVariants as given
 use Rattle.qc_msg.specs.declared.step.Step.TheVariants as steps
-use Rattle.qc_msg.specs.declared.turn.Turn.{Turn}
 use Rattle.qc_msg.specs.Deeds.{Deed, Takes, Writes, Sends, Tells, deeds, mail, turn_deeds}
 use Rattle.qc_msg.specs.Steps.{Entry, by, marked, posted, step_of}
 use Rattle.qc_msg.proofs.Growth.{deeds-other, deeds-posted, deeds-taken}
 use Rattle.qc_script.specs.Inbox.{inbox}
-use Rattle.qc_script.specs.Ready.{phase_of, ready}
+use Rattle.qc_script.specs.Ready.{phase_of}
 use Rattle.qc_script.specs.Runs.{Runs, begins, takes, posts, phase, control}
 use Rattle.qc_script.specs.declared.script.Script.{Script}
 use Rattle.qc_laws.specs.Asked.{AsksDeclared}
@@ -43,9 +41,9 @@ use Rattle.qc_promise.specs.Accounting.{account, account_at, account_heard, acco
 use Rattle.qc_promise.specs.Asked.{is_asked_for}
 use Rattle.qc_records.proofs.Bounding.{turn-posts}
 use Rattle.qc_records.proofs.ClientsWithin.{IsPost}
-use Rattle.qc_undisturbed.specs.Answers.{AnswersFit, Fits, FitsHold, FitsPromise, IfAnswered, IsAnswered, sent_before}
+use Rattle.qc_undisturbed.specs.Answers.{Fits, FitsHold, FitsPromise, IfAnswered, IsAnswered, sent_before}
 use Rattle.qc_undisturbed.specs.Arrives.{Arrives}
-use Rattle.qc_undisturbed.specs.Elsewhere.{begun_by, name_of}
+use Rattle.qc_undisturbed.specs.Elsewhere.{begun_by}
 use Rattle.qc_undisturbed.specs.Undisturbed.{IsUndisturbed}
 use Rattle.qc_guarantees.proofs.Accounts.{HasGrounds, IsTakenNow, WasSent, WasTaken, after_taken, told_requests}
 use Rattle.qc_undisturbed.proofs.AnswerRuns.{number_from, run_answered}
@@ -180,6 +178,15 @@ same_number k (z ∷ ms) x y are (inr later) (inl second) same =
     absurd (omega arith)
 same_number k (z ∷ ms) x y are (inr first) (inr second) same = same_number (k + 1) ms x y are.1 first second same
 
+message_is : (x y : Envelope) (m : Message) → x.message ≡ m → x ≡ y → m ≡ y.message
+message_is x y m is same = sym is ∙ ap (λ (e : Envelope). e.message) same
+
+fits_moved : (ms : List Envelope) (answer : Answer) (tx u : TxId) (e f l k : ℕ) (w v : Want) → messages.Request tx e l w ≡ messages.Request u f k v → Fits ms tx w answer → Fits ms u v answer
+fits_moved ms answer tx u e f l k w v same fit =
+    let its : tx ≡ u = cc in
+    let wants : w ≡ v = cc in
+    subst (λ (y : TxId). Fits ms y v answer) its (subst (λ (z : Want). Fits ms tx z answer) wants fit)
+
 -- what counts for a request
 
 abbrev pub GoodHold : Declaration → ℕ → List Entry → Answer → Type 0
@@ -226,13 +233,9 @@ module _ (decl : Declaration) (script : Script) (accepted : IsAccepted decl) (as
       let same : r.request ≡ sent_as a q.number q.site (messages.Request sent.0.tx sent.2.epoch q.life q.want) =
       same_number 0 (mail h) r.request (sent_as a q.number q.site (messages.Request sent.0.tx sent.2.epoch q.life q.want)) (run_numbered (IsLawful decl) decl script h open_inputs run) r.among request r.number_is in
       let site : w.envelope.from ≡ q.site = sym r.site_is ∙ ap (λ (e : Envelope). e.to) same in
-      let sent_message : r.request.message ≡ messages.Request sent.0.tx sent.2.epoch q.life q.want = ap (λ (e : Envelope). e.message) same in
-      let message : messages.Request r.tx r.epoch r.life r.want ≡ messages.Request sent.0.tx sent.2.epoch q.life q.want = sym r.is ∙ sent_message in
-      let tx : r.tx ≡ sent.0.tx = cc in
-      let want : r.want ≡ q.want = cc in
       subst (λ (k : ℕ). Fits (sent_before k q.number (mail h)) sent.0.tx q.want answer) site
-      (subst (λ (x : TxId). Fits (sent_before w.envelope.from q.number (mail h)) x q.want answer) tx
-      (subst (λ (v : Want). Fits (sent_before w.envelope.from q.number (mail h)) r.tx v answer) want r.fits))
+      (fits_moved (sent_before w.envelope.from q.number (mail h)) answer r.tx sent.0.tx r.epoch sent.2.epoch r.life q.life r.want q.want
+      (message_is r.request (sent_as a q.number q.site (messages.Request sent.0.tx sent.2.epoch q.life q.want)) (messages.Request r.tx r.epoch r.life r.want) r.is same) r.fits)
 
   hold_good : (answer : Answer) → FitsHold (sent_before q.site q.number (mail h)) sent.0.tx answer → GoodHold decl a h answer
   hold_good (answers.Granted life clock log) fit = tt

@@ -1,8 +1,8 @@
 -- What holds of each reply as its turn is posted holds of each reply of the run.
-use Rattle.std.proofs.Common.{◌≡◌, ℕ, ◌+◌, ◌-◌, Bool, true, false, cond, List, [], ◌∷◌, ◌++◌, length, Option, Some, None, slice_get, refl, sym, ap, ◌∙◌, subst}
+use Rattle.std.proofs.Common.{◌≡◌, ℕ, ◌+◌, Bool, true, List, [], ◌∷◌, ◌++◌, length, Option, Some, None, slice_get, refl, sym, ap, ◌∙◌, subst}
 use Rattle.std.proofs.lemmas.List.{append-nil, append_assoc}
 use Rattle.qc_core.specs.Conduct.{IsLawful}
-use Rattle.qc_decl.specs.Actors.{controller, is_client, is_site}
+use Rattle.qc_decl.specs.Actors.{controller, is_client}
 use Rattle.qc_decl.specs.declared.declaration.Declaration.{Declaration}
 use Rattle.qc_msg.specs.declared.record.Record.{Record}
 use Rattle.qc_msg.specs.declared.reply.Reply.{Reply}
@@ -21,7 +21,6 @@ use Rattle.qc_script.specs.Ready.{phase_of, step_of_control}
 use Rattle.qc_script.specs.Runs.{Runs, begins, takes, posts, phase, control}
 use Rattle.qc_script.specs.declared.script.Script.{Script}
 use Rattle.qc_site.specs.Conduct.{site_after}
-use Rattle.qc_client.specs.Conduct.{client_after}
 use Rattle.qc_laws.proofs.Stamped.{site_answering}
 use Rattle.qc_records.proofs.Bounding.{lawful_turn}
 use Rattle.qc_undisturbed.specs.Succeeds.{EachReply, IfTold}

@@ -1,5 +1,5 @@
 -- A client that hears of no other life or epoch than the first names no other in its requests.
-use Rattle.std.proofs.Common.{◌≡◌, ℕ, ◌+◌, ◌-◌, ◌==◌, ◌&&◌, ◌⊎◌, inl, inr, not, max, Bool, true, false, cond, List, [], ◌∷◌, ◌++◌, fold, length, Option, Some, None, option_map, refl, sym, ap, ◌∙◌, subst, eqb-true}
+use Rattle.std.proofs.Common.{◌≡◌, ℕ, ◌==◌, ◌&&◌, ◌⊎◌, inl, inr, not, max, Bool, true, false, cond, List, [], ◌∷◌, ◌++◌, fold, length, Option, Some, None, option_map, refl, ◌∙◌, eqb-true}
 use Rattle.std.specs.List.{AllByRecursion as Every, find}
 use Rattle.std.specs.Option.{option_map_or}
 use Rattle.qc_list.proofs.Members.{every-append}
@@ -27,8 +27,8 @@ use Rattle.qc_msg.specs.declared.step.Given.{Given}
 use Rattle.qc_msg.specs.declared.step.Given.TheVariants as given
 use Rattle.qc_msg.specs.Begun.{first_epoch, has_granted, life_of, with_life}
 use Rattle.qc_msg.specs.Deeds.{Deed, Takes, Writes, Sends, Tells}
-use Rattle.qc_promise.specs.Account.{Account, ClientRequest, Current, is_append, new_account, new_current, requests_for}
-use Rattle.qc_promise.specs.Accounting.{account_at, account_heard, account_sent, account_taken, account_told, account_told_in, account_written, begun, counted, counted_for, doomed_if, ended, found_absent, granted, is_open, lived, promised, refused, requested, responded, short_of, taken_for, told_by, with_absent, with_current, with_read, with_response}
+use Rattle.qc_promise.specs.Account.{Account, ClientRequest, Current, is_append, new_account, requests_for}
+use Rattle.qc_promise.specs.Accounting.{account_at, account_heard, account_sent, account_taken, account_told, account_told_in, account_written, counted, counted_for, doomed_if, found_absent, granted, is_open, lived, promised, refused, responded, short_of, taken_for, told_by, with_absent, with_current, with_read, with_response}
 use Rattle.qc_promise.specs.Asked.{command_asks, is_asked_for, is_of}
 use Rattle.qc_promise.specs.Rounds.{answer_of}
 use Rattle.qc_account.specs.DeedsDue.{AreDeedsDue, IsSendDue}

@@ -1,17 +1,16 @@
 -- In each run no message names another life or epoch than the first.
-use Rattle.std.proofs.Common.{◌≡◌, ℕ, ◌+◌, ◌-◌, Bool, true, false, List, [], ◌∷◌, ◌++◌, length, Option, Some, None, slice_get, refl, sym, ap, ◌∙◌, subst}
+use Rattle.std.proofs.Common.{◌≡◌, ℕ, ◌+◌, ◌-◌, Bool, true, false, List, [], ◌∷◌, ◌++◌, length, Some, slice_get, refl, sym, ap, ◌∙◌, subst}
 use Rattle.std.specs.Prelude.{slice_set}
 use Rattle.std.specs.List.{AllByRecursion as Every}
 use Rattle.std.proofs.lemmas.List.Sums.{fold-append}
 use Rattle.qc_list.specs.Members.{In}
-use Rattle.qc_list.proofs.Members.{In-first, In-last, every-In, every-append, every-from_In}
+use Rattle.qc_list.proofs.Members.{In-last, every-In, every-append, every-from_In}
 use Rattle.qc_core.specs.Conduct.{IsLawful}
 use Rattle.qc_decl.specs.Actors.{controller, is_client, is_site}
 use Rattle.qc_decl.specs.declared.declaration.Declaration.{Declaration}
 use Rattle.qc_msg.specs.declared.message.Envelope.{Envelope}
 use Rattle.qc_msg.specs.declared.message.Message.{Message}
 use Rattle.qc_msg.specs.declared.message.Message.TheVariants as messages
-use Rattle.qc_msg.specs.declared.record.Record.{Record}
 use Rattle.qc_msg.specs.declared.step.Given.{Given}
 use Rattle.qc_msg.specs.declared.step.Given.TheVariants as given
 use Rattle.qc_msg.specs.declared.step.Step.TheVariants as steps
@@ -24,17 +23,17 @@ use Rattle.qc_msg.proofs.Growth.{deeds-posted, mail-append, mail-posted, mail-ta
 use Rattle.qc_script.specs.Ready.{phase_of}
 use Rattle.qc_script.specs.Runs.{Runs, begins, takes, posts, phase, control}
 use Rattle.qc_script.specs.declared.script.Script.{Script}
-use Rattle.qc_site.specs.Conduct.{site_after, site_does, site_takes}
+use Rattle.qc_site.specs.Conduct.{site_after, site_does}
 use Rattle.qc_site.specs.Site.{SiteMove, new_site}
 use Rattle.qc_site.specs.Site as sites
 use Rattle.qc_site.proofs.Rows.{after_at_first}
 use Rattle.qc_client.specs.Client.{ClientMove, moved, new_client}
-use Rattle.qc_client.specs.Conduct.{client_after, client_does, client_takes}
+use Rattle.qc_client.specs.Conduct.{client_after, client_does}
 use Rattle.qc_laws.specs.Turns.{ActsIn}
 use Rattle.qc_laws.proofs.Acted.{run_acts}
 use Rattle.qc_laws.proofs.Numbered.{control_silent, mail-silent, phase_silent}
 use Rattle.qc_laws.proofs.Places.{slice_get-set_same}
-use Rattle.qc_laws.proofs.Served.{first_part, second_part}
+use Rattle.qc_laws.proofs.Served.{second_part}
 use Rattle.qc_account.proofs.Courses.{clients_due}
 use Rattle.qc_account.specs.DeedsDue.{AreDeedsDue}
 use Rattle.qc_promise.specs.Account.{new_account}

@@ -1,5 +1,5 @@
 -- A site's answer fits the request that it took.
-use Rattle.std.proofs.Common.{◌≡◌, ℕ, ◌==◌, ◌⊎◌, inl, inr, Bool, true, false, List, [], ◌∷◌, Option, Some, None, refl, sym, ap, ◌∙◌, subst}
+use Rattle.std.proofs.Common.{◌≡◌, ℕ, List, None, refl}
 use Rattle.std.specs.List.{AllByRecursion as Every}
 use Rattle.qc_stamp.specs.declared.stamp.TxId.{TxId}
 use Rattle.qc_decl.specs.declared.declaration.Declaration.{Declaration}
@@ -10,7 +10,6 @@ use Rattle.qc_msg.specs.declared.message.Message.TheVariants as messages
 use Rattle.qc_msg.specs.declared.message.Outcome.TheVariants.{Aborted, Active, Committed}
 use Rattle.qc_msg.specs.declared.message.Want.{Want}
 use Rattle.qc_msg.specs.declared.message.Want.TheVariants.{Append, Prepare, Read}
-use Rattle.qc_msg.specs.declared.step.Given.{Given}
 use Rattle.qc_msg.specs.declared.step.Given.TheVariants as given
 use Rattle.qc_msg.specs.declared.turn.Posting.{Posting}
 use Rattle.qc_site.specs.Conduct.{passed, site_at, site_takes}
@@ -19,7 +18,6 @@ use Rattle.qc_site.specs.Site.{IsAtFirst, SiteMove, SiteState}
 use Rattle.qc_site.proofs.Cases.{append_cases, join_cases, prepare_cases, read_cases, request_cases}
 use Rattle.qc_undisturbed.specs.Answers.{Fits}
 use Rattle.qc_undisturbed.specs.First.{IsFirst}
-use Rattle.qc_undisturbed.proofs.FirstAccounts.{FirstGiven}
 use Rattle.qc_undisturbed.proofs.FirstSites.{first_free}
 use Rattle.qc_undisturbed.proofs.Held.{AreOpen, IsInTheWay, append_way, read_way}
 

@@ -1,21 +1,18 @@
 -- Which reply is due to a `do` of an undisturbed run: a response, none, or a Clash with what is open elsewhere.
-use Rattle.std.proofs.Common.{◌≡◌, ℕ, ◌+◌, ◌-◌, ◌<◌, ◌≤◌, ◌==◌, ◌⊎◌, inl, inr, nat_le, nat_lt, Bool, true, false, cond, List, [], ◌∷◌, ◌++◌, map, fold, length, Option, Some, None, option_map, slice_get, refl, sym, ap, ◌∙◌, subst, arith, eq-eqb, eqb-true}
-use Rattle.std.specs.Prelude.{drop, filter, is_some, option_and_then, take}
-use Rattle.std.specs.List.{AllByRecursion as Every}
-use Rattle.std.proofs.lemmas.Bool.{leb-true, ltb-true, ltb-false}
+use Rattle.std.proofs.Common.{◌≡◌, ℕ, ◌-◌, ◌<◌, ◌≤◌, ◌==◌, inl, inr, nat_le, Bool, true, false, cond, List, [], ◌∷◌, ◌++◌, map, length, Option, Some, None, option_map, slice_get, refl, sym, ap, ◌∙◌, subst, arith, eqb-true}
+use Rattle.std.specs.Prelude.{drop, take}
+use Rattle.std.proofs.lemmas.Bool.{leb-true}
 use Rattle.std.proofs.lemmas.List.{append-nil, length-map, take-append-drop}
-use Rattle.std.proofs.lemmas.List.Sums.{fold-append}
 use Rattle.qc_list.specs.Members.{In}
-use Rattle.qc_list.proofs.Members.{In-passes, In-unfiltered, every-from_In}
+use Rattle.qc_list.proofs.Members.{In-passes, In-unfiltered}
 use Rattle.qc_stamp.specs.declared.stamp.TxId.{TxId}
-use Rattle.qc_core.specs.Acts.{is_running}
 use Rattle.qc_core.specs.Conduct.{IsLawful}
 use Rattle.qc_decl.specs.Accepted.{IsAccepted}
-use Rattle.qc_decl.specs.Actors.{actors, client_actor, first_site, is_client}
+use Rattle.qc_decl.specs.Actors.{first_site, is_client}
 use Rattle.qc_decl.specs.Limits.{most_transaction_operations}
 use Rattle.qc_decl.specs.Lookup.{append_need_of, read_need_of}
 use Rattle.qc_decl.specs.declared.declaration.Declaration.{Declaration}
-use Rattle.qc_plan.specs.Round.{RoundState, cyclic, has_granted, is_granted, verdict, weighing}
+use Rattle.qc_plan.specs.Round.{has_granted, verdict}
 use Rattle.qc_plan.specs.Weights.{total, weight}
 use Rattle.qc_plan.specs.declared.standing.Asked.{Asked}
 use Rattle.qc_plan.specs.declared.standing.Verdict.{Verdict}
@@ -24,39 +21,25 @@ use Rattle.qc_msg.specs.declared.message.Answer.{Answer}
 use Rattle.qc_msg.specs.declared.message.Answer.TheVariants as answers
 use Rattle.qc_msg.specs.declared.message.Want.{Want}
 use Rattle.qc_msg.specs.declared.message.Want.TheVariants.{Append, Prepare, Read}
-use Rattle.qc_msg.specs.declared.reply.Half.TheVariants as halves
 use Rattle.qc_msg.specs.declared.reply.Reply.{Reply}
 use Rattle.qc_msg.specs.declared.reply.Reply.TheVariants as replies
-use Rattle.qc_msg.specs.declared.step.Command.{Command}
-use Rattle.qc_msg.specs.declared.step.Command.TheVariants as commands
-use Rattle.qc_msg.specs.declared.turn.Turn.{Turn}
-use Rattle.qc_msg.specs.Deeds.{Deed, deeds, mail, turn_deeds}
-use Rattle.qc_msg.specs.Steps.{Entry, by, posted}
-use Rattle.qc_msg.proofs.Growth.{deeds-other, deeds-posted}
+use Rattle.qc_msg.specs.Deeds.{deeds}
+use Rattle.qc_msg.specs.Steps.{Entry}
 use Rattle.qc_script.specs.Runs.{Runs}
 use Rattle.qc_script.specs.declared.script.Script.{Script}
 use Rattle.qc_laws.specs.Asked.{AsksDeclared}
 use Rattle.qc_laws.specs.Turns.{ActsIn}
-use Rattle.qc_laws.proofs.Acted.{others_do_nothing, run_acts}
-use Rattle.qc_promise.specs.Account.{Account, ClientRequest, Current, is_append, is_read, new_account, requests_for}
-use Rattle.qc_promise.specs.Accounting.{account, account_at}
+use Rattle.qc_laws.proofs.Acted.{run_acts}
+use Rattle.qc_promise.specs.Account.{Account, ClientRequest, Current, is_append, is_read, requests_for}
+use Rattle.qc_promise.specs.Accounting.{account}
 use Rattle.qc_promise.specs.Rounds.{answer_of, asked_by, resp_of, round_of, standing_of, weights_of}
-use Rattle.qc_promise.specs.Rows.{answer_row, append_row, do_row, due, read_row, row_of}
-use Rattle.qc_account.proofs.Courses.{clients_due, turns_tell}
-use Rattle.qc_undisturbed.specs.Elsewhere.{IsOpenElsewhere, before_phase, begun_by, name_of}
-use Rattle.qc_undisturbed.specs.Succeeds.{DoOf, DoSucceeds, DosSucceed, EachReply, IsDone, OfRunning}
+use Rattle.qc_promise.specs.Rows.{answer_row, append_row, do_row, read_row}
+use Rattle.qc_account.proofs.Courses.{clients_due}
 use Rattle.qc_undisturbed.specs.Undisturbed.{IsUndisturbed}
-use Rattle.qc_undisturbed.proofs.Asking.{IsBusy, is_busy}
 use Rattle.qc_undisturbed.proofs.Clear.{IsElsewhere}
 use Rattle.qc_undisturbed.proofs.Counted.{GoodHold, GoodTaken, taken_good}
-use Rattle.qc_undisturbed.proofs.Each.{run_each, untold}
-use Rattle.qc_undisturbed.proofs.Names.{Stays, untold_stays}
-use Rattle.qc_undisturbed.proofs.OwnWords.{client_is}
-use Rattle.qc_undisturbed.proofs.PartsOf.{posted_parts}
-use Rattle.qc_undisturbed.proofs.Still.{one_still}
-use Rattle.qc_undisturbed.specs.Acting.{IsStill}
 use Rattle.qc_undisturbed.proofs.Verdicts.{AreGood, GoodStanding, GoodVerdict, append_light, good_verdict, granted_sites, order_heavy, read_light}
-use Rattle.qc_undisturbed.proofs.Voters.{IsHalf, IsInOrder, count_in, in_order, of_appends, of_reads, order, sites_in}
+use Rattle.qc_undisturbed.proofs.Voters.{IsHalf, count_in, in_order, of_appends, of_reads, order, sites_in}
 
 -- a half's requests with their answers
 

@@ -1,6 +1,5 @@
 -- A site holds something only of transactions that are open by the messages that it took.
 use Rattle.std.proofs.Common.{◌≡◌, ℕ, ◌==◌, ◌&&◌, not, Bool, true, false, cond, List, [], ◌∷◌, ◌++◌, length, Option, Some, None, refl, sym, ap, ◌∙◌, subst}
-use Rattle.std.specs.Prelude.{filter}
 use Rattle.std.specs.List.{AllByRecursion as Every, cons_option, fold}
 use Rattle.std.proofs.lemmas.List.{append-nil, append_assoc}
 use Rattle.std.proofs.lemmas.List.Sums.{fold-append}
@@ -31,10 +30,10 @@ use Rattle.qc_msg.specs.Deeds.{Deed, Takes, Writes, Sends, Tells}
 use Rattle.qc_msg.specs.Turns.{quiet}
 use Rattle.qc_promise.specs.SiteEnds.{is_final}
 use Rattle.qc_site.specs.Conduct.{passed, site_after, site_at, site_does, site_takes}
-use Rattle.qc_site.specs.Requests.{clashing, grants, relation_at}
-use Rattle.qc_site.specs.Site.{SiteMove, SiteState, answers, moved, new_site}
+use Rattle.qc_site.specs.Requests.{grants}
+use Rattle.qc_site.specs.Site.{SiteMove, SiteState, moved, new_site}
 use Rattle.qc_site.proofs.Cases.{append_cases, join_cases, prepare_cases, read_cases, request_cases}
-use Rattle.qc_undisturbed.specs.Arrives.{message_in, taken_by, taken_in}
+use Rattle.qc_undisturbed.specs.Arrives.{message_in, taken_in}
 use Rattle.qc_undisturbed.specs.Open.{asks_to_hold, is_open, open_said}
 
 -- each entry is of an open transaction

@@ -1,6 +1,6 @@
 -- The name of the transaction that a client has begun changes only as a reply is told, and it is the client's.
-use Rattle.std.proofs.Common.{◌≡◌, ℕ, ◌+◌, ◌-◌, ◌==◌, ◌&&◌, Bool, true, false, if◌then◌else◌, List, [], ◌∷◌, ◌++◌, fold, Option, Some, None, option_map, refl, sym, ap, ◌∙◌, subst}
-use Rattle.std.specs.Prelude.{is_none, is_some, max}
+use Rattle.std.proofs.Common.{◌≡◌, ℕ, ◌+◌, Bool, true, false, if◌then◌else◌, List, [], ◌∷◌, ◌++◌, fold, Option, Some, None, option_map, refl, sym, ap, ◌∙◌, subst}
+use Rattle.std.specs.Prelude.{max}
 use Rattle.std.specs.List.{find}
 use Rattle.std.proofs.lemmas.List.Sums.{fold-append}
 use Rattle.qc_stamp.specs.declared.stamp.TxId.{TxId}
@@ -15,17 +15,16 @@ use Rattle.qc_msg.specs.declared.message.Want.TheVariants as wants
 use Rattle.qc_msg.specs.declared.record.Record.{Record}
 use Rattle.qc_msg.specs.declared.record.Record.TheVariants as records
 use Rattle.qc_msg.specs.declared.reply.Reply.{Reply}
-use Rattle.qc_msg.specs.declared.step.Command.{Command}
 use Rattle.qc_msg.specs.declared.step.Given.{Given}
 use Rattle.qc_msg.specs.declared.step.Given.TheVariants as given
 use Rattle.qc_msg.specs.declared.turn.Posting.{Posting}
 use Rattle.qc_msg.specs.declared.turn.Turn.{Turn}
-use Rattle.qc_msg.specs.Deeds.{Deed, Takes, Writes, Sends, Tells, sends_of, tells_of, turn_deeds, writes_of}
+use Rattle.qc_msg.specs.Deeds.{sends_of, tells_of, turn_deeds, writes_of}
 use Rattle.qc_client.specs.declared.client.Client.{Client}
 use Rattle.qc_front.specs.declared.front.Front.{Front}
 use Rattle.qc_front.specs.declared.transaction.Transaction.{Transaction}
-use Rattle.qc_promise.specs.Account.{Account, ClientRequest, Current, new_account}
-use Rattle.qc_promise.specs.Accounting.{account_at, account_heard, account_sent, account_taken, account_written, counted, counted_for, granted, is_open, lived, promised, requested, taken_for, told_by, with_current, with_read}
+use Rattle.qc_promise.specs.Account.{Account, ClientRequest, Current}
+use Rattle.qc_promise.specs.Accounting.{account_at, account_heard, account_sent, account_taken, account_written, counted, counted_for, granted, is_open, lived, promised, taken_for, told_by, with_current, with_read}
 use Rattle.qc_promise.specs.Asked.{is_asked_for}
 use Rattle.qc_account.specs.Ties.{Ties, rests, reads, appends, votes}
 use Rattle.qc_account.specs.Told.{AreBegun, IsBegun}

@@ -1,11 +1,11 @@
 -- Only a transaction's own client asks for it and tells its end. So what is open at a site by the mail is begun.
-use Rattle.std.proofs.Common.{◌≡◌, ℕ, ◌+◌, ◌-◌, ◌<◌, ◌≤◌, ◌==◌, ◌&&◌, ◌⊎◌, inl, inr, nat_le, nat_lt, Bool, true, false, cond, List, [], ◌∷◌, ◌++◌, fold, Option, Some, None, slice_get, refl, sym, ap, ◌∙◌, subst, arith, eq-eqb, eqb-true}
-use Rattle.std.specs.Prelude.{filter, option_to_list}
+use Rattle.std.proofs.Common.{◌≡◌, ℕ, ◌+◌, ◌-◌, ◌<◌, ◌≤◌, ◌==◌, ◌&&◌, nat_le, nat_lt, Bool, true, false, cond, List, [], ◌∷◌, ◌++◌, fold, Option, Some, None, slice_get, refl, sym, ap, ◌∙◌, subst, arith, eq-eqb}
+use Rattle.std.specs.Prelude.{option_to_list}
 use Rattle.std.specs.List.{AllByRecursion as Every, cons_option}
-use Rattle.std.proofs.lemmas.Bool.{le-leb, leb-true, ltb-true, ltb-false, lt-ltb}
+use Rattle.std.proofs.lemmas.Bool.{le-leb, ltb-true, ltb-false, lt-ltb}
 use Rattle.std.proofs.lemmas.List.Sums.{fold-append}
 use Rattle.qc_list.specs.Members.{In}
-use Rattle.qc_list.proofs.Members.{In-first, In-second, every-In, every-from_In}
+use Rattle.qc_list.proofs.Members.{every-In, every-from_In}
 use Rattle.qc_stamp.specs.declared.stamp.TxId.{TxId}
 use Rattle.qc_stamp.specs.Order.{same_tx}
 use Rattle.qc_decl.specs.Accepted.{IsAccepted}
@@ -17,13 +17,12 @@ use Rattle.qc_msg.specs.declared.message.Message.{Message}
 use Rattle.qc_msg.specs.declared.message.Message.TheVariants as messages
 use Rattle.qc_msg.specs.declared.message.Outcome.{Outcome}
 use Rattle.qc_msg.specs.declared.message.Outcome.TheVariants as outcomes
-use Rattle.qc_msg.specs.declared.message.Want.{Want}
 use Rattle.qc_msg.specs.declared.step.Step.{Step}
 use Rattle.qc_msg.specs.declared.step.Step.TheVariants as steps
 use Rattle.qc_msg.specs.Deeds.{Deed, Sends, deed_at, deeds, envelope_at, envelope_of, heard, mail}
 use Rattle.qc_msg.specs.Steps.{Entry}
 use Rattle.qc_promise.specs.SiteEnds.{is_final}
-use Rattle.qc_promise.specs.Status.{AreRight, Status, Unborn, status}
+use Rattle.qc_promise.specs.Status.{Status, Unborn, status}
 use Rattle.qc_promise.specs.Status.{Committed, Dead}
 use Rattle.qc_core.specs.Conduct.{IsLawful}
 use Rattle.qc_script.specs.Runs.{Runs}
@@ -32,7 +31,7 @@ use Rattle.qc_laws.specs.Asked.{AsksDeclared}
 use Rattle.qc_laws.specs.Turns.{ActsIn}
 use Rattle.qc_laws.proofs.Acted.{others_do_nothing, run_acts}
 use Rattle.qc_laws.proofs.Proper.{run_proper}
-use Rattle.qc_laws.proofs.SiteReplies.{IsMailProper, IsProperFrom}
+use Rattle.qc_laws.proofs.SiteReplies.{IsProperFrom}
 use Rattle.qc_records.proofs.DecisionLaws.{moves_on}
 use Rattle.qc_records.proofs.InRuns.{HasPlace, client_low, client_no_site, client_number, run_place}
 use Rattle.qc_records.proofs.Lasting.{Came, request_born, verdict_came}
@@ -41,7 +40,7 @@ use Rattle.qc_records.proofs.StatusActs.{HasPage, pages}
 use Rattle.qc_guarantees.proofs.Mailed.{mail_sent}
 use Rattle.qc_undisturbed.specs.Arrives.{sent_to}
 use Rattle.qc_undisturbed.specs.Elsewhere.{begun_by}
-use Rattle.qc_undisturbed.specs.Open.{asks_to_hold, is_open, is_open_at, open_said}
+use Rattle.qc_undisturbed.specs.Open.{asks_to_hold, is_open_at, open_said}
 use Rattle.qc_undisturbed.proofs.AskedSites.{open_sent}
 use Rattle.qc_undisturbed.proofs.OpenDeeds.{open_did, open_done, open_named}
 

@@ -1,20 +1,8 @@
 -- A history before its last phase, as somebody acts.
-use Rattle.std.proofs.Common.{◌≡◌, ℕ, zero, suc, ◌+◌, ◌-◌, ◌<◌, ◌≤◌, ◌==◌, ◌&&◌, ◌||◌, ◌⊎◌, inl, inr, not, nat_le, nat_lt, Bool, true, false, cond, List, [], ◌∷◌, ◌++◌, map, length, fold, Option, Some, None, slice_get, refl, sym, ap, ◌∙◌, subst, arith, eq-eqb, eqb-true, length-append}
-use Rattle.std.specs.Prelude.{filter, is_some, replicate, slice_set, take}
-use Rattle.std.specs.List.{AllByRecursion as Every, filter_map}
-use Rattle.std.proofs.lemmas.Bool.{ltb-true}
+use Rattle.std.proofs.Common.{◌≡◌, ℕ, ◌+◌, List, [], ◌∷◌, ◌++◌, fold, Option, Some, None, refl, sym, ap, ◌∙◌}
 use Rattle.std.proofs.lemmas.List.{append-nil, append_assoc}
-use Rattle.std.proofs.lemmas.List.Elements.{filter_map-append}
 use Rattle.std.proofs.lemmas.List.Sums.{fold-append}
-use Rattle.qc_list.proofs.Members.{every-at}
-use Rattle.qc_core.specs.Acts.{Acts, is_running, runs_at}
-use Rattle.qc_core.specs.Conduct.{IsLawful}
-use Rattle.qc_decl.specs.Accepted.{IsAccepted}
-use Rattle.qc_decl.specs.Actors.{actors, administrator, controller, is_client, is_site}
-use Rattle.qc_decl.specs.declared.declaration.Declaration.{Declaration}
-use Rattle.qc_msg.specs.declared.message.Envelope.{Envelope}
 use Rattle.qc_msg.specs.declared.reply.Reply.{Reply}
-use Rattle.qc_msg.specs.declared.step.Command.{Command}
 use Rattle.qc_msg.specs.declared.step.Given.{Given}
 use Rattle.qc_msg.specs.declared.step.Given.TheVariants as given
 use Rattle.qc_msg.specs.declared.step.Step.{Step}
@@ -22,32 +10,9 @@ use Rattle.qc_msg.specs.declared.step.Step.TheVariants as steps
 use Rattle.qc_msg.specs.declared.turn.Posting.{Posting}
 use Rattle.qc_msg.specs.declared.record.Record.{Record}
 use Rattle.qc_msg.specs.declared.turn.Turn.{Turn}
-use Rattle.qc_msg.specs.Deeds.{Deed, Takes, deeds, mail, sends_of, tells_of, turn_deeds, writes_of}
 use Rattle.qc_msg.specs.Steps.{Entry, by, marked, posted, sents, step_of, told, wrote}
-use Rattle.qc_msg.proofs.Growth.{by-posted, deeds-other, deeds-posted, deeds-taken}
-use Rattle.qc_script.specs.Inbox.{commands_for, inbox}
-use Rattle.qc_script.specs.Ready.{command_in, controls_left, first_command, first_copy, first_lost, phase_at, phase_of, ready, takes_commands}
-use Rattle.qc_script.specs.Runs.{Runs, begins, takes, posts, phase, control}
-use Rattle.qc_script.specs.declared.script.CommandLine.{CommandLine}
-use Rattle.qc_script.specs.declared.script.PhaseLines.{PhaseLines}
-use Rattle.qc_script.specs.declared.script.Script.{Script}
-use Rattle.qc_laws.specs.Asked.{AsksDeclared}
-use Rattle.qc_laws.specs.Turns.{ActsIn}
-use Rattle.qc_laws.specs.Whole.{IsClosed, IsQuiet, asked_in_all, asked_until, call_in, calls_of}
-use Rattle.qc_laws.proofs.Acted.{as_many, deeds-silent, run_acts}
-use Rattle.qc_laws.proofs.Arrivals.{what_is_ready_was_sent}
-use Rattle.qc_laws.proofs.Calling.{phase_posted, phase_taken, run_asked}
-use Rattle.qc_laws.proofs.Ends.{copies_none, losts_none, nothing_ready}
-use Rattle.qc_laws.proofs.Numbered.{phase_silent}
-use Rattle.qc_laws.proofs.Places.{slice_get-within}
-use Rattle.qc_laws.proofs.Replying.{running_more, running_turn, told_runs}
-use Rattle.qc_laws.proofs.Running.{busy_is_running}
-use Rattle.qc_account.proofs.Ended.{none_runs}
-use Rattle.qc_promise.specs.Account.{Account, new_account}
-use Rattle.qc_promise.specs.Accounting.{account, account_at}
-use Rattle.qc_undisturbed.specs.Arrives.{Arrives}
-use Rattle.qc_undisturbed.specs.Elsewhere.{Parts, before_phase, begun_by, goes_on, name_of, no_parts, parts, parts_by}
-use Rattle.qc_undisturbed.specs.Undisturbed.{AsksOne, IsUndisturbed}
+use Rattle.qc_msg.proofs.Growth.{by-posted}
+use Rattle.qc_undisturbed.specs.Elsewhere.{Parts, before_phase, goes_on, no_parts, parts, parts_by}
 
 -- the parts of a history
 

@@ -1,7 +1,7 @@
 -- In each run of a script without rules and control lines each message passes: what was sent is taken or ready, in order.
-use Rattle.std.proofs.Common.{◌≡◌, ℕ, zero, suc, ◌+◌, ◌-◌, ◌==◌, ◌&&◌, not, Bool, true, false, if◌then◌else◌, List, [], ◌∷◌, ◌++◌, length, Option, Some, None, slice_get, refl, sym, ap, ◌∙◌, subst, eq-eqb, eqb-true}
-use Rattle.std.specs.Prelude.{drop, filter, get_or, replicate}
-use Rattle.std.specs.List.{AllByRecursion as Every, cons_option, filter_map, fold}
+use Rattle.std.proofs.Common.{◌≡◌, ℕ, ◌+◌, ◌-◌, ◌==◌, Bool, true, false, if◌then◌else◌, List, [], ◌∷◌, ◌++◌, length, Option, Some, None, slice_get, refl, sym, ap, ◌∙◌, subst, eq-eqb, eqb-true}
+use Rattle.std.specs.Prelude.{drop}
+use Rattle.std.specs.List.{cons_option}
 use Rattle.std.specs.Option.{option_map_or}
 use Rattle.std.proofs.lemmas.List.{append-nil, append_assoc}
 use Rattle.std.proofs.lemmas.List.Elements.{filter-append, filter_map-append}
@@ -10,28 +10,20 @@ use Rattle.qc_list.proofs.Members.{every-at}
 use Rattle.qc_core.specs.Conduct.{IsLawful}
 use Rattle.qc_decl.specs.declared.declaration.Declaration.{Declaration}
 use Rattle.qc_decl.specs.Actors.{controller}
-use Rattle.qc_link.specs.Cuts.{no_cuts, pair_place}
-use Rattle.qc_link.specs.Fate.{fate}
-use Rattle.qc_link.specs.declared.plan.Link.{Link}
-use Rattle.qc_link.specs.declared.rule.Fate.{Fate}
-use Rattle.qc_link.specs.declared.rule.Fate.TheVariants.{Pass, Drop}
 use Rattle.qc_msg.specs.declared.message.Envelope.{Envelope}
-use Rattle.qc_msg.specs.declared.message.Message.{Message}
-use Rattle.qc_msg.specs.declared.message.Message.TheVariants as messages
 use Rattle.qc_msg.specs.declared.record.Record.{Record}
 use Rattle.qc_msg.specs.declared.reply.Reply.{Reply}
-use Rattle.qc_msg.specs.declared.step.Command.{Command}
 use Rattle.qc_msg.specs.declared.step.Control.{Control}
 use Rattle.qc_msg.specs.declared.step.Given.{Given}
 use Rattle.qc_msg.specs.declared.step.Given.TheVariants as given
 use Rattle.qc_msg.specs.declared.step.Step.TheVariants as steps
 use Rattle.qc_msg.specs.declared.turn.Posting.{Posting}
 use Rattle.qc_msg.specs.declared.turn.Turn.{Turn}
-use Rattle.qc_msg.specs.Deeds.{Deed, Takes, Writes, Sends, Tells, deeds, envelopes, mail, sends_of, tells_of, turn_deeds, writes_of}
-use Rattle.qc_msg.specs.Steps.{Entry, by, marked, posted, sents, step_of, told, wrote}
-use Rattle.qc_msg.proofs.Growth.{by-posted, deeds-other, deeds-posted, deeds-taken, mail-append, mail-posted, mail-taken}
-use Rattle.qc_script.specs.Inbox.{Inbox, answers_by, command_called, comes, comes_with, commands_for, copy_taken, count_of, empty_inbox, goes, goes_with, has_number, inbox, inbox_at, is_request, one_more, opened_by, phase_begun, with_copies}
-use Rattle.qc_script.specs.Ready.{after_controls, command_in, first_copy, first_lost, phase_of, ready, ready_in}
+use Rattle.qc_msg.specs.Deeds.{Deed, Takes, deeds, envelopes, mail, sends_of, tells_of, turn_deeds, writes_of}
+use Rattle.qc_msg.specs.Steps.{Entry, by, marked, posted, step_of}
+use Rattle.qc_msg.proofs.Growth.{deeds-other, deeds-posted, deeds-taken, mail-append, mail-posted, mail-taken}
+use Rattle.qc_script.specs.Inbox.{Inbox, command_called, commands_for, copy_taken, empty_inbox, inbox, inbox_at, opened_by, phase_begun}
+use Rattle.qc_script.specs.Ready.{phase_of, ready}
 use Rattle.qc_script.specs.Runs.{Runs, begins, takes, posts, phase, control}
 use Rattle.qc_script.specs.declared.script.PhaseLines.{PhaseLines}
 use Rattle.qc_script.specs.declared.script.Script.{Script}

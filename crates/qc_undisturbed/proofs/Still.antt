@@ -1,6 +1,6 @@
 -- At most one client acts at a time: of two clients, one has called all that the phases so far ask it, runs nothing, and
 -- has the transaction begun that it had before this phase.
-use Rattle.std.proofs.Common.{◌≡◌, ℕ, zero, suc, ◌+◌, ◌-◌, ◌<◌, ◌≤◌, ◌==◌, ◌&&◌, ◌||◌, ◌⊎◌, inl, inr, not, nat_le, nat_lt, Bool, true, false, cond, List, [], ◌∷◌, ◌++◌, map, length, fold, Option, Some, None, slice_get, refl, sym, ap, ◌∙◌, subst, arith, eq-eqb, eqb-true, length-append}
+use Rattle.std.proofs.Common.{◌≡◌, ℕ, zero, suc, ◌+◌, ◌-◌, ◌<◌, ◌==◌, ◌&&◌, ◌||◌, ◌⊎◌, inl, inr, not, nat_le, nat_lt, Bool, true, false, cond, List, [], ◌∷◌, ◌++◌, map, length, fold, Option, Some, None, slice_get, refl, sym, ap, ◌∙◌, subst, arith, eq-eqb, eqb-true, length-append}
 use Rattle.std.specs.Prelude.{filter, is_some, replicate, slice_set, take}
 use Rattle.std.specs.List.{AllByRecursion as Every, filter_map}
 use Rattle.std.proofs.lemmas.Bool.{ltb-true}
@@ -8,24 +8,23 @@ use Rattle.std.proofs.lemmas.List.{append-nil, append_assoc}
 use Rattle.std.proofs.lemmas.List.Elements.{filter_map-append}
 use Rattle.std.proofs.lemmas.List.Sums.{fold-append}
 use Rattle.qc_list.proofs.Members.{every-at}
-use Rattle.qc_core.specs.Acts.{Acts, is_running, runs_at}
+use Rattle.qc_core.specs.Acts.{is_running, runs_at}
 use Rattle.qc_core.specs.Conduct.{IsLawful}
 use Rattle.qc_decl.specs.Accepted.{IsAccepted}
-use Rattle.qc_decl.specs.Actors.{actors, administrator, controller, is_client, is_site}
+use Rattle.qc_decl.specs.Actors.{actors, administrator, controller, is_client}
 use Rattle.qc_decl.specs.declared.declaration.Declaration.{Declaration}
 use Rattle.qc_msg.specs.declared.message.Envelope.{Envelope}
 use Rattle.qc_msg.specs.declared.reply.Reply.{Reply}
 use Rattle.qc_msg.specs.declared.step.Command.{Command}
 use Rattle.qc_msg.specs.declared.step.Given.{Given}
 use Rattle.qc_msg.specs.declared.step.Given.TheVariants as given
-use Rattle.qc_msg.specs.declared.step.Step.{Step}
 use Rattle.qc_msg.specs.declared.step.Step.TheVariants as steps
 use Rattle.qc_msg.specs.declared.turn.Posting.{Posting}
 use Rattle.qc_msg.specs.declared.record.Record.{Record}
 use Rattle.qc_msg.specs.declared.turn.Turn.{Turn}
 use Rattle.qc_msg.specs.Deeds.{Deed, Takes, deeds, mail, sends_of, tells_of, turn_deeds, writes_of}
-use Rattle.qc_msg.specs.Steps.{Entry, by, marked, posted, sents, step_of, told, wrote}
-use Rattle.qc_msg.proofs.Growth.{by-posted, deeds-other, deeds-posted, deeds-taken}
+use Rattle.qc_msg.specs.Steps.{Entry, by, marked, posted, step_of}
+use Rattle.qc_msg.proofs.Growth.{deeds-other, deeds-posted, deeds-taken}
 use Rattle.qc_script.specs.Inbox.{commands_for, inbox}
 use Rattle.qc_script.specs.Ready.{command_in, controls_left, first_command, first_copy, first_lost, phase_at, phase_of, ready, takes_commands}
 use Rattle.qc_script.specs.Runs.{Runs, begins, takes, posts, phase, control}
@@ -44,11 +43,11 @@ use Rattle.qc_laws.proofs.Places.{slice_get-within}
 use Rattle.qc_laws.proofs.Replying.{running_more, running_turn, told_runs}
 use Rattle.qc_laws.proofs.Running.{busy_is_running}
 use Rattle.qc_account.proofs.Ended.{none_runs}
-use Rattle.qc_promise.specs.Account.{Account, new_account}
+use Rattle.qc_promise.specs.Account.{new_account}
 use Rattle.qc_promise.specs.Accounting.{account, account_at}
 use Rattle.qc_undisturbed.specs.Acting.{IsStill}
 use Rattle.qc_undisturbed.specs.Arrives.{Arrives}
-use Rattle.qc_undisturbed.specs.Elsewhere.{Parts, before_phase, begun_by, goes_on, name_of, no_parts, parts, parts_by}
+use Rattle.qc_undisturbed.specs.Elsewhere.{before_phase, begun_by, name_of}
 use Rattle.qc_undisturbed.specs.Undisturbed.{AsksOne, IsUndisturbed}
 use Rattle.qc_undisturbed.proofs.Names.{stays_named, taken_named, untold_stays}
 use Rattle.qc_undisturbed.proofs.PartsOf.{phase_parts, posted_parts, taken_parts}
@@ -266,3 +265,7 @@ module _ (decl : Declaration) (script : Script) (accepted : IsAccepted decl) (as
       let r : Arrives script 0 older = run_arrives decl script older before calm run 0 in
       let quiet : (inbox script 0 older).controls ≡ [] = r.calm.controls in
       absurd (let never : ⊥ = cc in never)
+
+pub one_acts : (decl : Declaration) (script : Script) → IsAccepted decl → AsksDeclared decl script → IsUndisturbed script → (h : List Entry) (open_inputs : List Bool) → Runs (IsLawful decl) decl script h open_inputs
+    → (c d : ℕ) → is_client decl c ≡ true → is_client decl d ≡ true → (c ≡ d → ⊥) → IsStill decl script c h ⊎ IsStill decl script d h
+one_acts decl script accepted asks calm h open_inputs run c d c_named d_named differ = one_still decl script accepted asks calm h open_inputs run c d c_named d_named differ

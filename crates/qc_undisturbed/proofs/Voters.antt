@@ -1,7 +1,7 @@
 -- The requests of a half went to the first sites of the client's order, in that order.
-use Rattle.std.proofs.Common.{◌≡◌, ℕ, zero, suc, ◌+◌, ◌-◌, ◌==◌, ◌&&◌, ◌⊎◌, inl, inr, max, not, Bool, true, false, cond, List, [], ◌∷◌, ◌++◌, map, fold, length, Option, Some, None, option_map, refl, sym, ap, ◌∙◌, subst, arith, eqb-true, length-append}
-use Rattle.std.specs.Prelude.{drop, filter, slice_get, take}
-use Rattle.std.specs.List.{AllByRecursion as Every, find}
+use Rattle.std.proofs.Common.{◌≡◌, ℕ, zero, suc, ◌+◌, ◌==◌, ◌&&◌, max, Bool, true, false, cond, List, [], ◌∷◌, ◌++◌, map, fold, length, Option, Some, None, option_map, refl, sym, ap, ◌∙◌, subst, arith, eqb-true, length-append}
+use Rattle.std.specs.Prelude.{drop, filter, take}
+use Rattle.std.specs.List.{find}
 use Rattle.std.specs.Option.{option_map_or}
 use Rattle.std.proofs.lemmas.List.{append-nil, length-map, map-append}
 use Rattle.std.proofs.lemmas.List.Elements.{filter-append}

@@ -1,6 +1,5 @@
 -- The wrong histories are refused, each at its last reply.
-use Rattle.std.proofs.Common.{◌≡◌, ℕ, ◌<◌, List, [], ◌∷◌, Some, None, refl, arith}
-use Rattle.qc_stamp.specs.declared.stamp.TxId.{TxId}
+use Rattle.std.proofs.Common.{◌≡◌, Some, None, refl, arith}
 use Rattle.qc_undisturbed.specs.Elsewhere.{IsOpenElsewhere}
 use Rattle.qc_undisturbed.specs.Succeeds.{CommitsSucceed, DosSucceed}
 use Rattle.qc_undisturbed.specs.Wrong.{aborted, mine, others, refused, refused_for_ended, refused_for_new, refused_for_own, short, two_clients}

@@ -10,7 +10,7 @@ use Rattle.qc_msg.specs.declared.step.Command.TheVariants as commands
 use Rattle.qc_msg.specs.declared.step.Step.{Step}
 use Rattle.qc_msg.specs.declared.step.Step.TheVariants as steps
 use Rattle.qc_msg.specs.Steps.{Entry}
-use Rattle.qc_promise.specs.Account.{Account, Current}
+use Rattle.qc_promise.specs.Account.{Current}
 use Rattle.qc_promise.specs.Accounting.{account}
 use Rattle.qc_undisturbed.specs.Elsewhere.{IsOpenElsewhere}
 

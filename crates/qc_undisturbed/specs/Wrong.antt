@@ -1,5 +1,5 @@
 -- Histories of one site and two clients that aren't undisturbed runs', which the definitions refuse, and one that they take.
-use Rattle.std.specs.Prelude.{ℕ, List, [], ◌∷◌, ◌++◌, Some}
+use Rattle.std.specs.Prelude.{ℕ, List, [], ◌∷◌, ◌++◌}
 use Rattle.qc_decl.specs.declared.declaration.Declaration.{Declaration}
 use Rattle.qc_msg.specs.declared.reply.Half.TheVariants.{Read}
 use Rattle.qc_msg.specs.declared.reply.Reply.{Reply}

@@ -9,14 +9,18 @@
 //!    request is lost (`no_request_is_lost`).
 //! 2. No message names another life or epoch than the first, in any run
 //!    (`lives_and_epochs_are_the_first`).
-//! 3. Where a site has taken all that was sent to it, it holds something of
+//! 3. Each answer fits its request: who is in the way there had asked the site
+//!    for something, and hadn't told it of an end
+//!    (`answers_fit_their_requests`).
+//! 4. Where a site has taken all that was sent to it, it holds something of
 //!    transactions alone that are begun (`what_is_held_at_rest_is_begun`).
-//! 4. Each `do` of a transaction that may go on is answered, or refused for a
+//! 5. At most one client acts at a time (`one_client_acts_at_a_time`).
+//! 6. So each `do` of a transaction that may go on is answered, or refused for a
 //!    transaction that another client began in an earlier phase and that hasn't
 //!    ended (`undisturbed_dos_succeed`).
-//! 5. Each commit of a transaction that may commit does
+//! 7. And each commit of a transaction that may commit does
 //!    (`undisturbed_commits_succeed`).
-//! 6. Wrong histories are refused (`wrong_refusals_are_refused`,
+//! 8. Wrong histories are refused (`wrong_refusals_are_refused`,
 //!    `wrong_endings_are_refused`).
 #![tactic(auto)]
 
@@ -25,7 +29,9 @@ mod rest;
 mod success;
 mod wrong;
 
-pub use messages::{lives_and_epochs_are_the_first, no_request_is_lost};
-pub use rest::what_is_held_at_rest_is_begun;
+pub use messages::{
+    answers_fit_their_requests, lives_and_epochs_are_the_first, no_request_is_lost,
+};
+pub use rest::{one_client_acts_at_a_time, what_is_held_at_rest_is_begun};
 pub use success::{undisturbed_commits_succeed, undisturbed_dos_succeed};
 pub use wrong::{wrong_endings_are_refused, wrong_refusals_are_refused};
