@@ -1,14 +1,9 @@
 -- A transaction knows each site that it asked to hold something, and its end is told to them all: of a front end's moves.
 use Rattle.std.proofs.Common.{◌≡◌, ℕ, ◌==◌, ◌&&◌, inl, inr, nat_le, Bool, true, false, cond, List, [], ◌∷◌, ◌++◌, map, fold, length, Option, Some, None, option_map, refl, sym, ap, ◌∙◌, subst, eq-eqb, eqb-true}
 use Rattle.std.specs.Prelude.{slice_get}
-use Rattle.std.specs.Ordering.{nat_cmp}
-use Rattle.std.specs.declared.cmp.Ordering.{Ordering}
-use Rattle.std.specs.declared.cmp.Ordering.TheVariants.{Equal, Greater, Less}
 use Rattle.qc_list.specs.Members.{In}
-use Rattle.qc_list.specs.Order.{by_order, inserted}
 use Rattle.qc_stamp.specs.declared.stamp.TxId.{TxId}
 use Rattle.qc_stamp.specs.Order.{same_tx}
-use Rattle.qc_stamp.proofs.Orders.{nat_apart}
 use Rattle.qc_decl.specs.declared.declaration.Declaration.{Declaration}
 use Rattle.qc_decl.specs.Limits.{most_transaction_operations}
 use Rattle.qc_decl.specs.Lookup.{append_need_of, read_need_of}
@@ -32,7 +27,7 @@ use Rattle.qc_msg.specs.declared.step.Command.{Command}
 use Rattle.qc_msg.specs.declared.step.Command.TheVariants as commands
 use Rattle.qc_msg.specs.declared.turn.Posting.{Posting}
 use Rattle.qc_msg.specs.declared.turn.Turn.{Turn}
-use Rattle.qc_msg.specs.Begun.{decisions, with_site}
+use Rattle.qc_msg.specs.Begun.{decisions}
 use Rattle.qc_msg.specs.Calls.{site_called, without_call}
 use Rattle.qc_msg.specs.Turns.{quiet, telling}
 use Rattle.qc_promise.specs.SiteEnds.{is_final}
@@ -52,41 +47,8 @@ use Rattle.qc_front.specs.Front as front_moves
 use Rattle.qc_front.specs.Rounds.{answered, append_by, doomed, performs, read_by, reads, with_asked}
 use Rattle.qc_front.proofs.Keeping.{appended_is, view_keeps}
 use Rattle.qc_records.specs.Books.{begun_in}
+use Rattle.qc_undisturbed.proofs.Joined.{joined_first, joined_second}
 use Rattle.qc_undisturbed.specs.Open.{asks_to_hold, open_said}
-
--- sites that join
-
-in_inserted : (x y : ℕ) (ys : List ℕ) → In x ys → In x (inserted nat_cmp ys y)
-in_inserted x y [] among = absurd among
-in_inserted x y (z ∷ zs) among = by (nat_cmp y z) refl among (in_inserted x y zs)
-  where
-    same_as : nat_cmp y z ≡ Equal → y ≡ z
-    same_as is = nat_apart y z is
-
-    by : (order : Ordering) → nat_cmp y z ≡ order → In x (z ∷ zs) → (In x zs → In x (inserted nat_cmp zs y)) → In x (by_order order (y ∷ z ∷ zs) (y ∷ zs) (z ∷ inserted nat_cmp zs y))
-    by Less is here rest = inr here
-    by Equal is (inl same) rest = inl (same ∙ sym (same_as is))
-    by Equal is (inr later) rest = inr later
-    by Greater is (inl same) rest = inl same
-    by Greater is (inr later) rest = inr (rest later)
-
-inserted_in : (y : ℕ) (ys : List ℕ) → In y (inserted nat_cmp ys y)
-inserted_in y [] = inl refl
-inserted_in y (z ∷ zs) = by (nat_cmp y z) (inserted_in y zs)
-  where
-    by : (order : Ordering) → In y (inserted nat_cmp zs y) → In y (by_order order (y ∷ z ∷ zs) (y ∷ zs) (z ∷ inserted nat_cmp zs y))
-    by Less rest = inl refl
-    by Equal rest = inl refl
-    by Greater rest = inr rest
-
-joined_first : (x : ℕ) (xs ys : List ℕ) → In x xs → In x (fold with_site xs ys)
-joined_first x xs [] among = among
-joined_first x xs (y ∷ ys) among = joined_first x (with_site xs y) ys (in_inserted x y xs among)
-
-joined_second : (x : ℕ) (xs ys : List ℕ) → In x ys → In x (fold with_site xs ys)
-joined_second x xs [] among = absurd among
-joined_second x xs (y ∷ ys) (inl same) = joined_first x (with_site xs y) ys (subst (λ (k : ℕ). In k (with_site xs y)) (sym same) (inserted_in y xs))
-joined_second x xs (y ∷ ys) (inr later) = joined_second x (with_site xs y) ys later
 
 -- whether a transaction is open at a site after messages more
 
@@ -280,9 +242,10 @@ module _ (s : ℕ) (x : TxId) where
 
     read_begun : (t : Transaction) (site object : ℕ) (answer : Option Answer) → ((read_with t site object answer).begun.tx ≡ t.begun.tx) × ((read_with t site object answer).begun.asked ≡ t.begun.asked)
     read_begun t site object None = (refl, refl)
-    read_begun t site object (Some (answers.Granted life clock log)) =
-        (ap (λ (b : Begun). b.tx) (view_keeps (lived t site life) object (option_map (λ (v : View). with_log v log) (slice_get t.views object))),
-        ap (λ (b : Begun). b.asked) (view_keeps (lived t site life) object (option_map (λ (v : View). with_log v log) (slice_get t.views object))))
+    read_begun t site object (Some (answers.Granted life clock log)) = (
+      ap (λ (b : Begun). b.tx) (view_keeps (lived t site life) object (option_map (λ (v : View). with_log v log) (slice_get t.views object))),
+      ap (λ (b : Begun). b.asked) (view_keeps (lived t site life) object (option_map (λ (v : View). with_log v log) (slice_get t.views object))),
+    )
     read_begun t site object (Some (answers.Clash holder inv event)) = (refl, refl)
     read_begun t site object (Some (answers.Closed epoch)) = (refl, refl)
     read_begun t site object (Some (answers.Behind epoch)) = (refl, refl)

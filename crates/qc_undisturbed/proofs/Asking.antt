@@ -186,10 +186,11 @@ named_send decl d to (messages.Install epoch clock log) due = tt
 
 named_sends : (decl : Declaration) (d : Account) (n : ℕ) (ps : List Posting) (more : List Deed) → AreDeedsDue decl d (sends_of n ps ++ more) → Every (λ (p : Posting). IsNamed (name_of d) p.message) ps
 named_sends decl d n [] more due = tt
-named_sends decl d n (p ∷ ps) more due =
-    (named_send decl d p.to p.message due.0,
-    subst (λ (name : Option TxId). Every (λ (p : Posting). IsNamed name p.message) ps) (stays_named d (account_sent decl d n p.to p.message) (sends_stay decl d n (p ∷ [])))
-    (named_sends decl (account_sent decl d n p.to p.message) (n + 1) ps more due.1))
+named_sends decl d n (p ∷ ps) more due = (
+  named_send decl d p.to p.message due.0,
+  subst (λ (name : Option TxId). Every (λ (p : Posting). IsNamed name p.message) ps) (stays_named d (account_sent decl d n p.to p.message) (sends_stay decl d n (p ∷ [])))
+      (named_sends decl (account_sent decl d n p.to p.message) (n + 1) ps more due.1),
+)
 
 pub turn_named : (decl : Declaration) (d : Account) (n : ℕ) (turn : Turn) → AreDeedsDue decl d (turn_deeds n turn) → Every (λ (p : Posting). IsNamed (name_of d) p.message) turn.sends
 turn_named decl d n turn due =

@@ -80,7 +80,7 @@ module _ (P : List Entry → ℕ → Reply → Type 0) where
   -- Q holds of the history, and of what stands before in it
   module _ (Q : List Entry → Type 0) (shorter : (h k : List Entry) → Q (h ++ k) → Q h) (decl : Declaration) (script : Script)
       (good : (older : List Entry) (before : List Bool) → Runs (IsLawful decl) decl script older before → (b : ℕ) → is_client decl b ≡ true → (turn : Turn) → slice_get before b ≡ Some true → IsLawful decl b (deeds b [] older) turn → Q older
-          → (r : Reply) → turn.told ≡ Some r → P (older ++ by b (posted (length (mail older)) (untold turn))) b r) where
+      → (r : Reply) → turn.told ≡ Some r → P (older ++ by b (posted (length (mail older)) (untold turn))) b r) where
     replies_good : (older : List Entry) (before : List Bool) → Runs (IsLawful decl) decl script older before → (b : ℕ) (turn : Turn) → slice_get before b ≡ Some true → IsLawful decl b (deeds b [] older) turn → Q older
         → (r : Reply) → turn.told ≡ Some r → P (older ++ by b (posted (length (mail older)) (untold turn))) b r
     replies_good older before run b turn open_still lawful within r is =

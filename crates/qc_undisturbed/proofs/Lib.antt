@@ -1,6 +1,7 @@
 pub mod Calm
 pub mod Passing
 pub mod Held
+pub mod Joined
 pub mod AskedSites
 pub mod AskedClients
 pub mod Names

@@ -1,4 +1,4 @@
--- What messages to a site leave open there: a transaction that asked it to hold something, and of which it was told no end
+-- What messages to a site leave open there: a transaction that asked it to hold something, and whose end it wasn't told
 -- since.
 use Rattle.std.specs.Prelude.{ℕ, ◌&&◌, Bool, true, false, if◌then◌else◌, List, fold}
 use Rattle.qc_msg.specs.declared.message.Envelope.{Envelope}

@@ -1,5 +1,5 @@
--- What a reply is in a run that nothing disturbs: a `do` is answered, or refused for a transaction of another client that
--- is open; a commit commits.
+-- What a reply is in a run that nothing disturbs: a `do` is answered, or refused for a transaction that is open
+-- elsewhere; a commit commits.
 use Rattle.std.specs.Prelude.{◌≡◌, ℕ, ◌<◌, false, List, [], ◌∷◌, ◌++◌, length, Option, Some, None}
 use Rattle.qc_decl.specs.Limits.{most_transaction_operations}
 use Rattle.qc_decl.specs.declared.declaration.Declaration.{Declaration}

@@ -1,4 +1,4 @@
--- Histories of one site and two clients that aren't undisturbed runs', which the definitions refuse, and one that they take.
+-- Histories of one site and two clients: some that the definitions refuse, and one that they take.
 use Rattle.std.specs.Prelude.{ℕ, List, [], ◌∷◌, ◌++◌}
 use Rattle.qc_decl.specs.declared.declaration.Declaration.{Declaration}
 use Rattle.qc_msg.specs.declared.reply.Half.TheVariants.{Read}
@@ -13,7 +13,8 @@ use Rattle.qc_stamp.specs.declared.stamp.TxId.{TxId}
 
 -- site 0, clients with the actors' numbers 1 and 2, and the controller 4
 abbrev pub two_clients : Declaration
-two_clients = record { sites = 1; clients = 2; kinds = []; objects = []; plans = []; kind_names = []; object_names = [] }
+two_clients =
+    record { sites = 1; clients = 2; kinds = []; objects = []; plans = []; kind_names = []; object_names = [] }
 
 -- the first transactions of the two clients
 abbrev pub mine : TxId

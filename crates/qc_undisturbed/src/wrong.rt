@@ -2,7 +2,8 @@
 //! functions with nothing to do.
 
 ghost use Rattle.qc_undisturbed.specs.Succeeds.{CommitsSucceed, DosSucceed};
-ghost use Rattle.qc_undisturbed.specs.Wrong.{aborted, refused, refused_for_ended, refused_for_new, refused_for_own, short, two_clients};
+ghost use Rattle.qc_undisturbed.specs.Wrong.{aborted, short, two_clients};
+ghost use Rattle.qc_undisturbed.specs.Wrong.{refused, refused_for_ended, refused_for_new, refused_for_own};
 
 /// A `do` isn't refused for a transaction that has ended, for one that was
 /// begun in the same phase, for its own, nor for want of weight. It may be for
