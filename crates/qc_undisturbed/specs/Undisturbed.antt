@@ -1,6 +1,5 @@
 -- Scripts under which nothing is disturbed: no rule drops, doubles or delays a message, the controller does nothing
--- between the phases, and each phase asks one actor alone. What that is asked may be to move an epoch, which nobody does
--- yet.
+-- between the phases, and each phase asks one actor alone. That may be the administrator, whom no run lets act yet.
 use Rattle.std.specs.Prelude.{◌≡◌, ℕ, []}
 use Rattle.std.specs.List.{AllByRecursion as Every}
 use Rattle.qc_script.specs.declared.script.CommandLine.{CommandLine}
