@@ -14,3 +14,7 @@ pub mod Stale
 pub mod Unforgotten
 pub mod Against
 pub mod Counted
+pub mod HeldLaw
+pub mod ClosedLogs
+pub mod ClockLaw
+pub mod SiteClocks

@@ -72,7 +72,7 @@ slice_get-below (y ∷ ys) zero x is = omega arith
 slice_get-below (y ∷ ys) (suc n) x is = let rest : n < length ys = slice_get-below ys n x is in omega arith
 
 -- an operation's number is no greater than the number of operations
-numbered_within : (ds earlier : List Executed) (d : Executed) → AreInOrder earlier ds → In d ds → d.number ≤ length earlier + length ds
+pub numbered_within : (ds earlier : List Executed) (d : Executed) → AreInOrder earlier ds → In d ds → d.number ≤ length earlier + length ds
 numbered_within [] earlier d order among = absurd among
 numbered_within (x ∷ xs) earlier d order (inl same) =
     let n : x.number ≡ suc (length earlier) = order.0.numbered in

@@ -1,1 +1,4 @@
 pub mod Votes
+pub mod Held
+pub mod Clocks
+pub mod Wrong
