@@ -1,0 +1,9 @@
+pub mod Undisturbed
+pub mod Arrives
+pub mod Open
+pub mod First
+pub mod Answers
+pub mod Elsewhere
+pub mod Acting
+pub mod Succeeds
+pub mod Wrong
