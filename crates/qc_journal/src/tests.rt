@@ -1,0 +1,2 @@
+//! Journals over disks in memory.
+
