@@ -24,5 +24,7 @@ mod tests;
 
 pub use fault::JournalFault;
 pub use journal::Journal;
-pub use laws::{first_sync_is_needed, one_reading};
+pub use laws::{
+    first_sync_is_needed, last_sync_is_needed, one_reading, records_last, two_writes_are_needed,
+};
 pub use restart::add_and_fall;
