@@ -3,7 +3,7 @@ use Rattle.std.proofs.Common.{◌≡◌, ◌⊎◌, inl, inr, ℕ, ◌+◌, ◌�
 use Rattle.qc_outside.specs.Images.{Stored, Told, Leaves, Since, IsImage, Tells, as_read, wrote, settled, overwritten}
 use Rattle.qc_outside.proofs.Images.{image_wrote, since_weaker, since_then, since_start}
 use Rattle.qc_journal.specs.Grammar.{IsJournal, IsTorn, IsNoJournal, Holds}
-use Rattle.qc_journal.specs.Journal.{Stands, IsAtRest, IsImageOrShort}
+use Rattle.qc_journal.specs.Journal.{Stands, IsAtRest, IsLeftAtOpen}
 use Rattle.qc_journal.proofs.Append.{Writes, Wrote, Syncs, Synced}
 
 -- what was known before a sync is known after it
@@ -32,8 +32,8 @@ long_torn offset len None None long len_is synced torn = tt
 long_torn offset len (Some o) None long len_is synced torn = absurd synced
 long_torn offset len None (Some n) long len_is synced torn = absurd synced
 
-pub long_moments : (a b : Option Told) → Syncs a b → Tells a b (λ old new. Since (IsImageOrShort old.now) old new)
-long_moments (Some o) (Some n) syncs = since_weaker (IsImage o.now) (IsImageOrShort o.now) o n (λ c image. inl image) syncs
+pub long_moments : (a b : Option Told) → Syncs a b → Tells a b (λ old new. Since (IsLeftAtOpen old.now) old new)
+long_moments (Some o) (Some n) syncs = since_weaker (IsImage o.now) (IsLeftAtOpen o.now) o n (λ c image. inl image) syncs
 long_moments None None syncs = tt
 long_moments (Some o) None syncs = absurd syncs
 long_moments None (Some n) syncs = absurd syncs
@@ -44,20 +44,20 @@ gate_alone [] short = refl
 gate_alone (x ∷ []) short = refl
 gate_alone (x ∷ y ∷ old) short = absurd (omega arith)
 
-pub short_writes : (len : ℕ) (a b : Option Told) → len ≤ 1 → ((t : Told) → a ≡ Some t → len ≡ length (as_read t.now)) → Writes a b 0 (0 ∷ []) → Tells a b (λ old new. Since (IsImageOrShort old.now) old new)
+pub short_writes : (len : ℕ) (a b : Option Told) → len ≤ 1 → ((t : Told) → a ≡ Some t → len ≡ length (as_read t.now)) → Writes a b 0 (0 ∷ []) → Tells a b (λ old new. Since (IsLeftAtOpen old.now) old new)
 short_writes len (Some o) (Some n) short len_is writes =
-    since_weaker (IsImage (wrote o.now (record { at = 0; bytes = 0 ∷ [] }))) (IsImageOrShort o.now) o n
-    (λ c image. inr (omega (arith, image.no_longer, ap length (gate_alone (as_read o.now) (omega (arith, len_is o refl, short)))))) writes
+    since_weaker (IsImage (wrote o.now (record { at = 0; bytes = 0 ∷ [] }))) (IsLeftAtOpen o.now) o n
+    (λ c image. inr (omega (arith, len_is o refl, short), omega (arith, image.no_longer, ap length (gate_alone (as_read o.now) (omega (arith, len_is o refl, short)))))) writes
 short_writes len None None short len_is writes = tt
 short_writes len (Some o) None short len_is writes = absurd writes
 short_writes len None (Some n) short len_is writes = absurd writes
 
 module _ (len : ℕ) (short : len ≤ 1) where
-  pub short_syncs : (a b c : Option Told) → ((t : Told) → a ≡ Some t → len ≡ length (as_read t.now)) → Writes a b 0 (0 ∷ []) → Wrote a b 0 (0 ∷ []) → Syncs b c → Tells a c (λ old new. Since (IsImageOrShort old.now) old new)
+  pub short_syncs : (a b c : Option Told) → ((t : Told) → a ≡ Some t → len ≡ length (as_read t.now)) → Writes a b 0 (0 ∷ []) → Wrote a b 0 (0 ∷ []) → Syncs b c → Tells a c (λ old new. Since (IsLeftAtOpen old.now) old new)
   short_syncs (Some o) (Some m) (Some n) len_is writes wrote_it syncs =
       let bytes = gate_alone (as_read o.now) (omega (arith, len_is o refl, short)) in
-      since_then (IsImageOrShort o.now) o m n (short_writes len (Some o) (Some m) short len_is writes)
-      (since_weaker (IsImage m.now) (IsImageOrShort o.now) m n (λ c image. inr (omega (arith, image.no_longer, ap length (ap as_read wrote_it ∙ bytes)))) syncs)
+      since_then (IsLeftAtOpen o.now) o m n (short_writes len (Some o) (Some m) short len_is writes)
+      (since_weaker (IsImage m.now) (IsLeftAtOpen o.now) m n (λ c image. inr (omega (arith, len_is o refl, short), omega (arith, image.no_longer, ap length (ap as_read wrote_it ∙ bytes)))) syncs)
   short_syncs None None None len_is writes wrote_it syncs = tt
   short_syncs (Some o) None c len_is writes wrote_it syncs = absurd writes
   short_syncs None (Some m) c len_is writes wrote_it syncs = absurd writes

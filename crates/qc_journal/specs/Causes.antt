@@ -4,7 +4,8 @@ use Rattle.qc_outside.specs.Causes.{Rose}
 use Rattle.qc_journal.specs.declared.fault.JournalFault.{JournalFault}
 use Rattle.qc_journal.specs.declared.fault.JournalFault.TheVariants.{Failed, Stopped, OutOfMemory}
 use Rattle.qc_outside.specs.declared.disk.DiskFault.{DiskFault}
-use Rattle.qc_outside.specs.declared.disk.DiskFault.TheVariants.{Failed as DiskFails, Stopped as DiskStops, OutOfMemory as DiskWants}
+use Rattle.qc_outside.specs.declared.disk.DiskFault.TheVariants.{Failed as DiskFails, Stopped as DiskStops}
+use Rattle.qc_outside.specs.declared.disk.DiskFault.TheVariants.{OutOfMemory as DiskWants}
 
 -- the journal failed or stopped only where the disk's count rose
 pub record JournalRose {T : Type 0} (before now : ℕ) (result : Result T JournalFault) : Type 0 where

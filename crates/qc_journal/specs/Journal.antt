@@ -1,7 +1,7 @@
 -- What an open journal knows of its disk.
-use Rattle.std.specs.Prelude.{◌≡◌, ◌⊎◌, ℕ, ◌+◌, ◌≤◌, ◌<◌, ◌^◌, List, [], ◌∷◌, ◌++◌, length, Option, IfSome, map, Vec}
+use Rattle.std.specs.Prelude.{◌≡◌, ◌⊎◌, ℕ, ◌+◌, ◌≤◌, ◌<◌, ◌^◌, List, ◌∷◌, ◌++◌, length, Option, IfSome, map, Vec}
 use Rattle.std.specs.declared.alloc.Global.{Global}
-use Rattle.qc_outside.specs.Images.{Stored, Told, IsImage, settled}
+use Rattle.qc_outside.specs.Images.{Stored, Told, IsImage, as_read, settled}
 use Rattle.qc_journal.specs.Grammar.{AreRecords}
 
 -- Nothing is pending, and at the end of the records of these bodies stands the closed gate.
@@ -42,6 +42,6 @@ pub record Passed (at : ℕ) (bodies : List (List ℕ)) (bytes : List ℕ) : Typ
   pub place : length front ≡ at
   pub split : bytes ≡ front ++ rest
 
--- one of these images, or bytes too short for a record
-abbrev pub IsImageOrShort : Stored → List ℕ → Type 0
-IsImageOrShort s image = IsImage s image ⊎ (length image ≤ 1)
+-- A stop while a journal is opened leaves what one before might; on a disk of length 0 or 1 it leaves no record.
+abbrev pub IsLeftAtOpen : Stored → List ℕ → Type 0
+IsLeftAtOpen s image = IsImage s image ⊎ ((length (as_read s) ≤ 1) × (length image ≤ 1))

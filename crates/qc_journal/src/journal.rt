@@ -15,7 +15,7 @@ ghost use Rattle.qc_outside.specs.declared.disk.DiskFault.TheVariants.{OutOfMemo
 ghost use Rattle.qc_journal.specs.Causes.{JournalRose};
 ghost use Rattle.qc_journal.specs.declared.fault.JournalFault.TheVariants.{Torn, OutOfMemory as JournalWants};
 ghost use Rattle.qc_journal.specs.Grammar.{IsBody, IsNoJournal, Holds, HoldsWithOrWithout, counted};
-ghost use Rattle.qc_journal.specs.Journal.{IsAtRest, Rests, IsReserved, IsImageOrShort, lists};
+ghost use Rattle.qc_journal.specs.Journal.{IsAtRest, Rests, IsReserved, IsLeftAtOpen, lists};
 
 use crate::JournalFault;
 use crate::reading::start;
@@ -78,13 +78,13 @@ impl<D: Disk> Journal<D> {
         ensures opened { IfOk result (λ r. Tells (D.told disk) (D.told r.0.disk) (λ old new.
             Holds (lists r.1.items) (as_read old.now) × IsAtRest r.0.end (lists r.1.items) new)) }
         ensures records { IfOk result (λ r. r.0.records ≡ length r.1.items) }
-        ensures torn { IfErr result (λ e. (offset : ℕ) → e.1 ≡ Torn offset → Tells (D.told disk) (D.told e.0) (λ old new.
-            IsNoJournal offset (as_read old.now))) }
+        ensures torn { IfErr result (λ e. (offset : ℕ) → e.1 ≡ Torn offset
+            → Tells (D.told disk) (D.told e.0) (λ old new. IsNoJournal offset (as_read old.now))) }
         // A stop at a moment of it leaves what one before it might, or no record.
         ensures moments { IfOk result (λ r. Tells (D.told disk) (D.told r.0.disk) (λ old new.
-            Since (IsImageOrShort old.now) old new)) }
+            Since (IsLeftAtOpen old.now) old new)) }
         ensures moments_err { IfErr result (λ e. Tells (D.told disk) (D.told e.0) (λ old new.
-            Since (IsImageOrShort old.now) old new)) }
+            Since (IsLeftAtOpen old.now) old new)) }
         ensures rests { IfOk result (λ r. Rests (D.told r.0.disk) r.0.end (lists r.1.items)) }
         ensures later { IfOk result (λ r. D.faults disk ≤ D.faults r.0.disk) }
         ensures cause { IfErr result (λ e. JournalRose {T = Unit {0}} (D.faults disk) (D.faults e.0) (Err e.1)) }
@@ -109,7 +109,8 @@ impl<D: Disk> Journal<D> {
     pub fn reserve(&mut self, count: u32) -> Result<(), OutOfMemory>
         requires short { count ≤ 65536 }
         requires fewer { self.old.records < 2 ^ 32 }
-        ensures room { OnOk result (IsReserved (vec_capacity self.new.frame) (D.has_room self.new.disk) self.new.end count) }
+        ensures room { OnOk result (IsReserved (vec_capacity self.new.frame) (D.has_room self.new.disk)
+            self.new.end count) }
         ensures told { D.told self.new.disk ≡ D.told self.old.disk }
         ensures end { self.new.end ≡ self.old.end }
         ensures records { self.new.records ≡ self.old.records }
@@ -126,14 +127,16 @@ impl<D: Disk> Journal<D> {
     /// `fell`, and opened again.
     pub fn append(&mut self, body: &[u8]) -> Result<(), JournalFault>
         requires body { IsBody body.now }
-        requires room { IsReserved (vec_capacity self.old.frame) (D.has_room self.old.disk) self.old.end (length body.now) }
+        requires room { IsReserved (vec_capacity self.old.frame) (D.has_room self.old.disk)
+            self.old.end (length body.now) }
         requires fewer { self.old.records < 2 ^ 32 }
         // What was added lasts.
         ensures added { OnOk result ((bodies : List (List ℕ)) → Rests (D.told self.old.disk) self.old.end bodies
             → Rests (D.told self.new.disk) self.new.end (bodies ++ body.now ∷ [])) }
         // A stop at any moment leaves the bodies from before, with the new one or without.
         ensures moments { (bodies : List (List ℕ)) → Rests (D.told self.old.disk) self.old.end bodies
-            → Tells (D.told self.old.disk) (D.told self.new.disk) (λ old new. Since (HoldsWithOrWithout bodies body.now) old new) }
+            → Tells (D.told self.old.disk) (D.told self.new.disk) (λ old new.
+                Since (HoldsWithOrWithout bodies body.now) old new) }
         ensures records { OnOk result (self.new.records ≡ self.old.records + 1) }
         ensures memory { result ≢ Err JournalWants }
         ensures whole { (offset : ℕ) → result ≢ Err (Torn offset) }

@@ -1,4 +1,7 @@
 //! Reading a journal's records.
+//!
+//! Records are read until a gate is closed. At an open gate there has to stand a
+//! length in range, the body, and the next gate; else the journal is torn there.
 
 ghost use Rattle.std.specs.Prelude.{◌≡◌, ◌≢◌, ◌≤◌, ◌<◌, ◌+◌, ◌*◌, ℕ, Some, length, IfOk, IfErr};
 ghost use Rattle.qc_outside.specs.Images.{Told, Tells, Since, as_read};
@@ -6,24 +9,26 @@ ghost use Rattle.qc_journal.specs.Causes.{JournalRose};
 ghost use Rattle.qc_journal.specs.declared.fault.JournalFault.TheVariants.{Torn as JournalTorn};
 ghost use Rattle.qc_journal.specs.Grammar.{IsTorn, IsNoJournal, Holds};
 ghost use Rattle.qc_journal.specs.Head.{IsHead};
-ghost use Rattle.qc_journal.specs.Journal.{Stands, IsAtRest, IsImageOrShort, lists};
+ghost use Rattle.qc_journal.specs.Journal.{Stands, IsAtRest, IsLeftAtOpen, lists};
 
 use crate::JournalFault;
 use qc_outside::Disk;
 use std::alloc::Global;
 
+/// The most bytes of a body.
 const MAX_BODY: u32 = 65_536;
 
-// What stands at a gate.
+/// What stands at a gate.
 enum Head {
-    // A closed gate.
+    /// A closed gate.
     Closed,
-    // An open gate and the length of the body behind it.
+    /// An open gate and the length of the body behind it.
     Open(u32),
-    // Neither.
+    /// Neither.
     Torn,
 }
 
+/// What the first five bytes from a gate on say, or fewer where the disk ends.
 fn head_of(bytes: &[u8]) -> Head
     requires { length bytes.now ≤ 5 }
     ensures { IsHead bytes.now result }
@@ -51,9 +56,11 @@ pub(crate) fn read_records<D: Disk>(
     requires len { (t : Told) → D.told disk.old ≡ Some t → len ≡ length (as_read t.now) }
     requires some { 0 < len }
     ensures same { D.told disk.new ≡ D.told disk.old }
-    ensures opened { IfOk result (λ r. (t : Told) → D.told disk.old ≡ Some t → Stands r.0 (lists r.1.items) (as_read t.now)) }
+    ensures opened { IfOk result (λ r. (t : Told) → D.told disk.old ≡ Some t
+        → Stands r.0 (lists r.1.items) (as_read t.now)) }
     ensures short { IfOk result (λ r. r.0 ≤ 65541 * length r.1.items) }
-    ensures torn { IfErr result (λ e. (t : Told) → D.told disk.old ≡ Some t → (offset : ℕ) → e ≡ JournalTorn offset → IsTorn offset (as_read t.now)) }
+    ensures torn { IfErr result (λ e. (t : Told) → D.told disk.old ≡ Some t
+        → (offset : ℕ) → e ≡ JournalTorn offset → IsTorn offset (as_read t.now)) }
     ensures cause { JournalRose (D.faults disk.old) (D.faults disk.new) result }
 {
     let mut bodies = Vec::new(alloc);
@@ -75,7 +82,8 @@ pub(crate) fn read_records<D: Disk>(
     }
 }
 
-/// Makes what a disk holds last, or begins an empty journal on it, and reads the records.
+/// Makes what a disk holds last, and reads the records; or begins an empty
+/// journal on a disk that holds none.
 pub(crate) fn start<D: Disk>(
     alloc: Global,
     disk: &mut D,
@@ -83,9 +91,9 @@ pub(crate) fn start<D: Disk>(
     ensures opened { IfOk result (λ r. Tells (D.told disk.old) (D.told disk.new) (λ old new.
         Holds (lists r.1.items) (as_read old.now) × IsAtRest r.0 (lists r.1.items) new)) }
     ensures short { IfOk result (λ r. r.0 ≤ 65541 * length r.1.items) }
-    ensures torn { IfErr result (λ e. (offset : ℕ) → e ≡ JournalTorn offset → Tells (D.told disk.old) (D.told disk.new) (λ old new.
-        IsNoJournal offset (as_read old.now))) }
-    ensures moments { Tells (D.told disk.old) (D.told disk.new) (λ old new. Since (IsImageOrShort old.now) old new) }
+    ensures torn { IfErr result (λ e. (offset : ℕ) → e ≡ JournalTorn offset
+        → Tells (D.told disk.old) (D.told disk.new) (λ old new. IsNoJournal offset (as_read old.now))) }
+    ensures moments { Tells (D.told disk.old) (D.told disk.new) (λ old new. Since (IsLeftAtOpen old.now) old new) }
     ensures cause { JournalRose (D.faults disk.old) (D.faults disk.new) result }
 {
     let len = disk.len()?;

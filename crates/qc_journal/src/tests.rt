@@ -14,6 +14,12 @@ const SITE: [u8; 52] = [
     0,
 ];
 
+/// A client's record of a commit: a write, and a read of what it wrote.
+const CLIENT: [u8; 31] = [
+    1, 0, 0, 0, 25, 6, 0, 0, 0, 0, 1, 0, 0, 0, 1, 0, 0, 0, 0, 0, 0, 0, 1, 2, 0, 2, 2, 0, 0, 1, //
+    0,
+];
+
 /// Adds a record of 1 to 99 bytes to a journal of at most nine.
 fn add<D: Disk>(journal: &mut Journal<D>, body: &[u8]) -> Result<(), JournalFault> {
     let count = body.len();
@@ -41,6 +47,8 @@ fn records_are_laid_byte_for_byte(rt: HostRuntime) -> Result<(), Fail> {
     let alloc = rt.alloc();
     let bytes = laid(alloc, &[&SITE[5..28], &SITE[33..51]])?;
     assert_eq!(rt; bytes.as_slice(), SITE.as_slice());
+    let bytes = laid(alloc, &[&CLIENT[5..30]])?;
+    assert_eq!(rt; bytes.as_slice(), CLIENT.as_slice());
     Ok(())
 }
 

@@ -1,12 +1,12 @@
 use Rattle.std.proofs.Common.{◌≡◌, List, Option, sym, ◌∙◌, subst, arith}
 use Rattle.qc_outside.specs.Images.{Told, Tells, Since}
-use Rattle.qc_journal.specs.Journal.{IsImageOrShort}
+use Rattle.qc_journal.specs.Journal.{IsLeftAtOpen}
 use Rattle.qc_journal.proofs.Opening.{short_syncs, long_moments}
 use Rattle.qc_journal.proofs.reading.start.Goals as goal
 
 -- of what was told before the length was asked
 abbrev Moments : Option Told → Option Told → Type 0
-Moments a b = Tells a b (λ old new. Since (IsImageOrShort old.now) old new)
+Moments a b = Tells a b (λ old new. Since (IsLeftAtOpen old.now) old new)
 
 pub returns-in_err-sync-clause-moments : goal.returns-in_err-sync-clause-moments
 returns-in_err-sync-clause-moments g c =
