@@ -1,6 +1,6 @@
 -- What is read after a fall.
-use Rattle.std.proofs.Common.{◌≡◌, ◌⊎◌, inl, inr, ℕ, List, [], ◌∷◌, ◌++◌, Option, Some, None, subst}
-use Rattle.qc_outside.specs.Images.{Stored, Told, Since, IsImage, Tells, as_read}
+use Rattle.std.proofs.Common.{◌≡◌, ◌⊎◌, inl, inr, ℕ, List, [], ◌∷◌, ◌++◌, Option, Some, None}
+use Rattle.qc_outside.specs.Images.{Told, Since, IsImage, Tells, as_read}
 use Rattle.qc_outside.proofs.Kept.{read_is_image}
 use Rattle.qc_journal.specs.Grammar.{Holds, HoldsWithOrWithout, IsNoJournal}
 use Rattle.qc_journal.specs.Journal.{IsAtRest}

@@ -1,6 +1,6 @@
 -- The four calls that write a record, on what the disk tells between them.
-use Rattle.std.proofs.Common.{◌≡◌, ◌≢◌, ℕ, ◌+◌, List, [], ◌∷◌, ◌++◌, length, Option, IfSome, subst}
-use Rattle.qc_outside.specs.Images.{Stored, Told, Leaves, Since, IsImage, Tells, as_read, wrote, settled}
+use Rattle.std.proofs.Common.{◌≡◌, ℕ, ◌+◌, List, [], ◌∷◌, ◌++◌, length, Option, subst}
+use Rattle.qc_outside.specs.Images.{Told, Since, IsImage, Tells, as_read, wrote, settled}
 use Rattle.qc_outside.proofs.Images.{image_wrote}
 use Rattle.qc_journal.specs.Grammar.{IsBody, counted, HoldsWithOrWithout}
 use Rattle.qc_journal.specs.Journal.{IsAtRest, Rests}

@@ -1,10 +1,10 @@
 -- What stands at a gate.
-use Rattle.std.proofs.Common.{◌≡◌, ◌≢◌, ◌⊎◌, inl, inr, ⊎_elim, ℕ, zero, suc, ◌+◌, ◌-◌, ◌<◌, ◌≤◌, ◌^◌, List, [], ◌∷◌, ◌++◌, length, take, drop, map, Vec, refl, sym, ◌∙◌, ap, subst, arith, append_assoc, length-append, length-take, length-drop, take-append-drop}
-use Rattle.std.proofs.lemmas.List.{append-nil, take_at, drop_at, map-append, drop-drop}
+use Rattle.std.proofs.Common.{◌≡◌, ◌⊎◌, inl, inr, ℕ, ◌+◌, ◌-◌, ◌<◌, ◌≤◌, List, [], ◌∷◌, ◌++◌, length, take, drop, Vec, refl, sym, ◌∙◌, ap, arith, append_assoc, length-append, length-take, take-append-drop}
+use Rattle.std.proofs.lemmas.List.{take_at, drop_at, map-append, drop-drop}
 use Rattle.std.proofs.lemmas.Nat.{from_be_bytes-to_be_bytes_4}
 use Rattle.std.specs.Int.{w32, to_be_bytes, from_be_bytes}
 use Rattle.std.specs.declared.alloc.Global.{Global}
-use Rattle.qc_journal.specs.Grammar.{IsBody, counted, AreRecords, IsTorn}
+use Rattle.qc_journal.specs.Grammar.{IsBody, counted, IsTorn}
 use Rattle.qc_journal.specs.Head.{IsOpenHead, IsTornHead}
 use Rattle.qc_journal.specs.Journal.{Stands, Passed, lists}
 use Rattle.qc_journal.proofs.Stages.{records_push, length-counted}
@@ -46,11 +46,16 @@ module _ (at : ℕ) (bodies : List (List ℕ)) (bytes head : List ℕ) (p : Pass
   torn_there within (inr torn) =
       let found = first_five p.rest torn.gate torn.rest (five ∙ torn.bytes_are) in
       record {
-        bodies = bodies; front = p.front; gate = torn.gate; rest = found.0;
-        records = p.records; at = p.place; is_open = torn.is_open;
+        bodies = bodies;
+        front = p.front;
+        gate = torn.gate;
+        rest = found.0;
+        records = p.records;
+        at = p.place;
+        is_open = torn.is_open;
         torn = p.split ∙ ap (λ (l : List ℕ). p.front ++ l) found.1;
         none = λ body next more is_body is. torn.none (length body) is_body.some is_body.short
-          (sym found.2 ∙ ap (λ (l : List ℕ). take 4 l) (is ∙ append_assoc (to_be_bytes w32 (length body)) body (next ∷ more)) ∙ take_at (to_be_bytes w32 (length body)) (body ++ next ∷ more) 4 refl);
+            (sym found.2 ∙ ap (λ (l : List ℕ). take 4 l) (is ∙ append_assoc (to_be_bytes w32 (length body)) body (next ∷ more)) ∙ take_at (to_be_bytes w32 (length body)) (body ++ next ∷ more) 4 refl);
       }
 
   -- the length, and what stands behind it
@@ -63,8 +68,13 @@ module _ (at : ℕ) (bodies : List (List ℕ)) (bytes head : List ℕ) (p : Pass
   past_end count h past =
       let found = behind_length count h in
       record {
-        bodies = bodies; front = p.front; gate = h.gate; rest = to_be_bytes w32 count ++ found.0;
-        records = p.records; at = p.place; is_open = h.is_open;
+        bodies = bodies;
+        front = p.front;
+        gate = h.gate;
+        rest = to_be_bytes w32 count ++ found.0;
+        records = p.records;
+        at = p.place;
+        is_open = h.is_open;
         torn = p.split ∙ ap (λ (l : List ℕ). p.front ++ l) found.1;
         none = λ body next more is_body is. too_short found.0 found.1 body next more is_body is;
       }

@@ -1,5 +1,5 @@
 -- At rest the records last.
-use Rattle.std.proofs.Common.{◌≡◌, inl, ℕ, List, ◌∷◌, ◌++◌, length, subst, arith, length-append}
+use Rattle.std.proofs.Common.{inl, ℕ, List, ◌∷◌, ◌++◌, subst, arith, length-append}
 use Rattle.qc_outside.specs.Images.{Stored, Told, Leaves, IsImage, settled}
 use Rattle.qc_journal.specs.Grammar.{Holds}
 use Rattle.qc_journal.specs.Journal.{IsAtRest}

@@ -1,7 +1,7 @@
 -- Lists of bytes that agree in a part.
-use Rattle.std.proofs.Common.{◌≡◌, ◌≢◌, ℕ, zero, suc, ◌+◌, ◌-◌, ◌<◌, ◌≤◌, List, [], ◌∷◌, ◌++◌, length, get_or, take, drop, replicate, refl, sym, ◌∙◌, ap, subst, arith, append_assoc, length-append}
-use Rattle.std.proofs.lemmas.List.{append-nil, take_at, drop_at, ext_get_or}
-use Rattle.qc_outside.specs.Images.{Write, overwritten}
+use Rattle.std.proofs.Common.{◌≡◌, ◌≢◌, ℕ, suc, ◌+◌, ◌-◌, ◌<◌, ◌≤◌, List, [], ◌∷◌, ◌++◌, length, get_or, take, drop, replicate, sym, ◌∙◌, ap, arith, append_assoc, length-append}
+use Rattle.std.proofs.lemmas.List.{take_at, drop_at, ext_get_or}
+use Rattle.qc_outside.specs.Images.{overwritten}
 
 -- the same up to a byte and with it
 pub same_front : (front : List ℕ) (x : ℕ) (rest c : List ℕ) → length front < length c → ((i : ℕ) → i ≤ length front → get_or c i 0 ≡ get_or (front ++ x ∷ rest) i 0) → (tail : List ℕ) × (c ≡ front ++ x ∷ tail)

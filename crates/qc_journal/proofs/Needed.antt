@@ -8,10 +8,20 @@ use Rattle.qc_journal.proofs.Unique.{one_list, torn_or_not}
 
 -- an open gate with no record behind it
 torn : IsNoJournal 0 (1 ∷ 9 ∷ [])
-torn = (omega arith, record {
-  bodies = []; front = []; gate = 1; rest = 9 ∷ []; records = refl; at = refl; is_open = omega arith; torn = refl;
-  none = λ body next more is_body is. omega (arith, ap length is, length-append (counted body) (next ∷ more), length-counted body);
-})
+torn = (
+  omega arith,
+  record {
+    bodies = [];
+    front = [];
+    gate = 1;
+    rest = 9 ∷ [];
+    records = refl;
+    at = refl;
+    is_open = omega arith;
+    torn = refl;
+    none = λ body next more is_body is. omega (arith, ap length is, length-append (counted body) (next ∷ more), length-counted body);
+  },
+)
 
 no_list : HoldsWithOrWithout [] (5 ∷ []) (1 ∷ 9 ∷ []) → ⊥
 no_list (inl h) = torn_or_not [] 0 (1 ∷ 9 ∷ []) h torn

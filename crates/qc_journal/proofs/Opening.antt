@@ -1,8 +1,8 @@
 -- What opening tells.
-use Rattle.std.proofs.Common.{◌≡◌, ◌⊎◌, inl, inr, ℕ, ◌+◌, ◌≤◌, List, [], ◌∷◌, ◌++◌, length, Option, Some, None, refl, sym, ◌∙◌, ap, subst, arith}
-use Rattle.qc_outside.specs.Images.{Stored, Told, Leaves, Since, IsImage, Tells, as_read, wrote, settled, overwritten}
-use Rattle.qc_outside.proofs.Images.{image_wrote, since_weaker, since_then, since_start}
-use Rattle.qc_journal.specs.Grammar.{IsJournal, IsTorn, IsNoJournal, Holds}
+use Rattle.std.proofs.Common.{◌≡◌, inl, inr, ℕ, ◌≤◌, List, [], ◌∷◌, ◌++◌, length, Option, Some, None, refl, sym, ◌∙◌, ap, subst, arith}
+use Rattle.qc_outside.specs.Images.{Stored, Told, Since, IsImage, Tells, as_read, wrote, settled, overwritten}
+use Rattle.qc_outside.proofs.Images.{since_weaker, since_then}
+use Rattle.qc_journal.specs.Grammar.{IsTorn, IsNoJournal, Holds}
 use Rattle.qc_journal.specs.Journal.{Stands, IsAtRest, IsLeftAtOpen}
 use Rattle.qc_journal.proofs.Append.{Writes, Wrote, Syncs, Synced}
 
@@ -69,7 +69,7 @@ module _ (len : ℕ) (short : len ≤ 1) where
       let few : length (as_read o.now) ≤ 1 = omega (arith, len_is o refl, short) in (
         inr (few, none),
         subst (λ (bs : List (List ℕ)). IsAtRest 0 bs n) (sym none)
-          (record { front = []; rest = []; records = refl; end_is = refl; lasting = synced ∙ ap (λ (s : Stored). settled (as_read s)) wrote_it ∙ ap settled (gate_alone (as_read o.now) few) }),
+            (record { front = []; rest = []; records = refl; end_is = refl; lasting = synced ∙ ap (λ (s : Stored). settled (as_read s)) wrote_it ∙ ap settled (gate_alone (as_read o.now) few) }),
       )
   short_opened bodies none None None None len_is wrote_it synced = tt
   short_opened bodies none (Some o) None c len_is wrote_it synced = absurd wrote_it

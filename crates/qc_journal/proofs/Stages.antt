@@ -1,9 +1,9 @@
 -- What a disk holds between the four calls that write a record.
-use Rattle.std.proofs.Common.{◌≡◌, ◌≢◌, ◌⊎◌, inl, inr, ℕ, zero, suc, ◌+◌, ◌<◌, ◌≤◌, List, [], ◌∷◌, ◌++◌, length, get_or, refl, sym, ◌∙◌, ap, subst, arith, append_assoc, length-append}
+use Rattle.std.proofs.Common.{◌≡◌, ◌≢◌, ◌⊎◌, inl, inr, ℕ, ◌+◌, ◌<◌, ◌≤◌, List, [], ◌∷◌, ◌++◌, length, refl, sym, ◌∙◌, ap, subst, arith, append_assoc, length-append}
 use Rattle.std.proofs.lemmas.Bool.{cases_eq, cases_lt}
 use Rattle.std.proofs.lemmas.List.{append-nil}
-use Rattle.qc_outside.specs.Images.{Write, Stored, Told, Leaves, IsImage, as_read, wrote, settled, overwritten}
-use Rattle.qc_journal.specs.Grammar.{IsBody, counted, AreRecords, IsJournal, HoldsWithOrWithout}
+use Rattle.qc_outside.specs.Images.{Write, Stored, Told, Leaves, IsImage, as_read, wrote, settled}
+use Rattle.qc_journal.specs.Grammar.{IsBody, counted, AreRecords, HoldsWithOrWithout}
 use Rattle.qc_journal.specs.Journal.{IsAtRest}
 use Rattle.qc_journal.proofs.Lists.{same_front, same_but, written_behind, written_byte}
 
@@ -13,7 +13,10 @@ records_push [] front gate body none is_open is_body =
     (gate, [], is_open, is_body, ap (λ (l : List ℕ). l ++ gate ∷ counted body) none ∙ ap (λ (l : List ℕ). gate ∷ l) (sym (append-nil (counted body))), refl)
 records_push (b ∷ bodies) front gate body records is_open is_body =
     let more = records_push bodies records.1 gate body records.5 is_open is_body in (
-      records.0, records.1 ++ gate ∷ counted body, records.2, records.3,
+      records.0,
+      records.1 ++ gate ∷ counted body,
+      records.2,
+      records.3,
       ap (λ (l : List ℕ). l ++ gate ∷ counted body) records.4 ∙ ap (λ (l : List ℕ). records.0 ∷ l) (append_assoc (counted b) records.1 (gate ∷ counted body)),
       more,
     )
@@ -92,7 +95,10 @@ module _ (end : ℕ) (bodies : List (List ℕ)) (body : List ℕ) where
   lasts_behind old new at is =
       let bytes = written_behind at.front 0 at.rest (counted body ++ 0 ∷ []) (end + 1) (omega (arith, at.end_is)) in
       record {
-        front = at.front; rest = bytes.0; records = at.records; end_is = at.end_is;
+        front = at.front;
+        rest = bytes.0;
+        records = at.records;
+        end_is = at.end_is;
         now = is ∙ ap (λ (s : Stored). settled (as_read s)) at.now ∙ ap settled bytes.1 ∙ ap (λ (l : List ℕ). settled (at.front ++ 0 ∷ l)) (append_assoc (counted body) (0 ∷ []) bytes.0);
       }
 
@@ -112,5 +118,5 @@ module _ (end : ℕ) (bodies : List (List ℕ)) (body : List ℕ) where
     records = records_push bodies at.front 1 body at.records (omega arith) is_body;
     end_is = omega (arith, at.end_is, length-append at.front (1 ∷ counted body), length-counted body);
     lasting = is ∙ ap (λ (s : Stored). settled (as_read s)) at.now ∙ ap settled (written_byte at.front 0 1 (counted body ++ 0 ∷ at.rest) end (sym at.end_is))
-      ∙ ap settled (sym (append_assoc at.front (1 ∷ counted body) (0 ∷ at.rest)));
+        ∙ ap settled (sym (append_assoc at.front (1 ∷ counted body) (0 ∷ at.rest)));
   }

@@ -136,7 +136,7 @@ impl<D: Disk> Journal<D> {
         // A stop at any moment leaves the bodies from before, with the new one or without.
         ensures moments { (bodies : List (List ℕ)) → Rests (D.told self.old.disk) self.old.end bodies
             → Tells (D.told self.old.disk) (D.told self.new.disk) (λ old new.
-                Since (HoldsWithOrWithout bodies body.now) old new) }
+            Since (HoldsWithOrWithout bodies body.now) old new) }
         ensures records { OnOk result (self.new.records ≡ self.old.records + 1) }
         ensures memory { result ≢ Err JournalWants }
         ensures whole { (offset : ℕ) → result ≢ Err (Torn offset) }

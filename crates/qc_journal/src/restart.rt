@@ -24,7 +24,7 @@ pub fn add_and_fall<D: Disk>(
     // The bodies are those from before, with the new one or without.
     ensures kept { (bodies : List (List ℕ)) → Rests (D.told journal.disk) journal.end bodies → IfOk result (λ r.
         Tells (D.told journal.disk) (D.told r.0.disk) (λ _ _.
-            (lists r.1.items ≡ bodies) ⊎ (lists r.1.items ≡ bodies ++ body.now ∷ []))) }
+        (lists r.1.items ≡ bodies) ⊎ (lists r.1.items ≡ bodies ++ body.now ∷ []))) }
     // It is never torn.
     ensures whole { (bodies : List (List ℕ)) → Rests (D.told journal.disk) journal.end bodies → IfErr result (λ e.
         (offset : ℕ) → e.1 ≡ Torn offset → Tells (D.told journal.disk) (D.told e.0) (λ _ _. ⊥)) }

@@ -52,25 +52,29 @@ fn records_are_laid_byte_for_byte(rt: HostRuntime) -> Result<(), Fail> {
     Ok(())
 }
 
+/// Adds three records, or as many as the disk takes, and stops the disk.
+fn add_three<D: Disk>(journal: Journal<D>) -> D {
+    let mut journal = journal;
+    for byte in 1..4 {
+        if add(&mut journal, &[byte, byte]).is_err() {
+            break;
+        }
+    }
+    journal.fell()
+}
+
 /// Opens a journal on a disk that stops in this write or sync, adds three
 /// records until it has stopped, and tells how many it then holds.
 fn left_by_stop(alloc: Global, tear: Tear, at: u32) -> Result<usize, JournalFault> {
     let mut disk = Fused::new(MemDisk::new(alloc, tear)?);
     disk.arm(ArmKind::Stop, at);
     let disk = match Journal::open(alloc, disk) {
-        Err((disk, _)) => disk,
-        Ok((mut journal, _)) => {
-            for byte in 1..4 {
-                if add(&mut journal, &[byte, byte]).is_err() {
-                    break;
-                }
-            }
-            journal.fell()
-        }
+        Err((disk, _fault)) => disk,
+        Ok((journal, _bodies)) => add_three(journal),
     };
     match Journal::open(alloc, disk) {
-        Err((_, fault)) => Err(fault),
-        Ok((_, bodies)) => Ok(bodies.len()),
+        Err((_disk, fault)) => Err(fault),
+        Ok((_journal, bodies)) => Ok(bodies.len()),
     }
 }
 
@@ -100,8 +104,8 @@ fn opened(alloc: Global, bytes: &[u8]) -> Result<usize, JournalFault> {
     let mut disk = MemDisk::new(alloc, Tear::All)?;
     disk.write_at(0, bytes)?;
     match Journal::open(alloc, disk) {
-        Err((_, fault)) => Err(fault),
-        Ok((_, bodies)) => Ok(bodies.len()),
+        Err((_disk, fault)) => Err(fault),
+        Ok((_journal, bodies)) => Ok(bodies.len()),
     }
 }
 

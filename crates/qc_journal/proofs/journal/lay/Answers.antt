@@ -28,8 +28,8 @@ pub returns-clause-added : goal.returns-clause-added
 returns-clause-added g c =
     on_ok_weaker c.sync-2.result
     (λ synced bodies rests.
-        let one = first c.args.end bodies c.args.body.now c.args.frame.now c.requires.body c.requires.frame _ _ rests c.write_at.ensures.moments c.in_ok-write_at.ensures.written in
-        let two = second c.args.end bodies c.args.body.now c.args.frame.now c.requires.body c.requires.frame _ _ _ one c.sync.ensures.moments c.in_ok-sync.ensures.lasting in
-        let three = third c.args.end bodies c.args.body.now c.args.frame.now c.requires.body c.requires.frame _ _ _ two c.write_at-2.ensures.moments c.in_ok-write_at-2.ensures.written in
-        fourth c.args.end bodies c.args.body.now c.args.frame.now c.requires.body c.requires.frame _ _ _ three c.sync-2.ensures.moments synced)
+    let one = first c.args.end bodies c.args.body.now c.args.frame.now c.requires.body c.requires.frame _ _ rests c.write_at.ensures.moments c.in_ok-write_at.ensures.written in
+    let two = second c.args.end bodies c.args.body.now c.args.frame.now c.requires.body c.requires.frame _ _ _ one c.sync.ensures.moments c.in_ok-sync.ensures.lasting in
+    let three = third c.args.end bodies c.args.body.now c.args.frame.now c.requires.body c.requires.frame _ _ _ two c.write_at-2.ensures.moments c.in_ok-write_at-2.ensures.written in
+    fourth c.args.end bodies c.args.body.now c.args.frame.now c.requires.body c.requires.frame _ _ _ three c.sync-2.ensures.moments synced)
     c.sync-2.ensures.lasting

@@ -1,4 +1,4 @@
-use Rattle.std.proofs.Common.{◌≡◌, ℕ, ◌+◌, ◌-◌, ◌*◌, ◌<◌, ◌≤◌, length, Some}
+use Rattle.std.proofs.Common.{◌≡◌, ℕ, ◌-◌, ◌*◌, ◌<◌, ◌≤◌, length, Some}
 use Rattle.qc_outside.specs.Images.{Told, as_read}
 use Rattle.qc_journal.specs.Journal.{Passed, lists}
 use Rattle.qc_journal.proofs.reading.read_records.Given as goal

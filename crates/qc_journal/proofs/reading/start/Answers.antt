@@ -1,4 +1,4 @@
-use Rattle.std.proofs.Common.{◌≡◌, List, Option, sym, ◌∙◌, subst, arith}
+use Rattle.std.proofs.Common.{Option, sym, ◌∙◌, subst}
 use Rattle.qc_outside.specs.Images.{Told, Tells, Since}
 use Rattle.qc_journal.specs.Journal.{IsLeftAtOpen}
 use Rattle.qc_journal.proofs.Opening.{short_syncs, long_moments}

@@ -1,9 +1,5 @@
-use Rattle.std.proofs.Common.{◌≡◌, ◌⊎◌, ◌∷◌, [], ◌++◌, ℕ, List}
 use Rattle.std.proofs.lemmas.Result.{IfOk-weaker, IfErr-weaker}
-use Rattle.qc_outside.specs.Images.{Tells, as_read}
-use Rattle.qc_journal.specs.declared.fault.JournalFault.TheVariants.{Torn}
-use Rattle.qc_journal.specs.Grammar.{Holds, IsNoJournal}
-use Rattle.qc_journal.specs.Journal.{IsAtRest, lists}
+use Rattle.qc_journal.specs.Journal.{lists}
 use Rattle.qc_journal.proofs.Again.{read_again, never_torn}
 use Rattle.qc_journal.proofs.restart.add_and_fall.Goals as goal
 
