@@ -8,7 +8,7 @@
 //!    new one.
 
 ghost use Rattle.std.specs.Prelude.{◌≡◌, ◌≢◌, ◌≤◌, ◌<◌, ◌+◌, ◌*◌, ◌^◌, List, ℕ, [], ◌∷◌, ◌++◌, Err, length};
-ghost use Rattle.std.specs.Prelude.{IfOk, IfErr, OnOk, IsOk, vec_capacity};
+ghost use Rattle.std.specs.Prelude.{Some, IfOk, IfErr, OnOk, IsOk, vec_capacity};
 ghost use Rattle.qc_outside.specs.Disk.{DiskRose};
 ghost use Rattle.qc_outside.specs.Images.{Tells, Since, IsImage, as_read};
 ghost use Rattle.qc_outside.specs.declared.disk.DiskFault.TheVariants.{OutOfMemory as DiskWants};
@@ -171,6 +171,9 @@ impl<D: Disk> Journal<D> {
 impl<D: Disk> Journal<Fused<D>> {
     /// Arms a fault on the disk's write or sync of that number from now on.
     pub fn arm(&mut self, kind: ArmKind, at: u32)
+        ensures armed { self.new.disk.arm.armed ≡ Some (kind, at) }
+        ensures inner { self.new.disk.inner ≡ self.old.disk.inner }
+        ensures frame { self.new.frame ≡ self.old.frame }
         ensures told { ⟦<Fused<D> as Disk>⟧.told self.new.disk ≡ ⟦<Fused<D> as Disk>⟧.told self.old.disk }
         ensures faults { ⟦<Fused<D> as Disk>⟧.faults self.new.disk ≡ ⟦<Fused<D> as Disk>⟧.faults self.old.disk }
         ensures end { self.new.end ≡ self.old.end }
