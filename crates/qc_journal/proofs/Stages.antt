@@ -2,9 +2,10 @@
 use Rattle.std.proofs.Common.{◌≡◌, ◌≢◌, ◌⊎◌, inl, inr, ℕ, ◌+◌, ◌<◌, ◌≤◌, List, [], ◌∷◌, ◌++◌, length, refl, sym, ◌∙◌, ap, subst, arith, append_assoc, length-append}
 use Rattle.std.proofs.lemmas.Bool.{cases_eq, cases_lt}
 use Rattle.std.proofs.lemmas.List.{append-nil}
-use Rattle.qc_outside.specs.Images.{Write, Stored, Told, Leaves, IsImage, as_read, wrote, settled}
+use Rattle.qc_outside.specs.Images.{Stored, Told, Leaves, IsImage, as_read, wrote, settled}
 use Rattle.qc_journal.specs.Grammar.{IsBody, counted, AreRecords, HoldsWithOrWithout}
 use Rattle.qc_journal.specs.Journal.{IsAtRest}
+use Rattle.qc_journal.specs.Writes.{behind, gate}
 use Rattle.qc_journal.proofs.Lists.{same_front, same_but, written_behind, written_byte}
 
 -- one record more
@@ -25,19 +26,13 @@ pub length-counted : (body : List ℕ) → length (counted body) ≡ length body
 length-counted body = omega arith
 
 module _ (end : ℕ) (bodies : List (List ℕ)) (body : List ℕ) where
-  abbrev pub behind : Write
-  behind = record { at = end + 1; bytes = counted body ++ 0 ∷ [] }
-
-  abbrev pub gate : Write
-  gate = record { at = end; bytes = 1 ∷ [] }
-
   -- the record is written behind the closed gate
   pub record IsStaged (told : Told) : Type 0 where
     pub front : List ℕ
     pub rest : List ℕ
     pub records : AreRecords bodies front
     pub end_is : length front ≡ end
-    pub now : told.now ≡ wrote (settled (front ++ 0 ∷ rest)) behind
+    pub now : told.now ≡ wrote (settled (front ++ 0 ∷ rest)) (behind end body)
 
   -- and lasts there
   pub record IsBehind (told : Told) : Type 0 where
@@ -53,17 +48,17 @@ module _ (end : ℕ) (bodies : List (List ℕ)) (body : List ℕ) where
     pub rest : List ℕ
     pub records : AreRecords bodies front
     pub end_is : length front ≡ end
-    pub now : told.now ≡ wrote (settled (front ++ 0 ∷ (counted body ++ 0 ∷ rest))) gate
+    pub now : told.now ≡ wrote (settled (front ++ 0 ∷ (counted body ++ 0 ∷ rest))) (gate end)
 
   -- the closed gate stands in each image of the first write
-  closed_stays : (front rest image : List ℕ) → AreRecords bodies front → length front ≡ end → IsImage (wrote (settled (front ++ 0 ∷ rest)) behind) image → HoldsWithOrWithout bodies body image
+  closed_stays : (front rest image : List ℕ) → AreRecords bodies front → length front ≡ end → IsImage (wrote (settled (front ++ 0 ∷ rest)) (behind end body)) image → HoldsWithOrWithout bodies body image
   closed_stays front rest image records end_is is_image =
       let found = same_front front 0 rest image (omega (arith, is_image.no_shorter, length-append front (0 ∷ rest)))
       (λ i le. is_image.same i (omega (arith, le, length-append front (0 ∷ rest))) (inl (omega (arith, le, end_is)), tt)) in
       inl (inl (record { front = front; rest = found.0; records = records; closed = found.1 }))
 
   -- the record stands whole in each image of the second
-  whole_stays : (front rest image : List ℕ) → IsBody body → AreRecords bodies front → length front ≡ end → IsImage (wrote (settled (front ++ 0 ∷ (counted body ++ 0 ∷ rest))) gate) image → HoldsWithOrWithout bodies body image
+  whole_stays : (front rest image : List ℕ) → IsBody body → AreRecords bodies front → length front ≡ end → IsImage (wrote (settled (front ++ 0 ∷ (counted body ++ 0 ∷ rest))) (gate end)) image → HoldsWithOrWithout bodies body image
   whole_stays front rest image is_body records end_is is_image =
       let more = counted body ++ 0 ∷ rest in
       let long : length image ≡ length (front ++ 0 ∷ more) =
@@ -82,11 +77,11 @@ module _ (end : ℕ) (bodies : List (List ℕ)) (body : List ℕ) where
       beside : (i : ℕ) → i ≢ length front → (i < end) ⊎ (end + 1 ≤ i)
       beside i other = elim (cases_lt i end) [ inl lt ↦ inl lt | inr ge ↦ inr (omega (arith, ge, other, end_is)) ]
 
-  pub leaves_rest : (t : Told) → IsAtRest end bodies t → Leaves (HoldsWithOrWithout bodies body) (wrote t.now behind)
-  leaves_rest t at = subst (λ (s : Stored). Leaves (HoldsWithOrWithout bodies body) (wrote s behind)) (sym at.lasting) (λ image is. closed_stays at.front at.rest image at.records at.end_is is)
+  pub leaves_rest : (t : Told) → IsAtRest end bodies t → Leaves (HoldsWithOrWithout bodies body) (wrote t.now (behind end body))
+  leaves_rest t at = subst (λ (s : Stored). Leaves (HoldsWithOrWithout bodies body) (wrote s (behind end body))) (sym at.lasting) (λ image is. closed_stays at.front at.rest image at.records at.end_is is)
 
-  pub staged : (old new : Told) → IsAtRest end bodies old → new.now ≡ wrote old.now behind → IsStaged new
-  staged old new at is = record { front = at.front; rest = at.rest; records = at.records; end_is = at.end_is; now = is ∙ ap (λ (s : Stored). wrote s behind) at.lasting }
+  pub staged : (old new : Told) → IsAtRest end bodies old → new.now ≡ wrote old.now (behind end body) → IsStaged new
+  staged old new at is = record { front = at.front; rest = at.rest; records = at.records; end_is = at.end_is; now = is ∙ ap (λ (s : Stored). wrote s (behind end body)) at.lasting }
 
   pub leaves_staged : (t : Told) → IsStaged t → Leaves (HoldsWithOrWithout bodies body) t.now
   leaves_staged t at = subst (λ (s : Stored). Leaves (HoldsWithOrWithout bodies body) s) (sym at.now) (λ image is. closed_stays at.front at.rest image at.records at.end_is is)
@@ -102,11 +97,11 @@ module _ (end : ℕ) (bodies : List (List ℕ)) (body : List ℕ) where
         now = is ∙ ap (λ (s : Stored). settled (as_read s)) at.now ∙ ap settled bytes.1 ∙ ap (λ (l : List ℕ). settled (at.front ++ 0 ∷ l)) (append_assoc (counted body) (0 ∷ []) bytes.0);
       }
 
-  pub leaves_behind : IsBody body → (t : Told) → IsBehind t → Leaves (HoldsWithOrWithout bodies body) (wrote t.now gate)
-  leaves_behind is_body t at = subst (λ (s : Stored). Leaves (HoldsWithOrWithout bodies body) (wrote s gate)) (sym at.now) (λ image is. whole_stays at.front at.rest image is_body at.records at.end_is is)
+  pub leaves_behind : IsBody body → (t : Told) → IsBehind t → Leaves (HoldsWithOrWithout bodies body) (wrote t.now (gate end))
+  leaves_behind is_body t at = subst (λ (s : Stored). Leaves (HoldsWithOrWithout bodies body) (wrote s (gate end))) (sym at.now) (λ image is. whole_stays at.front at.rest image is_body at.records at.end_is is)
 
-  pub opened : (old new : Told) → IsBehind old → new.now ≡ wrote old.now gate → IsOpened new
-  opened old new at is = record { front = at.front; rest = at.rest; records = at.records; end_is = at.end_is; now = is ∙ ap (λ (s : Stored). wrote s gate) at.now }
+  pub opened : (old new : Told) → IsBehind old → new.now ≡ wrote old.now (gate end) → IsOpened new
+  opened old new at is = record { front = at.front; rest = at.rest; records = at.records; end_is = at.end_is; now = is ∙ ap (λ (s : Stored). wrote s (gate end)) at.now }
 
   pub leaves_opened : IsBody body → (t : Told) → IsOpened t → Leaves (HoldsWithOrWithout bodies body) t.now
   leaves_opened is_body t at = subst (λ (s : Stored). Leaves (HoldsWithOrWithout bodies body) s) (sym at.now) (λ image is. whole_stays at.front at.rest image is_body at.records at.end_is is)
