@@ -1,0 +1,5 @@
+use Rattle.qc_journal.proofs.Needed.{first_sync}
+use Rattle.qc_journal.proofs.laws.first_sync_is_needed.Goals as goal
+
+pub returns : goal.returns
+returns c = first_sync

@@ -1,0 +1,47 @@
+-- What an open journal knows of its disk.
+use Rattle.std.specs.Prelude.{◌≡◌, ◌⊎◌, ℕ, ◌+◌, ◌≤◌, ◌<◌, ◌^◌, List, ◌∷◌, ◌++◌, length, Option, IfSome, map, Vec}
+use Rattle.std.specs.declared.alloc.Global.{Global}
+use Rattle.qc_outside.specs.Images.{Stored, Told, IsImage, as_read, settled}
+use Rattle.qc_journal.specs.Grammar.{AreRecords}
+
+-- Nothing is pending, and at the end of the records of these bodies stands the closed gate.
+pub record IsAtRest (end : ℕ) (bodies : List (List ℕ)) (told : Told) : Type 0 where
+  pub front : List ℕ
+  pub rest : List ℕ
+  pub records : AreRecords bodies front
+  pub end_is : length front ≡ end
+  pub lasting : told.now ≡ settled (front ++ 0 ∷ rest)
+
+-- at the end of the records of these bodies stands a closed gate
+pub record Stands (end : ℕ) (bodies : List (List ℕ)) (bytes : List ℕ) : Type 0 where
+  pub front : List ℕ
+  pub rest : List ℕ
+  pub records : AreRecords bodies front
+  pub place : length front ≡ end
+  pub closed : bytes ≡ front ++ 0 ∷ rest
+
+-- the disk doesn't tell, or is at rest
+abbrev pub Rests : Option Told → ℕ → List (List ℕ) → Type 0
+Rests told end bodies = IfSome told (λ t. IsAtRest end bodies t)
+
+-- room for a body of that length, in the journal and its disk
+pub record IsReserved (capacity : ℕ) (has_room : ℕ → ℕ → Type 0) (end count : ℕ) : Type 0 where
+  pub frame : count + 5 ≤ capacity
+  pub disk : has_room 2 (end + count + 6)
+  pub bound : end + count + 6 < 2 ^ 64
+
+-- the bytes of each
+abbrev pub lists : List (Vec ℕ Global) → List (List ℕ)
+lists vs = map (λ (v : Vec ℕ Global). v.items) vs
+
+-- records of these bodies stand before the place
+pub record Passed (at : ℕ) (bodies : List (List ℕ)) (bytes : List ℕ) : Type 0 where
+  pub front : List ℕ
+  pub rest : List ℕ
+  pub records : AreRecords bodies front
+  pub place : length front ≡ at
+  pub split : bytes ≡ front ++ rest
+
+-- A stop while a journal is opened leaves what one before might; on a disk of length 0 or 1 it leaves no record.
+abbrev pub IsLeftAtOpen : Stored → List ℕ → Type 0
+IsLeftAtOpen s image = IsImage s image ⊎ ((length (as_read s) ≤ 1) × (length image ≤ 1))
