@@ -110,7 +110,7 @@ op_exact : (before : Option Op) → IsExact (op_form before)
 op_exact before = shaped_exact op_of op_parts always _ (record { there = λ a. refl; has = λ a. refl; back = λ b e. refl })
     (both_exact _ _ object_exact (λ _. both_exact _ _ invocation_exact (λ _. response_exact)))
 
-same_number : (a b : ℕ) → (a == b) ≡ true → a ≡ b
+pub same_number : (a b : ℕ) → (a == b) ≡ true → a ≡ b
 same_number a b e = grind (arith, nat_tests, e)
 
 number_same : (a : ℕ) → (a == a) ≡ true

@@ -11,7 +11,7 @@ use Rattle.qc_record.proofs.Whole.{again, found_is}
 pub apart : (a b : Record) → is_legal a ≡ true → is_legal b ≡ true → spelled a ≡ spelled b → a ≡ b
 apart a b la lb e = found_is a b (sym (again a la) ∙ ap record_at e ∙ again b lb)
 
-tail : List ℕ → List ℕ
+abbrev tail : List ℕ → List ℕ
 tail [] = []
 tail (x ∷ xs) = xs
 

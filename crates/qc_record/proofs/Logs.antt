@@ -14,7 +14,7 @@ use Rattle.qc_entry.proofs.Orders.{line_order}
 use Rattle.qc_entry.proofs.Union.{union-after}
 use Rattle.qc_list.specs.Order.{IsBelowAll}
 use Rattle.qc_list.proofs.Order.{below_trans}
-use Rattle.qc_record.specs.Form.{IsBytes, climbs, tied, items_are_legal}
+use Rattle.qc_record.specs.Form.{IsBytes, within, climbs, tied, items_are_legal}
 use Rattle.qc_record.specs.Records.{is_own_stamp, line_form, line_floor, line_parts, lines_form, line_numbers, from_client, from_life, from_number, from_op, from_object, from_event}
 use Rattle.qc_record.proofs.Exactness.{both_true}
 use Rattle.qc_record.proofs.Exact.{same_number, lines_exact}
@@ -23,14 +23,17 @@ use Rattle.qc_record.proofs.Exact.{same_number, lines_exact}
 abbrev Rise : ℕ → ℕ → Type 0 → Type 0
 Rise a b P = (a < b) ⊎ ((a ≡ b) × P)
 
+climbs_least : (low high a b : ℕ) (floor : List ℕ) → climbs low high (a ∷ floor) b ≡ true → a ≤ b
+climbs_least low high a b floor e = let at : nat_le a b ≡ true = (both_true (within low high b) (nat_le a b) e).1 in grind (arith, nat_tests, at)
+
+rise_by : {P : Type 0} (a b : ℕ) (floor : List ℕ) (test : List ℕ → Bool) (t : Bool) → a ≤ b → nat_eq a b ≡ t → test (cond t floor []) ≡ true → (test floor ≡ true → P) → Rise a b P
+rise_by a b floor test true least e rest goes = let same : a ≡ b = grind (arith, nat_tests, e) in inr (same, goes rest)
+rise_by a b floor test false least e rest goes = let apart : a < b = grind (arith, nat_tests, e, least) in inl apart
+
 rise : {P : Type 0} (low high a b : ℕ) (floor : List ℕ) (test : List ℕ → Bool) → (climbs low high (a ∷ floor) b && test (tied (a ∷ floor) b)) ≡ true → (test floor ≡ true → P) → Rise a b P
-rise {P = P} low high a b floor test legal goes = by (nat_eq a b) refl (both_true _ _ legal).1
-  where
-    least : a ≤ b
-    least = let at : nat_le a b ≡ true = (both_true _ _ (both_true _ _ legal).0).1 in grind (arith, nat_tests, at)
-    by : (t : Bool) → nat_eq a b ≡ t → test (cond t floor []) ≡ true → Rise a b P
-    by true e rest = let same : a ≡ b = grind (arith, nat_tests, e) in inr (same, goes rest)
-    by false e rest = let apart : a < b = grind (arith, nat_tests, e, least) in inl apart
+rise low high a b floor test legal goes =
+    let l = both_true (climbs low high (a ∷ floor) b) (test (tied (a ∷ floor) b)) legal in
+    rise_by a b floor test (nat_eq a b) (climbs_least low high a b floor l.0) refl l.1 goes
 
 less : (a b : ℕ) → a < b → nat_cmp a b ≡ Less
 less a b h = sym (nat_cmp_is a b Less h)

@@ -1,6 +1,8 @@
 -- Bytes that are put one behind the other.
 use Rattle.std.proofs.Common.{◌≡◌, ℕ, List, [], ◌∷◌, ◌++◌, Result, Ok, Err, refl, sym, ap, ◌∙◌, append_assoc}
 use Rattle.std.specs.Prelude.{OnOk}
+use Rattle.byteorder.specs.Endian.{big_bytes}
+use Rattle.qc_record.specs.Form.{Form}
 
 pub on_ok : {T E P Q : Type 0} (r : Result T E) → (P → Q) → OnOk r P → OnOk r Q
 on_ok (Ok x) f h = f h
@@ -17,3 +19,9 @@ five o n1 n2 n3 n4 n5 a b c d e e1 e2 e3 e4 e5 =
 
 pub wide : (a b c rest : List ℕ) → (a ++ (b ++ c)) ++ rest ≡ a ++ (b ++ (c ++ rest))
 wide a b c rest = append_assoc a (b ++ c) rest ∙ ap (λ (l : List ℕ). a ++ l) (append_assoc b c rest)
+
+pub as_bytes : (width : ℕ) (o n : List ℕ) (x y : ℕ) → x ≡ y → n ≡ o ++ big_bytes width x → n ≡ o ++ big_bytes width y
+as_bytes width o n x y e put = put ∙ ap (λ (k : ℕ). o ++ big_bytes width k) e
+
+pub as_spelled : {A : Type 0} (form : Form A) (o n : List ℕ) (x y : A) → x ≡ y → n ≡ o ++ form.spelled x → n ≡ o ++ form.spelled y
+as_spelled {A = A} form o n x y e put = put ∙ ap (λ (k : A). o ++ form.spelled k) e

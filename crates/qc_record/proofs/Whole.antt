@@ -12,10 +12,10 @@ use Rattle.qc_record.specs.Records.{is_legal, spelled, body_at, placed, whole_at
 use Rattle.qc_record.proofs.Exactness.{IsExact, bind_ok, all_taken, all_again, nothing_exact}
 use Rattle.qc_record.proofs.Exact.{epoch_exact, prepared_exact, done_exact, start_exact, commit_exact}
 
-abbrev found : Record → Result Record RecordFault
+abbrev pub found : Record → Result Record RecordFault
 found rec = Ok rec
 
-found_is : (a b : Record) → found a ≡ found b → a ≡ b
+pub found_is : (a b : Record) → found a ≡ found b → a ≡ b
 found_is a b e = cc
 
 chosen : {X : Type 0} (b : Bool) (x y z : X) → cond b x y ≡ z → ((b ≡ true) × (x ≡ z)) ⊎ ((b ≡ false) × (y ≡ z))
@@ -35,21 +35,24 @@ placed_ok : (size : ℕ) (read : Result Record ℕ) (rec : Record) → placed si
 placed_ok size (Ok found) rec e = let same : found ≡ rec = cc in ap (λ (r : Record). Ok r) same
 placed_ok size (Err left) rec e = absurd cc
 
+abbrev got : Record → Result Record ℕ
+got rec = Ok rec
+
+got_is : (a b : Record) → got a ≡ got b → a ≡ b
+got_is a b e = cc
+
 -- one kind
 whole_taken : {A : Type 0} (shape : A → Record) (form : Form A) → IsExact form → (rest : List ℕ) (rec : Record) → IsBytes rest → whole_at shape form rest ≡ Ok rec → (x : A) × (shape x ≡ rec) × (rest ≡ form.spelled x) × (form.is_legal x ≡ true)
 whole_taken shape form exact rest rec fits e =
     let read = sym (shaped_all shape (form.read rest)) ∙ placed_ok _ _ _ e in
     let a = bind_ok (all_of (form.read rest)) (λ x. Ok (shape x)) rec read in
     let t = all_taken form exact rest a.0 fits a.1 in
-    let same : shape a.0 ≡ rec = is_same (shape a.0) a.2 in
+    let same : shape a.0 ≡ rec = got_is (shape a.0) rec a.2 in
     (a.0, same, t.0, t.1)
-  where
-    is_same : (r : Record) → (Ok {E = ℕ} r ≡ Ok rec) → r ≡ rec
-    is_same r h = cc
 
 whole_again : {A : Type 0} (shape : A → Record) (form : Form A) → IsExact form → (x : A) → form.is_legal x ≡ true → whole_at shape form (form.spelled x) ≡ Ok (shape x)
 whole_again shape form exact x legal =
-    ap (placed (1 + length (form.spelled x))) (shaped_all shape (form.read (form.spelled x)) ∙ ap (λ r. r >>= λ x. Ok (shape x)) (all_again form exact x legal))
+    ap (placed (length (form.spelled x) + 1)) (shaped_all shape (form.read (form.spelled x)) ∙ ap (λ r. r >>= λ x. Ok (shape x)) (all_again form exact x legal))
 
 pub again : (rec : Record) → is_legal rec ≡ true → record_at (spelled rec) ≡ Ok rec
 again records.Life legal = refl

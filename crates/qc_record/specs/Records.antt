@@ -260,12 +260,11 @@ placed size (Err left) = Err (faults.Torn (size - left))
 
 -- the record that is all of the bytes behind the kind
 abbrev pub whole_at : {A : Type 0} → (A → Record) → Form A → List ℕ → Result Record RecordFault
-whole_at shape form rest = placed (1 + length rest) (all_of (body_at shape form rest))
+whole_at shape form rest = placed (length rest + 1) (all_of (body_at shape form rest))
 
--- the record that bytes spell, or what is wrong with them
-abbrev pub record_at : List ℕ → Result Record RecordFault
-record_at [] = Err (faults.Torn 0)
-record_at (kind ∷ rest) =
+-- the record that a kind and the bytes behind it spell
+abbrev pub kind_at : ℕ → List ℕ → Result Record RecordFault
+kind_at kind rest =
     if kind == 1 then whole_at (λ _. records.Life) nothing rest
     else if kind == 2 then whole_at records.Prepare prepared_form rest
     else if kind == 3 then whole_at done_of done_form rest
@@ -274,6 +273,11 @@ record_at (kind ∷ rest) =
     else if kind == 6 then whole_at records.Commit commit_form rest
     else if kind == 7 then whole_at decide_of start_form rest
     else Err (faults.Unknown kind)
+
+-- the record that bytes spell, or what is wrong with them
+abbrev pub record_at : List ℕ → Result Record RecordFault
+record_at [] = Err (faults.Torn 0)
+record_at (kind ∷ rest) = kind_at kind rest
 
 -- a record as it stands in a journal, behind a gate and its length
 abbrev pub framed : Record → List ℕ

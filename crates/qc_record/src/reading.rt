@@ -6,7 +6,7 @@ ghost use Rattle.qc_msg.specs.declared.record.Record.TheVariants as records;
 ghost use Rattle.qc_record.specs.declared.fault.RecordFault.TheVariants.{Torn};
 ghost use Rattle.qc_record.specs.Answers.{Gives, Answers};
 ghost use Rattle.qc_record.specs.Form.{nothing, all_of};
-ghost use Rattle.qc_record.specs.Records.{body_at, placed, record_at, spelled, is_legal, prepared_form, done_form, epoch_form};
+ghost use Rattle.qc_record.specs.Records.{body_at, placed, whole_at, kind_at, record_at, spelled, is_legal, prepared_form, done_form, epoch_form};
 ghost use Rattle.qc_record.specs.Records.{start_form, commit_form, done_of, install_of, decide_of};
 
 use crate::RecordFault;
@@ -139,28 +139,94 @@ fn placed(size: usize, read: Result<(Record, &[u8]), Halt>) -> Result<Record, Re
     }
 }
 
+/// All of the bytes behind the kind of a Life.
+fn whole_life(rest: &[u8]) -> Result<Record, RecordFault>
+    requires { length rest.now < 2 ^ 31 }
+    ensures { Answers result (whole_at (λ _. records.Life) nothing rest.now) }
+{
+    placed(rest.len() + 1, Ok((Record::Life, rest)))
+}
+
+/// All of the bytes behind the kind of a Prepare.
+fn whole_prepare(alloc: Global, rest: &[u8]) -> Result<Record, RecordFault>
+    requires { length rest.now < 2 ^ 31 }
+    ensures { Answers result (whole_at records.Prepare prepared_form rest.now) }
+{
+    placed(rest.len() + 1, prepare(alloc, rest))
+}
+
+/// All of the bytes behind the kind of a Done.
+fn whole_done(rest: &[u8]) -> Result<Record, RecordFault>
+    requires { length rest.now < 2 ^ 31 }
+    ensures { Answers result (whole_at done_of done_form rest.now) }
+{
+    placed(rest.len() + 1, done(rest))
+}
+
+/// All of the bytes behind the kind of a Close.
+fn whole_close(rest: &[u8]) -> Result<Record, RecordFault>
+    requires { length rest.now < 2 ^ 31 }
+    ensures { Answers result (whole_at records.Close epoch_form rest.now) }
+{
+    placed(rest.len() + 1, close(rest))
+}
+
+/// All of the bytes behind the kind of an Install.
+fn whole_install(alloc: Global, rest: &[u8]) -> Result<Record, RecordFault>
+    requires { length rest.now < 2 ^ 31 }
+    ensures { Answers result (whole_at install_of start_form rest.now) }
+{
+    placed(rest.len() + 1, install(alloc, rest))
+}
+
+/// All of the bytes behind the kind of a Commit.
+fn whole_commit(alloc: Global, rest: &[u8]) -> Result<Record, RecordFault>
+    requires { length rest.now < 2 ^ 31 }
+    ensures { Answers result (whole_at records.Commit commit_form rest.now) }
+{
+    placed(rest.len() + 1, commit(alloc, rest))
+}
+
+/// All of the bytes behind the kind of a Decide.
+fn whole_decide(alloc: Global, rest: &[u8]) -> Result<Record, RecordFault>
+    requires { length rest.now < 2 ^ 31 }
+    ensures { Answers result (whole_at decide_of start_form rest.now) }
+{
+    placed(rest.len() + 1, decide(alloc, rest))
+}
+
+/// The record that a kind and the bytes behind it spell.
+fn of_kind(alloc: Global, kind: u8, rest: &[u8]) -> Result<Record, RecordFault>
+    requires { length rest.now < 2 ^ 31 }
+    ensures { Answers result (kind_at kind rest.now) }
+{
+    match kind {
+        1 => whole_life(rest),
+        2 => whole_prepare(alloc, rest),
+        3 => whole_done(rest),
+        4 => whole_close(rest),
+        5 => whole_install(alloc, rest),
+        6 => whole_commit(alloc, rest),
+        7 => whole_decide(alloc, rest),
+        kind => Err(RecordFault::Unknown { kind }),
+    }
+}
+
 /// The record that bytes spell, or what is wrong with them.
 fn record_in(alloc: Global, bytes: &[u8]) -> Result<Record, RecordFault>
-    requires { length bytes.now < 2 ^ 32 }
+    requires { length bytes.now < 2 ^ 31 }
     ensures { Answers result (record_at bytes.now) }
 {
-    let size = bytes.len();
-    match bytes {
-        [] => Err(RecordFault::Torn { offset: 0 }),
-        [1, rest @ ..] => placed(size, Ok((Record::Life, rest))),
-        [2, rest @ ..] => placed(size, prepare(alloc, rest)),
-        [3, rest @ ..] => placed(size, done(rest)),
-        [4, rest @ ..] => placed(size, close(rest)),
-        [5, rest @ ..] => placed(size, install(alloc, rest)),
-        [6, rest @ ..] => placed(size, commit(alloc, rest)),
-        [7, rest @ ..] => placed(size, decide(alloc, rest)),
-        [kind, ..] => Err(RecordFault::Unknown { kind: *kind }),
-    }
+    let Some(kind) = bytes.first() else {
+        return Err(RecordFault::Torn { offset: 0 });
+    };
+    let (_, rest) = bytes.split_at(1);
+    of_kind(alloc, *kind, rest)
 }
 
 /// The record that bytes spell, each byte of them.
 pub fn read_bytes(alloc: Global, bytes: &[u8]) -> Result<Record, RecordFault>
-    requires { length bytes.now < 2 ^ 32 }
+    requires { length bytes.now < 2 ^ 31 }
     // What is read is spelled so.
     ensures found { IfOk result (λ rec. (bytes.now ≡ spelled rec) × (is_legal rec ≡ true)) }
     // What is spelled so is read, unless memory runs out.
