@@ -1,20 +1,17 @@
 -- Each form of a part, and of a record, reads exactly what it spells.
-use Rattle.std.proofs.Common.{◌≡◌, ◌⊎◌, inl, inr, ℕ, zero, suc, ◌+◌, ◌-◌, ◌^◌, ◌<◌, ◌≤◌, Bool, true, false, cond, not, ◌==◌, ◌&&◌, ◌||◌, nat_eq, nat_le, List, [], ◌∷◌, ◌++◌, length, Option, Some, None, Result, Ok, Err, refl, sym, ap, subst, ◌∙◌, arith}
+use Rattle.std.proofs.Common.{◌≡◌, inl, inr, ℕ, ◌-◌, ◌^◌, ◌<◌, ◌≤◌, Bool, true, false, cond, not, ◌==◌, nat_le, List, Option, Some, None, refl, sym, ap, arith}
 use Rattle.std.proofs.lemmas.Bool.Decides.{nat_tests}
 use Rattle.qc_entry.specs.declared.line.Line.{Line}
 use Rattle.qc_entry.specs.declared.line.Op.{Op}
 use Rattle.qc_entry.specs.declared.line.OwnLine.{OwnLine}
 use Rattle.qc_entry.specs.declared.line.ReadLock.{ReadLock}
 use Rattle.qc_entry.specs.declared.record.Commit.{Commit}
-use Rattle.qc_entry.specs.declared.record.Prepared.{Prepared}
-use Rattle.qc_stamp.specs.declared.stamp.Stamp.{Stamp}
-use Rattle.qc_stamp.specs.declared.stamp.TxId.{TxId}
-use Rattle.qc_record.specs.Form.{Form, field, nothing, both, shaped, counted, within, climbs, tops, climb, top, tied, is_at_least, is_above}
+use Rattle.qc_record.specs.Form.{Form, field, within, climbs, tops, climb, top, tied}
 use Rattle.qc_record.specs.Records.{always, greatest_clock, client_form, ordinal_form, epoch_form, stamp_clock_form, start_clock_form, object_form, invocation_form, event_form, is_response, response_of, response_number, has_response_number, response_form, tx_of, tx_parts, tx_form}
-use Rattle.qc_record.specs.Records.{lock_floor, lock_of, lock_parts, lock_numbers, lock_form, own_floor, own_of, own_parts, own_after, own_form, line_floor, line_of, line_parts, is_own_stamp, line_numbers, from_client, from_life, from_number, from_op, from_object, from_event, line_form, op_of, op_parts, op_form, locks_form, owns_form, lines_form, ops_form}
+use Rattle.qc_record.specs.Records.{lock_floor, lock_of, lock_parts, lock_form, own_floor, own_of, own_parts, own_form, line_floor, line_of, line_parts, is_own_stamp, line_numbers, from_client, from_life, from_number, from_op, from_object, from_event, line_form, op_of, op_parts, op_form, locks_form, owns_form, lines_form, ops_form}
 use Rattle.qc_record.specs.Records.{prepared_of, prepared_parts, prepared_form, done_form, start_form, commit_of, commit_parts, has_own_stamp, commit_form}
 use Rattle.qc_record.proofs.Numbers.{IsWidth}
-use Rattle.qc_record.proofs.Exactness.{IsExact, IsShape, both_true, field_exact, nothing_exact, both_exact, shaped_exact, counted_exact}
+use Rattle.qc_record.proofs.Exactness.{IsExact, IsShape, both_true, field_exact, both_exact, shaped_exact, counted_exact}
 
 pub at_most : (low high n : ℕ) → within low high n ≡ true → n ≤ high
 at_most low high n e = let high_is : nat_le n high ≡ true = (both_true (nat_le low n) (nat_le n high) e).1 in grind (arith, nat_tests, high_is)
@@ -78,9 +75,11 @@ response_same = record {
     there_by : (n : ℕ) (b : Bool) → (n == 255) ≡ b → response_number (cond b None (Some n)) ≡ n
     there_by n true e = grind (arith, nat_tests, e)
     there_by n false e = refl
+
     has_by : (n : ℕ) (b : Bool) → (n == 255) ≡ b → has_response_number (cond b None (Some n)) ≡ true
     has_by n true e = refl
     has_by n false e = ap not e
+
     back_by : (o : Option ℕ) → has_response_number o ≡ true → response_of (response_number o) ≡ o
     back_by None e = refl
     back_by (Some n) e = some_by n (n == 255) refl e

@@ -1,11 +1,10 @@
 -- Each form reads exactly what it spells.
-use Rattle.std.proofs.Common.{◌≡◌, ◌⊎◌, inl, inr, ℕ, zero, suc, ◌+◌, ◌-◌, ◌*◌, ◌^◌, ◌%◌, ◌<◌, ◌≤◌, Bool, true, false, cond, ◌&&◌, nat_lt, nat_eq, List, [], ◌∷◌, ◌++◌, length, get_or, take, drop, Option, Some, None, Result, Ok, Err, refl, sym, ap, subst, ◌∙◌, append_assoc, arith}
-use Rattle.std.proofs.lemmas.List.{take_at, drop_at, take-append-drop, length-append, length-take, get_or-drop, append-nil}
+use Rattle.std.proofs.Common.{◌≡◌, ◌⊎◌, inl, inr, ℕ, zero, suc, ◌+◌, ◌^◌, ◌<◌, ◌≤◌, Bool, true, false, cond, ◌&&◌, nat_lt, nat_eq, List, [], ◌∷◌, ◌++◌, length, drop, Option, Some, None, Result, Ok, Err, refl, sym, ap, subst, ◌∙◌, append_assoc, arith}
+use Rattle.std.proofs.lemmas.List.{drop_at, take-append-drop, length-append, get_or-drop, append-nil}
 use Rattle.std.proofs.lemmas.Bool.Decides.{nat_tests}
 use Rattle.std.proofs.Math.Nat.{mod-eq_of_lt}
-use Rattle.std.specs.Int.{bytes_high_first}
-use Rattle.byteorder.specs.Endian.{big_number, big_bytes, big_from}
-use Rattle.byteorder.specs.Numbers.{big_from-bytes, length-bytes_high_first, big_from-lt}
+use Rattle.byteorder.specs.Endian.{big_number, big_bytes}
+use Rattle.byteorder.specs.Numbers.{big_from-bytes, length-bytes_high_first}
 use Rattle.qc_record.specs.Form.{Form, IsBytes, ◌>>=◌, number_at, field, nothing, both, shaped, items_at, items_spelled, items_are_legal, counted, all_of}
 use Rattle.qc_record.proofs.Numbers.{IsWidth, back}
 
@@ -66,7 +65,7 @@ number_taken width legal wide bytes x fits e =
             let whole : bytes ≡ big_bytes width n ++ drop width bytes = sym (take-append-drop width bytes) ∙ ap (λ (l : List ℕ). l ++ drop width bytes) (sym (back width bytes wide inside fits)) in
             let made : ℕ × List ℕ = (n, drop width bytes) in
             subst (λ (y : ℕ × List ℕ). IsTaken (field width legal) bytes y.0 y.1) (ok_is made x lawful.1)
-              (record { takes = record { parts = whole; rest_fits = IsBytes-drop width bytes fits }; legal = lawful.0 })
+            (record { takes = record { parts = whole; rest_fits = IsBytes-drop width bytes fits }; legal = lawful.0 })
         | inr not ↦ let no : Err (length bytes) ≡ Ok x = not.1 in absurd cc
       ]
     ]
@@ -100,7 +99,7 @@ both_taken {A = A} {B = B} first second one two bytes x fits e =
     let u = (two a.0.0).taken a.0.1 b.0 t.takes.rest_fits b.1 in
     let made : (A × B) × List ℕ = ((a.0.0, b.0.0), b.0.1) in
     subst (λ (y : (A × B) × List ℕ). IsTaken (both first second) bytes y.0 y.1) (ok_is made x b.2)
-      (record { takes = then_takes bytes (first.spelled a.0.0) a.0.1 ((second a.0.0).spelled b.0.0) b.0.1 t.takes u.takes; legal = true_both _ _ t.legal u.legal })
+    (record { takes = then_takes bytes (first.spelled a.0.0) a.0.1 ((second a.0.0).spelled b.0.0) b.0.1 t.takes u.takes; legal = true_both _ _ t.legal u.legal })
 
 both_again : {A B : Type 0} (first : Form A) (second : A → Form B) → IsExact first → ((x : A) → IsExact (second x)) → (x : A × B) (rest : List ℕ) → (both first second).is_legal x ≡ true → (both first second).read ((both first second).spelled x ++ rest) ≡ Ok (x, rest)
 both_again first second one two x rest legal =
@@ -122,16 +121,16 @@ pub record IsShape {A B : Type 0} (shape : A → B) (parts : B → A) (has_parts
 pub shaped_exact : {A B : Type 0} (shape : A → B) (parts : B → A) (has_parts : B → Bool) (form : Form A) → IsShape shape parts has_parts → IsExact form → IsExact (shaped shape parts has_parts form)
 shaped_exact {A = A} {B = B} shape parts has_parts form same exact = record {
   taken = λ bytes x fits e.
-    let a = bind_ok (form.read bytes) (λ p. Ok (shape p.0, p.1)) x e in
-    let t = exact.taken bytes a.0 fits a.1 in
-    let made : B × List ℕ = (shape a.0.0, a.0.1) in
-    let spelling : form.spelled (parts (shape a.0.0)) ≡ form.spelled a.0.0 = ap form.spelled (same.there a.0.0) in
-    let lawful : form.is_legal (parts (shape a.0.0)) ≡ true = ap form.is_legal (same.there a.0.0) ∙ t.legal in
-    subst (λ (y : B × List ℕ). IsTaken (shaped shape parts has_parts form) bytes y.0 y.1) (ok_is made x a.2)
+      let a = bind_ok (form.read bytes) (λ p. Ok (shape p.0, p.1)) x e in
+      let t = exact.taken bytes a.0 fits a.1 in
+      let made : B × List ℕ = (shape a.0.0, a.0.1) in
+      let spelling : form.spelled (parts (shape a.0.0)) ≡ form.spelled a.0.0 = ap form.spelled (same.there a.0.0) in
+      let lawful : form.is_legal (parts (shape a.0.0)) ≡ true = ap form.is_legal (same.there a.0.0) ∙ t.legal in
+      subst (λ (y : B × List ℕ). IsTaken (shaped shape parts has_parts form) bytes y.0 y.1) (ok_is made x a.2)
       (record { takes = record { parts = t.takes.parts ∙ ap (λ (l : List ℕ). l ++ a.0.1) (sym spelling); rest_fits = t.takes.rest_fits }; legal = true_both _ _ (same.has a.0.0) lawful });
   again = λ x rest legal.
-    let l = both_true _ _ legal in
-    ap (λ r. r >>= λ p. Ok (shape p.0, p.1)) (exact.again (parts x) rest l.1) ∙ ap (λ (b : B). Ok (b, rest)) (same.back x l.0);
+      let l = both_true _ _ legal in
+      ap (λ r. r >>= λ p. Ok (shape p.0, p.1)) (exact.again (parts x) rest l.1) ∙ ap (λ (b : B). Ok (b, rest)) (same.back x l.0);
 }
 
 -- items
@@ -148,7 +147,7 @@ items_taken {A = A} item exact before (suc count) bytes x fits e =
     let second = items_taken item exact (Some a.0.0) count a.0.1 b.0 first.takes.rest_fits b.1 in
     let made : List A × List ℕ = (a.0.0 ∷ b.0.0, b.0.1) in
     subst (λ (y : List A × List ℕ). Takes bytes (items_spelled item before y.0) y.1 × (length y.0 ≡ suc count) × (items_are_legal item before y.0 ≡ true)) (ok_is made x b.2)
-      (then_takes bytes ((item before).spelled a.0.0) a.0.1 (items_spelled item (Some a.0.0) b.0.0) b.0.1 first.takes second.0, ap suc second.1, true_both _ _ first.legal second.2)
+    (then_takes bytes ((item before).spelled a.0.0) a.0.1 (items_spelled item (Some a.0.0) b.0.0) b.0.1 first.takes second.0, ap suc second.1, true_both _ _ first.legal second.2)
 
 items_again : {A : Type 0} (item : Option A → Form A) → ((before : Option A) → IsExact (item before)) → (before : Option A) (xs : List A) (rest : List ℕ) → items_are_legal item before xs ≡ true → items_at item before (length xs) (items_spelled item before xs ++ rest) ≡ Ok (xs, rest)
 unfolding items_at
@@ -163,16 +162,16 @@ items_again item exact before (x ∷ xs) rest legal =
 pub counted_exact : {A : Type 0} (width : ℕ) (is_count : ℕ → Bool) (item : Option A → Form A) → IsExact (field width is_count) → ((before : Option A) → IsExact (item before)) → IsExact (counted width is_count item)
 counted_exact {A = A} width is_count item numbers exact = record {
   taken = λ bytes x fits e.
-    let a = bind_ok (number_at width is_count bytes) (λ n. items_at item None n.0 n.1) x e in
-    let t = numbers.taken bytes a.0 fits a.1 in
-    let u = items_taken item exact None a.0.0 a.0.1 x t.takes.rest_fits a.2 in
-    let first : Takes bytes (big_bytes width (length x.0)) a.0.1 = subst (λ (n : ℕ). Takes bytes (big_bytes width n) a.0.1) (sym u.1) t.takes in
-    record { takes = then_takes bytes (big_bytes width (length x.0)) a.0.1 (items_spelled item None x.0) x.1 first u.0; legal = true_both _ _ (ap is_count u.1 ∙ t.legal) u.2 };
+      let a = bind_ok (number_at width is_count bytes) (λ n. items_at item None n.0 n.1) x e in
+      let t = numbers.taken bytes a.0 fits a.1 in
+      let u = items_taken item exact None a.0.0 a.0.1 x t.takes.rest_fits a.2 in
+      let first : Takes bytes (big_bytes width (length x.0)) a.0.1 = subst (λ (n : ℕ). Takes bytes (big_bytes width n) a.0.1) (sym u.1) t.takes in
+      record { takes = then_takes bytes (big_bytes width (length x.0)) a.0.1 (items_spelled item None x.0) x.1 first u.0; legal = true_both _ _ (ap is_count u.1 ∙ t.legal) u.2 };
   again = λ xs rest legal.
-    let l = both_true _ _ legal in
-    let behind = items_spelled item None xs ++ rest in
-    let p : number_at width is_count ((big_bytes width (length xs) ++ items_spelled item None xs) ++ rest) ≡ Ok (length xs, behind) = ap (number_at width is_count) (append_assoc (big_bytes width (length xs)) (items_spelled item None xs) rest) ∙ numbers.again (length xs) behind l.0 in
-    ap (λ r. r >>= λ n. items_at item None n.0 n.1) p ∙ items_again item exact None xs rest l.1;
+      let l = both_true _ _ legal in
+      let behind = items_spelled item None xs ++ rest in
+      let p : number_at width is_count ((big_bytes width (length xs) ++ items_spelled item None xs) ++ rest) ≡ Ok (length xs, behind) = ap (number_at width is_count) (append_assoc (big_bytes width (length xs)) (items_spelled item None xs) rest) ∙ numbers.again (length xs) behind l.0 in
+      ap (λ r. r >>= λ n. items_at item None n.0 n.1) p ∙ items_again item exact None xs rest l.1;
 }
 
 -- all of the bytes

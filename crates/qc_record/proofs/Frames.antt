@@ -1,10 +1,9 @@
 -- Frames tell records apart.
-use Rattle.std.proofs.Common.{◌≡◌, ℕ, zero, suc, ◌+◌, ◌^◌, ◌<◌, ◌≤◌, true, List, [], ◌∷◌, ◌++◌, length, take, drop, Result, Ok, refl, sym, ap, subst, ◌∙◌, append_assoc, arith}
+use Rattle.std.proofs.Common.{◌≡◌, ℕ, ◌^◌, ◌<◌, ◌≤◌, true, List, [], ◌∷◌, ◌++◌, length, take, drop, refl, sym, ap, ◌∙◌, append_assoc, arith}
 use Rattle.std.proofs.lemmas.List.{take_at, drop_at, append-nil}
 use Rattle.byteorder.specs.Endian.{big_number, big_bytes}
 use Rattle.byteorder.specs.Numbers.{big_number-reads_back, length-bytes_high_first}
 use Rattle.qc_msg.specs.declared.record.Record.{Record}
-use Rattle.qc_record.specs.declared.fault.RecordFault.{RecordFault}
 use Rattle.qc_record.specs.Records.{is_legal, spelled, framed, record_at, most_bytes}
 use Rattle.qc_record.proofs.Whole.{again, found_is}
 

@@ -1,5 +1,5 @@
 -- Lines that are read ascend, so a log takes each at its end.
-use Rattle.std.proofs.Common.{◌≡◌, ◌⊎◌, inl, inr, ℕ, zero, suc, ◌+◌, ◌<◌, ◌≤◌, Bool, true, false, cond, ◌&&◌, nat_eq, nat_le, nat_lt, List, [], ◌∷◌, ◌++◌, length, get_or, take, Option, Some, None, Ok, refl, sym, ap, subst, ◌∙◌, arith}
+use Rattle.std.proofs.Common.{◌≡◌, ◌⊎◌, inl, inr, ℕ, zero, suc, ◌+◌, ◌<◌, ◌≤◌, Bool, true, false, cond, ◌&&◌, nat_eq, nat_le, nat_lt, List, [], ◌∷◌, length, get_or, take, Option, Some, None, Ok, refl, sym, ap, ◌∙◌, arith}
 use Rattle.std.proofs.lemmas.List.{take_more}
 use Rattle.std.proofs.lemmas.Bool.Decides.{nat_tests}
 use Rattle.std.specs.List.{AllByRecursion as Every}
@@ -72,8 +72,8 @@ above a l own_a own_l legal =
     let oj = nat_cmp a.object l.object in
     let oe = nat_cmp a.event l.event in
     let flat : line_cmp a l ≡ ordering_then oc (ordering_then os (ordering_then oa (ordering_then oi (ordering_then on (ordering_then oo (ordering_then oj oe)))))) =
-        assoc oc os (ordering_then (ordering_then oa (ordering_then oi on)) (ordering_then oo (ordering_then oj oe)))
-        ∙ ap (λ x. ordering_then oc (ordering_then os x)) (assoc oa (ordering_then oi on) (ordering_then oo (ordering_then oj oe)) ∙ ap (λ x. ordering_then oa x) (assoc oi on (ordering_then oo (ordering_then oj oe)))) in
+    assoc oc os (ordering_then (ordering_then oa (ordering_then oi on)) (ordering_then oo (ordering_then oj oe)))
+    ∙ ap (λ x. ordering_then oc (ordering_then os x)) (assoc oa (ordering_then oi on) (ordering_then oo (ordering_then oj oe)) ∙ ap (λ x. ordering_then oa x) (assoc oi on (ordering_then oo (ordering_then oj oe)))) in
     let e_floor = a.event ∷ [] in
     let j_floor = a.object ∷ e_floor in
     let o_floor = a.op ∷ j_floor in

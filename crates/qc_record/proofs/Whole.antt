@@ -1,5 +1,5 @@
 -- Bytes are read as a record exactly where they are its spelling.
-use Rattle.std.proofs.Common.{◌≡◌, ◌⊎◌, inl, inr, ℕ, zero, suc, ◌+◌, ◌-◌, ◌^◌, ◌<◌, ◌≤◌, Bool, true, false, cond, ◌==◌, ◌&&◌, List, [], ◌∷◌, ◌++◌, length, get_or, Option, Some, None, Result, Ok, Err, refl, sym, ap, subst, ◌∙◌, arith}
+use Rattle.std.proofs.Common.{◌≡◌, ◌⊎◌, inl, inr, ℕ, suc, ◌+◌, Bool, true, false, cond, ◌==◌, List, [], ◌∷◌, length, Result, Ok, Err, refl, sym, ap, subst, ◌∙◌, arith}
 use Rattle.std.specs.Prelude.{IfOk}
 use Rattle.std.proofs.lemmas.Bool.Decides.{nat_tests}
 use Rattle.qc_msg.specs.declared.record.Record.{Record}
@@ -8,7 +8,7 @@ use Rattle.qc_record.specs.declared.fault.RecordFault.{RecordFault}
 use Rattle.qc_record.specs.declared.fault.RecordFault.TheVariants as faults
 use Rattle.qc_record.specs.Answers.{Answers}
 use Rattle.qc_record.specs.Form.{Form, IsBytes, ◌>>=◌, nothing, all_of}
-use Rattle.qc_record.specs.Records.{is_legal, spelled, body_at, placed, whole_at, record_at, prepared_form, done_form, epoch_form, start_form, commit_form, done_of, install_of, decide_of}
+use Rattle.qc_record.specs.Records.{is_legal, spelled, placed, whole_at, record_at, prepared_form, done_form, epoch_form, start_form, commit_form, done_of, install_of, decide_of}
 use Rattle.qc_record.proofs.Exactness.{IsExact, bind_ok, all_taken, all_again, nothing_exact}
 use Rattle.qc_record.proofs.Exact.{epoch_exact, prepared_exact, done_exact, start_exact, commit_exact}
 

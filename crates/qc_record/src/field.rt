@@ -12,12 +12,7 @@ use qc_list::OutOfMemory;
 
 /// The number in so many bytes, within a range, and the bytes behind it.
 #[tactic(auto, unfolding(crate::specs::Form::number_at))]
-pub(crate) fn number(
-    bytes: &[u8],
-    width: usize,
-    low: u64,
-    high: u64,
-) -> Result<(u64, &[u8]), Halt>
+pub(crate) fn number(bytes: &[u8], width: usize, low: u64, high: u64) -> Result<(u64, &[u8]), Halt>
     requires narrow { 1 ≤ width }
     requires wide { width ≤ 8 }
     ensures given { Gives (λ x. (x.0, x.1.now)) result (number_at width (within low high) bytes.now) }

@@ -1,6 +1,6 @@
 //! Reading a record.
 
-ghost use Rattle.std.specs.Prelude.{◌≡◌, ◌<◌, ◌^◌, ◌-◌, ℕ, List, true, length, Result, Ok, IfOk};
+ghost use Rattle.std.specs.Prelude.{◌≡◌, ◌<◌, ◌^◌, ◌+◌, ◌-◌, ℕ, List, true, length, Result, Ok, IfOk};
 ghost use Rattle.qc_msg.specs.declared.record.Record.{Record};
 ghost use Rattle.qc_msg.specs.declared.record.Record.TheVariants as records;
 ghost use Rattle.qc_record.specs.declared.fault.RecordFault.TheVariants.{Torn};
@@ -53,12 +53,7 @@ fn close(bytes: &[u8]) -> Result<(Record, &[u8]), Halt>
     ensures { Gives (λ x. (x.0, x.1.now)) result (body_at records.Close epoch_form bytes.now) }
 {
     let (epoch, rest) = number(bytes, 1, 1, 8)?;
-    Ok((
-        Record::Close {
-            epoch: epoch as u8,
-        },
-        rest,
-    ))
+    Ok((Record::Close { epoch: epoch as u8 }, rest))
 }
 
 /// An Install, behind its kind.
@@ -141,7 +136,7 @@ fn placed(size: usize, read: Result<(Record, &[u8]), Halt>) -> Result<Record, Re
 
 /// All of the bytes behind the kind of a Life.
 fn whole_life(rest: &[u8]) -> Result<Record, RecordFault>
-    requires { length rest.now < 2 ^ 31 }
+    requires { length rest.now + 1 < 2 ^ 32 }
     ensures { Answers result (whole_at (λ _. records.Life) nothing rest.now) }
 {
     placed(rest.len() + 1, Ok((Record::Life, rest)))
@@ -149,7 +144,7 @@ fn whole_life(rest: &[u8]) -> Result<Record, RecordFault>
 
 /// All of the bytes behind the kind of a Prepare.
 fn whole_prepare(alloc: Global, rest: &[u8]) -> Result<Record, RecordFault>
-    requires { length rest.now < 2 ^ 31 }
+    requires { length rest.now + 1 < 2 ^ 32 }
     ensures { Answers result (whole_at records.Prepare prepared_form rest.now) }
 {
     placed(rest.len() + 1, prepare(alloc, rest))
@@ -157,7 +152,7 @@ fn whole_prepare(alloc: Global, rest: &[u8]) -> Result<Record, RecordFault>
 
 /// All of the bytes behind the kind of a Done.
 fn whole_done(rest: &[u8]) -> Result<Record, RecordFault>
-    requires { length rest.now < 2 ^ 31 }
+    requires { length rest.now + 1 < 2 ^ 32 }
     ensures { Answers result (whole_at done_of done_form rest.now) }
 {
     placed(rest.len() + 1, done(rest))
@@ -165,7 +160,7 @@ fn whole_done(rest: &[u8]) -> Result<Record, RecordFault>
 
 /// All of the bytes behind the kind of a Close.
 fn whole_close(rest: &[u8]) -> Result<Record, RecordFault>
-    requires { length rest.now < 2 ^ 31 }
+    requires { length rest.now + 1 < 2 ^ 32 }
     ensures { Answers result (whole_at records.Close epoch_form rest.now) }
 {
     placed(rest.len() + 1, close(rest))
@@ -173,7 +168,7 @@ fn whole_close(rest: &[u8]) -> Result<Record, RecordFault>
 
 /// All of the bytes behind the kind of an Install.
 fn whole_install(alloc: Global, rest: &[u8]) -> Result<Record, RecordFault>
-    requires { length rest.now < 2 ^ 31 }
+    requires { length rest.now + 1 < 2 ^ 32 }
     ensures { Answers result (whole_at install_of start_form rest.now) }
 {
     placed(rest.len() + 1, install(alloc, rest))
@@ -181,7 +176,7 @@ fn whole_install(alloc: Global, rest: &[u8]) -> Result<Record, RecordFault>
 
 /// All of the bytes behind the kind of a Commit.
 fn whole_commit(alloc: Global, rest: &[u8]) -> Result<Record, RecordFault>
-    requires { length rest.now < 2 ^ 31 }
+    requires { length rest.now + 1 < 2 ^ 32 }
     ensures { Answers result (whole_at records.Commit commit_form rest.now) }
 {
     placed(rest.len() + 1, commit(alloc, rest))
@@ -189,7 +184,7 @@ fn whole_commit(alloc: Global, rest: &[u8]) -> Result<Record, RecordFault>
 
 /// All of the bytes behind the kind of a Decide.
 fn whole_decide(alloc: Global, rest: &[u8]) -> Result<Record, RecordFault>
-    requires { length rest.now < 2 ^ 31 }
+    requires { length rest.now + 1 < 2 ^ 32 }
     ensures { Answers result (whole_at decide_of start_form rest.now) }
 {
     placed(rest.len() + 1, decide(alloc, rest))
@@ -197,7 +192,7 @@ fn whole_decide(alloc: Global, rest: &[u8]) -> Result<Record, RecordFault>
 
 /// The record that a kind and the bytes behind it spell.
 fn of_kind(alloc: Global, kind: u8, rest: &[u8]) -> Result<Record, RecordFault>
-    requires { length rest.now < 2 ^ 31 }
+    requires { length rest.now + 1 < 2 ^ 32 }
     ensures { Answers result (kind_at kind rest.now) }
 {
     match kind {
@@ -214,7 +209,7 @@ fn of_kind(alloc: Global, kind: u8, rest: &[u8]) -> Result<Record, RecordFault>
 
 /// The record that bytes spell, or what is wrong with them.
 fn record_in(alloc: Global, bytes: &[u8]) -> Result<Record, RecordFault>
-    requires { length bytes.now < 2 ^ 31 }
+    requires { length bytes.now < 2 ^ 32 }
     ensures { Answers result (record_at bytes.now) }
 {
     let Some(kind) = bytes.first() else {
@@ -226,7 +221,7 @@ fn record_in(alloc: Global, bytes: &[u8]) -> Result<Record, RecordFault>
 
 /// The record that bytes spell, each byte of them.
 pub fn read_bytes(alloc: Global, bytes: &[u8]) -> Result<Record, RecordFault>
-    requires { length bytes.now < 2 ^ 31 }
+    requires { length bytes.now < 2 ^ 32 }
     // What is read is spelled so.
     ensures found { IfOk result (λ rec. (bytes.now ≡ spelled rec) × (is_legal rec ≡ true)) }
     // What is spelled so is read, unless memory runs out.

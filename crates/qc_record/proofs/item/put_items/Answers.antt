@@ -1,5 +1,4 @@
-use Rattle.std.proofs.Common.{◌≡◌, ◌++◌, ◌∷◌, [], ◌+◌, ap, sym, ◌∙◌, append_assoc, take, None, arith, List, ℕ}
-use Rattle.std.proofs.lemmas.List.{take_more}
+use Rattle.std.proofs.Common.{◌++◌, ap, ◌∙◌, None}
 use Rattle.qc_record.specs.Form.{items_spelled}
 use Rattle.qc_record.proofs.Loop.{put_more, take_whole}
 use Rattle.qc_record.proofs.item.put_items.Goals as goal
