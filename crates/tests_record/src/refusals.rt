@@ -24,18 +24,55 @@ fn cut_or_changed(rt: HostRuntime) {
     assert_eq!(rt; fault(rt, &[4, 0]), torn(1));
     assert_eq!(rt; fault(rt, &[4, 9]), torn(1));
     // A client, a life, a number and a clock out of their ranges.
-    assert_eq!(rt; fault(rt, &[3, 16, 0, 0, 0, 1, 0, 0, 0, 1, 0, 0, 0, 0, 0, 0, 0, 1]), torn(1));
-    assert_eq!(rt; fault(rt, &[3, 0, 0, 0, 0, 0, 0, 0, 0, 1, 0, 0, 0, 0, 0, 0, 0, 1]), torn(2));
-    assert_eq!(rt; fault(rt, &[3, 0, 0, 0, 0, 1, 0, 0, 0, 0, 0, 0, 0, 0, 0, 0, 0, 1]), torn(6));
-    assert_eq!(rt; fault(rt, &[3, 0, 0, 0, 0, 1, 0, 0, 0, 1, 0, 0, 0, 0, 0, 0, 0, 0]), torn(10));
+    assert_eq!(rt;
+        fault(rt, &[3, 16, 0, 0, 0, 1, 0, 0, 0, 1, 0, 0, 0, 0, 0, 0, 0, 1]),
+        torn(1)
+    );
+    assert_eq!(rt;
+        fault(rt, &[3, 0, 0, 0, 0, 0, 0, 0, 0, 1, 0, 0, 0, 0, 0, 0, 0, 1]),
+        torn(2)
+    );
+    assert_eq!(rt;
+        fault(rt, &[3, 0, 0, 0, 0, 1, 0, 0, 0, 0, 0, 0, 0, 0, 0, 0, 0, 1]),
+        torn(6)
+    );
+    assert_eq!(rt;
+        fault(rt, &[3, 0, 0, 0, 0, 1, 0, 0, 0, 1, 0, 0, 0, 0, 0, 0, 0, 0]),
+        torn(10)
+    );
     // The end within a field, and a byte behind the last one.
-    assert_eq!(rt; fault(rt, &[3, 0, 0, 0, 0, 1, 0, 0, 0, 1, 0, 0, 0]), torn(13));
-    assert_eq!(rt; fault(rt, &[3, 0, 0, 0, 0, 1, 0, 0, 0, 1, 0, 0, 0, 0, 0, 0, 0, 1, 0]), torn(18));
+    assert_eq!(rt;
+        fault(rt, &[3, 0, 0, 0, 0, 1, 0, 0, 0, 1, 0, 0, 0]),
+        torn(13)
+    );
+    assert_eq!(rt;
+        fault(
+            rt,
+            &[3, 0, 0, 0, 0, 1, 0, 0, 0, 1, 0, 0, 0, 0, 0, 0, 0, 1, 0]
+        ),
+        torn(18)
+    );
 }
 
 #[test]
 fn out_of_order(rt: HostRuntime) {
     // Equal locks, and own lines with one number.
-    assert_eq!(rt; fault(rt, &[2, 0, 0, 0, 0, 1, 0, 0, 0, 1, 1, 0, 2, 0, 3, 0, 3, 0, 0, 0, 0, 0]), torn(16));
-    assert_eq!(rt; fault(rt, &[2, 0, 0, 0, 0, 1, 0, 0, 0, 1, 1, 0, 0, 2, 1, 0, 3, 1, 0, 4, 0, 0, 0, 0]), torn(17));
+    assert_eq!(rt;
+        fault(
+            rt,
+            &[
+                2, 0, 0, 0, 0, 1, 0, 0, 0, 1, 1, 0, 2, 0, 3, 0, 3, 0, 0, 0, 0, 0
+            ]
+        ),
+        torn(16)
+    );
+    assert_eq!(rt;
+        fault(
+            rt,
+            &[
+                2, 0, 0, 0, 0, 1, 0, 0, 0, 1, 1, 0, 0, 2, 1, 0, 3, 1, 0, 4, 0, 0, 0, 0
+            ]
+        ),
+        torn(17)
+    );
 }
