@@ -1,9 +1,9 @@
--- Forms of bytes: each says which values have a spelling, what it is, and how bytes are read by it, the first fault first.
+-- Forms of bytes: each says which values have a spelling, what it is, and how bytes are read by it.
 use Rattle.std.specs.Prelude.{ℕ, zero, suc, Bool, true, ◌&&◌, nat_le, nat_lt, nat_eq, if◌then◌else◌, List, [], ◌∷◌, ◌++◌, length, drop, get_or, ◌<◌, Option, Some, None, Result, Ok, Err}
 use Rattle.byteorder.specs.Endian.{big_bytes, big_number}
 
--- A form of values: how a value is read off the front of bytes, with the bytes behind it, or else how many bytes are left
--- from the fault on; a value's one spelling; and whether it has one.
+-- A form of values: how a value is read off the front of bytes, with the bytes behind it, or else how many bytes are
+-- left from the first fault on; a value's one spelling; and whether it has one.
 pub record Form (A : Type 0) : Type 0 where
   pub read : List ℕ → Result (A × List ℕ) ℕ
   pub spelled : A → List ℕ
@@ -19,8 +19,8 @@ abbrev pub ◌>>=◌ : {A B : Type 0} → Result A ℕ → (A → Result B ℕ) 
 (Ok x) >>= next = next x
 (Err left) >>= next = Err left
 
--- The number in so many bytes, the highest first. The fault is at the end of the bytes where they end within the number,
--- and at the number's first byte where it isn't legal.
+-- The number in so many bytes, the highest first. The fault is at the end of the bytes where they end within the
+-- number, and at the number's first byte where it isn't legal.
 unfoldable pub number_at : ℕ → (ℕ → Bool) → List ℕ → Result (ℕ × List ℕ) ℕ
 number_at width is_legal bytes =
     if nat_lt (length bytes) width then Err 0
@@ -81,9 +81,9 @@ counted width is_count item = record {
 abbrev pub within : ℕ → ℕ → ℕ → Bool
 within low high n = nat_le low n && nat_le n high
 
--- Items that ascend do so by their numbers, of which the first that differs decides. A field that still ties with the item
--- before is at least the number there, and the last is above it. A floor is the numbers of the item before in the fields
--- from this one on, or none where the item doesn't tie with it.
+-- Items that ascend do so by their numbers, of which the first that differs decides. A field that still ties with the
+-- item before is at least the number there, and the last is above it. A floor is the numbers of the item before in the
+-- fields from this one on, or none where the item doesn't tie with it.
 
 abbrev pub is_at_least : List ℕ → ℕ → Bool
 is_at_least [] n = true

@@ -94,8 +94,11 @@ lock_parts lock = (lock.object, lock.inv)
 abbrev pub lock_numbers : List ℕ → Form (ℕ × ℕ)
 lock_numbers floor = climb 1 0 15 floor (λ floor. top 1 0 31 floor)
 
+abbrev pub lock_after : List ℕ → Form ReadLock
+lock_after floor = shaped lock_of lock_parts always (lock_numbers floor)
+
 abbrev pub lock_form : Option ReadLock → Form ReadLock
-lock_form before = shaped lock_of lock_parts always (lock_numbers (lock_floor before))
+lock_form before = lock_after (lock_floor before)
 
 -- An own line: operation, object, event. Own lines ascend by operation.
 
@@ -115,7 +118,8 @@ own_after floor = shaped own_of own_parts always (both (top 1 1 16 floor) (λ _.
 abbrev pub own_form : Option OwnLine → Form OwnLine
 own_form before = own_after (own_floor before)
 
--- A line: clock, transaction, operation, object, event. Lines ascend by all of them. The client of its stamp is the transaction's.
+-- A line: clock, transaction, operation, object, event. Lines ascend by all of them. The client of a line's stamp is its
+-- transaction's.
 
 abbrev pub line_floor : Option Line → List ℕ
 line_floor None = []
@@ -159,8 +163,11 @@ from_client floor = climb 1 0 15 floor from_life
 abbrev pub line_numbers : List ℕ → Form (ℕ × (ℕ × (ℕ × (ℕ × (ℕ × (ℕ × ℕ))))))
 line_numbers floor = climb 8 1 greatest_clock floor from_client
 
+abbrev pub line_after : List ℕ → Form Line
+line_after floor = shaped line_of line_parts is_own_stamp (line_numbers floor)
+
 abbrev pub line_form : Option Line → Form Line
-line_form before = shaped line_of line_parts is_own_stamp (line_numbers (line_floor before))
+line_form before = line_after (line_floor before)
 
 -- An operation: object, invocation, response. Operations stand in the order of their numbers.
 
@@ -190,7 +197,13 @@ ops_form = counted 1 (within 0 16) op_form
 -- What stands behind the kind.
 
 abbrev pub prepared_of : TxId × (ℕ × (List ReadLock × (List OwnLine × List Line))) → Prepared
-prepared_of (tx, (epoch, (locks, (own, lines)))) = record { tx = tx; epoch = epoch; locks = locks; own = own; lines = lines }
+prepared_of (tx, (epoch, (locks, (own, lines)))) = record {
+  tx = tx;
+  epoch = epoch;
+  locks = locks;
+  own = own;
+  lines = lines;
+}
 
 abbrev pub prepared_parts : Prepared → TxId × (ℕ × (List ReadLock × (List OwnLine × List Line)))
 prepared_parts p = (p.tx, (p.epoch, (p.locks, (p.own, p.lines))))
@@ -252,8 +265,8 @@ decide_of (epoch, (clock, lines)) = records.Decide epoch clock lines
 abbrev pub body_at : {A : Type 0} → (A → Record) → Form A → List ℕ → Result (Record × List ℕ) ℕ
 body_at shape form bytes = form.read bytes >>= λ x. Ok (shape x.0, x.1)
 
--- The fault by its place: the first field that is out of its range or out of order, or the end of the bytes where they end
--- within a field, or the first byte behind the last field.
+-- The fault by its place: the first field that is out of its range or out of order, or the end of the bytes where they
+-- end within a field, or the first byte behind the last field.
 abbrev pub placed : ℕ → Result Record ℕ → Result Record RecordFault
 placed size (Ok rec) = Ok rec
 placed size (Err left) = Err (faults.Torn (size - left))

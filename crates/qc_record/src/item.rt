@@ -20,7 +20,8 @@ pub(crate) trait Item: Copy + Drop {
 
     /// Adds the item's bytes.
     fn put(&self, out: &mut Vec<u8>) -> Result<(), OutOfMemory>
-        ensures { (before : Option Self) → OnOk result (out.new.items ≡ out.old.items ++ (form before).spelled self.now) };
+        ensures { (before : Option Self) →
+            OnOk result (out.new.items ≡ out.old.items ++ (form before).spelled self.now) };
 }
 
 /// So many items, one after another.

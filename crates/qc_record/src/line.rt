@@ -3,8 +3,7 @@
 ghost use Rattle.std.specs.Prelude.{◌≡◌, ◌++◌, ◌<◌, ◌^◌, Option, OnOk, IfOk, length};
 ghost use Rattle.qc_entry.specs.Line.{IsAscending};
 ghost use Rattle.qc_record.specs.Answers.{Gives};
-ghost use Rattle.qc_record.specs.Form.{shaped};
-ghost use Rattle.qc_record.specs.Records.{is_own_stamp, line_form, line_numbers, line_of, line_parts, lines_form};
+ghost use Rattle.qc_record.specs.Records.{line_after, line_form, lines_form};
 
 use crate::fault::Halt;
 use crate::field::{climb, next, put, top};
@@ -17,7 +16,7 @@ use std::alloc::Global;
 
 /// A line that isn't below the floor.
 fn line_above<'a>(bytes: &'a [u8], floor: &[u64]) -> Result<(Line, &'a [u8]), Halt>
-    ensures { Gives (λ x. (x.0, x.1.now)) result ((shaped line_of line_parts is_own_stamp (line_numbers floor.now)).read bytes.now) }
+    ensures { Gives (λ x. (x.0, x.1.now)) result ((line_after floor.now).read bytes.now) }
 {
     let (clock, rest) = climb(bytes, 8, 1, GREATEST_CLOCK, floor)?;
     let floor = next(floor, clock);

@@ -2,9 +2,8 @@
 
 ghost use Rattle.std.specs.Prelude.{◌≡◌, ◌<◌, ◌++◌, Option, OnOk};
 ghost use Rattle.qc_record.specs.Answers.{Gives};
-ghost use Rattle.qc_record.specs.Form.{shaped};
-ghost use Rattle.qc_record.specs.Records.{lock_form, lock_of, lock_parts, lock_numbers, op_form, own_form, own_after};
-ghost use Rattle.qc_record.specs.Records.{response_form, response_of, tx_form, always};
+ghost use Rattle.qc_record.specs.Records.{lock_after, lock_form, op_form, own_after, own_form};
+ghost use Rattle.qc_record.specs.Records.{response_form, response_of, tx_form};
 
 use crate::fault::Halt;
 use crate::field::{climb, next, number, put, response_number, top};
@@ -45,7 +44,7 @@ pub(crate) fn put_tx(out: &mut Vec<u8>, tx: &TxId) -> Result<(), OutOfMemory>
 
 /// A lock that isn't below the floor.
 fn lock_above<'a>(bytes: &'a [u8], floor: &[u64]) -> Result<(ReadLock, &'a [u8]), Halt>
-    ensures { Gives (λ x. (x.0, x.1.now)) result ((shaped lock_of lock_parts always (lock_numbers floor.now)).read bytes.now) }
+    ensures { Gives (λ x. (x.0, x.1.now)) result ((lock_after floor.now).read bytes.now) }
 {
     let (object, rest) = climb(bytes, 1, 0, 15, floor)?;
     let (inv, rest) = top(rest, 1, 0, 31, next(floor, object))?;

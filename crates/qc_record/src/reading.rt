@@ -6,8 +6,8 @@ ghost use Rattle.qc_msg.specs.declared.record.Record.TheVariants as records;
 ghost use Rattle.qc_record.specs.declared.fault.RecordFault.TheVariants.{Torn};
 ghost use Rattle.qc_record.specs.Answers.{Gives, Answers};
 ghost use Rattle.qc_record.specs.Form.{nothing, all_of};
-ghost use Rattle.qc_record.specs.Records.{body_at, placed, whole_at, kind_at, record_at, spelled, is_legal, prepared_form, done_form, epoch_form};
-ghost use Rattle.qc_record.specs.Records.{start_form, commit_form, done_of, install_of, decide_of};
+ghost use Rattle.qc_record.specs.Records.{body_at, commit_form, decide_of, done_form, done_of, epoch_form, install_of};
+ghost use Rattle.qc_record.specs.Records.{is_legal, kind_at, placed, prepared_form, record_at, spelled, start_form, whole_at};
 
 use crate::RecordFault;
 use crate::fault::Halt;
