@@ -1,0 +1,25 @@
+//! Laws of the bytes of records.
+
+ghost use Rattle.std.specs.Prelude.{◌≡◌, ◌≤◌, ℕ, List, true, length, ◌++◌, Ok};
+ghost use Rattle.qc_msg.specs.declared.record.Record.{Record};
+ghost use Rattle.qc_record.specs.Form.{IsBytes};
+ghost use Rattle.qc_record.specs.Records.{record_at, spelled, is_legal, framed, most_bytes};
+
+/// Bytes are read as a record exactly where they are the spelling of that
+/// record.
+pub fn one_spelling()
+    ensures again { (rec : Record) → is_legal rec ≡ true → record_at (spelled rec) ≡ Ok rec }
+    ensures taken { (bytes : List ℕ) (rec : Record) → IsBytes bytes → record_at bytes ≡ Ok rec
+        → (bytes ≡ spelled rec) × (is_legal rec ≡ true) }
+{}
+
+/// Different records have different spellings.
+pub fn spellings_are_apart()
+    ensures { (a b : Record) → is_legal a ≡ true → is_legal b ≡ true → spelled a ≡ spelled b → a ≡ b }
+{}
+
+/// No record's spelling behind a gate and its length is a prefix of another's.
+pub fn no_frame_is_a_prefix()
+    ensures { (a b : Record) (rest : List ℕ) → is_legal a ≡ true → is_legal b ≡ true
+        → length (spelled a) ≤ most_bytes → length (spelled b) ≤ most_bytes → framed a ++ rest ≡ framed b → a ≡ b }
+{}
