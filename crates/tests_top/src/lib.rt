@@ -1,0 +1,13 @@
+//! Tests of the top call by its public calls alone, over a shelf and a sink in
+//! memory: whole runs, each a story with its text, and calls that end otherwise.
+//! What they want comes from outside.
+#![tactic(auto)]
+
+#[cfg(test)]
+mod calls;
+#[cfg(test)]
+mod declarations;
+#[cfg(test)]
+mod ends;
+#[cfg(test)]
+mod stories;
