@@ -1,11 +1,9 @@
 -- The stamp of a record has passed each clock that its client counted before.
-use Rattle.std.proofs.Common.{◌≡◌, ◌⊎◌, ◌<◌, ◌≤◌, ◌+◌, ◌-◌, ℕ, max, nat_le, nat_lt, Bool, true, false, cond, if◌then◌else◌, List, [], ◌∷◌, ◌++◌, inl, inr, length, Option, Some, None, option_map, refl, sym, ap, ◌∙◌, slice_get, subst, arith, ltb-true}
-use Rattle.std.specs.Prelude.{fold, option_and_then}
+use Rattle.std.proofs.Common.{◌≡◌, ◌<◌, ◌≤◌, ◌+◌, ◌-◌, ℕ, nat_le, nat_lt, Bool, true, false, cond, List, [], ◌∷◌, ◌++◌, Option, Some, None, sym, ap, ◌∙◌, slice_get, subst, arith, ltb-true}
+use Rattle.std.specs.Prelude.{fold}
 use Rattle.std.specs.List.{find}
 use Rattle.std.proofs.lemmas.List.Sums.{fold-append}
 use Rattle.qc_stamp.specs.declared.stamp.Stamp.{Stamp}
-use Rattle.qc_decl.specs.Limits.{most_transaction_operations}
-use Rattle.qc_decl.specs.Lookup.{append_need_of, read_need_of}
 use Rattle.qc_decl.specs.declared.declaration.Declaration.{Declaration}
 use Rattle.qc_entry.specs.declared.line.Line.{Line}
 use Rattle.qc_entry.specs.declared.record.Commit.{Commit as CommitRecord}
@@ -21,21 +19,14 @@ use Rattle.qc_msg.specs.declared.reply.Half.{Half}
 use Rattle.qc_msg.specs.declared.reply.Half.TheVariants as halves
 use Rattle.qc_msg.specs.declared.reply.Reply.{Reply}
 use Rattle.qc_msg.specs.declared.reply.Reply.TheVariants as replies
-use Rattle.qc_msg.specs.declared.reply.Why.{Why}
-use Rattle.qc_msg.specs.declared.reply.Why.TheVariants as causes
 use Rattle.qc_msg.specs.declared.step.Command.{Command}
 use Rattle.qc_msg.specs.declared.step.Command.TheVariants as commands
-use Rattle.qc_msg.specs.declared.step.Given.{Given}
 use Rattle.qc_msg.specs.declared.step.Given.TheVariants as given
 use Rattle.qc_msg.specs.Deeds.{Deed, Takes, Writes, Sends, Tells}
-use Rattle.qc_plan.specs.declared.standing.Verdict.{Verdict}
-use Rattle.qc_plan.specs.declared.standing.Verdict.TheVariants as verdicts
-use Rattle.qc_plan.specs.Round.{verdict}
-use Rattle.qc_promise.specs.Account.{Account, ClientRequest, Current, is_append, is_prepare, is_read, new_account, requests_for}
-use Rattle.qc_promise.specs.Accounting.{account_at, account_heard, account_sent, account_taken, account_told_in, account_written, counted, counted_for, found_absent, granted, is_open, promised, requested, responded, short_of, taken_for, told_by}
+use Rattle.qc_promise.specs.Account.{Account, ClientRequest, new_account}
+use Rattle.qc_promise.specs.Accounting.{account_at, account_heard, account_sent, account_told_in, account_written, counted, counted_for, found_absent, granted, is_open, promised, responded, short_of, taken_for, told_by}
 use Rattle.qc_promise.specs.Asked.{is_asked_for}
-use Rattle.qc_promise.specs.Rounds.{answer_of, are_votes_in, first_against, round_of}
-use Rattle.qc_promise.specs.Rows.{answer_row, append_row, commit_row, do_row, due, next_stamp, read_row, row_of, vote_row}
+use Rattle.qc_promise.specs.Rows.{due}
 use Rattle.qc_account.specs.DeedsDue.{AreDeedsDue, IsDeedDue}
 use Rattle.qc_core.specs.Conduct.{IsLawful}
 use Rattle.qc_decl.specs.Actors.{actors, is_client}
@@ -49,89 +40,9 @@ use Rattle.qc_account.proofs.Courses.{clients_due}
 use Rattle.qc_guarantees.specs.Clocks.{GrantTells, IsCounted, PromiseTells, Tells as TellsClock}
 use Rattle.qc_guarantees.proofs.Accounts.{and_second}
 use Rattle.qc_guarantees.proofs.Requests.{due_at}
-
--- a commit that is due has the stamp that comes next
-
-abbrev stamp_in : Reply → Option Stamp
-stamp_in replies.Down = None
-stamp_in (replies.Already tx) = None
-stamp_in (replies.Began tx) = None
-stamp_in replies.NoTransaction = None
-stamp_in replies.Doomed = None
-stamp_in replies.TooLong = None
-stamp_in (replies.Closed epoch site) = None
-stamp_in (replies.Conflict tx site) = None
-stamp_in (replies.Quorum half got need) = None
-stamp_in replies.Absent = None
-stamp_in (replies.Response resp) = None
-stamp_in (replies.Aborted why) = None
-stamp_in replies.Unknown = None
-stamp_in (replies.Committed stamp) = Some stamp
-stamp_in replies.Dropped = None
-stamp_in (replies.Order current) = None
-stamp_in (replies.InDoubt tx site) = None
-stamp_in replies.Fault = None
-stamp_in (replies.Moved closed installed) = None
-
-abbrev stamp_of : Option Reply → Option Stamp
-stamp_of None = None
-stamp_of (Some reply) = stamp_in reply
-
-none_some : {A : Type 0} (o : Option Stamp) (stamp : Stamp) → o ≡ None → o ≡ Some stamp → A
-none_some o stamp none some = absurd (let never : ⊥ = cc in never)
+use Rattle.qc_guarantees.proofs.DueStamps.{due_stamp}
 
 module _ (decl : Declaration) where
-  append_stamp : (object event : ℕ) (v : Verdict) → stamp_of (append_row decl object event v) ≡ None
-  append_stamp object event verdicts.Waiting = refl
-  append_stamp object event verdicts.Met = refl
-  append_stamp object event (verdicts.Closed epoch site) = refl
-  append_stamp object event (verdicts.Clash tx site) = refl
-  append_stamp object event (verdicts.Short got need) = refl
-
-  answer_stamp : (d : Account) (t : Current) (object : ℕ) (o : Option ℕ) → stamp_of (answer_row decl d t object o) ≡ None
-  answer_stamp d t object None = refl
-  answer_stamp d t object (Some event) = append_stamp object event (verdict (round_of decl d t is_append (append_need_of decl t.epoch object event)))
-
-  read_stamp : (d : Account) (t : Current) (object inv : ℕ) (v : Verdict) → stamp_of (read_row decl d t object inv v) ≡ None
-  read_stamp d t object inv verdicts.Waiting = refl
-  read_stamp d t object inv verdicts.Met = answer_stamp d t object (answer_of decl t object inv)
-  read_stamp d t object inv (verdicts.Closed epoch site) = refl
-  read_stamp d t object inv (verdicts.Clash tx site) = refl
-  read_stamp d t object inv (verdicts.Short got need) = refl
-
-  do_stamp : (d : Account) (t : Current) (object inv : ℕ) → stamp_of (do_row decl d t object inv) ≡ None
-  do_stamp d t object inv = by t.doomed (nat_le most_transaction_operations (length t.ops))
-    where
-      by : (x y : Bool) → stamp_of (if x then Some replies.Doomed else (if y then Some replies.TooLong else read_row decl d t object inv (verdict (round_of decl d t is_read (read_need_of decl t.epoch object inv))))) ≡ None
-      by true y = refl
-      by false true = refl
-      by false false = read_stamp d t object inv (verdict (round_of decl d t is_read (read_need_of decl t.epoch object inv)))
-
-  commit_stamp : (d : Account) (t : Current) (stamp : Stamp) → stamp_of (commit_row decl d [] t) ≡ Some stamp → stamp ≡ next_stamp d
-  commit_stamp d t stamp is = by t.doomed (are_votes_in decl d t) (first_against (requests_for is_prepare d)) is
-    where
-      by : (x y : Bool) (o : Option Why) → stamp_of (if x then Some (replies.Aborted causes.Doomed) else (if y then vote_row d [] o else None)) ≡ Some stamp → stamp ≡ next_stamp d
-      by true y o is = none_some None stamp refl is
-      by false false o is = none_some None stamp refl is
-      by false true None is = let same : next_stamp d ≡ stamp = cc in sym same
-      by false true (Some why) is = none_some None stamp refl is
-
-  pub due_stamp : (d : Account) (stamp : Stamp) → due decl d [] ≡ Some (replies.Committed stamp) → stamp ≡ next_stamp d
-  due_stamp d stamp is = by d.command d.current (ap stamp_of is)
-    where
-      by : (c : Option Command) (t : Option Current) → stamp_of (option_and_then (row_of decl d [] t) c) ≡ Some stamp → stamp ≡ next_stamp d
-      by None t is = none_some None stamp refl is
-      by (Some commands.Begin) None is = none_some None stamp refl is
-      by (Some (commands.Do object inv)) None is = none_some None stamp refl is
-      by (Some commands.Commit) None is = none_some None stamp refl is
-      by (Some commands.Abort) None is = none_some None stamp refl is
-      by (Some (commands.Epoch number)) None is = none_some None stamp refl is
-      by (Some commands.Begin) (Some t) is = none_some None stamp refl is
-      by (Some (commands.Do object inv)) (Some t) is = none_some (stamp_of (do_row decl d t object inv)) stamp (do_stamp d t object inv) is
-      by (Some commands.Commit) (Some t) is = commit_stamp d t stamp is
-      by (Some commands.Abort) (Some t) is = none_some None stamp refl is
-      by (Some (commands.Epoch number)) (Some t) is = none_some None stamp refl is
-
   -- a client's clock never falls
 
   granted_clock : (d : Account) (site life clock : ℕ) (log : List Line) (w : Want) → d.clock ≤ (granted d site life clock log w).clock
@@ -234,7 +145,7 @@ module _ (decl : Declaration) where
   reply_clock d (replies.Response resp) is = responded_clock d d.command
   reply_clock d (replies.Aborted why) is = same_clock d
   reply_clock d replies.Unknown is = same_clock d
-  reply_clock d (replies.Committed stamp) is = let next : stamp.clock ≡ d.clock + 1 = ap (λ (s : Stamp). s.clock) (due_stamp d stamp is) in omega arith
+  reply_clock d (replies.Committed stamp) is = let next : stamp.clock ≡ d.clock + 1 = ap (λ (s : Stamp). s.clock) (due_stamp decl d stamp is) in omega arith
   reply_clock d replies.Dropped is = same_clock d
   reply_clock d (replies.Order current) is = same_clock d
   reply_clock d (replies.InDoubt tx site) is = same_clock d
@@ -308,7 +219,7 @@ module _ (decl : Declaration) where
   record_passes client ds front back c clock due is k =
       let here : AreDeedsDue decl (new_account client) (front ++ Writes (records.Commit c) ∷ back) = subst (AreDeedsDue decl (new_account client)) is due in
       let low : clock ≤ (fold (account_at decl) (new_account client) front).clock = counted_reached client front clock (due_front front (Writes (records.Commit c) ∷ back) (new_account client) here) k in
-      let next : c.stamp.clock ≡ (fold (account_at decl) (new_account client) front).clock + 1 = ap (λ (s : Stamp). s.clock) (due_stamp (fold (account_at decl) (new_account client) front) c.stamp (due_at decl front (Writes (records.Commit c)) back (new_account client) here).0) in
+      let next : c.stamp.clock ≡ (fold (account_at decl) (new_account client) front).clock + 1 = ap (λ (s : Stamp). s.clock) (due_stamp decl (fold (account_at decl) (new_account client) front) c.stamp (due_at decl front (Writes (records.Commit c)) back (new_account client) here).0) in
       omega arith
 
   pub stamps_pass : (script : Script) (h : List Entry) (open_inputs : List Bool) → Runs (IsLawful decl) decl script h open_inputs → (a : ℕ) → is_client decl a ≡ true → (front back : List Deed) (c : CommitRecord) (clock : ℕ)

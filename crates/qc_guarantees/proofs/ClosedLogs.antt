@@ -1,5 +1,5 @@
 -- The log that a Read is granted is closed.
-use Rattle.std.proofs.Common.{◌≡◌, ℕ, Bool, List, Some, slice_get, refl, sym, ap, ◌∙◌, subst}
+use Rattle.std.proofs.Common.{◌≡◌, ℕ, Bool, List, Some, slice_get, refl, sym, ◌∙◌, subst}
 use Rattle.qc_stamp.specs.declared.stamp.TxId.{TxId}
 use Rattle.qc_list.specs.Members.{In}
 use Rattle.qc_entry.specs.declared.line.Line.{Line}
@@ -11,7 +11,6 @@ use Rattle.qc_msg.specs.declared.message.Answer.TheVariants.{Granted}
 use Rattle.qc_msg.specs.declared.message.Envelope.{Envelope}
 use Rattle.qc_msg.specs.declared.message.Message.{Message}
 use Rattle.qc_msg.specs.declared.message.Message.TheVariants as messages
-use Rattle.qc_msg.specs.declared.message.Want.{Want}
 use Rattle.qc_msg.specs.declared.message.Want.TheVariants.{Read}
 use Rattle.qc_msg.specs.Counts.{written}
 use Rattle.qc_msg.specs.Deeds.{mail}
@@ -47,7 +46,7 @@ module _ (decl : Declaration) (script : Script) (accepted : IsAccepted decl) (so
       by b =
           let r : IsRequest (mail h) number request.to tx (Read object inv) = record { envelope = request; epoch = epoch; life = named; numbered = found; addressed = refl; content = asked } in
           let one : (answer.from ≡ request.to) × (b.tx ≡ tx) × (b.want ≡ Read object inv) = one_request decl script accepted sound h open_inputs run number answer.from request.to b.tx tx b.want (Read object inv)
-              (subst (λ (ms : List Envelope). IsRequest ms number answer.from b.tx b.want) (stood decl script accepted sound h open_inputs run).mail_is b.request) r in
+          (subst (λ (ms : List Envelope). IsRequest ms number answer.from b.tx b.want) (stood decl script accepted sound h open_inputs run).mail_is b.request) r in
           b.grant.whole object inv one.2 m
           (claims.logs_are_closed decl accepted (mirror decl script accepted sound h open_inputs run).acts (mirror decl script accepted sound h open_inputs run).run (site_after b.grant.grant.before).volatile (OfGrant b.grant.grant b.grant.given refl)
           l m (b.grant.lines l among) (machine_logged m committed) same before depends)

@@ -33,7 +33,8 @@ use Rattle.qc_promise.specs.Account.{Account, ClientRequest, Current, new_accoun
 use Rattle.qc_promise.specs.Accounting.{account_at, account_heard, account_sent, account_taken, account_told_in, account_written, counted, counted_for, refused, responded, found_absent, requested, short_of, taken_for, with_response}
 use Rattle.qc_promise.specs.Asked.{command_asks, is_asked_for, is_of}
 use Rattle.qc_promise.specs.Rounds.{answer_of}
-use Rattle.qc_guarantees.proofs.Accounts.{HasGrounds, WasGranted, WasSent, after_taken, and_first, counted_grounds, granted_more, same_grounds, sent_more, taken_more, told_requests}
+use Rattle.qc_guarantees.proofs.Accounts.{HasGrounds, WasGranted, WasSent, after_taken, and_first, granted_more, same_grounds, sent_more, taken_more, told_requests}
+use Rattle.qc_guarantees.proofs.Counting.{counted_grounds}
 
 -- a command, a message, a loss
 

@@ -1,8 +1,6 @@
 -- What a site granted to a transaction that committed it holds until the Decision comes.
-use Rattle.std.proofs.Common.{◌≡◌, ◌⊎◌, ◌<◌, ◌≤◌, ◌&&◌, ◌||◌, not, ℕ, suc, ◌+◌, Bool, true, false, cond, List, [], ◌∷◌, ◌++◌, inl, inr, length, Option, Some, None, IsSome, slice_get, refl, sym, ap, ◌∙◌, subst, arith}
+use Rattle.std.proofs.Common.{◌≡◌, ◌≤◌, ◌&&◌, ◌||◌, not, ℕ, suc, ◌+◌, Bool, true, false, cond, List, [], ◌∷◌, ◌++◌, inl, inr, length, Some, refl, sym, ap, ◌∙◌, subst, arith}
 use Rattle.std.specs.Prelude.{fold}
-use Rattle.std.specs.List.{list_any}
-use Rattle.qc_stamp.specs.declared.stamp.Stamp.{Stamp}
 use Rattle.qc_stamp.specs.declared.stamp.TxId.{TxId}
 use Rattle.qc_stamp.specs.Order.{same_tx}
 use Rattle.qc_stamp.proofs.Orders.{same_tx_is}
@@ -11,14 +9,12 @@ use Rattle.qc_list.proofs.Members.{In-first, In-second}
 use Rattle.qc_onecopy.proofs.Lists.{in_map, in_split}
 use Rattle.qc_entry.specs.declared.line.Line.{Line}
 use Rattle.qc_entry.specs.declared.line.OwnLine.{OwnLine}
-use Rattle.qc_entry.specs.declared.line.ReadLock.{ReadLock}
 use Rattle.qc_entry.specs.declared.record.Commit.{Commit as CommitRecord}
 use Rattle.qc_core.specs.Conduct.{IsLawful}
 use Rattle.qc_decl.specs.declared.declaration.Declaration.{Declaration}
 use Rattle.qc_decl.specs.Accepted.{IsAccepted}
 use Rattle.qc_lock.specs.declared.held.Held.{Held}
 use Rattle.qc_lock.specs.Held.{held_of, with_held}
-use Rattle.qc_msg.specs.declared.message.Answer.{Answer}
 use Rattle.qc_msg.specs.declared.message.Envelope.{Envelope}
 use Rattle.qc_msg.specs.declared.message.Message.{Message}
 use Rattle.qc_msg.specs.declared.message.Message.TheVariants as messages
@@ -26,24 +22,22 @@ use Rattle.qc_msg.specs.declared.message.Outcome.{Outcome}
 use Rattle.qc_msg.specs.declared.message.Outcome.TheVariants as outcomes
 use Rattle.qc_msg.specs.declared.message.Want.{Want}
 use Rattle.qc_msg.specs.declared.message.Want.TheVariants.{Read, Append, Prepare}
-use Rattle.qc_msg.specs.declared.step.Given.{Given}
 use Rattle.qc_msg.specs.declared.step.Given.TheVariants as given
 use Rattle.qc_msg.specs.Counts.{written}
 use Rattle.qc_msg.specs.Deeds.{Deed, Takes, Writes, Sends, Tells, deeds, mail}
 use Rattle.qc_msg.specs.Steps.{Entry}
 use Rattle.qc_onecopy.specs.Executed.{Executed, own_line}
-use Rattle.qc_promise.specs.SiteEnds.{decides, ends, is_decision, is_ended, is_final}
+use Rattle.qc_promise.specs.SiteEnds.{decides, ends, is_ended, is_final}
 use Rattle.qc_promise.specs.SiteHeld.{Grant, held_shown, holding, is_granted, standing, standing_at, standing_by, stands}
 use Rattle.qc_protocol.specs.Acts.{state}
-use Rattle.qc_protocol.specs.Logs.{AreInOrder, IsExecutedOrChosen, IsNextOperation, IsOwnClosedAt, LogLaws}
+use Rattle.qc_protocol.specs.Logs.{IsExecutedOrChosen, IsOwnClosedAt, LogLaws}
 use Rattle.qc_protocol.specs.Site.{Item, Lock, Own}
 use Rattle.qc_protocol.proofs.LogKeeps.{log_laws}
-use Rattle.qc_protocol.proofs.Places.{IsAt, at}
+use Rattle.qc_protocol.proofs.Places.{at}
 use Rattle.qc_script.specs.Runs.{Runs}
 use Rattle.qc_script.specs.Sound.{IsScriptFor}
 use Rattle.qc_script.specs.declared.script.Script.{Script}
 use Rattle.qc_net.specs.Items.{own_item, own_items}
-use Rattle.qc_net.specs.Lines.{IsTrueVerdict}
 use Rattle.qc_net.specs.Messages.{Backed}
 use Rattle.qc_net.specs.Sites.{IsHeld}
 use Rattle.qc_net.proofs.Held.{given_keeps, lock_given_here, own_given_here}

@@ -1,8 +1,10 @@
 pub mod Mailed
 pub mod Accounts
+pub mod Counting
 pub mod Grounds
 pub mod Lengths
 pub mod SiteMoves
+pub mod SiteLocks
 pub mod NetHolds
 pub mod Room
 pub mod Requests
@@ -16,5 +18,6 @@ pub mod Against
 pub mod Counted
 pub mod HeldLaw
 pub mod ClosedLogs
+pub mod DueStamps
 pub mod ClockLaw
 pub mod SiteClocks

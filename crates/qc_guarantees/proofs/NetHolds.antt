@@ -35,7 +35,8 @@ use Rattle.qc_net.specs.Net as nets
 use Rattle.qc_net.proofs.Frames.{put_one, slice_get-append}
 use Rattle.qc_net.proofs.Posts.{Place, placed}
 use Rattle.qc_net.proofs.Refining.{refines}
-use Rattle.qc_guarantees.proofs.SiteMoves.{Asks, EndsBy, IsAnsweringTo, IsFull, answers_requests, granted_is_held, held_stays, locks_were_asked}
+use Rattle.qc_guarantees.proofs.SiteLocks.{Asks, locks_were_asked}
+use Rattle.qc_guarantees.proofs.SiteMoves.{EndsBy, IsAnsweringTo, IsFull, answers_requests, granted_is_held, held_stays}
 
 -- no actor is a site and a client
 pub both : (decl : Declaration) (a : ℕ) → is_site decl a ≡ true → is_client decl a ≡ true → ⊥

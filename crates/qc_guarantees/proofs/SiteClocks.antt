@@ -1,5 +1,5 @@
 -- A site's clock has passed all lines that it knows, and each Done that it wrote.
-use Rattle.std.proofs.Common.{◌≡◌, ◌⊎◌, ◌<◌, ◌≤◌, ◌&&◌, not, ℕ, max, Bool, true, false, cond, List, [], ◌∷◌, ◌++◌, inl, inr, Option, Some, None, is_some, slice_get, refl, sym, ap, ◌∙◌, subst, arith, ltb-true}
+use Rattle.std.proofs.Common.{◌≡◌, ◌⊎◌, ◌≤◌, ◌&&◌, not, ℕ, max, Bool, true, false, cond, List, [], ◌∷◌, ◌++◌, inl, inr, Some, is_some, slice_get, refl, sym, ap, ◌∙◌, subst, arith, ltb-true}
 use Rattle.std.specs.Prelude.{fold}
 use Rattle.std.specs.List.{flat_map}
 use Rattle.qc_stamp.specs.declared.stamp.Stamp.{Stamp}
@@ -27,7 +27,7 @@ use Rattle.qc_msg.specs.declared.step.Given.TheVariants as given
 use Rattle.qc_msg.specs.Deeds.{Deed, Takes, Writes, Sends, Tells, deeds, turn_deeds}
 use Rattle.qc_msg.specs.Steps.{Entry}
 use Rattle.qc_promise.specs.SiteClocks.{clock_shown, clocks_at, clocks_in}
-use Rattle.qc_promise.specs.SiteDue.{AreDue, IsDueAt, IsDueOrOpen, is_declared, outcome_written, promise_written, records_by, records_due, refusal_due, request_written, want_written}
+use Rattle.qc_promise.specs.SiteDue.{AreDue, IsDueAt, IsDueOrOpen, is_declared, outcome_written, records_by, records_due, refusal_due, request_written, want_written}
 use Rattle.qc_promise.specs.SiteLogs.{log_shown}
 use Rattle.qc_promise.specs.SitePosts.{written_next}
 use Rattle.qc_promise.specs.SitePromises.{is_promised}

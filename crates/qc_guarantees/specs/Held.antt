@@ -25,7 +25,8 @@ pub record IsGrantedSince (ds : List Deed) (tx : TxId) (want : Want) : Type 0 wh
   pub since : List Deed
   pub stands : ds ≡ before ++ Takes (Got request) ∷ since
   pub granted : is_granted request.number since ≡ true
-  pub undecided : (e : Envelope) (stamp : Stamp) → In (Takes (Got e)) since → e.message ≡ Decision tx (Committed stamp) → ⊥
+  pub undecided : (e : Envelope) (stamp : Stamp) → In (Takes (Got e)) since
+      → e.message ≡ Decision tx (Committed stamp) → ⊥
 
 -- what a transaction holds has what the request wants: the lock of a Read, the own lines of an Append
 abbrev pub HasWanted : Held → Want → Type 0

@@ -15,7 +15,8 @@ pub record IsOpenVote (d : Account) (q : ClientRequest) : Type 0 where
   pub want : q.want ≡ Prepare
   pub untaken : q.taken ≡ None
 
--- the transaction holds something at the site whose deeds these are, and what the site would promise of it fits a record
+-- the transaction holds something at the site whose deeds these are, and what the site would promise of it fits a
+-- record
 pub record IsRemembered (ds : List Deed) (tx : TxId) : Type 0 where
   pub held : is_held (held_shown ds) tx ≡ true
   pub fits : fits_record (promise_due ds tx) ≡ true

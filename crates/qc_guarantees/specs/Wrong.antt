@@ -2,11 +2,8 @@
 use Rattle.std.specs.Prelude.{List, [], ◌∷◌, ◌++◌}
 use Rattle.qc_stamp.specs.declared.stamp.TxId.{TxId}
 use Rattle.qc_entry.specs.declared.line.OwnLine.{OwnLine}
-use Rattle.qc_entry.specs.declared.line.ReadLock.{ReadLock}
 use Rattle.qc_lock.specs.declared.held.Held.{Held}
 use Rattle.qc_msg.specs.declared.message.Answer.TheVariants.{Clash, Granted}
-use Rattle.qc_msg.specs.declared.message.Envelope.{Envelope}
-use Rattle.qc_msg.specs.declared.message.Message.{Message}
 use Rattle.qc_msg.specs.declared.message.Message.TheVariants.{Answer, Decision, Request}
 use Rattle.qc_msg.specs.declared.message.Outcome.TheVariants.{Aborted}
 use Rattle.qc_msg.specs.declared.message.Want.TheVariants.{Read}

@@ -18,7 +18,8 @@
 //!    object before it on which its invocation depends
 //!    (`granted_logs_are_closed`).
 //! 5. The definitions refuse sites that forget (`forgetful_sites_are_refused`,
-//!    `lost_locks_are_refused`).
+//!    `lost_locks_are_refused`) and clocks that don't count
+//!    (`uncounted_clocks_are_refused`).
 #![tactic(auto)]
 
 mod clocks;
@@ -29,4 +30,6 @@ mod wrong;
 pub use clocks::{sites_clocks_pass_what_they_have, stamps_pass_what_was_counted};
 pub use holdings::{granted_items_are_held, granted_logs_are_closed};
 pub use votes::{asked_sites_remember, votes_are_never_stale};
-pub use wrong::{forgetful_sites_are_refused, lost_locks_are_refused};
+pub use wrong::{
+    forgetful_sites_are_refused, lost_locks_are_refused, uncounted_clocks_are_refused,
+};

@@ -3,8 +3,10 @@
 
 ghost use Rattle.std.specs.Prelude.{[], ◌∷◌};
 ghost use Rattle.qc_lock.specs.Held.{held_of};
-ghost use Rattle.qc_msg.specs.declared.message.Want.TheVariants.{Append, Read};
+ghost use Rattle.qc_msg.specs.declared.message.Answer.TheVariants.{Granted, Stale, Yes};
+ghost use Rattle.qc_msg.specs.declared.message.Want.TheVariants.{Append, Prepare, Read};
 ghost use Rattle.qc_promise.specs.SiteHeld.{held_shown};
+ghost use Rattle.qc_guarantees.specs.Clocks.{Tells};
 ghost use Rattle.qc_guarantees.specs.Held.{HasWanted};
 ghost use Rattle.qc_guarantees.specs.Votes.{IsRemembered};
 ghost use Rattle.qc_guarantees.specs.Wrong.{ended, granted, line, locked, refused, tx};
@@ -25,4 +27,13 @@ pub fn lost_locks_are_refused()
     ensures ended { HasWanted (held_of (held_shown ended) tx) (Read 0 0) → ⊥ }
     ensures refused { HasWanted (held_of (held_shown refused) tx) (Read 0 0) → ⊥ }
     ensures own { HasWanted locked (Append 0 [] (line ∷ [])) → ⊥ }
+{}
+
+/// A grant tells its clock to who asked for a Read, and not to who asked for a
+/// promise; a promise only to that one; and a refusal tells none.
+pub fn uncounted_clocks_are_refused()
+    ensures kept { Tells 5 (Read 0 0) (Granted 1 5 []) }
+    ensures grant { Tells 5 Prepare (Granted 1 5 []) → ⊥ }
+    ensures promise { Tells 5 (Read 0 0) (Yes 5) → ⊥ }
+    ensures refusal { Tells 5 Prepare Stale → ⊥ }
 {}
