@@ -10,6 +10,8 @@ seen is this program's own, some 17 MB. Cases:
 - begins: one phase of N commands `c0 begin` over @one, of which all but the first are refused;
 - load: transactions that write, read and commit over @three, one a phase, of three clients in turn; beside them
   load_walk.rs, compiled with `rustc -O`: a plain program for the same transactions without links, refusals and proofs;
+- messages: transactions of 16 reads over @three that are given up, of one client, where no log grows: so many messages;
+  also behind rules of links, each for a message of its own, none of them sent; and until the limit of steps;
 - triples: `check` of six types with 64 groups of 1,024 triples each, those of a group all equal;
 - start: `check @one`.
 
@@ -25,11 +27,14 @@ import tempfile
 
 sys.dont_write_bytecode = True
 
-from runs import load
+from runs import load, reads
 
 ROOT = os.path.dirname(os.path.dirname(os.path.abspath(__file__)))
 BEGINS = (25_000, 50_000, 100_000)
 TRANSACTIONS = (125, 250, 500)
+MESSAGES = (25_000, 50_000, 100_000)
+RULES = 35_000
+PAST_THE_LIMIT = 110_000
 SEED = 7
 NOTHING = "python3 -c pass"
 
@@ -53,13 +58,18 @@ def equal_triples():
     return "\n".join(lines) + "\n"
 
 
-def run(words):
-    """The processor seconds, the peak memory in KB and the status of one run."""
+def rules(count):
+    """Rules of links, each for a message of its own between two clients, who send each other nothing."""
+    return "".join("link c1 c2 %d drop\n" % ordinal for ordinal in range(1, count + 1))
+
+
+def run(words, wanted=0):
+    """The processor seconds and the peak memory in KB of one run, which has to end with this status."""
     child = subprocess.Popen(words, stdout=subprocess.DEVNULL, stderr=subprocess.PIPE)
     told = child.stderr.read().decode(errors="replace")
     _, status, usage = os.wait4(child.pid, 0)
     child.returncode = os.waitstatus_to_exitcode(status)
-    if child.returncode != 0:
+    if child.returncode != wanted:
         sys.exit("status %d of %s: %s" % (child.returncode, " ".join(words), told.strip()))
     return usage.ru_utime + usage.ru_stime, usage.ru_maxrss
 
@@ -83,6 +93,12 @@ def cases(program, folder):
         text = "\n".join(load(count, SEED)) + "\n"
         words["load %d" % count] = [program, "run", "@three", written(folder, "load_%d" % count, text)]
     words["walk 500"] = [walk, "500", str(SEED)]
+    for count in (*MESSAGES, PAST_THE_LIMIT):
+        text = "\n".join(reads(count)) + "\n"
+        name = "step limit" if count == PAST_THE_LIMIT else "%d messages" % count
+        words[name] = [program, "run", "@three", written(folder, "reads_%d" % count, text)]
+    text = rules(RULES) + "\n".join(reads(MESSAGES[-1])) + "\n"
+    words["messages, rules"] = [program, "run", "@three", written(folder, "rules", text)]
     words["triples"] = [program, "check", written(folder, "triples.toml", equal_triples())]
     return words
 
@@ -92,7 +108,7 @@ def measure(words, runs):
     seen = {name: [] for name in words}
     for _ in range(runs):
         for name in words:
-            seen[name].append(run(words[name]))
+            seen[name].append(run(words[name], 7 if name == "step limit" else 0))
     return {name: tuple(statistics.median(part) for part in zip(*seen[name])) for name in seen}
 
 
@@ -107,6 +123,12 @@ def bars(found):
     yield "KB a step, of %d" % steps, found["100000 begins"][1] / steps, 1
     yield "load 500 / load 250", seconds["load 500"] / seconds["load 250"], 5
     yield "load 500 / walk 500", seconds["load 500"] / seconds["walk 500"], 2
+    for count in MESSAGES[:-1]:
+        ratio = seconds["%d messages" % (2 * count)] / seconds["%d messages" % count]
+        yield "%d messages / %d messages" % (2 * count, count), ratio, 2.3
+    yield "%d rules more, s" % RULES, seconds["messages, rules"] - seconds["%d messages" % MESSAGES[-1]], 1
+    yield "step limit, s", seconds["step limit"], 2
+    yield "step limit, MB", found["step limit"][1] / 1024, 512
     yield "triples, s", seconds["triples"], 1
     yield "start, ms", 1e3 * seconds["start"], 2
 
