@@ -1,0 +1,5 @@
+pub mod Machine
+pub mod Stands
+pub mod Begun
+pub mod Moments
+pub mod Live

@@ -1,0 +1,2 @@
+//! The order of dependent operations in every run of a script.
+#![tactic(auto)]
