@@ -25,7 +25,7 @@ use Rattle.qc_msg.specs.Steps.{Entry, marked}
 use Rattle.qc_msg.proofs.Growth.{deeds-append}
 use Rattle.qc_onecopy.specs.Executed.{Executed, committed_line, depends_at, own_line}
 use Rattle.qc_onecopy.specs.Logged.{IsLogged, IsOperation, event_at}
-use Rattle.qc_onecopy.proofs.Lists.{in_split, map_in}
+use Rattle.qc_onecopy.proofs.Lists.{Mapped, in_split, map_in}
 use Rattle.qc_onecopy.proofs.Runs.{table_is}
 use Rattle.qc_promise.specs.Account.{Account, Current, new_account, view_of}
 use Rattle.qc_promise.specs.Accounting.{account, account_at}
@@ -143,6 +143,7 @@ module _ (decl : Declaration) (accepted : IsAccepted decl) (acts : List Act) (ru
           | inr p ↦ absurd (no_outcome ((state acts).status t.tx) l.active (Some p.stamp) p.outcome)
         ]
       where
+        v : Mapped op_of op ((state acts).executed t.tx)
         v = map_in op_of op ((state acts).executed t.tx) (subst (In op) l.ops among)
 
         u : IsOperationOf d.tx line.op line.object line.event
@@ -174,6 +175,7 @@ module _ (decl : Declaration) (accepted : IsAccepted decl) (acts : List Act) (ru
           | inr p ↦ passed p
         ]
       where
+        v : Mapped op_of op ((state acts).executed d.tx)
         v = map_in op_of op ((state acts).executed d.tx) (subst (In op) (committed_ops d hd) among)
 
         u : IsOperationOf t.tx number object number_of_event
@@ -203,17 +205,14 @@ module _ (decl : Declaration) (script : Script) (accepted : IsAccepted decl) (so
   due_there : (before : List Entry) (a : ℕ) (c : CommitRecord) (after : List Entry) → h ≡ before ++ wrote a c ∷ after → is_client decl a ≡ true → IsDueThere before a c
   due_there before a c after is client = by (has_entry (IsLawful decl) decl script h open_inputs run a (ltb-true a (actors decl) (and_second (nat_le decl.sites a) (nat_lt a (actors decl)) client)))
     where
-      abbrev rest : List Deed
-      rest = deeds a (mail before ++ option_to_list (envelope_of (wrote a c))) after
-
-      parts : deeds a [] h ≡ deeds a [] before ++ Writes (records.Commit c) ∷ rest
-      parts = ap (deeds a []) is ∙ deeds-append a [] before (wrote a c ∷ after) ∙ ap (λ (b : Bool). deeds a [] before ++ (cond b (Writes (records.Commit c) ∷ []) [] ++ rest)) (eq-eqb a a refl)
+      parts : deeds a [] h ≡ deeds a [] before ++ Writes (records.Commit c) ∷ deeds a (mail before ++ option_to_list (envelope_of (wrote a c))) after
+      parts = ap (deeds a []) is ∙ deeds-append a [] before (wrote a c ∷ after) ∙ ap (λ (b : Bool). deeds a [] before ++ (cond b (Writes (records.Commit c) ∷ []) [] ++ deeds a (mail before ++ option_to_list (envelope_of (wrote a c))) after)) (eq-eqb a a refl)
 
       by : (t : Bool) × (slice_get open_inputs a ≡ Some t) → IsDueThere before a c
       by slot =
           let acts : ActsIn decl a h slot.0 = run_acts decl script h open_inputs run a slot.0 slot.1 in
           let due : AreDeedsDue decl (new_account (a - decl.sites)) (deeds a [] h) = clients_due decl a client (deeds a [] h) slot.0 acts.above acts.acts in
-          let it : IsDeedDue decl (account decl a before) (Writes (records.Commit c)) = due_at decl (deeds a [] before) (Writes (records.Commit c)) rest (new_account (a - decl.sites)) (subst (AreDeedsDue decl (new_account (a - decl.sites))) parts due) in
+          let it : IsDeedDue decl (account decl a before) (Writes (records.Commit c)) = due_at decl (deeds a [] before) (Writes (records.Commit c)) (deeds a (mail before ++ option_to_list (envelope_of (wrote a c))) after) (new_account (a - decl.sites)) (subst (AreDeedsDue decl (new_account (a - decl.sites))) parts due) in
           let b = begun_of (account decl a before) c.stamp c it.1 in
           record { t = b.0; begun = b.1; tx = b.2; ops = b.3; stamp = ap (λ (s : Stamp). s.clock) (due_stamp decl (account decl a before) c.stamp it.0) }
 
@@ -228,58 +227,62 @@ module _ (decl : Declaration) (script : Script) (accepted : IsAccepted decl) (so
     mine = let both : Some at.t ≡ Some t = sym at.begun ∙ k.begun in cc
 
     -- the writer's record was there
+
+    abbrev early : Refines decl (stood decl script accepted sound k.before m.open_inputs m.run).net
+    early = mirror decl script accepted sound k.before m.open_inputs m.run
+
+    seen : In d.logged.commit (written k.before) → In line (view_of t op.object) × (line.stamp.clock ≤ (account decl k.actor k.before).clock)
+    seen among = reader_sees decl accepted early.acts early.run early.plain t (account decl k.actor k.before).clock
+        (live decl script accepted sound k.before m.open_inputs m.run k.actor (writer decl script accepted sound k.before k.actor c m) m.taken t k.begun)
+        d.logged.commit (early.agrees.records d.logged.commit (subst (In d.logged.commit) (sym (stood decl script accepted sound k.before m.open_inputs m.run).written_is) among))
+        (λ x. d.apart (d.logged.named ∙ x ∙ sym (at.tx ∙ ap (λ (y : Current). y.tx) mine)))
+        op line (subst (In op) (at.ops ∙ ap (λ (y : Current). y.ops) mine) d.operation) d.logged.stamped d.logged.named d.logged.operation d.on d.depends
+
     was_there : In d.logged.commit (written k.before) → IsOrdered (view_of t op.object) line c.stamp
-    was_there among = inl (record { seen = r.0; before = (let low : line.stamp.clock ≤ (account decl k.actor k.before).clock = r.1 in let next : c.stamp.clock ≡ (account decl k.actor k.before).clock + 1 = at.stamp in omega arith) })
-      where
-        abbrev now : Refines decl (stood decl script accepted sound k.before m.open_inputs m.run).net
-        now = mirror decl script accepted sound k.before m.open_inputs m.run
-
-        listed : In d.logged.commit (state now.acts).records
-        listed = now.agrees.records d.logged.commit (subst (In d.logged.commit) (sym (stood decl script accepted sound k.before m.open_inputs m.run).written_is) among)
-
-        r : In line (view_of t op.object) × (line.stamp.clock ≤ (account decl k.actor k.before).clock)
-        r = reader_sees decl accepted now.acts now.run now.plain t (account decl k.actor k.before).clock
-            (live decl script accepted sound k.before m.open_inputs m.run k.actor (writer decl script accepted sound k.before k.actor c m) m.taken t k.begun)
-            d.logged.commit listed (λ x. d.apart (d.logged.named ∙ x ∙ sym (at.tx ∙ ap (λ (y : Current). y.tx) mine)))
-            op line (subst (In op) (at.ops ∙ ap (λ (y : Current). y.ops) mine) d.operation) d.logged.stamped d.logged.named d.logged.operation d.on d.depends
+    was_there among =
+        let r : In line (view_of t op.object) × (line.stamp.clock ≤ (account decl k.actor k.before).clock) = seen among in
+        let low : line.stamp.clock ≤ (account decl k.actor k.before).clock = r.1 in
+        let next : c.stamp.clock ≡ (account decl k.actor k.before).clock + 1 = at.stamp in
+        inl (record { seen = r.0; before = omega arith })
 
     -- it was written later
-    came_later : In d.logged.commit (written k.after) → IsOrdered (view_of t op.object) line c.stamp
-    came_later among = inr (let low : c.stamp.clock ≤ (account decl w.actor before).clock = r in let next : d.logged.commit.stamp.clock ≡ (account decl w.actor before).clock + 1 = there.stamp in let clocks : line.stamp.clock ≡ d.logged.commit.stamp.clock = ap (λ (s : Stamp). s.clock) d.logged.stamped in omega arith)
-      where
-        w : IsWrittenIn k.after d.logged.commit
-        w = written_in k.after d.logged.commit among
 
-        abbrev before : List Entry
-        before = k.before ++ wrote k.actor c ∷ w.before
+    module _ (w : IsWrittenIn k.after d.logged.commit) where
+      abbrev until : List Entry
+      until = k.before ++ wrote k.actor c ∷ w.before
 
-        stands : h ≡ (k.before ++ wrote k.actor c ∷ w.before) ++ wrote w.actor d.logged.commit ∷ w.after
-        stands = k.stands ∙ ap (λ (x : List Entry). k.before ++ wrote k.actor c ∷ x) w.stands ∙ sym (append_assoc k.before (wrote k.actor c ∷ w.before) (wrote w.actor d.logged.commit ∷ w.after))
+      stands : h ≡ until ++ wrote w.actor d.logged.commit ∷ w.after
+      stands = k.stands ∙ ap (λ (x : List Entry). k.before ++ wrote k.actor c ∷ x) w.stands ∙ sym (append_assoc k.before (wrote k.actor c ∷ w.before) (wrote w.actor d.logged.commit ∷ w.after))
 
-        n : Moment decl script before w.actor d.logged.commit
-        n = moment decl script h open_inputs run before w.actor d.logged.commit w.after stands
+      n : Moment decl script until w.actor d.logged.commit
+      n = moment decl script h open_inputs run until w.actor d.logged.commit w.after stands
 
-        there : IsDueThere before w.actor d.logged.commit
-        there = due_there before w.actor d.logged.commit w.after stands (writer decl script accepted sound before w.actor d.logged.commit n)
+      there : IsDueThere until w.actor d.logged.commit
+      there = due_there until w.actor d.logged.commit w.after stands (writer decl script accepted sound until w.actor d.logged.commit n)
 
-        abbrev now : Refines decl (stood decl script accepted sound before n.open_inputs n.run).net
-        now = mirror decl script accepted sound before n.open_inputs n.run
+      abbrev late : Refines decl (stood decl script accepted sound until n.open_inputs n.run).net
+      late = mirror decl script accepted sound until n.open_inputs n.run
 
-        written_before : In c (written before)
-        written_before = subst (In c) (sym (filter_map-append (λ (e : Entry). commit_in e.step) k.before (wrote k.actor c ∷ w.before))) (In-second c (written k.before) (c ∷ written w.before) (inl refl))
+      written_before : In c (written until)
+      written_before = subst (In c) (sym (filter_map-append (λ (e : Entry). commit_in e.step) k.before (wrote k.actor c ∷ w.before))) (In-second c (written k.before) (c ∷ written w.before) (inl refl))
 
-        listed : In c (state now.acts).records
-        listed = now.agrees.records c (subst (In c) (sym (stood decl script accepted sound before n.open_inputs n.run).written_is) written_before)
+      passes : c.stamp.clock ≤ (account decl w.actor until).clock
+      passes = writer_passes decl accepted late.acts late.run late.plain there.t (account decl w.actor until).clock
+          (live decl script accepted sound until n.open_inputs n.run w.actor (writer decl script accepted sound until w.actor d.logged.commit n) n.taken there.t there.begun)
+          c (late.agrees.records c (subst (In c) (sym (stood decl script accepted sound until n.open_inputs n.run).written_is) written_before))
+          (λ x. d.apart (d.logged.named ∙ there.tx ∙ sym x))
+          op line.op line.object line.event d.operation (subst (λ (os : List Op). IsOperation decl os line.op line.object line.event) there.ops d.logged.operation) d.on d.depends
 
-        r : c.stamp.clock ≤ (account decl w.actor before).clock
-        r = writer_passes decl accepted now.acts now.run now.plain there.t (account decl w.actor before).clock
-            (live decl script accepted sound before n.open_inputs n.run w.actor (writer decl script accepted sound before w.actor d.logged.commit n) n.taken there.t there.begun)
-            c listed (λ x. d.apart (d.logged.named ∙ there.tx ∙ sym x))
-            op line.op line.object line.event d.operation (subst (λ (os : List Op). IsOperation decl os line.op line.object line.event) there.ops d.logged.operation) d.on d.depends
+      pub came_later : IsOrdered (view_of t op.object) line c.stamp
+      came_later =
+          let low : c.stamp.clock ≤ (account decl w.actor until).clock = passes in
+          let next : d.logged.commit.stamp.clock ≡ (account decl w.actor until).clock + 1 = there.stamp in
+          let clocks : line.stamp.clock ≡ d.logged.commit.stamp.clock = ap (λ (s : Stamp). s.clock) d.logged.stamped in
+          inr (omega arith)
 
     pub ordered : IsOrdered (view_of t op.object) line c.stamp
     ordered = elim (in_split d.logged.commit (written k.before) (c ∷ written k.after) (subst (In d.logged.commit) (ap written k.stands ∙ filter_map-append (λ (e : Entry). commit_in e.step) k.before (wrote k.actor c ∷ k.after)) d.logged.listed)) [
-      | inl early ↦ was_there early
+      | inl old ↦ was_there old
       | inr (inl same) ↦ absurd (d.apart (d.logged.named ∙ ap (λ (x : CommitRecord). x.tx) same))
-      | inr (inr late) ↦ came_later late
+      | inr (inr more) ↦ came_later (written_in k.after d.logged.commit more)
     ]

@@ -3,3 +3,4 @@ pub mod Stands
 pub mod Begun
 pub mod Moments
 pub mod Live
+pub mod Law
