@@ -233,7 +233,7 @@ module _ (decl : Declaration) (script : Script) (accepted : IsAccepted decl) (so
 
     seen : In d.logged.commit (written k.before) → In line (view_of t op.object) × (line.stamp.clock ≤ (account decl k.actor k.before).clock)
     seen among = reader_sees decl accepted early.acts early.run early.plain t (account decl k.actor k.before).clock
-        (live decl script accepted sound k.before m.open_inputs m.run k.actor (writer decl script accepted sound k.before k.actor c m) m.taken t k.begun)
+        (live decl script accepted sound k.before m.open_inputs m.run k.actor (writer decl script accepted sound k.before k.actor c m) (true, m.taken) t k.begun)
         d.logged.commit (early.agrees.records d.logged.commit (subst (In d.logged.commit) (sym (stood decl script accepted sound k.before m.open_inputs m.run).written_is) among))
         (λ x. d.apart (d.logged.named ∙ x ∙ sym (at.tx ∙ ap (λ (y : Current). y.tx) mine)))
         op line (subst (In op) (at.ops ∙ ap (λ (y : Current). y.ops) mine) d.operation) d.logged.stamped d.logged.named d.logged.operation d.on d.depends
@@ -268,7 +268,7 @@ module _ (decl : Declaration) (script : Script) (accepted : IsAccepted decl) (so
 
       passes : c.stamp.clock ≤ (account decl w.actor until).clock
       passes = writer_passes decl accepted late.acts late.run late.plain there.t (account decl w.actor until).clock
-          (live decl script accepted sound until n.open_inputs n.run w.actor (writer decl script accepted sound until w.actor d.logged.commit n) n.taken there.t there.begun)
+          (live decl script accepted sound until n.open_inputs n.run w.actor (writer decl script accepted sound until w.actor d.logged.commit n) (true, n.taken) there.t there.begun)
           c (late.agrees.records c (subst (In c) (sym (stood decl script accepted sound until n.open_inputs n.run).written_is) written_before))
           (λ x. d.apart (d.logged.named ∙ there.tx ∙ sym x))
           op line.op line.object line.event d.operation (subst (λ (os : List Op). IsOperation decl os line.op line.object line.event) there.ops d.logged.operation) d.on d.depends

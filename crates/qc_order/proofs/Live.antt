@@ -1,6 +1,6 @@
--- Of a client with an open input that has begun a transaction: the machine's transaction is live, has the same operations, and
+-- Of a client that has begun a transaction, with an open input or without: the machine's transaction is live, has the same operations, and
 -- what its counted grants showed stands in the account's view; the account's clock has passed the machine's.
-use Rattle.std.proofs.Common.{◌≡◌, ◌⊎◌, ◌≤◌, ◌<◌, ℕ, ◌-◌, Bool, true, List, [], ◌∷◌, inl, inr, map, Option, Some, None, slice_get, refl, sym, ap, ◌∙◌, subst, arith}
+use Rattle.std.proofs.Common.{◌≡◌, ◌⊎◌, ◌≤◌, ◌<◌, ℕ, ◌-◌, Bool, true, false, List, [], ◌∷◌, inl, inr, map, Option, Some, None, slice_get, refl, sym, ap, ◌∙◌, subst, arith}
 use Rattle.qc_stamp.specs.declared.stamp.Stamp.{Stamp}
 use Rattle.qc_stamp.specs.declared.stamp.TxId.{TxId}
 use Rattle.qc_list.specs.Members.{In}
@@ -10,7 +10,7 @@ use Rattle.qc_core.specs.Conduct.{IsLawful}
 use Rattle.qc_decl.specs.declared.declaration.Declaration.{Declaration}
 use Rattle.qc_decl.specs.Accepted.{IsAccepted}
 use Rattle.qc_decl.specs.Actors.{is_client}
-use Rattle.qc_msg.specs.Deeds.{Takes}
+use Rattle.qc_msg.specs.Deeds.{Takes, deeds}
 use Rattle.qc_msg.specs.Steps.{Entry}
 use Rattle.qc_commit.specs.declared.desk.Voting.{Voting}
 use Rattle.qc_front.specs.declared.transaction.Transaction.{Transaction}
@@ -18,7 +18,11 @@ use Rattle.qc_front.specs.Answering.{view_log}
 use Rattle.qc_client.specs.declared.client.Client.{Client}
 use Rattle.qc_promise.specs.Account.{Account, Current, view_of}
 use Rattle.qc_promise.specs.Accounting.{account, account_taken}
+use Rattle.qc_account.specs.Ties.{Ties}
 use Rattle.qc_account.specs.Told.{IsBegun}
+use Rattle.qc_account.proofs.Courses.{clients_tied}
+use Rattle.qc_laws.proofs.Acted.{run_acts}
+use Rattle.qc_laws.specs.Turns.{ActsIn}
 use Rattle.qc_protocol.specs.Acts.{state}
 use Rattle.qc_protocol.specs.Guards.{IsShown, op_of}
 use Rattle.qc_protocol.specs.State.{Aborted, Active, State, Status}
@@ -64,15 +68,41 @@ module _ (decl : Declaration) (script : Script) (accepted : IsAccepted decl) (so
   abbrev pub mirror : Refines decl stood.net
   mirror = refines decl accepted stood.net stood.reached
 
-  module _ (a : ℕ) (client : is_client decl a ≡ true) (taken : slice_get open_inputs a ≡ Some true) (t : Current) (begun : (account decl a h).current ≡ Some t) where
-    o : OpenClient decl script (stood.net.clients a) a h
-    o = (stood.clients_are a client).opened taken
+  -- the client is tied to its account, now or before its open input
+  record IsTiedTo (a : ℕ) (t : Current) : Type 0 where
+    pub was : Account
+    pub tied : Ties decl was (stood.net.clients a)
+    pub begun : WasBegun was.current t
+    pub rises : was.clock ≤ (account decl a h).clock
 
-    abbrev c : Client
-    c = stood.net.clients a
+  tied_to : (a : ℕ) → is_client decl a ≡ true → (b : Bool) → slice_get open_inputs a ≡ Some b → (t : Current) → (account decl a h).current ≡ Some t → IsTiedTo a t
+  tied_to a client true slot t is =
+      let o : OpenClient decl script (stood.net.clients a) a h = (stood.clients_are a client).opened slot in
+      record {
+        was = o.was;
+        tied = o.tied;
+        begun = taken_kept o.was o.given t (subst (λ (d : Account). d.current ≡ Some t) o.now_is is);
+        rises = (
+          let rises : o.was.clock ≤ (account_taken o.was o.given).clock = clock_rises decl (Takes o.given ∷ []) o.was (tt, tt) in
+          let now : (account decl a h).clock ≡ (account_taken o.was o.given).clock = ap (λ (d : Account). d.clock) o.now_is in
+          omega arith
+        );
+      }
+  tied_to a client false slot t is =
+      let acts : ActsIn decl a h false = run_acts decl script h open_inputs run a false slot in
+      record {
+        was = account decl a h;
+        tied = subst (Ties decl (account decl a h)) (sym ((stood.clients_are a client).closed slot)) (clients_tied decl a client (deeds a [] h) acts.above acts.acts);
+        begun = record { old = t; was = is; tx = refl; ops = refl; view = λ object l among. among };
+        rises = omega arith;
+      }
 
-    w : WasBegun o.was.current t
-    w = taken_kept o.was o.given t (subst (λ (d : Account). d.current ≡ Some t) o.now_is begun)
+  module _ (a : ℕ) (client : is_client decl a ≡ true) (slot : (b : Bool) × (slice_get open_inputs a ≡ Some b)) (t : Current) (begun : (account decl a h).current ≡ Some t) where
+    o : IsTiedTo a t
+    o = tied_to a client slot.0 slot.1 t begun
+
+    abbrev w : WasBegun o.was.current t
+    w = o.begun
 
     k : IsKept o.was (stood.net.clients a) w.old
     k = tied_kept decl o.was (stood.net.clients a) w.old o.tied w.was
@@ -100,8 +130,7 @@ module _ (decl : Declaration) (script : Script) (accepted : IsAccepted decl) (so
         let low : (state mirror.acts).clock (stood.net.clients a).front.client ≤ (stood.net.clients a).front.clock.value = m.own.clock in
         let own : (state mirror.acts).clock t.tx.client ≡ (state mirror.acts).clock (stood.net.clients a).front.client = ap (state mirror.acts).clock client_is in
         let mid : (stood.net.clients a).front.clock.value ≤ o.was.clock = k.clock in
-        let rises : o.was.clock ≤ (account_taken o.was o.given).clock = clock_rises decl (Takes o.given ∷ []) o.was (tt, tt) in
-        let now : (account decl a h).clock ≡ (account_taken o.was o.given).clock = ap (λ (d : Account). d.clock) o.now_is in
+        let rises : o.was.clock ≤ (account decl a h).clock = o.rises in
         omega arith
 
     pub live : Live (state mirror.acts) t (account decl a h).clock
