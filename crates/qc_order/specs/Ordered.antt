@@ -1,5 +1,6 @@
 -- Two committed operations one of which depends on the other: which is stamped first, and what the one had seen.
-use Rattle.std.specs.Prelude.{◌≡◌, ◌≢◌, ℕ, ◌<◌, ◌⊎◌, IsTrue, List, ◌∷◌, ◌++◌, Some}
+use Rattle.std.specs.Prelude.{◌≡◌, ◌≢◌, ℕ, ◌<◌, ◌⊎◌, Bool, IsTrue, List, ◌∷◌, ◌++◌, Some}
+use Rattle.qc_core.specs.Conduct.{IsLawful}
 use Rattle.qc_decl.specs.declared.declaration.Declaration.{Declaration}
 use Rattle.qc_entry.specs.declared.line.Line.{Line}
 use Rattle.qc_entry.specs.declared.line.Op.{Op}
@@ -13,15 +14,25 @@ use Rattle.qc_onecopy.specs.Executed.{depends_at}
 use Rattle.qc_onecopy.specs.Logged.{IsLogged}
 use Rattle.qc_promise.specs.Account.{Current, view_of}
 use Rattle.qc_promise.specs.Accounting.{account}
+use Rattle.qc_script.specs.Runs.{Runs}
+use Rattle.qc_script.specs.declared.script.Script.{Script}
 use Rattle.qc_stamp.specs.declared.stamp.Stamp.{Stamp}
 
--- an actor writes the record, behind these entries, which show that it has begun this transaction
-pub record IsCommitOf (decl : Declaration) (h : List Entry) (c : Commit) (t : Current) : Type 0 where
-  pub before : List Entry
+-- a commit record of a history, and a moment before it, between two turns, at which its client had begun the transaction
+-- and had been told the operation: right behind the operation's reply, or later
+pub record IsToldBy (decl : Declaration) (script : Script) (h : List Entry) (c : Commit) (op : Op) (t : Current)
+    : Type 0 where
+  -- the entries until the moment, which are a run, and those between it and the record
+  pub early : List Entry
+  pub middle : List Entry
+  pub open_inputs : List Bool
+  pub run : Runs (IsLawful decl) decl script early open_inputs
   pub actor : ℕ
   pub after : List Entry
-  pub stands : h ≡ before ++ marked actor (Wrote (records.Commit c)) ∷ after
-  pub begun : (account decl actor before).current ≡ Some t
+  pub stands : h ≡ (early ++ middle) ++ marked actor (Wrote (records.Commit c)) ∷ after
+  pub begun : (account decl actor early).current ≡ Some t
+  pub its : t.tx ≡ c.tx
+  pub told : In op t.ops
 
 -- an operation of the record depends on the event of the line, which is an operation of another transaction's record, on
 -- the same object

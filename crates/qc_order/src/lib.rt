@@ -6,4 +6,4 @@
 
 mod order;
 
-pub use order::dependent_operations_are_ordered;
+pub use order::{dependent_operations_are_ordered, operations_of_records_were_told};

@@ -8,19 +8,31 @@ ghost use Rattle.qc_decl.specs.declared.declaration.Declaration.{Declaration};
 ghost use Rattle.qc_entry.specs.declared.line.Line.{Line};
 ghost use Rattle.qc_entry.specs.declared.line.Op.{Op};
 ghost use Rattle.qc_entry.specs.declared.record.Commit.{Commit};
+ghost use Rattle.qc_list.specs.Members.{In};
+ghost use Rattle.qc_msg.specs.Counts.{written};
 ghost use Rattle.qc_msg.specs.Steps.{Entry};
 ghost use Rattle.qc_promise.specs.Account.{Current, view_of};
 ghost use Rattle.qc_script.specs.Runs.{Runs};
 ghost use Rattle.qc_script.specs.Sound.{IsScriptFor};
 ghost use Rattle.qc_script.specs.declared.script.Script.{Script};
-ghost use Rattle.qc_order.specs.Ordered.{DependsOn, IsCommitOf, IsOrdered};
+ghost use Rattle.qc_order.specs.Ordered.{DependsOn, IsOrdered, IsToldBy};
 
-/// Where a committed operation depends on the event of another transaction's,
-/// its client's view of the object, as it committed, has the line of this,
-/// which has the smaller stamp; or it has the smaller stamp itself.
+/// The ordering lemma: where a committed operation depends on the event of
+/// another transaction's, on the same object, then the client's view of the
+/// object, when it was told the operation, had the line of the other, which has
+/// the smaller stamp; or the operation's own transaction has the smaller stamp
+/// (Herlihy 1986).
 pub fn dependent_operations_are_ordered()
     ensures { (decl : Declaration) (script : Script) (h : List Entry) (open_inputs : List Bool) (c : Commit)
-        (t : Current) (op : Op) (line : Line) → IsAccepted decl → IsScriptFor decl script
-        → Runs (IsLawful decl) decl script h open_inputs → IsCommitOf decl h c t → DependsOn decl h c op line
-        → IsOrdered (view_of t op.object) line c.stamp }
+        (op : Op) (t : Current) (line : Line) → IsAccepted decl → IsScriptFor decl script
+        → Runs (IsLawful decl) decl script h open_inputs → IsToldBy decl script h c op t
+        → DependsOn decl h c op line → IsOrdered (view_of t op.object) line c.stamp }
+{}
+
+/// Each operation of a commit record was told before the record was written: so
+/// the ordering lemma speaks of each.
+pub fn operations_of_records_were_told()
+    ensures { (decl : Declaration) (script : Script) (h : List Entry) (open_inputs : List Bool) (c : Commit)
+        (op : Op) → IsAccepted decl → IsScriptFor decl script → Runs (IsLawful decl) decl script h open_inputs
+        → In c (written h) → In op c.ops → (t : Current) × IsToldBy decl script h c op t }
 {}
