@@ -1,8 +1,11 @@
 pub mod Machine
+pub mod Opened
 pub mod Stands
 pub mod Begun
 pub mod Moments
+pub mod Replies
 pub mod Live
 pub mod DueNumbers
 pub mod Persists
+pub mod Committed
 pub mod Law

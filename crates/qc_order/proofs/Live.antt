@@ -37,7 +37,8 @@ use Rattle.qc_net.proofs.Refining.{refines}
 use Rattle.qc_atomic.proofs.Names.{script_named}
 use Rattle.qc_guarantees.proofs.ClockLaw.{clock_rises}
 use Rattle.qc_order.proofs.Begun.{IsKept, WasBegun, logged, taken_kept, tied_kept}
-use Rattle.qc_order.proofs.Stands.{OpenClient, Stood, runs_stand}
+use Rattle.qc_order.proofs.Opened.{OpenClient, Stood}
+use Rattle.qc_order.proofs.Stands.{runs_stand}
 
 pub record Live (now : State) (t : Current) (clock : ℕ) : Type 0 where
   pub active : (now.status t.tx ≡ Active) ⊎ (now.status t.tx ≡ machine.Voting)

@@ -32,14 +32,15 @@ use Rattle.qc_net.specs.Net.{commits_in}
 use Rattle.qc_atomic.proofs.Names.{script_named}
 use Rattle.qc_atomic.proofs.Posted.{control_writes, taken_writes}
 use Rattle.qc_atomic.proofs.Silent.{site_silent}
-use Rattle.qc_order.proofs.Stands.{OpenSite, Stood, runs_stand}
+use Rattle.qc_order.proofs.Opened.{OpenSite, Stood}
+use Rattle.qc_order.proofs.Stands.{runs_stand}
 
 -- an element of two lists that are appended stands in the first or in the second
-data IsIn {A : Type 0} (xs ys before : List A) (x : A) (after : List A) : Type 0 where
+pub data IsIn {A : Type 0} (xs ys before : List A) (x : A) (after : List A) : Type 0 where
   First : (m : List A) → xs ≡ before ++ x ∷ m → IsIn xs ys before x after
   Second : (m : List A) → before ≡ xs ++ m → ys ≡ m ++ x ∷ after → IsIn xs ys before x after
 
-split : {A : Type 0} (xs ys before : List A) (x : A) (after : List A) → xs ++ ys ≡ before ++ x ∷ after → IsIn xs ys before x after
+pub split : {A : Type 0} (xs ys before : List A) (x : A) (after : List A) → xs ++ ys ≡ before ++ x ∷ after → IsIn xs ys before x after
 split [] ys before x after e = Second before refl e
 split (z ∷ xs) ys [] x after e = First xs (let same : z ≡ x = cc in λ i. same i ∷ xs)
 split (z ∷ xs) ys (w ∷ before) x after e =

@@ -1,5 +1,5 @@
 -- Two committed operations one of which depends on the other: which is stamped first, and what the one had seen.
-use Rattle.std.specs.Prelude.{◌≡◌, ◌≢◌, ℕ, ◌<◌, ◌⊎◌, Bool, IsTrue, List, ◌∷◌, ◌++◌, Some}
+use Rattle.std.specs.Prelude.{◌≡◌, ◌≢◌, ℕ, ◌<◌, ◌⊎◌, Bool, false, IsTrue, List, ◌∷◌, ◌++◌, Some, slice_get}
 use Rattle.qc_core.specs.Conduct.{IsLawful}
 use Rattle.qc_decl.specs.declared.declaration.Declaration.{Declaration}
 use Rattle.qc_entry.specs.declared.line.Line.{Line}
@@ -51,3 +51,9 @@ pub record IsSeenBefore (view : List Line) (line : Line) (stamp : Stamp) : Type 
 -- it is seen before, or it is stamped later
 abbrev pub IsOrdered : List Line → Line → Stamp → Type 0
 IsOrdered view line stamp = IsSeenBefore view line stamp ⊎ (stamp.clock < line.stamp.clock)
+
+-- the entries are a run, in which the actor has no open input
+pub record IsRunWithout (decl : Declaration) (script : Script) (a : ℕ) (h : List Entry) : Type 0 where
+  pub open_inputs : List Bool
+  pub run : Runs (IsLawful decl) decl script h open_inputs
+  pub none : slice_get open_inputs a ≡ Some false

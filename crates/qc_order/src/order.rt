@@ -1,7 +1,7 @@
 //! The order of dependent operations of every run: the contract of a function
 //! with nothing to do.
 
-ghost use Rattle.std.specs.Prelude.{Bool, List};
+ghost use Rattle.std.specs.Prelude.{◌≡◌, ℕ, Bool, List, [], ◌∷◌, ◌++◌};
 ghost use Rattle.qc_core.specs.Conduct.{IsLawful};
 ghost use Rattle.qc_decl.specs.Accepted.{IsAccepted};
 ghost use Rattle.qc_decl.specs.declared.declaration.Declaration.{Declaration};
@@ -10,12 +10,14 @@ ghost use Rattle.qc_entry.specs.declared.line.Op.{Op};
 ghost use Rattle.qc_entry.specs.declared.record.Commit.{Commit};
 ghost use Rattle.qc_list.specs.Members.{In};
 ghost use Rattle.qc_msg.specs.Counts.{written};
-ghost use Rattle.qc_msg.specs.Steps.{Entry};
+ghost use Rattle.qc_msg.specs.declared.reply.Reply.{Reply};
+ghost use Rattle.qc_msg.specs.declared.step.Step.TheVariants.{Told};
+ghost use Rattle.qc_msg.specs.Steps.{Entry, marked};
 ghost use Rattle.qc_promise.specs.Account.{Current, view_of};
 ghost use Rattle.qc_script.specs.Runs.{Runs};
 ghost use Rattle.qc_script.specs.Sound.{IsScriptFor};
 ghost use Rattle.qc_script.specs.declared.script.Script.{Script};
-ghost use Rattle.qc_order.specs.Ordered.{DependsOn, IsOrdered, IsToldBy};
+ghost use Rattle.qc_order.specs.Ordered.{DependsOn, IsOrdered, IsRunWithout, IsToldBy};
 
 /// The ordering lemma: where a committed operation depends on the event of
 /// another transaction's, on the same object, then the client's view of the
@@ -35,4 +37,13 @@ pub fn operations_of_records_were_told()
     ensures { (decl : Declaration) (script : Script) (h : List Entry) (open_inputs : List Bool) (c : Commit)
         (op : Op) → IsAccepted decl → IsScriptFor decl script → Runs (IsLawful decl) decl script h open_inputs
         → In c (written h) → In op c.ops → (t : Current) × IsToldBy decl script h c op t }
+{}
+
+/// A reply ends its turn: the entries up to it are a run, in which its client
+/// has no open input.
+pub fn replies_end_their_turns()
+    ensures { (decl : Declaration) (script : Script) (h : List Entry) (open_inputs : List Bool)
+        (before after : List Entry) (a : ℕ) (reply : Reply) → Runs (IsLawful decl) decl script h open_inputs
+        → h ≡ before ++ marked a (Told reply) ∷ after
+        → IsRunWithout decl script a (before ++ marked a (Told reply) ∷ []) }
 {}
