@@ -1,5 +1,5 @@
 -- Two committed operations one of which depends on the other: which is stamped first, and what the one had seen.
-use Rattle.std.specs.Prelude.{◌≡◌, ◌≢◌, ℕ, ◌<◌, ◌⊎◌, Bool, false, IsTrue, List, ◌∷◌, ◌++◌, Some, slice_get}
+use Rattle.std.specs.Prelude.{◌≡◌, ◌≢◌, ℕ, ◌<◌, ◌⊎◌, Bool, false, IsTrue, List, [], ◌∷◌, ◌++◌, Some, slice_get}
 use Rattle.qc_core.specs.Conduct.{IsLawful}
 use Rattle.qc_decl.specs.declared.declaration.Declaration.{Declaration}
 use Rattle.qc_entry.specs.declared.line.Line.{Line}
@@ -12,7 +12,7 @@ use Rattle.qc_msg.specs.Counts.{written}
 use Rattle.qc_msg.specs.Steps.{Entry, marked}
 use Rattle.qc_onecopy.specs.Executed.{depends_at}
 use Rattle.qc_onecopy.specs.Logged.{IsLogged}
-use Rattle.qc_promise.specs.Account.{Current, view_of}
+use Rattle.qc_promise.specs.Account.{Account, Current, view_of}
 use Rattle.qc_promise.specs.Accounting.{account}
 use Rattle.qc_script.specs.Runs.{Runs}
 use Rattle.qc_script.specs.declared.script.Script.{Script}
@@ -57,3 +57,11 @@ pub record IsRunWithout (decl : Declaration) (script : Script) (a : ℕ) (h : Li
   pub open_inputs : List Bool
   pub run : Runs (IsLawful decl) decl script h open_inputs
   pub none : slice_get open_inputs a ≡ Some false
+
+-- the operation was recorded, and no view has changed: that of its object is the one that it was answered from
+pub record HasRecorded (d : Account) (t : Current) (op : Op) : Type 0 where
+  pub now : Current
+  pub begun : d.current ≡ Some now
+  pub its : now.tx ≡ t.tx
+  pub ops : now.ops ≡ t.ops ++ op ∷ []
+  pub views : (object : ℕ) → view_of now object ≡ view_of t object
