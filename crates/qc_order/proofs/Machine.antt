@@ -10,7 +10,7 @@ use Rattle.qc_entry.specs.declared.line.OwnLine.{OwnLine}
 use Rattle.qc_entry.specs.declared.line.ReadLock.{ReadLock}
 use Rattle.qc_table.specs.declared.kind.Kind.{Kind}
 use Rattle.qc_table.specs.Rules.{events_of}
-use Rattle.qc_plan.specs.Weights.{weight}
+use Rattle.qc_plan.specs.Weights.{IsShared, weight}
 use Rattle.qc_plan.specs.declared.plan.Plan.{Plan}
 use Rattle.qc_decl.specs.declared.declaration.Declaration.{Declaration}
 use Rattle.qc_decl.specs.Accepted.{IsAccepted}
@@ -20,8 +20,8 @@ use Rattle.qc_protocol.specs.Site.{Deed, Grants, Item, LearnsCommit, Lock, Own, 
 use Rattle.qc_protocol.specs.SiteLaws.{SparesUntilDone}
 use Rattle.qc_protocol.specs.State.{Aborted, Granted}
 use Rattle.qc_protocol.specs.Acts.{Act, state}
-use Rattle.qc_protocol.specs.Guards.{HasQuorum, IsRun, read_lock, weights_of}
-use Rattle.qc_protocol.specs.Logs.{IsAnsweredFromQuorum, IsReadBy, LogLaws}
+use Rattle.qc_protocol.specs.Guards.{HasGranted, HasQuorum, IsRun, read_lock, weights_of}
+use Rattle.qc_protocol.specs.Logs.{IsAnsweredFromQuorum, IsReadAt, LogLaws}
 use Rattle.qc_protocol.specs.Plain.{ArePlain, IsFirst}
 use Rattle.qc_protocol.specs.StateLaws.{CountedLaw, HasRisingEpochs, IsOutcome, StateLaws}
 use Rattle.qc_protocol.proofs.Epochs.{rising-left}
@@ -30,7 +30,7 @@ use Rattle.qc_protocol.proofs.LogKeeps.{log_laws}
 use Rattle.qc_protocol.proofs.Order.{between, ended, first_done_recorded, holds_granted, site_laws, spares_front}
 use Rattle.qc_protocol.proofs.Plain.{first}
 use Rattle.qc_protocol.proofs.PlacedOperations.{some_resp}
-use Rattle.qc_protocol.proofs.Quorums.{heavy, number_within, shared}
+use Rattle.qc_protocol.proofs.Quorums.{IsHeavy, heavy, number_within, shared}
 use Rattle.qc_protocol.proofs.SiteOrder.{after_append, held_or_done, held_or_logged, laws_after}
 
 -- two places in one list
@@ -160,24 +160,7 @@ module _ (decl : Declaration) (accepted : IsAccepted decl) (acts : List Act) (ru
   pub ordered_now : (v u : TxId) (dv du : Executed) → In dv ((state acts).executed v) → In du ((state acts).executed u) → IsSome du.op.resp → du.op.object ≡ dv.op.object → u ≢ v
       → (state acts).status v ≢ Aborted → (state acts).status u ≢ Aborted → IsTrue (depends_at decl dv.op.object dv.op.inv du.event) → IsSeen v u dv du ⊎ IsPassed v u
   ordered_now v u dv du hv hu some object ne av au dep =
-      let rv : IsAnsweredFromQuorum decl ((state acts).epoch v) (state acts).counted v dv = ll.right v dv (inl hv) in
-      let ru : IsAnsweredFromQuorum decl ((state acts).epoch u) (state acts).counted u du = ll.right u du (inl hu) in
-      let plan : (plan : Plan) × (plan_in decl ((state acts).epoch v) ≡ Some plan) = wl.planned v (ll.begun v dv (inl hv)) in
-      let kinds : Some ru.answered.kind ≡ Some rv.answered.kind = sym ru.answered.typed ∙ ap (kind_at decl) object ∙ rv.answered.typed in
-      let kind : ru.answered.kind ≡ rv.answered.kind = cc in
-      let resp : (x : ℕ) × (du.op.resp ≡ Some x) = some_resp du.op.resp some in
-      let h = heavy decl accepted ((state acts).epoch v) dv.op.object dv.op.inv du.event rv.answered.kind plan.0 plan.1 rv.answered.typed (rv.known rv.answered.kind rv.answered.typed)
-      (subst (λ (k : Kind). du.event < length (events_of k.table.rows)) kind (number_within ru.answered.kind du.op.inv du.event du.op.resp resp.0 resp.1 ru.answered.numbered)) dep in
-      let writes : HasQuorum decl ((state acts).epoch u) (state acts).counted u (Own (own_line du)) (append_need_of decl ((state acts).epoch u) du.op.object du.event) = ll.written u du hu some in
-      let epochs : (state acts).epoch u ≡ (state acts).epoch v = one.epochs u ∙ sym (one.epochs v) in
-      let enough : append_need_of decl ((state acts).epoch v) dv.op.object du.event ≤ weight writes.sites (weights_of decl ((state acts).epoch v)) =
-      subst (λ (o : ℕ). append_need_of decl ((state acts).epoch v) o du.event ≤ weight writes.sites (weights_of decl ((state acts).epoch v))) object
-      (subst (λ (x : ℕ). append_need_of decl x du.op.object du.event ≤ weight writes.sites (weights_of decl x)) epochs writes.enough) in
-      let site = shared decl accepted ((state acts).epoch v) dv.op.object dv.op.inv du.event rv.met.sites writes.sites h rv.met.enough enough in
-      let gv = rv.met.each site.site site.first in
-      let gu = writes.each site.site site.second in
-      let apart : gu.grant.tx ≢ gv.grant.tx = λ x. ne (sym gu.its ∙ x ∙ gv.its) in
-      elim (site_order gv.grant gu.grant (read_lock dv.op) (own_line du) gv.counts gu.counts (gv.from ∙ sym gu.from) apart
+      elim (site_order gv.grant gu.grant (read_lock dv.op) (own_line du) gv.counts gu.counts (gv.from ∙ sym gu.from) (λ x. ne (sym gu.its ∙ x ∙ gv.its))
       (λ x. av (ap (state acts).status (sym gv.its) ∙ x)) (λ x. au (ap (state acts).status (sym gu.its) ∙ x)) gv.has gu.has (sym object) (subst (λ (o : ℕ). IsTrue (depends_at decl o dv.op.inv du.event)) (sym object) dep)) [
         | inl r ↦ inl (record {
           stamp = r.stamp;
@@ -202,3 +185,42 @@ module _ (decl : Declaration) (accepted : IsAccepted decl) (acts : List Act) (ru
           low = r.low;
         })
       ]
+    where
+      rv : IsAnsweredFromQuorum decl ((state acts).epoch v) (state acts).counted v dv
+      rv = ll.right v dv (inl hv)
+
+      ru : IsAnsweredFromQuorum decl ((state acts).epoch u) (state acts).counted u du
+      ru = ll.right u du (inl hu)
+
+      plan : (plan : Plan) × (plan_in decl ((state acts).epoch v) ≡ Some plan)
+      plan = wl.planned v (ll.begun v dv (inl hv))
+
+      kind : ru.answered.kind ≡ rv.answered.kind
+      kind = let kinds : Some ru.answered.kind ≡ Some rv.answered.kind = sym ru.answered.typed ∙ ap (kind_at decl) object ∙ rv.answered.typed in cc
+
+      resp : (x : ℕ) × (du.op.resp ≡ Some x)
+      resp = some_resp du.op.resp some
+
+      heavy_here : IsHeavy decl accepted ((state acts).epoch v) dv.op.object dv.op.inv du.event
+      heavy_here = heavy decl accepted ((state acts).epoch v) dv.op.object dv.op.inv du.event rv.answered.kind plan.0 plan.1 rv.answered.typed (rv.known rv.answered.kind rv.answered.typed)
+          (subst (λ (k : Kind). du.event < length (events_of k.table.rows)) kind (number_within ru.answered.kind du.op.inv du.event du.op.resp resp.0 resp.1 ru.answered.numbered)) dep
+
+      writes : HasQuorum decl ((state acts).epoch u) (state acts).counted u (Own (own_line du)) (append_need_of decl ((state acts).epoch u) du.op.object du.event)
+      writes = ll.written u du hu some
+
+      epochs : (state acts).epoch u ≡ (state acts).epoch v
+      epochs = one.epochs u ∙ sym (one.epochs v)
+
+      enough : append_need_of decl ((state acts).epoch v) dv.op.object du.event ≤ weight writes.sites (weights_of decl ((state acts).epoch v))
+      enough =
+          subst (λ (o : ℕ). append_need_of decl ((state acts).epoch v) o du.event ≤ weight writes.sites (weights_of decl ((state acts).epoch v))) object
+          (subst (λ (x : ℕ). append_need_of decl x du.op.object du.event ≤ weight writes.sites (weights_of decl x)) epochs writes.enough)
+
+      site : IsShared (weights_of decl ((state acts).epoch v)) rv.met.sites writes.sites
+      site = shared decl accepted ((state acts).epoch v) dv.op.object dv.op.inv du.event rv.met.sites writes.sites heavy_here rv.met.enough enough
+
+      gv : IsReadAt (state acts).counted v site.site dv
+      gv = rv.met.each site.site site.first
+
+      gu : HasGranted (state acts).counted u site.site (Own (own_line du))
+      gu = writes.each site.site site.second
