@@ -1,37 +1,22 @@
 -- Of a live transaction and one that has committed, and of two live ones: what the machine says of their operations, one of which
 -- depends on the other.
-use Rattle.std.proofs.Common.{◌≡◌, ◌≢◌, ◌⊎◌, ◌≤◌, ◌<◌, ◌+◌, ◌-◌, ◌==◌, ◌&&◌, nat_le, nat_lt, ℕ, zero, suc, Bool, true, cond, IsTrue, List, [], ◌∷◌, ◌++◌, inl, inr, length, map, Option, Some, None, IsSome, slice_get, option_map, option_to_list, refl, sym, ap, ◌∙◌, subst, arith, eq-eqb, ltb-true, append_assoc}
-use Rattle.std.specs.Prelude.{fold, option_and_then}
-use Rattle.std.proofs.lemmas.List.{append-nil, length-append}
-use Rattle.std.proofs.lemmas.List.Sums.{fold-append}
-use Rattle.std.proofs.lemmas.List.Elements.{filter_map-append}
+use Rattle.std.proofs.Common.{◌≡◌, ◌≢◌, ◌⊎◌, ◌≤◌, ◌+◌, ℕ, zero, suc, IsTrue, List, [], ◌∷◌, ◌++◌, inl, inr, length, map, Option, Some, IsSome, slice_get, refl, sym, ap, ◌∙◌, subst, arith}
+use Rattle.std.specs.Prelude.{option_and_then}
+use Rattle.std.proofs.lemmas.List.{length-append}
 use Rattle.qc_stamp.specs.declared.stamp.Stamp.{Stamp}
 use Rattle.qc_stamp.specs.declared.stamp.TxId.{TxId}
 use Rattle.qc_list.specs.Members.{In}
-use Rattle.qc_list.proofs.Members.{In-second}
 use Rattle.qc_entry.specs.declared.line.Line.{Line}
 use Rattle.qc_entry.specs.declared.line.Op.{Op}
 use Rattle.qc_entry.specs.declared.record.Commit.{Commit as CommitRecord}
 use Rattle.qc_table.specs.Rules.{Rules, event, event_number, events_of}
-use Rattle.qc_core.specs.Conduct.{IsLawful}
 use Rattle.qc_decl.specs.declared.declaration.Declaration.{Declaration}
 use Rattle.qc_decl.specs.Accepted.{IsAccepted}
-use Rattle.qc_decl.specs.Actors.{actors, is_client}
-use Rattle.qc_msg.specs.declared.record.Record.TheVariants as records
-use Rattle.qc_msg.specs.declared.step.Step.TheVariants as steps
-use Rattle.qc_msg.specs.Counts.{commit_in, written}
-use Rattle.qc_msg.specs.Deeds.{Deed, Writes, deeds, envelope_of, mail}
-use Rattle.qc_msg.specs.Steps.{Entry, marked}
-use Rattle.qc_msg.proofs.Growth.{deeds-append}
 use Rattle.qc_onecopy.specs.Executed.{Executed, committed_line, depends_at, own_line}
-use Rattle.qc_onecopy.specs.Logged.{IsLogged, IsOperation, event_at}
-use Rattle.qc_onecopy.proofs.Lists.{Mapped, in_split, map_in}
+use Rattle.qc_onecopy.specs.Logged.{IsOperation, event_at}
+use Rattle.qc_onecopy.proofs.Lists.{Mapped, map_in}
 use Rattle.qc_onecopy.proofs.Runs.{table_is}
-use Rattle.qc_promise.specs.Account.{Account, Current, new_account, view_of}
-use Rattle.qc_promise.specs.Accounting.{account, account_at}
-use Rattle.qc_promise.specs.Rows.{commit_of}
-use Rattle.qc_account.specs.DeedsDue.{AreDeedsDue, IsDeedDue}
-use Rattle.qc_account.proofs.Courses.{clients_due}
+use Rattle.qc_promise.specs.Account.{Current, view_of}
 use Rattle.qc_protocol.specs.Acts.{Act, state}
 use Rattle.qc_protocol.specs.Guards.{IsLive, IsRun, op_of}
 use Rattle.qc_protocol.specs.Logs.{AreInOrder, LogLaws}
@@ -42,16 +27,6 @@ use Rattle.qc_protocol.specs.StateLaws.{IsOutcome, StateLaws}
 use Rattle.qc_protocol.proofs.Keeps.{laws}
 use Rattle.qc_protocol.proofs.LogKeeps.{log_laws}
 use Rattle.qc_protocol.proofs.Outcomes.{committed_record}
-use Rattle.qc_script.specs.Runs.{Runs}
-use Rattle.qc_script.specs.Sound.{IsScriptFor}
-use Rattle.qc_script.specs.declared.script.Script.{Script}
-use Rattle.qc_laws.proofs.Acted.{has_entry, run_acts}
-use Rattle.qc_laws.specs.Turns.{ActsIn}
-use Rattle.qc_net.specs.Mirrors.{Refines}
-use Rattle.qc_guarantees.proofs.Accounts.{and_second}
-use Rattle.qc_guarantees.proofs.ClockLaw.{clock_rises}
-use Rattle.qc_guarantees.proofs.DueStamps.{due_stamp}
-use Rattle.qc_guarantees.proofs.Requests.{due_at}
 use Rattle.qc_order.proofs.Live.{Live, no_outcome, not_aborted}
 use Rattle.qc_order.proofs.Machine.{IsPassed, IsSeen, ordered_now}
 

@@ -1,48 +1,33 @@
 -- The ordering lemma of every run. If the writer's record was there at the moment, the reader was live in the machine of that moment
 -- and the writer had committed: so the line was in the view. It wasn't written between the moment and the reader's record: both would
 -- have been live. If it was written later, its client's clock had passed the reader's stamp.
-use Rattle.std.proofs.Common.{◌≡◌, ◌≢◌, ◌⊎◌, ◌≤◌, ◌<◌, ◌+◌, ◌-◌, ◌==◌, ◌&&◌, nat_le, nat_lt, ℕ, zero, suc, Bool, true, cond, IsTrue, List, [], ◌∷◌, ◌++◌, inl, inr, length, map, Option, Some, None, IsSome, slice_get, option_map, option_to_list, refl, sym, ap, ◌∙◌, subst, arith, eq-eqb, ltb-true, append_assoc}
-use Rattle.std.specs.Prelude.{fold, option_and_then}
-use Rattle.std.proofs.lemmas.List.{append-nil, length-append}
+use Rattle.std.proofs.Common.{◌≡◌, ◌≢◌, ◌≤◌, ◌<◌, ◌+◌, ◌-◌, nat_le, nat_lt, ℕ, Bool, true, cond, List, [], ◌∷◌, ◌++◌, inl, inr, Option, Some, None, slice_get, option_map, option_to_list, refl, sym, ap, ◌∙◌, subst, arith, eq-eqb, ltb-true, append_assoc}
+use Rattle.std.specs.Prelude.{fold}
+use Rattle.std.proofs.lemmas.List.{append-nil}
 use Rattle.std.proofs.lemmas.List.Sums.{fold-append}
 use Rattle.std.proofs.lemmas.List.Elements.{filter_map-append}
 use Rattle.qc_stamp.specs.declared.stamp.Stamp.{Stamp}
-use Rattle.qc_stamp.specs.declared.stamp.TxId.{TxId}
 use Rattle.qc_list.specs.Members.{In}
 use Rattle.qc_list.proofs.Members.{In-second}
 use Rattle.qc_entry.specs.declared.line.Line.{Line}
 use Rattle.qc_entry.specs.declared.line.Op.{Op}
 use Rattle.qc_entry.specs.declared.record.Commit.{Commit as CommitRecord}
-use Rattle.qc_table.specs.Rules.{Rules, event, event_number, events_of}
 use Rattle.qc_core.specs.Conduct.{IsLawful}
 use Rattle.qc_decl.specs.declared.declaration.Declaration.{Declaration}
 use Rattle.qc_decl.specs.Accepted.{IsAccepted}
 use Rattle.qc_decl.specs.Actors.{actors, is_client}
 use Rattle.qc_msg.specs.declared.record.Record.TheVariants as records
-use Rattle.qc_msg.specs.declared.step.Step.TheVariants as steps
 use Rattle.qc_msg.specs.Counts.{commit_in, written}
 use Rattle.qc_msg.specs.Deeds.{Deed, Writes, deeds, envelope_of, mail}
-use Rattle.qc_msg.specs.Steps.{Entry, marked}
+use Rattle.qc_msg.specs.Steps.{Entry}
 use Rattle.qc_msg.proofs.Growth.{deeds-append}
-use Rattle.qc_onecopy.specs.Executed.{Executed, committed_line, depends_at, own_line}
-use Rattle.qc_onecopy.specs.Logged.{IsLogged, IsOperation, event_at}
-use Rattle.qc_onecopy.proofs.Lists.{Mapped, in_split, map_in}
-use Rattle.qc_onecopy.proofs.Runs.{table_is}
+use Rattle.qc_onecopy.specs.Logged.{IsOperation}
+use Rattle.qc_onecopy.proofs.Lists.{in_split}
 use Rattle.qc_promise.specs.Account.{Account, Current, new_account, view_of}
 use Rattle.qc_promise.specs.Accounting.{account, account_at}
 use Rattle.qc_promise.specs.Rows.{commit_of}
 use Rattle.qc_account.specs.DeedsDue.{AreDeedsDue, IsDeedDue}
 use Rattle.qc_account.proofs.Courses.{clients_due}
-use Rattle.qc_protocol.specs.Acts.{Act, state}
-use Rattle.qc_protocol.specs.Guards.{IsLive, IsRun, op_of}
-use Rattle.qc_protocol.specs.Logs.{AreInOrder, LogLaws}
-use Rattle.qc_protocol.specs.Plain.{ArePlain}
-use Rattle.qc_protocol.specs.State.{Aborted, Active, Committed, Granted, Status}
-use Rattle.qc_protocol.specs.State as machine
-use Rattle.qc_protocol.specs.StateLaws.{IsOutcome, StateLaws}
-use Rattle.qc_protocol.proofs.Keeps.{laws}
-use Rattle.qc_protocol.proofs.LogKeeps.{log_laws}
-use Rattle.qc_protocol.proofs.Outcomes.{committed_record}
 use Rattle.qc_script.specs.Runs.{Runs}
 use Rattle.qc_script.specs.Sound.{IsScriptFor}
 use Rattle.qc_script.specs.declared.script.Script.{Script}
@@ -53,7 +38,7 @@ use Rattle.qc_guarantees.proofs.Accounts.{and_second}
 use Rattle.qc_guarantees.proofs.ClockLaw.{clock_rises}
 use Rattle.qc_guarantees.proofs.DueStamps.{due_stamp}
 use Rattle.qc_guarantees.proofs.Requests.{due_at}
-use Rattle.qc_order.specs.Ordered.{DependsOn, IsOrdered, IsSeenBefore, IsToldBy}
+use Rattle.qc_order.specs.Ordered.{DependsOn, IsOrdered, IsToldBy}
 use Rattle.qc_order.proofs.Committed.{both_live, reader_sees, writer_passes}
 use Rattle.qc_order.proofs.Live.{live, mirror, stood}
 use Rattle.qc_order.proofs.Persists.{due_back, due_front, persists}
@@ -257,16 +242,18 @@ module _ (decl : Declaration) (script : Script) (accepted : IsAccepted decl) (so
   told_by c op among listed =
       let w : IsWrittenIn h c = written_in h c among in
       let m : Moment decl script w.before w.actor c = moment decl script h open_inputs run w.before w.actor c w.after w.stands in
-      let at : IsDueThere w.before w.actor c = at_record w.before w.actor c w.after w.stands in
-      (at.t, record {
-        early = w.before;
-        middle = [];
-        open_inputs = m.open_inputs;
-        run = m.run;
-        actor = w.actor;
-        after = w.after;
-        stands = w.stands ∙ ap (λ (x : List Entry). x ++ wrote w.actor c ∷ w.after) (sym (append-nil w.before));
-        begun = at.begun;
-        its = sym at.tx;
-        told = subst (In op) at.ops listed;
-      })
+      let at : IsDueThere w.before w.actor c = at_record w.before w.actor c w.after w.stands in (
+        at.t,
+        record {
+          early = w.before;
+          middle = [];
+          open_inputs = m.open_inputs;
+          run = m.run;
+          actor = w.actor;
+          after = w.after;
+          stands = w.stands ∙ ap (λ (x : List Entry). x ++ wrote w.actor c ∷ w.after) (sym (append-nil w.before));
+          begun = at.begun;
+          its = sym at.tx;
+          told = subst (In op) at.ops listed;
+        },
+      )

@@ -1,11 +1,10 @@
 -- Of a client that has begun a transaction, with an open input or without: the machine's transaction is live, has the same operations, and
 -- what its counted grants showed stands in the account's view; the account's clock has passed the machine's.
-use Rattle.std.proofs.Common.{◌≡◌, ◌⊎◌, ◌≤◌, ◌<◌, ℕ, ◌-◌, Bool, true, false, List, [], ◌∷◌, inl, inr, map, Option, Some, None, slice_get, refl, sym, ap, ◌∙◌, subst, arith}
+use Rattle.std.proofs.Common.{◌≡◌, ◌⊎◌, ◌≤◌, ℕ, Bool, true, false, List, [], ◌∷◌, inl, inr, map, Option, Some, None, slice_get, refl, sym, ap, ◌∙◌, subst, arith}
 use Rattle.qc_stamp.specs.declared.stamp.Stamp.{Stamp}
 use Rattle.qc_stamp.specs.declared.stamp.TxId.{TxId}
 use Rattle.qc_list.specs.Members.{In}
 use Rattle.qc_entry.specs.declared.line.Line.{Line}
-use Rattle.qc_entry.specs.declared.line.Op.{Op}
 use Rattle.qc_core.specs.Conduct.{IsLawful}
 use Rattle.qc_decl.specs.declared.declaration.Declaration.{Declaration}
 use Rattle.qc_decl.specs.Accepted.{IsAccepted}
@@ -14,12 +13,9 @@ use Rattle.qc_msg.specs.Deeds.{Takes, deeds}
 use Rattle.qc_msg.specs.Steps.{Entry}
 use Rattle.qc_commit.specs.declared.desk.Voting.{Voting}
 use Rattle.qc_front.specs.declared.transaction.Transaction.{Transaction}
-use Rattle.qc_front.specs.Answering.{view_log}
-use Rattle.qc_client.specs.declared.client.Client.{Client}
 use Rattle.qc_promise.specs.Account.{Account, Current, view_of}
 use Rattle.qc_promise.specs.Accounting.{account, account_taken}
 use Rattle.qc_account.specs.Ties.{Ties}
-use Rattle.qc_account.specs.Told.{IsBegun}
 use Rattle.qc_account.proofs.Courses.{clients_tied}
 use Rattle.qc_laws.proofs.Acted.{run_acts}
 use Rattle.qc_laws.specs.Turns.{ActsIn}
@@ -84,10 +80,10 @@ module _ (decl : Declaration) (script : Script) (accepted : IsAccepted decl) (so
         tied = o.tied;
         begun = taken_kept o.was o.given t (subst (λ (d : Account). d.current ≡ Some t) o.now_is is);
         rises = (
-          let rises : o.was.clock ≤ (account_taken o.was o.given).clock = clock_rises decl (Takes o.given ∷ []) o.was (tt, tt) in
-          let now : (account decl a h).clock ≡ (account_taken o.was o.given).clock = ap (λ (d : Account). d.clock) o.now_is in
-          omega arith
-        );
+            let rises : o.was.clock ≤ (account_taken o.was o.given).clock = clock_rises decl (Takes o.given ∷ []) o.was (tt, tt) in
+            let now : (account decl a h).clock ≡ (account_taken o.was o.given).clock = ap (λ (d : Account). d.clock) o.now_is in
+            omega arith
+            );
       }
   tied_to a client false slot t is =
       let acts : ActsIn decl a h false = run_acts decl script h open_inputs run a false slot in

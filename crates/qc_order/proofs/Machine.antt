@@ -1,11 +1,10 @@
 -- Of the machine's transactions that haven't aborted: of two operations of which one depends on the other, the reader's view
 -- has the line of the writer, which committed, or the reader committed and a grant that the writer counted has passed its stamp.
-use Rattle.std.proofs.Common.{◌≡◌, ◌≢◌, ℕ, ◌<◌, ◌≤◌, false, IsTrue, ◌⊎◌, inl, inr, List, [], ◌∷◌, ◌++◌, length, Some, IsSome, refl, sym, ap, ◌∙◌, subst}
+use Rattle.std.proofs.Common.{◌≡◌, ◌≢◌, ℕ, ◌<◌, ◌≤◌, false, IsTrue, ◌⊎◌, inl, inr, List, [], ◌∷◌, ◌++◌, length, Some, IsSome, sym, ap, ◌∙◌, subst}
 use Rattle.qc_stamp.specs.declared.stamp.Stamp.{Stamp}
 use Rattle.qc_stamp.specs.declared.stamp.TxId.{TxId}
 use Rattle.qc_list.specs.Members.{In}
 use Rattle.qc_list.proofs.Members.{In-first, In-second}
-use Rattle.qc_entry.specs.declared.line.Line.{Line}
 use Rattle.qc_entry.specs.declared.line.OwnLine.{OwnLine}
 use Rattle.qc_entry.specs.declared.line.ReadLock.{ReadLock}
 use Rattle.qc_table.specs.declared.kind.Kind.{Kind}
@@ -16,7 +15,7 @@ use Rattle.qc_decl.specs.declared.declaration.Declaration.{Declaration}
 use Rattle.qc_decl.specs.Accepted.{IsAccepted}
 use Rattle.qc_decl.specs.Lookup.{append_need_of, plan_in}
 use Rattle.qc_onecopy.specs.Executed.{Executed, committed_line, depends_at, kind_at, own_line}
-use Rattle.qc_protocol.specs.Site.{Deed, Grants, Item, LearnsCommit, Lock, Own, Site, after_deed, done_records, empty_site, epoch_from, items_of, site_after, site_from}
+use Rattle.qc_protocol.specs.Site.{Deed, Grants, LearnsCommit, Lock, Own, Site, after_deed, done_records, empty_site, epoch_from, items_of, site_after, site_from}
 use Rattle.qc_protocol.specs.SiteLaws.{SparesUntilDone}
 use Rattle.qc_protocol.specs.State.{Aborted, Granted}
 use Rattle.qc_protocol.specs.Acts.{Act, state}

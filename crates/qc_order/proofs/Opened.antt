@@ -1,59 +1,25 @@
 -- What stands in a net for a history: sites and clients without an open input are as their deeds give them, others as they were before
 -- it. Of a client with one, also that it is tied to its account as that was.
-use Rattle.std.proofs.Common.{◌≡◌, ◌≢◌, ℕ, ◌+◌, ◌-◌, ◌<◌, ◌≤◌, ◌==◌, ◌&&◌, nat_le, nat_lt, arith, Bool, true, false, if◌then◌else◌, List, [], ◌∷◌, ◌++◌, length, Option, Some, None, slice_get, refl, sym, ap, ◌∙◌, subst, eq-eqb, eqb-true, ltb-true}
-use Rattle.std.specs.Prelude.{fold, replicate, slice_set}
-use Rattle.std.proofs.lemmas.List.Sums.{fold-append}
-use Rattle.std.proofs.lemmas.Bool.{leb-true}
-use Rattle.std.proofs.lemmas.List.{append-nil}
-use Rattle.qc_list.specs.Members.{In}
-use Rattle.qc_list.proofs.Members.{every-at, every-from_In}
-use Rattle.qc_entry.specs.declared.record.Commit.{Commit as CommitRecord}
-use Rattle.qc_core.specs.Acts.{MayTake}
-use Rattle.qc_core.specs.Conduct.{IsLawful}
+use Rattle.std.proofs.Common.{◌≡◌, ℕ, ◌-◌, Bool, true, false, List, [], ◌++◌, Option, Some, slice_get, sym, ap, ◌∙◌, subst}
+use Rattle.std.specs.Prelude.{fold}
 use Rattle.qc_decl.specs.declared.declaration.Declaration.{Declaration}
-use Rattle.qc_decl.specs.Actors.{actors, controller, is_client, is_site}
+use Rattle.qc_decl.specs.Actors.{is_client, is_site}
 use Rattle.qc_msg.specs.declared.message.Envelope.{Envelope}
-use Rattle.qc_msg.specs.declared.step.Command.{Command}
 use Rattle.qc_msg.specs.declared.step.Given.{Given}
 use Rattle.qc_msg.specs.declared.step.Given.TheVariants as given
-use Rattle.qc_msg.specs.declared.step.Step.{Step}
-use Rattle.qc_msg.specs.declared.step.Step.TheVariants as steps
-use Rattle.qc_msg.specs.declared.turn.Posting.{Posting}
-use Rattle.qc_msg.specs.declared.turn.Turn.{Turn}
-use Rattle.qc_msg.specs.Counts.{commit_in, written}
-use Rattle.qc_msg.specs.Deeds.{Deed, Takes, WasSentTo, deeds, envelopes, mail}
-use Rattle.qc_msg.specs.Steps.{Entry, by, marked, posted, step_of}
-use Rattle.qc_msg.proofs.Growth.{deeds-other, deeds-posted, deeds-taken, mail-append, mail-posted, mail-taken}
-use Rattle.qc_script.specs.Ready.{phase_of, ready}
-use Rattle.qc_script.specs.Runs.{Runs, begins, takes, posts, phase, control}
+use Rattle.qc_msg.specs.Counts.{written}
+use Rattle.qc_msg.specs.Deeds.{Deed, WasSentTo, deeds, mail}
+use Rattle.qc_msg.specs.Steps.{Entry}
 use Rattle.qc_script.specs.declared.script.Script.{Script}
-use Rattle.qc_client.specs.Client.{ClientMove}
 use Rattle.qc_client.specs.Conduct.{client_after, client_takes}
 use Rattle.qc_client.specs.declared.client.Client.{Client}
-use Rattle.qc_front.specs.Going.{is_idle}
-use Rattle.qc_front.specs.declared.doing.Doing.{Doing}
-use Rattle.qc_front.specs.declared.doing.Doing.TheVariants.{Idle, Reading, Appending}
 use Rattle.qc_site.specs.Conduct.{site_after, site_takes}
-use Rattle.qc_site.specs.Site.{SiteMove, SiteState}
-use Rattle.qc_laws.proofs.Acted.{deeds-silent, run_acts}
-use Rattle.qc_laws.proofs.Arrivals.{what_is_ready_was_sent}
-use Rattle.qc_laws.proofs.Numbered.{IsSilent, control_silent, mail-silent, phase_silent}
-use Rattle.qc_laws.proofs.Places.{replicate_at, slice_get-more, slice_get-set_other, slice_get-set_same}
-use Rattle.qc_laws.proofs.Replying.{after_taken, client_replies}
-use Rattle.qc_laws.proofs.Running.{what_is_ready_may_be_taken}
-use Rattle.qc_laws.specs.Calls.{is_waiting}
-use Rattle.qc_laws.proofs.Waiting.{round_none, votes_none}
-use Rattle.qc_net.specs.Net.{MayCome, MayCommand, Net, Reaches, after_client, after_site, commits_in, first_net, sent_all}
-use Rattle.qc_net.specs.Net as nets
-use Rattle.qc_net.proofs.Frames.{put_one}
+use Rattle.qc_site.specs.Site.{SiteState}
+use Rattle.qc_laws.proofs.Places.{slice_get-more}
+use Rattle.qc_net.specs.Net.{MayCommand, Net, Reaches}
 use Rattle.qc_promise.specs.Account.{Account, new_account}
 use Rattle.qc_promise.specs.Accounting.{account, account_at, account_taken}
 use Rattle.qc_account.specs.Ties.{Ties}
-use Rattle.qc_account.proofs.Courses.{clients_tied}
-use Rattle.qc_atomic.specs.Reached.{AreNamed}
-use Rattle.qc_atomic.proofs.Asked.{ready_named}
-use Rattle.qc_atomic.proofs.Posted.{client_posted, control_writes, site_posted, site_taken, taken_writes, written_posted, written_same}
-use Rattle.qc_atomic.proofs.Silent.{site_silent}
 
 module _ (decl : Declaration) (script : Script) where
   -- an actor with an open input: it is as it was before that

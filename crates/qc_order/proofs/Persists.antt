@@ -24,11 +24,10 @@ use Rattle.qc_msg.specs.declared.reply.Reply.{Reply}
 use Rattle.qc_msg.specs.declared.reply.Reply.TheVariants as replies
 use Rattle.qc_msg.specs.declared.step.Command.{Command}
 use Rattle.qc_msg.specs.declared.step.Command.TheVariants as commands
-use Rattle.qc_msg.specs.declared.step.Given.{Given}
 use Rattle.qc_msg.specs.declared.step.Given.TheVariants as given
 use Rattle.qc_msg.specs.Deeds.{Deed, Takes, Writes, Sends, Tells}
 use Rattle.qc_promise.specs.Account.{Account, ClientRequest, Current, new_account, new_current}
-use Rattle.qc_promise.specs.Accounting.{account_at, account_heard, account_sent, account_taken, account_told_in, account_written, counted, counted_for, found_absent, granted, is_open, lived, promised, responded, short_of, taken_for, told_by, with_read, with_response}
+use Rattle.qc_promise.specs.Accounting.{account_at, account_heard, account_sent, account_told_in, account_written, counted, counted_for, found_absent, granted, is_open, lived, promised, responded, short_of, taken_for, told_by, with_read, with_response}
 use Rattle.qc_promise.specs.Asked.{is_asked_for}
 use Rattle.qc_promise.specs.Rounds.{answer_of}
 use Rattle.qc_account.specs.DeedsDue.{AreDeedsDue, IsDeedDue}

@@ -1,11 +1,10 @@
 -- A reply to a `do` records its operation, and leaves the views.
-use Rattle.std.proofs.Common.{◌≡◌, ℕ, List, [], ◌∷◌, ◌++◌, Option, Some, None, option_map, refl, sym, ap, ◌∙◌, subst}
-use Rattle.qc_entry.specs.declared.line.Op.{Op}
+use Rattle.std.proofs.Common.{◌≡◌, ℕ, Option, Some, None, option_map, refl, ap, ◌∙◌}
 use Rattle.qc_decl.specs.declared.declaration.Declaration.{Declaration}
 use Rattle.qc_msg.specs.declared.reply.Reply.TheVariants as replies
 use Rattle.qc_msg.specs.declared.step.Command.{Command}
 use Rattle.qc_msg.specs.declared.step.Command.TheVariants as commands
-use Rattle.qc_promise.specs.Account.{Account, Current, view_of}
+use Rattle.qc_promise.specs.Account.{Account, Current}
 use Rattle.qc_promise.specs.Accounting.{account_told, found_absent, responded, with_absent, with_response}
 use Rattle.qc_promise.specs.Rounds.{answer_of, resp_of}
 use Rattle.qc_order.specs.Ordered.{HasRecorded}

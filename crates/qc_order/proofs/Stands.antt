@@ -1,6 +1,6 @@
 -- Each run of a script is one of the net, as in qc_atomic, whose statement says of a client with an open input only what it
 -- becomes by it: here also that the client is tied to its account as it was before that input.
-use Rattle.std.proofs.Common.{◌≡◌, ◌≢◌, ℕ, ◌+◌, ◌-◌, ◌<◌, ◌≤◌, ◌==◌, ◌&&◌, nat_le, nat_lt, arith, Bool, true, false, if◌then◌else◌, List, [], ◌∷◌, ◌++◌, length, Option, Some, None, slice_get, refl, sym, ap, ◌∙◌, subst, eq-eqb, eqb-true, ltb-true}
+use Rattle.std.proofs.Common.{◌≡◌, ◌≢◌, ℕ, ◌+◌, ◌-◌, ◌<◌, ◌≤◌, ◌==◌, ◌&&◌, nat_le, nat_lt, arith, Bool, true, false, if◌then◌else◌, List, [], ◌∷◌, ◌++◌, length, Some, None, slice_get, refl, sym, ap, ◌∙◌, subst, eq-eqb, eqb-true, ltb-true}
 use Rattle.std.specs.Prelude.{fold, replicate, slice_set}
 use Rattle.std.proofs.lemmas.List.Sums.{fold-append}
 use Rattle.std.proofs.lemmas.Bool.{leb-true}
@@ -38,7 +38,7 @@ use Rattle.qc_site.specs.Site.{SiteMove, SiteState}
 use Rattle.qc_laws.proofs.Acted.{deeds-silent, run_acts}
 use Rattle.qc_laws.proofs.Arrivals.{what_is_ready_was_sent}
 use Rattle.qc_laws.proofs.Numbered.{IsSilent, control_silent, mail-silent, phase_silent}
-use Rattle.qc_laws.proofs.Places.{replicate_at, slice_get-more, slice_get-set_other, slice_get-set_same}
+use Rattle.qc_laws.proofs.Places.{replicate_at, slice_get-set_other, slice_get-set_same}
 use Rattle.qc_laws.proofs.Replying.{after_taken, client_replies}
 use Rattle.qc_laws.proofs.Running.{what_is_ready_may_be_taken}
 use Rattle.qc_laws.specs.Calls.{is_waiting}
@@ -46,15 +46,14 @@ use Rattle.qc_laws.proofs.Waiting.{round_none, votes_none}
 use Rattle.qc_net.specs.Net.{MayCome, MayCommand, Net, Reaches, after_client, after_site, commits_in, first_net, sent_all}
 use Rattle.qc_net.specs.Net as nets
 use Rattle.qc_net.proofs.Frames.{put_one}
-use Rattle.qc_promise.specs.Account.{Account, new_account}
-use Rattle.qc_promise.specs.Accounting.{account, account_at, account_taken}
+use Rattle.qc_promise.specs.Account.{new_account}
+use Rattle.qc_promise.specs.Accounting.{account, account_at}
 use Rattle.qc_account.specs.Ties.{Ties}
 use Rattle.qc_account.proofs.Courses.{clients_tied}
 use Rattle.qc_atomic.specs.Reached.{AreNamed}
 use Rattle.qc_atomic.proofs.Asked.{ready_named}
 use Rattle.qc_atomic.proofs.Posted.{client_posted, control_writes, site_posted, site_taken, taken_writes, written_posted, written_same}
 use Rattle.qc_atomic.proofs.Silent.{site_silent}
-
 use Rattle.qc_order.proofs.Opened.{ClientStands, OpenClient, OpenSite, SiteStands, Stood, client_stays, site_stays}
 
 module _ (decl : Declaration) (script : Script) where

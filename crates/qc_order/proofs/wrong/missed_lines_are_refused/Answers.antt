@@ -1,6 +1,6 @@
 use Rattle.std.proofs.Common.{◌≡◌, inl, inr, refl, ap, arith}
 use Rattle.qc_stamp.specs.declared.stamp.TxId.{TxId}
-use Rattle.qc_order.specs.Wrong.{line, name, write, writes}
+use Rattle.qc_order.specs.Wrong.{name, write, writes}
 use Rattle.qc_order.proofs.wrong.missed_lines_are_refused.Goals as goal
 
 differ : (name 0).client ≡ (name 1).client → ⊥
