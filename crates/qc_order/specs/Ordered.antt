@@ -18,8 +18,8 @@ use Rattle.qc_script.specs.Runs.{Runs}
 use Rattle.qc_script.specs.declared.script.Script.{Script}
 use Rattle.qc_stamp.specs.declared.stamp.Stamp.{Stamp}
 
--- a commit record of a history, and a moment before it, between two turns, at which its client had begun the transaction
--- and had been told the operation: right behind the operation's reply, or later
+-- a commit record of a history, and a moment before it, between two turns, at which its client had begun the
+-- transaction and had been told the operation: right behind the operation's reply, or later
 pub record IsToldBy (decl : Declaration) (script : Script) (h : List Entry) (c : Commit) (op : Op) (t : Current)
     : Type 0 where
   -- the entries until the moment, which are a run, and those between it and the record
@@ -34,8 +34,8 @@ pub record IsToldBy (decl : Declaration) (script : Script) (h : List Entry) (c :
   pub its : t.tx ≡ c.tx
   pub told : In op t.ops
 
--- an operation of the record depends on the event of the line, which is an operation of another transaction's record, on
--- the same object
+-- an operation of the record depends on the event of the line, which is an operation of another transaction's record,
+-- on the same object
 pub record DependsOn (decl : Declaration) (h : List Entry) (c : Commit) (op : Op) (line : Line) : Type 0 where
   pub operation : In op c.ops
   pub logged : IsLogged decl (written h) line

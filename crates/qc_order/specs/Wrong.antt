@@ -1,5 +1,5 @@
--- A history that is no run: a reader committed after a writer, and was told its operation from a view without the writer's
--- line. Over three sites and three clients, with one register.
+-- A history that is no run: a reader committed after a writer, and was told its operation from a view without the
+-- writer's line. Over three sites and three clients, with one register.
 use Rattle.std.specs.Prelude.{ℕ, false, List, [], ◌∷◌, ◌++◌, Some}
 use Rattle.qc_entry.specs.declared.line.Line.{Line}
 use Rattle.qc_entry.specs.declared.line.Op.{Op}
