@@ -4,6 +4,7 @@ pub mod Stands
 pub mod Begun
 pub mod Moments
 pub mod Replies
+pub mod DueResponses
 pub mod Recorded
 pub mod Live
 pub mod DueNumbers

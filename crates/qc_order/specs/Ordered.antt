@@ -1,5 +1,5 @@
 -- Two committed operations one of which depends on the other: which is stamped first, and what the one had seen.
-use Rattle.std.specs.Prelude.{◌≡◌, ◌≢◌, ℕ, ◌<◌, ◌⊎◌, Bool, false, IsTrue, List, [], ◌∷◌, ◌++◌, Some, slice_get}
+use Rattle.std.specs.Prelude.{◌≡◌, ◌≢◌, ℕ, ◌<◌, ◌⊎◌, Bool, false, IsTrue, List, [], ◌∷◌, ◌++◌, Option, Some, None, slice_get}
 use Rattle.qc_core.specs.Conduct.{IsLawful}
 use Rattle.qc_decl.specs.declared.declaration.Declaration.{Declaration}
 use Rattle.qc_entry.specs.declared.line.Line.{Line}
@@ -7,13 +7,15 @@ use Rattle.qc_entry.specs.declared.line.Op.{Op}
 use Rattle.qc_entry.specs.declared.record.Commit.{Commit}
 use Rattle.qc_list.specs.Members.{In}
 use Rattle.qc_msg.specs.declared.record.Record.TheVariants as records
-use Rattle.qc_msg.specs.declared.step.Step.TheVariants.{Wrote}
+use Rattle.qc_msg.specs.declared.reply.Reply.{Reply}
+use Rattle.qc_msg.specs.declared.step.Step.TheVariants.{Told, Wrote}
 use Rattle.qc_msg.specs.Counts.{written}
 use Rattle.qc_msg.specs.Steps.{Entry, marked}
 use Rattle.qc_onecopy.specs.Executed.{depends_at}
 use Rattle.qc_onecopy.specs.Logged.{IsLogged}
-use Rattle.qc_promise.specs.Account.{Account, Current, view_of}
+use Rattle.qc_promise.specs.Account.{Current, view_of}
 use Rattle.qc_promise.specs.Accounting.{account}
+use Rattle.qc_promise.specs.Rounds.{answer_of, resp_of}
 use Rattle.qc_script.specs.Runs.{Runs}
 use Rattle.qc_script.specs.declared.script.Script.{Script}
 use Rattle.qc_stamp.specs.declared.stamp.Stamp.{Stamp}
@@ -58,10 +60,22 @@ pub record IsRunWithout (decl : Declaration) (script : Script) (a : ℕ) (h : Li
   pub run : Runs (IsLawful decl) decl script h open_inputs
   pub none : slice_get open_inputs a ≡ Some false
 
--- the operation was recorded, and no view has changed: that of its object is the one that it was answered from
-pub record HasRecorded (d : Account) (t : Current) (op : Op) : Type 0 where
+-- the response of the event that a view chose, or none where it chose none
+abbrev pub IsAnsweredFrom : Declaration → ℕ → Option ℕ → Option ℕ → Type 0
+IsAnsweredFrom decl object chosen None = chosen ≡ None
+IsAnsweredFrom decl object chosen (Some resp) =
+    (event : ℕ) × (chosen ≡ Some event) × (resp ≡ resp_of decl object event)
+
+-- a reply behind these entries answers a `do` from the begun transaction's views; behind it the operation is recorded,
+-- and each view is as it was
+pub record Records (decl : Declaration) (a : ℕ) (before : List Entry) (reply : Reply) (resp : Option ℕ) : Type 0 where
+  pub t : Current
+  pub begun : (account decl a before).current ≡ Some t
+  pub object : ℕ
+  pub inv : ℕ
+  pub answered : IsAnsweredFrom decl object (answer_of decl t object inv) resp
   pub now : Current
-  pub begun : d.current ≡ Some now
+  pub begun_now : (account decl a (before ++ marked a (Told reply) ∷ [])).current ≡ Some now
   pub its : now.tx ≡ t.tx
-  pub ops : now.ops ≡ t.ops ++ op ∷ []
-  pub views : (object : ℕ) → view_of now object ≡ view_of t object
+  pub ops : now.ops ≡ t.ops ++ record { object = object; inv = inv; resp = resp } ∷ []
+  pub views : (o : ℕ) → view_of now o ≡ view_of t o

@@ -1,9 +1,10 @@
 //! The order of dependent operations of every run: the contract of a function
 //! with nothing to do.
 
-ghost use Rattle.std.specs.Prelude.{◌≡◌, ℕ, Bool, List, [], ◌∷◌, ◌++◌, Some, None};
+ghost use Rattle.std.specs.Prelude.{◌≡◌, ℕ, true, Bool, List, [], ◌∷◌, ◌++◌, Some, None};
 ghost use Rattle.qc_core.specs.Conduct.{IsLawful};
 ghost use Rattle.qc_decl.specs.Accepted.{IsAccepted};
+ghost use Rattle.qc_decl.specs.Actors.{is_client};
 ghost use Rattle.qc_decl.specs.declared.declaration.Declaration.{Declaration};
 ghost use Rattle.qc_entry.specs.declared.line.Line.{Line};
 ghost use Rattle.qc_entry.specs.declared.line.Op.{Op};
@@ -12,16 +13,13 @@ ghost use Rattle.qc_list.specs.Members.{In};
 ghost use Rattle.qc_msg.specs.Counts.{written};
 ghost use Rattle.qc_msg.specs.declared.reply.Reply.{Reply};
 ghost use Rattle.qc_msg.specs.declared.reply.Reply.TheVariants.{Absent, Response};
-ghost use Rattle.qc_msg.specs.declared.step.Command.TheVariants.{Do};
 ghost use Rattle.qc_msg.specs.declared.step.Step.TheVariants.{Told};
 ghost use Rattle.qc_msg.specs.Steps.{Entry, marked};
-ghost use Rattle.qc_promise.specs.Account.{Account, Current, view_of};
-ghost use Rattle.qc_promise.specs.Accounting.{account_told};
-ghost use Rattle.qc_promise.specs.Rounds.{answer_of, resp_of};
+ghost use Rattle.qc_promise.specs.Account.{Current, view_of};
 ghost use Rattle.qc_script.specs.Runs.{Runs};
 ghost use Rattle.qc_script.specs.Sound.{IsScriptFor};
 ghost use Rattle.qc_script.specs.declared.script.Script.{Script};
-ghost use Rattle.qc_order.specs.Ordered.{DependsOn, HasRecorded, IsOrdered, IsRunWithout, IsToldBy};
+ghost use Rattle.qc_order.specs.Ordered.{DependsOn, IsOrdered, IsRunWithout, IsToldBy, Records};
 
 /// The ordering lemma: where a committed operation depends on the event of
 /// another transaction's, on the same object, then the client's view of the
@@ -52,15 +50,18 @@ pub fn replies_end_their_turns()
         → IsRunWithout decl script a (before ++ marked a (Told reply) ∷ []) }
 {}
 
-/// With the reply to a `do` its operation is recorded, and the views are those
-/// that the reply was answered from. So behind it is the first moment of which
-/// the ordering lemma speaks, and it speaks of that view.
+/// With each Response and each Absent of a client an operation is recorded,
+/// which was answered from the view that its client has then, and still has
+/// behind it. So behind the reply is the first moment of which the ordering
+/// lemma speaks, and the view is the one that the operation was answered from.
 pub fn replies_record_operations()
-    ensures response { (decl : Declaration) (d : Account) (t : Current) (object inv event resp : ℕ)
-        → d.command ≡ Some (Do object inv) → d.current ≡ Some t → answer_of decl t object inv ≡ Some event
-        → HasRecorded (account_told decl d (Response resp)) t
-        (record { object = object; inv = inv; resp = Some (resp_of decl object event) }) }
-    ensures absent { (decl : Declaration) (d : Account) (t : Current) (object inv : ℕ)
-        → d.command ≡ Some (Do object inv) → d.current ≡ Some t
-        → HasRecorded (account_told decl d Absent) t (record { object = object; inv = inv; resp = None }) }
+    ensures response { (decl : Declaration) (script : Script) (h : List Entry) (open_inputs : List Bool)
+        (before after : List Entry) (a resp : ℕ) → IsAccepted decl → IsScriptFor decl script
+        → Runs (IsLawful decl) decl script h open_inputs → is_client decl a ≡ true
+        → h ≡ before ++ marked a (Told (Response resp)) ∷ after
+        → Records decl a before (Response resp) (Some resp) }
+    ensures absent { (decl : Declaration) (script : Script) (h : List Entry) (open_inputs : List Bool)
+        (before after : List Entry) (a : ℕ) → IsAccepted decl → IsScriptFor decl script
+        → Runs (IsLawful decl) decl script h open_inputs → is_client decl a ≡ true
+        → h ≡ before ++ marked a (Told Absent) ∷ after → Records decl a before Absent None }
 {}
