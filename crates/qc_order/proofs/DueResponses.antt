@@ -1,5 +1,5 @@
 -- A Response that is due answers a `do` by the event that its view chooses, and Absent one for which it chooses none.
-use Rattle.std.proofs.Common.{◌≡◌, ℕ, nat_le, Bool, true, false, if◌then◌else◌, [], length, Option, Some, None, refl, sym, ap}
+use Rattle.std.proofs.Common.{◌≡◌, ℕ, nat_le, Bool, true, false, if◌then◌else◌, [], length, Option, Some, None, refl, ap}
 use Rattle.std.specs.Prelude.{option_and_then}
 use Rattle.qc_decl.specs.Limits.{most_transaction_operations}
 use Rattle.qc_decl.specs.Lookup.{append_need_of, read_need_of}

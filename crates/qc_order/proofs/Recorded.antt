@@ -1,5 +1,5 @@
 -- A reply to a `do` records its operation, and leaves the views.
-use Rattle.std.proofs.Common.{◌≡◌, ◌-◌, ◌==◌, ◌&&◌, nat_le, nat_lt, ℕ, Bool, true, cond, List, [], ◌∷◌, ◌++◌, Option, Some, None, option_map, option_to_list, slice_get, refl, sym, ap, ◌∙◌, subst, eq-eqb, ltb-true}
+use Rattle.std.proofs.Common.{◌≡◌, ◌-◌, nat_le, nat_lt, ℕ, Bool, true, cond, List, [], ◌∷◌, ◌++◌, Option, Some, None, option_map, option_to_list, slice_get, refl, sym, ap, ◌∙◌, subst, eq-eqb, ltb-true}
 use Rattle.std.specs.Prelude.{fold}
 use Rattle.std.proofs.lemmas.List.Sums.{fold-append}
 use Rattle.qc_core.specs.Conduct.{IsLawful}
@@ -8,14 +8,13 @@ use Rattle.qc_decl.specs.Actors.{actors, is_client}
 use Rattle.qc_msg.specs.declared.reply.Reply.{Reply}
 use Rattle.qc_msg.specs.declared.reply.Reply.TheVariants as replies
 use Rattle.qc_msg.specs.declared.step.Command.{Command}
-use Rattle.qc_msg.specs.declared.step.Command.TheVariants as commands
 use Rattle.qc_msg.specs.declared.step.Step.TheVariants as steps
-use Rattle.qc_msg.specs.Deeds.{Deed, Tells, deeds, envelope_of, mail}
+use Rattle.qc_msg.specs.Deeds.{Tells, deeds, envelope_of, mail}
 use Rattle.qc_msg.specs.Steps.{Entry, marked}
 use Rattle.qc_msg.proofs.Growth.{deeds-append}
-use Rattle.qc_promise.specs.Account.{Account, Current, new_account, view_of}
+use Rattle.qc_promise.specs.Account.{Account, Current, new_account}
 use Rattle.qc_promise.specs.Accounting.{account, account_at, account_told, found_absent, responded, with_absent, with_response}
-use Rattle.qc_promise.specs.Rounds.{answer_of, resp_of}
+use Rattle.qc_promise.specs.Rounds.{answer_of}
 use Rattle.qc_account.specs.DeedsDue.{AreDeedsDue, IsDeedDue}
 use Rattle.qc_account.proofs.Courses.{clients_due}
 use Rattle.qc_script.specs.Runs.{Runs}
@@ -24,7 +23,7 @@ use Rattle.qc_laws.proofs.Acted.{has_entry, run_acts}
 use Rattle.qc_laws.specs.Turns.{ActsIn}
 use Rattle.qc_guarantees.proofs.Accounts.{and_second}
 use Rattle.qc_guarantees.proofs.Requests.{due_at}
-use Rattle.qc_order.specs.Ordered.{IsAnsweredFrom, Records}
+use Rattle.qc_order.specs.Ordered.{Records}
 use Rattle.qc_order.proofs.DueResponses.{IsAnswered, due_absent, due_response}
 
 module _ (decl : Declaration) (script : Script) (h : List Entry) (open_inputs : List Bool) (run : Runs (IsLawful decl) decl script h open_inputs) (a : ℕ) (client : is_client decl a ≡ true) (before after : List Entry) where
