@@ -1,0 +1,13 @@
+pub mod Machine
+pub mod Opened
+pub mod Stands
+pub mod Begun
+pub mod Moments
+pub mod Replies
+pub mod DueResponses
+pub mod Recorded
+pub mod Live
+pub mod DueNumbers
+pub mod Persists
+pub mod Committed
+pub mod Law
