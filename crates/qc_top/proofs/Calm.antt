@@ -89,27 +89,27 @@ calm_kept h calm = λ before later e is. kept_at (own e.actor before) e.step (at
 
 -- no fall is to be accounted for
 
-same_tally : (t : Tally) (actor : ℕ) (step : Step) → IsCalm step → tally_with t actor step ≡ t
-same_tally t actor (steps.Phase number) calm = refl
-same_tally t actor (steps.Cut a b) calm = refl
-same_tally t actor (steps.Heal a b) calm = refl
-same_tally t actor (steps.Armed a kind at) calm = absurd calm
-same_tally t actor (steps.Called command) calm = refl
-same_tally t actor (steps.Got number) calm = refl
-same_tally t actor (steps.Lost number) calm = refl
-same_tally t actor (steps.Wrote written) calm = refl
-same_tally t actor (steps.Sent number to message) calm = refl
-same_tally t actor (steps.Told reply) calm = refl
-same_tally t actor (steps.Fell cause pending) calm = absurd calm
-same_tally t actor (steps.Rose records) calm = refl
-same_tally t actor (steps.Damaged offset) calm = refl
+same_tally : (actor : ℕ) (step : Step) → IsCalm step → tally_with no_tally actor step ≡ no_tally
+same_tally actor (steps.Phase number) calm = refl
+same_tally actor (steps.Cut a b) calm = refl
+same_tally actor (steps.Heal a b) calm = refl
+same_tally actor (steps.Armed a kind at) calm = absurd calm
+same_tally actor (steps.Called command) calm = refl
+same_tally actor (steps.Got number) calm = refl
+same_tally actor (steps.Lost number) calm = refl
+same_tally actor (steps.Wrote written) calm = refl
+same_tally actor (steps.Sent number to message) calm = refl
+same_tally actor (steps.Told reply) calm = refl
+same_tally actor (steps.Fell cause pending) calm = absurd calm
+same_tally actor (steps.Rose records) calm = refl
+same_tally actor (steps.Damaged offset) calm = refl
 
 abbrev tallied : Tally → List Entry → Tally
 tallied t h = fold (λ s (e : Entry). tally_with s e.actor e.step) t h
 
-all_tallied : (t : Tally) (h : List Entry) → AreCalm h → tallied t h ≡ t
-all_tallied t [] calm = refl
-all_tallied t (e ∷ h) calm = ap (λ (s : Tally). tallied s h) (same_tally t e.actor e.step calm.0) ∙ all_tallied t h calm.1
+all_tallied : (h : List Entry) → AreCalm h → tallied no_tally h ≡ no_tally
+all_tallied [] calm = refl
+all_tallied (e ∷ h) calm = ap (λ (s : Tally). tallied s h) (same_tally e.actor e.step calm.0) ∙ all_tallied h calm.1
 
 in_time : (step : Step) (later : List Entry) → IsCalm step → IsInTime step later
 in_time (steps.Phase number) later calm = tt
@@ -128,7 +128,7 @@ in_time (steps.Damaged offset) later calm = tt
 
 pub calm_spent : (h : List Entry) (n : ℕ) → AreCalm h → Spent h n
 calm_spent h n calm =
-    let none : unarmed_falls h ≡ 0 = ap (λ (t : Tally). t.unarmed) (all_tallied no_tally h calm) in
+    let none : unarmed_falls h ≡ 0 = ap (λ (t : Tally). t.unarmed) (all_tallied h calm) in
     record {
       falls = omega arith;
       in_time = λ before later e is. in_time e.step later (at_cut before later e (subst AreCalm (sym is) calm));
