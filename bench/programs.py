@@ -11,14 +11,16 @@ ROOT = os.path.dirname(os.path.dirname(os.path.abspath(__file__)))
 
 
 def libraries():
-    """What each crate of the repository uses, by its name, lowest first."""
-    used = {}
+    """The line of each crate of the repository in crates.txt, and what it uses, by
+    its name, lowest first."""
+    lines, used = {}, {}
     with open(os.path.join(ROOT, "crates.txt")) as file:
         for line in file:
             head, colon, tail = line.split("#")[0].partition(":")
             if colon:
-                used[head.split()[0]] = tail.split()
-    return used
+                name = head.split()[0]
+                lines[name], used[name] = line, tail.split()
+    return lines, used
 
 
 def below(used, names):
@@ -35,7 +37,7 @@ def below(used, names):
 def build(folder, name, template, uses):
     """Makes a program of this name from a template, over the libraries that it
     uses, and tells where it stands."""
-    used = libraries()
+    lines, used = libraries()
     crates = below(used, uses)
     for crate in crates:
         made = os.path.join(folder, "crates", crate)
@@ -45,7 +47,7 @@ def build(folder, name, template, uses):
     shutil.copy(os.path.join(ROOT, "bench", template), os.path.join(source, "main.rt"))
     with open(os.path.join(folder, "crates.txt"), "w") as file:
         for crate in crates:
-            file.write("%s: %s\n" % (crate, " ".join(used[crate])))
+            file.write(lines[crate])
         file.write("%s: %s\n" % (name, " ".join(uses)))
     subprocess.run(["rt", "run"], cwd=os.path.join(folder, "crates", name), check=True, stdout=subprocess.DEVNULL)
     return os.path.join(folder, "crates", name, "out", name)
