@@ -1,6 +1,7 @@
 -- No disk has a part in a run; and then each actor's records are kept, and no fall is to be accounted for.
-use Rattle.std.proofs.Common.{◌≡◌, ◌≤◌, ◌+◌, ℕ, Bool, List, [], ◌∷◌, ◌++◌, length, Option, Some, None, fold, refl, sym, subst, ap, ◌∙◌, arith}
+use Rattle.std.proofs.Common.{◌≡◌, ◌≤◌, ◌<◌, ◌+◌, ℕ, Bool, List, [], ◌∷◌, ◌++◌, length, Option, Some, None, fold, refl, sym, subst, ap, ◌∙◌, arith}
 use Rattle.qc_list.proofs.Members.{every-append}
+use Rattle.qc_list.specs.Members.{In}
 use Rattle.qc_core.specs.Conduct.{IsLawful}
 use Rattle.qc_decl.specs.declared.declaration.Declaration.{Declaration}
 use Rattle.qc_msg.specs.declared.record.Record.{Record}
@@ -16,7 +17,7 @@ use Rattle.qc_msg.specs.declared.turn.Turn.{Turn}
 use Rattle.qc_msg.specs.Deeds.{mail, own}
 use Rattle.qc_msg.specs.Steps.{Entry, by, marked, posted, sents, step_of, told, wrote}
 use Rattle.qc_promise.specs.Kept.{IsKeptAt, Kept}
-use Rattle.qc_promise.specs.Spent.{IsInTime, Spent, Tally, no_tally, tally_with, unarmed_falls}
+use Rattle.qc_promise.specs.Spent.{Arm, Spent, Tally, no_tally, tally, tally_with}
 use Rattle.qc_script.specs.Ready.{step_of_control}
 use Rattle.qc_script.specs.Runs.{Runs, begins, takes, posts, phase, control}
 use Rattle.qc_script.specs.declared.script.Script.{Script}
@@ -67,6 +68,10 @@ at_cut : (before later : List Entry) (e : Entry) → AreCalm (before ++ e ∷ la
 at_cut [] later e calm = calm.0
 at_cut (x ∷ before) later e calm = at_cut before later e calm.1
 
+calm_start : (before later : List Entry) → AreCalm (before ++ later) → AreCalm before
+calm_start [] later calm = tt
+calm_start (x ∷ before) later calm = (calm.0, calm_start before later calm.1)
+
 -- records are kept
 
 kept_at : (before : List Step) (step : Step) → IsCalm step → IsKeptAt before step
@@ -111,29 +116,17 @@ all_tallied : (h : List Entry) → AreCalm h → tallied no_tally h ≡ no_tally
 all_tallied [] calm = refl
 all_tallied (e ∷ h) calm = ap (λ (s : Tally). tallied s h) (same_tally e.actor e.step calm.0) ∙ all_tallied h calm.1
 
-in_time : (step : Step) (later : List Entry) → IsCalm step → IsInTime step later
-in_time (steps.Phase number) later calm = tt
-in_time (steps.Cut a b) later calm = tt
-in_time (steps.Heal a b) later calm = tt
-in_time (steps.Armed a kind at) later calm = absurd calm
-in_time (steps.Called command) later calm = tt
-in_time (steps.Got number) later calm = tt
-in_time (steps.Lost number) later calm = tt
-in_time (steps.Wrote written) later calm = tt
-in_time (steps.Sent number to message) later calm = tt
-in_time (steps.Told reply) later calm = tt
-in_time (steps.Fell cause pending) later calm = tt
-in_time (steps.Rose records) later calm = tt
-in_time (steps.Damaged offset) later calm = tt
+none_waits : (h : List Entry) (a : Arm) → AreCalm h → In a (tally h).left → a.calls.fewest < a.at
+none_waits h a calm waits = absurd (subst (λ (t : Tally). In a t.left) (all_tallied h calm) waits)
 
 pub calm_spent : (h : List Entry) (n : ℕ) → AreCalm h → Spent h n
 calm_spent h n calm =
-    let none : unarmed_falls h ≡ 0 = ap (λ (t : Tally). t.unarmed) (all_tallied h calm) in
+    let none : (tally h).unarmed ≡ 0 = ap (λ (t : Tally). t.unarmed) (all_tallied h calm) in
     record {
       falls = omega arith;
-      in_time = λ before later e is. in_time e.step later (at_cut before later e (subst AreCalm (sym is) calm));
+      in_time = λ before later is a. none_waits before a (calm_start before later (subst AreCalm (sym is) calm));
     }
 
 -- the same of more faults
 pub spent_more : (h : List Entry) (n : ℕ) → Spent h 0 → Spent h n
-spent_more h n spent = let few : unarmed_falls h ≤ 0 = spent.falls in record { falls = omega arith; in_time = spent.in_time }
+spent_more h n spent = let few : (tally h).unarmed ≤ 0 = spent.falls in record { falls = omega arith; in_time = spent.in_time }

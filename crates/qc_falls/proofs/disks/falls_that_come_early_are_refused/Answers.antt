@@ -1,0 +1,11 @@
+use Rattle.qc_falls.proofs.Falls.{early_in_opening, early_in_record, early_in_second}
+use Rattle.qc_falls.proofs.disks.falls_that_come_early_are_refused.Goals as goal
+
+pub returns-clause-in_record : goal.returns-clause-in_record
+returns-clause-in_record c = early_in_record
+
+pub returns-clause-second : goal.returns-clause-second
+returns-clause-second c = early_in_second
+
+pub returns-clause-opening : goal.returns-clause-opening
+returns-clause-opening c = early_in_opening
