@@ -14,6 +14,7 @@
 #![tactic(auto)]
 
 mod fault;
+mod firsts;
 mod groups;
 mod laws;
 mod limits;
