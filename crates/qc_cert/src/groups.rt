@@ -155,7 +155,8 @@ fn add_triples(groups: &mut [Group], list: &[Triple], marks: &[bool]) -> Result<
     requires states { All AreStates list.now }
     requires marks { length marks.now ≡ length list.now }
     ensures all { length groups.new ≡ most_states * most_states }
-    ensures outs { OnOk result ((place : ℕ) → slice_index_or groups.new place [] ≡ outs_at (marked marks.now list.now) place) }
+    ensures outs { OnOk result ((place : ℕ)
+        → slice_index_or groups.new place [] ≡ outs_at (marked marks.now list.now) place) }
 {
     'triples: for (place, triple) in list.iter().enumerate() {
         if marks[place] {
