@@ -12,7 +12,7 @@ seen is this program's own, some 17 MB. Cases:
   load_walk.rs, compiled with `rustc -O`: a plain program for the same transactions without links, refusals and proofs;
 - messages: transactions of 16 reads over @three that are given up, of one client, where no log grows: so many messages;
   also behind rules of links, each for a message of its own, none of them sent; and until the limit of steps;
-- triples: `check` of six types with 64 groups of 1,024 triples each, those of a group all equal;
+- triples: `check` of six types of 64 events with 64 groups of 1,024 triples each, those of a group all equal;
 - start: `check @one`.
 
 Ends with status 1 where a bar isn't met.
@@ -45,14 +45,17 @@ def begins(count):
 
 
 def equal_triples():
-    """Six types of 64 states, each with 64 groups of 1,024 equal triples."""
+    """Six types of 64 states and 64 events, all of them legal in each state, which they leave as it is; each with 64
+    groups of 1,024 equal triples."""
     states = [*string.ascii_letters, *string.digits, "aa", "bb"]
+    events = ["I%d r%d" % (inv, resp) for inv in range(32) for resp in range(2)]
     lines = ["sites = 1", "clients = 1"]
     for number in range(6):
-        rows = ['"%s I r %s"' % (state, state) for state in states]
+        rows = ['"%s %s %s"' % (state, event, state) for state in states for event in events]
         triples = ['"%s %s -"' % (state, state) for state in states for _ in range(1024)]
         lines += ["[[type]]", 'name = "t%d"' % number, "states = [%s]" % ",".join('"%s"' % state for state in states),
-                  'start = "a"', 'invocations = ["I"]', 'responses = ["r"]', "rows = [%s]" % ",".join(rows),
+                  'start = "a"', "invocations = [%s]" % ",".join('"I%d"' % inv for inv in range(32)),
+                  'responses = ["r0", "r1"]', "rows = [%s]" % ",".join(rows),
                   "triples = [%s]" % ",".join(triples)]
     lines += ["[[object]]", 'name = "x"', 'type = "t0"', "[[epoch]]", "weights = [1]"]
     return "\n".join(lines) + "\n"

@@ -1,8 +1,9 @@
 -- Groups have what a search for a covering triple looks at.
-use Rattle.std.proofs.Common.{◌≡◌, suc, ◌<◌, ◌≤◌, ◌⊎◌, Bool, true, false, cond, List, [], ◌∷◌, All, length, get_or, refl, sym, ap, ◌∙◌, inl, inr, suc-le-suc, zero-lt-suc, arith}
+use Rattle.std.proofs.Common.{◌≡◌, ℕ, suc, ◌<◌, ◌≤◌, ◌⊎◌, Bool, true, false, cond, List, [], ◌∷◌, ◌++◌, All, length, get_or, set, append_assoc, refl, sym, ap, ◌∙◌, inl, inr, suc-le-suc, zero-lt-suc, arith}
 use Rattle.std.specs.Prelude.{◌==◌, ◌&&◌, ◌||◌}
 use Rattle.std.specs.List.{list_any}
-use Rattle.std.proofs.lemmas.Bool.{eqb-true, eq-eqb, ne_eqb}
+use Rattle.std.proofs.lemmas.Bool.{eqb-true, eqb-false, eq-eqb, ne_eqb}
+use Rattle.std.proofs.lemmas.List.{get_or-set_same, get_or-set_other}
 use Rattle.std.proofs.lemmas.List.Folds.{list_any_none}
 use Rattle.qc_cert.specs.Faults.{covers, is_covered}
 use Rattle.qc_cert.specs.Groups.{AreStates, place_of, outs_at}
@@ -58,3 +59,17 @@ uncovered_past list t all past = list_any_none (λ a. covers a t) list (λ k d l
     by : (a : Triple) → AreStates a → (64 ≤ t.view) ⊎ (64 ≤ t.log) → covers a t ≡ false
     by a states (inl v) = rw (ne_eqb a.view t.view (λ (e : a.view ≡ t.view). let n : a.view < 64 = states.0 in omega arith)) refl
     by a states (inr v) = logs (a.view == t.view) (a.log == t.log) (is_within a.out t.out) (ne_eqb a.log t.log (λ (e : a.log ≡ t.log). let n : a.log < 64 = states.1 in omega arith))
+
+-- a triple that was added to its group
+pub group_added : (groups : List (List ℕ)) (place group out : ℕ) (later : List ℕ) → place < length groups
+    → get_or (set groups place (get_or groups place [] ++ out ∷ [])) group [] ++ later ≡ get_or groups group [] ++ cond (place == group) (out ∷ later) later
+group_added groups place group out later within = by (place == group) refl
+  where
+    by : (b : Bool) → (place == group) ≡ b
+        → get_or (set groups place (get_or groups place [] ++ out ∷ [])) group [] ++ later ≡ get_or groups group [] ++ cond b (out ∷ later) later
+    by true e =
+        let same : group ≡ place = sym (eqb-true place group e) in
+        ap (λ outs. outs ++ later) (ap (λ g. get_or (set groups place (get_or groups place [] ++ out ∷ [])) g []) same ∙ get_or-set_same groups place (get_or groups place [] ++ out ∷ []) [] within)
+        ∙ append_assoc (get_or groups place []) (out ∷ []) later
+        ∙ ap (λ g. get_or groups g [] ++ out ∷ later) (sym same)
+    by false e = ap (λ outs. outs ++ later) (get_or-set_other groups place group (get_or groups place [] ++ out ∷ []) [] (λ same. eqb-false place group e (sym same)))

@@ -2,4 +2,5 @@ pub mod Allowed
 pub mod Computed
 pub mod Faultless
 pub mod Grouped
+pub mod Repeats
 pub mod Walk

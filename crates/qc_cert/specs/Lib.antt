@@ -1,5 +1,6 @@
 pub mod Covered
 pub mod Faults
+pub mod Firsts
 pub mod Groups
 pub mod Inductive
 pub mod Limits

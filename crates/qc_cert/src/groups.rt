@@ -1,14 +1,16 @@
-//! A list of triples, grouped by their two states.
+//! A list of triples, each once in the group of its two states.
 
 ghost use Rattle.std.specs.Prelude.{◌≡◌, ℕ, ◌*◌, ◌<◌, ◌++◌, [], ◌∷◌, All, IfOk, OnOk, length, slice_index_or};
 ghost use Rattle.std.specs.Prelude.{slice_set};
 ghost use Rattle.std.specs.List.{list_any};
 ghost use Rattle.qc_cert.specs.Faults.{is_covered};
+ghost use Rattle.qc_cert.specs.Firsts.{firsts, marked};
 ghost use Rattle.qc_cert.specs.Groups.{AreStates, outs_at, place_of};
 ghost use Rattle.qc_cert.specs.declared.triple.Triple.{Triple};
 ghost use Rattle.qc_table.specs.Sets.{is_within};
 ghost use Rattle.qc_table.specs.Limits.{most_states};
 
+use crate::firsts::firsts;
 use crate::triple::Triple;
 use qc_list::OutOfMemory;
 use qc_table::MOST_STATES;
@@ -19,7 +21,7 @@ use std::marker::Model;
 const GROUPS: usize = MOST_STATES * MOST_STATES;
 
 /// The events that the triples with the same two states leave out, in the
-/// list's order.
+/// list's order, those of equal triples once.
 #[derive(Drop)]
 struct Group {
     outs: Vec<u64>,
@@ -61,10 +63,12 @@ impl Group {
 }
 
 /// A list of triples with its groups. They are looked up by two states, so
-/// that a search walks through one of them alone.
+/// that a search walks through one of them alone. `firsts` has a mark for each
+/// triple, whether no equal one stands before it.
 #[derive(Drop)]
 pub(crate) struct Grouped<'a> {
     list: &'a [Triple],
+    firsts: Vec<bool>,
     groups: Vec<Group>,
 }
 
@@ -77,7 +81,7 @@ impl<'a> Model for Grouped<'a> {
 
     ghost view = { λ g. g.list.now };
 
-    ghost invariant = { λ g. IsGrouped g.list.now g.groups.items };
+    ghost invariant = { λ g. IsGrouped g.list.now g.firsts.items g.groups.items };
 }
 
 impl<'a> Grouped<'a> {
@@ -86,9 +90,14 @@ impl<'a> Grouped<'a> {
         requires { All AreStates list.now }
         ensures { IfOk result (λ g. g ≡ list.now) }
     {
+        let firsts = firsts(alloc, list)?;
         let mut groups = empty_groups(alloc)?;
-        add_triples(&mut groups, list)?;
-        Ok(Grouped { list, groups })
+        add_triples(&mut groups, list, &firsts)?;
+        Ok(Grouped {
+            list,
+            firsts,
+            groups,
+        })
     }
 
     /// The triples.
@@ -96,6 +105,13 @@ impl<'a> Grouped<'a> {
         ensures { result.now ≡ self.now }
     {
         self.list
+    }
+
+    /// For each triple, whether no equal one stands before it.
+    pub(crate) fn firsts(&self) -> &[bool]
+        ensures { result.now ≡ firsts self.now }
+    {
+        self.firsts.as_slice()
     }
 
     /// Whether some triple of the list covers this one.
@@ -132,16 +148,20 @@ fn empty_groups(alloc: Global) -> Result<Vec<Group>, OutOfMemory>
     Ok(groups)
 }
 
-/// Adds triples to empty groups.
-fn add_triples(groups: &mut [Group], list: &[Triple]) -> Result<(), OutOfMemory>
+/// Adds the triples with a mark to empty groups.
+fn add_triples(groups: &mut [Group], list: &[Triple], marks: &[bool]) -> Result<(), OutOfMemory>
     requires all { length groups.old ≡ most_states * most_states }
     requires empty { (place : ℕ) → slice_index_or groups.old place [] ≡ [] }
     requires states { All AreStates list.now }
+    requires marks { length marks.now ≡ length list.now }
     ensures all { length groups.new ≡ most_states * most_states }
-    ensures outs { OnOk result ((place : ℕ) → slice_index_or groups.new place [] ≡ outs_at list.now place) }
+    ensures outs { OnOk result ((place : ℕ)
+        → slice_index_or groups.new place [] ≡ outs_at (marked marks.now list.now) place) }
 {
-    'triples: for triple in list {
-        add_triple(groups, triple)?;
+    'triples: for (place, triple) in list.iter().enumerate() {
+        if marks[place] {
+            add_triple(groups, triple)?;
+        }
     }
     Ok(())
 }

@@ -2,7 +2,8 @@
 
 ghost use Rattle.std.specs.Prelude.{◌≡◌, ℕ, Bool, IsTrue, ◌↔◌, List, None};
 ghost use Rattle.qc_cert.specs.Covered.{IsAccountedFor};
-ghost use Rattle.qc_cert.specs.Faults.{covers, fault_of};
+ghost use Rattle.qc_cert.specs.Faults.{covers, fault_of, is_covered, triple_fault, triples_fault};
+ghost use Rattle.qc_cert.specs.Firsts.{distinct, firsts, marked_fault};
 ghost use Rattle.qc_cert.specs.Inductive.{Covers, IsInductive};
 ghost use Rattle.qc_cert.specs.Views.{IsLegalFor, IsClosed, IsExact};
 ghost use Rattle.qc_cert.specs.declared.triple.Triple.{Triple};
@@ -43,4 +44,24 @@ pub fn inductive_lists_have_no_fault()
 /// other.
 pub fn covers_is_cover()
     ensures { (a b : Triple) → IsTrue (covers a b) ↔ Covers a b }
+{}
+
+/// A triple is covered by the distinct triples of a list just where it is
+/// covered by the list.
+pub fn distinct_triples_cover_alike()
+    ensures { (list : List Triple) (t : Triple) → is_covered (distinct list) t ≡ is_covered list t }
+{}
+
+/// A triple has a fault at each place or at none, so an equal one that stands
+/// before it is at fault where it is.
+pub fn a_place_makes_no_fault()
+    ensures { (kind : Kind) (list : List Triple) (p q : ℕ) (t : Triple)
+        → triple_fault kind list p t ≡ None → triple_fault kind list q t ≡ None }
+{}
+
+/// The first fault of the triples that stand nowhere before is the first
+/// fault of all.
+pub fn the_first_fault_is_of_a_first()
+    ensures { (kind : Kind) (list : List Triple)
+        → marked_fault kind list 0 (firsts list) list ≡ triples_fault kind list 0 list }
 {}

@@ -14,6 +14,7 @@
 #![tactic(auto)]
 
 mod fault;
+mod firsts;
 mod groups;
 mod laws;
 mod limits;
@@ -22,8 +23,9 @@ mod triple;
 
 pub use fault::CertFault;
 pub use laws::{
-    closed_sets_are_covered, covers_is_cover, inductive_lists_have_no_fault,
-    inductive_lists_make_relations_exact, no_fault_is_inductive,
+    a_place_makes_no_fault, closed_sets_are_covered, covers_is_cover, distinct_triples_cover_alike,
+    inductive_lists_have_no_fault, inductive_lists_make_relations_exact, no_fault_is_inductive,
+    the_first_fault_is_of_a_first,
 };
 pub use limits::{MOST_TRIPLES, limit_of_triples_is_as_defined};
 pub use rules::check;

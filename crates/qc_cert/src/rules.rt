@@ -73,15 +73,19 @@ fn unless_covered(triples: &Grouped, fault: CertFault, triple: &Triple) -> Optio
     }
 }
 
-/// The first fault of the triples.
+/// The first fault of the triples. One that is equal to another before it has
+/// a fault just where that one has, so it isn't looked at.
 fn of_triples(kind: &Kind, triples: &Grouped) -> Option<CertFault>
     requires { length triples.now ≤ most_triples }
     ensures { result ≡ triples_fault kind.now triples.now 0 triples.now }
 {
+    let firsts = triples.firsts();
     for (place, triple) in triples.list().iter().enumerate() {
-        let fault = of_triple(kind, triples, place as u32, triple);
-        if fault.is_some() {
-            return fault;
+        if firsts[place] {
+            let fault = of_triple(kind, triples, place as u32, triple);
+            if fault.is_some() {
+                return fault;
+            }
         }
     }
     None

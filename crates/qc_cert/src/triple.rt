@@ -2,8 +2,8 @@
 
 /// What a view may have come to: where a log leads to the state `log`, and
 /// the events of it that a view has lead to `view`, those left out are
-/// among `out`.
-#[derive(Clone, Copy, PartialEq, Eq, Debug)]
+/// among `out`. Triples are ordered by `view`, then `log`, then `out`.
+#[derive(Clone, Copy, PartialEq, Eq, PartialOrd, Ord, Debug)]
 pub struct Triple {
     /// The view's state.
     pub view: u8,

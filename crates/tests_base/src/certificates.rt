@@ -1,5 +1,6 @@
 //! Certificates of six types, and wrong ones of each.
 
+mod registers;
 mod samples;
 
 use qc_cert::{CertFault, MOST_TRIPLES, Triple, check};
@@ -66,4 +67,42 @@ fn fault(alloc: Global, kind: &Kind, list: &[Triple]) -> Result<Option<CertFault
         return Err("a triple of other states");
     }
     Ok(check(alloc, kind, list).err())
+}
+
+/// These triples: the view's state, the log's state, the events left out.
+fn list(alloc: Global, triples: &[(u8, u8, u64)]) -> Result<Vec<Triple>, AllocError> {
+    let triple = |(view, log, out)| Triple { view, log, out };
+    triples.iter().copied().map(triple).collect(alloc)
+}
+
+/// What is wrong with these triples.
+fn found(
+    alloc: Global,
+    kind: &Kind,
+    triples: &[(u8, u8, u64)],
+) -> Result<Option<CertFault>, &'static str> {
+    match list(alloc, triples) {
+        Ok(list) => fault(alloc, kind, &list),
+        Err(_) => Err("no memory"),
+    }
+}
+
+fn left_out(triple: u32, event: u8) -> Option<CertFault> {
+    Some(CertFault::Uncovered {
+        triple,
+        event,
+        taken: false,
+    })
+}
+
+fn taken(triple: u32, event: u8) -> Option<CertFault> {
+    Some(CertFault::Uncovered {
+        triple,
+        event,
+        taken: true,
+    })
+}
+
+fn unequal(triple: u32, inv: u8, resp: u8) -> Option<CertFault> {
+    Some(CertFault::Unequal { triple, inv, resp })
 }

@@ -6,18 +6,12 @@
 //! triple that leaves out no more than the events of such pairs, and whose
 //! states differ for that invocation.
 
-use super::{fault, kind};
+use super::{fault, found, kind, left_out, taken, unequal};
 use qc_cert::{CertFault, Triple};
 use qc_table::Kind;
 use std::alloc::{AllocError, Global};
 use std::process::Abort;
 use std::test::Fail;
-
-/// These triples: the view's state, the log's state, the events left out.
-fn list(alloc: Global, triples: &[(u8, u8, u64)]) -> Result<Vec<Triple>, AllocError> {
-    let triple = |(view, log, out)| Triple { view, log, out };
-    triples.iter().copied().map(triple).collect(alloc)
-}
 
 /// One triple for each two states, in their order, that leaves out these.
 fn grid(alloc: Global, states: u8, outs: &[u64]) -> Result<Vec<Triple>, AllocError> {
@@ -41,112 +35,6 @@ fn without<T: Copy + Drop>(alloc: Global, items: &[T], place: usize) -> Result<V
         }
     }
     Ok(rest)
-}
-
-fn left_out(triple: u32, event: u8) -> Option<CertFault> {
-    Some(CertFault::Uncovered {
-        triple,
-        event,
-        taken: false,
-    })
-}
-
-fn taken(triple: u32, event: u8) -> Option<CertFault> {
-    Some(CertFault::Uncovered {
-        triple,
-        event,
-        taken: true,
-    })
-}
-
-fn unequal(triple: u32, inv: u8, resp: u8) -> Option<CertFault> {
-    Some(CertFault::Unequal { triple, inv, resp })
-}
-
-/// A register over 0 and 1: invocations R, W0 and W1, responses 0, 1 and ok.
-/// Its events are R:0, R:1, W0:ok and W1:ok.
-const REGISTER_ROWS: [(u8, u8, u8, u8); 6] = [
-    (0, 0, 0, 0),
-    (1, 0, 1, 1),
-    (0, 1, 2, 0),
-    (1, 1, 2, 0),
-    (0, 2, 2, 1),
-    (1, 2, 2, 1),
-];
-
-fn register(alloc: Global, pairs: &[(u8, u8)]) -> Option<Kind> {
-    kind(alloc, (2, 3, 3), &REGISTER_ROWS, pairs)
-}
-
-/// R depends on what is written.
-const REGISTER_PAIRS: [(u8, u8); 2] = [(0, 2), (0, 3)];
-
-/// What is wrong with these triples.
-fn found(
-    alloc: Global,
-    kind: &Kind,
-    triples: &[(u8, u8, u64)],
-) -> Result<Option<CertFault>, &'static str> {
-    match list(alloc, triples) {
-        Ok(list) => fault(alloc, kind, &list),
-        Err(_) => Err("no memory"),
-    }
-}
-
-#[test]
-fn registers(rt: HostRuntime) -> Result<(), Fail> {
-    let alloc = rt.alloc();
-    let register = register(alloc, &REGISTER_PAIRS).ok_or("no type")?;
-    let whole = [(0, 0, 0), (0, 1, 8), (1, 1, 0), (1, 0, 4)];
-    assert_eq!(rt; found(alloc, &register, &whole)?, None);
-    assert_eq!(rt; found(alloc, &register, &[])?, Some(CertFault::NoStart));
-    assert_eq!(rt; found(alloc, &register, &[(0, 0, 0)])?, left_out(0, 3));
-    let two = [(0, 0, 0), (0, 1, 8)];
-    assert_eq!(rt; found(alloc, &register, &two)?, taken(0, 3));
-    let three = [(0, 0, 0), (0, 1, 8), (1, 1, 0)];
-    assert_eq!(rt; found(alloc, &register, &three)?, left_out(2, 2));
-    Ok(())
-}
-
-/// A triple that leaves out more covers none that leaves out less: not the
-/// start, nor what follows from it by W1:ok, left out or taken.
-#[test]
-fn registers_that_leave_out_more(rt: HostRuntime) -> Result<(), Fail> {
-    let alloc = rt.alloc();
-    let register = register(alloc, &REGISTER_PAIRS).ok_or("no type")?;
-    let cases = [
-        (
-            [(0, 0, 4), (0, 1, 8), (1, 1, 0), (1, 0, 4)],
-            Some(CertFault::NoStart),
-        ),
-        (
-            [(0, 0, 0), (0, 1, 12), (1, 1, 0), (1, 0, 4)],
-            left_out(0, 3),
-        ),
-        ([(0, 0, 0), (0, 1, 8), (1, 1, 1), (1, 0, 4)], taken(0, 3)),
-    ];
-    for (triples, first) in cases {
-        assert_eq!(rt; found(alloc, &register, &triples)?, first, "{triples:?}");
-    }
-    Ok(())
-}
-
-/// The order of a triple's faults, where nothing depends on anything: in the
-/// first list R is unequal too, and in the third the second triple is.
-#[test]
-fn faults_in_their_order(rt: HostRuntime) -> Result<(), Fail> {
-    let alloc = rt.alloc();
-    let register = register(alloc, &[]).ok_or("no type")?;
-    let cases = [
-        ([(1, 0, 0), (0, 0, 0), (0, 1, 0)], left_out(0, 3)),
-        ([(0, 0, 0), (0, 1, 0), (1, 1, 0)], unequal(1, 0, 0)),
-        ([(0, 0, 0), (0, 1, 0), (1, 0, 0)], taken(0, 3)),
-        ([(0, 1, 0), (0, 0, 0), (1, 0, 0)], unequal(0, 0, 0)),
-    ];
-    for (triples, first) in cases {
-        assert_eq!(rt; found(alloc, &register, &triples)?, first, "{triples:?}");
-    }
-    Ok(())
 }
 
 /// A flag: TAS answers whether it was set, and sets it; Reset answers ok. Its
