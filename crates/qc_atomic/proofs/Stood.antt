@@ -1,5 +1,5 @@
--- A net stands for a history where its sites and clients are as their deeds give them, or as they were before the input that is
--- open. Such a client is tied to its account as that was.
+-- A net stands for a history where its sites and clients are as their deeds give them, or as they were before the
+-- input that is open. Such a client is tied to its account as that was.
 use Rattle.std.proofs.Common.{◌≡◌, ◌≢◌, ℕ, ◌-◌, ◌<◌, ◌≤◌, ◌==◌, ◌&&◌, nat_le, nat_lt, arith, Bool, true, false, List, [], ◌++◌, Option, Some, slice_get, refl, sym, ap, ◌∙◌, subst, eq-eqb, eqb-true, ltb-true}
 use Rattle.std.specs.Prelude.{fold, slice_set}
 use Rattle.std.proofs.lemmas.Bool.{leb-true}

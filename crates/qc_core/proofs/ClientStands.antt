@@ -1,5 +1,5 @@
--- What holds of a client in a run between two inputs, and that it holds again where the front end or the desk has moved:
--- one call numbers all messages of a turn.
+-- What holds of a client in a run between two inputs, and that it holds again where the front end or the desk has
+-- moved: one call numbers all messages of a turn.
 use Rattle.std.proofs.Common.{◌≡◌, ℕ, ◌+◌, Bool, true, false, cond, List, [], ◌∷◌, map, Option, Some, None, is_some, inl, inr, refl, sym, ap, ◌∙◌, subst}
 use Rattle.qc_decl.specs.declared.declaration.Declaration.{Declaration}
 use Rattle.qc_stamp.specs.declared.stamp.TxId.{TxId}

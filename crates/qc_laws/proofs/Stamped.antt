@@ -1,4 +1,5 @@
--- Each Decision Committed names a stamp of its transaction's own client: sites send no Decision, and a client names its own.
+-- Each Decision Committed names a stamp of its transaction's own client: sites send no Decision, and a client names
+-- its own.
 use Rattle.std.proofs.Common.{◌≡◌, ℕ, ◌-◌, nat_le, not, Bool, true, false, if◌then◌else◌, List, [], ◌∷◌, Option, Some, None, refl, subst}
 use Rattle.std.specs.List.{fold}
 use Rattle.qc_core.specs.Conduct.{IsLawful}

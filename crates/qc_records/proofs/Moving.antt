@@ -1,4 +1,5 @@
--- Each event leaves the deeds of clients, the mail and what sites ask right, where the turn that is posted says what it may.
+-- Each event leaves the deeds of clients, the mail and what sites ask right, where the turn that is posted says what
+-- it may.
 use Rattle.std.proofs.Common.{◌≡◌, ◌≢◌, ℕ, ◌+◌, ◌==◌, Bool, true, false, List, [], ◌∷◌, ◌++◌, fold, length, refl, sym, ap, ◌∙◌, subst, eqb-true}
 use Rattle.std.specs.List.{AllByRecursion as Every}
 use Rattle.std.proofs.lemmas.List.Sums.{fold-append}
