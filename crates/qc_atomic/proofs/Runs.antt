@@ -29,12 +29,13 @@ use Rattle.qc_net.proofs.NetLaws as nets
 use Rattle.qc_atomic.specs.Reached.{IsReached}
 use Rattle.qc_atomic.proofs.Closed as closed_logs
 use Rattle.qc_atomic.proofs.Names.{script_named}
-use Rattle.qc_atomic.proofs.Stood.{Stood, runs_stand}
+use Rattle.qc_atomic.proofs.RunsStand.{runs_stand}
+use Rattle.qc_atomic.proofs.Stood.{Stood}
 
 module _ (decl : Declaration) (script : Script) (h : List Entry) (open_inputs : List Bool) (accepted : IsAccepted decl) (sound : IsScriptFor decl script) (run : Runs (IsLawful decl) decl script h open_inputs) where
   pub net_of : IsReached decl h open_inputs
   net_of =
-      let s : Stood decl script h open_inputs = runs_stand decl script (script_named decl accepted script sound) h open_inputs run in
+      let s : Stood decl h open_inputs = runs_stand decl script (script_named decl accepted script sound) h open_inputs run in
       record {
         net = s.net;
         reached = s.reached;

@@ -1,56 +1,67 @@
--- Each run of a script is one of the net: the net stands still as an input is taken, and makes both at the post.
-use Rattle.std.proofs.Common.{◌≡◌, ◌≢◌, ℕ, ◌+◌, ◌-◌, ◌<◌, ◌≤◌, ◌==◌, ◌&&◌, nat_le, nat_lt, arith, Bool, true, false, if◌then◌else◌, List, [], ◌∷◌, ◌++◌, length, Option, Some, None, slice_get, refl, sym, ap, ◌∙◌, subst, eq-eqb, eqb-true, ltb-true}
-use Rattle.std.specs.Prelude.{replicate, slice_set}
+-- A net stands for a history where its sites and clients are as their deeds give them, or as they were before the
+-- input that is open. Such a client is tied to its account as that was.
+use Rattle.std.proofs.Common.{◌≡◌, ◌≢◌, ℕ, ◌-◌, ◌<◌, ◌≤◌, ◌==◌, ◌&&◌, nat_le, nat_lt, arith, Bool, true, false, List, [], ◌++◌, Option, Some, slice_get, refl, sym, ap, ◌∙◌, subst, eq-eqb, eqb-true, ltb-true}
+use Rattle.std.specs.Prelude.{fold, slice_set}
 use Rattle.std.proofs.lemmas.Bool.{leb-true}
-use Rattle.std.proofs.lemmas.List.{append-nil}
 use Rattle.qc_list.specs.Members.{In}
 use Rattle.qc_list.proofs.Members.{every-at, every-from_In}
-use Rattle.qc_entry.specs.declared.record.Commit.{Commit as CommitRecord}
-use Rattle.qc_core.specs.Acts.{MayTake}
-use Rattle.qc_core.specs.Conduct.{IsLawful}
 use Rattle.qc_decl.specs.declared.declaration.Declaration.{Declaration}
-use Rattle.qc_decl.specs.Actors.{actors, controller, is_client, is_site}
+use Rattle.qc_decl.specs.Actors.{actors, is_client, is_site}
 use Rattle.qc_msg.specs.declared.message.Envelope.{Envelope}
-use Rattle.qc_msg.specs.declared.step.Command.{Command}
 use Rattle.qc_msg.specs.declared.step.Given.{Given}
 use Rattle.qc_msg.specs.declared.step.Given.TheVariants as given
-use Rattle.qc_msg.specs.declared.step.Step.{Step}
-use Rattle.qc_msg.specs.declared.step.Step.TheVariants as steps
-use Rattle.qc_msg.specs.declared.turn.Posting.{Posting}
-use Rattle.qc_msg.specs.declared.turn.Turn.{Turn}
-use Rattle.qc_msg.specs.Counts.{commit_in, written}
-use Rattle.qc_msg.specs.Deeds.{Deed, WasSentTo, deeds, envelopes, mail}
-use Rattle.qc_msg.specs.Steps.{Entry, by, marked, posted, step_of}
-use Rattle.qc_msg.proofs.Growth.{deeds-other, deeds-posted, deeds-taken, mail-append, mail-posted, mail-taken}
-use Rattle.qc_script.specs.Ready.{phase_of, ready}
-use Rattle.qc_script.specs.Runs.{Runs, begins, takes, posts, phase, control}
-use Rattle.qc_script.specs.declared.script.Script.{Script}
-use Rattle.qc_client.specs.Client.{ClientMove}
+use Rattle.qc_msg.specs.Counts.{written}
+use Rattle.qc_msg.specs.Deeds.{Deed, WasSentTo, deeds, mail}
+use Rattle.qc_msg.specs.Steps.{Entry}
 use Rattle.qc_client.specs.Conduct.{client_after, client_takes}
 use Rattle.qc_client.specs.declared.client.Client.{Client}
-use Rattle.qc_front.specs.Going.{is_idle}
-use Rattle.qc_front.specs.declared.doing.Doing.{Doing}
-use Rattle.qc_front.specs.declared.doing.Doing.TheVariants.{Idle, Reading, Appending}
 use Rattle.qc_site.specs.Conduct.{site_after, site_takes}
-use Rattle.qc_site.specs.Site.{SiteMove, SiteState}
-use Rattle.qc_laws.proofs.Acted.{deeds-silent, run_acts}
-use Rattle.qc_laws.proofs.Arrivals.{what_is_ready_was_sent}
-use Rattle.qc_laws.proofs.Numbered.{IsSilent, control_silent, mail-silent, phase_silent}
-use Rattle.qc_laws.proofs.Places.{replicate_at, slice_get-more, slice_get-set_other, slice_get-set_same}
-use Rattle.qc_laws.proofs.Replying.{after_taken, client_replies}
-use Rattle.qc_laws.proofs.Running.{what_is_ready_may_be_taken}
-use Rattle.qc_laws.specs.Calls.{is_waiting}
-use Rattle.qc_laws.proofs.Waiting.{round_none, votes_none}
-use Rattle.qc_net.specs.Net.{MayCome, MayCommand, Net, Reaches, after_client, after_site, commits_in, first_net, sent_all}
-use Rattle.qc_net.specs.Net as nets
-use Rattle.qc_net.proofs.Frames.{put_one}
-use Rattle.qc_atomic.specs.Reached.{AreNamed}
-use Rattle.qc_atomic.proofs.Asked.{ready_named}
-use Rattle.qc_atomic.proofs.Posted.{client_posted, control_writes, site_posted, site_taken, taken_writes, written_posted, written_same}
-use Rattle.qc_atomic.proofs.Silent.{site_silent}
+use Rattle.qc_site.specs.Site.{SiteState}
+use Rattle.qc_promise.specs.Account.{Account, new_account}
+use Rattle.qc_promise.specs.Accounting.{account, account_at, account_taken}
+use Rattle.qc_laws.proofs.Places.{slice_get-more, slice_get-set_other, slice_get-set_same}
+use Rattle.qc_account.specs.Ties.{Ties}
+use Rattle.qc_net.specs.Net.{MayCome, MayCommand, Net, Reaches}
 
-module _ (decl : Declaration) (script : Script) where
-  -- an actor with an open input: it is as it was before that
+-- what was sent stays so, and may come
+
+still_sent : (a : ℕ) (ms more : List Envelope) (g : Given) → WasSentTo a ms g → WasSentTo a (ms ++ more) g
+still_sent a ms more (given.Called command) sent = tt
+still_sent a ms more (given.Got envelope) sent = (slice_get-more ms more envelope.number envelope sent.0, sent.1)
+still_sent a ms more (given.Lost number) sent = tt
+
+pub may_come : (net : Net) (a : ℕ) (g : Given) → WasSentTo a net.mail g → MayCome net a g
+may_come net a (given.Called command) sent = tt
+may_come net a (given.Got envelope) sent =
+    (every-at (λ (e : Envelope). In e net.mail) net.mail envelope.number envelope (every-from_In (λ (e : Envelope). In e net.mail) net.mail (λ e among. among)) sent.0, sent.1)
+may_come net a (given.Lost number) sent = tt
+
+and_first : (s t : Bool) → (s && t) ≡ true → s ≡ true
+and_first true t is = refl
+and_first false t is = is
+
+pub apart : (a b : ℕ) → (a ≡ b → ⊥) → (a == b) ≡ false
+apart a b never = at (a == b) refl
+  where
+    at : (t : Bool) → (a == b) ≡ t → t ≡ false
+    at true same = absurd (never (eqb-true a b same))
+    at false other = refl
+
+-- a place is one or the other
+pub not_now : (open_inputs : List Bool) (a : ℕ) (v w t : Bool) → slice_get open_inputs a ≡ Some w → v ≢ t → slice_get (slice_set open_inputs a v) a ≡ Some t → ⊥
+not_now open_inputs a v w t was differs is = let now : slice_get (slice_set open_inputs a v) a ≡ Some v = slice_get-set_same open_inputs a v w was in differs (let same : v ≡ t = cc in same)
+
+pub slot_other : (open_inputs : List Bool) (a b : ℕ) (v : Bool) → (a == b) ≡ false → slice_get (slice_set open_inputs a v) b ≡ slice_get open_inputs b
+slot_other open_inputs a b v other = slice_get-set_other open_inputs a b v (λ e. (let t : (a == b) ≡ true = eq-eqb a b e in let never : ⊥ = cc in never))
+
+pub false_true : false ≢ true
+false_true e = let never : ⊥ = cc in never
+
+pub true_false : true ≢ false
+true_false e = let never : ⊥ = cc in never
+
+module _ (decl : Declaration) where
+  -- an actor with an open input, as it was before that
 
   pub record OpenSite (s : SiteState) (a : ℕ) (h : List Entry) : Type 0 where
     pub given : Given
@@ -62,6 +73,10 @@ module _ (decl : Declaration) (script : Script) where
     pub sent : WasSentTo a (mail h) given
     pub may : MayCommand decl c given
     pub is : client_after decl (a - decl.sites) (deeds a [] h) ≡ client_takes decl c given
+    -- its account as it was, to which it is tied, and as it is
+    pub was : Account
+    pub tied : Ties decl was c
+    pub now_is : account decl a h ≡ account_taken was given
 
   -- an actor's state: as its deeds give it, or before the input that is open
 
@@ -81,40 +96,16 @@ module _ (decl : Declaration) (script : Script) where
     pub sites_are : (a : ℕ) → is_site decl a ≡ true → SiteStands (net.sites a) a h (slice_get open_inputs a)
     pub clients_are : (a : ℕ) → is_client decl a ≡ true → ClientStands (net.clients a) a h (slice_get open_inputs a)
 
-  -- what was sent stays so, and may come
-
-  still_sent : (a : ℕ) (ms more : List Envelope) (g : Given) → WasSentTo a ms g → WasSentTo a (ms ++ more) g
-  still_sent a ms more (given.Called command) sent = tt
-  still_sent a ms more (given.Got envelope) sent = (slice_get-more ms more envelope.number envelope sent.0, sent.1)
-  still_sent a ms more (given.Lost number) sent = tt
-
-  may_come : (net : Net) (a : ℕ) (g : Given) → WasSentTo a net.mail g → MayCome net a g
-  may_come net a (given.Called command) sent = tt
-  may_come net a (given.Got envelope) sent =
-      (every-at (λ (e : Envelope). In e net.mail) net.mail envelope.number envelope (every-from_In (λ (e : Envelope). In e net.mail) net.mail (λ e among. among)) sent.0, sent.1)
-  may_come net a (given.Lost number) sent = tt
-
-  and_first : (s t : Bool) → (s && t) ≡ true → s ≡ true
-  and_first true t is = refl
-  and_first false t is = is
-
   -- no actor is both
-  both : (a : ℕ) → is_site decl a ≡ true → is_client decl a ≡ true → ⊥
+  pub both : (a : ℕ) → is_site decl a ≡ true → is_client decl a ≡ true → ⊥
   both a site client =
       let low : a < decl.sites = ltb-true a decl.sites site in
       let high : decl.sites ≤ a = leb-true decl.sites a (and_first (nat_le decl.sites a) (nat_lt a (actors decl)) client) in
       omega arith
 
-  apart : (a b : ℕ) → (a ≡ b → ⊥) → (a == b) ≡ false
-  apart a b never = at (a == b) refl
-    where
-      at : (t : Bool) → (a == b) ≡ t → t ≡ false
-      at true same = absurd (never (eqb-true a b same))
-      at false other = refl
-
   -- the deeds stay, and more is sent
 
-  site_stays : (s : SiteState) (a : ℕ) (h k : List Entry) (more : List Envelope) (o p : Option Bool) → deeds a [] k ≡ deeds a [] h → mail k ≡ mail h ++ more → p ≡ o → SiteStands s a h o → SiteStands s a k p
+  pub site_stays : (s : SiteState) (a : ℕ) (h k : List Entry) (more : List Envelope) (o p : Option Bool) → deeds a [] k ≡ deeds a [] h → mail k ≡ mail h ++ more → p ≡ o → SiteStands s a h o → SiteStands s a k p
   site_stays s a h k more o p same grows slot r = record {
     closed = λ e. r.closed (sym slot ∙ e) ∙ ap (λ (ds : List Deed). (site_after decl a ds).site) (sym same);
     opened = λ e. (let x : OpenSite s a h = r.opened (sym slot ∙ e) in record {
@@ -124,7 +115,7 @@ module _ (decl : Declaration) (script : Script) where
     });
   }
 
-  client_stays : (c : Client) (a : ℕ) (h k : List Entry) (more : List Envelope) (o p : Option Bool) → deeds a [] k ≡ deeds a [] h → mail k ≡ mail h ++ more → p ≡ o → ClientStands c a h o → ClientStands c a k p
+  pub client_stays : (c : Client) (a : ℕ) (h k : List Entry) (more : List Envelope) (o p : Option Bool) → deeds a [] k ≡ deeds a [] h → mail k ≡ mail h ++ more → p ≡ o → ClientStands c a h o → ClientStands c a k p
   client_stays c a h k more o p same grows slot r = record {
     closed = λ e. r.closed (sym slot ∙ e) ∙ ap (λ (ds : List Deed). (client_after decl (a - decl.sites) ds).client) (sym same);
     opened = λ e. (let x : OpenClient c a h = r.opened (sym slot ∙ e) in record {
@@ -132,214 +123,8 @@ module _ (decl : Declaration) (script : Script) where
       sent = subst (λ (ms : List Envelope). WasSentTo a ms x.given) (sym grows) (still_sent a (mail h) more x.given x.sent);
       may = x.may;
       is = ap (client_after decl (a - decl.sites)) same ∙ x.is;
+      was = x.was;
+      tied = x.tied;
+      now_is = ap (fold (account_at decl) (new_account (a - decl.sites))) same ∙ x.now_is;
     });
   }
-
-  -- a place is one or the other
-  not_now : (open_inputs : List Bool) (a : ℕ) (v w t : Bool) → slice_get open_inputs a ≡ Some w → v ≢ t → slice_get (slice_set open_inputs a v) a ≡ Some t → ⊥
-  not_now open_inputs a v w t was differs is = let now : slice_get (slice_set open_inputs a v) a ≡ Some v = slice_get-set_same open_inputs a v w was in differs (let same : v ≡ t = cc in same)
-
-  slot_other : (open_inputs : List Bool) (a b : ℕ) (v : Bool) → (a == b) ≡ false → slice_get (slice_set open_inputs a v) b ≡ slice_get open_inputs b
-  slot_other open_inputs a b v other = slice_get-set_other open_inputs a b v (λ e. (let t : (a == b) ≡ true = eq-eqb a b e in let never : ⊥ = cc in never))
-
-  false_true : false ≢ true
-  false_true e = let never : ⊥ = cc in never
-
-  true_false : true ≢ false
-  true_false e = let never : ⊥ = cc in never
-
-  -- an input is taken
-
-  idle_is : (doing : Doing) → is_idle doing ≡ true → doing ≡ Idle
-  idle_is Idle is = refl
-  idle_is (Reading object inv calls round) is = absurd (let never : ⊥ = cc in never)
-  idle_is (Appending object inv event calls round) is = absurd (let never : ⊥ = cc in never)
-
-  module _ (named : AreNamed decl script) (h : List Entry) (open_inputs : List Bool) (run : Runs (IsLawful decl) decl script h open_inputs) (old : Stood h open_inputs) where
-    module _ (a : ℕ) (g : Given) (free : slice_get open_inputs a ≡ Some false) (rdy : ready decl script a h ≡ Some g) where
-      abbrev now_taken : List Entry
-      now_taken = h ++ marked a (step_of g) ∷ []
-
-      sent : WasSentTo a (mail h) g
-      sent = what_is_ready_was_sent (IsLawful decl) decl script h open_inputs run a g rdy
-
-      sent_now : WasSentTo a (mail now_taken) g
-      sent_now = subst (λ (ms : List Envelope). WasSentTo a ms g) (sym (mail-taken h a g)) sent
-
-      grows : mail now_taken ≡ mail h ++ []
-      grows = mail-taken h a g ∙ sym (append-nil (mail h))
-
-      still : is_client decl a ≡ true → (command : Command) → g ≡ given.Called command → is_waiting (client_after decl (a - decl.sites) (deeds a [] h)).client ≡ false
-      still client command is =
-          client_replies decl a (at (is_site decl a) refl) client (deeds a [] h) false (run_acts decl script h open_inputs run a false free).above (run_acts decl script h open_inputs run a false free).acts
-          (subst (MayTake (deeds a [] h)) is (what_is_ready_may_be_taken decl script a h g rdy))
-        where
-          at : (t : Bool) → is_site decl a ≡ t → t ≡ false
-          at true site = absurd (both a site client)
-          at false none = refl
-
-      may : (x : Given) → g ≡ x → is_client decl a ≡ true → MayCommand decl (client_after decl (a - decl.sites) (deeds a [] h)).client x
-      may (given.Called command) is client =
-          let c : Client = (client_after decl (a - decl.sites) (deeds a [] h)).client in
-          let rests : is_waiting (client_after decl (a - decl.sites) (deeds a [] h)).client ≡ false = still client command is in (
-            record { voting = votes_none c rests; doing = idle_is c.front.doing (round_none c rests) },
-            ready_named decl script named h open_inputs run a command free (rdy ∙ ap (λ (v : Given). Some v) is),
-          )
-      may (given.Got envelope) is client = tt
-      may (given.Lost number) is client = tt
-
-      pub stands_taken : Stood now_taken (slice_set open_inputs a true)
-      stands_taken = record {
-        net = old.net;
-        reached = old.reached;
-        mail_is = old.mail_is ∙ sym (mail-taken h a g);
-        written_is = old.written_is ∙ sym (written_same h a (step_of g) (taken_writes g));
-        sites_are = λ b site. by_site b site (a == b) refl;
-        clients_are = λ b client. by_client b client (a == b) refl;
-      }
-        where
-          by_site : (b : ℕ) → is_site decl b ≡ true → (t : Bool) → (a == b) ≡ t → SiteStands (old.net.sites b) b now_taken (slice_get (slice_set open_inputs a true) b)
-          by_site b site false other = site_stays (old.net.sites b) b h now_taken [] (slice_get open_inputs b) (slice_get (slice_set open_inputs a true) b) (deeds-other a b [] h (step_of g ∷ []) other) grows (slot_other open_inputs a b true other) (old.sites_are b site)
-          by_site b site true same = subst (λ (k : ℕ). SiteStands (old.net.sites k) k now_taken (slice_get (slice_set open_inputs a true) k)) (eqb-true a b same) (record {
-            closed = λ e. absurd (not_now open_inputs a true false false free true_false e);
-            opened = λ e. record {
-              given = g;
-              sent = sent_now;
-              is = ap (site_after decl a) (deeds-taken a h g sent) ∙ site_taken decl a (deeds a [] h) g
-                  ∙ ap (λ (s : SiteState). site_takes decl s g) (sym ((old.sites_are a (subst (λ (k : ℕ). is_site decl k ≡ true) (sym (eqb-true a b same)) site)).closed free));
-            };
-          })
-
-          by_client : (b : ℕ) → is_client decl b ≡ true → (t : Bool) → (a == b) ≡ t → ClientStands (old.net.clients b) b now_taken (slice_get (slice_set open_inputs a true) b)
-          by_client b client false other = client_stays (old.net.clients b) b h now_taken [] (slice_get open_inputs b) (slice_get (slice_set open_inputs a true) b) (deeds-other a b [] h (step_of g ∷ []) other) grows (slot_other open_inputs a b true other) (old.clients_are b client)
-          by_client b client true same =
-              let here : is_client decl a ≡ true = subst (λ (k : ℕ). is_client decl k ≡ true) (sym (eqb-true a b same)) client in
-              let was : old.net.clients a ≡ (client_after decl (a - decl.sites) (deeds a [] h)).client = (old.clients_are a here).closed free in
-              subst (λ (k : ℕ). ClientStands (old.net.clients k) k now_taken (slice_get (slice_set open_inputs a true) k)) (eqb-true a b same) (record {
-                closed = λ e. absurd (not_now open_inputs a true false false free true_false e);
-                opened = λ e. record {
-                  given = g;
-                  sent = sent_now;
-                  may = subst (λ (c : Client). MayCommand decl c g) (sym was) (may g refl here);
-                  is = ap (client_after decl (a - decl.sites)) (deeds-taken a h g sent) ∙ after_taken decl (a - decl.sites) (deeds a [] h) g ∙ ap (λ (c : Client). client_takes decl c g) (sym was);
-                };
-              })
-
-    -- a turn is posted
-
-    module _ (a : ℕ) (turn : Turn) (taken : slice_get open_inputs a ≡ Some true) where
-      abbrev now_posted : List Entry
-      now_posted = h ++ by a (posted (length (mail h)) turn)
-
-      mail_now : mail now_posted ≡ mail h ++ envelopes a (length (mail h)) turn.sends
-      mail_now = mail-append h (by a (posted (length (mail h)) turn)) ∙ ap (λ (ms : List Envelope). mail h ++ ms) (mail-posted a (length (mail h)) turn)
-
-      mail_after : (sends : List Posting) → sends ≡ turn.sends → old.net.mail ++ envelopes a (length old.net.mail) sends ≡ mail now_posted
-      mail_after sends is = ap (λ (ps : List Posting). old.net.mail ++ envelopes a (length old.net.mail) ps) is ∙ ap (λ (ms : List Envelope). ms ++ envelopes a (length ms) turn.sends) old.mail_is ∙ sym mail_now
-
-      site_elsewhere : (b : ℕ) → is_site decl b ≡ true → (a == b) ≡ false → SiteStands (old.net.sites b) b now_posted (slice_get (slice_set open_inputs a false) b)
-      site_elsewhere b site other =
-          site_stays (old.net.sites b) b h now_posted (envelopes a (length (mail h)) turn.sends) (slice_get open_inputs b) (slice_get (slice_set open_inputs a false) b) (deeds-other a b [] h (posted (length (mail h)) turn) other) mail_now (slot_other open_inputs a b false other) (old.sites_are b site)
-
-      client_elsewhere : (b : ℕ) → is_client decl b ≡ true → (a == b) ≡ false → ClientStands (old.net.clients b) b now_posted (slice_get (slice_set open_inputs a false) b)
-      client_elsewhere b client other =
-          client_stays (old.net.clients b) b h now_posted (envelopes a (length (mail h)) turn.sends) (slice_get open_inputs b) (slice_get (slice_set open_inputs a false) b) (deeds-other a b [] h (posted (length (mail h)) turn) other) mail_now (slot_other open_inputs a b false other) (old.clients_are b client)
-
-      differs : (b : ℕ) → b ≢ a → (a == b) ≡ false
-      differs b other = apart a b (λ same. other (sym same))
-
-      module _ (site : is_site decl a ≡ true) (law : turn ≡ (site_after decl a (deeds a [] h)).turn) where
-        x : OpenSite (old.net.sites a) a h
-        x = (old.sites_are a site).opened taken
-
-        abbrev move : SiteMove
-        move = site_takes decl (old.net.sites a) x.given
-
-        turn_is : move.turn ≡ turn
-        turn_is = sym (law ∙ ap (λ (m : SiteMove). m.turn) x.is)
-
-        pub stands_served : Stood now_posted (slice_set open_inputs a false)
-        stands_served = record {
-          net = after_site old.net a move;
-          reached = nets.serves a x.given old.net old.reached site (may_come old.net a x.given (subst (λ (ms : List Envelope). WasSentTo a ms x.given) (sym old.mail_is) x.sent));
-          mail_is = mail_after move.turn.sends (ap (λ (t : Turn). t.sends) turn_is);
-          written_is = old.written_is ∙ sym (written_posted h a (length (mail h)) turn ∙ ap (λ (cs : List CommitRecord). written h ++ cs) (ap (λ (t : Turn). commits_in t.write) (sym turn_is) ∙ site_silent decl (old.net.sites a) x.given) ∙ append-nil (written h));
-          sites_are = λ b is. put_one (λ k (s : SiteState). SiteStands s k now_posted (slice_get (slice_set open_inputs a false) k)) old.net.sites a move.site b here (λ other. site_elsewhere b is (differs b other));
-          clients_are = λ b is. client_elsewhere b is (apart a b (λ same. both b (subst (λ (k : ℕ). is_site decl k ≡ true) same site) is));
-        }
-          where
-            here : SiteStands move.site a now_posted (slice_get (slice_set open_inputs a false) a)
-            here = record {
-              closed = λ e. ap (λ (m : SiteMove). m.site) (sym x.is) ∙ sym (ap (λ (m : SiteMove). m.site) (ap (site_after decl a) (deeds-posted a (length (mail h)) h turn) ∙ site_posted decl a (deeds a [] h) (length (mail h)) turn));
-              opened = λ e. absurd (not_now open_inputs a false true true taken false_true e);
-            }
-
-      module _ (none : is_site decl a ≡ false) (client : is_client decl a ≡ true) (law : turn ≡ (client_after decl (a - decl.sites) (deeds a [] h)).turn) where
-        y : OpenClient (old.net.clients a) a h
-        y = (old.clients_are a client).opened taken
-
-        abbrev step : ClientMove
-        step = client_takes decl (old.net.clients a) y.given
-
-        turn_was : step.turn ≡ turn
-        turn_was = sym (law ∙ ap (λ (m : ClientMove). m.turn) y.is)
-
-        pub stands_done : Stood now_posted (slice_set open_inputs a false)
-        stands_done = record {
-          net = after_client old.net a step;
-          reached = nets.takes a y.given old.net old.reached client (may_come old.net a y.given (subst (λ (ms : List Envelope). WasSentTo a ms y.given) (sym old.mail_is) y.sent)) y.may;
-          mail_is = mail_after step.turn.sends (ap (λ (t : Turn). t.sends) turn_was);
-          written_is = (λ i. old.written_is i ++ commits_in (turn_was i).write) ∙ sym (written_posted h a (length (mail h)) turn);
-          sites_are = λ b is. site_elsewhere b is (apart a b (λ same. (let site : is_site decl a ≡ true = subst (λ (k : ℕ). is_site decl k ≡ true) (sym same) is in let never : ⊥ = cc in never)));
-          clients_are = λ b is. put_one (λ k (c : Client). ClientStands c k now_posted (slice_get (slice_set open_inputs a false) k)) old.net.clients a (sent_all step.client (length old.net.mail) step.turn.sends) b here (λ other. client_elsewhere b is (differs b other));
-        }
-          where
-            moved_to : step ≡ client_after decl (a - decl.sites) (deeds a [] h)
-            moved_to = sym y.is
-
-            here : ClientStands (sent_all step.client (length old.net.mail) step.turn.sends) a now_posted (slice_get (slice_set open_inputs a false) a)
-            here = record {
-              closed = λ e.
-                  (λ i. sent_all (moved_to i).client (length (old.mail_is i)) (turn_was i).sends)
-                  ∙ sym (ap (λ (ds : List Deed). (client_after decl (a - decl.sites) ds).client) (deeds-posted a (length (mail h)) h turn) ∙ client_posted decl (a - decl.sites) (deeds a [] h) (length (mail h)) turn);
-              opened = λ e. absurd (not_now open_inputs a false true true taken false_true e);
-            }
-
-      pub stands_posted : IsLawful decl a (deeds a [] h) turn → Stood now_posted (slice_set open_inputs a false)
-      stands_posted law = at (is_site decl a) (is_client decl a) refl refl law
-        where
-          at : (s c : Bool) → is_site decl a ≡ s → is_client decl a ≡ c → (if s then Some (site_after decl a (deeds a [] h)).turn else (if c then Some (client_after decl (a - decl.sites) (deeds a [] h)).turn else None)) ≡ Some turn → Stood now_posted (slice_set open_inputs a false)
-          at true c site client is = stands_served site (let same : turn ≡ (site_after decl a (deeds a [] h)).turn = cc in same)
-          at false true none client is = stands_done none client (let same : turn ≡ (client_after decl (a - decl.sites) (deeds a [] h)).turn = cc in same)
-          at false false none no_client is = absurd (let never : ⊥ = cc in never)
-
-    -- a step of the controller is nothing to the net
-    pub stands_still : (b : ℕ) (silent_step : Step) → IsSilent silent_step → commit_in silent_step ≡ None → Stood (h ++ marked b silent_step ∷ []) open_inputs
-    stands_still b silent_step silent none = record {
-      net = old.net;
-      reached = old.reached;
-      mail_is = old.mail_is ∙ sym (mail-silent h b silent_step silent);
-      written_is = old.written_is ∙ sym (written_same h b silent_step none);
-      sites_are = λ a site. site_stays (old.net.sites a) a h (h ++ marked b silent_step ∷ []) [] (slice_get open_inputs a) (slice_get open_inputs a) (deeds-silent a b h silent_step silent) (mail-silent h b silent_step silent ∙ sym (append-nil (mail h))) refl (old.sites_are a site);
-      clients_are = λ a client. client_stays (old.net.clients a) a h (h ++ marked b silent_step ∷ []) [] (slice_get open_inputs a) (slice_get open_inputs a) (deeds-silent a b h silent_step silent) (mail-silent h b silent_step silent ∙ sym (append-nil (mail h))) refl (old.clients_are a client);
-    }
-
-  at_first : (a : ℕ) (t : Bool) → slice_get (replicate (actors decl) false) a ≡ Some true → ⊥
-  at_first a t is = let no : true ≡ false = replicate_at (actors decl) a false true is in true_false no
-
-  -- each run is one of the net
-  pub runs_stand : AreNamed decl script → (h : List Entry) (open_inputs : List Bool) → Runs (IsLawful decl) decl script h open_inputs → Stood h open_inputs
-  runs_stand named h open_inputs begins = record {
-    net = first_net decl;
-    reached = nets.begins;
-    mail_is = refl;
-    written_is = refl;
-    sites_are = λ a site. record { closed = λ e. refl; opened = λ e. absurd (at_first a true e) };
-    clients_are = λ a client. record { closed = λ e. refl; opened = λ e. absurd (at_first a true e) };
-  }
-  runs_stand named h open_inputs (takes a g before older run free rdy) = stands_taken named older before run (runs_stand named older before run) a g free rdy
-  runs_stand named h open_inputs (posts a turn before older run taken law) = stands_posted named older before run (runs_stand named older before run) a turn taken law
-  runs_stand named h open_inputs (phase before older run idle done quiet more) =
-      stands_still named older before run (runs_stand named older before run) (controller decl) (steps.Phase (phase_of older + 1)) (phase_silent (phase_of older + 1)) refl
-  runs_stand named h open_inputs (control line lines acted before older run left is) =
-      stands_still named older before run (runs_stand named older before run) (controller decl) acted (control_silent line acted is) (control_writes line acted is)

@@ -30,7 +30,8 @@ use Rattle.qc_core.specs.Acts.{Acts, MayTake, is_running, starts, takes, posts}
 use Rattle.qc_core.proofs.ActorLaws.{at_client, at_site, other_client}
 use Rattle.qc_core.proofs.ActorSent.{known, lawful_turn, sent_at_once}
 use Rattle.qc_core.proofs.ClientReaches.{AskedFit, client_reach, new_asked, sent_asked}
-use Rattle.qc_core.proofs.ClientStands.{Lands, Stands, lands}
+use Rattle.qc_core.proofs.ClientLands.{lands}
+use Rattle.qc_core.proofs.ClientStands.{Lands, Stands}
 use Rattle.qc_core.proofs.SiteReaches.{site_reach}
 
 -- few sites are asked, before the numbers of a turn's messages are known as after

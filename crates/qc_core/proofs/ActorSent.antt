@@ -21,7 +21,8 @@ use Rattle.qc_core.specs.Actors.{ActorMove, actor_after, actor_sent, actor_takes
 use Rattle.qc_core.proofs.ActorLaws.{at_client, at_site, other_client}
 use Rattle.qc_core.specs.Acts.{Acts, MayTake, is_running, runs_at, runs_given, starts, takes, posts}
 use Rattle.qc_core.specs.Conduct.{IsLawful}
-use Rattle.qc_core.proofs.ClientStands.{Stands, lands, new_stands, runs_told, sends_all}
+use Rattle.qc_core.proofs.ClientLands.{lands}
+use Rattle.qc_core.proofs.ClientStands.{Stands, new_stands, runs_told, sends_all}
 
 -- a client over the deeds of a turn
 

@@ -38,7 +38,9 @@ use Rattle.qc_client.specs.declared.client.Client.{Client}
 use Rattle.qc_client.specs.Client.{ClientMove, by_desk, by_front, moved, new_client}
 use Rattle.qc_client.specs.Conduct.{answered, answered_by, called, client_takes, commits, heard, sent, sent_by}
 use Rattle.qc_core.specs.Actors.{IsFrom, IsShort}
-use Rattle.qc_core.proofs.FrontReaches.{AreSites, Reaches, asked_in, called_reaches, cyclic_length, length_filter, takes_reaches, verdicts_few, verdicts_reach}
+use Rattle.qc_core.proofs.FewSites.{AreSites}
+use Rattle.qc_core.proofs.FrontReaches.{Reaches, asked_in, called_reaches, takes_reaches, verdicts_few, verdicts_reach}
+use Rattle.qc_core.proofs.RoundSites.{cyclic_length, length_filter}
 
 -- the sites that a client's transactions asked are sites
 

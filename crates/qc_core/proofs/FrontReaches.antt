@@ -1,27 +1,15 @@
 -- A front end's turns go to sites, and are short: it asks sites, and tells a verdict to those that it asked.
-use Rattle.std.proofs.Common.{◌≡◌, ℕ, zero, suc, ◌+◌, ◌-◌, ◌%◌, ◌<◌, ◌≤◌, ◌==◌, nat_le, nat_lt, Bool, true, false, cond, List, [], ◌∷◌, ◌++◌, filter, fold, length, map, Option, Some, None, option_map, refl, sym, ap, subst, arith}
-use Rattle.std.specs.Prelude.{slice_get, slice_index}
-use Rattle.std.specs.List.{AllByRecursion as Every, range_with_len}
-use Rattle.std.specs.Option.{option_map_or}
-use Rattle.std.specs.Ordering.{nat_cmp}
-use Rattle.std.specs.declared.cmp.Ordering.{Ordering}
-use Rattle.std.specs.declared.cmp.Ordering.TheVariants.{Less, Equal, Greater}
-use Rattle.std.proofs.lemmas.Cmp.{nat_cmp_total}
-use Rattle.std.proofs.lemmas.Bool.Decides.{nat_tests}
-use Rattle.std.proofs.lemmas.List.{length-append, length-map}
-use Rattle.std.proofs.lemmas.List.FromFn.{length-range_with_len}
-use Rattle.qc_list.specs.Order.{Ascends, IsBelowAll, by_order, inserted}
-use Rattle.qc_list.proofs.Members.{In-passes, every-from_In}
-use Rattle.qc_list.proofs.Order.{ascends-inserted}
+use Rattle.std.proofs.Common.{◌≡◌, ℕ, ◌<◌, ◌≤◌, nat_le, Bool, true, false, cond, List, [], ◌∷◌, ◌++◌, length, map, Option, Some, None, option_map, refl, sym, ap, subst, arith}
+use Rattle.std.specs.Prelude.{slice_get}
+use Rattle.std.specs.List.{AllByRecursion as Every}
+use Rattle.std.proofs.lemmas.List.{length-map}
 use Rattle.qc_decl.specs.declared.declaration.Declaration.{Declaration}
-use Rattle.qc_decl.specs.Accepted.{IsAccepted, IsGood}
-use Rattle.qc_decl.specs.Actors.{first_site}
+use Rattle.qc_decl.specs.Accepted.{IsAccepted}
 use Rattle.qc_decl.specs.Limits.{most_transaction_operations}
-use Rattle.qc_decl.specs.Lookup.{append_need_of, plan_in, read_need_of}
-use Rattle.qc_plan.specs.declared.plan.Plan.{Plan}
+use Rattle.qc_decl.specs.Lookup.{append_need_of, read_need_of}
 use Rattle.qc_plan.specs.declared.standing.Verdict.{Verdict}
 use Rattle.qc_plan.specs.declared.standing.Verdict.TheVariants as verdicts
-use Rattle.qc_plan.specs.Round.{RoundState, cyclic, note, start, verdict, wanted, weighing, weight_at}
+use Rattle.qc_plan.specs.Round.{RoundState, note, verdict, wanted}
 use Rattle.qc_view.specs.declared.view.View.{View}
 use Rattle.qc_view.specs.View.{with_log, with_own}
 use Rattle.qc_msg.specs.declared.begun.Begun.{Begun}
@@ -39,7 +27,7 @@ use Rattle.qc_msg.specs.declared.step.Command.{Command}
 use Rattle.qc_msg.specs.declared.step.Command.TheVariants as commands
 use Rattle.qc_msg.specs.declared.turn.Posting.{Posting}
 use Rattle.qc_msg.specs.declared.turn.Turn.{Turn}
-use Rattle.qc_msg.specs.Begun.{decisions, with_site}
+use Rattle.qc_msg.specs.Begun.{decisions}
 use Rattle.qc_msg.specs.Calls.{site_called, without_call}
 use Rattle.qc_msg.specs.Turns.{quiet, telling}
 use Rattle.qc_front.specs.declared.doing.Doing.{Doing}
@@ -47,144 +35,14 @@ use Rattle.qc_front.specs.declared.doing.Doing.TheVariants.{Idle, Reading, Appen
 use Rattle.qc_front.specs.declared.front.Front.{Front}
 use Rattle.qc_front.specs.declared.transaction.Transaction.{Transaction}
 use Rattle.qc_front.specs.Answering.{answer_of, next_own, resp_of, with_event, with_view}
-use Rattle.qc_front.specs.Appending.{append_want, read_want, request_of, round_for, weights_of}
+use Rattle.qc_front.specs.Appending.{append_want, read_want, request_of, round_for}
 use Rattle.qc_front.specs.Conduct.{appending_takes, called, commits, reading_takes, takes, takes_in}
 use Rattle.qc_front.specs.Counting.{appended_with, learns, lived, read_with, standing_of}
 use Rattle.qc_front.specs.Front.{FrontMove, aborts, begins, gives_up, moved}
-use Rattle.qc_front.specs.Holds.{BegunHolds, FrontHolds, IsRound, sites_of}
+use Rattle.qc_front.specs.Holds.{BegunHolds, FrontHolds}
 use Rattle.qc_front.specs.Rounds.{answered, append_by, goes_on, performs, read_by, reads}
-use Rattle.qc_front.proofs.Awaited.{wanted_is}
-
--- sites, ascending, each once: so they are few
-
-pub record AreSites (n : ℕ) (xs : List ℕ) : Type 0 where
-  pub below : Every (λ site. site < n) xs
-  pub ascends : Ascends nat_cmp xs
-
-less : (x y : ℕ) → nat_cmp x y ≡ Less → x < y
-less x y is = grind (arith, nat_tests)
-
-above : (x : ℕ) (ys : List ℕ) → IsBelowAll nat_cmp x ys → Every (λ y. x + 1 ≤ y) ys
-above x [] is = tt
-above x (y ∷ ys) is = (let low : x < y = less x y is.0 in omega arith, above x ys is.1)
-
-few_between : (m n : ℕ) (xs : List ℕ) → Every (λ x. m ≤ x) xs → Every (λ x. x < n) xs → Ascends nat_cmp xs → length xs ≤ n - m
-few_between m n [] low high order = omega arith
-few_between m n (x ∷ xs) low high order =
-    let rest : length xs ≤ n - (x + 1) = few_between (x + 1) n xs (above x xs order.0) high.1 order.1 in
-    let least : m ≤ x = low.0 in
-    let most : x < n = high.0 in
-    omega arith
-
-none_low : (xs : List ℕ) → Every (λ x. 0 ≤ x) xs
-none_low [] = tt
-none_low (x ∷ xs) = (omega arith, none_low xs)
-
-pub few_sites : (n : ℕ) (xs : List ℕ) → AreSites n xs → length xs ≤ n
-few_sites n xs are = let few : length xs ≤ n - 0 = few_between 0 n xs (none_low xs) are.below are.ascends in omega arith
-
-with_below : (n : ℕ) (xs : List ℕ) (x : ℕ) → x < n → Every (λ y. y < n) xs → Every (λ y. y < n) (with_site xs x)
-with_below n [] x low all = (low, tt)
-with_below n (y ∷ ys) x low all = by (nat_cmp x y) (with_below n ys x low all.1)
-  where
-    by : (o : Ordering) → Every (λ z. z < n) (with_site ys x) → Every (λ z. z < n) (by_order o (x ∷ y ∷ ys) (x ∷ ys) (y ∷ inserted nat_cmp ys x))
-    by Less rest = (low, all)
-    by Equal rest = (low, all.1)
-    by Greater rest = (all.0, rest)
-
-more_sites : (n : ℕ) (xs sites : List ℕ) → AreSites n xs → Every (λ x. x < n) sites → AreSites n (fold with_site xs sites)
-more_sites n xs [] are low = are
-more_sites n xs (x ∷ sites) are low =
-    more_sites n (with_site xs x) sites (record { below = with_below n xs x low.0 are.below; ascends = ascends-inserted nat_cmp nat_cmp_total xs x are.ascends }) low.1
-
--- the sites that a round may still ask
-
-pub record RestFits (n : ℕ) (r : RoundState) : Type 0 where
-  pub below : Every (λ site. site < n) r.rest
-  pub few : length r.rest ≤ n
-
-first_below : (n : ℕ) (xs ys : List ℕ) → Every (λ x. x < n) (xs ++ ys) → Every (λ x. x < n) xs
-first_below n [] ys all = tt
-first_below n (x ∷ xs) ys all = (all.0, first_below n xs ys all.1)
-
-last_below : (n : ℕ) (xs ys : List ℕ) → Every (λ x. x < n) (xs ++ ys) → Every (λ x. x < n) ys
-last_below n [] ys all = all
-last_below n (x ∷ xs) ys all = last_below n xs ys all.1
-
-wanted_below : (n : ℕ) (r : RoundState) → RestFits n r → Every (λ site. site < n) (wanted r)
-wanted_below n r f = first_below n (wanted r) (wanted_is r).more (subst (Every (λ site. site < n)) (sym (wanted_is r).is) f.below)
-
-wanted_few : (n : ℕ) (r : RoundState) → RestFits n r → length (wanted r) ≤ n
-wanted_few n r f =
-    let whole : length (wanted r ++ (wanted_is r).more) ≡ length r.rest = ap length (wanted_is r).is in
-    let both : length (wanted r ++ (wanted_is r).more) ≡ length (wanted r) + length (wanted_is r).more = length-append (wanted r) (wanted_is r).more in
-    let few : length r.rest ≤ n = f.few in
-    omega arith
-
-pub length_filter : (test : ℕ → Bool) (xs : List ℕ) → length (filter test xs) ≤ length xs
-length_filter test [] = omega arith
-length_filter test (x ∷ xs) = by (test x) (length_filter test xs)
-  where
-    by : (t : Bool) → length (filter test xs) ≤ length xs → length (cond t (x ∷ filter test xs) (filter test xs)) ≤ length (x ∷ xs)
-    by true few = omega arith
-    by false few = omega arith
-
-pub cyclic_length : (sites from : ℕ) → from ≤ sites → length (cyclic sites from) ≡ sites
-cyclic_length sites from low =
-    let whole : length (cyclic sites from) ≡ length (range_with_len from (sites - from)) + length (range_with_len 0 from) = length-append (range_with_len from (sites - from)) (range_with_len 0 from) in
-    let a : length (range_with_len from (sites - from)) ≡ sites - from = length-range_with_len from (sites - from) in
-    let b : length (range_with_len 0 from) ≡ from = length-range_with_len 0 from in
-    omega arith
-
--- a site of positive weight has one
-weighs_below : (weights : List ℕ) (site : ℕ) → nat_lt 0 (slice_index weights site) ≡ true → site < length weights
-weighs_below [] site is = absurd (let no : ⊥ = cc in no)
-weighs_below (w ∷ ws) zero is = omega arith
-weighs_below (w ∷ ws) (suc site) is = let low : site < length ws = weighs_below ws site is in omega arith
-
-no_weights : (xs : List ℕ) → weighing [] xs ≡ []
-no_weights [] = refl
-no_weights (x ∷ xs) = no_weights xs
-
-plan_weights : (decl : Declaration) (epoch : ℕ) → IsAccepted decl → (p : Plan) → plan_in decl epoch ≡ Some p → length p.weights ≡ decl.sites
-plan_weights decl epoch accepted p is = by (epoch == 0) is
-  where
-    by : (t : Bool) → cond t None (slice_get decl.plans (epoch - 1)) ≡ Some p → length p.weights ≡ decl.sites
-    by true never = absurd (let no : ⊥ = cc in no)
-    by false at = let good : IsGood decl p = accepted.good (epoch - 1) p at in good.weights
-
-start_fits_at : (decl : Declaration) (client need : ℕ) (weights : List ℕ) → IsAccepted decl → length weights ≡ decl.sites → RestFits decl.sites (start weights (first_site decl client) need)
-start_fits_at decl client need weights accepted same = record {
-  below = every-from_In (λ site. site < decl.sites) (weighing weights around) (λ site among.
-      let low : site < length weights = weighs_below weights site (In-passes (λ s. nat_lt 0 (weight_at weights s)) site around among) in omega arith);
-  few =
-      let some : 0 < decl.sites = accepted.has_site in
-      let low : client % decl.sites < decl.sites = omega arith in
-      let whole : length around ≡ length weights = cyclic_length (length weights) (first_site decl client) (omega arith) in
-      let fewer : length (weighing weights around) ≤ length around = length_filter (λ s. nat_lt 0 (weight_at weights s)) around in
-      omega arith;
-} where
-  around : List ℕ
-  around = cyclic (length weights) (first_site decl client)
-
-pub start_fits : (decl : Declaration) (client epoch need : ℕ) → IsAccepted decl → RestFits decl.sites (start (weights_of decl epoch) (first_site decl client) need)
-start_fits decl client epoch need accepted = by (plan_in decl epoch) refl
-  where
-    by : (o : Option Plan) → plan_in decl epoch ≡ o → RestFits decl.sites (start (option_map_or (λ (p : Plan). p.weights) o []) (first_site decl client) need)
-    by None is = subst (λ (rest : List ℕ). RestFits decl.sites (record { weights = []; need = need; asked = []; rest = rest })) (sym (no_weights (cyclic 0 (first_site decl client)))) (record { below = tt; few = omega arith })
-    by (Some p) is = start_fits_at decl client need p.weights accepted (plan_weights decl epoch accepted p is)
-
-round_fits : (decl : Declaration) (client epoch need : ℕ) (r : RoundState) → IsAccepted decl → IsRound decl client epoch need r → RestFits decl.sites r
-round_fits decl client epoch need r accepted is =
-    let first : RestFits decl.sites (start (weights_of decl epoch) (first_site decl client) need) = start_fits decl client epoch need accepted in
-    record {
-      below = last_below decl.sites (sites_of r.asked) r.rest (subst (Every (λ site. site < decl.sites)) (sym is.sites) first.below);
-      few =
-          let whole : length (sites_of r.asked ++ r.rest) ≡ length (start (weights_of decl epoch) (first_site decl client) need).rest = ap length is.sites in
-          let both : length (sites_of r.asked ++ r.rest) ≡ length (sites_of r.asked) + length r.rest = length-append (sites_of r.asked) r.rest in
-          let most : length (start (weights_of decl epoch) (first_site decl client) need).rest ≤ decl.sites = first.few in
-          omega arith;
-    }
+use Rattle.qc_core.proofs.FewSites.{AreSites, few_sites, more_sites}
+use Rattle.qc_core.proofs.RoundSites.{RestFits, round_fits, start_fits, wanted_below, wanted_few}
 
 -- a move sends few messages, to sites; and the sites that its transaction asked are sites
 

@@ -11,7 +11,10 @@ pub mod SiteDues
 pub mod SiteLaws
 pub mod ActorLaws
 pub mod ClientStands
+pub mod ClientLands
 pub mod ActorSent
+pub mod FewSites
+pub mod RoundSites
 pub mod FrontReaches
 pub mod ClientReaches
 pub mod SiteReaches

@@ -1,5 +1,5 @@
 -- An actor's state: a site's, or a client's. What it becomes and does for each input, and over all its deeds.
-use Rattle.std.specs.Prelude.{ℕ, ◌-◌, ◌^◌, ◌<◌, ◌≤◌, if◌then◌else◌, List, fold, length}
+use Rattle.std.specs.Prelude.{ℕ, ◌-◌, ◌<◌, ◌≤◌, if◌then◌else◌, List, fold, length}
 use Rattle.std.specs.List.{AllByRecursion as Every}
 use Rattle.qc_decl.specs.declared.declaration.Declaration.{Declaration}
 use Rattle.qc_decl.specs.Actors.{is_site}
@@ -8,7 +8,7 @@ use Rattle.qc_commit.specs.Fits as votes
 use Rattle.qc_front.specs.Fits as rounds
 use Rattle.qc_client.specs.Client.{ClientMove, new_client}
 use Rattle.qc_client.specs.Conduct as clients
-use Rattle.qc_client.specs.Fits.{ClientFits, promise_in}
+use Rattle.qc_client.specs.Fits.{ClientFits}
 use Rattle.qc_msg.specs.declared.message.Message.{Message}
 use Rattle.qc_msg.specs.declared.step.Given.{Given}
 use Rattle.qc_msg.specs.declared.step.Given.TheVariants as given
@@ -82,11 +82,6 @@ ActorFits (Client c) = ClientFits c
 abbrev pub ActorWithin : ℕ → Actor → Type 0
 ActorWithin n (Site s) = Unit {0}
 ActorWithin n (Client c) = (c.front.count ≤ n) × (c.front.clock.value ≤ n) × (c.desk.clock.value ≤ n)
-
-abbrev pub IsInputFit : Given → Type 0
-IsInputFit (given.Called command) = Unit {0}
-IsInputFit (given.Got envelope) = promise_in envelope.message < 2 ^ 63
-IsInputFit (given.Lost number) = Unit {0}
 
 -- the actor has asked few sites, so that it can number what it asked
 abbrev pub AsksFew : Actor → Type 0

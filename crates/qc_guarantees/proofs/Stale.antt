@@ -70,7 +70,7 @@ module _ (decl : Declaration) (script : Script) (accepted : IsAccepted decl) (so
     pub says_remembered : (p : Posting) (n : ℕ) (x : Answer) → In p (site_after decl b (deeds b [] h)).turn.sends → p.message ≡ messages.Answer n x → Forgets x → q.number ≡ n → ⊥
     says_remembered p n x among is forgets same = by (answers_requests decl ((stood decl script accepted sound h open_inputs run).net.sites b) o.given p n x posted_here is)
       where
-        o : OpenSite decl script ((stood decl script accepted sound h open_inputs run).net.sites b) b h
+        o : OpenSite decl ((stood decl script accepted sound h open_inputs run).net.sites b) b h
         o = ((stood decl script accepted sound h open_inputs run).sites_are b site).opened taken
 
         posted_here : In p (site_takes decl ((stood decl script accepted sound h open_inputs run).net.sites b) o.given).turn.sends

@@ -159,7 +159,7 @@ module _ (decl : Declaration) (script : Script) (accepted : IsAccepted decl) (so
     site_posts : is_site decl b ≡ true → (n : ℕ) (x : Answer) → IsPosted n x → n < length (mail h)
     site_posts site n x k = by (((stood decl script accepted sound h open_inputs run).sites_are b site).opened taken)
       where
-        by : OpenSite decl script ((stood decl script accepted sound h open_inputs run).net.sites b) b h → n < length (mail h)
+        by : OpenSite decl ((stood decl script accepted sound h open_inputs run).net.sites b) b h → n < length (mail h)
         by o =
             let r : IsAnsweringTo o.given n = answers_requests decl ((stood decl script accepted sound h open_inputs run).net.sites b) o.given k.posting n x
             (subst (λ (m : SiteMove). In k.posting m.turn.sends) o.is (subst (λ (t : Turn). In k.posting t.sends) (site_turn site) k.among)) k.is in

@@ -55,7 +55,8 @@ use Rattle.qc_account.proofs.Declared.{asks_declared}
 use Rattle.qc_net.specs.Messages.{Backed, IsGrantTo, IsRequest, IsVerdictBacked}
 use Rattle.qc_net.specs.Mirrors.{Refines}
 use Rattle.qc_atomic.proofs.Names.{script_named}
-use Rattle.qc_atomic.proofs.Stood.{Stood, runs_stand}
+use Rattle.qc_atomic.proofs.RunsStand.{runs_stand}
+use Rattle.qc_atomic.proofs.Stood.{Stood}
 use Rattle.qc_guarantees.specs.Votes.{IsOpenVote}
 use Rattle.qc_guarantees.proofs.Accounts.{HasGrounds, WasGranted, WasSent}
 use Rattle.qc_guarantees.proofs.Grounds.{has_grounds}
@@ -77,7 +78,7 @@ module _ (decl : Declaration) (d : Account) (c : Client) (q : ClientRequest) (k 
   voting_tie (votes v) = v
 
 module _ (decl : Declaration) (script : Script) (accepted : IsAccepted decl) (sound : IsScriptFor decl script) (h : List Entry) (open_inputs : List Bool) (run : Runs (IsLawful decl) decl script h open_inputs) where
-  pub stood : Stood decl script h open_inputs
+  pub stood : Stood decl h open_inputs
   stood = runs_stand decl script (script_named decl accepted script sound) h open_inputs run
 
   abbrev pub mirror : Refines decl stood.net

@@ -34,7 +34,8 @@ use Rattle.qc_laws.specs.Calls.{IsAwaited, open_calls}
 use Rattle.qc_laws.proofs.Acted.{deeds-silent}
 use Rattle.qc_laws.proofs.Arrivals.{what_is_ready_was_sent}
 use Rattle.qc_laws.proofs.Awaiting.{Spares, awaited_got, awaited_lost, awaited_request, awaited_step}
-use Rattle.qc_laws.proofs.Fewer.{IsBound, IsNewCall, IsNotFor, Keeps, sent_calls, takes_keeps}
+use Rattle.qc_laws.proofs.Fewer.{IsNewCall, IsNotFor, Keeps, sent_calls, takes_keeps}
+use Rattle.qc_laws.proofs.FrontAsks.{IsBound}
 use Rattle.qc_laws.proofs.Numbered.{control_silent, phase_silent}
 
 -- what is ready is the first of its kind

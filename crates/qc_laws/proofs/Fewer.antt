@@ -1,14 +1,9 @@
 -- The open requests of a client after an input are ones that were open before, but not the one that the input answers.
-use Rattle.std.proofs.Common.{◌≡◌, ℕ, ◌==◌, ◌⊎◌, nat_le, not, Bool, true, false, if◌then◌else◌, inl, inr, List, [], ◌∷◌, ◌++◌, length, Option, Some, None, is_some, option_map, refl, sym, ap, ◌∙◌, subst, eq-eqb}
-use Rattle.std.specs.List.{find}
+use Rattle.std.proofs.Common.{◌≡◌, ℕ, ◌==◌, ◌⊎◌, Bool, true, if◌then◌else◌, inl, inr, List, [], ◌∷◌, ◌++◌, length, Option, Some, None, is_some, refl, sym, ap, ◌∙◌, subst}
 use Rattle.qc_list.specs.Members.{In}
-use Rattle.qc_list.proofs.Members.{In-more, In-passes, In-unfiltered}
+use Rattle.qc_list.proofs.Members.{In-more}
 use Rattle.qc_decl.specs.declared.declaration.Declaration.{Declaration}
-use Rattle.qc_decl.specs.Limits.{most_transaction_operations}
-use Rattle.qc_decl.specs.Lookup.{append_need_of, read_need_of}
-use Rattle.qc_plan.specs.Round.{RoundState, note, verdict}
-use Rattle.qc_plan.specs.declared.standing.Verdict.{Verdict}
-use Rattle.qc_plan.specs.declared.standing.Verdict.TheVariants as verdicts
+use Rattle.qc_plan.specs.Round.{verdict}
 use Rattle.qc_msg.specs.declared.begun.Begun.{Begun}
 use Rattle.qc_msg.specs.declared.call.Call.{Call}
 use Rattle.qc_msg.specs.declared.message.Answer.{Answer}
@@ -16,16 +11,12 @@ use Rattle.qc_msg.specs.declared.message.Message.{Message}
 use Rattle.qc_msg.specs.declared.message.Message.TheVariants as messages
 use Rattle.qc_msg.specs.declared.message.Want.{Want}
 use Rattle.qc_msg.specs.declared.message.Want.TheVariants.{Read, Append, Prepare}
-use Rattle.qc_msg.specs.declared.reply.Reply.{Reply}
-use Rattle.qc_msg.specs.declared.reply.Reply.TheVariants as replies
 use Rattle.qc_msg.specs.declared.reply.Why.{Why}
-use Rattle.qc_msg.specs.declared.reply.Why.TheVariants as causes
 use Rattle.qc_msg.specs.declared.step.Command.{Command}
 use Rattle.qc_msg.specs.declared.step.Command.TheVariants as commands
 use Rattle.qc_msg.specs.declared.step.Given.{Given}
 use Rattle.qc_msg.specs.declared.step.Given.TheVariants as given
 use Rattle.qc_msg.specs.Calls.{site_called, without_call}
-use Rattle.qc_msg.specs.Turns.{quiet, telling}
 use Rattle.qc_commit.specs.declared.desk.Desk.{Desk}
 use Rattle.qc_commit.specs.declared.desk.Voting.{Voting}
 use Rattle.qc_commit.specs.Conduct as desks
@@ -33,175 +24,17 @@ use Rattle.qc_commit.specs.Desk.{DeskMove}
 use Rattle.qc_commit.specs.Votes.{are_cast, cast, first_against, participants, vote_of}
 use Rattle.qc_front.specs.declared.doing.Doing.{Doing}
 use Rattle.qc_front.specs.declared.doing.Doing.TheVariants.{Idle, Reading, Appending}
-use Rattle.qc_front.specs.declared.front.Front.{Front}
 use Rattle.qc_front.specs.declared.transaction.Transaction.{Transaction}
-use Rattle.qc_front.specs.Answering.{answer_of}
-use Rattle.qc_front.specs.Appending.{round_for}
 use Rattle.qc_front.specs.Conduct as fronts
-use Rattle.qc_front.specs.Counting.{appended_with, learns, read_with, standing_of}
-use Rattle.qc_front.specs.Front.{FrontMove, aborts, begins, ended, gives_up, moved as front_moved}
+use Rattle.qc_front.specs.Front.{ended}
 use Rattle.qc_front.specs.Going.{calls_in}
-use Rattle.qc_front.specs.Rounds.{answered as front_answered, append_by, performs, read_by, reads}
 use Rattle.qc_client.specs.declared.client.Client.{Client}
 use Rattle.qc_client.specs.Client.{ClientMove, by_desk, by_front}
 use Rattle.qc_client.specs.Conduct.{answered, answered_by, called, client_takes, commits, heard, requested, sent_one}
 use Rattle.qc_script.specs.Inbox.{is_request}
 use Rattle.qc_laws.specs.Calls.{IsAnswerTo, calls_by, open_calls}
-
-if_two : {A : Type 0} (P : A → Type 0) (t : Bool) (x y : A) → P x → P y → P (if t then x else y)
-if_two P true x y here there = here
-if_two P false x y here there = there
-
--- a front end without a transaction waits for nothing
-abbrev pub IsBound : Front → Type 0
-IsBound front = front.transaction ≡ None → front.doing ≡ Idle
-
--- the open requests of a front end's move are among these, and it stays bound
-pub record Asks (calls : List Call) (m : FrontMove) : Type 0 where
-  pub among : (c : Call) → In c (calls_in m.front.doing) → In c calls
-  pub bound : IsBound m.front
-
-stays : (front : Front) (m : FrontMove) → m.front ≡ front → IsBound front → Asks (calls_in front.doing) m
-stays front m same bound = record {
-  among = λ c member. subst (λ (f : Front). In c (calls_in f.doing)) same member;
-  bound = subst IsBound (sym same) bound;
-}
-
-fewer_calls : (xs ys : List Call) (m : FrontMove) → ((c : Call) → In c xs → In c ys) → Asks xs m → Asks ys m
-fewer_calls xs ys m less asks = record { among = λ c member. less c (asks.among c member); bound = asks.bound }
-
-module _ (decl : Declaration) where
-  append_asks : (next : Front) (t : Transaction) (object inv event : ℕ) (calls : List Call) (round : RoundState) (v : Verdict) → Asks calls (append_by decl next t object inv event calls round v)
-  append_asks next t object inv event calls round verdicts.Waiting = record { among = λ c member. member; bound = λ none. absurd (let never : ⊥ = cc in never) }
-  append_asks next t object inv event calls round verdicts.Met = record { among = λ c member. absurd member; bound = λ none. refl }
-  append_asks next t object inv event calls round (verdicts.Closed epoch site) = record { among = λ c member. absurd member; bound = λ none. refl }
-  append_asks next t object inv event calls round (verdicts.Clash tx site) = record { among = λ c member. absurd member; bound = λ none. refl }
-  append_asks next t object inv event calls round (verdicts.Short got need) = record { among = λ c member. absurd member; bound = λ none. refl }
-
-  no_calls : (calls : List Call) (m : FrontMove) → Asks [] m → Asks calls m
-  no_calls calls m asks = fewer_calls [] calls m (λ c member. absurd member) asks
-
-  answered_asks : (next : Front) (t : Transaction) (object inv : ℕ) (o : Option ℕ) (calls : List Call) → Asks calls (front_answered decl next t object inv o)
-  answered_asks next t object inv None calls = record { among = λ c member. absurd member; bound = λ none. refl }
-  answered_asks next t object inv (Some event) calls =
-      no_calls calls (front_answered decl next t object inv (Some event))
-      (append_asks next t object inv event [] (round_for decl next t (append_need_of decl t.begun.epoch object event)) (verdict (round_for decl next t (append_need_of decl t.begun.epoch object event))))
-
-  read_asks : (next : Front) (t : Transaction) (object inv : ℕ) (calls : List Call) (round : RoundState) (v : Verdict) → Asks calls (read_by decl next t object inv calls round v)
-  read_asks next t object inv calls round verdicts.Waiting = record { among = λ c member. member; bound = λ none. absurd (let never : ⊥ = cc in never) }
-  read_asks next t object inv calls round verdicts.Met = answered_asks next t object inv (answer_of decl t object inv) calls
-  read_asks next t object inv calls round (verdicts.Closed epoch site) = record { among = λ c member. absurd member; bound = λ none. refl }
-  read_asks next t object inv calls round (verdicts.Clash tx site) = record { among = λ c member. absurd member; bound = λ none. refl }
-  read_asks next t object inv calls round (verdicts.Short got need) = record { among = λ c member. absurd member; bound = λ none. refl }
-
-  -- commands
-
-  performs_asks : (front : Front) (o : Option Transaction) (object inv : ℕ) → IsBound front → Asks (calls_in front.doing) (performs decl front o object inv)
-  performs_asks front None object inv bound = stays front (front_moved front (telling replies.NoTransaction)) refl bound
-  performs_asks front (Some t) object inv bound =
-      if_two (Asks (calls_in front.doing)) t.begun.doomed (front_moved front (telling replies.Doomed)) _ (stays front (front_moved front (telling replies.Doomed)) refl bound)
-      (if_two (Asks (calls_in front.doing)) (nat_le most_transaction_operations (length t.begun.ops)) (front_moved front (telling replies.TooLong)) (reads decl front t object inv [] (round_for decl front t (read_need_of decl t.begun.epoch object inv))) (stays front (front_moved front (telling replies.TooLong)) refl bound)
-      (no_calls (calls_in front.doing) (reads decl front t object inv [] (round_for decl front t (read_need_of decl t.begun.epoch object inv)))
-      (read_asks front t object inv [] (round_for decl front t (read_need_of decl t.begun.epoch object inv)) (verdict (round_for decl front t (read_need_of decl t.begun.epoch object inv))))))
-
-  begins_asks : (front : Front) (o : Option Transaction) → IsBound front → Asks (calls_in front.doing) (begins decl front o)
-  begins_asks front None bound = record { among = λ c member. member; bound = λ none. absurd (let never : ⊥ = cc in never) }
-  begins_asks front (Some t) bound = stays front (begins decl front (Some t)) refl bound
-
-  given_up : (front : Front) (t : Transaction) (reply : Reply) → Asks (calls_in front.doing) (gives_up front t reply)
-  given_up front t reply = record { among = λ c member. absurd member; bound = λ none. refl }
-
-  commits_asks : (front : Front) (o : Option Transaction) → IsBound front → Asks (calls_in front.doing) (fronts.commits front o)
-  commits_asks front None bound = stays front (front_moved front (telling replies.NoTransaction)) refl bound
-  commits_asks front (Some t) bound =
-      if_two (Asks (calls_in front.doing)) t.begun.doomed (gives_up front t (replies.Aborted causes.Doomed)) (front_moved front quiet) (given_up front t (replies.Aborted causes.Doomed)) (stays front (front_moved front quiet) refl bound)
-
-  aborts_asks : (front : Front) (o : Option Transaction) → IsBound front → Asks (calls_in front.doing) (aborts front o)
-  aborts_asks front None bound = stays front (aborts front None) refl bound
-  aborts_asks front (Some t) bound = given_up front t replies.Dropped
-
-  front_called : (front : Front) (command : Command) → IsBound front → Asks (calls_in front.doing) (fronts.called decl front command)
-  front_called front commands.Begin bound = begins_asks front front.transaction bound
-  front_called front (commands.Do object inv) bound = performs_asks front front.transaction object inv bound
-  front_called front commands.Commit bound = commits_asks front front.transaction bound
-  front_called front commands.Abort bound = aborts_asks front front.transaction bound
-  front_called front (commands.Epoch number) bound = stays front (front_moved front quiet) refl bound
-
--- an answer, or that a request is lost: the request isn't open any more
-
-pub not_called : (calls : List Call) (number : ℕ) → site_called calls number ≡ None → (c : Call) → In c calls → c.number ≡ number → ⊥
-not_called [] number none c member same = member
-not_called (x ∷ calls) number none c member same = at (x.number == number) refl none (λ rest later. not_called calls number rest c later same) member
-  where
-    at : (t : Bool) → (x.number == number) ≡ t → option_map (λ (y : Call). y.site) (if t then Some x else find (λ (y : Call). y.number == number) calls) ≡ None
-        → (site_called calls number ≡ None → In c calls → ⊥) → In c (x ∷ calls) → ⊥
-    at true is gone rest here = let never : ⊥ = cc in never
-    at false is gone rest (inl it) = let yes : (x.number == number) ≡ true = eq-eqb x.number number (ap (λ (y : Call). y.number) (sym it) ∙ same) in let never : ⊥ = cc in never
-    at false is gone rest (inr later) = rest gone later
-
-not_left : (calls : List Call) (number : ℕ) (c : Call) → In c (without_call calls number) → c.number ≡ number → ⊥
-not_left calls number c member same =
-    let passes : not (c.number == number) ≡ true = In-passes (λ (x : Call). not (x.number == number)) c calls member in
-    let is : (c.number == number) ≡ true = eq-eqb c.number number same in
-    let no : not (c.number == number) ≡ false = ap not is in
-    let never : ⊥ = cc in never
-
--- what is left of the open requests
-pub record Leaves (calls : List Call) (number : ℕ) (after : List Call) : Type 0 where
-  pub among : (c : Call) → In c after → In c calls
-  pub gone : (c : Call) → In c after → c.number ≡ number → ⊥
-
-unasked : (calls : List Call) (number : ℕ) → site_called calls number ≡ None → Leaves calls number calls
-unasked calls number none = record { among = λ c member. member; gone = not_called calls number none }
-
-of_rest : (calls : List Call) (number : ℕ) (after : List Call) → ((c : Call) → In c after → In c (without_call calls number)) → Leaves calls number after
-of_rest calls number after among = record {
-  among = λ c member. In-unfiltered (λ (x : Call). not (x.number == number)) c calls (among c member);
-  gone = λ c member. not_left calls number c (among c member);
-}
-
-leaves_none : (calls : List Call) (number : ℕ) (after : List Call) → after ≡ [] → Leaves calls number after
-leaves_none calls number after none = record {
-  among = λ c member. absurd (subst (In c) none member);
-  gone = λ c member. absurd (subst (In c) none member);
-}
-
-pub record Takes (front : Front) (number : ℕ) (m : FrontMove) : Type 0 where
-  pub leaves : Leaves (calls_in front.doing) number (calls_in m.front.doing)
-  pub bound : IsBound m.front
-
-module _ (decl : Declaration) (front : Front) (number : ℕ) (answer : Option Answer) (bound : IsBound front) where
-  aside : (calls : List Call) → calls_in front.doing ≡ calls → site_called calls number ≡ None → Takes front number (front_moved front quiet)
-  aside calls is none = record { leaves = unasked (calls_in front.doing) number (ap (λ (v : List Call). site_called v number) is ∙ none); bound = bound }
-
-  takes_of : (calls : List Call) (m : FrontMove) → calls_in front.doing ≡ calls → Asks (without_call calls number) m → Takes front number m
-  takes_of calls m is asks = record {
-    leaves = subst (λ (v : List Call). Leaves v number (calls_in m.front.doing)) (sym is) (of_rest calls number (calls_in m.front.doing) asks.among);
-    bound = asks.bound;
-  }
-
-  reading_leaves : (t : Transaction) (object inv : ℕ) (calls : List Call) (round : RoundState) (o : Option ℕ) → calls_in front.doing ≡ calls → site_called calls number ≡ o → Takes front number (fronts.reading_takes decl front t object inv calls round number answer o)
-  reading_leaves t object inv calls round None is none = aside calls is none
-  reading_leaves t object inv calls round (Some site) is some =
-      takes_of calls (fronts.reading_takes decl front t object inv calls round number answer (Some site)) is
-      (read_asks decl (learns front answer) (read_with t site object answer) object inv (without_call calls number) (note round site (standing_of answer)) (verdict (note round site (standing_of answer))))
-
-  appending_leaves : (t : Transaction) (object inv event : ℕ) (calls : List Call) (round : RoundState) (o : Option ℕ) → calls_in front.doing ≡ calls → site_called calls number ≡ o → Takes front number (fronts.appending_takes decl front t object inv event calls round number answer o)
-  appending_leaves t object inv event calls round None is none = aside calls is none
-  appending_leaves t object inv event calls round (Some site) is some =
-      takes_of calls (fronts.appending_takes decl front t object inv event calls round number answer (Some site)) is
-      (append_asks decl (learns front answer) (appended_with t site answer) object inv event (without_call calls number) (note round site (standing_of answer)) (verdict (note round site (standing_of answer))))
-
-  front_leaves : (doing : Doing) (o : Option Transaction) → front.doing ≡ doing → front.transaction ≡ o → Takes front number (fronts.takes_in decl front doing o number answer)
-  front_leaves doing None is none = aside [] (ap calls_in (bound none)) refl
-  front_leaves Idle (Some t) is some = aside [] (ap calls_in is) refl
-  front_leaves (Reading object inv calls round) (Some t) is some = reading_leaves t object inv calls round (site_called calls number) (ap calls_in is) refl
-  front_leaves (Appending object inv event calls round) (Some t) is some = appending_leaves t object inv event calls round (site_called calls number) (ap calls_in is) refl
-
-  pub front_takes : Takes front number (fronts.takes decl front number answer)
-  front_takes = front_leaves front.doing front.transaction refl refl
-
--- a client
+use Rattle.qc_laws.proofs.FrontAsks.{Asks, IsBound, front_called, if_two}
+use Rattle.qc_laws.proofs.RequestsGone.{Leaves, Takes, front_takes, leaves_none, of_rest, unasked}
 
 -- an input that doesn't answer a request, nor tells that it is lost
 abbrev pub IsNotFor : ℕ → Given → Type 0

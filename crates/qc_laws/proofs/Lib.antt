@@ -4,6 +4,7 @@ pub mod Arrivals
 pub mod Running
 pub mod Acted
 pub mod OwnFronts
+pub mod OwnStamps
 pub mod Stamped
 pub mod Mailed
 pub mod Served
@@ -12,6 +13,8 @@ pub mod Replying
 pub mod Calling
 pub mod Ordered
 pub mod Awaiting
+pub mod FrontAsks
+pub mod RequestsGone
 pub mod Fewer
 pub mod Covered
 pub mod Rounds

@@ -17,7 +17,8 @@ use Rattle.qc_script.specs.Ready.{phase_of}
 use Rattle.qc_script.specs.Runs.{Runs, begins, takes, posts, phase, control}
 use Rattle.qc_script.specs.declared.script.Script.{Script}
 use Rattle.qc_laws.proofs.Numbered.{control_silent, mail-silent, phase_silent}
-use Rattle.qc_laws.proofs.Stamped.{AreStamped, lawful_stamped}
+use Rattle.qc_laws.proofs.OwnStamps.{AreStamped}
+use Rattle.qc_laws.proofs.Stamped.{lawful_stamped}
 
 abbrev pub IsMailStamped : List Envelope → Type 0
 IsMailStamped ms = Every (λ (e : Envelope). IsStamped e.message) ms

@@ -1,11 +1,8 @@
 -- A `do`, and whatever comes of a request of its rounds.
-use Rattle.std.proofs.Common.{◌≡◌, ℕ, ◌==◌, nat_le, not, Bool, true, false, cond, inl, inr, List, [], ◌∷◌, filter, length, Option, Some, None, slice_get, refl, sym, ap, ◌∙◌, subst, eqb-true}
-use Rattle.std.specs.Prelude.{option_map}
-use Rattle.std.specs.List.{find}
+use Rattle.std.proofs.Common.{◌≡◌, ℕ, nat_le, Bool, true, false, cond, inl, inr, List, [], ◌∷◌, filter, length, Option, Some, None, slice_get, refl, sym, ap, ◌∙◌, subst}
 use Rattle.qc_stamp.specs.declared.stamp.TxId.{TxId}
 use Rattle.qc_list.specs.Members.{In}
-use Rattle.qc_list.proofs.Members.{In-second, In-unfiltered}
-use Rattle.qc_entry.specs.declared.line.Line.{Line}
+use Rattle.qc_list.proofs.Members.{In-second}
 use Rattle.qc_plan.specs.Round.{RoundState, note, verdict}
 use Rattle.qc_plan.specs.declared.standing.Standing.TheVariants as standings
 use Rattle.qc_decl.specs.declared.declaration.Declaration.{Declaration}
@@ -16,8 +13,6 @@ use Rattle.qc_msg.specs.declared.call.Call.{Call}
 use Rattle.qc_msg.specs.declared.message.Answer.{Answer}
 use Rattle.qc_msg.specs.declared.message.Answer.TheVariants as answers
 use Rattle.qc_msg.specs.declared.message.Envelope.{Envelope}
-use Rattle.qc_msg.specs.declared.message.Message.{Message}
-use Rattle.qc_msg.specs.declared.message.Message.TheVariants as messages
 use Rattle.qc_msg.specs.declared.message.Want.{Want}
 use Rattle.qc_msg.specs.declared.message.Want.TheVariants.{Read}
 use Rattle.qc_msg.specs.declared.reply.Reply.TheVariants as replies
@@ -50,7 +45,7 @@ use Rattle.qc_client.specs.Client.{by_front}
 use Rattle.qc_client.specs.declared.client.Client.{Client}
 use Rattle.qc_net.specs.Clients.{AreCounted, BegunMirrors, ClientMirrors, IsAskedBy, IsChosen, IsRoundCounted, OwnMirrors, RunningMirrors, TransactionMirrors, append_of, chosen_of, status_by}
 use Rattle.qc_net.specs.Items.{own_item}
-use Rattle.qc_net.specs.Messages.{IsAnswerBacked, IsGrant, IsGrantTo, IsRequest}
+use Rattle.qc_net.specs.Messages.{IsGrant, IsRequest}
 use Rattle.qc_net.specs.Mirrors.{FrontStands, Mirrors, Refines}
 use Rattle.qc_net.specs.Net.{IsNamedAt, Net, after_client}
 use Rattle.qc_net.proofs.Answers.{view_at}
@@ -60,50 +55,9 @@ use Rattle.qc_net.proofs.ClientSteps.{Core, Mid, mid_first, mine, refined}
 use Rattle.qc_net.proofs.Counts.{IsGiven, append_counted, granted_given, read_counted}
 use Rattle.qc_net.proofs.Frames.{counted_later}
 use Rattle.qc_net.proofs.Rounds.{noted_counted}
-
--- an open request of a number
-
-pub record IsCalled (calls : List Call) (number site : ℕ) : Type 0 where
-  pub call : Call
-  pub among : In call calls
-  pub numbered : call.number ≡ number
-  pub at : call.site ≡ site
-
-pub called_in : (calls : List Call) (number site : ℕ) → site_called calls number ≡ Some site → IsCalled calls number site
-called_in [] number site e = absurd (let never : ⊥ = cc in never)
-called_in (x ∷ xs) number site e = by (x.number == number) refl e (called_in xs number site)
-  where
-    by : (b : Bool) → (x.number == number) ≡ b → option_map (λ (c : Call). c.site) (cond b (Some x) (find (λ (c : Call). c.number == number) xs)) ≡ Some site → (site_called xs number ≡ Some site → IsCalled xs number site) → IsCalled (x ∷ xs) number site
-    by true is k rest = record { call = x; among = inl refl; numbered = eqb-true x.number number is; at = (let same : x.site ≡ site = cc in same) }
-    by false is k rest = let r : IsCalled xs number site = rest k in record { call = r.call; among = inr r.among; numbered = r.numbered; at = r.at }
-
-pub still_called : (calls : List Call) (number : ℕ) (call : Call) → In call (without_call calls number) → In call calls
-still_called calls number call among = In-unfiltered (λ (c : Call). not (c.number == number)) call calls among
-
--- two requests of one number are one, of one transaction
-
-abbrev tx_in : Message → TxId → TxId
-tx_in (messages.Request tx epoch life want) other = tx
-tx_in _ other = other
-
-abbrev want_in : Message → Want → Want
-want_in (messages.Request tx epoch life want) other = want
-want_in _ other = other
-
-pub one_request : (ms : List Envelope) (number site other : ℕ) (t u : TxId) (want wish : Want) → IsRequest ms number site t want → IsRequest ms number other u wish
-    → (t ≡ u) × (site ≡ other) × (want ≡ wish)
-one_request ms number site other t u want wish r s =
-    let found : Some r.envelope ≡ Some s.envelope = sym r.numbered ∙ s.numbered in
-    let same : r.envelope ≡ s.envelope = cc in
-    let content : messages.Request t r.epoch r.life want ≡ messages.Request u s.epoch s.life wish = sym r.content ∙ ap (λ (e : Envelope). e.message) same ∙ s.content in
-    (ap (λ (m : Message). tx_in m t) content, sym r.addressed ∙ ap (λ (e : Envelope). e.to) same ∙ s.addressed, ap (λ (m : Message). want_in m want) content)
+use Rattle.qc_net.proofs.OpenRequests.{AnswerBacked, IsCalled, behind, called_in, still_called}
 
 module _ (decl : Declaration) where
-  -- what stands behind an answer that is taken, or behind a loss
-  abbrev pub AnswerBacked : State → List Envelope → ℕ → ℕ → Option Answer → Type 0
-  AnswerBacked w ms from number None = Unit {0}
-  AnswerBacked w ms from number (Some answer) = IsAnswerBacked decl w ms from number answer
-
   no_votes : (o : Option Voting) → o ≡ None → status_by o ≡ Active
   no_votes None is = refl
   no_votes (Some v) is = absurd (let never : ⊥ = cc in never)
@@ -140,20 +94,12 @@ module _ (decl : Declaration) where
           (subst (λ (e : ℕ). IsRound decl (net.clients a).front.client e (read_need_of decl e object inv) (round_for decl (net.clients a).front t (read_need_of decl t.begun.epoch object inv))) k.0.begun.epoch (started_round decl (net.clients a).front t (read_need_of decl t.begun.epoch object inv)))
           (λ x never. absurd never) (λ call never. absurd never) (verdict (round_for decl (net.clients a).front t (read_need_of decl t.begun.epoch object inv))) refl)
 
-  -- the grant that stands behind an answer to an open request
-  behind : (w : State) (ms : List Envelope) (from number site life clock : ℕ) (log : List Line) (tx : TxId) (want : Want) → IsRequest ms number site tx want → IsGrantTo decl w.granted ms from number life clock log → IsGrant decl w.granted site life clock log tx want
-  behind w ms from number site life clock log tx want asked g =
-      let one : (tx ≡ g.tx) × (site ≡ from) × (want ≡ g.want) = one_request ms number site from tx g.tx want g.want asked g.request in
-      subst (λ (x : Want). IsGrant decl w.granted site life clock log tx x) (sym one.2)
-      (subst (λ (x : ℕ). IsGrant decl w.granted x life clock log tx g.want) (sym one.1)
-      (subst (λ (x : TxId). IsGrant decl w.granted from life clock log x g.want) (sym one.0) g.grant))
-
   module _ (acts : List Act) (net : Net) (a : ℕ) (run : IsRun decl acts) (plain : ArePlain acts) (m : Mirrors decl (state acts) net) (client : is_client decl a ≡ true) (stands : FrontStands decl net a) (free : (net.clients a).desk.voting ≡ None) where
     mid : Mid decl (state acts) acts (net.clients a).front.client
     mid = mid_first decl acts (net.clients a).front.client run plain
 
     read_case : (from number : ℕ) (t : Transaction) (object inv : ℕ) (calls : List Call) (round : RoundState) (answer : Option Answer) → (net.clients a).front.transaction ≡ Some t → (net.clients a).front.doing ≡ Reading object inv calls round
-        → AnswerBacked (state acts) net.mail from number answer → (site : ℕ) → site_called calls number ≡ Some site
+        → AnswerBacked decl (state acts) net.mail from number answer → (site : ℕ) → site_called calls number ≡ Some site
         → Refines decl (after_client net a (by_front (net.clients a) (read_counts decl (learns (net.clients a).front answer) t object inv calls round number site answer)))
     read_case from number t object inv calls round answer is doing backed site called = by answer backed
       where
@@ -183,7 +129,7 @@ module _ (decl : Declaration) where
             (noted_counted (state acts).counted t.begun.tx (Lock (record { object = object; inv = inv })) site (standing_of x) round.asked counted.1 (λ e. absurd (ungranted e)))
             (λ call more. asked call (still_called calls number call more)) (verdict (note round site (standing_of x))) refl)
 
-        by : (x : Option Answer) → AnswerBacked (state acts) net.mail from number x → Refines decl (after_client net a (by_front (net.clients a) (read_counts decl (learns (net.clients a).front x) t object inv calls round number site x)))
+        by : (x : Option Answer) → AnswerBacked decl (state acts) net.mail from number x → Refines decl (after_client net a (by_front (net.clients a) (read_counts decl (learns (net.clients a).front x) t object inv calls round number site x)))
         by None bk = plainly None (λ e. (let never : ⊥ = cc in never))
         by (Some (answers.Clash holder i event)) bk = plainly (Some (answers.Clash holder i event)) (λ e. (let never : ⊥ = cc in never))
         by (Some (answers.Closed epoch)) bk = absurd bk
@@ -200,7 +146,7 @@ module _ (decl : Declaration) where
             let r : IsAskedBy decl net.mail t (Reading object inv calls round) found.call = asked found.call found.among in
             let request : IsRequest net.mail number site t.begun.tx (Read object inv) =
             subst (λ (x : Want). IsRequest net.mail number site t.begun.tx x) r.2 (subst (λ (s : ℕ). IsRequest net.mail number s t.begun.tx r.0) found.at (subst (λ (n : ℕ). IsRequest net.mail n found.call.site t.begun.tx r.0) found.numbered r.1)) in
-            let g : IsGrant decl (state acts).granted site life clock log t.begun.tx (Read object inv) = behind (state acts) net.mail from number site life clock log t.begun.tx (Read object inv) request bk in
+            let g : IsGrant decl (state acts).granted site life clock log t.begun.tx (Read object inv) = behind decl (state acts) net.mail from number site life clock log t.begun.tx (Read object inv) request bk in
             let v : (v : View) × (slice_get t.views object ≡ Some v) = view_at decl t object counted.0.0 holds.0 counted.0.1 in
             let given : IsGiven t (with_granted (lived t site life) object log) site life = granted_given t site life object log in
             refined decl (state acts) net a _ m client
@@ -218,7 +164,7 @@ module _ (decl : Declaration) where
             (q.0, subst (λ (u : TxId). IsRequest net.mail call.number call.site u q.0) (sym given.tx) q.1, q.2))) (verdict (note round site standings.Granted)) refl)
 
     append_case : (from number : ℕ) (t : Transaction) (object inv event : ℕ) (calls : List Call) (round : RoundState) (answer : Option Answer) → (net.clients a).front.transaction ≡ Some t → (net.clients a).front.doing ≡ Appending object inv event calls round
-        → AnswerBacked (state acts) net.mail from number answer → (site : ℕ) → site_called calls number ≡ Some site
+        → AnswerBacked decl (state acts) net.mail from number answer → (site : ℕ) → site_called calls number ≡ Some site
         → Refines decl (after_client net a (by_front (net.clients a) (append_counts decl (learns (net.clients a).front answer) t object inv event calls round number site answer)))
     append_case from number t object inv event calls round answer is doing backed site called = by answer backed
       where
@@ -247,7 +193,7 @@ module _ (decl : Declaration) where
             (noted_counted (state acts).counted t.begun.tx (Own (next_own t object event)) site (standing_of x) round.asked counted (λ e. absurd (ungranted e)))
             (λ call more. asked call (still_called calls number call more)) (verdict (note round site (standing_of x))) refl)
 
-        by : (x : Option Answer) → AnswerBacked (state acts) net.mail from number x → Refines decl (after_client net a (by_front (net.clients a) (append_counts decl (learns (net.clients a).front x) t object inv event calls round number site x)))
+        by : (x : Option Answer) → AnswerBacked decl (state acts) net.mail from number x → Refines decl (after_client net a (by_front (net.clients a) (append_counts decl (learns (net.clients a).front x) t object inv event calls round number site x)))
         by None bk = plainly None (λ e. (let never : ⊥ = cc in never))
         by (Some (answers.Clash holder i e)) bk = plainly (Some (answers.Clash holder i e)) (λ e. (let never : ⊥ = cc in never))
         by (Some (answers.Closed epoch)) bk = absurd bk
@@ -264,7 +210,7 @@ module _ (decl : Declaration) where
             let r : IsAskedBy decl net.mail t (Appending object inv event calls round) found.call = asked found.call found.among in
             let request : IsRequest net.mail number site t.begun.tx (append_want decl t object event) =
             subst (λ (x : Want). IsRequest net.mail number site t.begun.tx x) r.2 (subst (λ (s : ℕ). IsRequest net.mail number s t.begun.tx r.0) found.at (subst (λ (n : ℕ). IsRequest net.mail n found.call.site t.begun.tx r.0) found.numbered r.1)) in
-            let g : IsGrant decl (state acts).granted site life clock log t.begun.tx (append_want decl t object event) = behind (state acts) net.mail from number site life clock log t.begun.tx (append_want decl t object event) request bk in
+            let g : IsGrant decl (state acts).granted site life clock log t.begun.tx (append_want decl t object event) = behind decl (state acts) net.mail from number site life clock log t.begun.tx (append_want decl t object event) request bk in
             refined decl (state acts) net a _ m client
             (appending decl (state acts) net a (Count g.grant ∷ acts) (record (net.clients a) { front = learns (net.clients a).front (Some (answers.Granted life clock log)) }) (lived t site life) object inv event (without_call calls number) (note round site standings.Granted) refl
             (mid_count decl (state acts) acts (net.clients a).front.client mid g.grant g.given (ap (state acts).status g.its ∙ k.0.active) g.epoch_is (ap (λ (u : TxId). u.client) g.its ∙ mine decl (state acts) a (net.clients a) t k.0)) refl
@@ -284,7 +230,7 @@ module _ (decl : Declaration) where
             (λ call more. asked call (still_called calls number call more)) (verdict (note round site standings.Granted)) refl)
 
     -- whatever comes of a request, while no commit waits for votes
-    pub takes_case : (from number : ℕ) (answer : Option Answer) → AnswerBacked (state acts) net.mail from number answer → (doing : Doing) → (net.clients a).front.doing ≡ doing → (t : Option Transaction) → (net.clients a).front.transaction ≡ t
+    pub takes_case : (from number : ℕ) (answer : Option Answer) → AnswerBacked decl (state acts) net.mail from number answer → (doing : Doing) → (net.clients a).front.doing ≡ doing → (t : Option Transaction) → (net.clients a).front.transaction ≡ t
         → Refines decl (after_client net a (by_front (net.clients a) (takes_in decl (net.clients a).front doing t number answer)))
     takes_case from number answer backed doing does None is = quietly
       where

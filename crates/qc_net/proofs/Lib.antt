@@ -5,6 +5,7 @@ pub mod Posts
 pub mod Promises
 pub mod SiteSteps
 pub mod SiteActs
+pub mod GrantCases
 pub mod SiteCases
 pub mod SiteRefines
 pub mod ClientPosts
@@ -15,11 +16,13 @@ pub mod Recorded
 pub mod ClientActs
 pub mod Counts
 pub mod ClientRounds
+pub mod OpenRequests
 pub mod ClientAnswers
 pub mod ClientEnds
 pub mod ClientBegins
 pub mod Ballots
 pub mod ClientCommits
+pub mod ClientVotes
 pub mod Standing
 pub mod Refining
 pub mod NetLaws

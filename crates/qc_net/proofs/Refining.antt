@@ -24,9 +24,11 @@ use Rattle.qc_net.specs.Messages.{Backed}
 use Rattle.qc_net.specs.Mirrors.{FrontStands, Mirrors, Refines}
 use Rattle.qc_net.specs.Net.{MayCome, MayCommand, Net, Reaches, after_client, first_net}
 use Rattle.qc_net.specs.Net as nets
-use Rattle.qc_net.proofs.ClientAnswers.{AnswerBacked, do_case, takes_case}
+use Rattle.qc_net.proofs.ClientAnswers.{do_case, takes_case}
+use Rattle.qc_net.proofs.OpenRequests.{AnswerBacked}
 use Rattle.qc_net.proofs.ClientBegins.{abort_case, begin_case, inquiry_case}
-use Rattle.qc_net.proofs.ClientCommits.{commit_case, vote_case}
+use Rattle.qc_net.proofs.ClientCommits.{commit_case}
+use Rattle.qc_net.proofs.ClientVotes.{vote_case}
 use Rattle.qc_net.proofs.ClientRounds.{nothing}
 use Rattle.qc_net.proofs.SiteCases.{serve_case}
 use Rattle.qc_net.proofs.Standing.{stands}

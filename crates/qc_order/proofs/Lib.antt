@@ -1,6 +1,4 @@
 pub mod Machine
-pub mod Opened
-pub mod Stands
 pub mod Begun
 pub mod Moments
 pub mod Replies

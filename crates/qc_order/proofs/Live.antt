@@ -33,8 +33,8 @@ use Rattle.qc_net.proofs.Refining.{refines}
 use Rattle.qc_atomic.proofs.Names.{script_named}
 use Rattle.qc_guarantees.proofs.ClockLaw.{clock_rises}
 use Rattle.qc_order.proofs.Begun.{IsKept, WasBegun, logged, taken_kept, tied_kept}
-use Rattle.qc_order.proofs.Opened.{OpenClient, Stood}
-use Rattle.qc_order.proofs.Stands.{runs_stand}
+use Rattle.qc_atomic.proofs.Stood.{OpenClient, Stood}
+use Rattle.qc_atomic.proofs.RunsStand.{runs_stand}
 
 pub record Live (now : State) (t : Current) (clock : ℕ) : Type 0 where
   pub active : (now.status t.tx ≡ Active) ⊎ (now.status t.tx ≡ machine.Voting)
@@ -59,7 +59,7 @@ status_cases None s is = inl is
 status_cases (Some v) s is = inr is
 
 module _ (decl : Declaration) (script : Script) (accepted : IsAccepted decl) (sound : IsScriptFor decl script) (h : List Entry) (open_inputs : List Bool) (run : Runs (IsLawful decl) decl script h open_inputs) where
-  pub stood : Stood decl script h open_inputs
+  pub stood : Stood decl h open_inputs
   stood = runs_stand decl script (script_named decl accepted script sound) h open_inputs run
 
   abbrev pub mirror : Refines decl stood.net
@@ -74,7 +74,7 @@ module _ (decl : Declaration) (script : Script) (accepted : IsAccepted decl) (so
 
   tied_to : (a : ℕ) → is_client decl a ≡ true → (b : Bool) → slice_get open_inputs a ≡ Some b → (t : Current) → (account decl a h).current ≡ Some t → IsTiedTo a t
   tied_to a client true slot t is =
-      let o : OpenClient decl script (stood.net.clients a) a h = (stood.clients_are a client).opened slot in
+      let o : OpenClient decl (stood.net.clients a) a h = (stood.clients_are a client).opened slot in
       record {
         was = o.was;
         tied = o.tied;

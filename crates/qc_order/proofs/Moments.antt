@@ -32,8 +32,8 @@ use Rattle.qc_net.specs.Net.{commits_in}
 use Rattle.qc_atomic.proofs.Names.{script_named}
 use Rattle.qc_atomic.proofs.Posted.{control_writes, taken_writes}
 use Rattle.qc_atomic.proofs.Silent.{site_silent}
-use Rattle.qc_order.proofs.Opened.{OpenSite, Stood}
-use Rattle.qc_order.proofs.Stands.{runs_stand}
+use Rattle.qc_atomic.proofs.Stood.{OpenSite, Stood}
+use Rattle.qc_atomic.proofs.RunsStand.{runs_stand}
 
 -- an element of two lists that are appended stands in the first or in the second
 pub data IsIn {A : Type 0} (xs ys before : List A) (x : A) (after : List A) : Type 0 where
@@ -128,12 +128,12 @@ module _ (decl : Declaration) (script : Script) where
   pub writer : IsAccepted decl → IsScriptFor decl script → (before : List Entry) (a : ℕ) (c : CommitRecord) → Moment before a c → is_client decl a ≡ true
   writer accepted sound before a c k = at (is_site decl a) (is_client decl a) refl refl k.law
     where
-      stood : Stood decl script before k.open_inputs
+      stood : Stood decl before k.open_inputs
       stood = runs_stand decl script (script_named decl accepted script sound) before k.open_inputs k.run
 
       silent : (site : is_site decl a ≡ true) → k.turn ≡ (site_after decl a (deeds a [] before)).turn → ⊥
       silent site same =
-          let o : OpenSite decl script (stood.net.sites a) a before = (stood.sites_are a site).opened k.taken in
+          let o : OpenSite decl (stood.net.sites a) a before = (stood.sites_are a site).opened k.taken in
           let none : commits_in k.turn.write ≡ [] = ap (λ (t : Turn). commits_in t.write) (same ∙ ap (λ (m : SiteMove). m.turn) o.is) ∙ site_silent decl (stood.net.sites a) o.given in
           let some : c ∷ [] ≡ [] = ap commits_in (sym k.writes) ∙ none in
           let never : ⊥ = cc in never

@@ -29,7 +29,8 @@ use Rattle.qc_records.specs.Written.{written_in}
 use Rattle.qc_records.proofs.Dealing.{HasRecord}
 use Rattle.qc_records.proofs.InRuns.{HasPlace, client_low, client_no_site, client_number, run_place}
 use Rattle.qc_records.proofs.Lasting.{Came, verdict_came}
-use Rattle.qc_records.proofs.Moving.{Good, IsFromClient, IsMail, all_good}
+use Rattle.qc_records.proofs.Moving.{Good, IsFromClient, IsMail}
+use Rattle.qc_records.proofs.RunsGood.{all_good}
 use Rattle.qc_records.proofs.RecordLaws.{in_listed, wrote_own}
 use Rattle.qc_records.proofs.StatusActs.{HasPage, pages, rights}
 use Rattle.qc_records.proofs.WrittenDeeds.{written_listed}

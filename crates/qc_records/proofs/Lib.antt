@@ -26,5 +26,6 @@ pub mod StatusActs
 pub mod SitesAsk
 pub mod Lasting
 pub mod Moving
+pub mod RunsGood
 pub mod DecisionLaws
 pub mod WrongOnes

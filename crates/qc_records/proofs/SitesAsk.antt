@@ -62,7 +62,7 @@ module _ (decl : Declaration) (B : TxId → Type 0) where
     by true rest = (here, all.1)
     by false rest = (all.0, rest)
 
-  held-more : (held : List Held) (tx : TxId) (locks : List ReadLock) (own : List OwnLine) → HeldFor held → B tx → HeldFor (with_held held tx locks own)
+  pub held-more : (held : List Held) (tx : TxId) (locks : List ReadLock) (own : List OwnLine) → HeldFor held → B tx → HeldFor (with_held held tx locks own)
   held-more held tx locks own all here = by ((length locks == 0) && (length own == 0)) where
     by : (t : Bool) → HeldFor (cond t held (with_entry held (record { tx = tx; locks = with_locks (held_of held tx).locks locks; own = with_owns (held_of held tx).own own })))
     by true = all

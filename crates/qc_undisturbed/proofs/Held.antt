@@ -1,5 +1,5 @@
 -- A site holds something only of transactions that are open by the messages that it took.
-use Rattle.std.proofs.Common.{◌≡◌, ℕ, ◌==◌, ◌&&◌, not, Bool, true, false, cond, List, [], ◌∷◌, ◌++◌, length, Option, Some, None, refl, sym, ap, ◌∙◌, subst}
+use Rattle.std.proofs.Common.{◌≡◌, ℕ, ◌&&◌, not, Bool, true, false, cond, List, [], ◌∷◌, ◌++◌, Option, Some, None, refl, sym, ap, ◌∙◌, subst}
 use Rattle.std.specs.List.{AllByRecursion as Every, cons_option, fold}
 use Rattle.std.proofs.lemmas.List.{append-nil, append_assoc}
 use Rattle.std.proofs.lemmas.List.Sums.{fold-append}
@@ -8,13 +8,12 @@ use Rattle.qc_list.proofs.Members.{In-passes, In-unfiltered, every-In, every-fro
 use Rattle.qc_stamp.specs.declared.stamp.TxId.{TxId}
 use Rattle.qc_stamp.specs.Order.{same_tx}
 use Rattle.qc_entry.specs.declared.line.OwnLine.{OwnLine}
-use Rattle.qc_entry.specs.declared.line.ReadLock.{ReadLock}
 use Rattle.qc_decl.specs.declared.declaration.Declaration.{Declaration}
 use Rattle.qc_lock.specs.declared.clash.Clash.{Clash}
 use Rattle.qc_lock.specs.declared.held.Held.{Held}
 use Rattle.qc_lock.specs.Clash.{append_clash, read_clash}
 use Rattle.qc_lock.specs.Conflict.{IsAppendConflict, IsReadConflict, IsSmallest}
-use Rattle.qc_lock.specs.Held.{held_of, with_entry, with_held, with_locks, with_owns, without_held}
+use Rattle.qc_lock.specs.Held.{without_held}
 use Rattle.qc_lock.proofs.Conflicts.{append_smallest, read_smallest}
 use Rattle.qc_lock.proofs.Entries.{apart_sym, same_self}
 use Rattle.qc_msg.specs.declared.message.Envelope.{Envelope}
@@ -33,6 +32,7 @@ use Rattle.qc_site.specs.Conduct.{passed, site_after, site_at, site_does, site_t
 use Rattle.qc_site.specs.Requests.{grants}
 use Rattle.qc_site.specs.Site.{SiteMove, SiteState, moved, new_site}
 use Rattle.qc_site.proofs.Cases.{append_cases, join_cases, prepare_cases, read_cases, request_cases}
+use Rattle.qc_records.proofs.SitesAsk.{held-more}
 use Rattle.qc_undisturbed.specs.Arrives.{message_in, taken_in}
 use Rattle.qc_undisturbed.specs.Open.{asks_to_hold, is_open, open_said}
 
@@ -65,25 +65,6 @@ active_leaves tx other before = by (same_tx other tx)
     by true = refl
     by false = refl
 
--- entries of a property of transactions
-
-module _ (B : TxId → Type 0) where
-  abbrev HeldFor : List Held → Type 0
-  HeldFor held = Every (λ (h : Held). B h.tx) held
-
-  held-put : (held : List Held) (e : Held) → HeldFor held → B e.tx → HeldFor (with_entry held e)
-  held-put [] e all here = (here, tt)
-  held-put (h ∷ hs) e all here = by (same_tx h.tx e.tx) (held-put hs e all.1 here) where
-    by : (t : Bool) → HeldFor (with_entry hs e) → HeldFor (cond t (e ∷ hs) (h ∷ with_entry hs e))
-    by true rest = (here, all.1)
-    by false rest = (all.0, rest)
-
-  held-more : (held : List Held) (tx : TxId) (locks : List ReadLock) (own : List OwnLine) → HeldFor held → B tx → HeldFor (with_held held tx locks own)
-  held-more held tx locks own all here = by ((length locks == 0) && (length own == 0)) where
-    by : (t : Bool) → HeldFor (cond t held (with_entry held (record { tx = tx; locks = with_locks (held_of held tx).locks locks; own = with_owns (held_of held tx).own own })))
-    by true = all
-    by false = held-put held (record { tx = tx; locks = with_locks (held_of held tx).locks locks; own = with_owns (held_of held tx).own own }) all here
-
 -- a site takes one message
 
 module _ (decl : Declaration) (ms : List Envelope) (s : SiteState) (from number : ℕ) (e : Envelope) (all : AreOpen ms s.held) where
@@ -97,12 +78,12 @@ module _ (decl : Declaration) (ms : List Envelope) (s : SiteState) (from number 
   granted : (tx : TxId) (epoch life : ℕ) (want : Want) → Now (messages.Request tx epoch life want) (grants decl s from number tx want).site.held
   granted tx epoch life (Read object inv) =
       read_cases (λ (m : SiteMove). Now (messages.Request tx epoch life (Read object inv)) m.site.held) decl s from number tx object inv
-      (λ free. held-more (λ (x : TxId). open_said x (is_open x ms) (messages.Request tx epoch life (Read object inv)) ≡ true) s.held tx (record { object = object; inv = inv } ∷ []) [] (requested tx epoch life (Read object inv))
+      (λ free. held-more decl (λ (x : TxId). open_said x (is_open x ms) (messages.Request tx epoch life (Read object inv)) ≡ true) s.held tx (record { object = object; inv = inv } ∷ []) [] (requested tx epoch life (Read object inv))
       (request_opens tx epoch life (Read object inv) (is_open tx ms) refl))
       (λ c clash. requested tx epoch life (Read object inv))
   granted tx epoch life (Append object view own) =
       append_cases (λ (m : SiteMove). Now (messages.Request tx epoch life (Append object view own)) m.site.held) decl s from number tx object view own
-      (λ free. held-more (λ (x : TxId). open_said x (is_open x ms) (messages.Request tx epoch life (Append object view own)) ≡ true) s.held tx [] own (requested tx epoch life (Append object view own))
+      (λ free. held-more decl (λ (x : TxId). open_said x (is_open x ms) (messages.Request tx epoch life (Append object view own)) ≡ true) s.held tx [] own (requested tx epoch life (Append object view own))
       (request_opens tx epoch life (Append object view own) (is_open tx ms) refl))
       (λ c clash. requested tx epoch life (Append object view own))
   granted tx epoch life Prepare =

@@ -35,7 +35,8 @@ use Rattle.qc_laws.proofs.SiteReplies.{IsProperFrom}
 use Rattle.qc_records.proofs.DecisionLaws.{moves_on}
 use Rattle.qc_records.proofs.InRuns.{HasPlace, client_low, client_no_site, client_number, run_place}
 use Rattle.qc_records.proofs.Lasting.{Came, request_born, verdict_came}
-use Rattle.qc_records.proofs.Moving.{Good, IsFromClient, IsMail, all_good}
+use Rattle.qc_records.proofs.Moving.{Good, IsFromClient, IsMail}
+use Rattle.qc_records.proofs.RunsGood.{all_good}
 use Rattle.qc_records.proofs.StatusActs.{HasPage, pages}
 use Rattle.qc_guarantees.proofs.Mailed.{mail_sent}
 use Rattle.qc_undisturbed.specs.Arrives.{sent_to}

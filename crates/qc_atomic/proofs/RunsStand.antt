@@ -1,12 +1,8 @@
--- Each run of a script is one of the net, as in qc_atomic, whose statement says of a client with an open input only what it
--- becomes by it: here also that the client is tied to its account as it was before that input.
-use Rattle.std.proofs.Common.{◌≡◌, ◌≢◌, ℕ, ◌+◌, ◌-◌, ◌<◌, ◌≤◌, ◌==◌, ◌&&◌, nat_le, nat_lt, arith, Bool, true, false, if◌then◌else◌, List, [], ◌∷◌, ◌++◌, length, Some, None, slice_get, refl, sym, ap, ◌∙◌, subst, eq-eqb, eqb-true, ltb-true}
+-- Each run of a script is one of the net: the net stands still as an input is taken, and makes both at the post.
+use Rattle.std.proofs.Common.{◌≡◌, ◌≢◌, ℕ, ◌+◌, ◌-◌, ◌==◌, Bool, true, false, if◌then◌else◌, List, [], ◌∷◌, ◌++◌, length, Some, None, slice_get, refl, sym, ap, ◌∙◌, subst, eqb-true}
 use Rattle.std.specs.Prelude.{fold, replicate, slice_set}
-use Rattle.std.proofs.lemmas.List.Sums.{fold-append}
-use Rattle.std.proofs.lemmas.Bool.{leb-true}
 use Rattle.std.proofs.lemmas.List.{append-nil}
-use Rattle.qc_list.specs.Members.{In}
-use Rattle.qc_list.proofs.Members.{every-at, every-from_In}
+use Rattle.std.proofs.lemmas.List.Sums.{fold-append}
 use Rattle.qc_entry.specs.declared.record.Commit.{Commit as CommitRecord}
 use Rattle.qc_core.specs.Acts.{MayTake}
 use Rattle.qc_core.specs.Conduct.{IsLawful}
@@ -38,62 +34,25 @@ use Rattle.qc_site.specs.Site.{SiteMove, SiteState}
 use Rattle.qc_laws.proofs.Acted.{deeds-silent, run_acts}
 use Rattle.qc_laws.proofs.Arrivals.{what_is_ready_was_sent}
 use Rattle.qc_laws.proofs.Numbered.{IsSilent, control_silent, mail-silent, phase_silent}
-use Rattle.qc_laws.proofs.Places.{replicate_at, slice_get-set_other, slice_get-set_same}
+use Rattle.qc_laws.proofs.Places.{replicate_at}
 use Rattle.qc_laws.proofs.Replying.{after_taken, client_replies}
 use Rattle.qc_laws.proofs.Running.{what_is_ready_may_be_taken}
 use Rattle.qc_laws.specs.Calls.{is_waiting}
 use Rattle.qc_laws.proofs.Waiting.{round_none, votes_none}
-use Rattle.qc_net.specs.Net.{MayCome, MayCommand, Net, Reaches, after_client, after_site, commits_in, first_net, sent_all}
-use Rattle.qc_net.specs.Net as nets
-use Rattle.qc_net.proofs.Frames.{put_one}
 use Rattle.qc_promise.specs.Account.{new_account}
 use Rattle.qc_promise.specs.Accounting.{account, account_at}
 use Rattle.qc_account.specs.Ties.{Ties}
 use Rattle.qc_account.proofs.Courses.{clients_tied}
+use Rattle.qc_net.specs.Net.{MayCommand, after_client, after_site, commits_in, first_net, sent_all}
+use Rattle.qc_net.specs.Net as nets
+use Rattle.qc_net.proofs.Frames.{put_one}
 use Rattle.qc_atomic.specs.Reached.{AreNamed}
 use Rattle.qc_atomic.proofs.Asked.{ready_named}
 use Rattle.qc_atomic.proofs.Posted.{client_posted, control_writes, site_posted, site_taken, taken_writes, written_posted, written_same}
 use Rattle.qc_atomic.proofs.Silent.{site_silent}
-use Rattle.qc_order.proofs.Opened.{ClientStands, OpenClient, OpenSite, SiteStands, Stood, client_stays, site_stays}
+use Rattle.qc_atomic.proofs.Stood.{ClientStands, OpenClient, OpenSite, SiteStands, Stood, apart, both, client_stays, false_true, may_come, not_now, site_stays, slot_other, true_false}
 
 module _ (decl : Declaration) (script : Script) where
-  may_come : (net : Net) (a : ℕ) (g : Given) → WasSentTo a net.mail g → MayCome net a g
-  may_come net a (given.Called command) sent = tt
-  may_come net a (given.Got envelope) sent =
-      (every-at (λ (e : Envelope). In e net.mail) net.mail envelope.number envelope (every-from_In (λ (e : Envelope). In e net.mail) net.mail (λ e among. among)) sent.0, sent.1)
-  may_come net a (given.Lost number) sent = tt
-
-  and_first : (s t : Bool) → (s && t) ≡ true → s ≡ true
-  and_first true t is = refl
-  and_first false t is = is
-
-  -- no actor is both
-  both : (a : ℕ) → is_site decl a ≡ true → is_client decl a ≡ true → ⊥
-  both a site client =
-      let low : a < decl.sites = ltb-true a decl.sites site in
-      let high : decl.sites ≤ a = leb-true decl.sites a (and_first (nat_le decl.sites a) (nat_lt a (actors decl)) client) in
-      omega arith
-
-  apart : (a b : ℕ) → (a ≡ b → ⊥) → (a == b) ≡ false
-  apart a b never = at (a == b) refl
-    where
-      at : (t : Bool) → (a == b) ≡ t → t ≡ false
-      at true same = absurd (never (eqb-true a b same))
-      at false other = refl
-
-  -- a place is one or the other
-  not_now : (open_inputs : List Bool) (a : ℕ) (v w t : Bool) → slice_get open_inputs a ≡ Some w → v ≢ t → slice_get (slice_set open_inputs a v) a ≡ Some t → ⊥
-  not_now open_inputs a v w t was differs is = let now : slice_get (slice_set open_inputs a v) a ≡ Some v = slice_get-set_same open_inputs a v w was in differs (let same : v ≡ t = cc in same)
-
-  slot_other : (open_inputs : List Bool) (a b : ℕ) (v : Bool) → (a == b) ≡ false → slice_get (slice_set open_inputs a v) b ≡ slice_get open_inputs b
-  slot_other open_inputs a b v other = slice_get-set_other open_inputs a b v (λ e. (let t : (a == b) ≡ true = eq-eqb a b e in let never : ⊥ = cc in never))
-
-  false_true : false ≢ true
-  false_true e = let never : ⊥ = cc in never
-
-  true_false : true ≢ false
-  true_false e = let never : ⊥ = cc in never
-
   -- an input is taken
 
   idle_is : (doing : Doing) → is_idle doing ≡ true → doing ≡ Idle
@@ -101,7 +60,7 @@ module _ (decl : Declaration) (script : Script) where
   idle_is (Reading object inv calls round) is = absurd (let never : ⊥ = cc in never)
   idle_is (Appending object inv event calls round) is = absurd (let never : ⊥ = cc in never)
 
-  module _ (named : AreNamed decl script) (h : List Entry) (open_inputs : List Bool) (run : Runs (IsLawful decl) decl script h open_inputs) (old : Stood decl script h open_inputs) where
+  module _ (named : AreNamed decl script) (h : List Entry) (open_inputs : List Bool) (run : Runs (IsLawful decl) decl script h open_inputs) (old : Stood decl h open_inputs) where
     module _ (a : ℕ) (g : Given) (free : slice_get open_inputs a ≡ Some false) (rdy : ready decl script a h ≡ Some g) where
       abbrev now_taken : List Entry
       now_taken = h ++ marked a (step_of g) ∷ []
@@ -121,7 +80,7 @@ module _ (decl : Declaration) (script : Script) where
           (subst (MayTake (deeds a [] h)) is (what_is_ready_may_be_taken decl script a h g rdy))
         where
           at : (t : Bool) → is_site decl a ≡ t → t ≡ false
-          at true site = absurd (both a site client)
+          at true site = absurd (both decl a site client)
           at false none = refl
 
       may : (x : Given) → g ≡ x → is_client decl a ≡ true → MayCommand decl (client_after decl (a - decl.sites) (deeds a [] h)).client x
@@ -134,7 +93,7 @@ module _ (decl : Declaration) (script : Script) where
       may (given.Got envelope) is client = tt
       may (given.Lost number) is client = tt
 
-      pub stands_taken : Stood decl script now_taken (slice_set open_inputs a true)
+      pub stands_taken : Stood decl now_taken (slice_set open_inputs a true)
       stands_taken = record {
         net = old.net;
         reached = old.reached;
@@ -144,9 +103,9 @@ module _ (decl : Declaration) (script : Script) where
         clients_are = λ b client. by_client b client (a == b) refl;
       }
         where
-          by_site : (b : ℕ) → is_site decl b ≡ true → (t : Bool) → (a == b) ≡ t → SiteStands decl script (old.net.sites b) b now_taken (slice_get (slice_set open_inputs a true) b)
-          by_site b site false other = site_stays decl script (old.net.sites b) b h now_taken [] (slice_get open_inputs b) (slice_get (slice_set open_inputs a true) b) (deeds-other a b [] h (step_of g ∷ []) other) grows (slot_other open_inputs a b true other) (old.sites_are b site)
-          by_site b site true same = subst (λ (k : ℕ). SiteStands decl script (old.net.sites k) k now_taken (slice_get (slice_set open_inputs a true) k)) (eqb-true a b same) (record {
+          by_site : (b : ℕ) → is_site decl b ≡ true → (t : Bool) → (a == b) ≡ t → SiteStands decl (old.net.sites b) b now_taken (slice_get (slice_set open_inputs a true) b)
+          by_site b site false other = site_stays decl (old.net.sites b) b h now_taken [] (slice_get open_inputs b) (slice_get (slice_set open_inputs a true) b) (deeds-other a b [] h (step_of g ∷ []) other) grows (slot_other open_inputs a b true other) (old.sites_are b site)
+          by_site b site true same = subst (λ (k : ℕ). SiteStands decl (old.net.sites k) k now_taken (slice_get (slice_set open_inputs a true) k)) (eqb-true a b same) (record {
             closed = λ e. absurd (not_now open_inputs a true false false free true_false e);
             opened = λ e. record {
               given = g;
@@ -156,12 +115,12 @@ module _ (decl : Declaration) (script : Script) where
             };
           })
 
-          by_client : (b : ℕ) → is_client decl b ≡ true → (t : Bool) → (a == b) ≡ t → ClientStands decl script (old.net.clients b) b now_taken (slice_get (slice_set open_inputs a true) b)
-          by_client b client false other = client_stays decl script (old.net.clients b) b h now_taken [] (slice_get open_inputs b) (slice_get (slice_set open_inputs a true) b) (deeds-other a b [] h (step_of g ∷ []) other) grows (slot_other open_inputs a b true other) (old.clients_are b client)
+          by_client : (b : ℕ) → is_client decl b ≡ true → (t : Bool) → (a == b) ≡ t → ClientStands decl (old.net.clients b) b now_taken (slice_get (slice_set open_inputs a true) b)
+          by_client b client false other = client_stays decl (old.net.clients b) b h now_taken [] (slice_get open_inputs b) (slice_get (slice_set open_inputs a true) b) (deeds-other a b [] h (step_of g ∷ []) other) grows (slot_other open_inputs a b true other) (old.clients_are b client)
           by_client b client true same =
               let here : is_client decl a ≡ true = subst (λ (k : ℕ). is_client decl k ≡ true) (sym (eqb-true a b same)) client in
               let was : old.net.clients a ≡ (client_after decl (a - decl.sites) (deeds a [] h)).client = (old.clients_are a here).closed free in
-              subst (λ (k : ℕ). ClientStands decl script (old.net.clients k) k now_taken (slice_get (slice_set open_inputs a true) k)) (eqb-true a b same) (record {
+              subst (λ (k : ℕ). ClientStands decl (old.net.clients k) k now_taken (slice_get (slice_set open_inputs a true) k)) (eqb-true a b same) (record {
                 closed = λ e. absurd (not_now open_inputs a true false false free true_false e);
                 opened = λ e. record {
                   given = g;
@@ -186,19 +145,19 @@ module _ (decl : Declaration) (script : Script) where
       mail_after : (sends : List Posting) → sends ≡ turn.sends → old.net.mail ++ envelopes a (length old.net.mail) sends ≡ mail now_posted
       mail_after sends is = ap (λ (ps : List Posting). old.net.mail ++ envelopes a (length old.net.mail) ps) is ∙ ap (λ (ms : List Envelope). ms ++ envelopes a (length ms) turn.sends) old.mail_is ∙ sym mail_now
 
-      site_elsewhere : (b : ℕ) → is_site decl b ≡ true → (a == b) ≡ false → SiteStands decl script (old.net.sites b) b now_posted (slice_get (slice_set open_inputs a false) b)
+      site_elsewhere : (b : ℕ) → is_site decl b ≡ true → (a == b) ≡ false → SiteStands decl (old.net.sites b) b now_posted (slice_get (slice_set open_inputs a false) b)
       site_elsewhere b site other =
-          site_stays decl script (old.net.sites b) b h now_posted (envelopes a (length (mail h)) turn.sends) (slice_get open_inputs b) (slice_get (slice_set open_inputs a false) b) (deeds-other a b [] h (posted (length (mail h)) turn) other) mail_now (slot_other open_inputs a b false other) (old.sites_are b site)
+          site_stays decl (old.net.sites b) b h now_posted (envelopes a (length (mail h)) turn.sends) (slice_get open_inputs b) (slice_get (slice_set open_inputs a false) b) (deeds-other a b [] h (posted (length (mail h)) turn) other) mail_now (slot_other open_inputs a b false other) (old.sites_are b site)
 
-      client_elsewhere : (b : ℕ) → is_client decl b ≡ true → (a == b) ≡ false → ClientStands decl script (old.net.clients b) b now_posted (slice_get (slice_set open_inputs a false) b)
+      client_elsewhere : (b : ℕ) → is_client decl b ≡ true → (a == b) ≡ false → ClientStands decl (old.net.clients b) b now_posted (slice_get (slice_set open_inputs a false) b)
       client_elsewhere b client other =
-          client_stays decl script (old.net.clients b) b h now_posted (envelopes a (length (mail h)) turn.sends) (slice_get open_inputs b) (slice_get (slice_set open_inputs a false) b) (deeds-other a b [] h (posted (length (mail h)) turn) other) mail_now (slot_other open_inputs a b false other) (old.clients_are b client)
+          client_stays decl (old.net.clients b) b h now_posted (envelopes a (length (mail h)) turn.sends) (slice_get open_inputs b) (slice_get (slice_set open_inputs a false) b) (deeds-other a b [] h (posted (length (mail h)) turn) other) mail_now (slot_other open_inputs a b false other) (old.clients_are b client)
 
       differs : (b : ℕ) → b ≢ a → (a == b) ≡ false
       differs b other = apart a b (λ same. other (sym same))
 
       module _ (site : is_site decl a ≡ true) (law : turn ≡ (site_after decl a (deeds a [] h)).turn) where
-        x : OpenSite decl script (old.net.sites a) a h
+        x : OpenSite decl (old.net.sites a) a h
         x = (old.sites_are a site).opened taken
 
         abbrev move : SiteMove
@@ -207,24 +166,24 @@ module _ (decl : Declaration) (script : Script) where
         turn_is : move.turn ≡ turn
         turn_is = sym (law ∙ ap (λ (m : SiteMove). m.turn) x.is)
 
-        pub stands_served : Stood decl script now_posted (slice_set open_inputs a false)
+        pub stands_served : Stood decl now_posted (slice_set open_inputs a false)
         stands_served = record {
           net = after_site old.net a move;
           reached = nets.serves a x.given old.net old.reached site (may_come old.net a x.given (subst (λ (ms : List Envelope). WasSentTo a ms x.given) (sym old.mail_is) x.sent));
           mail_is = mail_after move.turn.sends (ap (λ (t : Turn). t.sends) turn_is);
           written_is = old.written_is ∙ sym (written_posted h a (length (mail h)) turn ∙ ap (λ (cs : List CommitRecord). written h ++ cs) (ap (λ (t : Turn). commits_in t.write) (sym turn_is) ∙ site_silent decl (old.net.sites a) x.given) ∙ append-nil (written h));
-          sites_are = λ b is. put_one (λ k (s : SiteState). SiteStands decl script s k now_posted (slice_get (slice_set open_inputs a false) k)) old.net.sites a move.site b here (λ other. site_elsewhere b is (differs b other));
-          clients_are = λ b is. client_elsewhere b is (apart a b (λ same. both b (subst (λ (k : ℕ). is_site decl k ≡ true) same site) is));
+          sites_are = λ b is. put_one (λ k (s : SiteState). SiteStands decl s k now_posted (slice_get (slice_set open_inputs a false) k)) old.net.sites a move.site b here (λ other. site_elsewhere b is (differs b other));
+          clients_are = λ b is. client_elsewhere b is (apart a b (λ same. both decl b (subst (λ (k : ℕ). is_site decl k ≡ true) same site) is));
         }
           where
-            here : SiteStands decl script move.site a now_posted (slice_get (slice_set open_inputs a false) a)
+            here : SiteStands decl move.site a now_posted (slice_get (slice_set open_inputs a false) a)
             here = record {
               closed = λ e. ap (λ (m : SiteMove). m.site) (sym x.is) ∙ sym (ap (λ (m : SiteMove). m.site) (ap (site_after decl a) (deeds-posted a (length (mail h)) h turn) ∙ site_posted decl a (deeds a [] h) (length (mail h)) turn));
               opened = λ e. absurd (not_now open_inputs a false true true taken false_true e);
             }
 
       module _ (none : is_site decl a ≡ false) (client : is_client decl a ≡ true) (law : turn ≡ (client_after decl (a - decl.sites) (deeds a [] h)).turn) where
-        y : OpenClient decl script (old.net.clients a) a h
+        y : OpenClient decl (old.net.clients a) a h
         y = (old.clients_are a client).opened taken
 
         abbrev step : ClientMove
@@ -233,20 +192,20 @@ module _ (decl : Declaration) (script : Script) where
         turn_was : step.turn ≡ turn
         turn_was = sym (law ∙ ap (λ (m : ClientMove). m.turn) y.is)
 
-        pub stands_done : Stood decl script now_posted (slice_set open_inputs a false)
+        pub stands_done : Stood decl now_posted (slice_set open_inputs a false)
         stands_done = record {
           net = after_client old.net a step;
           reached = nets.takes a y.given old.net old.reached client (may_come old.net a y.given (subst (λ (ms : List Envelope). WasSentTo a ms y.given) (sym old.mail_is) y.sent)) y.may;
           mail_is = mail_after step.turn.sends (ap (λ (t : Turn). t.sends) turn_was);
           written_is = (λ i. old.written_is i ++ commits_in (turn_was i).write) ∙ sym (written_posted h a (length (mail h)) turn);
           sites_are = λ b is. site_elsewhere b is (apart a b (λ same. (let site : is_site decl a ≡ true = subst (λ (k : ℕ). is_site decl k ≡ true) (sym same) is in let never : ⊥ = cc in never)));
-          clients_are = λ b is. put_one (λ k (c : Client). ClientStands decl script c k now_posted (slice_get (slice_set open_inputs a false) k)) old.net.clients a (sent_all step.client (length old.net.mail) step.turn.sends) b here (λ other. client_elsewhere b is (differs b other));
+          clients_are = λ b is. put_one (λ k (c : Client). ClientStands decl c k now_posted (slice_get (slice_set open_inputs a false) k)) old.net.clients a (sent_all step.client (length old.net.mail) step.turn.sends) b here (λ other. client_elsewhere b is (differs b other));
         }
           where
             moved_to : step ≡ client_after decl (a - decl.sites) (deeds a [] h)
             moved_to = sym y.is
 
-            here : ClientStands decl script (sent_all step.client (length old.net.mail) step.turn.sends) a now_posted (slice_get (slice_set open_inputs a false) a)
+            here : ClientStands decl (sent_all step.client (length old.net.mail) step.turn.sends) a now_posted (slice_get (slice_set open_inputs a false) a)
             here = record {
               closed = λ e.
                   (λ i. sent_all (moved_to i).client (length (old.mail_is i)) (turn_was i).sends)
@@ -254,30 +213,30 @@ module _ (decl : Declaration) (script : Script) where
               opened = λ e. absurd (not_now open_inputs a false true true taken false_true e);
             }
 
-      pub stands_posted : IsLawful decl a (deeds a [] h) turn → Stood decl script now_posted (slice_set open_inputs a false)
+      pub stands_posted : IsLawful decl a (deeds a [] h) turn → Stood decl now_posted (slice_set open_inputs a false)
       stands_posted law = at (is_site decl a) (is_client decl a) refl refl law
         where
-          at : (s c : Bool) → is_site decl a ≡ s → is_client decl a ≡ c → (if s then Some (site_after decl a (deeds a [] h)).turn else (if c then Some (client_after decl (a - decl.sites) (deeds a [] h)).turn else None)) ≡ Some turn → Stood decl script now_posted (slice_set open_inputs a false)
+          at : (s c : Bool) → is_site decl a ≡ s → is_client decl a ≡ c → (if s then Some (site_after decl a (deeds a [] h)).turn else (if c then Some (client_after decl (a - decl.sites) (deeds a [] h)).turn else None)) ≡ Some turn → Stood decl now_posted (slice_set open_inputs a false)
           at true c site client is = stands_served site (let same : turn ≡ (site_after decl a (deeds a [] h)).turn = cc in same)
           at false true none client is = stands_done none client (let same : turn ≡ (client_after decl (a - decl.sites) (deeds a [] h)).turn = cc in same)
           at false false none no_client is = absurd (let never : ⊥ = cc in never)
 
     -- a step of the controller is nothing to the net
-    pub stands_still : (b : ℕ) (silent_step : Step) → IsSilent silent_step → commit_in silent_step ≡ None → Stood decl script (h ++ marked b silent_step ∷ []) open_inputs
+    pub stands_still : (b : ℕ) (silent_step : Step) → IsSilent silent_step → commit_in silent_step ≡ None → Stood decl (h ++ marked b silent_step ∷ []) open_inputs
     stands_still b silent_step silent none = record {
       net = old.net;
       reached = old.reached;
       mail_is = old.mail_is ∙ sym (mail-silent h b silent_step silent);
       written_is = old.written_is ∙ sym (written_same h b silent_step none);
-      sites_are = λ a site. site_stays decl script (old.net.sites a) a h (h ++ marked b silent_step ∷ []) [] (slice_get open_inputs a) (slice_get open_inputs a) (deeds-silent a b h silent_step silent) (mail-silent h b silent_step silent ∙ sym (append-nil (mail h))) refl (old.sites_are a site);
-      clients_are = λ a client. client_stays decl script (old.net.clients a) a h (h ++ marked b silent_step ∷ []) [] (slice_get open_inputs a) (slice_get open_inputs a) (deeds-silent a b h silent_step silent) (mail-silent h b silent_step silent ∙ sym (append-nil (mail h))) refl (old.clients_are a client);
+      sites_are = λ a site. site_stays decl (old.net.sites a) a h (h ++ marked b silent_step ∷ []) [] (slice_get open_inputs a) (slice_get open_inputs a) (deeds-silent a b h silent_step silent) (mail-silent h b silent_step silent ∙ sym (append-nil (mail h))) refl (old.sites_are a site);
+      clients_are = λ a client. client_stays decl (old.net.clients a) a h (h ++ marked b silent_step ∷ []) [] (slice_get open_inputs a) (slice_get open_inputs a) (deeds-silent a b h silent_step silent) (mail-silent h b silent_step silent ∙ sym (append-nil (mail h))) refl (old.clients_are a client);
     }
 
   at_first : (a : ℕ) (t : Bool) → slice_get (replicate (actors decl) false) a ≡ Some true → ⊥
   at_first a t is = let no : true ≡ false = replicate_at (actors decl) a false true is in true_false no
 
   -- each run is one of the net
-  pub runs_stand : AreNamed decl script → (h : List Entry) (open_inputs : List Bool) → Runs (IsLawful decl) decl script h open_inputs → Stood decl script h open_inputs
+  pub runs_stand : AreNamed decl script → (h : List Entry) (open_inputs : List Bool) → Runs (IsLawful decl) decl script h open_inputs → Stood decl h open_inputs
   runs_stand named h open_inputs begins = record {
     net = first_net decl;
     reached = nets.begins;
