@@ -21,6 +21,3 @@ pub use cuts::{ACTORS, Cuts};
 pub use laws::{cuts_part_two_actors, heals_join_two_actors};
 pub use plan::{Link, LinkPlan, fate};
 pub use rule::{Fate, Rule};
-
-#[cfg(test)]
-mod tests;

@@ -28,6 +28,3 @@ pub use laws::{
     transactions_hold_what_is_given,
 };
 pub use locks::{Locks, locks_are_sound};
-
-#[cfg(test)]
-mod tests;

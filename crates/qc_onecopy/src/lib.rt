@@ -14,8 +14,6 @@
 
 mod laws;
 mod states;
-#[cfg(test)]
-mod tests;
 
 pub use laws::{
     answers_are_from_views, records_are_sorted, replays_are_one_copy, views_are_one_copy,

@@ -33,8 +33,6 @@ mod plan;
 mod quorum;
 mod round;
 mod round_laws;
-#[cfg(test)]
-mod round_tests;
 mod standing;
 
 pub use admission::admit;

@@ -15,6 +15,3 @@ mod view;
 
 pub use laws::{answers_lead_on, own_events_come_last};
 pub use view::View;
-
-#[cfg(test)]
-mod tests;
