@@ -68,11 +68,7 @@ pub(crate) fn count_holders(alloc: Global, deeds: &[Deed<'_>]) -> Result<u64, Ou
 }
 
 /// Takes a deed, with those after it.
-fn take_deed(
-    holders: &mut Holders,
-    deed: &Deed<'_>,
-    after: &[Deed<'_>],
-) -> Result<(), OutOfMemory>
+fn take_deed(holders: &mut Holders, deed: &Deed<'_>, after: &[Deed<'_>]) -> Result<(), OutOfMemory>
     ensures { OnOk result ((txs : List TxId) → IsSetOf txs holders.old
         → IsSetOf (holders_at txs (deed_of deed.now) (map deed_of after.now)) holders.new) }
 {
