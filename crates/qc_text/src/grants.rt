@@ -86,8 +86,8 @@ fn take_message(
     letter: &Letter<'_>,
     after: &[Deed<'_>],
 ) -> Result<(), OutOfMemory>
-    ensures { OnOk result ((txs : List TxId) → IsSetOf txs holders.old
-        → IsSetOf (holders_by txs letter.now.number letter.now.message.now (map deed_of after.now)) holders.new) }
+    ensures { OnOk result ((txs : List TxId) → IsSetOf txs holders.old → IsSetOf
+        (holders_by txs letter.now.number letter.now.message.now (map deed_of after.now)) holders.new) }
 {
     match letter.message {
         Message::Request { tx, want, .. } => {

@@ -38,7 +38,8 @@ impl Holders {
 
     /// Adds a transaction, unless it is there.
     pub(crate) fn add(&mut self, tx: TxId) -> Result<(), OutOfMemory>
-        ensures { OnOk result ((txs : List TxId) → IsSetOf txs self.old → IsSetOf (with_holder txs tx) self.new) }
+        ensures { OnOk result ((txs : List TxId) → IsSetOf txs self.old
+            → IsSetOf (with_holder txs tx) self.new) }
     {
         let _is_new = self.txs.insert(tx)?;
         Ok(())

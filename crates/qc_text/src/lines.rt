@@ -2,7 +2,7 @@
 
 ghost use Rattle.std.specs.Prelude.{◌≡◌, [], List, OnOk, IfOk, MatchOption, map};
 ghost use Rattle.qc_entry.specs.Log.{union};
-ghost use Rattle.qc_msg.specs.Deeds.{Deed as Done};
+ghost use Rattle.qc_msg.specs.Deeds.{Deed as SiteDeed};
 ghost use Rattle.qc_promise.specs.SiteLogs.{done_lines, joining, lines_done, lines_of, log_shown, view_by};
 ghost use Rattle.qc_text.specs.Deeds.{deed_of};
 ghost use Rattle.qc_text.specs.Prepares.{AreLast};
@@ -41,7 +41,7 @@ fn join(
     deed: &Deed<'_>,
     after: &[Deed<'_>],
 ) -> Result<(), OutOfMemory>
-    ensures { OnOk result ((before : List Done) → AreLast prepares.now before
+    ensures { OnOk result ((before : List SiteDeed) → AreLast prepares.now before
         → log.new ≡ union log.old (joining before (deed_of deed.now) (map deed_of after.now))) }
 {
     match deed {
@@ -85,7 +85,7 @@ fn join_written(
     prepares: &Prepares<'_>,
     written: &Record,
 ) -> Result<(), OutOfMemory>
-    ensures { OnOk result ((before : List Done) → AreLast prepares.now before
+    ensures { OnOk result ((before : List SiteDeed) → AreLast prepares.now before
         → log.new ≡ union log.old (lines_done before written.now)) }
 {
     match written {
@@ -108,7 +108,7 @@ fn join_done(
     tx: TxId,
     clock: u64,
 ) -> Result<(), OutOfMemory>
-    ensures { OnOk result ((before : List Done) → AreLast prepares.now before
+    ensures { OnOk result ((before : List SiteDeed) → AreLast prepares.now before
         → log.new ≡ union log.old (done_lines before tx clock)) }
 {
     if let Some(prepared) = prepares.of(tx) {

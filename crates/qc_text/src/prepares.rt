@@ -2,7 +2,7 @@
 //! The map keeps its keys in order: no choice of names makes it slow.
 
 ghost use Rattle.std.specs.Prelude.{◌≡◌, ◌++◌, ◌∷◌, [], List, OnOk, option_map};
-ghost use Rattle.qc_msg.specs.Deeds.{Deed as Done};
+ghost use Rattle.qc_msg.specs.Deeds.{Deed as SiteDeed};
 ghost use Rattle.qc_promise.specs.SiteRecords.{last_prepare};
 ghost use Rattle.qc_text.specs.Deeds.{deed_of};
 ghost use Rattle.qc_text.specs.Prepares.{AreLast, prepare_in};
@@ -33,7 +33,7 @@ impl<'a> Prepares<'a> {
 
     /// Takes the next deed.
     pub(crate) fn take(&mut self, deed: &Deed<'a>) -> Result<(), OutOfMemory>
-        ensures { OnOk result ((before : List Done) → AreLast self.old before
+        ensures { OnOk result ((before : List SiteDeed) → AreLast self.old before
             → AreLast self.new (before ++ deed_of deed.now ∷ [])) }
     {
         if let Some(prepared) = prepare_in(deed) {
@@ -44,7 +44,7 @@ impl<'a> Prepares<'a> {
 
     /// The last Prepare of a transaction.
     pub(crate) fn of(&self, tx: TxId) -> Option<&'a Prepared>
-        ensures { (before : List Done) → AreLast self.now before
+        ensures { (before : List SiteDeed) → AreLast self.now before
             → option_map (λ p. p.now) result ≡ last_prepare tx before }
     {
         self.last.get(&tx).copied()
