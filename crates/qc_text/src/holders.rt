@@ -47,7 +47,8 @@ impl Holders {
 
     /// Drops a transaction.
     pub(crate) fn remove(&mut self, tx: TxId)
-        ensures { (txs : List TxId) → IsSetOf txs self.old → IsSetOf (without_holder txs tx) self.new }
+        ensures { (txs : List TxId) → IsSetOf txs self.old
+            → IsSetOf (without_holder txs tx) self.new }
     {
         let _was_there = self.txs.remove(&tx);
     }
