@@ -69,7 +69,7 @@ same_dropped txs tx t same = by (is_holder txs t) where
   by false = filter-append (λ u. not (same_tx u tx)) txs (t ∷ []) ∙ ap (λ (b : Bool). without_holder txs tx ++ cond (not b) (t ∷ []) []) same ∙ append-nil (without_holder txs tx)
 
 -- another one is a holder without it, too
-holder_left : (txs : List TxId) (tx t : TxId) → same_tx t tx ≡ false → is_holder (without_holder txs tx) t ≡ is_holder txs t
+pub holder_left : (txs : List TxId) (tx t : TxId) → same_tx t tx ≡ false → is_holder (without_holder txs tx) t ≡ is_holder txs t
 holder_left [] tx t other = refl
 holder_left (u ∷ txs) tx t other = by (same_tx u tx) refl (holder_left txs tx t other) where
   by : (b : Bool) → same_tx u tx ≡ b → is_holder (without_holder txs tx) t ≡ is_holder txs t

@@ -5,7 +5,9 @@ pub mod Taken
 pub mod Keys
 pub mod Sections
 pub mod Found
+pub mod Alike
 pub mod Granted
 pub mod Recorded
 pub mod Walked
 pub mod Holding
+pub mod SetOf

@@ -1,11 +1,12 @@
 -- What records show, one deed on: life, epoch, the last Prepare, and the log.
-use Rattle.std.proofs.Common.{◌≡◌, ℕ, ◌+◌, ◌<◌, Bool, true, false, List, [], ◌∷◌, ◌++◌, Some, None, length, get_or, map, take, drop, sym, ap, refl, ◌∙◌, cond, Option}
-use Rattle.std.specs.Prelude.{fold}
+use Rattle.std.proofs.Common.{◌≡◌, ℕ, Bor, ◌+◌, ◌<◌, Bool, true, false, List, [], ◌∷◌, ◌++◌, Some, None, length, get_or, map, take, drop, sym, ap, refl, ◌∙◌, cond, Option}
+use Rattle.std.specs.Prelude.{fold, option_map}
 use Rattle.std.specs.Option.{option_map_or}
+use Rattle.std.specs.BTreeMap.{is_at}
 use Rattle.std.proofs.lemmas.List.Sums.{fold-append}
 use Rattle.std.proofs.lemmas.List.Elements.{filter_map-append}
 use Rattle.qc_stamp.specs.declared.stamp.TxId.{TxId}
-use Rattle.qc_stamp.specs.Order.{same_tx}
+use Rattle.qc_stamp.specs.Order.{same_tx, tx_cmp}
 use Rattle.qc_entry.specs.declared.line.Line.{Line}
 use Rattle.qc_entry.specs.declared.record.Prepared.{Prepared}
 use Rattle.qc_entry.specs.Log.{union}
@@ -16,9 +17,11 @@ use Rattle.qc_msg.specs.Deeds.{Deed, Takes, Writes, Sends, Tells}
 use Rattle.qc_promise.specs.SiteLogs.{done_lines, done_stamp, joining, lines_of, log_from}
 use Rattle.qc_promise.specs.SiteRecords.{epoch_by, last_prepare, life_by, prepare_by, records_in, record_in}
 use Rattle.qc_text.specs.Deeds.{deed_of}
-use Rattle.qc_text.specs.Records.{epoch_at, life_at, prepare_in}
+use Rattle.qc_text.specs.Prepares.{prepare_in, prepare_of}
+use Rattle.qc_text.specs.Records.{epoch_at, life_at}
 use Rattle.qc_text.specs.declared.deeds.Deed.{Deed as Found}
 use Rattle.qc_text.proofs.Found.{found_more, found_rest}
+use Rattle.qc_text.proofs.Alike.{same_key}
 
 -- records
 
@@ -57,61 +60,60 @@ appended tx ds d =
     ap (fold (prepare_by tx) None) (filter_map-append record_in ds (d ∷ []))
     ∙ fold-append (prepare_by tx) None (records_in ds) (records_in (d ∷ []))
 
-is_found : (tx : TxId) (before : Option Prepared) (p q : Prepared) (b : Bool) → cond b (Some q) None ≡ Some p → cond b (Some q) before ≡ Some p
-is_found tx before p q true h = h
-is_found tx before p q false h = absurd (let never : ⊥ = cc in never)
+-- the last Prepare with one more, if there is one
+abbrev later : TxId → Option Prepared → Option Prepared → Option Prepared
+later tx before next = option_map_or (λ (p : Prepared). cond (same_tx p.tx tx) (Some p) before) next before
 
-is_kept : (tx : TxId) (before : Option Prepared) (q : Prepared) (b : Bool) → cond b (Some q) None ≡ None → cond b (Some q) before ≡ before
-is_kept tx before q true h = absurd (let never : ⊥ = cc in never)
-is_kept tx before q false h = refl
+by_later : (tx : TxId) (before : Option Prepared) (w : Record) → prepare_by tx before w ≡ later tx before (prepare_of w)
+by_later tx before records.Life = refl
+by_later tx before (records.Prepare prepared) = refl
+by_later tx before (records.Done t clock) = refl
+by_later tx before (records.Close epoch) = refl
+by_later tx before (records.Install epoch clock lines) = refl
+by_later tx before (records.Commit commit) = refl
+by_later tx before (records.Decide epoch clock lines) = refl
 
-by_found : (tx : TxId) (before : Option Prepared) (w : Record) (p : Prepared) → prepare_by tx None w ≡ Some p → prepare_by tx before w ≡ Some p
-by_found tx before records.Life p h = absurd (let never : ⊥ = cc in never)
-by_found tx before (records.Prepare q) p h = is_found tx before p q (same_tx q.tx tx) h
-by_found tx before (records.Done t clock) p h = absurd (let never : ⊥ = cc in never)
-by_found tx before (records.Close epoch) p h = absurd (let never : ⊥ = cc in never)
-by_found tx before (records.Install epoch clock lines) p h = absurd (let never : ⊥ = cc in never)
-by_found tx before (records.Commit commit) p h = absurd (let never : ⊥ = cc in never)
-by_found tx before (records.Decide epoch clock lines) p h = absurd (let never : ⊥ = cc in never)
+last_more : (tx : TxId) (ds : List Deed) (d : Deed) → last_prepare tx (ds ++ d ∷ []) ≡ later tx (last_prepare tx ds) (prepare_in d)
+last_more tx ds (Takes given) = appended tx ds (Takes given)
+last_more tx ds (Writes written) = appended tx ds (Writes written) ∙ by_later tx (last_prepare tx ds) written
+last_more tx ds (Sends n to message) = appended tx ds (Sends n to message)
+last_more tx ds (Tells reply) = appended tx ds (Tells reply)
 
-by_kept : (tx : TxId) (before : Option Prepared) (w : Record) → prepare_by tx None w ≡ None → prepare_by tx before w ≡ before
-by_kept tx before records.Life h = refl
-by_kept tx before (records.Prepare q) h = is_kept tx before q (same_tx q.tx tx) h
-by_kept tx before (records.Done t clock) h = refl
-by_kept tx before (records.Close epoch) h = refl
-by_kept tx before (records.Install epoch clock lines) h = refl
-by_kept tx before (records.Commit commit) h = refl
-by_kept tx before (records.Decide epoch clock lines) h = refl
+-- a map has the last Prepares, as a function from names
 
-last_is : (tx : TxId) (ds : List Deed) (d : Deed) (p : Prepared) → prepare_in tx d ≡ Some p → last_prepare tx (ds ++ d ∷ []) ≡ Some p
-last_is tx ds (Takes given) p h = absurd (let never : ⊥ = cc in never)
-last_is tx ds (Writes written) p h = appended tx ds (Writes written) ∙ by_found tx (last_prepare tx ds) written p h
-last_is tx ds (Sends n to message) p h = absurd (let never : ⊥ = cc in never)
-last_is tx ds (Tells reply) p h = absurd (let never : ⊥ = cc in never)
+abbrev Last : (TxId → Option (Bor Prepared)) → List Deed → Type 0
+Last f ds = (tx : TxId) → option_map (λ (p : Bor Prepared). p.now) (f tx) ≡ last_prepare tx ds
 
-last_not : (tx : TxId) (ds : List Deed) (d : Deed) → prepare_in tx d ≡ None → last_prepare tx (ds ++ d ∷ []) ≡ last_prepare tx ds
-last_not tx ds (Takes given) h = appended tx ds (Takes given)
-last_not tx ds (Writes written) h = appended tx ds (Writes written) ∙ by_kept tx (last_prepare tx ds) written h
-last_not tx ds (Sends n to message) h = appended tx ds (Sends n to message)
-last_not tx ds (Tells reply) h = appended tx ds (Tells reply)
+shown : (b : Bool) (p : Bor Prepared) (before : Option (Bor Prepared))
+    → option_map (λ (q : Bor Prepared). q.now) (cond b (Some p) before) ≡ cond b (Some p.now) (option_map (λ (q : Bor Prepared). q.now) before)
+shown true p before = refl
+shown false p before = refl
 
-pub prepare_here : (tx : TxId) (xs : List Found) (i : ℕ) (x d : Found) (p : Prepared) (all : Option Prepared) → i < length xs → x ≡ get_or xs i d
-    → prepare_in tx (deed_of x) ≡ Some p
-    → last_prepare tx (map deed_of (take (i + 1) xs)) ≡ all → all ≡ Some p
-prepare_here tx xs i x d p all l e is known =
-    sym known ∙ ap (last_prepare tx) (found_more xs i x d l e) ∙ last_is tx (map deed_of (take i xs)) (deed_of x) p is
+pub last_with : (f g : TxId → Option (Bor Prepared)) (ds : List Deed) (d : Deed) (p : Bor Prepared) → Some p.now ≡ prepare_in d
+    → ((tx : TxId) → g tx ≡ cond (is_at (tx_cmp p.now.tx) tx) (Some p) (f tx))
+    → Last f ds → Last g (ds ++ d ∷ [])
+last_with f g ds d p is put last tx =
+    ap (option_map (λ (q : Bor Prepared). q.now)) (put tx)
+    ∙ shown (is_at (tx_cmp p.now.tx) tx) p (f tx)
+    ∙ ap (λ (b : Bool). cond b (Some p.now) (option_map (λ (q : Bor Prepared). q.now) (f tx))) (same_key p.now.tx tx)
+    ∙ ap (λ (o : Option Prepared). cond (same_tx p.now.tx tx) (Some p.now) o) (last tx)
+    ∙ ap (later tx (last_prepare tx ds)) is
+    ∙ sym (last_more tx ds d)
 
-pub prepare_before : (tx : TxId) (xs : List Found) (i : ℕ) (x d : Found) (all : Option Prepared) → i < length xs → x ≡ get_or xs i d
-    → prepare_in tx (deed_of x) ≡ None
-    → last_prepare tx (map deed_of (take (i + 1) xs)) ≡ all → last_prepare tx (map deed_of (take i xs)) ≡ all
-prepare_before tx xs i x d all l e is known =
-    sym (last_not tx (map deed_of (take i xs)) (deed_of x) is) ∙ ap (last_prepare tx) (sym (found_more xs i x d l e)) ∙ known
+pub last_without : (f : TxId → Option (Bor Prepared)) (ds : List Deed) (d : Deed) → None ≡ prepare_in d → Last f ds → Last f (ds ++ d ∷ [])
+last_without f ds d none_here last tx = last tx ∙ ap (later tx (last_prepare tx ds)) none_here ∙ sym (last_more tx ds d)
 
--- a Done without a Prepare gives nothing
-pub done_nothing : (before : List Deed) (tx : TxId) (clock : ℕ) (lines : List Line) → last_prepare tx before ≡ None → lines ≡ union lines (done_lines before tx clock)
+-- a Done gives the lines of the last Prepare, and without one nothing
+
+pub done_some : (before : List Deed) (tx : TxId) (clock : ℕ) (lines : List Line) (p : Prepared) → Some p ≡ last_prepare tx before
+    → union lines (lines_of (done_stamp tx clock) tx p.own) ≡ union lines (done_lines before tx clock)
+done_some before tx clock lines p found =
+    ap (λ (o : Option Prepared). union lines (option_map_or (λ (q : Prepared). lines_of (done_stamp tx clock) tx q.own) o [])) found
+
+pub done_nothing : (before : List Deed) (tx : TxId) (clock : ℕ) (lines : List Line) → None ≡ last_prepare tx before → lines ≡ union lines (done_lines before tx clock)
 done_nothing before tx clock lines none_found =
     sym (union-nil lines)
-    ∙ ap (λ (p : Option Prepared). union lines (option_map_or (λ (q : Prepared). lines_of (done_stamp tx clock) tx q.own) p [])) (sym none_found)
+    ∙ ap (λ (o : Option Prepared). union lines (option_map_or (λ (q : Prepared). lines_of (done_stamp tx clock) tx q.own) o [])) none_found
 
 -- the log
 

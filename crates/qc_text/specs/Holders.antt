@@ -1,7 +1,9 @@
 -- The transactions that hold something at a site, one deed after another.
-use Rattle.std.specs.Prelude.{ℕ, ◌==◌, ◌&&◌, not, Bool, true, false, if◌then◌else◌, List, [], ◌∷◌, ◌++◌, filter, length}
+use Rattle.std.specs.Prelude.{◌≡◌, ℕ, ◌==◌, ◌&&◌, not, Bool, true, false, if◌then◌else◌, List, [], ◌∷◌, ◌++◌}
+use Rattle.std.specs.Prelude.{filter, length}
 use Rattle.std.specs.List.{list_any}
-use Rattle.qc_stamp.specs.Order.{same_tx}
+use Rattle.std.specs.BTreeMap.{is_at}
+use Rattle.qc_stamp.specs.Order.{same_tx, tx_cmp}
 use Rattle.qc_stamp.specs.declared.stamp.TxId.{TxId}
 use Rattle.qc_msg.specs.declared.message.Message.{Message}
 use Rattle.qc_msg.specs.declared.message.Message.TheVariants as messages
@@ -41,6 +43,17 @@ with_holder txs tx = if is_holder txs tx then txs else txs ++ tx ∷ []
 
 abbrev pub without_holder : List TxId → TxId → List TxId
 without_holder txs tx = filter (λ t. not (same_tx t tx)) txs
+
+-- each transaction is there once
+abbrev pub AreOnce : List TxId → Type 0
+AreOnce [] = Unit {0}
+AreOnce (tx ∷ txs) = (is_holder txs tx ≡ false) × AreOnce txs
+
+-- the keys of a set are these transactions, each of which is there once, in whatever order
+pub record IsSetOf (txs keys : List TxId) : Type 0 where
+  pub members : (tx : TxId) → list_any (is_at (tx_cmp tx)) keys ≡ is_holder txs tx
+  pub count : length keys ≡ length txs
+  pub once : AreOnce txs
 
 -- the holders after a message of this number is taken, the deeds after it being these
 abbrev pub holders_by : List TxId → ℕ → Message → List Deed → List TxId

@@ -9,6 +9,7 @@ pub mod Log
 pub mod States
 pub mod Deeds
 pub mod Records
+pub mod Prepares
 pub mod Views
 pub mod Holders
 pub mod Sites

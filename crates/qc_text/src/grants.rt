@@ -1,17 +1,17 @@
 //! Which requests a site granted, and which transactions hold something by
 //! them.
 
-ghost use Rattle.std.specs.Prelude.{◌≡◌, OnOk, IfOk, length, map};
+ghost use Rattle.std.specs.Prelude.{◌≡◌, List, OnOk, IfOk, length, map};
+ghost use Rattle.qc_stamp.specs.declared.stamp.TxId.{TxId};
 ghost use Rattle.qc_promise.specs.SiteEnds.{is_final};
 ghost use Rattle.qc_promise.specs.SiteHeld.{held_shown, is_granted};
 ghost use Rattle.qc_text.specs.Deeds.{deed_of};
-ghost use Rattle.qc_text.specs.Holders.{holders_at, holders_by, is_holding, is_holder, is_take, sends_grant};
-ghost use Rattle.qc_text.specs.Holders.{with_holder, without_holder};
+ghost use Rattle.qc_text.specs.Holders.{IsSetOf, holders_at, holders_by, is_holding, is_take, sends_grant};
 
 use crate::deeds::{Deed, Letter};
+use crate::holders::Holders;
 use qc_list::OutOfMemory;
 use qc_msg::{Answer, Message, Outcome, Want};
-use qc_stamp::TxId;
 use std::alloc::Global;
 
 /// Whether the request of this number is granted: one of the messages that are
@@ -56,25 +56,21 @@ fn grants(deed: &Deed<'_>, number: u32) -> bool
     }
 }
 
-/// The transactions that hold something at a site after its deeds.
-pub(crate) fn holders_of(alloc: Global, deeds: &[Deed<'_>]) -> Result<Vec<TxId>, OutOfMemory>
-    ensures { IfOk result (λ v. length v.items ≡ length (held_shown (map deed_of deeds.now))) }
+/// How many transactions hold something at a site after its deeds.
+pub(crate) fn count_holders(alloc: Global, deeds: &[Deed<'_>]) -> Result<u64, OutOfMemory>
+    ensures { IfOk result (λ n. n ≡ length (held_shown (map deed_of deeds.now))) }
 {
-    let mut holders = Vec::new(alloc);
+    let mut holders = Holders::new(alloc);
     'deeds: for place in 0..deeds.len() {
         take_deed(&mut holders, &deeds[place], &deeds[place + 1..])?;
     }
-    Ok(holders)
+    Ok(holders.count())
 }
 
 /// Takes a deed, with those after it.
-fn take_deed(
-    holders: &mut Vec<TxId>,
-    deed: &Deed<'_>,
-    after: &[Deed<'_>],
-) -> Result<(), OutOfMemory>
-    ensures { OnOk result (holders.new.items
-        ≡ holders_at holders.old.items (deed_of deed.now) (map deed_of after.now)) }
+fn take_deed(holders: &mut Holders, deed: &Deed<'_>, after: &[Deed<'_>]) -> Result<(), OutOfMemory>
+    ensures { OnOk result ((txs : List TxId) → IsSetOf txs holders.old
+        → IsSetOf (holders_at txs (deed_of deed.now) (map deed_of after.now)) holders.new) }
 {
     match deed {
         Deed::Got(letter) => take_message(holders, letter, after)?,
@@ -86,22 +82,22 @@ fn take_deed(
 /// Adds the transaction of a request that is granted and holds something, and
 /// drops one that ends.
 fn take_message(
-    holders: &mut Vec<TxId>,
+    holders: &mut Holders,
     letter: &Letter<'_>,
     after: &[Deed<'_>],
 ) -> Result<(), OutOfMemory>
-    ensures { OnOk result (holders.new.items
-        ≡ holders_by holders.old.items letter.now.number letter.now.message.now (map deed_of after.now)) }
+    ensures { OnOk result ((txs : List TxId) → IsSetOf txs holders.old → IsSetOf
+        (holders_by txs letter.now.number letter.now.message.now (map deed_of after.now)) holders.new) }
 {
     match letter.message {
         Message::Request { tx, want, .. } => {
             if is_holding(want) && is_granted(after, letter.number) {
-                add_holder(holders, *tx)?;
+                holders.add(*tx)?;
             }
         }
         Message::Decision { tx, verdict } => {
             if is_final(*verdict) {
-                drop_holder(holders, *tx);
+                holders.remove(*tx);
             }
         }
         Message::Answer { .. }
@@ -132,33 +128,4 @@ fn is_final(verdict: Outcome) -> bool
         Outcome::Committed { .. } | Outcome::Aborted => true,
         Outcome::Active => false,
     }
-}
-
-/// Adds a transaction, unless it is there.
-fn add_holder(holders: &mut Vec<TxId>, tx: TxId) -> Result<(), OutOfMemory>
-    ensures { OnOk result (holders.new.items ≡ with_holder holders.old.items tx) }
-{
-    if !is_holder(holders, tx) {
-        holders.push(tx)?;
-    }
-    Ok(())
-}
-
-/// Whether a transaction is there.
-fn is_holder(holders: &[TxId], tx: TxId) -> bool
-    ensures { result ≡ is_holder holders.now tx }
-{
-    'holders: for holder in holders {
-        if *holder == tx {
-            return true;
-        }
-    }
-    false
-}
-
-/// Drops a transaction.
-fn drop_holder(holders: &mut Vec<TxId>, tx: TxId)
-    ensures { holders.new.items ≡ without_holder holders.old.items tx }
-{
-    holders.retain(|holder| *holder != tx);
 }

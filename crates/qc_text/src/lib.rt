@@ -11,9 +11,9 @@
 //!    took.
 //! 3. A site's line is what the promise says that its own steps show; a site
 //!    that fell and hasn't risen is down.
-//! 4. The work is linear in the history, but for the commits, which are sorted,
-//!    and for the sites: a log is merged as often as the site merged it, and a
-//!    Done looks back for its Prepare.
+//! 4. The work is linear in the history, but for three things: the commits, the
+//!    last Prepares and the transactions that hold something are kept in order,
+//!    and a log is merged as often as the site merged it.
 //!
 //! The top call prints this text.
 #![tactic(auto)]
@@ -22,12 +22,14 @@ mod asked;
 mod committed;
 mod deeds;
 mod grants;
+mod holders;
 mod laws;
 mod lines;
 mod log;
 mod names;
 mod page;
 mod parts;
+mod prepares;
 mod queues;
 mod records;
 mod replies;

@@ -1,14 +1,16 @@
 //! The lines that a site's deeds show.
 
-ghost use Rattle.std.specs.Prelude.{◌≡◌, [], OnOk, IfOk, MatchOption, map};
+ghost use Rattle.std.specs.Prelude.{◌≡◌, [], List, OnOk, IfOk, MatchOption, map};
 ghost use Rattle.qc_entry.specs.Log.{union};
+ghost use Rattle.qc_msg.specs.Deeds.{Deed as SiteDeed};
 ghost use Rattle.qc_promise.specs.SiteLogs.{done_lines, joining, lines_done, lines_of, log_shown, view_by};
 ghost use Rattle.qc_text.specs.Deeds.{deed_of};
+ghost use Rattle.qc_text.specs.Prepares.{AreLast};
 ghost use Rattle.qc_text.specs.Views.{view_asked};
 
 use crate::deeds::{Deed, Letter};
 use crate::grants::is_granted;
-use crate::records::last_prepare;
+use crate::prepares::Prepares;
 use qc_entry::{Line, Log, OwnLine};
 use qc_list::OutOfMemory;
 use qc_msg::{Message, Record, Want};
@@ -20,28 +22,31 @@ pub(crate) fn log_of(alloc: Global, deeds: &[Deed<'_>]) -> Result<Log, OutOfMemo
     ensures { IfOk result (λ log. log ≡ log_shown (map deed_of deeds.now)) }
 {
     let mut log = Log::new(alloc)?;
+    let mut prepares = Prepares::new(alloc);
     'deeds: for place in 0..deeds.len() {
-        let (before, after) = (&deeds[..place], &deeds[place + 1..]);
-        join(alloc, &mut log, before, &deeds[place], after)?;
+        let (deed, after) = (&deeds[place], &deeds[place + 1..]);
+        join(alloc, &mut log, &prepares, deed, after)?;
+        prepares.take(deed)?;
     }
     Ok(log)
 }
 
-/// Adds the lines that a deed gives the log, among those before and after it.
+/// Adds the lines that a deed gives the log, among those before it, of which
+/// the last Prepares are known, and those after it.
 #[tactic(auto, using(crate::proofs::Recorded::union_none))]
 fn join(
     alloc: Global,
     log: &mut Log,
-    before: &[Deed<'_>],
+    prepares: &Prepares<'_>,
     deed: &Deed<'_>,
     after: &[Deed<'_>],
 ) -> Result<(), OutOfMemory>
-    ensures { OnOk result (log.new
-        ≡ union log.old (joining (map deed_of before.now) (deed_of deed.now) (map deed_of after.now))) }
+    ensures { OnOk result ((before : List SiteDeed) → AreLast prepares.now before
+        → log.new ≡ union log.old (joining before (deed_of deed.now) (map deed_of after.now))) }
 {
     match deed {
         Deed::Got(letter) => join_view(log, letter, after),
-        Deed::Wrote(written) => join_written(alloc, log, before, written),
+        Deed::Wrote(written) => join_written(alloc, log, prepares, written),
         Deed::Called(_) | Deed::Lost(_) | Deed::Sent { .. } | Deed::Told(_) => Ok(()),
     }
 }
@@ -77,13 +82,14 @@ fn view_asked(message: &Message) -> Option<&Log>
 fn join_written(
     alloc: Global,
     log: &mut Log,
-    before: &[Deed<'_>],
+    prepares: &Prepares<'_>,
     written: &Record,
 ) -> Result<(), OutOfMemory>
-    ensures { OnOk result (log.new ≡ union log.old (lines_done (map deed_of before.now) written.now)) }
+    ensures { OnOk result ((before : List SiteDeed) → AreLast prepares.now before
+        → log.new ≡ union log.old (lines_done before written.now)) }
 {
     match written {
-        Record::Done { tx, clock } => join_done(alloc, log, before, *tx, *clock),
+        Record::Done { tx, clock } => join_done(alloc, log, prepares, *tx, *clock),
         Record::Life
         | Record::Prepare(_)
         | Record::Close { .. }
@@ -98,13 +104,14 @@ fn join_written(
 fn join_done(
     alloc: Global,
     log: &mut Log,
-    before: &[Deed<'_>],
+    prepares: &Prepares<'_>,
     tx: TxId,
     clock: u64,
 ) -> Result<(), OutOfMemory>
-    ensures { OnOk result (log.new ≡ union log.old (done_lines (map deed_of before.now) tx clock)) }
+    ensures { OnOk result ((before : List SiteDeed) → AreLast prepares.now before
+        → log.new ≡ union log.old (done_lines before tx clock)) }
 {
-    if let Some(prepared) = last_prepare(before, tx) {
+    if let Some(prepared) = prepares.of(tx) {
         let stamp = Stamp {
             clock,
             client: tx.client,

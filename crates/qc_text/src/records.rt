@@ -1,15 +1,13 @@
-//! What a site's records show: its life, its epoch, and the Prepare of a
-//! transaction.
+//! What a site's records show: its life and its epoch.
 
-ghost use Rattle.std.specs.Prelude.{◌≡◌, ◌<◌, ◌^◌, MatchOption, None, Some, map};
-ghost use Rattle.qc_promise.specs.SiteRecords.{epoch_shown, last_prepare, life_shown};
+ghost use Rattle.std.specs.Prelude.{◌≡◌, ◌<◌, ◌^◌, map};
+ghost use Rattle.qc_promise.specs.SiteRecords.{epoch_shown, life_shown};
 ghost use Rattle.qc_text.specs.Deeds.{deed_of};
-ghost use Rattle.qc_text.specs.Records.{epoch_at, life_at, prepare_in};
+ghost use Rattle.qc_text.specs.Records.{epoch_at, life_at};
 
 use crate::deeds::Deed;
-use qc_entry::Prepared;
 use qc_msg::{FIRST_EPOCH, Record};
-use qc_stamp::{FIRST_LIFE, TxId};
+use qc_stamp::FIRST_LIFE;
 
 /// The life that a site's deeds show.
 pub(crate) fn life_of(deeds: &[Deed<'_>]) -> u64
@@ -52,31 +50,5 @@ fn epoch_after(epoch: u8, deed: &Deed<'_>) -> u8
     match deed {
         Deed::Wrote(Record::Install { epoch, .. }) => *epoch,
         _ => epoch,
-    }
-}
-
-/// The last Prepare of a transaction.
-pub(crate) fn last_prepare<'a>(deeds: &[Deed<'a>], tx: TxId) -> Option<&'a Prepared>
-    ensures { MatchOption result (last_prepare tx (map deed_of deeds.now) ≡ None)
-        (λ p. last_prepare tx (map deed_of deeds.now) ≡ Some p.now) }
-{
-    let mut place = deeds.len();
-    'deeds: while place > 0 {
-        place -= 1;
-        if let Some(prepared) = prepare_in(&deeds[place], tx) {
-            return Some(prepared);
-        }
-    }
-    None
-}
-
-/// The Prepare of a transaction that a deed writes.
-fn prepare_in<'a>(deed: &Deed<'a>, tx: TxId) -> Option<&'a Prepared>
-    ensures { MatchOption result (prepare_in tx (deed_of deed.now) ≡ None)
-        (λ p. prepare_in tx (deed_of deed.now) ≡ Some p.now) }
-{
-    match deed {
-        Deed::Wrote(Record::Prepare(prepared)) if prepared.tx == tx => Some(prepared),
-        _ => None,
     }
 }

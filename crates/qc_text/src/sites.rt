@@ -5,7 +5,7 @@ ghost use Rattle.qc_text.specs.Deeds.{deed_of};
 ghost use Rattle.qc_text.specs.Sites.{down_after, down_by, is_down, shown_text, site_line, sites_text};
 
 use crate::deeds::{Deed, deeds_of};
-use crate::grants::holders_of;
+use crate::grants::count_holders;
 use crate::lines::log_of;
 use crate::page::{Page, Piece};
 use crate::records::{epoch_of, life_of};
@@ -97,7 +97,7 @@ fn put_shown(page: &mut Page, alloc: Global, deeds: &[Deed<'_>]) -> Result<(), O
     ensures { OnOk result (page.new ≡ page.old ++ shown_text (map deed_of deeds.now)) }
 {
     let log = log_of(alloc, deeds)?;
-    let holders = holders_of(alloc, deeds)?;
+    let held = count_holders(alloc, deeds)?;
     page.put_all(&[
         Piece::Words(" life "),
         Piece::Number(life_of(deeds)),
@@ -106,6 +106,6 @@ fn put_shown(page: &mut Page, alloc: Global, deeds: &[Deed<'_>]) -> Result<(), O
         Piece::Words(" lines "),
         Piece::Number(log.lines().len() as u64),
         Piece::Words(" held "),
-        Piece::Number(holders.len() as u64),
+        Piece::Number(held),
     ])
 }
