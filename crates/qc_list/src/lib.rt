@@ -20,6 +20,3 @@ pub use text::{Name, Path};
 
 /// Want of memory, the one answer that no contract ties to a cause.
 pub type OutOfMemory = AllocError;
-
-#[cfg(test)]
-mod tests;

@@ -18,6 +18,3 @@ mod stamp;
 pub use clock::Clock;
 pub use laws::{stamps_are_ordered, transactions_are_ordered};
 pub use stamp::{FIRST_LIFE, Stamp, TxId};
-
-#[cfg(test)]
-mod tests;

@@ -1,18 +1,30 @@
 //! The built-in declarations, by their names.
 
 use qc_decl::built_in;
-use std::test::Fail;
+use std::alloc::Global;
+
+/// How many sites and clients a declaration has, and how much weight a read of
+/// its object needs; `None` where none is built in.
+fn found(alloc: Global, name: &str) -> Result<Option<(u8, u8, u16)>, &'static str> {
+    match built_in(alloc, name) {
+        Ok(Some(decl)) => Ok(Some((decl.sites, decl.clients, decl.read_need(1, 0, 0)))),
+        Ok(None) => Ok(None),
+        Err(_) => Err("no memory"),
+    }
+}
 
 #[test]
-fn two_are_built_in(rt: HostRuntime) -> Result<(), Fail> {
-    let alloc = rt.alloc();
-    for (name, sites, weight) in [("@one", 1, 1), ("@three", 3, 2)] {
-        let decl = built_in(alloc, name)?.ok_or("not built in")?;
-        assert_eq!(rt; (decl.sites, decl.clients), (sites, sites), "at {name}");
-        assert_eq!(rt; decl.read_need(1, 0, 0), weight, "at {name}");
+fn two_are_built_in(rt: HostRuntime) {
+    for (name, want) in [
+        ("@one", Some((1, 1, 1))),
+        ("@three", Some((3, 3, 2))),
+        ("@two", None),
+        ("one", None),
+        ("@One", None),
+        ("@one ", None),
+        ("@three ", None),
+        ("", None),
+    ] {
+        assert!(rt; found(rt.alloc(), name) == Ok(want), "at {name}");
     }
-    for name in ["@two", "one", "@One", "@one ", "@three ", ""] {
-        assert!(rt; built_in(alloc, name)?.is_none(), "at {name}");
-    }
-    Ok(())
 }

@@ -1,7 +1,7 @@
 //! The causes behind the fields: tables, certificates and plans.
 
-use crate::texts::{check_edits, told};
-use std::test::Fail;
+use crate::texts::{check_edits, check_made, check_told};
+use std::alloc::Global;
 
 /// A flag, with these dependences and triples.
 const FLAG: &str = r#"sites = 3
@@ -39,21 +39,23 @@ initial = ["q Put 1", "q Get 1"]
 final = ["q Put:ok 1", "q Get:item 1"]
 "#;
 
-#[test]
-fn flags_and_slots(rt: HostRuntime) -> Result<(), Fail> {
-    let alloc = rt.alloc();
-    let alone = "depends = [\"TAS TAS:0\"]\n";
-    let both = "depends = [\"TAS TAS:0\", \"TAS Reset:ok\"]\n";
-    for (depends, want) in [(alone, "0 unequal 3 0 0 flag,TAS,0"), (both, "accepted")] {
-        let text = format!(in alloc; "{FLAG}{depends}")?;
-        assert_eq!(rt; told(alloc, text.as_str())?.as_str(), want, "at {depends}");
-    }
-    assert_eq!(rt; told(alloc, SLOT)?.as_str(), "accepted");
-    Ok(())
+/// The flag's text with these dependences.
+fn flag(alloc: Global, depends: &str) -> Option<String> {
+    format!(in alloc; "{FLAG}{depends}").ok()
 }
 
 #[test]
-fn rows_that_are_no_table(rt: HostRuntime) -> Result<(), Fail> {
+fn flags_and_slots(rt: HostRuntime) {
+    let alone = "depends = [\"TAS TAS:0\"]\n";
+    let both = "depends = [\"TAS TAS:0\", \"TAS Reset:ok\"]\n";
+    for (depends, want) in [(alone, "0 unequal 3 0 0 flag,TAS,0"), (both, "accepted")] {
+        check_made(&rt, rt.alloc(), &flag(rt.alloc(), depends), want, depends);
+    }
+    check_told(&rt, rt.alloc(), SLOT, "accepted", "slot");
+}
+
+#[test]
+fn rows_that_are_no_table(rt: HostRuntime) {
     check_edits(
         &rt,
         rt.alloc(),
@@ -79,11 +81,11 @@ fn rows_that_are_no_table(rt: HostRuntime) -> Result<(), Fail> {
                 "0 unknown 0 register",
             ),
         ],
-    )
+    );
 }
 
 #[test]
-fn certificates_and_plans(rt: HostRuntime) -> Result<(), Fail> {
+fn certificates_and_plans(rt: HostRuntime) {
     check_edits(
         &rt,
         rt.alloc(),
@@ -129,5 +131,5 @@ fn certificates_and_plans(rt: HostRuntime) -> Result<(), Fail> {
                 "2 no weight ",
             ),
         ],
-    )
+    );
 }

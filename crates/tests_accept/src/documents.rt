@@ -1,99 +1,100 @@
 //! Texts that are no TOML, and other spellings of a declaration.
 
-use crate::texts::{THREE, check_edits, edited, told};
+use crate::texts::{THREE, check_edits, check_made, check_told, edited};
 use qc_accept::{DeclFault, accept};
-use qc_decl::{Declaration, built_in};
-use std::alloc::Global;
+use qc_decl::{Declaration, Names, built_in};
+use qc_table::Table;
+use std::alloc::{AllocError, Global};
 use std::process::Abort;
 use std::test::Fail;
 
 #[test]
 fn three_is_as_built_in(rt: HostRuntime) -> Result<(), Fail> {
-    let alloc = rt.alloc();
+    let three = built_in(rt.alloc(), "@three")?.ok_or("no @three")?;
+    assert_accepted_as(&rt, rt.alloc(), &three);
+    Ok(())
+}
+
+/// The text of `@three` is accepted as this declaration.
+fn assert_accepted_as(rt: &impl Abort, alloc: Global, three: &Declaration) {
     let Ok(decl) = accept(alloc, THREE.as_bytes()) else {
-        panic!(&rt; "not accepted");
+        panic!(rt; "not accepted");
     };
-    let three = built_in(alloc, "@three")?.ok_or("no @three")?;
-    assert_same(&rt, &decl, &three)
+    assert_same(rt, &decl, three);
 }
 
 /// Two declarations are the same.
-fn assert_same(rt: &impl Abort, a: &Declaration, b: &Declaration) -> Result<(), Fail> {
+fn assert_same(rt: &impl Abort, a: &Declaration, b: &Declaration) {
     assert_eq!(rt; (a.sites, a.clients), (b.sites, b.clients));
-    assert_eq!(rt; a.objects.items(), b.objects.items());
-    assert_same_names(rt, &a.object_names, &b.object_names);
+    assert!(rt; a.objects.items() == b.objects.items());
+    assert!(rt; are_same_names(&a.object_names, &b.object_names));
     let (Some(kind), Some(same)) = (a.kinds.items().first(), b.kinds.items().first()) else {
         panic!(rt; "no type");
     };
-    assert_eq!(rt;
-        (
-            kind.table.states(),
-            kind.table.invs(),
-            kind.table.resps(),
-            kind.table.start()
-        ),
-        (
-            same.table.states(),
-            same.table.invs(),
-            same.table.resps(),
-            same.table.start()
-        )
-    );
-    assert_eq!(rt; kind.table.events(), same.table.events());
+    assert!(rt; are_same_counts(&kind.table, &same.table));
+    assert!(rt; kind.table.events() == same.table.events());
     for event in 0..4u8 {
-        assert_eq!(rt;
-            kind.table.step(0, event),
-            same.table.step(0, event),
+        assert!(rt;
+            are_same_at_event(&kind.table, &same.table, event),
             "event {event}"
         );
-        assert_eq!(rt;
-            kind.table.step(1, event),
-            same.table.step(1, event),
-            "event {event}"
-        );
-        assert_eq!(rt;
-            a.append_need(1, 0, event),
-            b.append_need(1, 0, event),
+        assert!(rt;
+            a.append_need(1, 0, event) == b.append_need(1, 0, event),
             "event {event}"
         );
     }
     for inv in 0..3u8 {
-        assert_eq!(rt;
-            kind.relation.depended(inv),
-            same.relation.depended(inv),
+        assert!(rt;
+            kind.relation.depended(inv) == same.relation.depended(inv),
             "inv {inv}"
         );
-        assert_eq!(rt; a.read_need(1, 0, inv), b.read_need(1, 0, inv), "inv {inv}");
+        assert!(rt;
+            a.read_need(1, 0, inv) == b.read_need(1, 0, inv),
+            "inv {inv}"
+        );
     }
     let (Some(plan), Some(other)) = (a.plans.items().first(), b.plans.items().first()) else {
         panic!(rt; "no plan");
     };
-    assert_eq!(rt; plan.weights.items(), other.weights.items());
+    assert!(rt; plan.weights.items() == other.weights.items());
     let (Some(names), Some(others)) = (a.kind_names.items().first(), b.kind_names.items().first())
     else {
         panic!(rt; "no names");
     };
-    assert_eq!(rt; names.name.text(), others.name.text());
-    assert_same_names(rt, &names.states, &others.states);
-    assert_same_names(rt, &names.invs, &others.invs);
-    assert_same_names(rt, &names.resps, &others.resps);
-    Ok(())
+    assert!(rt; names.name.text() == others.name.text());
+    assert!(rt; are_same_names(&names.states, &others.states));
+    assert!(rt; are_same_names(&names.invs, &others.invs));
+    assert!(rt; are_same_names(&names.resps, &others.resps));
 }
 
-/// Two lists of names are the same.
-fn assert_same_names(rt: &impl Abort, a: &qc_decl::Names, b: &qc_decl::Names) {
-    assert_eq!(rt; a.items().len(), b.items().len());
-    for (a, b) in a.items().iter().zip(b.items()) {
-        assert_eq!(rt; a.text(), b.text());
+fn are_same_counts(a: &Table, b: &Table) -> bool {
+    a.states() == b.states()
+        && a.invs() == b.invs()
+        && a.resps() == b.resps()
+        && a.start() == b.start()
+}
+
+/// Whether an event leads to the same states from the two.
+fn are_same_at_event(a: &Table, b: &Table, event: u8) -> bool {
+    a.step(0, event) == b.step(0, event) && a.step(1, event) == b.step(1, event)
+}
+
+/// Whether two lists of names are the same.
+fn are_same_names(a: &Names, b: &Names) -> bool {
+    if a.items().len() != b.items().len() {
+        return false;
     }
+    for (a, b) in a.items().iter().zip(b.items()) {
+        if a.text() != b.text() {
+            return false;
+        }
+    }
+    true
 }
 
 #[test]
-fn texts_that_are_no_toml(rt: HostRuntime) -> Result<(), Fail> {
-    let alloc = rt.alloc();
-    let cut = THREE.split_once("register").ok_or("no register")?.0;
+fn texts_that_are_no_toml(rt: HostRuntime) {
     for text in [
-        cut,
         "sites",
         "sites = ",
         "sites = 3\nsites = 3\n",
@@ -101,25 +102,35 @@ fn texts_that_are_no_toml(rt: HostRuntime) -> Result<(), Fail> {
         "[type",
         "a = 1\n[a]\n",
     ] {
-        assert_eq!(rt; told(alloc, text)?.as_str(), "not toml", "at {text}");
+        check_told(&rt, rt.alloc(), text, "not toml", text);
     }
     for bytes in [
         b"\xff".as_slice(),
         b"sites = 3 # \xc3\n",
         b"\xed\xa0\x80 = 1",
     ] {
-        assert!(rt; matches!(accept(alloc, bytes), Err(DeclFault::NotToml)));
+        assert!(rt; matches!(accept(rt.alloc(), bytes), Err(DeclFault::NotToml)));
     }
-    Ok(())
 }
 
 #[test]
-fn what_the_reader_takes(rt: HostRuntime) -> Result<(), Fail> {
+fn a_text_may_be_cut_off(rt: HostRuntime) -> Result<(), Fail> {
+    let cut = THREE.split_once("register").ok_or("no register")?.0;
+    check_told(&rt, rt.alloc(), cut, "not toml", cut);
+    Ok(())
+}
+
+/// The text behind a mark of its encoding.
+fn marked(alloc: Global) -> Option<String> {
+    format!(in alloc; "\u{feff}{THREE}").ok()
+}
+
+#[test]
+fn what_the_reader_takes(rt: HostRuntime) {
     let alloc = rt.alloc();
-    assert_eq!(rt; told(alloc, "")?.as_str(), "field sites");
-    assert_eq!(rt; told(alloc, "# nothing\n")?.as_str(), "field sites");
-    let marked = format!(in alloc; "\u{feff}{THREE}")?;
-    assert_eq!(rt; told(alloc, marked.as_str())?.as_str(), "accepted");
+    check_told(&rt, alloc, "", "field sites", "nothing");
+    check_told(&rt, alloc, "# nothing\n", "field sites", "# nothing");
+    check_made(&rt, alloc, &marked(alloc), "accepted", "a mark");
     check_edits(
         &rt,
         alloc,
@@ -149,11 +160,11 @@ fn what_the_reader_takes(rt: HostRuntime) -> Result<(), Fail> {
                 "not toml",
             ),
         ],
-    )
+    );
 }
 
 /// An array in an array, and so on, so many deep.
-fn nested(alloc: Global, depth: usize) -> Result<String, Fail> {
+fn nested(alloc: Global, depth: usize) -> Result<String, AllocError> {
     let mut text = String::from_str(alloc, "sites = 3\nnest = ")?;
     for _ in 0..depth {
         text.push_str("[")?;
@@ -164,23 +175,30 @@ fn nested(alloc: Global, depth: usize) -> Result<String, Fail> {
     Ok(text)
 }
 
-#[test]
-fn arrays_are_nested_up_to_80_deep(rt: HostRuntime) -> Result<(), Fail> {
-    let alloc = rt.alloc();
-    for (depth, want) in [(79, "field nest"), (80, "field nest"), (81, "not toml")] {
-        let deep = nested(alloc, depth)?;
-        let text = edited(alloc, "sites = 3", deep.as_str())?;
-        assert_eq!(rt; told(alloc, text.as_str())?.as_str(), want, "at {depth}");
-    }
-    Ok(())
+/// The text with such an array.
+fn nesting(alloc: Global, depth: usize) -> Option<String> {
+    let deep = nested(alloc, depth).ok()?;
+    edited(alloc, "sites = 3", deep.as_str())
 }
 
 #[test]
-fn inline_tables_and_other_orders(rt: HostRuntime) -> Result<(), Fail> {
-    let alloc = rt.alloc();
-    let objects = "[[object]]\nname = \"x\"\ntype = \"register\"\n";
-    let text = edited(alloc, objects, "")?;
-    for (object, want) in [
+fn arrays_are_nested_up_to_80_deep(rt: HostRuntime) {
+    for (depth, want) in [(79, "field nest"), (80, "field nest"), (81, "not toml")] {
+        check_made(&rt, rt.alloc(), &nesting(rt.alloc(), depth), want, want);
+    }
+}
+
+/// The text with its objects declared so.
+fn with_objects(alloc: Global, objects: &str) -> Option<String> {
+    let (before, after) = THREE.split_once(OBJECTS)?;
+    format!(in alloc; "{objects}{before}{after}").ok()
+}
+
+const OBJECTS: &str = "[[object]]\nname = \"x\"\ntype = \"register\"\n";
+
+#[test]
+fn inline_tables_and_other_orders(rt: HostRuntime) {
+    for (objects, want) in [
         (
             "object = [{ type = \"register\", name = \"x\" }]\n",
             "accepted",
@@ -202,8 +220,12 @@ fn inline_tables_and_other_orders(rt: HostRuntime) -> Result<(), Fail> {
         ("object = {}\n", "field object"),
         ("object.name = \"x\"\n", "field object"),
     ] {
-        let whole = format!(in alloc; "{object}{}", text.as_str())?;
-        assert_eq!(rt; told(alloc, whole.as_str())?.as_str(), want, "at {object}");
+        check_made(
+            &rt,
+            rt.alloc(),
+            &with_objects(rt.alloc(), objects),
+            want,
+            objects,
+        );
     }
-    Ok(())
 }

@@ -1,10 +1,9 @@
 //! Fields that are missing or not of their form.
 
 use crate::texts::check_edits;
-use std::test::Fail;
 
 #[test]
-fn keys_are_required(rt: HostRuntime) -> Result<(), Fail> {
+fn keys_are_required(rt: HostRuntime) {
     check_edits(
         &rt,
         rt.alloc(),
@@ -43,11 +42,11 @@ fn keys_are_required(rt: HostRuntime) -> Result<(), Fail> {
                 "1 can miss 0 0 2 x,R,W0:ok",
             ),
         ],
-    )
+    );
 }
 
 #[test]
-fn values_are_of_their_kind(rt: HostRuntime) -> Result<(), Fail> {
+fn values_are_of_their_kind(rt: HostRuntime) {
     check_edits(
         &rt,
         rt.alloc(),
@@ -126,11 +125,11 @@ fn values_are_of_their_kind(rt: HostRuntime) -> Result<(), Fail> {
             ),
             ("sites = 3", "sites = 3\nobject = 1", "not toml"),
         ],
-    )
+    );
 }
 
 #[test]
-fn texts_are_of_their_form(rt: HostRuntime) -> Result<(), Fail> {
+fn texts_are_of_their_form(rt: HostRuntime) {
     check_edits(
         &rt,
         rt.alloc(),
@@ -230,11 +229,11 @@ fn texts_are_of_their_form(rt: HostRuntime) -> Result<(), Fail> {
             ("\"x W0:ok 2\"", "\"x W1:ok 2\"", "field epoch[0].final"),
             ("\"x R 2\"", "\"x R 00002\"", "accepted"),
         ],
-    )
+    );
 }
 
 #[test]
-fn items_of_tables_have_their_own_path(rt: HostRuntime) -> Result<(), Fail> {
+fn items_of_tables_have_their_own_path(rt: HostRuntime) {
     let object = "[[object]]\nname = \"x\"\ntype = \"register\"\n";
     check_edits(
         &rt,
@@ -263,11 +262,11 @@ fn items_of_tables_have_their_own_path(rt: HostRuntime) -> Result<(), Fail> {
                 "field object[0].type",
             ),
         ],
-    )
+    );
 }
 
 #[test]
-fn other_keys_are_refused_last_in_their_table(rt: HostRuntime) -> Result<(), Fail> {
+fn other_keys_are_refused_last_in_their_table(rt: HostRuntime) {
     check_edits(
         &rt,
         rt.alloc(),
@@ -305,5 +304,5 @@ fn other_keys_are_refused_last_in_their_table(rt: HostRuntime) -> Result<(), Fai
             ),
             ("[[object]]", "[[zoo]]\na = 1\n[[object]]", "field zoo"),
         ],
-    )
+    );
 }

@@ -1,9 +1,8 @@
 //! Each limit at its edge, and one past it.
 
-use crate::texts::{check_edits, edited, told};
+use crate::texts::{THREE, check_edits, check_made};
 use std::alloc::{AllocError, Global};
 use std::process::Abort;
-use std::test::Fail;
 
 /// Texts in quotes with commas between them: the text of each number.
 fn list<F: Fn(&mut String, u32) -> Result<(), AllocError>>(
@@ -23,7 +22,7 @@ fn list<F: Fn(&mut String, u32) -> Result<(), AllocError>>(
 }
 
 #[test]
-fn numbers_have_limits(rt: HostRuntime) -> Result<(), Fail> {
+fn numbers_have_limits(rt: HostRuntime) {
     check_edits(
         &rt,
         rt.alloc(),
@@ -96,184 +95,168 @@ fn numbers_have_limits(rt: HostRuntime) -> Result<(), Fail> {
                 "field type[0].responses",
             ),
         ],
-    )
+    );
 }
 
-/// Names behind those of `old`, so that there are so many in all.
-fn check_names(
-    rt: &impl Abort,
-    alloc: Global,
-    old: &str,
-    more: u32,
-    want: &str,
-) -> Result<(), Fail> {
-    let names = list(alloc, more, |text, k| write!(text, "n{k}"))?;
-    let new = format!(in alloc; "{old}{names}")?;
-    let text = edited(alloc, old, new.as_str())?;
-    assert_eq!(rt;
-        told(alloc, text.as_str())?.as_str(),
-        want,
-        "{more} more in {old}"
-    );
-    Ok(())
+/// The text with more behind a part of it; `None` where it isn't there, or
+/// memory is wanted.
+fn behind(alloc: Global, part: &str, more: &str) -> Option<String> {
+    let (before, after) = THREE.split_once(part)?;
+    format!(in alloc; "{before}{part}{more}{after}").ok()
+}
+
+/// The same with more behind each of two parts, the second behind the first.
+fn behind_both(alloc: Global, first: (&str, &String), second: (&str, &String)) -> Option<String> {
+    let (before, rest) = THREE.split_once(first.0)?;
+    let (middle, after) = rest.split_once(second.0)?;
+    let (part, more) = first;
+    let (other, others) = second;
+    format!(in alloc; "{before}{part}{more}{middle}{other}{others}{after}").ok()
+}
+
+/// The text with so many names more in a list that begins so.
+fn with_names(alloc: Global, part: &str, more: u32) -> Option<String> {
+    let names = list(alloc, more, |text, k| write!(text, "n{k}")).ok()?;
+    behind(alloc, part, names.as_str())
 }
 
 #[test]
-fn names_have_limits(rt: HostRuntime) -> Result<(), Fail> {
-    let alloc = rt.alloc();
-    check_names(&rt, alloc, "states = [", 62, "accepted")?;
-    check_names(&rt, alloc, "states = [", 63, "field type[0].states")?;
-    check_names(&rt, alloc, "invocations = [", 29, "accepted")?;
-    check_names(
-        &rt,
-        alloc,
-        "invocations = [",
-        30,
-        "field type[0].invocations",
-    )?;
-    check_names(&rt, alloc, "responses = [", 29, "accepted")?;
-    check_names(&rt, alloc, "responses = [", 30, "field type[0].responses")
-}
-
-/// Tables behind the first of their key, so that there are so many in all.
-fn check_tables(
-    rt: &impl Abort,
-    alloc: Global,
-    key: &str,
-    body: &str,
-    more: u32,
-    want: &str,
-) -> Result<(), Fail> {
-    let mut tables = String::new(alloc);
-    for k in 0..more {
-        write!(tables, "[[{key}]]\n")?;
-        if key != "epoch" {
-            write!(tables, "name = \"n{k}\"\n")?;
-        }
-        tables.push_str(body)?;
+fn names_have_limits(rt: HostRuntime) {
+    for (part, more, want) in [
+        ("states = [", 62, "accepted"),
+        ("states = [", 63, "field type[0].states"),
+        ("invocations = [", 29, "accepted"),
+        ("invocations = [", 30, "field type[0].invocations"),
+        ("responses = [", 29, "accepted"),
+        ("responses = [", 30, "field type[0].responses"),
+    ] {
+        check_made(
+            &rt,
+            rt.alloc(),
+            &with_names(rt.alloc(), part, more),
+            want,
+            part,
+        );
     }
-    let head = format!(in alloc; "[[{key}]]")?;
-    let new = format!(in alloc; "{tables}[[{key}]]")?;
-    let text = edited(alloc, head.as_str(), new.as_str())?;
-    assert_eq!(rt;
-        told(alloc, text.as_str())?.as_str(),
-        want,
-        "{more} more of {key}"
-    );
-    Ok(())
+}
+
+/// So many tables of a key, each with this body, and a name where it has one.
+fn tables(alloc: Global, head: &str, body: &str, count: u32) -> Result<String, AllocError> {
+    let mut tables = String::new(alloc);
+    for k in 0..count {
+        if head == EPOCH {
+            write!(tables, "{head}\n{body}")?;
+        } else {
+            write!(tables, "{head}\nname = \"n{k}\"\n{body}")?;
+        }
+    }
+    Ok(tables)
+}
+
+const EPOCH: &str = "[[epoch]]";
+
+/// The text with so many tables more in front of the first one of their key.
+fn with_tables(alloc: Global, head: &str, body: &str, more: u32) -> Option<String> {
+    let tables = tables(alloc, head, body, more).ok()?;
+    let (before, after) = THREE.split_once(head)?;
+    format!(in alloc; "{before}{tables}{head}{after}").ok()
 }
 
 #[test]
-fn tables_have_limits(rt: HostRuntime) -> Result<(), Fail> {
-    let alloc = rt.alloc();
+fn tables_have_limits(rt: HostRuntime) {
     let kind =
         "states = [\"0\"]\nstart = \"0\"\ninvocations = [\"R\"]\nresponses = [\"0\"]\nrows = []\ntriples = [\"0 0 -\"]\n";
+    let object = "type = \"register\"\n";
     let epoch =
         "weights = [1, 1, 1]\ninitial = [\"x R 3\"]\nfinal = [\"x W0:ok 1\", \"x W1:ok 1\"]\n";
-    check_tables(&rt, alloc, "type", kind, 7, "accepted")?;
-    check_tables(&rt, alloc, "type", kind, 8, "field type")?;
-    check_tables(
-        &rt,
-        alloc,
-        "object",
-        "type = \"register\"\n",
-        15,
-        "1 can miss 0 0 2 n0,R,W0:ok",
-    )?;
-    check_tables(
-        &rt,
-        alloc,
-        "object",
-        "type = \"register\"\n",
-        16,
-        "field object",
-    )?;
-    check_tables(&rt, alloc, "epoch", epoch, 7, "accepted")?;
-    check_tables(&rt, alloc, "epoch", epoch, 8, "field epoch")
-}
-
-/// Texts in front of the triples or rows.
-fn check_many(
-    rt: &impl Abort,
-    alloc: Global,
-    old: &str,
-    new: &String,
-    want: &str,
-) -> Result<(), Fail> {
-    let new = format!(in alloc; "{old}{}", new.as_str())?;
-    let text = edited(alloc, old, new.as_str())?;
-    assert_eq!(rt; told(alloc, text.as_str())?.as_str(), want, "behind {old}");
-    Ok(())
-}
-
-#[test]
-fn triples_have_limits(rt: HostRuntime) -> Result<(), Fail> {
-    let alloc = rt.alloc();
-    let alike = list(alloc, 1_023, |text, _| text.push_str("0 0 -"))?;
-    check_many(&rt, alloc, "triples = [", &alike, "accepted")?;
-    let alike = list(alloc, 1_024, |text, _| text.push_str("0 0 -"))?;
-    check_many(&rt, alloc, "triples = [", &alike, "field type[0].triples")?;
-    let many = list(alloc, 65_533, |text, _| text.push_str("a b c"))?;
-    check_many(&rt, alloc, "triples = [", &many, "field type[0].triples")
-}
-
-#[test]
-fn rows_have_limits(rt: HostRuntime) -> Result<(), Fail> {
-    let alloc = rt.alloc();
-    let rows = list(alloc, 131_066, |text, _| text.push_str("0 R 9 0"))?;
-    check_many(&rt, alloc, "rows = [", &rows, "0 unknown 0 register")?;
-    let rows = list(alloc, 131_067, |text, _| text.push_str("0 R 9 0"))?;
-    check_many(&rt, alloc, "rows = [", &rows, "field type[0].rows")
-}
-
-/// So many states and pairs of two of them as triples.
-#[test]
-fn a_type_may_have_65536_triples(rt: HostRuntime) -> Result<(), Fail> {
-    let alloc = rt.alloc();
-    for (more, want) in [(65_532, "accepted"), (65_533, "field type[0].triples")] {
-        let states = list(alloc, 62, |text, k| write!(text, "s{k}"))?;
-        let triples = list(
-            alloc,
-            more,
-            |text, k| write!(text, "s{} s{} -", k % 61, k / 61 % 62),
-        )?;
-        let states = format!(in alloc; "states = [{}", states.as_str())?;
-        let text = edited(alloc, "states = [", states.as_str())?;
-        let (before, after) = text.as_str().split_once("triples = [").ok_or("no triples")?;
-        let whole = format!(in alloc; "{before}triples = [{}{after}", triples.as_str())?;
-        assert_eq!(rt; told(alloc, whole.as_str())?.as_str(), want, "{more} more");
+    for (head, body, more, want) in [
+        ("[[type]]", kind, 7, "accepted"),
+        ("[[type]]", kind, 8, "field type"),
+        ("[[object]]", object, 15, "1 can miss 0 0 2 n0,R,W0:ok"),
+        ("[[object]]", object, 16, "field object"),
+        (EPOCH, epoch, 7, "accepted"),
+        (EPOCH, epoch, 8, "field epoch"),
+    ] {
+        let text = with_tables(rt.alloc(), head, body, more);
+        check_made(&rt, rt.alloc(), &text, want, head);
     }
-    Ok(())
+}
+
+/// The text with so many texts more in a list that begins so.
+fn with_texts(alloc: Global, part: &str, one: &str, more: u32) -> Option<String> {
+    let texts = list(alloc, more, |text, _| text.push_str(one)).ok()?;
+    behind(alloc, part, texts.as_str())
+}
+
+#[test]
+fn triples_and_rows_have_limits(rt: HostRuntime) {
+    let (triples, rows) = ("triples = [", "rows = [");
+    for (part, one, more, want) in [
+        (triples, "0 0 -", 1_023, "accepted"),
+        (triples, "0 0 -", 1_024, "field type[0].triples"),
+        (triples, "a b c", 65_533, "field type[0].triples"),
+        (rows, "0 R 9 0", 131_066, "0 unknown 0 register"),
+        (rows, "0 R 9 0", 131_067, "field type[0].rows"),
+    ] {
+        let text = with_texts(rt.alloc(), part, one, more);
+        check_made(&rt, rt.alloc(), &text, want, part);
+    }
+}
+
+/// 62 states more, and so many pairs of two of them as triples.
+fn with_triples(alloc: Global, more: u32) -> Option<String> {
+    let states = list(alloc, 62, |text, k| write!(text, "s{k}")).ok()?;
+    let triples = list(
+        alloc,
+        more,
+        |text, k| write!(text, "s{} s{} -", k % 61, k / 61 % 62),
+    )
+    .ok()?;
+    behind_both(alloc, ("states = [", &states), ("triples = [", &triples))
+}
+
+#[test]
+fn a_type_may_have_65536_triples(rt: HostRuntime) {
+    for (more, want) in [(65_532, "accepted"), (65_533, "field type[0].triples")] {
+        check_made(&rt, rt.alloc(), &with_triples(rt.alloc(), more), want, want);
+    }
+}
+
+/// The response of the row at this place: of each of 29 invocations first 0,
+/// then 1, then ok.
+fn response(place: u32) -> &'static str {
+    if place < 29 {
+        "0"
+    } else if place < 58 {
+        "1"
+    } else {
+        "ok"
+    }
+}
+
+/// 29 invocations more, and so many rows more.
+fn with_rows(alloc: Global, more: u32) -> Option<String> {
+    let invs = list(alloc, 29, |text, k| write!(text, "i{k}")).ok()?;
+    let rows = list(
+        alloc,
+        more,
+        |text, k| write!(text, "0 i{} {} 0", k % 29, response(k)),
+    )
+    .ok()?;
+    behind_both(
+        alloc,
+        ("invocations = [", &invs),
+        ("\"0 W1 ok 1\", ", &rows),
+    )
 }
 
 /// 32 invocations with two responses each are 64 events.
 #[test]
-fn a_type_may_have_64_events(rt: HostRuntime) -> Result<(), Fail> {
-    let alloc = rt.alloc();
+fn a_type_may_have_64_events(rt: HostRuntime) {
     for (more, want) in [
         (60, "0 unequal 1 0 0 register,i0,0"),
         (61, "0 too many register"),
     ] {
-        let invs = list(alloc, 29, |text, k| write!(text, "i{k}"))?;
-        let rows = list(alloc, more, |text, k| {
-            write!(
-                text,
-                "0 i{} {} 0",
-                k % 29,
-                if k < 29 {
-                    "0"
-                } else if k < 58 {
-                    "1"
-                } else {
-                    "ok"
-                }
-            )
-        })?;
-        let new = format!(in alloc; "invocations = [{}", invs.as_str())?;
-        let text = edited(alloc, "invocations = [", new.as_str())?;
-        let (before, after) = text.as_str().split_once("\"1 W1 ok 1\"]").ok_or("no row")?;
-        let whole = format!(in alloc; "{before}\"1 W1 ok 1\",{}]{after}", rows.as_str())?;
-        assert_eq!(rt; told(alloc, whole.as_str())?.as_str(), want, "{more} more");
+        check_made(&rt, rt.alloc(), &with_rows(rt.alloc(), more), want, want);
     }
-    Ok(())
 }

@@ -7,7 +7,6 @@ use qc_plan::PlanFault;
 use qc_table::TableFault;
 use std::alloc::{AllocError, Global};
 use std::process::Abort;
-use std::test::Fail;
 
 /// The text of `@three`.
 pub(crate) const THREE: &str = r#"sites = 3
@@ -30,14 +29,15 @@ initial = ["x R 2"]
 final = ["x W0:ok 2", "x W1:ok 2"]
 "#;
 
-/// `@three`'s text with one part in place of another, which has to be there.
-pub(crate) fn edited(alloc: Global, old: &str, new: &str) -> Result<String, Fail> {
-    let (before, after) = THREE.split_once(old).ok_or("no such part")?;
-    Ok(format!(in alloc; "{before}{new}{after}")?)
+/// `@three`'s text with one part in place of another; `None` where it isn't
+/// there, or memory is wanted.
+pub(crate) fn edited(alloc: Global, old: &str, new: &str) -> Option<String> {
+    let (before, after) = THREE.split_once(old)?;
+    format!(in alloc; "{before}{new}{after}").ok()
 }
 
 /// What `accept` says of a text: `accepted`, or the fault as words.
-pub(crate) fn told(alloc: Global, text: &str) -> Result<String, AllocError> {
+fn told(alloc: Global, text: &str) -> Result<String, AllocError> {
     match accept(alloc, text.as_bytes()) {
         Ok(_) => String::from_str(alloc, "accepted"),
         Err(fault) => fault_text(alloc, &fault),
@@ -50,23 +50,29 @@ fn fault_text(alloc: Global, fault: &DeclFault) -> Result<String, AllocError> {
         DeclFault::NotToml => String::from_str(alloc, "not toml"),
         DeclFault::Field { path } => format!(in alloc; "field {}", path.text()),
         DeclFault::Table { kind, fault, names } => {
-            let names = joined(alloc, names)?;
-            format!(in alloc; "{kind} {} {names}", table_text(alloc, *fault)?)
+            with_names(alloc, *kind, &table_text(alloc, *fault)?, names)
         }
         DeclFault::Cert { kind, fault, names } => {
-            let names = joined(alloc, names)?;
-            format!(in alloc; "{kind} {} {names}", cert_text(alloc, *fault)?)
+            with_names(alloc, *kind, &cert_text(alloc, *fault)?, names)
         }
         DeclFault::Plan {
             epoch,
             fault,
             names,
-        } => {
-            let names = joined(alloc, names)?;
-            format!(in alloc; "{epoch} {} {names}", plan_text(alloc, *fault)?)
-        }
+        } => with_names(alloc, *epoch, &plan_text(alloc, *fault)?, names),
         DeclFault::OutOfMemory => String::from_str(alloc, "out of memory"),
     }
+}
+
+/// A number, a fault's words, and names.
+fn with_names(
+    alloc: Global,
+    number: u8,
+    words: &String,
+    names: &Names,
+) -> Result<String, AllocError> {
+    let names = joined(alloc, names)?;
+    format!(in alloc; "{number} {words} {names}")
 }
 
 /// A table's fault as words.
@@ -118,20 +124,32 @@ fn joined(alloc: Global, names: &Names) -> Result<String, AllocError> {
     Ok(text)
 }
 
-/// Each row edits `@three`'s text, an old part and a new one, and says what is
-/// told of it.
-pub(crate) fn check_edits(
+/// A text, known by a part of it, is told so.
+pub(crate) fn check_told(rt: &impl Abort, alloc: Global, text: &str, want: &str, part: &str) {
+    let Ok(told) = told(alloc, text) else {
+        panic!(rt; "no memory at `{part}`");
+    };
+    assert!(rt; told.as_str() == want, "{} at `{part}`", told.as_str());
+}
+
+/// The same of a text that is to be there.
+pub(crate) fn check_made(
     rt: &impl Abort,
     alloc: Global,
-    rows: &[(&str, &str, &str)],
-) -> Result<(), Fail> {
+    text: &Option<String>,
+    want: &str,
+    part: &str,
+) {
+    let Some(text) = text else {
+        panic!(rt; "no text of `{part}`");
+    };
+    check_told(rt, alloc, text.as_str(), want, part);
+}
+
+/// Each row edits `@three`'s text, an old part and a new one, and says what is
+/// told of it.
+pub(crate) fn check_edits(rt: &impl Abort, alloc: Global, rows: &[(&str, &str, &str)]) {
     for (old, new, want) in rows {
-        let text = edited(alloc, old, new)?;
-        assert_eq!(rt;
-            told(alloc, text.as_str())?.as_str(),
-            *want,
-            "where `{old}` is `{new}`"
-        );
+        check_made(rt, alloc, &edited(alloc, old, new), want, new);
     }
-    Ok(())
 }

@@ -6,6 +6,7 @@ mod samples;
 use qc_cert::{CertFault, MOST_TRIPLES, Triple, check};
 use qc_table::{Kind, Pair, Relation, Row, Table};
 use std::alloc::{AllocError, Global};
+use std::process::Abort;
 
 /// The most rows of a type here.
 const MOST_ROWS: usize = 100;
@@ -15,21 +16,25 @@ const MOST_ROWS: usize = 100;
 /// pair is an invocation and an event on which it depends.
 fn kind(
     alloc: Global,
-    (states, invs, resps): (u8, u8, u8),
+    counts: (u8, u8, u8),
     rows: &[(u8, u8, u8, u8)],
     pairs: &[(u8, u8)],
 ) -> Option<Kind> {
+    let relation = relation(alloc, pairs)?;
+    let rows = rows_of(alloc, rows).ok()?;
+    let table = table(alloc, counts, &rows)?;
+    Some(Kind { table, relation })
+}
+
+/// The table of these rows.
+fn table(alloc: Global, (states, invs, resps): (u8, u8, u8), rows: &[Row]) -> Option<Table> {
     if !(1..=64).contains(&states) || !(1..=32).contains(&invs) || !(1..=32).contains(&resps) {
         return None;
     }
-    let rows = rows_of(alloc, rows).ok()?;
     if rows.len() > MOST_ROWS {
         return None;
     }
-    Some(Kind {
-        table: Table::new(alloc, states, invs, resps, 0, &rows).ok()?,
-        relation: relation(alloc, pairs)?,
-    })
+    Table::new(alloc, states, invs, resps, 0, rows).ok()
 }
 
 /// These rows.
@@ -84,6 +89,26 @@ fn found(
     match list(alloc, triples) {
         Ok(list) => fault(alloc, kind, &list),
         Err(_) => Err("no memory"),
+    }
+}
+
+/// Triples of a type, and what is wrong with them.
+type Case<'a> = (&'a [(u8, u8, u64)], Option<CertFault>);
+
+/// The type of these counts, rows and pairs, and what is wrong with lists.
+fn check_type(
+    rt: &impl Abort,
+    alloc: Global,
+    counts: (u8, u8, u8),
+    rows: &[(u8, u8, u8, u8)],
+    pairs: &[(u8, u8)],
+    cases: &[Case],
+) {
+    let Some(kind) = kind(alloc, counts, rows, pairs) else {
+        panic!(rt; "no type");
+    };
+    for (triples, want) in cases {
+        assert!(rt; found(alloc, &kind, triples) == Ok(*want), "{triples:?}");
     }
 }
 

@@ -1,67 +1,123 @@
 //! Logs and records, on the happy path.
 
 use qc_entry::{Commit, Line, Log, Op, Ops, Owns, Prepared, Reads};
+use qc_list::OutOfMemory;
 use qc_stamp::{Stamp, TxId};
-use std::test::Fail;
+use std::alloc::Global;
+
+fn tx(client: u8) -> TxId {
+    TxId {
+        client,
+        life: 1,
+        number: 1,
+    }
+}
 
 fn line(clock: u64, client: u8, object: u8) -> Line {
     Line {
         stamp: Stamp { clock, client },
-        tx: TxId {
-            client,
-            life: 1,
-            number: 1,
-        },
+        tx: tx(client),
         op: 1,
         object,
         event: 0,
     }
 }
 
+/// Three lines, in their order; the first and the third are of one object.
+fn lines() -> [Line; 3] {
+    [line(1, 0, 0), line(1, 1, 1), line(2, 1, 0)]
+}
+
+/// The log that these lines make, one after another.
+fn log(alloc: Global, lines: &[Line]) -> Result<Log, OutOfMemory> {
+    let mut log = Log::new(alloc)?;
+    for line in lines {
+        log.add(*line)?;
+    }
+    Ok(log)
+}
+
+/// Whether a log was made, of these lines.
+fn has(log: Result<Log, OutOfMemory>, lines: &[Line]) -> bool {
+    match log {
+        Ok(log) => log.lines() == lines,
+        Err(_) => false,
+    }
+}
+
+/// The log of the first lines with those of the other one.
+fn merged(alloc: Global, lines: &[Line], other: &Log) -> Result<Log, OutOfMemory> {
+    let mut log = log(alloc, lines)?;
+    log.merge(other)?;
+    Ok(log)
+}
+
+/// The lines of the first log that the other one hasn't.
+fn rest(alloc: Global, lines: &[Line], other: &Log) -> Result<Log, OutOfMemory> {
+    let log = log(alloc, lines)?;
+    log.without(other)
+}
+
+/// The first and the second line, added in another order and one of them twice,
+/// and the second and the third with that log, and without it.
 #[test]
-fn logs(rt: HostRuntime) -> Result<(), Fail> {
-    let (first, second, third) = (line(1, 0, 0), line(1, 1, 1), line(2, 1, 0));
-    let mut left = Log::new(rt.alloc())?;
-    left.add(second)?;
-    left.add(first)?;
-    left.add(second)?;
-    assert_eq!(rt; left.lines(), [first, second].as_slice());
-    let mut right = Log::new(rt.alloc())?;
-    right.add(second)?;
-    right.add(third)?;
-    assert_eq!(rt; right.without(&left)?.lines(), [third].as_slice());
-    right.merge(&left)?;
-    let all = [first, second, third];
-    assert_eq!(rt; right.copy()?.lines(), all.as_slice());
-    let since = right.since(first.stamp)?;
-    assert_eq!(rt; since.lines(), [second, third].as_slice());
-    assert_eq!(rt; right.of(0)?.lines(), [first, third].as_slice());
-    Ok(())
+fn logs_are_sorted_with_each_line_once(rt: HostRuntime) {
+    let [first, second, third] = lines();
+    let Ok(log) = log(rt.alloc(), &[second, first, second]) else {
+        panic!(&rt; "no log");
+    };
+    assert!(rt; log.lines() == [first, second].as_slice());
+    let others = [second, third];
+    assert!(rt; has(merged(rt.alloc(), &others, &log), &[first, second, third]));
+    assert!(rt; has(rest(rt.alloc(), &others, &log), &[third]));
 }
 
 #[test]
-fn records(rt: HostRuntime) -> Result<(), Fail> {
-    let op = Op {
-        object: 0,
-        inv: 1,
-        resp: Some(2),
+fn parts_of_logs(rt: HostRuntime) {
+    let [first, second, third] = lines();
+    let Ok(log) = log(rt.alloc(), &[first, second, third]) else {
+        panic!(&rt; "no log");
     };
+    assert!(rt; has(log.copy(), &[first, second, third]));
+    assert!(rt; has(log.since(first.stamp), &[second, third]));
+    assert!(rt; has(log.of(0), &[first, third]));
+}
+
+/// Whether a commit of this operation has it, copied.
+fn is_copied(alloc: Global, op: Op) -> Result<bool, OutOfMemory> {
+    let ops = Ops::from_slice(alloc, &[op])?;
     let commit = Commit {
         stamp: Stamp {
             clock: 1,
             client: 0,
         },
-        tx: line(1, 0, 0).tx,
-        ops: Ops::from_slice(rt.alloc(), &[op])?,
+        tx: tx(0),
+        ops,
     };
-    assert_eq!(rt; commit.copy()?.ops.items(), [op].as_slice());
+    let copy = commit.copy()?;
+    Ok(copy.ops.items() == [op].as_slice())
+}
+
+/// The epoch of a record that holds nothing, copied.
+fn copied_epoch(alloc: Global) -> Result<u8, OutOfMemory> {
+    let lines = Log::new(alloc)?;
     let prepared = Prepared {
-        tx: commit.tx,
+        tx: tx(0),
         epoch: 1,
-        locks: Reads::new(rt.alloc()),
-        own: Owns::new(rt.alloc()),
-        lines: Log::new(rt.alloc())?,
+        locks: Reads::new(alloc),
+        own: Owns::new(alloc),
+        lines,
     };
-    assert_eq!(rt; prepared.copy()?.epoch, 1);
-    Ok(())
+    prepared.copy().map(|copy| copy.epoch)
+}
+
+#[test]
+fn records_are_copied(rt: HostRuntime) {
+    let op = Op {
+        object: 0,
+        inv: 1,
+        resp: Some(2),
+    };
+    assert!(rt; is_copied(rt.alloc(), op) == Ok(true));
+    assert!(rt; copied_epoch(rt.alloc()) == Ok(1));
 }

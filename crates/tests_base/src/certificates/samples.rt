@@ -6,12 +6,10 @@
 //! triple that leaves out no more than the events of such pairs, and whose
 //! states differ for that invocation.
 
-use super::{fault, found, kind, left_out, taken, unequal};
+use super::{check_type, fault, kind, left_out, taken, unequal};
 use qc_cert::{CertFault, Triple};
-use qc_table::Kind;
 use std::alloc::{AllocError, Global};
 use std::process::Abort;
-use std::test::Fail;
 
 /// One triple for each two states, in their order, that leaves out these.
 fn grid(alloc: Global, states: u8, outs: &[u64]) -> Result<Vec<Triple>, AllocError> {
@@ -41,27 +39,38 @@ fn without<T: Copy + Drop>(alloc: Global, items: &[T], place: usize) -> Result<V
 /// events are TAS:0, TAS:1 and Reset:ok. A test that misses a Reset takes a
 /// flag that isn't set for one that is.
 #[test]
-fn flags(rt: HostRuntime) -> Result<(), Fail> {
-    let alloc = rt.alloc();
+fn flags(rt: HostRuntime) {
     let rows = [(0, 0, 0, 1), (1, 0, 1, 1), (0, 1, 2, 0), (1, 1, 2, 0)];
     let triples = [(0, 0, 0), (0, 1, 1), (1, 1, 0), (1, 0, 4)];
-    let flag = kind(alloc, (2, 2, 3), &rows, &[(0, 0), (0, 2)]).ok_or("no type")?;
-    assert_eq!(rt; found(alloc, &flag, &triples)?, None);
-    let misses = kind(alloc, (2, 2, 3), &rows, &[(0, 0)]).ok_or("no type")?;
-    assert_eq!(rt; found(alloc, &misses, &triples)?, unequal(3, 0, 0));
-    Ok(())
+    let all: &[(u8, u8)] = &[(0, 0), (0, 2)];
+    let few: &[(u8, u8)] = &[(0, 0)];
+    for (pairs, want) in [(all, None), (few, unequal(3, 0, 0))] {
+        check_type(
+            &rt,
+            rt.alloc(),
+            (2, 2, 3),
+            &rows,
+            pairs,
+            &[(&triples, want)],
+        );
+    }
 }
 
 /// A slot for one item: Put answers ok where it is empty, and Get answers item
 /// where it is full. Each depends on both events.
 #[test]
-fn slots(rt: HostRuntime) -> Result<(), Fail> {
-    let alloc = rt.alloc();
+fn slots(rt: HostRuntime) {
     let rows = [(0, 0, 0, 1), (1, 1, 1, 0)];
+    let pairs = [(0, 0), (0, 1), (1, 0), (1, 1)];
     let triples = [(0, 0, 0), (1, 1, 0), (0, 1, 1), (1, 0, 2)];
-    let slot = kind(alloc, (2, 2, 2), &rows, &[(0, 0), (0, 1), (1, 0), (1, 1)]).ok_or("no type")?;
-    assert_eq!(rt; found(alloc, &slot, &triples)?, None);
-    Ok(())
+    check_type(
+        &rt,
+        rt.alloc(),
+        (2, 2, 2),
+        &rows,
+        &pairs,
+        &[(&triples, None)],
+    );
 }
 
 /// A type with a certificate and what is wrong without a part of either.
@@ -78,28 +87,60 @@ struct Sample<'a> {
     pair: (usize, Option<CertFault>),
 }
 
-/// The certificate is accepted, and without any of these parts refused.
-fn try_sample(rt: &impl Abort, alloc: Global, sample: &Sample) -> Result<(), Fail> {
-    let whole = grid(alloc, sample.counts.0, sample.outs)?;
-    let good = kind(alloc, sample.counts, sample.rows, sample.pairs).ok_or("no type")?;
-    assert_eq!(rt; fault(alloc, &good, &whole)?, None);
-    for (place, first) in sample.triples {
-        let list = without(alloc, &whole, place)?;
-        assert_eq!(rt;
-            fault(alloc, &good, &list)?,
-            first,
-            "without triple {place}"
-        );
+/// What is wrong with these triples, by these pairs.
+fn fault_by(
+    alloc: Global,
+    sample: &Sample,
+    pairs: &[(u8, u8)],
+    triples: &[Triple],
+) -> Result<Option<CertFault>, &'static str> {
+    let kind = kind(alloc, sample.counts, sample.rows, pairs).ok_or("no type")?;
+    fault(alloc, &kind, triples)
+}
+
+/// What is wrong without the triple at this place.
+fn fault_without_triple(
+    alloc: Global,
+    sample: &Sample,
+    whole: &[Triple],
+    place: usize,
+) -> Result<Option<CertFault>, &'static str> {
+    match without(alloc, whole, place) {
+        Ok(triples) => fault_by(alloc, sample, sample.pairs, &triples),
+        Err(_) => Err("no memory"),
     }
-    let (place, first) = sample.pair;
-    let pairs = without(alloc, sample.pairs, place)?;
-    let misses = kind(alloc, sample.counts, sample.rows, &pairs).ok_or("no type")?;
-    assert_eq!(rt;
-        fault(alloc, &misses, &whole)?,
-        first,
-        "without pair {place}"
-    );
-    Ok(())
+}
+
+/// What is wrong without the pair at this place.
+fn fault_without_pair(
+    alloc: Global,
+    sample: &Sample,
+    whole: &[Triple],
+    place: usize,
+) -> Result<Option<CertFault>, &'static str> {
+    match without(alloc, sample.pairs, place) {
+        Ok(pairs) => fault_by(alloc, sample, &pairs, whole),
+        Err(_) => Err("no memory"),
+    }
+}
+
+/// The certificate is accepted, and without any of these parts refused.
+fn check_parts(rt: &impl Abort, alloc: Global, sample: &Sample, whole: &[Triple]) {
+    assert!(rt; fault_by(alloc, sample, sample.pairs, whole) == Ok(None));
+    for (place, want) in sample.triples {
+        let found = fault_without_triple(alloc, sample, whole, place);
+        assert!(rt; found == Ok(want), "without triple {place}");
+    }
+    let (place, want) = sample.pair;
+    let found = fault_without_pair(alloc, sample, whole, place);
+    assert!(rt; found == Ok(want), "without pair {place}");
+}
+
+fn try_sample(rt: &impl Abort, alloc: Global, sample: &Sample) {
+    let Ok(whole) = grid(alloc, sample.counts.0, sample.outs) else {
+        panic!(rt; "no memory");
+    };
+    check_parts(rt, alloc, sample, &whole);
 }
 
 /// A queue for two items a and b: its states are empty, a, b, aa, ab, ba and
@@ -107,7 +148,7 @@ fn try_sample(rt: &impl Abort, alloc: Global, sample: &Sample) -> Result<(), Fai
 /// take a and take b. All of them depend on all, since a put is legal where
 /// there is room.
 #[test]
-fn queues(rt: HostRuntime) -> Result<(), Fail> {
+fn queues(rt: HostRuntime) {
     let sample = Sample {
         counts: (7, 3, 3),
         rows: &[
@@ -149,14 +190,14 @@ fn queues(rt: HostRuntime) -> Result<(), Fail> {
         ],
         pair: (11, unequal(14, 2, 2)),
     };
-    try_sample(&rt, rt.alloc(), &sample)
+    try_sample(&rt, rt.alloc(), &sample);
 }
 
 /// A counter from 0 to 3: inc and dec answer ok, or no where they can't, and
 /// read answers the count. Its events are inc ok, dec no, read 0, dec ok, read
 /// 1, read 2, inc no and read 3.
 #[test]
-fn counters(rt: HostRuntime) -> Result<(), Fail> {
+fn counters(rt: HostRuntime) {
     let sample = Sample {
         counts: (4, 3, 6),
         rows: &[
@@ -182,7 +223,7 @@ fn counters(rt: HostRuntime) -> Result<(), Fail> {
         ],
         pair: (5, unequal(4, 2, 2)),
     };
-    try_sample(&rt, rt.alloc(), &sample)
+    try_sample(&rt, rt.alloc(), &sample);
 }
 
 /// A set of two items: its states are empty, a, b and both, its invocations
@@ -190,7 +231,7 @@ fn counters(rt: HostRuntime) -> Result<(), Fail> {
 /// no. Its events are the four with ok, and has a no, has b no, has a yes and
 /// has b yes. Only has depends on anything: on what adds or drops its item.
 #[test]
-fn sets(rt: HostRuntime) -> Result<(), Fail> {
+fn sets(rt: HostRuntime) {
     let sample = Sample {
         counts: (4, 6, 3),
         rows: &[
@@ -228,5 +269,5 @@ fn sets(rt: HostRuntime) -> Result<(), Fail> {
         ],
         pair: (3, unequal(8, 5, 1)),
     };
-    try_sample(&rt, rt.alloc(), &sample)
+    try_sample(&rt, rt.alloc(), &sample);
 }
