@@ -5,7 +5,7 @@ use Rattle.qc_outside.specs.declared.mem_disk.Change.TheVariants.{Fell}
 use Rattle.qc_outside.proofs.Kept.{left_is_image, settled_leaves}
 use Rattle.qc_outside.proofs.Memory.{told_change, counts_push, since_step}
 use Rattle.qc_outside.proofs.Images.{image_now}
-use Rattle.qc_outside.proofs.mem_disk.MemDiskDisk.fall.Goals as goal
+use Rattle.qc_outside.proofs.mem_disk.MemDisk.make_torn.Goals as goal
 
 pub invariant_of-self : goal.invariant_of-self
 invariant_of-self c =
@@ -21,9 +21,14 @@ invariant_of-self c =
       room = λ e. absurd (cc e);
     }
 
-pub returns-then-self-clause-moments : goal.returns-then-self-clause-moments
-returns-then-self-clause-moments c =
+pub returns-clause-moments : goal.returns-clause-moments
+returns-clause-moments c =
     let self = c.args.self.now in
     let old = told_by self.tear self.changes.items self.written.items in
     let now = told_change self.tear self.changes.items self.written.items c.note.new.changes.items Fell self.whole c.note.ensures.items in
     since_step (IsImage old.now) old _ (settled (left_by self.tear old.now)) (image_now old) (settled_leaves old.now (left_by self.tear old.now) (left_is_image self.tear old.now)) now
+
+pub returns-clause-noted : goal.returns-clause-noted
+returns-clause-noted c =
+    let self = c.args.self.now in
+    told_change self.tear self.changes.items self.written.items c.note.new.changes.items Fell self.whole c.note.ensures.items
