@@ -6,6 +6,7 @@
 //! 3. Of the images that a stop may leave, a fall leaves the one that its tear
 //!    names. The tear never changes.
 //! 4. A sync and a fall take no memory: a write takes their room with its own.
+//!    They copy from the first byte on that was written since the last one.
 
 ghost use Rattle.std.specs.Prelude.{◌≡◌, ◌≢◌, ◌≤◌, ◌<◌, ◌+◌, ◌*◌, ◌^◌, ◌++◌, ◌∷◌, ℕ, suc, false, true, [], length};
 ghost use Rattle.std.specs.Prelude.{Some, Err, IfOk, OnOk, OnErr, max, take, drop, vec_len, vec_capacity};
@@ -15,7 +16,7 @@ ghost use Rattle.qc_outside.specs.Memory.{told_by, told_next, counts, left_by};
 ghost use Rattle.qc_outside.specs.declared.disk.DiskFault.TheVariants.{Stopped as DiskStops, OutOfMemory as DiskWants};
 ghost use Rattle.qc_outside.specs.declared.mem_disk.Change.TheVariants.{Synced, Fell};
 
-use crate::tear::{Tear, copy_over, overwrite, tear_off};
+use crate::tear::{Tear, copy_from, overwrite, tear_off};
 use crate::{Disk, DiskFault};
 use qc_list::OutOfMemory;
 use std::alloc::{AllocError, Global};
@@ -42,10 +43,14 @@ pub struct MemDisk {
     /// As a fall now would leave them.
     left: Vec<u8>,
     is_pending: bool,
+    /// How many bytes from the first on are the same in both.
+    same: usize,
     ghost whole: { counts changes.items ≡ length written.items },
     ghost bytes_are: { bytes.items ≡ as_read (told_by tear changes.items written.items).now },
     ghost left_are: { left.items ≡ left_by tear (told_by tear changes.items written.items).now },
     ghost at_rest: { is_pending ≡ false → (told_by tear changes.items written.items).now.writes ≡ [] },
+    ghost same_are: { take same left.items ≡ take same bytes.items },
+    ghost same_is: { same ≤ vec_len left },
     ghost shorter: { vec_len left ≤ vec_len bytes },
     ghost copies: { vec_len bytes ≤ vec_capacity left },
     ghost room: { is_pending ≡ true → vec_len changes < vec_capacity changes },
@@ -66,6 +71,7 @@ impl MemDisk {
             bytes: Vec::new(alloc),
             left: Vec::new(alloc),
             is_pending: false,
+            same: 0,
         })
     }
 
@@ -89,7 +95,8 @@ impl MemDisk {
             → ⟦<MemDisk as Disk>⟧.has_room self.new n end }
     {
         note(&mut self.changes, Change::Synced);
-        copy_over(&mut self.left, &self.bytes);
+        copy_from(&mut self.left, self.same, &self.bytes);
+        self.same = self.bytes.len();
         self.is_pending = false;
     }
 
@@ -104,7 +111,8 @@ impl MemDisk {
         ensures tear { self.new.tear ≡ self.old.tear }
     {
         note(&mut self.changes, Change::Fell);
-        copy_over(&mut self.bytes, &self.left);
+        copy_from(&mut self.bytes, self.same, &self.left);
+        self.same = self.bytes.len();
         self.is_pending = false;
     }
 }
@@ -202,6 +210,7 @@ impl Disk for MemDisk {
         note(&mut self.changes, Change::Wrote(at, bytes.len()));
         overwrite(&mut self.bytes, at, bytes)?;
         tear_off(&mut self.left, self.tear, at, bytes)?;
+        self.same = self.same.min(at);
         self.is_pending = true;
         Ok(())
     }

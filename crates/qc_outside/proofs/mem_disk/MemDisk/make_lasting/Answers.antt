@@ -1,4 +1,4 @@
-use Rattle.std.proofs.Common.{sym, ◌∙◌, ap, arith}
+use Rattle.std.proofs.Common.{take, sym, ◌∙◌, ap, arith}
 use Rattle.qc_outside.specs.Images.{Told, IsImage, as_read, settled}
 use Rattle.qc_outside.specs.Memory.{told_by, counts, left_by}
 use Rattle.qc_outside.specs.declared.mem_disk.Change.TheVariants.{Synced}
@@ -14,10 +14,12 @@ invariant_of-self c =
     record {
       whole = ap counts c.note.ensures.items ∙ counts_push self.changes.items Synced ∙ omega (arith, self.whole);
       bytes_are = self.bytes_are ∙ ap (λ (t : Told). as_read t.now) (sym now);
-      left_are = c.copy_over.ensures.items ∙ c.deref.ensures.value ∙ self.bytes_are ∙ ap (λ (t : Told). left_by self.tear t.now) (sym now);
+      left_are = c.copy_from.ensures.items ∙ c.deref.ensures.value ∙ self.bytes_are ∙ ap (λ (t : Told). left_by self.tear t.now) (sym now);
       at_rest = λ _. ap (λ (t : Told). t.now.writes) now;
-      shorter = omega (arith, c.copy_over.ensures.len, c.deref.ensures.len);
-      copies = omega (arith, self.copies, c.copy_over.ensures.capacity);
+      same_are = ap (take c.len-self.result) (c.copy_from.ensures.items ∙ c.deref.ensures.value);
+      same_is = omega (arith, c.copy_from.ensures.len, c.deref.ensures.len, c.len-self.ensures);
+      shorter = omega (arith, c.copy_from.ensures.len, c.deref.ensures.len);
+      copies = omega (arith, self.copies, c.copy_from.ensures.capacity);
       room = λ e. absurd (cc e);
     }
 
