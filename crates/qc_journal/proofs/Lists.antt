@@ -25,8 +25,8 @@ same_but (f ∷ front) x more (a ∷ c) long same =
 -- a write behind a byte
 pub written_behind : (front : List ℕ) (x : ℕ) (rest bytes : List ℕ) (at : ℕ) → at ≡ length front + 1 → (tail : List ℕ) × (overwritten (front ++ x ∷ rest) (record { at = at; bytes = bytes }) ≡ front ++ x ∷ (bytes ++ tail))
 written_behind front x rest bytes at is =
-    let pad = replicate (at - length (front ++ x ∷ rest)) 0 in
-    let tail = drop (at + length bytes) (front ++ x ∷ rest) in
+    let pad : List ℕ = replicate (at - length (front ++ x ∷ rest)) 0 in
+    let tail : List ℕ = drop (at + length bytes) (front ++ x ∷ rest) in
     let whole : (front ++ x ∷ rest) ++ pad ≡ (front ++ x ∷ []) ++ (rest ++ pad) =
     append_assoc front (x ∷ rest) pad ∙ sym (append_assoc front (x ∷ []) (rest ++ pad)) in
     let head : take at ((front ++ x ∷ rest) ++ pad) ≡ front ++ x ∷ [] =
@@ -38,7 +38,7 @@ written_behind front x rest bytes at is =
 -- a write of that byte
 pub written_byte : (front : List ℕ) (x y : ℕ) (rest : List ℕ) (at : ℕ) → at ≡ length front → overwritten (front ++ x ∷ rest) (record { at = at; bytes = y ∷ [] }) ≡ front ++ y ∷ rest
 written_byte front x y rest at is =
-    let pad = replicate (at - length (front ++ x ∷ rest)) 0 in
+    let pad : List ℕ = replicate (at - length (front ++ x ∷ rest)) 0 in
     let head : take at ((front ++ x ∷ rest) ++ pad) ≡ front =
     ap (λ (l : List ℕ). take at l) (append_assoc front (x ∷ rest) pad) ∙ take_at front (x ∷ rest ++ pad) at (sym is) in
     let tail : drop (at + 1) (front ++ x ∷ rest) ≡ rest =

@@ -1,10 +1,10 @@
 -- What opening tells.
 use Rattle.std.proofs.Common.{◌≡◌, inl, inr, ℕ, ◌≤◌, List, [], ◌∷◌, ◌++◌, length, Option, Some, None, refl, sym, ◌∙◌, ap, subst, arith}
 use Rattle.qc_outside.specs.Images.{Stored, Told, Since, IsImage, Tells, as_read, wrote, settled, overwritten}
-use Rattle.qc_outside.proofs.Images.{since_weaker, since_then}
+use Rattle.qc_outside.proofs.Images.{since_weaker}
 use Rattle.qc_journal.specs.Grammar.{IsTorn, IsNoJournal, Holds}
 use Rattle.qc_journal.specs.Journal.{Stands, IsAtRest, IsLeftAtOpen}
-use Rattle.qc_journal.proofs.Append.{Writes, Wrote, Syncs, Synced}
+use Rattle.qc_journal.proofs.Append.{Writes, Syncs, Synced, Lasts}
 
 -- what was known before a sync is known after it
 pub known_after : (Q : List ℕ → Type 0) (a b : Option Told) → Synced a b → ((t : Told) → a ≡ Some t → Q (as_read t.now)) → (t : Told) → b ≡ Some t → Q (as_read t.now)
@@ -52,27 +52,13 @@ short_writes len None None short len_is writes = tt
 short_writes len (Some o) None short len_is writes = absurd writes
 short_writes len None (Some n) short len_is writes = absurd writes
 
-module _ (len : ℕ) (short : len ≤ 1) where
-  pub short_syncs : (a b c : Option Told) → ((t : Told) → a ≡ Some t → len ≡ length (as_read t.now)) → Writes a b 0 (0 ∷ []) → Wrote a b 0 (0 ∷ []) → Syncs b c → Tells a c (λ old new. Since (IsLeftAtOpen old.now) old new)
-  short_syncs (Some o) (Some m) (Some n) len_is writes wrote_it syncs =
-      let bytes = gate_alone (as_read o.now) (omega (arith, len_is o refl, short)) in
-      since_then (IsLeftAtOpen o.now) o m n (short_writes len (Some o) (Some m) short len_is writes)
-      (since_weaker (IsImage m.now) (IsLeftAtOpen o.now) m n (λ c image. inr (omega (arith, len_is o refl, short), omega (arith, image.no_longer, ap length (ap as_read wrote_it ∙ bytes)))) syncs)
-  short_syncs None None None len_is writes wrote_it syncs = tt
-  short_syncs (Some o) None c len_is writes wrote_it syncs = absurd writes
-  short_syncs None (Some m) c len_is writes wrote_it syncs = absurd writes
-  short_syncs (Some o) (Some m) None len_is writes wrote_it syncs = absurd syncs
-  short_syncs None None (Some n) len_is writes wrote_it syncs = absurd syncs
-
-  pub short_opened : (bodies : List (List ℕ)) → bodies ≡ [] → (a b c : Option Told) → ((t : Told) → a ≡ Some t → len ≡ length (as_read t.now)) → Wrote a b 0 (0 ∷ []) → Synced b c → Tells a c (λ old new. Holds bodies (as_read old.now) × IsAtRest 0 bodies new)
-  short_opened bodies none (Some o) (Some m) (Some n) len_is wrote_it synced =
-      let few : length (as_read o.now) ≤ 1 = omega (arith, len_is o refl, short) in (
-        inr (few, none),
-        subst (λ (bs : List (List ℕ)). IsAtRest 0 bs n) (sym none)
-            (record { front = []; rest = []; records = refl; end_is = refl; lasting = synced ∙ ap (λ (s : Stored). settled (as_read s)) wrote_it ∙ ap settled (gate_alone (as_read o.now) few) }),
-      )
-  short_opened bodies none None None None len_is wrote_it synced = tt
-  short_opened bodies none (Some o) None c len_is wrote_it synced = absurd wrote_it
-  short_opened bodies none None (Some m) c len_is wrote_it synced = absurd wrote_it
-  short_opened bodies none (Some o) (Some m) None len_is wrote_it synced = absurd synced
-  short_opened bodies none None None (Some n) len_is wrote_it synced = absurd synced
+pub short_opened : (len : ℕ) (bodies : List (List ℕ)) (a b : Option Told) → len ≤ 1 → bodies ≡ [] → ((t : Told) → a ≡ Some t → len ≡ length (as_read t.now)) → Lasts a b 0 (0 ∷ []) → Tells a b (λ old new. Holds bodies (as_read old.now) × IsAtRest 0 bodies new)
+short_opened len bodies (Some o) (Some n) short none len_is lasts =
+    let few : length (as_read o.now) ≤ 1 = omega (arith, len_is o refl, short) in (
+      inr (few, none),
+      subst (λ (bs : List (List ℕ)). IsAtRest 0 bs n) (sym none)
+          (record { front = []; rest = []; records = refl; end_is = refl; lasting = lasts ∙ ap settled (gate_alone (as_read o.now) few) }),
+    )
+short_opened len bodies None None short none len_is lasts = tt
+short_opened len bodies (Some o) None short none len_is lasts = absurd lasts
+short_opened len bodies None (Some n) short none len_is lasts = absurd lasts

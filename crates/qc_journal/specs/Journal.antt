@@ -2,7 +2,7 @@
 use Rattle.std.specs.Prelude.{◌≡◌, ◌⊎◌, ℕ, ◌+◌, ◌≤◌, ◌<◌, ◌^◌, List, ◌∷◌, ◌++◌, length, Option, IfSome, map, Vec}
 use Rattle.std.specs.declared.alloc.Global.{Global}
 use Rattle.qc_outside.specs.Images.{Stored, Told, IsImage, as_read, settled}
-use Rattle.qc_journal.specs.Grammar.{AreRecords}
+use Rattle.qc_journal.specs.Grammar.{AreRecords, counted}
 
 -- Nothing is pending, and at the end of the records of these bodies stands the closed gate.
 pub record IsAtRest (end : ℕ) (bodies : List (List ℕ)) (told : Told) : Type 0 where
@@ -11,6 +11,14 @@ pub record IsAtRest (end : ℕ) (bodies : List (List ℕ)) (told : Told) : Type 
   pub records : AreRecords bodies front
   pub end_is : length front ≡ end
   pub lasting : told.now ≡ settled (front ++ 0 ∷ rest)
+
+-- Nothing is pending, and behind that closed gate stand one body more, with its length, and the next closed gate.
+pub record IsBehind (end : ℕ) (bodies : List (List ℕ)) (body : List ℕ) (told : Told) : Type 0 where
+  pub front : List ℕ
+  pub rest : List ℕ
+  pub records : AreRecords bodies front
+  pub end_is : length front ≡ end
+  pub lasting : told.now ≡ settled (front ++ 0 ∷ (counted body ++ 0 ∷ rest))
 
 -- at the end of the records of these bodies stands a closed gate
 pub record Stands (end : ℕ) (bodies : List (List ℕ)) (bytes : List ℕ) : Type 0 where

@@ -19,8 +19,9 @@ ghost use Rattle.qc_journal.specs.Journal.{IsAtRest, Rests, IsReserved, IsLeftAt
 
 use crate::JournalFault;
 use crate::reading::start;
+use crate::writing::{fill, lay};
 use qc_list::OutOfMemory;
-use qc_outside::{ArmKind, Disk, DiskFault, Fused};
+use qc_outside::{ArmKind, Disk, Fused};
 use std::alloc::Global;
 
 /// Records on a disk, to which more are added.
@@ -34,40 +35,6 @@ pub struct Journal<D: Disk> {
     /// Room for what is written behind the gate.
     frame: Vec<u8>,
     ghost short: { end ≤ 65541 * records },
-}
-
-/// What is written behind the closed gate: length, body and the next closed gate.
-fn fill(frame: &mut Vec<u8>, body: &[u8]) -> Result<(), OutOfMemory>
-    requires room { length body.now + 5 ≤ vec_capacity frame.old }
-    requires short { length body.now ≤ 65536 }
-    ensures frame { frame.new.items ≡ counted body.now ++ 0 ∷ [] }
-    ensures ok { IsOk result }
-{
-    let count = body.len() as u32;
-    frame.clear();
-    frame.extend_from_slice(&count.to_be_bytes())?;
-    frame.extend_from_slice(body)?;
-    frame.push(0)?;
-    Ok(())
-}
-
-/// Writes a record: behind the closed gate, and then the gate, each made to last.
-fn lay<D: Disk>(disk: &mut D, end: u64, frame: &[u8], body: &[u8]) -> Result<(), DiskFault>
-    requires frame { frame.now ≡ counted body.now ++ 0 ∷ [] }
-    requires body { IsBody body.now }
-    requires room { D.has_room disk.old 2 (end + length body.now + 6) }
-    requires bound { end + length body.now + 6 < 2 ^ 64 }
-    ensures added { OnOk result ((bodies : List (List ℕ)) → Rests (D.told disk.old) end bodies
-        → Rests (D.told disk.new) (end + length body.now + 5) (bodies ++ body.now ∷ [])) }
-    ensures moments { (bodies : List (List ℕ)) → Rests (D.told disk.old) end bodies
-        → Tells (D.told disk.old) (D.told disk.new) (λ old new. Since (HoldsWithOrWithout bodies body.now) old new) }
-    ensures memory { result ≢ Err DiskWants }
-    ensures cause { DiskRose (D.faults disk.old) (D.faults disk.new) result }
-{
-    disk.write_at(end + 1, frame)?;
-    disk.sync()?;
-    disk.write_at(end, &[1])?;
-    disk.sync()
 }
 
 impl<D: Disk> Journal<D> {

@@ -19,8 +19,7 @@ mod journal;
 mod laws;
 mod reading;
 mod restart;
-#[cfg(test)]
-mod tests;
+mod writing;
 
 pub use fault::JournalFault;
 pub use journal::Journal;

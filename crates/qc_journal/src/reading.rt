@@ -12,6 +12,7 @@ ghost use Rattle.qc_journal.specs.Head.{IsHead};
 ghost use Rattle.qc_journal.specs.Journal.{Stands, IsAtRest, IsLeftAtOpen, lists};
 
 use crate::JournalFault;
+use crate::writing::write_through;
 use qc_outside::Disk;
 use std::alloc::Global;
 
@@ -98,8 +99,7 @@ pub(crate) fn start<D: Disk>(
 {
     let len = disk.len()?;
     if len <= 1 {
-        disk.write_at(0, &[0])?;
-        disk.sync()?;
+        write_through(disk, 0, &[0])?;
         return Ok((0, Vec::new(alloc)));
     }
     disk.sync()?;

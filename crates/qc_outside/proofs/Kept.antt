@@ -1,12 +1,22 @@
 -- What writes keep, and that what a read gives and what a fall leaves are images.
 use Rattle.std.proofs.Common.{◌≡◌, ◌⊎◌, inl, inr, ℕ, ◌+◌, ◌-◌, ◌<◌, ◌≤◌, List, [], ◌∷◌, ◌++◌, length, take, drop}
-use Rattle.std.proofs.Common.{replicate, get_or, refl, ◌∙◌, ap, arith, length-append, length-take}
-use Rattle.std.proofs.lemmas.List.{length-replicate, get_or_append_left, get_or-append_right, get_or-take, get_or-drop}
+use Rattle.std.proofs.Common.{suc, zero, replicate, get_or, refl, sym, ◌∙◌, ap, arith, length-append, length-take}
+use Rattle.std.proofs.lemmas.List.{length-replicate, get_or_append_left, get_or-append_right, get_or-take, get_or-drop, take-append-le}
 use Rattle.qc_outside.specs.Images.{Write, Stored, Leaves, IsImage, IsOutside, overwritten, as_read, all_written, settled}
-use Rattle.qc_outside.specs.Memory.{left_by, all_torn, blotted}
+use Rattle.qc_outside.specs.Memory.{left_by, all_torn, torn_by, blotted}
 use Rattle.qc_outside.specs.declared.tear.Tear.{Tear}
 use Rattle.qc_outside.specs.declared.tear.Tear.TheVariants.{Nothing, All, Fill}
 use Rattle.qc_outside.proofs.Images.{length-overwritten}
+
+take_twice : (n m : ℕ) (l : List ℕ) → n ≤ m → take n (take m l) ≡ take n l
+take_twice zero m l le = refl
+take_twice (suc n) m [] le = ap (take (suc n)) (take_none m)
+  where
+    take_none : (m : ℕ) → take {A = ℕ} m [] ≡ []
+    take_none zero = refl
+    take_none (suc m) = refl
+take_twice (suc n) zero (x ∷ l) le = absurd (omega (arith, le))
+take_twice (suc n) (suc m) (x ∷ l) le = ap (λ (t : List ℕ). x ∷ t) (take_twice n m l (omega (arith, le)))
 
 -- a place outside the range keeps its byte
 overwritten_keeps : (old : List ℕ) (w : Write) (i : ℕ) → i < length old → (i < w.at) ⊎ (w.at + length w.bytes ≤ i) → get_or (overwritten old w) i 0 ≡ get_or old i 0
@@ -29,6 +39,31 @@ overwritten_keeps old w i within (inr behind) =
     get_or-append_right (front ++ w.bytes) tail (w.at + length w.bytes) i 0 long behind
     ∙ get_or-drop (w.at + length w.bytes) old (i - (w.at + length w.bytes)) 0
     ∙ ap (λ (k : ℕ). get_or old k 0) place
+
+-- so do all before it
+overwritten_front : (old : List ℕ) (w : Write) (n : ℕ) → n ≤ length old → n ≤ w.at → take n (overwritten old w) ≡ take n old
+overwritten_front old w n within before =
+    let pad : List ℕ = replicate (w.at - length old) 0 in
+    let front : List ℕ = take w.at (old ++ pad) in
+    let tail : List ℕ = drop (w.at + length w.bytes) old in
+    let long : n ≤ length front = omega (arith, length-take w.at (old ++ pad), length-append old pad, before, within) in
+    take-append-le n (front ++ w.bytes) tail (omega (arith, long, length-append front w.bytes))
+    ∙ take-append-le n front w.bytes long
+    ∙ take_twice n w.at (old ++ pad) before
+    ∙ take-append-le n old pad within
+
+torn_front : (tear : Tear) (left : List ℕ) (w : Write) (n : ℕ) → n ≤ length left → n ≤ w.at → take n (torn_by tear left w) ≡ take n left
+torn_front Nothing left w n within before = refl
+torn_front All left w n within before = overwritten_front left w n within before
+torn_front (Fill byte) left w n within before = overwritten_front left (blotted byte w) n within before
+
+-- what a read gives and what a fall leaves are the same as far as they were, up to a write
+pub same_front : (tear : Tear) (left bytes : List ℕ) (w : Write) (same n : ℕ) → take same left ≡ take same bytes → same ≤ length left → length left ≤ length bytes → n ≤ same → n ≤ w.at
+    → take n (torn_by tear left w) ≡ take n (overwritten bytes w)
+same_front tear left bytes w same n is within shorter fewer before =
+    torn_front tear left w n (omega (arith, within, fewer)) before
+    ∙ sym (take_twice n same left fewer) ∙ ap (take n) is ∙ take_twice n same bytes fewer
+    ∙ sym (overwritten_front bytes w n (omega (arith, within, shorter, fewer)) before)
 
 all_keep : (synced : List ℕ) (writes : List Write) (i : ℕ) → i < length synced → IsOutside writes i → (length synced ≤ length (all_written synced writes)) × (get_or (all_written synced writes) i 0 ≡ get_or synced i 0)
 all_keep synced [] i within outside = (omega arith, refl)

@@ -30,8 +30,6 @@ mod rack;
 mod shelf;
 mod sink;
 mod tear;
-#[cfg(test)]
-mod tests;
 
 pub use disk::{ArmKind, Disk, DiskFault};
 pub use empty_rack::{EmptyDisk, EmptyRack};

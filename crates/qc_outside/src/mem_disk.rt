@@ -3,14 +3,20 @@
 //! 1. It holds its bytes twice: as a read gives them, and as a fall now would
 //!    leave them.
 //! 2. The record of its changes tells what a stop at each moment may leave.
-//! 3. A sync and a fall take no memory: a write takes their room with its own.
+//! 3. Of the images that a stop may leave, a fall leaves the one that its tear
+//!    names. The tear never changes.
+//! 4. A sync and a fall take no memory: a write takes their room with its own.
+//!    They copy from the first byte on that was written since the last one.
 
-ghost use Rattle.std.specs.Prelude.{◌≡◌, ◌≤◌, ◌<◌, ◌+◌, ◌*◌, ◌^◌, ◌++◌, ◌∷◌, false, true, [], length, Some, OnErr};
-ghost use Rattle.std.specs.Prelude.{IfOk, max, vec_len, vec_capacity};
-ghost use Rattle.qc_outside.specs.Images.{Told, as_read};
-ghost use Rattle.qc_outside.specs.Memory.{told_by, counts, left_by};
+ghost use Rattle.std.specs.Prelude.{◌≡◌, ◌≢◌, ◌≤◌, ◌<◌, ◌+◌, ◌*◌, ◌^◌, ◌++◌, ◌∷◌, ℕ, suc, false, true, [], length};
+ghost use Rattle.std.specs.Prelude.{Some, Err, IfOk, OnOk, OnErr, max, take, drop, vec_len, vec_capacity};
+ghost use Rattle.qc_outside.specs.Disk.{DiskRose};
+ghost use Rattle.qc_outside.specs.Images.{Told, Tells, Since, IsImage, as_read, wrote, settled};
+ghost use Rattle.qc_outside.specs.Memory.{told_by, told_next, counts, left_by};
+ghost use Rattle.qc_outside.specs.declared.disk.DiskFault.TheVariants.{Stopped as DiskStops, OutOfMemory as DiskWants};
+ghost use Rattle.qc_outside.specs.declared.mem_disk.Change.TheVariants.{Synced, Fell};
 
-use crate::tear::{Tear, copy_over, overwrite, tear_off};
+use crate::tear::{Tear, copy_from, overwrite, tear_off};
 use crate::{Disk, DiskFault};
 use qc_list::OutOfMemory;
 use std::alloc::{AllocError, Global};
@@ -37,10 +43,14 @@ pub struct MemDisk {
     /// As a fall now would leave them.
     left: Vec<u8>,
     is_pending: bool,
+    /// How many bytes from the first on are the same in both.
+    same: usize,
     ghost whole: { counts changes.items ≡ length written.items },
     ghost bytes_are: { bytes.items ≡ as_read (told_by tear changes.items written.items).now },
     ghost left_are: { left.items ≡ left_by tear (told_by tear changes.items written.items).now },
     ghost at_rest: { is_pending ≡ false → (told_by tear changes.items written.items).now.writes ≡ [] },
+    ghost same_are: { take same left.items ≡ take same bytes.items },
+    ghost same_is: { same ≤ vec_len left },
     ghost shorter: { vec_len left ≤ vec_len bytes },
     ghost copies: { vec_len bytes ≤ vec_capacity left },
     ghost room: { is_pending ≡ true → vec_len changes < vec_capacity changes },
@@ -50,6 +60,7 @@ impl MemDisk {
     /// An empty disk, whose falls tear so.
     pub fn new(alloc: Global, tear: Tear) -> Result<MemDisk, OutOfMemory>
         ensures told { IfOk result (λ d. ⟦<MemDisk as Disk>⟧.told d ≡ Some (told_by tear [] [])) }
+        ensures tear { IfOk result (λ d. d.tear ≡ tear) }
         ensures faults { IfOk result (λ d. ⟦<MemDisk as Disk>⟧.faults d ≡ 0) }
     {
         Ok(MemDisk {
@@ -60,6 +71,7 @@ impl MemDisk {
             bytes: Vec::new(alloc),
             left: Vec::new(alloc),
             is_pending: false,
+            same: 0,
         })
     }
 
@@ -68,6 +80,40 @@ impl MemDisk {
         ensures { (t : Told) → ⟦<MemDisk as Disk>⟧.told self ≡ Some t → result.items ≡ as_read t.now }
     {
         self.bytes
+    }
+
+    /// Makes what a read gives last, and notes it.
+    fn make_lasting(&mut self)
+        requires { self.old.is_pending ≡ true }
+        ensures noted { Tells (⟦<MemDisk as Disk>⟧.told self.old) (⟦<MemDisk as Disk>⟧.told self.new) (λ old new.
+            new ≡ told_next self.old.tear old Synced []) }
+        ensures moments { Tells (⟦<MemDisk as Disk>⟧.told self.old) (⟦<MemDisk as Disk>⟧.told self.new) (λ old new.
+            Since (IsImage old.now) old new) }
+        ensures rests { self.new.is_pending ≡ false }
+        ensures tear { self.new.tear ≡ self.old.tear }
+        ensures room { (n end : ℕ) → ⟦<MemDisk as Disk>⟧.has_room self.old n end
+            → ⟦<MemDisk as Disk>⟧.has_room self.new n end }
+    {
+        note(&mut self.changes, Change::Synced);
+        copy_from(&mut self.left, self.same, &self.bytes);
+        self.same = self.bytes.len();
+        self.is_pending = false;
+    }
+
+    /// Makes what the tear leaves last, and notes it.
+    fn make_torn(&mut self)
+        requires { self.old.is_pending ≡ true }
+        ensures noted { Tells (⟦<MemDisk as Disk>⟧.told self.old) (⟦<MemDisk as Disk>⟧.told self.new) (λ old new.
+            new ≡ told_next self.old.tear old Fell []) }
+        ensures moments { Tells (⟦<MemDisk as Disk>⟧.told self.old) (⟦<MemDisk as Disk>⟧.told self.new) (λ old new.
+            Since (IsImage old.now) old new) }
+        ensures rests { self.new.is_pending ≡ false }
+        ensures tear { self.new.tear ≡ self.old.tear }
+    {
+        note(&mut self.changes, Change::Fell);
+        copy_from(&mut self.bytes, self.same, &self.left);
+        self.same = self.bytes.len();
+        self.is_pending = false;
     }
 }
 
@@ -100,17 +146,33 @@ impl Disk for MemDisk {
         × (max (vec_len d.bytes) end ≤ vec_capacity d.bytes)
         × (max (vec_len d.bytes) end ≤ vec_capacity d.left) };
 
-    fn len(&mut self) -> Result<u64, DiskFault> {
+    fn len(&mut self) -> Result<u64, DiskFault>
+        ensures len { IfOk result (λ n. (t : Told) → ⟦<MemDisk as Disk>⟧.told self.old ≡ Some t
+            → n ≡ length (as_read t.now)) }
+        ensures same { self.new ≡ self.old }
+        ensures cause { DiskRose 0 0 result }
+        ensures memory { result ≢ Err DiskWants }
+    {
         Ok(self.bytes.len() as u64)
     }
 
-    fn read(&mut self, at: u64, count: u32) -> Result<Vec<u8>, DiskFault> {
+    fn read(&mut self, at: u64, count: u32) -> Result<Vec<u8>, DiskFault>
+        ensures bounded { IfOk result (λ v. length v.items ≤ count) }
+        ensures bytes { IfOk result (λ v. (t : Told) → ⟦<MemDisk as Disk>⟧.told self.old ≡ Some t
+            → v.items ≡ take count (drop at (as_read t.now))) }
+        ensures same { self.new ≡ self.old }
+        ensures cause { DiskRose 0 0 result }
+    {
         let start = (at as usize).min(self.bytes.len());
         let count = (count as usize).min(self.bytes.len() - start);
         Ok(self.bytes[start..start + count].to_vec(self.alloc)?)
     }
 
-    fn reserve(&mut self, end: u64) -> Result<(), OutOfMemory> {
+    fn reserve(&mut self, end: u64) -> Result<(), OutOfMemory>
+        ensures same { ⟦<MemDisk as Disk>⟧.told self.new ≡ ⟦<MemDisk as Disk>⟧.told self.old }
+        ensures tear { self.new.tear ≡ self.old.tear }
+        ensures room { OnOk result (⟦<MemDisk as Disk>⟧.has_room self.new 2 end) }
+    {
         let end = end as usize;
         let twice = end.checked_mul(2).ok_or(AllocError)?;
         self.written.reserve(twice)?;
@@ -122,7 +184,21 @@ impl Disk for MemDisk {
         Ok(())
     }
 
-    fn write_at(&mut self, at: u64, bytes: &[u8]) -> Result<(), DiskFault> {
+    fn write_at(&mut self, at: u64, bytes: &[u8]) -> Result<(), DiskFault>
+        ensures written { OnOk result (Tells (⟦<MemDisk as Disk>⟧.told self.old) (⟦<MemDisk as Disk>⟧.told self.new)
+            (λ old new. new.now ≡ wrote old.now (record { at = at; bytes = bytes.now }))) }
+        ensures moments { Tells (⟦<MemDisk as Disk>⟧.told self.old) (⟦<MemDisk as Disk>⟧.told self.new) (λ old new.
+            Since (IsImage (wrote old.now (record { at = at; bytes = bytes.now }))) old new) }
+        ensures fell { result ≢ Err DiskStops }
+        ensures memory { (n end : ℕ) → ⟦<MemDisk as Disk>⟧.has_room self.old (suc n) end
+            → at + length bytes.now ≤ end → result ≢ Err DiskWants }
+        ensures wanting { result ≡ Err DiskWants
+            → ⟦<MemDisk as Disk>⟧.told self.new ≡ ⟦<MemDisk as Disk>⟧.told self.old }
+        ensures room { OnOk result ((n end : ℕ) → ⟦<MemDisk as Disk>⟧.has_room self.old (suc n) end
+            → at + length bytes.now ≤ end → ⟦<MemDisk as Disk>⟧.has_room self.new n end) }
+        ensures tear { self.new.tear ≡ self.old.tear }
+        ensures cause { DiskRose 0 0 result }
+    {
         let at = at as usize;
         let end = end_of(at, bytes)?;
         self.written.reserve(bytes.len())?;
@@ -134,24 +210,36 @@ impl Disk for MemDisk {
         note(&mut self.changes, Change::Wrote(at, bytes.len()));
         overwrite(&mut self.bytes, at, bytes)?;
         tear_off(&mut self.left, self.tear, at, bytes)?;
+        self.same = self.same.min(at);
         self.is_pending = true;
         Ok(())
     }
 
-    fn sync(&mut self) -> Result<(), DiskFault> {
+    fn sync(&mut self) -> Result<(), DiskFault>
+        ensures ok { result ≡ Ok tt }
+        ensures lasting { Tells (⟦<MemDisk as Disk>⟧.told self.old) (⟦<MemDisk as Disk>⟧.told self.new) (λ old new.
+            new.now ≡ settled (as_read old.now)) }
+        ensures moments { Tells (⟦<MemDisk as Disk>⟧.told self.old) (⟦<MemDisk as Disk>⟧.told self.new) (λ old new.
+            Since (IsImage old.now) old new) }
+        ensures room { (n end : ℕ) → ⟦<MemDisk as Disk>⟧.has_room self.old n end
+            → ⟦<MemDisk as Disk>⟧.has_room self.new n end }
+        ensures tear { self.new.tear ≡ self.old.tear }
+    {
         if self.is_pending {
-            note(&mut self.changes, Change::Synced);
-            copy_over(&mut self.left, &self.bytes);
-            self.is_pending = false;
+            self.make_lasting();
         }
         Ok(())
     }
 
-    fn fall(&mut self) {
+    fn fall(&mut self)
+        ensures torn { Tells (⟦<MemDisk as Disk>⟧.told self.old) (⟦<MemDisk as Disk>⟧.told self.new) (λ old new.
+            new.now ≡ settled (left_by self.old.tear old.now)) }
+        ensures moments { Tells (⟦<MemDisk as Disk>⟧.told self.old) (⟦<MemDisk as Disk>⟧.told self.new) (λ old new.
+            Since (IsImage old.now) old new) }
+        ensures tear { self.new.tear ≡ self.old.tear }
+    {
         if self.is_pending {
-            note(&mut self.changes, Change::Fell);
-            copy_over(&mut self.bytes, &self.left);
-            self.is_pending = false;
+            self.make_torn();
         }
     }
 }

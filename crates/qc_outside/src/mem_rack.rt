@@ -1,8 +1,9 @@
-//! A rack of disks in memory.
+//! A rack of disks in memory, whose falls tear as the rack was told.
 
 ghost use Rattle.std.specs.Prelude.{◌≡◌, ◌≢◌, ℕ, Some, [], Err, IfOk, IfErr, OnOk, OnErr, option_copied};
-ghost use Rattle.qc_outside.specs.Disk.{NamesActor};
-ghost use Rattle.qc_outside.specs.Places.{HandsOut};
+ghost use Rattle.qc_outside.specs.Disk.{RackRose, NamesActor};
+ghost use Rattle.qc_outside.specs.Images.{told_at_first};
+ghost use Rattle.qc_outside.specs.Places.{HandsOut, PutsBack};
 ghost use Rattle.qc_outside.specs.declared.rack.RackFault.TheVariants.{Failed};
 ghost use Rattle.qc_outside.specs.MemRack.{IsAdded, IsFirstAt, is_at, held, name_of};
 
@@ -54,6 +55,7 @@ impl MemRack {
     /// A rack whose places hold no byte, and whose disks' falls tear so.
     pub fn new(alloc: Global, tear: Tear) -> Result<MemRack, OutOfMemory>
         ensures none { IfOk result (λ r. r.places.items ≡ []) }
+        ensures tear { IfOk result (λ r. r.tear ≡ tear) }
     {
         Ok(MemRack {
             alloc,
@@ -67,6 +69,7 @@ impl MemRack {
         ensures added { OnOk result (IsAdded self.old.places.items
             (record { folder = option_copied dir.entry; actor = actor }) self.new.places.items) }
         ensures err { OnErr result (self.new.places.items ≡ self.old.places.items) }
+        ensures tear { self.new.tear ≡ self.old.tear }
     {
         let folder = name_owned(self.alloc, dir)?;
         let bytes = Vec::new(self.alloc);
@@ -84,6 +87,7 @@ impl MemRack {
             (record { folder = option_copied dir.entry; actor = actor }) result (held self.new.places.items) }
         ensures named { IfErr result (NamesActor actor) }
         ensures whole { (named : ℕ) → result ≢ Err (Failed named) }
+        ensures tear { self.new.tear ≡ self.old.tear }
     {
         match place_at(&self.places, dir, actor) {
             None => self.add(dir, actor)?,
@@ -118,13 +122,25 @@ impl Rack for MemRack {
 
     ghost places = { λ r. Some (held r.places.items) };
 
-    fn disk(&mut self, dir: Option<&str>, actor: u8) -> Result<MemDisk, RackFault> {
+    fn disk(&mut self, dir: Option<&str>, actor: u8) -> Result<MemDisk, RackFault>
+        ensures empty { IfOk result (λ d. ⟦<MemDisk as Disk>⟧.told d ≡ Some told_at_first) }
+        ensures handed { HandsOut (held self.old.places.items)
+            (record { folder = option_copied dir.entry; actor = actor }) result (held self.new.places.items) }
+        ensures named { IfErr result (NamesActor actor) }
+        ensures cause { RackRose 0 0 result }
+        ensures torn { IfOk result (λ d. d.tear ≡ self.old.tear) }
+        ensures tear { self.new.tear ≡ self.old.tear }
+    {
         let disk = MemDisk::new(self.alloc, self.tear)?;
         self.lend(dir, actor)?;
         Ok(disk)
     }
 
-    fn keep(&mut self, dir: Option<&str>, actor: u8, disk: MemDisk) {
+    fn keep(&mut self, dir: Option<&str>, actor: u8, disk: MemDisk)
+        ensures put { PutsBack (held self.old.places.items) (record { folder = option_copied dir.entry; actor = actor })
+            (⟦<MemDisk as Disk>⟧.told disk) (held self.new.places.items) }
+        ensures tear { self.new.tear ≡ self.old.tear }
+    {
         if let Some(index) = place_at(&self.places, dir, actor) {
             self.places[index].bytes = disk.into_bytes();
         }

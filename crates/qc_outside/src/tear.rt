@@ -3,7 +3,7 @@
 //!
 //! No call here takes memory: each needs room for the bytes that it makes.
 
-ghost use Rattle.std.specs.Prelude.{◌≡◌, ◌≤◌, ◌<◌, ◌+◌, ◌-◌, ◌^◌, ◌++◌, replicate, length, IsOk, max, vec_len};
+ghost use Rattle.std.specs.Prelude.{◌≡◌, ◌≤◌, ◌<◌, ◌+◌, ◌-◌, ◌^◌, ◌++◌, take, replicate, length, IsOk, max, vec_len};
 ghost use Rattle.std.specs.Prelude.{vec_capacity};
 ghost use Rattle.qc_outside.specs.Images.{overwritten, padded};
 ghost use Rattle.qc_outside.specs.Memory.{torn_by, blotted};
@@ -21,15 +21,18 @@ pub enum Tear {
     Fill(u8),
 }
 
-/// Puts these bytes in the place of all that is there.
-pub(crate) fn copy_over(to: &mut Vec<u8>, from: &[u8])
-    requires { length from.now ≤ vec_capacity to.old }
+/// Makes one list of bytes the same as another, from where they differ on.
+pub(crate) fn copy_from(to: &mut Vec<u8>, at: usize, from: &[u8])
+    requires room { length from.now ≤ vec_capacity to.old }
+    requires same { take at to.old.items ≡ take at from.now }
+    requires within { at ≤ vec_len to.old }
+    requires long { at ≤ length from.now }
     ensures items { to.new.items ≡ from.now }
     ensures len { vec_len to.new ≡ length from.now }
     ensures capacity { vec_capacity to.old ≤ vec_capacity to.new }
 {
-    to.clear();
-    let _done = to.extend_from_slice(from);
+    to.truncate(at);
+    let _done = to.extend_from_slice(&from[at..]);
 }
 
 /// Fills up with this byte.
@@ -77,6 +80,7 @@ pub(crate) fn tear_off(
     requires fits { at + length bytes.now < 2 ^ 64 }
     ensures items { left.new.items ≡ torn_by tear left.old.items (record { at = at; bytes = bytes.now }) }
     ensures len { vec_len left.new ≤ max (vec_len left.old) (at + length bytes.now) }
+    ensures longer { vec_len left.old ≤ vec_len left.new }
     ensures capacity { vec_capacity left.old ≤ vec_capacity left.new }
     ensures ok { IsOk result }
 {

@@ -1,11 +1,11 @@
-use Rattle.std.proofs.Common.{sym, ◌∙◌, ap, arith}
+use Rattle.std.proofs.Common.{take, sym, ◌∙◌, ap, arith}
 use Rattle.qc_outside.specs.Images.{Told, IsImage, as_read, settled}
 use Rattle.qc_outside.specs.Memory.{told_by, counts, left_by}
 use Rattle.qc_outside.specs.declared.mem_disk.Change.TheVariants.{Synced}
 use Rattle.qc_outside.proofs.Kept.{read_is_image, settled_leaves}
 use Rattle.qc_outside.proofs.Memory.{told_change, counts_push, since_step}
 use Rattle.qc_outside.proofs.Images.{image_now}
-use Rattle.qc_outside.proofs.mem_disk.MemDiskDisk.sync.Goals as goal
+use Rattle.qc_outside.proofs.mem_disk.MemDisk.make_lasting.Goals as goal
 
 pub invariant_of-self : goal.invariant_of-self
 invariant_of-self c =
@@ -14,16 +14,23 @@ invariant_of-self c =
     record {
       whole = ap counts c.note.ensures.items ∙ counts_push self.changes.items Synced ∙ omega (arith, self.whole);
       bytes_are = self.bytes_are ∙ ap (λ (t : Told). as_read t.now) (sym now);
-      left_are = c.copy_over.ensures.items ∙ c.deref.ensures.value ∙ self.bytes_are ∙ ap (λ (t : Told). left_by self.tear t.now) (sym now);
+      left_are = c.copy_from.ensures.items ∙ c.deref.ensures.value ∙ self.bytes_are ∙ ap (λ (t : Told). left_by self.tear t.now) (sym now);
       at_rest = λ _. ap (λ (t : Told). t.now.writes) now;
-      shorter = omega (arith, c.copy_over.ensures.len, c.deref.ensures.len);
-      copies = omega (arith, self.copies, c.copy_over.ensures.capacity);
+      same_are = ap (take c.len-self.result) (c.copy_from.ensures.items ∙ c.deref.ensures.value);
+      same_is = omega (arith, c.copy_from.ensures.len, c.deref.ensures.len, c.len-self.ensures);
+      shorter = omega (arith, c.copy_from.ensures.len, c.deref.ensures.len);
+      copies = omega (arith, self.copies, c.copy_from.ensures.capacity);
       room = λ e. absurd (cc e);
     }
 
-pub returns-then-self-clause-moments : goal.returns-then-self-clause-moments
-returns-then-self-clause-moments c =
+pub returns-clause-moments : goal.returns-clause-moments
+returns-clause-moments c =
     let self = c.args.self.now in
     let old = told_by self.tear self.changes.items self.written.items in
     let now = told_change self.tear self.changes.items self.written.items c.note.new.changes.items Synced self.whole c.note.ensures.items in
     since_step (IsImage old.now) old _ (settled (as_read old.now)) (image_now old) (settled_leaves old.now (as_read old.now) (read_is_image old.now)) now
+
+pub returns-clause-noted : goal.returns-clause-noted
+returns-clause-noted c =
+    let self = c.args.self.now in
+    told_change self.tear self.changes.items self.written.items c.note.new.changes.items Synced self.whole c.note.ensures.items
