@@ -16,7 +16,7 @@ use Rattle.qc_list.specs.Order.{IsBelowAll}
 use Rattle.qc_list.proofs.Order.{below_trans}
 use Rattle.qc_record.specs.Form.{IsBytes, within, climbs, tied, items_are_legal}
 use Rattle.qc_record.specs.Records.{is_own_stamp, line_form, line_floor, line_parts, lines_form, line_numbers, from_client, from_life, from_number, from_op, from_object, from_event}
-use Rattle.qc_record.proofs.Exactness.{both_true}
+use Rattle.qc_record.proofs.Cuts.{both_true}
 use Rattle.qc_record.proofs.Exact.{same_number, lines_exact}
 
 -- the first number is below, or they tie and the rest holds

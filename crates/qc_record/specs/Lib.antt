@@ -1,3 +1,4 @@
 pub mod Form
 pub mod Records
 pub mod Answers
+pub mod Spellings
