@@ -1,6 +1,5 @@
--- Records over the built-in declaration `@three`: the first transaction of client 0, and the first epoch. Sites are the
--- actors 0 to 2, clients 3 to 5, the administrator 6, the controller 7. The one object has 3 invocations, 3 responses and
--- 4 events.
+-- Records over the built-in declaration `@three`. Sites are the actors 0 to 2, clients 3 to 5, the administrator 6, the
+-- controller 7. There is one epoch, and one object, with 3 invocations, 3 responses and 4 events.
 use Rattle.std.specs.Prelude.{ℕ, List, [], ◌∷◌, Option, Some}
 use Rattle.qc_entry.specs.declared.line.Line.{Line}
 use Rattle.qc_entry.specs.declared.line.Op.{Op}

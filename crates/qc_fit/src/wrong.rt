@@ -55,7 +55,7 @@ pub fn undeclared_objects_and_events_dont_fit()
     ensures object_own { fits three 0 0 (prepare 0 1 [] (own 1 0 ∷ []) []) ≡ false }
     ensures object_of_line { fits three 0 0 (prepare 0 1 [] [] (line 1 0 1 0 ∷ [])) ≡ false }
     ensures object_of_operation { fits three 3 0 (commit 0 1 (op 1 0 None ∷ [])) ≡ false }
-    ensures invocation_locked { fits three 0 0 (prepare 0 1 (lock 0 0 ∷ lock 0 3 ∷ []) [] []) ≡ false }
+    ensures invocation_locked { fits three 0 0 (prepare 0 1 (lock 0 3 ∷ []) [] []) ≡ false }
     ensures invocation_of_operation { fits three 3 0 (commit 0 1 (op 0 3 None ∷ [])) ≡ false }
     ensures response { fits three 3 0 (commit 0 1 (op 0 0 (Some 3) ∷ [])) ≡ false }
     ensures event_own { fits three 0 0 (prepare 0 1 [] (own 0 4 ∷ []) []) ≡ false }

@@ -7,4 +7,6 @@ pub mod Whole
 pub mod Frames
 pub mod Ends
 pub mod Logs
+pub mod Ranges
+pub mod InForm
 pub mod Puts

@@ -1,9 +1,20 @@
 -- Bytes that were written by hand from the format, field after field, with the records that they spell.
-use Rattle.std.specs.Prelude.{ℕ, List, [], ◌∷◌, Some, None}
+use Rattle.std.specs.Prelude.{◌≡◌, ℕ, List, [], ◌∷◌, Some, None, Ok, Err}
 use Rattle.qc_entry.specs.declared.line.Line.{Line}
 use Rattle.qc_entry.specs.declared.record.Commit.{Commit}
 use Rattle.qc_entry.specs.declared.record.Prepared.{Prepared}
+use Rattle.qc_msg.specs.declared.record.Record.{Record}
+use Rattle.qc_record.specs.declared.fault.RecordFault.TheVariants.{Torn}
+use Rattle.qc_record.specs.Records.{record_at}
 use Rattle.qc_stamp.specs.declared.stamp.TxId.{TxId}
+
+-- bytes are read as a record
+abbrev pub IsRead : List ℕ → Record → Type 0
+IsRead bytes rec = record_at bytes ≡ Ok rec
+
+-- bytes are none, from this place on
+abbrev pub TornAt : ℕ → List ℕ → Type 0
+TornAt offset bytes = record_at bytes ≡ Err (Torn offset)
 
 -- Bytes. A number of several bytes is below 256 in them, so its last byte is the number.
 
@@ -31,6 +42,10 @@ done_bytes client life number rest = 3 ∷ tx_bytes client life number rest
 -- an Install of epoch 2 with clock 9, up to its first line at byte 14; the second is at byte 34
 abbrev pub install_bytes : ℕ → List ℕ → List ℕ
 install_bytes count rest = 5 ∷ 2 ∷ clock_bytes 9 (four count rest)
+
+-- the same up to its second line, where there are two
+abbrev pub behind_line : List ℕ → List ℕ
+behind_line rest = install_bytes 2 (line_bytes 9 2 3 7 4 5 6 rest)
 
 -- a Commit of the transaction 0.1.1 with clock 1, up to its first operation at byte 19
 abbrev pub commit_bytes : ℕ → List ℕ → List ℕ

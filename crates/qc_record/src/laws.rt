@@ -1,9 +1,10 @@
 //! Laws of the bytes of records.
 
-ghost use Rattle.std.specs.Prelude.{◌≡◌, ◌<◌, ◌≤◌, ℕ, List, true, length, take, ◌++◌, ◌∷◌, Ok, Err};
+ghost use Rattle.std.specs.Prelude.{◌≡◌, ◌↔◌, ◌<◌, ◌≤◌, ℕ, List, true, length, take, ◌++◌, ◌∷◌, Ok, Err};
 ghost use Rattle.qc_msg.specs.declared.record.Record.{Record};
 ghost use Rattle.qc_record.specs.declared.fault.RecordFault.TheVariants.{Torn};
 ghost use Rattle.qc_record.specs.Form.{IsBytes};
+ghost use Rattle.qc_record.specs.Legal.{IsInForm};
 ghost use Rattle.qc_record.specs.Records.{record_at, spelled, is_legal, framed, most_bytes};
 
 /// Bytes are read as a record exactly where they are the spelling of that
@@ -12,6 +13,12 @@ pub fn one_spelling()
     ensures again { (rec : Record) → is_legal rec ≡ true → record_at (spelled rec) ≡ Ok rec }
     ensures taken { (bytes : List ℕ) (rec : Record) → IsBytes bytes → record_at bytes ≡ Ok rec
         → (bytes ≡ spelled rec) × (is_legal rec ≡ true) }
+{}
+
+/// A record is legal exactly where its numbers are in their ranges, and its lists
+/// no longer than their counts and in their orders.
+pub fn legal_records_are_in_form()
+    ensures { (rec : Record) → (is_legal rec ≡ true) ↔ IsInForm rec }
 {}
 
 /// Different records have different spellings.

@@ -5,7 +5,8 @@
 //! `specs/Records.antt` gives the form of each kind. What holds:
 //!
 //! 1. Each record whose numbers are in their ranges and whose lists are in
-//!    their orders (`is_legal`) has one spelling, and `write_bytes` gives it.
+//!    their orders (`legal_records_are_in_form`) has one spelling, and
+//!    `write_bytes` gives it.
 //! 2. `read_bytes` answers a record exactly for its spelling, and else the
 //!    kind that is none, or the place of the first field that is out of its
 //!    range or out of order, of the end of the bytes within a field, or of the
@@ -35,7 +36,7 @@ mod writing;
 
 pub use fault::RecordFault;
 pub use laws::{
-    cut_spellings_are_refused, longer_spellings_are_refused, no_frame_is_a_prefix,
+    cut_spellings_are_refused, legal_records_are_in_form, longer_spellings_are_refused, no_frame_is_a_prefix,
     no_spelling_is_a_prefix, one_spelling, spellings_are_apart,
 };
 pub use reading::read_bytes;
