@@ -1,5 +1,5 @@
 -- A record has a spelling exactly where its numbers are in their ranges and its lists in their orders.
-use Rattle.std.proofs.Common.{◌≡◌, ◌↔◌, ◌⊎◌, inl, inr, ℕ, ◌-◌, ◌^◌, ◌<◌, ◌≤◌, Bool, true, false, cond, not, ◌==◌, ◌&&◌, ◌||◌, nat_eq, nat_le, nat_lt, List, [], ◌∷◌, length, Option, Some, None, refl, sym, ap, ◌∙◌, arith}
+use Rattle.std.proofs.Common.{◌≡◌, ◌↔◌, inl, inr, ℕ, ◌-◌, ◌^◌, ◌<◌, Bool, true, false, not, ◌==◌, ◌&&◌, ◌||◌, nat_eq, nat_lt, List, [], ◌∷◌, length, Option, Some, None, refl, sym, ap, ◌∙◌, arith}
 use Rattle.std.proofs.lemmas.Bool.Decides.{nat_tests}
 use Rattle.std.specs.Cmp.{nat_cmp_is}
 use Rattle.std.specs.List.{AllByRecursion as Every}
@@ -14,14 +14,14 @@ use Rattle.qc_entry.specs.Line.{IsAscending, line_cmp}
 use Rattle.qc_list.specs.Order.{IsBelowAll}
 use Rattle.qc_msg.specs.declared.record.Record.{Record}
 use Rattle.qc_msg.specs.declared.record.Record.TheVariants as records
-use Rattle.qc_record.specs.Form.{Form, within, climbs, tops, tied, is_above, is_at_least, items_are_legal}
-use Rattle.qc_record.specs.Legal.{AreLines, AreLocks, AreOps, AreOwns, IsCommit, IsInForm, IsLine, IsLock, IsLockBelow, IsOp, IsOwn, IsOwnBelow, IsPrepared, IsResponse, IsStart, IsTx, IsWithin, Rises}
-use Rattle.qc_record.specs.Records.{is_legal, is_response, response_form, tx_form, lock_form, lock_floor, own_form, own_floor, op_form, line_form, line_parts, line_numbers, is_own_stamp, from_client, from_life, from_number, from_op, from_object, from_event}
+use Rattle.qc_record.specs.Form.{within, climbs, tops, tied, items_are_legal}
+use Rattle.qc_record.specs.Legal.{AreLines, AreLocks, AreOps, AreOwns, IsInForm, IsLine, IsLock, IsLockBelow, IsOp, IsOwn, IsOwnBelow, IsResponse, IsStart, IsTx, Rises}
+use Rattle.qc_record.specs.Records.{is_legal, is_response, response_form, tx_form, lock_form, lock_floor, own_form, own_floor, op_form, line_form, is_own_stamp, from_client, from_life, from_number, from_op, from_object, from_event}
 use Rattle.qc_record.specs.Records.{locks_form, owns_form, lines_form, ops_form, start_form, greatest_clock}
 use Rattle.qc_record.proofs.Cuts.{both_true}
 use Rattle.qc_record.proofs.Exact.{same_number}
 use Rattle.qc_record.proofs.Exactness.{true_both}
-use Rattle.qc_record.proofs.Logs.{Rise, rise, less, equal, flat, ascends}
+use Rattle.qc_record.proofs.Logs.{Rise, rise, equal, flat, ascends}
 use Rattle.qc_record.proofs.Ranges.{ranged, in_range, at_most, climb_range, top_range, free_climb, free_top, fall, last, last_of, each_of, rises_of, legal_of}
 use Rattle.qc_stamp.specs.declared.stamp.TxId.{TxId}
 

@@ -8,10 +8,15 @@ use qc_record::read_bytes;
 use std::test::*;
 
 const NOBODY: [bool; 8] = [false; 8];
+
 const SITES: [bool; 8] = [true, true, true, false, false, false, false, false];
+
 const RISING: [bool; 8] = [true, true, true, true, true, true, true, false];
+
 const CLIENT_0: [bool; 8] = [false, false, false, true, false, false, false, false];
+
 const CLIENT_1: [bool; 8] = [false, false, false, false, true, false, false, false];
+
 const ADMINISTRATOR: [bool; 8] = [false, false, false, false, false, false, true, false];
 
 /// The Commit of another client, of an operation without a response.

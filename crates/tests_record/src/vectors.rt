@@ -6,9 +6,7 @@ use qc_msg::Record;
 use qc_record::read_bytes;
 use std::test::*;
 
-const VECTORS: [&[u8]; 7] = [
-    &LIFE, &PREPARE, &DONE, &CLOSE, &INSTALL, &COMMIT, &DECIDE,
-];
+const VECTORS: [&[u8]; 7] = [&LIFE, &PREPARE, &DONE, &CLOSE, &INSTALL, &COMMIT, &DECIDE];
 
 #[test]
 fn written_again(rt: HostRuntime) {
