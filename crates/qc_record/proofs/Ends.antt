@@ -1,6 +1,6 @@
 -- A record's spelling that is cut is refused at its end, and one with bytes behind it at the first of them. So no spelling
 -- is a prefix of another.
-use Rattle.std.proofs.Common.{◌≡◌, ℕ, zero, suc, ◌+◌, ◌-◌, ◌<◌, Bool, true, false, cond, nat_eq, List, [], ◌∷◌, ◌++◌, length, take, Result, Ok, Err, refl, sym, ap, ◌∙◌, arith}
+use Rattle.std.proofs.Common.{◌≡◌, ℕ, zero, suc, ◌+◌, ◌-◌, ◌<◌, ◌≤◌, Bool, true, false, cond, ◌==◌, nat_eq, List, [], ◌∷◌, ◌++◌, length, take, Result, Ok, Err, refl, sym, ap, ◌∙◌, arith}
 use Rattle.std.proofs.lemmas.List.{append-nil, length-append, length-take-le}
 use Rattle.std.proofs.lemmas.Bool.Decides.{nat_tests}
 use Rattle.qc_msg.specs.declared.record.Record.{Record}
@@ -63,3 +63,18 @@ no_prefix a b [] la lb e = apart a b la lb (sym (append-nil (spelled a)) ∙ e)
 no_prefix a b (c ∷ rest) la lb e =
     let no : torn (length (spelled a)) ≡ found b = sym (behind a c rest la) ∙ ap record_at e ∙ again b lb in
     absurd cc
+
+-- kinds
+
+skipped : {X : Type 0} (b : Bool) (x y z : X) → b ≡ false → y ≡ z → cond b x y ≡ z
+skipped true x y z e h = absurd cc
+skipped false x y z e h = h
+
+not_kind : (n kind : ℕ) → n < kind → (kind == n) ≡ false
+not_kind n kind h = grind (arith, nat_tests, h)
+
+pub no_kind : (kind : ℕ) (rest : List ℕ) → 7 < kind → record_at (kind ∷ rest) ≡ Err (faults.Unknown kind)
+no_kind kind rest h =
+    let above : (n : ℕ) → n ≤ 7 → (kind == n) ≡ false = λ n low. not_kind n kind (omega (arith, h, low)) in
+    skipped (kind == 1) _ _ _ (above 1 (omega arith)) (skipped (kind == 2) _ _ _ (above 2 (omega arith)) (skipped (kind == 3) _ _ _ (above 3 (omega arith)) (skipped (kind == 4) _ _ _ (above 4 (omega arith))
+    (skipped (kind == 5) _ _ _ (above 5 (omega arith)) (skipped (kind == 6) _ _ _ (above 6 (omega arith)) (skipped (kind == 7) _ _ _ (above 7 (omega arith)) refl))))))

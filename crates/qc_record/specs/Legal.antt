@@ -1,5 +1,5 @@
--- Which records have a spelling, in words: numbers in their ranges, lists no longer than their counts, and locks, own lines
--- and lines each above the one before.
+-- Which records have a spelling, in words: numbers in their ranges, lists no longer than their counts allow, and locks,
+-- own lines and lines each above the one before.
 use Rattle.std.specs.Prelude.{◌≡◌, ◌⊎◌, ℕ, ◌-◌, ◌^◌, ◌<◌, ◌≤◌, List, [], ◌∷◌, length, Option, Some, None}
 use Rattle.std.specs.List.{AllByRecursion as Every}
 use Rattle.qc_entry.specs.Line.{IsAscending}

@@ -1,7 +1,7 @@
 //! Bytes that are read, and others that are refused at their first fault: the
 //! contracts of functions with nothing to do.
 
-ghost use Rattle.std.specs.Prelude.{◌≡◌, [], ◌∷◌, ◌^◌, Err};
+ghost use Rattle.std.specs.Prelude.{◌≡◌, ◌<◌, ℕ, List, [], ◌∷◌, ◌^◌, Err};
 ghost use Rattle.qc_msg.specs.declared.record.Record.TheVariants.{Close, Commit, Decide, Done, Install, Life, Prepare};
 ghost use Rattle.qc_record.specs.declared.fault.RecordFault.TheVariants.{Unknown};
 ghost use Rattle.qc_record.specs.Records.{record_at};
@@ -91,12 +91,11 @@ pub fn numbers_out_of_range_are_refused()
     ensures response_before_none { TornAt 21 (commit_bytes 1 (0 ∷ 2 ∷ 254 ∷ [])) }
 {}
 
-/// No bytes are no record, a record with a byte behind it is none, and no other
-/// first byte is a kind.
+/// No bytes are no record, a record with a byte behind it is none, and no first
+/// byte but 1 to 7 is a kind.
 pub fn other_bytes_are_refused()
     ensures none { TornAt 0 [] }
     ensures behind { TornAt 1 (1 ∷ 1 ∷ []) }
-    ensures kind { record_at (0 ∷ []) ≡ Err (Unknown 0) }
-    ensures next_kind { record_at (8 ∷ []) ≡ Err (Unknown 8) }
-    ensures last_kind { record_at (255 ∷ 1 ∷ []) ≡ Err (Unknown 255) }
+    ensures no_kind { (rest : List ℕ) → record_at (0 ∷ rest) ≡ Err (Unknown 0) }
+    ensures kind { (kind : ℕ) (rest : List ℕ) → 7 < kind → record_at (kind ∷ rest) ≡ Err (Unknown kind) }
 {}
