@@ -11,7 +11,8 @@ use Rattle.qc_record.specs.Records.{always, greatest_clock, client_form, ordinal
 use Rattle.qc_record.specs.Records.{lock_floor, lock_of, lock_parts, lock_form, own_floor, own_of, own_parts, own_form, line_floor, line_of, line_parts, is_own_stamp, line_numbers, from_client, from_life, from_number, from_op, from_object, from_event, line_form, op_of, op_parts, op_form, locks_form, owns_form, lines_form, ops_form}
 use Rattle.qc_record.specs.Records.{prepared_of, prepared_parts, prepared_form, done_form, start_form, commit_of, commit_parts, has_own_stamp, commit_form}
 use Rattle.qc_record.proofs.Numbers.{IsWidth}
-use Rattle.qc_record.proofs.Exactness.{IsExact, IsShape, both_true, field_exact, both_exact, shaped_exact, counted_exact}
+use Rattle.qc_record.proofs.Cuts.{both_true}
+use Rattle.qc_record.proofs.Exactness.{IsExact, IsShape, field_exact, both_exact, shaped_exact, counted_exact}
 
 pub at_most : (low high n : ℕ) → within low high n ≡ true → n ≤ high
 at_most low high n e = let high_is : nat_le n high ≡ true = (both_true (nat_le low n) (nat_le n high) e).1 in grind (arith, nat_tests, high_is)

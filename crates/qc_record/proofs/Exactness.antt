@@ -1,11 +1,12 @@
 -- Each form reads exactly what it spells.
-use Rattle.std.proofs.Common.{◌≡◌, ◌⊎◌, inl, inr, ℕ, zero, suc, ◌+◌, ◌^◌, ◌<◌, ◌≤◌, Bool, true, false, cond, ◌&&◌, nat_lt, nat_eq, List, [], ◌∷◌, ◌++◌, length, drop, Option, Some, None, Result, Ok, Err, refl, sym, ap, subst, ◌∙◌, append_assoc, arith}
+use Rattle.std.proofs.Common.{◌≡◌, ◌⊎◌, inl, inr, ℕ, zero, suc, ◌+◌, ◌^◌, ◌<◌, ◌≤◌, Bool, true, false, cond, ◌&&◌, nat_lt, nat_eq, List, [], ◌∷◌, ◌++◌, length, take, drop, Option, Some, None, Result, Ok, Err, refl, sym, ap, subst, ◌∙◌, append_assoc, arith}
 use Rattle.std.proofs.lemmas.List.{drop_at, take-append-drop, length-append, get_or-drop, append-nil}
 use Rattle.std.proofs.lemmas.Bool.Decides.{nat_tests}
 use Rattle.std.proofs.Math.Nat.{mod-eq_of_lt}
 use Rattle.byteorder.specs.Endian.{big_number, big_bytes}
 use Rattle.byteorder.specs.Numbers.{big_from-bytes, length-bytes_high_first}
 use Rattle.qc_record.specs.Form.{Form, IsBytes, ◌>>=◌, number_at, field, nothing, both, shaped, items_at, items_spelled, items_are_legal, counted, all_of}
+use Rattle.qc_record.proofs.Cuts.{both_cut, both_true, counted_cut, field_cut, shaped_cut}
 use Rattle.qc_record.proofs.Numbers.{IsWidth, back}
 
 IsBytes-drop : (n : ℕ) (bytes : List ℕ) → IsBytes bytes → IsBytes (drop n bytes)
@@ -22,11 +23,6 @@ done x = Ok x
 pub ok_is : {A : Type 0} (x y : A) → done x ≡ done y → x ≡ y
 ok_is x y e = cc
 
-pub both_true : (a b : Bool) → (a && b) ≡ true → (a ≡ true) × (b ≡ true)
-both_true true true e = (refl, refl)
-both_true true false e = absurd cc
-both_true false b e = absurd cc
-
 pub true_both : (a b : Bool) → a ≡ true → b ≡ true → (a && b) ≡ true
 true_both a b p q = rw (p, q) refl
 
@@ -42,10 +38,11 @@ pub record IsTaken {A : Type 0} (form : Form A) (bytes : List ℕ) (x : A) (rest
   pub takes : Takes bytes (form.spelled x) rest
   pub legal : form.is_legal x ≡ true
 
--- what is read is spelled so, and what is spelled is read so
+-- what is read is spelled so; what is spelled is read so, and isn't where it is cut
 pub record IsExact {A : Type 0} (form : Form A) : Type 0 where
   pub taken : (bytes : List ℕ) (x : A × List ℕ) → IsBytes bytes → form.read bytes ≡ Ok x → IsTaken form bytes x.0 x.1
   pub again : (x : A) (rest : List ℕ) → form.is_legal x ≡ true → form.read (form.spelled x ++ rest) ≡ Ok (x, rest)
+  pub cut : (x : A) (n : ℕ) → form.is_legal x ≡ true → n < length (form.spelled x) → form.read (take n (form.spelled x)) ≡ Err 0
 
 -- a number
 
@@ -81,12 +78,13 @@ number_again width legal small n rest lawful =
     rw whole (rw number (rw (lawful, behind) refl))
 
 pub field_exact : (width : ℕ) (legal : ℕ → Bool) → IsWidth width → ((n : ℕ) → legal n ≡ true → n < 256 ^ width) → IsExact (field width legal)
-field_exact width legal wide small = record { taken = number_taken width legal wide; again = number_again width legal small }
+field_exact width legal wide small = record { taken = number_taken width legal wide; again = number_again width legal small; cut = field_cut width legal }
 
 pub nothing_exact : IsExact nothing
 nothing_exact = record {
   taken = λ bytes x fits e. subst (λ (y : Unit {0} × List ℕ). IsTaken nothing bytes y.0 y.1) (ok_is (tt, bytes) x e) (record { takes = record { parts = refl; rest_fits = fits }; legal = refl });
   again = λ x rest e. refl;
+  cut = λ x n e inside. absurd (omega (arith, inside));
 }
 
 -- two parts
@@ -109,7 +107,7 @@ both_again first second one two x rest legal =
     ap (λ r. r >>= λ p. (second p.0).read p.1 >>= λ q. Ok ((p.0, q.0), q.1)) p ∙ ap (λ r. r >>= λ q. Ok ((x.0, q.0), q.1)) q
 
 pub both_exact : {A B : Type 0} (first : Form A) (second : A → Form B) → IsExact first → ((x : A) → IsExact (second x)) → IsExact (both first second)
-both_exact first second one two = record { taken = both_taken first second one two; again = both_again first second one two }
+both_exact first second one two = record { taken = both_taken first second one two; again = both_again first second one two; cut = both_cut first second one.again one.cut (λ x. (two x).cut) }
 
 -- another shape
 
@@ -131,6 +129,7 @@ shaped_exact {A = A} {B = B} shape parts has_parts form same exact = record {
   again = λ x rest legal.
       let l = both_true _ _ legal in
       ap (λ r. r >>= λ p. Ok (shape p.0, p.1)) (exact.again (parts x) rest l.1) ∙ ap (λ (b : B). Ok (b, rest)) (same.back x l.0);
+  cut = shaped_cut shape parts has_parts form exact.cut;
 }
 
 -- items
@@ -172,6 +171,7 @@ counted_exact {A = A} width is_count item numbers exact = record {
       let behind = items_spelled item None xs ++ rest in
       let p : number_at width is_count ((big_bytes width (length xs) ++ items_spelled item None xs) ++ rest) ≡ Ok (length xs, behind) = ap (number_at width is_count) (append_assoc (big_bytes width (length xs)) (items_spelled item None xs) rest) ∙ numbers.again (length xs) behind l.0 in
       ap (λ r. r >>= λ n. items_at item None n.0 n.1) p ∙ items_again item exact None xs rest l.1;
+  cut = counted_cut width is_count item numbers.again (λ before. (exact before).again) (λ before. (exact before).cut);
 }
 
 -- all of the bytes

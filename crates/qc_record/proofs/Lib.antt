@@ -1,8 +1,12 @@
 pub mod Loop
 pub mod Numbers
+pub mod Cuts
 pub mod Exactness
 pub mod Exact
 pub mod Whole
 pub mod Frames
+pub mod Ends
 pub mod Logs
+pub mod Ranges
+pub mod InForm
 pub mod Puts

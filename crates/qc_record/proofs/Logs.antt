@@ -16,11 +16,11 @@ use Rattle.qc_list.specs.Order.{IsBelowAll}
 use Rattle.qc_list.proofs.Order.{below_trans}
 use Rattle.qc_record.specs.Form.{IsBytes, within, climbs, tied, items_are_legal}
 use Rattle.qc_record.specs.Records.{is_own_stamp, line_form, line_floor, line_parts, lines_form, line_numbers, from_client, from_life, from_number, from_op, from_object, from_event}
-use Rattle.qc_record.proofs.Exactness.{both_true}
+use Rattle.qc_record.proofs.Cuts.{both_true}
 use Rattle.qc_record.proofs.Exact.{same_number, lines_exact}
 
 -- the first number is below, or they tie and the rest holds
-abbrev Rise : ℕ → ℕ → Type 0 → Type 0
+abbrev pub Rise : ℕ → ℕ → Type 0 → Type 0
 Rise a b P = (a < b) ⊎ ((a ≡ b) × P)
 
 climbs_least : (low high a b : ℕ) (floor : List ℕ) → climbs low high (a ∷ floor) b ≡ true → a ≤ b
@@ -30,15 +30,15 @@ rise_by : {P : Type 0} (a b : ℕ) (floor : List ℕ) (test : List ℕ → Bool)
 rise_by a b floor test true least e rest goes = let same : a ≡ b = grind (arith, nat_tests, e) in inr (same, goes rest)
 rise_by a b floor test false least e rest goes = let apart : a < b = grind (arith, nat_tests, e, least) in inl apart
 
-rise : {P : Type 0} (low high a b : ℕ) (floor : List ℕ) (test : List ℕ → Bool) → (climbs low high (a ∷ floor) b && test (tied (a ∷ floor) b)) ≡ true → (test floor ≡ true → P) → Rise a b P
+pub rise : {P : Type 0} (low high a b : ℕ) (floor : List ℕ) (test : List ℕ → Bool) → (climbs low high (a ∷ floor) b && test (tied (a ∷ floor) b)) ≡ true → (test floor ≡ true → P) → Rise a b P
 rise low high a b floor test legal goes =
     let l = both_true (climbs low high (a ∷ floor) b) (test (tied (a ∷ floor) b)) legal in
     rise_by a b floor test (nat_eq a b) (climbs_least low high a b floor l.0) refl l.1 goes
 
-less : (a b : ℕ) → a < b → nat_cmp a b ≡ Less
+pub less : (a b : ℕ) → a < b → nat_cmp a b ≡ Less
 less a b h = sym (nat_cmp_is a b Less h)
 
-equal : (a b : ℕ) → a ≡ b → nat_cmp a b ≡ Equal
+pub equal : (a b : ℕ) → a ≡ b → nat_cmp a b ≡ Equal
 equal a b h = sym (nat_cmp_is a b Equal h)
 
 then_less : (a b : ℕ) (o : Ordering) → Rise a b (o ≡ Less) → ordering_then (nat_cmp a b) o ≡ Less
@@ -59,10 +59,13 @@ twice : (s t a b : ℕ) (o : Ordering) → s ≡ a → t ≡ b → Rise a b (o �
 twice s t a b o p q (inl h) = ap (λ x. ordering_then x (ordering_then (nat_cmp a b) o)) (less s t (omega (arith, p, q, h)))
 twice s t a b o p q (inr h) = ap (λ x. ordering_then x (ordering_then (nat_cmp a b) o)) (equal s t (p ∙ h.0 ∙ sym q)) ∙ then_less a b o (inr h)
 
-above : (a l : Line) → is_own_stamp a ≡ true → is_own_stamp l ≡ true → (line_numbers (line_floor (Some a))).is_legal (line_parts l) ≡ true → line_cmp a l ≡ Less
-above a l own_a own_l legal =
-    let sa : a.stamp.client ≡ a.tx.client = same_number _ _ own_a in
-    let sl : l.stamp.client ≡ l.tx.client = same_number _ _ own_l in
+-- the order of lines, number by number
+abbrev pub numbers_cmp : Line → Line → Ordering
+numbers_cmp a l = ordering_then (nat_cmp a.stamp.clock l.stamp.clock) (ordering_then (nat_cmp a.stamp.client l.stamp.client) (ordering_then (nat_cmp a.tx.client l.tx.client) (ordering_then (nat_cmp a.tx.life l.tx.life)
+    (ordering_then (nat_cmp a.tx.number l.tx.number) (ordering_then (nat_cmp a.op l.op) (ordering_then (nat_cmp a.object l.object) (nat_cmp a.event l.event)))))))
+
+pub flat : (a l : Line) → line_cmp a l ≡ numbers_cmp a l
+flat a l =
     let oc = nat_cmp a.stamp.clock l.stamp.clock in
     let os = nat_cmp a.stamp.client l.stamp.client in
     let oa = nat_cmp a.tx.client l.tx.client in
@@ -71,16 +74,20 @@ above a l own_a own_l legal =
     let oo = nat_cmp a.op l.op in
     let oj = nat_cmp a.object l.object in
     let oe = nat_cmp a.event l.event in
-    let flat : line_cmp a l ≡ ordering_then oc (ordering_then os (ordering_then oa (ordering_then oi (ordering_then on (ordering_then oo (ordering_then oj oe)))))) =
     assoc oc os (ordering_then (ordering_then oa (ordering_then oi on)) (ordering_then oo (ordering_then oj oe)))
-    ∙ ap (λ x. ordering_then oc (ordering_then os x)) (assoc oa (ordering_then oi on) (ordering_then oo (ordering_then oj oe)) ∙ ap (λ x. ordering_then oa x) (assoc oi on (ordering_then oo (ordering_then oj oe)))) in
+    ∙ ap (λ x. ordering_then oc (ordering_then os x)) (assoc oa (ordering_then oi on) (ordering_then oo (ordering_then oj oe)) ∙ ap (λ x. ordering_then oa x) (assoc oi on (ordering_then oo (ordering_then oj oe))))
+
+above : (a l : Line) → is_own_stamp a ≡ true → is_own_stamp l ≡ true → (line_numbers (line_floor (Some a))).is_legal (line_parts l) ≡ true → line_cmp a l ≡ Less
+above a l own_a own_l legal =
+    let sa : a.stamp.client ≡ a.tx.client = same_number _ _ own_a in
+    let sl : l.stamp.client ≡ l.tx.client = same_number _ _ own_l in
     let e_floor = a.event ∷ [] in
     let j_floor = a.object ∷ e_floor in
     let o_floor = a.op ∷ j_floor in
     let n_floor = a.tx.number ∷ o_floor in
     let i_floor = a.tx.life ∷ n_floor in
     let a_floor = a.tx.client ∷ i_floor in
-    flat ∙ then_less _ _ _ (rise _ _ a.stamp.clock l.stamp.clock a_floor (λ f. (from_client f).is_legal (l.tx.client, (l.tx.life, (l.tx.number, (l.op, (l.object, l.event)))))) legal (λ h1.
+    flat a l ∙ then_less _ _ _ (rise _ _ a.stamp.clock l.stamp.clock a_floor (λ f. (from_client f).is_legal (l.tx.client, (l.tx.life, (l.tx.number, (l.op, (l.object, l.event)))))) legal (λ h1.
     twice _ _ a.tx.client l.tx.client _ sa sl (rise _ _ a.tx.client l.tx.client i_floor (λ f. (from_life f).is_legal (l.tx.life, (l.tx.number, (l.op, (l.object, l.event))))) h1 (λ h2.
     then_less _ _ _ (rise _ _ a.tx.life l.tx.life n_floor (λ f. (from_number f).is_legal (l.tx.number, (l.op, (l.object, l.event)))) h2 (λ h3.
     then_less _ _ _ (rise _ _ a.tx.number l.tx.number o_floor (λ f. (from_op f).is_legal (l.op, (l.object, l.event))) h3 (λ h4.

@@ -1,3 +1,5 @@
 pub mod Form
 pub mod Records
+pub mod Legal
 pub mod Answers
+pub mod Spellings

@@ -1,5 +1,6 @@
 -- The form of each kind of record, part by part. Numbers have their highest byte first.
-use Rattle.std.specs.Prelude.{ℕ, ◌+◌, ◌-◌, ◌^◌, Bool, true, not, ◌==◌, ◌||◌, if◌then◌else◌, List, [], ◌∷◌, ◌++◌, length, Option, Some, None, Result, Ok, Err}
+use Rattle.std.specs.Prelude.{ℕ, ◌+◌, ◌-◌, ◌^◌, Bool, true, not, ◌==◌, ◌||◌, if◌then◌else◌}
+use Rattle.std.specs.Prelude.{List, [], ◌∷◌, ◌++◌, length, Option, Some, None, Result, Ok, Err}
 use Rattle.byteorder.specs.Endian.{big_bytes}
 use Rattle.qc_entry.specs.declared.line.Line.{Line}
 use Rattle.qc_entry.specs.declared.line.Op.{Op}
@@ -118,7 +119,7 @@ own_after floor = shaped own_of own_parts always (both (top 1 1 16 floor) (λ _.
 abbrev pub own_form : Option OwnLine → Form OwnLine
 own_form before = own_after (own_floor before)
 
--- A line: clock, transaction, operation, object, event. Lines ascend by all of them. The client of a line's stamp is its
+-- A line: clock, transaction, operation, object, event. Lines ascend by all of them. A stamp's client is the
 -- transaction's.
 
 abbrev pub line_floor : Option Line → List ℕ
@@ -230,9 +231,7 @@ has_own_stamp c = c.stamp.client == c.tx.client
 abbrev pub commit_form : Form Commit
 commit_form = shaped commit_of commit_parts has_own_stamp (both tx_form (λ _. both stamp_clock_form (λ _. ops_form)))
 
--- Records.
-
--- whether a record has a spelling
+-- Whether a record has a spelling; `Legal.antt` says it in words.
 abbrev pub is_legal : Record → Bool
 is_legal records.Life = true
 is_legal (records.Prepare p) = prepared_form.is_legal p
@@ -265,8 +264,7 @@ decide_of (epoch, (clock, lines)) = records.Decide epoch clock lines
 abbrev pub body_at : {A : Type 0} → (A → Record) → Form A → List ℕ → Result (Record × List ℕ) ℕ
 body_at shape form bytes = form.read bytes >>= λ x. Ok (shape x.0, x.1)
 
--- The fault by its place: the first field that is out of its range or out of order, or the end of the bytes where they
--- end within a field, or the first byte behind the last field.
+-- the fault by its place: a field out of range or order, the end of bytes in a field, or what stands behind the last
 abbrev pub placed : ℕ → Result Record ℕ → Result Record RecordFault
 placed size (Ok rec) = Ok rec
 placed size (Err left) = Err (faults.Torn (size - left))

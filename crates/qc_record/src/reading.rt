@@ -7,7 +7,8 @@ ghost use Rattle.qc_record.specs.declared.fault.RecordFault.TheVariants.{Torn};
 ghost use Rattle.qc_record.specs.Answers.{Gives, Answers};
 ghost use Rattle.qc_record.specs.Form.{nothing, all_of};
 ghost use Rattle.qc_record.specs.Records.{body_at, commit_form, decide_of, done_form, done_of, epoch_form, install_of};
-ghost use Rattle.qc_record.specs.Records.{is_legal, kind_at, placed, prepared_form, record_at, spelled, start_form, whole_at};
+ghost use Rattle.qc_record.specs.Records.{is_legal, kind_at, placed, prepared_form, record_at, spelled};
+ghost use Rattle.qc_record.specs.Records.{start_form, whole_at};
 
 use crate::RecordFault;
 use crate::fault::Halt;

@@ -1,0 +1,5 @@
+pub mod Numbers
+pub mod Fits
+pub mod Parts
+pub mod Said
+pub mod Cases
