@@ -1,3 +1,4 @@
+mod Behind
 pub mod Orders
 pub mod Every
 pub mod Union

@@ -11,6 +11,7 @@ use Rattle.qc_list.specs.Members.{In}
 use Rattle.qc_list.specs.Order.{by_order}
 use Rattle.qc_list.proofs.Members.{every-In, every-from_In}
 use Rattle.qc_entry.proofs.Orders.{line_order, above}
+use Rattle.std.specs.Cmp.{tied_itself}
 use Rattle.qc_list.proofs.Order.{below_trans}
 
 pub union-nil : (xs : List Line) → union xs [] ≡ xs
@@ -114,3 +115,10 @@ append-union xs (y ∷ ys) first at low =
 pub union-empty : (xs ys : List Line) → None ≡ slice_get ys 0 → xs ≡ union xs ys
 union-empty xs [] at = sym (union-nil xs)
 union-empty xs (y ∷ ys) at = absurd (let never : ⊥ = cc in never)
+
+-- what two lists begin with alike stands once in their union
+pub union-shared : (p xs ys : List Line) → union (p ++ xs) (p ++ ys) ≡ p ++ union xs ys
+union-shared [] xs ys = refl
+union-shared (x ∷ p) xs ys =
+    ap (λ order. by_order order (x ∷ union (p ++ xs) (x ∷ p ++ ys)) (x ∷ union (p ++ xs) (p ++ ys)) (x ∷ union (x ∷ p ++ xs) (p ++ ys))) (tied_itself line_order.total x)
+    ∙ ap (λ zs. x ∷ zs) (union-shared p xs ys)

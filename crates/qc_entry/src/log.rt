@@ -1,11 +1,11 @@
 //! Logs: sorted lists of distinct lines.
 
-ghost use Rattle.std.specs.Prelude.{◌≡◌, ◌∷◌, [], OnOk, OnErr, IfOk};
+ghost use Rattle.std.specs.Prelude.{◌≡◌, ◌∷◌, [], OnOk, OnErr, IfOk, unwrap_or};
 ghost use Rattle.qc_entry.specs.Line.{IsAscending};
 ghost use Rattle.qc_entry.specs.Log.{union, of_object, since_stamp, without};
 
 use crate::Line;
-use crate::slices::{all_before, later, merged, of_one, rest_of};
+use crate::slices::{behind, both, later, merged, of_one, rest_of};
 use qc_list::OutOfMemory;
 use qc_stamp::Stamp;
 use std::alloc::Global;
@@ -66,6 +66,20 @@ impl Log {
         self.join(other.lines())
     }
 
+    /// The lines of both logs in memory of their own, or `None` where this log
+    /// begins with the other, which then brings nothing.
+    pub fn union(&self, other: &Log) -> Result<Option<Log>, OutOfMemory>
+        ensures { IfOk result (λ all. unwrap_or all self.now ≡ union self.now other.now) }
+    {
+        let alloc = *self.lines.allocator();
+        let lines = match behind(self.lines.as_slice(), other.lines()) {
+            Some([]) => return Ok(None),
+            Some(rest) => both(alloc, self.lines.as_slice(), rest)?,
+            None => merged(alloc, self.lines.as_slice(), other.lines())?,
+        };
+        Ok(Some(Log { lines }))
+    }
+
     /// Adds a line, unless the log has it. After want of memory the log is as
     /// it was.
     pub fn add(&mut self, line: Line) -> Result<(), OutOfMemory>
@@ -75,19 +89,16 @@ impl Log {
         self.join(&[line])
     }
 
-    /// Adds sorted lines: at the end where they come after all others.
+    /// Adds sorted lines: behind the others where all that are new belong
+    /// there.
     fn join(&mut self, lines: &[Line]) -> Result<(), OutOfMemory>
         requires { IsAscending lines.now }
         ensures ok { OnOk result (self.new ≡ union self.old lines.now) }
         ensures err { OnErr result (self.new ≡ self.old) }
     {
-        let Some(first) = lines.first() else {
-            return Ok(());
-        };
-        if all_before(self.lines.as_slice(), first) {
-            self.lines.extend_from_slice(lines)?;
-        } else {
-            self.lines = merged(*self.lines.allocator(), self.lines.as_slice(), lines)?;
+        match behind(self.lines.as_slice(), lines) {
+            Some(rest) => self.lines.extend_from_slice(rest)?,
+            None => self.lines = merged(*self.lines.allocator(), self.lines.as_slice(), lines)?,
         }
         Ok(())
     }

@@ -1,6 +1,6 @@
 //! Work on slices of lines, each linear in their lengths.
 
-ghost use Rattle.std.specs.Prelude.{◌≡◌, ◌↔◌, ℕ, IfOk, IsTrue};
+ghost use Rattle.std.specs.Prelude.{◌≡◌, ◌≤◌, ◌↔◌, ◌++◌, ℕ, IfOk, IfSome, IsTrue, length, take};
 ghost use Rattle.std.specs.List.{AllByRecursion};
 ghost use Rattle.std.specs.declared.cmp.Ordering.TheVariants.{Less};
 ghost use Rattle.qc_entry.specs.Line.{line_cmp, IsAscending};
@@ -94,8 +94,45 @@ pub(crate) fn of_one(alloc: Global, lines: &[Line], object: u8) -> Result<Vec<Li
     Ok(found)
 }
 
+/// Lines and then others, in memory that holds just these.
+pub(crate) fn both(alloc: Global, lines: &[Line], rest: &[Line]) -> Result<Vec<Line>, OutOfMemory>
+    ensures { IfOk result (λ v. v.items ≡ lines.now ++ rest.now) }
+{
+    let mut all = Vec::with_capacity(alloc, lines.len().saturating_add(rest.len()))?;
+    all.extend_from_slice(lines)?;
+    all.extend_from_slice(rest)?;
+    Ok(all)
+}
+
+/// What belongs behind sorted lines of all that others bring, or `None` where
+/// some of it may belong between them. Logs of one object mostly begin alike,
+/// and then nothing is merged.
+pub(crate) fn behind<'a>(lines: &[Line], others: &'a [Line]) -> Option<&'a [Line]>
+    requires { IsAscending lines.now }
+    ensures { IfSome result (λ rest. union lines.now others.now ≡ lines.now ++ rest.now) }
+{
+    let rest = &others[shared(lines, others)..];
+    match rest.first() {
+        Some(first) if !all_before(lines, first) => None,
+        _ => Some(rest),
+    }
+}
+
+/// How many lines two lists begin with alike.
+fn shared(a: &[Line], b: &[Line]) -> usize
+    ensures first { result ≤ length a.now }
+    ensures second { result ≤ length b.now }
+    ensures alike { take result a.now ≡ take result b.now }
+{
+    let mut n = 0;
+    'lines: while n < a.len() && n < b.len() && a[n].compare(&b[n]).is_eq() {
+        n += 1;
+    }
+    n
+}
+
 /// Whether each of the sorted lines comes before another line.
-pub(crate) fn all_before(lines: &[Line], line: &Line) -> bool
+fn all_before(lines: &[Line], line: &Line) -> bool
     requires { IsAscending lines.now }
     ensures { IsTrue result ↔ AllByRecursion (λ l. line_cmp l line.now ≡ Less) lines.now }
 {

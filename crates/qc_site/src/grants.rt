@@ -97,7 +97,7 @@ impl Site {
     {
         let kind = kind_of(decl, object).unwrap();
         let turn = asker.answered(alloc, self.granted(Log::new(alloc)?))?;
-        let log = merged(&self.log, view)?;
+        let log = self.log.union(view)?;
         match self.held.try_append(kind, tx, own.items()) {
             Ok(()) => {
                 if let Some(log) = log {
@@ -141,17 +141,4 @@ fn clashing(
         message: Message::Inquiry { tx: holder },
     })?;
     Ok(Turn::sending(alloc, sends))
-}
-
-/// A log with a view's lines, in memory of its own, or `None` where the view
-/// has no line.
-fn merged(log: &Log, view: &Log) -> Result<Option<Log>, OutOfMemory>
-    ensures { IfOk result (λ all. unwrap_or all log.now ≡ union log.now view.now) }
-{
-    if view.lines().is_empty() {
-        return Ok(None);
-    }
-    let mut all = log.copy()?;
-    all.merge(view)?;
-    Ok(Some(all))
 }
