@@ -18,7 +18,7 @@ sys.dont_write_bytecode = True
 
 import programs
 
-USES = ("qc_record",)
+USES = ("qc_bytes",)
 TIMES = 10_000
 
 
