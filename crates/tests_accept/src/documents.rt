@@ -2,8 +2,9 @@
 
 use crate::texts::{THREE, check_edits, check_made, check_told, edited};
 use qc_accept::{DeclFault, accept};
-use qc_decl::{Declaration, Names, built_in};
-use qc_table::Table;
+use qc_decl::{Declaration, KindNames, Names, built_in};
+use qc_plan::Plan;
+use qc_table::{Kind, Relation, Table};
 use std::alloc::{AllocError, Global};
 use std::process::Abort;
 use std::test::Fail;
@@ -25,46 +26,36 @@ fn assert_accepted_as(rt: &impl Abort, alloc: Global, three: &Declaration) {
 
 /// Two declarations are the same.
 fn assert_same(rt: &impl Abort, a: &Declaration, b: &Declaration) {
-    assert_eq!(rt; (a.sites, a.clients), (b.sites, b.clients));
+    assert!(rt; (a.sites, a.clients) == (b.sites, b.clients));
     assert!(rt; a.objects.items() == b.objects.items());
     assert!(rt; are_same_names(&a.object_names, &b.object_names));
-    let (Some(kind), Some(same)) = (a.kinds.items().first(), b.kinds.items().first()) else {
-        panic!(rt; "no type");
-    };
-    assert!(rt; are_same_counts(&kind.table, &same.table));
-    assert!(rt; kind.table.events() == same.table.events());
+    assert!(rt; are_same_kinds(a.kinds.items(), b.kinds.items()));
+    assert!(rt; are_same_kind_names(a.kind_names.items(), b.kind_names.items()));
+    assert!(rt; are_same_weights(a.plans.items(), b.plans.items()));
+    assert!(rt; are_same_needs(a, b));
+}
+
+/// Whether the first types are there and the same.
+fn are_same_kinds(a: &[Kind], b: &[Kind]) -> bool {
+    match (a.first(), b.first()) {
+        (Some(a), Some(b)) => {
+            are_same_tables(&a.table, &b.table) && are_same_relations(&a.relation, &b.relation)
+        }
+        _ => false,
+    }
+}
+
+fn are_same_tables(a: &Table, b: &Table) -> bool {
+    are_same_counts(a, b) && a.events() == b.events() && are_same_steps(a, b)
+}
+
+fn are_same_steps(a: &Table, b: &Table) -> bool {
     for event in 0..4u8 {
-        assert!(rt;
-            are_same_at_event(&kind.table, &same.table, event),
-            "event {event}"
-        );
-        assert!(rt;
-            a.append_need(1, 0, event) == b.append_need(1, 0, event),
-            "event {event}"
-        );
+        if a.step(0, event) != b.step(0, event) || a.step(1, event) != b.step(1, event) {
+            return false;
+        }
     }
-    for inv in 0..3u8 {
-        assert!(rt;
-            kind.relation.depended(inv) == same.relation.depended(inv),
-            "inv {inv}"
-        );
-        assert!(rt;
-            a.read_need(1, 0, inv) == b.read_need(1, 0, inv),
-            "inv {inv}"
-        );
-    }
-    let (Some(plan), Some(other)) = (a.plans.items().first(), b.plans.items().first()) else {
-        panic!(rt; "no plan");
-    };
-    assert!(rt; plan.weights.items() == other.weights.items());
-    let (Some(names), Some(others)) = (a.kind_names.items().first(), b.kind_names.items().first())
-    else {
-        panic!(rt; "no names");
-    };
-    assert!(rt; names.name.text() == others.name.text());
-    assert!(rt; are_same_names(&names.states, &others.states));
-    assert!(rt; are_same_names(&names.invs, &others.invs));
-    assert!(rt; are_same_names(&names.resps, &others.resps));
+    true
 }
 
 fn are_same_counts(a: &Table, b: &Table) -> bool {
@@ -74,9 +65,49 @@ fn are_same_counts(a: &Table, b: &Table) -> bool {
         && a.start() == b.start()
 }
 
-/// Whether an event leads to the same states from the two.
-fn are_same_at_event(a: &Table, b: &Table, event: u8) -> bool {
-    a.step(0, event) == b.step(0, event) && a.step(1, event) == b.step(1, event)
+fn are_same_relations(a: &Relation, b: &Relation) -> bool {
+    for inv in 0..3u8 {
+        if a.depended(inv) != b.depended(inv) {
+            return false;
+        }
+    }
+    true
+}
+
+/// Whether the names of the first types are there and the same.
+fn are_same_kind_names(a: &[KindNames], b: &[KindNames]) -> bool {
+    match (a.first(), b.first()) {
+        (Some(a), Some(b)) => {
+            a.name.text() == b.name.text()
+                && are_same_names(&a.states, &b.states)
+                && are_same_names(&a.invs, &b.invs)
+                && are_same_names(&a.resps, &b.resps)
+        }
+        _ => false,
+    }
+}
+
+/// Whether the first plans are there and have the same weights.
+fn are_same_weights(a: &[Plan], b: &[Plan]) -> bool {
+    match (a.first(), b.first()) {
+        (Some(a), Some(b)) => a.weights.items() == b.weights.items(),
+        _ => false,
+    }
+}
+
+/// Whether the thresholds of the first epoch and object are the same.
+fn are_same_needs(a: &Declaration, b: &Declaration) -> bool {
+    for event in 0..4u8 {
+        if a.append_need(1, 0, event) != b.append_need(1, 0, event) {
+            return false;
+        }
+    }
+    for inv in 0..3u8 {
+        if a.read_need(1, 0, inv) != b.read_need(1, 0, inv) {
+            return false;
+        }
+    }
+    true
 }
 
 /// Whether two lists of names are the same.

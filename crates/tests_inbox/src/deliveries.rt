@@ -15,7 +15,6 @@ use qc_list::{List, OutOfMemory};
 use qc_msg::{Answer, Command, Control, Message, Reply, Turn};
 use qc_script::{CommandLine, PhaseLines, Script};
 use std::alloc::Global;
-use std::test::Fail;
 
 fn declaration(alloc: Global) -> Declaration
     ensures { actors result ≡ 4 }
@@ -198,8 +197,20 @@ const BEGIN: Option<Input> = Some(Input::Command(Command::Begin));
 
 const COMMIT: Option<Input> = Some(Input::Command(Command::Commit));
 
+/// What is ready for site 0 and for client 2 after so many of the acts.
+fn ready(
+    alloc: Global,
+    decl: &Declaration,
+    count: usize,
+) -> Result<(Option<Input>, Option<Input>), OutOfMemory>
+    requires { actors decl.now ≡ 4 }
+{
+    let inboxes = after(alloc, count)?;
+    Ok((inboxes.ready(decl, 0), inboxes.ready(decl, 2)))
+}
+
 #[test]
-fn what_is_ready_for_a_site_and_a_client(rt: HostRuntime) -> Result<(), Fail> {
+fn what_is_ready_for_a_site_and_a_client(rt: HostRuntime) {
     let decl = declaration(rt.alloc());
     for (count, site, client) in [
         (0, None, None),
@@ -222,18 +233,33 @@ fn what_is_ready_for_a_site_and_a_client(rt: HostRuntime) -> Result<(), Fail> {
         (21, Some(Input::Copy(3)), Some(Input::Lost(5))),
         (23, None, None),
     ] {
-        let inboxes = after(rt.alloc(), count)?;
-        assert_eq!(rt; inboxes.ready(&decl, 0), site, "site 0 after {count}");
-        assert_eq!(rt; inboxes.ready(&decl, 2), client, "client 2 after {count}");
+        let found = ready(rt.alloc(), &decl, count);
+        assert!(rt; found == Ok((site, client)), "after {count}");
     }
-    Ok(())
+}
+
+/// Whom to turn to next after so many of the acts, whom where client 2 is held,
+/// and whether all is quiet.
+fn picks(
+    alloc: Global,
+    decl: &Declaration,
+    count: usize,
+) -> Result<(Option<u8>, Option<u8>, bool), OutOfMemory>
+    requires { actors decl.now ≡ 4 }
+{
+    let inboxes = after(alloc, count)?;
+    let mut held = [false; 34];
+    held[2] = true;
+    Ok((
+        inboxes.pick(decl, &[false; 34]),
+        inboxes.pick(decl, &held),
+        inboxes.is_quiet(decl),
+    ))
 }
 
 #[test]
-fn who_comes_next(rt: HostRuntime) -> Result<(), Fail> {
+fn who_comes_next(rt: HostRuntime) {
     let decl = declaration(rt.alloc());
-    let mut held = [false; 34];
-    held[2] = true;
     for (count, of_all, of_others) in [
         (0, None, None),
         (1, Some(2), Some(3)),
@@ -247,33 +273,28 @@ fn who_comes_next(rt: HostRuntime) -> Result<(), Fail> {
         (21, Some(0), Some(0)),
         (22, Some(2), None),
     ] {
-        let inboxes = after(rt.alloc(), count)?;
-        assert_eq!(rt; inboxes.pick(&decl, &[false; 34]), of_all, "after {count}");
-        assert_eq!(rt;
-            inboxes.pick(&decl, &held),
-            of_others,
-            "without 2 after {count}"
-        );
-        assert_eq!(rt; inboxes.is_quiet(&decl), of_all.is_none(), "after {count}");
+        let found = picks(rt.alloc(), &decl, count);
+        let want = (of_all, of_others, of_all.is_none());
+        assert!(rt; found == Ok(want), "after {count}");
     }
-    Ok(())
+}
+
+/// The control line that is next after so many of the acts, and whether it
+/// gives a step.
+fn next_control(alloc: Global, count: usize) -> Result<(Option<Control>, bool), OutOfMemory> {
+    let inboxes = after(alloc, count)?;
+    Ok((inboxes.next_control(), inboxes.next_step().is_some()))
 }
 
 #[test]
-fn control_lines_act_in_order(rt: HostRuntime) -> Result<(), Fail> {
+fn control_lines_act_in_order(rt: HostRuntime) {
     for (count, line) in [
         (16, None),
         (17, Some(Control::Cut(2, 0))),
         (18, Some(Control::Heal(0, 2))),
         (21, None),
     ] {
-        let inboxes = after(rt.alloc(), count)?;
-        assert_eq!(rt; inboxes.next_control(), line, "after {count}");
-        assert_eq!(rt;
-            inboxes.next_step().is_some(),
-            line.is_some(),
-            "after {count}"
-        );
+        let found = next_control(rt.alloc(), count);
+        assert!(rt; found == Ok((line, line.is_some())), "after {count}");
     }
-    Ok(())
 }

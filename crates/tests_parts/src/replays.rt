@@ -92,6 +92,6 @@ fn first_wrong(alloc: Global, decl: &Declaration) -> Result<Option<usize>, OutOf
 #[test]
 fn replays_end_in_a_state_or_miss_a_step(rt: HostRuntime) -> Result<(), Fail> {
     let decl = built_in(rt.alloc(), "@one")?.ok_or("no @one")?;
-    assert_eq!(rt; first_wrong(rt.alloc(), &decl)?, None);
+    assert!(rt; first_wrong(rt.alloc(), &decl) == Ok(None));
     Ok(())
 }

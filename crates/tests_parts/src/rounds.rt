@@ -154,22 +154,34 @@ const FURTHER: [(u8, Standing, Verdict, u64); 3] = [
     (0, GRANTED, Verdict::Met, 9),
 ];
 
+/// Notes, asks, and answers what the round comes to before and after it asks.
+fn note_and_ask(round: &mut Round, site: u8, standing: Standing) -> (Verdict, u64, Verdict) {
+    round.note(site, standing);
+    let before = round.verdict();
+    (before, ask_all(round), round.verdict())
+}
+
+fn copied_verdict(round: &Round) -> Result<Verdict, OutOfMemory> {
+    let copy = round.copy()?;
+    Ok(copy.verdict())
+}
+
 /// A further site is asked for each that is missing.
-fn ask_further(rt: &impl Abort, round: &mut Round) {
-    assert_eq!(rt; ask_all(round), 912);
+fn check_further(rt: &impl Abort, alloc: Global, plan: &Plan) {
+    let Some(mut round) = start(alloc, plan, 1, 2) else {
+        panic!(rt; "no round");
+    };
+    assert!(rt; ask_all(&mut round) == 912);
     for (site, standing, verdict, asked) in FURTHER {
-        round.note(site, standing);
-        assert_eq!(rt; round.verdict(), verdict, "site {site}");
-        assert_eq!(rt; ask_all(round), asked, "site {site}");
-        assert_eq!(rt; round.verdict(), verdict, "site {site}");
+        let found = note_and_ask(&mut round, site, standing);
+        assert!(rt; found == (verdict, asked, verdict), "site {site}");
     }
+    assert!(rt; copied_verdict(&round) == Ok(Verdict::Met));
 }
 
 #[test]
 fn rounds_ask_further_sites(rt: HostRuntime) -> Result<(), Fail> {
     let plan = plan(rt.alloc(), &[1, 1, 1])?;
-    let mut round = start(rt.alloc(), &plan, 1, 2).ok_or("no round")?;
-    ask_further(&rt, &mut round);
-    assert_eq!(rt; round.copy()?.verdict(), Verdict::Met);
+    check_further(&rt, rt.alloc(), &plan);
     Ok(())
 }

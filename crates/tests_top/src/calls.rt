@@ -1,38 +1,56 @@
 //! Calls over the fakes in memory.
 
+use qc_list::OutOfMemory;
 use qc_outside::{EmptyRack, MemShelf, MemSink, OpenGate};
 use qc_top::{Ended, cause_text, quorum_words};
 use std::alloc::Global;
 use std::process::Abort;
 use std::sync::Wait;
-use std::test::Fail;
 use std::thread::Threads;
 
-/// A call with these words over a shelf of these files, each a name and its
-/// text; the shelf's calls and the sink's of these numbers fail. It gives how
-/// the call ended and what the sink took.
+/// A file of this name and text.
+fn file(alloc: Global, name: &str, text: &str) -> Result<(Vec<u8>, Vec<u8>), OutOfMemory> {
+    let name = name.as_bytes().to_vec(alloc)?;
+    let text = text.as_bytes().to_vec(alloc)?;
+    Ok((name, text))
+}
+
+/// A shelf of these files, each a name and its text, whose calls of these
+/// numbers fail.
+fn shelf(alloc: Global, files: &[(&str, &str)], failing: &[u32]) -> Result<MemShelf, OutOfMemory> {
+    let mut held = Vec::new(alloc);
+    for (name, text) in files {
+        held.push(file(alloc, name, text)?)?;
+    }
+    MemShelf::new(alloc, held, failing.to_vec(alloc)?)
+}
+
+/// How a call with these words over a shelf and a sink ends, and what the sink
+/// took.
+fn call_over<T: Threads + Wait + Sync>(
+    rt: &T,
+    alloc: Global,
+    words: &[&str],
+    shelf: &mut MemShelf,
+    sink: &mut MemSink,
+) -> Result<(Ended, Vec<u8>), OutOfMemory> {
+    let mut rack = EmptyRack::new(alloc);
+    let ended = quorum_words(rt, alloc, words, shelf, sink, &mut rack, &OpenGate);
+    Ok((ended, sink.taken().to_vec(alloc)?))
+}
+
+/// A call with these words over a shelf of these files, where the shelf's calls
+/// and the sink's of these numbers fail.
 pub(crate) fn call<T: Threads + Wait + Sync>(
     rt: &T,
     alloc: Global,
     words: &[&str],
     files: &[(&str, &str)],
     failing: (&[u32], &[u32]),
-) -> Result<(Ended, Vec<u8>), Fail> {
-    let mut held = Vec::new(alloc);
-    for (name, text) in files {
-        held.push((
-            name.as_bytes().to_vec(alloc)?,
-            text.as_bytes().to_vec(alloc)?,
-        ))?;
-    }
-    let mut shelf = MemShelf::new(alloc, held, failing.0.to_vec(alloc)?)?;
+) -> Result<(Ended, Vec<u8>), OutOfMemory> {
+    let mut shelf = shelf(alloc, files, failing.0)?;
     let mut sink = MemSink::new(alloc, failing.1.to_vec(alloc)?)?;
-    let mut rack = EmptyRack::new(alloc);
-    let ended = quorum_words(
-        rt, alloc, words, &mut shelf, &mut sink, &mut rack, &OpenGate,
-    );
-    let taken = sink.taken().to_vec(alloc)?;
-    Ok((ended, taken))
+    call_over(rt, alloc, words, &mut shelf, &mut sink)
 }
 
 /// The call with these words over these files prints this text, at status 0.
@@ -42,15 +60,31 @@ pub(crate) fn prints<T: Threads + Wait + Sync + Abort>(
     words: &[&str],
     files: &[(&str, &str)],
     text: &str,
-) -> Result<(), Fail> {
-    let (ended, taken) = call(rt, alloc, words, files, (&[], &[]))?;
-    assert_eq!(rt; ended.status, 0, "where `{text}` is wanted");
+) {
+    let Ok((ended, taken)) = call(rt, alloc, words, files, (&[], &[])) else {
+        panic!(rt; "no memory where `{text}` is wanted");
+    };
+    assert!(rt;
+        ended.status == 0,
+        "{} where `{text}` is wanted",
+        ended.status
+    );
     assert_eq!(rt; taken.as_slice(), text.as_bytes());
-    Ok(())
 }
 
 /// How a call ends: its status, what is told of its cause, and its steps.
 pub(crate) type Ending = (u8, &'static str, u64);
+
+/// Whether a call ended so.
+fn is_ending(alloc: Global, ended: &Ended, want: Ending) -> Result<bool, OutOfMemory> {
+    let (status, text, steps) = want;
+    let told = cause_text(alloc, &ended.cause)?;
+    Ok(
+        told.as_slice() == text.as_bytes()
+            && ended.status == status
+            && ended.history.steps() == steps,
+    )
+}
 
 /// The call with these words over these files, where the shelf and the sink
 /// fail so, ends so and prints nothing.
@@ -61,13 +95,15 @@ pub(crate) fn ends_with<T: Threads + Wait + Sync + Abort>(
     files: &[(&str, &str)],
     failing: (&[u32], &[u32]),
     want: Ending,
-) -> Result<(), Fail> {
-    let (ended, taken) = call(rt, alloc, words, files, failing)?;
-    let (status, text, steps) = want;
-    let told = cause_text(alloc, &ended.cause)?;
-    assert_eq!(rt; told.as_slice(), text.as_bytes());
-    assert_eq!(rt; ended.status, status);
-    assert_eq!(rt; ended.history.steps(), steps);
-    assert_eq!(rt; taken.len(), 0);
-    Ok(())
+) {
+    let Ok((ended, taken)) = call(rt, alloc, words, files, failing) else {
+        panic!(rt; "no memory where {} is wanted", want.1);
+    };
+    assert!(rt;
+        is_ending(alloc, &ended, want) == Ok(true),
+        "status {} for {}",
+        ended.status,
+        want.1
+    );
+    assert!(rt; taken.is_empty());
 }

@@ -1,8 +1,11 @@
 //! Calls that end without a run.
 
 use crate::calls::{Ending, call, ends_with};
+use qc_list::OutOfMemory;
 use std::alloc::Global;
-use std::test::Fail;
+use std::process::Abort;
+use std::sync::Wait;
+use std::thread::Threads;
 
 /// The script of the first run.
 const SCRIPT: &str = "phase\nc0 begin\nc0 do x W1\nc0 do x R\nc0 commit\n";
@@ -14,7 +17,7 @@ const NO_DECLARATION: Ending = (4, "quorum: declaration file: missing\n", 0);
 const NO_SCRIPT: Ending = (4, "quorum: script file: missing\n", 0);
 
 #[test]
-fn words_have_two_forms(rt: HostRuntime) -> Result<(), Fail> {
+fn words_have_two_forms(rt: HostRuntime) {
     let rows: [&[&str]; 12] = [
         &[],
         &["run"],
@@ -37,13 +40,12 @@ fn words_have_two_forms(rt: HostRuntime) -> Result<(), Fail> {
             &[("s", SCRIPT)],
             (&[], &[]),
             NOT_BUILT,
-        )?;
+        );
     }
-    Ok(())
 }
 
 #[test]
-fn files_are_taken_in_their_order(rt: HostRuntime) -> Result<(), Fail> {
+fn files_are_taken_in_their_order(rt: HostRuntime) {
     let rows: [(&[&str], Ending); 8] = [
         (&["check", "d"], NO_DECLARATION),
         (&["check", "@two"], NO_DECLARATION),
@@ -67,13 +69,12 @@ fn files_are_taken_in_their_order(rt: HostRuntime) -> Result<(), Fail> {
         ("place", "c0 begin\n"),
     ];
     for (words, want) in rows {
-        ends_with(&rt, rt.alloc(), words, &files, (&[], &[]), want)?;
+        ends_with(&rt, rt.alloc(), words, &files, (&[], &[]), want);
     }
-    Ok(())
 }
 
 #[test]
-fn scripts_are_refused_or_not_built(rt: HostRuntime) -> Result<(), Fail> {
+fn scripts_are_refused_or_not_built(rt: HostRuntime) {
     let rows: [(&str, Ending); 9] = [
         (
             "phase\nc0  begin\n",
@@ -105,84 +106,94 @@ fn scripts_are_refused_or_not_built(rt: HostRuntime) -> Result<(), Fail> {
             &[("s", script)],
             (&[], &[]),
             want,
-        )?;
+        );
     }
-    Ok(())
 }
 
-/// A text of so many times four bytes.
-fn long(alloc: Global, times: usize) -> Result<String, Fail> {
+/// A text of so many times four bytes, and what ends it.
+fn long(alloc: Global, times: usize, end: &str) -> Result<String, OutOfMemory> {
     let mut text = String::new(alloc);
     for _ in 0..times {
         text.push_str("# #\n")?;
     }
+    text.push_str(end)?;
     Ok(text)
 }
 
-#[test]
-fn files_have_limits(rt: HostRuntime) -> Result<(), Fail> {
-    let alloc = rt.alloc();
-    let mut script = long(alloc, 262_144)?;
-    let (ended, _) = call(
-        &rt,
-        alloc,
-        &["run", "@one", "s"],
-        &[("s", script.as_str())],
-        (&[], &[]),
-    )?;
-    assert_eq!(rt; ended.status, 0);
-    script.push_str("\n")?;
-    let long_script = (4, "quorum: script file: too long\n", 0);
-    let files = [("s", script.as_str())];
-    ends_with(
-        &rt,
-        alloc,
-        &["run", "@one", "s"],
-        &files,
-        (&[], &[]),
-        long_script,
-    )?;
-    let mut decl = long(alloc, 1_048_576)?;
-    let empty = (2, "quorum: declaration: field sites\n", 0);
-    ends_with(
-        &rt,
-        alloc,
-        &["check", "d"],
-        &[("d", decl.as_str())],
-        (&[], &[]),
-        empty,
-    )?;
-    decl.push_str("\n")?;
-    let long_decl = (4, "quorum: declaration file: too long\n", 0);
-    ends_with(
-        &rt,
-        alloc,
-        &["check", "d"],
-        &[("d", decl.as_str())],
-        (&[], &[]),
-        long_decl,
-    )
+/// The status of a call over one file of such a text, which is the script.
+fn status_of_long<T: Threads + Wait + Sync>(
+    rt: &T,
+    alloc: Global,
+    times: usize,
+) -> Result<u8, OutOfMemory> {
+    let text = long(alloc, times, "")?;
+    let files = [("s", text.as_str())];
+    let (ended, _) = call(rt, alloc, &["run", "@one", "s"], &files, (&[], &[]))?;
+    Ok(ended.status)
+}
+
+/// A call over one file of such a text ends so.
+fn ends_with_long<T: Threads + Wait + Sync + Abort>(
+    rt: &T,
+    alloc: Global,
+    words: &[&str],
+    (times, end): (usize, &str),
+    want: Ending,
+) {
+    let Ok(text) = long(alloc, times, end) else {
+        panic!(rt; "no text");
+    };
+    ends_with(rt, alloc, words, &[("f", text.as_str())], (&[], &[]), want);
 }
 
 #[test]
-fn the_outside_may_fail(rt: HostRuntime) -> Result<(), Fail> {
-    let alloc = rt.alloc();
-    let words = ["run", "@one", "s"];
+fn files_have_limits(rt: HostRuntime) {
+    assert!(rt; status_of_long(&rt, rt.alloc(), 262_144) == Ok(0));
+    let rows: [(&[&str], (usize, &str), Ending); 3] = [
+        (
+            &["run", "@one", "f"],
+            (262_144, "\n"),
+            (4, "quorum: script file: too long\n", 0),
+        ),
+        (
+            &["check", "f"],
+            (1_048_576, ""),
+            (2, "quorum: declaration: field sites\n", 0),
+        ),
+        (
+            &["check", "f"],
+            (1_048_576, "\n"),
+            (4, "quorum: declaration file: too long\n", 0),
+        ),
+    ];
+    for (words, text, want) in rows {
+        ends_with_long(&rt, rt.alloc(), words, text, want);
+    }
+}
+
+/// Words, the shelf's and the sink's calls that fail, and how the call ends.
+type Failing<'a> = (&'a [&'a str], &'a [u32], &'a [u32], Ending);
+
+#[test]
+fn the_outside_may_fail(rt: HostRuntime) {
     let files = [("s", SCRIPT), ("d", "")];
+    let of_one: &[&str] = &["run", "@one", "s"];
+    let of_file: &[&str] = &["run", "d", "s"];
     let no_script = (4, "quorum: script file: failed\n", 0);
-    ends_with(&rt, alloc, &words, &files, (&[1], &[]), no_script)?;
     let no_decl = (4, "quorum: declaration file: failed\n", 0);
-    ends_with(&rt, alloc, &["run", "d", "s"], &files, (&[1], &[]), no_decl)?;
-    ends_with(
-        &rt,
-        alloc,
-        &["run", "d", "s"],
-        &files,
-        (&[2], &[]),
-        no_script,
-    )?;
-    let no_output = (5, "quorum: output failed\n", 26);
-    ends_with(&rt, alloc, &words, &files, (&[], &[1]), no_output)?;
-    let no_word = (5, "quorum: output failed\n", 0);
-    ends_with(&rt, alloc, &["check", "@one"], &files, (&[], &[1]), no_word)
+    let rows: [Failing; 5] = [
+        (of_one, &[1], &[], no_script),
+        (of_file, &[1], &[], no_decl),
+        (of_file, &[2], &[], no_script),
+        (of_one, &[], &[1], (5, "quorum: output failed\n", 26)),
+        (
+            &["check", "@one"],
+            &[],
+            &[1],
+            (5, "quorum: output failed\n", 0),
+        ),
+    ];
+    for (words, shelf, sink, want) in rows {
+        ends_with(&rt, rt.alloc(), words, &files, (shelf, sink), want);
+    }
 }
