@@ -12,6 +12,7 @@ import sys
 sys.dont_write_bytecode = True
 
 import crates
+import inputs
 import messages
 import quorums
 import states
@@ -21,6 +22,7 @@ FOLDER = os.path.join(ROOT, "docs", "pictures")
 PICTURES = {
     "crates.svg": crates.draw,
     "first_run.svg": messages.draw_first_run,
+    "inputs.svg": inputs.draw,
     "one_do.svg": messages.draw_one_do,
     "quorums.svg": quorums.draw,
     "site.svg": states.draw_site,
