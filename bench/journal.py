@@ -3,10 +3,10 @@
 
 usage: bench/journal.py [RUNS]
 
-Makes a program of journal_appends.rt.in, and one of journal_walk.rs with `rustc -O`: a plain program that makes the same
-calls of a disk of two lists of bytes, what a read gives and what a stop would leave. Runs each case once a round, RUNS
-rounds, 25 unless it is given, so that a slow moment falls on all. Seconds are those of the processor, the least of all
-rounds, since each case takes but milliseconds. Cases:
+Makes a program of journal_appends.rt.in, and one of journal_walk.rs with `rustc -O`: a plain program that makes the
+same calls of a disk of two lists of bytes, what a read gives and what a stop would leave. Runs each case once a
+round, RUNS rounds, 25 unless it is given, so that a slow moment falls on all. Seconds are those of the processor, the
+least of all rounds, since each case takes but milliseconds. Cases:
 
 - appends: so many records in a new journal; what a call without records takes is taken off;
 - opening: the same, and the journal is then opened ten times; what the appends take is taken off.

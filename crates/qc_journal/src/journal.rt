@@ -8,13 +8,11 @@
 //!    new one.
 
 ghost use Rattle.std.specs.Prelude.{◌≡◌, ◌≢◌, ◌≤◌, ◌<◌, ◌+◌, ◌*◌, ◌^◌, List, ℕ, [], ◌∷◌, ◌++◌, Err, length};
-ghost use Rattle.std.specs.Prelude.{Some, IfOk, IfErr, OnOk, IsOk, vec_capacity};
-ghost use Rattle.qc_outside.specs.Disk.{DiskRose};
+ghost use Rattle.std.specs.Prelude.{Some, IfOk, IfErr, OnOk, vec_capacity};
 ghost use Rattle.qc_outside.specs.Images.{Tells, Since, IsImage, as_read};
-ghost use Rattle.qc_outside.specs.declared.disk.DiskFault.TheVariants.{OutOfMemory as DiskWants};
 ghost use Rattle.qc_journal.specs.Causes.{JournalRose};
 ghost use Rattle.qc_journal.specs.declared.fault.JournalFault.TheVariants.{Torn, OutOfMemory as JournalWants};
-ghost use Rattle.qc_journal.specs.Grammar.{IsBody, IsNoJournal, Holds, HoldsWithOrWithout, counted};
+ghost use Rattle.qc_journal.specs.Grammar.{IsBody, IsNoJournal, Holds, HoldsWithOrWithout};
 ghost use Rattle.qc_journal.specs.Journal.{IsAtRest, Rests, IsReserved, IsLeftAtOpen, lists};
 
 use crate::JournalFault;

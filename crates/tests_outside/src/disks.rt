@@ -1,6 +1,5 @@
 //! Disks and racks, each through its trait.
 
-use qc_list::OutOfMemory;
 use qc_outside::{
     ArmKind, Disk, DiskFault, EmptyRack, Fused, MemDisk, MemRack, Rack, RackFault, Tear,
 };

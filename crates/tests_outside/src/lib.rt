@@ -1,9 +1,13 @@
-//! Tests of what stands for the outside in memory, through the traits of
-//! `qc_outside` and what else it offers to others. They stand here, above it, so
-//! that it is proved without them.
+//! Tests of what stands for the outside in memory, and of journals on such disks,
+//! through what their crates offer to others. They stand here, above them, so
+//! that they are proved without them.
 #![tactic(auto)]
 
+#[cfg(test)]
+mod bytes;
 #[cfg(test)]
 mod disks;
 #[cfg(test)]
 mod shelves;
+#[cfg(test)]
+mod stops;
