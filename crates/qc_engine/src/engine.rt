@@ -262,8 +262,8 @@ fn entries_of(
     requires { first + length turn.sends < 2 ^ 32 }
     ensures { IfOk result (λ v. v.items ≡ marked actor input ∷ by actor (posted first turn)) }
 {
-    let mut entries = entry_alone(alloc, actor, input)?;
-    entries.append(&mut turn.entries(alloc, actor, first)?)?;
+    let mut entries = turn.entries(alloc, actor, first)?;
+    entries.insert(0, Marked { actor, step: input })?;
     Ok(entries)
 }
 

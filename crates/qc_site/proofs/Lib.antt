@@ -1,3 +1,4 @@
+mod Lines
 pub mod Holders
 pub mod Cases
 pub mod Clocks

@@ -1,10 +1,11 @@
 //! What a site grants: a lock with what it covers, or own lines, unless another
 //! transaction holds what conflicts (Herlihy 1986).
 
-ghost use Rattle.std.specs.Prelude.{◌≡◌, ◌≤◌, ◌<◌, ◌+◌, IfOk, OnErr, IsSome, true, None, Some, unwrap_or};
+ghost use Rattle.std.specs.Prelude.{◌≡◌, ◌==◌, ◌≤◌, ◌<◌, ◌+◌, IfOk, OnErr, IsSome, true, None, Some};
+ghost use Rattle.std.specs.List.{list_all};
 ghost use Rattle.qc_decl.specs.Limits.{most_clients, most_sites};
 ghost use Rattle.qc_decl.specs.Lookup.{kind_at};
-ghost use Rattle.qc_entry.specs.Log.{union};
+ghost use Rattle.qc_entry.specs.Log.{of_object};
 ghost use Rattle.qc_lock.specs.Clash.{append_clash, read_clash};
 ghost use Rattle.qc_msg.specs.declared.message.Answer.TheVariants.{Granted};
 ghost use Rattle.qc_site.specs.Requests.{appends_by, clashing, grants, names_declared, reads_by, relation_at};
@@ -14,7 +15,7 @@ use crate::Site;
 use crate::asker::Asker;
 use crate::requests::kind_of;
 use qc_decl::Declaration;
-use qc_entry::{Log, Owns};
+use qc_entry::{Line, Log, Owns};
 use qc_list::OutOfMemory;
 use qc_lock::{Clash, LockFault};
 use qc_msg::{Answer, Message, Posting, Turn, Want};
@@ -67,7 +68,7 @@ impl Site {
         ensures err { OnErr result (self.new ≡ self.old) }
     {
         let kind = kind_of(decl, object).unwrap();
-        let turn = asker.answered(alloc, self.granted(self.log.of(object)?))?;
+        let turn = asker.answered(alloc, self.granted(lines_on(&self.log, object)?))?;
         match self.held.try_read(kind, tx, object, inv) {
             Ok(()) => Ok(turn),
             Err(LockFault::Conflict(clash)) => clashing(alloc, decl, asker, clash),
@@ -141,4 +142,23 @@ fn clashing(
         message: Message::Inquiry { tx: holder },
     })?;
     Ok(Turn::sending(alloc, sends))
+}
+
+/// A log's lines of one object. Where all are of it the log is copied whole,
+/// and not line by line.
+fn lines_on(log: &Log, object: u8) -> Result<Log, OutOfMemory>
+    ensures { IfOk result (λ l. l ≡ of_object log.now object) }
+{
+    if all_are_on(log.lines(), object) {
+        log.copy()
+    } else {
+        log.of(object)
+    }
+}
+
+/// Whether all lines are of this object.
+fn all_are_on(lines: &[Line], object: u8) -> bool
+    ensures { result ≡ list_all (λ l. l.object == object) lines.now }
+{
+    lines.iter().all(|l| l.object == object)
 }
