@@ -1,5 +1,5 @@
 -- What holds of each item of a list, where one is changed or all are, one after another.
-use Rattle.std.proofs.Common.{◌≡◌, ℕ, zero, suc, ◌+◌, ◌<◌, List, [], ◌∷◌, ◌++◌, length, get_or, map, set, take, drop, refl, ap, sym, ◌∙◌, arith}
+use Rattle.std.proofs.Common.{◌≡◌, ℕ, zero, suc, ◌+◌, ◌<◌, List, [], ◌∷◌, ◌++◌, length, get_or, map, set, take, drop, refl, ap, sym, subst, ◌∙◌, arith}
 use Rattle.std.specs.List.{AllByRecursion as Every}
 
 pub every_get : {A : Type 0} (P : A → Type 0) (xs : List A) (a : ℕ) (d : A) → Every P xs → a < length xs → P (get_or xs a d)
@@ -76,3 +76,26 @@ map_next f g (o ∷ olds) (y ∷ ys) (suc a) x d within is made =
     let here : f y ≡ g (f o) = cc in
     let rest : map f ys ≡ map g (map f (take a olds)) ++ map f (drop a olds) = cc in
     λ i. here i ∷ map_next f g olds ys a x d (omega arith) rest made i
+
+-- the same, for the number that follows
+
+next : (a : ℕ) → suc a ≡ a + 1
+next a = omega arith
+
+pub front_next : {A : Type 0} (P : A → Type 0) (xs : List A) (a : ℕ) (x : A) → a < length xs → Every P (take a xs) → P x → Every P (take (a + 1) (set xs a x))
+front_next P xs a x within all is = subst (λ n. Every P (take n (set xs a x))) (next a) (every_front P xs a x within all is)
+
+pub rest_next : {A : Type 0} (P : A → Type 0) (xs : List A) (a : ℕ) (x : A) → Every P (drop a xs) → Every P (drop (a + 1) (set xs a x))
+rest_next P xs a x all = subst (λ n. Every P (drop n (set xs a x))) (next a) (every_rest P xs a x all)
+
+pub map_on : {A B : Type 0} (f : A → B) (g : B → B) (olds xs : List A) (a : ℕ) (x d : A) → a < length olds → map f xs ≡ map g (map f (take a olds)) ++ map f (drop a olds) → f x ≡ g (f (get_or xs a d))
+    → map f (set xs a x) ≡ map g (map f (take (a + 1) olds)) ++ map f (drop (a + 1) olds)
+map_on f g olds xs a x d within is made = subst (λ n. map f (set xs a x) ≡ map g (map f (take n olds)) ++ map f (drop n olds)) (next a) (map_next f g olds xs a x d within is made)
+
+drop_step : {A : Type 0} (xs : List A) (a : ℕ) (d : A) → a < length xs → drop a xs ≡ get_or xs a d ∷ drop (suc a) xs
+drop_step [] a d within = absurd (omega arith)
+drop_step (x ∷ xs) zero d within = refl
+drop_step (x ∷ xs) (suc a) d within = drop_step xs a d (omega arith)
+
+pub drop_next : {A : Type 0} (xs : List A) (a : ℕ) (d : A) → a < length xs → drop a xs ≡ get_or xs a d ∷ drop (a + 1) xs
+drop_next xs a d within = subst (λ n. drop a xs ≡ get_or xs a d ∷ drop n xs) (next a) (drop_step xs a d within)

@@ -30,6 +30,7 @@ pub(crate) fn come(boxes: &mut Vec<Mailbox>, to: u8, number: u32, message: &Mess
     requires length { length boxes.old.items ≡ 34 }
     requires to { to < 34 }
     requires room { Every (HasRoom 3) boxes.old.items }
+    ensures length { length boxes.new.items ≡ length boxes.old.items }
     ensures trays { map tray boxes.new.items ≡ with_coming (map tray boxes.old.items) to number message.now fate }
     ensures room { (room : ℕ) → Every (HasRoom (room + 3)) boxes.old.items → Every (HasRoom room) boxes.new.items }
 {
@@ -41,6 +42,7 @@ pub(crate) fn go(boxes: &mut Vec<Mailbox>, from: u8, number: u32, message: &Mess
     requires length { length boxes.old.items ≡ 34 }
     requires from { from < 34 }
     requires room { Every (HasRoom 1) boxes.old.items }
+    ensures length { length boxes.new.items ≡ length boxes.old.items }
     ensures trays { map tray boxes.new.items ≡ with_going (map tray boxes.old.items) from number message.now fate }
     ensures room { (room : ℕ) → Every (HasRoom (room + 1)) boxes.old.items → Every (HasRoom room) boxes.new.items }
 {
@@ -52,6 +54,7 @@ pub(crate) fn take(boxes: &mut Vec<Mailbox>, actor: u8)
     requires length { length boxes.old.items ≡ 34 }
     requires actor { actor < 34 }
     requires calls { (tray_at (map tray boxes.old.items) actor).calls + 1 < 2 ^ 32 }
+    ensures length { length boxes.new.items ≡ length boxes.old.items }
     ensures trays { map tray boxes.new.items
         ≡ set (map tray boxes.old.items) actor (tray_taken (tray_at (map tray boxes.old.items) actor)) }
     ensures room { (room : ℕ) → Every (HasRoom room) boxes.old.items → Every (HasRoom room) boxes.new.items }
@@ -63,6 +66,7 @@ pub(crate) fn take(boxes: &mut Vec<Mailbox>, actor: u8)
 pub(crate) fn tell(boxes: &mut Vec<Mailbox>, actor: u8)
     requires length { length boxes.old.items ≡ 34 }
     requires actor { actor < 34 }
+    ensures length { length boxes.new.items ≡ length boxes.old.items }
     ensures trays { map tray boxes.new.items
         ≡ set (map tray boxes.old.items) actor (tray_told (tray_at (map tray boxes.old.items) actor)) }
     ensures room { (room : ℕ) → Every (HasRoom room) boxes.old.items → Every (HasRoom room) boxes.new.items }
@@ -74,6 +78,7 @@ pub(crate) fn tell(boxes: &mut Vec<Mailbox>, actor: u8)
 /// room, also after want of memory.
 pub(crate) fn reserve(boxes: &mut Vec<Mailbox>, room: usize) -> Result<(), OutOfMemory>
     requires { length boxes.old.items ≡ 34 }
+    ensures length { length boxes.new.items ≡ length boxes.old.items }
     ensures same { map tray boxes.new.items ≡ map tray boxes.old.items }
     ensures kept { (kept : ℕ) → Every (HasRoom kept) boxes.old.items → Every (HasRoom kept) boxes.new.items }
     ensures ok { OnOk result (Every (HasRoom room) boxes.new.items) }
@@ -93,6 +98,7 @@ pub(crate) fn prepare(
 ) -> Result<(), OutOfMemory>
     requires length { length boxes.old.items ≡ 34 }
     requires room { Every (HasRoom room) boxes.old.items }
+    ensures length { length boxes.new.items ≡ length boxes.old.items }
     ensures same { map tray boxes.new.items ≡ map tray boxes.old.items }
     ensures room { Every (HasRoom room) boxes.new.items }
     ensures ok { OnOk result (Every (IsPrepared room commands) boxes.new.items) }
@@ -106,6 +112,7 @@ pub(crate) fn prepare(
 /// Actors are asked commands, one after another.
 pub(crate) fn ask_commands(boxes: &mut Vec<Mailbox>, room: usize, lines: &[CommandLine])
     requires { Every (IsPrepared room (length lines.now)) boxes.old.items }
+    ensures length { length boxes.new.items ≡ length boxes.old.items }
     ensures trays { map tray boxes.new.items ≡ with_commands (map tray boxes.old.items) lines.now }
     ensures prepared { Every (IsPrepared room 0) boxes.new.items }
 {
@@ -117,6 +124,7 @@ pub(crate) fn ask_commands(boxes: &mut Vec<Mailbox>, room: usize, lines: &[Comma
 /// An actor is asked a command more.
 fn ask_command(boxes: &mut Vec<Mailbox>, line: &CommandLine)
     requires { Every (IsPrepared 0 1) boxes.old.items }
+    ensures length { length boxes.new.items ≡ length boxes.old.items }
     ensures trays { map tray boxes.new.items ≡ with_command (map tray boxes.old.items) line.now }
     ensures prepared { (room commands : ℕ)
         → Every (IsPrepared room (commands + 1)) boxes.old.items → Every (IsPrepared room commands) boxes.new.items }
@@ -130,6 +138,7 @@ fn ask_command(boxes: &mut Vec<Mailbox>, line: &CommandLine)
 pub(crate) fn open(boxes: &mut Vec<Mailbox>, none_left: bool)
     requires length { length boxes.old.items ≡ 34 }
     requires prepared { Every (IsPrepared 0 0) boxes.old.items }
+    ensures length { length boxes.new.items ≡ length boxes.old.items }
     ensures trays { map tray boxes.new.items ≡ map (tray_opened none_left) (map tray boxes.old.items) }
     ensures room { (room : ℕ) → Every (IsPrepared room 0) boxes.old.items → Every (HasRoom room) boxes.new.items }
 {
@@ -142,6 +151,7 @@ pub(crate) fn open(boxes: &mut Vec<Mailbox>, none_left: bool)
 pub(crate) fn begin(boxes: &mut Vec<Mailbox>, none_left: bool)
     requires length { length boxes.old.items ≡ 34 }
     requires prepared { Every (IsPrepared 0 0) boxes.old.items }
+    ensures length { length boxes.new.items ≡ length boxes.old.items }
     ensures trays { map tray boxes.new.items ≡ map (tray_begun none_left) (map tray boxes.old.items) }
     ensures room { (room : ℕ) → Every (IsPrepared room 0) boxes.old.items → Every (HasRoom room) boxes.new.items }
 {

@@ -49,6 +49,17 @@ impl<T: Copy> Queue<T> {
         self.queue.reserve(places)
     }
 
+    /// Holds these items instead.
+    pub(crate) fn refill(&mut self, items: &[T])
+        requires { length items.now ≤ spare self.old }
+        ensures { items self.new ≡ items.now }
+    {
+        self.queue.clear();
+        for item in items {
+            self.queue.push_back_reserved(*item);
+        }
+    }
+
     /// Adds an item behind the others.
     pub(crate) fn push(&mut self, item: T)
         requires { 0 < spare self.old }
