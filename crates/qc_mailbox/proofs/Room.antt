@@ -110,3 +110,8 @@ begun_room room old new o p = record {
   unanswered = omega (arith, o.unanswered, p.unanswered);
   lost = omega (arith, o.lost, p.lost);
 }
+
+pub prepared_none : (room commands : ℕ) (boxes : List Mailbox) → Every (IsPrepared room commands) boxes → Every (IsPrepared 0 0) boxes
+prepared_none room commands boxes all = every_weaker (IsPrepared room commands) (IsPrepared 0 0) boxes (λ m p. record {
+  copies = omega (arith, p.copies); opening = p.opening; late = omega arith; unanswered = omega arith; lost = omega arith; commands_fit = omega arith;
+}) all

@@ -3,5 +3,5 @@ use Rattle.std.specs.Prelude.{Bool, ◌||◌, List, [], ◌∷◌}
 
 abbrev pub either : List Bool → List Bool → List Bool
 either [] bs = bs
-either (a ∷ as) [] = a ∷ as
-either (a ∷ as) (b ∷ bs) = (a || b) ∷ either as bs
+either (a ∷ more) [] = a ∷ more
+either (a ∷ more) (b ∷ bs) = (a || b) ∷ either more bs

@@ -67,6 +67,14 @@ pub fn is_set(bits: &[bool], actor: u8) -> bool
     (actor as usize) < bits.len() && bits[actor as usize]
 }
 
+/// Whether one of two bits of an actor is set.
+#[tactic(auto, using(crate::proofs::Passing::held_either))]
+fn is_passed(inputs: &[bool], held: &[bool], actor: u8) -> bool
+    ensures { result ≡ is_held (either inputs.now held.now) actor }
+{
+    is_set(inputs, actor) || is_set(held, actor)
+}
+
 impl Mailboxes {
     /// What is ready next for an actor.
     pub fn ready(&self, decl: &Declaration, actor: u8) -> Option<Input>
@@ -80,12 +88,12 @@ impl Mailboxes {
     }
 
     /// How soon an actor comes, if something is ready for it and no bit of it
-    /// is set.
-    fn rank(&self, decl: &Declaration, open: &[bool], held: &[bool], actor: u8) -> Option<Rank>
+    /// is set, neither that of an open input nor that of being held.
+    fn rank(&self, decl: &Declaration, inputs: &[bool], held: &[bool], actor: u8) -> Option<Rank>
         requires { actor < 34 }
-        ensures { result ≡ rank_in decl.now (either open.now held.now) self.now.inboxes actor }
+        ensures { result ≡ rank_in decl.now (either inputs.now held.now) self.now.inboxes actor }
     {
-        if is_set(open, actor) || is_set(held, actor) {
+        if is_passed(inputs, held, actor) {
             return None;
         }
         match self.ready(decl, actor) {
@@ -99,13 +107,13 @@ impl Mailboxes {
     /// lowest with a lost request, else the one that called the fewest commands
     /// in this phase, the lowest on a tie. None where nothing is ready for any of
     /// them.
-    pub fn pick(&self, decl: &Declaration, open: &[bool], held: &[bool]) -> Option<u8>
+    pub fn pick(&self, decl: &Declaration, inputs: &[bool], held: &[bool]) -> Option<u8>
         requires { actors decl.now ≤ 34 }
-        ensures { result ≡ picked_in decl.now (either open.now held.now) self.now.inboxes }
+        ensures { result ≡ picked_in decl.now (either inputs.now held.now) self.now.inboxes }
     {
         let mut best = None;
         'actors: for actor in 0..decl.sites + decl.clients {
-            best = sooner(best, actor, self.rank(decl, open, held, actor));
+            best = sooner(best, actor, self.rank(decl, inputs, held, actor));
         }
         match best {
             Some(candidate) => Some(candidate.actor),

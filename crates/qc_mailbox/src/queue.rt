@@ -50,12 +50,12 @@ impl<T: Copy> Queue<T> {
     }
 
     /// Holds these items instead.
-    pub(crate) fn refill(&mut self, items: &[T])
-        requires { length items.now ≤ spare self.old }
-        ensures { items self.new ≡ items.now }
+    pub(crate) fn refill(&mut self, values: &[T])
+        requires { length values.now ≤ spare self.old }
+        ensures { items self.new ≡ values.now }
     {
         self.queue.clear();
-        for item in items {
+        for item in values {
             self.queue.push_back_reserved(*item);
         }
     }
