@@ -1,2 +1,5 @@
 pub mod Placed
+pub mod Logged
 pub mod Fed
+pub mod Phased
+pub mod Kept

@@ -1,14 +1,20 @@
 //! The fabric: one history of many threads.
 #![tactic(auto)]
 
+mod bits;
 mod conduct;
 mod feed;
 mod full;
+mod given;
 mod log;
 mod picked;
+mod room;
+mod still;
 mod weigh;
 
 pub use conduct::{Conduct, Named};
 pub use full::Full;
 pub use log::Log;
 pub use picked::Picked;
+pub use room::MOST_HISTORY;
+pub use still::Still;

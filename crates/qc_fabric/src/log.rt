@@ -148,6 +148,7 @@ impl Log {
 fn add_place(places: &mut Vec<u32>, place: u32, step: &Step)
     requires { vec_len places.old < vec_capacity places.old }
     ensures places { places.new.items ≡ places.old.items ++ place_of place step.now }
+    ensures longer { length places.new.items ≤ length places.old.items + 1 }
     ensures capacity { vec_capacity places.new ≡ vec_capacity places.old }
 {
     if let Step::Sent { .. } = step {
