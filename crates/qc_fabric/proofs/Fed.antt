@@ -1,5 +1,5 @@
 -- How passes, the right and the log go on as steps are added.
-use Rattle.std.proofs.Common.{◌≡◌, ℕ, zero, suc, ◌+◌, ◌-◌, ◌<◌, ◌≤◌, List, [], ◌∷◌, ◌++◌, length, set, refl, ap, sym, ◌∙◌, subst, arith, length-append, append_assoc, Option, Some, None, sum}
+use Rattle.std.proofs.Common.{◌≡◌, ℕ, zero, suc, ◌+◌, ◌-◌, ◌<◌, ◌≤◌, Bool, true, false, List, [], ◌∷◌, ◌++◌, length, set, refl, ap, sym, ◌∙◌, subst, arith, length-append, append_assoc, Option, Some, None, sum}
 use Rattle.std.specs.Prelude.{slice_get, slice_set}
 use Rattle.std.proofs.lemmas.List.{append-nil}
 use Rattle.std.proofs.lemmas.List.Sums.{sum_by-cons}
@@ -13,6 +13,7 @@ use Rattle.qc_msg.specs.declared.turn.Turn.{Turn}
 use Rattle.qc_msg.specs.Deeds.{deeds, own}
 use Rattle.qc_msg.specs.Steps.{Entry, by, marked, sents, told, posted, wrote}
 use Rattle.qc_msg.proofs.Growth.{by-append, same_deeds}
+use Rattle.qc_inbox.specs.Picks.{is_held}
 use Rattle.qc_fabric.specs.Logs.{Logged}
 use Rattle.qc_fabric.specs.Feeds.{CanFeed, Feeding, HasGrown}
 use Rattle.qc_fabric.specs.Tells.{Fed, IsSame, Sees, size_of}
@@ -151,3 +152,15 @@ pub feeding_last : (p q : Pass Step) (r t : Right Step) (steps : List Step) (old
 feeding_last p q r t steps old new h =
     let all_done : h.done ≡ steps = sym (append-nil h.done) ∙ h.split in
     (subst (λ (l : List Step). Fed p r q t l) all_done h.fed, subst (λ (l : List Step). HasGrown old new (by (number p) l)) all_done h.grown)
+
+-- bits
+
+pub bit_set : (l : List Bool) (a : ℕ) → is_held l a ≡ true → slice_get l a ≡ Some true
+bit_set [] a e = absurd (let no : ⊥ = cc in no)
+bit_set (b ∷ l) zero e = let is : b ≡ true = e in ap (λ x. Some x) is
+bit_set (b ∷ l) (suc a) e = bit_set l a e
+
+pub bit_clear : (l : List Bool) (a : ℕ) → a < length l → is_held l a ≡ false → slice_get l a ≡ Some false
+bit_clear [] a within e = absurd (omega arith)
+bit_clear (b ∷ l) zero within e = let is : b ≡ false = e in ap (λ x. Some x) is
+bit_clear (b ∷ l) (suc a) within e = bit_clear l a (omega arith) e

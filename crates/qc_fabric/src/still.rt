@@ -1,7 +1,7 @@
 //! The state that the lock holds: the history with the right to add to it, what
 //! is ready, which inputs are open, and who is held.
 
-ghost use Rattle.std.specs.Prelude.{◌≡◌, ◌<◌, ◌≤◌, ◌+◌, ◌↔◌, [], Some, IfOk, OnOk, OnErr, MatchOption, false, length};
+ghost use Rattle.std.specs.Prelude.{◌≡◌, ◌<◌, ◌≤◌, ◌+◌, ◌↔◌, [], Some, IfOk, OnOk, OnErr, MatchOption, false, true, length};
 ghost use Rattle.std.specs.Prelude.{replicate, slice_set};
 ghost use Rattle.qc_decl.specs.Actors.{actors, controller};
 ghost use Rattle.qc_msg.specs.Deeds.{deeds};
