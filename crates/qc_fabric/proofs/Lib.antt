@@ -2,4 +2,5 @@ pub mod Placed
 pub mod Logged
 pub mod Fed
 pub mod Phased
+pub mod Ready
 pub mod Kept
