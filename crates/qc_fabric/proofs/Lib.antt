@@ -3,4 +3,5 @@ pub mod Logged
 pub mod Fed
 pub mod Phased
 pub mod Ready
+pub mod Stopped
 pub mod Kept

@@ -1,5 +1,5 @@
 -- What the calls tell through the caller's pass alone.
-use Rattle.std.specs.Prelude.{◌≡◌, ◌⊎◌, ℕ, ◌+◌, ◌<◌, true, List, [], ◌∷◌, ◌++◌, Some, None, length, slice_get}
+use Rattle.std.specs.Prelude.{◌≡◌, ◌⊎◌, ℕ, ◌+◌, ◌<◌, Bool, true, false, List, [], ◌∷◌, ◌++◌, Some, None, length, slice_get}
 use Rattle.std.specs.List.{AllByRecursion as Every}
 use mathlib.Core.List.{IsPrefix}
 use Rattle.qc_decl.specs.Actors.{controller}
@@ -93,3 +93,12 @@ pub record Does (decl : Declaration) (p q : Pass Step) (old new : List Entry) (c
   pub seen_is : seen q ≡ new
   pub mine_is : mine q ≡ mine p ++ step ∷ []
   pub room_is : room q ≡ room p
+
+-- whether an input is handed to an actor: none is where its input is open, or nothing is ready for it, and else what is
+-- ready next
+
+abbrev pub HasNone : Declaration → Script → List Bool → ℕ → List Entry → Type 0
+HasNone decl script inputs a h = (slice_get inputs a ≡ Some true) ⊎ (ready decl script a h ≡ None)
+
+abbrev pub HasNext : Declaration → Script → List Bool → ℕ → List Entry → Given → Type 0
+HasNext decl script inputs a h given = (slice_get inputs a ≡ Some false) × (ready decl script a h ≡ Some given)

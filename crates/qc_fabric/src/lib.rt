@@ -7,9 +7,11 @@ mod feed;
 mod full;
 mod given;
 mod log;
+mod pick;
 mod picked;
 mod room;
 mod still;
+mod turn;
 mod weigh;
 
 pub use conduct::{Conduct, Named};
