@@ -5,3 +5,4 @@ pub mod Phased
 pub mod Ready
 pub mod Stopped
 pub mod Kept
+pub mod Ordered

@@ -1,4 +1,5 @@
 -- When nothing is left to do in a phase.
+use Rattle.std.specs.Prelude.{is_some, not}
 use Rattle.std.proofs.Common.{◌≡◌, ℕ, zero, suc, ◌<◌, ◌≤◌, Bool, true, false, ◌||◌, List, [], ◌∷◌, Option, Some, None, refl, sym, ap, ◌∙◌, arith, slice_get}
 use Rattle.qc_decl.specs.Actors.{actors}
 use Rattle.qc_decl.specs.declared.declaration.Declaration.{Declaration}
@@ -63,3 +64,13 @@ stopped_controls decl script h inputs kept is s = ap (λ (cs : List Control). sl
 pub stopped_picks : (decl : Declaration) (script : Script) (h : List Entry) (inputs : List Bool) (kept : Inboxes) → IsKept script h kept → actors decl ≤ 34 → IsStopped decl script h inputs → picked_in decl (either inputs inputs) kept ≡ None
 stopped_picks decl script h inputs kept is few s =
     picked_kept decl script (either inputs inputs) h kept is few ∙ none_picked decl script (either inputs inputs) h (λ a low clear. s.none_ready a low)
+
+-- tests of options
+
+pub not_some : {A : Type 0} (o : Option A) → is_some o ≡ false → o ≡ None
+not_some None e = refl
+not_some (Some x) e = absurd (let no : ⊥ = cc in no)
+
+pub is_nothing : {A : Type 0} (o : Option A) → not (is_some o) ≡ true → o ≡ None
+is_nothing None e = refl
+is_nothing (Some x) e = absurd (let no : ⊥ = cc in no)

@@ -3,10 +3,12 @@
 
 mod bits;
 mod conduct;
+mod fabric;
 mod feed;
 mod full;
 mod given;
 mod log;
+mod order;
 mod pick;
 mod picked;
 mod room;
@@ -15,6 +17,7 @@ mod turn;
 mod weigh;
 
 pub use conduct::{Conduct, Named};
+pub use fabric::Fabric;
 pub use full::Full;
 pub use log::Log;
 pub use picked::Picked;

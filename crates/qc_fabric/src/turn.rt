@@ -1,6 +1,6 @@
 //! An actor takes an input, reserves room for its turn, and posts it.
 
-ghost use Rattle.std.specs.Prelude.{◌≡◌, ◌<◌, IfOk, OnOk, OnErr, MatchOption, false, true, slice_set};
+ghost use Rattle.std.specs.Prelude.{◌≡◌, ◌<◌, [], IfOk, OnOk, OnErr, MatchOption, false, true, slice_set};
 ghost use Rattle.qc_decl.specs.Actors.{actors};
 ghost use Rattle.qc_msg.specs.Deeds.{deeds};
 ghost use Rattle.qc_pass.specs.Tokens.{number, pass_table, room, seen};

@@ -10,7 +10,8 @@ use Rattle.qc_pass.specs.Tokens.{Met, all, number, room}
 use Rattle.qc_script.specs.Ready.{ready}
 use Rattle.qc_fabric.specs.Feeds.{HasGrown}
 use Rattle.qc_fabric.specs.Inputs.{given_by}
-use Rattle.qc_fabric.specs.Stills.{most_history}
+use Rattle.qc_fabric.specs.Stills.{Shown, most_history}
+use Rattle.qc_fabric.specs.Tells.{HasNext}
 use Rattle.qc_fabric.proofs.Fed.{bit_clear, bit_set}
 use Rattle.qc_fabric.proofs.Kept.{other_memory, takes_on, took, waits_none, waits_open}
 use Rattle.qc_fabric.proofs.Ready.{given_ready, input_there, none_ready}
@@ -71,3 +72,16 @@ returns-clause-told g c =
     let met : Met p c.in-Some-take.right c.add-right.new.pass c.add-right.result (step_of c.in_ok-given.given ∷ []) (room p) = subst (λ s. Met p c.in-Some-take.right c.add-right.new.pass c.add-right.result (s ∷ []) (room p)) c.step_of-step.ensures c.add-right.ensures.met in
     let all_is : all c.add-right.result ≡ all c.in-Some-take.right ++ marked (number p) (step_of c.in_ok-given.given) ∷ [] = c.add-right.ensures.all ∙ ap (λ s. all c.in-Some-take.right ++ marked (number p) s ∷ []) c.step_of-step.ensures in
     took c.self.invariant c.in-Some-take.right (sym c.take.ensures.value ∙ c.in-Some-take.is) p c.add-right.new.pass c.add-right.result c.in_ok-given.given c.requires.actor free rdy met all_is
+
+pub returns-clause-exact : goal.returns-clause-exact
+returns-clause-exact g c =
+    let p = c.args.pass.now in
+    let low : number p < 34 = omega (arith, c.requires.actor, c.self.invariant.few) in
+    let shown : input_in g.N.Named.declaration (number p) c.self.inside.mailboxes.inboxes ≡ Some c.in-Some.input =
+    sym (c.in-Some.ensures ∙ (λ i. input_in (c.requires.declaration i) (c.number-actor.ensures i) c.self.inside.mailboxes.inboxes)) in
+    let rdy : ready g.N.Named.declaration g.N.Named.script (number p) c.self.inside.log.history ≡ Some c.in_ok-given.given =
+    given_ready g.N.Named.declaration g.N.Named.script c.self.inside.log.history c.self.inside.mailboxes.inboxes (number p) c.in-Some.input c.in_ok-given.given c.self.invariant.kept low shown c.in_ok-given.ensures in
+    let clear : is_held c.self.inside.inputs.items (number p) ≡ false = search rules in
+    let within : number p < length c.self.inside.inputs.items = omega (arith, c.requires.actor, c.self.invariant.opens) in
+    let free : slice_get c.self.inside.inputs.items (number p) ≡ Some false = bit_clear c.self.inside.inputs.items (number p) within clear in
+    subst (λ (v : Shown). HasNext g.N.Named.declaration g.N.Named.script v.open_inputs (number p) v.history c.in_ok-given.given) c.self.view_is (free, rdy)
