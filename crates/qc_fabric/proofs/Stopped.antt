@@ -71,6 +71,10 @@ pub not_some : {A : Type 0} (o : Option A) → is_some o ≡ false → o ≡ Non
 not_some None e = refl
 not_some (Some x) e = absurd (let no : ⊥ = cc in no)
 
-pub is_nothing : {A : Type 0} (o : Option A) → not (is_some o) ≡ true → o ≡ None
-is_nothing None e = refl
-is_nothing (Some x) e = absurd (let no : ⊥ = cc in no)
+pub is_nothing : {A : Type 0} (o : Option A) (b : Bool) → is_some o ≡ not b → b ≡ true → o ≡ None
+is_nothing None b e is = refl
+is_nothing (Some x) b e is = let f : true ≡ not true = e ∙ ap not is in absurd (let no : ⊥ = cc in no)
+
+pub was_nothing : {A : Type 0} (o : Option A) (b : Bool) → is_some o ≡ not b → o ≡ None → b ≡ true
+was_nothing o true e is = refl
+was_nothing o false e is = let f : false ≡ true = sym (ap is_some is) ∙ e in absurd (let no : ⊥ = cc in no)

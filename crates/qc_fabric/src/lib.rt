@@ -8,7 +8,6 @@ mod feed;
 mod full;
 mod given;
 mod log;
-mod order;
 mod pick;
 mod picked;
 mod room;

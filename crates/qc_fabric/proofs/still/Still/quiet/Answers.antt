@@ -1,11 +1,11 @@
 use Rattle.std.proofs.Common.{rules, ◌≡◌, ◌≤◌, ◌∙◌, Some, None, true, false, arith, refl, sym, ap, slice_get, subst}
-use Rattle.std.specs.Prelude.{is_some, not}
+use Rattle.std.specs.Prelude.{is_some}
 use Rattle.qc_decl.specs.Actors.{actors}
 use Rattle.qc_inbox.specs.PicksKept.{picked_in}
 use Rattle.qc_mailbox.specs.Passed.{either}
 use Rattle.qc_fabric.specs.Picks.{IsStopped, has_any}
 use Rattle.qc_fabric.specs.Stills.{Shown}
-use Rattle.qc_fabric.proofs.Stopped.{is_nothing, not_some, stopped_inputs, stopped_picks, stops}
+use Rattle.qc_fabric.proofs.Stopped.{is_nothing, not_some, stopped_inputs, stopped_picks, stops, was_nothing}
 use Rattle.qc_fabric.proofs.still.Still.quiet.Goals as goal
 
 pub returns-then-any-clause-all : goal.returns-then-any-clause-all
@@ -19,7 +19,7 @@ returns-clause-only g c = λ is.
     (let few : actors g.N.Named.declaration ≤ 34 = omega (arith, c.self.invariant.few) in
     let none : has_any c.self.inside.inputs.items ≡ false = search rules in
     let left : is_some (slice_get c.self.inside.mailboxes.inboxes.controls 0) ≡ false = search rules in
-    let nobody : c.pick.result ≡ None = is_nothing c.pick.result (sym c.is_none.ensures ∙ is) in
+    let nobody : c.pick.result ≡ None = is_nothing c.pick.result c.is_none.result c.is_none.ensures is in
     let picks : picked_in g.N.Named.declaration (either c.self.inside.inputs.items c.self.inside.inputs.items) c.self.inside.mailboxes.inboxes ≡ None = search rules in
     subst (λ (v : Shown). IsStopped g.N.Named.declaration g.N.Named.script v.history v.open_inputs) c.self.view_is
     (stops g.N.Named.declaration g.N.Named.script c.self.inside.log.history c.self.inside.inputs.items c.self.inside.mailboxes.inboxes c.self.invariant.kept few none (not_some (slice_get c.self.inside.mailboxes.inboxes.controls 0) left) picks))
@@ -32,4 +32,4 @@ returns-clause-all g c = λ s.
     let picks : picked_in g.N.Named.declaration (either c.self.inside.inputs.items c.self.inside.inputs.items) c.self.inside.mailboxes.inboxes ≡ None =
     stopped_picks g.N.Named.declaration g.N.Named.script c.self.inside.log.history c.self.inside.inputs.items c.self.inside.mailboxes.inboxes c.self.invariant.kept few here in
     let nobody : c.pick.result ≡ None = search rules in
-    c.is_none.ensures ∙ ap (λ o. not (is_some o)) nobody)
+    was_nothing c.pick.result c.is_none.result c.is_none.ensures nobody)
