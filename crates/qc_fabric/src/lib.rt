@@ -8,6 +8,7 @@ mod feed;
 mod full;
 mod given;
 mod log;
+mod order;
 mod pick;
 mod picked;
 mod room;
