@@ -1,12 +1,12 @@
 -- How passes, the right and the log go on as steps are added.
-use Rattle.std.proofs.Common.{◌≡◌, ℕ, zero, suc, ◌+◌, ◌-◌, ◌<◌, ◌≤◌, Bool, true, false, List, [], ◌∷◌, ◌++◌, length, set, refl, ap, sym, ◌∙◌, subst, arith, length-append, append_assoc, Option, Some, None, sum}
+use Rattle.std.proofs.Common.{◌≡◌, ℕ, zero, suc, ◌+◌, ◌<◌, Bool, true, false, List, [], ◌∷◌, ◌++◌, length, refl, ap, sym, ◌∙◌, subst, arith, length-append, append_assoc, Some, sum}
 use Rattle.std.specs.Prelude.{slice_get, slice_set}
 use Rattle.std.proofs.lemmas.List.{append-nil}
 use Rattle.std.proofs.lemmas.List.Sums.{sum_by-cons}
 use mathlib.Core.List.{IsPrefix}
 use Rattle.qc_pass.specs.declared.token.Pass.{Pass}
 use Rattle.qc_pass.specs.declared.token.Right.{Right}
-use Rattle.qc_pass.specs.Tokens.{pass_table, right_table, number, seen, mine, room, all, rooms, Met}
+use Rattle.qc_pass.specs.Tokens.{number, seen, mine, room, all, rooms, Met}
 use Rattle.qc_msg.specs.declared.step.Step.{Step}
 use Rattle.qc_msg.specs.declared.turn.Posting.{Posting}
 use Rattle.qc_msg.specs.declared.turn.Turn.{Turn}
@@ -16,7 +16,7 @@ use Rattle.qc_msg.proofs.Growth.{by-append, same_deeds}
 use Rattle.qc_inbox.specs.Picks.{is_held}
 use Rattle.qc_fabric.specs.Logs.{Logged}
 use Rattle.qc_fabric.specs.Feeds.{CanFeed, Feeding, HasGrown}
-use Rattle.qc_fabric.specs.Tells.{Fed, IsSame, Sees, size_of}
+use Rattle.qc_fabric.specs.Tells.{Fed, Sees, size_of}
 
 -- lists of numbers
 

@@ -1,5 +1,5 @@
 -- The state under the lock keeps what it keeps, and what its calls tell.
-use Rattle.std.proofs.Common.{◌≡◌, ℕ, zero, suc, ◌+◌, ◌-◌, ◌<◌, ◌≤◌, ◌⊎◌, Bool, true, false, List, [], ◌∷◌, ◌++◌, length, refl, ap, sym, ◌∙◌, subst, inl, inr, arith, length-append, append_assoc, Option, Some, None, sum, replicate}
+use Rattle.std.proofs.Common.{◌≡◌, ℕ, zero, suc, ◌+◌, ◌-◌, ◌<◌, ◌≤◌, Bool, true, false, List, [], ◌∷◌, ◌++◌, length, refl, ap, sym, ◌∙◌, subst, inl, inr, arith, length-append, Option, Some, None, sum, replicate}
 use Rattle.std.specs.Prelude.{slice_get, slice_set}
 use Rattle.std.proofs.lemmas.List.{append-nil, length-replicate}
 use mathlib.Core.Logic.{dite}
@@ -19,20 +19,20 @@ use Rattle.qc_msg.specs.declared.step.Given.{Given}
 use Rattle.qc_msg.specs.declared.step.Step.{Step}
 use Rattle.qc_msg.specs.declared.turn.Turn.{Turn}
 use Rattle.qc_msg.specs.Deeds.{Deed, Takes as TakesInput, deeds, mail, turn_deeds}
-use Rattle.qc_msg.specs.Steps.{Entry, by, marked, posted, step_of, told, wrote}
+use Rattle.qc_msg.specs.Steps.{Entry, by, marked, posted, step_of}
 use Rattle.qc_msg.proofs.Growth.{deeds-posted, deeds-taken}
 use Rattle.qc_pass.specs.declared.token.Pass.{Pass}
 use Rattle.qc_pass.specs.declared.token.Right.{Right}
 use Rattle.qc_pass.specs.Made.{IsFirst}
-use Rattle.qc_pass.specs.Tokens.{pass_table, right_table, number, seen, mine, room, all, rooms, Met}
+use Rattle.qc_pass.specs.Tokens.{right_table, number, seen, mine, room, all, rooms, Met}
 use Rattle.qc_script.specs.Ready.{phase_of, ready}
 use Rattle.qc_script.specs.Runs.{Runs, begins, takes, posts}
 use Rattle.qc_script.specs.Sound.{IsScriptFor}
 use Rattle.qc_script.specs.declared.script.Script.{Script}
-use Rattle.qc_fabric.specs.Feeds.{CanFeed, HasGrown}
+use Rattle.qc_fabric.specs.Feeds.{HasGrown}
 use Rattle.qc_fabric.specs.Logs.{Logged}
 use Rattle.qc_fabric.specs.Stills.{IsStill, most_history}
-use Rattle.qc_fabric.specs.Tells.{Fed, GoesToActors, IsSame, Posts, Sees, Takes, Waits, size_of}
+use Rattle.qc_fabric.specs.Tells.{Fed, GoesToActors, Posts, Sees, Takes, Waits, size_of}
 use Rattle.qc_fabric.proofs.Fed.{deeds_of_front, get_else, get_here, get_within, length-by, length-posted, length_set, rooms_kept, saw, sum-set, sum_cons}
 use Rattle.qc_fabric.proofs.Phased.{phase_input, phase_posted}
 

@@ -6,3 +6,4 @@ pub mod Ready
 pub mod Stopped
 pub mod Kept
 pub mod Ordered
+pub mod Unarmed

@@ -1,5 +1,5 @@
 -- Inputs whose messages are named by their numbers.
-use Rattle.std.specs.Prelude.{ℕ, ◌<◌, List, Option, Some, length, option_map, slice_get}
+use Rattle.std.specs.Prelude.{◌<◌, List, Option, Some, length, option_map, slice_get}
 use Rattle.qc_inbox.specs.declared.input.Input.{Input}
 use Rattle.qc_inbox.specs.declared.input.Input.TheVariants as inputs
 use Rattle.qc_msg.specs.declared.message.Envelope.{Envelope}

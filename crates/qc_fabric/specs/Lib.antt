@@ -7,3 +7,4 @@ pub mod Stills
 pub mod Tells
 pub mod Inputs
 pub mod Feeds
+pub mod Armed

@@ -5,7 +5,7 @@ use mathlib.Core.List.{IsPrefix}
 use Rattle.qc_decl.specs.Actors.{controller}
 use Rattle.qc_decl.specs.declared.declaration.Declaration.{Declaration}
 use Rattle.qc_msg.specs.Deeds.{Deed, Takes as TakesInput, deeds, mail, turn_deeds}
-use Rattle.qc_msg.specs.Steps.{Entry, by, marked, posted, sents, step_of, told, wrote}
+use Rattle.qc_msg.specs.Steps.{Entry, by, marked, posted, step_of, told, wrote}
 use Rattle.qc_msg.specs.declared.step.Control.{Control}
 use Rattle.qc_msg.specs.declared.step.Given.{Given}
 use Rattle.qc_msg.specs.declared.step.Step.{Step}

@@ -99,9 +99,7 @@ impl Log {
         ensures room { self.new.room + 1 ≡ self.old.room }
     {
         let place = self.entries.len() as u32;
-        self.operations = self
-            .operations
-            .saturating_add(operations_by(&entry.step));
+        self.operations = self.operations.saturating_add(operations_by(&entry.step));
         self.carried = self.carried.saturating_add(carried_by(&entry.step));
         add_place(&mut self.places, place, &entry.step);
         self.entries.push_reserved(entry);

@@ -1,5 +1,5 @@
-use Rattle.std.proofs.Common.{◌≡◌, ◌+◌, length, sym, ap, ◌∙◌, arith}
-use Rattle.qc_msg.specs.Steps.{by, sents, told, wrote}
+use Rattle.std.proofs.Common.{◌≡◌, ◌+◌, length, sym, ap, ◌∙◌}
+use Rattle.qc_msg.specs.Steps.{sents, told, wrote}
 use Rattle.qc_pass.specs.Tokens.{number}
 use Rattle.qc_fabric.specs.Feeds.{CanFeed}
 use Rattle.qc_fabric.proofs.Fed.{can_rest, fed_join, grown_join, length-by, length-sents}

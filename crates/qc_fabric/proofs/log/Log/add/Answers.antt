@@ -1,6 +1,6 @@
-use Rattle.std.proofs.Common.{rules, ◌≡◌, ◌<◌, ◌+◌, ◌++◌, ◌∷◌, [], ℕ, List, length, length-append, vec_len, vec_capacity, sym, ap, ◌∙◌, arith}
+use Rattle.std.proofs.Common.{rules, ◌≡◌, ◌<◌, ◌++◌, ◌∷◌, [], List, length, length-append, sym, ◌∙◌, arith}
 use Rattle.qc_msg.specs.Steps.{Entry}
-use Rattle.qc_fabric.specs.Places.{place_of, places_of}
+use Rattle.qc_fabric.specs.Places.{place_of}
 use Rattle.qc_fabric.proofs.Logged.{carried_more, operations_more, places_more}
 use Rattle.qc_fabric.proofs.log.Log.add.Goals as goal
 

@@ -1,4 +1,4 @@
-use Rattle.std.proofs.Common.{◌≡◌, ◌≤◌, ◌∙◌, Some, arith, sym}
+use Rattle.std.proofs.Common.{◌∙◌, arith, sym}
 use Rattle.qc_fabric.proofs.Fed.{saw}
 use Rattle.qc_fabric.proofs.Kept.{leaves_on, room_kept}
 use Rattle.qc_fabric.proofs.still.Still.leave.Goals as goal

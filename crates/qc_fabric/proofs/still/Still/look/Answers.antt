@@ -1,4 +1,4 @@
-use Rattle.std.proofs.Common.{◌≡◌, ◌∙◌, [], sym, subst}
+use Rattle.std.proofs.Common.{◌∙◌, [], sym, subst}
 use Rattle.qc_pass.specs.Tokens.{Met}
 use Rattle.qc_fabric.proofs.Fed.{saw}
 use Rattle.qc_fabric.proofs.Kept.{looks_on}

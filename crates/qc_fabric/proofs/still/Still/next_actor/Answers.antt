@@ -1,4 +1,4 @@
-use Rattle.std.proofs.Common.{rules, ◌≡◌, ◌≤◌, ◌∙◌, ap, arith, subst}
+use Rattle.std.proofs.Common.{rules, ◌≡◌, ◌≤◌, arith, subst}
 use Rattle.qc_decl.specs.Actors.{actors}
 use Rattle.qc_inbox.proofs.Picking.{picked_kept}
 use Rattle.qc_fabric.specs.Picks.{next_actor}

@@ -1,4 +1,4 @@
-use Rattle.std.proofs.Common.{◌≡◌, ◌∙◌, Some, refl, sym, true}
+use Rattle.std.proofs.Common.{◌∙◌, refl, sym, true}
 use Rattle.qc_inbox.proofs.Picking.{some_picked}
 use Rattle.qc_mailbox.specs.Passed.{either}
 use Rattle.qc_fabric.proofs.Fed.{length_set}

@@ -1,6 +1,5 @@
-use Rattle.std.proofs.Common.{◌≡◌, ℕ, ◌+◌, ◌-◌, ◌<◌, ◌≤◌, ◌∙◌, [], Some, suc, length, arith, ap, sym, subst}
+use Rattle.std.proofs.Common.{◌≡◌, ℕ, ◌+◌, ◌∙◌, [], suc, length, arith, ap, sym, subst}
 use Rattle.qc_inbox.specs.Rooms.{after_turn}
-use Rattle.qc_msg.specs.Deeds.{mail}
 use Rattle.qc_msg.specs.Steps.{by, posted, told, wrote}
 use Rattle.qc_msg.proofs.Growth.{length-mail}
 use Rattle.qc_pass.specs.Tokens.{Met, number, room}

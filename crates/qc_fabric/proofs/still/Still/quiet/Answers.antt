@@ -1,4 +1,4 @@
-use Rattle.std.proofs.Common.{rules, ◌≡◌, ◌≤◌, ◌∙◌, Some, None, true, false, arith, refl, sym, ap, slice_get, subst}
+use Rattle.std.proofs.Common.{rules, ◌≡◌, ◌≤◌, None, true, false, arith, sym, slice_get, subst}
 use Rattle.std.specs.Prelude.{is_some}
 use Rattle.qc_decl.specs.Actors.{actors}
 use Rattle.qc_inbox.specs.PicksKept.{picked_in}

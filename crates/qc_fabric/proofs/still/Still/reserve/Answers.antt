@@ -1,6 +1,6 @@
-use Rattle.std.proofs.Common.{rules, ◌≡◌, ◌+◌, ◌≤◌, ◌∙◌, [], Some, true, arith, length, refl, sym, slice_get, subst}
+use Rattle.std.proofs.Common.{rules, ◌≡◌, ◌+◌, ◌≤◌, ◌∙◌, Some, true, arith, length, refl, sym, slice_get}
 use Rattle.qc_inbox.specs.Picks.{is_held}
-use Rattle.qc_pass.specs.Tokens.{Met, number}
+use Rattle.qc_pass.specs.Tokens.{number}
 use Rattle.qc_fabric.specs.Stills.{most_history}
 use Rattle.qc_fabric.proofs.Fed.{bit_set, saw}
 use Rattle.qc_fabric.proofs.Kept.{other_memory, reserves_on}

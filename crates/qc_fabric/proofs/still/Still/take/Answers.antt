@@ -1,20 +1,17 @@
-use Rattle.std.proofs.Common.{rules, ◌≡◌, ℕ, ◌+◌, ◌<◌, ◌≤◌, ◌∙◌, ◌∷◌, ◌++◌, [], Some, None, true, false, length, arith, ap, refl, sym, subst, slice_get}
-use Rattle.qc_decl.specs.Actors.{actors}
+use Rattle.std.proofs.Common.{rules, ◌≡◌, ◌+◌, ◌<◌, ◌≤◌, ◌∙◌, ◌∷◌, ◌++◌, [], Some, true, false, length, arith, ap, refl, sym, subst, slice_get}
 use Rattle.qc_inbox.specs.Inputs.{input_in}
 use Rattle.qc_inbox.specs.Picks.{is_held}
 use Rattle.qc_inbox.specs.Rooms.{after_take, tray_at}
 use Rattle.qc_inbox.proofs.Bounds.{calls_few}
-use Rattle.qc_msg.specs.Deeds.{mail}
 use Rattle.qc_msg.specs.Steps.{marked, step_of}
 use Rattle.qc_pass.specs.Tokens.{Met, all, number, room}
 use Rattle.qc_script.specs.Ready.{ready}
 use Rattle.qc_fabric.specs.Feeds.{HasGrown}
-use Rattle.qc_fabric.specs.Inputs.{given_by}
 use Rattle.qc_fabric.specs.Stills.{Shown, most_history}
 use Rattle.qc_fabric.specs.Tells.{HasNext}
 use Rattle.qc_fabric.proofs.Fed.{bit_clear, bit_set}
-use Rattle.qc_fabric.proofs.Kept.{other_memory, takes_on, took, waits_none, waits_open}
-use Rattle.qc_fabric.proofs.Ready.{given_ready, input_there, none_ready}
+use Rattle.qc_fabric.proofs.Kept.{other_memory, takes_on, took, waits_open}
+use Rattle.qc_fabric.proofs.Ready.{given_ready, input_there}
 use Rattle.qc_fabric.proofs.still.Still.take.Goals as goal
 
 pub returns-then-is_set-clause-told : goal.returns-then-is_set-clause-told
