@@ -1,0 +1,166 @@
+-- How passes, the right and the log go on as steps are added.
+use Rattle.std.proofs.Common.{◌≡◌, ℕ, zero, suc, ◌+◌, ◌<◌, Bool, true, false, List, [], ◌∷◌, ◌++◌, length, refl, ap, sym, ◌∙◌, subst, arith, length-append, append_assoc, Some, sum}
+use Rattle.std.specs.Prelude.{slice_get, slice_set}
+use Rattle.std.proofs.lemmas.List.{append-nil}
+use Rattle.std.proofs.lemmas.List.Sums.{sum_by-cons}
+use mathlib.Core.List.{IsPrefix}
+use Rattle.qc_pass.specs.declared.token.Pass.{Pass}
+use Rattle.qc_pass.specs.declared.token.Right.{Right}
+use Rattle.qc_pass.specs.Tokens.{number, seen, mine, room, all, rooms, Met}
+use Rattle.qc_msg.specs.declared.step.Step.{Step}
+use Rattle.qc_msg.specs.declared.turn.Posting.{Posting}
+use Rattle.qc_msg.specs.declared.turn.Turn.{Turn}
+use Rattle.qc_msg.specs.Deeds.{deeds, own}
+use Rattle.qc_msg.specs.Steps.{Entry, by, marked, sents, told, posted, wrote}
+use Rattle.qc_msg.proofs.Growth.{by-append, same_deeds}
+use Rattle.qc_inbox.specs.Picks.{is_held}
+use Rattle.qc_fabric.specs.Logs.{Logged}
+use Rattle.qc_fabric.specs.Feeds.{CanFeed, Feeding, HasGrown}
+use Rattle.qc_fabric.specs.Tells.{Fed, Sees, size_of}
+
+-- lists of numbers
+
+pub sum_cons : (x : ℕ) (l : List ℕ) → sum (x ∷ l) ≡ x + sum l
+sum_cons x l = sum_by-cons (λ n. n) x l
+
+pub sum-set : (l : List ℕ) (i x y : ℕ) → slice_get l i ≡ Some x → sum (slice_set l i y) + x ≡ sum l + y
+sum-set [] i x y e = absurd (let no : ⊥ = cc in no)
+sum-set (z ∷ l) zero x y e = let s : z ≡ x = cc in let a = sum_cons y l in let b = sum_cons z l in omega (arith, s, a, b)
+sum-set (z ∷ l) (suc i) x y e = let r = sum-set l i x y e in let a = sum_cons z (slice_set l i y) in let b = sum_cons z l in omega (arith, r, a, b)
+
+pub set_again : {A : Type 0} (l : List A) (i : ℕ) (x : A) → slice_get l i ≡ Some x → slice_set l i x ≡ l
+set_again [] i x e = refl
+set_again (z ∷ l) zero x e = ap (λ y. y ∷ l) (let s : x ≡ z = cc in s)
+set_again (z ∷ l) (suc i) x e = ap (λ m. z ∷ m) (set_again l i x e)
+
+pub get_here : {A : Type 0} (l : List A) (i : ℕ) (x : A) → i < length l → slice_get (slice_set l i x) i ≡ Some x
+get_here [] i x within = absurd (omega arith)
+get_here (z ∷ l) zero x within = refl
+get_here (z ∷ l) (suc i) x within = get_here l i x (omega arith)
+
+pub get_else : {A : Type 0} (l : List A) (i j : ℕ) (x : A) → (j ≡ i → ⊥) → slice_get (slice_set l i x) j ≡ slice_get l j
+get_else [] i j x ne = refl
+get_else (z ∷ l) zero zero x ne = absurd (ne refl)
+get_else (z ∷ l) zero (suc j) x ne = refl
+get_else (z ∷ l) (suc i) zero x ne = refl
+get_else (z ∷ l) (suc i) (suc j) x ne = get_else l i j x (λ e. ne (ap suc e))
+
+pub get_within : {A : Type 0} (l : List A) (i : ℕ) (x : A) → slice_get l i ≡ Some x → i < length l
+get_within [] i x e = absurd (let no : ⊥ = cc in no)
+get_within (z ∷ l) zero x e = omega arith
+get_within (z ∷ l) (suc i) x e = let r : i < length l = get_within l i x e in omega arith
+
+pub length_set : {A : Type 0} (l : List A) (i : ℕ) (x : A) → length (slice_set l i x) ≡ length l
+length_set [] i x = refl
+length_set (z ∷ l) zero x = refl
+length_set (z ∷ l) (suc i) x = ap suc (length_set l i x)
+
+-- a pass and the right met
+
+pub rooms_kept : (p q : Pass Step) (r t : Right Step) (new : List Step) → Met p r q t new (room p) → rooms t ≡ rooms r
+rooms_kept p q r t new m = m.rooms_are ∙ set_again (rooms r) (number p) (room p) m.had_room
+
+-- an actor whose own entries are those of a beginning has the deeds of the beginning
+pub deeds_of_front : (a : ℕ) (h k : List Entry) → own a h ≡ own a k → IsPrefix h k → deeds a [] k ≡ deeds a [] h
+deeds_of_front a h k e p =
+    ap (λ (l : List Entry). deeds a [] l) (sym p.1)
+    ∙ same_deeds a [] h p.0 (ap (λ (l : List Entry). own a l) p.1 ∙ sym e)
+
+pub saw : (p q : Pass Step) (r t : Right Step) (kept : ℕ) → Met p r q t [] kept → all t ≡ all r → Sees p q
+saw p q r t kept m a = record {
+  pass = record { table_is = m.same_table; number_is = m.same_number };
+  begins = subst (λ (l : List Entry). IsPrefix (seen p) l) (sym (m.seen_is ∙ a)) m.begins;
+  mine_is = m.mine_is ∙ append-nil (mine p);
+  does = ap (λ (l : List Entry). deeds (number p) [] l) (m.seen_is ∙ a) ∙ deeds_of_front (number p) (seen p) (all r) (p.part ∙ sym m.part) m.begins;
+}
+
+-- steps that were added
+
+pub fed_none : (p : Pass Step) (r : Right Step) → Fed p r p r []
+fed_none p r = record { same_table = refl; same_right = refl; same_number = refl; mine_is = sym (append-nil (mine p)); all_is = sym (append-nil (all r)); rooms_are = refl; room_is = refl }
+
+pub fed_more : (p p1 q : Pass Step) (r r1 t : Right Step) (s : Step) (ss : List Step) → Met p r p1 r1 (s ∷ []) (room p) → all r1 ≡ all r ++ marked (number p) s ∷ [] → Fed p1 r1 q t ss → Fed p r q t (s ∷ ss)
+fed_more p p1 q r r1 t s ss m a f = record {
+  same_table = f.same_table ∙ m.same_table;
+  same_right = f.same_right ∙ m.same_right;
+  same_number = f.same_number ∙ m.same_number;
+  mine_is = f.mine_is ∙ (ap (λ (l : List Step). l ++ ss) m.mine_is ∙ append_assoc (mine p) (s ∷ []) ss);
+  all_is = f.all_is ∙ (ap (λ (k : ℕ). all r1 ++ by k ss) m.same_number ∙ (ap (λ (l : List Entry). l ++ by (number p) ss) a ∙ append_assoc (all r) (marked (number p) s ∷ []) (by (number p) ss)));
+  rooms_are = f.rooms_are ∙ rooms_kept p p1 r r1 (s ∷ []) m;
+  room_is = f.room_is ∙ m.room_is;
+}
+
+pub fed_join : (p p1 q : Pass Step) (r r1 t : Right Step) (xs ys : List Step) → Fed p r p1 r1 xs → Fed p1 r1 q t ys → Fed p r q t (xs ++ ys)
+fed_join p p1 q r r1 t xs ys e f = record {
+  same_table = f.same_table ∙ e.same_table;
+  same_right = f.same_right ∙ e.same_right;
+  same_number = f.same_number ∙ e.same_number;
+  mine_is = f.mine_is ∙ (ap (λ (l : List Step). l ++ ys) e.mine_is ∙ append_assoc (mine p) xs ys);
+  all_is = f.all_is ∙ (ap (λ (k : ℕ). all r1 ++ by k ys) e.same_number ∙ (ap (λ (l : List Entry). l ++ by (number p) ys) e.all_is
+      ∙ (append_assoc (all r) (by (number p) xs) (by (number p) ys) ∙ ap (λ (l : List Entry). all r ++ l) (sym (by-append (number p) xs ys)))));
+  rooms_are = f.rooms_are ∙ e.rooms_are;
+  room_is = f.room_is ∙ e.room_is;
+}
+
+pub fed_one : (p q : Pass Step) (r t : Right Step) (s : Step) → Met p r q t (s ∷ []) (room p) → all t ≡ all r ++ marked (number p) s ∷ [] → Fed p r q t (s ∷ [])
+fed_one p q r t s m a = fed_more p q q r t t s [] m a (fed_none q t)
+
+-- the log
+
+pub length-by : (a : ℕ) (ss : List Step) → length (by a ss) ≡ length ss
+length-by a [] = refl
+length-by a (s ∷ ss) = ap suc (length-by a ss)
+
+pub length-sents : (n : ℕ) (ps : List Posting) → length (sents n ps) ≡ length ps
+length-sents n [] = refl
+length-sents n (p ∷ ps) = ap suc (length-sents (n + 1) ps)
+
+pub length-posted : (n : ℕ) (t : Turn) → length (posted n t) + 1 ≡ size_of t
+length-posted n t = omega (arith, length-append (wrote t.write) (sents n t.sends ++ told t.told), length-append (sents n t.sends) (told t.told), length-sents n t.sends)
+
+pub grown_none : (log : Logged) → HasGrown log log []
+grown_none log = record { history = sym (append-nil log.history); room = omega arith }
+
+pub grown_join : (old mid new : Logged) (a b : ℕ) (xs ys : List Step) → b ≡ a → HasGrown old mid (by a xs) → HasGrown mid new (by b ys) → HasGrown old new (by a (xs ++ ys))
+grown_join old mid new a b xs ys same g h = record {
+  history = h.history ∙ (ap (λ (k : ℕ). mid.history ++ by k ys) same ∙ (ap (λ (l : List Entry). l ++ by a ys) g.history ∙ (append_assoc old.history (by a xs) (by a ys) ∙ ap (λ (l : List Entry). old.history ++ l) (sym (by-append a xs ys)))));
+  room = omega (arith, g.room, h.room, length-by a xs, length-by b ys, length-by a (xs ++ ys), length-append xs ys);
+}
+
+-- what is left of the room
+pub can_rest : (old new : Logged) (entries : List Entry) (left total : ℕ) → HasGrown old new entries → length entries + left ≡ total → CanFeed old total → CanFeed new left
+can_rest old new entries left total g e f = record {
+  room = omega (arith, g.room, e, f.room);
+  bound = omega (arith, ap (λ (l : List Entry). length l) g.history, length-append old.history entries, e, f.bound);
+}
+
+-- one step more of some
+
+pub feeding_first : (p : Pass Step) (r : Right Step) (steps : List Step) (log : Logged) → Feeding p r p r steps steps log log
+feeding_first p r steps log = record { done = []; fed = fed_none p r; split = refl; grown = grown_none log }
+
+pub feeding_more : (p q q' : Pass Step) (r t t' : Right Step) (steps rest : List Step) (x : Step) (old new new' : Logged) → Feeding p r q t steps (x ∷ rest) old new
+    → Met q t q' t' (x ∷ []) (room q) → all t' ≡ all t ++ marked (number q) x ∷ [] → HasGrown new new' (marked (number q) x ∷ []) → Feeding p r q' t' steps rest old new'
+feeding_more p q q' r t t' steps rest x old new new' h m a g = record {
+  done = h.done ++ x ∷ [];
+  fed = fed_join p q q' r t t' h.done (x ∷ []) h.fed (fed_one q q' t t' x m a);
+  split = append_assoc h.done (x ∷ []) rest ∙ h.split;
+  grown = grown_join old new new' (number p) (number q) h.done (x ∷ []) h.fed.same_number h.grown g;
+}
+
+pub feeding_last : (p q : Pass Step) (r t : Right Step) (steps : List Step) (old new : Logged) → Feeding p r q t steps [] old new → Fed p r q t steps × HasGrown old new (by (number p) steps)
+feeding_last p q r t steps old new h =
+    let all_done : h.done ≡ steps = sym (append-nil h.done) ∙ h.split in
+    (subst (λ (l : List Step). Fed p r q t l) all_done h.fed, subst (λ (l : List Step). HasGrown old new (by (number p) l)) all_done h.grown)
+
+-- bits
+
+pub bit_set : (l : List Bool) (a : ℕ) → is_held l a ≡ true → slice_get l a ≡ Some true
+bit_set [] a e = absurd (let no : ⊥ = cc in no)
+bit_set (b ∷ l) zero e = let is : b ≡ true = e in ap (λ x. Some x) is
+bit_set (b ∷ l) (suc a) e = bit_set l a e
+
+pub bit_clear : (l : List Bool) (a : ℕ) → a < length l → is_held l a ≡ false → slice_get l a ≡ Some false
+bit_clear [] a within e = absurd (omega arith)
+bit_clear (b ∷ l) zero within e = let is : b ≡ false = e in ap (λ x. Some x) is
+bit_clear (b ∷ l) (suc a) within e = bit_clear l a (omega arith) e

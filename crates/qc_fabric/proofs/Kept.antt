@@ -1,0 +1,364 @@
+-- The state under the lock keeps what it keeps, and what its calls tell.
+use Rattle.std.proofs.Common.{◌≡◌, ℕ, zero, suc, ◌+◌, ◌-◌, ◌<◌, ◌≤◌, Bool, true, false, List, [], ◌∷◌, ◌++◌, length, refl, ap, sym, ◌∙◌, subst, inl, inr, arith, length-append, Option, Some, None, sum, replicate}
+use Rattle.std.specs.Prelude.{slice_get, slice_set}
+use Rattle.std.proofs.lemmas.List.{append-nil, length-replicate}
+use mathlib.Core.Logic.{dite}
+use mathlib.Core.List.{IsPrefix}
+use native.Mathlib.Decide.{ℕ_discrete}
+use Rattle.atomic_table.specs.Seated.{TableId}
+use Rattle.qc_decl.specs.Actors.{actors, controller}
+use Rattle.qc_decl.specs.declared.declaration.Declaration.{Declaration}
+use Rattle.qc_inbox.specs.Kept.{IsKept}
+use Rattle.qc_inbox.specs.Rooms.{after_take, after_turn, empty_inboxes}
+use Rattle.qc_inbox.specs.declared.inboxes.Inboxes.{Inboxes}
+use Rattle.qc_inbox.proofs.Acting.{kept_take, kept_turn}
+use Rattle.qc_inbox.proofs.Among.{ready_found}
+use Rattle.qc_inbox.proofs.Keeping.{kept_begins}
+use Rattle.qc_mailbox.specs.Kept.{Roomy}
+use Rattle.qc_msg.specs.declared.step.Given.{Given}
+use Rattle.qc_msg.specs.declared.step.Step.{Step}
+use Rattle.qc_msg.specs.declared.turn.Turn.{Turn}
+use Rattle.qc_msg.specs.Deeds.{Deed, Takes as TakesInput, deeds, mail, turn_deeds}
+use Rattle.qc_msg.specs.Steps.{Entry, by, marked, posted, step_of}
+use Rattle.qc_msg.proofs.Growth.{deeds-posted, deeds-taken}
+use Rattle.qc_pass.specs.declared.token.Pass.{Pass}
+use Rattle.qc_pass.specs.declared.token.Right.{Right}
+use Rattle.qc_pass.specs.Made.{IsFirst}
+use Rattle.qc_pass.specs.Tokens.{right_table, number, seen, mine, room, all, rooms, Met}
+use Rattle.qc_script.specs.Ready.{phase_of, ready}
+use Rattle.qc_script.specs.Runs.{Runs, begins, takes, posts}
+use Rattle.qc_script.specs.Sound.{IsScriptFor}
+use Rattle.qc_script.specs.declared.script.Script.{Script}
+use Rattle.qc_fabric.specs.Feeds.{HasGrown}
+use Rattle.qc_fabric.specs.Logs.{Logged}
+use Rattle.qc_fabric.specs.Stills.{IsStill, most_history}
+use Rattle.qc_fabric.specs.Tells.{Fed, GoesToActors, Posts, Sees, Takes, Waits, size_of}
+use Rattle.qc_fabric.proofs.Fed.{deeds_of_front, get_else, get_here, get_within, length-by, length-posted, length_set, rooms_kept, saw, sum-set, sum_cons}
+use Rattle.qc_fabric.proofs.Phased.{phase_input, phase_posted}
+
+no_room_at : (old new : List ℕ) (p i j : ℕ) → p < length old → new ≡ slice_set old p 0 → i ≡ p → slice_get new i ≡ Some (suc j) → ⊥
+no_room_at old new p i j made is same f =
+    let zero_there : slice_get (slice_set old p 0) p ≡ Some 0 = get_here old p 0 made in
+    let there : slice_get (slice_set old p 0) p ≡ Some (suc j) = subst (λ (x : ℕ). slice_get (slice_set old p 0) x ≡ Some (suc j)) same (ap (λ (l : List ℕ). slice_get l i) (sym is) ∙ f) in
+    let both : Some 0 ≡ Some (suc j) = sym zero_there ∙ there in
+    let bad : 0 ≡ suc j = cc in absurd (omega (arith, bad))
+
+module _ {L : ℕ → List Deed → Turn → Type 0} {D : Declaration} {S : Script} {z : TableId} {lg : Logged} {mb : Roomy} {op hd : List Bool} {ph rsv : ℕ} {tb : TableId} {ri : Option (Right Step)} where
+  held_is : (s : IsStill L D S z lg mb op hd ph rsv tb ri) (r : Right Step) → ri ≡ Some r → s.holder ≡ r
+  held_is s r e = let f = s.right_is in cc
+
+  pub all_of : (s : IsStill L D S z lg mb op hd ph rsv tb ri) (r : Right Step) → ri ≡ Some r → all r ≡ lg.history
+  all_of s r e = ap (λ (x : Right Step). all x) (sym (held_is s r e)) ∙ s.all_is
+
+  rooms_of : (s : IsStill L D S z lg mb op hd ph rsv tb ri) (r : Right Step) → ri ≡ Some r → rooms s.holder ≡ rooms r
+  rooms_of s r e = ap (λ (x : Right Step). rooms x) (held_is s r e)
+
+  pub right_of : (s : IsStill L D S z lg mb op hd ph rsv tb ri) (r : Right Step) → ri ≡ Some r → right_table r ≡ z
+  right_of s r e = ap (λ (x : Right Step). right_table x) (sym (held_is s r e)) ∙ s.right_table_is
+
+  -- other memory, and others held
+  pub other_memory : (s : IsStill L D S z lg mb op hd ph rsv tb ri) (lg' : Logged) (mb' : Roomy) (hd' : List Bool) → lg'.history ≡ lg.history → mb'.inboxes ≡ mb.inboxes
+      → rsv ≤ lg'.room → rsv ≤ mb'.room → length hd' ≡ actors D → IsStill L D S z lg' mb' op hd' ph rsv tb ri
+  other_memory s lg' mb' hd' es is lr mr len = record {
+    holder = s.holder;
+    right_is = s.right_is;
+    table_is = s.table_is;
+    right_table_is = s.right_table_is;
+    all_is = s.all_is ∙ sym es;
+    runs = subst (λ (l : List Entry). Runs L D S l op) (sym es) s.runs;
+    kept = subst (λ (l : List Entry). IsKept S l mb'.inboxes) (sym es) (subst (λ (i : Inboxes). IsKept S lg.history i) (sym is) s.kept);
+    phase_is = s.phase_is ∙ ap (λ (l : List Entry). phase_of l) (sym es);
+    opens = s.opens;
+    helds = len;
+    passes = s.passes;
+    sum_is = s.sum_is;
+    log_room = lr;
+    mail_room = mr;
+    bound = omega (arith, ap (λ (l : List Entry). length l) es, s.bound);
+    opened = s.opened;
+    sound = s.sound;
+    few = s.few;
+  }
+
+  -- a look
+  pub looks_on : (s : IsStill L D S z lg mb op hd ph rsv tb ri) (r : Right Step) → ri ≡ Some r → (p q : Pass Step) (t : Right Step) → Met p r q t [] (room p) → all t ≡ all r → IsStill L D S z lg mb op hd ph rsv tb (Some t)
+  looks_on s r e p q t m a =
+      let same : rooms t ≡ rooms s.holder = rooms_kept p q r t [] m ∙ sym (rooms_of s r e) in
+      record {
+        holder = t;
+        right_is = refl;
+        table_is = s.table_is;
+        right_table_is = m.same_right ∙ right_of s r e;
+        all_is = a ∙ all_of s r e;
+        runs = s.runs;
+        kept = s.kept;
+        phase_is = s.phase_is;
+        opens = s.opens;
+        helds = s.helds;
+        passes = ap length same ∙ s.passes;
+        sum_is = ap (λ (l : List ℕ). sum l) same ∙ s.sum_is;
+        log_room = s.log_room;
+        mail_room = s.mail_room;
+        bound = s.bound;
+        opened = λ k j f. s.opened k j (ap (λ (l : List ℕ). slice_get l k) (sym same) ∙ f);
+        sound = s.sound;
+        few = s.few;
+      }
+
+  -- one step more, with other inputs open
+  pub steps_on : (s : IsStill L D S z lg mb op hd ph rsv tb ri) (r : Right Step) → ri ≡ Some r → (p q : Pass Step) (t : Right Step) (x : Step) (op' : List Bool) (ph' : ℕ)
+      → Met p r q t (x ∷ []) (room p) → all t ≡ all r ++ marked (number p) x ∷ []
+      → (lg1 lg' : Logged) (mb' : Roomy) → lg1.history ≡ lg.history → rsv + 1 ≤ lg1.room → length lg.history + (rsv + 1) ≤ most_history → HasGrown lg1 lg' (marked (number p) x ∷ [])
+      → rsv ≤ mb'.room → IsKept S (lg.history ++ marked (number p) x ∷ []) mb'.inboxes → ph' ≡ phase_of (lg.history ++ marked (number p) x ∷ [])
+      → Runs L D S (lg.history ++ marked (number p) x ∷ []) op' → length op' ≡ actors D → ((k : ℕ) → slice_get op k ≡ Some true → slice_get op' k ≡ Some true)
+      → IsStill L D S z lg' mb' op' hd ph' rsv tb (Some t)
+  steps_on s r e p q t x op' ph' m a lg1 lg' mb' hs lr bd g mr kept phs run len more =
+      let same : rooms t ≡ rooms s.holder = rooms_kept p q r t (x ∷ []) m ∙ sym (rooms_of s r e) in
+      let es : lg'.history ≡ lg.history ++ marked (number p) x ∷ [] = g.history ∙ ap (λ (l : List Entry). l ++ marked (number p) x ∷ []) hs in
+      record {
+        holder = t;
+        right_is = refl;
+        table_is = s.table_is;
+        right_table_is = m.same_right ∙ right_of s r e;
+        all_is = a ∙ (ap (λ (l : List Entry). l ++ marked (number p) x ∷ []) (all_of s r e) ∙ sym es);
+        runs = subst (λ (l : List Entry). Runs L D S l op') (sym es) run;
+        kept = subst (λ (l : List Entry). IsKept S l mb'.inboxes) (sym es) kept;
+        phase_is = phs ∙ ap (λ (l : List Entry). phase_of l) (sym es);
+        opens = len;
+        helds = s.helds;
+        passes = ap length same ∙ s.passes;
+        sum_is = ap (λ (l : List ℕ). sum l) same ∙ s.sum_is;
+        log_room = omega (arith, g.room, lr);
+        mail_room = mr;
+        bound = omega (arith, ap (λ (l : List Entry). length l) es, length-append lg.history (marked (number p) x ∷ []), bd);
+        opened = λ k j f. more k (s.opened k j (ap (λ (l : List ℕ). slice_get l k) (sym same) ∙ f));
+        sound = s.sound;
+        few = s.few;
+      }
+
+  -- a take
+  module _ (s : IsStill L D S z lg mb op hd ph rsv tb ri) (r : Right Step) (e : ri ≡ Some r) (p q : Pass Step) (t : Right Step) (given : Given) (low : number p < actors D)
+      (free : slice_get op (number p) ≡ Some false) (rdy : ready D S (number p) lg.history ≡ Some given)
+      (m : Met p r q t (step_of given ∷ []) (room p)) (a : all t ≡ all r ++ marked (number p) (step_of given) ∷ []) where
+    run_taken : Runs L D S (lg.history ++ marked (number p) (step_of given) ∷ []) (slice_set op (number p) true)
+    run_taken = takes (number p) given op lg.history s.runs free rdy
+
+    here : number p < 34
+    here = omega (arith, low, s.few)
+
+    open_now : slice_get (slice_set op (number p) true) (number p) ≡ Some true
+    open_now = get_here op (number p) true (get_within op (number p) false free)
+
+    pub takes_on : (lg1 lg' : Logged) (mb' : Roomy) → lg1.history ≡ lg.history → rsv + 1 ≤ lg1.room → length lg.history + (rsv + 1) ≤ most_history → HasGrown lg1 lg' (marked (number p) (step_of given) ∷ [])
+        → mb'.room ≡ mb.room → mb'.inboxes ≡ after_take mb.inboxes (number p) → IsStill L D S z lg' mb' (slice_set op (number p) true) hd ph rsv tb (Some t)
+    takes_on lg1 lg' mb' hs lr bd g mr is = steps_on s r e p q t (step_of given) (slice_set op (number p) true) ph m a lg1 lg' mb' hs lr bd g (omega (arith, mr, s.mail_room))
+        (subst (λ (i : Inboxes). IsKept S (lg.history ++ marked (number p) (step_of given) ∷ []) i) (sym is) (kept_take D S lg.history mb.inboxes (number p) given s.kept here rdy))
+        (s.phase_is ∙ sym (phase_input lg.history (number p) given)) run_taken (length_set op (number p) true ∙ s.opens)
+        (λ k o. dite (ℕ_discrete k (number p)) (λ i. subst (λ (x : ℕ). slice_get (slice_set op (number p) true) x ≡ Some true) (sym i) open_now) (λ ne. get_else op (number p) k true ne ∙ o))
+
+    pub took : Takes L D S p q given
+    took =
+        let seen_now : seen q ≡ lg.history ++ marked (number p) (step_of given) ∷ [] = m.seen_is ∙ (a ∙ ap (λ (l : List Entry). l ++ marked (number p) (step_of given) ∷ []) (all_of s r e)) in
+        record {
+          pass = record { table_is = m.same_table; number_is = m.same_number };
+          before = lg.history;
+          begins = subst (λ (l : List Entry). IsPrefix (seen p) l) (all_of s r e) m.begins;
+          is_ready = rdy;
+          seen_is = seen_now;
+          run = (slice_set op (number p) true, subst (λ (l : List Entry). Runs L D S l (slice_set op (number p) true)) (sym seen_now) run_taken);
+          is_open = open_now;
+          mine_is = m.mine_is;
+          does = ap (λ (l : List Entry). deeds (number p) [] l) seen_now ∙ (deeds-taken (number p) lg.history given (ready_found D S lg.history mb.inboxes (number p) given s.kept rdy)
+              ∙ ap (λ (l : List Deed). l ++ TakesInput given ∷ []) (ap (λ (l : List Entry). deeds (number p) [] l) (sym (all_of s r e)) ∙ deeds_of_front (number p) (seen p) (all r) (p.part ∙ sym m.part) m.begins));
+          room_is = m.room_is;
+        }
+
+  -- nothing is ready
+  pub waits_open : (s : IsStill L D S z lg mb op hd ph rsv tb ri) (p0 p : Pass Step) → Sees p0 p → seen p ≡ lg.history → room p ≡ 0 → slice_get op (number p0) ≡ Some true → Waits L D S p0 p
+  waits_open s p0 p see sn rm is = record {
+    saw = see;
+    run = (op, subst (λ (l : List Entry). Runs L D S l op) (sym sn) s.runs);
+    room_is = rm;
+    why = inr is;
+  }
+
+  pub waits_none : (s : IsStill L D S z lg mb op hd ph rsv tb ri) (p0 p : Pass Step) → Sees p0 p → seen p ≡ lg.history → room p ≡ 0 → ready D S (number p0) lg.history ≡ None → Waits L D S p0 p
+  waits_none s p0 p see sn rm none = record {
+    saw = see;
+    run = (op, subst (λ (l : List Entry). Runs L D S l op) (sym sn) s.runs);
+    room_is = rm;
+    why = inl (ap (λ (l : List Entry). ready D S (number p0) l) sn ∙ none);
+  }
+
+  -- a room is set
+  pub reserves_on : (s : IsStill L D S z lg mb op hd ph rsv tb ri) (r : Right Step) → ri ≡ Some r → (p q : Pass Step) (t : Right Step) (k : ℕ) → slice_get op (number p) ≡ Some true → room p ≡ 0
+      → Met p r q t [] k → all t ≡ all r → (lg' : Logged) (mb' : Roomy) → lg'.history ≡ lg.history → mb'.inboxes ≡ mb.inboxes → rsv + k ≤ lg'.room → rsv + k ≤ mb'.room → length lg.history + (rsv + k) ≤ most_history
+      → IsStill L D S z lg' mb' op hd ph (rsv + k) tb (Some t)
+  reserves_on s r e p q t k is none m a lg' mb' es ib lr mr bd =
+      let before : rooms s.holder ≡ rooms r = rooms_of s r e in
+      let total = sum-set (rooms r) (number p) (room p) k m.had_room in
+      record {
+        holder = t;
+        right_is = refl;
+        table_is = s.table_is;
+        right_table_is = m.same_right ∙ right_of s r e;
+        all_is = a ∙ (all_of s r e ∙ sym es);
+        runs = subst (λ (l : List Entry). Runs L D S l op) (sym es) s.runs;
+        kept = subst (λ (l : List Entry). IsKept S l mb'.inboxes) (sym es) (subst (λ (i : Inboxes). IsKept S lg.history i) (sym ib) s.kept);
+        phase_is = s.phase_is ∙ ap (λ (l : List Entry). phase_of l) (sym es);
+        opens = s.opens;
+        helds = s.helds;
+        passes = ap length m.rooms_are ∙ (length_set (rooms r) (number p) k ∙ (ap length (sym before) ∙ s.passes));
+        sum_is = omega (arith, total, none, ap (λ (l : List ℕ). sum l) m.rooms_are, ap (λ (l : List ℕ). sum l) before, s.sum_is);
+        log_room = lr;
+        mail_room = mr;
+        bound = omega (arith, ap (λ (l : List Entry). length l) es, bd);
+        opened = λ i j f. dite (ℕ_discrete i (number p)) (λ same. subst (λ (x : ℕ). slice_get op x ≡ Some true) (sym same) is)
+            (λ ne. s.opened i j (ap (λ (l : List ℕ). slice_get l i) before ∙ (sym (get_else (rooms r) (number p) i k ne) ∙ (ap (λ (l : List ℕ). slice_get l i) (sym m.rooms_are) ∙ f))));
+        sound = s.sound;
+        few = s.few;
+      }
+
+  -- a room is given up, and the holding
+  pub leaves_on : (s : IsStill L D S z lg mb op hd ph rsv tb ri) (r : Right Step) → ri ≡ Some r → (p q : Pass Step) (t : Right Step) (b : ℕ) → Met p r q t [] 0 → all t ≡ all r → IsStill L D S z lg mb op (slice_set hd b false) ph (rsv - room p) tb (Some t)
+  leaves_on s r e p q t b m a =
+      let before : rooms s.holder ≡ rooms r = rooms_of s r e in
+      let total = sum-set (rooms r) (number p) (room p) 0 m.had_room in
+      record {
+        holder = t;
+        right_is = refl;
+        table_is = s.table_is;
+        right_table_is = m.same_right ∙ right_of s r e;
+        all_is = a ∙ all_of s r e;
+        runs = s.runs;
+        kept = s.kept;
+        phase_is = s.phase_is;
+        opens = s.opens;
+        helds = length_set hd b false ∙ s.helds;
+        passes = ap length m.rooms_are ∙ (length_set (rooms r) (number p) 0 ∙ (ap length (sym before) ∙ s.passes));
+        sum_is = omega (arith, total, ap (λ (l : List ℕ). sum l) m.rooms_are, ap (λ (l : List ℕ). sum l) before, s.sum_is);
+        log_room = omega (arith, s.log_room);
+        mail_room = omega (arith, s.mail_room);
+        bound = omega (arith, s.bound);
+        opened = λ i j f. dite (ℕ_discrete i (number p)) (λ same. absurd (no_room_at (rooms r) (rooms t) (number p) i j m.made m.rooms_are same f))
+            (λ ne. s.opened i j (ap (λ (l : List ℕ). slice_get l i) before ∙ (sym (get_else (rooms r) (number p) i 0 ne) ∙ (ap (λ (l : List ℕ). slice_get l i) (sym m.rooms_are) ∙ f))));
+        sound = s.sound;
+        few = s.few;
+      }
+
+  pub room_kept : (s : IsStill L D S z lg mb op hd ph rsv tb ri) (r : Right Step) → ri ≡ Some r → (p : Pass Step) → slice_get (rooms r) (number p) ≡ Some (room p) → room p ≤ rsv
+  room_kept s r e p there =
+      let total = sum-set (rooms r) (number p) (room p) 0 there in
+      omega (arith, total, ap (λ (l : List ℕ). sum l) (rooms_of s r e), s.sum_is)
+
+  -- a post
+  module _ (s : IsStill L D S z lg mb op hd ph rsv tb ri) (r : Right Step) (e : ri ≡ Some r) (p p1 p2 q : Pass Step) (r1 r2 t : Right Step) (turn : Turn) (first k : ℕ)
+      (m1 : Met p r p1 r1 [] (room p)) (a1 : all r1 ≡ all r) (f : Fed p1 r1 p2 r2 (posted first turn)) (m2 : Met p2 r2 q t [] 0) (a2 : all t ≡ all r2)
+      (first_is : first ≡ length (mail lg.history)) (has : room p ≡ suc k) (low : number p < actors D) (ok : L (number p) (deeds (number p) [] (seen p)) turn) (to : GoesToActors turn) where
+    see : Sees p p1
+    see = saw p p1 r r1 (room p) m1 a1
+
+    seen_then : seen p1 ≡ lg.history
+    seen_then = m1.seen_is ∙ (a1 ∙ all_of s r e)
+
+    number_2 : number p2 ≡ number p
+    number_2 = f.same_number ∙ m1.same_number
+
+    room_there : slice_get (rooms r) (number p) ≡ Some (suc k)
+    room_there = m1.had_room ∙ ap (λ (x : ℕ). Some x) has
+
+    rooms_after : rooms t ≡ slice_set (rooms r) (number p) 0
+    rooms_after = m2.rooms_are ∙ (ap (λ (x : ℕ). slice_set (rooms r2) x 0) number_2 ∙ ap (λ (l : List ℕ). slice_set l (number p) 0) (f.rooms_are ∙ rooms_kept p p1 r r1 [] m1))
+
+    before : rooms s.holder ≡ rooms r
+    before = rooms_of s r e
+
+    is_open : slice_get op (number p) ≡ Some true
+    is_open = s.opened (number p) k (ap (λ (l : List ℕ). slice_get l (number p)) before ∙ room_there)
+
+    all_after : all t ≡ lg.history ++ by (number p) (posted first turn)
+    all_after = a2 ∙ (f.all_is ∙ (ap (λ (x : ℕ). all r1 ++ by x (posted first turn)) m1.same_number ∙ ap (λ (l : List Entry). l ++ by (number p) (posted first turn)) (a1 ∙ all_of s r e)))
+
+    run_after : Runs L D S (lg.history ++ by (number p) (posted first turn)) (slice_set op (number p) false)
+    run_after = subst (λ (x : ℕ). Runs L D S (lg.history ++ by (number p) (posted x turn)) (slice_set op (number p) false)) (sym first_is)
+        (posts (number p) turn op lg.history s.runs is_open (subst (λ (d : List Deed). L (number p) d turn) (sym see.does ∙ ap (λ (l : List Entry). deeds (number p) [] l) seen_then) ok))
+
+    pub posts_on : (lg' : Logged) (mb' : Roomy) (b : ℕ) → HasGrown lg lg' (by (number p) (posted first turn)) → suc k ≡ size_of turn → mb'.room + length turn.sends ≡ mb.room → mb'.inboxes ≡ after_turn mb.inboxes (number p) turn
+        → IsStill L D S z lg' mb' (slice_set op (number p) false) (slice_set hd b false) ph (rsv - suc k) tb (Some t)
+    posts_on lg' mb' b g size mr is =
+        let total = sum-set (rooms r) (number p) (suc k) 0 room_there in
+        let enough : suc k ≤ rsv = omega (arith, total, ap (λ (l : List ℕ). sum l) before, s.sum_is) in
+        let steps : length (by (number p) (posted first turn)) + 1 ≡ suc k = ap (λ (n : ℕ). n + 1) (length-by (number p) (posted first turn)) ∙ (length-posted first turn ∙ sym size) in
+        let here : number p < 34 = omega (arith, low, s.few) in
+        record {
+          holder = t;
+          right_is = refl;
+          table_is = s.table_is;
+          right_table_is = m2.same_right ∙ (f.same_right ∙ (m1.same_right ∙ right_of s r e));
+          all_is = all_after ∙ sym g.history;
+          runs = subst (λ (l : List Entry). Runs L D S l (slice_set op (number p) false)) (sym g.history) run_after;
+          kept = subst (λ (l : List Entry). IsKept S l mb'.inboxes) (sym g.history) (subst (λ (i : Inboxes). IsKept S (lg.history ++ by (number p) (posted first turn)) i) (sym is)
+              (subst (λ (x : ℕ). IsKept S (lg.history ++ by (number p) (posted x turn)) (after_turn mb.inboxes (number p) turn)) (sym first_is) (kept_turn S lg.history mb.inboxes (number p) turn s.kept here to)));
+          phase_is = s.phase_is ∙ (sym (phase_posted lg.history (number p) first turn) ∙ ap (λ (l : List Entry). phase_of l) (sym g.history));
+          opens = length_set op (number p) false ∙ s.opens;
+          helds = length_set hd b false ∙ s.helds;
+          passes = ap length rooms_after ∙ (length_set (rooms r) (number p) 0 ∙ (ap length (sym before) ∙ s.passes));
+          sum_is = omega (arith, total, ap (λ (l : List ℕ). sum l) rooms_after, ap (λ (l : List ℕ). sum l) before, s.sum_is);
+          log_room = omega (arith, enough, s.log_room, g.room, steps);
+          mail_room = omega (arith, enough, s.mail_room, mr, size);
+          bound = omega (arith, enough, s.bound, ap (λ (l : List Entry). length l) g.history, length-append lg.history (by (number p) (posted first turn)), steps);
+          opened = λ i j g. dite (ℕ_discrete i (number p)) (λ same. absurd (no_room_at (rooms r) (rooms t) (number p) i j m1.made rooms_after same g))
+              (λ ne. get_else op (number p) i false ne ∙ s.opened i j (ap (λ (l : List ℕ). slice_get l i) before ∙ (sym (get_else (rooms r) (number p) i 0 ne) ∙ (ap (λ (l : List ℕ). slice_get l i) (sym rooms_after) ∙ g))));
+          sound = s.sound;
+          few = s.few;
+        }
+
+    pub posted_told : Posts L D S p q turn first
+    posted_told =
+        let seen_now : seen q ≡ lg.history ++ by (number p) (posted first turn) = m2.seen_is ∙ all_after in
+        record {
+          pass = record { table_is = m2.same_table ∙ (f.same_table ∙ m1.same_table); number_is = m2.same_number ∙ number_2 };
+          before = lg.history;
+          begins = subst (λ (l : List Entry). IsPrefix (seen p) l) seen_then see.begins;
+          first_is = first_is;
+          seen_is = seen_now;
+          run = (slice_set op (number p) false, subst (λ (l : List Entry). Runs L D S l (slice_set op (number p) false)) (sym seen_now) run_after);
+          mine_is = m2.mine_is ∙ (append-nil (mine p2) ∙ (f.mine_is ∙ ap (λ (l : List Step). l ++ posted first turn) see.mine_is));
+          does = ap (λ (l : List Entry). deeds (number p) [] l) seen_now ∙ (deeds-posted (number p) first lg.history turn ∙ ap (λ (l : List Deed). l ++ turn_deeds first turn) (ap (λ (l : List Entry). deeds (number p) [] l) (sym seen_then) ∙ see.does));
+          room_is = m2.room_is;
+        }
+
+-- an empty history
+
+sum-none : (n : ℕ) → sum (replicate n 0) ≡ 0
+sum-none zero = refl
+sum-none (suc n) = sum_cons 0 (replicate n 0) ∙ (let r = sum-none n in omega (arith, r))
+
+none_there : (n a k : ℕ) → slice_get (replicate n 0) a ≡ Some (suc k) → ⊥
+none_there zero a k e = absurd (let no : ⊥ = cc in no)
+none_there (suc n) zero k e = let bad : 0 ≡ suc k = cc in absurd (omega (arith, bad))
+none_there (suc n) (suc a) k e = none_there n a k e
+
+pub starts : (L : ℕ → List Deed → Turn → Type 0) (D : Declaration) (S : Script) (z : TableId) (lg : Logged) (mb : Roomy) (op hd : List Bool) (tb : TableId) (r : Right Step)
+    → lg.history ≡ [] → mb.inboxes ≡ empty_inboxes S → op ≡ replicate (actors D) false → hd ≡ replicate (actors D) false → tb ≡ z → IsFirst z (controller D + 1) r → IsScriptFor D S → controller D < 34
+    → IsStill L D S z lg mb op hd 0 0 tb (Some r)
+starts L D S z lg mb op hd tb r none is oc hc te i so few = record {
+  holder = r;
+  right_is = refl;
+  table_is = te;
+  right_table_is = i.table_is;
+  all_is = i.all_none ∙ sym none;
+  runs = subst (λ (l : List Entry). Runs L D S l op) (sym none) (subst (λ (o : List Bool). Runs L D S [] o) (sym oc) begins);
+  kept = subst (λ (l : List Entry). IsKept S l mb.inboxes) (sym none) (subst (λ (b : Inboxes). IsKept S [] b) (sym is) (kept_begins S));
+  phase_is = sym (ap (λ (l : List Entry). phase_of l) none);
+  opens = ap length oc ∙ length-replicate (actors D) false;
+  helds = ap length hc ∙ length-replicate (actors D) false;
+  passes = ap length i.rooms_are ∙ length-replicate (controller D + 1) 0;
+  sum_is = ap (λ (l : List ℕ). sum l) i.rooms_are ∙ sum-none (controller D + 1);
+  log_room = omega arith;
+  mail_room = omega arith;
+  bound = omega (arith, ap (λ (l : List Entry). length l) none);
+  opened = λ a k g. absurd (none_there (controller D + 1) a k (ap (λ (l : List ℕ). slice_get l a) (sym i.rooms_are) ∙ g));
+  sound = so;
+  few = few;
+}

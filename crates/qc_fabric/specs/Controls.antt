@@ -1,0 +1,31 @@
+-- What the controller may do next.
+use Rattle.std.specs.Prelude.{◌≡◌, ◌+◌, ◌<◌, Bool, List, Option, Some, None, length, slice_get}
+use Rattle.qc_decl.specs.declared.declaration.Declaration.{Declaration}
+use Rattle.qc_msg.specs.Steps.{Entry}
+use Rattle.qc_msg.specs.declared.step.Control.{Control}
+use Rattle.qc_msg.specs.declared.step.Control.TheVariants as controls
+use Rattle.qc_msg.specs.declared.step.Step.{Step}
+use Rattle.qc_msg.specs.declared.step.Step.TheVariants as steps
+use Rattle.qc_script.specs.Ready.{controls_left, phase_of}
+use Rattle.qc_script.specs.declared.script.Script.{Script}
+use Rattle.qc_fabric.specs.Picks.{IsStopped}
+
+-- The next phase may begin where nothing is left to do in this one, and else the first control line that hasn't acted
+-- may act. Lines that arm a disk, crash an actor or restart it can't act yet.
+abbrev pub MayDo : Declaration → Script → List Entry → List Bool → Control → Type 0
+MayDo decl script h inputs (controls.Phase k) =
+    IsStopped decl script h inputs × (k ≡ phase_of h + 1) × (phase_of h < length script.phases)
+MayDo decl script h inputs (controls.Cut a b) = slice_get (controls_left script h) 0 ≡ Some (controls.Cut a b)
+MayDo decl script h inputs (controls.Heal a b) = slice_get (controls_left script h) 0 ≡ Some (controls.Heal a b)
+MayDo decl script h inputs (controls.Armed actor kind at) = ⊥
+MayDo decl script h inputs (controls.Crash a) = ⊥
+MayDo decl script h inputs (controls.Restart a) = ⊥
+
+-- the step of what may be done
+abbrev pub control_step : Control → Option Step
+control_step (controls.Phase k) = Some (steps.Phase k)
+control_step (controls.Cut a b) = Some (steps.Cut a b)
+control_step (controls.Heal a b) = Some (steps.Heal a b)
+control_step (controls.Armed actor kind at) = None
+control_step (controls.Crash a) = None
+control_step (controls.Restart a) = None

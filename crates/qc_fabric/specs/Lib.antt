@@ -1,0 +1,10 @@
+pub mod Places
+pub mod Logs
+pub mod Brands
+pub mod Picks
+pub mod Controls
+pub mod Stills
+pub mod Tells
+pub mod Inputs
+pub mod Feeds
+pub mod Armed

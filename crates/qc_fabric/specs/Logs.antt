@@ -1,0 +1,34 @@
+-- The log: a history, what is counted in it, where its messages stand, and room.
+use Rattle.std.specs.Prelude.{ℕ, ◌≡◌, ◌+◌, ◌-◌, ◌^◌, ◌≤◌, min, nat_le, List, Option, Some, None, length, if◌then◌else◌}
+use Rattle.qc_decl.specs.Limits.{most_carried_lines, most_committed_operations, most_steps}
+use Rattle.qc_msg.specs.Counts.{carried_of, operations_of}
+use Rattle.qc_msg.specs.Steps.{Entry}
+use Rattle.qc_msg.specs.declared.step.What.TheVariants.{Steps, Operations, Carried}
+use Rattle.qc_fabric.specs.Places.{places_of}
+use Rattle.qc_fabric.specs.declared.full.Full.{Full}
+
+-- the history, and for how many steps there is room
+pub record Logged : Type 0 where
+  pub history : List Entry
+  pub room : ℕ
+
+-- a number that is counted in 32 bits: itself, and at most the greatest of them
+abbrev pub counted : ℕ → ℕ
+counted n = min n (2 ^ 32 - 1)
+
+pub record IsLog (entries : List Entry) (entries_capacity : ℕ) (places : List ℕ) (places_capacity : ℕ)
+    (operations carried room : ℕ) : Type 0 where
+  pub places_are : places ≡ places_of 0 entries
+  pub operations_are : operations ≡ counted (operations_of entries)
+  pub carried_is : carried ≡ counted (carried_of entries)
+  pub entries_fit : length entries + room ≤ entries_capacity
+  pub places_fit : length places + room ≤ places_capacity
+
+-- which counted quantity has reached its limit first, and its number: steps, then operations, then carried lines
+abbrev pub full_of : List Entry → Option Full
+full_of h =
+    if nat_le most_steps (length h) then Some (record { what = Steps; number = length h })
+    else (if nat_le most_committed_operations (counted (operations_of h))
+    then Some (record { what = Operations; number = counted (operations_of h) })
+    else (if nat_le most_carried_lines (counted (carried_of h))
+    then Some (record { what = Carried; number = counted (carried_of h) }) else None))

@@ -1,0 +1,43 @@
+//! What is said of a run from outside: how actors act, and which run it is.
+
+use std::marker::Brand;
+
+/// How actors act. It has no calls: `lawful` is said of turns in proofs.
+pub trait Conduct {
+    ghost use Rattle.std.specs.Prelude.{ℕ, List};
+    ghost use Rattle.qc_decl.specs.declared.declaration.Declaration.{Declaration};
+    ghost use Rattle.qc_msg.specs.Deeds.{Deed};
+    ghost use Rattle.qc_msg.specs.declared.turn.Turn.{Turn};
+
+    /// Which turns are lawful for an actor of a declaration after its deeds, the
+    /// last of which is the input that it took.
+    ghost lawful: { Declaration → ℕ → List Deed → Turn → Type 0 };
+}
+
+/// The name of a run. A value behind a lock is known by its type alone, so the
+/// values of one run carry its name in their types. It has no calls: one call of
+/// a program picks it.
+pub trait Named {
+    ghost use Rattle.qc_decl.specs.declared.declaration.Declaration.{Declaration};
+    ghost use Rattle.qc_script.specs.declared.script.Script.{Script};
+    ghost use Rattle.atomic_table.specs.Seated.{TableId};
+
+    /// The declaration of the run.
+    ghost declaration: { Declaration };
+
+    /// Its script.
+    ghost script: { Script };
+
+    /// The word that its passes are of.
+    ghost table: { TableId };
+}
+
+impl Named for Brand {
+    ghost use Rattle.qc_fabric.specs.Brands.{no_declaration, no_script, no_table};
+
+    ghost declaration = { no_declaration };
+
+    ghost script = { no_script };
+
+    ghost table = { no_table };
+}

@@ -1,0 +1,120 @@
+//! The lock over the state. Each call is that of `Still` under the lock, and
+//! tells what the caller's pass knows.
+
+ghost use Rattle.std.specs.Prelude.{◌≡◌, ◌<◌, [], Some, IfOk, OnOk, OnErr, MatchOption};
+ghost use Rattle.qc_decl.specs.Actors.{actors};
+ghost use Rattle.qc_msg.specs.Deeds.{deeds};
+ghost use Rattle.qc_pass.specs.Tokens.{number, pass_table, room, seen};
+ghost use Rattle.qc_fabric.specs.Picks.{IsNamed};
+ghost use Rattle.qc_fabric.specs.Tells.{GoesToActors, Posts, Sees, Takes, Waits, size_of};
+
+use crate::conduct::{Conduct, Named};
+use crate::picked::Picked;
+use crate::still::Still;
+use qc_decl::Declaration;
+use qc_list::OutOfMemory;
+use qc_msg::{Given, Step, Turn};
+use qc_pass::Pass;
+use std::alloc::Global;
+use std::sync::{Condvar, Mutex, Wait};
+
+/// The state that many threads share.
+#[derive(Drop)]
+pub struct Fabric<C: Conduct, N: Named> {
+    still: Mutex<Still<C, N>>,
+    changed: Condvar,
+}
+
+impl<C: Conduct, N: Named> Fabric<C, N> {
+    /// Threads may share the state from now on. It takes no memory.
+    pub fn open(still: Still<C, N>) -> Fabric<C, N> {
+        Fabric {
+            still: Mutex::new(still),
+            changed: Condvar::new(),
+        }
+    }
+
+    /// The state again. It takes no memory.
+    pub fn close(self) -> Still<C, N> {
+        let Fabric { still, changed: _ } = self;
+        still.into_inner()
+    }
+
+    /// Waits while nothing is ready for those that aren't held and some actor is
+    /// held, and then answers what `Still::pick` does. It takes no memory.
+    pub fn pick<R: Wait>(&self, rt: &R, decl: &Declaration) -> Picked
+        requires { decl.now ≡ N.declaration }
+        ensures { IsNamed N.declaration (Some result) }
+    {
+        let mut still = self.still.lock(rt);
+        for _ in rt.forever() {
+            if let Some(picked) = still.pick(decl) {
+                return picked;
+            }
+            still = self.changed.wait(rt, still);
+        }
+        unreachable!()
+    }
+
+    /// The pass's actor takes its next input.
+    pub fn take<R: Wait>(
+        &self,
+        rt: &R,
+        alloc: Global,
+        decl: &Declaration,
+        pass: &mut Pass<Step>,
+    ) -> Result<Option<Given>, OutOfMemory>
+        requires declaration { decl.now ≡ N.declaration }
+        requires table { pass_table pass.old ≡ N.table }
+        requires actor { number pass.old < actors N.declaration }
+        ensures err { OnErr result (pass.new ≡ pass.old) }
+        ensures told { IfOk result (λ r. MatchOption r
+            (Waits (C.lawful N.declaration) N.declaration N.script pass.old pass.new)
+            (λ given. Takes (C.lawful N.declaration) N.declaration N.script pass.old pass.new given)) }
+    {
+        let given = self.still.lock(rt).take(alloc, decl, pass)?;
+        self.changed.notify_all();
+        Ok(given)
+    }
+
+    /// Makes room for the turn of the pass's actor.
+    pub fn reserve<R: Wait>(
+        &self,
+        rt: &R,
+        pass: &mut Pass<Step>,
+        turn: &Turn,
+    ) -> Result<(), OutOfMemory>
+        requires table { pass_table pass.old ≡ N.table }
+        requires actor { number pass.old < actors N.declaration }
+        requires room { room pass.old ≡ 0 }
+        ensures ok { OnOk result (Sees pass.old pass.new × (room pass.new ≡ size_of turn.now)) }
+        ensures err { OnErr result (pass.new ≡ pass.old) }
+    {
+        self.still.lock(rt).reserve(pass, turn)
+    }
+
+    /// Posts the turn for which there is room. It takes no memory.
+    pub fn post<R: Wait>(&self, rt: &R, pass: &mut Pass<Step>, turn: Turn) -> u32
+        requires table { pass_table pass.old ≡ N.table }
+        requires actor { number pass.old < actors N.declaration }
+        requires room { room pass.old ≡ size_of turn }
+        requires receivers { GoesToActors turn }
+        requires lawful { C.lawful N.declaration (number pass.old) (deeds (number pass.old) [] (seen pass.old)) turn }
+        ensures told { Posts (C.lawful N.declaration) N.declaration N.script pass.old pass.new turn result }
+    {
+        let first = self.still.lock(rt).post(pass, turn);
+        self.changed.notify_all();
+        first
+    }
+
+    /// Ends the holding of the pass's actor, and gives its room up. It takes no
+    /// memory.
+    pub fn leave<R: Wait>(&self, rt: &R, pass: &mut Pass<Step>)
+        requires table { pass_table pass.old ≡ N.table }
+        ensures saw { Sees pass.old pass.new }
+        ensures room { room pass.new ≡ 0 }
+    {
+        self.still.lock(rt).leave(pass);
+        self.changed.notify_all();
+    }
+}

@@ -1,0 +1,12 @@
+//! A counted quantity that has reached its limit.
+
+use qc_msg::What;
+
+/// A counted quantity of a history that has reached its limit, and its number.
+#[derive(Clone, Copy, Debug, PartialEq, Eq)]
+pub struct Full {
+    /// Which it is.
+    pub what: What,
+    /// Its number.
+    pub number: u64,
+}

@@ -1,0 +1,56 @@
+//! Inputs in full, their messages copied from the log.
+
+ghost use Rattle.std.specs.Prelude.{◌≡◌, Some, IfOk, IsSome};
+ghost use Rattle.qc_msg.specs.Deeds.{envelope_of, mail};
+ghost use Rattle.qc_msg.specs.Steps.{step_of};
+ghost use Rattle.qc_fabric.specs.Inputs.{IsThere, given_by};
+
+use crate::log::Log;
+use qc_inbox::Input;
+use qc_list::OutOfMemory;
+use qc_msg::{Entry, Envelope, Given, Step};
+use std::alloc::Global;
+
+/// The input in full.
+pub(crate) fn given_of(alloc: Global, log: &Log, input: Input) -> Result<Given, OutOfMemory>
+    requires { IsThere (mail log.now.history) input }
+    ensures { IfOk result (λ given. given_by (mail log.now.history) input ≡ Some given) }
+{
+    match input {
+        Input::Copy(number) => Ok(Given::Got(copy_of(alloc, log.sent(number))?)),
+        Input::Lost(number) => Ok(Given::Lost { number }),
+        Input::Command(command) => Ok(Given::Called(command)),
+    }
+}
+
+/// The message that an entry sent, in memory of its own.
+fn copy_of(alloc: Global, entry: &Entry) -> Result<Envelope, OutOfMemory>
+    requires { IsSome (envelope_of entry.now) }
+    ensures { IfOk result (λ e. envelope_of entry.now ≡ Some e) }
+{
+    let Step::Sent {
+        number,
+        to,
+        message,
+    } = &entry.step
+    else {
+        unreachable!()
+    };
+    Ok(Envelope {
+        number: *number,
+        from: entry.actor,
+        to: *to,
+        message: message.copy(alloc)?,
+    })
+}
+
+/// The step by which an input is taken.
+pub(crate) fn step_of(given: &Given) -> Step
+    ensures { result ≡ step_of given.now }
+{
+    match given {
+        Given::Called(command) => Step::Called(*command),
+        Given::Got(envelope) => Step::Got(envelope.number),
+        Given::Lost { number } => Step::Lost(*number),
+    }
+}

@@ -1,0 +1,144 @@
+//! The state that the lock holds: the history with the right to add to it, what
+//! is ready, which inputs are open, and who is held.
+
+ghost use Rattle.std.specs.Prelude.{◌≡◌, ◌<◌, ◌≤◌, ◌+◌, [], IfOk, false, length, replicate, slice_set};
+ghost use Rattle.qc_decl.specs.Actors.{actors, controller};
+ghost use Rattle.qc_pass.specs.Made.{IsFirst};
+ghost use Rattle.qc_pass.specs.Tokens.{number, pass_table, room, seen, table_of};
+ghost use Rattle.qc_script.specs.Runs.{Run};
+ghost use Rattle.qc_script.specs.Sound.{IsScriptFor};
+ghost use Rattle.qc_fabric.specs.Stills.{most_history};
+ghost use Rattle.qc_fabric.specs.Tells.{Sees};
+
+use crate::bits::{closed, set};
+use crate::conduct::{Conduct, Named};
+use crate::log::Log;
+use qc_decl::Declaration;
+use qc_list::OutOfMemory;
+use qc_mailbox::Mailboxes;
+use qc_msg::{Entry, Step};
+use qc_pass::{Pass, Passes, Right};
+use qc_script::Script;
+use std::alloc::Global;
+use std::marker::{Model, PhantomData};
+
+/// The history, the right to add to it, what is ready, who took an input, and
+/// who is held.
+#[derive(Drop)]
+pub struct Still<C: Conduct, N: Named> {
+    pub(crate) log: Log,
+    pub(crate) mailboxes: Mailboxes,
+    pub(crate) inputs: Vec<bool>,
+    pub(crate) held: Vec<bool>,
+    pub(crate) phase: u32,
+    pub(crate) reserved: usize,
+    pub(crate) passes: Passes<Step>,
+    pub(crate) right: Option<Right<Step>>,
+    of: PhantomData<(C, N)>,
+}
+
+impl<C: Conduct, N: Named> Model for Still<C, N> {
+    ghost use Rattle.qc_pass.specs.Tokens.{table_of};
+    ghost use Rattle.qc_fabric.specs.Stills.{IsStill, Shown};
+
+    ghost Value = { Shown };
+
+    ghost view = { λ s. record { history = s.log.history; open_inputs = s.inputs.items; held = s.held.items } };
+
+    ghost invariant = { λ s. IsStill (C.lawful N.declaration) N.declaration N.script N.table s.log s.mailboxes
+        s.inputs.items s.held.items s.phase s.reserved (table_of s.passes) s.right };
+}
+
+impl<C: Conduct, N: Named> Still<C, N> {
+    /// An empty history, with the right to it and a pass for each site, each
+    /// client, the administrator and the controller.
+    pub fn make(
+        alloc: Global,
+        decl: &Declaration,
+        script: &Script,
+        passes: Passes<Step>,
+        right: Right<Step>,
+    ) -> Result<Still<C, N>, OutOfMemory>
+        requires declaration { decl.now ≡ N.declaration }
+        requires script { script.now ≡ N.script }
+        requires sound { IsScriptFor N.declaration N.script }
+        requires few { controller N.declaration < 34 }
+        requires table { table_of passes ≡ N.table }
+        requires right { IsFirst N.table (controller N.declaration + 1) right }
+        ensures history { IfOk result (λ s. s.history ≡ []) }
+        ensures inputs { IfOk result (λ s. s.open_inputs ≡ replicate (actors N.declaration) false) }
+        ensures held { IfOk result (λ s. s.held ≡ replicate (actors N.declaration) false) }
+    {
+        let actors = decl.sites + decl.clients;
+        let mailboxes = Mailboxes::new(alloc, script)?;
+        let inputs = closed(alloc, actors)?;
+        let held = closed(alloc, actors)?;
+        Ok(Still {
+            log: Log::new(alloc),
+            mailboxes,
+            inputs,
+            held,
+            phase: 0,
+            reserved: 0,
+            passes,
+            right: Some(right),
+            of: PhantomData,
+        })
+    }
+
+    /// The history's entries, which are a run, and no more than the most.
+    pub fn history(&self) -> &[Entry]
+        ensures history { result.now ≡ self.now.history }
+        ensures run { Run (C.lawful N.declaration) N.declaration N.script result.now }
+        ensures few { length result.now ≤ most_history }
+    {
+        self.log.entries()
+    }
+
+    /// The pass sees the history. It takes no memory.
+    pub fn look(&mut self, pass: &mut Pass<Step>)
+        requires table { pass_table pass.old ≡ N.table }
+        ensures same { self.new ≡ self.old }
+        ensures saw { Sees pass.old pass.new }
+        ensures seen { seen pass.new ≡ self.new.history }
+        ensures room { room pass.new ≡ room pass.old }
+    {
+        let kept = pass.room();
+        let Some(right) = self.right.take() else {
+            unreachable!()
+        };
+        let right = self.passes.look(pass, right, kept);
+        self.right = Some(right);
+    }
+
+    /// Ends the holding of the pass's actor, and gives its room up. An input that
+    /// is open stays open. It takes no memory.
+    pub fn leave(&mut self, pass: &mut Pass<Step>)
+        requires table { pass_table pass.old ≡ N.table }
+        ensures same { (self.new.history ≡ self.old.history) × (self.new.open_inputs ≡ self.old.open_inputs) }
+        ensures held { self.new.held ≡ slice_set self.old.held (number pass.old) false }
+        ensures saw { Sees pass.old pass.new }
+        ensures seen { seen pass.new ≡ self.new.history }
+        ensures room { room pass.new ≡ 0 }
+    {
+        let kept = pass.room();
+        let actor = pass.number();
+        let Some(right) = self.right.take() else {
+            unreachable!()
+        };
+        let right = self.passes.look(pass, right, 0);
+        self.reserved -= kept as usize;
+        set(&mut self.held, actor, false);
+        self.right = Some(right);
+    }
+
+    /// The history's entries, by themselves, which are a run. It takes no memory.
+    pub fn end(self) -> Vec<Entry>
+        ensures history { result.items ≡ self.history }
+        ensures run { Run (C.lawful N.declaration) N.declaration N.script result.items }
+        ensures few { length result.items ≤ most_history }
+    {
+        let Still { log, .. } = self;
+        log.into_entries()
+    }
+}

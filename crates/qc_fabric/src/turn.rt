@@ -1,0 +1,132 @@
+//! An actor takes an input, reserves room for its turn, and posts it.
+
+ghost use Rattle.std.specs.Prelude.{◌≡◌, ◌<◌, [], IfOk, OnOk, OnErr, MatchOption, false, true, slice_set};
+ghost use Rattle.qc_decl.specs.Actors.{actors};
+ghost use Rattle.qc_msg.specs.Deeds.{deeds};
+ghost use Rattle.qc_pass.specs.Tokens.{number, pass_table, room, seen};
+ghost use Rattle.qc_fabric.specs.Tells.{GoesToActors, HasNext, HasNone, Posts, Sees, Takes, Waits, size_of};
+
+use crate::bits::set;
+use crate::conduct::{Conduct, Named};
+use crate::feed::{add, feed};
+use crate::given::{given_of, step_of};
+use crate::room::{more, size_of};
+use crate::still::Still;
+use qc_decl::Declaration;
+use qc_list::OutOfMemory;
+use qc_mailbox::is_set;
+use qc_msg::{Given, Step, Turn};
+use qc_pass::Pass;
+use std::alloc::{AllocError, Global};
+
+impl<C: Conduct, N: Named> Still<C, N> {
+    /// The pass's actor takes its next input. Where nothing is ready for it, or
+    /// its input is open, its holding ends, and so does its room. After want of
+    /// memory nothing has changed.
+    pub fn take(
+        &mut self,
+        alloc: Global,
+        decl: &Declaration,
+        pass: &mut Pass<Step>,
+    ) -> Result<Option<Given>, OutOfMemory>
+        requires declaration { decl.now ≡ N.declaration }
+        requires table { pass_table pass.old ≡ N.table }
+        requires actor { number pass.old < actors N.declaration }
+        ensures history { IfOk result (λ r. self.new.history ≡ seen pass.new) }
+        ensures err { OnErr result ((self.new ≡ self.old) × (pass.new ≡ pass.old)) }
+        ensures told { IfOk result (λ r. MatchOption r
+            (Waits (C.lawful N.declaration) N.declaration N.script pass.old pass.new)
+            (λ given. Takes (C.lawful N.declaration) N.declaration N.script pass.old pass.new given)) }
+        ensures exact { IfOk result (λ r. MatchOption r
+            (HasNone N.declaration N.script self.old.open_inputs (number pass.old) self.old.history)
+            (λ given. HasNext N.declaration N.script self.old.open_inputs (number pass.old) self.old.history given)) }
+        ensures inputs { IfOk result (λ r. MatchOption r (self.new.open_inputs ≡ self.old.open_inputs)
+            (λ given. self.new.open_inputs ≡ slice_set self.old.open_inputs (number pass.old) true)) }
+        ensures held { IfOk result (λ r. MatchOption r (self.new.held ≡ slice_set self.old.held (number pass.old) false)
+            (λ given. self.new.held ≡ self.old.held)) }
+    {
+        let actor = pass.number();
+        if is_set(self.inputs.as_slice(), actor) {
+            self.leave(pass);
+            return Ok(None);
+        }
+        let Some(input) = self.mailboxes.ready(decl, actor) else {
+            self.leave(pass);
+            return Ok(None);
+        };
+        let given = given_of(alloc, &self.log, input)?;
+        let Some(room) = more(self.log.steps(), self.reserved, 1) else {
+            return Err(AllocError);
+        };
+        self.log.reserve(room)?;
+        let Some(right) = self.right.take() else {
+            unreachable!()
+        };
+        let step = step_of(&given);
+        let right = add(&self.passes, right, &mut self.log, pass, step);
+        self.mailboxes.take(actor);
+        set(&mut self.inputs, actor, true);
+        self.right = Some(right);
+        Ok(Some(given))
+    }
+
+    /// Makes room for the turn of the pass's actor, which has an open input, and
+    /// sets the pass's room. After want of memory nothing has changed.
+    pub fn reserve(&mut self, pass: &mut Pass<Step>, turn: &Turn) -> Result<(), OutOfMemory>
+        requires table { pass_table pass.old ≡ N.table }
+        requires actor { number pass.old < actors N.declaration }
+        requires room { room pass.old ≡ 0 }
+        ensures same { self.new ≡ self.old }
+        ensures ok { OnOk result (Sees pass.old pass.new × (room pass.new ≡ size_of turn.now)) }
+        ensures err { OnErr result (pass.new ≡ pass.old) }
+    {
+        if !is_set(self.inputs.as_slice(), pass.number()) {
+            return Err(AllocError);
+        }
+        let size = size_of(turn)?;
+        let Some(room) = more(self.log.steps(), self.reserved, size) else {
+            return Err(AllocError);
+        };
+        self.log.reserve(room)?;
+        self.mailboxes.reserve(room)?;
+        let Some(right) = self.right.take() else {
+            unreachable!()
+        };
+        let right = self.passes.look(pass, right, size as u64);
+        self.reserved += size;
+        self.right = Some(right);
+        Ok(())
+    }
+
+    /// Posts the turn for which there is room, and ends the holding of the pass's
+    /// actor, whose input is no longer open. It answers the number of the turn's
+    /// first message, or of the next one where the turn sends none. It takes no
+    /// memory.
+    pub fn post(&mut self, pass: &mut Pass<Step>, turn: Turn) -> u32
+        requires table { pass_table pass.old ≡ N.table }
+        requires actor { number pass.old < actors N.declaration }
+        requires room { room pass.old ≡ size_of turn }
+        requires receivers { GoesToActors turn }
+        requires lawful { C.lawful N.declaration (number pass.old) (deeds (number pass.old) [] (seen pass.old)) turn }
+        ensures history { self.new.history ≡ seen pass.new }
+        ensures told { Posts (C.lawful N.declaration) N.declaration N.script pass.old pass.new turn result }
+        ensures inputs { self.new.open_inputs ≡ slice_set self.old.open_inputs (number pass.old) false }
+        ensures held { self.new.held ≡ slice_set self.old.held (number pass.old) false }
+    {
+        let first = self.mailboxes.sent();
+        let size = pass.room();
+        let actor = pass.number();
+        let Some(right) = self.right.take() else {
+            unreachable!()
+        };
+        let right = self.passes.look(pass, right, size);
+        self.mailboxes.post(actor, &turn);
+        let right = feed(&self.passes, right, &mut self.log, pass, turn, first);
+        let right = self.passes.look(pass, right, 0);
+        set(&mut self.inputs, actor, false);
+        set(&mut self.held, actor, false);
+        self.reserved -= size as usize;
+        self.right = Some(right);
+        first
+    }
+}

@@ -1,0 +1,3 @@
+pub mod Each
+pub mod Room
+pub mod Passing

@@ -1,0 +1,117 @@
+-- How the room of mailboxes goes on, where one of them is changed.
+use Rattle.std.proofs.Common.{◌≡◌, ℕ, zero, suc, ◌+◌, ◌<◌, ◌≤◌, List, [], ◌∷◌, ap, sym, ◌∙◌, arith, length, get_or, map, set, subst}
+use Rattle.std.specs.List.{AllByRecursion as Every}
+use Rattle.qc_inbox.specs.Rooms.{tray_at}
+use Rattle.qc_inbox.specs.Trays.{empty_tray}
+use Rattle.qc_inbox.specs.declared.tray.Tray.{Tray}
+use Rattle.qc_mailbox.specs.Boxes.{HasRoom, HasUsed, tray}
+use Rattle.qc_mailbox.specs.Phases.{HasOpened, HasOthers, IsPrepared}
+use Rattle.qc_mailbox.specs.Queues.{items, spare}
+use Rattle.qc_mailbox.specs.declared.mailbox.Mailbox.{Mailbox}
+use Rattle.qc_mailbox.proofs.Each.{every_get, every_less, every_set, every_weaker, map_changed, map_same}
+
+room_left : (used room : ℕ) (old new : Mailbox) → HasUsed used old new → HasRoom (room + used) old → HasRoom room new
+room_left used room old new u r = record {
+  copies = omega (arith, u.copies, r.copies);
+  late = omega (arith, u.late, r.late);
+  unanswered = omega (arith, u.unanswered, r.unanswered);
+  lost = omega (arith, u.lost, r.lost);
+}
+
+room_less : (used room : ℕ) (m : Mailbox) → HasRoom (room + used) m → HasRoom room m
+room_less used room m r = record {
+  copies = omega (arith, r.copies);
+  late = omega (arith, r.late);
+  unanswered = omega (arith, r.unanswered);
+  lost = omega (arith, r.lost);
+}
+
+room_kept : (room : ℕ) (old new : Mailbox) → HasUsed 0 old new → HasRoom room old → HasRoom room new
+room_kept room old new u r = record {
+  copies = omega (arith, u.copies, r.copies);
+  late = omega (arith, u.late, r.late);
+  unanswered = omega (arith, u.unanswered, r.unanswered);
+  lost = omega (arith, u.lost, r.lost);
+}
+
+pub no_room : (boxes : List Mailbox) → Every (HasRoom 0) boxes
+no_room [] = tt {0}
+no_room (m ∷ ms) = (record { copies = omega arith; late = omega arith; unanswered = omega arith; lost = omega arith }, no_room ms)
+
+pub less_room : (more less : ℕ) (boxes : List Mailbox) → less ≤ more → Every (HasRoom more) boxes → Every (HasRoom less) boxes
+less_room more less boxes le all = every_weaker (HasRoom more) (HasRoom less) boxes (λ m r. record {
+  copies = omega (arith, le, r.copies);
+  late = omega (arith, le, r.late);
+  unanswered = omega (arith, le, r.unanswered);
+  lost = omega (arith, le, r.lost);
+}) all
+
+-- one mailbox is changed, and used some of its room
+
+module _ (boxes : List Mailbox) (a : ℕ) (old new : Mailbox) (within : a < length boxes) (is : old ≡ get_or boxes a old) where
+  pub at : (P : Mailbox → Type 0) → Every P boxes → P old
+  at P all = subst P (sym is) (every_get P boxes a old all within)
+
+  pub used_set : (used room : ℕ) → HasUsed used old new → Every (HasRoom (room + used)) boxes → Every (HasRoom room) (set boxes a new)
+  used_set used room u all =
+      every_less (HasRoom (room + used)) (HasRoom room) boxes a new (room_less used room) (room_left used room old new u (at (HasRoom (room + used)) all)) all
+
+  pub kept_set : (room : ℕ) → HasUsed 0 old new → Every (HasRoom room) boxes → Every (HasRoom room) (set boxes a new)
+  kept_set room u all = every_set (HasRoom room) boxes a new all (room_kept room old new u (at (HasRoom room) all))
+
+  pub same_set : tray new ≡ tray old → map tray (set boxes a new) ≡ map tray boxes
+  same_set e = map_same tray boxes a new old within (e ∙ ap tray is)
+
+  pub changed : (g : Tray → Tray) → tray new ≡ g (tray old) → map tray (set boxes a new) ≡ set (map tray boxes) a (g (tray_at (map tray boxes) a))
+  changed g e = map_changed tray g boxes a new old empty_tray within (e ∙ ap (λ m. g (tray m)) is)
+
+-- phases
+
+pub prepared_less : (room commands : ℕ) (m : Mailbox) → IsPrepared room (commands + 1) m → IsPrepared room commands m
+prepared_less room commands m p = record {
+  copies = p.copies; opening = p.opening; late = p.late; unanswered = p.unanswered; lost = p.lost;
+  commands_fit = omega (arith, p.commands_fit);
+}
+
+pub prepared_one : (room commands : ℕ) (m : Mailbox) → 0 < commands → IsPrepared room commands m → IsPrepared 0 1 m
+prepared_one room commands m some p = record {
+  copies = omega (arith, p.copies); opening = p.opening; late = omega arith; unanswered = omega arith; lost = omega arith;
+  commands_fit = omega (arith, some, p.commands_fit);
+}
+
+asked_kept : (room commands : ℕ) (old new : Mailbox) → HasOthers old new → spare old.commands ≤ spare new.commands + 1 → IsPrepared room (commands + 1) old → IsPrepared room commands new
+asked_kept room commands old new o le p = record {
+  copies = rw (o.copies, o.opening, o.late) p.copies;
+  opening = rw (o.opening, o.late) p.opening;
+  late = rw o.late p.late;
+  unanswered = rw o.unanswered p.unanswered;
+  lost = rw o.lost p.lost;
+  commands_fit = omega (arith, le, p.commands_fit);
+}
+
+pub asked_set : (boxes : List Mailbox) (a : ℕ) (old new : Mailbox) → a < length boxes → old ≡ get_or boxes a old → HasOthers old new → spare old.commands ≤ spare new.commands + 1
+    → (room commands : ℕ) → Every (IsPrepared room (commands + 1)) boxes → Every (IsPrepared room commands) (set boxes a new)
+asked_set boxes a old new within is o le room commands all =
+    every_less (IsPrepared room (commands + 1)) (IsPrepared room commands) boxes a new (prepared_less room commands)
+    (asked_kept room commands old new o le (at boxes a old new within is (IsPrepared room (commands + 1)) all)) all
+
+pub opened_room : (room : ℕ) (old new : Mailbox) → HasOpened (length (items old.opening)) old new → IsPrepared room 0 old → HasRoom room new
+opened_room room old new o p = record {
+  copies = omega (arith, o.copies, p.copies);
+  late = omega (arith, o.late, p.late);
+  unanswered = omega (arith, o.unanswered, p.unanswered);
+  lost = omega (arith, o.lost, p.lost);
+}
+
+pub begun_room : (room : ℕ) (old new : Mailbox) → HasOpened (length (items old.opening) + length (items old.late)) old new → IsPrepared room 0 old → HasRoom room new
+begun_room room old new o p = record {
+  copies = omega (arith, o.copies, p.copies);
+  late = omega (arith, o.late, p.late);
+  unanswered = omega (arith, o.unanswered, p.unanswered);
+  lost = omega (arith, o.lost, p.lost);
+}
+
+pub prepared_none : (room commands : ℕ) (boxes : List Mailbox) → Every (IsPrepared room commands) boxes → Every (IsPrepared 0 0) boxes
+prepared_none room commands boxes all = every_weaker (IsPrepared room commands) (IsPrepared 0 0) boxes (λ m p. record {
+  copies = omega (arith, p.copies); opening = p.opening; late = omega arith; unanswered = omega arith; lost = omega arith; commands_fit = omega arith;
+}) all

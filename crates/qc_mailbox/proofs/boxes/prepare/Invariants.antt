@@ -1,0 +1,13 @@
+use Rattle.std.proofs.Common.{◌≡◌, length, map, take}
+use Rattle.std.specs.List.{AllByRecursion as Every}
+use Rattle.qc_mailbox.specs.Boxes.{HasRoom, tray}
+use Rattle.qc_mailbox.specs.Phases.{IsPrepared}
+use Rattle.qc_mailbox.proofs.boxes.prepare.Given as goal
+
+abbrev pub invariant-actors : goal.invariant-actors
+invariant-actors l = record {
+  long : length l.boxes.items ≡ 34;
+  same : map tray l.boxes.items ≡ map tray l.initial.boxes.items;
+  kept : Every (HasRoom l.room) l.boxes.items;
+  done : Every (IsPrepared l.room l.commands) (take l.actor l.boxes.items);
+}

@@ -1,0 +1,33 @@
+-- One actor's mailbox: the tray that it shows, and the room in it.
+use Rattle.std.specs.Prelude.{ℕ, ◌+◌, ◌≤◌}
+use Rattle.qc_inbox.specs.declared.tray.Tray.{Tray}
+use Rattle.qc_mailbox.specs.Queues.{items, spare}
+use Rattle.qc_mailbox.specs.declared.mailbox.Mailbox.{Mailbox}
+
+-- what waits in it
+abbrev pub tray : Mailbox → Tray
+tray m =
+    record {
+      copies = items m.copies;
+      opening = items m.opening;
+      late = items m.late;
+      unanswered = items m.unanswered;
+      lost = items m.lost;
+      commands = items m.commands;
+      busy = m.busy;
+      calls = m.calls;
+    }
+
+-- the queues that messages come into have so many places spare
+pub record HasRoom (room : ℕ) (m : Mailbox) : Type 0 where
+  pub copies : room ≤ spare m.copies
+  pub late : room ≤ spare m.late
+  pub unanswered : room ≤ spare m.unanswered
+  pub lost : room ≤ spare m.lost
+
+-- each of them has at most so many places less
+pub record HasUsed (places : ℕ) (old new : Mailbox) : Type 0 where
+  pub copies : spare old.copies ≤ spare new.copies + places
+  pub late : spare old.late ≤ spare new.late + places
+  pub unanswered : spare old.unanswered ≤ spare new.unanswered + places
+  pub lost : spare old.lost ≤ spare new.lost + places

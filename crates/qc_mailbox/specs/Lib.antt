@@ -1,0 +1,5 @@
+pub mod Queues
+pub mod Boxes
+pub mod Phases
+pub mod Kept
+pub mod Passed
