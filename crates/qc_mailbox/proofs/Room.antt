@@ -69,13 +69,21 @@ module _ (boxes : List Mailbox) (a : ℕ) (old new : Mailbox) (within : a < leng
 
 pub prepared_less : (room commands : ℕ) (m : Mailbox) → IsPrepared room (commands + 1) m → IsPrepared room commands m
 prepared_less room commands m p = record {
-  copies = p.copies; opening = p.opening; late = p.late; unanswered = p.unanswered; lost = p.lost;
+  copies = p.copies;
+  opening = p.opening;
+  late = p.late;
+  unanswered = p.unanswered;
+  lost = p.lost;
   commands_fit = omega (arith, p.commands_fit);
 }
 
 pub prepared_one : (room commands : ℕ) (m : Mailbox) → 0 < commands → IsPrepared room commands m → IsPrepared 0 1 m
 prepared_one room commands m some p = record {
-  copies = omega (arith, p.copies); opening = p.opening; late = omega arith; unanswered = omega arith; lost = omega arith;
+  copies = omega (arith, p.copies);
+  opening = p.opening;
+  late = omega arith;
+  unanswered = omega arith;
+  lost = omega arith;
   commands_fit = omega (arith, some, p.commands_fit);
 }
 
@@ -113,5 +121,10 @@ begun_room room old new o p = record {
 
 pub prepared_none : (room commands : ℕ) (boxes : List Mailbox) → Every (IsPrepared room commands) boxes → Every (IsPrepared 0 0) boxes
 prepared_none room commands boxes all = every_weaker (IsPrepared room commands) (IsPrepared 0 0) boxes (λ m p. record {
-  copies = omega (arith, p.copies); opening = p.opening; late = omega arith; unanswered = omega arith; lost = omega arith; commands_fit = omega arith;
+  copies = omega (arith, p.copies);
+  opening = p.opening;
+  late = omega arith;
+  unanswered = omega arith;
+  lost = omega arith;
+  commands_fit = omega arith;
 }) all
