@@ -1,0 +1,114 @@
+//! A pass of the run's table, by which its actor does the calls of rows.
+
+ghost use Rattle.std.specs.Prelude.{◌≡◌};
+ghost use Rattle.qc_pass.specs.Tokens.{pass_table};
+
+use crate::conduct::AnyTurn;
+use crate::calls::{Saw, Says};
+use crate::steps::{phase_of, short_of};
+use crate::turn::{is_actor, is_controller, turn_of};
+use qc_decl::Declaration;
+use qc_fabric::{Named, Still};
+use qc_list::OutOfMemory;
+use qc_msg::{Control, Step};
+use qc_pass::Pass;
+use qc_script::Script;
+use std::alloc::Global;
+use std::marker::{Model, PhantomData};
+
+/// A pass of the run's table.
+#[derive(Drop)]
+pub struct Seat<N: Named> {
+    pass: Pass<Step>,
+    of: PhantomData<N>,
+}
+
+impl<N: Named> Model for Seat<N> {
+    ghost use Rattle.std.specs.Prelude.{◌≡◌};
+    ghost use Rattle.qc_pass.specs.Tokens.{pass_table};
+    ghost use Rattle.qc_pass.specs.declared.token.Pass.{Pass};
+    ghost use Rattle.qc_msg.specs.declared.step.Step.{Step};
+
+    ghost Value = { Pass Step };
+
+    ghost view = { λ s. s.pass };
+
+    ghost invariant = { λ s. pass_table s.pass ≡ N.table };
+}
+
+impl<N: Named> Seat<N> {
+    /// The seat of a pass.
+    pub(crate) fn new(pass: Pass<Step>) -> Seat<N>
+        requires { pass_table pass ≡ N.table }
+    {
+        Seat {
+            pass,
+            of: PhantomData,
+        }
+    }
+
+    /// The next phase begins, where it may.
+    pub(crate) fn begin(
+        &mut self,
+        still: &mut Still<AnyTurn, N>,
+        decl: &Declaration,
+        script: &Script,
+    ) -> Result<Saw, OutOfMemory>
+        requires declaration { decl.now ≡ N.declaration }
+        requires script { script.now ≡ N.script }
+    {
+        let phase = phase_of(still.history());
+        let Some(next) = phase.checked_add(1) else {
+            return Ok(Saw::MayNot);
+        };
+        let is_last = phase as usize >= script.phases.items().len();
+        if is_last || !is_controller(decl, self.pass.number()) || !still.quiet(decl) {
+            return Ok(Saw::MayNot);
+        }
+        still.order(script, &mut self.pass, Control::Phase(next))?;
+        Ok(Saw::Began)
+    }
+
+    /// The actor takes its next input.
+    pub(crate) fn take(
+        &mut self,
+        alloc: Global,
+        still: &mut Still<AnyTurn, N>,
+        decl: &Declaration,
+    ) -> Result<Saw, OutOfMemory>
+        requires { decl.now ≡ N.declaration }
+    {
+        let actor = self.pass.number();
+        if !is_actor(decl, actor) {
+            return Ok(Saw::MayNot);
+        }
+        let taken = still.take(alloc, decl, &mut self.pass)?;
+        Ok(Saw::Took(taken.map(|given| short_of(actor, &given))))
+    }
+
+    /// The actor makes room for its turn, and posts it.
+    pub(crate) fn post(
+        &mut self,
+        alloc: Global,
+        still: &mut Still<AnyTurn, N>,
+        decl: &Declaration,
+        says: Says,
+    ) -> Result<Saw, OutOfMemory>
+        requires { decl.now ≡ N.declaration }
+    {
+        if !is_actor(decl, self.pass.number()) || self.pass.room() != 0 {
+            return Ok(Saw::MayNot);
+        }
+        let Some(turn) = turn_of(alloc, says)? else {
+            return Ok(Saw::MayNot);
+        };
+        still.reserve(&mut self.pass, &turn)?;
+        Ok(Saw::Posted(still.post(&mut self.pass, turn)))
+    }
+
+    /// The pass sees the history, and its actor isn't held any more.
+    pub(crate) fn leave(&mut self, still: &mut Still<AnyTurn, N>) {
+        still.look(&mut self.pass);
+        still.leave(&mut self.pass);
+    }
+}

@@ -1,0 +1,67 @@
+//! Steps and inputs in short.
+
+ghost use Rattle.std.specs.Prelude.{◌≡◌};
+ghost use Rattle.qc_script.specs.Ready.{phase_at, phase_of};
+
+use qc_list::OutOfMemory;
+use qc_msg::{Entry, Given, Step};
+use std::alloc::Global;
+
+/// The actor, the kind's letter, and the number of the phase or message, or 0.
+pub type Short = (u8, u8, u32);
+
+/// A step in short: `P`hase, cut (`X`), `H`eal, `C`alled, `G`ot, `L`ost,
+/// `W`rote, `S`ent, `T`old.
+pub(crate) fn short(entry: &Entry) -> Short {
+    match &entry.step {
+        Step::Phase(number) => (entry.actor, b'P', *number),
+        Step::Cut(_, _) => (entry.actor, b'X', 0),
+        Step::Heal(_, _) => (entry.actor, b'H', 0),
+        Step::Called(_) => (entry.actor, b'C', 0),
+        Step::Got(number) => (entry.actor, b'G', *number),
+        Step::Lost(number) => (entry.actor, b'L', *number),
+        Step::Wrote(_) => (entry.actor, b'W', 0),
+        Step::Sent { number, .. } => (entry.actor, b'S', *number),
+        Step::Told(_) => (entry.actor, b'T', 0),
+        Step::Armed { .. } | Step::Fell { .. } | Step::Rose(_) | Step::Damaged(_) => {
+            (entry.actor, b'?', 0)
+        }
+    }
+}
+
+/// An input of an actor in short, by the letters of its step.
+pub(crate) fn short_of(actor: u8, given: &Given) -> Short {
+    match given {
+        Given::Called(_) => (actor, b'C', 0),
+        Given::Got(envelope) => (actor, b'G', envelope.number),
+        Given::Lost { number } => (actor, b'L', *number),
+    }
+}
+
+/// Each step in short.
+pub(crate) fn shorts(alloc: Global, entries: &[Entry]) -> Result<Vec<Short>, OutOfMemory> {
+    let mut steps = Vec::new(alloc);
+    for entry in entries {
+        steps.push(short(entry))?;
+    }
+    Ok(steps)
+}
+
+/// The number of the last phase that began, or 0.
+pub(crate) fn phase_of(entries: &[Entry]) -> u32
+    ensures { result ≡ phase_of entries.now }
+{
+    entries
+        .iter()
+        .fold(0, |phase, entry| phase_at(phase, &entry.step))
+}
+
+/// The phase after a step.
+fn phase_at(phase: u32, step: &Step) -> u32
+    ensures { result ≡ phase_at phase step.now }
+{
+    match step {
+        Step::Phase(number) => *number,
+        _ => phase,
+    }
+}
