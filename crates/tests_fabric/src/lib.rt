@@ -3,18 +3,18 @@
 //! stands in tables.
 #![tactic(auto)]
 
+mod calls;
 mod conduct;
 mod rows;
-mod calls;
-mod top;
 mod seat;
 mod steps;
+mod top;
 mod turn;
 
-pub use conduct::AnyTurn;
 pub use calls::{Act, Row, Saw, Says};
-pub use top::{Ran, run, script_of};
+pub use conduct::AnyTurn;
 pub use steps::Short;
+pub use top::{Ran, run, script_of};
 
 #[cfg(test)]
 mod tests;

@@ -3,8 +3,8 @@
 
 ghost use Rattle.std.specs.Prelude.{◌≡◌};
 
-use crate::conduct::AnyTurn;
 use crate::calls::{Act, Row, Saw};
+use crate::conduct::AnyTurn;
 use crate::seat::Seat;
 use qc_decl::Declaration;
 use qc_fabric::{Named, Still};

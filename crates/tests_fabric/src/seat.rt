@@ -3,8 +3,8 @@
 ghost use Rattle.std.specs.Prelude.{◌≡◌};
 ghost use Rattle.qc_pass.specs.Tokens.{pass_table};
 
-use crate::conduct::AnyTurn;
 use crate::calls::{Saw, Says};
+use crate::conduct::AnyTurn;
 use crate::steps::{phase_of, short_of};
 use crate::turn::{is_actor, is_controller, turn_of};
 use qc_decl::Declaration;

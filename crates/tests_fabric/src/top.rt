@@ -9,9 +9,9 @@ ghost use Rattle.qc_pass.specs.Tokens.{table_of};
 ghost use Rattle.qc_decl.specs.Limits.{most_script_bytes};
 ghost use Rattle.qc_script.specs.Sound.{IsScriptFor};
 
+use crate::calls::Row;
 use crate::conduct::AnyTurn;
 use crate::rows::play;
-use crate::calls::Row;
 use crate::seat::Seat;
 use crate::steps::{Short, shorts};
 use qc_decl::Declaration;
@@ -85,10 +85,7 @@ fn run_named<N: Named>(
 }
 
 /// A seat for each pass.
-fn seats_of<N: Named>(
-    alloc: Global,
-    each: Vec<Pass<Step>>,
-) -> Result<Vec<Seat<N>>, OutOfMemory>
+fn seats_of<N: Named>(alloc: Global, each: Vec<Pass<Step>>) -> Result<Vec<Seat<N>>, OutOfMemory>
     requires { AreNew N.table each.items }
 {
     let mut seats = Vec::new(alloc);
