@@ -18,7 +18,7 @@ sys.dont_write_bytecode = True
 
 import programs
 
-USES = ("qc_bytes",)
+USES = ("qc_record",)
 TIMES = 10_000
 
 

@@ -1,7 +1,0 @@
-use Rattle.std.proofs.Common.{◌≡◌, ◌-◌, None}
-use Rattle.qc_bytes.specs.Form.{items_at}
-use Rattle.qc_bytes.proofs.Loop.{with_front}
-use Rattle.qc_bytes.proofs.item.items.Given as goal
-
-abbrev pub invariant-loop : goal.invariant-loop
-invariant-loop g l = with_front l.items.items (items_at g.T.Item.form l.before (l.count - l.counter) l.rest) ≡ items_at g.T.Item.form None l.count l.bytes

@@ -1,6 +1,0 @@
-use Rattle.std.proofs.Common.{◌≡◌, ◌++◌, take, None}
-use Rattle.qc_bytes.specs.Form.{items_spelled}
-use Rattle.qc_bytes.proofs.item.put_items.Given as goal
-
-abbrev pub invariant-loop-item : goal.invariant-loop-item
-invariant-loop-item g l = l.out.items ≡ l.initial.out.items ++ items_spelled g.T.Item.form None (take l.item-index l.items)

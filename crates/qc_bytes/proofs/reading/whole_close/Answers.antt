@@ -1,6 +1,0 @@
-use Rattle.qc_msg.specs.declared.record.Record.TheVariants as records
-use Rattle.qc_bytes.specs.Records.{body_at, epoch_form}
-use Rattle.qc_bytes.proofs.reading.whole_close.Goals as goal
-
-pub returns : goal.returns
-returns c = c.placed.ensures (body_at records.Close epoch_form c.args.rest.now) c.close.ensures

@@ -1,5 +1,0 @@
-use Rattle.qc_bytes.specs.Records.{body_at, start_form, decide_of}
-use Rattle.qc_bytes.proofs.reading.whole_decide.Goals as goal
-
-pub returns : goal.returns
-returns c = c.placed.ensures (body_at decide_of start_form c.args.rest.now) c.decide.ensures

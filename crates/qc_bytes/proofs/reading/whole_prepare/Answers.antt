@@ -1,6 +1,0 @@
-use Rattle.qc_msg.specs.declared.record.Record.TheVariants as records
-use Rattle.qc_bytes.specs.Records.{body_at, prepared_form}
-use Rattle.qc_bytes.proofs.reading.whole_prepare.Goals as goal
-
-pub returns : goal.returns
-returns c = c.placed.ensures (body_at records.Prepare prepared_form c.args.rest.now) c.prepare.ensures

@@ -1,0 +1,5 @@
+use Rattle.qc_record.proofs.Frames.{no_prefix}
+use Rattle.qc_record.proofs.laws.no_frame_is_a_prefix.Goals as goal
+
+pub returns : goal.returns
+returns c = no_prefix

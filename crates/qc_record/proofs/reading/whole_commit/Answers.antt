@@ -1,0 +1,6 @@
+use Rattle.qc_msg.specs.declared.record.Record.TheVariants as records
+use Rattle.qc_record.specs.Records.{body_at, commit_form}
+use Rattle.qc_record.proofs.reading.whole_commit.Goals as goal
+
+pub returns : goal.returns
+returns c = c.placed.ensures (body_at records.Commit commit_form c.args.rest.now) c.commit.ensures

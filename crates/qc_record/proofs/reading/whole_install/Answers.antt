@@ -1,0 +1,5 @@
+use Rattle.qc_record.specs.Records.{body_at, start_form, install_of}
+use Rattle.qc_record.proofs.reading.whole_install.Goals as goal
+
+pub returns : goal.returns
+returns c = c.placed.ensures (body_at install_of start_form c.args.rest.now) c.install.ensures
