@@ -5,6 +5,8 @@
 
 mod calls;
 mod conduct;
+mod lock;
+mod locked;
 mod rows;
 mod seat;
 mod steps;
@@ -13,6 +15,7 @@ mod turn;
 
 pub use calls::{Act, Row, Saw, Says};
 pub use conduct::AnyTurn;
+pub use locked::run_by_lock;
 pub use steps::Short;
 pub use top::{Ran, run, script_of};
 

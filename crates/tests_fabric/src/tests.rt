@@ -1,6 +1,7 @@
 //! The tables.
 
 use crate::calls::{Act, Row, Saw, Says};
+use crate::locked::run_by_lock;
 use crate::steps::Short;
 use crate::top::{run, script_of};
 use qc_decl::built_in;
@@ -91,5 +92,69 @@ fn calls_of_one_thread(rt: HostRuntime) -> Result<(), Fail> {
     let ran = run(alloc, &decl, &script, &ROWS)?;
     assert_eq!(rt; ran.rows, ROWS.len());
     assert_eq!(rt; ran.steps.as_slice(), STEPS.as_slice());
+    Ok(())
+}
+
+/// What is played before threads share the state.
+const BEFORE: [Row; 1] = [(Act::Phase, Saw::Began)];
+
+/// Each call through the lock with its answer.
+const ROWS_BY_LOCK: [Row; 24] = [
+    (Act::Take(7), Saw::MayNot),
+    (Act::Pick, Saw::Picked(Some(Picked::Actor(3)))),
+    (Act::Take(3), Saw::Took(Some((3, b'C', 0)))),
+    (Act::Post(3, Says::AsksBoth(0, 1)), Saw::Posted(0)),
+    // both sites have an open input at once
+    (Act::Pick, Saw::Picked(Some(Picked::Actor(0)))),
+    (Act::Pick, Saw::Picked(Some(Picked::Actor(1)))),
+    (Act::Take(1), Saw::Took(Some((1, b'G', 1)))),
+    (Act::Take(0), Saw::Took(Some((0, b'G', 0)))),
+    (Act::Post(0, Says::Answers(3, 0)), Saw::Posted(2)),
+    (Act::Post(1, Says::Answers(3, 1)), Saw::Posted(3)),
+    // the client leaves its input open, and isn't picked
+    (Act::Pick, Saw::Picked(Some(Picked::Actor(3)))),
+    (Act::Take(3), Saw::Took(Some((3, b'G', 2)))),
+    (Act::Leave(3), Saw::Left),
+    (Act::Take(3), Saw::Took(None)),
+    (Act::Pick, Saw::Picked(Some(Picked::Quiet))),
+    (Act::Post(3, Says::Nothing), Saw::Posted(4)),
+    // it leaves before it takes, and is picked again
+    (Act::Pick, Saw::Picked(Some(Picked::Actor(3)))),
+    (Act::Leave(3), Saw::Left),
+    (Act::Pick, Saw::Picked(Some(Picked::Actor(3)))),
+    (Act::Take(3), Saw::Took(Some((3, b'G', 3)))),
+    (Act::Post(3, Says::Tells), Saw::Posted(4)),
+    (Act::Take(3), Saw::Took(Some((3, b'C', 0)))),
+    (Act::Post(3, Says::Tells), Saw::Posted(4)),
+    (Act::Pick, Saw::Picked(Some(Picked::Quiet))),
+];
+
+/// The history that these calls make.
+const STEPS_BY_LOCK: [Short; 13] = [
+    (7, b'P', 1),
+    (3, b'C', 0),
+    (3, b'S', 0),
+    (3, b'S', 1),
+    (1, b'G', 1),
+    (0, b'G', 0),
+    (0, b'S', 2),
+    (1, b'S', 3),
+    (3, b'G', 2),
+    (3, b'G', 3),
+    (3, b'T', 0),
+    (3, b'C', 0),
+    (3, b'T', 0),
+];
+
+#[test]
+fn calls_of_one_thread_by_the_lock(rt: HostRuntime) -> Result<(), Fail> {
+    let alloc = rt.alloc();
+    let Some(decl) = built_in(alloc, "@three")? else {
+        return Err(Fail::from("no such declaration"));
+    };
+    let script = script_of(alloc, SCRIPT, &decl)?;
+    let ran = run_by_lock(&rt, alloc, &decl, &script, &BEFORE, &ROWS_BY_LOCK)?;
+    assert_eq!(rt; ran.rows, ROWS_BY_LOCK.len());
+    assert_eq!(rt; ran.steps.as_slice(), STEPS_BY_LOCK.as_slice());
     Ok(())
 }
