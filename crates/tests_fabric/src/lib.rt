@@ -5,15 +5,21 @@
 
 mod calls;
 mod conduct;
+mod lock;
+mod locked;
+mod meeting;
 mod rows;
 mod seat;
 mod steps;
+mod threads;
 mod top;
 mod turn;
 
 pub use calls::{Act, Row, Saw, Says};
 pub use conduct::AnyTurn;
+pub use locked::run_by_lock;
 pub use steps::Short;
+pub use threads::{Both, Served, run_by_threads};
 pub use top::{Ran, run, script_of};
 
 #[cfg(test)]

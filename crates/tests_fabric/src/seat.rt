@@ -19,7 +19,7 @@ use std::marker::{Model, PhantomData};
 /// A pass of the run's table.
 #[derive(Drop)]
 pub struct Seat<N: Named> {
-    pass: Pass<Step>,
+    pub(crate) pass: Pass<Step>,
     of: PhantomData<N>,
 }
 

@@ -1,7 +1,9 @@
 //! The tables.
 
 use crate::calls::{Act, Row, Saw, Says};
+use crate::locked::run_by_lock;
 use crate::steps::Short;
+use crate::threads::{Both, run_by_threads};
 use crate::top::{run, script_of};
 use qc_decl::built_in;
 use qc_fabric::Picked;
@@ -92,4 +94,163 @@ fn calls_of_one_thread(rt: HostRuntime) -> Result<(), Fail> {
     assert_eq!(rt; ran.rows, ROWS.len());
     assert_eq!(rt; ran.steps.as_slice(), STEPS.as_slice());
     Ok(())
+}
+
+/// What is played before threads share the state.
+const BEFORE: [Row; 1] = [(Act::Phase, Saw::Began)];
+
+/// Each call through the lock with its answer.
+const ROWS_BY_LOCK: [Row; 24] = [
+    (Act::Take(7), Saw::MayNot),
+    (Act::Pick, Saw::Picked(Some(Picked::Actor(3)))),
+    (Act::Take(3), Saw::Took(Some((3, b'C', 0)))),
+    (Act::Post(3, Says::AsksBoth(0, 1)), Saw::Posted(0)),
+    // both sites have an open input at once
+    (Act::Pick, Saw::Picked(Some(Picked::Actor(0)))),
+    (Act::Pick, Saw::Picked(Some(Picked::Actor(1)))),
+    (Act::Take(1), Saw::Took(Some((1, b'G', 1)))),
+    (Act::Take(0), Saw::Took(Some((0, b'G', 0)))),
+    (Act::Post(0, Says::Answers(3, 0)), Saw::Posted(2)),
+    (Act::Post(1, Says::Answers(3, 1)), Saw::Posted(3)),
+    // the client leaves its input open, and isn't picked
+    (Act::Pick, Saw::Picked(Some(Picked::Actor(3)))),
+    (Act::Take(3), Saw::Took(Some((3, b'G', 2)))),
+    (Act::Leave(3), Saw::Left),
+    (Act::Take(3), Saw::Took(None)),
+    (Act::Pick, Saw::Picked(Some(Picked::Quiet))),
+    (Act::Post(3, Says::Nothing), Saw::Posted(4)),
+    // it leaves before it takes, and is picked again
+    (Act::Pick, Saw::Picked(Some(Picked::Actor(3)))),
+    (Act::Leave(3), Saw::Left),
+    (Act::Pick, Saw::Picked(Some(Picked::Actor(3)))),
+    (Act::Take(3), Saw::Took(Some((3, b'G', 3)))),
+    (Act::Post(3, Says::Tells), Saw::Posted(4)),
+    (Act::Take(3), Saw::Took(Some((3, b'C', 0)))),
+    (Act::Post(3, Says::Tells), Saw::Posted(4)),
+    (Act::Pick, Saw::Picked(Some(Picked::Quiet))),
+];
+
+/// The history that these calls make.
+const STEPS_BY_LOCK: [Short; 13] = [
+    (7, b'P', 1),
+    (3, b'C', 0),
+    (3, b'S', 0),
+    (3, b'S', 1),
+    (1, b'G', 1),
+    (0, b'G', 0),
+    (0, b'S', 2),
+    (1, b'S', 3),
+    (3, b'G', 2),
+    (3, b'G', 3),
+    (3, b'T', 0),
+    (3, b'C', 0),
+    (3, b'T', 0),
+];
+
+#[test]
+fn calls_of_one_thread_by_the_lock(rt: HostRuntime) -> Result<(), Fail> {
+    let alloc = rt.alloc();
+    let Some(decl) = built_in(alloc, "@three")? else {
+        return Err(Fail::from("no such declaration"));
+    };
+    let script = script_of(alloc, SCRIPT, &decl)?;
+    let ran = run_by_lock(&rt, alloc, &decl, &script, &BEFORE, &ROWS_BY_LOCK)?;
+    assert_eq!(rt; ran.rows, ROWS_BY_LOCK.len());
+    assert_eq!(rt; ran.steps.as_slice(), STEPS_BY_LOCK.as_slice());
+    Ok(())
+}
+
+/// The client asks two sites, before threads share the state.
+const ASKED: [Row; 4] = [
+    (Act::Phase, Saw::Began),
+    (Act::Pick, Saw::Picked(Some(Picked::Actor(3)))),
+    (Act::Take(3), Saw::Took(Some((3, b'C', 0)))),
+    (Act::Post(3, Says::AsksBoth(0, 1)), Saw::Posted(0)),
+];
+
+/// The histories that may come of it: both sites take before either posts, and
+/// who comes first is open each time. The numbers are those of the messages of
+/// the site 0 and of the site 1.
+const HISTORIES: [([Short; 8], u32, u32); 4] = [
+    (
+        [
+            (7, b'P', 1),
+            (3, b'C', 0),
+            (3, b'S', 0),
+            (3, b'S', 1),
+            (0, b'G', 0),
+            (1, b'G', 1),
+            (0, b'S', 2),
+            (1, b'S', 3),
+        ],
+        2,
+        3,
+    ),
+    (
+        [
+            (7, b'P', 1),
+            (3, b'C', 0),
+            (3, b'S', 0),
+            (3, b'S', 1),
+            (0, b'G', 0),
+            (1, b'G', 1),
+            (1, b'S', 2),
+            (0, b'S', 3),
+        ],
+        3,
+        2,
+    ),
+    (
+        [
+            (7, b'P', 1),
+            (3, b'C', 0),
+            (3, b'S', 0),
+            (3, b'S', 1),
+            (1, b'G', 1),
+            (0, b'G', 0),
+            (0, b'S', 2),
+            (1, b'S', 3),
+        ],
+        2,
+        3,
+    ),
+    (
+        [
+            (7, b'P', 1),
+            (3, b'C', 0),
+            (3, b'S', 0),
+            (3, b'S', 1),
+            (1, b'G', 1),
+            (0, b'G', 0),
+            (1, b'S', 2),
+            (0, b'S', 3),
+        ],
+        3,
+        2,
+    ),
+];
+
+#[test]
+fn two_threads_have_open_inputs_at_once(rt: HostRuntime) -> Result<(), Fail> {
+    let alloc = rt.alloc();
+    let Some(decl) = built_in(alloc, "@three")? else {
+        return Err(Fail::from("no such declaration"));
+    };
+    let script = script_of(alloc, SCRIPT, &decl)?;
+    let says = (Says::Answers(3, 0), Says::Answers(3, 1));
+    let Some(both) = run_by_threads(&rt, alloc, &decl, &script, &ASKED, says)? else {
+        return Err(Fail::from("a row before the threads"));
+    };
+    assert_eq!(rt; both.met, 2);
+    assert_eq!(rt; both.first.0, Saw::Took(Some((0, b'G', 0))));
+    assert_eq!(rt; both.second.0, Saw::Took(Some((1, b'G', 1))));
+    assert!(rt; HISTORIES.iter().any(|row| is_of(&both, row)));
+    Ok(())
+}
+
+/// Whether the history is this one, with the messages' numbers.
+fn is_of(both: &Both, row: &([Short; 8], u32, u32)) -> bool {
+    both.steps.as_slice() == row.0.as_slice()
+        && both.first.1 == Saw::Posted(row.1)
+        && both.second.1 == Saw::Posted(row.2)
 }

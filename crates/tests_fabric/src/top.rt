@@ -73,15 +73,34 @@ fn run_named<N: Named>(
     requires right { IsFirst N.table (controller N.declaration + 1) made.right }
     requires each { AreNew N.table made.each.items }
 {
+    let (mut still, mut seats) = begun::<N>(alloc, decl, script, made)?;
+    let rows = play(alloc, decl, script, &mut still, &mut seats, rows)?;
+    ended(alloc, still, rows)
+}
+
+/// The state at its beginning, with a seat for each pass.
+pub(crate) fn begun<N: Named>(
+    alloc: Global,
+    decl: &Declaration,
+    script: &Script,
+    made: Made<Step>,
+) -> Result<(Still<AnyTurn, N>, Vec<Seat<N>>), OutOfMemory>
+    requires declaration { decl.now ≡ N.declaration }
+    requires script { script.now ≡ N.script }
+    requires sound { IsScriptFor N.declaration N.script }
+    requires few { controller N.declaration < 34 }
+    requires table { table_of made.passes ≡ N.table }
+    requires right { IsFirst N.table (controller N.declaration + 1) made.right }
+    requires each { AreNew N.table made.each.items }
+{
     let Made {
         passes,
         right,
         each,
     } = made;
-    let mut still: Still<AnyTurn, N> = Still::make(alloc, decl, script, passes, right)?;
-    let mut seats: Vec<Seat<N>> = seats_of(alloc, each)?;
-    let rows = play(alloc, decl, script, &mut still, &mut seats, rows)?;
-    ended(alloc, still, rows)
+    let still: Still<AnyTurn, N> = Still::make(alloc, decl, script, passes, right)?;
+    let seats: Vec<Seat<N>> = seats_of(alloc, each)?;
+    Ok((still, seats))
 }
 
 /// A seat for each pass.
@@ -96,7 +115,7 @@ fn seats_of<N: Named>(alloc: Global, each: Vec<Pass<Step>>) -> Result<Vec<Seat<N
 }
 
 /// What the state leaves.
-fn ended<N: Named>(
+pub(crate) fn ended<N: Named>(
     alloc: Global,
     still: Still<AnyTurn, N>,
     rows: usize,
