@@ -29,12 +29,10 @@ OPENINGS = 10
 
 def call(words, told):
     """The processor seconds of a call, which has to tell this."""
-    ran = subprocess.Popen(words, stdout=subprocess.PIPE, text=True)
-    found = ran.stdout.read()
-    _, status, used = os.wait4(ran.pid, 0)
-    if status or found.split() != [str(told)]:
-        sys.exit("%s ended with status %d and told %r" % (" ".join(words), status, found))
-    return used.ru_utime + used.ru_stime
+    took, _, found = programs.call(words)
+    if found.split() != [str(told)]:
+        sys.exit("%s told %r" % (" ".join(words), found))
+    return took
 
 
 def least(paths, rounds):

@@ -6,6 +6,7 @@ a temporary folder, beside a copy of the crates that it uses.
 import os
 import shutil
 import subprocess
+import sys
 
 ROOT = os.path.dirname(os.path.dirname(os.path.abspath(__file__)))
 
@@ -51,3 +52,13 @@ def build(folder, name, template, uses):
         file.write("%s: %s\n" % (name, " ".join(uses)))
     subprocess.run(["rt", "run"], cwd=os.path.join(folder, "crates", name), check=True, stdout=subprocess.DEVNULL)
     return os.path.join(folder, "crates", name, "out", name)
+
+
+def call(words):
+    """The processor seconds of a call, its peak of memory in megabytes, and what it wrote. A call that fails ends all."""
+    ran = subprocess.Popen(words, stdout=subprocess.PIPE, text=True)
+    told = ran.stdout.read()
+    _, status, used = os.wait4(ran.pid, 0)
+    if status:
+        sys.exit("%s ended with status %d" % (" ".join(words), status))
+    return used.ru_utime + used.ru_stime, used.ru_maxrss / 1024, told

@@ -39,16 +39,6 @@ CASES = {
 }
 
 
-def seconds(words):
-    """The processor seconds of a call, and what it wrote."""
-    ran = subprocess.Popen(words, stdout=subprocess.PIPE, text=True)
-    told = ran.stdout.read().strip()
-    _, status, used = os.wait4(ran.pid, 0)
-    if status:
-        sys.exit("%s ended with status %d" % (" ".join(words), status))
-    return used.ru_utime + used.ru_stime, told
-
-
 def main():
     rounds = int(sys.argv[1]) if len(sys.argv) > 1 else 5
     resource.setrlimit(resource.RLIMIT_CORE, (0, 0))
@@ -64,10 +54,10 @@ def main():
             for what, more, due in (("read", [], 0), ("read and written", ["write"], TIMES * len(body))):
                 least = []
                 for words in ([program], [walk]):
-                    calls = [seconds(words + [name, str(TIMES)] + more) for _ in range(rounds)]
-                    if any(told != str(due) for _, told in calls):
+                    calls = [programs.call(words + [name, str(TIMES)] + more) for _ in range(rounds)]
+                    if any(told.strip() != str(due) for _, _, told in calls):
                         sys.exit("%s: %s" % (case, calls))
-                    least.append(min(took for took, _ in calls))
+                    least.append(min(took for took, _, _ in calls))
                 print("%-20s %-18s %7.3f s, plain %7.3f s" % (case, what, *least))
 
 

@@ -63,16 +63,6 @@ ENDS = {"step limit": "full"}
 MORE = {"100,000, rules": [str(RULES)]}
 
 
-def call(words):
-    """The processor seconds of a call, its peak of memory in megabytes, and what it wrote."""
-    ran = subprocess.Popen(words, stdout=subprocess.PIPE, text=True)
-    told = ran.stdout.read()
-    _, status, used = os.wait4(ran.pid, 0)
-    if status:
-        sys.exit("%s ended with status %d" % (" ".join(words), status))
-    return used.ru_utime + used.ru_stime, used.ru_maxrss / 1024, told
-
-
 def main():
     rounds = int(sys.argv[1]) if len(sys.argv) > 1 else 7
     resource.setrlimit(resource.RLIMIT_CORE, (0, 0))
@@ -90,7 +80,7 @@ def main():
         seen = {name: [] for name in calls}
         for _ in range(rounds):
             for name, words in calls.items():
-                seen[name].append(call(words))
+                seen[name].append(programs.call(words))
     time, memory = {}, {}
     for name, measured in seen.items():
         time[name] = statistics.median(seconds for seconds, _, _ in measured)
