@@ -7,3 +7,4 @@ pub mod Elsewhere
 pub mod Acting
 pub mod Succeeds
 pub mod Wrong
+pub mod Scripts

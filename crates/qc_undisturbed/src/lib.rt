@@ -20,12 +20,15 @@
 //!    ended (`undisturbed_dos_succeed`).
 //! 7. And each commit of a transaction that may commit does
 //!    (`undisturbed_commits_succeed`).
-//! 8. Wrong histories are refused (`wrong_refusals_are_refused`,
+//! 8. Some scripts are undisturbed, and others aren't
+//!    (`undisturbed_scripts_are_told_apart`).
+//! 9. Wrong histories are refused (`wrong_refusals_are_refused`,
 //!    `wrong_endings_are_refused`).
 #![tactic(auto)]
 
 mod messages;
 mod rest;
+mod scripts;
 mod success;
 mod wrong;
 
@@ -33,5 +36,6 @@ pub use messages::{
     answers_fit_their_requests, lives_and_epochs_are_the_first, no_request_is_lost,
 };
 pub use rest::{one_client_acts_at_a_time, what_is_held_at_rest_is_begun};
+pub use scripts::undisturbed_scripts_are_told_apart;
 pub use success::{undisturbed_commits_succeed, undisturbed_dos_succeed};
 pub use wrong::{wrong_endings_are_refused, wrong_refusals_are_refused};
