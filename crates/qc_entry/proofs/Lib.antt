@@ -5,3 +5,4 @@ pub mod Union
 pub mod Without
 pub mod Members
 pub mod Walks
+mod OneObject

@@ -1,10 +1,10 @@
 -- The lines of a log that another lacks.
-use Rattle.std.proofs.Common.{◌≡◌, List, [], ◌∷◌, false, cond, refl, ap, subst}
+use Rattle.std.proofs.Common.{◌≡◌, ℕ, zero, suc, take, drop, List, [], ◌∷◌, false, cond, refl, ap, ◌∙◌, subst}
 use Rattle.std.proofs.lemmas.Cmp.{tied_itself}
 use Rattle.std.specs.declared.cmp.Ordering.TheVariants.{Less, Equal, Greater}
 use Rattle.std.specs.Prelude.{not}
 use Rattle.qc_entry.specs.declared.line.Line.{Line}
-use Rattle.qc_entry.specs.Line.{line_cmp}
+use Rattle.qc_entry.specs.Line.{line_cmp, IsAscending}
 use Rattle.qc_list.specs.Order.{IsBelowAll}
 use Rattle.qc_entry.specs.Log.{has_line, without}
 use Rattle.qc_entry.proofs.Orders.{line_order, above, below}
@@ -42,3 +42,16 @@ pub without-Greater : (x : Line) (xs : List Line) (y : Line) (ys : List Line) �
 without-Greater x xs y ys greater low =
     let less : line_cmp y x ≡ Less = above x y greater in
     without-below (x ∷ xs) y ys (less, below_trans line_cmp line_order.total y x xs less low)
+
+-- what two ascending lists begin with alike brings nothing
+pub without-shared : (n : ℕ) (xs ys : List Line) → IsAscending xs → IsAscending ys → take n xs ≡ take n ys
+    → without xs ys ≡ without (drop n xs) (drop n ys)
+without-shared zero xs ys up other alike = refl
+without-shared (suc n) [] [] up other alike = refl
+without-shared (suc n) [] (y ∷ ys) up other alike = absurd (let never : ⊥ = cc in never)
+without-shared (suc n) (x ∷ xs) [] up other alike = absurd (let never : ⊥ = cc in never)
+without-shared (suc n) (x ∷ xs) (y ∷ ys) up other alike =
+    let same : x ≡ y = cc in
+    let rest : take n xs ≡ take n ys = cc in
+    let equal : line_cmp x y ≡ Equal = subst (λ l. line_cmp x l ≡ Equal) same (tied_itself line_order.total x) in
+    without-Equal x xs y ys equal up.0 ∙ without-shared n xs ys up.1 other.1 rest

@@ -5,7 +5,7 @@ ghost use Rattle.qc_entry.specs.Line.{IsAscending};
 ghost use Rattle.qc_entry.specs.Log.{union, of_object, since_stamp, without};
 
 use crate::Line;
-use crate::slices::{behind, both, later, merged, of_one, rest_of};
+use crate::slices::{all_are_of, behind, both, later, merged, of_one, rest_of};
 use qc_list::OutOfMemory;
 use qc_stamp::Stamp;
 use std::alloc::Global;
@@ -66,6 +66,39 @@ impl Log {
         self.join(other.lines())
     }
 
+    /// Adds the lines of another log to this one and to a second, each once: to
+    /// both, or after want of memory to neither.
+    pub fn merge_both(&mut self, second: &mut Log, other: &Log) -> Result<(), OutOfMemory>
+        ensures ok { OnOk result ((self.new ≡ union self.old other.now) × (second.new ≡ union second.old other.now)) }
+        ensures err { OnErr result ((self.new ≡ self.old) × (second.new ≡ second.old)) }
+    {
+        let count = self.lines.len();
+        let Some(rest) = behind(self.lines.as_slice(), other.lines()) else {
+            return self.merge_apart(second, other);
+        };
+        self.lines.extend_from_slice(rest)?;
+        let second = second.merge(other);
+        if second.is_err() {
+            self.lines.truncate(count);
+        }
+        second
+    }
+
+    /// The same by a copy of this log, where lines belong between its own.
+    fn merge_apart(&mut self, second: &mut Log, other: &Log) -> Result<(), OutOfMemory>
+        ensures ok { OnOk result ((self.new ≡ union self.old other.now) × (second.new ≡ union second.old other.now)) }
+        ensures err { OnErr result ((self.new ≡ self.old) × (second.new ≡ second.old)) }
+    {
+        let all = merged(
+            *self.lines.allocator(),
+            self.lines.as_slice(),
+            other.lines(),
+        )?;
+        second.merge(other)?;
+        self.lines = all;
+        Ok(())
+    }
+
     /// The lines of both logs in memory of their own, or `None` where this log
     /// begins with the other, which then brings nothing.
     pub fn union(&self, other: &Log) -> Result<Option<Log>, OutOfMemory>
@@ -112,10 +145,14 @@ impl Log {
         })
     }
 
-    /// The lines of one object.
+    /// The lines of one object. Where all are of it they are copied whole, and
+    /// not line by line.
     pub fn of(&self, object: u8) -> Result<Log, OutOfMemory>
         ensures { IfOk result (λ l. l ≡ of_object self.now object) }
     {
+        if all_are_of(self.lines.as_slice(), object) {
+            return self.copy();
+        }
         Ok(Log {
             lines: of_one(*self.lines.allocator(), self.lines.as_slice(), object)?,
         })

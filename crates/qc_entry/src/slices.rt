@@ -1,7 +1,7 @@
 //! Work on slices of lines, each linear in their lengths.
 
-ghost use Rattle.std.specs.Prelude.{◌≡◌, ◌≤◌, ◌↔◌, ◌++◌, ℕ, IfOk, IfSome, IsTrue, length, take};
-ghost use Rattle.std.specs.List.{AllByRecursion};
+ghost use Rattle.std.specs.Prelude.{◌≡◌, ◌≤◌, ◌↔◌, ◌++◌, ◌==◌, ℕ, IfOk, IfSome, IsTrue, length, take};
+ghost use Rattle.std.specs.List.{AllByRecursion, list_all};
 ghost use Rattle.std.specs.declared.cmp.Ordering.TheVariants.{Less};
 ghost use Rattle.qc_entry.specs.Line.{line_cmp, IsAscending};
 ghost use Rattle.qc_entry.specs.Log.{union, of_object, since_stamp, without};
@@ -41,8 +41,19 @@ pub(crate) fn merged(alloc: Global, a: &[Line], b: &[Line]) -> Result<Vec<Line>,
     Ok(out)
 }
 
-/// The lines of the first sorted slice that aren't in the second.
+/// The lines of the first sorted slice that aren't in the second. What both
+/// begin with alike is passed over: a site's records give most of its log.
 pub(crate) fn rest_of(alloc: Global, a: &[Line], b: &[Line]) -> Result<Vec<Line>, OutOfMemory>
+    requires first { IsAscending a.now }
+    requires second { IsAscending b.now }
+    ensures { IfOk result (λ v. v.items ≡ without a.now b.now) }
+{
+    let n = shared(a, b);
+    others_of(alloc, &a[n..], &b[n..])
+}
+
+/// The same, line by line.
+fn others_of(alloc: Global, a: &[Line], b: &[Line]) -> Result<Vec<Line>, OutOfMemory>
     requires first { IsAscending a.now }
     requires second { IsAscending b.now }
     ensures { IfOk result (λ v. v.items ≡ without a.now b.now) }
@@ -78,6 +89,13 @@ pub(crate) fn later(alloc: Global, lines: &[Line], stamp: Stamp) -> Result<Vec<L
         .filter(|l| stamp.compare(&l.stamp).is_lt())
         .copied()
         .collect(alloc)
+}
+
+/// Whether all lines are of this object.
+pub(crate) fn all_are_of(lines: &[Line], object: u8) -> bool
+    ensures { result ≡ list_all (λ l. l.object == object) lines.now }
+{
+    lines.iter().all(|l| l.object == object)
 }
 
 /// The lines of one object, in memory that holds just these: messages keep it.
@@ -125,7 +143,7 @@ fn shared(a: &[Line], b: &[Line]) -> usize
     ensures alike { take result a.now ≡ take result b.now }
 {
     let mut n = 0;
-    'lines: while n < a.len() && n < b.len() && a[n].compare(&b[n]).is_eq() {
+    'lines: while n < a.len() && n < b.len() && a[n] == b[n] {
         n += 1;
     }
     n

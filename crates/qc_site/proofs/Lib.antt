@@ -1,4 +1,3 @@
-mod Lines
 pub mod Holders
 pub mod Cases
 pub mod Clocks

@@ -44,10 +44,7 @@ impl Site {
             return Ok(Turn::quiet(alloc));
         };
         let lines = lines_of(alloc, stamp, tx, promise.own.items())?;
-        let mut recorded = self.recorded.copy()?;
-        recorded.merge(&lines)?;
-        self.log.merge(&lines)?;
-        self.recorded = recorded;
+        self.recorded.merge_both(&mut self.log, &lines)?;
         self.forget(tx);
         Ok(records_done(alloc, tx, stamp))
     }

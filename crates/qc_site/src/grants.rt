@@ -68,7 +68,7 @@ impl Site {
         ensures err { OnErr result (self.new ≡ self.old) }
     {
         let kind = kind_of(decl, object).unwrap();
-        let turn = asker.answered(alloc, self.granted(lines_on(&self.log, object)?))?;
+        let turn = asker.answered(alloc, self.granted(self.log.of(object)?))?;
         match self.held.try_read(kind, tx, object, inv) {
             Ok(()) => Ok(turn),
             Err(LockFault::Conflict(clash)) => clashing(alloc, decl, asker, clash),
@@ -142,23 +142,4 @@ fn clashing(
         message: Message::Inquiry { tx: holder },
     })?;
     Ok(Turn::sending(alloc, sends))
-}
-
-/// A log's lines of one object. Where all are of it the log is copied whole,
-/// and not line by line.
-fn lines_on(log: &Log, object: u8) -> Result<Log, OutOfMemory>
-    ensures { IfOk result (λ l. l ≡ of_object log.now object) }
-{
-    if all_are_on(log.lines(), object) {
-        log.copy()
-    } else {
-        log.of(object)
-    }
-}
-
-/// Whether all lines are of this object.
-fn all_are_on(lines: &[Line], object: u8) -> bool
-    ensures { result ≡ list_all (λ l. l.object == object) lines.now }
-{
-    lines.iter().all(|l| l.object == object)
 }

@@ -1,7 +1,7 @@
 use Rattle.std.proofs.Common.{length, ◌-◌, ◌+◌}
 use Rattle.qc_entry.specs.Log.{without}
 use Rattle.qc_entry.proofs.Walks.{IsWalk}
-use Rattle.qc_entry.proofs.slices.rest_of.Given as goal
+use Rattle.qc_entry.proofs.slices.others_of.Given as goal
 
 abbrev pub invariant-lines : goal.invariant-lines
 invariant-lines l = IsWalk without l.a l.b l.i l.j l.out.items
