@@ -58,6 +58,20 @@ fn rest(alloc: Global, lines: &[Line], other: &Log) -> Result<Log, OutOfMemory> 
     log.without(other)
 }
 
+/// The log of these lines, after another's were added to it and to the first.
+fn joined(alloc: Global, first: &mut Log, lines: &[Line], other: &Log) -> Result<Log, OutOfMemory> {
+    let mut second = log(alloc, lines)?;
+    first.merge_both(&mut second, other)?;
+    Ok(second)
+}
+
+/// The union of these lines' log with another.
+fn united(alloc: Global, lines: &[Line], other: &Log) -> Result<Log, OutOfMemory> {
+    let log = log(alloc, lines)?;
+    let all = log.union(other)?;
+    Ok(all.unwrap_or(log))
+}
+
 /// The first and the second line, added in another order and one of them twice,
 /// and the second and the third with that log, and without it.
 #[test]
@@ -70,6 +84,38 @@ fn logs_are_sorted_with_each_line_once(rt: HostRuntime) {
     let others = [second, third];
     assert!(rt; has(merged(rt.alloc(), &others, &log), &[first, second, third]));
     assert!(rt; has(rest(rt.alloc(), &others, &log), &[third]));
+}
+
+/// Lines that belong behind those of one log and between those of the other.
+#[test]
+fn lines_join_two_logs_at_once(rt: HostRuntime) {
+    let [first, second, third] = lines();
+    let Ok(other) = log(rt.alloc(), &[second]) else {
+        panic!(&rt; "no other");
+    };
+    assert!(rt;
+        has(
+            united(rt.alloc(), &[first, third], &other),
+            &[first, second, third]
+        )
+    );
+    let Ok(mut one) = log(rt.alloc(), &[first]) else {
+        panic!(&rt; "no log");
+    };
+    assert!(rt;
+        has(
+            joined(rt.alloc(), &mut one, &[first, third], &other),
+            &[first, second, third]
+        )
+    );
+    assert!(rt; one.lines() == [first, second].as_slice());
+    assert!(rt;
+        has(
+            joined(rt.alloc(), &mut one, &[third], &other),
+            &[second, third]
+        )
+    );
+    assert!(rt; one.lines() == [first, second].as_slice());
 }
 
 #[test]
