@@ -15,7 +15,7 @@ every-rest P (suc n) [] all = all
 every-rest P (suc n) (x ∷ xs) all = every-rest P n xs all.1
 
 -- the two lists, from their place on
-from : (lines others : List Line) (n : ℕ) → take n lines ≡ take n others → union lines others ≡ take n lines ++ union (drop n lines) (drop n others)
+pub from : (lines others : List Line) (n : ℕ) → take n lines ≡ take n others → union lines others ≡ take n lines ++ union (drop n lines) (drop n others)
 from lines others n alike =
     let front : others ≡ take n lines ++ drop n others =
     sym (take-append-drop n others) ∙ ap (λ zs. zs ++ drop n others) (sym alike) in

@@ -12,13 +12,16 @@ use qc_stamp::Stamp;
 use std::alloc::Global;
 use std::cmp::Ordering;
 
-/// The lines of two sorted slices in order, each once.
+/// The lines of two sorted slices in order, each once. What both begin with
+/// alike is copied at once.
 pub(crate) fn merged(alloc: Global, a: &[Line], b: &[Line]) -> Result<Vec<Line>, OutOfMemory>
     ensures { IfOk result (λ v. v.items ≡ union a.now b.now) }
 {
+    let n = shared(a, b);
     let mut out = Vec::with_capacity(alloc, a.len())?;
-    let mut i = 0;
-    let mut j = 0;
+    out.extend_from_slice(&a[..n])?;
+    let mut i = n;
+    let mut j = n;
     'lines: while i < a.len() && j < b.len() {
         match a[i].compare(&b[j]) {
             Ordering::Less => {
