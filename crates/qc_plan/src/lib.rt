@@ -9,18 +9,18 @@
 //!    site with each final quorum of an event on which the invocation depends.
 //! 2. The close weight is the least that adds with each threshold above 0 to
 //!    more than all weight. So sites of that weight share a site with every
-//!    quorum of such a threshold. Lighter ones may do so too: with the weights
-//!    2, 2 and 2 and the threshold 3 it is 4, though 3 would do.
+//!    quorum of such a threshold. A smaller number may pick the same sites: with
+//!    the weights 2, 2 and 2 and the threshold 3 it is 4, though 3 would do,
+//!    since no sites weigh just 3.
 //! 3. A round asks sites until those that granted weigh what is needed: none of
 //!    weight 0, in the order in which it lists them.
 //! 4. What a round comes to depends on the asked sites and what was noted of
 //!    them, and is final only once each asked site is noted.
 //! 5. A round takes memory as it starts or is copied, and else none.
 //!
-//! `qc_accept` admits the plan of each declared epoch, and front ends read its
-//! thresholds. Rounds, `initial_met`, `final_met` and the close weight have no
-//! caller yet: front ends over several sites and changes of epochs will ask
-//! them.
+//! `qc_accept` admits the plan of each declared epoch, and front ends ask sites
+//! by rounds. `initial_met`, `final_met` and the close weight have no caller
+//! yet: changes of epochs will ask them.
 #![tactic(auto)]
 
 mod admission;

@@ -1,11 +1,12 @@
 //! The protocol of replication by quorum consensus, with two-phase commit and
 //! presumed abort, as an abstract machine, and what every run of it keeps.
 //!
-//! A run is a list of acts of any number of sites and clients, over every
-//! schedule; messages may be lost, repeated and late, sites and clients fall
-//! and rise, and quorums change from epoch to epoch. The machine is in four
-//! files: `specs/State`, `specs/Acts`, `specs/Asked` (the guards by name) and
-//! `specs/Guards`. Each law is the contract of a function with nothing to do. Its invariants:
+//! A run is a list of acts of the declared sites and clients, at most 16 of
+//! each, over every schedule; messages may be lost, repeated and late, sites and
+//! clients fall and rise, and quorums change from epoch to epoch. The machine is
+//! in four files: `specs/State`, `specs/Acts`, `specs/Asked` (the guards by name)
+//! and `specs/Guards`. Each law is the contract of a function with nothing to do.
+//! Its invariants:
 //!
 //! 1. What a site granted and the client counted is held until the site's first
 //!    Done or its next Install (the held law).
@@ -19,7 +20,7 @@
 //!    their stamps, each transaction once; and verdicts agree with them.
 //!
 //! The system's own theorem needs only that each of its events is such a step.
-//! There is no code here: the must-fail edits turn the machine's definitions.
+//! There is no code here.
 #![tactic(auto)]
 
 mod held;

@@ -10,8 +10,7 @@
 //! 2. Each guard is needed: without it, some run breaks a guarantee.
 //! 3. Every run keeps each guarantee.
 //!
-//! There is no code here. The must-fail edits turn definitions. Nothing stands
-//! on this crate.
+//! There is no code here. Nothing stands on this crate.
 #![tactic(auto)]
 
 mod appends;
