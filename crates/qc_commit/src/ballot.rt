@@ -9,7 +9,7 @@ use qc_msg::{Answer, Begun, Why, life_of};
 use std::alloc::Global;
 
 /// What a participant's answer to a Prepare comes to.
-#[derive(Clone, Copy, Debug, PartialEq, Eq)]
+#[derive(Clone, Copy)]
 pub enum Vote {
     /// It promises.
     For,
@@ -18,7 +18,7 @@ pub enum Vote {
 }
 
 /// A participant with its vote, once it is known.
-#[derive(Clone, Copy, Debug, PartialEq, Eq)]
+#[derive(Clone, Copy)]
 pub struct Ballot {
     /// The participant's site.
     pub site: u8,

@@ -47,18 +47,17 @@ impl Desk {
                 client: self.client,
             };
             let turn = commit(&mut self.commits, alloc, begun, stamp)?;
-            self.clock = Clock { value: stamp.clock };
-            self.voting = None;
+            self.replace(Clock { value: stamp.clock }, None);
             return Ok(turn);
         }
+        let sends = prepares(alloc, begun, sites.as_slice())?;
+        let ballots = blank(alloc, sites.as_slice())?;
         let voting = Voting {
             begun: begun.copy()?,
             calls: Calls::new(),
-            ballots: List::from_vec(blank(alloc, sites.as_slice())?),
+            ballots: List::from_vec(ballots),
         };
-        let sends = prepares(alloc, begun, sites.as_slice())?;
-        self.clock = passed;
-        self.voting = Some(voting);
+        self.replace(passed, Some(voting));
         Ok(Turn::sending(alloc, List::from_vec(sends)))
     }
 
@@ -107,9 +106,8 @@ impl Desk {
                 commit(&mut self.commits, alloc, &voting.begun, stamp)?
             }
         };
-        self.clock = clock;
         self.epoch = epoch;
-        self.voting = None;
+        self.replace(clock, None);
         Ok(turn)
     }
 
@@ -199,20 +197,36 @@ fn commit(
     ensures kept { OnOk result (commits.new ≡ commits.old ++ commit_of stamp begun.now ∷ []) }
     ensures err { OnErr result (commits.new ≡ commits.old) }
 {
-    let record = Commit {
-        stamp,
-        tx: begun.tx,
-        ops: begun.ops.copy()?,
-    };
-    let turn = Turn {
-        write: Some(Record::Commit(record.copy()?)),
-        sends: begun.decisions(alloc, Outcome::Committed { stamp })?,
+    let sends = begun.decisions(alloc, Outcome::Committed { stamp })?;
+    let record = record_of(begun, stamp)?;
+    keep(commits, begun, stamp)?;
+    Ok(Turn {
+        write: Some(Record::Commit(record)),
+        sends,
         told: Some(Reply::Committed { stamp }),
         failed_sends: List::new(alloc),
         failed_told: Some(Reply::Unknown),
-    };
-    commits.push(record)?;
-    Ok(turn)
+    })
+}
+
+/// The desk keeps the commit record of a transaction with this stamp. After
+/// want of memory the records are as they were.
+fn keep(commits: &mut Commits, begun: &Begun, stamp: Stamp) -> Result<(), OutOfMemory>
+    ensures kept { OnOk result (commits.new ≡ commits.old ++ commit_of stamp begun.now ∷ []) }
+    ensures err { OnErr result (commits.new ≡ commits.old) }
+{
+    commits.push(record_of(begun, stamp)?)
+}
+
+/// The commit record of a transaction with this stamp.
+fn record_of(begun: &Begun, stamp: Stamp) -> Result<Commit, OutOfMemory>
+    ensures { IfOk result (λ r. r ≡ commit_of stamp begun.now) }
+{
+    Ok(Commit {
+        stamp,
+        tx: begun.tx,
+        ops: begun.ops.copy()?,
+    })
 }
 
 /// The turn that aborts a transaction for this cause.

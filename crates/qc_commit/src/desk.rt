@@ -25,7 +25,7 @@ pub struct Voting {
 }
 
 /// What a client's records tell of a transaction.
-#[derive(Clone, Copy, Debug, PartialEq, Eq)]
+#[derive(Clone, Copy)]
 pub enum Known {
     /// It committed, with this stamp.
     Committed { stamp: Stamp },
@@ -62,6 +62,14 @@ impl Desk {
             commits: List::new(alloc),
             voting: None,
         }
+    }
+
+    /// It has this clock, and waits for these votes, or for none.
+    pub(crate) fn replace(&mut self, clock: Clock, voting: Option<Voting>)
+        ensures { self.new ≡ record self.old { clock = clock; voting = voting } }
+    {
+        self.clock = clock;
+        self.voting = voting;
     }
 
     /// The greatest clock of those that it was handed, of the votes that

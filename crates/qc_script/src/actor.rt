@@ -6,7 +6,7 @@ ghost use Rattle.qc_script.specs.Forms.{actor_of, numbered_of, client_of};
 use crate::number::index;
 
 /// An actor, as a word names it. There may be none of that number.
-#[derive(Clone, Copy, Debug, PartialEq, Eq)]
+#[derive(Clone, Copy)]
 pub enum ActorName {
     /// `sN`: the site of this number.
     Site(u32),

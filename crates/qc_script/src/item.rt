@@ -13,7 +13,7 @@ use qc_msg::{Command, Control};
 
 /// What a line asks for. Each actor, object and invocation is declared, and its
 /// number stands for it; other numbers may be out of range.
-#[derive(Clone, Copy, Debug, PartialEq, Eq)]
+#[derive(Clone, Copy)]
 pub enum Item {
     /// The next phase begins here.
     Phase,

@@ -60,7 +60,7 @@ pub enum LineKind {
 }
 
 /// Why a script isn't read.
-#[derive(Clone, Copy, Debug, PartialEq, Eq)]
+#[derive(Clone, Copy, Debug)]
 pub enum ScriptFault {
     /// The first line that is refused, counted from 1, and what is wrong with
     /// it.
