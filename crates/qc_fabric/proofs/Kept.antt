@@ -33,7 +33,7 @@ use Rattle.qc_fabric.specs.Feeds.{HasGrown}
 use Rattle.qc_fabric.specs.Logs.{Logged}
 use Rattle.qc_fabric.specs.Stills.{IsStill, most_history}
 use Rattle.qc_fabric.specs.Tells.{Sees, Takes, Waits}
-use Rattle.qc_fabric.proofs.Fed.{deeds_of_front, get_else, get_here, get_within, length_set, rooms_kept, saw, sum-set, sum_cons}
+use Rattle.qc_fabric.proofs.Fed.{deeds_of_front, get_else, get_here, get_within, length_set, rooms_kept, sum-set, sum_cons}
 use Rattle.qc_fabric.proofs.Phased.{phase_input}
 
 pub no_room_at : (old new : List ℕ) (p i j : ℕ) → p < length old → new ≡ slice_set old p 0 → i ≡ p → slice_get new i ≡ Some (suc j) → ⊥
