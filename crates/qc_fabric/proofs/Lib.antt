@@ -5,5 +5,6 @@ pub mod Phased
 pub mod Ready
 pub mod Stopped
 pub mod Kept
+pub mod Posted
 pub mod Ordered
 pub mod Unarmed

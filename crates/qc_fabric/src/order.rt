@@ -4,7 +4,7 @@ ghost use Rattle.std.specs.Prelude.{◌≡◌, Some, IsSome, OnOk, OnErr, slice_
 ghost use Rattle.qc_decl.specs.Actors.{controller};
 ghost use Rattle.qc_msg.specs.declared.step.Control.TheVariants.{Phase};
 ghost use Rattle.qc_pass.specs.Tokens.{number, pass_table};
-ghost use Rattle.qc_script.specs.Ready.{controls_left, step_of_control};
+ghost use Rattle.qc_script.specs.Ready.{controls_left, phase_of, step_of_control};
 ghost use Rattle.qc_fabric.specs.Controls.{MayDo};
 ghost use Rattle.qc_fabric.specs.Tells.{Does};
 
@@ -19,6 +19,20 @@ use qc_script::Script;
 use std::alloc::AllocError;
 
 impl<C: Conduct, N: Named> Still<C, N> {
+    /// The number of the phase: of the last that began, or 0. It takes no memory.
+    pub fn phase(&self) -> u32
+        ensures { result ≡ phase_of self.now.history }
+    {
+        self.phase
+    }
+
+    /// The first control line left of the phase. It takes no memory.
+    pub fn next_control(&self) -> Option<Control>
+        ensures { result ≡ slice_get (controls_left N.script self.now.history) 0 }
+    {
+        self.mailboxes.next_control()
+    }
+
     /// The controller does what it may do next. After want of memory nothing has
     /// changed.
     pub fn order(

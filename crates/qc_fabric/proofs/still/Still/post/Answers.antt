@@ -5,7 +5,8 @@ use Rattle.qc_msg.proofs.Growth.{length-mail}
 use Rattle.qc_pass.specs.Tokens.{Met, number, room}
 use Rattle.qc_fabric.specs.Feeds.{HasGrown}
 use Rattle.qc_fabric.specs.Tells.{size_of}
-use Rattle.qc_fabric.proofs.Kept.{posted_told, posts_on, room_kept}
+use Rattle.qc_fabric.proofs.Kept.{room_kept}
+use Rattle.qc_fabric.proofs.Posted.{posted_told, posts_on}
 use Rattle.qc_fabric.proofs.still.Still.post.Goals as goal
 
 pub post-requires-clause-few : goal.post-requires-clause-few
