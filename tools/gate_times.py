@@ -1,7 +1,9 @@
 #!/usr/bin/env python3
 """What the gate costs, by crate: runs `rt ci` in the current folder and watches it.
 
-usage: gate_times.py LOG
+usage: gate_times.py LOG [WORD..]
+
+The words are those of `rt ci`: with --anew nothing is taken from earlier runs.
 
 The gate's text goes to LOG.out. On standard output, and in LOG: for each crate the processor seconds of its proof, its tests
 and its edits, added up over the processes of the checker as each was seen last (three times a second), and the processor
@@ -81,10 +83,10 @@ def table(spent):
     yield f"{'all':<16}" + "".join(f"{sum(spent[it, part] for it in crates):8.0f}" for part in PARTS)
 
 
-def main(log):
+def main(log, words):
     began, before = time.time(), os.times()
     with open(f"{log}.out", "w") as out:
-        gate = subprocess.Popen(["rt", "ci"], stdout=out, stderr=out, stdin=subprocess.DEVNULL)
+        gate = subprocess.Popen(["rt", "ci", *words], stdout=out, stderr=out, stdin=subprocess.DEVNULL)
         spent = watch(gate)
     after = os.times()
     seconds = after.children_user + after.children_system - before.children_user - before.children_system
@@ -96,6 +98,6 @@ def main(log):
 
 
 if __name__ == "__main__":
-    if len(sys.argv) != 2:
+    if len(sys.argv) < 2:
         sys.exit(__doc__)
-    sys.exit(main(sys.argv[1]))
+    sys.exit(main(sys.argv[1], sys.argv[2:]))
