@@ -25,9 +25,30 @@ pub struct Cells<N: Named> {
 }
 
 impl<N: Named> Cells<N> {
-    /// The cells of new passes, one for each site and client, in the order of
-    /// their numbers.
+    /// The cells of all sites and clients, of new passes in the order of their
+    /// numbers, and the controller's pass, which is the last. The one before it
+    /// is the administrator's, and is let go: nobody asks him anything yet.
     pub fn new(
+        alloc: Global,
+        decl: &Declaration,
+        passes: Vec<Pass<Step>>,
+    ) -> Result<(Cells<N>, Pass<Step>), OutOfMemory>
+        requires declaration { decl.now ≡ N.declaration }
+        requires fresh { AreNew N.table passes.items }
+        requires whole { vec_len passes ≡ controller N.declaration + 1 }
+        ensures { IfOk result (λ made. IsNew N.table (controller N.declaration) made.1) }
+    {
+        let mut passes = passes;
+        let Some(controller) = passes.pop() else {
+            unreachable!()
+        };
+        passes.pop();
+        let cells = Cells::of_actors(alloc, decl, passes)?;
+        Ok((cells, controller))
+    }
+
+    /// A cell for each of these passes.
+    fn of_actors(
         alloc: Global,
         decl: &Declaration,
         passes: Vec<Pass<Step>>,
