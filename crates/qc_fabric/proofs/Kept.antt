@@ -158,18 +158,24 @@ module _ {L : ℕ → List Deed → Turn → Type 0} {D : Declaration} {S : Scri
 
     pub took : Takes L D S p q given
     took =
+        let does_then : deeds (number p) [] lg.history ≡ deeds (number p) [] (seen p) =
+        ap (λ (l : List Entry). deeds (number p) [] l) (sym (all_of s r e)) ∙ deeds_of_front (number p) (seen p) (all r) (p.part ∙ sym m.part) m.begins in
         let seen_now : seen q ≡ lg.history ++ marked (number p) (step_of given) ∷ [] = m.seen_is ∙ (a ∙ ap (λ (l : List Entry). l ++ marked (number p) (step_of given) ∷ []) (all_of s r e)) in
         record {
           pass = record { table_is = m.same_table; number_is = m.same_number };
           before = lg.history;
           begins = subst (λ (l : List Entry). IsPrefix (seen p) l) (all_of s r e) m.begins;
+          few = omega (arith, s.bound);
+          run_before = (op, s.runs);
+          is_closed = free;
+          does_before = does_then;
           is_ready = rdy;
           seen_is = seen_now;
           run = (slice_set op (number p) true, subst (λ (l : List Entry). Runs L D S l (slice_set op (number p) true)) (sym seen_now) run_taken);
           is_open = open_now;
           mine_is = m.mine_is;
           does = ap (λ (l : List Entry). deeds (number p) [] l) seen_now ∙ (deeds-taken (number p) lg.history given (ready_found D S lg.history mb.inboxes (number p) given s.kept rdy)
-              ∙ ap (λ (l : List Deed). l ++ TakesInput given ∷ []) (ap (λ (l : List Entry). deeds (number p) [] l) (sym (all_of s r e)) ∙ deeds_of_front (number p) (seen p) (all r) (p.part ∙ sym m.part) m.begins));
+              ∙ ap (λ (l : List Deed). l ++ TakesInput given ∷ []) does_then);
           room_is = m.room_is;
         }
 

@@ -101,6 +101,7 @@ module _ {L : ℕ → List Deed → Turn → Type 0} {D : Declaration} {S : Scri
           pass = record { table_is = m2.same_table ∙ (f.same_table ∙ m1.same_table); number_is = m2.same_number ∙ number_2 };
           before = lg.history;
           begins = subst (λ (l : List Entry). IsPrefix (seen p) l) seen_then see.begins;
+          few = omega (arith, s.bound);
           first_is = first_is;
           seen_is = seen_now;
           run = (slice_set op (number p) false, subst (λ (l : List Entry). Runs L D S l (slice_set op (number p) false)) (sym seen_now) run_after);

@@ -1,5 +1,5 @@
 -- What the calls tell through the caller's pass alone.
-use Rattle.std.specs.Prelude.{◌≡◌, ◌⊎◌, ℕ, ◌+◌, ◌<◌, Bool, true, false, List, [], ◌∷◌, ◌++◌, Some, None, length, slice_get}
+use Rattle.std.specs.Prelude.{◌≡◌, ◌⊎◌, ℕ, ◌+◌, ◌<◌, ◌≤◌, Bool, true, false, List, [], ◌∷◌, ◌++◌, Some, None, length, slice_get}
 use Rattle.std.specs.List.{AllByRecursion as Every}
 use mathlib.Core.List.{IsPrefix}
 use Rattle.qc_decl.specs.Actors.{controller}
@@ -18,6 +18,7 @@ use Rattle.qc_script.specs.Ready.{ready}
 use Rattle.qc_script.specs.Runs.{Run}
 use Rattle.qc_script.specs.declared.script.Script.{Script}
 use Rattle.qc_fabric.specs.Controls.{control_step}
+use Rattle.qc_fabric.specs.Stills.{most_history}
 
 -- the same pass
 pub record IsSame (p q : Pass Step) : Type 0 where
@@ -57,11 +58,16 @@ module _ (lawful : ℕ → List Deed → Turn → Type 0) (decl : Declaration) (
     pub room_is : room q ≡ 0
     pub why : (ready decl script (number p) (seen q) ≡ None) ⊎ (slice_get run.0 (number p) ≡ Some true)
 
-  -- its actor took an input: what the pass has seen is a run that ends with this step
+  -- its actor took an input: what the pass has seen is a run that ends with this step. What stood there before is a run
+  -- too, in which the actor had no open input and has done what the pass had seen
   pub record Takes (p q : Pass Step) (given : Given) : Type 0 where
     pub pass : IsSame p q
     pub before : List Entry
     pub begins : IsPrefix (seen p) before
+    pub few : length before ≤ most_history
+    pub run_before : Run lawful decl script before
+    pub is_closed : slice_get run_before.0 (number p) ≡ Some false
+    pub does_before : deeds (number p) [] before ≡ deeds (number p) [] (seen p)
     pub is_ready : ready decl script (number p) before ≡ Some given
     pub seen_is : seen q ≡ before ++ marked (number p) (step_of given) ∷ []
     pub run : Run lawful decl script (seen q)
@@ -76,6 +82,7 @@ module _ (lawful : ℕ → List Deed → Turn → Type 0) (decl : Declaration) (
     pub pass : IsSame p q
     pub before : List Entry
     pub begins : IsPrefix (seen p) before
+    pub few : length before ≤ most_history
     pub first_is : first ≡ length (mail before)
     pub seen_is : seen q ≡ before ++ by (number p) (posted first turn)
     pub run : Run lawful decl script (seen q)

@@ -23,6 +23,8 @@ pub enum Says {
 pub enum Act {
     /// The controller begins the next phase.
     Phase,
+    /// The first control line left of the phase acts, where it may.
+    Control,
     /// The actor that comes next is picked.
     Pick,
     /// An actor takes its next input.
@@ -44,6 +46,8 @@ pub enum Act {
 pub enum Saw {
     /// The phase began.
     Began,
+    /// The control line acted.
+    Acted,
     /// The call may not be made now.
     MayNot,
     /// What was picked.

@@ -14,6 +14,8 @@ mod steps;
 mod threads;
 mod top;
 mod turn;
+mod waiting;
+mod watch;
 
 pub use calls::{Act, Row, Saw, Says};
 pub use conduct::AnyTurn;
@@ -21,6 +23,10 @@ pub use locked::run_by_lock;
 pub use steps::Short;
 pub use threads::{Both, Served, run_by_threads};
 pub use top::{Ran, run, script_of};
+pub use waiting::{Waited, Watched, run_by_waiting};
+pub use watch::Call;
 
 #[cfg(test)]
 mod tests;
+#[cfg(test)]
+mod thread_tests;

@@ -96,7 +96,7 @@ fn act<N: Named, R: Wait>(
             }
             None => Ok(Saw::MayNot),
         },
-        Act::Phase | Act::Quiet | Act::Full | Act::Held(_) => Ok(Saw::MayNot),
+        Act::Phase | Act::Control | Act::Quiet | Act::Full | Act::Held(_) => Ok(Saw::MayNot),
     }
 }
 

@@ -29,6 +29,10 @@ fn act<N: Named>(
             Some(seat) => seat.begin(still, decl, script),
             None => Ok(Saw::MayNot),
         },
+        Act::Control => match seats.last_mut() {
+            Some(seat) => seat.control(still, decl, script),
+            None => Ok(Saw::MayNot),
+        },
         Act::Pick => Ok(Saw::Picked(still.pick(decl))),
         Act::Take(actor) => match seats.get_mut(actor as usize) {
             Some(seat) => seat.take(alloc, still, decl),

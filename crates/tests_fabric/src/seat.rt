@@ -5,7 +5,7 @@ ghost use Rattle.qc_pass.specs.Tokens.{pass_table};
 
 use crate::calls::{Saw, Says};
 use crate::conduct::AnyTurn;
-use crate::steps::{phase_of, short_of};
+use crate::steps::short_of;
 use crate::turn::{is_actor, is_controller, turn_of};
 use qc_decl::Declaration;
 use qc_fabric::{Named, Still};
@@ -57,7 +57,7 @@ impl<N: Named> Seat<N> {
         requires declaration { decl.now ≡ N.declaration }
         requires script { script.now ≡ N.script }
     {
-        let phase = phase_of(still.history());
+        let phase = still.phase();
         let Some(next) = phase.checked_add(1) else {
             return Ok(Saw::MayNot);
         };
@@ -67,6 +67,28 @@ impl<N: Named> Seat<N> {
         }
         still.order(script, &mut self.pass, Control::Phase(next))?;
         Ok(Saw::Began)
+    }
+
+    /// The first control line left of the phase acts, where it may.
+    pub(crate) fn control(
+        &mut self,
+        still: &mut Still<AnyTurn, N>,
+        decl: &Declaration,
+        script: &Script,
+    ) -> Result<Saw, OutOfMemory>
+        requires declaration { decl.now ≡ N.declaration }
+        requires script { script.now ≡ N.script }
+    {
+        if !is_controller(decl, self.pass.number()) {
+            return Ok(Saw::MayNot);
+        }
+        match still.next_control() {
+            Some(line @ (Control::Cut(_, _) | Control::Heal(_, _))) => {
+                still.order(script, &mut self.pass, line)?;
+                Ok(Saw::Acted)
+            }
+            _ => Ok(Saw::MayNot),
+        }
     }
 
     /// The actor takes its next input.

@@ -1,8 +1,5 @@
 //! Steps and inputs in short.
 
-ghost use Rattle.std.specs.Prelude.{◌≡◌};
-ghost use Rattle.qc_script.specs.Ready.{phase_at, phase_of};
-
 use qc_list::OutOfMemory;
 use qc_msg::{Entry, Given, Step};
 use std::alloc::Global;
@@ -45,23 +42,4 @@ pub(crate) fn shorts(alloc: Global, entries: &[Entry]) -> Result<Vec<Short>, Out
         steps.push(short(entry))?;
     }
     Ok(steps)
-}
-
-/// The number of the last phase that began, or 0.
-pub(crate) fn phase_of(entries: &[Entry]) -> u32
-    ensures { result ≡ phase_of entries.now }
-{
-    entries
-        .iter()
-        .fold(0, |phase, entry| phase_at(phase, &entry.step))
-}
-
-/// The phase after a step.
-fn phase_at(phase: u32, step: &Step) -> u32
-    ensures { result ≡ phase_at phase step.now }
-{
-    match step {
-        Step::Phase(number) => *number,
-        _ => phase,
-    }
 }

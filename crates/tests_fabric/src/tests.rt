@@ -1,9 +1,8 @@
-//! The tables.
+//! Tables of calls, with their answers and the histories that they make.
 
 use crate::calls::{Act, Row, Saw, Says};
 use crate::locked::run_by_lock;
 use crate::steps::Short;
-use crate::threads::{Both, run_by_threads};
 use crate::top::{run, script_of};
 use qc_decl::built_in;
 use qc_fabric::Picked;
@@ -160,97 +159,71 @@ fn calls_of_one_thread_by_the_lock(rt: HostRuntime) -> Result<(), Fail> {
     Ok(())
 }
 
-/// The client asks two sites, before threads share the state.
-const ASKED: [Row; 4] = [
+/// In the first phase the client 3 is cut from the site 0, and in the second they
+/// are joined again.
+const SCRIPT_OF_CUTS: &[u8] =
+    b"phase\ncut c0 s0\nheal s1 s2\nc0 begin\nphase\nheal s0 c0\nc0 abort\n";
+
+/// Each call with its answer: nothing is taken before the control lines have
+/// acted, and what goes to the site 0 is lost as long as it is cut.
+const ROWS_OF_CUTS: [Row; 26] = [
+    (Act::Control, Saw::MayNot),
     (Act::Phase, Saw::Began),
+    (Act::Take(3), Saw::Took(None)),
+    (Act::Control, Saw::Acted),
+    (Act::Pick, Saw::Picked(Some(Picked::Quiet))),
+    (Act::Quiet, Saw::Is(false)),
+    (Act::Phase, Saw::MayNot),
+    (Act::Control, Saw::Acted),
+    (Act::Control, Saw::MayNot),
     (Act::Pick, Saw::Picked(Some(Picked::Actor(3)))),
     (Act::Take(3), Saw::Took(Some((3, b'C', 0)))),
     (Act::Post(3, Says::AsksBoth(0, 1)), Saw::Posted(0)),
+    (Act::Take(0), Saw::Took(None)),
+    (Act::Take(1), Saw::Took(Some((1, b'G', 1)))),
+    (Act::Post(1, Says::Answers(3, 1)), Saw::Posted(2)),
+    (Act::Take(3), Saw::Took(Some((3, b'G', 2)))),
+    (Act::Post(3, Says::Nothing), Saw::Posted(3)),
+    (Act::Take(3), Saw::Took(Some((3, b'L', 0)))),
+    (Act::Post(3, Says::Tells), Saw::Posted(3)),
+    (Act::Quiet, Saw::Is(true)),
+    (Act::Phase, Saw::Began),
+    (Act::Control, Saw::Acted),
+    (Act::Take(3), Saw::Took(Some((3, b'C', 0)))),
+    (Act::Post(3, Says::Asks(0)), Saw::Posted(3)),
+    (Act::Take(0), Saw::Took(Some((0, b'G', 3)))),
+    (Act::Post(0, Says::Nothing), Saw::Posted(4)),
 ];
 
-/// The histories that may come of it: both sites take before either posts, and
-/// who comes first is open each time. The numbers are those of the messages of
-/// the site 0 and of the site 1.
-const HISTORIES: [([Short; 8], u32, u32); 4] = [
-    (
-        [
-            (7, b'P', 1),
-            (3, b'C', 0),
-            (3, b'S', 0),
-            (3, b'S', 1),
-            (0, b'G', 0),
-            (1, b'G', 1),
-            (0, b'S', 2),
-            (1, b'S', 3),
-        ],
-        2,
-        3,
-    ),
-    (
-        [
-            (7, b'P', 1),
-            (3, b'C', 0),
-            (3, b'S', 0),
-            (3, b'S', 1),
-            (0, b'G', 0),
-            (1, b'G', 1),
-            (1, b'S', 2),
-            (0, b'S', 3),
-        ],
-        3,
-        2,
-    ),
-    (
-        [
-            (7, b'P', 1),
-            (3, b'C', 0),
-            (3, b'S', 0),
-            (3, b'S', 1),
-            (1, b'G', 1),
-            (0, b'G', 0),
-            (0, b'S', 2),
-            (1, b'S', 3),
-        ],
-        2,
-        3,
-    ),
-    (
-        [
-            (7, b'P', 1),
-            (3, b'C', 0),
-            (3, b'S', 0),
-            (3, b'S', 1),
-            (1, b'G', 1),
-            (0, b'G', 0),
-            (1, b'S', 2),
-            (0, b'S', 3),
-        ],
-        3,
-        2,
-    ),
+/// The history that these calls make.
+const STEPS_OF_CUTS: [Short; 16] = [
+    (7, b'P', 1),
+    (7, b'X', 0),
+    (7, b'H', 0),
+    (3, b'C', 0),
+    (3, b'S', 0),
+    (3, b'S', 1),
+    (1, b'G', 1),
+    (1, b'S', 2),
+    (3, b'G', 2),
+    (3, b'L', 0),
+    (3, b'T', 0),
+    (7, b'P', 2),
+    (7, b'H', 0),
+    (3, b'C', 0),
+    (3, b'S', 3),
+    (0, b'G', 3),
 ];
 
 #[test]
-fn two_threads_have_open_inputs_at_once(rt: HostRuntime) -> Result<(), Fail> {
+fn control_lines_of_one_thread(rt: HostRuntime) -> Result<(), Fail> {
     let alloc = rt.alloc();
     let Some(decl) = built_in(alloc, "@three")? else {
         return Err(Fail::from("no such declaration"));
     };
-    let script = script_of(alloc, SCRIPT, &decl)?;
-    let says = (Says::Answers(3, 0), Says::Answers(3, 1));
-    let Some(both) = run_by_threads(&rt, alloc, &decl, &script, &ASKED, says)? else {
-        return Err(Fail::from("a row before the threads"));
-    };
-    assert_eq!(rt; both.met, 2);
-    assert_eq!(rt; both.first.0, Saw::Took(Some((0, b'G', 0))));
-    assert_eq!(rt; both.second.0, Saw::Took(Some((1, b'G', 1))));
-    assert!(rt; HISTORIES.iter().any(|row| is_of(&both, row)));
+    let script = script_of(alloc, SCRIPT_OF_CUTS, &decl)?;
+    let ran = run(alloc, &decl, &script, &ROWS_OF_CUTS)?;
+    assert_eq!(rt; ran.rows, ROWS_OF_CUTS.len());
+    assert_eq!(rt; ran.steps.as_slice(), STEPS_OF_CUTS.as_slice());
     Ok(())
-}
-
-/// Whether the history is this one, with the messages' numbers.
-fn is_of(both: &Both, row: &([Short; 8], u32, u32)) -> bool {
-    both.steps.as_slice() == row.0.as_slice()
-        && both.first.1 == Saw::Posted(row.1)
-        && both.second.1 == Saw::Posted(row.2)
 }

@@ -1,0 +1,21 @@
+-- How a phase ends, as a function of the history and the open inputs.
+use Rattle.std.specs.Prelude.{◌≡◌, ℕ, Bool, List, Some, None}
+use Rattle.qc_decl.specs.declared.declaration.Declaration.{Declaration}
+use Rattle.qc_msg.specs.Steps.{Entry}
+use Rattle.qc_script.specs.Ready.{phase_of}
+use Rattle.qc_script.specs.declared.script.Script.{Script}
+use Rattle.qc_fabric.specs.Logs.{full_of}
+use Rattle.qc_fabric.specs.Picks.{IsStopped}
+use Rattle.qc_node.specs.declared.ends.DriveEnd.{DriveEnd}
+use Rattle.qc_node.specs.declared.ends.DriveEnd.TheVariants as ends
+
+-- the phase has begun, and nothing is left to do in it
+abbrev pub IsThrough : Declaration → Script → ℕ → List Entry → List Bool → Type 0
+IsThrough decl script phase h inputs = (phase_of h ≡ phase) × IsStopped decl script h inputs
+
+-- exactly: a counted quantity that has reached its limit comes first; then that the phase is through; where neither is
+-- so, memory was wanting
+abbrev pub IsPhaseEnd : Declaration → Script → ℕ → List Entry → List Bool → DriveEnd → Type 0
+IsPhaseEnd decl script phase h inputs ends.Quiet = (full_of h ≡ None) × IsThrough decl script phase h inputs
+IsPhaseEnd decl script phase h inputs (ends.Full full) = full_of h ≡ Some full
+IsPhaseEnd decl script phase h inputs ends.OutOfMemory = (full_of h ≡ None) × (IsThrough decl script phase h inputs → ⊥)

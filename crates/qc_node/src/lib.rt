@@ -1,0 +1,33 @@
+//! Sites and clients on threads.
+//!
+//! Each actor sits in a cell of its own with its pass. A worker picks an actor
+//! that has something to do, and the actor takes its turn: it takes its next
+//! input, acts, makes room, and posts. As many workers as are asked for do so at
+//! once, phase by phase. What holds:
+//!
+//! 1. The history is a run under the conduct of the whole system (`Rules`).
+//! 2. What sits in a cell is what its actor's deeds in the history make of it,
+//!    whichever threads served it (`specs/Cells.antt`).
+//! 3. A turn that is done is one input, and all that it calls for
+//!    (`specs/Cells.antt`, `IsTurn`). After want of memory the actor is given up
+//!    where it took an input, which stays open then.
+//! 4. How a phase ended is one function of the history and the open inputs
+//!    (`specs/Ends.antt`), whatever the workers answered.
+#![tactic(auto)]
+
+mod act;
+mod cell;
+mod cells;
+mod ends;
+mod gate;
+mod phases;
+mod rules;
+mod worker;
+
+pub use cell::Cell;
+pub use cells::Cells;
+pub use ends::{DriveEnd, TurnEnd};
+pub use gate::{Gate, OpenGate};
+pub use phases::phase;
+pub use rules::Rules;
+pub use worker::drive;

@@ -1,0 +1,40 @@
+//! One worker.
+
+ghost use Rattle.std.specs.Prelude.{◌≡◌};
+ghost use Rattle.qc_decl.specs.Accepted.{IsAccepted};
+
+use crate::cells::Cells;
+use crate::ends::DriveEnd;
+use crate::gate::Gate;
+use crate::rules::Rules;
+use qc_decl::Declaration;
+use qc_fabric::{Fabric, Named, Picked};
+use std::alloc::Global;
+use std::sync::Wait;
+
+/// One worker: it picks an actor, which takes its turn, and so on, until nothing
+/// is left to do, a counted quantity has reached its limit, or memory is wanting.
+pub fn drive<N: Named, G: Gate, R: Wait>(
+    rt: &R,
+    alloc: Global,
+    decl: &Declaration,
+    fabric: &Fabric<Rules, N>,
+    cells: &Cells<N>,
+    gate: &G,
+) -> DriveEnd
+    requires declaration { decl.now ≡ N.declaration }
+    requires accepted { IsAccepted N.declaration }
+{
+    for _ in rt.forever() {
+        match fabric.pick(rt, decl) {
+            Picked::Quiet => return DriveEnd::Quiet,
+            Picked::Full(full) => return DriveEnd::Full(full),
+            Picked::Actor(actor) => {
+                if cells.turn(rt, alloc, decl, fabric, gate, actor).is_err() {
+                    return DriveEnd::OutOfMemory;
+                }
+            }
+        }
+    }
+    unreachable!()
+}

@@ -1,0 +1,149 @@
+//! Two threads share the state.
+
+use crate::calls::{Act, Row, Saw, Says};
+use crate::steps::Short;
+use crate::threads::{Both, run_by_threads};
+use crate::top::script_of;
+use crate::waiting::run_by_waiting;
+use crate::watch::Call;
+use qc_decl::built_in;
+use qc_fabric::Picked;
+use std::test::Fail;
+
+/// A command of the client 3.
+const SCRIPT: &[u8] = b"phase\nc0 begin\n";
+
+/// The client asks two sites, before threads share the state.
+const ASKED: [Row; 4] = [
+    (Act::Phase, Saw::Began),
+    (Act::Pick, Saw::Picked(Some(Picked::Actor(3)))),
+    (Act::Take(3), Saw::Took(Some((3, b'C', 0)))),
+    (Act::Post(3, Says::AsksBoth(0, 1)), Saw::Posted(0)),
+];
+
+/// The histories that may come of it: both sites take before either posts, and
+/// who comes first is open each time. The numbers are those of the messages of
+/// the site 0 and of the site 1.
+const HISTORIES: [([Short; 8], u32, u32); 4] = [
+    (
+        [
+            (7, b'P', 1),
+            (3, b'C', 0),
+            (3, b'S', 0),
+            (3, b'S', 1),
+            (0, b'G', 0),
+            (1, b'G', 1),
+            (0, b'S', 2),
+            (1, b'S', 3),
+        ],
+        2,
+        3,
+    ),
+    (
+        [
+            (7, b'P', 1),
+            (3, b'C', 0),
+            (3, b'S', 0),
+            (3, b'S', 1),
+            (0, b'G', 0),
+            (1, b'G', 1),
+            (1, b'S', 2),
+            (0, b'S', 3),
+        ],
+        3,
+        2,
+    ),
+    (
+        [
+            (7, b'P', 1),
+            (3, b'C', 0),
+            (3, b'S', 0),
+            (3, b'S', 1),
+            (1, b'G', 1),
+            (0, b'G', 0),
+            (0, b'S', 2),
+            (1, b'S', 3),
+        ],
+        2,
+        3,
+    ),
+    (
+        [
+            (7, b'P', 1),
+            (3, b'C', 0),
+            (3, b'S', 0),
+            (3, b'S', 1),
+            (1, b'G', 1),
+            (0, b'G', 0),
+            (1, b'S', 2),
+            (0, b'S', 3),
+        ],
+        3,
+        2,
+    ),
+];
+
+#[test]
+fn two_threads_have_open_inputs_at_once(rt: HostRuntime) -> Result<(), Fail> {
+    let alloc = rt.alloc();
+    let Some(decl) = built_in(alloc, "@three")? else {
+        return Err(Fail::from("no such declaration"));
+    };
+    let script = script_of(alloc, SCRIPT, &decl)?;
+    let says = (Says::Answers(3, 0), Says::Answers(3, 1));
+    let Some(both) = run_by_threads(&rt, alloc, &decl, &script, &ASKED, says)? else {
+        return Err(Fail::from("a row before the threads"));
+    };
+    assert_eq!(rt; both.met, 2);
+    assert_eq!(rt; both.first.0, Saw::Took(Some((0, b'G', 0))));
+    assert_eq!(rt; both.second.0, Saw::Took(Some((1, b'G', 1))));
+    assert!(rt; HISTORIES.iter().any(|row| is_of(&both, row)));
+    Ok(())
+}
+
+/// Whether the history is this one, with the messages' numbers.
+fn is_of(both: &Both, row: &([Short; 8], u32, u32)) -> bool {
+    both.steps.as_slice() == row.0.as_slice()
+        && both.first.1 == Saw::Posted(row.1)
+        && both.second.1 == Saw::Posted(row.2)
+}
+
+/// The client asks the site 0, which is held from then on: nothing is ready for
+/// anybody else.
+const HELD: [Row; 5] = [
+    (Act::Phase, Saw::Began),
+    (Act::Pick, Saw::Picked(Some(Picked::Actor(3)))),
+    (Act::Take(3), Saw::Took(Some((3, b'C', 0)))),
+    (Act::Post(3, Says::Asks(0)), Saw::Posted(0)),
+    (Act::Pick, Saw::Picked(Some(Picked::Actor(0)))),
+];
+
+/// The history with the site's turn.
+const STEPS_OF_HELD: [Short; 5] = [
+    (7, b'P', 1),
+    (3, b'C', 0),
+    (3, b'S', 0),
+    (0, b'G', 0),
+    (0, b'S', 1),
+];
+
+#[test]
+fn pick_waits_for_the_post_of_who_is_held(rt: HostRuntime) -> Result<(), Fail> {
+    let alloc = rt.alloc();
+    let Some(decl) = built_in(alloc, "@three")? else {
+        return Err(Fail::from("no such declaration"));
+    };
+    let script = script_of(alloc, SCRIPT, &decl)?;
+    let says = Says::Answers(3, 0);
+    let Some(waited) = run_by_waiting(&rt, alloc, &decl, &script, &HELD, says)? else {
+        return Err(Fail::from("a row before the threads"));
+    };
+    assert_eq!(rt; waited.met, 2);
+    let (took, call, posted) = waited.watched;
+    assert_eq!(rt; took, Saw::Took(Some((0, b'G', 0))));
+    assert_eq!(rt; call, Call::Made);
+    assert_eq!(rt; posted, Saw::Posted(1));
+    assert_eq!(rt; waited.picked, Picked::Actor(3));
+    assert_eq!(rt; waited.steps.as_slice(), STEPS_OF_HELD.as_slice());
+    Ok(())
+}
