@@ -1,6 +1,6 @@
 -- A turn in a cell: what its calls ask follows from the run that the actor's pass has seen, and the cell keeps what it
 -- keeps.
-use Rattle.std.proofs.Common.{◌≡◌, ℕ, zero, suc, ◌+◌, ◌^◌, ◌<◌, ◌≤◌, Bool, true, false, List, [], ◌∷◌, ◌++◌, length, IfSome, Option, Some, None, inl, inr, refl, sym, ap, ◌∙◌, subst, arith, slice_get, append_assoc}
+use Rattle.std.proofs.Common.{◌≡◌, ◌⊎◌, ℕ, zero, suc, ◌+◌, ◌^◌, ◌<◌, ◌≤◌, Bool, true, false, List, [], ◌∷◌, ◌++◌, length, Option, Some, None, inl, inr, refl, sym, ap, ◌∙◌, subst, arith, slice_get, append_assoc}
 use Rattle.std.specs.List.{AllByRecursion as Every}
 use mathlib.Core.List.{IsPrefix}
 use Rattle.atomic_table.specs.Seated.{TableId}
@@ -36,8 +36,9 @@ use Rattle.qc_records.specs.Bounds.{ClockBounds}
 use Rattle.qc_records.proofs.Events.{Events}
 use Rattle.qc_records.proofs.InRuns.{run_events}
 use Rattle.qc_records.proofs.Needs.{client_bounds, promise_bounds}
+use Rattle.qc_script.specs.Ready.{ready}
 use Rattle.qc_script.specs.declared.script.Script.{Script}
-use Rattle.qc_fabric.specs.Tells.{Posts, Sees, Takes}
+use Rattle.qc_fabric.specs.Tells.{Posts, Sees, Takes, Waits}
 use Rattle.qc_node.specs.Cells.{IsCell, IsIdle, IsServed, actor_in}
 use Rattle.qc_node.specs.Inputs.{IsReadable}
 
@@ -165,12 +166,12 @@ module _ (decl : Declaration) (script : Script) (accepted : IsAccepted decl) (p 
           ∙ (actor_sent_at_once decl (number p) (deeds (number p) [] (seen p)) turns.above g first accepted.has_site accepted.sites below acts may
           ∙ ap (λ (m : ActorMove). actor_sent m.actor first) move_is))
 
-      pub cell_later : (z : TableId) → pass_table p ≡ z → (sent_actor : Actor) → sent_actor ≡ actor_sent after first → IsCell z decl (Some sent_actor) r
+      pub cell_later : (z : TableId) → pass_table p ≡ z → (v : Actor) → v ≡ actor_sent after first → IsCell z decl false v r
       cell_later z at v is = record {
         table_is = posts.pass.table_is ∙ (saw.pass.table_is ∙ (took.pass.table_is ∙ at));
         is_actor = subst (λ (n : ℕ). n < actors decl) (sym (posts.pass.number_is ∙ number_is)) below;
         no_room = posts.room_is;
-        actor_is = is ∙ sym actor_later;
+        actor_is = λ kept. is ∙ sym actor_later;
       }
 
       pub served : (v : Actor) → v ≡ actor_sent after first → (c : Option Actor) → IsServed decl (record { number = number p; seen = seen p; actor = c }) (record { number = number r; seen = seen r; actor = Some v })
@@ -185,27 +186,27 @@ module _ (decl : Declaration) (script : Script) (accepted : IsAccepted decl) (p 
         actor_is = ap (λ (a : Actor). Some a) (is ∙ sym actor_later);
       }
 
--- the pass saw more, and its actor did nothing
-pub idle : (p q : Pass Step) (c : Option Actor) → Sees p q → IsIdle (record { number = number p; seen = seen p; actor = c }) (record { number = number q; seen = seen q; actor = c })
-idle p q c saw = record {
-  begins = saw.begins;
-  actor_is = refl;
-  does = ap (λ (n : ℕ). deeds n [] (seen q)) saw.pass.number_is ∙ saw.does;
-}
+-- nothing was ready for it, or its input was open
 
-pub cell_seen : (z : TableId) (decl : Declaration) (c : Option Actor) (p q : Pass Step) → IsCell z decl c p → Sees p q → room q ≡ 0 → IsCell z decl c q
-cell_seen z decl c p q cell saw none = record {
-  table_is = saw.pass.table_is ∙ cell.table_is;
-  is_actor = subst (λ (n : ℕ). n < actors decl) (sym saw.pass.number_is) cell.is_actor;
-  no_room = none;
-  actor_is = state c cell.actor_is;
-}
-  where
-    same : actor_in decl (number q) (seen q) ≡ actor_in decl (number p) (seen p)
-    same =
-        ap (λ (n : ℕ). (actor_after decl n (deeds (number q) [] (seen q))).actor) saw.pass.number_is
-        ∙ ap (λ (ds : List Deed). (actor_after decl (number p) ds).actor) (ap (λ (n : ℕ). deeds n [] (seen q)) saw.pass.number_is ∙ saw.does)
+pub idle : (decl : Declaration) (script : Script) (p q : Pass Step) (c : Option Actor) → Waits (IsLawful decl) decl script p q
+    → IsIdle decl script (record { number = number p; seen = seen p; actor = c }) (record { number = number q; seen = seen q; actor = c })
+idle decl script p q c waits =
+    let same : number q ≡ number p = waits.saw.pass.number_is in
+    record {
+      begins = waits.saw.begins;
+      does = ap (λ (n : ℕ). deeds n [] (seen q)) same ∙ waits.saw.does;
+      actor_is = refl;
+      run = waits.run;
+      why = subst (λ (n : ℕ). (ready decl script n (seen q) ≡ None) ⊎ (slice_get waits.run.0 n ≡ Some true)) (sym same) waits.why;
+    }
 
-    state : (o : Option Actor) → IfSome o (λ a. a ≡ actor_in decl (number p) (seen p)) → IfSome o (λ a. a ≡ actor_in decl (number q) (seen q))
-    state None is = tt
-    state (Some a) is = is ∙ sym same
+pub cell_idle : (z : TableId) (decl : Declaration) (given_up : Bool) (v : Actor) (p q : Pass Step) → IsCell z decl given_up v p → Sees p q → room q ≡ 0 → IsCell z decl given_up v q
+cell_idle z decl given_up v p q cell saw none =
+    let same : actor_in decl (number q) (seen q) ≡ actor_in decl (number p) (seen p) =
+    ap (λ (n : ℕ). (actor_after decl n (deeds n [] (seen q))).actor) saw.pass.number_is ∙ ap (λ (ds : List Deed). (actor_after decl (number p) ds).actor) saw.does in
+    record {
+      table_is = saw.pass.table_is ∙ cell.table_is;
+      is_actor = subst (λ (n : ℕ). n < actors decl) (sym saw.pass.number_is) cell.is_actor;
+      no_room = none;
+      actor_is = λ kept. cell.actor_is kept ∙ sym same;
+    }

@@ -1,5 +1,5 @@
--- How a phase ends, as a function of the history and the open inputs.
-use Rattle.std.specs.Prelude.{◌≡◌, ℕ, Bool, List, Some, None}
+-- How a phase ends, and a script, as a function of the history and the open inputs.
+use Rattle.std.specs.Prelude.{◌≡◌, ◌≤◌, ℕ, Bool, List, Some, None, length}
 use Rattle.qc_decl.specs.declared.declaration.Declaration.{Declaration}
 use Rattle.qc_msg.specs.Steps.{Entry}
 use Rattle.qc_script.specs.Ready.{phase_of}
@@ -19,3 +19,13 @@ abbrev pub IsPhaseEnd : Declaration → Script → ℕ → List Entry → List B
 IsPhaseEnd decl script phase h inputs ends.Quiet = (full_of h ≡ None) × IsThrough decl script phase h inputs
 IsPhaseEnd decl script phase h inputs (ends.Full full) = full_of h ≡ Some full
 IsPhaseEnd decl script phase h inputs ends.OutOfMemory = (full_of h ≡ None) × (IsThrough decl script phase h inputs → ⊥)
+
+-- every phase has begun, and nothing is left to do in the last
+abbrev pub IsOver : Declaration → Script → List Entry → List Bool → Type 0
+IsOver decl script h inputs = (length script.phases ≤ phase_of h) × IsStopped decl script h inputs
+
+-- the same of a script
+abbrev pub IsScriptEnd : Declaration → Script → List Entry → List Bool → DriveEnd → Type 0
+IsScriptEnd decl script h inputs ends.Quiet = (full_of h ≡ None) × IsOver decl script h inputs
+IsScriptEnd decl script h inputs (ends.Full full) = full_of h ≡ Some full
+IsScriptEnd decl script h inputs ends.OutOfMemory = (full_of h ≡ None) × (IsOver decl script h inputs → ⊥)

@@ -16,15 +16,15 @@ pub(crate) fn act(
     actor: &mut Actor,
     alloc: Global,
     decl: &Declaration,
-    given: &Given,
+    given: Given,
 ) -> Result<Turn, OutOfMemory>
     requires accepted { IsAccepted decl.now }
     requires fits { ActorFits actor.old }
-    requires readable { IsReadable given.now }
-    ensures { IfOk result (λ turn. actor_takes decl.now actor.old given.now ≡ moved actor.new turn) }
+    requires readable { IsReadable given }
+    ensures { IfOk result (λ turn. actor_takes decl.now actor.old given ≡ moved actor.new turn) }
 {
     match given {
-        Given::Called(command) => actor.call(alloc, decl, *command),
+        Given::Called(command) => actor.call(alloc, decl, command),
         Given::Got(envelope) => {
             actor.hear(
                 alloc,
@@ -34,6 +34,6 @@ pub(crate) fn act(
                 &envelope.message,
             )
         }
-        Given::Lost { number } => actor.lose(alloc, decl, *number),
+        Given::Lost { number } => actor.lose(alloc, decl, number),
     }
 }

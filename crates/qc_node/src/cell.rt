@@ -23,23 +23,25 @@ use std::alloc::{AllocError, Global};
 use std::marker::{Model, PhantomData};
 use std::sync::Wait;
 
-/// An actor with its pass. None where the actor was given up.
+/// An actor with its pass. Where the actor was given up, what is left of it is
+/// nobody's.
 #[derive(Drop)]
 pub struct Cell<N: Named> {
-    actor: Option<Actor>,
+    actor: Actor,
+    given_up: bool,
     pass: Pass<Step>,
     of: PhantomData<N>,
 }
 
 impl<N: Named> Model for Cell<N> {
     ghost use Rattle.qc_pass.specs.Tokens.{number, seen};
-    ghost use Rattle.qc_node.specs.Cells.{IsCell, Known};
+    ghost use Rattle.qc_node.specs.Cells.{IsCell, Known, unless_given_up};
 
     ghost Value = { Known };
 
-    ghost view = { λ c. record { number = number c.pass; seen = seen c.pass; actor = c.actor } };
+    ghost view = { λ c. record { number = number c.pass; seen = seen c.pass; actor = unless_given_up c.given_up c.actor } };
 
-    ghost invariant = { λ c. IsCell N.table N.declaration c.actor c.pass };
+    ghost invariant = { λ c. IsCell N.table N.declaration c.given_up c.actor c.pass };
 }
 
 impl<N: Named> Cell<N> {
@@ -53,7 +55,8 @@ impl<N: Named> Cell<N> {
     {
         let actor = Actor::new(alloc, decl, pass.number())?;
         Ok(Cell {
-            actor: Some(actor),
+            actor,
+            given_up: false,
             pass,
             of: PhantomData,
         })
@@ -73,7 +76,7 @@ impl<N: Named> Cell<N> {
         requires declaration { decl.now ≡ N.declaration }
         requires accepted { IsAccepted N.declaration }
         ensures number { self.new.number ≡ self.old.number }
-        ensures ok { IfOk result (λ end. IsTurn N.declaration self.old self.new end) }
+        ensures ok { IfOk result (λ end. IsTurn N.declaration N.script self.old self.new end) }
     {
         let end = self.try_turn(rt, alloc, decl, fabric, gate);
         if end.is_err() {
@@ -82,7 +85,9 @@ impl<N: Named> Cell<N> {
         end
     }
 
-    /// The same, but after want of memory the actor is still held.
+    /// The same, but after want of memory the actor is still held. It counts as
+    /// given up from the input until all is posted, so each way out between them
+    /// leaves it so.
     fn try_turn<G: Gate, R: Wait>(
         &mut self,
         rt: &R,
@@ -94,20 +99,21 @@ impl<N: Named> Cell<N> {
         requires declaration { decl.now ≡ N.declaration }
         requires accepted { IsAccepted N.declaration }
         ensures number { self.new.number ≡ self.old.number }
-        ensures ok { IfOk result (λ end. IsTurn N.declaration self.old self.new end) }
+        ensures ok { IfOk result (λ end. IsTurn N.declaration N.script self.old self.new end) }
     {
         let Some(given) = fabric.take(rt, alloc, decl, &mut self.pass)? else {
             return Ok(TurnEnd::NothingReady);
         };
-        let Some(mut actor) = self.actor.take() else {
+        if self.given_up {
             return Err(AllocError);
-        };
-        let turn = act(&mut actor, alloc, decl, &given)?;
+        }
+        self.given_up = true;
+        let turn = act(&mut self.actor, alloc, decl, given)?;
         fabric.reserve(rt, &mut self.pass, &turn)?;
         gate.at(rt, self.pass.number());
         let first = fabric.post(rt, &mut self.pass, turn);
-        actor.sent(first);
-        self.actor = Some(actor);
+        self.actor.sent(first);
+        self.given_up = false;
         Ok(TurnEnd::Done)
     }
 
@@ -135,6 +141,10 @@ impl<N: Named> Cell<N> {
         ensures state { IfSome result
             (λ a. a.now ≡ (actor_after N.declaration self.now.number (deeds self.now.number [] self.now.seen)).actor) }
     {
-        self.actor.as_ref()
+        if self.given_up {
+            None
+        } else {
+            Some(&self.actor)
+        }
     }
 }

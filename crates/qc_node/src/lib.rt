@@ -11,8 +11,8 @@
 //! 3. A turn that is done is one input, and all that it calls for
 //!    (`specs/Cells.antt`, `IsTurn`). After want of memory the actor is given up
 //!    where it took an input, which stays open then.
-//! 4. How a phase ended is one function of the history and the open inputs
-//!    (`specs/Ends.antt`), whatever the workers answered.
+//! 4. How a phase ended, and a script, is one function of the history and the
+//!    open inputs (`specs/Ends.antt`), whatever the workers answered.
 #![tactic(auto)]
 
 mod act;
@@ -22,12 +22,14 @@ mod ends;
 mod gate;
 mod phases;
 mod rules;
+mod scripts;
 mod worker;
 
 pub use cell::Cell;
 pub use cells::Cells;
 pub use ends::{DriveEnd, TurnEnd};
 pub use gate::{Gate, OpenGate};
-pub use phases::phase;
+pub use phases::{Job, phase};
 pub use rules::Rules;
+pub use scripts::drive_script;
 pub use worker::drive;

@@ -24,6 +24,19 @@ use std::alloc::Global;
 use std::sync::Wait;
 use std::thread::{Threads, map_indices};
 
+/// What the workers of a run go by.
+#[derive(Drop)]
+pub struct Job<'a, G: Gate> {
+    /// The declaration of the run.
+    pub decl: &'a Declaration,
+    /// Its script.
+    pub script: &'a Script,
+    /// What each turn passes before it is posted.
+    pub gate: &'a G,
+    /// How many workers there are.
+    pub workers: u8,
+}
+
 /// The next phase: it begins, its control lines act, and then the actors take
 /// their turns, by so many workers in threads that are joined. The pass is the
 /// controller's. How it ended is read off the history, whatever the workers
@@ -31,17 +44,14 @@ use std::thread::{Threads, map_indices};
 pub fn phase<N: Named + Send + Sync, G: Gate + Sync, R: Threads + Wait + Sync>(
     rt: &R,
     alloc: Global,
-    decl: &Declaration,
-    script: &Script,
+    job: &Job<'_, G>,
     still: Still<Rules, N>,
     cells: &Cells<N>,
-    gate: &G,
-    workers: u8,
     phase: u32,
     pass: &mut Pass<Step>,
 ) -> (Still<Rules, N>, DriveEnd)
-    requires declaration { decl.now ≡ N.declaration }
-    requires script { script.now ≡ N.script }
+    requires declaration { job.now.decl.now ≡ N.declaration }
+    requires script { job.now.script.now ≡ N.script }
     requires accepted { IsAccepted N.declaration }
     requires built { is_built N.declaration N.script ≡ true }
     requires table { pass_table pass.old ≡ N.table }
@@ -52,12 +62,12 @@ pub fn phase<N: Named + Send + Sync, G: Gate + Sync, R: Threads + Wait + Sync>(
     ensures end { IsPhaseEnd N.declaration N.script phase result.0.history result.0.open_inputs result.1 }
 {
     let mut still = still;
-    if begin(script, &mut still, phase, pass).is_ok() {
+    if begin(job.script, &mut still, phase, pass).is_ok() {
         let fabric = Fabric::open(still);
-        drive_all(rt, alloc, decl, &fabric, cells, gate, workers);
+        drive_all(rt, alloc, job, &fabric, cells);
         still = fabric.close();
     }
-    let end = end_of(decl, &still, phase);
+    let end = end_of(job.decl, &still, phase);
     (still, end)
 }
 
@@ -110,19 +120,18 @@ fn act_lines<N: Named>(
 fn drive_all<N: Named + Send + Sync, G: Gate + Sync, R: Threads + Wait + Sync>(
     rt: &R,
     alloc: Global,
-    decl: &Declaration,
+    job: &Job<'_, G>,
     fabric: &Fabric<Rules, N>,
     cells: &Cells<N>,
-    gate: &G,
-    workers: u8,
 )
-    requires declaration { decl.now ≡ N.declaration }
+    requires declaration { job.now.decl.now ≡ N.declaration }
     requires accepted { IsAccepted N.declaration }
 {
+    let (decl, gate) = (job.decl, job.gate);
     let ends = map_indices(
         rt,
         alloc,
-        usize::from(workers),
+        usize::from(job.workers),
         &|_| { drive(rt, alloc, decl, fabric, cells, gate) },
     );
     drop(ends);

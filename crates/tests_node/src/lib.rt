@@ -6,7 +6,7 @@ mod runs;
 mod steps;
 
 pub use meeting::Meeting;
-pub use runs::{Ran, Setup, run, script_of};
+pub use runs::{Ran, run, script_of};
 pub use steps::Short;
 
 #[cfg(test)]

@@ -1,11 +1,11 @@
 //! One script with a dropped message, a late one and a cut, by workers.
 
 use crate::meeting::Meeting;
-use crate::runs::{Ran, Setup, run, script_of};
+use crate::runs::{Ran, run, script_of};
 use crate::steps::Short;
 use qc_decl::built_in;
 use qc_engine::is_built;
-use qc_node::{DriveEnd, Gate, OpenGate};
+use qc_node::{DriveEnd, Gate, Job, OpenGate};
 use std::alloc::Global;
 use std::sync::Wait;
 use std::test::Fail;
@@ -147,12 +147,13 @@ fn ran<G: Gate + Sync, R: Threads + Wait + Sync>(
     if !is_built(&decl, &script) {
         return Err(Fail::from("the script can't be run"));
     }
-    let setup = Setup {
+    let job = Job {
         decl: &decl,
         script: &script,
+        gate,
         workers,
     };
-    Ok(run(rt, alloc, &setup, gate)?)
+    Ok(run(rt, alloc, &job)?)
 }
 
 /// One worker takes the steps that the rules give, one after another.

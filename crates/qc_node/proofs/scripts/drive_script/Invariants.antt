@@ -1,7 +1,7 @@
 use Rattle.std.proofs.Common.{◌≡◌}
 use Rattle.qc_decl.specs.Actors.{controller}
 use Rattle.qc_pass.specs.Tokens.{number, pass_table}
-use Rattle.tests_node.proofs.runs.phases.Given as goal
+use Rattle.qc_node.proofs.scripts.drive_script.Given as goal
 
 -- the pass stays the controller's
 abbrev pub invariant-loop : goal.invariant-loop
