@@ -1,7 +1,7 @@
 //! The lock over the state. Each call is that of `Still` under the lock, and
 //! tells what the caller's pass knows.
 
-ghost use Rattle.std.specs.Prelude.{◌≡◌, ◌<◌, [], Some, IfOk, OnOk, OnErr, MatchOption};
+ghost use Rattle.std.specs.Prelude.{◌≡◌, ◌<◌, [], Some, IfOk, IfSome, length, OnOk, OnErr, MatchOption};
 ghost use Rattle.qc_decl.specs.Actors.{actors};
 ghost use Rattle.qc_msg.specs.Deeds.{deeds};
 ghost use Rattle.qc_pass.specs.Tokens.{number, pass_table, room, seen};
@@ -11,9 +11,10 @@ ghost use Rattle.qc_fabric.specs.Tells.{GoesToActors, Posts, Sees, Takes, Waits,
 use crate::conduct::{Conduct, Named};
 use crate::picked::Picked;
 use crate::still::Still;
+use crate::taken::Taken;
 use qc_decl::Declaration;
 use qc_list::OutOfMemory;
-use qc_msg::{Given, Step, Turn};
+use qc_msg::{Step, Turn};
 use qc_pass::Pass;
 use std::alloc::Global;
 use std::sync::{Condvar, Mutex, Wait};
@@ -63,18 +64,19 @@ impl<C: Conduct, N: Named> Fabric<C, N> {
         alloc: Global,
         decl: &Declaration,
         pass: &mut Pass<Step>,
-    ) -> Result<Option<Given>, OutOfMemory>
+    ) -> Result<Option<Taken>, OutOfMemory>
         requires declaration { decl.now ≡ N.declaration }
         requires table { pass_table pass.old ≡ N.table }
         requires actor { number pass.old < actors N.declaration }
         ensures err { OnErr result (pass.new ≡ pass.old) }
         ensures told { IfOk result (λ r. MatchOption r
             (Waits (C.lawful N.declaration) N.declaration N.script pass.old pass.new)
-            (λ given. Takes (C.lawful N.declaration) N.declaration N.script pass.old pass.new given)) }
+            (λ taken. Takes (C.lawful N.declaration) N.declaration N.script pass.old pass.new taken.given)) }
+        ensures steps { IfOk result (λ r. IfSome r (λ taken. taken.steps ≡ length (seen pass.new))) }
     {
-        let given = self.still.lock(rt).take(alloc, decl, pass)?;
+        let taken = self.still.lock(rt).take(alloc, decl, pass)?;
         self.changed.notify_all();
-        Ok(given)
+        Ok(taken)
     }
 
     /// Makes room for the turn of the pass's actor.

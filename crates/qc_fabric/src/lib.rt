@@ -35,6 +35,7 @@ mod pick;
 mod picked;
 mod room;
 mod still;
+mod taken;
 mod turn;
 mod weigh;
 
@@ -46,3 +47,4 @@ pub use log::Log;
 pub use picked::Picked;
 pub use room::MOST_HISTORY;
 pub use still::Still;
+pub use taken::Taken;

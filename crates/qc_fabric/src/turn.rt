@@ -1,6 +1,6 @@
 //! An actor takes an input, reserves room for its turn, and posts it.
 
-ghost use Rattle.std.specs.Prelude.{◌≡◌, ◌<◌, [], IfOk, OnOk, OnErr, MatchOption, false, true, slice_set};
+ghost use Rattle.std.specs.Prelude.{◌≡◌, ◌<◌, [], IfOk, IfSome, OnOk, OnErr, MatchOption, false, true, length, slice_set};
 ghost use Rattle.qc_decl.specs.Actors.{actors};
 ghost use Rattle.qc_msg.specs.Deeds.{deeds};
 ghost use Rattle.qc_pass.specs.Tokens.{number, pass_table, room, seen};
@@ -12,10 +12,11 @@ use crate::feed::{add, feed};
 use crate::given::{given_of, step_of};
 use crate::room::{more, size_of};
 use crate::still::Still;
+use crate::taken::Taken;
 use qc_decl::Declaration;
 use qc_list::OutOfMemory;
 use qc_mailbox::is_set;
-use qc_msg::{Given, Step, Turn};
+use qc_msg::{Step, Turn};
 use qc_pass::Pass;
 use std::alloc::{AllocError, Global};
 
@@ -28,7 +29,7 @@ impl<C: Conduct, N: Named> Still<C, N> {
         alloc: Global,
         decl: &Declaration,
         pass: &mut Pass<Step>,
-    ) -> Result<Option<Given>, OutOfMemory>
+    ) -> Result<Option<Taken>, OutOfMemory>
         requires declaration { decl.now ≡ N.declaration }
         requires table { pass_table pass.old ≡ N.table }
         requires actor { number pass.old < actors N.declaration }
@@ -36,14 +37,15 @@ impl<C: Conduct, N: Named> Still<C, N> {
         ensures err { OnErr result ((self.new ≡ self.old) × (pass.new ≡ pass.old)) }
         ensures told { IfOk result (λ r. MatchOption r
             (Waits (C.lawful N.declaration) N.declaration N.script pass.old pass.new)
-            (λ given. Takes (C.lawful N.declaration) N.declaration N.script pass.old pass.new given)) }
+            (λ taken. Takes (C.lawful N.declaration) N.declaration N.script pass.old pass.new taken.given)) }
+        ensures steps { IfOk result (λ r. IfSome r (λ taken. taken.steps ≡ length self.new.history)) }
         ensures exact { IfOk result (λ r. MatchOption r
             (HasNone N.declaration N.script self.old.open_inputs (number pass.old) self.old.history)
-            (λ given. HasNext N.declaration N.script self.old.open_inputs (number pass.old) self.old.history given)) }
+            (λ taken. HasNext N.declaration N.script self.old.open_inputs (number pass.old) self.old.history taken.given)) }
         ensures inputs { IfOk result (λ r. MatchOption r (self.new.open_inputs ≡ self.old.open_inputs)
-            (λ given. self.new.open_inputs ≡ slice_set self.old.open_inputs (number pass.old) true)) }
+            (λ taken. self.new.open_inputs ≡ slice_set self.old.open_inputs (number pass.old) true)) }
         ensures held { IfOk result (λ r. MatchOption r (self.new.held ≡ slice_set self.old.held (number pass.old) false)
-            (λ given. self.new.held ≡ self.old.held)) }
+            (λ taken. self.new.held ≡ self.old.held)) }
     {
         let actor = pass.number();
         if is_set(self.inputs.as_slice(), actor) {
@@ -67,7 +69,8 @@ impl<C: Conduct, N: Named> Still<C, N> {
         self.mailboxes.take(actor);
         set(&mut self.inputs, actor, true);
         self.right = Some(right);
-        Ok(Some(given))
+        let steps = self.log.steps() as u64;
+        Ok(Some(Taken { given, steps }))
     }
 
     /// Makes room for the turn of the pass's actor, which has an open input, and

@@ -29,7 +29,7 @@ impl<N: Named> Seat<N> {
             return Ok(Saw::MayNot);
         }
         let taken = fabric.take(rt, alloc, decl, &mut self.pass)?;
-        Ok(Saw::Took(taken.map(|given| short_of(actor, &given))))
+        Ok(Saw::Took(taken.map(|taken| short_of(actor, &taken.given))))
     }
 
     /// The actor makes room for its turn, and posts it.
