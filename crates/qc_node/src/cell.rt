@@ -11,17 +11,18 @@ ghost use Rattle.qc_node.specs.Cells.{IsTurn};
 
 use crate::act::act;
 use crate::ends::TurnEnd;
-use crate::gate::Gate;
 use crate::rules::Rules;
 use qc_core::Actor;
 use qc_decl::Declaration;
-use qc_fabric::{Fabric, Named, Still};
+use qc_fabric::{Fabric, Named, Still, Taken};
 use qc_list::OutOfMemory;
 use qc_msg::Step;
+use qc_outside::Gate;
 use qc_pass::Pass;
 use std::alloc::{AllocError, Global};
 use std::marker::{Model, PhantomData};
 use std::sync::Wait;
+use std::thread::Threads;
 
 /// An actor with its pass. Where the actor was given up, what is left of it is
 /// nobody's.
@@ -65,7 +66,7 @@ impl<N: Named> Cell<N> {
     /// The actor takes its next input, acts, and posts. After want of memory its
     /// holding ends, and where it took an input this stays open: then the actor
     /// is given up.
-    pub fn turn<G: Gate, R: Wait>(
+    pub fn turn<G: Gate, R: Threads + Wait + Sync>(
         &mut self,
         rt: &R,
         alloc: Global,
@@ -88,7 +89,7 @@ impl<N: Named> Cell<N> {
     /// The same, but after want of memory the actor is still held. It counts as
     /// given up from the input until all is posted, so each way out between them
     /// leaves it so.
-    fn try_turn<G: Gate, R: Wait>(
+    fn try_turn<G: Gate, R: Threads + Wait + Sync>(
         &mut self,
         rt: &R,
         alloc: Global,
@@ -101,7 +102,7 @@ impl<N: Named> Cell<N> {
         ensures number { self.new.number ≡ self.old.number }
         ensures ok { IfOk result (λ end. IsTurn N.declaration N.script self.old self.new end) }
     {
-        let Some(given) = fabric.take(rt, alloc, decl, &mut self.pass)? else {
+        let Some(Taken { given, steps }) = fabric.take(rt, alloc, decl, &mut self.pass)? else {
             return Ok(TurnEnd::NothingReady);
         };
         if self.given_up {
@@ -110,7 +111,7 @@ impl<N: Named> Cell<N> {
         self.given_up = true;
         let turn = act(&mut self.actor, alloc, decl, given)?;
         fabric.reserve(rt, &mut self.pass, &turn)?;
-        gate.at(rt, self.pass.number());
+        gate.at(rt, self.pass.number(), steps);
         let first = fabric.post(rt, &mut self.pass, turn);
         self.actor.sent(first);
         self.given_up = false;

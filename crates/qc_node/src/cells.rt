@@ -7,15 +7,16 @@ ghost use Rattle.qc_pass.specs.Made.{AreNew, IsNew};
 
 use crate::cell::Cell;
 use crate::ends::TurnEnd;
-use crate::gate::Gate;
 use crate::rules::Rules;
 use qc_decl::Declaration;
 use qc_fabric::{Fabric, Named, Still};
 use qc_list::OutOfMemory;
 use qc_msg::Step;
+use qc_outside::Gate;
 use qc_pass::Pass;
 use std::alloc::Global;
 use std::sync::{Mutex, Wait};
+use std::thread::Threads;
 
 /// The cells of all sites and clients, by number.
 #[derive(Drop)]
@@ -65,7 +66,7 @@ impl<N: Named> Cells<N> {
     }
 
     /// A turn of the actor in the cell of this number.
-    pub(crate) fn turn<G: Gate, R: Wait>(
+    pub(crate) fn turn<G: Gate, R: Threads + Wait + Sync>(
         &self,
         rt: &R,
         alloc: Global,

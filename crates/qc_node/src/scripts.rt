@@ -11,11 +11,11 @@ ghost use Rattle.qc_node.specs.Ends.{IsScriptEnd};
 
 use crate::cells::Cells;
 use crate::ends::DriveEnd;
-use crate::gate::Gate;
 use crate::phases::{Job, phase};
 use crate::rules::Rules;
 use qc_fabric::{Named, Still};
 use qc_msg::Step;
+use qc_outside::Gate;
 use qc_pass::Pass;
 use qc_script::Script;
 use std::alloc::Global;
@@ -24,7 +24,7 @@ use std::thread::Threads;
 
 /// The phases that are left, one after another, as long as the next one may
 /// begin. The pass is the controller's. How it ended is read off the history.
-pub fn drive_script<N: Named + Send + Sync, G: Gate + Sync, R: Threads + Wait + Sync>(
+pub fn drive_script<N: Named + Send + Sync, G: Gate, R: Threads + Wait + Sync>(
     rt: &R,
     alloc: Global,
     job: &Job<'_, G>,

@@ -5,16 +5,17 @@ ghost use Rattle.qc_decl.specs.Accepted.{IsAccepted};
 
 use crate::cells::Cells;
 use crate::ends::DriveEnd;
-use crate::gate::Gate;
 use crate::rules::Rules;
 use qc_decl::Declaration;
 use qc_fabric::{Fabric, Named, Picked};
+use qc_outside::Gate;
 use std::alloc::Global;
 use std::sync::Wait;
+use std::thread::Threads;
 
 /// One worker: it picks an actor, which takes its turn, and so on, until nothing
 /// is left to do, a counted quantity has reached its limit, or memory is wanting.
-pub fn drive<N: Named, G: Gate, R: Wait>(
+pub fn drive<N: Named, G: Gate, R: Threads + Wait + Sync>(
     rt: &R,
     alloc: Global,
     decl: &Declaration,

@@ -1,9 +1,9 @@
 //! A gate at which two actors meet.
 
-use qc_node::Gate;
+use qc_outside::Gate;
 use std::sync::Wait;
 use std::sync::atomic::{AtomicU64, Ordering};
-use std::thread::yield_now;
+use std::thread::{Threads, yield_now};
 
 /// Holds each of two actors back, with its input open, until the other stands
 /// there too.
@@ -45,7 +45,7 @@ impl Meeting {
 }
 
 impl Gate for Meeting {
-    fn at<R: Wait>(&self, _rt: &R, actor: u8) {
+    fn at<T: Threads + Wait + Sync>(&self, _rt: &T, actor: u8, _taken: u64) {
         if self.met() || (actor != self.first && actor != self.second) {
             return;
         }

@@ -15,7 +15,8 @@ use qc_decl::Declaration;
 use qc_fabric::{Named, Still};
 use qc_list::OutOfMemory;
 use qc_msg::Step;
-use qc_node::{Cells, DriveEnd, Gate, Job, Rules, drive_script};
+use qc_node::{Cells, DriveEnd, Job, Rules, drive_script};
+use qc_outside::Gate;
 use qc_pass::{Made, Pass, Passes};
 use qc_script::{Script, ScriptFault, read, scripts_name_what_is_declared};
 use std::alloc::Global;
@@ -46,7 +47,7 @@ pub fn script_of(alloc: Global, bytes: &[u8], decl: &Declaration) -> Result<Scri
 }
 
 /// Runs the script, under a name of its own.
-pub fn run<G: Gate + Sync, R: Threads + Wait + Sync>(
+pub fn run<G: Gate, R: Threads + Wait + Sync>(
     rt: &R,
     alloc: Global,
     job: &Job<'_, G>,
@@ -61,7 +62,7 @@ pub fn run<G: Gate + Sync, R: Threads + Wait + Sync>(
 }
 
 /// The same, by these passes.
-fn run_named<N: Named + Send + Sync, G: Gate + Sync, R: Threads + Wait + Sync>(
+fn run_named<N: Named + Send + Sync, G: Gate, R: Threads + Wait + Sync>(
     rt: &R,
     alloc: Global,
     job: &Job<'_, G>,

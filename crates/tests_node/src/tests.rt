@@ -5,7 +5,8 @@ use crate::runs::{Ran, run, script_of};
 use crate::steps::Short;
 use qc_decl::built_in;
 use qc_engine::is_built;
-use qc_node::{DriveEnd, Gate, Job, OpenGate};
+use qc_node::{DriveEnd, Job};
+use qc_outside::{Gate, OpenGate};
 use std::alloc::Global;
 use std::sync::Wait;
 use std::test::Fail;
@@ -134,7 +135,7 @@ const STEPS: [Short; 112] = [
 ];
 
 /// Runs the script by so many workers.
-fn ran<G: Gate + Sync, R: Threads + Wait + Sync>(
+fn ran<G: Gate, R: Threads + Wait + Sync>(
     rt: &R,
     alloc: Global,
     gate: &G,
