@@ -35,9 +35,10 @@ def below(used, names):
     return [name for name in used if name in found]
 
 
-def build(folder, name, template, uses):
+def build(folder, name, template, uses, proofs=()):
     """Makes a program of this name from a template, over the libraries that it
-    uses, and tells where it stands."""
+    uses, and tells where it stands. With pairs of a function and a file of the
+    bench, that file is the function's Invariants.antt."""
     lines, used = libraries()
     crates = below(used, uses)
     for crate in crates:
@@ -46,6 +47,10 @@ def build(folder, name, template, uses):
     source = os.path.join(folder, "crates", name, "src")
     os.makedirs(source)
     shutil.copy(os.path.join(ROOT, "bench", template), os.path.join(source, "main.rt"))
+    for function, given in proofs:
+        stated = os.path.join(folder, "crates", name, "proofs", function)
+        os.makedirs(stated)
+        shutil.copy(os.path.join(ROOT, "bench", given), os.path.join(stated, "Invariants.antt"))
     with open(os.path.join(folder, "crates.txt"), "w") as file:
         for crate in crates:
             file.write(lines[crate])

@@ -81,21 +81,12 @@ fn act<N: Named, R: Wait>(
 {
     match act {
         Act::Pick => Ok(Saw::Picked(Some(fabric.pick(rt, decl)))),
-        Act::Take(actor) => match seats.get_mut(actor as usize) {
-            Some(seat) => seat.take_by_lock(rt, alloc, fabric, decl),
-            None => Ok(Saw::MayNot),
-        },
-        Act::Post(actor, says) => match seats.get_mut(actor as usize) {
-            Some(seat) => seat.post_by_lock(rt, alloc, fabric, decl, says),
-            None => Ok(Saw::MayNot),
-        },
-        Act::Leave(actor) => match seats.get_mut(actor as usize) {
-            Some(seat) => {
-                seat.leave_by_lock(rt, fabric);
-                Ok(Saw::Left)
+        Act::Take(actor) | Act::Post(actor, _) | Act::Leave(actor) => {
+            match seats.get_mut(actor as usize) {
+                Some(seat) => seat.act_by_lock(rt, alloc, fabric, decl, act),
+                None => Ok(Saw::MayNot),
             }
-            None => Ok(Saw::MayNot),
-        },
+        }
         Act::Phase | Act::Control | Act::Quiet | Act::Full | Act::Held(_) => Ok(Saw::MayNot),
     }
 }

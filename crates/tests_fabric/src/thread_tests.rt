@@ -127,23 +127,38 @@ const STEPS_OF_HELD: [Short; 5] = [
     (0, b'S', 1),
 ];
 
+/// What the site's last call is and answers, what the pick of another thread
+/// answers only then, and how many of the steps there are.
+const LAST: [(Act, Saw, Picked, usize); 3] = [
+    (
+        Act::Post(0, Says::Answers(3, 0)),
+        Saw::Posted(1),
+        Picked::Actor(3),
+        5,
+    ),
+    // its input stays open, and nobody is held any more
+    (Act::Take(0), Saw::Took(None), Picked::Quiet, 4),
+    (Act::Leave(0), Saw::Left, Picked::Quiet, 4),
+];
+
 #[test]
-fn pick_waits_for_the_post_of_who_is_held(rt: HostRuntime) -> Result<(), Fail> {
+fn pick_waits_for_who_is_held(rt: HostRuntime) -> Result<(), Fail> {
     let alloc = rt.alloc();
     let Some(decl) = built_in(alloc, "@three")? else {
         return Err(Fail::from("no such declaration"));
     };
     let script = script_of(alloc, SCRIPT, &decl)?;
-    let says = Says::Answers(3, 0);
-    let Some(waited) = run_by_waiting(&rt, alloc, &decl, &script, &HELD, says)? else {
-        return Err(Fail::from("a row before the threads"));
-    };
-    assert_eq!(rt; waited.met, 2);
-    let (took, call, posted) = waited.watched;
-    assert_eq!(rt; took, Saw::Took(Some((0, b'G', 0))));
-    assert_eq!(rt; call, Call::Made);
-    assert_eq!(rt; posted, Saw::Posted(1));
-    assert_eq!(rt; waited.picked, Picked::Actor(3));
-    assert_eq!(rt; waited.steps.as_slice(), STEPS_OF_HELD.as_slice());
+    for (last, answer, picked, steps) in LAST {
+        let Some(waited) = run_by_waiting(&rt, alloc, &decl, &script, &HELD, last)? else {
+            return Err(Fail::from("a row before the threads"));
+        };
+        assert_eq!(rt; waited.met, 2);
+        let took = Saw::Took(Some((0, b'G', 0)));
+        assert_eq!(rt; waited.watched, (took, Call::Made, answer));
+        assert_eq!(rt; waited.picked, picked);
+        assert_eq!(rt; waited.steps.len(), steps);
+        let mut pairs = waited.steps.iter().zip(STEPS_OF_HELD.iter());
+        assert!(rt; pairs.all(|pair| pair.0 == pair.1));
+    }
     Ok(())
 }

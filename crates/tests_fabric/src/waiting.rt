@@ -1,4 +1,5 @@
-//! One thread takes, and posts later; another picks meanwhile, and waits.
+//! One thread takes, and makes another call later; another picks meanwhile, and
+//! waits.
 
 ghost use Rattle.std.specs.Prelude.{◌≡◌, ◌+◌, ◌<◌};
 ghost use Rattle.std.specs.Thread.{IsSync};
@@ -8,7 +9,7 @@ ghost use Rattle.qc_pass.specs.Made.{AreNew, IsFirst};
 ghost use Rattle.qc_pass.specs.Tokens.{table_of};
 ghost use Rattle.qc_script.specs.Sound.{IsScriptFor};
 
-use crate::calls::{Row, Saw, Says};
+use crate::calls::{Act, Row, Saw};
 use crate::conduct::AnyTurn;
 use crate::meeting::Meeting;
 use crate::rows::play;
@@ -27,14 +28,14 @@ use std::marker::Brand;
 use std::sync::Wait;
 use std::thread::{Threads, join};
 
-/// What one thread's take answered, how far the other's pick was before the post
-/// as the one saw it, and what the post answered.
+/// What one thread's take answered, how far the other's pick was then as the one
+/// saw it, and what its last call answered.
 pub type Watched = (Saw, Call, Saw);
 
 /// What the two threads leave.
 #[derive(Drop)]
 pub struct Waited {
-    /// What the thread saw that took and posted.
+    /// What the thread saw that took.
     pub watched: Watched,
     /// What the other's pick answered.
     pub picked: Picked,
@@ -45,21 +46,21 @@ pub struct Waited {
 }
 
 /// Plays the rows before the state is shared. Then the actor 0 takes an input in
-/// one thread, and does so for it only once the other thread picks. None where a
-/// row answers something else than it is to.
+/// one thread, and makes its last call only once the other thread picks. None
+/// where a row answers something else than it is to.
 pub fn run_by_waiting<R: Threads + Wait + Sync>(
     rt: &R,
     alloc: Global,
     decl: &Declaration,
     script: &Script,
     before: &[Row],
-    says: Says,
+    last: Act,
 ) -> Result<Option<Waited>, OutOfMemory>
     requires sound { IsScriptFor decl.now script.now }
     requires accepted { IsAccepted decl.now }
 {
     let made = Passes::make(alloc, decl.sites + decl.clients + 2)?;
-    run_named::<Brand, R>(rt, alloc, decl, script, made, before, says)
+    run_named::<Brand, R>(rt, alloc, decl, script, made, before, last)
 }
 
 /// The same, by these passes.
@@ -70,7 +71,7 @@ fn run_named<N: Named + Send + Sync, R: Threads + Wait + Sync>(
     script: &Script,
     made: Made<Step>,
     before: &[Row],
-    says: Says,
+    last: Act,
 ) -> Result<Option<Waited>, OutOfMemory>
     requires declaration { decl.now ≡ N.declaration }
     requires script { script.now ≡ N.script }
@@ -96,7 +97,7 @@ fn run_named<N: Named + Send + Sync, R: Threads + Wait + Sync>(
         &fabric,
         seat,
         (&meeting, &watch),
-        says,
+        last,
     );
     let watched = watched?;
     let steps = ended(alloc, fabric.close(), 0)?.steps;
@@ -116,7 +117,7 @@ fn serve_and_pick<N: Named + Send + Sync, R: Threads + Wait + Sync>(
     fabric: &Fabric<AnyTurn, N>,
     seat: Seat<N>,
     gates: (&Meeting, &Watch),
-    says: Says,
+    last: Act,
 ) -> (Result<Watched, OutOfMemory>, Picked)
     requires { decl.now ≡ N.declaration }
 {
@@ -125,7 +126,7 @@ fn serve_and_pick<N: Named + Send + Sync, R: Threads + Wait + Sync>(
         rt,
         move ||
             requires { IsSync R.row × (decl.now ≡ N.declaration) }
-        { serve(rt, alloc, decl, fabric, seat, (meeting, watch), says) },
+        { serve(rt, alloc, decl, fabric, seat, (meeting, watch), last) },
         move ||
             requires { IsSync R.row × (decl.now ≡ N.declaration) }
         { pick(rt, decl, fabric, (meeting, watch)) },
@@ -141,34 +142,35 @@ fn serve<N: Named, R: Wait>(
     fabric: &Fabric<AnyTurn, N>,
     mut seat: Seat<N>,
     gates: (&Meeting, &Watch),
-    says: Says,
+    last: Act,
 ) -> Result<Watched, OutOfMemory>
     requires { decl.now ≡ N.declaration }
 {
-    let watched = take_and_post(rt, alloc, decl, fabric, &mut seat, gates, says);
+    let watched = take_and_go_on(rt, alloc, decl, fabric, &mut seat, gates, last);
     if watched.is_err() {
         seat.leave_by_lock(rt, fabric);
     }
     watched
 }
 
-/// The seat's actor takes an input, looks how far the other's pick is, and posts.
-fn take_and_post<N: Named, R: Wait>(
+/// The seat's actor takes an input, looks how far the other's pick is, and makes
+/// its last call.
+fn take_and_go_on<N: Named, R: Wait>(
     rt: &R,
     alloc: Global,
     decl: &Declaration,
     fabric: &Fabric<AnyTurn, N>,
     seat: &mut Seat<N>,
     gates: (&Meeting, &Watch),
-    says: Says,
+    last: Act,
 ) -> Result<Watched, OutOfMemory>
     requires { decl.now ≡ N.declaration }
 {
     let took = seat.take_by_lock(rt, alloc, fabric, decl)?;
     gates.0.wait();
     let call = gates.1.look();
-    let posted = seat.post_by_lock(rt, alloc, fabric, decl, says)?;
-    Ok((took, call, posted))
+    let answered = seat.act_by_lock(rt, alloc, fabric, decl, last)?;
+    Ok((took, call, answered))
 }
 
 /// Meets the one that took, and picks.
