@@ -41,7 +41,7 @@ pub struct Job<'a, G: Gate> {
 /// their turns, by so many workers in threads that are joined. The pass is the
 /// controller's. How it ended is read off the history, whatever the workers
 /// answered.
-pub fn phase<N: Named + Send + Sync, G: Gate, R: Threads + Wait + Sync>(
+pub fn phase<N: Named + Send + Sync, G: Gate + Sync, R: Threads + Wait + Sync>(
     rt: &R,
     alloc: Global,
     job: &Job<'_, G>,
@@ -117,7 +117,7 @@ fn act_lines<N: Named>(
 
 /// So many workers, each in a thread of its own, or one after another where no
 /// thread can be had. What they answer is no more than the history shows.
-fn drive_all<N: Named + Send + Sync, G: Gate, R: Threads + Wait + Sync>(
+fn drive_all<N: Named + Send + Sync, G: Gate + Sync, R: Threads + Wait + Sync>(
     rt: &R,
     alloc: Global,
     job: &Job<'_, G>,
@@ -132,7 +132,10 @@ fn drive_all<N: Named + Send + Sync, G: Gate, R: Threads + Wait + Sync>(
         rt,
         alloc,
         usize::from(job.workers),
-        &|_| { drive(rt, alloc, decl, fabric, cells, gate) },
+        &|_|
+            requires declaration { decl.now ≡ N.declaration }
+            requires accepted { IsAccepted N.declaration }
+        { drive(rt, alloc, decl, fabric, cells, gate) },
     );
     drop(ends);
 }

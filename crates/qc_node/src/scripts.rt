@@ -24,7 +24,7 @@ use std::thread::Threads;
 
 /// The phases that are left, one after another, as long as the next one may
 /// begin. The pass is the controller's. How it ended is read off the history.
-pub fn drive_script<N: Named + Send + Sync, G: Gate, R: Threads + Wait + Sync>(
+pub fn drive_script<N: Named + Send + Sync, G: Gate + Sync, R: Threads + Wait + Sync>(
     rt: &R,
     alloc: Global,
     job: &Job<'_, G>,
