@@ -1,6 +1,7 @@
 //! An actor takes an input, reserves room for its turn, and posts it.
 
-ghost use Rattle.std.specs.Prelude.{◌≡◌, ◌<◌, [], IfOk, IfSome, OnOk, OnErr, MatchOption, false, true, length, slice_set};
+ghost use Rattle.std.specs.Prelude.{◌≡◌, ◌<◌, [], IfOk, IfSome, OnOk, OnErr, MatchOption};
+ghost use Rattle.std.specs.Prelude.{false, true, length, slice_set};
 ghost use Rattle.qc_decl.specs.Actors.{actors};
 ghost use Rattle.qc_msg.specs.Deeds.{deeds};
 ghost use Rattle.qc_pass.specs.Tokens.{number, pass_table, room, seen};
@@ -41,7 +42,8 @@ impl<C: Conduct, N: Named> Still<C, N> {
         ensures steps { IfOk result (λ r. IfSome r (λ taken. taken.steps ≡ length self.new.history)) }
         ensures exact { IfOk result (λ r. MatchOption r
             (HasNone N.declaration N.script self.old.open_inputs (number pass.old) self.old.history)
-            (λ taken. HasNext N.declaration N.script self.old.open_inputs (number pass.old) self.old.history taken.given)) }
+            (λ taken. HasNext N.declaration N.script self.old.open_inputs (number pass.old) self.old.history
+            taken.given)) }
         ensures inputs { IfOk result (λ r. MatchOption r (self.new.open_inputs ≡ self.old.open_inputs)
             (λ taken. self.new.open_inputs ≡ slice_set self.old.open_inputs (number pass.old) true)) }
         ensures held { IfOk result (λ r. MatchOption r (self.new.held ≡ slice_set self.old.held (number pass.old) false)

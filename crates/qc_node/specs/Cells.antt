@@ -33,15 +33,15 @@ unless_given_up false actor = Some actor
 abbrev pub actor_in : Declaration → ℕ → List Entry → Actor
 actor_in decl a h = (actor_after decl a (deeds a [] h)).actor
 
--- the pass is of the run, of a site or a client, and has no room; the actor is what its deeds make, unless it was given up
+-- the pass is of the run, of a site or a client, and has no room; unless the actor was given up, it is what its deeds make
 pub record IsCell (z : TableId) (decl : Declaration) (given_up : Bool) (actor : Actor) (pass : Pass Step) : Type 0 where
   pub table_is : pass_table pass ≡ z
   pub is_actor : number pass < actors decl
   pub no_room : room pass ≡ 0
   pub actor_is : given_up ≡ false → actor ≡ actor_in decl (number pass) (seen pass)
 
--- The cell saw more, in which its actor did nothing: what it saw is a run, after which nothing is ready for the actor, or
--- an input of it is open.
+-- The cell saw more, in which its actor did nothing: what it saw is a run, after which nothing is ready for the actor,
+-- or an input of it is open.
 pub record IsIdle (decl : Declaration) (script : Script) (old new : Known) : Type 0 where
   pub begins : IsPrefix old.seen new.seen
   pub does : deeds new.number [] new.seen ≡ deeds old.number [] old.seen

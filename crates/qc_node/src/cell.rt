@@ -40,7 +40,11 @@ impl<N: Named> Model for Cell<N> {
 
     ghost Value = { Known };
 
-    ghost view = { λ c. record { number = number c.pass; seen = seen c.pass; actor = unless_given_up c.given_up c.actor } };
+    ghost view = { λ c. record {
+      number = number c.pass;
+      seen = seen c.pass;
+      actor = unless_given_up c.given_up c.actor;
+    } };
 
     ghost invariant = { λ c. IsCell N.table N.declaration c.given_up c.actor c.pass };
 }
