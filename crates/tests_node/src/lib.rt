@@ -10,4 +10,6 @@ pub use runs::{Ran, run, script_of};
 pub use steps::Short;
 
 #[cfg(test)]
+mod rows;
+#[cfg(test)]
 mod tests;
