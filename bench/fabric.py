@@ -5,7 +5,8 @@ usage: bench/fabric.py [ROUNDS] [TURNS]
 
 Makes a program of fabric_turns.rt.in. Runs each case once a round, ROUNDS rounds, 5 unless it is given, so that a slow moment
 falls on all. Times are those of the clock, for the turns alone, in nanoseconds a turn: the time of all threads together, over
-the turns of all. A turn is a take, a reserve and a post. TURNS of them a thread, 50,000 unless it is given. Cases:
+the turns of all. A turn is a take, a reserve and a post. TURNS of them a thread, 25,000 unless it is given; twice as
+many would meet the limit of steps. Cases:
 
 - still: one thread on the state itself, with no lock, where each message has so many lines, and a tenth or a hundredth of
   the turns: what the copy of a message costs that `take` makes;
@@ -55,7 +56,7 @@ def steps_of(kind, threads, turns):
 
 def main():
     rounds = int(sys.argv[1]) if len(sys.argv) > 1 else 5
-    turns = int(sys.argv[2]) if len(sys.argv) > 2 else 50_000
+    turns = int(sys.argv[2]) if len(sys.argv) > 2 else 25_000
     resource.setrlimit(resource.RLIMIT_CORE, (0, 0))
     seen = {case: [] for case in cases(turns)}
     with tempfile.TemporaryDirectory() as folder:

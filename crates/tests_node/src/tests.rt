@@ -4,7 +4,7 @@ use crate::meeting::Meeting;
 use crate::rows::{ROWS, Row};
 use crate::runs::{Ran, run, script_of};
 use crate::steps::Short;
-use qc_decl::built_in;
+use qc_decl::{MOST_SCRIPT_BYTES, built_in};
 use qc_engine::is_built;
 use qc_node::{DriveEnd, Job};
 use qc_outside::{Gate, OpenGate};
@@ -26,6 +26,9 @@ fn ran<G: Gate, R: Threads + Wait + Sync>(
     gate: &G,
     workers: u8,
 ) -> Result<Ran, Fail> {
+    if bytes.len() > MOST_SCRIPT_BYTES as usize {
+        return Err(Fail::from("the script is too long"));
+    }
     let Some(decl) = built_in(alloc, "@three")? else {
         return Err(Fail::from("no such declaration"));
     };
