@@ -12,7 +12,6 @@ list alone. Ends with status 1 where `check` takes more than twice the walk's
 time, or more than 4 MB beside the list.
 """
 
-import os
 import statistics
 import subprocess
 import sys
@@ -27,9 +26,7 @@ USES = ("qc_table", "qc_cert")
 
 def build(folder):
     """The program of `check` and that of the walk."""
-    walk = os.path.join(folder, "certificate_walk")
-    subprocess.run(["rustc", "-O", os.path.join(programs.ROOT, "bench", "certificate_walk.rs"), "-o", walk], check=True)
-    return programs.build(folder, "walk", "certificate_check.rt.in", USES), walk
+    return programs.build(folder, "walk", "certificate_check.rt.in", USES), programs.plain(folder, "certificate_walk.rs")
 
 
 def run(words):

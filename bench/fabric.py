@@ -17,7 +17,6 @@ many would meet the limit of steps. Cases:
 Ends with status 1 where a history hasn't as many steps as its turns make.
 """
 
-import os
 import resource
 import statistics
 import subprocess

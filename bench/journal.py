@@ -14,8 +14,6 @@ least of all rounds, since each case takes but milliseconds. Cases:
 Ends with status 1 where a bar isn't met.
 """
 
-import os
-import subprocess
 import sys
 import tempfile
 
@@ -48,10 +46,8 @@ def least(paths, rounds):
 
 def main():
     rounds = int(sys.argv[1]) if len(sys.argv) > 1 else 25
-    here = os.path.dirname(os.path.abspath(__file__))
     with tempfile.TemporaryDirectory() as folder:
-        walk = os.path.join(folder, "journal_walk")
-        subprocess.run(["rustc", "-O", "-o", walk, os.path.join(here, "journal_walk.rs")], check=True)
+        walk = programs.plain(folder, "journal_walk.rs")
         program = programs.build(folder, "journal_appends", "journal_appends.rt.in", ("qc_outside", "qc_journal"))
         seconds = least({"journal": program, "walk": walk}, rounds)
     whole, appends, opening = {}, {}, {}

@@ -27,6 +27,7 @@ import tempfile
 
 sys.dont_write_bytecode = True
 
+import programs
 from runs import load, reads
 
 ROOT = os.path.dirname(os.path.dirname(os.path.abspath(__file__)))
@@ -87,8 +88,7 @@ def written(folder, name, text):
 
 def cases(program, folder):
     """The words of each case, by its name."""
-    walk = os.path.join(folder, "load_walk")
-    subprocess.run(["rustc", "-O", "-o", walk, os.path.join(ROOT, "bench", "load_walk.rs")], check=True)
+    walk = programs.plain(folder, "load_walk.rs")
     words = {NOTHING: [sys.executable, "-c", "pass"], "start": [program, "check", "@one"]}
     for count in BEGINS:
         words["%d begins" % count] = [program, "run", "@one", written(folder, "begins_%d" % count, begins(count))]

@@ -59,6 +59,24 @@ def build(folder, name, template, uses, proofs=()):
     return os.path.join(folder, "crates", name, "out", name)
 
 
+def plain(folder, source):
+    """Compiles a plain program of the bench into a folder, and tells where it
+    stands."""
+    made = os.path.join(folder, source[: -len(".rs")])
+    subprocess.run(["rustc", "-O", "-o", made, os.path.join(ROOT, "bench", source)], check=True)
+    return made
+
+
+def in_turn(calls, rounds):
+    """What each call gave in each round, by its name. Every call is made once a
+    round, so that a slow moment falls on all."""
+    seen = {name: [] for name in calls}
+    for _ in range(rounds):
+        for name, words in calls.items():
+            seen[name].append(call(words))
+    return seen
+
+
 def call(words):
     """The processor seconds of a call, its peak of memory in megabytes, and what it wrote. A call that fails ends all."""
     ran = subprocess.Popen(words, stdout=subprocess.PIPE, text=True)

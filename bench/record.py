@@ -10,7 +10,6 @@ ROUNDS calls, 5 unless it is given.
 
 import os
 import resource
-import subprocess
 import sys
 import tempfile
 
@@ -44,9 +43,7 @@ def main():
     resource.setrlimit(resource.RLIMIT_CORE, (0, 0))
     with tempfile.TemporaryDirectory() as folder:
         program = programs.build(folder, "record_bytes", "record_bytes.rt.in", USES)
-        walk = os.path.join(folder, "walk")
-        source = os.path.join(os.path.dirname(os.path.abspath(__file__)), "record_walk.rs")
-        subprocess.run(["rustc", "-O", "-o", walk, source], check=True)
+        walk = programs.plain(folder, "record_walk.rs")
         for case, body in CASES.items():
             name = os.path.join(folder, "body")
             with open(name, "wb") as file:

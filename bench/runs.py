@@ -18,7 +18,6 @@ Ends with status 1 where a bar isn't met.
 import os
 import resource
 import statistics
-import subprocess
 import sys
 import tempfile
 
@@ -68,19 +67,13 @@ def main():
     resource.setrlimit(resource.RLIMIT_CORE, (0, 0))
     with tempfile.TemporaryDirectory() as folder:
         program = programs.build(folder, "script_run", "script_run.rt.in", USES)
-        walk = os.path.join(folder, "load_walk")
-        here = os.path.dirname(os.path.abspath(__file__))
-        subprocess.run(["rustc", "-O", "-o", walk, os.path.join(here, "load_walk.rs")], check=True)
-        calls = {"walk 500": [walk, "500", "7"]}
+        calls = {"walk 500": [programs.plain(folder, "load_walk.rs"), "500", "7"]}
         for name, lines in CASES.items():
             path = os.path.join(folder, name.replace(" ", "_"))
             with open(path, "w") as file:
                 file.write("\n".join(lines()) + "\n")
             calls[name] = [program, path, *MORE.get(name, [])]
-        seen = {name: [] for name in calls}
-        for _ in range(rounds):
-            for name, words in calls.items():
-                seen[name].append(programs.call(words))
+        seen = programs.in_turn(calls, rounds)
     time, memory = {}, {}
     for name, measured in seen.items():
         time[name] = statistics.median(seconds for seconds, _, _ in measured)

@@ -49,10 +49,7 @@ def main():
             calls[name, "loop"] = [loop, path]
             for count in (1, 2, 4) if name == "load" else (1,):
                 calls[name, count] = [workers, path, str(count)]
-        seen = {case: [] for case in calls}
-        for _ in range(rounds):
-            for case, words in calls.items():
-                seen[case].append(programs.call(words))
+        seen = programs.in_turn(calls, rounds)
     clock, used = {}, {}
     for (name, by), measured in seen.items():
         told = [text.split() for _, _, text in measured]
