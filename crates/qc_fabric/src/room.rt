@@ -1,6 +1,6 @@
 //! How much room is asked for, and whether there may be so much.
 
-ghost use Rattle.std.specs.Prelude.{◌≡◌, ◌+◌, ◌≤◌, IfOk, IfSome};
+ghost use Rattle.std.specs.Prelude.{◌≡◌, ◌+◌, ◌≤◌, ◌<◌, None, IfOk, IfSome};
 ghost use Rattle.qc_fabric.specs.Stills.{most_history};
 ghost use Rattle.qc_fabric.specs.Tells.{size_of};
 
@@ -12,9 +12,10 @@ use std::alloc::AllocError;
 pub const MOST_HISTORY: usize = 8_388_608;
 
 /// The room for so many steps more than are reserved, where the history of so
-/// many steps stays within the most with them.
+/// many steps stays within the most with them, and else `None`.
 pub(crate) fn more(steps: usize, reserved: usize, added: usize) -> Option<usize>
-    ensures { IfSome result (λ room. (room ≡ reserved + added) × (steps + room ≤ most_history)) }
+    ensures some { IfSome result (λ room. (room ≡ reserved + added) × (steps + room ≤ most_history)) }
+    ensures none { result ≡ None → most_history < steps + (reserved + added) }
 {
     let room = reserved.checked_add(added)?;
     if steps <= MOST_HISTORY && room <= MOST_HISTORY - steps {

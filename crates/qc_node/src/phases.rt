@@ -116,7 +116,8 @@ fn act_lines<N: Named>(
 }
 
 /// So many workers, each in a thread of its own, or one after another where no
-/// thread can be had. What they answer is no more than the history shows.
+/// thread can be had; one alone needs none. What they answer is no more than the
+/// history shows.
 fn drive_all<N: Named + Send + Sync, G: Gate + Sync, R: Threads + Wait + Sync>(
     rt: &R,
     alloc: Global,
@@ -128,6 +129,10 @@ fn drive_all<N: Named + Send + Sync, G: Gate + Sync, R: Threads + Wait + Sync>(
     requires accepted { IsAccepted N.declaration }
 {
     let (decl, gate) = (job.decl, job.gate);
+    if job.workers <= 1 {
+        drive(rt, alloc, decl, fabric, cells, gate);
+        return;
+    }
     let ends = map_indices(
         rt,
         alloc,
