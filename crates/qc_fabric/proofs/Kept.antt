@@ -11,6 +11,7 @@ use Rattle.qc_decl.specs.declared.declaration.Declaration.{Declaration}
 use Rattle.qc_inbox.specs.Kept.{IsKept}
 use Rattle.qc_inbox.specs.Rooms.{after_take, empty_inboxes}
 use Rattle.qc_inbox.specs.declared.inboxes.Inboxes.{Inboxes}
+use Rattle.qc_inbox.specs.declared.input.Input.{Input}
 use Rattle.qc_inbox.proofs.Acting.{kept_take}
 use Rattle.qc_inbox.proofs.Among.{ready_found}
 use Rattle.qc_inbox.proofs.Keeping.{kept_begins}
@@ -18,23 +19,27 @@ use Rattle.qc_mailbox.specs.Kept.{Roomy}
 use Rattle.qc_msg.specs.declared.step.Given.{Given}
 use Rattle.qc_msg.specs.declared.step.Step.{Step}
 use Rattle.qc_msg.specs.declared.turn.Turn.{Turn}
-use Rattle.qc_msg.specs.Deeds.{Deed, Takes as TakesInput, deeds}
+use Rattle.qc_msg.specs.Deeds.{Deed, Takes as TakesInput, deeds, mail}
 use Rattle.qc_msg.specs.Steps.{Entry, marked, step_of}
 use Rattle.qc_msg.proofs.Growth.{deeds-taken}
 use Rattle.qc_pass.specs.declared.token.Pass.{Pass}
 use Rattle.qc_pass.specs.declared.token.Right.{Right}
 use Rattle.qc_pass.specs.Made.{IsFirst}
 use Rattle.qc_pass.specs.Tokens.{right_table, number, seen, room, all, rooms, Met}
-use Rattle.qc_script.specs.Ready.{phase_of, ready}
+use Rattle.qc_script.specs.Ready.{phase_of}
 use Rattle.qc_script.specs.Runs.{Runs, begins, takes}
 use Rattle.qc_script.specs.Sound.{IsScriptFor}
 use Rattle.qc_script.specs.declared.script.Script.{Script}
+use Rattle.qc_fabric.specs.Events.{before_last_event, begins_event}
 use Rattle.qc_fabric.specs.Feeds.{HasGrown}
-use Rattle.qc_fabric.specs.Logs.{Logged}
+use Rattle.qc_fabric.specs.Inputs.{IsInputFor, given_by}
+use Rattle.qc_fabric.specs.Logs.{Logged, full_of}
 use Rattle.qc_fabric.specs.Stills.{IsStill, most_history}
-use Rattle.qc_fabric.specs.Tells.{Sees, Takes, Waits}
-use Rattle.qc_fabric.proofs.Fed.{deeds_of_front, get_else, get_here, get_within, length_set, rooms_kept, sum-set, sum_cons}
+use Rattle.qc_fabric.specs.Tells.{HasNext, HasNone, Sees, Takes, Waits}
+use Rattle.qc_fabric.proofs.Events.{before_event, begins_input}
+use Rattle.qc_fabric.proofs.Fed.{bit_clear, bit_set, deeds_of_front, get_else, get_here, get_within, length_set, rooms_kept, sum-set, sum_cons}
 use Rattle.qc_fabric.proofs.Phased.{phase_input}
+use Rattle.qc_fabric.proofs.Ready.{given_ready, none_ready}
 
 pub no_room_at : (old new : List ℕ) (p i j : ℕ) → p < length old → new ≡ slice_set old p 0 → i ≡ p → slice_get new i ≡ Some (suc j) → ⊥
 no_room_at old new p i j made is same f =
@@ -43,23 +48,24 @@ no_room_at old new p i j made is same f =
     let both : Some 0 ≡ Some (suc j) = sym zero_there ∙ there in
     let bad : 0 ≡ suc j = cc in absurd (omega (arith, bad))
 
-module _ {L : ℕ → List Deed → Turn → Type 0} {D : Declaration} {S : Script} {z : TableId} {lg : Logged} {mb : Roomy} {op hd : List Bool} {ph rsv : ℕ} {tb : TableId} {ri : Option (Right Step)} where
-  held_is : (s : IsStill L D S z lg mb op hd ph rsv tb ri) (r : Right Step) → ri ≡ Some r → s.holder ≡ r
+module _ {L : ℕ → List Deed → Turn → Type 0} {D : Declaration} {S : Script} {z : TableId} {w : Script} {lg : Logged} {mb : Roomy} {op hd : List Bool} {ph rsv : ℕ} {tb : TableId} {ri : Option (Right Step)} where
+  held_is : (s : IsStill L D S z w lg mb op hd ph rsv tb ri) (r : Right Step) → ri ≡ Some r → s.holder ≡ r
   held_is s r e = let f = s.right_is in cc
 
-  pub all_of : (s : IsStill L D S z lg mb op hd ph rsv tb ri) (r : Right Step) → ri ≡ Some r → all r ≡ lg.history
+  pub all_of : (s : IsStill L D S z w lg mb op hd ph rsv tb ri) (r : Right Step) → ri ≡ Some r → all r ≡ lg.history
   all_of s r e = ap (λ (x : Right Step). all x) (sym (held_is s r e)) ∙ s.all_is
 
-  pub rooms_of : (s : IsStill L D S z lg mb op hd ph rsv tb ri) (r : Right Step) → ri ≡ Some r → rooms s.holder ≡ rooms r
+  pub rooms_of : (s : IsStill L D S z w lg mb op hd ph rsv tb ri) (r : Right Step) → ri ≡ Some r → rooms s.holder ≡ rooms r
   rooms_of s r e = ap (λ (x : Right Step). rooms x) (held_is s r e)
 
-  pub right_of : (s : IsStill L D S z lg mb op hd ph rsv tb ri) (r : Right Step) → ri ≡ Some r → right_table r ≡ z
+  pub right_of : (s : IsStill L D S z w lg mb op hd ph rsv tb ri) (r : Right Step) → ri ≡ Some r → right_table r ≡ z
   right_of s r e = ap (λ (x : Right Step). right_table x) (sym (held_is s r e)) ∙ s.right_table_is
 
   -- other memory, and others held
-  pub other_memory : (s : IsStill L D S z lg mb op hd ph rsv tb ri) (lg' : Logged) (mb' : Roomy) (hd' : List Bool) → lg'.history ≡ lg.history → mb'.inboxes ≡ mb.inboxes
-      → rsv ≤ lg'.room → rsv ≤ mb'.room → length hd' ≡ actors D → IsStill L D S z lg' mb' op hd' ph rsv tb ri
+  pub other_memory : (s : IsStill L D S z w lg mb op hd ph rsv tb ri) (lg' : Logged) (mb' : Roomy) (hd' : List Bool) → lg'.history ≡ lg.history → mb'.inboxes ≡ mb.inboxes
+      → rsv ≤ lg'.room → rsv ≤ mb'.room → length hd' ≡ actors D → IsStill L D S z w lg' mb' op hd' ph rsv tb ri
   other_memory s lg' mb' hd' es is lr mr len = record {
+    script_is = s.script_is;
     holder = s.holder;
     right_is = s.right_is;
     table_is = s.table_is;
@@ -75,16 +81,18 @@ module _ {L : ℕ → List Deed → Turn → Type 0} {D : Declaration} {S : Scri
     log_room = lr;
     mail_room = mr;
     bound = omega (arith, ap (λ (l : List Entry). length l) es, s.bound);
+    below = ap (λ (l : List Entry). full_of (before_last_event l)) es ∙ s.below;
     opened = s.opened;
     sound = s.sound;
     few = s.few;
   }
 
   -- a look
-  pub looks_on : (s : IsStill L D S z lg mb op hd ph rsv tb ri) (r : Right Step) → ri ≡ Some r → (p q : Pass Step) (t : Right Step) → Met p r q t [] (room p) → all t ≡ all r → IsStill L D S z lg mb op hd ph rsv tb (Some t)
+  pub looks_on : (s : IsStill L D S z w lg mb op hd ph rsv tb ri) (r : Right Step) → ri ≡ Some r → (p q : Pass Step) (t : Right Step) → Met p r q t [] (room p) → all t ≡ all r → IsStill L D S z w lg mb op hd ph rsv tb (Some t)
   looks_on s r e p q t m a =
       let same : rooms t ≡ rooms s.holder = rooms_kept p q r t [] m ∙ sym (rooms_of s r e) in
       record {
+        script_is = s.script_is;
         holder = t;
         right_is = refl;
         table_is = s.table_is;
@@ -100,22 +108,24 @@ module _ {L : ℕ → List Deed → Turn → Type 0} {D : Declaration} {S : Scri
         log_room = s.log_room;
         mail_room = s.mail_room;
         bound = s.bound;
+        below = s.below;
         opened = λ k j f. s.opened k j (ap (λ (l : List ℕ). slice_get l k) (sym same) ∙ f);
         sound = s.sound;
         few = s.few;
       }
 
   -- one step more, with other inputs open
-  pub steps_on : (s : IsStill L D S z lg mb op hd ph rsv tb ri) (r : Right Step) → ri ≡ Some r → (p q : Pass Step) (t : Right Step) (x : Step) (op' : List Bool) (ph' : ℕ)
+  pub steps_on : (s : IsStill L D S z w lg mb op hd ph rsv tb ri) (r : Right Step) → ri ≡ Some r → (p q : Pass Step) (t : Right Step) (x : Step) (op' : List Bool) (ph' : ℕ)
       → Met p r q t (x ∷ []) (room p) → all t ≡ all r ++ marked (number p) x ∷ []
       → (lg1 lg' : Logged) (mb' : Roomy) → lg1.history ≡ lg.history → rsv + 1 ≤ lg1.room → length lg.history + (rsv + 1) ≤ most_history → HasGrown lg1 lg' (marked (number p) x ∷ [])
       → rsv ≤ mb'.room → IsKept S (lg.history ++ marked (number p) x ∷ []) mb'.inboxes → ph' ≡ phase_of (lg.history ++ marked (number p) x ∷ [])
       → Runs L D S (lg.history ++ marked (number p) x ∷ []) op' → length op' ≡ actors D → ((k : ℕ) → slice_get op k ≡ Some true → slice_get op' k ≡ Some true)
-      → IsStill L D S z lg' mb' op' hd ph' rsv tb (Some t)
-  steps_on s r e p q t x op' ph' m a lg1 lg' mb' hs lr bd g mr kept phs run len more =
+      → full_of lg.history ≡ None → begins_event x ≡ true → IsStill L D S z w lg' mb' op' hd ph' rsv tb (Some t)
+  steps_on s r e p q t x op' ph' m a lg1 lg' mb' hs lr bd g mr kept phs run len more under starts_one =
       let same : rooms t ≡ rooms s.holder = rooms_kept p q r t (x ∷ []) m ∙ sym (rooms_of s r e) in
       let es : lg'.history ≡ lg.history ++ marked (number p) x ∷ [] = g.history ∙ ap (λ (l : List Entry). l ++ marked (number p) x ∷ []) hs in
       record {
+        script_is = s.script_is;
         holder = t;
         right_is = refl;
         table_is = s.table_is;
@@ -131,30 +141,31 @@ module _ {L : ℕ → List Deed → Turn → Type 0} {D : Declaration} {S : Scri
         log_room = omega (arith, g.room, lr);
         mail_room = mr;
         bound = omega (arith, ap (λ (l : List Entry). length l) es, length-append lg.history (marked (number p) x ∷ []), bd);
+        below = ap (λ (l : List Entry). full_of (before_last_event l)) es ∙ (ap full_of (before_event lg.history (marked (number p) x) [] starts_one refl) ∙ under);
         opened = λ k j f. more k (s.opened k j (ap (λ (l : List ℕ). slice_get l k) (sym same) ∙ f));
         sound = s.sound;
         few = s.few;
       }
 
   -- a take
-  module _ (s : IsStill L D S z lg mb op hd ph rsv tb ri) (r : Right Step) (e : ri ≡ Some r) (p q : Pass Step) (t : Right Step) (given : Given) (low : number p < actors D)
-      (free : slice_get op (number p) ≡ Some false) (rdy : ready D S (number p) lg.history ≡ Some given)
+  module _ (s : IsStill L D S z w lg mb op hd ph rsv tb ri) (r : Right Step) (e : ri ≡ Some r) (p q : Pass Step) (t : Right Step) (given : Given) (low : number p < actors D)
+      (next : HasNext D S op (number p) lg.history given)
       (m : Met p r q t (step_of given ∷ []) (room p)) (a : all t ≡ all r ++ marked (number p) (step_of given) ∷ []) where
     run_taken : Runs L D S (lg.history ++ marked (number p) (step_of given) ∷ []) (slice_set op (number p) true)
-    run_taken = takes (number p) given op lg.history s.runs free rdy
+    run_taken = takes (number p) given op lg.history s.runs next.closed next.rdy
 
     here : number p < 34
     here = omega (arith, low, s.few)
 
     open_now : slice_get (slice_set op (number p) true) (number p) ≡ Some true
-    open_now = get_here op (number p) true (get_within op (number p) false free)
+    open_now = get_here op (number p) true (get_within op (number p) false next.closed)
 
     pub takes_on : (lg1 lg' : Logged) (mb' : Roomy) → lg1.history ≡ lg.history → rsv + 1 ≤ lg1.room → length lg.history + (rsv + 1) ≤ most_history → HasGrown lg1 lg' (marked (number p) (step_of given) ∷ [])
-        → mb'.room ≡ mb.room → mb'.inboxes ≡ after_take mb.inboxes (number p) → IsStill L D S z lg' mb' (slice_set op (number p) true) hd ph rsv tb (Some t)
+        → mb'.room ≡ mb.room → mb'.inboxes ≡ after_take mb.inboxes (number p) → IsStill L D S z w lg' mb' (slice_set op (number p) true) hd ph rsv tb (Some t)
     takes_on lg1 lg' mb' hs lr bd g mr is = steps_on s r e p q t (step_of given) (slice_set op (number p) true) ph m a lg1 lg' mb' hs lr bd g (omega (arith, mr, s.mail_room))
-        (subst (λ (i : Inboxes). IsKept S (lg.history ++ marked (number p) (step_of given) ∷ []) i) (sym is) (kept_take D S lg.history mb.inboxes (number p) given s.kept here rdy))
+        (subst (λ (i : Inboxes). IsKept S (lg.history ++ marked (number p) (step_of given) ∷ []) i) (sym is) (kept_take D S lg.history mb.inboxes (number p) given s.kept here next.rdy))
         (s.phase_is ∙ sym (phase_input lg.history (number p) given)) run_taken (length_set op (number p) true ∙ s.opens)
-        (λ k o. dite (ℕ_discrete k (number p)) (λ i. subst (λ (x : ℕ). slice_get (slice_set op (number p) true) x ≡ Some true) (sym i) open_now) (λ ne. get_else op (number p) k true ne ∙ o))
+        (λ k o. dite (ℕ_discrete k (number p)) (λ i. subst (λ (x : ℕ). slice_get (slice_set op (number p) true) x ≡ Some true) (sym i) open_now) (λ ne. get_else op (number p) k true ne ∙ o)) next.below (begins_input given)
 
     pub took : Takes L D S p q given
     took =
@@ -166,44 +177,52 @@ module _ {L : ℕ → List Deed → Turn → Type 0} {D : Declaration} {S : Scri
           before = lg.history;
           begins = subst (λ (l : List Entry). IsPrefix (seen p) l) (all_of s r e) m.begins;
           few = omega (arith, s.bound);
+          below = next.below;
           run_before = (op, s.runs);
-          is_closed = free;
+          is_closed = next.closed;
           does_before = does_then;
-          is_ready = rdy;
+          is_ready = next.rdy;
           seen_is = seen_now;
           run = (slice_set op (number p) true, subst (λ (l : List Entry). Runs L D S l (slice_set op (number p) true)) (sym seen_now) run_taken);
           is_open = open_now;
           mine_is = m.mine_is;
-          does = ap (λ (l : List Entry). deeds (number p) [] l) seen_now ∙ (deeds-taken (number p) lg.history given (ready_found D S lg.history mb.inboxes (number p) given s.kept rdy)
+          does = ap (λ (l : List Entry). deeds (number p) [] l) seen_now ∙ (deeds-taken (number p) lg.history given (ready_found D S lg.history mb.inboxes (number p) given s.kept next.rdy)
               ∙ ap (λ (l : List Deed). l ++ TakesInput given ∷ []) does_then);
           room_is = m.room_is;
         }
 
-  -- nothing is ready
-  pub waits_open : (s : IsStill L D S z lg mb op hd ph rsv tb ri) (p0 p : Pass Step) → Sees p0 p → seen p ≡ lg.history → room p ≡ 0 → slice_get op (number p0) ≡ Some true → Waits L D S p0 p
-  waits_open s p0 p see sn rm is = record {
-    saw = see;
-    run = (op, subst (λ (l : List Entry). Runs L D S l op) (sym sn) s.runs);
-    room_is = rm;
-    why = inr is;
+  -- what the code tests
+  pub none_for : (s : IsStill L D S z w lg mb op hd ph rsv tb ri) (a : ℕ) → a < actors D → IsInputFor D lg.history mb.inboxes op a None → HasNone D S op a lg.history
+  none_for s a low (inl full) = inl full
+  none_for s a low (inr (inl set)) = inr (inl (bit_set op a set))
+  none_for s a low (inr (inr none)) = inr (inr (none_ready D S lg.history mb.inboxes a s.kept (omega (arith, low, s.few)) none))
+
+  pub next_for : (s : IsStill L D S z w lg mb op hd ph rsv tb ri) (a : ℕ) → a < actors D → (input : Input) (given : Given) → IsInputFor D lg.history mb.inboxes op a (Some input)
+      → given_by (mail lg.history) input ≡ Some given → HasNext D S op a lg.history given
+  next_for s a low input given is by = record {
+    below = is.0;
+    closed = bit_clear op a (omega (arith, low, s.opens)) is.1;
+    rdy = given_ready D S lg.history mb.inboxes a input given s.kept (omega (arith, low, s.few)) is.2 by;
   }
 
-  pub waits_none : (s : IsStill L D S z lg mb op hd ph rsv tb ri) (p0 p : Pass Step) → Sees p0 p → seen p ≡ lg.history → room p ≡ 0 → ready D S (number p0) lg.history ≡ None → Waits L D S p0 p
-  waits_none s p0 p see sn rm none = record {
+  -- no input is handed out
+  pub waits : (s : IsStill L D S z w lg mb op hd ph rsv tb ri) (p0 p : Pass Step) → Sees p0 p → seen p ≡ lg.history → room p ≡ 0 → HasNone D S op (number p0) lg.history → Waits L D S p0 p
+  waits s p0 p see sn rm none = record {
     saw = see;
     run = (op, subst (λ (l : List Entry). Runs L D S l op) (sym sn) s.runs);
     room_is = rm;
-    why = inl (ap (λ (l : List Entry). ready D S (number p0) l) sn ∙ none);
+    why = subst (λ (l : List Entry). HasNone D S op (number p0) l) (sym sn) none;
   }
 
   -- a room is set
-  pub reserves_on : (s : IsStill L D S z lg mb op hd ph rsv tb ri) (r : Right Step) → ri ≡ Some r → (p q : Pass Step) (t : Right Step) (k : ℕ) → slice_get op (number p) ≡ Some true → room p ≡ 0
+  pub reserves_on : (s : IsStill L D S z w lg mb op hd ph rsv tb ri) (r : Right Step) → ri ≡ Some r → (p q : Pass Step) (t : Right Step) (k : ℕ) → slice_get op (number p) ≡ Some true → room p ≡ 0
       → Met p r q t [] k → all t ≡ all r → (lg' : Logged) (mb' : Roomy) → lg'.history ≡ lg.history → mb'.inboxes ≡ mb.inboxes → rsv + k ≤ lg'.room → rsv + k ≤ mb'.room → length lg.history + (rsv + k) ≤ most_history
-      → IsStill L D S z lg' mb' op hd ph (rsv + k) tb (Some t)
+      → IsStill L D S z w lg' mb' op hd ph (rsv + k) tb (Some t)
   reserves_on s r e p q t k is none m a lg' mb' es ib lr mr bd =
       let before : rooms s.holder ≡ rooms r = rooms_of s r e in
       let total = sum-set (rooms r) (number p) (room p) k m.had_room in
       record {
+        script_is = s.script_is;
         holder = t;
         right_is = refl;
         table_is = s.table_is;
@@ -219,6 +238,7 @@ module _ {L : ℕ → List Deed → Turn → Type 0} {D : Declaration} {S : Scri
         log_room = lr;
         mail_room = mr;
         bound = omega (arith, ap (λ (l : List Entry). length l) es, bd);
+        below = ap (λ (l : List Entry). full_of (before_last_event l)) es ∙ s.below;
         opened = λ i j f. dite (ℕ_discrete i (number p)) (λ same. subst (λ (x : ℕ). slice_get op x ≡ Some true) (sym same) is)
             (λ ne. s.opened i j (ap (λ (l : List ℕ). slice_get l i) before ∙ (sym (get_else (rooms r) (number p) i k ne) ∙ (ap (λ (l : List ℕ). slice_get l i) (sym m.rooms_are) ∙ f))));
         sound = s.sound;
@@ -226,11 +246,12 @@ module _ {L : ℕ → List Deed → Turn → Type 0} {D : Declaration} {S : Scri
       }
 
   -- a room is given up, and the holding
-  pub leaves_on : (s : IsStill L D S z lg mb op hd ph rsv tb ri) (r : Right Step) → ri ≡ Some r → (p q : Pass Step) (t : Right Step) (b : ℕ) → Met p r q t [] 0 → all t ≡ all r → IsStill L D S z lg mb op (slice_set hd b false) ph (rsv - room p) tb (Some t)
+  pub leaves_on : (s : IsStill L D S z w lg mb op hd ph rsv tb ri) (r : Right Step) → ri ≡ Some r → (p q : Pass Step) (t : Right Step) (b : ℕ) → Met p r q t [] 0 → all t ≡ all r → IsStill L D S z w lg mb op (slice_set hd b false) ph (rsv - room p) tb (Some t)
   leaves_on s r e p q t b m a =
       let before : rooms s.holder ≡ rooms r = rooms_of s r e in
       let total = sum-set (rooms r) (number p) (room p) 0 m.had_room in
       record {
+        script_is = s.script_is;
         holder = t;
         right_is = refl;
         table_is = s.table_is;
@@ -246,13 +267,14 @@ module _ {L : ℕ → List Deed → Turn → Type 0} {D : Declaration} {S : Scri
         log_room = omega (arith, s.log_room);
         mail_room = omega (arith, s.mail_room);
         bound = omega (arith, s.bound);
+        below = s.below;
         opened = λ i j f. dite (ℕ_discrete i (number p)) (λ same. absurd (no_room_at (rooms r) (rooms t) (number p) i j m.made m.rooms_are same f))
             (λ ne. s.opened i j (ap (λ (l : List ℕ). slice_get l i) before ∙ (sym (get_else (rooms r) (number p) i 0 ne) ∙ (ap (λ (l : List ℕ). slice_get l i) (sym m.rooms_are) ∙ f))));
         sound = s.sound;
         few = s.few;
       }
 
-  pub room_kept : (s : IsStill L D S z lg mb op hd ph rsv tb ri) (r : Right Step) → ri ≡ Some r → (p : Pass Step) → slice_get (rooms r) (number p) ≡ Some (room p) → room p ≤ rsv
+  pub room_kept : (s : IsStill L D S z w lg mb op hd ph rsv tb ri) (r : Right Step) → ri ≡ Some r → (p : Pass Step) → slice_get (rooms r) (number p) ≡ Some (room p) → room p ≤ rsv
   room_kept s r e p there =
       let total = sum-set (rooms r) (number p) (room p) 0 there in
       omega (arith, total, ap (λ (l : List ℕ). sum l) (rooms_of s r e), s.sum_is)
@@ -268,10 +290,11 @@ none_there zero a k e = absurd (let no : ⊥ = cc in no)
 none_there (suc n) zero k e = let bad : 0 ≡ suc k = cc in absurd (omega (arith, bad))
 none_there (suc n) (suc a) k e = none_there n a k e
 
-pub starts : (L : ℕ → List Deed → Turn → Type 0) (D : Declaration) (S : Script) (z : TableId) (lg : Logged) (mb : Roomy) (op hd : List Bool) (tb : TableId) (r : Right Step)
-    → lg.history ≡ [] → mb.inboxes ≡ empty_inboxes S → op ≡ replicate (actors D) false → hd ≡ replicate (actors D) false → tb ≡ z → IsFirst z (controller D + 1) r → IsScriptFor D S → controller D < 34
-    → IsStill L D S z lg mb op hd 0 0 tb (Some r)
-starts L D S z lg mb op hd tb r none is oc hc te i so few = record {
+pub starts : (L : ℕ → List Deed → Turn → Type 0) (D : Declaration) (S : Script) (z : TableId) (w : Script) (lg : Logged) (mb : Roomy) (op hd : List Bool) (tb : TableId) (r : Right Step)
+    → w ≡ S → lg.history ≡ [] → mb.inboxes ≡ empty_inboxes S → op ≡ replicate (actors D) false → hd ≡ replicate (actors D) false → tb ≡ z → IsFirst z (controller D + 1) r → IsScriptFor D S → controller D < 34
+    → IsStill L D S z w lg mb op hd 0 0 tb (Some r)
+starts L D S z w lg mb op hd tb r ws none is oc hc te i so few = record {
+  script_is = ws;
   holder = r;
   right_is = refl;
   table_is = te;
@@ -287,6 +310,7 @@ starts L D S z lg mb op hd tb r none is oc hc te i so few = record {
   log_room = omega arith;
   mail_room = omega arith;
   bound = omega (arith, ap (λ (l : List Entry). length l) none);
+  below = ap (λ (l : List Entry). full_of (before_last_event l)) none;
   opened = λ a k g. absurd (none_there (controller D + 1) a k (ap (λ (l : List ℕ). slice_get l a) (sym i.rooms_are) ∙ g));
   sound = so;
   few = few;

@@ -1,5 +1,7 @@
 pub mod Placed
 pub mod Logged
+pub mod Events
+pub mod Limits
 pub mod Fed
 pub mod Phased
 pub mod Ready

@@ -24,16 +24,18 @@ use Rattle.qc_pass.specs.Tokens.{number, seen, mine, room, all, rooms, Met}
 use Rattle.qc_script.specs.Ready.{phase_of}
 use Rattle.qc_script.specs.Runs.{Runs, posts}
 use Rattle.qc_script.specs.declared.script.Script.{Script}
+use Rattle.qc_fabric.specs.Events.{before_last_event}
 use Rattle.qc_fabric.specs.Feeds.{HasGrown}
-use Rattle.qc_fabric.specs.Logs.{Logged}
+use Rattle.qc_fabric.specs.Logs.{Logged, full_of}
 use Rattle.qc_fabric.specs.Stills.{IsStill}
 use Rattle.qc_fabric.specs.Tells.{Fed, GoesToActors, Posts, Sees, size_of}
+use Rattle.qc_fabric.proofs.Events.{before_more, post_none}
 use Rattle.qc_fabric.proofs.Fed.{get_else, length-by, length-posted, length_set, rooms_kept, saw, sum-set}
 use Rattle.qc_fabric.proofs.Phased.{phase_posted}
 use Rattle.qc_fabric.proofs.Kept.{all_of, no_room_at, right_of, rooms_of}
 
-module _ {L : ℕ → List Deed → Turn → Type 0} {D : Declaration} {S : Script} {z : TableId} {lg : Logged} {mb : Roomy} {op hd : List Bool} {ph rsv : ℕ} {tb : TableId} {ri : Option (Right Step)} where
-  module _ (s : IsStill L D S z lg mb op hd ph rsv tb ri) (r : Right Step) (e : ri ≡ Some r) (p p1 p2 q : Pass Step) (r1 r2 t : Right Step) (turn : Turn) (first k : ℕ)
+module _ {L : ℕ → List Deed → Turn → Type 0} {D : Declaration} {S : Script} {z : TableId} {w : Script} {lg : Logged} {mb : Roomy} {op hd : List Bool} {ph rsv : ℕ} {tb : TableId} {ri : Option (Right Step)} where
+  module _ (s : IsStill L D S z w lg mb op hd ph rsv tb ri) (r : Right Step) (e : ri ≡ Some r) (p p1 p2 q : Pass Step) (r1 r2 t : Right Step) (turn : Turn) (first k : ℕ)
       (m1 : Met p r p1 r1 [] (room p)) (a1 : all r1 ≡ all r) (f : Fed p1 r1 p2 r2 (posted first turn)) (m2 : Met p2 r2 q t [] 0) (a2 : all t ≡ all r2)
       (first_is : first ≡ length (mail lg.history)) (has : room p ≡ suc k) (low : number p < actors D) (ok : L (number p) (deeds (number p) [] (seen p)) turn) (to : GoesToActors turn) where
     see : Sees p p1
@@ -65,13 +67,14 @@ module _ {L : ℕ → List Deed → Turn → Type 0} {D : Declaration} {S : Scri
         (posts (number p) turn op lg.history s.runs is_open (subst (λ (d : List Deed). L (number p) d turn) (sym see.does ∙ ap (λ (l : List Entry). deeds (number p) [] l) seen_then) ok))
 
     pub posts_on : (lg' : Logged) (mb' : Roomy) (b : ℕ) → HasGrown lg lg' (by (number p) (posted first turn)) → suc k ≡ size_of turn → mb'.room + length turn.sends ≡ mb.room → mb'.inboxes ≡ after_turn mb.inboxes (number p) turn
-        → IsStill L D S z lg' mb' (slice_set op (number p) false) (slice_set hd b false) ph (rsv - suc k) tb (Some t)
+        → IsStill L D S z w lg' mb' (slice_set op (number p) false) (slice_set hd b false) ph (rsv - suc k) tb (Some t)
     posts_on lg' mb' b g size mr is =
         let total = sum-set (rooms r) (number p) (suc k) 0 room_there in
         let enough : suc k ≤ rsv = omega (arith, total, ap (λ (l : List ℕ). sum l) before, s.sum_is) in
         let steps : length (by (number p) (posted first turn)) + 1 ≡ suc k = ap (λ (n : ℕ). n + 1) (length-by (number p) (posted first turn)) ∙ (length-posted first turn ∙ sym size) in
         let here : number p < 34 = omega (arith, low, s.few) in
         record {
+          script_is = s.script_is;
           holder = t;
           right_is = refl;
           table_is = s.table_is;
@@ -88,6 +91,7 @@ module _ {L : ℕ → List Deed → Turn → Type 0} {D : Declaration} {S : Scri
           log_room = omega (arith, enough, s.log_room, g.room, steps);
           mail_room = omega (arith, enough, s.mail_room, mr, size);
           bound = omega (arith, enough, s.bound, ap (λ (l : List Entry). length l) g.history, length-append lg.history (by (number p) (posted first turn)), steps);
+          below = ap (λ (l : List Entry). full_of (before_last_event l)) g.history ∙ (ap full_of (before_more lg.history (by (number p) (posted first turn)) (post_none (number p) first turn)) ∙ s.below);
           opened = λ i j g. dite (ℕ_discrete i (number p)) (λ same. absurd (no_room_at (rooms r) (rooms t) (number p) i j m1.made rooms_after same g))
               (λ ne. get_else op (number p) i false ne ∙ s.opened i j (ap (λ (l : List ℕ). slice_get l i) before ∙ (sym (get_else (rooms r) (number p) i 0 ne) ∙ (ap (λ (l : List ℕ). slice_get l i) (sym rooms_after) ∙ g))));
           sound = s.sound;

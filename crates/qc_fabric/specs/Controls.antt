@@ -8,18 +8,24 @@ use Rattle.qc_msg.specs.declared.step.Step.{Step}
 use Rattle.qc_msg.specs.declared.step.Step.TheVariants as steps
 use Rattle.qc_script.specs.Ready.{controls_left, phase_of}
 use Rattle.qc_script.specs.declared.script.Script.{Script}
+use Rattle.qc_fabric.specs.Logs.{full_of}
 use Rattle.qc_fabric.specs.Picks.{IsStopped}
 
--- The next phase may begin where nothing is left to do in this one, and else the first control line that hasn't acted
--- may act. Lines that arm a disk, crash an actor or restart it can't act yet.
-abbrev pub MayDo : Declaration → Script → List Entry → List Bool → Control → Type 0
-MayDo decl script h inputs (controls.Phase k) =
+-- The next phase comes where nothing is left to do in this one, and else the first control line that hasn't acted. Lines
+-- that arm a disk, crash an actor or restart it can't act yet.
+abbrev pub ComesNext : Declaration → Script → List Entry → List Bool → Control → Type 0
+ComesNext decl script h inputs (controls.Phase k) =
     IsStopped decl script h inputs × (k ≡ phase_of h + 1) × (phase_of h < length script.phases)
-MayDo decl script h inputs (controls.Cut a b) = slice_get (controls_left script h) 0 ≡ Some (controls.Cut a b)
-MayDo decl script h inputs (controls.Heal a b) = slice_get (controls_left script h) 0 ≡ Some (controls.Heal a b)
-MayDo decl script h inputs (controls.Armed actor kind at) = ⊥
-MayDo decl script h inputs (controls.Crash a) = ⊥
-MayDo decl script h inputs (controls.Restart a) = ⊥
+ComesNext decl script h inputs (controls.Cut a b) = slice_get (controls_left script h) 0 ≡ Some (controls.Cut a b)
+ComesNext decl script h inputs (controls.Heal a b) = slice_get (controls_left script h) 0 ≡ Some (controls.Heal a b)
+ComesNext decl script h inputs (controls.Armed actor kind at) = ⊥
+ComesNext decl script h inputs (controls.Crash a) = ⊥
+ComesNext decl script h inputs (controls.Restart a) = ⊥
+
+-- the controller may do what comes next, while no limit is reached
+pub record MayDo (decl : Declaration) (script : Script) (h : List Entry) (inputs : List Bool) (control : Control) : Type 0 where
+  pub next : ComesNext decl script h inputs control
+  pub below : full_of h ≡ None
 
 -- the step of what may be done
 abbrev pub control_step : Control → Option Step

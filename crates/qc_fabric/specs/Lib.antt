@@ -1,5 +1,7 @@
 pub mod Places
 pub mod Logs
+pub mod Events
+pub mod Limits
 pub mod Brands
 pub mod Picks
 pub mod Controls

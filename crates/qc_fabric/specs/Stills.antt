@@ -1,5 +1,5 @@
 -- What the state under the lock keeps.
-use Rattle.std.specs.Prelude.{◌≡◌, ℕ, ◌+◌, ◌<◌, ◌≤◌, suc, Bool, true, List, Option, Some, length, slice_get, sum}
+use Rattle.std.specs.Prelude.{◌≡◌, ℕ, ◌+◌, ◌<◌, ◌≤◌, suc, Bool, true, List, Option, Some, None, length, slice_get, sum}
 use Rattle.atomic_table.specs.Seated.{TableId}
 use Rattle.qc_decl.specs.Actors.{actors, controller}
 use Rattle.qc_decl.specs.declared.declaration.Declaration.{Declaration}
@@ -15,7 +15,8 @@ use Rattle.qc_script.specs.Ready.{phase_of}
 use Rattle.qc_script.specs.Runs.{Runs}
 use Rattle.qc_script.specs.Sound.{IsScriptFor}
 use Rattle.qc_script.specs.declared.script.Script.{Script}
-use Rattle.qc_fabric.specs.Logs.{Logged}
+use Rattle.qc_fabric.specs.Events.{before_last_event}
+use Rattle.qc_fabric.specs.Logs.{Logged, full_of}
 
 -- what callers see: the history, of each site and client whether its input is open, and whether it is held
 pub record Shown : Type 0 where
@@ -28,8 +29,10 @@ abbrev pub most_history : ℕ
 most_history = 8388608
 
 pub record IsStill (lawful : ℕ → List Deed → Turn → Type 0) (decl : Declaration) (script : Script) (z : TableId)
-    (log : Logged) (mailboxes : Roomy) (inputs held : List Bool) (phase reserved : ℕ) (table : TableId)
+    (own : Script) (log : Logged) (mailboxes : Roomy) (inputs held : List Bool) (phase reserved : ℕ) (table : TableId)
     (right : Option (Right Step)) : Type 0 where
+  -- the script is the named one
+  pub script_is : own ≡ script
   -- the right is there, of the named table
   pub holder : Right Step
   pub right_is : right ≡ Some holder
@@ -49,6 +52,8 @@ pub record IsStill (lawful : ℕ → List Deed → Turn → Type 0) (decl : Decl
   pub log_room : reserved ≤ log.room
   pub mail_room : reserved ≤ mailboxes.room
   pub bound : length log.history + reserved ≤ most_history
+  -- before the last event each counted quantity was below its limit
+  pub below : full_of (before_last_event log.history) ≡ None
   -- who has room has an open input
   pub opened : (a k : ℕ) → slice_get (rooms holder) a ≡ Some (suc k) → slice_get inputs a ≡ Some true
   -- the name is that of a run: its script is for its declaration, whose actors are few

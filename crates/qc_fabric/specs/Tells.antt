@@ -1,6 +1,6 @@
 -- What the calls tell through the caller's pass alone.
 use Rattle.std.specs.Prelude.{◌≡◌, ◌⊎◌, ◌+◌, ◌<◌, ◌≤◌}
-use Rattle.std.specs.Prelude.{ℕ, Bool, true, false, List, [], ◌∷◌, ◌++◌, Some, None, length, slice_get}
+use Rattle.std.specs.Prelude.{ℕ, Bool, true, false, List, [], ◌∷◌, ◌++◌, Some, None, IsSome, length, slice_get}
 use Rattle.std.specs.List.{AllByRecursion as Every}
 use mathlib.Core.List.{IsPrefix}
 use Rattle.qc_decl.specs.Actors.{controller}
@@ -19,6 +19,7 @@ use Rattle.qc_script.specs.Ready.{ready}
 use Rattle.qc_script.specs.Runs.{Run}
 use Rattle.qc_script.specs.declared.script.Script.{Script}
 use Rattle.qc_fabric.specs.Controls.{control_step}
+use Rattle.qc_fabric.specs.Logs.{full_of}
 use Rattle.qc_fabric.specs.Stills.{most_history}
 
 -- the same pass
@@ -51,21 +52,34 @@ pub record Fed (p : Pass Step) (r : Right Step) (q : Pass Step) (t : Right Step)
   pub rooms_are : rooms t ≡ rooms r
   pub room_is : room q ≡ room p
 
+-- Whether an input is handed to an actor: none is where a counted quantity has reached its limit, where its input is open,
+-- and where nothing is ready for it; and else what is ready next.
+
+abbrev pub HasNone : Declaration → Script → List Bool → ℕ → List Entry → Type 0
+HasNone decl script inputs a h =
+    IsSome (full_of h) ⊎ ((slice_get inputs a ≡ Some true) ⊎ (ready decl script a h ≡ None))
+
+pub record HasNext (decl : Declaration) (script : Script) (inputs : List Bool) (a : ℕ) (h : List Entry) (given : Given) : Type 0 where
+  pub below : full_of h ≡ None
+  pub closed : slice_get inputs a ≡ Some false
+  pub rdy : ready decl script a h ≡ Some given
+
 module _ (lawful : ℕ → List Deed → Turn → Type 0) (decl : Declaration) (script : Script) where
-  -- nothing is ready for its actor, or an input of it is open
+  -- no input is handed to its actor
   pub record Waits (p q : Pass Step) : Type 0 where
     pub saw : Sees p q
     pub run : Run lawful decl script (seen q)
     pub room_is : room q ≡ 0
-    pub why : (ready decl script (number p) (seen q) ≡ None) ⊎ (slice_get run.0 (number p) ≡ Some true)
+    pub why : HasNone decl script run.0 (number p) (seen q)
 
   -- its actor took an input: what the pass has seen is a run that ends with this step. What stood there before is a run
-  -- too, in which the actor had no open input and has done what the pass had seen
+  -- below each limit, in which the actor had no open input and has done what the pass had seen
   pub record Takes (p q : Pass Step) (given : Given) : Type 0 where
     pub pass : IsSame p q
     pub before : List Entry
     pub begins : IsPrefix (seen p) before
     pub few : length before ≤ most_history
+    pub below : full_of before ≡ None
     pub run_before : Run lawful decl script before
     pub is_closed : slice_get run_before.0 (number p) ≡ Some false
     pub does_before : deeds (number p) [] before ≡ deeds (number p) [] (seen p)
@@ -101,12 +115,3 @@ pub record Does (decl : Declaration) (p q : Pass Step) (old new : List Entry) (c
   pub seen_is : seen q ≡ new
   pub mine_is : mine q ≡ mine p ++ step ∷ []
   pub room_is : room q ≡ room p
-
--- whether an input is handed to an actor: none is where its input is open, or nothing is ready for it, and else what is
--- ready next
-
-abbrev pub HasNone : Declaration → Script → List Bool → ℕ → List Entry → Type 0
-HasNone decl script inputs a h = (slice_get inputs a ≡ Some true) ⊎ (ready decl script a h ≡ None)
-
-abbrev pub HasNext : Declaration → Script → List Bool → ℕ → List Entry → Given → Type 0
-HasNext decl script inputs a h given = (slice_get inputs a ≡ Some false) × (ready decl script a h ≡ Some given)

@@ -1,15 +1,37 @@
-//! Inputs in full, their messages copied from the log.
+//! The input that an actor takes, and inputs in full, their messages copied from
+//! the log.
 
-ghost use Rattle.std.specs.Prelude.{◌≡◌, Some, IfOk, IsSome};
+ghost use Rattle.std.specs.Prelude.{◌≡◌, ◌<◌, Some, IfOk, IsSome};
 ghost use Rattle.qc_msg.specs.Deeds.{envelope_of, mail};
 ghost use Rattle.qc_msg.specs.Steps.{step_of};
-ghost use Rattle.qc_fabric.specs.Inputs.{IsThere, given_by};
+ghost use Rattle.qc_fabric.specs.Inputs.{IsInputFor, IsThere, given_by};
 
 use crate::log::Log;
+use qc_decl::Declaration;
 use qc_inbox::Input;
 use qc_list::OutOfMemory;
+use qc_mailbox::{Mailboxes, is_set};
 use qc_msg::{Entry, Envelope, Given, Step};
 use std::alloc::Global;
+
+/// The input that is handed to an actor: none where a counted quantity has
+/// reached its limit, its input is open, or nothing is ready for it.
+pub(crate) fn input_for(
+    log: &Log,
+    mailboxes: &Mailboxes,
+    inputs: &[bool],
+    decl: &Declaration,
+    actor: u8,
+) -> Option<Input>
+    requires { actor < 34 }
+    ensures { IsInputFor decl.now log.now.history mailboxes.now.inboxes inputs.now actor result }
+{
+    if log.full().is_some() || is_set(inputs, actor) {
+        None
+    } else {
+        mailboxes.ready(decl, actor)
+    }
+}
 
 /// The input in full.
 pub(crate) fn given_of(alloc: Global, log: &Log, input: Input) -> Result<Given, OutOfMemory>

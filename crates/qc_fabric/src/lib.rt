@@ -12,7 +12,8 @@
 //! 2. `pick` answers by one table (`specs/Picks.antt`). It names nobody who is
 //!    held or has an open input.
 //! 3. An actor with an open input takes none. What it takes is what is ready
-//!    next for it.
+//!    next for it. No event begins once a limit is reached, so before the last
+//!    one each counted quantity was below its own (`limits_are_told`).
 //! 4. `reserve` keeps room for a turn's steps and for its messages' copies,
 //!    whatever others post meanwhile, so that `post` takes no memory. Nor do
 //!    `pick`, `look`, `leave`, `open`, `close` and `end`.
@@ -42,7 +43,7 @@ mod weigh;
 pub use conduct::{Conduct, Named};
 pub use fabric::Fabric;
 pub use full::Full;
-pub use laws::nothing_is_armed;
+pub use laws::{limits_are_told, nothing_is_armed};
 pub use log::Log;
 pub use picked::Picked;
 pub use room::MOST_HISTORY;

@@ -1,11 +1,12 @@
 //! What the controller does: the next phase begins, and control lines act.
 
-ghost use Rattle.std.specs.Prelude.{◌≡◌, Some, IsSome, OnOk, OnErr, slice_get};
+ghost use Rattle.std.specs.Prelude.{◌≡◌, Some, None, IsSome, OnOk, OnErr, slice_get};
 ghost use Rattle.qc_decl.specs.Actors.{controller};
 ghost use Rattle.qc_msg.specs.declared.step.Control.TheVariants.{Phase};
 ghost use Rattle.qc_pass.specs.Tokens.{number, pass_table};
 ghost use Rattle.qc_script.specs.Ready.{controls_left, phase_of, step_of_control};
 ghost use Rattle.qc_fabric.specs.Controls.{MayDo};
+ghost use Rattle.qc_fabric.specs.Logs.{full_of};
 ghost use Rattle.qc_fabric.specs.Tells.{Does};
 
 use crate::conduct::{Conduct, Named};
@@ -15,7 +16,6 @@ use crate::still::Still;
 use qc_list::OutOfMemory;
 use qc_msg::{Control, Step};
 use qc_pass::Pass;
-use qc_script::Script;
 use std::alloc::AllocError;
 
 impl<C: Conduct, N: Named> Still<C, N> {
@@ -33,15 +33,13 @@ impl<C: Conduct, N: Named> Still<C, N> {
         self.mailboxes.next_control()
     }
 
-    /// The controller does what it may do next. After want of memory nothing has
-    /// changed.
+    /// The controller does what comes next, while no limit is reached. After want
+    /// of memory nothing has changed.
     pub fn order(
         &mut self,
-        script: &Script,
         pass: &mut Pass<Step>,
         control: Control,
     ) -> Result<(), OutOfMemory>
-        requires script { script.now ≡ N.script }
         requires table { pass_table pass.old ≡ N.table }
         requires controller { number pass.old ≡ controller N.declaration }
         requires may { MayDo N.declaration N.script self.old.history self.old.open_inputs control }
@@ -51,20 +49,14 @@ impl<C: Conduct, N: Named> Still<C, N> {
         ensures err { OnErr result ((self.new ≡ self.old) × (pass.new ≡ pass.old)) }
     {
         match control {
-            Control::Phase(number) => self.begin_phase(script, pass, number),
+            Control::Phase(number) => self.begin_phase(pass, number),
             Control::Cut(_, _) | Control::Heal(_, _) => self.act(pass, control),
             Control::Armed { .. } | Control::Crash(_) | Control::Restart(_) => unreachable!(),
         }
     }
 
     /// The next phase begins.
-    fn begin_phase(
-        &mut self,
-        script: &Script,
-        pass: &mut Pass<Step>,
-        phase: u32,
-    ) -> Result<(), OutOfMemory>
-        requires script { script.now ≡ N.script }
+    fn begin_phase(&mut self, pass: &mut Pass<Step>, phase: u32) -> Result<(), OutOfMemory>
         requires table { pass_table pass.old ≡ N.table }
         requires controller { number pass.old ≡ controller N.declaration }
         requires may { MayDo N.declaration N.script self.old.history self.old.open_inputs (Phase phase) }
@@ -77,7 +69,7 @@ impl<C: Conduct, N: Named> Still<C, N> {
             return Err(AllocError);
         };
         self.log.reserve(room)?;
-        let lines = &script.phases.items()[self.phase as usize];
+        let lines = &self.script.phases.items()[self.phase as usize];
         self.mailboxes.begin_phase(lines)?;
         let Some(right) = self.right.take() else {
             unreachable!()
@@ -93,6 +85,7 @@ impl<C: Conduct, N: Named> Still<C, N> {
         requires table { pass_table pass.old ≡ N.table }
         requires controller { number pass.old ≡ controller N.declaration }
         requires first { slice_get (controls_left N.script self.old.history) 0 ≡ Some line }
+        requires below { full_of self.old.history ≡ None }
         requires step { IsSome (step_of_control line) }
         ensures ok { OnOk result
             (Does N.declaration pass.old pass.new self.old.history self.new.history line) }

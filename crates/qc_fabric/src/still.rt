@@ -1,12 +1,14 @@
 //! The state that the lock holds: the history with the right to add to it, what
 //! is ready, which inputs are open, and who is held.
 
-ghost use Rattle.std.specs.Prelude.{◌≡◌, ◌<◌, ◌≤◌, ◌+◌, [], IfOk, false, length, replicate, slice_set};
+ghost use Rattle.std.specs.Prelude.{◌≡◌, ◌<◌, ◌≤◌, ◌+◌, [], None, IfOk, false, length, replicate, slice_set};
 ghost use Rattle.qc_decl.specs.Actors.{actors, controller};
 ghost use Rattle.qc_pass.specs.Made.{IsFirst};
 ghost use Rattle.qc_pass.specs.Tokens.{number, pass_table, room, seen, table_of};
-ghost use Rattle.qc_script.specs.Runs.{Run};
+ghost use Rattle.qc_script.specs.Runs.{Runs};
 ghost use Rattle.qc_script.specs.Sound.{IsScriptFor};
+ghost use Rattle.qc_fabric.specs.Events.{before_last_event};
+ghost use Rattle.qc_fabric.specs.Logs.{full_of};
 ghost use Rattle.qc_fabric.specs.Stills.{most_history};
 ghost use Rattle.qc_fabric.specs.Tells.{Sees};
 
@@ -22,10 +24,11 @@ use qc_script::Script;
 use std::alloc::Global;
 use std::marker::{Model, PhantomData};
 
-/// The history, the right to add to it, what is ready, who took an input, and
-/// who is held.
+/// The script, the history, the right to add to it, what is ready, who took an
+/// input, and who is held.
 #[derive(Drop)]
 pub struct Still<C: Conduct, N: Named> {
+    pub(crate) script: Script,
     pub(crate) log: Log,
     pub(crate) mailboxes: Mailboxes,
     pub(crate) inputs: Vec<bool>,
@@ -45,7 +48,7 @@ impl<C: Conduct, N: Named> Model for Still<C, N> {
 
     ghost view = { λ s. record { history = s.log.history; open_inputs = s.inputs.items; held = s.held.items } };
 
-    ghost invariant = { λ s. IsStill (C.lawful N.declaration) N.declaration N.script N.table s.log s.mailboxes
+    ghost invariant = { λ s. IsStill (C.lawful N.declaration) N.declaration N.script N.table s.script s.log s.mailboxes
         s.inputs.items s.held.items s.phase s.reserved (table_of s.passes) s.right };
 }
 
@@ -55,12 +58,12 @@ impl<C: Conduct, N: Named> Still<C, N> {
     pub fn make(
         alloc: Global,
         decl: &Declaration,
-        script: &Script,
+        script: Script,
         passes: Passes<Step>,
         right: Right<Step>,
     ) -> Result<Still<C, N>, OutOfMemory>
         requires declaration { decl.now ≡ N.declaration }
-        requires script { script.now ≡ N.script }
+        requires script { script ≡ N.script }
         requires sound { IsScriptFor N.declaration N.script }
         requires few { controller N.declaration < 34 }
         requires table { table_of passes ≡ N.table }
@@ -70,10 +73,11 @@ impl<C: Conduct, N: Named> Still<C, N> {
         ensures held { IfOk result (λ s. s.held ≡ replicate (actors N.declaration) false) }
     {
         let actors = decl.sites + decl.clients;
-        let mailboxes = Mailboxes::new(alloc, script)?;
+        let mailboxes = Mailboxes::new(alloc, &script)?;
         let inputs = closed(alloc, actors)?;
         let held = closed(alloc, actors)?;
         Ok(Still {
+            script,
             log: Log::new(alloc),
             mailboxes,
             inputs,
@@ -86,10 +90,18 @@ impl<C: Conduct, N: Named> Still<C, N> {
         })
     }
 
+    /// The script. It takes no memory.
+    pub fn script(&self) -> &Script
+        ensures { result.now ≡ N.script }
+    {
+        &self.script
+    }
+
     /// The history's entries, which are a run, and no more than the most.
     pub fn history(&self) -> &[Entry]
         ensures history { result.now ≡ self.now.history }
-        ensures run { Run (C.lawful N.declaration) N.declaration N.script result.now }
+        ensures runs { Runs (C.lawful N.declaration) N.declaration N.script result.now self.now.open_inputs }
+        ensures below { full_of (before_last_event result.now) ≡ None }
         ensures few { length result.now ≤ most_history }
     {
         self.log.entries()
@@ -132,13 +144,18 @@ impl<C: Conduct, N: Named> Still<C, N> {
         self.right = Some(right);
     }
 
-    /// The history's entries, by themselves, which are a run. It takes no memory.
-    pub fn end(self) -> Vec<Entry>
-        ensures history { result.items ≡ self.history }
-        ensures run { Run (C.lawful N.declaration) N.declaration N.script result.items }
-        ensures few { length result.items ≤ most_history }
+    /// The script, and the history's entries by themselves, which are a run.
+    /// Before its last event each counted quantity was below its limit. It takes
+    /// no memory.
+    pub fn end(self) -> (Script, Vec<Entry>)
+        ensures script { result.0 ≡ N.script }
+        ensures history { result.1.items ≡ self.history }
+        ensures inputs { length self.open_inputs ≡ actors N.declaration }
+        ensures runs { Runs (C.lawful N.declaration) N.declaration N.script result.1.items self.open_inputs }
+        ensures few { length result.1.items ≤ most_history }
+        ensures below { full_of (before_last_event result.1.items) ≡ None }
     {
-        let Still { log, .. } = self;
-        log.into_entries()
+        let Still { script, log, .. } = self;
+        (script, log.into_entries())
     }
 }

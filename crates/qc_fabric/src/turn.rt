@@ -10,7 +10,7 @@ ghost use Rattle.qc_fabric.specs.Tells.{GoesToActors, HasNext, HasNone, Posts, S
 use crate::bits::set;
 use crate::conduct::{Conduct, Named};
 use crate::feed::{add, feed};
-use crate::given::{given_of, step_of};
+use crate::given::{given_of, input_for, step_of};
 use crate::room::{more, size_of};
 use crate::still::Still;
 use crate::taken::Taken;
@@ -22,9 +22,9 @@ use qc_pass::Pass;
 use std::alloc::{AllocError, Global};
 
 impl<C: Conduct, N: Named> Still<C, N> {
-    /// The pass's actor takes its next input. Where nothing is ready for it, or
-    /// its input is open, its holding ends, and so does its room. After want of
-    /// memory nothing has changed.
+    /// The pass's actor takes its next input. Where a counted quantity has reached
+    /// its limit, its input is open, or nothing is ready for it, its holding ends,
+    /// and so does its room. After want of memory nothing has changed.
     pub fn take(
         &mut self,
         alloc: Global,
@@ -50,11 +50,8 @@ impl<C: Conduct, N: Named> Still<C, N> {
             (λ taken. self.new.held ≡ self.old.held)) }
     {
         let actor = pass.number();
-        if is_set(self.inputs.as_slice(), actor) {
-            self.leave(pass);
-            return Ok(None);
-        }
-        let Some(input) = self.mailboxes.ready(decl, actor) else {
+        let inputs = self.inputs.as_slice();
+        let Some(input) = input_for(&self.log, &self.mailboxes, inputs, decl, actor) else {
             self.leave(pass);
             return Ok(None);
         };

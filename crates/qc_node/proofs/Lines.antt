@@ -17,7 +17,7 @@ use Rattle.qc_script.specs.Inbox.{Inbox, empty_inbox, inbox_at, opened_by, phase
 use Rattle.qc_script.specs.Ready.{controls_left}
 use Rattle.qc_script.specs.declared.script.PhaseLines.{PhaseLines}
 use Rattle.qc_script.specs.declared.script.Script.{Script}
-use Rattle.qc_engine.specs.Built.{is_built, is_built_control, is_built_line, is_built_phase}
+use Rattle.qc_node.specs.Built.{is_built, is_built_control, is_built_line, is_built_phase}
 use Rattle.qc_fabric.specs.Controls.{MayDo, control_step}
 use Rattle.qc_fabric.specs.Tells.{Does}
 

@@ -15,7 +15,7 @@ use Rattle.qc_core.proofs.ActorSent.{actor_sent_at_once}
 use Rattle.qc_decl.specs.Accepted.{IsAccepted}
 use Rattle.qc_decl.specs.Actors.{actors, is_site}
 use Rattle.qc_decl.specs.declared.declaration.Declaration.{Declaration}
-use Rattle.qc_engine.proofs.Senders.{deeds_from, low_from, run_senders}
+use Rattle.qc_node.proofs.Senders.{deeds_from, low_from, run_senders}
 use Rattle.qc_laws.specs.Turns.{ActsIn}
 use Rattle.qc_laws.proofs.Acted.{run_acts}
 use Rattle.qc_laws.proofs.Arrivals.{what_is_ready_was_sent}
@@ -38,7 +38,7 @@ use Rattle.qc_records.proofs.InRuns.{run_events}
 use Rattle.qc_records.proofs.Needs.{client_bounds, promise_bounds}
 use Rattle.qc_script.specs.Ready.{ready}
 use Rattle.qc_script.specs.declared.script.Script.{Script}
-use Rattle.qc_fabric.specs.Tells.{Posts, Sees, Takes, Waits}
+use Rattle.qc_fabric.specs.Tells.{HasNone, Posts, Sees, Takes, Waits}
 use Rattle.qc_node.specs.Cells.{IsCell, IsIdle, IsServed, actor_in}
 use Rattle.qc_node.specs.Inputs.{IsReadable}
 
@@ -197,7 +197,7 @@ idle decl script p q c waits =
       does = ap (λ (n : ℕ). deeds n [] (seen q)) same ∙ waits.saw.does;
       actor_is = refl;
       run = waits.run;
-      why = subst (λ (n : ℕ). (ready decl script n (seen q) ≡ None) ⊎ (slice_get waits.run.0 n ≡ Some true)) (sym same) waits.why;
+      why = subst (λ (n : ℕ). HasNone decl script waits.run.0 n (seen q)) (sym same) waits.why;
     }
 
 pub cell_idle : (z : TableId) (decl : Declaration) (given_up : Bool) (v : Actor) (p q : Pass Step) → IsCell z decl given_up v p → Sees p q → room q ≡ 0 → IsCell z decl given_up v q

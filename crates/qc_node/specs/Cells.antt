@@ -1,5 +1,5 @@
 -- What a cell keeps, and what a turn makes of it.
-use Rattle.std.specs.Prelude.{◌≡◌, ◌⊎◌, ℕ, ◌<◌, Bool, true, false, List, [], ◌∷◌, ◌++◌, Option, Some, None, slice_get}
+use Rattle.std.specs.Prelude.{◌≡◌, ℕ, ◌<◌, Bool, true, false, List, [], ◌∷◌, ◌++◌, Option, Some, None}
 use mathlib.Core.List.{IsPrefix}
 use Rattle.atomic_table.specs.Seated.{TableId}
 use Rattle.qc_core.specs.declared.actor.Actor.{Actor}
@@ -13,9 +13,9 @@ use Rattle.qc_msg.specs.declared.step.Given.{Given}
 use Rattle.qc_msg.specs.declared.step.Step.{Step}
 use Rattle.qc_pass.specs.declared.token.Pass.{Pass}
 use Rattle.qc_pass.specs.Tokens.{number, pass_table, room, seen}
-use Rattle.qc_script.specs.Ready.{ready}
 use Rattle.qc_script.specs.Runs.{Run}
 use Rattle.qc_script.specs.declared.script.Script.{Script}
+use Rattle.qc_fabric.specs.Tells.{HasNone}
 use Rattle.qc_node.specs.declared.ends.TurnEnd.{TurnEnd}
 use Rattle.qc_node.specs.declared.ends.TurnEnd.TheVariants as ends
 
@@ -40,14 +40,14 @@ pub record IsCell (z : TableId) (decl : Declaration) (given_up : Bool) (actor : 
   pub no_room : room pass ≡ 0
   pub actor_is : given_up ≡ false → actor ≡ actor_in decl (number pass) (seen pass)
 
--- The cell saw more, in which its actor did nothing: what it saw is a run, after which nothing is ready for the actor,
--- or an input of it is open.
+-- The cell saw more, in which its actor did nothing: what it saw is a run, after which a limit is reached, an input of
+-- the actor is open, or nothing is ready for it.
 pub record IsIdle (decl : Declaration) (script : Script) (old new : Known) : Type 0 where
   pub begins : IsPrefix old.seen new.seen
   pub does : deeds new.number [] new.seen ≡ deeds old.number [] old.seen
   pub actor_is : new.actor ≡ old.actor
   pub run : Run (IsLawful decl) decl script new.seen
-  pub why : (ready decl script new.number new.seen ≡ None) ⊎ (slice_get run.0 new.number ≡ Some true)
+  pub why : HasNone decl script run.0 new.number new.seen
 
 -- The cell saw more, in which its actor took an input and posted the turn that this calls for, whose messages have the
 -- numbers from first on.

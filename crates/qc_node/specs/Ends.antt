@@ -1,9 +1,13 @@
--- How a phase ends, and a script, as a function of the history and the open inputs.
+-- How a phase ends, a script, and a run.
 use Rattle.std.specs.Prelude.{◌≡◌, ◌≤◌, ℕ, Bool, List, Some, None, length}
+use Rattle.qc_core.specs.Conduct.{IsLawful}
+use Rattle.qc_decl.specs.Actors.{actors}
 use Rattle.qc_decl.specs.declared.declaration.Declaration.{Declaration}
 use Rattle.qc_msg.specs.Steps.{Entry}
 use Rattle.qc_script.specs.Ready.{phase_of}
+use Rattle.qc_script.specs.Runs.{Runs}
 use Rattle.qc_script.specs.declared.script.Script.{Script}
+use Rattle.qc_fabric.specs.Events.{before_last_event}
 use Rattle.qc_fabric.specs.Logs.{full_of}
 use Rattle.qc_fabric.specs.Picks.{IsStopped}
 use Rattle.qc_node.specs.declared.ends.DriveEnd.{DriveEnd}
@@ -29,3 +33,12 @@ abbrev pub IsScriptEnd : Declaration → Script → List Entry → List Bool →
 IsScriptEnd decl script h inputs ends.Quiet = (full_of h ≡ None) × IsOver decl script h inputs
 IsScriptEnd decl script h inputs (ends.Full full) = full_of h ≡ Some full
 IsScriptEnd decl script h inputs ends.OutOfMemory = (full_of h ≡ None) × (IsOver decl script h inputs → ⊥)
+
+-- What a run comes to, and how it ended: with which inputs open, and that before its last event each counted quantity was
+-- below its limit.
+pub record HasEnded (decl : Declaration) (script : Script) (h : List Entry) (end : DriveEnd) : Type 0 where
+  pub inputs : List Bool
+  pub opens : length inputs ≡ actors decl
+  pub runs : Runs (IsLawful decl) decl script h inputs
+  pub ended : IsScriptEnd decl script h inputs end
+  pub below : full_of (before_last_event h) ≡ None

@@ -1,3 +1,4 @@
+pub mod Built
 pub mod Inputs
 pub mod Cells
 pub mod Ends

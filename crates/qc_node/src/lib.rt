@@ -13,21 +13,26 @@
 //!    where it took an input, which stays open then.
 //! 4. How a phase ended, and a script, is one function of the history and the
 //!    open inputs (`specs/Ends.antt`), whatever the workers answered.
+//! 5. `run_script` does all of it, from a script to its history.
 #![tactic(auto)]
 
 mod act;
+mod built;
 mod cell;
 mod cells;
 mod ends;
 mod phases;
 mod rules;
+mod runs;
 mod scripts;
 mod worker;
 
+pub use built::is_built;
 pub use cell::Cell;
 pub use cells::Cells;
 pub use ends::{DriveEnd, TurnEnd};
 pub use phases::{Job, phase};
 pub use rules::Rules;
+pub use runs::{Ran, run_script};
 pub use scripts::drive_script;
 pub use worker::drive;

@@ -3,7 +3,7 @@
 ghost use Rattle.std.specs.Prelude.{◌≡◌, true};
 ghost use Rattle.qc_decl.specs.Accepted.{IsAccepted};
 ghost use Rattle.qc_decl.specs.Actors.{controller};
-ghost use Rattle.qc_engine.specs.Built.{is_built};
+ghost use Rattle.qc_node.specs.Built.{is_built};
 ghost use Rattle.qc_fabric.specs.Controls.{MayDo};
 ghost use Rattle.qc_msg.specs.declared.step.Control.TheVariants.{Phase};
 ghost use Rattle.qc_pass.specs.Tokens.{number, pass_table};
@@ -19,7 +19,6 @@ use qc_list::OutOfMemory;
 use qc_msg::{Control, Step};
 use qc_outside::Gate;
 use qc_pass::Pass;
-use qc_script::Script;
 use std::alloc::Global;
 use std::sync::Wait;
 use std::thread::{Threads, map_indices};
@@ -29,8 +28,6 @@ use std::thread::{Threads, map_indices};
 pub struct Job<'a, G: Gate> {
     /// The declaration of the run.
     pub decl: &'a Declaration,
-    /// Its script.
-    pub script: &'a Script,
     /// What each turn passes before it is posted.
     pub gate: &'a G,
     /// How many workers there are.
@@ -51,7 +48,6 @@ pub fn phase<N: Named + Send + Sync, G: Gate + Sync, R: Threads + Wait + Sync>(
     pass: &mut Pass<Step>,
 ) -> (Still<Rules, N>, DriveEnd)
     requires declaration { job.now.decl.now ≡ N.declaration }
-    requires script { job.now.script.now ≡ N.script }
     requires accepted { IsAccepted N.declaration }
     requires built { is_built N.declaration N.script ≡ true }
     requires table { pass_table pass.old ≡ N.table }
@@ -62,7 +58,7 @@ pub fn phase<N: Named + Send + Sync, G: Gate + Sync, R: Threads + Wait + Sync>(
     ensures end { IsPhaseEnd N.declaration N.script phase result.0.history result.0.open_inputs result.1 }
 {
     let mut still = still;
-    if begin(job.script, &mut still, phase, pass).is_ok() {
+    if begin(&mut still, phase, pass).is_ok() {
         let fabric = Fabric::open(still);
         drive_all(rt, alloc, job, &fabric, cells);
         still = fabric.close();
@@ -73,12 +69,10 @@ pub fn phase<N: Named + Send + Sync, G: Gate + Sync, R: Threads + Wait + Sync>(
 
 /// The phase begins, and its control lines act, until a limit is reached.
 fn begin<N: Named>(
-    script: &Script,
     still: &mut Still<Rules, N>,
     phase: u32,
     pass: &mut Pass<Step>,
 ) -> Result<(), OutOfMemory>
-    requires script { script.now ≡ N.script }
     requires built { is_built N.declaration N.script ≡ true }
     requires table { pass_table pass.old ≡ N.table }
     requires controller { number pass.old ≡ controller N.declaration }
@@ -86,20 +80,15 @@ fn begin<N: Named>(
     ensures table { pass_table pass.new ≡ N.table }
     ensures controller { number pass.new ≡ controller N.declaration }
 {
-    if still.full().is_some() {
-        return Ok(());
-    }
-    still.order(script, pass, Control::Phase(phase))?;
-    act_lines(script, still, pass)
+    still.order(pass, Control::Phase(phase))?;
+    act_lines(still, pass)
 }
 
 /// The control lines left of the phase act, until a limit is reached.
 fn act_lines<N: Named>(
-    script: &Script,
     still: &mut Still<Rules, N>,
     pass: &mut Pass<Step>,
 ) -> Result<(), OutOfMemory>
-    requires script { script.now ≡ N.script }
     requires built { is_built N.declaration N.script ≡ true }
     requires table { pass_table pass.old ≡ N.table }
     requires controller { number pass.old ≡ controller N.declaration }
@@ -110,7 +99,7 @@ fn act_lines<N: Named>(
         if still.full().is_some() {
             return Ok(());
         }
-        still.order(script, pass, line)?;
+        still.order(pass, line)?;
     }
     Ok(())
 }

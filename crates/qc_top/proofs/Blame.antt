@@ -11,7 +11,7 @@ use Rattle.qc_outside.specs.Shelf.{Answer}
 use Rattle.qc_outside.specs.declared.shelf.ShelfFault.TheVariants as faults
 use Rattle.qc_report.specs.declared.cause.Cause.{Cause}
 use Rattle.qc_report.specs.declared.cause.Cause.TheVariants as causes
-use Rattle.qc_engine.specs.Built.{is_built}
+use Rattle.qc_node.specs.Built.{is_built}
 use Rattle.qc_script.specs.Grammar.{Refusal, script_of}
 use Rattle.qc_script.specs.declared.script.Script.{Script}
 use Rattle.qc_top.proofs.Ends.{the_err}

@@ -1,7 +1,8 @@
 -- How a call ends: with a run of its script and its text, with a word on its declaration, or with a cause that is due.
 use Rattle.std.proofs.Common.{◌≡◌, ℕ, false, List, [], Option, Some, None, Result, Ok, Err, inl, inr, refl, sym, subst, arith}
 use Rattle.std.specs.Prelude.{MatchOption, replicate}
-use Rattle.qc_laws.specs.Whole.{IsClosed, IsWhole}
+use Rattle.qc_core.specs.Conduct.{IsLawful}
+use Rattle.qc_laws.specs.Whole.{IsWhole}
 use Rattle.qc_decl.specs.Actors.{actors}
 use Rattle.qc_decl.specs.declared.declaration.Declaration.{Declaration}
 use Rattle.qc_msg.specs.Steps.{Entry}
@@ -9,10 +10,10 @@ use Rattle.qc_outside.specs.Shelf.{Answer, Files}
 use Rattle.qc_report.specs.declared.cause.Cause.{Cause}
 use Rattle.qc_report.specs.declared.cause.Cause.TheVariants as causes
 use Rattle.qc_text.specs.Text.{text_of}
-use Rattle.qc_script.specs.Runs.{begins}
+use Rattle.qc_script.specs.Runs.{Run, begins}
 use Rattle.qc_script.specs.declared.script.Script.{Script}
 use Rattle.qc_top.proofs.Right.{work_is}
-use Rattle.qc_engine.specs.Full.{IsBelow}
+use Rattle.qc_fabric.specs.Limits.{IsBelow}
 use Rattle.qc_top.proofs.Calm.{runs_calm}
 use Rattle.qc_top.proofs.Runs.{run_atomic, run_due, run_known}
 use Rattle.qc_top.specs.Calm.{AreCalm}
@@ -21,14 +22,14 @@ use Rattle.qc_top.specs.Words.{AskedOf, asked}
 use Rattle.qc_top.specs.Work.{Caused, Gives, IsRefusal, work_of}
 use Rattle.qc_top.specs.declared.answers.Answers.{Answers}
 use Rattle.qc_top.specs.declared.work.Work.{Work}
-use Rattle.qc_top.specs.declared.work.Work.TheVariants.{Accept, Run}
+use Rattle.qc_top.specs.declared.work.Work.TheVariants as works
 
 abbrev pub the_err : Cause → Result Work Cause
 the_err cause = Err cause
 
 -- the empty history is a run of every script
-empty_run : (decl : Declaration) (script : Script) → IsClosed decl script []
-empty_run decl script = begins
+empty_run : (decl : Declaration) (script : Script) → Run (IsLawful decl) decl script []
+empty_run decl script = (replicate (actors decl) false, begins)
 
 -- what holds in each case holds where a text is printed
 on_printed : (cause : Cause) (P : Type 0) → P → OnPrinted cause P
@@ -43,7 +44,7 @@ on_printed (causes.Full what number) P here = tt
 
 -- what a run leaves
 pub leaves_run : (decl : Declaration) (script : Script) (h : List Entry) (old : Option (List ℕ)) (cause : Cause) (new : Option (List ℕ)) → IsRunnable decl script
-    → IsClosed decl script h → IsRan cause → OnPrinted cause (IsWhole decl script h) → PrintsBetween (text_of decl script h) old cause new → LeavesRun decl script old cause new h
+    → Run (IsLawful decl) decl script h → IsRan cause → OnPrinted cause (IsWhole decl script h) → PrintsBetween (text_of decl script h) old cause new → LeavesRun decl script old cause new h
 leaves_run decl script h old cause new ready run ran whole text = record {
   accepted = ready.accepted;
   due = ran;
@@ -62,14 +63,14 @@ want_between text (Some old) = refl
 
 leaves_want : (work : Caused Work) (taken : Option (List ℕ)) → ((w : Work) → work ≡ Ok w → IsRight w) → Leaves work taken causes.OutOfMemory taken []
 leaves_want (Err why) taken right = record { due = inr refl; history = refl; text = refl }
-leaves_want (Ok (Accept decl)) taken right = record {
-  accepted = right (Accept decl) refl;
+leaves_want (Ok (works.Accept decl)) taken right = record {
+  accepted = right (works.Accept decl) refl;
   due = tt;
   history = refl;
   text = want_between _ taken;
 }
-leaves_want (Ok (Run decl script)) taken right =
-    leaves_run decl script [] taken causes.OutOfMemory taken (right (Run decl script) refl) (empty_run decl script) tt tt (want_between (text_of decl script []) taken)
+leaves_want (Ok (works.Run decl script)) taken right =
+    leaves_run decl script [] taken causes.OutOfMemory taken (right (works.Run decl script) refl) (empty_run decl script) tt tt (want_between (text_of decl script []) taken)
 
 -- the run that didn't begin, for want of memory
 pub leaves_unbegun : (decl : Declaration) (script : Script) (taken : Option (List ℕ)) (cause : Cause) (h : List Entry) → IsRunnable decl script → h ≡ [] → cause ≡ causes.OutOfMemory
@@ -82,8 +83,8 @@ leaves_unbegun decl script taken cause h ready none is =
 -- whatever a call leaves, no disk has a part in it
 pub leaves_calm : (work : Caused Work) (old : Option (List ℕ)) (cause : Cause) (new : Option (List ℕ)) (h : List Entry) → Leaves work old cause new h → AreCalm h
 leaves_calm (Err why) old cause new h left = subst AreCalm (sym left.history) tt
-leaves_calm (Ok (Accept decl)) old cause new h left = subst AreCalm (sym left.history) tt
-leaves_calm (Ok (Run decl script)) old cause new h left = runs_calm decl script h (replicate (actors decl) false) left.run
+leaves_calm (Ok (works.Accept decl)) old cause new h left = subst AreCalm (sym left.history) tt
+leaves_calm (Ok (works.Run decl script)) old cause new h left = runs_calm decl script h left.run.0 left.run.1
 
 -- nothing was to be done, for this cause
 pub leaves_refused : (asked : AskedOf) (answers : Answers) (taken : Option (List ℕ)) (cause : Cause) → Gives (work_of asked answers) (the_err cause) → Leaves (work_of asked answers) taken cause taken []

@@ -1,32 +1,65 @@
 -- What is promised of every run of a script that was read.
-use Rattle.std.proofs.Common.{false, List}
+use Rattle.std.proofs.Common.{◌≡◌, ℕ, zero, suc, Bool, true, false, List, [], ◌∷◌, length, Some, refl, sym, ap, ◌∙◌, subst, arith, slice_get}
 use Rattle.std.specs.Prelude.{replicate}
 use Rattle.qc_account.proofs.Declared.{asks_declared}
 use Rattle.qc_account.proofs.Ended.{whole}
 use Rattle.qc_account.proofs.Whole.{all_is_due}
+use Rattle.qc_core.specs.Conduct.{IsLawful}
 use Rattle.qc_decl.specs.Actors.{actors}
 use Rattle.qc_decl.specs.declared.declaration.Declaration.{Declaration}
-use Rattle.qc_engine.specs.Next.{IsQuiet}
+use Rattle.qc_fabric.specs.Events.{before_last_event}
+use Rattle.qc_fabric.specs.Limits.{IsBelow}
+use Rattle.qc_fabric.proofs.Limits.{first_reached, none_reached}
 use Rattle.qc_laws.specs.Whole.{IsClosed, IsWhole}
 use Rattle.qc_msg.specs.Steps.{Entry}
+use Rattle.qc_node.specs.Ends.{HasEnded, IsScriptEnd}
+use Rattle.qc_node.specs.declared.ends.DriveEnd.{DriveEnd}
+use Rattle.qc_node.specs.declared.ends.DriveEnd.TheVariants as ends
 use Rattle.qc_onecopy.proofs.Copies.{replay_copies}
 use Rattle.qc_promise.specs.Atomic.{Atomic}
 use Rattle.qc_promise.specs.Committed.{committed}
 use Rattle.qc_promise.specs.Due.{Due}
 use Rattle.qc_seen.proofs.SeenLaw.{is_atomic}
+use Rattle.qc_script.specs.Runs.{Run, Runs}
 use Rattle.qc_script.specs.declared.script.Script.{Script}
-use Rattle.qc_top.specs.Top.{AreStatesKnown, IsRunnable}
+use Rattle.qc_top.specs.Top.{AreStatesKnown, IsEnd, IsRunnable}
 
-module _ (decl : Declaration) (script : Script) (ready : IsRunnable decl script) (h : List Entry) (closed : IsClosed decl script h) where
+module _ (decl : Declaration) (script : Script) (ready : IsRunnable decl script) (h : List Entry) (run : Run (IsLawful decl) decl script h) where
   pub run_atomic : Atomic decl h
-  run_atomic = is_atomic decl script h (replicate (actors decl) false) ready.accepted ready.declared closed
+  run_atomic = is_atomic decl script h run.0 ready.accepted ready.declared run.1
 
   pub run_due : Due decl h
-  run_due = all_is_due decl script h (replicate (actors decl) false) closed
+  run_due = all_is_due decl script h run.0 run.1
 
   pub run_known : AreStatesKnown decl h
   run_known = (replay_copies decl (committed decl h)).1 run_atomic.one_copy
 
-  -- of which nothing is left to do
-  pub run_whole : IsQuiet decl script h → IsWhole decl script h
-  run_whole quiet = whole decl script ready.accepted (asks_declared decl script ready.accepted ready.declared) h closed quiet.inputs quiet.controls quiet.phases
+-- where no input is open, all bits are clear
+all_clear : (bits : List Bool) → ((a : ℕ) → slice_get bits a ≡ Some true → ⊥) → bits ≡ replicate (length bits) false
+all_clear [] none = refl
+all_clear (true ∷ bits) none = absurd (none zero refl)
+all_clear (false ∷ bits) none = ap (λ (bs : List Bool). false ∷ bs) (all_clear bits (λ a is. none (suc a) is))
+
+module _ (decl : Declaration) (script : Script) (ready : IsRunnable decl script) (h : List Entry) where
+  pub ended_run : (end : DriveEnd) → HasEnded decl script h end → Run (IsLawful decl) decl script h
+  ended_run end ended = (ended.inputs, ended.runs)
+
+  -- where nothing is left to do, the run is whole
+  pub ended_whole : (end : DriveEnd) → HasEnded decl script h end → end ≡ ends.Quiet → IsWhole decl script h
+  ended_whole end ended quiet =
+      let over : IsScriptEnd decl script h ended.inputs ends.Quiet = subst (λ (e : DriveEnd). IsScriptEnd decl script h ended.inputs e) quiet ended.ended in
+      let clear : ended.inputs ≡ replicate (actors decl) false = all_clear ended.inputs over.1.1.none_open ∙ ap (λ (n : ℕ). replicate n false) ended.opens in
+      let closed : IsClosed decl script h = subst (λ (bits : List Bool). Runs (IsLawful decl) decl script h bits) clear ended.runs in
+      whole decl script ready.accepted (asks_declared decl script ready.accepted ready.declared) h closed over.1.1.none_ready over.1.1.none_left over.1.0
+
+  pub ended_end : (end : DriveEnd) → HasEnded decl script h end → IsEnd end h
+  ended_end ends.Quiet ended = none_reached h ended.ended.0
+  ended_end (ends.Full full) ended = first_reached h full ended.ended
+  ended_end ends.OutOfMemory ended = tt
+
+  pub ended_below : (end : DriveEnd) → HasEnded decl script h end → IsBelow (before_last_event h)
+  ended_below end ended = none_reached (before_last_event h) ended.below
+
+-- the history with no entry is below every limit, and so is what is before its last event
+pub begun_below : (h : List Entry) → h ≡ [] → IsBelow (before_last_event h)
+begun_below h none = subst (λ (k : List Entry). IsBelow (before_last_event k)) (sym none) (record { steps = omega arith; operations = omega arith; carried = omega arith })

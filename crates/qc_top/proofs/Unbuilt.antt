@@ -5,7 +5,7 @@ use Rattle.std.proofs.lemmas.Bool.{lt-ltb}
 use Rattle.qc_decl.specs.Accepted.{IsAccepted}
 use Rattle.qc_decl.specs.Actors.{administrator}
 use Rattle.qc_decl.specs.declared.declaration.Declaration.{Declaration}
-use Rattle.qc_engine.specs.Built.{is_actor, is_built, is_built_command, is_built_control, is_built_line, is_built_phase}
+use Rattle.qc_node.specs.Built.{is_actor, is_built, is_built_command, is_built_control, is_built_line, is_built_phase}
 use Rattle.qc_msg.specs.declared.step.Command.TheVariants as commands
 use Rattle.qc_msg.specs.declared.step.Command.{Command}
 use Rattle.qc_msg.specs.declared.step.Control.TheVariants as controls

@@ -4,7 +4,8 @@ use Rattle.qc_promise.specs.Atomic.{Atomic}
 use Rattle.qc_promise.specs.Committed.{committed}
 use Rattle.qc_promise.specs.Due.{Due}
 use Rattle.qc_promise.specs.Kept.{Kept}
-use Rattle.qc_laws.specs.Whole.{IsClosed, IsWhole}
+use Rattle.qc_core.specs.Conduct.{IsLawful}
+use Rattle.qc_laws.specs.Whole.{IsWhole}
 use Rattle.qc_onecopy.specs.Replay.{replay}
 use Rattle.qc_decl.specs.Accepted.{IsAccepted}
 use Rattle.qc_decl.specs.declared.declaration.Declaration.{Declaration}
@@ -15,18 +16,27 @@ use Rattle.qc_report.specs.Declarations.{accepted_text_of}
 use Rattle.qc_report.specs.declared.cause.Cause.{Cause}
 use Rattle.qc_report.specs.declared.cause.Cause.TheVariants as causes
 use Rattle.qc_text.specs.Text.{text_of}
+use Rattle.qc_script.specs.Runs.{Run}
 use Rattle.qc_script.specs.declared.script.Script.{Script}
 use Rattle.qc_script.specs.Sound.{IsScriptFor}
-use Rattle.qc_engine.specs.Built.{is_built}
-use Rattle.qc_engine.specs.Full.{IsBelow, HasReached}
+use Rattle.qc_fabric.specs.Limits.{HasReached, IsBelow}
+use Rattle.qc_node.specs.Built.{is_built}
+use Rattle.qc_node.specs.declared.ends.DriveEnd.{DriveEnd}
+use Rattle.qc_node.specs.declared.ends.DriveEnd.TheVariants as ends
 use Rattle.qc_top.specs.Answers.{AreAnswers}
 use Rattle.qc_top.specs.Words.{AskedOf, asked}
 use Rattle.qc_top.specs.Work.{Caused, IsBlamed, work_of}
 use Rattle.qc_top.specs.declared.answers.Answers.{Answers}
 use Rattle.qc_top.specs.declared.work.Work.{Work}
-use Rattle.qc_top.specs.declared.work.Work.TheVariants.{Accept, Run}
+use Rattle.qc_top.specs.declared.work.Work.TheVariants as works
 
--- the loop's answers: a limit is told exactly where it was reached
+-- how a run ended, by its history: a limit is told exactly where it was reached
+abbrev pub IsEnd : DriveEnd → List Entry → Type 0
+IsEnd ends.Quiet h = IsBelow h
+IsEnd (ends.Full full) h = HasReached full.what full.number h
+IsEnd ends.OutOfMemory h = Unit {0}
+
+-- the same by the cause that is told
 abbrev pub IsFullCause : Cause → List Entry → Type 0
 IsFullCause (causes.Full what number) h = HasReached what number h
 IsFullCause causes.Done h = IsBelow h
@@ -116,9 +126,10 @@ pub record LeavesRun (decl : Declaration) (script : Script) (old : Option (List 
     (new : Option (List ℕ)) (h : List Entry) : Type 0 where
   pub accepted : IsAccepted decl
   pub due : IsRan cause
-  -- what happened is a run of the script, in which each input that was taken has its turn
-  pub run : IsClosed decl script h
-  -- where its text is printed, it is a whole one: all that the script asks was done, and nothing is left to do
+  -- what happened is a run of the script
+  pub run : Run (IsLawful decl) decl script h
+  -- where its text is printed, it is a whole one: each input that was taken has its turn, all that the script asks was
+  -- done, and nothing is left to do
   pub whole : OnPrinted cause (IsWhole decl script h)
   -- what is printed is the text of just this history
   pub text : PrintsBetween (text_of decl script h) old cause new
@@ -131,8 +142,8 @@ pub record LeavesRun (decl : Declaration) (script : Script) (old : Option (List 
 
 abbrev pub Leaves : Caused Work → Option (List ℕ) → Cause → Option (List ℕ) → List Entry → Type 0
 Leaves (Err why) old cause new h = LeavesNothing why old cause new h
-Leaves (Ok (Accept decl)) old cause new h = LeavesWord decl old cause new h
-Leaves (Ok (Run decl script)) old cause new h = LeavesRun decl script old cause new h
+Leaves (Ok (works.Accept decl)) old cause new h = LeavesWord decl old cause new h
+Leaves (Ok (works.Run decl script)) old cause new h = LeavesRun decl script old cause new h
 
 -- What a call leaves whose words ask this, over any shelf: there are the answers that the shelf gave, and all is said
 -- of these bytes and faults.
@@ -151,7 +162,7 @@ LeavesWords gives files words before after old cause new h =
     MatchOption (asked words) (LeavesNothing causes.NotBuilt old cause new h)
     (λ a. LeavesAsked gives files a before after old cause new h)
 
--- a script that the loop runs, over a declaration: it names what is declared
+-- a script that is run, over a declaration: it names what is declared
 pub record IsRunnable (decl : Declaration) (script : Script) : Type 0 where
   pub accepted : IsAccepted decl
   pub declared : IsScriptFor decl script
@@ -159,8 +170,8 @@ pub record IsRunnable (decl : Declaration) (script : Script) : Type 0 where
 
 -- work that can be done: what the words come to is such work
 abbrev pub IsRight : Work → Type 0
-IsRight (Accept decl) = IsAccepted decl
-IsRight (Run decl script) = IsRunnable decl script
+IsRight (works.Accept decl) = IsAccepted decl
+IsRight (works.Run decl script) = IsRunnable decl script
 
 -- the shelf isn't blamed for a failure
 abbrev pub IsNoShelf : Cause → Type 0

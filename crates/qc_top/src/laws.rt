@@ -5,7 +5,7 @@ ghost use Rattle.std.specs.Prelude.{◌≡◌, ℕ, Bool, List, not};
 ghost use Rattle.qc_core.specs.Conduct.{IsLawful};
 ghost use Rattle.qc_decl.specs.Accepted.{IsAccepted};
 ghost use Rattle.qc_decl.specs.declared.declaration.Declaration.{Declaration};
-ghost use Rattle.qc_engine.specs.Built.{is_built};
+ghost use Rattle.qc_node.specs.Built.{is_built};
 ghost use Rattle.qc_msg.specs.Steps.{Entry};
 ghost use Rattle.qc_promise.specs.Kept.{Kept};
 ghost use Rattle.qc_promise.specs.Spent.{Spent};

@@ -1,10 +1,10 @@
 //! The top call.
 
 ghost use Rattle.std.specs.Prelude.{◌≡◌, ◌-◌, Bool, [], Err, None, Ok};
-ghost use Rattle.qc_engine.specs.Full.{IsBelow, before_last_event};
-ghost use Rattle.qc_engine.specs.Next.{IsEnd};
-ghost use Rattle.qc_engine.specs.declared.next.End.TheVariants.{Quiet};
+ghost use Rattle.qc_fabric.specs.Events.{before_last_event};
+ghost use Rattle.qc_fabric.specs.Limits.{IsBelow};
 ghost use Rattle.qc_laws.specs.Whole.{IsWhole};
+ghost use Rattle.qc_node.specs.declared.ends.DriveEnd.TheVariants.{Quiet};
 ghost use Rattle.qc_outside.specs.Causes.{Rose};
 ghost use Rattle.qc_promise.specs.Kept.{Kept};
 ghost use Rattle.qc_promise.specs.Spent.{Spent};
@@ -12,7 +12,7 @@ ghost use Rattle.qc_report.specs.Causes.{status_of};
 ghost use Rattle.qc_report.specs.Declarations.{accepted_text_of};
 ghost use Rattle.qc_text.specs.Text.{text_of};
 ghost use Rattle.qc_top.specs.Answers.{IsShort};
-ghost use Rattle.qc_top.specs.Top.{IsFullCause, IsNoShelf, IsRan, IsRight, IsRunnable, IsTold, Leaves, LeavesRun};
+ghost use Rattle.qc_top.specs.Top.{IsEnd, IsFullCause, IsNoShelf, IsRan, IsRight, IsRunnable, IsTold, Leaves, LeavesRun};
 ghost use Rattle.qc_top.specs.Top.{LeavesWords, OnPrinted, PrintsBetween};
 ghost use Rattle.qc_top.specs.Words.{asked, asked_in, texts_of};
 ghost use Rattle.qc_top.specs.Work.{IsBlamed, work_of};
@@ -21,8 +21,8 @@ use crate::answers::{Answers, answers_for};
 use crate::words::{Asked, asked_by};
 use crate::work::{Work, work_for};
 use qc_decl::Declaration;
-use qc_engine::{End, Ran, run_script};
 use qc_msg::History;
+use qc_node::{DriveEnd, Job, Ran, run_script};
 use qc_outside::{Gate, Rack, Shelf, ShelfFault, Sink, SinkFault};
 use qc_report::{Cause, accepted_text};
 use qc_script::Script;
@@ -45,25 +45,27 @@ pub struct Ended {
 
 /// Does all that the program does. `check DECL` takes the declaration of this
 /// name and says that it is accepted; `run DECL SCRIPT` runs the script of this
-/// name over it and writes the text of the run to the sink. Files are taken
-/// from the shelf; a name of a declaration that begins with `@` is that of a
-/// built-in one. Where the shelf or the sink is blamed, its count of faults rose,
-/// or stands at the greatest number that it can tell.
+/// name over it and writes the text of the run to the sink. With `--workers N`
+/// behind these words the sites and clients are served by so many threads. Files
+/// are taken from the shelf; a name of a declaration that begins with `@` is that
+/// of a built-in one. Each turn of a site or client passes the gate before it is
+/// posted. Where the shelf or the sink is blamed, its count of faults rose, or
+/// stands at the greatest number that it can tell.
 pub fn quorum_words<T, F, K, R, G>(
-    _rt: &T,
+    rt: &T,
     alloc: Global,
     words: &[&str],
     shelf: &mut F,
     sink: &mut K,
     _rack: &mut R,
-    _gate: &G,
+    gate: &G,
 ) -> Ended
 where
     T: Threads + Wait + Sync,
     F: Shelf,
     K: Sink,
     R: Rack,
-    G: Gate,
+    G: Gate + Sync,
     ensures leaves { LeavesWords F.gives (F.files shelf.old) (texts_of words.now) shelf.old shelf.new
         (K.taken sink.old) result.cause (K.taken sink.new) result.history }
     ensures words { asked (texts_of words.now) ≡ None → result.cause ≡ Cause.NotBuilt }
@@ -82,12 +84,23 @@ where
         return without_run(alloc, Cause::NotBuilt);
     };
     let answers = answers_for(asked, shelf);
-    perform(alloc, asked, answers, sink)
+    perform(rt, alloc, asked, answers, gate, sink)
 }
 
 /// Does what the words ask, over the bytes or faults that were handed over for
 /// their files, whoever gave these.
-pub fn perform<K: Sink>(alloc: Global, asked: Asked<'_>, answers: Answers, sink: &mut K) -> Ended
+pub fn perform<T, G, K>(
+    rt: &T,
+    alloc: Global,
+    asked: Asked<'_>,
+    answers: Answers,
+    gate: &G,
+    sink: &mut K,
+) -> Ended
+where
+    T: Threads + Wait + Sync,
+    G: Gate + Sync,
+    K: Sink,
     requires { IsShort answers.script }
     ensures leaves { Leaves (work_of (asked_in asked.entry) answers)
         (K.taken sink.old) result.cause (K.taken sink.new) result.history }
@@ -101,7 +114,7 @@ pub fn perform<K: Sink>(alloc: Global, asked: Asked<'_>, answers: Answers, sink:
     ensures sink { result.cause ≡ Cause.Sink → Rose (K.faults sink.old) (K.faults sink.new) }
 {
     match work_for(alloc, asked, answers) {
-        Ok(work) => do_work(alloc, &work, sink),
+        Ok(work) => do_work(rt, alloc, work, gate, asked.workers, sink),
         Err(cause) => without_run(alloc, cause),
     }
 }
@@ -119,10 +132,21 @@ fn without_run(alloc: Global, cause: Cause) -> Ended
     }
 }
 
-/// Does what is to be done.
-fn do_work<K: Sink>(alloc: Global, work: &Work, sink: &mut K) -> Ended
-    requires { IsRight work.now }
-    ensures leaves { Leaves (Ok work.now) (K.taken sink.old) result.cause (K.taken sink.new) result.history }
+/// Does what is to be done, a run by so many workers.
+fn do_work<T, G, K>(
+    rt: &T,
+    alloc: Global,
+    work: Work,
+    gate: &G,
+    workers: u8,
+    sink: &mut K,
+) -> Ended
+where
+    T: Threads + Wait + Sync,
+    G: Gate + Sync,
+    K: Sink,
+    requires { IsRight work }
+    ensures leaves { Leaves (Ok work) (K.taken sink.old) result.cause (K.taken sink.new) result.history }
     ensures status { result.status ≡ status_of result.cause }
     ensures full { IsFullCause result.cause result.history }
     ensures before { IsBelow (before_last_event result.history) }
@@ -130,8 +154,15 @@ fn do_work<K: Sink>(alloc: Global, work: &Work, sink: &mut K) -> Ended
     ensures sink { result.cause ≡ Cause.Sink → Rose (K.faults sink.old) (K.faults sink.new) }
 {
     match work {
-        Work::Accept(decl) => without_run(alloc, tell(alloc, decl, sink)),
-        Work::Run(decl, script) => run(alloc, decl, script, sink),
+        Work::Accept(decl) => without_run(alloc, tell(alloc, &decl, sink)),
+        Work::Run(decl, script) => {
+            let job = Job {
+                decl: &decl,
+                gate,
+                workers,
+            };
+            run(rt, alloc, &job, script, sink)
+        }
     }
 }
 
@@ -149,20 +180,35 @@ fn tell<K: Sink>(alloc: Global, decl: &Declaration, sink: &mut K) -> Cause
 }
 
 /// Runs a script, and prints the run.
-fn run<K: Sink>(alloc: Global, decl: &Declaration, script: &Script, sink: &mut K) -> Ended
-    requires { IsRunnable decl.now script.now }
-    ensures leaves { LeavesRun decl.now script.now (K.taken sink.old) result.cause (K.taken sink.new) result.history }
+fn run<T, G, K>(
+    rt: &T,
+    alloc: Global,
+    job: &Job<'_, G>,
+    script: Script,
+    sink: &mut K,
+) -> Ended
+where
+    T: Threads + Wait + Sync,
+    G: Gate + Sync,
+    K: Sink,
+    requires { IsRunnable job.now.decl.now script }
+    ensures leaves { LeavesRun job.now.decl.now script (K.taken sink.old) result.cause (K.taken sink.new)
+        result.history }
     ensures status { result.status ≡ status_of result.cause }
     ensures full { IsFullCause result.cause result.history }
     ensures before { IsBelow (before_last_event result.history) }
     ensures shelf { IsNoShelf result.cause }
     ensures sink { result.cause ≡ Cause.Sink → Rose (K.faults sink.old) (K.faults sink.new) }
 {
-    let Ok(ran) = run_script(alloc, decl, script) else {
+    let Ok(ran) = run_script(rt, alloc, job, script) else {
         return without_run(alloc, Cause::OutOfMemory);
     };
-    let Ran { history, end } = ran;
-    let cause = conclude(alloc, decl, script, end, &history, sink);
+    let Ran {
+        script,
+        history,
+        end,
+    } = ran;
+    let cause = conclude(alloc, job.decl, &script, end, &history, sink);
     Ended {
         status: cause.status(),
         cause,
@@ -176,7 +222,7 @@ fn conclude<K: Sink>(
     alloc: Global,
     decl: &Declaration,
     script: &Script,
-    end: End,
+    end: DriveEnd,
     history: &History,
     sink: &mut K,
 ) -> Cause
@@ -191,9 +237,12 @@ fn conclude<K: Sink>(
     ensures sink { result ≡ Cause.Sink → Rose (K.faults sink.old) (K.faults sink.new) }
 {
     match end {
-        End::Quiet => print(alloc, decl, script, history, sink),
-        End::Full { what, number } => Cause::Full { what, number },
-        End::OutOfMemory => Cause::OutOfMemory,
+        DriveEnd::Quiet => print(alloc, decl, script, history, sink),
+        DriveEnd::Full(full) => Cause::Full {
+            what: full.what,
+            number: full.number,
+        },
+        DriveEnd::OutOfMemory => Cause::OutOfMemory,
     }
 }
 

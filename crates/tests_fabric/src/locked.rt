@@ -29,11 +29,11 @@ pub fn run_by_lock<R: Wait>(
     rt: &R,
     alloc: Global,
     decl: &Declaration,
-    script: &Script,
+    script: Script,
     before: &[Row],
     rows: &[Row],
 ) -> Result<Ran, OutOfMemory>
-    requires sound { IsScriptFor decl.now script.now }
+    requires sound { IsScriptFor decl.now script }
     requires accepted { IsAccepted decl.now }
 {
     let made = Passes::make(alloc, decl.sites + decl.clients + 2)?;
@@ -45,13 +45,13 @@ fn run_named<N: Named, R: Wait>(
     rt: &R,
     alloc: Global,
     decl: &Declaration,
-    script: &Script,
+    script: Script,
     made: Made<Step>,
     before: &[Row],
     rows: &[Row],
 ) -> Result<Ran, OutOfMemory>
     requires declaration { decl.now ≡ N.declaration }
-    requires script { script.now ≡ N.script }
+    requires script { script ≡ N.script }
     requires sound { IsScriptFor N.declaration N.script }
     requires few { controller N.declaration < 34 }
     requires table { table_of made.passes ≡ N.table }
@@ -59,7 +59,7 @@ fn run_named<N: Named, R: Wait>(
     requires each { AreNew N.table made.each.items }
 {
     let (mut still, mut seats) = begun::<N>(alloc, decl, script, made)?;
-    if play(alloc, decl, script, &mut still, &mut seats, before)? != before.len() {
+    if play(alloc, decl, &mut still, &mut seats, before)? != before.len() {
         return ended(alloc, still, 0);
     }
     let fabric = Fabric::open(still);

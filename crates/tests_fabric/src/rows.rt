@@ -9,28 +9,25 @@ use crate::seat::Seat;
 use qc_decl::Declaration;
 use qc_fabric::{Named, Still};
 use qc_list::OutOfMemory;
-use qc_script::Script;
 use std::alloc::Global;
 
 /// The call, and what it answers. Whoever has no seat may do nothing.
 fn act<N: Named>(
     alloc: Global,
     decl: &Declaration,
-    script: &Script,
     still: &mut Still<AnyTurn, N>,
     seats: &mut Vec<Seat<N>>,
     act: Act,
 ) -> Result<Saw, OutOfMemory>
-    requires declaration { decl.now ≡ N.declaration }
-    requires script { script.now ≡ N.script }
+    requires { decl.now ≡ N.declaration }
 {
     match act {
         Act::Phase => match seats.last_mut() {
-            Some(seat) => seat.begin(still, decl, script),
+            Some(seat) => seat.begin(still, decl),
             None => Ok(Saw::MayNot),
         },
         Act::Control => match seats.last_mut() {
-            Some(seat) => seat.control(still, decl, script),
+            Some(seat) => seat.control(still, decl),
             None => Ok(Saw::MayNot),
         },
         Act::Pick => Ok(Saw::Picked(still.pick(decl))),
@@ -59,16 +56,14 @@ fn act<N: Named>(
 pub(crate) fn play<N: Named>(
     alloc: Global,
     decl: &Declaration,
-    script: &Script,
     still: &mut Still<AnyTurn, N>,
     seats: &mut Vec<Seat<N>>,
     rows: &[Row],
 ) -> Result<usize, OutOfMemory>
-    requires declaration { decl.now ≡ N.declaration }
-    requires script { script.now ≡ N.script }
+    requires { decl.now ≡ N.declaration }
 {
     for (place, row) in rows.iter().enumerate() {
-        if act(alloc, decl, script, still, seats, row.0)? != row.1 {
+        if act(alloc, decl, still, seats, row.0)? != row.1 {
             return Ok(place);
         }
     }

@@ -1,7 +1,9 @@
 //! A pass of the run's table, by which its actor does the calls of rows.
 
-ghost use Rattle.std.specs.Prelude.{◌≡◌};
-ghost use Rattle.qc_pass.specs.Tokens.{pass_table};
+ghost use Rattle.std.specs.Prelude.{◌≡◌, None, true};
+ghost use Rattle.qc_decl.specs.Actors.{controller};
+ghost use Rattle.qc_fabric.specs.Logs.{full_of};
+ghost use Rattle.qc_pass.specs.Tokens.{number, pass_table};
 
 use crate::calls::{Saw, Says};
 use crate::conduct::AnyTurn;
@@ -12,7 +14,6 @@ use qc_fabric::{Named, Still};
 use qc_list::OutOfMemory;
 use qc_msg::{Control, Step};
 use qc_pass::Pass;
-use qc_script::Script;
 use std::alloc::Global;
 use std::marker::{Model, PhantomData};
 
@@ -47,25 +48,31 @@ impl<N: Named> Seat<N> {
         }
     }
 
+    /// Whether it is the controller's, and no limit is reached.
+    fn may_order(&self, still: &Still<AnyTurn, N>, decl: &Declaration) -> bool
+        requires { decl.now ≡ N.declaration }
+        ensures { result ≡ true → (number self.now ≡ controller N.declaration) × (full_of still.now.history ≡ None) }
+    {
+        is_controller(decl, self.pass.number()) && still.full().is_none()
+    }
+
     /// The next phase begins, where it may.
     pub(crate) fn begin(
         &mut self,
         still: &mut Still<AnyTurn, N>,
         decl: &Declaration,
-        script: &Script,
     ) -> Result<Saw, OutOfMemory>
-        requires declaration { decl.now ≡ N.declaration }
-        requires script { script.now ≡ N.script }
+        requires { decl.now ≡ N.declaration }
     {
         let phase = still.phase();
         let Some(next) = phase.checked_add(1) else {
             return Ok(Saw::MayNot);
         };
-        let is_last = phase as usize >= script.phases.items().len();
-        if is_last || !is_controller(decl, self.pass.number()) || !still.quiet(decl) {
+        let is_last = phase as usize >= still.script().phases.items().len();
+        if is_last || !self.may_order(still, decl) || !still.quiet(decl) {
             return Ok(Saw::MayNot);
         }
-        still.order(script, &mut self.pass, Control::Phase(next))?;
+        still.order(&mut self.pass, Control::Phase(next))?;
         Ok(Saw::Began)
     }
 
@@ -74,17 +81,15 @@ impl<N: Named> Seat<N> {
         &mut self,
         still: &mut Still<AnyTurn, N>,
         decl: &Declaration,
-        script: &Script,
     ) -> Result<Saw, OutOfMemory>
-        requires declaration { decl.now ≡ N.declaration }
-        requires script { script.now ≡ N.script }
+        requires { decl.now ≡ N.declaration }
     {
-        if !is_controller(decl, self.pass.number()) {
+        if !self.may_order(still, decl) {
             return Ok(Saw::MayNot);
         }
         match still.next_control() {
             Some(line @ (Control::Cut(_, _) | Control::Heal(_, _))) => {
-                still.order(script, &mut self.pass, line)?;
+                still.order(&mut self.pass, line)?;
                 Ok(Saw::Acted)
             }
             _ => Ok(Saw::MayNot),

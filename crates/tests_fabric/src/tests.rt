@@ -89,7 +89,7 @@ fn calls_of_one_thread(rt: HostRuntime) -> Result<(), Fail> {
         return Err(Fail::from("no such declaration"));
     };
     let script = script_of(alloc, SCRIPT, &decl)?;
-    let ran = run(alloc, &decl, &script, &ROWS)?;
+    let ran = run(alloc, &decl, script, &ROWS)?;
     assert_eq!(rt; ran.rows, ROWS.len());
     assert_eq!(rt; ran.steps.as_slice(), STEPS.as_slice());
     Ok(())
@@ -153,7 +153,7 @@ fn calls_of_one_thread_by_the_lock(rt: HostRuntime) -> Result<(), Fail> {
         return Err(Fail::from("no such declaration"));
     };
     let script = script_of(alloc, SCRIPT, &decl)?;
-    let ran = run_by_lock(&rt, alloc, &decl, &script, &BEFORE, &ROWS_BY_LOCK)?;
+    let ran = run_by_lock(&rt, alloc, &decl, script, &BEFORE, &ROWS_BY_LOCK)?;
     assert_eq!(rt; ran.rows, ROWS_BY_LOCK.len());
     assert_eq!(rt; ran.steps.as_slice(), STEPS_BY_LOCK.as_slice());
     Ok(())
@@ -222,7 +222,7 @@ fn control_lines_of_one_thread(rt: HostRuntime) -> Result<(), Fail> {
         return Err(Fail::from("no such declaration"));
     };
     let script = script_of(alloc, SCRIPT_OF_CUTS, &decl)?;
-    let ran = run(alloc, &decl, &script, &ROWS_OF_CUTS)?;
+    let ran = run(alloc, &decl, script, &ROWS_OF_CUTS)?;
     assert_eq!(rt; ran.rows, ROWS_OF_CUTS.len());
     assert_eq!(rt; ran.steps.as_slice(), STEPS_OF_CUTS.as_slice());
     Ok(())

@@ -91,7 +91,7 @@ fn two_threads_have_open_inputs_at_once(rt: HostRuntime) -> Result<(), Fail> {
     };
     let script = script_of(alloc, SCRIPT, &decl)?;
     let says = (Says::Answers(3, 0), Says::Answers(3, 1));
-    let Some(both) = run_by_threads(&rt, alloc, &decl, &script, &ASKED, says)? else {
+    let Some(both) = run_by_threads(&rt, alloc, &decl, script, &ASKED, says)? else {
         return Err(Fail::from("a row before the threads"));
     };
     assert_eq!(rt; both.met, 2);
@@ -147,9 +147,9 @@ fn pick_waits_for_who_is_held(rt: HostRuntime) -> Result<(), Fail> {
     let Some(decl) = built_in(alloc, "@three")? else {
         return Err(Fail::from("no such declaration"));
     };
-    let script = script_of(alloc, SCRIPT, &decl)?;
     for (last, answer, picked, steps) in LAST {
-        let Some(waited) = run_by_waiting(&rt, alloc, &decl, &script, &HELD, last)? else {
+        let script = script_of(alloc, SCRIPT, &decl)?;
+        let Some(waited) = run_by_waiting(&rt, alloc, &decl, script, &HELD, last)? else {
             return Err(Fail::from("a row before the threads"));
         };
         assert_eq!(rt; waited.met, 2);

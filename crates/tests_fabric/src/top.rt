@@ -47,10 +47,10 @@ pub fn script_of(alloc: Global, bytes: &[u8], decl: &Declaration) -> Result<Scri
 pub fn run(
     alloc: Global,
     decl: &Declaration,
-    script: &Script,
+    script: Script,
     rows: &[Row],
 ) -> Result<Ran, OutOfMemory>
-    requires sound { IsScriptFor decl.now script.now }
+    requires sound { IsScriptFor decl.now script }
     requires accepted { IsAccepted decl.now }
 {
     let made = Passes::make(alloc, decl.sites + decl.clients + 2)?;
@@ -61,12 +61,12 @@ pub fn run(
 fn run_named<N: Named>(
     alloc: Global,
     decl: &Declaration,
-    script: &Script,
+    script: Script,
     made: Made<Step>,
     rows: &[Row],
 ) -> Result<Ran, OutOfMemory>
     requires declaration { decl.now ≡ N.declaration }
-    requires script { script.now ≡ N.script }
+    requires script { script ≡ N.script }
     requires sound { IsScriptFor N.declaration N.script }
     requires few { controller N.declaration < 34 }
     requires table { table_of made.passes ≡ N.table }
@@ -74,7 +74,7 @@ fn run_named<N: Named>(
     requires each { AreNew N.table made.each.items }
 {
     let (mut still, mut seats) = begun::<N>(alloc, decl, script, made)?;
-    let rows = play(alloc, decl, script, &mut still, &mut seats, rows)?;
+    let rows = play(alloc, decl, &mut still, &mut seats, rows)?;
     ended(alloc, still, rows)
 }
 
@@ -82,11 +82,11 @@ fn run_named<N: Named>(
 pub(crate) fn begun<N: Named>(
     alloc: Global,
     decl: &Declaration,
-    script: &Script,
+    script: Script,
     made: Made<Step>,
 ) -> Result<(Still<AnyTurn, N>, Vec<Seat<N>>), OutOfMemory>
     requires declaration { decl.now ≡ N.declaration }
-    requires script { script.now ≡ N.script }
+    requires script { script ≡ N.script }
     requires sound { IsScriptFor N.declaration N.script }
     requires few { controller N.declaration < 34 }
     requires table { table_of made.passes ≡ N.table }
@@ -120,7 +120,7 @@ pub(crate) fn ended<N: Named>(
     still: Still<AnyTurn, N>,
     rows: usize,
 ) -> Result<Ran, OutOfMemory> {
-    let entries = still.end();
+    let (_, entries) = still.end();
     let steps = shorts(alloc, &entries)?;
     Ok(Ran { rows, steps })
 }

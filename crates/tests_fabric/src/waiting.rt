@@ -52,11 +52,11 @@ pub fn run_by_waiting<R: Threads + Wait + Sync>(
     rt: &R,
     alloc: Global,
     decl: &Declaration,
-    script: &Script,
+    script: Script,
     before: &[Row],
     last: Act,
 ) -> Result<Option<Waited>, OutOfMemory>
-    requires sound { IsScriptFor decl.now script.now }
+    requires sound { IsScriptFor decl.now script }
     requires accepted { IsAccepted decl.now }
 {
     let made = Passes::make(alloc, decl.sites + decl.clients + 2)?;
@@ -68,13 +68,13 @@ fn run_named<N: Named + Send + Sync, R: Threads + Wait + Sync>(
     rt: &R,
     alloc: Global,
     decl: &Declaration,
-    script: &Script,
+    script: Script,
     made: Made<Step>,
     before: &[Row],
     last: Act,
 ) -> Result<Option<Waited>, OutOfMemory>
     requires declaration { decl.now ≡ N.declaration }
-    requires script { script.now ≡ N.script }
+    requires script { script ≡ N.script }
     requires sound { IsScriptFor N.declaration N.script }
     requires few { controller N.declaration < 34 }
     requires table { table_of made.passes ≡ N.table }
@@ -82,7 +82,7 @@ fn run_named<N: Named + Send + Sync, R: Threads + Wait + Sync>(
     requires each { AreNew N.table made.each.items }
 {
     let (mut still, mut seats) = begun::<N>(alloc, decl, script, made)?;
-    if play(alloc, decl, script, &mut still, &mut seats, before)? != before.len() {
+    if play(alloc, decl, &mut still, &mut seats, before)? != before.len() {
         return Ok(None);
     }
     let Some(seat) = seats.into_iter().next() else {

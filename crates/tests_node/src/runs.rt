@@ -5,7 +5,7 @@ ghost use Rattle.qc_decl.specs.Accepted.{IsAccepted};
 ghost use Rattle.qc_decl.specs.Actors.{controller};
 ghost use Rattle.qc_decl.specs.Limits.{most_script_bytes};
 ghost use Rattle.qc_decl.specs.Named.{IsNamed};
-ghost use Rattle.qc_engine.specs.Built.{is_built};
+ghost use Rattle.qc_node.specs.Built.{is_built};
 ghost use Rattle.qc_pass.specs.Made.{AreNew, IsFirst};
 ghost use Rattle.qc_pass.specs.Tokens.{table_of};
 ghost use Rattle.qc_script.specs.Sound.{IsScriptFor};
@@ -51,14 +51,15 @@ pub fn run<G: Gate, R: Threads + Wait + Sync>(
     rt: &R,
     alloc: Global,
     job: &Job<'_, G>,
+    script: Script,
 ) -> Result<Ran, OutOfMemory>
-    requires sound { IsScriptFor job.now.decl.now job.now.script.now }
+    requires sound { IsScriptFor job.now.decl.now script }
     requires accepted { IsAccepted job.now.decl.now }
-    requires built { is_built job.now.decl.now job.now.script.now ≡ true }
+    requires built { is_built job.now.decl.now script ≡ true }
 {
     let decl = job.decl;
     let made = Passes::make(alloc, decl.sites + decl.clients + 2)?;
-    run_named::<Brand, G, R>(rt, alloc, job, made)
+    run_named::<Brand, G, R>(rt, alloc, job, script, made)
 }
 
 /// The same, by these passes.
@@ -66,10 +67,11 @@ fn run_named<N: Named + Send + Sync, G: Gate, R: Threads + Wait + Sync>(
     rt: &R,
     alloc: Global,
     job: &Job<'_, G>,
+    script: Script,
     made: Made<Step>,
 ) -> Result<Ran, OutOfMemory>
     requires declaration { job.now.decl.now ≡ N.declaration }
-    requires script { job.now.script.now ≡ N.script }
+    requires script { script ≡ N.script }
     requires sound { IsScriptFor N.declaration N.script }
     requires accepted { IsAccepted N.declaration }
     requires built { is_built N.declaration N.script ≡ true }
@@ -83,11 +85,12 @@ fn run_named<N: Named + Send + Sync, G: Gate, R: Threads + Wait + Sync>(
         right,
         each,
     } = made;
-    let still: Still<Rules, N> = Still::make(alloc, job.decl, job.script, passes, right)?;
+    let still: Still<Rules, N> = Still::make(alloc, job.decl, script, passes, right)?;
     let (cells, mut pass): (Cells<N>, Pass<Step>) = Cells::new(alloc, job.decl, each)?;
     let (mut still, end) = drive_script(rt, alloc, job, still, &cells, &mut pass);
     let cells = cells.settle(alloc, &mut still)?;
     let actors = cells.iter().filter(|cell| cell.actor().is_some()).count();
-    let steps = shorts(alloc, still.end().as_slice())?;
+    let (_, entries) = still.end();
+    let steps = shorts(alloc, entries.as_slice())?;
     Ok(Ran { end, steps, actors })
 }

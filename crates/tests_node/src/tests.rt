@@ -5,8 +5,7 @@ use crate::rows::{ROWS, Row};
 use crate::runs::{Ran, run, script_of};
 use crate::steps::Short;
 use qc_decl::{MOST_SCRIPT_BYTES, built_in};
-use qc_engine::is_built;
-use qc_node::{DriveEnd, Job};
+use qc_node::{DriveEnd, Job, is_built};
 use qc_outside::{Gate, OpenGate};
 use std::alloc::Global;
 use std::sync::Wait;
@@ -38,11 +37,10 @@ fn ran<G: Gate, R: Threads + Wait + Sync>(
     }
     let job = Job {
         decl: &decl,
-        script: &script,
         gate,
         workers,
     };
-    Ok(run(rt, alloc, &job)?)
+    Ok(run(rt, alloc, &job, script)?)
 }
 
 /// Whether one worker takes just the steps of a row, gives no actor up, and ends

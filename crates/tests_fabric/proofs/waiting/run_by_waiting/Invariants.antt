@@ -3,4 +3,4 @@ use Rattle.tests_fabric.proofs.waiting.run_by_waiting.Given as goal
 
 -- the declaration and the script that were given, and the table that was just made
 abbrev pub ghosts-run_named : goal.ghosts-run_named
-ghosts-run_named g a = record { declaration = a.decl.now; script = a.script.now; table = table_of a.made.passes }
+ghosts-run_named g a = record { declaration = a.decl.now; script = a.script; table = table_of a.made.passes }

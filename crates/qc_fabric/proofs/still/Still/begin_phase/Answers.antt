@@ -19,11 +19,11 @@ invariant_of-self-in_err-begin_phase g c = other_memory c.self.invariant c.reser
 pub invariant_of-self-2 : goal.invariant_of-self-2
 invariant_of-self-2 g c =
     let may : MayDo g.N.Named.declaration g.N.Named.script c.self.inside.log.history c.self.inside.inputs.items (Phase c.args.phase) = subst (λ (v : Shown). MayDo g.N.Named.declaration g.N.Named.script v.history v.open_inputs (Phase c.args.phase)) (sym c.self.view_is) c.requires.may in
-    let within : c.self.inside.phase < length c.args.script.now.phases = omega (arith, may.2, c.self.invariant.phase_is, ap (λ (s : Script). length s.phases) c.requires.script) in
-    let here : slice_get c.args.script.now.phases c.self.inside.phase ≡ Some c.index-items-self.result =
-    slice_get-get_or c.args.script.now.phases c.self.inside.phase c.index-items-self.result within
+    let within : c.self.inside.phase < length c.self.inside.script.phases = omega (arith, may.next.2, c.self.invariant.phase_is, ap (λ (s : Script). length s.phases) c.self.invariant.script_is) in
+    let here : slice_get c.self.inside.script.phases c.self.inside.phase ≡ Some c.index-items-self.result =
+    slice_get-get_or c.self.inside.script.phases c.self.inside.phase c.index-items-self.result within
     ∙ ap Some (sym (subst (λ (v : List PhaseLines). c.index-items-self.result ≡ get_or v c.self.inside.phase c.index-items-self.result) c.items.ensures c.index-items-self.is)) in
-    let there : slice_get g.N.Named.script.phases c.self.inside.phase ≡ Some c.index-items-self.result = ap (λ (s : Script). slice_get s.phases c.self.inside.phase) (sym c.requires.script) ∙ here in
+    let there : slice_get g.N.Named.script.phases c.self.inside.phase ≡ Some c.index-items-self.result = ap (λ (s : Script). slice_get s.phases c.self.inside.phase) (sym c.self.invariant.script_is) ∙ here in
     let fits : c.self.inside.reserved + 1 ≤ c.reserve.new.self.room = search (rules, arith) in
     let bound : length c.self.inside.log.history + (c.self.inside.reserved + 1) ≤ most_history = search (rules, arith) in
     begins_on c.self.invariant c.in-Some-take.right (sym c.take.ensures.value ∙ c.in-Some-take.is) c.args.pass.now c.add-right.new.pass c.add-right.result c.args.phase c.index-items-self.result c.requires.controller may there c.add-right.ensures.met c.add-right.ensures.all

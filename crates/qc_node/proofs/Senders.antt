@@ -18,7 +18,7 @@ use Rattle.qc_msg.proofs.Growth.{mail-append, mail-posted, mail-taken}
 use Rattle.qc_script.specs.Ready.{phase_of}
 use Rattle.qc_script.specs.Runs.{Runs, begins, takes, posts, phase, control}
 use Rattle.qc_script.specs.declared.script.Script.{Script}
-use Rattle.qc_engine.proofs.Placed.{mail-cons}
+use Rattle.qc_fabric.proofs.Placed.{mail-cons}
 
 abbrev pub AreFrom : ℕ → List Envelope → Type 0
 AreFrom n ms = Every (λ (e : Envelope). e.from < n) ms

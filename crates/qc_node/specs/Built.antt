@@ -1,4 +1,4 @@
--- The scripts that the loop runs to their ends: of control lines they have cuts and heals alone, of actors, and they ask
+-- The scripts that are run to their ends: of control lines they have cuts and heals alone, of actors, and they ask
 -- clients alone, and no epoch. Disks, crashes and the administrator come later.
 use Rattle.std.specs.Prelude.{ℕ, nat_lt, Bool, true, false, ◌&&◌}
 use Rattle.std.specs.List.{list_all}

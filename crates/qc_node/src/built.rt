@@ -1,8 +1,8 @@
-//! Which scripts the loop runs.
+//! Which scripts are run.
 
 ghost use Rattle.std.specs.Prelude.{◌≡◌};
 ghost use Rattle.std.specs.List.{list_all};
-ghost use Rattle.qc_engine.specs.Built.{is_built, is_built_command, is_built_control, is_built_line, is_built_phase};
+ghost use Rattle.qc_node.specs.Built.{is_built, is_built_command, is_built_control, is_built_line, is_built_phase};
 
 use qc_decl::Declaration;
 use qc_msg::{Command, Control};
@@ -11,8 +11,8 @@ use qc_script::{CommandLine, PhaseLines, Script};
 /// The number below which actors are numbered.
 const MOST_ACTORS: u8 = 34;
 
-/// Whether the loop runs this script: of control lines it has cuts and heals
-/// alone, and it asks clients alone, and no epoch.
+/// Whether this script is run: of control lines it has cuts and heals alone, and
+/// it asks clients alone, and no epoch.
 pub fn is_built(decl: &Declaration, script: &Script) -> bool
     ensures { result ≡ is_built decl.now script.now }
 {
@@ -20,7 +20,7 @@ pub fn is_built(decl: &Declaration, script: &Script) -> bool
     phases.iter().all(|phase| is_built_phase(decl, phase))
 }
 
-/// Whether it runs this phase.
+/// Whether this phase is run.
 fn is_built_phase(decl: &Declaration, phase: &PhaseLines) -> bool
     ensures { result ≡ is_built_phase decl.now phase.now }
 {

@@ -1,0 +1,6 @@
+use Rattle.qc_pass.specs.Tokens.{table_of}
+use Rattle.qc_node.proofs.runs.run_script.Given as goal
+
+-- the declaration and the script that were given, and the table that was just made
+abbrev pub ghosts-run_named : goal.ghosts-run_named
+ghosts-run_named g a = record { declaration = a.job.now.decl.now; script = a.script; table = table_of a.made.passes }
