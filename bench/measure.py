@@ -28,13 +28,12 @@ import tempfile
 sys.dont_write_bytecode = True
 
 import programs
-from runs import load, reads
+from runs import RULES, load, reads, rules
 
 ROOT = os.path.dirname(os.path.dirname(os.path.abspath(__file__)))
 BEGINS = (25_000, 50_000, 100_000)
 TRANSACTIONS = (125, 250, 500)
 MESSAGES = (25_000, 50_000, 100_000)
-RULES = 35_000
 PAST_THE_LIMIT = 110_000
 SEED = 7
 NOTHING = "python3 -c pass"
@@ -60,11 +59,6 @@ def equal_triples():
                   "triples = [%s]" % ",".join(triples)]
     lines += ["[[object]]", 'name = "x"', 'type = "t0"', "[[epoch]]", "weights = [1]"]
     return "\n".join(lines) + "\n"
-
-
-def rules(count):
-    """Rules of links, each for a message of its own between two clients, who send each other nothing."""
-    return "".join("link c1 c2 %d drop\n" % ordinal for ordinal in range(1, count + 1))
 
 
 def run(words, wanted=0):
@@ -100,7 +94,7 @@ def cases(program, folder):
         text = "\n".join(reads(count)) + "\n"
         name = "step limit" if count == PAST_THE_LIMIT else "%d messages" % count
         words[name] = [program, "run", "@three", written(folder, "reads_%d" % count, text)]
-    text = rules(RULES) + "\n".join(reads(MESSAGES[-1])) + "\n"
+    text = "\n".join((*rules(RULES), *reads(MESSAGES[-1]))) + "\n"
     words["messages, rules"] = [program, "run", "@three", written(folder, "rules", text)]
     words["triples"] = [program, "check", written(folder, "triples.toml", equal_triples())]
     return words

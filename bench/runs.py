@@ -1,5 +1,5 @@
 #!/usr/bin/env python3
-"""Measures runs of three sites and three clients by the loop of qc_engine.
+"""Measures runs of three sites and three clients by one worker of qc_node.
 
 usage: bench/runs.py [RUNS]
 
@@ -10,7 +10,7 @@ some 15 MB, isn't seen. Cases:
 
 - load: transactions that write, read and commit, one a phase, of three clients in turn, 250 and 500; and the walk of 500;
 - reads: transactions of 16 reads that are given up, of one client, where no log grows; 25,000 messages, 50,000, 100,000;
-  the last also under 55,000 rules of links, each for a message of its own, none of them sent; and until the limit of steps.
+  the last also behind 35,000 rules of links, each for a message of its own, none of them sent; and until the limit of steps.
 
 Ends with status 1 where a bar isn't met.
 """
@@ -25,8 +25,8 @@ sys.dont_write_bytecode = True
 
 import programs
 
-USES = ("qc_list", "qc_link", "qc_decl", "qc_msg", "qc_script", "qc_engine")
-RULES = 55_000
+USES = ("qc_decl", "qc_msg", "qc_node", "qc_outside", "qc_script")
+RULES = 35_000
 MESSAGES_OF_A_READ = 4
 
 
@@ -49,17 +49,21 @@ def reads(messages):
         yield "c0 abort"
 
 
+def rules(count):
+    """Rules of links, each for a message of its own between two clients, who send each other nothing."""
+    return ("link c1 c2 %d drop" % ordinal for ordinal in range(1, count + 1))
+
+
 CASES = {
     "load 250": lambda: load(250),
     "load 500": lambda: load(500),
     "25,000 messages": lambda: reads(25_000),
     "50,000 messages": lambda: reads(50_000),
     "100,000 messages": lambda: reads(100_000),
-    "100,000, rules": lambda: reads(100_000),
+    "100,000, rules": lambda: (*rules(RULES), *reads(100_000)),
     "step limit": lambda: reads(110_000),
 }
 ENDS = {"step limit": "full"}
-MORE = {"100,000, rules": [str(RULES)]}
 
 
 def main():
@@ -72,7 +76,7 @@ def main():
             path = os.path.join(folder, name.replace(" ", "_"))
             with open(path, "w") as file:
                 file.write("\n".join(lines()) + "\n")
-            calls[name] = [program, path, *MORE.get(name, [])]
+            calls[name] = [program, path]
         seen = programs.in_turn(calls, rounds)
     time, memory = {}, {}
     for name, measured in seen.items():

@@ -1,73 +1,107 @@
 #!/usr/bin/env python3
-"""Measures runs by workers (qc_node) beside the loop of qc_engine, over three sites and three clients.
+"""Measures the built program by 1, 2, 4 and 8 workers.
 
-usage: bench/workers.py [ROUNDS]
+usage: bench/workers.py [PROGRAM] [ROUNDS]
 
-Makes programs of script_run.rt.in and workers_run.rt.in. Runs each case once a round, ROUNDS rounds, 7 unless it is given, so
-that a slow moment falls on all. Times are those of the clock, of the run alone, and the processor's, of a whole call. Cases:
+PROGRAM is crates/quorum/out/quorum unless it is given. Runs each case once a round, ROUNDS rounds, 15 unless it is given, so
+that a slow moment falls on all. Times are those of the clock and of the processor, medians, of whole calls. Cases:
 
-- load: 500 transactions that write, read and commit, one a phase, of three clients in turn; by the loop, and by 1, 2 and 4
-  workers;
-- reads: transactions of 16 reads that are given up, of one client, where no log grows: 100,000 messages, also behind 35,000
-  rules of links, each for a message of its own, none of them sent; by the loop, and by one worker.
+- load: 500 transactions over @three that write, read and commit, one a phase, of three clients in turn: one client acts in
+  each phase, so workers have at most its three sites to share;
+- at once: three clients in one phase over five sites, each with an object of its own that it reads and writes, 300
+  transactions in all.
 
 Ends with status 1 where a bar isn't met.
 """
 
 import os
-import resource
 import statistics
+import subprocess
 import sys
 import tempfile
+import time
 
 sys.dont_write_bytecode = True
 
-import programs
-from measure import RULES, rules
-from runs import USES, load, reads
+from runs import load
 
-WORKERS = (*USES, "qc_fabric", "qc_node", "qc_outside", "qc_pass")
-SCRIPTS = {
-    "load": lambda: "\n".join(load(500)) + "\n",
-    "reads": lambda: "\n".join(reads(100_000)) + "\n",
-    "reads, rules": lambda: rules(RULES) + "\n".join(reads(100_000)) + "\n",
-}
+ROOT = os.path.dirname(os.path.dirname(os.path.abspath(__file__)))
+WORKERS = (1, 2, 4, 8)
+FIVE_SITES = """\
+sites = 5
+clients = 3
+
+[[type]]
+name = "register"
+states = ["0", "1"]
+start = "0"
+invocations = ["W0", "W1", "R"]
+responses = ["ok", "0", "1"]
+rows = ["0 W0 ok 0", "0 W1 ok 1", "0 R 0 0", "1 W0 ok 0", "1 W1 ok 1", "1 R 1 1"]
+depends = ["R W0:ok", "R W1:ok"]
+triples = ["0 0 -", "0 1 W1:ok", "1 1 -", "1 0 W0:ok"]
+
+[[object]]
+name = "x"
+type = "register"
+
+[[object]]
+name = "y"
+type = "register"
+
+[[object]]
+name = "z"
+type = "register"
+
+[[epoch]]
+weights = [1, 1, 1, 1, 1]
+initial = ["x R 3", "y R 3", "z R 3"]
+final = ["x W0:ok 3", "x W1:ok 3", "y W0:ok 3", "y W1:ok 3", "z W0:ok 3", "z W1:ok 3"]
+"""
+
+
+def at_once():
+    """Transactions of three clients in one phase, of each on an object of its own."""
+    yield "phase"
+    for number in range(100):
+        for client, name in enumerate("xyz"):
+            yield from ("c%d %s" % (client, words)
+                        for words in ("begin", "do %s W%d" % (name, number % 2), "do %s R" % name, "commit"))
+
+
+def seconds(words):
+    """The seconds of a call by the clock and of the processor. A call that fails ends all."""
+    began = time.perf_counter()
+    child = subprocess.Popen(words, stdout=subprocess.DEVNULL)
+    _, status, used = os.wait4(child.pid, 0)
+    if status:
+        sys.exit("%s ended with status %d" % (" ".join(words), status))
+    return time.perf_counter() - began, used.ru_utime + used.ru_stime
 
 
 def main():
-    rounds = int(sys.argv[1]) if len(sys.argv) > 1 else 7
-    resource.setrlimit(resource.RLIMIT_CORE, (0, 0))
+    program = os.path.abspath(sys.argv[1] if len(sys.argv) > 1 else os.path.join(ROOT, "crates/quorum/out/quorum"))
+    rounds = int(sys.argv[2]) if len(sys.argv) > 2 else 15
     with tempfile.TemporaryDirectory() as folder:
-        proofs = (("run", "workers_run.antt.in"),)
-        loop = programs.build(os.path.join(folder, "loop"), "script_run", "script_run.rt.in", USES)
-        workers = programs.build(os.path.join(folder, "workers"), "workers_run", "workers_run.rt.in", WORKERS, proofs)
-        calls = {}
-        for name, text in SCRIPTS.items():
-            path = os.path.join(folder, name.replace(", ", "_"))
-            with open(path, "w") as file:
-                file.write(text())
-            calls[name, "loop"] = [loop, path]
-            for count in (1, 2, 4) if name == "load" else (1,):
-                calls[name, count] = [workers, path, str(count)]
-        seen = programs.in_turn(calls, rounds)
-    clock, used = {}, {}
-    for (name, by), measured in seen.items():
-        told = [text.split() for _, _, text in measured]
-        if any(it[0] != "quiet" or it[1] != told[0][1] for it in told):
-            sys.exit("%s by %s: %s" % (name, by, told))
-        clock[name, by] = statistics.median(int(it[4]) for it in told)
-        used[name, by] = statistics.median(seconds for seconds, _, _ in measured)
-        peak = max(megabytes for _, megabytes, _ in measured)
-        print("%-14s %-5s %8.2f ms by the clock %8.2f ms of the processor %7.1f MB   %s steps"
-              % (name, by, clock[name, by] / 1e3, used[name, by] * 1e3, peak, told[0][1]))
-    bars = (
-        ("load, one worker / loop", clock["load", 1] / clock["load", "loop"], 1.2),
-        ("load, four workers / one", clock["load", 4] / clock["load", 1], 1.5),
-        ("rules more, one worker, s", (clock["reads, rules", 1] - clock["reads", 1]) / 1e6, 1),
-    )
-    for name, figure, bar in bars:
-        print("%-28s %8.2f of at most %s" % (name, figure, bar))
-    sys.exit(0 if all(figure <= bar for _, figure, bar in bars) else 1)
+        files = {"load": "\n".join(load(500)) + "\n", "at once": "\n".join(at_once()) + "\n", "five": FIVE_SITES}
+        for name, text in files.items():
+            with open(os.path.join(folder, name), "w") as file:
+                file.write(text)
+        declarations = {"load": "@three", "at once": os.path.join(folder, "five")}
+        calls = {(case, count): [program, "run", declaration, os.path.join(folder, case), "--workers", str(count)]
+                 for case, declaration in declarations.items() for count in WORKERS}
+        seen = {key: [] for key in calls}
+        for _ in range(rounds):
+            for key, words in calls.items():
+                seen[key].append(seconds(words))
+    clock = {key: statistics.median(it[0] for it in measured) for key, measured in seen.items()}
+    used = {key: statistics.median(it[1] for it in measured) for key, measured in seen.items()}
+    for (case, count) in calls:
+        key = case, count
+        print("%-8s %d workers %8.1f ms by the clock %8.1f ms of the processor" % (case, count, 1e3 * clock[key], 1e3 * used[key]))
+    figure = clock["load", 4] / clock["load", 1]
+    print("load, four workers / one %8.2f of at most 1.5" % figure)
+    sys.exit(0 if figure <= 1.5 else 1)
 
 
 if __name__ == "__main__":

@@ -1,7 +1,7 @@
 //! Calls over the fakes in memory.
 
 use qc_list::OutOfMemory;
-use qc_outside::{EmptyRack, MemShelf, MemSink, OpenGate};
+use qc_outside::{EmptyRack, Gate, MemShelf, MemSink, OpenGate};
 use qc_top::{Ended, cause_text, quorum_words};
 use std::alloc::Global;
 use std::process::Abort;
@@ -25,18 +25,32 @@ fn shelf(alloc: Global, files: &[(&str, &str)], failing: &[u32]) -> Result<MemSh
     MemShelf::new(alloc, held, failing.to_vec(alloc)?)
 }
 
-/// How a call with these words over a shelf and a sink ends, and what the sink
-/// took.
-fn call_over<T: Threads + Wait + Sync>(
+/// How a call with these words over a shelf and a sink ends, whose turns pass
+/// this gate, and what the sink took.
+fn call_over<T: Threads + Wait + Sync, G: Gate + Sync>(
     rt: &T,
     alloc: Global,
     words: &[&str],
-    shelf: &mut MemShelf,
-    sink: &mut MemSink,
+    outside: (&mut MemShelf, &mut MemSink, &G),
 ) -> Result<(Ended, Vec<u8>), OutOfMemory> {
+    let (shelf, sink, gate) = outside;
     let mut rack = EmptyRack::new(alloc);
-    let ended = quorum_words(rt, alloc, words, shelf, sink, &mut rack, &OpenGate);
+    let ended = quorum_words(rt, alloc, words, shelf, sink, &mut rack, gate);
     Ok((ended, sink.taken().to_vec(alloc)?))
+}
+
+/// A call with these words over a shelf of these files, whose turns pass this
+/// gate.
+pub(crate) fn call_by<T: Threads + Wait + Sync, G: Gate + Sync>(
+    rt: &T,
+    alloc: Global,
+    words: &[&str],
+    files: &[(&str, &str)],
+    gate: &G,
+) -> Result<(Ended, Vec<u8>), OutOfMemory> {
+    let mut shelf = shelf(alloc, files, &[])?;
+    let mut sink = MemSink::new(alloc, Vec::new(alloc))?;
+    call_over(rt, alloc, words, (&mut shelf, &mut sink, gate))
 }
 
 /// A call with these words over a shelf of these files, where the shelf's calls
@@ -50,7 +64,7 @@ pub(crate) fn call<T: Threads + Wait + Sync>(
 ) -> Result<(Ended, Vec<u8>), OutOfMemory> {
     let mut shelf = shelf(alloc, files, failing.0)?;
     let mut sink = MemSink::new(alloc, failing.1.to_vec(alloc)?)?;
-    call_over(rt, alloc, words, &mut shelf, &mut sink)
+    call_over(rt, alloc, words, (&mut shelf, &mut sink, &OpenGate))
 }
 
 /// The call with these words over these files prints this text, at status 0.

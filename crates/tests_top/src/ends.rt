@@ -17,8 +17,8 @@ const NO_DECLARATION: Ending = (4, "quorum: declaration file: missing\n", 0);
 const NO_SCRIPT: Ending = (4, "quorum: script file: missing\n", 0);
 
 #[test]
-fn words_have_two_forms(rt: HostRuntime) {
-    let rows: [&[&str]; 12] = [
+fn words_have_their_forms(rt: HostRuntime) {
+    let rows: [&[&str]; 20] = [
         &[],
         &["run"],
         &["check"],
@@ -28,6 +28,14 @@ fn words_have_two_forms(rt: HostRuntime) {
         &["run", "@one", ""],
         &["run", "-d", "s"],
         &["run", "@one", "s", "s"],
+        &["run", "@one", "s", "--workers"],
+        &["run", "@one", "s", "--workers", "0"],
+        &["run", "@one", "s", "--workers", "9"],
+        &["run", "@one", "s", "--workers", "01"],
+        &["run", "@one", "s", "--workers", ""],
+        &["run", "@one", "s", "workers", "2"],
+        &["run", "--workers", "2", "@one", "s"],
+        &["check", "@one", "s", "--workers", "2"],
         &["check", "@one", "s"],
         &["check", ""],
         &["check", "-d"],

@@ -1,5 +1,6 @@
 //! Tests of the top call by its public calls alone, over a shelf and a sink in
-//! memory: whole runs, each a story with its text, and calls that end otherwise.
+//! memory: whole runs, each a story with its text, by one worker and by four, and
+//! calls that end otherwise.
 //! What they want comes from outside.
 #![tactic(auto)]
 
@@ -9,5 +10,7 @@ mod calls;
 mod declarations;
 #[cfg(test)]
 mod ends;
+#[cfg(test)]
+mod overtaking;
 #[cfg(test)]
 mod stories;

@@ -2,6 +2,10 @@
 //! written apart; each stands with its story in the folder of its name in `examples/`.
 
 use crate::calls::prints;
+use std::alloc::Global;
+use std::process::Abort;
+use std::sync::Wait;
+use std::thread::Threads;
 
 const THREE_SITES_SCRIPT: &str =
     "phase\nc0 begin\nc0 do x W1\nc0 do x R\nc0 commit\nphase\nc1 begin\nc1 do x R\nc1 commit\n";
@@ -84,6 +88,15 @@ const EMPTY_SCRIPT_SCRIPT: &str = "";
 const EMPTY_SCRIPT_TEXT: &str =
     "replies\nlog\nstates\nx 0\nsites\ns0 life 1 epoch 1 lines 0 held 0\ns1 life 1 epoch 1 lines 0 held 0\ns2 life 1 epoch 1 lines 0 held 0\n";
 
+/// The script's run over three sites prints this text, by one worker and by
+/// four.
+fn tells<T: Threads + Wait + Sync + Abort>(rt: &T, alloc: Global, script: &str, text: &str) {
+    let files = [("s", script)];
+    prints(rt, alloc, &["run", "@three", "s"], &files, text);
+    let four = ["run", "@three", "s", "--workers", "4"];
+    prints(rt, alloc, &four, &files, text);
+}
+
 /// Two clients and more over three sites: who waits for whom, and in which order they commit.
 #[test]
 fn clients_in_conflict_and_at_peace(rt: HostRuntime) {
@@ -98,13 +111,7 @@ fn clients_in_conflict_and_at_peace(rt: HostRuntime) {
         ),
     ];
     for (script, text) in rows {
-        prints(
-            &rt,
-            rt.alloc(),
-            &["run", "@three", "s"],
-            &[("s", script)],
-            text,
-        );
+        tells(&rt, rt.alloc(), script, text);
     }
 }
 
@@ -119,13 +126,7 @@ fn networks_that_lose(rt: HostRuntime) {
         (DOUBLED_MESSAGES_SCRIPT, DOUBLED_MESSAGES_TEXT),
     ];
     for (script, text) in rows {
-        prints(
-            &rt,
-            rt.alloc(),
-            &["run", "@three", "s"],
-            &[("s", script)],
-            text,
-        );
+        tells(&rt, rt.alloc(), script, text);
     }
 }
 
@@ -139,12 +140,6 @@ fn edges_of_a_transaction(rt: HostRuntime) {
         (EMPTY_SCRIPT_SCRIPT, EMPTY_SCRIPT_TEXT),
     ];
     for (script, text) in rows {
-        prints(
-            &rt,
-            rt.alloc(),
-            &["run", "@three", "s"],
-            &[("s", script)],
-            text,
-        );
+        tells(&rt, rt.alloc(), script, text);
     }
 }
