@@ -33,18 +33,10 @@ use Rattle.qc_fabric.specs.Stills.{IsStill, most_history}
 use Rattle.qc_fabric.specs.Tells.{Does}
 use Rattle.qc_fabric.proofs.Events.{begins_control}
 use Rattle.qc_fabric.proofs.Kept.{all_of, steps_on}
-use Rattle.qc_fabric.proofs.Phased.{phase_more}
+use Rattle.qc_fabric.proofs.Phased.{phase_control, phase_more}
 
 phase_now : (h : List Entry) (a k : ℕ) → phase_of (h ++ marked a (steps.Phase k) ∷ []) ≡ k
 phase_now h a k = phase_more h (marked a (steps.Phase k) ∷ [])
-
-phase_control : (h : List Entry) (a : ℕ) (line : Control) (step : Step) → step_of_control line ≡ Some step → phase_of (h ++ marked a step ∷ []) ≡ phase_of h
-phase_control h a (controls.Phase k) step is = absurd (let no : ⊥ = cc in no)
-phase_control h a (controls.Cut x y) step is = let e : steps.Cut x y ≡ step = cc in subst (λ (s : Step). phase_of (h ++ marked a s ∷ []) ≡ phase_of h) e (phase_more h (marked a (steps.Cut x y) ∷ []))
-phase_control h a (controls.Heal x y) step is = let e : steps.Heal x y ≡ step = cc in subst (λ (s : Step). phase_of (h ++ marked a s ∷ []) ≡ phase_of h) e (phase_more h (marked a (steps.Heal x y) ∷ []))
-phase_control h a (controls.Armed actor kind n) step is = absurd (let no : ⊥ = cc in no)
-phase_control h a (controls.Crash x) step is = absurd (let no : ⊥ = cc in no)
-phase_control h a (controls.Restart x) step is = absurd (let no : ⊥ = cc in no)
 
 step_same : (line : Control) (step : Step) → step_of_control line ≡ Some step → control_step line ≡ Some step
 step_same (controls.Phase k) step is = absurd (let no : ⊥ = cc in no)

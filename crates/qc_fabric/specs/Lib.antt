@@ -7,6 +7,7 @@ pub mod Picks
 pub mod Controls
 pub mod Stills
 pub mod Tells
+pub mod Advances
 pub mod Inputs
 pub mod Feeds
 pub mod Armed

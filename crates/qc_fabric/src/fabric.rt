@@ -2,7 +2,7 @@
 //! tells what the caller's pass knows.
 
 ghost use Rattle.std.specs.Prelude.{◌≡◌, ◌<◌, [], Some, IfOk, IfSome, length, OnOk, OnErr, MatchOption};
-ghost use Rattle.qc_decl.specs.Actors.{actors};
+ghost use Rattle.qc_decl.specs.Actors.{actors, controller};
 ghost use Rattle.qc_msg.specs.Deeds.{deeds};
 ghost use Rattle.qc_pass.specs.Tokens.{number, pass_table, room, seen};
 ghost use Rattle.qc_fabric.specs.Picks.{IsNamed};
@@ -55,6 +55,29 @@ impl<C: Conduct, N: Named> Fabric<C, N> {
             still = self.changed.wait(rt, still);
         }
         unreachable!()
+    }
+
+    /// The controller does what it may do next, if anything. Whether something is
+    /// left: none is where it did nothing, nothing is ready, nobody is held and no
+    /// limit is reached.
+    pub fn advance<R: Wait>(
+        &self,
+        rt: &R,
+        decl: &Declaration,
+        pass: &mut Pass<Step>,
+    ) -> Result<bool, OutOfMemory>
+        requires declaration { decl.now ≡ N.declaration }
+        requires table { pass_table pass.old ≡ N.table }
+        requires controller { number pass.old ≡ controller N.declaration }
+        ensures table { pass_table pass.new ≡ N.table }
+        ensures controller { number pass.new ≡ controller N.declaration }
+    {
+        let mut still = self.still.lock(rt);
+        if still.advance(decl, pass)? {
+            self.changed.notify_all();
+            return Ok(true);
+        }
+        Ok(still.next(decl) != Some(Picked::Quiet))
     }
 
     /// The pass's actor takes its next input.

@@ -23,6 +23,7 @@
 //! 7. No run arms a disk yet (`nothing_is_armed`).
 #![tactic(auto)]
 
+mod advance;
 mod bits;
 mod conduct;
 mod fabric;

@@ -32,10 +32,25 @@ impl<C: Conduct, N: Named> Still<C, N> {
             .pick(decl, self.inputs.as_slice(), self.held.as_slice())
     }
 
-    /// The actor that comes next, which is held from now on; or which quantity
-    /// has reached its limit; or that nothing is ready and nobody is held. None
-    /// where nothing is ready for those that aren't held, and some actor is. It
-    /// takes no memory.
+    /// The actor that comes next; or which quantity has reached its limit; or that
+    /// nothing is ready and nobody is held. None where nothing is ready for those
+    /// that aren't held, and some actor is. It takes no memory.
+    pub fn next(&self, decl: &Declaration) -> Option<Picked>
+        requires { decl.now ≡ N.declaration }
+        ensures picked { result
+            ≡ picked N.declaration N.script self.now.open_inputs self.now.held self.now.history }
+        ensures named { IsNamed N.declaration result }
+    {
+        if let Some(full) = self.full() {
+            return Some(Picked::Full(full));
+        }
+        match self.next_actor(decl) {
+            Some(actor) => Some(Picked::Actor(actor)),
+            None => self.next_nobody(),
+        }
+    }
+
+    /// The same, and the actor is held from now on. It takes no memory.
     pub fn pick(&mut self, decl: &Declaration) -> Option<Picked>
         requires { decl.now ≡ N.declaration }
         ensures picked { result
@@ -44,20 +59,15 @@ impl<C: Conduct, N: Named> Still<C, N> {
         ensures held { self.new.held ≡ held_after result self.old.held }
         ensures named { IsNamed N.declaration result }
     {
-        if let Some(full) = self.full() {
-            return Some(Picked::Full(full));
+        let next = self.next(decl);
+        if let Some(Picked::Actor(actor)) = next {
+            set(&mut self.held, actor, true);
         }
-        match self.next_actor(decl) {
-            Some(actor) => {
-                set(&mut self.held, actor, true);
-                Some(Picked::Actor(actor))
-            }
-            None => self.pick_nobody(),
-        }
+        next
     }
 
     /// None while some actor is held, and else that all is quiet.
-    fn pick_nobody(&self) -> Option<Picked>
+    fn next_nobody(&self) -> Option<Picked>
         ensures { result ≡ where_none (has_any self.now.held) }
     {
         if any(self.held.as_slice()) {

@@ -1,4 +1,3 @@
 pub mod Senders
 pub mod Turns
-pub mod Lines
 pub mod News

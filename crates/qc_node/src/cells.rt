@@ -1,11 +1,12 @@
-//! The cells of all sites and clients, and workers that go round them.
+//! The cells of all sites and clients, with the controller.
 
 ghost use Rattle.std.specs.Prelude.{◌≡◌, ◌+◌, ◌<◌, All, IfOk, vec_len};
 ghost use Rattle.qc_decl.specs.Accepted.{IsAccepted};
 ghost use Rattle.qc_decl.specs.Actors.{actors, controller};
-ghost use Rattle.qc_pass.specs.Made.{AreNew, IsNew};
+ghost use Rattle.qc_pass.specs.Made.{AreNew};
 
 use crate::cell::Cell;
+use crate::controller::Controller;
 use crate::ends::TurnEnd;
 use crate::rules::Rules;
 use qc_decl::Declaration;
@@ -18,51 +19,35 @@ use std::alloc::Global;
 use std::sync::{Mutex, Wait};
 use std::thread::Threads;
 
-/// The cells of all sites and clients, by number.
+/// The cells of all sites and clients, by number, and the controller.
 #[derive(Drop)]
 pub struct Cells<N: Named> {
     cells: Vec<Mutex<Cell<N>>>,
+    controller: Mutex<Controller<N>>,
     ghost whole: { vec_len cells ≡ actors N.declaration },
 }
 
 impl<N: Named> Cells<N> {
     /// The cells of all sites and clients, of new passes in the order of their
-    /// numbers, and the controller's pass, which is the last. The one before it
-    /// is the administrator's, and is let go: nobody asks him anything yet.
+    /// numbers, and the controller, whose pass is the last. The one before it is
+    /// the administrator's, and is let go: nobody asks him anything yet.
     pub fn new(
-        alloc: Global,
-        decl: &Declaration,
-        passes: Vec<Pass<Step>>,
-    ) -> Result<(Cells<N>, Pass<Step>), OutOfMemory>
-        requires declaration { decl.now ≡ N.declaration }
-        requires fresh { AreNew N.table passes.items }
-        requires whole { vec_len passes ≡ controller N.declaration + 1 }
-        ensures { IfOk result (λ made. IsNew N.table (controller N.declaration) made.1) }
-    {
-        let mut passes = passes;
-        let Some(controller) = passes.pop() else {
-            unreachable!()
-        };
-        passes.pop();
-        let cells = Cells::of_actors(alloc, decl, passes)?;
-        Ok((cells, controller))
-    }
-
-    /// A cell for each of these passes.
-    fn of_actors(
         alloc: Global,
         decl: &Declaration,
         passes: Vec<Pass<Step>>,
     ) -> Result<Cells<N>, OutOfMemory>
         requires declaration { decl.now ≡ N.declaration }
         requires fresh { AreNew N.table passes.items }
-        requires whole { vec_len passes ≡ actors N.declaration }
+        requires whole { vec_len passes ≡ controller N.declaration + 1 }
     {
-        let mut cells = Vec::with_capacity(alloc, passes.len())?;
-        for pass in passes {
-            cells.push(Mutex::new(Cell::new(alloc, decl, pass)?))?;
-        }
-        Ok(Cells { cells })
+        let mut passes = passes;
+        let Some(controller) = passes.pop() else {
+            unreachable!()
+        };
+        passes.pop();
+        let cells = cells_of(alloc, decl, passes)?;
+        let controller = Mutex::new(Controller::new(controller));
+        Ok(Cells { cells, controller })
     }
 
     /// A turn of the actor in the cell of this number.
@@ -83,6 +68,18 @@ impl<N: Named> Cells<N> {
         cell.turn(rt, alloc, decl, fabric, gate)
     }
 
+    /// The controller does what it may do next. Whether something is left.
+    pub(crate) fn advance<R: Wait>(
+        &self,
+        rt: &R,
+        decl: &Declaration,
+        fabric: &Fabric<Rules, N>,
+    ) -> Result<bool, OutOfMemory>
+        requires { decl.now ≡ N.declaration }
+    {
+        self.controller.lock(rt).advance(rt, decl, fabric)
+    }
+
     /// The cells once no thread shares them, each having seen the history: what
     /// sits in them is what the actors' deeds in it make.
     pub fn settle(
@@ -94,7 +91,10 @@ impl<N: Named> Cells<N> {
         ensures whole { IfOk result (λ v. vec_len v ≡ actors N.declaration) }
         ensures seen { IfOk result (λ v. All (λ c. c.seen ≡ still.new.history) v.items) }
     {
-        let Cells { cells } = self;
+        let Cells {
+            cells,
+            controller: _,
+        } = self;
         let mut settled = Vec::with_capacity(alloc, cells.len())?;
         for cell in cells {
             let mut cell = cell.into_inner();
@@ -103,4 +103,22 @@ impl<N: Named> Cells<N> {
         }
         Ok(settled)
     }
+}
+
+/// A cell for each of these passes.
+fn cells_of<N: Named>(
+    alloc: Global,
+    decl: &Declaration,
+    passes: Vec<Pass<Step>>,
+) -> Result<Vec<Mutex<Cell<N>>>, OutOfMemory>
+    requires declaration { decl.now ≡ N.declaration }
+    requires fresh { AreNew N.table passes.items }
+    requires whole { vec_len passes ≡ actors N.declaration }
+    ensures { IfOk result (λ cells. vec_len cells ≡ actors N.declaration) }
+{
+    let mut cells = Vec::with_capacity(alloc, passes.len())?;
+    for pass in passes {
+        cells.push(Mutex::new(Cell::new(alloc, decl, pass)?))?;
+    }
+    Ok(cells)
 }

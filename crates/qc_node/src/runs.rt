@@ -11,14 +11,13 @@ ghost use Rattle.qc_node.specs.Ends.{HasEnded, IsScriptEnd};
 
 use crate::cells::Cells;
 use crate::ends::DriveEnd;
-use crate::phases::Job;
 use crate::rules::Rules;
-use crate::scripts::drive_script;
+use crate::scripts::{Job, drive_script};
 use qc_fabric::{Named, Still};
 use qc_list::OutOfMemory;
 use qc_msg::{History, Step};
 use qc_outside::Gate;
-use qc_pass::{Made, Pass, Passes};
+use qc_pass::{Made, Passes};
 use qc_script::Script;
 use std::alloc::Global;
 use std::marker::Brand;
@@ -46,8 +45,8 @@ pub fn run_script<G: Gate + Sync, R: Threads + Wait + Sync>(
     script: Script,
 ) -> Result<Ran, OutOfMemory>
     requires accepted { IsAccepted job.now.decl.now }
-    requires sound { IsScriptFor job.now.decl.now script }
     requires built { is_built job.now.decl.now script ≡ true }
+    requires sound { IsScriptFor job.now.decl.now script }
     ensures script { IfOk result (λ ran. ran.script ≡ script) }
     ensures ended { IfOk result (λ ran. HasEnded job.now.decl.now script ran.history ran.end) }
 {
@@ -81,8 +80,8 @@ fn run_named<N: Named + Send + Sync, G: Gate + Sync, R: Threads + Wait + Sync>(
         each,
     } = made;
     let still: Still<Rules, N> = Still::make(alloc, job.decl, script, passes, right)?;
-    let (cells, mut pass): (Cells<N>, Pass<Step>) = Cells::new(alloc, job.decl, each)?;
-    let (still, end) = drive_script(rt, alloc, job, still, &cells, &mut pass);
+    let cells: Cells<N> = Cells::new(alloc, job.decl, each)?;
+    let (still, end) = drive_script(rt, alloc, job, still, &cells);
     ran(alloc, still, end)
 }
 

@@ -13,8 +13,10 @@ use std::alloc::Global;
 use std::sync::Wait;
 use std::thread::Threads;
 
-/// One worker: it picks an actor, which takes its turn, and so on, until nothing
-/// is left to do, a counted quantity has reached its limit, or memory is wanting.
+/// One worker: it picks an actor, which takes its turn, and so on; where nothing
+/// is ready and nobody is held it lets the controller do what comes next. It ends
+/// where nothing is left of the script, a counted quantity has reached its limit,
+/// or memory was wanting.
 pub fn drive<N: Named, G: Gate, R: Threads + Wait + Sync>(
     rt: &R,
     alloc: Global,
@@ -28,13 +30,17 @@ pub fn drive<N: Named, G: Gate, R: Threads + Wait + Sync>(
 {
     for _ in rt.forever() {
         match fabric.pick(rt, decl) {
-            Picked::Quiet => return DriveEnd::Quiet,
             Picked::Full(full) => return DriveEnd::Full(full),
             Picked::Actor(actor) => {
                 if cells.turn(rt, alloc, decl, fabric, gate, actor).is_err() {
                     return DriveEnd::OutOfMemory;
                 }
             }
+            Picked::Quiet => match cells.advance(rt, decl, fabric) {
+                Ok(true) => {}
+                Ok(false) => return DriveEnd::Quiet,
+                Err(_) => return DriveEnd::OutOfMemory,
+            },
         }
     }
     unreachable!()

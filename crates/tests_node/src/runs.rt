@@ -17,7 +17,7 @@ use qc_list::OutOfMemory;
 use qc_msg::Step;
 use qc_node::{Cells, DriveEnd, Job, Rules, drive_script};
 use qc_outside::Gate;
-use qc_pass::{Made, Pass, Passes};
+use qc_pass::{Made, Passes};
 use qc_script::{Script, ScriptFault, read, scripts_name_what_is_declared};
 use std::alloc::Global;
 use std::marker::Brand;
@@ -86,8 +86,8 @@ fn run_named<N: Named + Send + Sync, G: Gate, R: Threads + Wait + Sync>(
         each,
     } = made;
     let still: Still<Rules, N> = Still::make(alloc, job.decl, script, passes, right)?;
-    let (cells, mut pass): (Cells<N>, Pass<Step>) = Cells::new(alloc, job.decl, each)?;
-    let (mut still, end) = drive_script(rt, alloc, job, still, &cells, &mut pass);
+    let cells: Cells<N> = Cells::new(alloc, job.decl, each)?;
+    let (mut still, end) = drive_script(rt, alloc, job, still, &cells);
     let cells = cells.settle(alloc, &mut still)?;
     let actors = cells.iter().filter(|cell| cell.actor().is_some()).count();
     let (_, entries) = still.end();

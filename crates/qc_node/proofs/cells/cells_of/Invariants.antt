@@ -1,7 +1,7 @@
 use Rattle.std.proofs.Common.{◌≡◌, ◌++◌, length}
 use Rattle.std.specs.Prelude.{vec_len}
 use Rattle.std.specs.Vec.Iter.{into_iter_items}
-use Rattle.qc_node.proofs.cells.Cells.of_actors.Given as goal
+use Rattle.qc_node.proofs.cells.cells_of.Given as goal
 
 -- there is a cell for each pass so far
 abbrev pub invariant-loop-pass : goal.invariant-loop-pass

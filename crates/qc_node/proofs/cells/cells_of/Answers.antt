@@ -2,7 +2,7 @@ use Rattle.std.proofs.Common.{rules, ◌≡◌, ◌∷◌, ◌++◌, ◌∙◌, 
 use Rattle.std.specs.Vec.Iter.{into_iter_items}
 use Rattle.qc_decl.specs.Actors.{actors}
 use Rattle.qc_node.proofs.News.{is_below, is_new}
-use Rattle.qc_node.proofs.cells.Cells.of_actors.Goals as goal
+use Rattle.qc_node.proofs.cells.cells_of.Goals as goal
 
 pub new-requires-clause-fresh : goal.new-requires-clause-fresh
 new-requires-clause-fresh g c =
