@@ -6,6 +6,7 @@ pub mod Fed
 pub mod Phased
 pub mod Ready
 pub mod Stopped
+pub mod Advancing
 pub mod Kept
 pub mod Posted
 pub mod Ordered

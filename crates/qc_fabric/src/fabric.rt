@@ -1,5 +1,9 @@
 //! The lock over the state. Each call is that of `Still` under the lock, and
 //! tells what the caller's pass knows.
+//!
+//! Threads that serve actors pick again after each turn. So a thread that has
+//! nothing to do sleeps until another, which picked, sees that there is an actor
+//! for it too; and whoever stops picking wakes all (`wake`).
 
 ghost use Rattle.std.specs.Prelude.{◌≡◌, ◌<◌, [], Some, IfOk, IfSome, length, OnOk, OnErr, MatchOption};
 ghost use Rattle.qc_decl.specs.Actors.{actors, controller};
@@ -19,10 +23,19 @@ use qc_pass::Pass;
 use std::alloc::Global;
 use std::sync::{Condvar, Mutex, Wait};
 
+/// What lies under the lock: the state, how many threads sleep, and whether one of
+/// them was woken and hasn't come yet.
+#[derive(Drop)]
+struct Shared<C: Conduct, N: Named> {
+    still: Still<C, N>,
+    asleep: u32,
+    is_one_woken: bool,
+}
+
 /// The state that many threads share.
 #[derive(Drop)]
 pub struct Fabric<C: Conduct, N: Named> {
-    still: Mutex<Still<C, N>>,
+    shared: Mutex<Shared<C, N>>,
     changed: Condvar,
 }
 
@@ -30,31 +43,49 @@ impl<C: Conduct, N: Named> Fabric<C, N> {
     /// Threads may share the state from now on. It takes no memory.
     pub fn open(still: Still<C, N>) -> Fabric<C, N> {
         Fabric {
-            still: Mutex::new(still),
+            shared: Mutex::new(Shared {
+                still,
+                asleep: 0,
+                is_one_woken: false,
+            }),
             changed: Condvar::new(),
         }
     }
 
     /// The state again. It takes no memory.
     pub fn close(self) -> Still<C, N> {
-        let Fabric { still, changed: _ } = self;
-        still.into_inner()
+        let Fabric { shared, changed: _ } = self;
+        let Shared { still, .. } = shared.into_inner();
+        still
     }
 
-    /// Waits while nothing is ready for those that aren't held and some actor is
-    /// held, and then answers what `Still::pick` does. It takes no memory.
+    /// Sleeps while nothing is ready for those that aren't held and some actor is
+    /// held, and then answers what `Still::pick` does. Where another actor could be
+    /// picked too, it wakes one that sleeps. It takes no memory.
     pub fn pick<R: Wait>(&self, rt: &R, decl: &Declaration) -> Picked
         requires { decl.now ≡ N.declaration }
         ensures { IsNamed N.declaration (Some result) }
     {
-        let mut still = self.still.lock(rt);
+        let mut shared = self.shared.lock(rt);
         for _ in rt.forever() {
-            if let Some(picked) = still.pick(decl) {
+            if let Some(picked) = shared.still.pick(decl) {
+                if shared.asleep > 0 && !shared.is_one_woken && has_actor(&shared.still, decl) {
+                    shared.is_one_woken = true;
+                    self.changed.notify_one();
+                }
                 return picked;
             }
-            still = self.changed.wait(rt, still);
+            shared.asleep = shared.asleep.saturating_add(1);
+            shared = self.changed.wait(rt, shared);
+            shared.asleep = shared.asleep.saturating_sub(1);
+            shared.is_one_woken = false;
         }
         unreachable!()
+    }
+
+    /// Wakes all that sleep. A thread that won't pick any more has to.
+    pub fn wake(&self) {
+        self.changed.notify_all();
     }
 
     /// The controller does what it may do next, if anything. Whether something is
@@ -72,12 +103,8 @@ impl<C: Conduct, N: Named> Fabric<C, N> {
         ensures table { pass_table pass.new ≡ N.table }
         ensures controller { number pass.new ≡ controller N.declaration }
     {
-        let mut still = self.still.lock(rt);
-        if still.advance(decl, pass)? {
-            self.changed.notify_all();
-            return Ok(true);
-        }
-        Ok(still.next(decl) != Some(Picked::Quiet))
+        let mut shared = self.shared.lock(rt);
+        Ok(shared.still.advance(decl, pass)? || shared.still.next(decl) != Some(Picked::Quiet))
     }
 
     /// The pass's actor takes its next input.
@@ -97,9 +124,7 @@ impl<C: Conduct, N: Named> Fabric<C, N> {
             (λ taken. Takes (C.lawful N.declaration) N.declaration N.script pass.old pass.new taken.given)) }
         ensures steps { IfOk result (λ r. IfSome r (λ taken. taken.steps ≡ length (seen pass.new))) }
     {
-        let taken = self.still.lock(rt).take(alloc, decl, pass)?;
-        self.changed.notify_all();
-        Ok(taken)
+        self.shared.lock(rt).still.take(alloc, decl, pass)
     }
 
     /// Makes room for the turn of the pass's actor.
@@ -115,7 +140,7 @@ impl<C: Conduct, N: Named> Fabric<C, N> {
         ensures ok { OnOk result (Sees pass.old pass.new × (room pass.new ≡ size_of turn.now)) }
         ensures err { OnErr result (pass.new ≡ pass.old) }
     {
-        self.still.lock(rt).reserve(pass, turn)
+        self.shared.lock(rt).still.reserve(pass, turn)
     }
 
     /// Posts the turn for which there is room. It takes no memory.
@@ -127,9 +152,7 @@ impl<C: Conduct, N: Named> Fabric<C, N> {
         requires lawful { C.lawful N.declaration (number pass.old) (deeds (number pass.old) [] (seen pass.old)) turn }
         ensures told { Posts (C.lawful N.declaration) N.declaration N.script pass.old pass.new turn result }
     {
-        let first = self.still.lock(rt).post(pass, turn);
-        self.changed.notify_all();
-        first
+        self.shared.lock(rt).still.post(pass, turn)
     }
 
     /// Ends the holding of the pass's actor, and gives its room up. It takes no
@@ -139,7 +162,13 @@ impl<C: Conduct, N: Named> Fabric<C, N> {
         ensures saw { Sees pass.old pass.new }
         ensures room { room pass.new ≡ 0 }
     {
-        self.still.lock(rt).leave(pass);
-        self.changed.notify_all();
+        self.shared.lock(rt).still.leave(pass);
     }
+}
+
+/// Whether an actor comes next.
+fn has_actor<C: Conduct, N: Named>(still: &Still<C, N>, decl: &Declaration) -> bool
+    requires { decl.now ≡ N.declaration }
+{
+    matches!(still.next(decl), Some(Picked::Actor(_)))
 }

@@ -16,8 +16,25 @@ use std::thread::Threads;
 /// One worker: it picks an actor, which takes its turn, and so on; where nothing
 /// is ready and nobody is held it lets the controller do what comes next. It ends
 /// where nothing is left of the script, a counted quantity has reached its limit,
-/// or memory was wanting.
+/// or memory was wanting. Then it wakes the others.
 pub fn drive<N: Named, G: Gate, R: Threads + Wait + Sync>(
+    rt: &R,
+    alloc: Global,
+    decl: &Declaration,
+    fabric: &Fabric<Rules, N>,
+    cells: &Cells<N>,
+    gate: &G,
+) -> DriveEnd
+    requires declaration { decl.now ≡ N.declaration }
+    requires accepted { IsAccepted N.declaration }
+{
+    let end = serve(rt, alloc, decl, fabric, cells, gate);
+    fabric.wake();
+    end
+}
+
+/// The same, while the others may sleep.
+fn serve<N: Named, G: Gate, R: Threads + Wait + Sync>(
     rt: &R,
     alloc: Global,
     decl: &Declaration,

@@ -133,8 +133,8 @@ fn serve_and_pick<N: Named + Send + Sync, R: Threads + Wait + Sync>(
     )
 }
 
-/// The seat's actor is served. Where it wants memory it isn't held any more, so
-/// that the other's pick answers.
+/// The seat's actor is served. Where it wants memory it isn't held any more. This
+/// thread won't pick, so it wakes the other.
 fn serve<N: Named, R: Wait>(
     rt: &R,
     alloc: Global,
@@ -150,6 +150,7 @@ fn serve<N: Named, R: Wait>(
     if watched.is_err() {
         seat.leave_by_lock(rt, fabric);
     }
+    fabric.wake();
     watched
 }
 
