@@ -1,5 +1,5 @@
 -- The input that the mailboxes show is what is ready.
-use Rattle.std.proofs.Common.{◌≡◌, ℕ, ◌<◌, List, Option, Some, None, option_map, refl, sym, ap, ◌∙◌, subst}
+use Rattle.std.proofs.Common.{◌≡◌, ℕ, ◌<◌, Bool, List, Option, Some, None, option_map, refl, sym, ap, ◌∙◌, subst}
 use Rattle.qc_decl.specs.declared.declaration.Declaration.{Declaration}
 use Rattle.qc_inbox.specs.Inputs.{input_in, input_of}
 use Rattle.qc_inbox.specs.Kept.{IsKept}
@@ -14,7 +14,7 @@ use Rattle.qc_msg.specs.Deeds.{WasSentTo, mail}
 use Rattle.qc_msg.specs.Steps.{Entry}
 use Rattle.qc_script.specs.Ready.{ready}
 use Rattle.qc_script.specs.declared.script.Script.{Script}
-use Rattle.qc_fabric.specs.Inputs.{IsThere, given_by}
+use Rattle.qc_fabric.specs.Inputs.{IsInputFor, IsThere, given_by}
 use Rattle.qc_fabric.proofs.Fed.{get_within}
 
 pub record Readies (decl : Declaration) (script : Script) (h : List Entry) (a : ℕ) (input : Input) : Type 0 where
@@ -66,3 +66,8 @@ none_ready decl script h kept a is low shown = by (ready decl script a h) refl
         let here : option_map input_of (ready decl script a h) ≡ input_in decl a kept = ready_kept decl script h kept a is low in
         let never : Some (input_of g) ≡ None = ap (option_map input_of) (sym rdy) ∙ here ∙ shown in
         absurd (let no : ⊥ = cc in no)
+
+-- the same by other names
+pub input_as : (d e : Declaration) (h : List Entry) (kept : Inboxes) (bits others : List Bool) (a n : ℕ) (o : Option Input) → d ≡ e → bits ≡ others → a ≡ n → IsInputFor d h kept bits a o → IsInputFor e h kept others n o
+input_as d e h kept bits others a n o ed eb ea is =
+    subst (λ (x : Declaration). IsInputFor x h kept others n o) ed (subst (λ (x : List Bool). IsInputFor d h kept x n o) eb (subst (λ (x : ℕ). IsInputFor d h kept bits x o) ea is))

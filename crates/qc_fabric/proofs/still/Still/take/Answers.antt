@@ -8,7 +8,7 @@ use Rattle.qc_fabric.specs.Inputs.{IsInputFor}
 use Rattle.qc_fabric.specs.Stills.{Shown, most_history}
 use Rattle.qc_fabric.specs.Tells.{HasNext, HasNone}
 use Rattle.qc_fabric.proofs.Kept.{next_for, none_for, other_memory, takes_on, took, waits}
-use Rattle.qc_fabric.proofs.Ready.{input_there}
+use Rattle.qc_fabric.proofs.Ready.{input_as, input_there}
 use Rattle.qc_fabric.proofs.still.Still.take.Goals as goal
 
 pub input_for-requires : goal.input_for-requires
@@ -17,22 +17,22 @@ input_for-requires g c = omega (arith, c.requires.actor, c.self.invariant.few, c
 pub returns-in_default-clause-told : goal.returns-in_default-clause-told
 returns-in_default-clause-told g c =
     let is : IsInputFor g.N.Named.declaration c.self.inside.log.history c.self.inside.mailboxes.inboxes c.self.inside.inputs.items (number c.args.pass.now) None =
-    subst (λ d. IsInputFor d c.self.inside.log.history c.self.inside.mailboxes.inboxes c.self.inside.inputs.items (number c.args.pass.now) None) c.requires.declaration
-    (subst (λ a. IsInputFor c.args.decl.now c.self.inside.log.history c.self.inside.mailboxes.inboxes c.self.inside.inputs.items a None) c.number-actor.ensures c.in_default.ensures) in
+    input_as c.args.decl.now g.N.Named.declaration c.self.inside.log.history c.self.inside.mailboxes.inboxes c.as_slice-inputs.result.now c.self.inside.inputs.items c.number-actor.result (number c.args.pass.now) None
+    c.requires.declaration c.as_slice-inputs.ensures.value c.number-actor.ensures c.in_default.ensures in
     waits c.self.invariant _ _ c.leave.ensures.saw (search rules) (search rules) (none_for c.self.invariant (number c.args.pass.now) c.requires.actor is)
 
 pub returns-in_default-clause-exact : goal.returns-in_default-clause-exact
 returns-in_default-clause-exact g c =
     let is : IsInputFor g.N.Named.declaration c.self.inside.log.history c.self.inside.mailboxes.inboxes c.self.inside.inputs.items (number c.args.pass.now) None =
-    subst (λ d. IsInputFor d c.self.inside.log.history c.self.inside.mailboxes.inboxes c.self.inside.inputs.items (number c.args.pass.now) None) c.requires.declaration
-    (subst (λ a. IsInputFor c.args.decl.now c.self.inside.log.history c.self.inside.mailboxes.inboxes c.self.inside.inputs.items a None) c.number-actor.ensures c.in_default.ensures) in
+    input_as c.args.decl.now g.N.Named.declaration c.self.inside.log.history c.self.inside.mailboxes.inboxes c.as_slice-inputs.result.now c.self.inside.inputs.items c.number-actor.result (number c.args.pass.now) None
+    c.requires.declaration c.as_slice-inputs.ensures.value c.number-actor.ensures c.in_default.ensures in
     subst (λ (v : Shown). HasNone g.N.Named.declaration g.N.Named.script v.open_inputs (number c.args.pass.now) v.history) c.self.view_is (none_for c.self.invariant (number c.args.pass.now) c.requires.actor is)
 
 pub given_of-requires : goal.given_of-requires
 given_of-requires g c =
     let is : IsInputFor g.N.Named.declaration c.self.inside.log.history c.self.inside.mailboxes.inboxes c.self.inside.inputs.items (number c.args.pass.now) (Some c.in-Some.input) =
-    subst (λ d. IsInputFor d c.self.inside.log.history c.self.inside.mailboxes.inboxes c.self.inside.inputs.items (number c.args.pass.now) (Some c.in-Some.input)) c.requires.declaration
-    (subst (λ a. IsInputFor c.args.decl.now c.self.inside.log.history c.self.inside.mailboxes.inboxes c.self.inside.inputs.items a (Some c.in-Some.input)) c.number-actor.ensures c.in-Some.ensures) in
+    input_as c.args.decl.now g.N.Named.declaration c.self.inside.log.history c.self.inside.mailboxes.inboxes c.as_slice-inputs.result.now c.self.inside.inputs.items c.number-actor.result (number c.args.pass.now) (Some c.in-Some.input)
+    c.requires.declaration c.as_slice-inputs.ensures.value c.number-actor.ensures c.in-Some.ensures in
     input_there g.N.Named.declaration g.N.Named.script c.self.inside.log.history c.self.inside.mailboxes.inboxes (number c.args.pass.now) c.in-Some.input c.self.invariant.kept (omega (arith, c.requires.actor, c.self.invariant.few)) is.2
 
 pub invariant_of-self : goal.invariant_of-self
@@ -48,8 +48,8 @@ pub invariant_of-self-2 : goal.invariant_of-self-2
 invariant_of-self-2 g c =
     let p = c.args.pass.now in
     let is : IsInputFor g.N.Named.declaration c.self.inside.log.history c.self.inside.mailboxes.inboxes c.self.inside.inputs.items (number c.args.pass.now) (Some c.in-Some.input) =
-    subst (λ d. IsInputFor d c.self.inside.log.history c.self.inside.mailboxes.inboxes c.self.inside.inputs.items (number c.args.pass.now) (Some c.in-Some.input)) c.requires.declaration
-    (subst (λ a. IsInputFor c.args.decl.now c.self.inside.log.history c.self.inside.mailboxes.inboxes c.self.inside.inputs.items a (Some c.in-Some.input)) c.number-actor.ensures c.in-Some.ensures) in
+    input_as c.args.decl.now g.N.Named.declaration c.self.inside.log.history c.self.inside.mailboxes.inboxes c.as_slice-inputs.result.now c.self.inside.inputs.items c.number-actor.result (number c.args.pass.now) (Some c.in-Some.input)
+    c.requires.declaration c.as_slice-inputs.ensures.value c.number-actor.ensures c.in-Some.ensures in
     let next : HasNext g.N.Named.declaration g.N.Named.script c.self.inside.inputs.items (number c.args.pass.now) c.self.inside.log.history c.in_ok-given.given =
     next_for c.self.invariant (number c.args.pass.now) c.requires.actor c.in-Some.input c.in_ok-given.given is c.in_ok-given.ensures in
     let met : Met p c.in-Some-take.right c.add-right.new.pass c.add-right.result (step_of c.in_ok-given.given ∷ []) (room p) = subst (λ s. Met p c.in-Some-take.right c.add-right.new.pass c.add-right.result (s ∷ []) (room p)) c.step_of-step.ensures c.add-right.ensures.met in
@@ -65,8 +65,8 @@ pub returns-clause-told : goal.returns-clause-told
 returns-clause-told g c =
     let p = c.args.pass.now in
     let is : IsInputFor g.N.Named.declaration c.self.inside.log.history c.self.inside.mailboxes.inboxes c.self.inside.inputs.items (number c.args.pass.now) (Some c.in-Some.input) =
-    subst (λ d. IsInputFor d c.self.inside.log.history c.self.inside.mailboxes.inboxes c.self.inside.inputs.items (number c.args.pass.now) (Some c.in-Some.input)) c.requires.declaration
-    (subst (λ a. IsInputFor c.args.decl.now c.self.inside.log.history c.self.inside.mailboxes.inboxes c.self.inside.inputs.items a (Some c.in-Some.input)) c.number-actor.ensures c.in-Some.ensures) in
+    input_as c.args.decl.now g.N.Named.declaration c.self.inside.log.history c.self.inside.mailboxes.inboxes c.as_slice-inputs.result.now c.self.inside.inputs.items c.number-actor.result (number c.args.pass.now) (Some c.in-Some.input)
+    c.requires.declaration c.as_slice-inputs.ensures.value c.number-actor.ensures c.in-Some.ensures in
     let next : HasNext g.N.Named.declaration g.N.Named.script c.self.inside.inputs.items (number c.args.pass.now) c.self.inside.log.history c.in_ok-given.given =
     next_for c.self.invariant (number c.args.pass.now) c.requires.actor c.in-Some.input c.in_ok-given.given is c.in_ok-given.ensures in
     let met : Met p c.in-Some-take.right c.add-right.new.pass c.add-right.result (step_of c.in_ok-given.given ∷ []) (room p) = subst (λ s. Met p c.in-Some-take.right c.add-right.new.pass c.add-right.result (s ∷ []) (room p)) c.step_of-step.ensures c.add-right.ensures.met in
@@ -76,8 +76,8 @@ returns-clause-told g c =
 pub returns-clause-exact : goal.returns-clause-exact
 returns-clause-exact g c =
     let is : IsInputFor g.N.Named.declaration c.self.inside.log.history c.self.inside.mailboxes.inboxes c.self.inside.inputs.items (number c.args.pass.now) (Some c.in-Some.input) =
-    subst (λ d. IsInputFor d c.self.inside.log.history c.self.inside.mailboxes.inboxes c.self.inside.inputs.items (number c.args.pass.now) (Some c.in-Some.input)) c.requires.declaration
-    (subst (λ a. IsInputFor c.args.decl.now c.self.inside.log.history c.self.inside.mailboxes.inboxes c.self.inside.inputs.items a (Some c.in-Some.input)) c.number-actor.ensures c.in-Some.ensures) in
+    input_as c.args.decl.now g.N.Named.declaration c.self.inside.log.history c.self.inside.mailboxes.inboxes c.as_slice-inputs.result.now c.self.inside.inputs.items c.number-actor.result (number c.args.pass.now) (Some c.in-Some.input)
+    c.requires.declaration c.as_slice-inputs.ensures.value c.number-actor.ensures c.in-Some.ensures in
     let next : HasNext g.N.Named.declaration g.N.Named.script c.self.inside.inputs.items (number c.args.pass.now) c.self.inside.log.history c.in_ok-given.given =
     next_for c.self.invariant (number c.args.pass.now) c.requires.actor c.in-Some.input c.in_ok-given.given is c.in_ok-given.ensures in
     subst (λ (v : Shown). HasNext g.N.Named.declaration g.N.Named.script v.open_inputs (number c.args.pass.now) v.history c.in_ok-given.given) c.self.view_is next
