@@ -82,11 +82,11 @@ fn run_named<N: Named + Send + Sync, G: Gate + Sync, R: Threads + Wait + Sync>(
     let still: Still<Rules, N> = Still::make(alloc, job.decl, script, passes, right)?;
     let cells: Cells<N> = Cells::new(alloc, job.decl, each)?;
     let (still, end) = drive_script(rt, alloc, job, still, &cells);
-    ran(alloc, still, end)
+    outcome(alloc, still, end)
 }
 
 /// What the state leaves.
-fn ran<N: Named>(
+fn outcome<N: Named>(
     alloc: Global,
     still: Still<Rules, N>,
     end: DriveEnd,
