@@ -101,7 +101,7 @@ where
     T: Threads + Wait + Sync,
     G: Gate + Sync,
     K: Sink,
-    requires { IsShort answers.script }
+    requires short { IsShort answers.script }
     ensures leaves { Leaves (work_of (asked_in asked.entry) answers)
         (K.taken sink.old) result.cause (K.taken sink.new) result.history }
     ensures blame { (script : Bool) → result.cause ≡ Cause.Shelf script ShelfFault.Failed
@@ -145,7 +145,7 @@ where
     T: Threads + Wait + Sync,
     G: Gate + Sync,
     K: Sink,
-    requires { IsRight work }
+    requires right { IsRight work }
     ensures leaves { Leaves (Ok work) (K.taken sink.old) result.cause (K.taken sink.new) result.history }
     ensures status { result.status ≡ status_of result.cause }
     ensures full { IsFullCause result.cause result.history }
@@ -191,7 +191,7 @@ where
     T: Threads + Wait + Sync,
     G: Gate + Sync,
     K: Sink,
-    requires { IsRunnable job.now.decl.now script }
+    requires runnable { IsRunnable job.now.decl.now script }
     ensures leaves { LeavesRun job.now.decl.now script (K.taken sink.old) result.cause (K.taken sink.new)
         result.history }
     ensures status { result.status ≡ status_of result.cause }

@@ -13,8 +13,8 @@ use Rattle.qc_top.specs.Work.{Caused, work_of}
 use Rattle.qc_top.specs.declared.work.Work.{Work}
 use Rattle.qc_top.proofs.top.perform.Goals as goal
 
-pub do_work-requires : goal.do_work-requires
-do_work-requires g c = work_is (asked_in c.args.asked) c.args.answers c.in-Ok.work c.in-Ok.ensures.work
+pub do_work-requires-clause-right : goal.do_work-requires-clause-right
+do_work-requires-clause-right g c = λ _ _. work_is (asked_in c.args.asked) c.args.answers c.in-Ok.work c.in-Ok.ensures.work
 
 pub returns-in-Ok-clause-leaves : goal.returns-in-Ok-clause-leaves
 returns-in-Ok-clause-leaves g c =

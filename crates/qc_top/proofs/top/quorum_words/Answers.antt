@@ -20,6 +20,6 @@ returns-clause-shelf g c =
 pub returns-clause-spent : goal.returns-clause-spent
 returns-clause-spent g c = spent_more c.perform.result.history _ c.perform.ensures.spent
 
-pub perform-requires : goal.perform-requires
-perform-requires g c =
+pub perform-requires-clause-short : goal.perform-requires-clause-short
+perform-requires-clause-short g c = λ _ _.
     answers_short g.F.Shelf.gives (g.F.Shelf.files c.args.shelf.now) (asked_in c.in-Some.asked) c.args.shelf.now c.answers_for-answers.new.shelf c.answers_for-answers.result c.answers_for-answers.ensures.answers
