@@ -1,6 +1,6 @@
 //! The load of bench/runs.py as a plain program, unproved and on one thread: transactions that write, read and commit
 //! over three sites, by rounds of two sites, with whole views in the messages and one history of all steps. It has
-//! no links, no refusals and no votes against, so it does less than the loop that it's compared with.
+//! no links, no refusals and no votes against, so it does less than the run that it's compared with.
 //!
 //! usage: load_walk COUNT SEED
 
