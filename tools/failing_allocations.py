@@ -1,10 +1,12 @@
 #!/usr/bin/env python3
 """Runs each example once for each allocation of its run, which then fails.
 
-usage: tools/failing_allocations.py [PROGRAM]
+usage: tools/failing_allocations.py [PROGRAM [WORKERS]]
 
 PROGRAM is crates/quorum/out/quorum unless it is given; it has to be built, and
-a C compiler has to be on the path as `cc`. Each run has to end as the example
+a C compiler has to be on the path as `cc`. With WORKERS each script is run by so
+many; which allocation a number names then differs from run to run, and an
+example may be over before each was met. Each run has to end as the example
 says, or with nothing on standard output, status 8 and its cause; a cause may be
 left untold where its text wants memory. An example is over when 100 runs after
 one another met no failing allocation. Ends with status 1 where a run did
@@ -32,11 +34,12 @@ def content(folder, name, missing=b""):
         return file.read()
 
 
-def outcome(program, shim, number, folder):
-    """What the run of an example did whose allocation of this number fails."""
+def outcome(program, shim, number, folder, more):
+    """What the run of an example did whose allocation of this number fails, with these words more where it runs a script."""
     words = content(folder, "words").decode().split("\n")[:-1]
+    words += more if words[0] == "run" else []
     env = {"LD_PRELOAD": shim, "FAIL_AT": str(number)}
-    ran = subprocess.run([program, *words], cwd=folder, env=env, capture_output=True)
+    ran = subprocess.run([program, *words], cwd=folder, env=env, capture_output=True, timeout=60)
     wanted = int(content(folder, "status", b"0")), content(folder, "expected"), content(folder, "expected_error")
     if (ran.returncode, ran.stdout, ran.stderr) == wanted:
         return "whole"
@@ -47,12 +50,12 @@ def outcome(program, shim, number, folder):
     return "status %d, %r, %r" % (ran.returncode, ran.stdout[:40], ran.stderr)
 
 
-def sweep(program, shim, folder):
+def sweep(program, shim, folder, more):
     """How often the runs of an example did what."""
     counts, number, whole = collections.Counter(), 0, 0
     while whole < 100:
         number += 1
-        did = outcome(program, shim, number, folder)
+        did = outcome(program, shim, number, folder, more)
         whole = whole + 1 if did == "whole" else 0
         counts[did] += 1
     return counts
@@ -60,6 +63,7 @@ def sweep(program, shim, folder):
 
 def main():
     program = os.path.abspath(sys.argv[1] if len(sys.argv) > 1 else os.path.join(ROOT, "crates/quorum/out/quorum"))
+    more = ["--workers", sys.argv[2]] if len(sys.argv) > 2 else []
     seen = set()
     with tempfile.TemporaryDirectory() as folder:
         shim = os.path.join(folder, "shim.so")
@@ -68,7 +72,7 @@ def main():
         for name in sorted(os.listdir(EXAMPLES)):
             if not os.path.exists(os.path.join(EXAMPLES, name, "words")):
                 continue  # the gallery of types
-            counts = sweep(program, shim, os.path.join(EXAMPLES, name))
+            counts = sweep(program, shim, os.path.join(EXAMPLES, name), more)
             print("%s: %s" % (name, ", ".join("%s: %d" % pair for pair in sorted(counts.items()))))
             seen |= set(counts)
     return 0 if seen and seen <= {"whole", "untold", "wanting"} else 1

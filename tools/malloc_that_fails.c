@@ -9,8 +9,8 @@ static long calls;
 
 static int fails(void) {
   const char *at = getenv("FAIL_AT");
-  calls++;
-  if (!at || calls != atol(at)) return 0;
+  long number = __atomic_add_fetch(&calls, 1, __ATOMIC_SEQ_CST);
+  if (!at || number != atol(at)) return 0;
   errno = ENOMEM;
   return 1;
 }
