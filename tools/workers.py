@@ -252,8 +252,8 @@ class Client:
         if result == "! too long":
             self.counts["too long"] += 1
         elif clash:
-            want(int(clash[2]) != self.number and int(clash[2]) < self.decl.clients, "a conflict with whom")
-            want(int(clash[4]) < self.decl.sites, "a conflict at which site")
+            want(clash[1] != self.open, "a conflict with itself")
+            want(int(clash[2]) < self.decl.clients and int(clash[4]) < self.decl.sites, "a conflict with whom, or where")
             self.holders.append((int(clash[2]), int(clash[3])))
             self.doomed = None
             self.counts["in conflict"] += 1
