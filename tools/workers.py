@@ -1,0 +1,426 @@
+#!/usr/bin/env python3
+"""Runs random scripts by several workers, and checks what they print by a plain replay.
+
+usage: tools/workers.py [RUNS] [SEED] [PROGRAM]
+
+Makes RUNS scripts, 1,000 unless it is given, by Python's `random` from SEED, 1 unless it is given. Each is over a declaration
+that is built in, one of examples/types/, or a union of up to three of those for up to five clients. PROGRAM is
+crates/quorum/out/quorum unless it is given; it has to be built. It runs each script by 2, 4 or 8 workers in turn, and by one.
+The replay is written apart from the proved code. Each run has to end in 20 seconds, with status 0 and nothing on standard
+error, and in its text:
+
+- each command has its reply, in the script's order, and one that this client could get then;
+- the stamps of the log rise, and the log has just the transactions that were told as committed, each with the stamp that its
+  client was told, and with the operations and responses of its `do`s;
+- one copy of each object, by the declaration's rows, gives these responses in the log's order, and ends in the state printed;
+- of one client's transactions, each that committed comes behind those that committed before it began.
+
+Prints what the runs by several workers did, and how many of their texts aren't the one that one worker gives, since threads
+took their turns in another order. A run that fails may go well the next time, so its files, its words and what it printed are
+kept in a folder, whose name has SEED and the number of the script, from 0. Ends with status 1 where a run failed.
+"""
+
+import collections
+import glob
+import json
+import os
+import random
+import re
+import shutil
+import subprocess
+import sys
+import tempfile
+import tomllib
+
+ROOT = os.path.dirname(os.path.dirname(os.path.abspath(__file__)))
+WORKERS = (2, 4, 8)
+SECONDS = 20
+# A transaction has no more operations.
+OPERATIONS = 16
+# What a replay asks of the declarations that are built in.
+REGISTER = {
+    "type": [{
+        "name": "register", "start": "0", "invocations": ["R", "W0", "W1"], "responses": ["0", "1", "ok"],
+        "rows": ["0 R 0 0", "1 R 1 1", "0 W0 ok 0", "1 W0 ok 0", "0 W1 ok 1", "1 W1 ok 1"],
+    }],
+    "object": [{"name": "x", "type": "register"}],
+}
+
+
+class Wrong(Exception):
+    """What a run did that isn't right."""
+
+
+# Declarations.
+
+
+class Declaration:
+    """A declaration: the word that names it, its text where it is a file's, and what a replay asks of it."""
+
+    def __init__(self, word, tables, text=None):
+        self.word, self.text = word, text
+        self.sites, self.clients = tables["sites"], tables["clients"]
+        types = {table["name"]: table for table in tables["type"]}
+        self.types = {thing["name"]: types[thing["type"]] for thing in tables["object"]}
+        self.steps = {thing: steps_of(table) for thing, table in self.types.items()}
+
+
+def steps_of(table):
+    """A type's rows, by state and invocation: the next state by the response."""
+    steps = {}
+    for row in table["rows"]:
+        state, inv, resp, after = row.split(" ")
+        steps.setdefault((state, inv), {})[resp] = after
+    return steps
+
+
+def text_of(tables):
+    """The text of a declaration."""
+    pairs = lambda table, keys: ["%s = %s" % (key, json.dumps(table[key])) for key in keys]
+    lines = pairs(tables, ("sites", "clients"))
+    for name in ("type", "object", "epoch"):
+        for table in tables[name]:
+            lines += ["", "[[%s]]" % name, *pairs(table, table)]
+    return "\n".join(lines) + "\n"
+
+
+def union(chance, gallery):
+    """Up to three objects of the gallery in one declaration, each with its type and its thresholds."""
+    weights = lambda tables: tables["epoch"][0]["weights"]
+    first = chance.choice(gallery)
+    parts = [first] + chance.choices([it for it in gallery if weights(it) == weights(first)], k=chance.randrange(3))
+    types = {part["type"][0]["name"]: part["type"][0] for part in parts}
+    objects, epoch = [], {"weights": weights(first), "initial": [], "final": []}
+    for number, part in enumerate(parts):
+        name = "o%d" % number
+        objects.append({"name": name, "type": part["type"][0]["name"]})
+        for key in ("initial", "final"):
+            epoch[key] += [name + threshold[threshold.index(" ") :] for threshold in part["epoch"][0][key]]
+    clients = chance.randint(1, 5)
+    return {"sites": first["sites"], "clients": clients, "type": [*types.values()], "object": objects, "epoch": [epoch]}
+
+
+def declaration(chance, gallery):
+    """A declaration by chance: one that is built in, one of the gallery, or a union of those. The gallery has the text and
+    the tables of each."""
+    kind = chance.randrange(10)
+    if kind < 3:
+        word, count = ("@one", 1) if kind == 0 else ("@three", 3)
+        return Declaration(word, {**REGISTER, "sites": count, "clients": count})
+    if kind < 6:
+        text, tables = chance.choice(gallery)
+    else:
+        tables = union(chance, [tables for _, tables in gallery])
+        text = text_of(tables)
+    return Declaration("decl.toml", tables, text)
+
+
+# Scripts.
+
+
+class Script:
+    """A script by chance: its lines, and its commands in their order, each a client's number and its words."""
+
+    def __init__(self, chance, decl):
+        self.chance, self.decl, self.lines, self.commands = chance, decl, [], []
+        self.open, self.cuts = set(), []
+        loses = chance.random() < 0.6
+        if loses:
+            self.lines += [self.link() for _ in range(chance.randint(1, 8))]
+        for _ in range(chance.randint(1, 6)):
+            self.phase(chance.choice((0, 0, 0, 1, 2)) if loses else 0)
+
+    def text(self):
+        return "\n".join(self.lines) + "\n"
+
+    def site(self):
+        return "s%d" % self.chance.randrange(self.decl.sites)
+
+    def client(self):
+        return "c%d" % self.chance.randrange(self.decl.clients)
+
+    def link(self):
+        """A rule: mostly for one message, now and then for many."""
+        ends = [self.client(), self.site()]
+        if self.chance.random() < 0.1:
+            ends[self.chance.randrange(2)] = "*"
+        self.chance.shuffle(ends)
+        ordinal = "*" if self.chance.random() < 0.1 else str(self.chance.randint(1, 12))
+        return " ".join(["link", *ends, ordinal, self.chance.choice(("drop", "twice", "late", "again"))])
+
+    def phase(self, controls):
+        """A phase, with so many cuts and heals at its head. Each client that acts in it has several commands, which are mixed
+        with those of the others."""
+        self.lines.append("phase")
+        self.lines += [self.control() for _ in range(controls)]
+        actors = [client for client in range(self.decl.clients) if self.chance.random() < 0.8]
+        order = [client for client in actors for _ in range(self.chance.randint(1, 12))]
+        self.chance.shuffle(order)
+        long = self.chance.random() < 0.03
+        for client in order + order[:1] * (30 if long else 0):
+            words = self.command(client, long)
+            self.commands.append((client, words))
+            self.lines.append("c%d %s" % (client, " ".join(words)))
+
+    def control(self):
+        if self.cuts and self.chance.random() < 0.6:
+            return "heal %s %s" % self.cuts.pop(self.chance.randrange(len(self.cuts)))
+        self.cuts.append((self.client(), self.site()))
+        return "cut %s %s" % self.cuts[-1]
+
+    def command(self, client, long):
+        """A command that mostly fits what the client has open."""
+        if (client in self.open) != (self.chance.random() < 0.95):
+            self.open.add(client)
+            return ["begin"]
+        word = "do" if long else self.chance.choices(("do", "commit", "abort"), (65, 27, 8))[0]
+        if word == "do":
+            thing = self.chance.choice([*self.decl.types])
+            return ["do", thing, self.chance.choice(self.decl.types[thing]["invocations"])]
+        self.open.discard(client)
+        return [word]
+
+
+# The replay of a text.
+
+NUMBER = r"(0|[1-9]\d*)"
+TRANSACTION = r"%s\.1\.%s" % (NUMBER, NUMBER)
+STAMP = r"%s\.%s" % (NUMBER, NUMBER)
+COMMIT = re.compile(r"(%s) (%s)( .+)?" % (STAMP, TRANSACTION))
+CONFLICT = re.compile(r"! conflict (%s) s%s" % (TRANSACTION, NUMBER))
+QUORUM = re.compile(r"! quorum (read|append) %s of %s" % (NUMBER, NUMBER))
+NO_ANSWER = re.compile(r"! no answer s%s" % NUMBER)
+SITE = re.compile(r"s%s life 1 epoch 1 lines %s held %s" % (NUMBER, NUMBER, NUMBER))
+
+
+def want(holds, what):
+    if not holds:
+        raise Wrong(what)
+
+
+class Client:
+    """What a client was told so far: the transaction that it has begun, what that has done, and those that committed."""
+
+    def __init__(self, number, decl, counts):
+        self.number, self.decl, self.counts = number, decl, counts
+        self.count, self.commits, self.holders = 0, [], []
+        self.end()
+
+    def end(self):
+        """No transaction is begun. `doomed` is None where a refusal doesn't tell whether it doomed."""
+        self.open, self.operations, self.doomed = None, [], False
+
+    def takes(self, words, result):
+        """A command and what it was told. The first that isn't right ends the replay."""
+        if words[0] == "begin":
+            self.begins(result)
+        elif self.open is None:
+            want(result == "! no transaction", "no transaction is begun")
+            self.counts["commands without a transaction"] += 1
+        elif words[0] == "do":
+            self.does(*words[1:], result)
+        elif words[0] == "commit":
+            self.ends_by_commit(result)
+        else:
+            want(result == "ok", "a transaction is begun")
+            self.counts["given up"] += 1
+            self.end()
+
+    def begins(self, result):
+        if self.open is not None:
+            want(result == "! already " + self.open, "a transaction is begun")
+            self.counts["begun twice"] += 1
+            return
+        self.count += 1
+        self.open = "%d.1.%d" % (self.number, self.count)
+        want(result == self.open, "the next transaction is " + self.open)
+        self.counts["transactions"] += 1
+
+    def is_told_doom(self, result):
+        """Whether this tells that the transaction is doomed. Where it doesn't, the transaction isn't."""
+        want(self.doomed is None or self.doomed == (result == "! doomed"), "whether it is doomed was known")
+        self.doomed = result == "! doomed"
+        return self.doomed
+
+    def does(self, thing, inv, result):
+        self.counts["operations"] += 1
+        if self.is_told_doom(result):
+            self.counts["doomed"] += 1
+            return
+        want((len(self.operations) == OPERATIONS) == (result == "! too long"), "%d operations" % len(self.operations))
+        clash, quorum = CONFLICT.fullmatch(result), QUORUM.fullmatch(result)
+        if result == "! too long":
+            self.counts["too long"] += 1
+        elif clash:
+            want(clash[1] != self.open, "a conflict with itself")
+            want(int(clash[2]) < self.decl.clients and int(clash[4]) < self.decl.sites, "a conflict with whom, or where")
+            self.holders.append((int(clash[2]), int(clash[3])))
+            self.doomed = None
+            self.counts["in conflict"] += 1
+        elif quorum:
+            want(int(quorum[2]) < int(quorum[3]), "a quorum that is met")
+            self.doomed = quorum[1] == "append"
+            self.counts["without a quorum"] += 1
+        elif result == "! absent":
+            self.operations.append("%s %s absent" % (thing, inv))
+            self.counts["absent"] += 1
+        else:
+            want(result in self.decl.types[thing]["responses"], "no such response")
+            self.operations.append("%s %s %s" % (thing, inv, result))
+            self.counts["with a response"] += 1
+
+    def ends_by_commit(self, result):
+        if self.is_told_doom(result):
+            self.counts["given up as doomed"] += 1
+        elif NO_ANSWER.fullmatch(result):
+            self.counts["lost for want of a vote"] += 1
+        else:
+            stamp = stamp_of(result)
+            want(stamp[1] == self.number, "another client's stamp")
+            want(not self.commits or self.commits[-1][0] < stamp, "below a stamp that the client was told before")
+            self.commits.append((stamp, self.open, self.operations))
+            self.counts["committed"] += 1
+        self.end()
+
+
+def stamp_of(text):
+    """A stamp: its clock, its client."""
+    parts = re.fullmatch(STAMP, text)
+    want(parts, "no stamp: " + text)
+    return int(parts[1]), int(parts[2])
+
+
+def sections(text):
+    """The lines of the four sections."""
+    want(text.endswith("\n"), "the text has no end")
+    found = []
+    for line in text.split("\n")[:-1]:
+        if line == ("replies", "log", "states", "sites", None)[len(found)]:
+            found.append([])
+        else:
+            want(found, "a line before the replies")
+            found[-1].append(line)
+    want(len(found) == 4, "%d sections" % len(found))
+    return found
+
+
+def replay_replies(decl, commands, lines, counts):
+    """The transactions that were told as committed, by stamp: each with its operations."""
+    want(len(lines) == len(commands), "%d replies to %d commands" % (len(lines), len(commands)))
+    clients = [Client(number, decl, counts) for number in range(decl.clients)]
+    for (number, words), line in zip(commands, lines):
+        head = "c%d %s " % (number, " ".join(words[words[0] == "do" :]))
+        want(line.startswith(head), "%s, where the command is %s" % (line, head))
+        try:
+            clients[number].takes(words, line[len(head) :])
+        except Wrong as wrong:
+            raise Wrong("%s: %s" % (line, wrong)) from wrong
+    for client in clients:
+        want(all(number <= clients[holder].count for holder, number in client.holders), "a conflict with what wasn't begun")
+        counts["left open"] += client.open is not None
+    return sorted(commit for client in clients for commit in client.commits)
+
+
+def replay_log(decl, commits, lines):
+    """The state of each object behind all transactions of the log, which are to be these."""
+    log, states = [], {thing: table["start"] for thing, table in decl.types.items()}
+    for line in lines:
+        parts = COMMIT.fullmatch(line)
+        want(parts, "no line of a log: " + line)
+        log.append((stamp_of(parts[1]), parts[4], parts[7][1:].split(", ") if parts[7] else []))
+    want(all(log[k][0] < log[k + 1][0] for k in range(len(log) - 1)), "the log's stamps don't rise")
+    want(log == commits, "not both in the log and told: %s" % [it for it in log + commits if (it in log) != (it in commits)])
+    for stamp, name, operations in log:
+        for operation in operations:
+            thing, inv, resp = operation.split(" ")
+            legal = decl.steps[thing].get((states[thing], inv), {})
+            if resp == "absent" and not legal:
+                continue
+            want(resp in legal, "%s: one copy in state %s wouldn't answer so: %s" % (name, states[thing], operation))
+            states[thing] = legal[resp]
+    return states
+
+
+def replay(decl, commands, text, counts):
+    """Raises what isn't right in a text, and counts what there is."""
+    replies, log, states, sites = sections(text)
+    commits = replay_replies(decl, commands, replies, counts)
+    last = ["%s %s" % pair for pair in replay_log(decl, commits, log).items()]
+    want(states == last, "the states aren't those of the replay: %s" % last)
+    found = [SITE.fullmatch(line) for line in sites]
+    want(all(found) and [int(it[1]) for it in found] == [*range(decl.sites)], "the sites")
+
+
+# Runs.
+
+
+def run(program, folder, words):
+    """What a call printed on standard output. Raises what isn't right of its end; its files have what it printed."""
+    with open(os.path.join(folder, "output"), "wb") as output, open(os.path.join(folder, "error"), "wb") as error:
+        try:
+            ran = subprocess.run([program, *words], cwd=folder, stdin=subprocess.DEVNULL, stdout=output, stderr=error,
+                                 timeout=SECONDS)
+        except subprocess.TimeoutExpired as late:
+            raise Wrong("it didn't end in %d seconds" % SECONDS) from late
+    want(ran.returncode == 0, "status %d" % ran.returncode)
+    want(os.path.getsize(os.path.join(folder, "error")) == 0, "something is on standard error")
+    with open(os.path.join(folder, "output"), encoding="ascii", errors="replace") as output:
+        return output.read()
+
+
+def write(folder, name, text):
+    with open(os.path.join(folder, name), "w") as file:
+        file.write(text)
+
+
+def trial(program, folder, name, decl, script, workers, counts):
+    """Runs a script by so many workers. Gives the text, or None where it isn't right; then a folder of this name keeps all."""
+    words = ["run", decl.word, "script", "--workers", str(workers)]
+    write(folder, "words", "\n".join(words) + "\n")
+    found = collections.Counter()
+    try:
+        text = run(program, folder, words)
+        replay(decl, script.commands, text, found)
+    except Wrong as wrong:
+        place = tempfile.mkdtemp(prefix="quorum_workers_%s_" % name)
+        shutil.copytree(folder, place, dirs_exist_ok=True)
+        write(place, "wrong", "%s\n" % wrong)
+        print("%s: workers %d: %s" % (place, workers, wrong), flush=True)
+        return None
+    counts.update(found)
+    return text
+
+
+def main():
+    runs = int(sys.argv[1]) if len(sys.argv) > 1 else 1000
+    seed = int(sys.argv[2]) if len(sys.argv) > 2 else 1
+    program = os.path.abspath(sys.argv[3] if len(sys.argv) > 3 else os.path.join(ROOT, "crates/quorum/out/quorum"))
+    gallery = []
+    for path in sorted(glob.glob(os.path.join(ROOT, "examples/types/*/*.toml"))):
+        with open(path) as file:
+            text = file.read()
+        gallery.append((text, tomllib.loads(text)))
+    counts, unlike, failures = collections.Counter(), 0, 0
+    for number in range(runs):
+        chance = random.Random("%d %d" % (seed, number))
+        decl = declaration(chance, gallery)
+        script = Script(chance, decl)
+        with tempfile.TemporaryDirectory() as folder:
+            write(folder, "script", script.text())
+            if decl.text is not None:
+                write(folder, decl.word, decl.text)
+            name = "%d_%d" % (seed, number)
+            text = trial(program, folder, name, decl, script, WORKERS[number % len(WORKERS)], counts)
+            alone = trial(program, folder, name, decl, script, 1, collections.Counter())
+        failures += (text is None) + (alone is None)
+        unlike += text is not None and alone is not None and text != alone
+    amounts = lambda *names: ", ".join("%s %d" % (name, counts[name]) for name in names)
+    print("runs=%d seed=%d failures=%d; texts unlike one worker's %d" % (runs, seed, failures, unlike))
+    print(amounts("transactions", "committed", "given up", "given up as doomed", "lost for want of a vote", "left open"))
+    print(amounts("operations", "with a response", "absent", "in conflict", "without a quorum", "doomed", "too long"))
+    print(amounts("commands without a transaction", "begun twice"))
+    return 1 if failures or not runs else 0
+
+
+if __name__ == "__main__":
+    sys.exit(main())
