@@ -1,4 +1,4 @@
--- An empty history has what the state under the lock keeps, and each call but a post keeps it; and what a take tells.
+-- An empty history has what the state under the lock keeps; looks, rooms, one step more keep it.
 use Rattle.std.proofs.Common.{◌≡◌, ℕ, zero, suc, ◌+◌, ◌-◌, ◌<◌, ◌≤◌, Bool, true, false, List, [], ◌∷◌, ◌++◌, length, refl, ap, sym, ◌∙◌, subst, inl, inr, arith, length-append, Option, Some, None, sum, replicate}
 use Rattle.std.specs.Prelude.{slice_get, slice_set}
 use Rattle.std.proofs.lemmas.List.{length-replicate}
@@ -146,73 +146,6 @@ module _ {L : ℕ → List Deed → Turn → Type 0} {D : Declaration} {S : Scri
         sound = s.sound;
         few = s.few;
       }
-
-  -- a take
-  module _ (s : IsStill L D S z w lg mb op hd ph rsv tb ri) (r : Right Step) (e : ri ≡ Some r) (p q : Pass Step) (t : Right Step) (given : Given) (low : number p < actors D)
-      (next : HasNext D S op (number p) lg.history given)
-      (m : Met p r q t (step_of given ∷ []) (room p)) (a : all t ≡ all r ++ marked (number p) (step_of given) ∷ []) where
-    run_taken : Runs L D S (lg.history ++ marked (number p) (step_of given) ∷ []) (slice_set op (number p) true)
-    run_taken = takes (number p) given op lg.history s.runs next.closed next.rdy
-
-    here : number p < 34
-    here = omega (arith, low, s.few)
-
-    open_now : slice_get (slice_set op (number p) true) (number p) ≡ Some true
-    open_now = get_here op (number p) true (get_within op (number p) false next.closed)
-
-    pub takes_on : (lg1 lg' : Logged) (mb' : Roomy) → lg1.history ≡ lg.history → rsv + 1 ≤ lg1.room → length lg.history + (rsv + 1) ≤ most_history → HasGrown lg1 lg' (marked (number p) (step_of given) ∷ [])
-        → mb'.room ≡ mb.room → mb'.inboxes ≡ after_take mb.inboxes (number p) → IsStill L D S z w lg' mb' (slice_set op (number p) true) hd ph rsv tb (Some t)
-    takes_on lg1 lg' mb' hs lr bd g mr is = steps_on s r e p q t (step_of given) (slice_set op (number p) true) ph m a lg1 lg' mb' hs lr bd g (omega (arith, mr, s.mail_room))
-        (subst (λ (i : Inboxes). IsKept S (lg.history ++ marked (number p) (step_of given) ∷ []) i) (sym is) (kept_take D S lg.history mb.inboxes (number p) given s.kept here next.rdy))
-        (s.phase_is ∙ sym (phase_input lg.history (number p) given)) run_taken (length_set op (number p) true ∙ s.opens)
-        (λ k o. dite (ℕ_discrete k (number p)) (λ i. subst (λ (x : ℕ). slice_get (slice_set op (number p) true) x ≡ Some true) (sym i) open_now) (λ ne. get_else op (number p) k true ne ∙ o)) next.below (begins_input given)
-
-    pub took : Takes L D S p q given
-    took =
-        let does_then : deeds (number p) [] lg.history ≡ deeds (number p) [] (seen p) =
-        ap (λ (l : List Entry). deeds (number p) [] l) (sym (all_of s r e)) ∙ deeds_of_front (number p) (seen p) (all r) (p.part ∙ sym m.part) m.begins in
-        let seen_now : seen q ≡ lg.history ++ marked (number p) (step_of given) ∷ [] = m.seen_is ∙ (a ∙ ap (λ (l : List Entry). l ++ marked (number p) (step_of given) ∷ []) (all_of s r e)) in
-        record {
-          pass = record { table_is = m.same_table; number_is = m.same_number };
-          before = lg.history;
-          begins = subst (λ (l : List Entry). IsPrefix (seen p) l) (all_of s r e) m.begins;
-          few = omega (arith, s.bound);
-          below = next.below;
-          run_before = (op, s.runs);
-          is_closed = next.closed;
-          does_before = does_then;
-          is_ready = next.rdy;
-          seen_is = seen_now;
-          run = (slice_set op (number p) true, subst (λ (l : List Entry). Runs L D S l (slice_set op (number p) true)) (sym seen_now) run_taken);
-          is_open = open_now;
-          mine_is = m.mine_is;
-          does = ap (λ (l : List Entry). deeds (number p) [] l) seen_now ∙ (deeds-taken (number p) lg.history given (ready_found D S lg.history mb.inboxes (number p) given s.kept next.rdy)
-              ∙ ap (λ (l : List Deed). l ++ TakesInput given ∷ []) does_then);
-          room_is = m.room_is;
-        }
-
-  -- what the code tests
-  pub none_for : (s : IsStill L D S z w lg mb op hd ph rsv tb ri) (a : ℕ) → a < actors D → IsInputFor D lg.history mb.inboxes op a None → HasNone D S op a lg.history
-  none_for s a low (inl full) = inl full
-  none_for s a low (inr (inl set)) = inr (inl (bit_set op a set))
-  none_for s a low (inr (inr none)) = inr (inr (none_ready D S lg.history mb.inboxes a s.kept (omega (arith, low, s.few)) none))
-
-  pub next_for : (s : IsStill L D S z w lg mb op hd ph rsv tb ri) (a : ℕ) → a < actors D → (input : Input) (given : Given) → IsInputFor D lg.history mb.inboxes op a (Some input)
-      → given_by (mail lg.history) input ≡ Some given → HasNext D S op a lg.history given
-  next_for s a low input given is by = record {
-    below = is.0;
-    closed = bit_clear op a (omega (arith, low, s.opens)) is.1;
-    rdy = given_ready D S lg.history mb.inboxes a input given s.kept (omega (arith, low, s.few)) is.2 by;
-  }
-
-  -- no input is handed out
-  pub waits : (s : IsStill L D S z w lg mb op hd ph rsv tb ri) (p0 p : Pass Step) → Sees p0 p → seen p ≡ lg.history → room p ≡ 0 → HasNone D S op (number p0) lg.history → Waits L D S p0 p
-  waits s p0 p see sn rm none = record {
-    saw = see;
-    run = (op, subst (λ (l : List Entry). Runs L D S l op) (sym sn) s.runs);
-    room_is = rm;
-    why = subst (λ (l : List Entry). HasNone D S op (number p0) l) (sym sn) none;
-  }
 
   -- a room is set
   pub reserves_on : (s : IsStill L D S z w lg mb op hd ph rsv tb ri) (r : Right Step) → ri ≡ Some r → (p q : Pass Step) (t : Right Step) (k : ℕ) → slice_get op (number p) ≡ Some true → room p ≡ 0

@@ -8,6 +8,7 @@ pub mod Ready
 pub mod Stopped
 pub mod Advancing
 pub mod Kept
+pub mod Taking
 pub mod Posted
 pub mod Ordered
 pub mod Unarmed

@@ -11,8 +11,8 @@ use Rattle.qc_script.specs.declared.script.Script.{Script}
 use Rattle.qc_fabric.specs.Logs.{full_of}
 use Rattle.qc_fabric.specs.Picks.{IsStopped}
 
--- The next phase comes where nothing is left to do in this one, and else the first control line that hasn't acted. Lines
--- that arm a disk, crash an actor or restart it can't act yet.
+-- The next phase comes where nothing is left to do in this one, and else the first control line that hasn't acted.
+-- Lines that arm a disk, crash an actor or restart it can't act yet.
 abbrev pub ComesNext : Declaration → Script → List Entry → List Bool → Control → Type 0
 ComesNext decl script h inputs (controls.Phase k) =
     IsStopped decl script h inputs × (k ≡ phase_of h + 1) × (phase_of h < length script.phases)
@@ -23,7 +23,8 @@ ComesNext decl script h inputs (controls.Crash a) = ⊥
 ComesNext decl script h inputs (controls.Restart a) = ⊥
 
 -- the controller may do what comes next, while no limit is reached
-pub record MayDo (decl : Declaration) (script : Script) (h : List Entry) (inputs : List Bool) (control : Control) : Type 0 where
+pub record MayDo (decl : Declaration) (script : Script) (h : List Entry) (inputs : List Bool) (control : Control)
+    : Type 0 where
   pub next : ComesNext decl script h inputs control
   pub below : full_of h ≡ None
 

@@ -25,8 +25,8 @@ IsThere ms (inputs.Copy number) = number < length ms
 IsThere ms (inputs.Lost number) = Unit {0}
 IsThere ms (inputs.Command command) = Unit {0}
 
--- The input that is handed to an actor: none where a counted quantity has reached its limit, where the actor's bit is set,
--- and where the inboxes show none.
+-- The input that is handed to an actor: none where a counted quantity has reached its limit, where the actor's bit is
+-- set, and where the inboxes show none.
 abbrev pub IsInputFor : Declaration → List Entry → Inboxes → List Bool → ℕ → Option Input → Type 0
 IsInputFor decl h kept bits a None = IsSome (full_of h) ⊎ ((is_held bits a ≡ true) ⊎ (input_in decl a kept ≡ None))
 IsInputFor decl h kept bits a (Some input) =

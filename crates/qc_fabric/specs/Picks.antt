@@ -21,8 +21,8 @@ next_actor decl script inputs held h = inboxes.picked decl script (either inputs
 abbrev pub has_any : List Bool → Bool
 has_any bits = list_any (λ b. b) bits
 
--- The table: a quantity that has reached its limit comes first; then the actor that comes next; where none does, none is
--- answered while some actor is held, and quiet otherwise
+-- The table: a quantity that has reached its limit comes first; then the actor that comes next; where none does, none
+-- is answered while some actor is held, and quiet otherwise
 
 abbrev pub where_none : Bool → Option Picked
 where_none true = None
@@ -37,7 +37,8 @@ by_full None other = other
 by_full (Some full) other = Some (picks.Full full)
 
 abbrev pub picked : Declaration → Script → List Bool → List Bool → List Entry → Option Picked
-picked decl script inputs held h = by_full (full_of h) (where_below (next_actor decl script inputs held h) (has_any held))
+picked decl script inputs held h =
+    by_full (full_of h) (where_below (next_actor decl script inputs held h) (has_any held))
 
 -- who is held afterwards
 abbrev pub held_after : Option Picked → List Bool → List Bool

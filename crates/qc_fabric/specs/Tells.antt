@@ -52,14 +52,15 @@ pub record Fed (p : Pass Step) (r : Right Step) (q : Pass Step) (t : Right Step)
   pub rooms_are : rooms t ≡ rooms r
   pub room_is : room q ≡ room p
 
--- Whether an input is handed to an actor: none is where a counted quantity has reached its limit, where its input is open,
--- and where nothing is ready for it; and else what is ready next.
+-- Whether an input is handed to an actor: none is where a counted quantity has reached its limit, where its input is
+-- open, and where nothing is ready for it; and else what is ready next.
 
 abbrev pub HasNone : Declaration → Script → List Bool → ℕ → List Entry → Type 0
 HasNone decl script inputs a h =
     IsSome (full_of h) ⊎ ((slice_get inputs a ≡ Some true) ⊎ (ready decl script a h ≡ None))
 
-pub record HasNext (decl : Declaration) (script : Script) (inputs : List Bool) (a : ℕ) (h : List Entry) (given : Given) : Type 0 where
+pub record HasNext (decl : Declaration) (script : Script) (inputs : List Bool) (a : ℕ) (h : List Entry) (given : Given)
+    : Type 0 where
   pub below : full_of h ≡ None
   pub closed : slice_get inputs a ≡ Some false
   pub rdy : ready decl script a h ≡ Some given

@@ -35,11 +35,7 @@ impl<C: Conduct, N: Named> Still<C, N> {
 
     /// The controller does what comes next, while no limit is reached. After want
     /// of memory nothing has changed.
-    pub fn order(
-        &mut self,
-        pass: &mut Pass<Step>,
-        control: Control,
-    ) -> Result<(), OutOfMemory>
+    pub fn order(&mut self, pass: &mut Pass<Step>, control: Control) -> Result<(), OutOfMemory>
         requires table { pass_table pass.old ≡ N.table }
         requires controller { number pass.old ≡ controller N.declaration }
         requires may { MayDo N.declaration N.script self.old.history self.old.open_inputs control }

@@ -33,7 +33,8 @@ unless_given_up false actor = Some actor
 abbrev pub actor_in : Declaration → ℕ → List Entry → Actor
 actor_in decl a h = (actor_after decl a (deeds a [] h)).actor
 
--- the pass is of the run, of a site or a client, and has no room; unless the actor was given up, it is what its deeds make
+-- the pass is of the run, of a site or a client, and has no room; unless the actor was given up, it is what its deeds
+-- make
 pub record IsCell (z : TableId) (decl : Declaration) (given_up : Bool) (actor : Actor) (pass : Pass Step) : Type 0 where
   pub table_is : pass_table pass ≡ z
   pub is_actor : number pass < actors decl

@@ -17,15 +17,15 @@ use Rattle.qc_node.specs.declared.ends.DriveEnd.TheVariants as ends
 abbrev pub IsOver : Declaration → Script → List Entry → List Bool → Type 0
 IsOver decl script h inputs = (length script.phases ≤ phase_of h) × IsStopped decl script h inputs
 
--- exactly: a counted quantity that has reached its limit comes first; then that the script is over; where neither is so,
--- memory was wanting
+-- exactly: a counted quantity that has reached its limit comes first; then that the script is over; where neither is
+-- so, memory was wanting
 abbrev pub IsScriptEnd : Declaration → Script → List Entry → List Bool → DriveEnd → Type 0
 IsScriptEnd decl script h inputs ends.Quiet = (full_of h ≡ None) × IsOver decl script h inputs
 IsScriptEnd decl script h inputs (ends.Full full) = full_of h ≡ Some full
 IsScriptEnd decl script h inputs ends.OutOfMemory = (full_of h ≡ None) × (IsOver decl script h inputs → ⊥)
 
--- What a run comes to, and how it ended: with which inputs open, and that before its last event each counted quantity was
--- below its limit.
+-- What a run comes to, and how it ended: with which inputs open, and that before its last event each counted quantity
+-- was below its limit.
 pub record HasEnded (decl : Declaration) (script : Script) (h : List Entry) (end : DriveEnd) : Type 0 where
   pub inputs : List Bool
   pub opens : length inputs ≡ actors decl

@@ -14,8 +14,8 @@ abbrev pub is_name : List ℕ → Bool
 is_name [] = false
 is_name (b ∷ name) = not (b == 45)
 
--- what words ask of a declaration, by its name: a script's run, by the script's name, or else whether it is accepted; and
--- how many workers are to run it
+-- what words ask of a declaration, by its name: a script's run, by the script's name, or else whether it is accepted;
+-- and how many workers are to run it
 pub record AskedOf : Type 0 where
   pub decl : List ℕ
   pub script : Option (List ℕ)

@@ -12,8 +12,8 @@ ghost use Rattle.qc_report.specs.Causes.{status_of};
 ghost use Rattle.qc_report.specs.Declarations.{accepted_text_of};
 ghost use Rattle.qc_text.specs.Text.{text_of};
 ghost use Rattle.qc_top.specs.Answers.{IsShort};
-ghost use Rattle.qc_top.specs.Top.{IsEnd, IsFullCause, IsNoShelf, IsRan, IsRight, IsRunnable, IsTold, Leaves, LeavesRun};
-ghost use Rattle.qc_top.specs.Top.{LeavesWords, OnPrinted, PrintsBetween};
+ghost use Rattle.qc_top.specs.Top.{IsEnd, IsFullCause, IsNoShelf, IsRan, IsRight, IsRunnable, IsTold, Leaves};
+ghost use Rattle.qc_top.specs.Top.{LeavesRun, LeavesWords, OnPrinted, PrintsBetween};
 ghost use Rattle.qc_top.specs.Words.{asked, asked_in, texts_of};
 ghost use Rattle.qc_top.specs.Work.{IsBlamed, work_of};
 
@@ -133,14 +133,7 @@ fn without_run(alloc: Global, cause: Cause) -> Ended
 }
 
 /// Does what is to be done, a run by so many workers.
-fn do_work<T, G, K>(
-    rt: &T,
-    alloc: Global,
-    work: Work,
-    gate: &G,
-    workers: u8,
-    sink: &mut K,
-) -> Ended
+fn do_work<T, G, K>(rt: &T, alloc: Global, work: Work, gate: &G, workers: u8, sink: &mut K) -> Ended
 where
     T: Threads + Wait + Sync,
     G: Gate + Sync,
@@ -180,13 +173,7 @@ fn tell<K: Sink>(alloc: Global, decl: &Declaration, sink: &mut K) -> Cause
 }
 
 /// Runs a script, and prints the run.
-fn run<T, G, K>(
-    rt: &T,
-    alloc: Global,
-    job: &Job<'_, G>,
-    script: Script,
-    sink: &mut K,
-) -> Ended
+fn run<T, G, K>(rt: &T, alloc: Global, job: &Job<'_, G>, script: Script, sink: &mut K) -> Ended
 where
     T: Threads + Wait + Sync,
     G: Gate + Sync,

@@ -37,12 +37,7 @@ pub fn asked_by<'a>(words: &[&'a str]) -> Option<Asked<'a>>
 }
 
 /// A script's run by so many workers, where the words before say so.
-fn asked_run<'a>(
-    command: &str,
-    decl: &'a str,
-    script: &'a str,
-    workers: u8,
-) -> Option<Asked<'a>>
+fn asked_run<'a>(command: &str, decl: &'a str, script: &'a str, workers: u8) -> Option<Asked<'a>>
     ensures { option_map asked_in result ≡ asked_run command.now decl.now script.now workers }
 {
     if command == "run" && is_name(decl) && is_name(script) {

@@ -10,7 +10,9 @@ use std::thread::{Threads, yield_now};
 
 /// The numbers of the first two sites and of the first client.
 const S0: u8 = 0;
+
 const S1: u8 = 1;
+
 const C0: u8 = 3;
 
 /// Holds the first turn of `s0` until it is called for `c0` after a turn of `s1`.
@@ -74,7 +76,8 @@ fn a_site_is_overtaken(rt: HostRuntime) -> Result<(), Fail> {
     let (ended, taken) = call_by(&rt, rt.alloc(), &words, &files, &gate)?;
     assert_eq!(rt; ended.status, 0);
     assert!(rt; gate.was_seen());
-    let text = "replies\nc0 begin 0.1.1\nc0 x W1 ok\nc0 commit 1.0\nlog\n1.0 0.1.1 x W1 ok\nstates\nx 1\nsites\ns0 life 1 epoch 1 lines 1 held 0\ns1 life 1 epoch 1 lines 1 held 0\ns2 life 1 epoch 1 lines 0 held 0\n";
+    let text =
+        "replies\nc0 begin 0.1.1\nc0 x W1 ok\nc0 commit 1.0\nlog\n1.0 0.1.1 x W1 ok\nstates\nx 1\nsites\ns0 life 1 epoch 1 lines 1 held 0\ns1 life 1 epoch 1 lines 1 held 0\ns2 life 1 epoch 1 lines 0 held 0\n";
     assert_eq!(rt; taken.as_slice(), text.as_bytes());
     Ok(())
 }

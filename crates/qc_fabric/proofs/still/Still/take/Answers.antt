@@ -7,8 +7,9 @@ use Rattle.qc_fabric.specs.Feeds.{HasGrown}
 use Rattle.qc_fabric.specs.Inputs.{IsInputFor}
 use Rattle.qc_fabric.specs.Stills.{Shown, most_history}
 use Rattle.qc_fabric.specs.Tells.{HasNext, HasNone}
-use Rattle.qc_fabric.proofs.Kept.{next_for, none_for, other_memory, takes_on, took, waits}
+use Rattle.qc_fabric.proofs.Kept.{other_memory}
 use Rattle.qc_fabric.proofs.Ready.{input_as, input_there}
+use Rattle.qc_fabric.proofs.Taking.{next_for, none_for, takes_on, took, waits}
 use Rattle.qc_fabric.proofs.still.Still.take.Goals as goal
 
 pub input_for-requires : goal.input_for-requires
