@@ -1,5 +1,5 @@
 -- What the controller may do next.
-use Rattle.std.specs.Prelude.{◌≡◌, ◌+◌, ◌<◌, Bool, List, Option, Some, None, length, slice_get}
+use Rattle.std.specs.Prelude.{◌≡◌, ◌+◌, ◌<◌, ◌≤◌, ℕ, Bool, List, Option, Some, None, length, slice_get}
 use Rattle.qc_decl.specs.declared.declaration.Declaration.{Declaration}
 use Rattle.qc_msg.specs.Steps.{Entry}
 use Rattle.qc_msg.specs.declared.step.Control.{Control}
@@ -27,6 +27,15 @@ pub record MayDo (decl : Declaration) (script : Script) (h : List Entry) (inputs
     : Type 0 where
   pub next : ComesNext decl script h inputs control
   pub below : full_of h ≡ None
+
+-- the phase that begins, if one does, is none behind this one
+abbrev pub IsUpTo : ℕ → Control → Type 0
+IsUpTo last (controls.Phase k) = k ≤ last
+IsUpTo last (controls.Cut a b) = Unit {0}
+IsUpTo last (controls.Heal a b) = Unit {0}
+IsUpTo last (controls.Armed actor kind at) = Unit {0}
+IsUpTo last (controls.Crash a) = Unit {0}
+IsUpTo last (controls.Restart a) = Unit {0}
 
 -- the step of what may be done
 abbrev pub control_step : Control → Option Step

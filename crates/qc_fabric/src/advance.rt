@@ -1,12 +1,12 @@
 //! What the controller may do next, and that it does so.
 
-ghost use Rattle.std.specs.Prelude.{◌≡◌, ℕ, IfOk, IfSome, None, OnErr};
+ghost use Rattle.std.specs.Prelude.{◌≡◌, ◌≤◌, ℕ, IfOk, IfSome, None, OnErr};
 ghost use Rattle.qc_decl.specs.Actors.{controller};
 ghost use Rattle.qc_msg.specs.declared.step.Control.{Control};
 ghost use Rattle.qc_msg.specs.declared.step.Control.TheVariants.{Phase};
 ghost use Rattle.qc_pass.specs.Tokens.{number, pass_table};
 ghost use Rattle.qc_fabric.specs.Advances.{Advances};
-ghost use Rattle.qc_fabric.specs.Controls.{ComesNext, MayDo};
+ghost use Rattle.qc_fabric.specs.Controls.{ComesNext, IsUpTo, MayDo};
 
 use crate::conduct::{Conduct, Named};
 use crate::still::Still;
@@ -18,12 +18,13 @@ use qc_pass::Pass;
 impl<C: Conduct, N: Named> Still<C, N> {
     /// What the controller may do next: where no limit is reached, the first
     /// control line left of the phase acts, or the next phase begins once nothing
-    /// is left to do in this one. It takes no memory.
-    pub fn next_order(&self, decl: &Declaration) -> Option<Control>
+    /// is left to do in this one. Only phases up to the last one that is given are
+    /// meant. It takes no memory.
+    pub fn next_order(&self, decl: &Declaration, last: u32) -> Option<Control>
         requires { decl.now ≡ N.declaration }
         ensures some { IfSome result
-            (λ c. MayDo N.declaration N.script self.now.history self.now.open_inputs c) }
-        ensures none { result ≡ None → (c : Control)
+            (λ c. MayDo N.declaration N.script self.now.history self.now.open_inputs c × IsUpTo last c) }
+        ensures none { result ≡ None → (c : Control) → IsUpTo last c
             → MayDo N.declaration N.script self.now.history self.now.open_inputs c → ⊥ }
     {
         if self.full().is_some() {
@@ -33,42 +34,45 @@ impl<C: Conduct, N: Named> Still<C, N> {
             Some(Control::Cut(a, b)) => Some(Control::Cut(a, b)),
             Some(Control::Heal(a, b)) => Some(Control::Heal(a, b)),
             Some(_) => None,
-            None => self.next_phase(decl),
+            None => self.next_phase(decl, last),
         }
     }
 
-    /// The next phase, where nothing is left to do in this one.
-    fn next_phase(&self, decl: &Declaration) -> Option<Control>
+    /// The next phase, where nothing is left to do in this one, and it isn't the
+    /// last one that is given, nor the script's.
+    fn next_phase(&self, decl: &Declaration, last: u32) -> Option<Control>
         requires { decl.now ≡ N.declaration }
         ensures some { IfSome result
-            (λ c. ComesNext N.declaration N.script self.now.history self.now.open_inputs c) }
-        ensures none { result ≡ None → (k : ℕ)
+            (λ c. ComesNext N.declaration N.script self.now.history self.now.open_inputs c × IsUpTo last c) }
+        ensures none { result ≡ None → (k : ℕ) → k ≤ last
             → ComesNext N.declaration N.script self.now.history self.now.open_inputs (Phase k) → ⊥ }
     {
         let is_last = self.phase as usize >= self.script.phases.items().len();
-        if is_last || !self.quiet(decl) {
+        if self.phase >= last || is_last || !self.quiet(decl) {
             None
         } else {
             Some(Control::Phase(self.phase + 1))
         }
     }
 
-    /// The controller does what it may do next, if anything. Whether it did. After
-    /// want of memory nothing has changed.
+    /// The controller does what it may do next, if anything, in phases up to the
+    /// last one that is given. Whether it did. After want of memory nothing has
+    /// changed.
     pub fn advance(
         &mut self,
         decl: &Declaration,
         pass: &mut Pass<Step>,
+        last: u32,
     ) -> Result<bool, OutOfMemory>
         requires declaration { decl.now ≡ N.declaration }
         requires table { pass_table pass.old ≡ N.table }
         requires controller { number pass.old ≡ controller N.declaration }
-        ensures ok { IfOk result (λ did. Advances N.declaration N.script pass.old pass.new
+        ensures ok { IfOk result (λ did. Advances N.declaration N.script last pass.old pass.new
             self.old.history self.old.open_inputs self.new.history did) }
         ensures same { (self.new.open_inputs ≡ self.old.open_inputs) × (self.new.held ≡ self.old.held) }
         ensures err { OnErr result ((self.new ≡ self.old) × (pass.new ≡ pass.old)) }
     {
-        match self.next_order(decl) {
+        match self.next_order(decl, last) {
             Some(control) => {
                 self.order(pass, control)?;
                 Ok(true)

@@ -88,14 +88,15 @@ impl<C: Conduct, N: Named> Fabric<C, N> {
         self.changed.notify_all();
     }
 
-    /// The controller does what it may do next, if anything. Whether something is
-    /// left: none is where it did nothing, nothing is ready, nobody is held and no
-    /// limit is reached.
+    /// The controller does what it may do next, if anything, in phases up to the last
+    /// one that is given. Whether something is left: none is where it did nothing,
+    /// nothing is ready, nobody is held and no limit is reached.
     pub fn advance<R: Wait>(
         &self,
         rt: &R,
         decl: &Declaration,
         pass: &mut Pass<Step>,
+        last: u32,
     ) -> Result<bool, OutOfMemory>
         requires declaration { decl.now ≡ N.declaration }
         requires table { pass_table pass.old ≡ N.table }
@@ -104,7 +105,10 @@ impl<C: Conduct, N: Named> Fabric<C, N> {
         ensures controller { number pass.new ≡ controller N.declaration }
     {
         let mut shared = self.shared.lock(rt);
-        Ok(shared.still.advance(decl, pass)? || shared.still.next(decl) != Some(Picked::Quiet))
+        Ok(
+            shared.still.advance(decl, pass, last)?
+                || shared.still.next(decl) != Some(Picked::Quiet),
+        )
     }
 
     /// The pass's actor takes its next input.

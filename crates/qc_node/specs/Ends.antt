@@ -1,4 +1,4 @@
--- How a script ends, and what its run comes to.
+-- How a phase ends, and a script, and what its run comes to.
 use Rattle.std.specs.Prelude.{◌≡◌, ◌≤◌, ℕ, Bool, List, Some, None, length}
 use Rattle.qc_core.specs.Conduct.{IsLawful}
 use Rattle.qc_decl.specs.Actors.{actors}
@@ -13,12 +13,23 @@ use Rattle.qc_fabric.specs.Picks.{IsStopped}
 use Rattle.qc_node.specs.declared.ends.DriveEnd.{DriveEnd}
 use Rattle.qc_node.specs.declared.ends.DriveEnd.TheVariants as ends
 
+-- the phase has begun, and nothing is left to do in it
+abbrev pub IsThrough : Declaration → Script → ℕ → List Entry → List Bool → Type 0
+IsThrough decl script phase h inputs = (phase_of h ≡ phase) × IsStopped decl script h inputs
+
+-- exactly: a counted quantity that has reached its limit comes first; then that the phase is through; where neither is
+-- so, memory was wanting
+abbrev pub IsPhaseEnd : Declaration → Script → ℕ → List Entry → List Bool → DriveEnd → Type 0
+IsPhaseEnd decl script phase h inputs ends.Quiet = (full_of h ≡ None) × IsThrough decl script phase h inputs
+IsPhaseEnd decl script phase h inputs (ends.Full full) = full_of h ≡ Some full
+IsPhaseEnd decl script phase h inputs ends.OutOfMemory =
+    (full_of h ≡ None) × (IsThrough decl script phase h inputs → ⊥)
+
 -- every phase has begun, and nothing is left to do in the last
 abbrev pub IsOver : Declaration → Script → List Entry → List Bool → Type 0
 IsOver decl script h inputs = (length script.phases ≤ phase_of h) × IsStopped decl script h inputs
 
--- exactly: a counted quantity that has reached its limit comes first; then that the script is over; where neither is
--- so, memory was wanting
+-- the same of a script
 abbrev pub IsScriptEnd : Declaration → Script → List Entry → List Bool → DriveEnd → Type 0
 IsScriptEnd decl script h inputs ends.Quiet = (full_of h ≡ None) × IsOver decl script h inputs
 IsScriptEnd decl script h inputs (ends.Full full) = full_of h ≡ Some full

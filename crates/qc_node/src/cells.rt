@@ -68,16 +68,18 @@ impl<N: Named> Cells<N> {
         cell.turn(rt, alloc, decl, fabric, gate)
     }
 
-    /// The controller does what it may do next. Whether something is left.
+    /// The controller does what it may do next, in phases up to the last one that is
+    /// given. Whether something is left.
     pub(crate) fn advance<R: Wait>(
         &self,
         rt: &R,
         decl: &Declaration,
         fabric: &Fabric<Rules, N>,
+        last: u32,
     ) -> Result<bool, OutOfMemory>
         requires { decl.now ≡ N.declaration }
     {
-        self.controller.lock(rt).advance(rt, decl, fabric)
+        self.controller.lock(rt).advance(rt, decl, fabric, last)
     }
 
     /// The cells once no thread shares them, each having seen the history: what

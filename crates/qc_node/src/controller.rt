@@ -46,16 +46,17 @@ impl<N: Named> Controller<N> {
         }
     }
 
-    /// It does what it may do next: the next phase begins, or a control line acts.
-    /// Whether something is left.
+    /// It does what it may do next, in phases up to the last one that is given: a
+    /// phase begins, or a control line acts. Whether something is left.
     pub(crate) fn advance<R: Wait>(
         &mut self,
         rt: &R,
         decl: &Declaration,
         fabric: &Fabric<Rules, N>,
+        last: u32,
     ) -> Result<bool, OutOfMemory>
         requires { decl.now ≡ N.declaration }
     {
-        fabric.advance(rt, decl, &mut self.pass)
+        fabric.advance(rt, decl, &mut self.pass, last)
     }
 }

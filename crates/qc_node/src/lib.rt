@@ -13,8 +13,8 @@
 //! 3. A turn that is done is one input, and all that it calls for
 //!    (`specs/Cells.antt`, `IsTurn`). After want of memory the actor is given up
 //!    where it took an input, which stays open then.
-//! 4. How a script ended is one function of the history and the open inputs
-//!    (`specs/Ends.antt`), whatever the workers answered.
+//! 4. How a phase ended, and a script, is one function of the history and the
+//!    open inputs (`specs/Ends.antt`), whatever the workers answered.
 //! 5. `run_script` does all of it, from a script to its history.
 #![tactic(auto)]
 
@@ -35,5 +35,5 @@ pub use cells::Cells;
 pub use ends::{DriveEnd, TurnEnd};
 pub use rules::Rules;
 pub use runs::{Ran, run_script};
-pub use scripts::{Job, drive_script};
+pub use scripts::{Job, drive_script, phase};
 pub use worker::drive;

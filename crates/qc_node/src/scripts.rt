@@ -3,7 +3,7 @@
 ghost use Rattle.std.specs.Prelude.{◌≡◌, length, nat_le, true};
 ghost use Rattle.qc_decl.specs.Accepted.{IsAccepted};
 ghost use Rattle.qc_node.specs.Built.{is_built};
-ghost use Rattle.qc_node.specs.Ends.{IsScriptEnd};
+ghost use Rattle.qc_node.specs.Ends.{IsPhaseEnd, IsScriptEnd};
 
 use crate::cells::Cells;
 use crate::ends::DriveEnd;
@@ -42,10 +42,31 @@ pub fn drive_script<N: Named + Send + Sync, G: Gate + Sync, R: Threads + Wait + 
     requires built { is_built N.declaration N.script ≡ true }
     ensures { IsScriptEnd N.declaration N.script result.0.history result.0.open_inputs result.1 }
 {
-    let fabric = Fabric::open(still);
-    drive_all(rt, alloc, job, &fabric, cells);
-    let still = fabric.close();
+    let last = u32::try_from(still.script().phases.items().len()).unwrap_or(u32::MAX);
+    let (still, _) = phase(rt, alloc, job, still, cells, last);
     let end = end_of(job.decl, &still);
+    (still, end)
+}
+
+/// All that is left of it up to the end of the phase of this number, one that
+/// hasn't passed; the same threads go through all these phases.
+pub fn phase<N: Named + Send + Sync, G: Gate + Sync, R: Threads + Wait + Sync>(
+    rt: &R,
+    alloc: Global,
+    job: &Job<'_, G>,
+    still: Still<Rules, N>,
+    cells: &Cells<N>,
+    number: u32,
+) -> (Still<Rules, N>, DriveEnd)
+    requires declaration { job.now.decl.now ≡ N.declaration }
+    requires accepted { IsAccepted N.declaration }
+    requires built { is_built N.declaration N.script ≡ true }
+    ensures { IsPhaseEnd N.declaration N.script number result.0.history result.0.open_inputs result.1 }
+{
+    let fabric = Fabric::open(still);
+    drive_all(rt, alloc, job, &fabric, cells, number);
+    let still = fabric.close();
+    let end = phase_end(job.decl, &still, number);
     (still, end)
 }
 
@@ -58,13 +79,14 @@ fn drive_all<N: Named + Send + Sync, G: Gate + Sync, R: Threads + Wait + Sync>(
     job: &Job<'_, G>,
     fabric: &Fabric<Rules, N>,
     cells: &Cells<N>,
+    last: u32,
 )
     requires declaration { job.now.decl.now ≡ N.declaration }
     requires accepted { IsAccepted N.declaration }
 {
     let (decl, gate) = (job.decl, job.gate);
     if job.workers <= 1 {
-        drive(rt, alloc, decl, fabric, cells, gate);
+        drive(rt, alloc, decl, fabric, cells, gate, last);
         return;
     }
     let ends = map_indices(
@@ -74,9 +96,24 @@ fn drive_all<N: Named + Send + Sync, G: Gate + Sync, R: Threads + Wait + Sync>(
         &|_|
             requires declaration { decl.now ≡ N.declaration }
             requires accepted { IsAccepted N.declaration }
-        { drive(rt, alloc, decl, fabric, cells, gate) },
+        { drive(rt, alloc, decl, fabric, cells, gate, last) },
     );
     drop(ends);
+}
+
+/// How the phase of this number ended.
+fn phase_end<N: Named>(decl: &Declaration, still: &Still<Rules, N>, number: u32) -> DriveEnd
+    requires { decl.now ≡ N.declaration }
+    ensures { IsPhaseEnd N.declaration N.script number still.now.history still.now.open_inputs result }
+{
+    if let Some(full) = still.full() {
+        return DriveEnd::Full(full);
+    }
+    if still.phase() == number && still.quiet(decl) {
+        DriveEnd::Quiet
+    } else {
+        DriveEnd::OutOfMemory
+    }
 }
 
 /// How the script ended.

@@ -14,9 +14,10 @@ use std::sync::Wait;
 use std::thread::Threads;
 
 /// One worker: it picks an actor, which takes its turn, and so on; where nothing
-/// is ready and nobody is held it lets the controller do what comes next. It ends
-/// where nothing is left of the script, a counted quantity has reached its limit,
-/// or memory was wanting. Then it wakes the others.
+/// is ready and nobody is held it lets the controller do what comes next, in phases
+/// up to the last one that is given. It ends where nothing is left in these, a
+/// counted quantity has reached its limit, or memory was wanting. Then it wakes the
+/// others.
 pub fn drive<N: Named, G: Gate, R: Threads + Wait + Sync>(
     rt: &R,
     alloc: Global,
@@ -24,11 +25,12 @@ pub fn drive<N: Named, G: Gate, R: Threads + Wait + Sync>(
     fabric: &Fabric<Rules, N>,
     cells: &Cells<N>,
     gate: &G,
+    last: u32,
 ) -> DriveEnd
     requires declaration { decl.now ≡ N.declaration }
     requires accepted { IsAccepted N.declaration }
 {
-    let end = serve(rt, alloc, decl, fabric, cells, gate);
+    let end = serve(rt, alloc, decl, fabric, cells, gate, last);
     fabric.wake();
     end
 }
@@ -41,6 +43,7 @@ fn serve<N: Named, G: Gate, R: Threads + Wait + Sync>(
     fabric: &Fabric<Rules, N>,
     cells: &Cells<N>,
     gate: &G,
+    last: u32,
 ) -> DriveEnd
     requires declaration { decl.now ≡ N.declaration }
     requires accepted { IsAccepted N.declaration }
@@ -53,7 +56,7 @@ fn serve<N: Named, G: Gate, R: Threads + Wait + Sync>(
                     return DriveEnd::OutOfMemory;
                 }
             }
-            Picked::Quiet => match cells.advance(rt, decl, fabric) {
+            Picked::Quiet => match cells.advance(rt, decl, fabric, last) {
                 Ok(true) => {}
                 Ok(false) => return DriveEnd::Quiet,
                 Err(_) => return DriveEnd::OutOfMemory,

@@ -15,7 +15,7 @@ use qc_decl::Declaration;
 use qc_fabric::{Named, Still};
 use qc_list::OutOfMemory;
 use qc_msg::Step;
-use qc_node::{Cells, DriveEnd, Job, Rules, drive_script};
+use qc_node::{Cells, DriveEnd, Job, Rules, drive_script, phase};
 use qc_outside::Gate;
 use qc_pass::{Made, Passes};
 use qc_script::{Script, ScriptFault, read, scripts_name_what_is_declared};
@@ -46,12 +46,13 @@ pub fn script_of(alloc: Global, bytes: &[u8], decl: &Declaration) -> Result<Scri
     read(alloc, bytes, decl)
 }
 
-/// Runs the script, under a name of its own.
+/// Runs the script, under a name of its own: all of it at once, or phase by phase.
 pub fn run<G: Gate, R: Threads + Wait + Sync>(
     rt: &R,
     alloc: Global,
     job: &Job<'_, G>,
     script: Script,
+    by_phase: bool,
 ) -> Result<Ran, OutOfMemory>
     requires sound { IsScriptFor job.now.decl.now script }
     requires accepted { IsAccepted job.now.decl.now }
@@ -59,7 +60,7 @@ pub fn run<G: Gate, R: Threads + Wait + Sync>(
 {
     let decl = job.decl;
     let made = Passes::make(alloc, decl.sites + decl.clients + 2)?;
-    run_named::<Brand, G, R>(rt, alloc, job, script, made)
+    run_named::<Brand, G, R>(rt, alloc, job, script, made, by_phase)
 }
 
 /// The same, by these passes.
@@ -69,6 +70,7 @@ fn run_named<N: Named + Send + Sync, G: Gate, R: Threads + Wait + Sync>(
     job: &Job<'_, G>,
     script: Script,
     made: Made<Step>,
+    by_phase: bool,
 ) -> Result<Ran, OutOfMemory>
     requires declaration { job.now.decl.now ≡ N.declaration }
     requires script { script ≡ N.script }
@@ -87,10 +89,37 @@ fn run_named<N: Named + Send + Sync, G: Gate, R: Threads + Wait + Sync>(
     } = made;
     let still: Still<Rules, N> = Still::make(alloc, job.decl, script, passes, right)?;
     let cells: Cells<N> = Cells::new(alloc, job.decl, each)?;
-    let (mut still, end) = drive_script(rt, alloc, job, still, &cells);
+    let (mut still, end) = if by_phase {
+        drive_phases(rt, alloc, job, still, &cells)
+    } else {
+        drive_script(rt, alloc, job, still, &cells)
+    };
     let cells = cells.settle(alloc, &mut still)?;
     let actors = cells.iter().filter(|cell| cell.actor().is_some()).count();
     let (_, entries) = still.end();
     let steps = shorts(alloc, entries.as_slice())?;
     Ok(Ran { end, steps, actors })
+}
+
+/// The phases one by one, up to the first that doesn't end quiet.
+fn drive_phases<N: Named + Send + Sync, G: Gate, R: Threads + Wait + Sync>(
+    rt: &R,
+    alloc: Global,
+    job: &Job<'_, G>,
+    still: Still<Rules, N>,
+    cells: &Cells<N>,
+) -> (Still<Rules, N>, DriveEnd)
+    requires declaration { job.now.decl.now ≡ N.declaration }
+    requires accepted { IsAccepted N.declaration }
+    requires built { is_built N.declaration N.script ≡ true }
+{
+    let (mut still, mut end, mut number) = (still, DriveEnd::Quiet, 0u32);
+    for _ in 0..still.script().phases.items().len() {
+        number = number.saturating_add(1);
+        (still, end) = phase(rt, alloc, job, still, cells, number);
+        if end != DriveEnd::Quiet {
+            break;
+        }
+    }
+    (still, end)
 }

@@ -17,13 +17,14 @@ use std::thread::Threads;
 const SCRIPT: &[u8] =
     b"link c0 s1 1 drop\nlink s2 c1 1 late\nphase\nc0 begin\nc1 begin\nc0 do x W1\nc1 do x R\nc0 commit\nc1 commit\nphase\ncut c2 s0\nc2 begin\nc2 do x R\nc2 commit\n";
 
-/// Runs a script by so many workers.
+/// Runs a script by so many workers, all of it at once or phase by phase.
 fn ran<G: Gate, R: Threads + Wait + Sync>(
     rt: &R,
     alloc: Global,
     bytes: &[u8],
     gate: &G,
     workers: u8,
+    by_phase: bool,
 ) -> Result<Ran, Fail> {
     if bytes.len() > MOST_SCRIPT_BYTES as usize {
         return Err(Fail::from("the script is too long"));
@@ -40,13 +41,18 @@ fn ran<G: Gate, R: Threads + Wait + Sync>(
         gate,
         workers,
     };
-    Ok(run(rt, alloc, &job, script)?)
+    Ok(run(rt, alloc, &job, script, by_phase)?)
 }
 
 /// Whether one worker takes just the steps of a row, gives no actor up, and ends
 /// quiet.
-fn goes<R: Threads + Wait + Sync>(rt: &R, alloc: Global, row: &Row) -> Result<bool, Fail> {
-    let ran = ran(rt, alloc, row.script, &OpenGate, 1)?;
+fn goes<R: Threads + Wait + Sync>(
+    rt: &R,
+    alloc: Global,
+    row: &Row,
+    by_phase: bool,
+) -> Result<bool, Fail> {
+    let ran = ran(rt, alloc, row.script, &OpenGate, 1, by_phase)?;
     Ok(ran.end == DriveEnd::Quiet && ran.actors == 6 && ran.steps.as_slice() == row.steps)
 }
 
@@ -54,7 +60,8 @@ fn goes<R: Threads + Wait + Sync>(rt: &R, alloc: Global, row: &Row) -> Result<bo
 #[test]
 fn one_worker_takes_the_steps_of_the_rules(rt: HostRuntime) -> Result<(), Fail> {
     for row in ROWS.iter().flatten() {
-        assert!(rt; goes(&rt, rt.alloc(), row)?, "{}", row.name);
+        assert!(rt; goes(&rt, rt.alloc(), row, false)?, "{}", row.name);
+        assert!(rt; goes(&rt, rt.alloc(), row, true)?, "{} by phases", row.name);
     }
     Ok(())
 }
@@ -70,7 +77,7 @@ fn count(steps: &[Short], kind: u8) -> usize {
 #[test]
 fn two_inputs_are_open_at_once(rt: HostRuntime) -> Result<(), Fail> {
     let gate = Meeting::new(3, 4);
-    let ran = ran(&rt, rt.alloc(), SCRIPT, &gate, 2)?;
+    let ran = ran(&rt, rt.alloc(), SCRIPT, &gate, 2, false)?;
     assert!(rt; gate.met());
     assert_eq!(rt; ran.end, DriveEnd::Quiet);
     assert_eq!(rt; count(ran.steps.as_slice(), b'P'), 2);
