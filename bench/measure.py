@@ -10,8 +10,10 @@ seen is this program's own, some 17 MB. Cases:
 - begins: one phase of N commands `c0 begin` over @one, of which all but the first are refused;
 - load: transactions that write, read and commit over @three, one a phase, of three clients in turn; beside them
   load_walk.rs, compiled with `rustc -O`: a plain program for the same transactions without links, refusals and proofs;
-- messages: transactions of 16 reads over @three that are given up, of one client, where no log grows: so many messages;
-  also behind rules of links, each for a message of its own, none of them sent; and until the limit of steps;
+- messages: transactions of 16 reads over @three that are given up, of one client, where no log grows: so many messages; and
+  until the limit of steps;
+- sixteen sites: the same over sixteen sites, of which each read asks nine, 100,000 messages; alone, and behind 55,000 rules of
+  links for messages to a client that nobody sends one;
 - triples: `check` of six types of 64 events with 64 groups of 1,024 triples each, those of a group all equal;
 - start: `check @one`.
 
@@ -28,13 +30,14 @@ import tempfile
 sys.dont_write_bytecode = True
 
 import programs
-from runs import RULES, load, reads, rules
+from runs import load, reads
 
 ROOT = os.path.dirname(os.path.dirname(os.path.abspath(__file__)))
 BEGINS = (25_000, 50_000, 100_000)
 TRANSACTIONS = (125, 250, 500)
 MESSAGES = (25_000, 50_000, 100_000)
 PAST_THE_LIMIT = 110_000
+RULES = 55_000
 SEED = 7
 NOTHING = "python3 -c pass"
 
@@ -59,6 +62,33 @@ def equal_triples():
                   "triples = [%s]" % ",".join(triples)]
     lines += ["[[object]]", 'name = "x"', 'type = "t0"', "[[epoch]]", "weights = [1]"]
     return "\n".join(lines) + "\n"
+
+
+def sixteen_sites():
+    """A register on sixteen sites, which any nine of them answer."""
+    return """\
+sites = 16
+clients = 3
+
+[[type]]
+name = "register"
+states = ["0", "1"]
+start = "0"
+invocations = ["W0", "W1", "R"]
+responses = ["ok", "0", "1"]
+rows = ["0 W0 ok 0", "0 W1 ok 1", "0 R 0 0", "1 W0 ok 0", "1 W1 ok 1", "1 R 1 1"]
+depends = ["R W0:ok", "R W1:ok"]
+triples = ["0 0 -", "0 1 W1:ok", "1 1 -", "1 0 W0:ok"]
+
+[[object]]
+name = "x"
+type = "register"
+
+[[epoch]]
+weights = [1, 1, 1, 1, 1, 1, 1, 1, 1, 1, 1, 1, 1, 1, 1, 1]
+initial = ["x R 9"]
+final = ["x W0:ok 9", "x W1:ok 9"]
+"""
 
 
 def run(words, wanted=0):
@@ -94,8 +124,10 @@ def cases(program, folder):
         text = "\n".join(reads(count)) + "\n"
         name = "step limit" if count == PAST_THE_LIMIT else "%d messages" % count
         words[name] = [program, "run", "@three", written(folder, "reads_%d" % count, text)]
-    text = "\n".join((*rules(RULES), *reads(MESSAGES[-1]))) + "\n"
-    words["messages, rules"] = [program, "run", "@three", written(folder, "rules", text)]
+    sixteen = written(folder, "sixteen.toml", sixteen_sites())
+    for name, rules in (("sixteen sites", ()), ("sixteen sites, rules", ["link * c2 1 drop"] * RULES)):
+        text = "\n".join((*rules, *reads(MESSAGES[-1], of_a_read=18))) + "\n"
+        words[name] = [program, "run", sixteen, written(folder, name.replace(" ", "_"), text)]
     words["triples"] = [program, "check", written(folder, "triples.toml", equal_triples())]
     return words
 
@@ -123,7 +155,7 @@ def bars(found):
     for count in MESSAGES[:-1]:
         ratio = seconds["%d messages" % (2 * count)] / seconds["%d messages" % count]
         yield "%d messages / %d messages" % (2 * count, count), ratio, 2.3
-    yield "%d rules more, s" % RULES, seconds["messages, rules"] - seconds["%d messages" % MESSAGES[-1]], 1
+    yield "%d rules more, s" % RULES, seconds["sixteen sites, rules"] - seconds["sixteen sites"], 1
     yield "step limit, s", seconds["step limit"], 2
     yield "step limit, MB", found["step limit"][1] / 1024, 512
     yield "triples, s", seconds["triples"], 1

@@ -40,10 +40,10 @@ def load(count, seed=7):
         yield from ("%s %s" % (client, words) for words in ("begin", "do x W%d" % (state % 2), "do x R", "commit"))
 
 
-def reads(messages):
-    """Transactions of 16 reads, until at least so many messages are sent."""
+def reads(messages, of_a_read=MESSAGES_OF_A_READ):
+    """Transactions of 16 reads, each of so many messages, until at least so many messages are sent."""
     yield "phase"
-    for _ in range(-(-messages // (16 * MESSAGES_OF_A_READ + 2))):
+    for _ in range(-(-messages // (16 * of_a_read + 2))):
         yield "c0 begin"
         yield from ["c0 do x R"] * 16
         yield "c0 abort"
