@@ -3,7 +3,9 @@
 //!
 //! Threads that serve actors pick again after each turn. So a thread that has
 //! nothing to do sleeps until another, which picked, sees that there is an actor
-//! for it too; and whoever stops picking wakes all (`wake`).
+//! for it too; and whoever stops picking wakes all (`wake`). A thread that was
+//! woken takes an actor only where nobody picks for a while: as long as turns are
+//! shorter than it takes to hand one over, one thread serves all.
 
 ghost use Rattle.std.specs.Prelude.{◌≡◌, ◌<◌, [], Some, IfOk, IfSome, length, OnOk, OnErr, MatchOption};
 ghost use Rattle.qc_decl.specs.Actors.{actors, controller};
@@ -21,7 +23,9 @@ use qc_list::OutOfMemory;
 use qc_msg::{Step, Turn};
 use qc_pass::Pass;
 use std::alloc::Global;
-use std::sync::{Condvar, Mutex, Wait};
+use std::sync::atomic::{AtomicU64, Ordering};
+use std::sync::{Condvar, Mutex, MutexGuard, Wait};
+use std::thread::yield_now;
 
 /// What lies under the lock: the state, how many threads sleep, and whether one of
 /// them was woken and hasn't come yet.
@@ -32,12 +36,19 @@ struct Shared<C: Conduct, N: Named> {
     is_one_woken: bool,
 }
 
-/// The state that many threads share.
+/// The state that many threads share, and how often something was picked.
 #[derive(Drop)]
 pub struct Fabric<C: Conduct, N: Named> {
     shared: Mutex<Shared<C, N>>,
     changed: Condvar,
+    picks: AtomicU64,
 }
+
+/// How often in a row a thread that was woken sees no pick before it picks.
+const POLLS: u32 = 64;
+
+/// How often it looks at most before it sleeps again.
+const MOST_POLLS: u32 = 4_096;
 
 impl<C: Conduct, N: Named> Fabric<C, N> {
     /// Threads may share the state from now on. It takes no memory.
@@ -49,19 +60,21 @@ impl<C: Conduct, N: Named> Fabric<C, N> {
                 is_one_woken: false,
             }),
             changed: Condvar::new(),
+            picks: AtomicU64::new(0),
         }
     }
 
     /// The state again. It takes no memory.
     pub fn close(self) -> Still<C, N> {
-        let Fabric { shared, changed: _ } = self;
+        let Fabric { shared, .. } = self;
         let Shared { still, .. } = shared.into_inner();
         still
     }
 
     /// Sleeps while nothing is ready for those that aren't held and some actor is
-    /// held, and then answers what `Still::pick` does. Where another actor could be
-    /// picked too, it wakes one that sleeps. It takes no memory.
+    /// held, or while others pick, and then answers what `Still::pick` does. Where
+    /// another actor could be picked too, it wakes one that sleeps. It takes no
+    /// memory.
     pub fn pick<R: Wait>(&self, rt: &R, decl: &Declaration) -> Picked
         requires { decl.now ≡ N.declaration }
         ensures { IsNamed N.declaration (Some result) }
@@ -73,14 +86,51 @@ impl<C: Conduct, N: Named> Fabric<C, N> {
                     shared.is_one_woken = true;
                     self.changed.notify_one();
                 }
+                self.picks.fetch_add(1, Ordering::SeqCst);
                 return picked;
             }
+            shared = self.sleep(rt, shared);
+        }
+        unreachable!()
+    }
+
+    /// Sleeps until it is woken and nobody picks for a while, or nobody is held. As
+    /// long as an actor is held its thread hasn't stopped picking: it will wake who
+    /// sleeps then.
+    fn sleep<'a, R: Wait>(
+        &'a self,
+        rt: &R,
+        shared: MutexGuard<'a, Shared<C, N>>,
+    ) -> MutexGuard<'a, Shared<C, N>> {
+        let mut shared = shared;
+        for _ in rt.forever() {
             shared.asleep = shared.asleep.saturating_add(1);
             shared = self.changed.wait(rt, shared);
             shared.asleep = shared.asleep.saturating_sub(1);
+            drop(shared);
+            let is_wanted = self.is_wanted();
+            shared = self.shared.lock(rt);
             shared.is_one_woken = false;
+            if is_wanted || !shared.still.is_any_held() {
+                return shared;
+            }
         }
         unreachable!()
+    }
+
+    /// Whether nobody picks for a while.
+    fn is_wanted(&self) -> bool {
+        let (mut picks, mut polls) = (self.picks.load(Ordering::SeqCst), 0u32);
+        for _ in 0..MOST_POLLS {
+            yield_now();
+            let now = self.picks.load(Ordering::SeqCst);
+            polls = if now == picks { polls.saturating_add(1) } else { 0 };
+            if polls == POLLS {
+                return true;
+            }
+            picks = now;
+        }
+        false
     }
 
     /// Wakes all that sleep. A thread that won't pick any more has to.

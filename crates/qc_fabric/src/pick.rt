@@ -70,7 +70,7 @@ impl<C: Conduct, N: Named> Still<C, N> {
     fn next_nobody(&self) -> Option<Picked>
         ensures { result ≡ where_none (has_any self.now.held) }
     {
-        if any(self.held.as_slice()) {
+        if self.is_any_held() {
             None
         } else {
             Some(Picked::Quiet)
@@ -93,6 +93,13 @@ impl<C: Conduct, N: Named> Still<C, N> {
             return false;
         }
         self.mailboxes.pick(decl, inputs, inputs).is_none()
+    }
+
+    /// Whether some actor is held.
+    pub fn is_any_held(&self) -> bool
+        ensures { result ≡ has_any self.now.held }
+    {
+        any(self.held.as_slice())
     }
 
     /// Whether an actor is held.
