@@ -45,7 +45,7 @@ pub struct Fabric<C: Conduct, N: Named> {
 }
 
 /// How often in a row a thread that was woken sees no pick before it picks.
-const POLLS: u32 = 64;
+const POLLS: u32 = 256;
 
 /// How often it looks at most before it sleeps again.
 const MOST_POLLS: u32 = 4_096;
@@ -124,7 +124,11 @@ impl<C: Conduct, N: Named> Fabric<C, N> {
         for _ in 0..MOST_POLLS {
             yield_now();
             let now = self.picks.load(Ordering::SeqCst);
-            polls = if now == picks { polls.saturating_add(1) } else { 0 };
+            polls = if now == picks {
+                polls.saturating_add(1)
+            } else {
+                0
+            };
             if polls == POLLS {
                 return true;
             }
