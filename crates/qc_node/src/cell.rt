@@ -1,6 +1,6 @@
 //! An actor in its cell, and its turns.
 
-ghost use Rattle.std.specs.Prelude.{◌≡◌, ◌<◌, [], IfOk, IfSome};
+ghost use Rattle.std.specs.Prelude.{◌≡◌, ◌<◌, [], IfOk, IfSome, option_map};
 ghost use Rattle.qc_core.specs.Actors.{actor_after};
 ghost use Rattle.qc_decl.specs.Accepted.{IsAccepted};
 ghost use Rattle.qc_decl.specs.Actors.{actors};
@@ -142,7 +142,7 @@ impl<N: Named> Cell<N> {
     /// The actor, which is what its deeds in what the cell saw make of it. None
     /// where it was given up.
     pub fn actor(&self) -> Option<&Actor>
-        ensures same { IfSome result (λ a. self.now.actor ≡ Some a.now) }
+        ensures same { option_map (λ a. a.now) result ≡ self.now.actor }
         ensures state { IfSome result
             (λ a. a.now ≡ (actor_after N.declaration self.now.number (deeds self.now.number [] self.now.seen)).actor) }
     {
