@@ -30,7 +30,7 @@ import tempfile
 sys.dont_write_bytecode = True
 
 import programs
-from runs import load, reads
+from runs import load, reads, registers
 
 ROOT = os.path.dirname(os.path.dirname(os.path.abspath(__file__)))
 BEGINS = (25_000, 50_000, 100_000)
@@ -62,33 +62,6 @@ def equal_triples():
                   "triples = [%s]" % ",".join(triples)]
     lines += ["[[object]]", 'name = "x"', 'type = "t0"', "[[epoch]]", "weights = [1]"]
     return "\n".join(lines) + "\n"
-
-
-def sixteen_sites():
-    """A register on sixteen sites, which any nine of them answer."""
-    return """\
-sites = 16
-clients = 3
-
-[[type]]
-name = "register"
-states = ["0", "1"]
-start = "0"
-invocations = ["W0", "W1", "R"]
-responses = ["ok", "0", "1"]
-rows = ["0 W0 ok 0", "0 W1 ok 1", "0 R 0 0", "1 W0 ok 0", "1 W1 ok 1", "1 R 1 1"]
-depends = ["R W0:ok", "R W1:ok"]
-triples = ["0 0 -", "0 1 W1:ok", "1 1 -", "1 0 W0:ok"]
-
-[[object]]
-name = "x"
-type = "register"
-
-[[epoch]]
-weights = [1, 1, 1, 1, 1, 1, 1, 1, 1, 1, 1, 1, 1, 1, 1, 1]
-initial = ["x R 9"]
-final = ["x W0:ok 9", "x W1:ok 9"]
-"""
 
 
 def run(words, wanted=0):
@@ -124,7 +97,7 @@ def cases(program, folder):
         text = "\n".join(reads(count)) + "\n"
         name = "step limit" if count == PAST_THE_LIMIT else "%d messages" % count
         words[name] = [program, "run", "@three", written(folder, "reads_%d" % count, text)]
-    sixteen = written(folder, "sixteen.toml", sixteen_sites())
+    sixteen = written(folder, "sixteen.toml", registers(16, "x"))
     for name, rules in (("sixteen sites", ()), ("sixteen sites, rules", ["link * c2 1 drop"] * RULES)):
         text = "\n".join((*rules, *reads(MESSAGES[-1], of_a_read=18))) + "\n"
         words[name] = [program, "run", sixteen, written(folder, name.replace(" ", "_"), text)]

@@ -49,6 +49,21 @@ def reads(messages, of_a_read=MESSAGES_OF_A_READ):
         yield "c0 abort"
 
 
+def registers(sites, names):
+    """A declaration of registers of these names, which any majority of so many sites answers, and of three clients."""
+    most = sites // 2 + 1
+    lines = ["sites = %d" % sites, "clients = 3", "[[type]]", 'name = "register"', 'states = ["0", "1"]', 'start = "0"',
+             'invocations = ["W0", "W1", "R"]', 'responses = ["ok", "0", "1"]',
+             'rows = ["0 W0 ok 0", "0 W1 ok 1", "0 R 0 0", "1 W0 ok 0", "1 W1 ok 1", "1 R 1 1"]',
+             'depends = ["R W0:ok", "R W1:ok"]', 'triples = ["0 0 -", "0 1 W1:ok", "1 1 -", "1 0 W0:ok"]']
+    for name in names:
+        lines += ["[[object]]", 'name = "%s"' % name, 'type = "register"']
+    lines += ["[[epoch]]", "weights = %s" % ([1] * sites),
+              "initial = [%s]" % ", ".join('"%s R %d"' % (name, most) for name in names),
+              "final = [%s]" % ", ".join('"%s %s:ok %d"' % (name, write, most) for name in names for write in ("W0", "W1"))]
+    return "\n".join(lines) + "\n"
+
+
 def rules(count):
     """Rules of links, each for a message of its own between two clients, who send each other nothing."""
     return ("link c1 c2 %d drop" % ordinal for ordinal in range(1, count + 1))

@@ -23,41 +23,10 @@ import time
 
 sys.dont_write_bytecode = True
 
-from runs import load
+from runs import load, registers
 
 ROOT = os.path.dirname(os.path.dirname(os.path.abspath(__file__)))
 WORKERS = (1, 2, 4, 8)
-FIVE_SITES = """\
-sites = 5
-clients = 3
-
-[[type]]
-name = "register"
-states = ["0", "1"]
-start = "0"
-invocations = ["W0", "W1", "R"]
-responses = ["ok", "0", "1"]
-rows = ["0 W0 ok 0", "0 W1 ok 1", "0 R 0 0", "1 W0 ok 0", "1 W1 ok 1", "1 R 1 1"]
-depends = ["R W0:ok", "R W1:ok"]
-triples = ["0 0 -", "0 1 W1:ok", "1 1 -", "1 0 W0:ok"]
-
-[[object]]
-name = "x"
-type = "register"
-
-[[object]]
-name = "y"
-type = "register"
-
-[[object]]
-name = "z"
-type = "register"
-
-[[epoch]]
-weights = [1, 1, 1, 1, 1]
-initial = ["x R 3", "y R 3", "z R 3"]
-final = ["x W0:ok 3", "x W1:ok 3", "y W0:ok 3", "y W1:ok 3", "z W0:ok 3", "z W1:ok 3"]
-"""
 
 
 def at_once():
@@ -83,7 +52,7 @@ def main():
     program = os.path.abspath(sys.argv[1] if len(sys.argv) > 1 else os.path.join(ROOT, "crates/quorum/out/quorum"))
     rounds = int(sys.argv[2]) if len(sys.argv) > 2 else 15
     with tempfile.TemporaryDirectory() as folder:
-        files = {"load": "\n".join(load(500)) + "\n", "at once": "\n".join(at_once()) + "\n", "five": FIVE_SITES}
+        files = {"load": "\n".join(load(500)) + "\n", "at once": "\n".join(at_once()) + "\n", "five": registers(5, "xyz")}
         for name, text in files.items():
             with open(os.path.join(folder, name), "w") as file:
                 file.write(text)
