@@ -12,6 +12,7 @@ use Rattle.qc_msg.specs.declared.message.Outcome.TheVariants as outcomes
 use Rattle.qc_msg.specs.declared.record.Record.TheVariants as records
 use Rattle.qc_msg.specs.declared.reply.Reply.TheVariants as replies
 use Rattle.qc_msg.specs.declared.reply.Why.{Why}
+use Rattle.qc_msg.specs.declared.turn.Appended.TheVariants.{Done}
 use Rattle.qc_msg.specs.declared.turn.Turn.{Turn}
 use Rattle.qc_msg.specs.Calls.{site_called, without_call, with_call, numbered_from}
 use Rattle.qc_msg.specs.Begun.{decisions}
@@ -45,6 +46,7 @@ commit_turn stamp b =
       told = Some (replies.Committed stamp);
       failed_sends = [];
       failed_told = Some replies.Unknown;
+      append = Done;
     }
 
 -- the transaction commits

@@ -16,7 +16,7 @@ use crate::participants::{participants, prepares};
 use qc_decl::Declaration;
 use qc_entry::Commit;
 use qc_list::{List, OutOfMemory};
-use qc_msg::{Answer, Begun, Calls, Outcome, Record, Reply, Turn, Why};
+use qc_msg::{Answer, Appended, Begun, Calls, Outcome, Record, Reply, Turn, Why};
 use qc_stamp::{Clock, Stamp};
 use std::alloc::Global;
 
@@ -206,6 +206,7 @@ fn commit(
         told: Some(Reply::Committed { stamp }),
         failed_sends: List::new(alloc),
         failed_told: Some(Reply::Unknown),
+        append: Appended::Done,
     })
 }
 

@@ -18,6 +18,7 @@ use Rattle.qc_msg.specs.declared.message.Outcome.TheVariants.{Committed, Aborted
 use Rattle.qc_msg.specs.declared.message.Want.TheVariants.{Prepare}
 use Rattle.qc_msg.specs.declared.record.Record.TheVariants as records
 use Rattle.qc_msg.specs.declared.step.Given.{Given}
+use Rattle.qc_msg.specs.declared.turn.Appended.TheVariants.{Done}
 use Rattle.qc_msg.specs.declared.turn.Turn.{Turn}
 use Rattle.qc_msg.specs.Deeds.{Deed, Takes, turn_deeds}
 use Rattle.qc_msg.specs.Turns.{quiet}
@@ -51,11 +52,20 @@ promising from number clock p =
       told = None;
       failed_sends = answering from number answers.Fault ∷ [];
       failed_told = None;
+      append = Done;
     }
 
 -- the turn that writes that a transaction is done
 abbrev pub finishing : TxId → ℕ → Turn
-finishing tx clock = record { write = Some (records.Done tx clock); sends = []; told = None; failed_sends = []; failed_told = None }
+finishing tx clock =
+    record {
+      write = Some (records.Done tx clock);
+      sends = [];
+      told = None;
+      failed_sends = [];
+      failed_told = None;
+      append = Done;
+    }
 
 module _ (site : ℕ) (ds : List Deed) (n number from to : ℕ) where
   module _ (tx : TxId) (epoch life : ℕ) where

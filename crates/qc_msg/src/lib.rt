@@ -9,11 +9,9 @@
 //!
 //! 1. Messages are numbered from 0 in the order in which the history sent
 //!    them: a message's number is its place in the list of all messages.
-//! 2. A turn adds its steps and no others, all or nothing: the record, then
-//!    the messages, then the reply (`Turn::entries`).
-//! 3. The history's counts of steps, of committed operations and of lines
-//!    carried are those of its entries (`History`), and the committed
-//!    operations are those of the records that were written
+//! 2. The steps of a turn are its record, then its messages, then its reply
+//!    (`posted`, in `specs/Steps.antt`).
+//! 3. The committed operations are those of the records that were written
 //!    (`operations_are_those_of_records`).
 //! 4. An actor's deeds go on by its own input and turn, and stay where another
 //!    actor or the controller goes on (`deeds_go_on`).
@@ -27,7 +25,6 @@ mod call;
 mod history;
 mod laws;
 mod message;
-mod post;
 mod record;
 mod reply;
 mod step;
@@ -43,4 +40,4 @@ pub use message::{Answer, Envelope, Message, Outcome, PreparedList, Want};
 pub use record::{Record, Records};
 pub use reply::{Half, Reply, Why};
 pub use step::{Command, Control, Entry, Fall, Given, Step, What};
-pub use turn::{Posting, Sends, Turn};
+pub use turn::{Appended, Posting, Sends, Turn};

@@ -2,6 +2,7 @@
 
 ghost use Rattle.std.specs.Prelude.{◌≡◌, ◌∷◌, [], Some, None, IfOk};
 ghost use Rattle.qc_msg.specs.Turns.{quiet, telling, sending, ending};
+ghost use Rattle.qc_msg.specs.declared.turn.Appended.TheVariants.{Done};
 
 use crate::{Message, Record, Reply};
 use qc_list::{List, OutOfMemory};
@@ -19,6 +20,17 @@ pub struct Posting {
 /// A list of messages to be sent.
 pub type Sends = List<Posting>;
 
+/// What became of a turn's record.
+#[derive(Clone, Copy, Debug, PartialEq, Eq)]
+pub enum Appended {
+    /// It is written, or there is none.
+    Done,
+    /// The disk failed.
+    Failed,
+    /// The disk stopped.
+    Stopped,
+}
+
 /// What an actor does for one input: a record to be written first, then
 /// messages, then the reply. Where there is a record and it isn't written, it
 /// does something else instead.
@@ -34,6 +46,9 @@ pub struct Turn {
     pub failed_sends: Sends,
     /// The reply where the record wasn't written.
     pub failed_told: Option<Reply>,
+    /// What became of the record. No disk takes records yet, so each turn has
+    /// `Done`.
+    pub append: Appended,
 }
 
 impl Posting {
@@ -85,7 +100,7 @@ impl Turn {
 
     /// A turn without a record.
     fn says(alloc: Global, sends: Sends, told: Option<Reply>) -> Turn
-        ensures { result ≡ record { write = None; sends = sends; told = told; failed_sends = []; failed_told = None } }
+        ensures { result ≡ record { write = None; sends = sends; told = told; failed_sends = []; failed_told = None; append = Done } }
     {
         Turn {
             write: None,
@@ -93,6 +108,7 @@ impl Turn {
             told,
             failed_sends: List::new(alloc),
             failed_told: None,
+            append: Appended::Done,
         }
     }
 }

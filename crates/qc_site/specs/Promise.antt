@@ -16,6 +16,7 @@ use Rattle.qc_msg.specs.declared.message.Answer.TheVariants.{Fault, Stale, Yes}
 use Rattle.qc_msg.specs.declared.message.Outcome.{Outcome}
 use Rattle.qc_msg.specs.declared.message.Outcome.TheVariants.{Committed, Aborted, Active}
 use Rattle.qc_msg.specs.declared.record.Record.TheVariants as records
+use Rattle.qc_msg.specs.declared.turn.Appended.TheVariants.{Done}
 use Rattle.qc_msg.specs.declared.turn.Turn.{Turn}
 use Rattle.qc_msg.specs.Turns.{quiet}
 use Rattle.qc_site.specs.Site.{SiteState, SiteMove, moved, answering, answers}
@@ -50,6 +51,7 @@ votes s from number p =
       told = None;
       failed_sends = answering from number Fault ∷ [];
       failed_told = None;
+      append = Done;
     }
 
 -- it is made where it fits a record
@@ -97,6 +99,7 @@ records_done tx stamp =
       told = None;
       failed_sends = [];
       failed_told = None;
+      append = Done;
     }
 
 -- a transaction committed: what was promised of it joins the log, and this is written

@@ -7,7 +7,7 @@ use crate::Site;
 use crate::promise::prepared_of;
 use qc_entry::{Line, Log, OwnLine};
 use qc_list::{List, OutOfMemory};
-use qc_msg::{Outcome, Record, Turn};
+use qc_msg::{Appended, Outcome, Record, Turn};
 use qc_stamp::{Stamp, TxId};
 use std::alloc::Global;
 
@@ -72,6 +72,7 @@ fn records_done(alloc: Global, tx: TxId, stamp: Stamp) -> Turn
         told: None,
         failed_sends: List::new(alloc),
         failed_told: None,
+        append: Appended::Done,
     }
 }
 

@@ -10,7 +10,7 @@ use crate::asker::Asker;
 use qc_decl::MOST_RECORD_BYTES;
 use qc_entry::{Owns, Prepared, Reads};
 use qc_list::OutOfMemory;
-use qc_msg::{Answer, Record, Turn};
+use qc_msg::{Answer, Appended, Record, Turn};
 use qc_stamp::TxId;
 use std::alloc::Global;
 
@@ -88,6 +88,7 @@ impl Site {
             told: None,
             failed_sends,
             failed_told: None,
+            append: Appended::Done,
         })
     }
 }

@@ -1,6 +1,0 @@
-use Rattle.std.proofs.Common.{◌≡◌, ◌^◌, ◌-◌, min, take}
-use Rattle.qc_msg.specs.Counts.{operations_of}
-use Rattle.qc_msg.proofs.history.operations_in.Given as goal
-
-abbrev pub invariant-loop-entry : goal.invariant-loop-entry
-invariant-loop-entry l = l.total ≡ min (operations_of (take l.entry-index l.entries)) (2 ^ 32 - 1)
