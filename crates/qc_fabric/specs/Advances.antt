@@ -1,13 +1,19 @@
 -- What the controller does next, if anything, in phases up to a last one.
-use Rattle.std.specs.Prelude.{◌≡◌, ℕ, Bool, true, false, List}
+use Rattle.std.specs.Prelude.{◌≡◌, ℕ, Bool, true, false, List, Some}
 use Rattle.qc_decl.specs.declared.declaration.Declaration.{Declaration}
+use Rattle.qc_msg.specs.Deeds.{Deed}
 use Rattle.qc_msg.specs.Steps.{Entry}
 use Rattle.qc_msg.specs.declared.step.Control.{Control}
 use Rattle.qc_msg.specs.declared.step.Step.{Step}
+use Rattle.qc_msg.specs.declared.turn.Turn.{Turn}
+use Rattle.qc_pass.specs.Tokens.{room, seen}
 use Rattle.qc_pass.specs.declared.token.Pass.{Pass}
+use Rattle.qc_script.specs.Runs.{Runs}
 use Rattle.qc_script.specs.declared.script.Script.{Script}
 use Rattle.qc_fabric.specs.Controls.{IsUpTo, MayDo}
-use Rattle.qc_fabric.specs.Tells.{Does}
+use Rattle.qc_fabric.specs.Picks.{picked}
+use Rattle.qc_fabric.specs.Tells.{Does, Sees}
+use Rattle.qc_fabric.specs.declared.picked.Picked.TheVariants as picks
 
 -- it did what it might do
 pub record DoesNext (decl : Declaration) (script : Script) (last : ℕ) (p q : Pass Step) (old : List Entry)
@@ -17,13 +23,25 @@ pub record DoesNext (decl : Declaration) (script : Script) (last : ℕ) (p q : P
   pub up_to : IsUpTo last control
   pub does : Does decl p q old new control
 
--- there was nothing that it might do, and nothing has changed
-pub record DoesNothing (decl : Declaration) (script : Script) (last : ℕ) (p q : Pass Step) (old : List Entry)
-    (inputs : List Bool) (new : List Entry) : Type 0 where
-  pub none : (control : Control) → IsUpTo last control → MayDo decl script old inputs control → ⊥
-  pub same : new ≡ old
-  pub pass : q ≡ p
+module _ (lawful : ℕ → List Deed → Turn → Type 0) (decl : Declaration) (script : Script) (last : ℕ) where
+  -- there was nothing that it might do, and nothing has changed. Its pass has seen the history, which is a run
+  pub record DoesNothing (p q : Pass Step) (old : List Entry) (inputs : List Bool) (new : List Entry) : Type 0 where
+    pub none : (control : Control) → IsUpTo last control → MayDo decl script old inputs control → ⊥
+    pub same : new ≡ old
+    pub saw : Sees p q
+    pub seen_is : seen q ≡ old
+    pub runs : Runs lawful decl script (seen q) inputs
+    pub room_is : room q ≡ room p
 
-abbrev pub Advances : Declaration → Script → ℕ → Pass Step → Pass Step → List Entry → List Bool → List Entry → Bool → Type 0
-Advances decl script last p q old inputs new true = DoesNext decl script last p q old inputs new
-Advances decl script last p q old inputs new false = DoesNothing decl script last p q old inputs new
+  abbrev pub Advances : Pass Step → Pass Step → List Entry → List Bool → List Entry → Bool → Type 0
+  Advances p q old inputs new true = DoesNext decl script last p q old inputs new
+  Advances p q old inputs new false = DoesNothing p q old inputs new
+
+  -- nothing is left in a run: no limit is reached, nothing is ready, nobody is held, and there is nothing that the
+  -- controller may do
+  pub record HasNothingLeft (h : List Entry) : Type 0 where
+    pub inputs : List Bool
+    pub held : List Bool
+    pub runs : Runs lawful decl script h inputs
+    pub none : (control : Control) → IsUpTo last control → MayDo decl script h inputs control → ⊥
+    pub quiet : picked decl script inputs held h ≡ Some picks.Quiet

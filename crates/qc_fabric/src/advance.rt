@@ -56,8 +56,8 @@ impl<C: Conduct, N: Named> Still<C, N> {
     }
 
     /// The controller does what it may do next, if anything, in phases up to the
-    /// last one that is given. Whether it did. After want of memory nothing has
-    /// changed.
+    /// last one that is given. Whether it did: where it didn't, its pass sees the
+    /// history. After want of memory nothing has changed.
     pub fn advance(
         &mut self,
         decl: &Declaration,
@@ -67,8 +67,8 @@ impl<C: Conduct, N: Named> Still<C, N> {
         requires declaration { decl.now ≡ N.declaration }
         requires table { pass_table pass.old ≡ N.table }
         requires controller { number pass.old ≡ controller N.declaration }
-        ensures ok { IfOk result (λ did. Advances N.declaration N.script last pass.old pass.new
-            self.old.history self.old.open_inputs self.new.history did) }
+        ensures ok { IfOk result (λ did. Advances (C.lawful N.declaration) N.declaration N.script last
+            pass.old pass.new self.old.history self.old.open_inputs self.new.history did) }
         ensures same { (self.new.open_inputs ≡ self.old.open_inputs) × (self.new.held ≡ self.old.held) }
         ensures err { OnErr result ((self.new ≡ self.old) × (pass.new ≡ pass.old)) }
     {
@@ -77,7 +77,10 @@ impl<C: Conduct, N: Named> Still<C, N> {
                 self.order(pass, control)?;
                 Ok(true)
             }
-            None => Ok(false),
+            None => {
+                self.look(pass);
+                Ok(false)
+            }
         }
     }
 }

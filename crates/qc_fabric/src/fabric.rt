@@ -7,10 +7,11 @@
 //! woken takes an actor only where nobody picks for a while: as long as turns are
 //! shorter than it takes to hand one over, one thread serves all.
 
-ghost use Rattle.std.specs.Prelude.{◌≡◌, ◌<◌, [], Some, IfOk, IfSome, length, OnOk, OnErr, MatchOption};
+ghost use Rattle.std.specs.Prelude.{◌≡◌, ◌<◌, [], false, Some, Ok, IfOk, IfSome, length, OnOk, OnErr, MatchOption};
 ghost use Rattle.qc_decl.specs.Actors.{actors, controller};
 ghost use Rattle.qc_msg.specs.Deeds.{deeds};
 ghost use Rattle.qc_pass.specs.Tokens.{number, pass_table, room, seen};
+ghost use Rattle.qc_fabric.specs.Advances.{HasNothingLeft};
 ghost use Rattle.qc_fabric.specs.Picks.{IsNamed};
 ghost use Rattle.qc_fabric.specs.Tells.{GoesToActors, Posts, Sees, Takes, Waits, size_of};
 
@@ -44,10 +45,14 @@ pub struct Fabric<C: Conduct, N: Named> {
     picks: AtomicU64,
 }
 
-/// How often in a row a thread that was woken sees no pick before it picks.
+/// How often in a row a thread that was woken sees no pick before it picks: some
+/// tens of microseconds, longer than a turn in memory takes, and shorter than one
+/// that waits for a disk.
 const POLLS: u32 = 256;
 
-/// How often it looks at most before it sleeps again.
+/// How often it looks at most before it sleeps again: long enough that it seldom
+/// sleeps while it is wanted, and short enough that it doesn't take a processor from
+/// the others.
 const MOST_POLLS: u32 = 4_096;
 
 impl<C: Conduct, N: Named> Fabric<C, N> {
@@ -157,12 +162,17 @@ impl<C: Conduct, N: Named> Fabric<C, N> {
         requires controller { number pass.old ≡ controller N.declaration }
         ensures table { pass_table pass.new ≡ N.table }
         ensures controller { number pass.new ≡ controller N.declaration }
+        ensures over { result ≡ Ok false
+            → HasNothingLeft (C.lawful N.declaration) N.declaration N.script last (seen pass.new) }
     {
         let mut shared = self.shared.lock(rt);
-        Ok(
-            shared.still.advance(decl, pass, last)?
-                || shared.still.next(decl) != Some(Picked::Quiet),
-        )
+        if shared.still.advance(decl, pass, last)? {
+            return Ok(true);
+        }
+        match shared.still.next(decl) {
+            Some(Picked::Quiet) => Ok(false),
+            _ => Ok(true),
+        }
     }
 
     /// The pass's actor takes its next input.

@@ -113,6 +113,7 @@ impl<C: Conduct, N: Named> Still<C, N> {
         ensures same { self.new ≡ self.old }
         ensures saw { Sees pass.old pass.new }
         ensures seen { seen pass.new ≡ self.new.history }
+        ensures runs { Runs (C.lawful N.declaration) N.declaration N.script (seen pass.new) self.new.open_inputs }
         ensures room { room pass.new ≡ room pass.old }
     {
         let kept = pass.room();

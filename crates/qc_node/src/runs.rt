@@ -14,7 +14,7 @@ use crate::ends::DriveEnd;
 use crate::rules::Rules;
 use crate::scripts::{Job, drive_script};
 use qc_fabric::{Named, Still};
-use qc_list::OutOfMemory;
+use qc_list::{List, OutOfMemory};
 use qc_msg::{History, Step};
 use qc_outside::Gate;
 use qc_pass::{Made, Passes};
@@ -82,25 +82,19 @@ fn run_named<N: Named + Send + Sync, G: Gate + Sync, R: Threads + Wait + Sync>(
     let still: Still<Rules, N> = Still::make(alloc, job.decl, script, passes, right)?;
     let cells: Cells<N> = Cells::new(alloc, job.decl, each)?;
     let (still, end) = drive_script(rt, alloc, job, still, &cells);
-    outcome(alloc, still, end)
+    Ok(outcome(still, end))
 }
 
 /// What the state leaves.
-fn outcome<N: Named>(
-    alloc: Global,
-    still: Still<Rules, N>,
-    end: DriveEnd,
-) -> Result<Ran, OutOfMemory>
+fn outcome<N: Named>(still: Still<Rules, N>, end: DriveEnd) -> Ran
     requires { IsScriptEnd N.declaration N.script still.history still.open_inputs end }
-    ensures script { IfOk result (λ ran. ran.script ≡ N.script) }
-    ensures ended { IfOk result (λ ran. HasEnded N.declaration N.script ran.history ran.end) }
+    ensures script { result.script ≡ N.script }
+    ensures ended { HasEnded N.declaration N.script result.history result.end }
 {
     let (script, entries) = still.end();
-    let mut history = History::new(alloc);
-    history.extend(entries)?;
-    Ok(Ran {
+    Ran {
         script,
-        history,
+        history: List::from_vec(entries),
         end,
-    })
+    }
 }

@@ -26,7 +26,7 @@ pub fn text(
 ) -> Result<Vec<u8>, OutOfMemory>
     ensures { IfOk result (λ v. v.items ≡ text_of decl.now script.now history.now) }
 {
-    let entries = history.entries();
+    let entries = history.items();
     let commits = committed(alloc, decl, entries)?;
     let states = replay(alloc, decl, &commits)?;
     let mut page = Page::new(alloc);

@@ -5,3 +5,4 @@ mod Right
 mod Runs
 mod Takes
 mod Unbuilt
+mod Workers

@@ -1,6 +1,6 @@
 -- What the program's words say.
 use Rattle.std.specs.Prelude.{ℕ, Bool, false, ◌==◌, ◌&&◌, not, List, [], ◌∷◌, Option, Some, None, cond, codes, map}
-use Rattle.std.specs.Prelude.{◌-◌, nat_le, option_map}
+use Rattle.std.specs.Prelude.{◌≤◌, ◌-◌, nat_le, option_map}
 use Rattle.std.specs.Borrow.{Bor}
 use Rattle.std.specs.Str.{bytes_eq}
 use Rattle.qc_top.specs.declared.words.Asked.{Asked}
@@ -34,6 +34,10 @@ asked_run command decl script workers =
 abbrev pub workers_in : List ℕ → Option ℕ
 workers_in (digit ∷ []) = cond (nat_le 49 digit && nat_le digit 56) (Some (digit - 48)) None
 workers_in _ = None
+
+-- so many workers may be asked for
+abbrev pub AreFew : ℕ → Type 0
+AreFew workers = (1 ≤ workers) × (workers ≤ 8)
 
 -- the same with a number of workers
 abbrev pub asked_with : List ℕ → List ℕ → List ℕ → List ℕ → Option ℕ → Option AskedOf

@@ -1,7 +1,7 @@
-//! Laws of scripts that are run, and of their runs, each the contract of a
-//! function with nothing to do.
+//! Laws of words, of scripts that are run, and of their runs, each the contract of
+//! a function with nothing to do.
 
-ghost use Rattle.std.specs.Prelude.{◌≡◌, ℕ, Bool, List, not};
+ghost use Rattle.std.specs.Prelude.{◌≡◌, ℕ, Bool, List, Some, not};
 ghost use Rattle.qc_core.specs.Conduct.{IsLawful};
 ghost use Rattle.qc_decl.specs.Accepted.{IsAccepted};
 ghost use Rattle.qc_decl.specs.declared.declaration.Declaration.{Declaration};
@@ -14,6 +14,13 @@ ghost use Rattle.qc_script.specs.Sound.{IsScriptFor};
 ghost use Rattle.qc_script.specs.declared.script.Script.{Script};
 ghost use Rattle.qc_top.specs.Calm.{AreCalm};
 ghost use Rattle.qc_top.specs.Unbuilt.{is_unbuilt};
+ghost use Rattle.qc_top.specs.Words.{AreFew, AskedOf, asked};
+
+/// Words ask for one to eight workers.
+#[tactic(auto, using(crate::proofs::Workers::workers_few))]
+pub fn one_to_eight_workers_are_asked()
+    ensures { (words : List (List ℕ)) (a : AskedOf) → asked words ≡ Some a → AreFew a.workers }
+{}
 
 /// A script that is read for an accepted declaration is built exactly where it
 /// has no line for disks, crashes or the administrator.

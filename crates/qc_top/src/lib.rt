@@ -1,7 +1,8 @@
 //! The top call: from a command line's words to the printed run.
 //!
 //! `quorum_words` does all that the program does: it reads the words
-//! (`asked_by`), takes the files that they name from the shelf (`answers_for`),
+//! (`asked_by`), which ask for one to eight workers
+//! (`one_to_eight_workers_are_asked`), takes the files that they name from the shelf (`answers_for`),
 //! and does what is asked over the bytes or faults that it was handed
 //! (`perform`): it says that a declaration is accepted, or runs a script and
 //! prints the run.
@@ -26,7 +27,9 @@ mod words;
 mod work;
 
 pub use answers::{Answer, Answers, answers_for};
-pub use laws::{built_scripts_have_no_unbuilt_line, runs_are_calm};
+pub use laws::{
+    built_scripts_have_no_unbuilt_line, one_to_eight_workers_are_asked, runs_are_calm,
+};
 pub use qc_msg::What;
 pub use qc_report::{Cause, cause_text};
 pub use qc_text::text;

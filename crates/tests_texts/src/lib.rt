@@ -3,8 +3,9 @@
 //!
 //! A turn's parts stand in their order, with `; ` between them: its record
 //! (`write ..`), its messages (`TO: ..`), its reply (`tell ..`), and then, each
-//! behind `else`, what is sent and told where the record isn't written. A turn
-//! that does nothing is the empty text. Transactions are written `0.1.1`
+//! behind `else`, what is sent and told where the record isn't written. Where the
+//! append wasn't done, `failed` or `stopped` ends it. A turn that does nothing is
+//! the empty text. Transactions are written `0.1.1`
 //! (client, life, number), stamps `5.0` (clock, client); what a message answers
 //! is its first number.
 #![tactic(auto)]

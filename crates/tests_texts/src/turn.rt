@@ -3,7 +3,7 @@
 use crate::message::put_message;
 use crate::record::put_record;
 use qc_list::OutOfMemory;
-use qc_msg::{Posting, Reply, Turn};
+use qc_msg::{Appended, Posting, Reply, Turn};
 use std::alloc::Global;
 
 /// The text of a turn.
@@ -17,7 +17,17 @@ pub fn turn_text(alloc: Global, turn: &Turn) -> Result<String, OutOfMemory> {
     put_told(&mut text, "", turn.told)?;
     put_sends(&mut text, "else ", turn.failed_sends.items())?;
     put_told(&mut text, "else ", turn.failed_told)?;
+    put_append(&mut text, turn.append)?;
     Ok(text)
+}
+
+/// Adds what became of the record, where it isn't done.
+fn put_append(text: &mut String, append: Appended) -> Result<(), OutOfMemory> {
+    match append {
+        Appended::Done => Ok(()),
+        Appended::Failed => begin_part(text, "failed"),
+        Appended::Stopped => begin_part(text, "stopped"),
+    }
 }
 
 /// Adds what stands before a part: a semicolon, but for the first one.
