@@ -27,9 +27,7 @@ mod words;
 mod work;
 
 pub use answers::{Answer, Answers, answers_for};
-pub use laws::{
-    built_scripts_have_no_unbuilt_line, one_to_eight_workers_are_asked, runs_are_calm,
-};
+pub use laws::{built_scripts_have_no_unbuilt_line, one_to_eight_workers_are_asked, runs_are_calm};
 pub use qc_msg::What;
 pub use qc_report::{Cause, cause_text};
 pub use qc_text::text;
