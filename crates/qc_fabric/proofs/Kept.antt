@@ -8,9 +8,9 @@ use native.Mathlib.Decide.{ℕ_discrete}
 use Rattle.atomic_table.specs.Seated.{TableId}
 use Rattle.qc_decl.specs.Actors.{actors, controller}
 use Rattle.qc_decl.specs.declared.declaration.Declaration.{Declaration}
+use Rattle.qc_inbox.specs.Inboxes.{Inboxes}
 use Rattle.qc_inbox.specs.Kept.{IsKept}
 use Rattle.qc_inbox.specs.Rooms.{after_take, empty_inboxes}
-use Rattle.qc_inbox.specs.declared.inboxes.Inboxes.{Inboxes}
 use Rattle.qc_inbox.specs.declared.input.Input.{Input}
 use Rattle.qc_inbox.proofs.Acting.{kept_take}
 use Rattle.qc_inbox.proofs.Among.{ready_found}

@@ -5,10 +5,10 @@ use Rattle.atomic_table.specs.Seated.{TableId}
 use Rattle.qc_decl.specs.Actors.{controller}
 use Rattle.qc_decl.specs.declared.declaration.Declaration.{Declaration}
 use Rattle.std.specs.Option.{IfSome}
+use Rattle.qc_inbox.specs.Inboxes.{Inboxes}
 use Rattle.qc_inbox.specs.Inputs.{IsWithin}
 use Rattle.qc_inbox.specs.Kept.{IsKept}
 use Rattle.qc_inbox.specs.Rooms.{after_control, after_first, after_phase}
-use Rattle.qc_inbox.specs.declared.inboxes.Inboxes.{Inboxes}
 use Rattle.qc_inbox.proofs.Bounds.{controls_shown, controls_within}
 use Rattle.qc_inbox.proofs.Controlling.{kept_control, kept_phase}
 use Rattle.qc_mailbox.specs.Kept.{Roomy}

@@ -1,9 +1,9 @@
 -- The input that the mailboxes show is what is ready.
 use Rattle.std.proofs.Common.{◌≡◌, ℕ, ◌<◌, Bool, List, Option, Some, None, option_map, refl, sym, ap, ◌∙◌, subst}
 use Rattle.qc_decl.specs.declared.declaration.Declaration.{Declaration}
+use Rattle.qc_inbox.specs.Inboxes.{Inboxes}
 use Rattle.qc_inbox.specs.Inputs.{input_in, input_of}
 use Rattle.qc_inbox.specs.Kept.{IsKept}
-use Rattle.qc_inbox.specs.declared.inboxes.Inboxes.{Inboxes}
 use Rattle.qc_inbox.specs.declared.input.Input.{Input}
 use Rattle.qc_inbox.proofs.Among.{ready_found}
 use Rattle.qc_inbox.proofs.Seeing.{ready_kept}

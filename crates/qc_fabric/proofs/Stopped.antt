@@ -3,10 +3,10 @@ use Rattle.std.specs.Prelude.{is_some, not}
 use Rattle.std.proofs.Common.{◌≡◌, ℕ, zero, suc, ◌≤◌, Bool, true, false, ◌||◌, List, [], ◌∷◌, Option, Some, None, refl, sym, ap, ◌∙◌, slice_get}
 use Rattle.qc_decl.specs.Actors.{actors}
 use Rattle.qc_decl.specs.declared.declaration.Declaration.{Declaration}
+use Rattle.qc_inbox.specs.Inboxes.{Inboxes}
 use Rattle.qc_inbox.specs.Kept.{IsKept}
 use Rattle.qc_inbox.specs.Picks as inboxes
 use Rattle.qc_inbox.specs.PicksKept.{picked_in}
-use Rattle.qc_inbox.specs.declared.inboxes.Inboxes.{Inboxes}
 use Rattle.qc_inbox.proofs.Bounds.{controls_shown}
 use Rattle.qc_inbox.proofs.Picking.{none_picked, none_ready, picked_kept}
 use Rattle.qc_mailbox.specs.Passed.{either}

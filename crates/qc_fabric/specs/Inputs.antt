@@ -2,9 +2,9 @@
 use Rattle.std.specs.Prelude.{◌≡◌, ◌⊎◌, ◌<◌, ℕ, Bool, true, false, List, Option, Some, None, IsSome, length, option_map}
 use Rattle.std.specs.Prelude.{slice_get}
 use Rattle.qc_decl.specs.declared.declaration.Declaration.{Declaration}
+use Rattle.qc_inbox.specs.Inboxes.{Inboxes}
 use Rattle.qc_inbox.specs.Inputs.{input_in}
 use Rattle.qc_inbox.specs.Picks.{is_held}
-use Rattle.qc_inbox.specs.declared.inboxes.Inboxes.{Inboxes}
 use Rattle.qc_inbox.specs.declared.input.Input.{Input}
 use Rattle.qc_inbox.specs.declared.input.Input.TheVariants as inputs
 use Rattle.qc_msg.specs.declared.message.Envelope.{Envelope}

@@ -17,12 +17,11 @@ use Rattle.qc_msg.proofs.Growth.{by-posted}
 use Rattle.qc_script.specs.Inbox.{Inbox, command_called, copy_taken, count_of, inbox, inbox_at, loss_taken, reply_told}
 use Rattle.qc_script.specs.Ready.{ready}
 use Rattle.qc_script.specs.declared.script.Script.{Script}
+use Rattle.qc_inbox.specs.Inboxes.{Inboxes, Tray}
 use Rattle.qc_inbox.specs.Kept.{IsKept, Shows, tray_of}
 use Rattle.qc_inbox.specs.Picks.{calls_at, calls_of}
 use Rattle.qc_inbox.specs.Rooms.{after_reply, after_send, after_sends, after_take, after_turn, tray_at}
 use Rattle.qc_inbox.specs.Trays.{empty_tray, tray_taken, tray_told}
-use Rattle.qc_inbox.specs.declared.inboxes.Inboxes.{Inboxes}
-use Rattle.qc_inbox.specs.declared.tray.Tray.{Tray}
 use Rattle.qc_inbox.proofs.Keeping.{kept_send, kept_step}
 use Rattle.qc_inbox.proofs.Sent.{Keeps, by_test, same}
 use Rattle.qc_inbox.proofs.Taking.{taken_shown}

@@ -28,8 +28,8 @@ use Rattle.qc_script.specs.Ready as ready
 use Rattle.qc_script.specs.Ready.{ready_in, takes_commands}
 use Rattle.qc_script.specs.declared.script.PhaseLines.{PhaseLines}
 use Rattle.qc_script.specs.declared.script.Script.{Script}
+use Rattle.qc_inbox.specs.Inboxes.{Inboxes}
 use Rattle.qc_inbox.specs.Kept.{AreNumbered, IsKept}
-use Rattle.qc_inbox.specs.declared.inboxes.Inboxes.{Inboxes}
 
 -- an envelope is one of some messages, and for actor a
 abbrev IsSentTo : List Envelope → ℕ → Envelope → Type 0

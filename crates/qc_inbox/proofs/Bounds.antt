@@ -16,12 +16,11 @@ use Rattle.qc_script.specs.Ready.{controls_left}
 use Rattle.qc_script.specs.Sound.{IsControlFor, IsPhaseFor, IsScriptFor}
 use Rattle.qc_script.specs.declared.script.PhaseLines.{PhaseLines}
 use Rattle.qc_script.specs.declared.script.Script.{Script}
+use Rattle.qc_inbox.specs.Inboxes.{Inboxes, Tray}
 use Rattle.qc_inbox.specs.Inputs.{IsWithin}
 use Rattle.qc_inbox.specs.Kept.{IsKept, Shows}
 use Rattle.qc_inbox.specs.Picks.{calls_at, calls_of}
 use Rattle.qc_inbox.specs.Rooms.{tray_at}
-use Rattle.qc_inbox.specs.declared.inboxes.Inboxes.{Inboxes}
-use Rattle.qc_inbox.specs.declared.tray.Tray.{Tray}
 use Rattle.qc_inbox.proofs.Sent.{sends_count}
 
 -- an actor calls no more commands than there are steps

@@ -15,13 +15,12 @@ use Rattle.qc_script.specs.Ready.{step_of_control}
 use Rattle.qc_script.specs.declared.script.CommandLine.{CommandLine}
 use Rattle.qc_script.specs.declared.script.PhaseLines.{PhaseLines}
 use Rattle.qc_script.specs.declared.script.Script.{Script}
+use Rattle.qc_inbox.specs.Inboxes.{Inboxes, Tray}
 use Rattle.qc_inbox.specs.Kept.{IsKept, Shows, tray_of}
 use Rattle.qc_inbox.specs.Picks.{calls_of}
 use Rattle.qc_inbox.specs.Rooms.{after_control, after_phase, none_left, tray_at, with_command, with_commands, with_control_gone}
 use Rattle.qc_inbox.specs.Tallies.{Tally, count}
 use Rattle.qc_inbox.specs.Trays.{empty_tray, tray_asked, tray_begun, tray_opened}
-use Rattle.qc_inbox.specs.declared.inboxes.Inboxes.{Inboxes}
-use Rattle.qc_inbox.specs.declared.tray.Tray.{Tray}
 use Rattle.qc_inbox.proofs.Keeping.{kept_step}
 use Rattle.qc_inbox.proofs.Sent.{Keeps, same}
 use Rattle.qc_inbox.proofs.Shown.{numbers-append}

@@ -1,5 +1,5 @@
 -- Counts of messages, by pairs of actors, and lists with one item changed.
-use Rattle.std.proofs.Common.{◌≡◌, ℕ, zero, suc, replicate, ◌+◌, ◌*◌, ◌<◌, ◌≤◌, ◌==◌, Bool, true, false, if◌then◌else◌, List, length, get_or, set, refl, ap, sym, subst, ◌∙◌, arith}
+use Rattle.std.proofs.Common.{◌≡◌, ℕ, zero, suc, replicate, ◌+◌, ◌*◌, ◌<◌, ◌==◌, Bool, true, false, if◌then◌else◌, List, length, get_or, set, refl, ap, sym, subst, ◌∙◌, arith}
 use Rattle.std.proofs.lemmas.Bool.{eq-eqb, eqb-false, eqb-true}
 use Rattle.std.proofs.lemmas.List.{get_or-set_other, get_or-set_same}
 use Rattle.qc_script.specs.Inbox.{count_of, one_more}
@@ -56,13 +56,6 @@ count_more t a b x y long a_within b_within y_within =
     ∙ ap (λ (same : Bool). if same then count t x y + 1 else count t x y) (same_place a b x y b_within y_within)
 
 -- no count is above that of all
-
-pub few_more : (xs : List ℕ) (all k : ℕ) → k < length xs → AreFew xs all → AreFew (set xs k (get_or xs k 0 + 1)) (all + 1)
-few_more xs all k within few j = subst (λ (n : ℕ). n ≤ all + 1) (sym (more_of xs k j within)) (by (k == j))
-  where
-    by : (t : Bool) → (if t then count_of xs j + 1 else count_of xs j) ≤ all + 1
-    by true = let low : count_of xs j ≤ all = few j in omega arith
-    by false = let low : count_of xs j ≤ all = few j in omega arith
 
 pub few_none : (n : ℕ) → AreFew (replicate n 0) 0
 few_none zero k = omega arith

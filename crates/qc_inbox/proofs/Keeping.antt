@@ -14,12 +14,12 @@ use Rattle.qc_msg.specs.Deeds.{envelope_of, mail}
 use Rattle.qc_msg.specs.Steps.{Entry, marked}
 use Rattle.qc_script.specs.Inbox.{Inbox, comes, empty_inbox, goes, inbox, inbox_at}
 use Rattle.qc_script.specs.declared.script.Script.{Script}
+use Rattle.qc_inbox.specs.Inboxes.{Inboxes}
 use Rattle.qc_inbox.specs.Kept.{AreBetweenActors, AreNumbered, IsKept, Shows}
 use Rattle.qc_inbox.specs.Picks.{calls_at, calls_of}
 use Rattle.qc_inbox.specs.Rooms.{after_send, empty_inboxes}
 use Rattle.qc_inbox.specs.Tallies.{Tally, place}
 use Rattle.qc_inbox.specs.Trays.{empty_tray}
-use Rattle.qc_inbox.specs.declared.inboxes.Inboxes.{Inboxes}
 use Rattle.qc_inbox.proofs.Counting.{place_within}
 use Rattle.qc_inbox.proofs.Shipping.{sending_shown}
 

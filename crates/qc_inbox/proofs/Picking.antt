@@ -11,16 +11,15 @@ use Rattle.qc_msg.specs.Steps.{Entry}
 use Rattle.qc_script.specs.Inbox.{inbox}
 use Rattle.qc_script.specs.Ready.{ready}
 use Rattle.qc_script.specs.declared.script.Script.{Script}
+use Rattle.qc_inbox.specs.Inboxes.{Inboxes, Tray}
 use Rattle.qc_inbox.specs.Inputs.{input_in, input_of}
 use Rattle.qc_inbox.specs.Kept.{IsKept, Shows}
 use Rattle.qc_inbox.specs.Picks.{calls_of, comes_before, first_of, is_held, picked, rank_at, rank_of, sooner, unless_held}
 use Rattle.qc_inbox.specs.PicksKept.{input_rank, picked_in, rank_in}
 use Rattle.qc_inbox.specs.Rooms.{tray_at}
-use Rattle.qc_inbox.specs.declared.inboxes.Inboxes.{Inboxes}
 use Rattle.qc_inbox.specs.declared.input.Input.{Input}
-use Rattle.qc_inbox.specs.declared.pick.Candidate.{Candidate}
-use Rattle.qc_inbox.specs.declared.pick.Rank.{Rank}
-use Rattle.qc_inbox.specs.declared.tray.Tray.{Tray}
+use Rattle.qc_inbox.specs.declared.input.Candidate.{Candidate}
+use Rattle.qc_inbox.specs.declared.input.Rank.{Rank}
 use Rattle.qc_inbox.proofs.Seeing.{ready_kept}
 
 -- the first of some actors, by ranks that are the same
@@ -124,10 +123,6 @@ no_rank calls (Some g) is = absurd (some_none _ is)
 a_rank : (calls : ℕ) (o : Option Given) (r : Rank) → option_map (rank_of calls) o ≡ Some r → IsSome o
 a_rank calls None r is = absurd (let never : ⊥ = cc in never)
 a_rank calls (Some g) r is = refl
-
-rank_none : (held : Bool) (rank : Option Rank) → rank ≡ None → unless_held held rank ≡ None
-rank_none true rank is = refl
-rank_none false rank is = is
 
 rank_some : (held : Bool) (rank : Option Rank) (r : Rank) → unless_held held rank ≡ Some r → (held ≡ false) × (rank ≡ Some r)
 rank_some true rank r is = absurd (let never : ⊥ = cc in never)

@@ -7,9 +7,9 @@ use Rattle.qc_decl.specs.declared.declaration.Declaration.{Declaration}
 use Rattle.qc_msg.specs.Steps.{Entry}
 use Rattle.qc_script.specs.declared.script.Script.{Script}
 use Rattle.qc_inbox.specs.Picks.{comes_before, first_of, picked, rank_at, sooner}
-use Rattle.qc_inbox.specs.declared.pick.Candidate.{Candidate}
-use Rattle.qc_inbox.specs.declared.pick.Rank.{Rank}
-use Rattle.qc_inbox.specs.declared.pick.Rank.TheVariants.{Copy, Lost, Command}
+use Rattle.qc_inbox.specs.declared.input.Candidate.{Candidate}
+use Rattle.qc_inbox.specs.declared.input.Rank.{Rank}
+use Rattle.qc_inbox.specs.declared.input.Rank.TheVariants.{Copy, Lost, Command}
 use Rattle.qc_inbox.proofs.Picking.{none_first, some_first}
 
 -- the order of ranks

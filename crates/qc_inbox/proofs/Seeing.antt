@@ -7,11 +7,10 @@ use Rattle.qc_msg.specs.Steps.{Entry}
 use Rattle.qc_script.specs.Inbox.{inbox}
 use Rattle.qc_script.specs.Ready.{ready, takes_commands}
 use Rattle.qc_script.specs.declared.script.Script.{Script}
+use Rattle.qc_inbox.specs.Inboxes.{Inboxes, Tray}
 use Rattle.qc_inbox.specs.Inputs.{after_controls, input_in, input_of, next_in}
 use Rattle.qc_inbox.specs.Kept.{IsKept, Shows, tray_of}
 use Rattle.qc_inbox.specs.Picks.{calls_of}
-use Rattle.qc_inbox.specs.declared.inboxes.Inboxes.{Inboxes}
-use Rattle.qc_inbox.specs.declared.tray.Tray.{Tray}
 use Rattle.qc_inbox.proofs.Taking.{ready_shown}
 
 pub ready_kept : (decl : Declaration) (script : Script) (h : List Entry) (kept : Inboxes) (a : ℕ) → IsKept script h kept → a < 34

@@ -7,12 +7,11 @@ use Rattle.qc_link.specs.declared.rule.Fate.{Fate}
 use Rattle.qc_msg.specs.declared.message.Envelope.{Envelope}
 use Rattle.qc_msg.specs.declared.turn.Posting.{Posting}
 use Rattle.qc_script.specs.Inbox.{Inbox, comes, comes_with, count_of, goes, goes_with, one_more}
+use Rattle.qc_inbox.specs.Inboxes.{Inboxes, Tray}
 use Rattle.qc_inbox.specs.Kept.{Shows, tray_of}
 use Rattle.qc_inbox.specs.Rooms.{after_send, tray_at, with_coming, with_going}
 use Rattle.qc_inbox.specs.Tallies.{count}
 use Rattle.qc_inbox.specs.Trays.{empty_tray, tray_comes, tray_goes}
-use Rattle.qc_inbox.specs.declared.inboxes.Inboxes.{Inboxes}
-use Rattle.qc_inbox.specs.declared.tray.Tray.{Tray}
 use Rattle.qc_inbox.proofs.Counting.{at_set, count_more, more_of}
 use Rattle.qc_inbox.proofs.Sent.{Counts, comes_counts, sends_count}
 use Rattle.qc_inbox.proofs.Shown.{comes_shown, goes_shown}

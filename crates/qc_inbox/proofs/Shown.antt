@@ -7,9 +7,9 @@ use Rattle.qc_msg.specs.declared.message.Envelope.{Envelope}
 use Rattle.qc_msg.specs.declared.message.Message.{Message}
 use Rattle.qc_msg.specs.declared.message.Message.TheVariants as messages
 use Rattle.qc_script.specs.Inbox.{Inbox, answers_by, comes_at_once, comes_with, goes_with, has_number, is_request, one_more, request_answered, request_sent, with_copies, with_number, without_number}
+use Rattle.qc_inbox.specs.Inboxes.{Tray}
 use Rattle.qc_inbox.specs.Kept.{numbers_of, tray_of}
 use Rattle.qc_inbox.specs.Trays.{tray_answered, tray_answered_by, tray_asks, tray_comes, tray_goes, tray_lost_unless, tray_with_copies}
-use Rattle.qc_inbox.specs.declared.tray.Tray.{Tray}
 
 -- numbers of copies
 

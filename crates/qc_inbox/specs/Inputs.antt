@@ -6,13 +6,11 @@ use Rattle.qc_msg.specs.declared.step.Control.{Control}
 use Rattle.qc_msg.specs.declared.step.Control.TheVariants as controls
 use Rattle.qc_msg.specs.declared.step.Given.{Given}
 use Rattle.qc_msg.specs.declared.step.Given.TheVariants as given
-use Rattle.qc_msg.specs.declared.step.Step.{Step}
-use Rattle.qc_script.specs.Ready.{step_of_control, takes_commands}
+use Rattle.qc_script.specs.Ready.{takes_commands}
+use Rattle.qc_inbox.specs.Inboxes.{Inboxes, Tray}
 use Rattle.qc_inbox.specs.Rooms.{tray_at}
-use Rattle.qc_inbox.specs.declared.inboxes.Inboxes.{Inboxes}
 use Rattle.qc_inbox.specs.declared.input.Input.{Input}
 use Rattle.qc_inbox.specs.declared.input.Input.TheVariants.{Copy, Lost, Command as Called}
-use Rattle.qc_inbox.specs.declared.tray.Tray.{Tray}
 
 -- an input, its message named by its number
 abbrev pub input_of : Given → Input
@@ -47,11 +45,6 @@ after_controls (c ∷ cs) input = None
 
 abbrev pub input_in : Declaration → ℕ → Inboxes → Option Input
 input_in decl a i = after_controls i.controls (next_in (takes_commands decl a) (tray_at i.trays a))
-
--- the step of the first control line left, where it has one
-abbrev pub first_step : List Control → Option Step
-first_step [] = None
-first_step (c ∷ cs) = step_of_control c
 
 -- the actors that a control line cuts or heals are actors
 abbrev pub IsWithin : Control → Type 0

@@ -6,11 +6,10 @@ use Rattle.qc_msg.specs.Deeds.{mail}
 use Rattle.qc_msg.specs.Steps.{Entry}
 use Rattle.qc_script.specs.Inbox.{Inbox, count_of, inbox}
 use Rattle.qc_script.specs.declared.script.Script.{Script}
+use Rattle.qc_inbox.specs.Inboxes.{Inboxes, Tray}
 use Rattle.qc_inbox.specs.Picks.{calls_of}
 use Rattle.qc_inbox.specs.Rooms.{tray_at}
 use Rattle.qc_inbox.specs.Tallies.{count}
-use Rattle.qc_inbox.specs.declared.inboxes.Inboxes.{Inboxes}
-use Rattle.qc_inbox.specs.declared.tray.Tray.{Tray}
 
 abbrev pub numbers_of : List Envelope → List ℕ
 numbers_of es = map (λ (e : Envelope). e.number) es

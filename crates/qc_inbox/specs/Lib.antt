@@ -1,5 +1,6 @@
 pub mod Few
 pub mod Tallies
+pub mod Inboxes
 pub mod Trays
 pub mod Rooms
 pub mod Inputs

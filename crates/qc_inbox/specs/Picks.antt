@@ -11,9 +11,9 @@ use Rattle.qc_msg.specs.declared.step.Step.TheVariants as steps
 use Rattle.qc_msg.specs.Steps.{Entry}
 use Rattle.qc_script.specs.Ready.{ready}
 use Rattle.qc_script.specs.declared.script.Script.{Script}
-use Rattle.qc_inbox.specs.declared.pick.Candidate.{Candidate}
-use Rattle.qc_inbox.specs.declared.pick.Rank.{Rank}
-use Rattle.qc_inbox.specs.declared.pick.Rank.TheVariants.{Copy, Lost, Command}
+use Rattle.qc_inbox.specs.declared.input.Candidate.{Candidate}
+use Rattle.qc_inbox.specs.declared.input.Rank.{Rank}
+use Rattle.qc_inbox.specs.declared.input.Rank.TheVariants.{Copy, Lost, Command}
 
 -- how many commands an actor called in this phase
 

@@ -2,15 +2,15 @@
 use Rattle.std.specs.Prelude.{ℕ, List, Bool, Option, option_map}
 use Rattle.qc_decl.specs.Actors.{actors}
 use Rattle.qc_decl.specs.declared.declaration.Declaration.{Declaration}
+use Rattle.qc_inbox.specs.Inboxes.{Inboxes}
 use Rattle.qc_inbox.specs.Inputs.{input_in}
 use Rattle.qc_inbox.specs.Picks.{first_of, is_held, unless_held}
 use Rattle.qc_inbox.specs.Rooms.{tray_at}
-use Rattle.qc_inbox.specs.declared.inboxes.Inboxes.{Inboxes}
+use Rattle.qc_inbox.specs.declared.input.Candidate.{Candidate}
 use Rattle.qc_inbox.specs.declared.input.Input.{Input}
 use Rattle.qc_inbox.specs.declared.input.Input.TheVariants as inputs
-use Rattle.qc_inbox.specs.declared.pick.Candidate.{Candidate}
-use Rattle.qc_inbox.specs.declared.pick.Rank.{Rank}
-use Rattle.qc_inbox.specs.declared.pick.Rank.TheVariants.{Copy, Lost, Command}
+use Rattle.qc_inbox.specs.declared.input.Rank.{Rank}
+use Rattle.qc_inbox.specs.declared.input.Rank.TheVariants.{Copy, Lost, Command}
 
 abbrev pub input_rank : ℕ → Input → Rank
 input_rank calls (inputs.Copy number) = Copy number

@@ -13,11 +13,10 @@ use Rattle.qc_msg.specs.declared.turn.Turn.{Turn}
 use Rattle.qc_script.specs.declared.script.CommandLine.{CommandLine}
 use Rattle.qc_script.specs.declared.script.PhaseLines.{PhaseLines}
 use Rattle.qc_script.specs.declared.script.Script.{Script}
+use Rattle.qc_inbox.specs.Inboxes.{Inboxes, Tray}
 use Rattle.qc_inbox.specs.Tallies.{count, no_messages, one_message_more}
 use Rattle.qc_inbox.specs.Trays.{empty_tray, tray_asked, tray_begun, tray_comes, tray_goes, tray_opened, tray_taken}
 use Rattle.qc_inbox.specs.Trays.{tray_told}
-use Rattle.qc_inbox.specs.declared.inboxes.Inboxes.{Inboxes}
-use Rattle.qc_inbox.specs.declared.tray.Tray.{Tray}
 
 abbrev pub tray_at : List Tray → ℕ → Tray
 tray_at trays a = get_or trays a empty_tray

@@ -1,5 +1,5 @@
--- What is kept of an actor's inbox: messages are named by their numbers. What all inboxes have in common, cuts, counts
--- and control lines, stands beside the trays.
+-- What changes in an actor's tray. What all inboxes have in common, cuts, counts and control lines, stands beside the
+-- trays.
 use Rattle.std.specs.Prelude.{ℕ, ◌+◌, Bool, true, false, if◌then◌else◌, List, [], ◌∷◌, ◌++◌, drop}
 use Rattle.qc_link.specs.declared.rule.Fate.{Fate}
 use Rattle.qc_link.specs.declared.rule.Fate.TheVariants.{Pass, Drop, Twice, Late, Again}
@@ -7,7 +7,7 @@ use Rattle.qc_msg.specs.declared.message.Message.{Message}
 use Rattle.qc_msg.specs.declared.message.Message.TheVariants as messages
 use Rattle.qc_msg.specs.declared.step.Command.{Command}
 use Rattle.qc_script.specs.Inbox.{comes_at_once, has_number, is_request, with_number, without_number}
-use Rattle.qc_inbox.specs.declared.tray.Tray.{Tray}
+use Rattle.qc_inbox.specs.Inboxes.{Tray}
 
 abbrev pub empty_tray : Tray
 empty_tray =

@@ -23,13 +23,13 @@ ghost use Rattle.qc_script.specs.Ready.{controls_left, ready, step_of_control};
 ghost use Rattle.qc_script.specs.Sound.{IsScriptFor};
 ghost use Rattle.qc_script.specs.declared.script.PhaseLines.{PhaseLines};
 ghost use Rattle.qc_script.specs.declared.script.Script.{Script};
+ghost use Rattle.qc_inbox.specs.Inboxes.{Inboxes};
 ghost use Rattle.qc_inbox.specs.Inputs.{IsWithin, input_in, input_of};
 ghost use Rattle.qc_inbox.specs.Kept.{IsKept};
 ghost use Rattle.qc_inbox.specs.Picks.{comes_before, is_held, picked, rank_at};
 ghost use Rattle.qc_inbox.specs.PicksKept.{picked_in};
 ghost use Rattle.qc_inbox.specs.Rooms.{after_control, after_phase, after_take, after_turn, empty_inboxes, tray_at};
-ghost use Rattle.qc_inbox.specs.declared.pick.Rank.{Rank};
-ghost use Rattle.qc_inbox.specs.declared.inboxes.Inboxes.{Inboxes};
+ghost use Rattle.qc_inbox.specs.declared.input.Rank.{Rank};
 
 /// Before the first step, nothing waits for anybody.
 pub fn new_trays_are_kept()

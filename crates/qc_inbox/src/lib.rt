@@ -1,4 +1,5 @@
-//! What is ready for each actor, kept beside a history of a script.
+//! What is ready for each actor, kept beside a history of a script: definitions
+//! and laws. The code is `qc_mailbox`, which shows these values.
 //!
 //! Beside the history stands, for each actor, a tray: which copies wait, which
 //! of its requests are lost, which commands it is asked. So what is ready next
@@ -10,28 +11,18 @@
 //!    and each step keeps that: an input that is taken, a turn that is posted, a
 //!    phase that begins, a control line that acts (`inputs_keep_trays`,
 //!    `turns_keep_trays`, `phases_keep_trays`, `controls_keep_trays`).
-//! 2. What `ready` answers is ready, and where it is a message, that was sent to
-//!    the actor and is found under its number (`trays_show_what_is_ready`,
-//!    `ready_messages_were_sent`).
-//! 3. `pick` answers who comes next: none just where nothing is ready, else one
+//! 2. What the trays show as ready is ready, and where it is a message, that was
+//!    sent to the actor and is found under its number
+//!    (`trays_show_what_is_ready`, `ready_messages_were_sent`).
+//! 3. The trays tell who comes next: none just where nothing is ready, else one
 //!    that comes before all others (`picks_are_made_by_trays`,
 //!    `who_comes_next_has_something_ready`, `who_comes_next_is_first`).
-//! 4. A message takes one look at its fate, and no work grows with the history,
-//!    the script or its rules.
-//! 5. After want of memory an `Inboxes` shows nothing, and is to be dropped.
 #![tactic(auto)]
 
-mod inboxes;
 mod input;
 mod laws;
-mod pick;
-mod queue;
-mod tally;
-mod tray;
-mod trays;
 
-pub use inboxes::Inboxes;
-pub use input::Input;
+pub use input::{Candidate, Input, Rank};
 pub use laws::{
     controls_keep_trays, inboxes_agree, inputs_keep_trays, new_trays_are_kept, phases_keep_trays,
     picks_are_made_by_trays, ready_messages_have_senders, ready_messages_were_sent,
@@ -39,8 +30,3 @@ pub use laws::{
     turns_keep_trays, waiting_messages_were_sent, who_comes_next_has_something_ready,
     who_comes_next_is_first,
 };
-pub use pick::{Candidate, Rank};
-pub use queue::Queue;
-pub use tally::Counts;
-pub use tray::Tray;
-pub use trays::Trays;

@@ -1,5 +1,5 @@
 -- What holds of each item of a list, where one is changed or all are, one after another.
-use Rattle.std.proofs.Common.{◌≡◌, ℕ, zero, suc, ◌+◌, ◌<◌, List, [], ◌∷◌, ◌++◌, length, get_or, map, set, take, drop, refl, ap, sym, subst, ◌∙◌, arith}
+use Rattle.std.proofs.Common.{◌≡◌, ℕ, zero, suc, ◌+◌, ◌<◌, List, [], ◌∷◌, ◌++◌, length, get_or, map, set, take, drop, refl, ap, subst, ◌∙◌, arith}
 use Rattle.std.specs.List.{AllByRecursion as Every}
 
 pub every_get : {A : Type 0} (P : A → Type 0) (xs : List A) (a : ℕ) (d : A) → Every P xs → a < length xs → P (get_or xs a d)

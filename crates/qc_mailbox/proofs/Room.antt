@@ -1,9 +1,9 @@
 -- How the room of mailboxes goes on, where one of them is changed.
-use Rattle.std.proofs.Common.{◌≡◌, ℕ, zero, suc, ◌+◌, ◌<◌, ◌≤◌, List, [], ◌∷◌, ap, sym, ◌∙◌, arith, length, get_or, map, set, subst}
+use Rattle.std.proofs.Common.{◌≡◌, ℕ, ◌+◌, ◌<◌, ◌≤◌, List, [], ◌∷◌, ap, sym, ◌∙◌, arith, length, get_or, map, set, subst}
 use Rattle.std.specs.List.{AllByRecursion as Every}
+use Rattle.qc_inbox.specs.Inboxes.{Tray}
 use Rattle.qc_inbox.specs.Rooms.{tray_at}
 use Rattle.qc_inbox.specs.Trays.{empty_tray}
-use Rattle.qc_inbox.specs.declared.tray.Tray.{Tray}
 use Rattle.qc_mailbox.specs.Boxes.{HasRoom, HasUsed, tray}
 use Rattle.qc_mailbox.specs.Phases.{HasOpened, HasOthers, IsPrepared}
 use Rattle.qc_mailbox.specs.Queues.{items, spare}

@@ -1,8 +1,8 @@
 -- What is kept in mailboxes: the inboxes that they show, and room.
 use Rattle.std.specs.Prelude.{ℕ, ◌≡◌, ◌*◌, List, Bool, length, map}
 use Rattle.std.specs.List.{AllByRecursion as Every}
+use Rattle.qc_inbox.specs.Inboxes.{Inboxes}
 use Rattle.qc_inbox.specs.Tallies.{Tally}
-use Rattle.qc_inbox.specs.declared.inboxes.Inboxes.{Inboxes}
 use Rattle.qc_link.specs.declared.plan.Link.{Link}
 use Rattle.qc_msg.specs.declared.step.Control.{Control}
 use Rattle.qc_mailbox.specs.Boxes.{HasRoom, tray}

@@ -1,5 +1,4 @@
 use Rattle.std.proofs.Common.{◌<◌, ◌+◌, arith, length}
-use Rattle.std.specs.List.{AllByRecursion as Every}
 use Rattle.qc_inbox.specs.Trays.{tray_asked}
 use Rattle.qc_mailbox.specs.Phases.{IsPrepared}
 use Rattle.qc_mailbox.proofs.Each.{every_weaker}

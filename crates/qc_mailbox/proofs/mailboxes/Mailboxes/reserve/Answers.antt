@@ -1,6 +1,4 @@
-use Rattle.std.proofs.Common.{rules, ◌≡◌, ◌*◌, ◌∙◌, arith, subst}
-use Rattle.std.specs.List.{AllByRecursion as Every}
-use Rattle.qc_mailbox.specs.Boxes.{HasRoom}
+use Rattle.std.proofs.Common.{◌∙◌}
 use Rattle.qc_mailbox.proofs.mailboxes.Mailboxes.reserve.Goals as goal
 
 pub invariant_of-self : goal.invariant_of-self

@@ -1,6 +1,4 @@
-use Rattle.std.proofs.Common.{rules, ◌≡◌, ◌+◌, ◌-◌, ◌*◌, ◌<◌, ◌≤◌, ◌∙◌, arith, subst}
-use Rattle.std.specs.List.{AllByRecursion as Every}
-use Rattle.qc_mailbox.specs.Boxes.{HasRoom}
+use Rattle.std.proofs.Common.{rules, ◌+◌, ◌-◌, ◌*◌, ◌<◌, ◌≤◌, ◌∙◌, arith}
 use Rattle.qc_mailbox.proofs.Room.{less_room}
 use Rattle.qc_mailbox.proofs.mailboxes.Mailboxes.send.Goals as goal
 

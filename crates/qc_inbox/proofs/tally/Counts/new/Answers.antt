@@ -1,6 +1,0 @@
-use Rattle.std.proofs.Common.{refl}
-use Rattle.qc_inbox.proofs.Counting.{few_none}
-use Rattle.qc_inbox.proofs.tally.Counts.new.Goals as goal
-
-pub invariant_of-result : goal.invariant_of-result
-invariant_of-result c = (refl, few_none 1156)

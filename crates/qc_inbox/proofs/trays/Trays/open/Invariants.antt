@@ -1,8 +1,0 @@
-use Rattle.std.proofs.Common.{◌≡◌, ◌++◌, drop, map, take}
-use Rattle.qc_inbox.specs.Trays.{tray_opened}
-use Rattle.qc_inbox.proofs.trays.Trays.open.Given as goal
-
-abbrev pub invariant-actors : goal.invariant-actors
-invariant-actors l =
-    l.self-inside.items.items
-    ≡ map (tray_opened l.none_left) (take l.actor l.initial.self-inside.items.items) ++ drop l.actor l.initial.self-inside.items.items
