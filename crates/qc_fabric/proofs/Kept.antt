@@ -1,45 +1,35 @@
 -- An empty history has what the state under the lock keeps; looks, rooms, one step more keep it.
-use Rattle.std.proofs.Common.{◌≡◌, ℕ, zero, suc, ◌+◌, ◌-◌, ◌<◌, ◌≤◌, Bool, true, false, List, [], ◌∷◌, ◌++◌, length, refl, ap, sym, ◌∙◌, subst, inl, inr, arith, length-append, Option, Some, None, sum, replicate}
+use Rattle.std.proofs.Common.{◌≡◌, ℕ, zero, suc, ◌+◌, ◌-◌, ◌<◌, ◌≤◌, Bool, true, false, List, [], ◌∷◌, ◌++◌, length, refl, ap, sym, ◌∙◌, subst, arith, length-append, Option, Some, None, sum, replicate}
 use Rattle.std.specs.Prelude.{slice_get, slice_set}
 use Rattle.std.proofs.lemmas.List.{length-replicate}
 use mathlib.Core.Logic.{dite}
-use mathlib.Core.List.{IsPrefix}
 use native.Mathlib.Decide.{ℕ_discrete}
 use Rattle.atomic_table.specs.Seated.{TableId}
 use Rattle.qc_decl.specs.Actors.{actors, controller}
 use Rattle.qc_decl.specs.declared.declaration.Declaration.{Declaration}
 use Rattle.qc_inbox.specs.Inboxes.{Inboxes}
 use Rattle.qc_inbox.specs.Kept.{IsKept}
-use Rattle.qc_inbox.specs.Rooms.{after_take, empty_inboxes}
-use Rattle.qc_inbox.specs.declared.input.Input.{Input}
-use Rattle.qc_inbox.proofs.Acting.{kept_take}
-use Rattle.qc_inbox.proofs.Among.{ready_found}
+use Rattle.qc_inbox.specs.Rooms.{empty_inboxes}
 use Rattle.qc_inbox.proofs.Keeping.{kept_begins}
 use Rattle.qc_mailbox.specs.Kept.{Roomy}
-use Rattle.qc_msg.specs.declared.step.Given.{Given}
 use Rattle.qc_msg.specs.declared.step.Step.{Step}
 use Rattle.qc_msg.specs.declared.turn.Turn.{Turn}
-use Rattle.qc_msg.specs.Deeds.{Deed, Takes as TakesInput, deeds, mail}
-use Rattle.qc_msg.specs.Steps.{Entry, marked, step_of}
-use Rattle.qc_msg.proofs.Growth.{deeds-taken}
+use Rattle.qc_msg.specs.Deeds.{Deed}
+use Rattle.qc_msg.specs.Steps.{Entry, marked}
 use Rattle.qc_pass.specs.declared.token.Pass.{Pass}
 use Rattle.qc_pass.specs.declared.token.Right.{Right}
 use Rattle.qc_pass.specs.Made.{IsFirst}
-use Rattle.qc_pass.specs.Tokens.{right_table, number, seen, room, all, rooms, Met}
+use Rattle.qc_pass.specs.Tokens.{right_table, number, room, all, rooms, Met}
 use Rattle.qc_script.specs.Ready.{phase_of}
-use Rattle.qc_script.specs.Runs.{Runs, begins, takes}
+use Rattle.qc_script.specs.Runs.{Runs, begins}
 use Rattle.qc_script.specs.Sound.{IsScriptFor}
 use Rattle.qc_script.specs.declared.script.Script.{Script}
 use Rattle.qc_fabric.specs.Events.{before_last_event, begins_event}
 use Rattle.qc_fabric.specs.Feeds.{HasGrown}
-use Rattle.qc_fabric.specs.Inputs.{IsInputFor, given_by}
 use Rattle.qc_fabric.specs.Logs.{Logged, full_of}
 use Rattle.qc_fabric.specs.Stills.{IsStill, most_history}
-use Rattle.qc_fabric.specs.Tells.{HasNext, HasNone, Sees, Takes, Waits}
-use Rattle.qc_fabric.proofs.Events.{before_event, begins_input}
-use Rattle.qc_fabric.proofs.Fed.{bit_clear, bit_set, deeds_of_front, get_else, get_here, get_within, length_set, rooms_kept, sum-set, sum_cons}
-use Rattle.qc_fabric.proofs.Phased.{phase_input}
-use Rattle.qc_fabric.proofs.Ready.{given_ready, none_ready}
+use Rattle.qc_fabric.proofs.Events.{before_event}
+use Rattle.qc_fabric.proofs.Fed.{get_else, get_here, length_set, rooms_kept, sum-set, sum_cons}
 
 pub no_room_at : (old new : List ℕ) (p i j : ℕ) → p < length old → new ≡ slice_set old p 0 → i ≡ p → slice_get new i ≡ Some (suc j) → ⊥
 no_room_at old new p i j made is same f =

@@ -1,4 +1,4 @@
-use Rattle.std.proofs.Common.{◌≡◌, ◌∙◌, None, sym, slice_get}
+use Rattle.std.proofs.Common.{◌≡◌, None, sym, slice_get}
 use Rattle.qc_script.specs.Ready.{controls_left}
 use Rattle.qc_fabric.proofs.Advancing.{nothing_comes}
 use Rattle.qc_fabric.proofs.still.Still.next_order.Goals as goal

@@ -1,4 +1,4 @@
-use Rattle.std.proofs.Common.{◌≡◌, ◌+◌, ◌≤◌, length, arith}
+use Rattle.std.proofs.Common.{◌≤◌, length, arith}
 use Rattle.qc_script.specs.Ready.{phase_of}
 use Rattle.qc_fabric.proofs.Phased.{phase_few}
 use Rattle.qc_fabric.proofs.still.Still.next_phase.Goals as goal
