@@ -11,11 +11,12 @@ use qc_fabric::{Named, Still};
 use qc_list::OutOfMemory;
 use std::alloc::Global;
 
-/// Whose call it is: an actor's, or else the controller's.
-fn caller(decl: &Declaration, act: Act) -> usize {
+/// Which of so many seats it is whose call it is: an actor's, or else the
+/// controller's, which is the last.
+fn caller(act: Act, count: usize) -> usize {
     match act {
         Act::Take(actor) | Act::Post(actor, _) | Act::Leave(actor) => actor as usize,
-        _ => decl.sites as usize + decl.clients as usize + 1,
+        _ => count.saturating_sub(1),
     }
 }
 
@@ -29,7 +30,7 @@ fn act<N: Named>(
 ) -> Result<Saw, OutOfMemory>
     requires { decl.now ≡ N.declaration }
 {
-    match seats.get_mut(caller(decl, act)) {
+    match seats.get_mut(caller(act, seats.len())) {
         Some(seat) => seat.act(alloc, still, decl, act),
         None => Ok(Saw::MayNot),
     }

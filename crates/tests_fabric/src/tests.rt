@@ -23,7 +23,7 @@ fn plays<R: Threads + Wait + Sync + Abort>(
     requires { length script.now ≤ most_script_bytes }
 {
     let Some(ran) = played(rt, alloc, script, rows, Then::Ends) else {
-        panic!(rt; "no memory");
+        panic!(rt; "it wants memory, or refuses the script");
     };
     assert_eq!(rt; ran.rows, rows.len());
     assert_eq!(rt; ran.steps.as_slice(), steps);

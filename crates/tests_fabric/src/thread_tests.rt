@@ -103,7 +103,7 @@ fn numbers_of(steps: &[Short]) -> Option<(u32, u32)> {
 #[test]
 fn two_threads_have_open_inputs_at_once_and_a_pick_waits(rt: HostRuntime) {
     let Some(ran) = played(&rt, rt.alloc(), SCRIPT, &ASKED, Then::Threads) else {
-        panic!(rt; "no memory");
+        panic!(rt; "it wants memory, or refuses the script");
     };
     assert_eq!(rt; ran.rows, ASKED.len());
     let Some(numbers) = numbers_of(ran.steps.as_slice()) else {

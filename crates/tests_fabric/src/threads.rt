@@ -83,8 +83,8 @@ fn hold<N: Named, R: Wait>(
 }
 
 /// The seat's actor takes an input. Once the other has one too it asks itself, and
-/// is picked: it is held, and so is whatever waits for it. It takes and posts
-/// only when the other's pick comes, and was waited for.
+/// is picked: it is held, and nothing is ready for anybody else. It takes and posts
+/// again once the other's pick has come, and hasn't answered for a while.
 fn serve_and_hold<N: Named, R: Wait>(
     rt: &R,
     alloc: Global,
