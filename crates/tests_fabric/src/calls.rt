@@ -4,8 +4,8 @@ use crate::steps::Short;
 use qc_fabric::Picked;
 
 /// What an actor does for its input.
-#[derive(Clone, Copy, Debug, PartialEq, Eq)]
-pub enum Says {
+#[derive(Clone, Copy)]
+pub(crate) enum Says {
     /// Nothing.
     Nothing,
     /// It sends a request to an actor.
@@ -19,8 +19,8 @@ pub enum Says {
 }
 
 /// A call.
-#[derive(Clone, Copy, Debug, PartialEq, Eq)]
-pub enum Act {
+#[derive(Clone, Copy)]
+pub(crate) enum Act {
     /// The controller begins the next phase.
     Phase,
     /// The first control line left of the phase acts, where it may.
@@ -42,8 +42,8 @@ pub enum Act {
 }
 
 /// What a call answers.
-#[derive(Clone, Copy, Debug, PartialEq, Eq)]
-pub enum Saw {
+#[derive(Clone, Copy, Debug, PartialEq)]
+pub(crate) enum Saw {
     /// The phase began.
     Began,
     /// The control line acted.
@@ -63,4 +63,4 @@ pub enum Saw {
 }
 
 /// A call, and what it is to answer.
-pub type Row = (Act, Saw);
+pub(crate) type Row = (Act, Saw);

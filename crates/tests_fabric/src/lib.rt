@@ -3,30 +3,31 @@
 //! stands in tables.
 #![tactic(auto)]
 
-mod calls;
 mod conduct;
-mod lock;
-mod locked;
-mod meeting;
-mod rows;
-mod seat;
-mod steps;
-mod threads;
-mod top;
-mod turn;
-mod waiting;
-mod watch;
+mod scripts;
 
-pub use calls::{Act, Row, Saw, Says};
 pub use conduct::AnyTurn;
-pub use locked::run_by_lock;
-pub use steps::Short;
-pub use threads::{Both, Served, run_by_threads};
-pub use top::{Ran, run, script_of};
-pub use waiting::{Waited, Watched, run_by_waiting};
-pub use watch::Call;
+pub use scripts::script_of;
 
+#[cfg(test)]
+mod calls;
+#[cfg(test)]
+mod lock;
+#[cfg(test)]
+mod meeting;
+#[cfg(test)]
+mod rows;
+#[cfg(test)]
+mod seat;
+#[cfg(test)]
+mod steps;
 #[cfg(test)]
 mod tests;
 #[cfg(test)]
 mod thread_tests;
+#[cfg(test)]
+mod threads;
+#[cfg(test)]
+mod top;
+#[cfg(test)]
+mod turn;

@@ -2,7 +2,7 @@
 
 ghost use Rattle.std.specs.Prelude.{◌≡◌};
 
-use crate::calls::{Act, Saw, Says};
+use crate::calls::{Saw, Says};
 use crate::conduct::AnyTurn;
 use crate::seat::Seat;
 use crate::steps::short_of;
@@ -51,29 +51,6 @@ impl<N: Named> Seat<N> {
         };
         fabric.reserve(rt, &mut self.pass, &turn)?;
         Ok(Saw::Posted(fabric.post(rt, &mut self.pass, turn)))
-    }
-
-    /// The call of a row that is an actor's, and what it answers. Other calls may
-    /// not be made.
-    pub(crate) fn act_by_lock<R: Wait>(
-        &mut self,
-        rt: &R,
-        alloc: Global,
-        fabric: &Fabric<AnyTurn, N>,
-        decl: &Declaration,
-        act: Act,
-    ) -> Result<Saw, OutOfMemory>
-        requires { decl.now ≡ N.declaration }
-    {
-        match act {
-            Act::Take(_) => self.take_by_lock(rt, alloc, fabric, decl),
-            Act::Post(_, says) => self.post_by_lock(rt, alloc, fabric, decl, says),
-            Act::Leave(_) => {
-                self.leave_by_lock(rt, fabric);
-                Ok(Saw::Left)
-            }
-            _ => Ok(Saw::MayNot),
-        }
     }
 
     /// The actor isn't held any more.

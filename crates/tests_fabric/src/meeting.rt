@@ -3,11 +3,16 @@
 use std::sync::atomic::{AtomicU64, Ordering};
 use std::thread::yield_now;
 
-/// Holds two threads back until both have come.
+/// How often a thread asks at most whether others have come.
+const MOST_POLLS: u32 = 10_000_000;
+
+/// How often it asks whether another comes that is to wait.
+const POLLS: u32 = 100_000;
+
+/// Counts how often threads have come.
 #[derive(Drop)]
 pub(crate) struct Meeting {
     came: AtomicU64,
-    met: AtomicU64,
 }
 
 impl Meeting {
@@ -15,25 +20,39 @@ impl Meeting {
     pub(crate) fn new() -> Meeting {
         Meeting {
             came: AtomicU64::new(0),
-            met: AtomicU64::new(0),
         }
     }
 
-    /// The thread comes, and waits until both have come, but asks no more than
-    /// 10,000,000 times. Only who saw that both have come is counted as met.
-    pub(crate) fn wait(&self) {
+    /// A thread comes.
+    pub(crate) fn come(&self) {
         self.came.fetch_add(1, Ordering::SeqCst);
-        for _ in 0..10_000_000u32 {
-            if self.came.load(Ordering::SeqCst) == 2 {
-                self.met.fetch_add(1, Ordering::SeqCst);
-                return;
+    }
+
+    /// A thread comes, and waits until threads have come so often. Whether they
+    /// have.
+    pub(crate) fn meet(&self, count: u64) -> bool {
+        self.come();
+        self.waited(count)
+    }
+
+    /// Waits until threads have come so often. Whether they have.
+    pub(crate) fn waited(&self, count: u64) -> bool {
+        self.reaches(count, MOST_POLLS)
+    }
+
+    /// Whether threads come so often within a while.
+    pub(crate) fn soon(&self, count: u64) -> bool {
+        self.reaches(count, POLLS)
+    }
+
+    /// Whether threads have come so often before it was asked for so many times.
+    fn reaches(&self, count: u64, polls: u32) -> bool {
+        for _ in 0..polls {
+            if self.came.load(Ordering::SeqCst) >= count {
+                return true;
             }
             yield_now();
         }
-    }
-
-    /// How many threads saw that both have come.
-    pub(crate) fn met(&self) -> u64 {
-        self.met.load(Ordering::SeqCst)
+        false
     }
 }

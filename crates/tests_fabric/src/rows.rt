@@ -11,44 +11,28 @@ use qc_fabric::{Named, Still};
 use qc_list::OutOfMemory;
 use std::alloc::Global;
 
+/// Which of so many seats it is whose call it is: an actor's, or else the
+/// controller's, which is the last.
+fn caller(act: Act, count: usize) -> usize {
+    match act {
+        Act::Take(actor) | Act::Post(actor, _) | Act::Leave(actor) => actor as usize,
+        _ => count.saturating_sub(1),
+    }
+}
+
 /// The call, and what it answers. Whoever has no seat may do nothing.
 fn act<N: Named>(
     alloc: Global,
     decl: &Declaration,
     still: &mut Still<AnyTurn, N>,
-    seats: &mut Vec<Seat<N>>,
+    seats: &mut [Seat<N>],
     act: Act,
 ) -> Result<Saw, OutOfMemory>
     requires { decl.now ≡ N.declaration }
 {
-    match act {
-        Act::Phase => match seats.last_mut() {
-            Some(seat) => seat.begin(still, decl),
-            None => Ok(Saw::MayNot),
-        },
-        Act::Control => match seats.last_mut() {
-            Some(seat) => seat.control(still, decl),
-            None => Ok(Saw::MayNot),
-        },
-        Act::Pick => Ok(Saw::Picked(still.pick(decl))),
-        Act::Take(actor) => match seats.get_mut(actor as usize) {
-            Some(seat) => seat.take(alloc, still, decl),
-            None => Ok(Saw::MayNot),
-        },
-        Act::Post(actor, says) => match seats.get_mut(actor as usize) {
-            Some(seat) => seat.post(alloc, still, decl, says),
-            None => Ok(Saw::MayNot),
-        },
-        Act::Leave(actor) => match seats.get_mut(actor as usize) {
-            Some(seat) => {
-                seat.leave(still);
-                Ok(Saw::Left)
-            }
-            None => Ok(Saw::MayNot),
-        },
-        Act::Quiet => Ok(Saw::Is(still.quiet(decl))),
-        Act::Full => Ok(Saw::Is(still.full().is_some())),
-        Act::Held(actor) => Ok(Saw::Is(still.is_held(actor))),
+    match seats.get_mut(caller(act, seats.len())) {
+        Some(seat) => seat.act(alloc, still, decl, act),
+        None => Ok(Saw::MayNot),
     }
 }
 
@@ -57,15 +41,15 @@ pub(crate) fn play<N: Named>(
     alloc: Global,
     decl: &Declaration,
     still: &mut Still<AnyTurn, N>,
-    seats: &mut Vec<Seat<N>>,
+    seats: &mut [Seat<N>],
     rows: &[Row],
-) -> Result<usize, OutOfMemory>
+) -> usize
     requires { decl.now ≡ N.declaration }
 {
     for (place, row) in rows.iter().enumerate() {
-        if act(alloc, decl, still, seats, row.0)? != row.1 {
-            return Ok(place);
+        if act(alloc, decl, still, seats, row.0) != Ok(row.1) {
+            return place;
         }
     }
-    Ok(rows.len())
+    rows.len()
 }

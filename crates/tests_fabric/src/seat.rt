@@ -5,7 +5,7 @@ ghost use Rattle.qc_decl.specs.Actors.{controller};
 ghost use Rattle.qc_fabric.specs.Logs.{full_of};
 ghost use Rattle.qc_pass.specs.Tokens.{number, pass_table};
 
-use crate::calls::{Saw, Says};
+use crate::calls::{Act, Saw, Says};
 use crate::conduct::AnyTurn;
 use crate::steps::short_of;
 use crate::turn::{is_actor, is_controller, turn_of};
@@ -19,7 +19,7 @@ use std::marker::{Model, PhantomData};
 
 /// A pass of the run's table.
 #[derive(Drop)]
-pub struct Seat<N: Named> {
+pub(crate) struct Seat<N: Named> {
     pub(crate) pass: Pass<Step>,
     of: PhantomData<N>,
 }
@@ -56,8 +56,31 @@ impl<N: Named> Seat<N> {
         is_controller(decl, self.pass.number()) && still.full().is_none()
     }
 
+    /// The call, and what it answers.
+    pub(crate) fn act(
+        &mut self,
+        alloc: Global,
+        still: &mut Still<AnyTurn, N>,
+        decl: &Declaration,
+        act: Act,
+    ) -> Result<Saw, OutOfMemory>
+        requires { decl.now ≡ N.declaration }
+    {
+        match act {
+            Act::Phase => self.begin(still, decl),
+            Act::Control => self.control(still, decl),
+            Act::Pick => Ok(Saw::Picked(still.pick(decl))),
+            Act::Take(_) => self.take(alloc, still, decl),
+            Act::Post(_, says) => self.post(alloc, still, decl, says),
+            Act::Leave(_) => Ok(self.leave(still)),
+            Act::Quiet => Ok(Saw::Is(still.quiet(decl))),
+            Act::Full => Ok(Saw::Is(still.full().is_some())),
+            Act::Held(actor) => Ok(Saw::Is(still.is_held(actor))),
+        }
+    }
+
     /// The next phase begins, where it may.
-    pub(crate) fn begin(
+    fn begin(
         &mut self,
         still: &mut Still<AnyTurn, N>,
         decl: &Declaration,
@@ -77,7 +100,7 @@ impl<N: Named> Seat<N> {
     }
 
     /// The first control line left of the phase acts, where it may.
-    pub(crate) fn control(
+    fn control(
         &mut self,
         still: &mut Still<AnyTurn, N>,
         decl: &Declaration,
@@ -97,7 +120,7 @@ impl<N: Named> Seat<N> {
     }
 
     /// The actor takes its next input.
-    pub(crate) fn take(
+    fn take(
         &mut self,
         alloc: Global,
         still: &mut Still<AnyTurn, N>,
@@ -114,7 +137,7 @@ impl<N: Named> Seat<N> {
     }
 
     /// The actor makes room for its turn, and posts it.
-    pub(crate) fn post(
+    fn post(
         &mut self,
         alloc: Global,
         still: &mut Still<AnyTurn, N>,
@@ -134,8 +157,9 @@ impl<N: Named> Seat<N> {
     }
 
     /// The pass sees the history, and its actor isn't held any more.
-    pub(crate) fn leave(&mut self, still: &mut Still<AnyTurn, N>) {
+    fn leave(&mut self, still: &mut Still<AnyTurn, N>) -> Saw {
         still.look(&mut self.pass);
         still.leave(&mut self.pass);
+        Saw::Left
     }
 }

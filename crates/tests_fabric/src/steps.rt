@@ -5,7 +5,7 @@ use qc_msg::{Entry, Given, Step};
 use std::alloc::Global;
 
 /// The actor, the kind's letter, and the number of the phase or message, or 0.
-pub type Short = (u8, u8, u32);
+pub(crate) type Short = (u8, u8, u32);
 
 /// A step in short: `P`hase, cut (`X`), `H`eal, `C`alled, `G`ot, `L`ost,
 /// `W`rote, `S`ent, `T`old.

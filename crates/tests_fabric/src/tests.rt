@@ -1,12 +1,33 @@
 //! Tables of calls, with their answers and the histories that they make.
 
+ghost use Rattle.std.specs.Prelude.{◌≤◌, length};
+ghost use Rattle.qc_decl.specs.Limits.{most_script_bytes};
+
 use crate::calls::{Act, Row, Saw, Says};
-use crate::locked::run_by_lock;
 use crate::steps::Short;
-use crate::top::{run, script_of};
-use qc_decl::built_in;
+use crate::top::{Then, played};
 use qc_fabric::Picked;
-use std::test::Fail;
+use std::alloc::Global;
+use std::process::Abort;
+use std::sync::Wait;
+use std::thread::Threads;
+
+/// Each row answers what it is to, and the history is this one.
+fn plays<R: Threads + Wait + Sync + Abort>(
+    rt: &R,
+    alloc: Global,
+    script: &[u8],
+    rows: &[Row],
+    steps: &[Short],
+)
+    requires { length script.now ≤ most_script_bytes }
+{
+    let Some(ran) = played(rt, alloc, script, rows, Then::Ends) else {
+        panic!(rt; "it wants memory, or refuses the script");
+    };
+    assert_eq!(rt; ran.rows, rows.len());
+    assert_eq!(rt; ran.steps.as_slice(), steps);
+}
 
 /// Two commands of the client 3 in the first phase, and one of the client 4 in
 /// the second.
@@ -83,80 +104,8 @@ const STEPS: [Short; 16] = [
 ];
 
 #[test]
-fn calls_of_one_thread(rt: HostRuntime) -> Result<(), Fail> {
-    let alloc = rt.alloc();
-    let Some(decl) = built_in(alloc, "@three")? else {
-        return Err(Fail::from("no such declaration"));
-    };
-    let script = script_of(alloc, SCRIPT, &decl)?;
-    let ran = run(alloc, &decl, script, &ROWS)?;
-    assert_eq!(rt; ran.rows, ROWS.len());
-    assert_eq!(rt; ran.steps.as_slice(), STEPS.as_slice());
-    Ok(())
-}
-
-/// What is played before threads share the state.
-const BEFORE: [Row; 1] = [(Act::Phase, Saw::Began)];
-
-/// Each call through the lock with its answer.
-const ROWS_BY_LOCK: [Row; 24] = [
-    (Act::Take(7), Saw::MayNot),
-    (Act::Pick, Saw::Picked(Some(Picked::Actor(3)))),
-    (Act::Take(3), Saw::Took(Some((3, b'C', 0)))),
-    (Act::Post(3, Says::AsksBoth(0, 1)), Saw::Posted(0)),
-    // both sites have an open input at once
-    (Act::Pick, Saw::Picked(Some(Picked::Actor(0)))),
-    (Act::Pick, Saw::Picked(Some(Picked::Actor(1)))),
-    (Act::Take(1), Saw::Took(Some((1, b'G', 1)))),
-    (Act::Take(0), Saw::Took(Some((0, b'G', 0)))),
-    (Act::Post(0, Says::Answers(3, 0)), Saw::Posted(2)),
-    (Act::Post(1, Says::Answers(3, 1)), Saw::Posted(3)),
-    // the client leaves its input open, and isn't picked
-    (Act::Pick, Saw::Picked(Some(Picked::Actor(3)))),
-    (Act::Take(3), Saw::Took(Some((3, b'G', 2)))),
-    (Act::Leave(3), Saw::Left),
-    (Act::Take(3), Saw::Took(None)),
-    (Act::Pick, Saw::Picked(Some(Picked::Quiet))),
-    (Act::Post(3, Says::Nothing), Saw::Posted(4)),
-    // it leaves before it takes, and is picked again
-    (Act::Pick, Saw::Picked(Some(Picked::Actor(3)))),
-    (Act::Leave(3), Saw::Left),
-    (Act::Pick, Saw::Picked(Some(Picked::Actor(3)))),
-    (Act::Take(3), Saw::Took(Some((3, b'G', 3)))),
-    (Act::Post(3, Says::Tells), Saw::Posted(4)),
-    (Act::Take(3), Saw::Took(Some((3, b'C', 0)))),
-    (Act::Post(3, Says::Tells), Saw::Posted(4)),
-    (Act::Pick, Saw::Picked(Some(Picked::Quiet))),
-];
-
-/// The history that these calls make.
-const STEPS_BY_LOCK: [Short; 13] = [
-    (7, b'P', 1),
-    (3, b'C', 0),
-    (3, b'S', 0),
-    (3, b'S', 1),
-    (1, b'G', 1),
-    (0, b'G', 0),
-    (0, b'S', 2),
-    (1, b'S', 3),
-    (3, b'G', 2),
-    (3, b'G', 3),
-    (3, b'T', 0),
-    (3, b'C', 0),
-    (3, b'T', 0),
-];
-
-#[test]
-fn calls_of_one_thread_by_the_lock(rt: HostRuntime) -> Result<(), Fail> {
-    let alloc = rt.alloc();
-    let Some(decl) = built_in(alloc, "@three")? else {
-        return Err(Fail::from("no such declaration"));
-    };
-    let script = script_of(alloc, SCRIPT, &decl)?;
-    let ran = run_by_lock(&rt, alloc, &decl, script, &BEFORE, &ROWS_BY_LOCK)?;
-    assert_eq!(rt; ran.rows, ROWS_BY_LOCK.len());
-    assert_eq!(rt; ran.steps.as_slice(), STEPS_BY_LOCK.as_slice());
-    Ok(())
+fn calls_of_one_thread(rt: HostRuntime) {
+    plays(&rt, rt.alloc(), SCRIPT, &ROWS, &STEPS);
 }
 
 /// In the first phase the client 3 is cut from the site 0, and in the second they
@@ -216,14 +165,12 @@ const STEPS_OF_CUTS: [Short; 16] = [
 ];
 
 #[test]
-fn control_lines_of_one_thread(rt: HostRuntime) -> Result<(), Fail> {
-    let alloc = rt.alloc();
-    let Some(decl) = built_in(alloc, "@three")? else {
-        return Err(Fail::from("no such declaration"));
-    };
-    let script = script_of(alloc, SCRIPT_OF_CUTS, &decl)?;
-    let ran = run(alloc, &decl, script, &ROWS_OF_CUTS)?;
-    assert_eq!(rt; ran.rows, ROWS_OF_CUTS.len());
-    assert_eq!(rt; ran.steps.as_slice(), STEPS_OF_CUTS.as_slice());
-    Ok(())
+fn control_lines_of_one_thread(rt: HostRuntime) {
+    plays(
+        &rt,
+        rt.alloc(),
+        SCRIPT_OF_CUTS,
+        &ROWS_OF_CUTS,
+        &STEPS_OF_CUTS,
+    );
 }

@@ -1,69 +1,97 @@
 //! A run of a script by the rows of a table.
 
-ghost use Rattle.std.specs.Prelude.{◌≡◌, ◌+◌, ◌<◌, ◌≤◌, IfOk, length};
+ghost use Rattle.std.specs.Prelude.{◌≡◌, ◌+◌, ◌<◌, ◌≤◌, length};
 ghost use Rattle.qc_decl.specs.Accepted.{IsAccepted};
 ghost use Rattle.qc_decl.specs.Actors.{controller};
-ghost use Rattle.qc_decl.specs.Named.{IsNamed};
+ghost use Rattle.qc_decl.specs.Limits.{most_script_bytes};
 ghost use Rattle.qc_pass.specs.Made.{AreNew, IsFirst};
 ghost use Rattle.qc_pass.specs.Tokens.{table_of};
-ghost use Rattle.qc_decl.specs.Limits.{most_script_bytes};
 ghost use Rattle.qc_script.specs.Sound.{IsScriptFor};
 
 use crate::calls::Row;
 use crate::conduct::AnyTurn;
 use crate::rows::play;
+use crate::scripts::script_of;
 use crate::seat::Seat;
 use crate::steps::{Short, shorts};
-use qc_decl::Declaration;
+use crate::threads::{Both, serve_both};
+use qc_decl::{Declaration, built_in};
 use qc_fabric::{Named, Still};
 use qc_list::OutOfMemory;
 use qc_msg::Step;
 use qc_pass::{Made, Pass, Passes};
-use qc_script::{Script, ScriptFault, read, scripts_name_what_is_declared};
+use qc_script::Script;
 use std::alloc::Global;
 use std::marker::Brand;
+use std::sync::Wait;
+use std::thread::Threads;
+
+/// Whether threads share the state after the last row.
+#[derive(Clone, Copy)]
+pub(crate) enum Then {
+    /// Nobody does.
+    Ends,
+    /// Two threads do, which serve the actors 0 and 1.
+    Threads,
+}
 
 /// What a run leaves.
 #[derive(Drop)]
-pub struct Ran {
+pub(crate) struct Ran {
     /// How many rows answered what they were to, up to the first that didn't.
-    pub rows: usize,
+    pub(crate) rows: usize,
+    /// What two threads saw, where they shared the state.
+    pub(crate) both: Option<Both>,
     /// The history in short.
-    pub steps: Vec<Short>,
+    pub(crate) steps: Vec<Short>,
 }
 
-/// A script of the declaration.
-pub fn script_of(alloc: Global, bytes: &[u8], decl: &Declaration) -> Result<Script, ScriptFault>
-    requires few { length bytes.now ≤ most_script_bytes }
-    requires accepted { IsAccepted decl.now }
-    requires named { IsNamed decl.now }
-    ensures { IfOk result (IsScriptFor decl.now) }
+/// Plays the rows over the built-in declaration of three sites. None where memory
+/// is wanted, or the script is refused.
+pub(crate) fn played<R: Threads + Wait + Sync>(
+    rt: &R,
+    alloc: Global,
+    script: &[u8],
+    rows: &[Row],
+    then: Then,
+) -> Option<Ran>
+    requires { length script.now ≤ most_script_bytes }
 {
-    scripts_name_what_is_declared();
-    read(alloc, bytes, decl)
+    let Ok(Some(decl)) = built_in(alloc, "@three") else {
+        return None;
+    };
+    let Ok(script) = script_of(alloc, script, &decl) else {
+        return None;
+    };
+    run(rt, alloc, &decl, script, rows, then).ok()
 }
 
 /// Plays the rows, under a name of their own.
-pub fn run(
+fn run<R: Threads + Wait + Sync>(
+    rt: &R,
     alloc: Global,
     decl: &Declaration,
     script: Script,
     rows: &[Row],
+    then: Then,
 ) -> Result<Ran, OutOfMemory>
     requires sound { IsScriptFor decl.now script }
     requires accepted { IsAccepted decl.now }
 {
     let made = Passes::make(alloc, decl.sites + decl.clients + 2)?;
-    run_named::<Brand>(alloc, decl, script, made, rows)
+    run_named::<Brand, R>(rt, alloc, decl, script, made, rows, then)
 }
 
-/// Plays the rows, by these passes.
-fn run_named<N: Named>(
+/// Plays the rows, by these passes. Threads share the state only where each row
+/// answers what it is to.
+fn run_named<N: Named + Send + Sync, R: Threads + Wait + Sync>(
+    rt: &R,
     alloc: Global,
     decl: &Declaration,
     script: Script,
     made: Made<Step>,
     rows: &[Row],
+    then: Then,
 ) -> Result<Ran, OutOfMemory>
     requires declaration { decl.now ≡ N.declaration }
     requires script { script ≡ N.script }
@@ -74,12 +102,20 @@ fn run_named<N: Named>(
     requires each { AreNew N.table made.each.items }
 {
     let (mut still, mut seats) = begun::<N>(alloc, decl, script, made)?;
-    let rows = play(alloc, decl, &mut still, &mut seats, rows)?;
-    ended(alloc, still, rows)
+    let count = play(alloc, decl, &mut still, seats.as_mut_slice(), rows);
+    let are_shared = matches!(then, Then::Threads) && count == rows.len();
+    let pair = pair_of(seats, are_shared);
+    let (still, both) = go_on(rt, alloc, decl, still, pair);
+    let steps = steps_of(alloc, still)?;
+    Ok(Ran {
+        rows: count,
+        both,
+        steps,
+    })
 }
 
 /// The state at its beginning, with a seat for each pass.
-pub(crate) fn begun<N: Named>(
+fn begun<N: Named>(
     alloc: Global,
     decl: &Declaration,
     script: Script,
@@ -114,13 +150,36 @@ fn seats_of<N: Named>(alloc: Global, each: Vec<Pass<Step>>) -> Result<Vec<Seat<N
     Ok(seats)
 }
 
-/// What the state leaves.
-pub(crate) fn ended<N: Named>(
+/// The seats of the actors 0 and 1, where they are asked for.
+fn pair_of<N: Named>(seats: Vec<Seat<N>>, are_shared: bool) -> Option<(Seat<N>, Seat<N>)> {
+    if !are_shared {
+        return None;
+    }
+    let mut seats = seats.into_iter();
+    seats.next().zip(seats.next())
+}
+
+/// The threads of two actors share the state, if there are any.
+fn go_on<N: Named + Send + Sync, R: Threads + Wait + Sync>(
+    rt: &R,
     alloc: Global,
+    decl: &Declaration,
     still: Still<AnyTurn, N>,
-    rows: usize,
-) -> Result<Ran, OutOfMemory> {
+    pair: Option<(Seat<N>, Seat<N>)>,
+) -> (Still<AnyTurn, N>, Option<Both>)
+    requires { decl.now ≡ N.declaration }
+{
+    match pair {
+        Some(pair) => {
+            let (still, both) = serve_both(rt, alloc, decl, still, pair);
+            (still, Some(both))
+        }
+        None => (still, None),
+    }
+}
+
+/// The history that the state leaves, in short.
+fn steps_of<N: Named>(alloc: Global, still: Still<AnyTurn, N>) -> Result<Vec<Short>, OutOfMemory> {
     let (_, entries) = still.end();
-    let steps = shorts(alloc, &entries)?;
-    Ok(Ran { rows, steps })
+    shorts(alloc, &entries)
 }

@@ -14,14 +14,20 @@ use std::alloc::Global;
 pub(crate) fn is_actor(decl: &Declaration, number: u8) -> bool
     ensures { result ≡ true → number < actors decl.now }
 {
-    u32::from(number) < u32::from(decl.sites) + u32::from(decl.clients)
+    match number.checked_sub(decl.sites) {
+        Some(client) => client < decl.clients,
+        None => true,
+    }
 }
 
 /// Whether the number is the controller's.
 pub(crate) fn is_controller(decl: &Declaration, number: u8) -> bool
     ensures { result ≡ true → number ≡ controller decl.now }
 {
-    u32::from(number) == u32::from(decl.sites) + u32::from(decl.clients) + 1
+    match number.checked_sub(decl.sites) {
+        Some(rest) => rest.checked_sub(decl.clients) == Some(1),
+        None => false,
+    }
 }
 
 /// The turn, or none where a receiver's number is none of an actor.
