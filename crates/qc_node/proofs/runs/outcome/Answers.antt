@@ -1,12 +1,11 @@
-use Rattle.std.proofs.Common.{◌≡◌, ◌∙◌, ◌++◌, List, ap, sym, subst}
+use Rattle.std.proofs.Common.{◌≡◌, List, sym, subst}
 use Rattle.qc_msg.specs.Steps.{Entry}
 use Rattle.qc_node.specs.Ends.{HasEnded, IsScriptEnd}
 use Rattle.qc_node.proofs.runs.outcome.Goals as goal
 
 pub returns-clause-ended : goal.returns-clause-ended
 returns-clause-ended g c =
-    let all : c.extend.new.self ≡ c.end-script.result.1.items = c.in_ok-extend.ensures.ok ∙ ap (λ (h : List Entry). h ++ c.end-script.result.1.items) c.new-history.ensures in
-    subst (λ (h : List Entry). HasEnded g.N.Named.declaration g.N.Named.script h c.args.end) (sym all) (record {
+    subst (λ (h : List Entry). HasEnded g.N.Named.declaration g.N.Named.script h c.args.end) (sym c.from_vec.ensures) (record {
       inputs = c.args.still.open_inputs;
       opens = c.end-script.ensures.inputs;
       runs = c.end-script.ensures.runs;
