@@ -12,8 +12,6 @@ ghost use Rattle.qc_report.specs.Causes.{status_of};
 ghost use Rattle.quorum.specs.Words.{cause_of_kind};
 
 mod outside;
-#[cfg(test)]
-mod tests;
 
 use outside::{FileShelf, OutSink};
 use qc_outside::{EmptyRack, OpenGate};
