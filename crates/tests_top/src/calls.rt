@@ -96,7 +96,7 @@ fn is_ending(alloc: Global, ended: &Ended, want: Ending) -> Result<bool, OutOfMe
     Ok(
         told.as_slice() == text.as_bytes()
             && ended.status == status
-            && ended.history.steps() == steps,
+            && ended.history.items().len() as u64 == steps,
     )
 }
 
