@@ -11,9 +11,7 @@ ghost use Rattle.std.specs.Process.{exit_status};
 ghost use Rattle.qc_report.specs.Causes.{status_of};
 ghost use Rattle.quorum.specs.Words.{cause_of_kind};
 
-mod outside;
-
-use outside::{FileShelf, OutSink};
+use qc_files::{FileShelf, OutSink};
 use qc_outside::{EmptyRack, OpenGate};
 use qc_top::{Cause, cause_text, quorum_words};
 use std::io::{self, ErrorKind, Write};
