@@ -87,7 +87,8 @@ pub record IsRefused (ballots : List Ballot) (why : Why) : Type 0 where
   pub agree : AreFor before
 
 -- the commit waits: nothing is written, sent or told
-pub record IsWaiting (old : Desk) (b : Begun) (told : ℕ) (calls : List Call) (ballots : List Ballot) (desk : Desk) : Type 0 where
+pub record IsWaiting (old : Desk) (b : Begun) (told : ℕ) (calls : List Call) (ballots : List Ballot) (desk : Desk)
+    : Type 0 where
   pub voting : desk.voting ≡ Some (record { begun = b; calls = calls; ballots = ballots })
   pub clock : desk.clock.value ≡ told
   pub client : desk.client ≡ old.client

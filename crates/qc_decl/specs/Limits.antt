@@ -1,5 +1,6 @@
--- The limits, each once: how much there may be of each thing. Those of types, certificates and plans stand in the crates
--- that test them, and are handed on. `src/limits.rt` has the same numbers for code, and laws say that both agree.
+-- The limits, each once: how much there may be of each thing. Those of types, certificates and plans stand in the
+-- crates that test them, and are handed on. `src/limits.rt` has the same numbers for code, and laws say that both
+-- agree.
 use Rattle.std.specs.Prelude.{ℕ}
 pub use Rattle.qc_table.specs.Limits.{most_events, most_invocations, most_responses, most_rows, most_states}
 pub use Rattle.qc_cert.specs.Limits.{most_triples}
@@ -45,8 +46,8 @@ most_declaration_bytes = 4194304
 abbrev pub most_script_bytes : ℕ
 most_script_bytes = 1048576
 
--- Of a run: the operations of a transaction, the bytes of a journal record's body, the steps, the committed operations with a
--- response, and the lines that messages carry.
+-- Of a run: the operations of a transaction, the bytes of a journal record's body, the steps, the committed operations
+-- with a response, and the lines that messages carry.
 
 abbrev pub most_transaction_operations : ℕ
 most_transaction_operations = 16

@@ -36,24 +36,28 @@ called decl front (commands.Epoch number) = moved front quiet
 
 -- the first answer to an open request counts, or that it is lost: the round notes it, and goes on
 
-abbrev pub read_counts : Declaration → Front → Transaction → ℕ → ℕ → List Call → RoundState → ℕ → ℕ → Option Answer → FrontMove
+abbrev pub read_counts : Declaration → Front → Transaction → ℕ → ℕ → List Call → RoundState
+    → ℕ → ℕ → Option Answer → FrontMove
 read_counts decl front t object inv calls round number site answer =
     reads decl front (read_with t site object answer) object inv (without_call calls number)
     (note round site (standing_of answer))
 
-abbrev pub append_counts : Declaration → Front → Transaction → ℕ → ℕ → ℕ → List Call → RoundState → ℕ → ℕ → Option Answer → FrontMove
+abbrev pub append_counts : Declaration → Front → Transaction → ℕ → ℕ → ℕ → List Call → RoundState
+    → ℕ → ℕ → Option Answer → FrontMove
 append_counts decl front t object inv event calls round number site answer =
     appends decl front (appended_with t site answer) object inv event (without_call calls number)
     (note round site (standing_of answer))
 
 -- all else is put aside
 
-abbrev pub reading_takes : Declaration → Front → Transaction → ℕ → ℕ → List Call → RoundState → ℕ → Option Answer → Option ℕ → FrontMove
+abbrev pub reading_takes : Declaration → Front → Transaction → ℕ → ℕ → List Call → RoundState
+    → ℕ → Option Answer → Option ℕ → FrontMove
 reading_takes decl front t object inv calls round number answer None = moved front quiet
 reading_takes decl front t object inv calls round number answer (Some site) =
     read_counts decl (learns front answer) t object inv calls round number site answer
 
-abbrev pub appending_takes : Declaration → Front → Transaction → ℕ → ℕ → ℕ → List Call → RoundState → ℕ → Option Answer → Option ℕ → FrontMove
+abbrev pub appending_takes : Declaration → Front → Transaction → ℕ → ℕ → ℕ → List Call → RoundState
+    → ℕ → Option Answer → Option ℕ → FrontMove
 appending_takes decl front t object inv event calls round number answer None = moved front quiet
 appending_takes decl front t object inv event calls round number answer (Some site) =
     append_counts decl (learns front answer) t object inv event calls round number site answer

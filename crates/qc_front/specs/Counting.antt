@@ -1,4 +1,5 @@
--- What an answer that counts, or a lost request, comes to: for the round, the client's clock and epoch, the transaction.
+-- What an answer that counts, or a lost request, comes to: for the round, the client's clock and epoch, and the
+-- transaction.
 use Rattle.std.specs.Prelude.{ℕ, max, Option, Some, None}
 use Rattle.qc_plan.specs.declared.standing.Standing.{Standing}
 use Rattle.qc_plan.specs.declared.standing.Standing.TheVariants as standings

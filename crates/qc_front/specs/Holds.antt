@@ -54,13 +54,15 @@ pub record AreOpen (calls : List Call) (round : RoundState) : Type 0 where
 
 -- what is waited for: there is room for the operation, and the round is one for what it needs
 
-pub record ReadingHolds (decl : Declaration) (client : ℕ) (t : Transaction) (object inv : ℕ) (calls : List Call) (round : RoundState) : Type 0 where
+pub record ReadingHolds (decl : Declaration) (client : ℕ) (t : Transaction) (object inv : ℕ)
+    (calls : List Call) (round : RoundState) : Type 0 where
   pub room : length t.begun.ops < most_transaction_operations
   pub round_is : IsRound decl client t.begun.epoch (read_need_of decl t.begun.epoch object inv) round
   pub awaits : IsAwaiting round
   pub calls_are : AreOpen calls round
 
-pub record AppendingHolds (decl : Declaration) (client : ℕ) (t : Transaction) (object inv event : ℕ) (calls : List Call) (round : RoundState) : Type 0 where
+pub record AppendingHolds (decl : Declaration) (client : ℕ) (t : Transaction) (object inv event : ℕ)
+    (calls : List Call) (round : RoundState) : Type 0 where
   pub room : length t.begun.ops < most_transaction_operations
   -- the event is the view's answer
   pub chosen : answer_of decl t object inv ≡ Some event

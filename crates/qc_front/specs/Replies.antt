@@ -22,7 +22,8 @@ pub record ReadCame (decl : Declaration) (client : ℕ) (t : Transaction) (objec
   pub came : verdict round ≡ come
 
 -- an append round for the event that the view answers an invocation with came to this
-pub record AppendCame (decl : Declaration) (client : ℕ) (t : Transaction) (object inv event : ℕ) (come : Verdict) : Type 0 where
+pub record AppendCame (decl : Declaration) (client : ℕ) (t : Transaction) (object inv event : ℕ) (come : Verdict)
+    : Type 0 where
   pub chosen : answer_of decl t object inv ≡ Some event
   pub round : RoundState
   pub round_is : IsRound decl client t.begun.epoch (append_need_of decl t.begun.epoch object event) round

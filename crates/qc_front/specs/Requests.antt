@@ -31,7 +31,8 @@ IsFor decl t (Appending object inv event calls round) want = want ≡ append_wan
 
 -- a request is the running `do`'s. It names its transaction, the transaction's epoch, and the life of the receiver's
 -- first grant
-pub record IsRequestOf (decl : Declaration) (front : Front) (to : ℕ) (tx : TxId) (epoch life : ℕ) (want : Want) : Type 0 where
+pub record IsRequestOf (decl : Declaration) (front : Front) (to : ℕ) (tx : TxId) (epoch life : ℕ) (want : Want)
+    : Type 0 where
   pub t : Transaction
   pub begun : front.transaction ≡ Some t
   pub tx_is : tx ≡ t.begun.tx

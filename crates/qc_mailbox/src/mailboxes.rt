@@ -1,7 +1,8 @@
 //! What is kept beside a history: what waits for each actor, which actors are
 //! cut from each other, and how many messages there were.
 
-ghost use Rattle.std.specs.Prelude.{◌≡◌, ℕ, ◌+◌, ◌^◌, ◌≤◌, ◌<◌, IfOk, IfSome, OnOk, OnErr, drop, length, map, slice_get};
+ghost use Rattle.std.specs.Prelude.{◌≡◌, ℕ, ◌+◌, ◌^◌, ◌≤◌, ◌<◌, IfOk, IfSome, OnOk, OnErr};
+ghost use Rattle.std.specs.Prelude.{drop, length, map, slice_get};
 ghost use Rattle.std.specs.List.{AllByRecursion as Every};
 ghost use Rattle.qc_msg.specs.declared.turn.Posting.{Posting};
 ghost use Rattle.qc_inbox.specs.Inputs.{IsWithin, next_in};

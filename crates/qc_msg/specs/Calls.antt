@@ -20,6 +20,7 @@ abbrev pub calls_from : ℕ → List ℕ → List Call
 calls_from first [] = []
 calls_from first (site ∷ sites) = record { number = first; site = site } ∷ calls_from (first + 1) sites
 
--- the messages of the last turn have the numbers from this one on: where no request is open, these sites were asked in it
+-- the messages of the last turn have the numbers from this one on: where no request is open, these sites were asked in
+-- it
 abbrev pub numbered_from : List Call → List ℕ → ℕ → List Call
 numbered_from calls sites first = if length calls == 0 then calls_from first sites else calls

@@ -100,7 +100,14 @@ impl Turn {
 
     /// A turn without a record.
     fn says(alloc: Global, sends: Sends, told: Option<Reply>) -> Turn
-        ensures { result ≡ record { write = None; sends = sends; told = told; failed_sends = []; failed_told = None; append = Done } }
+        ensures { result ≡ record {
+          write = None;
+          sends = sends;
+          told = told;
+          failed_sends = [];
+          failed_told = None;
+          append = Done;
+        } }
     {
         Turn {
             write: None,

@@ -25,8 +25,8 @@ pub record Closes (plan : Plan) (weight : ℕ) : Type 0 where
   pub last : (object event : ℕ) → 0 < need_of plan.last object event
       → total plan.weights < weight + need_of plan.last object event
 
--- the least such weight, which is 0 where no threshold is above 0; where no sites weigh just so much, a smaller number may
--- pick the same sites
+-- the least such weight, which is 0 where no threshold is above 0; where no sites weigh just so much, a smaller number
+-- may pick the same sites
 pub record IsCloseWeight (plan : Plan) (weight : ℕ) : Type 0 where
   pub closes : Closes plan weight
   pub least : (lighter : ℕ) → Closes plan lighter → weight ≤ lighter

@@ -27,8 +27,8 @@ given_up Begun = Dead
 given_up (Committed stamp) = Committed stamp
 given_up Dead = Dead
 
--- one deed of its client more: its record is written; its sites are told that it is given up; it begins, or its client is
--- told that it has ended
+-- one deed of its client more: its record is written; its sites are told that it is given up; it begins, or its client
+-- is told that it has ended
 
 abbrev pub status_written : TxId → Status → Record → Status
 status_written tx s records.Life = s
@@ -84,9 +84,9 @@ status_at tx s (Tells reply) = status_told tx s reply
 abbrev pub status : List Deed → TxId → Status
 status ds tx = fold (status_at tx) Unborn ds
 
--- A deed is right for a transaction that is so far. Only an unborn one begins, only a begun one gets a record. Sites are
--- told that it committed, with its stamp, only once it has; that it is given up only of one that was begun and has no
--- record; that it is active only while it is
+-- A deed is right for a transaction that is so far. Only an unborn one begins, only a begun one gets a record. Sites
+-- are told that it committed, with its stamp, only once it has; that it is given up only of one that was begun and has
+-- no record; that it is active only while it is
 
 abbrev pub IsRightRecord : TxId → Status → Record → Type 0
 IsRightRecord tx s records.Life = Unit {0}

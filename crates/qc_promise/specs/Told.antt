@@ -21,8 +21,8 @@ pub record HasCommit (commits : List Commit) (tx : TxId) (stamp : Stamp) : Type 
   pub named : commit.tx ≡ tx
   pub stamped : commit.stamp ≡ stamp
 
--- Committed is told with a record's stamp; Aborted and Dropped only of a transaction without one; and of each record its
--- client was told
+-- Committed is told with a record's stamp; Aborted and Dropped only of a transaction without one; and of each record
+-- its client was told
 pub record AreTold (decl : Declaration) (commits : List Commit) (h : List Entry) : Type 0 where
   pub committed : (client : ℕ) (tx : TxId) (stamp : Stamp) → client < decl.clients
       → In (Committed stamp) (endings decl h client tx) → HasCommit commits tx stamp

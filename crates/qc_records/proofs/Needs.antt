@@ -58,25 +58,25 @@ promise_bounds decl h e events among =
 -- in every run
 
 module _ (decl : Declaration) (script : Script) (h : List Entry) (open_inputs : List Bool) (run : Runs (IsLawful decl) decl script h open_inputs) where
-  pub run_bounded : IsBounded decl (length h) h
-  run_bounded = all_bounded decl h (run_events decl script h open_inputs run)
+  pub bounded : IsBounded decl (length h) h
+  bounded = all_bounded decl h (run_events decl script h open_inputs run)
 
-  pub run_client : (a : ℕ) → ClockBounds (length h) (client_after decl (a - decl.sites) (deeds a [] h)).client
-  run_client a = client_bounds decl h a (run_events decl script h open_inputs run)
+  pub clocks : (a : ℕ) → ClockBounds (length h) (client_after decl (a - decl.sites) (deeds a [] h)).client
+  clocks a = client_bounds decl h a (run_events decl script h open_inputs run)
 
-  pub run_promise : (e : Envelope) → In e (mail h) → promise_in e.message ≤ length h
-  run_promise e among = promise_bounds decl h e (run_events decl script h open_inputs run) among
+  pub promises : (e : Envelope) → In e (mail h) → promise_in e.message ≤ length h
+  promises e among = promise_bounds decl h e (run_events decl script h open_inputs run) among
 
   stands : (a : ℕ) → IsAccepted decl → is_client decl a ≡ true → (before : List Deed) (n : ℕ) → Acts decl a before false n → IsReadyFor decl (client_after decl (a - decl.sites) before).client
   stands a accepted named before n acts =
       let s : Stands decl (is_running before) (client_after decl (a - decl.sites) before).client = known decl a before false n accepted.has_site accepted.sites (client_no_site decl a named) named acts in
       record { front = s.front; few = s.few }
 
-  pub run_fits : (a : ℕ) → IsAccepted decl → length h < most_steps → is_client decl a ≡ true → slice_get open_inputs a ≡ Some false → ClientFits (client_after decl (a - decl.sites) (deeds a [] h)).client
-  run_fits a accepted short named free =
+  pub fitting : (a : ℕ) → IsAccepted decl → length h < most_steps → is_client decl a ≡ true → slice_get open_inputs a ≡ Some false → ClientFits (client_after decl (a - decl.sites) (deeds a [] h)).client
+  fitting a accepted short named free =
       let turns : ActsIn decl a h false = run_acts decl script h open_inputs run a false free in
       let r : IsReadyFor decl (client_after decl (a - decl.sites) (deeds a [] h)).client = stands a accepted named (deeds a [] h) turns.above turns.acts in
-      let b : ClockBounds (length h) (client_after decl (a - decl.sites) (deeds a [] h)).client = run_client a in
+      let b : ClockBounds (length h) (client_after decl (a - decl.sites) (deeds a [] h)).client = clocks a in
       let count : (client_after decl (a - decl.sites) (deeds a [] h)).client.front.count ≤ length h = b.count in
       let front : (client_after decl (a - decl.sites) (deeds a [] h)).client.front.clock.value ≤ length h = b.front in
       let desk : (client_after decl (a - decl.sites) (deeds a [] h)).client.desk.clock.value ≤ length h = b.desk in
@@ -86,8 +86,8 @@ module _ (decl : Declaration) (script : Script) (h : List Entry) (open_inputs : 
         desk = record { clock = omega arith; few = r.few };
       }
 
-  pub run_promise_fits : (e : Envelope) → length h < most_steps → In e (mail h) → promise_in e.message < 2 ^ 63
-  run_promise_fits e short among = let low : promise_in e.message ≤ length h = run_promise e among in omega arith
+  pub promise_fits : (e : Envelope) → length h < most_steps → In e (mail h) → promise_in e.message < 2 ^ 63
+  promise_fits e short among = let low : promise_in e.message ≤ length h = promises e among in omega arith
 
   -- a turn that is posted next is short, and its messages have numbers
   pub run_short : (a : ℕ) (turn : Turn) → IsAccepted decl → slice_get open_inputs a ≡ Some true → IsLawful decl a (deeds a [] h) turn → length turn.sends ≤ 16
@@ -98,5 +98,5 @@ module _ (decl : Declaration) (script : Script) (h : List Entry) (open_inputs : 
       let short : IsClientShort decl (client_after decl (a - decl.sites) (deeds a [] h)) = clients_short decl a accepted (stands a accepted named) (deeds a [] h) true turns.above turns.acts in
       short.few))
 
-  pub run_numbers : length h < most_steps → length (mail h) + 16 < 2 ^ 32
-  run_numbers short = let low : length (mail h) ≤ length h = length-mail h in omega arith
+  pub numbers : length h < most_steps → length (mail h) + 16 < 2 ^ 32
+  numbers short = let low : length (mail h) ≤ length h = length-mail h in omega arith

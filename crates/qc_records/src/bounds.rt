@@ -1,7 +1,8 @@
 //! Bounds on clocks, counts and turns in every run, each law the contract of a
 //! function with nothing to do.
 
-ghost use Rattle.std.specs.Prelude.{◌≡◌, ◌<◌, ◌≤◌, ◌+◌, ◌-◌, ◌^◌, ℕ, Bool, true, false, List, [], Some, length, slice_get};
+ghost use Rattle.std.specs.Prelude.{◌≡◌, ◌<◌, ◌≤◌, ◌+◌, ◌-◌, ◌^◌, ℕ, Bool, true, false, List, [], Some};
+ghost use Rattle.std.specs.Prelude.{length, slice_get};
 ghost use Rattle.qc_client.specs.Conduct.{client_after};
 ghost use Rattle.qc_client.specs.Fits.{ClientFits, promise_in};
 ghost use Rattle.qc_core.specs.Conduct.{IsLawful};
@@ -21,7 +22,7 @@ ghost use Rattle.qc_script.specs.declared.script.Script.{Script};
 /// Every clock and count, of each message, site and client, is at most the
 /// number of steps. So are those that a client's calls rely on, and the clock
 /// of the promise that a message brings.
-#[tactic(auto, using(crate::proofs::Needs::run_bounded, crate::proofs::Needs::run_client, crate::proofs::Needs::run_promise))]
+#[tactic(auto, using(crate::proofs::Needs::bounded, crate::proofs::Needs::clocks, crate::proofs::Needs::promises))]
 pub fn clocks_and_counts_are_bounded()
     ensures all { (decl : Declaration) (script : Script) (h : List Entry) (open_inputs : List Bool)
         → Runs (IsLawful decl) decl script h open_inputs → IsBounded decl (length h) h }
@@ -36,7 +37,7 @@ pub fn clocks_and_counts_are_bounded()
 /// Where there are fewer steps than there may be, a client without an open
 /// input, and what it takes, have all that its calls require; and so have the
 /// numbers of messages.
-#[tactic(auto, using(crate::proofs::Needs::run_fits, crate::proofs::Needs::run_promise_fits, crate::proofs::Needs::run_numbers))]
+#[tactic(auto, using(crate::proofs::Needs::fitting, crate::proofs::Needs::promise_fits, crate::proofs::Needs::numbers))]
 pub fn clients_calls_may_be_made()
     ensures clients { (decl : Declaration) (script : Script) (h : List Entry) (open_inputs : List Bool)
         → IsAccepted decl → Runs (IsLawful decl) decl script h open_inputs → length h < most_steps

@@ -8,7 +8,8 @@ ghost use Rattle.qc_msg.specs.declared.reply.Reply.TheVariants as replies;
 ghost use Rattle.qc_promise.specs.Deals.{dealing_in};
 ghost use Rattle.qc_promise.specs.Status.{AreRight};
 ghost use Rattle.qc_promise.specs.Told.{VerdictAgrees};
-ghost use Rattle.qc_records.specs.Wrong.{asks, begun, commit, committed, first, none_read, read_it, reading, says, second, tx};
+ghost use Rattle.qc_records.specs.Wrong.{asks, begun, commit, committed, first, none_read, read_it, reading, says};
+ghost use Rattle.qc_records.specs.Wrong.{second, tx};
 
 /// A transaction doesn't begin twice, has no record before it begins, no
 /// second one, and none once it is given up; and no request is sent for it

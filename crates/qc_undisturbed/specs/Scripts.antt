@@ -27,7 +27,10 @@ at_once = record { links = []; phases = phase_of [] (line 1 ∷ line 2 ∷ []) �
 -- a rule drops a message
 abbrev pub over_a_link : Script
 over_a_link =
-    record { links = record { from = None; to = None; ordinal = None; rule = rules.Drop } ∷ []; phases = phase_of [] (line 1 ∷ []) ∷ [] }
+    record {
+      links = record { from = None; to = None; ordinal = None; rule = rules.Drop } ∷ [];
+      phases = phase_of [] (line 1 ∷ []) ∷ []
+    }
 
 -- two actors are cut from each other
 abbrev pub behind_a_cut : Script
