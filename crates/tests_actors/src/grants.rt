@@ -45,7 +45,8 @@ fn appends_are_granted(rt: HostRuntime) -> Result<(), OutOfMemory> {
             ),
             (
                 Taken::Prepare(0),
-                "write prepare 0.1.1 epoch 1 [0 0][1 0 2, 2 0 3][2.2 2.1.1 1 0 2, 5.1 1.1.1 1 0 3]; 3: 13 yes 5; else 3: 13 fault",
+                "write prepare 0.1.1 epoch 1 [0 0][1 0 2, 2 0 3][2.2 2.1.1 1 0 2, 5.1 1.1.1 1 0 3]; \
+                 3: 13 yes 5; else 3: 13 fault",
             ),
         ],
         2,

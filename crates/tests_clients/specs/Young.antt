@@ -1,5 +1,5 @@
--- What holds of a client that took few inputs, with small clocks in its messages. It is more than its calls ask, so that
--- a test may go on with any input.
+-- What holds of a client that took few inputs, with small clocks in its messages. It is more than its calls ask, so
+-- that a test may go on with any input.
 use Rattle.std.specs.Prelude.{ℕ, ◌+◌, ◌≤◌, Option, Some, None}
 use Rattle.qc_decl.specs.declared.declaration.Declaration.{Declaration}
 use Rattle.qc_commit.specs.Fits.{AsksFew}

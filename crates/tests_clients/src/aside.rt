@@ -41,7 +41,8 @@ fn only_the_first_answer_counts(rt: HostRuntime) -> Result<(), OutOfMemory> {
             (Taken::Lost(110), ""),
             (
                 Taken::Answer(111, Said::Yes(0)),
-                "write commit 5.1 1.1.1 [0 2 2]; 1: 1.1.1 is committed 5.1; 2: 1.1.1 is committed 5.1; tell Committed { stamp: Stamp { clock: 5, client: 1 } }; else tell Unknown",
+                "write commit 5.1 1.1.1 [0 2 2]; 1: 1.1.1 is committed 5.1; 2: 1.1.1 is committed 5.1; \
+                 tell Committed { stamp: Stamp { clock: 5, client: 1 } }; else tell Unknown",
             ),
             (Taken::Answer(111, Said::Fault), ""),
         ],
@@ -78,7 +79,9 @@ fn late_grants_do_not_count(rt: HostRuntime) -> Result<(), OutOfMemory> {
             (Taken::Answer(70, Said::Yes(0)), ""),
             (
                 Taken::Answer(71, Said::Yes(0)),
-                "write commit 1.1 1.1.1 [0 0 0]; 0: 1.1.1 is committed 1.1; 1: 1.1.1 is committed 1.1; 2: 1.1.1 is committed 1.1; tell Committed { stamp: Stamp { clock: 1, client: 1 } }; else tell Unknown",
+                "write commit 1.1 1.1.1 [0 0 0]; 0: 1.1.1 is committed 1.1; 1: 1.1.1 is committed 1.1; \
+                 2: 1.1.1 is committed 1.1; tell Committed { stamp: Stamp { clock: 1, client: 1 } }; \
+                 else tell Unknown",
             ),
         ],
     )

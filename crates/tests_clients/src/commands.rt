@@ -69,7 +69,9 @@ fn transactions_may_be_too_long(rt: HostRuntime) -> Result<(), OutOfMemory> {
             (Taken::Do(X, READ), "tell TooLong"),
             (
                 Taken::Commit,
-                "write commit 1.1 1.1.1 [1 0 0, 1 0 0, 1 0 0, 1 0 0, 1 0 0, 1 0 0, 1 0 0, 1 0 0, 1 0 0, 1 0 0, 1 0 0, 1 0 0, 1 0 0, 1 0 0, 1 0 0, 1 0 0]; tell Committed { stamp: Stamp { clock: 1, client: 1 } }; else tell Unknown",
+                "write commit 1.1 1.1.1 [1 0 0, 1 0 0, 1 0 0, 1 0 0, 1 0 0, 1 0 0, 1 0 0, 1 0 0, 1 0 0, 1 0 0, \
+                 1 0 0, 1 0 0, 1 0 0, 1 0 0, 1 0 0, 1 0 0]; tell Committed { stamp: Stamp { clock: 1, \
+                 client: 1 } }; else tell Unknown",
             ),
         ],
     )

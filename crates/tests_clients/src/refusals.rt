@@ -92,7 +92,9 @@ fn missing_sites_are_short(rt: HostRuntime) -> Result<(), OutOfMemory> {
             (Taken::Commit, "0: 1.1.1 epoch 1 life 1 prepare"),
             (
                 Taken::Answer(90, Said::Yes(0)),
-                "write commit 1.1 1.1.1 []; 0: 1.1.1 is committed 1.1; 1: 1.1.1 is committed 1.1; 2: 1.1.1 is committed 1.1; tell Committed { stamp: Stamp { clock: 1, client: 1 } }; else tell Unknown",
+                "write commit 1.1 1.1.1 []; 0: 1.1.1 is committed 1.1; 1: 1.1.1 is committed 1.1; \
+                 2: 1.1.1 is committed 1.1; tell Committed { stamp: Stamp { clock: 1, client: 1 } }; \
+                 else tell Unknown",
             ),
         ],
     )

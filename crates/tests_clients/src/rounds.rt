@@ -36,7 +36,8 @@ fn a_transaction_runs(rt: HostRuntime) -> Result<(), OutOfMemory> {
             ),
             (
                 Taken::Do(X, WRITE_0),
-                "1: 1.1.1 epoch 1 life 1 append 0 [3.2 2.1.1 1 0 3, 5.0 0.1.1 1 0 2][1 0 3, 3 0 2]; 2: 1.1.1 epoch 1 life 1 append 0 [3.2 2.1.1 1 0 3, 5.0 0.1.1 1 0 2][1 0 3, 3 0 2]",
+                "1: 1.1.1 epoch 1 life 1 append 0 [3.2 2.1.1 1 0 3, 5.0 0.1.1 1 0 2][1 0 3, 3 0 2]; \
+                 2: 1.1.1 epoch 1 life 1 append 0 [3.2 2.1.1 1 0 3, 5.0 0.1.1 1 0 2][1 0 3, 3 0 2]",
             ),
             (Taken::Lost(70), ""),
             (
@@ -56,7 +57,9 @@ fn a_transaction_runs(rt: HostRuntime) -> Result<(), OutOfMemory> {
             (Taken::Inquiry(1), "2: 1.1.1 is active"),
             (
                 Taken::Answer(111, Said::Yes(3)),
-                "write commit 10.1 1.1.1 [0 2 2, 0 0 1, 0 1 2]; 0: 1.1.1 is committed 10.1; 1: 1.1.1 is committed 10.1; 2: 1.1.1 is committed 10.1; tell Committed { stamp: Stamp { clock: 10, client: 1 } }; else tell Unknown",
+                "write commit 10.1 1.1.1 [0 2 2, 0 0 1, 0 1 2]; 0: 1.1.1 is committed 10.1; \
+                 1: 1.1.1 is committed 10.1; 2: 1.1.1 is committed 10.1; \
+                 tell Committed { stamp: Stamp { clock: 10, client: 1 } }; else tell Unknown",
             ),
             (Taken::Inquiry(1), "2: 1.1.1 is committed 10.1"),
             (
@@ -82,7 +85,8 @@ fn a_transaction_runs(rt: HostRuntime) -> Result<(), OutOfMemory> {
             (Taken::Answer(210, Said::Yes(0)), ""),
             (
                 Taken::Answer(211, Said::Yes(0)),
-                "write commit 11.1 1.1.2 [0 0 0]; 1: 1.1.2 is committed 11.1; 2: 1.1.2 is committed 11.1; tell Committed { stamp: Stamp { clock: 11, client: 1 } }; else tell Unknown",
+                "write commit 11.1 1.1.2 [0 0 0]; 1: 1.1.2 is committed 11.1; 2: 1.1.2 is committed 11.1; \
+                 tell Committed { stamp: Stamp { clock: 11, client: 1 } }; else tell Unknown",
             ),
         ],
     )
@@ -117,7 +121,9 @@ fn commits_without_a_participant(rt: HostRuntime) -> Result<(), OutOfMemory> {
             ),
             (
                 Taken::Commit,
-                "write commit 2.1 1.1.2 []; 0: 1.1.2 is committed 2.1; 1: 1.1.2 is committed 2.1; 2: 1.1.2 is committed 2.1; tell Committed { stamp: Stamp { clock: 2, client: 1 } }; else tell Unknown",
+                "write commit 2.1 1.1.2 []; 0: 1.1.2 is committed 2.1; 1: 1.1.2 is committed 2.1; \
+                 2: 1.1.2 is committed 2.1; tell Committed { stamp: Stamp { clock: 2, client: 1 } }; \
+                 else tell Unknown",
             ),
         ],
     )
@@ -157,7 +163,8 @@ fn absent_operations_are_recorded(rt: HostRuntime) -> Result<(), OutOfMemory> {
             (Taken::Answer(80, Said::Yes(0)), ""),
             (
                 Taken::Answer(81, Said::Yes(0)),
-                "write commit 1.1 1.1.1 [2 1 -, 2 0 0]; 1: 1.1.1 is committed 1.1; 2: 1.1.1 is committed 1.1; tell Committed { stamp: Stamp { clock: 1, client: 1 } }; else tell Unknown",
+                "write commit 1.1 1.1.1 [2 1 -, 2 0 0]; 1: 1.1.1 is committed 1.1; 2: 1.1.1 is committed 1.1; \
+                 tell Committed { stamp: Stamp { clock: 1, client: 1 } }; else tell Unknown",
             ),
         ],
     )

@@ -122,7 +122,8 @@ fn certificates_and_plans(rt: HostRuntime) {
             ),
             (
                 "[[epoch]]",
-                "[[epoch]]\nweights = [1, 1, 1]\ninitial = [\"x R 3\"]\nfinal = [\"x W0:ok 1\", \"x W1:ok 1\"]\n[[epoch]]",
+                "[[epoch]]\nweights = [1, 1, 1]\ninitial = [\"x R 3\"]\n\
+                 final = [\"x W0:ok 1\", \"x W1:ok 1\"]\n[[epoch]]",
                 "accepted",
             ),
             (

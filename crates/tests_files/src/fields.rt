@@ -31,7 +31,8 @@ fn keys_are_required(rt: HostRuntime) {
             ("[[object]]", "[[objects]]", "field object"),
             ("[[epoch]]", "[[epochs]]", "field epoch"),
             (
-                "depends = [\"R W0:ok\", \"R W1:ok\"]\ntriples = [\"0 0 -\", \"0 1 W1:ok\", \"1 1 -\", \"1 0 W0:ok\"]\n",
+                "depends = [\"R W0:ok\", \"R W1:ok\"]\n\
+                 triples = [\"0 0 -\", \"0 1 W1:ok\", \"1 1 -\", \"1 0 W0:ok\"]\n",
                 "",
                 "0 no start register",
             ),

@@ -272,9 +272,12 @@ fn whole_scripts_are_read(rt: HostRuntime) -> Result<(), ScriptFault> {
         &rt,
         rt.alloc(),
         &[
-            "link s0 * * drop\nlink * * 2 again\nphase\ncut s0 c0\nfail s1 at 4\nc0 begin\nadmin epoch 2\nc0 do f Reset\nphase\nphase\nheal c0 s0",
-            "link s0 * * drop\r\nlink * * 2 again\r\nphase\r\ncut s0 c0\r\nfail s1 at 4\r\nc0 begin\r\nadmin epoch 2\r\nc0 do f Reset\r\nphase\r\nphase\r\nheal c0 s0\r",
-            "# first\n\nlink s0 * * drop\n#phase\nlink * * 2 again\n\r\n\nphase\n# crash s0\ncut s0 c0\nfail s1 at 4\n\nc0 begin\nadmin epoch 2\nc0 do f Reset\n#\nphase\nphase\nheal c0 s0\n\n#",
+            "link s0 * * drop\nlink * * 2 again\nphase\ncut s0 c0\nfail s1 at 4\nc0 begin\nadmin epoch 2\n\
+             c0 do f Reset\nphase\nphase\nheal c0 s0",
+            "link s0 * * drop\r\nlink * * 2 again\r\nphase\r\ncut s0 c0\r\nfail s1 at 4\r\nc0 begin\r\n\
+             admin epoch 2\r\nc0 do f Reset\r\nphase\r\nphase\r\nheal c0 s0\r",
+            "# first\n\nlink s0 * * drop\n#phase\nlink * * 2 again\n\r\n\nphase\n# crash s0\ncut s0 c0\n\
+             fail s1 at 4\n\nc0 begin\nadmin epoch 2\nc0 do f Reset\n#\nphase\nphase\nheal c0 s0\n\n#",
         ],
         (&LINKS, &[(&FIRST, &ASKED), (&[], &[]), (&LAST, &[])]),
     )

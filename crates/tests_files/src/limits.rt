@@ -165,7 +165,8 @@ fn with_tables(alloc: Global, head: &str, body: &str, more: u32) -> Option<Strin
 #[test]
 fn tables_have_limits(rt: HostRuntime) {
     let kind =
-        "states = [\"0\"]\nstart = \"0\"\ninvocations = [\"R\"]\nresponses = [\"0\"]\nrows = []\ntriples = [\"0 0 -\"]\n";
+        "states = [\"0\"]\nstart = \"0\"\ninvocations = [\"R\"]\nresponses = [\"0\"]\nrows = []\n\
+         triples = [\"0 0 -\"]\n";
     let object = "type = \"register\"\n";
     let epoch =
         "weights = [1, 1, 1]\ninitial = [\"x R 3\"]\nfinal = [\"x W0:ok 1\", \"x W1:ok 1\"]\n";

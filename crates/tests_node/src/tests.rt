@@ -14,8 +14,22 @@ use std::thread::Threads;
 
 /// The script: messages are dropped and late, clients clash, and a cut loses
 /// requests.
-const SCRIPT: &[u8] =
-    b"link c0 s1 1 drop\nlink s2 c1 1 late\nphase\nc0 begin\nc1 begin\nc0 do x W1\nc1 do x R\nc0 commit\nc1 commit\nphase\ncut c2 s0\nc2 begin\nc2 do x R\nc2 commit\n";
+const SCRIPT: &[u8] = b"\
+link c0 s1 1 drop
+link s2 c1 1 late
+phase
+c0 begin
+c1 begin
+c0 do x W1
+c1 do x R
+c0 commit
+c1 commit
+phase
+cut c2 s0
+c2 begin
+c2 do x R
+c2 commit
+";
 
 /// Runs a script by so many workers, all of it at once or phase by phase.
 fn ran<G: Gate, R: Threads + Wait + Sync>(

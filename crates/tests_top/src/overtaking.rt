@@ -77,7 +77,9 @@ fn a_site_is_overtaken(rt: HostRuntime) -> Result<(), Fail> {
     assert_eq!(rt; ended.status, 0);
     assert!(rt; gate.was_seen());
     let text =
-        "replies\nc0 begin 0.1.1\nc0 x W1 ok\nc0 x R 1\nc0 commit 1.0\nlog\n1.0 0.1.1 x W1 ok, x R 1\nstates\nx 1\nsites\ns0 life 1 epoch 1 lines 1 held 0\ns1 life 1 epoch 1 lines 1 held 0\ns2 life 1 epoch 1 lines 0 held 0\n";
+        "replies\nc0 begin 0.1.1\nc0 x W1 ok\nc0 x R 1\nc0 commit 1.0\nlog\n1.0 0.1.1 x W1 ok, x R 1\nstates\n\
+         x 1\nsites\ns0 life 1 epoch 1 lines 1 held 0\ns1 life 1 epoch 1 lines 1 held 0\n\
+         s2 life 1 epoch 1 lines 0 held 0\n";
     assert_eq!(rt; taken.as_slice(), text.as_bytes());
     Ok(())
 }

@@ -10,83 +10,375 @@ use std::thread::Threads;
 const THREE_SITES_SCRIPT: &str =
     "phase\nc0 begin\nc0 do x W1\nc0 do x R\nc0 commit\nphase\nc1 begin\nc1 do x R\nc1 commit\n";
 
-const THREE_SITES_TEXT: &str =
-    "replies\nc0 begin 0.1.1\nc0 x W1 ok\nc0 x R 1\nc0 commit 1.0\nc1 begin 1.1.1\nc1 x R 1\nc1 commit 2.1\nlog\n1.0 0.1.1 x W1 ok, x R 1\n2.1 1.1.1 x R 1\nstates\nx 1\nsites\ns0 life 1 epoch 1 lines 1 held 0\ns1 life 1 epoch 1 lines 1 held 0\ns2 life 1 epoch 1 lines 0 held 0\n";
+const THREE_SITES_TEXT: &str = "\
+replies
+c0 begin 0.1.1
+c0 x W1 ok
+c0 x R 1
+c0 commit 1.0
+c1 begin 1.1.1
+c1 x R 1
+c1 commit 2.1
+log
+1.0 0.1.1 x W1 ok, x R 1
+2.1 1.1.1 x R 1
+states
+x 1
+sites
+s0 life 1 epoch 1 lines 1 held 0
+s1 life 1 epoch 1 lines 1 held 0
+s2 life 1 epoch 1 lines 0 held 0
+";
 
 const CONFLICT_AND_WAIT_SCRIPT: &str =
     "phase\nc0 begin\nc0 do x W1\nphase\nc1 begin\nc1 do x R\nphase\nc0 commit\nphase\nc1 do x R\nc1 commit\n";
 
-const CONFLICT_AND_WAIT_TEXT: &str =
-    "replies\nc0 begin 0.1.1\nc0 x W1 ok\nc1 begin 1.1.1\nc1 x R ! conflict 0.1.1 s1\nc0 commit 1.0\nc1 x R 1\nc1 commit 2.1\nlog\n1.0 0.1.1 x W1 ok\n2.1 1.1.1 x R 1\nstates\nx 1\nsites\ns0 life 1 epoch 1 lines 1 held 0\ns1 life 1 epoch 1 lines 1 held 0\ns2 life 1 epoch 1 lines 0 held 0\n";
+const CONFLICT_AND_WAIT_TEXT: &str = "\
+replies
+c0 begin 0.1.1
+c0 x W1 ok
+c1 begin 1.1.1
+c1 x R ! conflict 0.1.1 s1
+c0 commit 1.0
+c1 x R 1
+c1 commit 2.1
+log
+1.0 0.1.1 x W1 ok
+2.1 1.1.1 x R 1
+states
+x 1
+sites
+s0 life 1 epoch 1 lines 1 held 0
+s1 life 1 epoch 1 lines 1 held 0
+s2 life 1 epoch 1 lines 0 held 0
+";
 
 const READER_HOLDS_ITS_LOCK_SCRIPT: &str =
     "phase\nc0 begin\nc0 do x R\nphase\nc1 begin\nc1 do x W1\nc1 commit\nphase\nc0 commit\n";
 
-const READER_HOLDS_ITS_LOCK_TEXT: &str =
-    "replies\nc0 begin 0.1.1\nc0 x R 0\nc1 begin 1.1.1\nc1 x W1 ! conflict 0.1.1 s1\nc1 commit ! doomed\nc0 commit 1.0\nlog\n1.0 0.1.1 x R 0\nstates\nx 0\nsites\ns0 life 1 epoch 1 lines 0 held 0\ns1 life 1 epoch 1 lines 0 held 0\ns2 life 1 epoch 1 lines 0 held 0\n";
+const READER_HOLDS_ITS_LOCK_TEXT: &str = "\
+replies
+c0 begin 0.1.1
+c0 x R 0
+c1 begin 1.1.1
+c1 x W1 ! conflict 0.1.1 s1
+c1 commit ! doomed
+c0 commit 1.0
+log
+1.0 0.1.1 x R 0
+states
+x 0
+sites
+s0 life 1 epoch 1 lines 0 held 0
+s1 life 1 epoch 1 lines 0 held 0
+s2 life 1 epoch 1 lines 0 held 0
+";
 
-const BLIND_WRITES_SCRIPT: &str =
-    "phase\nc0 begin\nc0 do x W0\nphase\nc1 begin\nc1 do x W1\nphase\nc0 commit\nphase\nc1 commit\nphase\nc0 begin\nc0 do x R\nc0 commit\n";
+const BLIND_WRITES_SCRIPT: &str = "\
+phase
+c0 begin
+c0 do x W0
+phase
+c1 begin
+c1 do x W1
+phase
+c0 commit
+phase
+c1 commit
+phase
+c0 begin
+c0 do x R
+c0 commit
+";
 
-const BLIND_WRITES_TEXT: &str =
-    "replies\nc0 begin 0.1.1\nc0 x W0 ok\nc1 begin 1.1.1\nc1 x W1 ok\nc0 commit 1.0\nc1 commit 2.1\nc0 begin 0.1.2\nc0 x R 1\nc0 commit 3.0\nlog\n1.0 0.1.1 x W0 ok\n2.1 1.1.1 x W1 ok\n3.0 0.1.2 x R 1\nstates\nx 1\nsites\ns0 life 1 epoch 1 lines 1 held 0\ns1 life 1 epoch 1 lines 2 held 0\ns2 life 1 epoch 1 lines 1 held 0\n";
+const BLIND_WRITES_TEXT: &str = "\
+replies
+c0 begin 0.1.1
+c0 x W0 ok
+c1 begin 1.1.1
+c1 x W1 ok
+c0 commit 1.0
+c1 commit 2.1
+c0 begin 0.1.2
+c0 x R 1
+c0 commit 3.0
+log
+1.0 0.1.1 x W0 ok
+2.1 1.1.1 x W1 ok
+3.0 0.1.2 x R 1
+states
+x 1
+sites
+s0 life 1 epoch 1 lines 1 held 0
+s1 life 1 epoch 1 lines 2 held 0
+s2 life 1 epoch 1 lines 1 held 0
+";
 
-const BLIND_WRITES_TURNED_ROUND_SCRIPT: &str =
-    "phase\nc0 begin\nc0 do x W0\nphase\nc1 begin\nc1 do x W1\nphase\nc1 commit\nphase\nc0 commit\nphase\nc0 begin\nc0 do x R\nc0 commit\n";
+const BLIND_WRITES_TURNED_ROUND_SCRIPT: &str = "\
+phase
+c0 begin
+c0 do x W0
+phase
+c1 begin
+c1 do x W1
+phase
+c1 commit
+phase
+c0 commit
+phase
+c0 begin
+c0 do x R
+c0 commit
+";
 
-const BLIND_WRITES_TURNED_ROUND_TEXT: &str =
-    "replies\nc0 begin 0.1.1\nc0 x W0 ok\nc1 begin 1.1.1\nc1 x W1 ok\nc1 commit 1.1\nc0 commit 2.0\nc0 begin 0.1.2\nc0 x R 0\nc0 commit 3.0\nlog\n1.1 1.1.1 x W1 ok\n2.0 0.1.1 x W0 ok\n3.0 0.1.2 x R 0\nstates\nx 0\nsites\ns0 life 1 epoch 1 lines 1 held 0\ns1 life 1 epoch 1 lines 2 held 0\ns2 life 1 epoch 1 lines 1 held 0\n";
+const BLIND_WRITES_TURNED_ROUND_TEXT: &str = "\
+replies
+c0 begin 0.1.1
+c0 x W0 ok
+c1 begin 1.1.1
+c1 x W1 ok
+c1 commit 1.1
+c0 commit 2.0
+c0 begin 0.1.2
+c0 x R 0
+c0 commit 3.0
+log
+1.1 1.1.1 x W1 ok
+2.0 0.1.1 x W0 ok
+3.0 0.1.2 x R 0
+states
+x 0
+sites
+s0 life 1 epoch 1 lines 1 held 0
+s1 life 1 epoch 1 lines 2 held 0
+s2 life 1 epoch 1 lines 1 held 0
+";
 
 const LOST_QUORUM_SCRIPT: &str =
     "phase\ncut c1 s0\ncut c1 s1\nc1 begin\nc1 do x R\nphase\nheal c1 s0\nheal c1 s1\nc1 do x R\nc1 commit\n";
 
-const LOST_QUORUM_TEXT: &str =
-    "replies\nc1 begin 1.1.1\nc1 x R ! quorum read 1 of 2\nc1 x R 0\nc1 commit 1.1\nlog\n1.1 1.1.1 x R 0\nstates\nx 0\nsites\ns0 life 1 epoch 1 lines 0 held 0\ns1 life 1 epoch 1 lines 0 held 0\ns2 life 1 epoch 1 lines 0 held 0\n";
+const LOST_QUORUM_TEXT: &str = "\
+replies
+c1 begin 1.1.1
+c1 x R ! quorum read 1 of 2
+c1 x R 0
+c1 commit 1.1
+log
+1.1 1.1.1 x R 0
+states
+x 0
+sites
+s0 life 1 epoch 1 lines 0 held 0
+s1 life 1 epoch 1 lines 0 held 0
+s2 life 1 epoch 1 lines 0 held 0
+";
 
 const LOST_VOTE_SCRIPT: &str =
     "link s1 c0 2 drop\nphase\nc0 begin\nc0 do x W1\nc0 commit\nphase\nc0 begin\nc0 do x W1\nc0 commit\n";
 
-const LOST_VOTE_TEXT: &str =
-    "replies\nc0 begin 0.1.1\nc0 x W1 ok\nc0 commit ! no answer s1\nc0 begin 0.1.2\nc0 x W1 ok\nc0 commit 1.0\nlog\n1.0 0.1.2 x W1 ok\nstates\nx 1\nsites\ns0 life 1 epoch 1 lines 1 held 0\ns1 life 1 epoch 1 lines 1 held 0\ns2 life 1 epoch 1 lines 0 held 0\n";
+const LOST_VOTE_TEXT: &str = "\
+replies
+c0 begin 0.1.1
+c0 x W1 ok
+c0 commit ! no answer s1
+c0 begin 0.1.2
+c0 x W1 ok
+c0 commit 1.0
+log
+1.0 0.1.2 x W1 ok
+states
+x 1
+sites
+s0 life 1 epoch 1 lines 1 held 0
+s1 life 1 epoch 1 lines 1 held 0
+s2 life 1 epoch 1 lines 0 held 0
+";
 
-const LOST_DECISIONS_SCRIPT: &str =
-    "link c0 s0 3 drop\nlink c0 s1 3 drop\nphase\nc0 begin\nc0 do x W1\nc0 commit\nphase\nc1 begin\nc1 do x R\nphase\nc1 do x R\nc1 commit\n";
+const LOST_DECISIONS_SCRIPT: &str = "\
+link c0 s0 3 drop
+link c0 s1 3 drop
+phase
+c0 begin
+c0 do x W1
+c0 commit
+phase
+c1 begin
+c1 do x R
+phase
+c1 do x R
+c1 commit
+";
 
-const LOST_DECISIONS_TEXT: &str =
-    "replies\nc0 begin 0.1.1\nc0 x W1 ok\nc0 commit 1.0\nc1 begin 1.1.1\nc1 x R ! conflict 0.1.1 s1\nc1 x R 1\nc1 commit 2.1\nlog\n1.0 0.1.1 x W1 ok\n2.1 1.1.1 x R 1\nstates\nx 1\nsites\ns0 life 1 epoch 1 lines 0 held 1\ns1 life 1 epoch 1 lines 1 held 0\ns2 life 1 epoch 1 lines 0 held 0\n";
+const LOST_DECISIONS_TEXT: &str = "\
+replies
+c0 begin 0.1.1
+c0 x W1 ok
+c0 commit 1.0
+c1 begin 1.1.1
+c1 x R ! conflict 0.1.1 s1
+c1 x R 1
+c1 commit 2.1
+log
+1.0 0.1.1 x W1 ok
+2.1 1.1.1 x R 1
+states
+x 1
+sites
+s0 life 1 epoch 1 lines 0 held 1
+s1 life 1 epoch 1 lines 1 held 0
+s2 life 1 epoch 1 lines 0 held 0
+";
 
-const STRAY_LINE_SCRIPT: &str =
-    "link c0 s1 1 late\nphase\nc0 begin\nc0 do x W1\nc0 commit\nphase\nc1 begin\nc1 do x R\nphase\nc1 do x R\nc1 commit\n";
+const STRAY_LINE_SCRIPT: &str = "\
+link c0 s1 1 late
+phase
+c0 begin
+c0 do x W1
+c0 commit
+phase
+c1 begin
+c1 do x R
+phase
+c1 do x R
+c1 commit
+";
 
-const STRAY_LINE_TEXT: &str =
-    "replies\nc0 begin 0.1.1\nc0 x W1 ok\nc0 commit 1.0\nc1 begin 1.1.1\nc1 x R ! conflict 0.1.1 s1\nc1 x R 1\nc1 commit 2.1\nlog\n1.0 0.1.1 x W1 ok\n2.1 1.1.1 x R 1\nstates\nx 1\nsites\ns0 life 1 epoch 1 lines 1 held 0\ns1 life 1 epoch 1 lines 0 held 0\ns2 life 1 epoch 1 lines 1 held 0\n";
+const STRAY_LINE_TEXT: &str = "\
+replies
+c0 begin 0.1.1
+c0 x W1 ok
+c0 commit 1.0
+c1 begin 1.1.1
+c1 x R ! conflict 0.1.1 s1
+c1 x R 1
+c1 commit 2.1
+log
+1.0 0.1.1 x W1 ok
+2.1 1.1.1 x R 1
+states
+x 1
+sites
+s0 life 1 epoch 1 lines 1 held 0
+s1 life 1 epoch 1 lines 0 held 0
+s2 life 1 epoch 1 lines 1 held 0
+";
 
 const DOUBLED_MESSAGES_SCRIPT: &str =
     "link * * * twice\nphase\nc0 begin\nc0 do x W1\nc0 do x R\nc0 commit\n";
 
-const DOUBLED_MESSAGES_TEXT: &str =
-    "replies\nc0 begin 0.1.1\nc0 x W1 ok\nc0 x R 1\nc0 commit 1.0\nlog\n1.0 0.1.1 x W1 ok, x R 1\nstates\nx 1\nsites\ns0 life 1 epoch 1 lines 1 held 0\ns1 life 1 epoch 1 lines 1 held 0\ns2 life 1 epoch 1 lines 0 held 0\n";
+const DOUBLED_MESSAGES_TEXT: &str = "\
+replies
+c0 begin 0.1.1
+c0 x W1 ok
+c0 x R 1
+c0 commit 1.0
+log
+1.0 0.1.1 x W1 ok, x R 1
+states
+x 1
+sites
+s0 life 1 epoch 1 lines 1 held 0
+s1 life 1 epoch 1 lines 1 held 0
+s2 life 1 epoch 1 lines 0 held 0
+";
 
 const BEGIN_TWICE_SCRIPT: &str = "phase\nc0 begin\nc0 begin\nc0 abort\nc0 commit\nc0 do x R\n";
 
-const BEGIN_TWICE_TEXT: &str =
-    "replies\nc0 begin 0.1.1\nc0 begin ! already 0.1.1\nc0 abort ok\nc0 commit ! no transaction\nc0 x R ! no transaction\nlog\nstates\nx 0\nsites\ns0 life 1 epoch 1 lines 0 held 0\ns1 life 1 epoch 1 lines 0 held 0\ns2 life 1 epoch 1 lines 0 held 0\n";
+const BEGIN_TWICE_TEXT: &str = "\
+replies
+c0 begin 0.1.1
+c0 begin ! already 0.1.1
+c0 abort ok
+c0 commit ! no transaction
+c0 x R ! no transaction
+log
+states
+x 0
+sites
+s0 life 1 epoch 1 lines 0 held 0
+s1 life 1 epoch 1 lines 0 held 0
+s2 life 1 epoch 1 lines 0 held 0
+";
 
-const SEVENTEEN_OPERATIONS_SCRIPT: &str =
-    "phase\nc0 begin\nc0 do x R\nc0 do x R\nc0 do x R\nc0 do x R\nc0 do x R\nc0 do x R\nc0 do x R\nc0 do x R\nc0 do x R\nc0 do x R\nc0 do x R\nc0 do x R\nc0 do x R\nc0 do x R\nc0 do x R\nc0 do x R\nc0 do x R\n";
+const SEVENTEEN_OPERATIONS_SCRIPT: &str = "\
+phase
+c0 begin
+c0 do x R
+c0 do x R
+c0 do x R
+c0 do x R
+c0 do x R
+c0 do x R
+c0 do x R
+c0 do x R
+c0 do x R
+c0 do x R
+c0 do x R
+c0 do x R
+c0 do x R
+c0 do x R
+c0 do x R
+c0 do x R
+c0 do x R
+";
 
-const SEVENTEEN_OPERATIONS_TEXT: &str =
-    "replies\nc0 begin 0.1.1\nc0 x R 0\nc0 x R 0\nc0 x R 0\nc0 x R 0\nc0 x R 0\nc0 x R 0\nc0 x R 0\nc0 x R 0\nc0 x R 0\nc0 x R 0\nc0 x R 0\nc0 x R 0\nc0 x R 0\nc0 x R 0\nc0 x R 0\nc0 x R 0\nc0 x R ! too long\nlog\nstates\nx 0\nsites\ns0 life 1 epoch 1 lines 0 held 1\ns1 life 1 epoch 1 lines 0 held 1\ns2 life 1 epoch 1 lines 0 held 0\n";
+const SEVENTEEN_OPERATIONS_TEXT: &str = "\
+replies
+c0 begin 0.1.1
+c0 x R 0
+c0 x R 0
+c0 x R 0
+c0 x R 0
+c0 x R 0
+c0 x R 0
+c0 x R 0
+c0 x R 0
+c0 x R 0
+c0 x R 0
+c0 x R 0
+c0 x R 0
+c0 x R 0
+c0 x R 0
+c0 x R 0
+c0 x R 0
+c0 x R ! too long
+log
+states
+x 0
+sites
+s0 life 1 epoch 1 lines 0 held 1
+s1 life 1 epoch 1 lines 0 held 1
+s2 life 1 epoch 1 lines 0 held 0
+";
 
 const COMMIT_OF_NOTHING_SCRIPT: &str = "phase\nc0 begin\nc0 commit\n";
 
-const COMMIT_OF_NOTHING_TEXT: &str =
-    "replies\nc0 begin 0.1.1\nc0 commit 1.0\nlog\n1.0 0.1.1\nstates\nx 0\nsites\ns0 life 1 epoch 1 lines 0 held 0\ns1 life 1 epoch 1 lines 0 held 0\ns2 life 1 epoch 1 lines 0 held 0\n";
+const COMMIT_OF_NOTHING_TEXT: &str = "\
+replies
+c0 begin 0.1.1
+c0 commit 1.0
+log
+1.0 0.1.1
+states
+x 0
+sites
+s0 life 1 epoch 1 lines 0 held 0
+s1 life 1 epoch 1 lines 0 held 0
+s2 life 1 epoch 1 lines 0 held 0
+";
 
 const EMPTY_SCRIPT_SCRIPT: &str = "";
 
-const EMPTY_SCRIPT_TEXT: &str =
-    "replies\nlog\nstates\nx 0\nsites\ns0 life 1 epoch 1 lines 0 held 0\ns1 life 1 epoch 1 lines 0 held 0\ns2 life 1 epoch 1 lines 0 held 0\n";
+const EMPTY_SCRIPT_TEXT: &str = "\
+replies
+log
+states
+x 0
+sites
+s0 life 1 epoch 1 lines 0 held 0
+s1 life 1 epoch 1 lines 0 held 0
+s2 life 1 epoch 1 lines 0 held 0
+";
 
 /// The script's run over three sites prints this text, by one worker and by
 /// four.

@@ -7,7 +7,8 @@ use crate::steps::Short;
 pub(super) const ROWS: [Row; 3] = [
     Row {
         name: "conflict and wait",
-        script: b"phase\nc0 begin\nc0 do x W1\nphase\nc1 begin\nc1 do x R\nphase\nc0 commit\nphase\nc1 do x R\nc1 commit\n",
+        script: b"phase\nc0 begin\nc0 do x W1\nphase\nc1 begin\nc1 do x R\nphase\nc0 commit\nphase\nc1 do x R\n\
+         c1 commit\n",
         steps: &CONFLICT_AND_WAIT,
     },
     Row {
@@ -17,7 +18,8 @@ pub(super) const ROWS: [Row; 3] = [
     },
     Row {
         name: "blind writes",
-        script: b"phase\nc0 begin\nc0 do x W0\nphase\nc1 begin\nc1 do x W1\nphase\nc0 commit\nphase\nc1 commit\nphase\nc0 begin\nc0 do x R\nc0 commit\n",
+        script: b"phase\nc0 begin\nc0 do x W0\nphase\nc1 begin\nc1 do x W1\nphase\nc0 commit\nphase\nc1 commit\nphase\n\
+         c0 begin\nc0 do x R\nc0 commit\n",
         steps: &BLIND_WRITES,
     },
 ];

@@ -7,7 +7,8 @@ use crate::steps::Short;
 pub(super) const ROWS: [Row; 3] = [
     Row {
         name: "a drop, a late copy, a clash and a cut",
-        script: b"link c0 s1 1 drop\nlink s2 c1 1 late\nphase\nc0 begin\nc1 begin\nc0 do x W1\nc1 do x R\nc0 commit\nc1 commit\nphase\ncut c2 s0\nc2 begin\nc2 do x R\nc2 commit\n",
+        script: b"link c0 s1 1 drop\nlink s2 c1 1 late\nphase\nc0 begin\nc1 begin\nc0 do x W1\nc1 do x R\nc0 commit\n\
+         c1 commit\nphase\ncut c2 s0\nc2 begin\nc2 do x R\nc2 commit\n",
         steps: &A_DROP_A_LATE_COPY_A_CLASH_AND_A_CUT,
     },
     Row {

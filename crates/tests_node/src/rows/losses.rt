@@ -7,17 +7,20 @@ use crate::steps::Short;
 pub(super) const ROWS: [Row; 3] = [
     Row {
         name: "lost quorum",
-        script: b"phase\ncut c1 s0\ncut c1 s1\nc1 begin\nc1 do x R\nphase\nheal c1 s0\nheal c1 s1\nc1 do x R\nc1 commit\n",
+        script: b"phase\ncut c1 s0\ncut c1 s1\nc1 begin\nc1 do x R\nphase\nheal c1 s0\nheal c1 s1\nc1 do x R\n\
+         c1 commit\n",
         steps: &LOST_QUORUM,
     },
     Row {
         name: "lost decisions",
-        script: b"link c0 s0 3 drop\nlink c0 s1 3 drop\nphase\nc0 begin\nc0 do x W1\nc0 commit\nphase\nc1 begin\nc1 do x R\nphase\nc1 do x R\nc1 commit\n",
+        script: b"link c0 s0 3 drop\nlink c0 s1 3 drop\nphase\nc0 begin\nc0 do x W1\nc0 commit\nphase\nc1 begin\n\
+         c1 do x R\nphase\nc1 do x R\nc1 commit\n",
         steps: &LOST_DECISIONS,
     },
     Row {
         name: "stray line",
-        script: b"link c0 s1 1 late\nphase\nc0 begin\nc0 do x W1\nc0 commit\nphase\nc1 begin\nc1 do x R\nphase\nc1 do x R\nc1 commit\n",
+        script: b"link c0 s1 1 late\nphase\nc0 begin\nc0 do x W1\nc0 commit\nphase\nc1 begin\nc1 do x R\nphase\n\
+         c1 do x R\nc1 commit\n",
         steps: &STRAY_LINE,
     },
 ];
