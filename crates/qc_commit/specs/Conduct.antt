@@ -112,7 +112,7 @@ abbrev pub votes_at : Desk → Voting → ℕ → Option Answer → Option ℕ �
 votes_at desk v number answer None = moved desk quiet
 votes_at desk v number answer (Some site) =
     counts (learns desk answer) v.begun (without_call v.calls number)
-      (cast v.ballots site (vote_of v.begun site answer))
+    (cast v.ballots site (vote_of v.begun site answer))
 
 abbrev pub votes_in : Desk → Option Voting → ℕ → Option Answer → DeskMove
 votes_in desk None number answer = moved desk quiet

@@ -17,8 +17,8 @@ use Rattle.qc_front.specs.declared.transaction.Transaction.{Transaction}
 abbrev pub answer_of : Declaration → Transaction → ℕ → ℕ → Option ℕ
 answer_of decl t object inv =
     option_and_then
-      (λ (rules : Rules). option_and_then (λ (v : View). answer_in rules v inv) (slice_get t.views object))
-      (table_at decl object)
+    (λ (rules : Rules). option_and_then (λ (v : View). answer_in rules v inv) (slice_get t.views object))
+    (table_at decl object)
 
 -- the lines of the object's view
 abbrev pub view_log : Transaction → ℕ → List Line

@@ -29,7 +29,7 @@ abbrev pub over_a_link : Script
 over_a_link =
     record {
       links = record { from = None; to = None; ordinal = None; rule = rules.Drop } ∷ [];
-      phases = phase_of [] (line 1 ∷ []) ∷ []
+      phases = phase_of [] (line 1 ∷ []) ∷ [];
     }
 
 -- two actors are cut from each other
