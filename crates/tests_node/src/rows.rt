@@ -21,4 +21,4 @@ pub(crate) struct Row {
 }
 
 /// All rows, by what they are about.
-pub(crate) const ROWS: [[Row; 3]; 3] = [conflicts::ROWS, losses::ROWS, links::ROWS];
+pub(crate) const ROWS: [&[Row]; 3] = [&conflicts::ROWS, &losses::ROWS, &links::ROWS];

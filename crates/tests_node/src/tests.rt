@@ -73,7 +73,7 @@ fn goes<R: Threads + Wait + Sync>(
 /// One worker takes the steps that the rules give, one after another.
 #[test]
 fn one_worker_takes_the_steps_of_the_rules(rt: HostRuntime) -> Result<(), Fail> {
-    for row in ROWS.iter().flatten() {
+    for row in ROWS.iter().copied().flatten() {
         assert!(rt; goes(&rt, rt.alloc(), row, false)?, "{}", row.name);
         assert!(rt; goes(&rt, rt.alloc(), row, true)?, "{} by phases", row.name);
     }
