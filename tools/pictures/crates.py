@@ -107,8 +107,8 @@ def draw(root):
     layers = Layers(below, high)
     x = {it: LABEL + MARGIN + at for it, at in layers.across(WIDTH - LABEL - 2 * MARGIN, room, GAP).items()}
     y = {it: MARGIN + STEP * row for row, its in enumerate(layers.rows) for it in its}
-    notes = ["An arrow leads to a crate that is used; arrows that follow from others are left out. Dashed: the program doesn't"]
-    notes += ["stand on it. The crates of tests, %s.., aren't drawn." % TESTS]
+    notes = ["An arrow leads to a crate that is used; arrows that follow from others are left out."]
+    notes += ["Dashed: the program doesn't stand on it. The crates of tests, %s.., aren't drawn." % TESTS]
     height = MARGIN + STEP * (len(layers.rows) - 1) + HIGH + 24 + 16 * len(notes) + 4
     picture = Picture(height, "The crates, each above those that it stands on")
     draw_bands(picture, ends_of_bands, len(layers.rows))
