@@ -7,7 +7,8 @@ A fact stands between a line `<!-- NAME -->` and the next line `<!-- end -->`. W
 --check nothing is written: it ends with status 1 where a fact isn't the one that
 would be written now. Blocks of other names are left alone.
 
-`kit`: the kit's line, as `rt version` prints it.
+`kit`: the kit, by the sum of its logic, which is what a proof rests on. Kits that
+differ in letters alone have one logic.
 """
 
 import os
@@ -22,7 +23,10 @@ PAGE = "README.md"
 def kit():
     """The sentence that tells with which kit everything is proved and built."""
     done = subprocess.run(["rt", "version"], capture_output=True, text=True, check=True)
-    return "All is proved and built with `%s`." % done.stdout.strip()
+    logic = re.search(r"logic [0-9a-f]+", done.stdout)
+    if logic is None:
+        raise SystemExit("rt version names no logic: %s" % done.stdout.strip())
+    return "All is proved and built with the Rattle kit of `%s`, as `rt version` tells." % logic[0]
 
 
 FACTS = {"kit": kit}
