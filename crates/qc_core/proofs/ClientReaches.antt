@@ -41,6 +41,7 @@ use Rattle.qc_core.specs.Actors.{IsFrom, IsShort}
 use Rattle.qc_core.proofs.FewSites.{AreSites}
 use Rattle.qc_core.proofs.FrontReaches.{Reaches, asked_in, called_reaches, takes_reaches, verdicts_few, verdicts_reach}
 use Rattle.qc_core.proofs.RoundSites.{cyclic_length, length_filter}
+use Rattle.qc_link.specs.Limits.{most_actors}
 
 -- the sites that a client's transactions asked are sites
 
@@ -59,7 +60,7 @@ pub record ClientReach (n : ℕ) (m : ClientMove) : Type 0 where
   pub turn : IsShort m.turn
   pub asked : AskedFit n m.client
 
-lower : (n : ℕ) → n ≤ 16 → (ps : List Posting) → Every (λ (p : Posting). p.to < n) ps → Every (λ (p : Posting). p.to < 34) ps
+lower : (n : ℕ) → n ≤ 16 → (ps : List Posting) → Every (λ (p : Posting). p.to < n) ps → Every (λ (p : Posting). p.to < most_actors) ps
 lower n few [] all = tt
 lower n few (p ∷ ps) all = (let low : p.to < n = all.0 in omega arith, lower n few ps all.1)
 
@@ -69,7 +70,7 @@ quiet_short = record { receivers = tt; few = omega arith }
 quiet_reach : (n : ℕ) (c : Client) → AskedFit n c → ClientReach n (moved c quiet)
 quiet_reach n c are = record { turn = quiet_short; asked = are }
 
-pub one_short : (to : ℕ) (m : Message) → to < 34 → IsShort (sending (record { to = to; message = m } ∷ []))
+pub one_short : (to : ℕ) (m : Message) → to < most_actors → IsShort (sending (record { to = to; message = m } ∷ []))
 one_short to m low = record { receivers = (low, tt); few = omega arith }
 
 front_reach : (n : ℕ) (c : Client) (m : FrontMove) → n ≤ 16 → AskedFit n c → Reaches n m → ClientReach n (by_front c m)
@@ -89,7 +90,7 @@ desk_reach n c m are short voting = record { turn = short; asked = after_desk n 
 
 verdicts_short : (n : ℕ) (b : Begun) (v : Outcome) (turn : Turn) → n ≤ 16 → AreSites n b.asked → turn.sends ≡ decisions b v → IsShort turn
 verdicts_short n b v turn few are is = record {
-  receivers = subst (Every (λ (p : Posting). p.to < 34)) (sym is) (lower n few (decisions b v) (verdicts_reach n b v b.asked are.below));
+  receivers = subst (Every (λ (p : Posting). p.to < most_actors)) (sym is) (lower n few (decisions b v) (verdicts_reach n b v b.asked are.below));
   few = subst (λ (ps : List Posting). length ps ≤ 16) (sym is) (let least : length (decisions b v) ≤ n = verdicts_few n b v are in omega arith);
 }
 
@@ -157,7 +158,7 @@ module _ (decl : Declaration) (accepted : IsAccepted decl) where
           subst (λ (m : DeskMove). ClientReach decl.sites (by_desk c m)) (ap (λ (o : Option Voting). desks.votes_in c.desk o number answer) (sym is))
           (vote_reach c v number answer are (subst (λ (o : Option Voting). AreSites decl.sites (asked_voting o)) is are.voting) (site_called v.calls number))
 
-  heard_reach : (c : Client) (from number : ℕ) (m : Message) → from < 34 → FrontHolds decl c.front → AskedFit decl.sites c → ClientReach decl.sites (heard decl c from number m)
+  heard_reach : (c : Client) (from number : ℕ) (m : Message) → from < most_actors → FrontHolds decl c.front → AskedFit decl.sites c → ClientReach decl.sites (heard decl c from number m)
   heard_reach c from number (messages.Request tx epoch life want) low h are = quiet_reach decl.sites c are
   heard_reach c from number (messages.Answer to answer) low h are = answered_reach c to (Some answer) h are
   heard_reach c from number (messages.Decision tx verdict) low h are = quiet_reach decl.sites c are

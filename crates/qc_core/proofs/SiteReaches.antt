@@ -32,12 +32,13 @@ use Rattle.qc_site.specs.Site.{SiteMove, SiteState, answers as answered, moved}
 use Rattle.qc_site.proofs.Holders.{append_client, clients-held, clients-without, read_client}
 use Rattle.qc_core.specs.Actors.{IsFrom, IsShort}
 use Rattle.qc_core.proofs.ClientReaches.{one_short, quiet_short}
+use Rattle.qc_link.specs.Limits.{most_actors}
 
 pub record SiteReach (m : SiteMove) : Type 0 where
   pub turn : IsShort m.turn
   pub clients : AreOfClients m.site.held
 
-module _ (decl : Declaration) (accepted : IsAccepted decl) (from number : ℕ) (low : from < 34) where
+module _ (decl : Declaration) (accepted : IsAccepted decl) (from number : ℕ) (low : from < most_actors) where
   answers_reach : (s : SiteState) (answer : Answer) → AreOfClients s.held → SiteReach (moved s (answered from number answer))
   answers_reach s answer clients = record { turn = one_short from (messages.Answer number answer) low; clients = clients }
 

@@ -20,6 +20,7 @@ use Rattle.qc_site.specs.Conduct.{site_on, site_takes}
 use Rattle.qc_site.specs.Site.{SiteMove, new_site}
 use Rattle.qc_core.specs.declared.actor.Actor.{Actor}
 use Rattle.qc_core.specs.declared.actor.Actor.TheVariants.{Site, Client}
+use Rattle.qc_link.specs.Limits.{most_actors}
 
 -- what an actor becomes, and what it does
 pub record ActorMove : Type 0 where
@@ -88,10 +89,10 @@ abbrev pub AsksFew : Actor → Type 0
 AsksFew (Site s) = Unit {0}
 AsksFew (Client c) = votes.AsksFew c.desk.voting × rounds.AsksFew c.front.doing
 
--- a message comes from an actor; actors are numbered below 34
+-- a message comes from an actor; actors are numbered below the most actors
 abbrev pub IsFrom : Given → Type 0
 IsFrom (given.Called command) = Unit {0}
-IsFrom (given.Got envelope) = envelope.from < 34
+IsFrom (given.Got envelope) = envelope.from < most_actors
 IsFrom (given.Lost number) = Unit {0}
 
 abbrev pub IsFromActor : Deed → Type 0
@@ -102,5 +103,5 @@ IsFromActor (Tells reply) = Unit {0}
 
 -- a turn goes to actors, and has few messages: at most one for each site
 pub record IsShort (turn : Turn) : Type 0 where
-  pub receivers : Every (λ (p : Posting). p.to < 34) turn.sends
+  pub receivers : Every (λ (p : Posting). p.to < most_actors) turn.sends
   pub few : length turn.sends ≤ most_sites

@@ -30,6 +30,7 @@ use Rattle.qc_fabric.specs.Logs.{Logged, full_of}
 use Rattle.qc_fabric.specs.Stills.{IsStill, most_history}
 use Rattle.qc_fabric.proofs.Events.{before_event}
 use Rattle.qc_fabric.proofs.Fed.{get_else, get_here, length_set, rooms_kept, sum-set, sum_cons}
+use Rattle.qc_link.specs.Limits.{most_actors}
 
 pub no_room_at : (old new : List ℕ) (p i j : ℕ) → p < length old → new ≡ slice_set old p 0 → i ≡ p → slice_get new i ≡ Some (suc j) → ⊥
 no_room_at old new p i j made is same f =
@@ -214,7 +215,7 @@ none_there (suc n) zero k e = let bad : 0 ≡ suc k = cc in absurd (omega (arith
 none_there (suc n) (suc a) k e = none_there n a k e
 
 pub starts : (L : ℕ → List Deed → Turn → Type 0) (D : Declaration) (S : Script) (z : TableId) (w : Script) (lg : Logged) (mb : Roomy) (op hd : List Bool) (tb : TableId) (r : Right Step)
-    → w ≡ S → lg.history ≡ [] → mb.inboxes ≡ empty_inboxes S → op ≡ replicate (actors D) false → hd ≡ replicate (actors D) false → tb ≡ z → IsFirst z (controller D + 1) r → IsScriptFor D S → controller D < 34
+    → w ≡ S → lg.history ≡ [] → mb.inboxes ≡ empty_inboxes S → op ≡ replicate (actors D) false → hd ≡ replicate (actors D) false → tb ≡ z → IsFirst z (controller D + 1) r → IsScriptFor D S → controller D < most_actors
     → IsStill L D S z w lg mb op hd 0 0 tb (Some r)
 starts L D S z w lg mb op hd tb r ws none is oc hc te i so few = record {
   script_is = ws;

@@ -33,6 +33,7 @@ use Rattle.qc_fabric.proofs.Events.{before_more, post_none}
 use Rattle.qc_fabric.proofs.Fed.{get_else, length-by, length-posted, length_set, rooms_kept, saw, sum-set}
 use Rattle.qc_fabric.proofs.Phased.{phase_posted}
 use Rattle.qc_fabric.proofs.Kept.{all_of, no_room_at, right_of, rooms_of}
+use Rattle.qc_link.specs.Limits.{most_actors}
 
 module _ {L : ℕ → List Deed → Turn → Type 0} {D : Declaration} {S : Script} {z : TableId} {w : Script} {lg : Logged} {mb : Roomy} {op hd : List Bool} {ph rsv : ℕ} {tb : TableId} {ri : Option (Right Step)} where
   module _ (s : IsStill L D S z w lg mb op hd ph rsv tb ri) (r : Right Step) (e : ri ≡ Some r) (p p1 p2 q : Pass Step) (r1 r2 t : Right Step) (turn : Turn) (first k : ℕ)
@@ -72,7 +73,7 @@ module _ {L : ℕ → List Deed → Turn → Type 0} {D : Declaration} {S : Scri
         let total = sum-set (rooms r) (number p) (suc k) 0 room_there in
         let enough : suc k ≤ rsv = omega (arith, total, ap (λ (l : List ℕ). sum l) before, s.sum_is) in
         let steps : length (by (number p) (posted first turn)) + 1 ≡ suc k = ap (λ (n : ℕ). n + 1) (length-by (number p) (posted first turn)) ∙ (length-posted first turn ∙ sym size) in
-        let here : number p < 34 = omega (arith, low, s.few) in
+        let here : number p < most_actors = omega (arith, low, s.few) in
         record {
           script_is = s.script_is;
           holder = t;

@@ -16,13 +16,14 @@ use Rattle.qc_script.specs.Ready.{ready}
 use Rattle.qc_script.specs.declared.script.Script.{Script}
 use Rattle.qc_fabric.specs.Inputs.{IsInputFor, IsThere, given_by}
 use Rattle.qc_fabric.proofs.Fed.{get_within}
+use Rattle.qc_link.specs.Limits.{most_actors}
 
 pub record Readies (decl : Declaration) (script : Script) (h : List Entry) (a : ℕ) (input : Input) : Type 0 where
   pub given : Given
   pub rdy : ready decl script a h ≡ Some given
   pub named : input_of given ≡ input
 
-pub readies : (decl : Declaration) (script : Script) (h : List Entry) (kept : Inboxes) (a : ℕ) (input : Input) → IsKept script h kept → a < 34 → input_in decl a kept ≡ Some input → Readies decl script h a input
+pub readies : (decl : Declaration) (script : Script) (h : List Entry) (kept : Inboxes) (a : ℕ) (input : Input) → IsKept script h kept → a < most_actors → input_in decl a kept ≡ Some input → Readies decl script h a input
 readies decl script h kept a input is low shown = by (ready decl script a h) refl
   where
     by : (o : Option Given) → ready decl script a h ≡ o → Readies decl script h a input
@@ -45,19 +46,19 @@ there_by a ms (given.Called command) is = tt
 there_by a ms (given.Got e) is = get_within ms e.number e is.0
 there_by a ms (given.Lost number) is = tt
 
-pub input_there : (decl : Declaration) (script : Script) (h : List Entry) (kept : Inboxes) (a : ℕ) (input : Input) → IsKept script h kept → a < 34 → input_in decl a kept ≡ Some input → IsThere (mail h) input
+pub input_there : (decl : Declaration) (script : Script) (h : List Entry) (kept : Inboxes) (a : ℕ) (input : Input) → IsKept script h kept → a < most_actors → input_in decl a kept ≡ Some input → IsThere (mail h) input
 input_there decl script h kept a input is low shown =
     let r = readies decl script h kept a input is low shown in
     subst (λ (i : Input). IsThere (mail h) i) r.named (there_by a (mail h) r.given (ready_found decl script h kept a r.given is r.rdy))
 
-pub given_ready : (decl : Declaration) (script : Script) (h : List Entry) (kept : Inboxes) (a : ℕ) (input : Input) (g : Given) → IsKept script h kept → a < 34 → input_in decl a kept ≡ Some input → given_by (mail h) input ≡ Some g
+pub given_ready : (decl : Declaration) (script : Script) (h : List Entry) (kept : Inboxes) (a : ℕ) (input : Input) (g : Given) → IsKept script h kept → a < most_actors → input_in decl a kept ≡ Some input → given_by (mail h) input ≡ Some g
     → ready decl script a h ≡ Some g
 given_ready decl script h kept a input g is low shown by =
     let r = readies decl script h kept a input is low shown in
     let back : given_by (mail h) input ≡ Some r.given = ap (λ (i : Input). given_by (mail h) i) (sym r.named) ∙ given_back a (mail h) r.given (ready_found decl script h kept a r.given is r.rdy) in
     r.rdy ∙ (sym back ∙ by)
 
-pub none_ready : (decl : Declaration) (script : Script) (h : List Entry) (kept : Inboxes) (a : ℕ) → IsKept script h kept → a < 34 → input_in decl a kept ≡ None → ready decl script a h ≡ None
+pub none_ready : (decl : Declaration) (script : Script) (h : List Entry) (kept : Inboxes) (a : ℕ) → IsKept script h kept → a < most_actors → input_in decl a kept ≡ None → ready decl script a h ≡ None
 none_ready decl script h kept a is low shown = by (ready decl script a h) refl
   where
     by : (o : Option Given) → ready decl script a h ≡ o → ready decl script a h ≡ None

@@ -15,6 +15,7 @@ use Rattle.qc_msg.specs.declared.step.Control.{Control}
 use Rattle.qc_msg.specs.Steps.{Entry}
 use Rattle.qc_script.specs.declared.script.Script.{Script}
 use Rattle.qc_fabric.specs.Picks.{IsStopped, has_any}
+use Rattle.qc_link.specs.Limits.{most_actors}
 
 any_cons : (b : Bool) (bits : List Bool) → has_any (b ∷ bits) ≡ false → (b ≡ false) × (has_any bits ≡ false)
 any_cons true bits e = absurd (let no : ⊥ = cc in no)
@@ -44,7 +45,7 @@ nothing_first : (cs : List Control) → slice_get cs 0 ≡ None → cs ≡ []
 nothing_first [] e = refl
 nothing_first (c ∷ cs) e = absurd (let no : ⊥ = cc in no)
 
-pub stops : (decl : Declaration) (script : Script) (h : List Entry) (inputs : List Bool) (kept : Inboxes) → IsKept script h kept → actors decl ≤ 34
+pub stops : (decl : Declaration) (script : Script) (h : List Entry) (inputs : List Bool) (kept : Inboxes) → IsKept script h kept → actors decl ≤ most_actors
     → has_any inputs ≡ false → slice_get kept.controls 0 ≡ None → picked_in decl (either inputs inputs) kept ≡ None → IsStopped decl script h inputs
 stops decl script h inputs kept is few none control picks =
     let nobody : inboxes.picked decl script (either inputs inputs) h ≡ None = sym (picked_kept decl script (either inputs inputs) h kept is few) ∙ picks in
@@ -60,7 +61,7 @@ stopped_inputs decl script h inputs s = no_bit inputs s.none_open
 pub stopped_controls : (decl : Declaration) (script : Script) (h : List Entry) (inputs : List Bool) (kept : Inboxes) → IsKept script h kept → IsStopped decl script h inputs → slice_get kept.controls 0 ≡ None
 stopped_controls decl script h inputs kept is s = ap (λ (cs : List Control). slice_get cs 0) (controls_shown script h kept is ∙ s.none_left)
 
-pub stopped_picks : (decl : Declaration) (script : Script) (h : List Entry) (inputs : List Bool) (kept : Inboxes) → IsKept script h kept → actors decl ≤ 34 → IsStopped decl script h inputs → picked_in decl (either inputs inputs) kept ≡ None
+pub stopped_picks : (decl : Declaration) (script : Script) (h : List Entry) (inputs : List Bool) (kept : Inboxes) → IsKept script h kept → actors decl ≤ most_actors → IsStopped decl script h inputs → picked_in decl (either inputs inputs) kept ≡ None
 stopped_picks decl script h inputs kept is few s =
     picked_kept decl script (either inputs inputs) h kept is few ∙ none_picked decl script (either inputs inputs) h (λ a low clear. s.none_ready a low)
 

@@ -35,6 +35,7 @@ use Rattle.qc_fabric.proofs.Fed.{bit_clear, bit_set, deeds_of_front, get_else, g
 use Rattle.qc_fabric.proofs.Kept.{all_of, steps_on}
 use Rattle.qc_fabric.proofs.Phased.{phase_input}
 use Rattle.qc_fabric.proofs.Ready.{given_ready, none_ready}
+use Rattle.qc_link.specs.Limits.{most_actors}
 
 module _ {L : ℕ → List Deed → Turn → Type 0} {D : Declaration} {S : Script} {z : TableId} {w : Script} {lg : Logged} {mb : Roomy} {op hd : List Bool} {ph rsv : ℕ} {tb : TableId} {ri : Option (Right Step)} where
   -- a take
@@ -44,7 +45,7 @@ module _ {L : ℕ → List Deed → Turn → Type 0} {D : Declaration} {S : Scri
     run_taken : Runs L D S (lg.history ++ marked (number p) (step_of given) ∷ []) (slice_set op (number p) true)
     run_taken = takes (number p) given op lg.history s.runs next.closed next.rdy
 
-    here : number p < 34
+    here : number p < most_actors
     here = omega (arith, low, s.few)
 
     open_now : slice_get (slice_set op (number p) true) (number p) ≡ Some true

@@ -17,6 +17,7 @@ use Rattle.qc_script.specs.Sound.{IsScriptFor}
 use Rattle.qc_script.specs.declared.script.Script.{Script}
 use Rattle.qc_fabric.specs.Events.{before_last_event}
 use Rattle.qc_fabric.specs.Logs.{Logged, full_of}
+use Rattle.qc_link.specs.Limits.{most_actors}
 
 -- what callers see: the history, of each site and client whether its input is open, and whether it is held
 pub record Shown : Type 0 where
@@ -58,4 +59,4 @@ pub record IsStill (lawful : ℕ → List Deed → Turn → Type 0) (decl : Decl
   pub opened : (a k : ℕ) → slice_get (rooms holder) a ≡ Some (suc k) → slice_get inputs a ≡ Some true
   -- the name is that of a run: its script is for its declaration, whose actors are few
   pub sound : IsScriptFor decl script
-  pub few : controller decl < 34
+  pub few : controller decl < most_actors

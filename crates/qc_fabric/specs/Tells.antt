@@ -21,6 +21,7 @@ use Rattle.qc_script.specs.declared.script.Script.{Script}
 use Rattle.qc_fabric.specs.Controls.{control_step}
 use Rattle.qc_fabric.specs.Logs.{full_of}
 use Rattle.qc_fabric.specs.Stills.{most_history}
+use Rattle.qc_link.specs.Limits.{most_actors}
 
 -- the same pass
 pub record IsSame (p q : Pass Step) : Type 0 where
@@ -40,7 +41,7 @@ size_of turn = (length (wrote turn.write) + (length turn.sends + length (told tu
 
 -- a turn whose messages go to actors
 abbrev pub GoesToActors : Turn → Type 0
-GoesToActors turn = Every (λ (p : Posting). p.to < 34) turn.sends
+GoesToActors turn = Every (λ (p : Posting). p.to < most_actors) turn.sends
 
 -- these steps of the pass's actor were added
 pub record Fed (p : Pass Step) (r : Right Step) (q : Pass Step) (t : Right Step) (steps : List Step) : Type 0 where

@@ -5,6 +5,7 @@ ghost use Rattle.std.specs.Prelude.{◌≡◌, ◌<◌, Some, IfOk, IsSome};
 ghost use Rattle.qc_msg.specs.Deeds.{envelope_of, mail};
 ghost use Rattle.qc_msg.specs.Steps.{step_of};
 ghost use Rattle.qc_fabric.specs.Inputs.{IsInputFor, IsThere, given_by};
+ghost use Rattle.qc_link.specs.Limits.{most_actors};
 
 use crate::log::Log;
 use qc_decl::Declaration;
@@ -23,7 +24,7 @@ pub(crate) fn input_for(
     decl: &Declaration,
     actor: u8,
 ) -> Option<Input>
-    requires { actor < 34 }
+    requires { actor < most_actors }
     ensures { IsInputFor decl.now log.now.history mailboxes.now.inboxes inputs.now actor result }
 {
     if log.full().is_some() || is_set(inputs, actor) {

@@ -31,6 +31,7 @@ pub(crate) fn size_of(turn: &Turn) -> Result<usize, OutOfMemory>
 {
     let writes = if turn.write.is_some() { 1 } else { 0 };
     let tells = if turn.told.is_some() { 1 } else { 0 };
+    // A list in memory is never so long that the sum would wrap.
     match turn.sends.items().len().checked_add(writes + tells + 1) {
         Some(size) => Ok(size),
         None => Err(AllocError),

@@ -11,6 +11,7 @@ ghost use Rattle.qc_fabric.specs.Events.{before_last_event};
 ghost use Rattle.qc_fabric.specs.Logs.{full_of};
 ghost use Rattle.qc_fabric.specs.Stills.{most_history};
 ghost use Rattle.qc_fabric.specs.Tells.{Sees};
+ghost use Rattle.qc_link.specs.Limits.{most_actors};
 
 use crate::bits::{closed, set};
 use crate::conduct::{Conduct, Named};
@@ -65,7 +66,7 @@ impl<C: Conduct, N: Named> Still<C, N> {
         requires declaration { decl.now ≡ N.declaration }
         requires script { script ≡ N.script }
         requires sound { IsScriptFor N.declaration N.script }
-        requires few { controller N.declaration < 34 }
+        requires few { controller N.declaration < most_actors }
         requires table { table_of passes ≡ N.table }
         requires right { IsFirst N.table (controller N.declaration + 1) right }
         ensures history { IfOk result (λ s. s.history ≡ []) }

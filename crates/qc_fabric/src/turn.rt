@@ -82,10 +82,14 @@ impl<C: Conduct, N: Named> Still<C, N> {
         ensures ok { OnOk result (Sees pass.old pass.new × (room pass.new ≡ size_of turn.now)) }
         ensures err { OnErr result (pass.new ≡ pass.old) }
     {
+        // No worker comes here without an open input: it took one, and nobody
+        // else closes it. What others did under the lock isn't known here, so
+        // this is told as the one answer that is always free.
         if !is_set(self.inputs.as_slice(), pass.number()) {
             return Err(AllocError);
         }
         let size = size_of(turn)?;
+        // Memory ends long before a history of the most steps.
         let Some(room) = more(self.log.steps(), self.reserved, size) else {
             return Err(AllocError);
         };

@@ -11,7 +11,7 @@ use Rattle.qc_core.specs.Sites.{IsShown}
 use Rattle.qc_decl.specs.declared.declaration.Declaration.{Declaration}
 use Rattle.qc_decl.specs.Accepted.{IsAccepted}
 use Rattle.qc_decl.specs.Actors.{controller, is_client, is_site}
-use Rattle.qc_decl.specs.Limits.{most_record_bytes}
+use Rattle.qc_decl.specs.Limits.{most_committed_operations, most_record_bytes}
 use Rattle.qc_entry.specs.declared.record.Prepared.{Prepared}
 use Rattle.qc_entry.specs.Log.{without}
 use Rattle.qc_lock.specs.declared.held.Held.{Held}
@@ -103,10 +103,10 @@ module _ (decl : Declaration) (script : Script) (accepted : IsAccepted decl) (so
             | inr new ↦ (let none : q.taken ≡ None = new.1 in let some : q.taken ≡ Some (Some x) = k.2 in let never : ⊥ = cc in never)
           ]
 
-  pub counted_remembered : (h : List Entry) (open_inputs : List Bool) → Runs (IsLawful decl) decl script h open_inputs → operations_of h ≤ 2048 → AreRemembered h
+  pub counted_remembered : (h : List Entry) (open_inputs : List Bool) → Runs (IsLawful decl) decl script h open_inputs → operations_of h ≤ 2 * most_committed_operations → AreRemembered h
   counted_remembered h open_inputs begins few = λ a q x client v forgets. v.0
   counted_remembered h open_inputs (takes b g before older run free rdy) few =
-      let less : operations_of older ≤ 2048 = few_before decl script accepted sound older (marked b (step_of g) ∷ []) few in
+      let less : operations_of older ≤ 2 * most_committed_operations = few_before decl script accepted sound older (marked b (step_of g) ∷ []) few in
       taken_remembered older b g (what_is_ready_was_sent (IsLawful decl) decl script older before run b g rdy) (unforgotten decl script accepted sound older before run less) (counted_remembered older before run less)
   counted_remembered h open_inputs (posts b turn before older run taken law) few =
       posted_remembered older b turn (counted_remembered older before run (few_before decl script accepted sound older (by_actor b (posted (length (mail older)) turn)) few))
@@ -142,7 +142,7 @@ module _ (decl : Declaration) (script : Script) (accepted : IsAccepted decl) (so
   abbrev IsNeverTold : List Entry → Type 0
   IsNeverTold h = (a site : ℕ) → In (Tells (replies.Aborted (causes.Forgot site))) (deeds a [] h) → ⊥
 
-  posted_tells : (h : List Entry) (open_inputs : List Bool) (run : Runs (IsLawful decl) decl script h open_inputs) → operations_of h ≤ 2048 → (b : ℕ) (turn : Turn) → slice_get open_inputs b ≡ Some true → IsLawful decl b (deeds b [] h) turn
+  posted_tells : (h : List Entry) (open_inputs : List Bool) (run : Runs (IsLawful decl) decl script h open_inputs) → operations_of h ≤ 2 * most_committed_operations → (b : ℕ) (turn : Turn) → slice_get open_inputs b ≡ Some true → IsLawful decl b (deeds b [] h) turn
       → (site : ℕ) → In (Tells (replies.Aborted (causes.Forgot site))) (turn_deeds (length (mail h)) turn) → ⊥
   posted_tells h open_inputs run few b turn taken law site among = elim (who decl script accepted sound h open_inputs run few b turn taken law) [
     | inl here ↦ every-In IsMuteDeed (Tells (replies.Aborted (causes.Forgot site))) (deeds b [] h ++ turn_deeds (length (mail h)) turn)
@@ -157,7 +157,7 @@ module _ (decl : Declaration) (script : Script) (accepted : IsAccepted decl) (so
       acts : ActsIn decl b h true
       acts = run_acts decl script h open_inputs run b true taken
 
-  pub never_told : (h : List Entry) (open_inputs : List Bool) → Runs (IsLawful decl) decl script h open_inputs → operations_of h ≤ 2048 → IsNeverTold h
+  pub never_told : (h : List Entry) (open_inputs : List Bool) → Runs (IsLawful decl) decl script h open_inputs → operations_of h ≤ 2 * most_committed_operations → IsNeverTold h
   never_told h open_inputs begins few = λ a site among. among
   never_told h open_inputs (takes b g before older run free rdy) few = by (never_told older before run (few_before decl script accepted sound older (marked b (step_of g) ∷ []) few))
     where
@@ -174,7 +174,7 @@ module _ (decl : Declaration) (script : Script) (accepted : IsAccepted decl) (so
   never_told h open_inputs (posts b turn before older run taken law) few =
       by (never_told older before run (few_before decl script accepted sound older (by_actor b (posted (length (mail older)) turn)) few)) (few_before decl script accepted sound older (by_actor b (posted (length (mail older)) turn)) few)
     where
-      by : IsNeverTold older → operations_of older ≤ 2048 → IsNeverTold (older ++ by_actor b (posted (length (mail older)) turn))
+      by : IsNeverTold older → operations_of older ≤ 2 * most_committed_operations → IsNeverTold (older ++ by_actor b (posted (length (mail older)) turn))
       by old less a site among = at (b == a) refl
         where
           at : (t : Bool) → (b == a) ≡ t → ⊥
@@ -193,7 +193,7 @@ module _ (decl : Declaration) (script : Script) (accepted : IsAccepted decl) (so
 
   -- a site without an open input that a client waits for
 
-  module _ (h : List Entry) (open_inputs : List Bool) (run : Runs (IsLawful decl) decl script h open_inputs) (few : operations_of h ≤ 2048) where
+  module _ (h : List Entry) (open_inputs : List Bool) (run : Runs (IsLawful decl) decl script h open_inputs) (few : operations_of h ≤ 2 * most_committed_operations) where
     shown : (site : ℕ) → is_site decl site ≡ true → slice_get open_inputs site ≡ Some false → IsShown (deeds site [] h) (site_after decl site (deeds site [] h)).site
     shown site is free = run_shown decl script h open_inputs run site (ltb-true site decl.sites is) free
 
@@ -226,7 +226,7 @@ module _ (decl : Declaration) (script : Script) (accepted : IsAccepted decl) (so
         name = let both_are : Some (tie decl script accepted sound h open_inputs run a client free q k).t ≡ Some t = sym (tie decl script accepted sound h open_inputs run a client free q k).current ∙ current in
             let same : (tie decl script accepted sound h open_inputs run a client free q k).t ≡ t = cc in ap (λ (x : Current). x.tx) same
 
-  pub remembers : (h : List Entry) (open_inputs : List Bool) (run : Runs (IsLawful decl) decl script h open_inputs) → operations_of h ≤ 2048 → (a : ℕ) (q : ClientRequest) (t : Current) → is_client decl a ≡ true → (account decl a h).current ≡ Some t → IsOpenVote (account decl a h) q
+  pub remembers : (h : List Entry) (open_inputs : List Bool) (run : Runs (IsLawful decl) decl script h open_inputs) → operations_of h ≤ 2 * most_committed_operations → (a : ℕ) (q : ClientRequest) (t : Current) → is_client decl a ≡ true → (account decl a h).current ≡ Some t → IsOpenVote (account decl a h) q
       → slice_get open_inputs q.site ≡ Some false → IsRemembered (deeds q.site [] h) t.tx
   remembers h open_inputs run few a q t client current k at_rest = by (client_slot decl script accepted sound h open_inputs run a client)
     where

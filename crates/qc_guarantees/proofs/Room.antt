@@ -14,7 +14,7 @@ use Rattle.qc_entry.specs.Log.{has_line, without}
 use Rattle.qc_decl.specs.declared.declaration.Declaration.{Declaration}
 use Rattle.qc_decl.specs.Accepted.{IsAccepted}
 use Rattle.qc_decl.specs.Actors.{is_client, is_site}
-use Rattle.qc_decl.specs.Limits.{most_record_bytes}
+use Rattle.qc_decl.specs.Limits.{most_committed_operations, most_record_bytes}
 use Rattle.qc_lock.specs.Held.{held_of}
 use Rattle.qc_lock.proofs.Order.{sorted-find}
 use Rattle.qc_msg.specs.declared.message.Envelope.{Envelope}
@@ -165,10 +165,10 @@ module _ (decl : Declaration) (accepted : IsAccepted decl) (net : Net) (reached 
         let less : count_by (λ (l : Line). not (has_line (net.sites site).recorded l)) (net.sites site).log ≤ length (net.sites site).log = count_by-le-length (λ (l : Line). not (has_line (net.sites site).recorded l)) (net.sites site).log in
         omega arith
 
-    -- with at most 2048 committed operations, the promise fits
-    pub promise_fits : AreNamedMessages decl net.mail → sum_by (λ (c : CommitRecord). answered c.ops) net.written ≤ 2048 → nat_le (prepare_length (promise_of (net.sites site) t.begun.tx)) most_record_bytes ≡ true
+    -- with at most twice the limit of committed operations, the promise fits
+    pub promise_fits : AreNamedMessages decl net.mail → sum_by (λ (c : CommitRecord). answered c.ops) net.written ≤ 2 * most_committed_operations → nat_le (prepare_length (promise_of (net.sites site) t.begun.tx)) most_record_bytes ≡ true
     promise_fits named few =
         let locks : length (held_of (net.sites site).held t.begun.tx).locks ≤ 512 = locks_few named in
         let own : length (held_of (net.sites site).held t.begun.tx).own ≤ 17 = own_few in
-        let lines : length (without (net.sites site).log (net.sites site).recorded) ≤ 2048 = lines_few 2048 few in
+        let lines : length (without (net.sites site).log (net.sites site).recorded) ≤ 2 * most_committed_operations = lines_few (2 * most_committed_operations) few in
         le-leb (prepare_length (promise_of (net.sites site) t.begun.tx)) most_record_bytes (omega arith)

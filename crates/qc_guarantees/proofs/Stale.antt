@@ -11,7 +11,7 @@ use Rattle.qc_core.specs.Conduct.{IsLawful}
 use Rattle.qc_decl.specs.declared.declaration.Declaration.{Declaration}
 use Rattle.qc_decl.specs.Accepted.{IsAccepted}
 use Rattle.qc_decl.specs.Actors.{actors, is_client, is_site}
-use Rattle.qc_decl.specs.Limits.{most_record_bytes}
+use Rattle.qc_decl.specs.Limits.{most_committed_operations, most_record_bytes}
 use Rattle.qc_lock.specs.Held.{is_held}
 use Rattle.qc_msg.specs.declared.message.Answer.{Answer}
 use Rattle.qc_msg.specs.declared.message.Envelope.{Envelope}
@@ -65,7 +65,7 @@ operations_grow h k = let all : operations_of (h ++ k) ≡ operations_of h + ope
 module _ (decl : Declaration) (script : Script) (accepted : IsAccepted decl) (sound : IsScriptFor decl script) where
   -- an answer of a site with an open input doesn't say that it has forgotten what a client waits for, which has none
 
-  module _ (h : List Entry) (open_inputs : List Bool) (run : Runs (IsLawful decl) decl script h open_inputs) (few : operations_of h ≤ 2048) (a : ℕ) (client : is_client decl a ≡ true) (free : slice_get open_inputs a ≡ Some false)
+  module _ (h : List Entry) (open_inputs : List Bool) (run : Runs (IsLawful decl) decl script h open_inputs) (few : operations_of h ≤ 2 * most_committed_operations) (a : ℕ) (client : is_client decl a ≡ true) (free : slice_get open_inputs a ≡ Some false)
       (q : ClientRequest) (k : IsOpenVote (account decl a h) q) (b : ℕ) (site : is_site decl b ≡ true) (taken : slice_get open_inputs b ≡ Some true) where
     pub says_remembered : (p : Posting) (n : ℕ) (x : Answer) → In p (site_after decl b (deeds b [] h)).turn.sends → p.message ≡ messages.Answer n x → Forgets x → q.number ≡ n → ⊥
     says_remembered p n x among is forgets same = by (answers_requests decl ((stood decl script accepted sound h open_inputs run).net.sites b) o.given p n x posted_here is)
@@ -155,8 +155,8 @@ module _ (decl : Declaration) (script : Script) (accepted : IsAccepted decl) (so
     same_written : written later ≡ written h
     same_written = written_posted h a (length (mail h)) turn ∙ ap (λ (cs : List CommitRecord). written h ++ cs) (writes_no_commit decl a client (deeds a [] h) acts.above acts.acts q k turn (length (mail h)) acts.within law) ∙ append-nil (written h)
 
-    pub later_few : operations_of h ≤ 2048 → operations_of later ≤ 2048
-    later_few few = subst (λ (n : ℕ). n ≤ 2048) (operations-written h ∙ ap (sum_by (λ (c : CommitRecord). answered c.ops)) (sym same_written) ∙ sym (operations-written later)) few
+    pub later_few : operations_of h ≤ 2 * most_committed_operations → operations_of later ≤ 2 * most_committed_operations
+    later_few few = subst (λ (n : ℕ). n ≤ 2 * most_committed_operations) (operations-written h ∙ ap (sum_by (λ (c : CommitRecord). answered c.ops)) (sym same_written) ∙ sym (operations-written later)) few
 
     pub later_closed : slice_get (slice_set open_inputs a false) a ≡ Some false
     later_closed = slice_get-set_same open_inputs a false true opened
@@ -179,7 +179,7 @@ module _ (decl : Declaration) (script : Script) (accepted : IsAccepted decl) (so
   client_slot h open_inputs run a client = has_entry (IsLawful decl) decl script h open_inputs run a (ltb-true a (actors decl) (and_second (nat_le decl.sites a) (nat_lt a (actors decl)) client))
 
   -- so a site doesn't say either way that it has forgotten
-  module _ (h : List Entry) (open_inputs : List Bool) (run : Runs (IsLawful decl) decl script h open_inputs) (few : operations_of h ≤ 2048) (a : ℕ) (client : is_client decl a ≡ true)
+  module _ (h : List Entry) (open_inputs : List Bool) (run : Runs (IsLawful decl) decl script h open_inputs) (few : operations_of h ≤ 2 * most_committed_operations) (a : ℕ) (client : is_client decl a ≡ true)
       (q : ClientRequest) (k : IsOpenVote (account decl a h) q) (b : ℕ) (site : is_site decl b ≡ true) (taken : slice_get open_inputs b ≡ Some true) where
     later_remembered : (opened : slice_get open_inputs a ≡ Some true) (p : Posting) (n : ℕ) (x : Answer) → In p (site_after decl b (deeds b [] h)).turn.sends → p.message ≡ messages.Answer n x → Forgets x → q.number ≡ n → ⊥
     later_remembered opened p n x among is forgets same =

@@ -53,6 +53,7 @@ use Rattle.qc_guarantees.proofs.Mailed.{taken_mail}
 use Rattle.qc_guarantees.proofs.SiteMoves.{Forgets, IsAnsweringTo, answers_requests}
 use Rattle.qc_guarantees.proofs.Stale.{below_length, operations_grow, remembered}
 use Rattle.qc_guarantees.proofs.Voted.{stood}
+use Rattle.qc_decl.specs.Limits.{most_committed_operations}
 
 -- an answer to a request of this number was sent
 pub record IsAnswered (mail : List Envelope) (number : ℕ) (answer : Answer) : Type 0 where
@@ -112,7 +113,7 @@ module _ (decl : Declaration) (script : Script) (accepted : IsAccepted decl) (so
 
   -- a turn is posted
 
-  module _ (h : List Entry) (open_inputs : List Bool) (run : Runs (IsLawful decl) decl script h open_inputs) (few : operations_of h ≤ 2048) (b : ℕ) (turn : Turn) (taken : slice_get open_inputs b ≡ Some true) (law : IsLawful decl b (deeds b [] h) turn) where
+  module _ (h : List Entry) (open_inputs : List Bool) (run : Runs (IsLawful decl) decl script h open_inputs) (few : operations_of h ≤ 2 * most_committed_operations) (b : ℕ) (turn : Turn) (taken : slice_get open_inputs b ≡ Some true) (law : IsLawful decl b (deeds b [] h) turn) where
     abbrev more : List Envelope
     more = envelopes b (length (mail h)) turn.sends
 
@@ -211,15 +212,15 @@ module _ (decl : Declaration) (script : Script) (accepted : IsAccepted decl) (so
             let here : a ≡ b = sym (eqb-true b a same) in
             itself u (subst (λ (n : ℕ). is_client decl n ≡ true) here client) q x (subst (λ (n : ℕ). IsOpenVote (account decl n (h ++ by_actor b (posted (length (mail h)) turn))) q) here vote) k forgets
 
-  pub few_before : (h k : List Entry) → operations_of (h ++ k) ≤ 2048 → operations_of h ≤ 2048
+  pub few_before : (h k : List Entry) → operations_of (h ++ k) ≤ 2 * most_committed_operations → operations_of h ≤ 2 * most_committed_operations
   few_before h k few = let more : operations_of h ≤ operations_of (h ++ k) = operations_grow h k in omega arith
 
-  pub unforgotten : (h : List Entry) (open_inputs : List Bool) → Runs (IsLawful decl) decl script h open_inputs → operations_of h ≤ 2048 → Unforgotten h
+  pub unforgotten : (h : List Entry) (open_inputs : List Bool) → Runs (IsLawful decl) decl script h open_inputs → operations_of h ≤ 2 * most_committed_operations → Unforgotten h
   unforgotten h open_inputs begins few = record { low = λ n x k. absurd k.sent; votes = λ a q x client vote k forgets. k.sent }
   unforgotten h open_inputs (takes b g before older run free rdy) few =
       unforgotten_taken older b g (what_is_ready_was_sent (IsLawful decl) decl script older before run b g rdy) (unforgotten older before run (few_before older (marked b (step_of g) ∷ []) few))
   unforgotten h open_inputs (posts b turn before older run taken law) few =
-      let less : operations_of older ≤ 2048 = few_before older (by_actor b (posted (length (mail older)) turn)) few in
+      let less : operations_of older ≤ 2 * most_committed_operations = few_before older (by_actor b (posted (length (mail older)) turn)) few in
       unforgotten_posted older before run less b turn taken law (unforgotten older before run less)
   unforgotten h open_inputs (phase before older run none done quiet_all left) few =
       same_mail older (older ++ marked (controller decl) (steps.Phase (phase_of older + 1)) ∷ []) (mail-silent older (controller decl) (steps.Phase (phase_of older + 1)) (phase_silent (phase_of older + 1)))

@@ -11,7 +11,7 @@ use Rattle.qc_core.specs.Conduct.{IsLawful}
 use Rattle.qc_decl.specs.declared.declaration.Declaration.{Declaration}
 use Rattle.qc_decl.specs.Accepted.{IsAccepted}
 use Rattle.qc_decl.specs.Actors.{first_site, is_client, is_site}
-use Rattle.qc_decl.specs.Limits.{most_record_bytes}
+use Rattle.qc_decl.specs.Limits.{most_committed_operations, most_record_bytes}
 use Rattle.qc_lock.specs.Held.{is_held}
 use Rattle.qc_msg.specs.declared.message.Envelope.{Envelope}
 use Rattle.qc_msg.specs.declared.message.Message.{Message}
@@ -198,8 +198,8 @@ module _ (decl : Declaration) (script : Script) (accepted : IsAccepted decl) (so
         by (inr ended) = absurd (not_ended (subst (WasEnded stood.net.mail) (sym name_is) ended))
 
     -- and its promise fits a record
-    pub site_has_room : operations_of h ≤ 2048 → nat_le (prepare_length (promise_of (stood.net.sites q.site) tie.t.tx)) most_record_bytes ≡ true
+    pub site_has_room : operations_of h ≤ 2 * most_committed_operations → nat_le (prepare_length (promise_of (stood.net.sites q.site) tie.t.tx)) most_record_bytes ≡ true
     site_has_room few =
         subst (λ (tx : TxId). nat_le (prepare_length (promise_of (stood.net.sites q.site) tx)) most_record_bytes ≡ true) name_is
         (promise_fits decl accepted stood.net stood.reached a tie.x v client transaction_is voting_is q.site place (subst (AreNamedMessages decl) (sym stood.mail_is) (mail_named decl script accepted sound h open_inputs run))
-        (subst (λ (cs : List CommitRecord). sum_by (λ (c : CommitRecord). answered c.ops) cs ≤ 2048) (sym stood.written_is) (subst (λ (n : ℕ). n ≤ 2048) (operations-written h) few)))
+        (subst (λ (cs : List CommitRecord). sum_by (λ (c : CommitRecord). answered c.ops) cs ≤ 2 * most_committed_operations) (sym stood.written_is) (subst (λ (n : ℕ). n ≤ 2 * most_committed_operations) (operations-written h) few)))

@@ -25,6 +25,7 @@ use Rattle.qc_inbox.specs.Trays.{empty_tray, tray_taken, tray_told}
 use Rattle.qc_inbox.proofs.Keeping.{kept_send, kept_step}
 use Rattle.qc_inbox.proofs.Sent.{Keeps, by_test, same}
 use Rattle.qc_inbox.proofs.Taking.{taken_shown}
+use Rattle.qc_link.specs.Limits.{most_actors}
 
 -- the trays, where one of them is changed
 own_tray : (trays : List Tray) (a b : ℕ) (change : Tray → Tray) (old new : Tray) → a < length trays → tray_at trays b ≡ old
@@ -71,7 +72,7 @@ input_sends_nothing a (given.Called command) = refl
 input_sends_nothing a (given.Got envelope) = refl
 input_sends_nothing a (given.Lost number) = refl
 
-pub kept_take : (decl : Declaration) (script : Script) (h : List Entry) (old : Inboxes) (a : ℕ) (g : Given) → IsKept script h old → a < 34 → ready decl script a h ≡ Some g
+pub kept_take : (decl : Declaration) (script : Script) (h : List Entry) (old : Inboxes) (a : ℕ) (g : Given) → IsKept script h old → a < most_actors → ready decl script a h ≡ Some g
     → IsKept script (h ++ marked a (step_of g) ∷ []) (after_take old a)
 kept_take decl script h old a g kept within is =
     kept_step script h (marked a (step_of g)) old (after_take old a) kept (input_sends_nothing a g) refl refl (length-set old.trays a _ ∙ kept.trays)
@@ -92,7 +93,7 @@ written : (script : Script) (h : List Entry) (old : Inboxes) (a : ℕ) (write : 
 written script h old a None kept = subst (λ (x : List Entry). IsKept script x old) (sym (append-nil h)) kept
 written script h old a (Some record_) kept = kept_step script h (marked a (Wrote record_)) old old kept refl refl refl kept.trays (λ b within shows. shows)
 
-sent : (script : Script) (h : List Entry) (old : Inboxes) (a : ℕ) (ps : List Posting) → IsKept script h old → a < 34 → Every (λ (p : Posting). p.to < 34) ps
+sent : (script : Script) (h : List Entry) (old : Inboxes) (a : ℕ) (ps : List Posting) → IsKept script h old → a < most_actors → Every (λ (p : Posting). p.to < most_actors) ps
     → IsKept script (h ++ by a (sents old.counts.all ps)) (after_sends old a ps)
 sent script h old a [] kept within receivers = subst (λ (x : List Entry). IsKept script x old) (sym (append-nil h)) kept
 sent script h old a (p ∷ ps) kept within receivers =
@@ -100,7 +101,7 @@ sent script h old a (p ∷ ps) kept within receivers =
     (append_assoc h (marked a (Sent old.counts.all p.to p.message) ∷ []) (by a (sents (old.counts.all + 1) ps)))
     (sent script (h ++ marked a (Sent old.counts.all p.to p.message) ∷ []) (after_send old a p) a ps (kept_send script h old a p kept within receivers.0) within receivers.1)
 
-replied : (script : Script) (h : List Entry) (old : Inboxes) (a : ℕ) (reply : Option Reply) → IsKept script h old → a < 34 → IsKept script (h ++ by a (told reply)) (after_reply old a reply)
+replied : (script : Script) (h : List Entry) (old : Inboxes) (a : ℕ) (reply : Option Reply) → IsKept script h old → a < most_actors → IsKept script (h ++ by a (told reply)) (after_reply old a reply)
 replied script h old a None kept within = subst (λ (x : List Entry). IsKept script x old) (sym (append-nil h)) kept
 replied script h old a (Some reply) kept within =
     kept_step script h (marked a (Told reply)) old (after_reply old a (Some reply)) kept refl refl refl (length-set old.trays a _ ∙ kept.trays)
@@ -111,7 +112,7 @@ replied script h old a (Some reply) kept within =
     (λ here. sym (ap (λ (t : Bool). tray_of (calls_of b h) (if t then reply_told (inbox script b h) else inbox script b h)) here))
     (λ other. sym (ap (λ (t : Bool). tray_of (calls_of b h) (if t then reply_told (inbox script b h) else inbox script b h)) other))))
 
-pub kept_turn : (script : Script) (h : List Entry) (old : Inboxes) (a : ℕ) (turn : Turn) → IsKept script h old → a < 34 → Every (λ (p : Posting). p.to < 34) turn.sends
+pub kept_turn : (script : Script) (h : List Entry) (old : Inboxes) (a : ℕ) (turn : Turn) → IsKept script h old → a < most_actors → Every (λ (p : Posting). p.to < most_actors) turn.sends
     → IsKept script (h ++ by a (posted (length (mail h)) turn)) (after_turn old a turn)
 kept_turn script h old a turn kept within receivers =
     subst (λ (n : ℕ). IsKept script (h ++ by a (posted n turn)) (after_turn old a turn)) kept.sent

@@ -30,6 +30,7 @@ use Rattle.qc_script.specs.declared.script.PhaseLines.{PhaseLines}
 use Rattle.qc_script.specs.declared.script.Script.{Script}
 use Rattle.qc_inbox.specs.Inboxes.{Inboxes}
 use Rattle.qc_inbox.specs.Kept.{AreNumbered, IsKept}
+use Rattle.qc_link.specs.Limits.{most_actors}
 
 -- an envelope is one of some messages, and for actor a
 abbrev IsSentTo : List Envelope → ℕ → Envelope → Type 0
@@ -228,7 +229,7 @@ copies_found script h kept a is =
 
 -- who sent a message that is ready is an actor
 pub sender_within : (decl : Declaration) (script : Script) (h : List Entry) (kept : Inboxes) (a : ℕ) (e : Envelope) → IsKept script h kept → ready.ready decl script a h ≡ Some (given.Got e)
-    → e.from < 34
+    → e.from < most_actors
 sender_within decl script h kept a e is ready_ =
     let at : WasSentTo a (mail h) (given.Got e) = ready_found decl script h kept a (given.Got e) is ready_ in
-    (every-at (λ (x : Envelope). (x.from < 34) × (x.to < 34)) (mail h) e.number e is.ends at.0).0
+    (every-at (λ (x : Envelope). (x.from < most_actors) × (x.to < most_actors)) (mail h) e.number e is.ends at.0).0

@@ -13,6 +13,7 @@ use Rattle.qc_script.specs.Inbox.{Inbox, comes, comes_with, command_called, copy
 use Rattle.qc_script.specs.declared.script.Script.{Script}
 use Rattle.qc_script.proofs.Inboxes.{InCommon, inboxes_have_in_common}
 use Rattle.qc_inbox.proofs.Keeping.{inbox_after}
+use Rattle.qc_link.specs.Limits.{most_actors}
 
 -- an inbox that a test leaves as it is
 left : (t : Bool) (i j : Inbox) → t ≡ false → (if t then i else j) ≡ j
@@ -40,11 +41,11 @@ other_input script h a b g other = inbox_after script a h (marked b (step_of g))
 pub other_reply : (script : Script) (h : List Entry) (a b : ℕ) (reply : Reply) → (b == a) ≡ false → inbox script a (h ++ marked b (Told reply) ∷ []) ≡ inbox script a h
 other_reply script h a b reply other = inbox_after script a h (marked b (Told reply)) ∙ left (b == a) (reply_told (inbox script a h)) (inbox script a h) other
 
-pub one_cuts : (script : Script) (h : List Entry) (a b : ℕ) → a < 34 → b < 34 → (inbox script a h).cuts ≡ (inbox script b h).cuts
+pub one_cuts : (script : Script) (h : List Entry) (a b : ℕ) → a < most_actors → b < most_actors → (inbox script a h).cuts ≡ (inbox script b h).cuts
 one_cuts script h a b a_within b_within = let common : InCommon a b (inbox script a h) (inbox script b h) = inboxes_have_in_common script a b h a_within b_within in common.cuts
 
-pub one_controls : (script : Script) (h : List Entry) (a b : ℕ) → a < 34 → b < 34 → (inbox script a h).controls ≡ (inbox script b h).controls
+pub one_controls : (script : Script) (h : List Entry) (a b : ℕ) → a < most_actors → b < most_actors → (inbox script a h).controls ≡ (inbox script b h).controls
 one_controls script h a b a_within b_within = let common : InCommon a b (inbox script a h) (inbox script b h) = inboxes_have_in_common script a b h a_within b_within in common.controls
 
-pub one_count : (script : Script) (h : List Entry) (a b : ℕ) → a < 34 → b < 34 → count_of (inbox script a h).from_each b ≡ count_of (inbox script b h).to_each a
+pub one_count : (script : Script) (h : List Entry) (a b : ℕ) → a < most_actors → b < most_actors → count_of (inbox script a h).from_each b ≡ count_of (inbox script b h).to_each a
 one_count script h a b a_within b_within = let common : InCommon a b (inbox script a h) (inbox script b h) = inboxes_have_in_common script a b h a_within b_within in common.count

@@ -22,6 +22,7 @@ use Rattle.qc_inbox.specs.Kept.{IsKept, Shows}
 use Rattle.qc_inbox.specs.Picks.{calls_at, calls_of}
 use Rattle.qc_inbox.specs.Rooms.{tray_at}
 use Rattle.qc_inbox.proofs.Sent.{sends_count}
+use Rattle.qc_link.specs.Limits.{most_actors}
 
 -- an actor calls no more commands than there are steps
 
@@ -51,7 +52,7 @@ few_calls a (e ∷ h) calls =
     let rest : fold (λ (n : ℕ) (x : Entry). calls_at a n x.actor x.step) (calls_at a calls e.actor e.step) h ≤ calls_at a calls e.actor e.step + length h = few_calls a h (calls_at a calls e.actor e.step) in
     omega arith
 
-pub calls_few : (script : Script) (h : List Entry) (kept : Inboxes) (a : ℕ) → IsKept script h kept → a < 34 → (tray_at kept.trays a).calls ≤ length h
+pub calls_few : (script : Script) (h : List Entry) (kept : Inboxes) (a : ℕ) → IsKept script h kept → a < most_actors → (tray_at kept.trays a).calls ≤ length h
 calls_few script h kept a is within =
     let shows : Shows kept a (calls_of a h) (inbox script a h) = is.inboxes a within in
     let calls : (tray_at kept.trays a).calls ≡ calls_of a h = ap (λ (t : Tray). t.calls) shows.tray in
@@ -63,7 +64,7 @@ calls_few script h kept a is within =
 pub controls_shown : (script : Script) (h : List Entry) (kept : Inboxes) → IsKept script h kept → kept.controls ≡ controls_left script h
 controls_shown script h kept is = let shows : Shows kept 0 (calls_of 0 h) (inbox script 0 h) = is.inboxes 0 (omega arith) in sym shows.controls
 
-within : (decl : Declaration) → administrator decl < 34 → (c : Control) → IsControlFor decl c → IsWithin c
+within : (decl : Declaration) → administrator decl < most_actors → (c : Control) → IsControlFor decl c → IsWithin c
 within decl few (controls.Phase k) is = tt
 within decl few (controls.Cut a b) is = (let low : a ≤ administrator decl = is.0 in omega arith, let low : b ≤ administrator decl = is.1 in omega arith)
 within decl few (controls.Heal a b) is = (let low : a ≤ administrator decl = is.0 in omega arith, let low : b ≤ administrator decl = is.1 in omega arith)
@@ -89,14 +90,14 @@ by_test : (P : Inbox → Type 0) (t : Bool) (i j : Inbox) → P i → P j → P 
 by_test P true i j here there = here
 by_test P false i j here there = there
 
-begun_within : (decl : Declaration) (script : Script) → administrator decl < 34 → IsScriptFor decl script → (a n : ℕ) (i : Inbox) (o : Option PhaseLines) → slice_get script.phases n ≡ o
+begun_within : (decl : Declaration) (script : Script) → administrator decl < most_actors → IsScriptFor decl script → (a n : ℕ) (i : Inbox) (o : Option PhaseLines) → slice_get script.phases n ≡ o
     → AllWithin i → AllWithin (option_map_or (phase_begun a i) o i)
 begun_within decl script few sound a n i None is all = all
 begun_within decl script few sound a n i (Some phase) is all =
     let there : IsPhaseFor decl phase = every-at (IsPhaseFor decl) script.phases n phase sound.phases is in
     along phase.controls _ (opened_controls phase.controls _) (every-weaker (IsControlFor decl) IsWithin (within decl few) phase.controls there.0)
 
-step_within : (decl : Declaration) (script : Script) → administrator decl < 34 → IsScriptFor decl script → (a : ℕ) (i : Inbox) (by : ℕ) (step : Step) → AllWithin i → AllWithin (inbox_at script a i by step)
+step_within : (decl : Declaration) (script : Script) → administrator decl < most_actors → IsScriptFor decl script → (a : ℕ) (i : Inbox) (by : ℕ) (step : Step) → AllWithin i → AllWithin (inbox_at script a i by step)
 step_within decl script few sound a i by (steps.Phase k) all = begun_within decl script few sound a (k - 1) i (slice_get script.phases (k - 1)) refl all
 step_within decl script few sound a i by (steps.Cut x y) all = along (drop 1 i.controls) _ (opened_controls (drop 1 i.controls) _) (one_less i.controls all)
 step_within decl script few sound a i by (steps.Heal x y) all = along (drop 1 i.controls) _ (opened_controls (drop 1 i.controls) _) (one_less i.controls all)
@@ -112,7 +113,7 @@ step_within decl script few sound a i by (steps.Fell cause pending) all = all
 step_within decl script few sound a i by (steps.Rose records) all = all
 step_within decl script few sound a i by (steps.Damaged offset) all = all
 
-steps_within : (decl : Declaration) (script : Script) → administrator decl < 34 → IsScriptFor decl script → (a : ℕ) (h : List Entry) (i : Inbox) → AllWithin i
+steps_within : (decl : Declaration) (script : Script) → administrator decl < most_actors → IsScriptFor decl script → (a : ℕ) (h : List Entry) (i : Inbox) → AllWithin i
     → AllWithin (fold (λ (i : Inbox) (e : Entry). inbox_at script a i e.actor e.step) i h)
 steps_within decl script few sound a [] i all = all
 steps_within decl script few sound a (e ∷ h) i all =
@@ -122,7 +123,7 @@ first_within : (cs : List Control) → Every IsWithin cs → IfSome (slice_get c
 first_within [] all = tt
 first_within (c ∷ cs) all = all.0
 
-pub controls_within : (decl : Declaration) (script : Script) (h : List Entry) (kept : Inboxes) → IsKept script h kept → IsScriptFor decl script → administrator decl < 34
+pub controls_within : (decl : Declaration) (script : Script) (h : List Entry) (kept : Inboxes) → IsKept script h kept → IsScriptFor decl script → administrator decl < most_actors
     → IfSome (slice_get kept.controls 0) IsWithin
 controls_within decl script h kept is sound few =
     subst (λ (cs : List Control). IfSome (slice_get cs 0) IsWithin) (sym (controls_shown script h kept is))

@@ -24,9 +24,10 @@ use Rattle.qc_inbox.specs.Trays.{empty_tray, tray_asked, tray_begun, tray_opened
 use Rattle.qc_inbox.proofs.Keeping.{kept_step}
 use Rattle.qc_inbox.proofs.Sent.{Keeps, same}
 use Rattle.qc_inbox.proofs.Shown.{numbers-append}
+use Rattle.qc_link.specs.Limits.{most_actors}
 
 -- all trays are changed in one way
-all_trays : (trays : List Tray) (a : ℕ) (change : Tray → Tray) → length trays ≡ 34 → a < 34 → tray_at (map change trays) a ≡ change (tray_at trays a)
+all_trays : (trays : List Tray) (a : ℕ) (change : Tray → Tray) → length trays ≡ most_actors → a < most_actors → tray_at (map change trays) a ≡ change (tray_at trays a)
 all_trays trays a change long within = get_or-map change trays a empty_tray empty_tray (subst (λ (n : ℕ). a < n) (sym long) within)
 
 -- late copies that are ready
@@ -61,7 +62,7 @@ shown_after old new a m n i j shows from to counts cuts lines tray = record {
 
 -- control lines
 
-acted_shown : (kept : Inboxes) (a calls : ℕ) (i : Inbox) (cuts : List Bool → List Bool) → length kept.trays ≡ 34 → a < 34 → Shows kept a calls i
+acted_shown : (kept : Inboxes) (a calls : ℕ) (i : Inbox) (cuts : List Bool → List Bool) → length kept.trays ≡ most_actors → a < most_actors → Shows kept a calls i
     → Shows (with_control_gone (record kept { cuts = cuts kept.cuts })) a calls (control_acted (record i { cuts = cuts i.cuts }))
 acted_shown kept a calls i cuts long within shows =
     let keeps : Keeps (record i { cuts = cuts i.cuts; controls = drop 1 i.controls }) (opened_by (drop 1 i.controls) (record i { cuts = cuts i.cuts; controls = drop 1 i.controls })) =
@@ -127,7 +128,7 @@ begun_shown a calls i phase =
     (λ j. tray_opened (none_left phase.controls) (record (tray_of 0 i) { opening = sym (numbers-append i.opening i.late) j; late = []; commands = i.commands ++ commands_for a phase.commands }))
     ∙ sym (opened_shown 0 phase.controls _)
 
-phase_shown : (kept : Inboxes) (a calls : ℕ) (i : Inbox) (phase : PhaseLines) → length kept.trays ≡ 34 → a < 34 → Shows kept a calls i
+phase_shown : (kept : Inboxes) (a calls : ℕ) (i : Inbox) (phase : PhaseLines) → length kept.trays ≡ most_actors → a < most_actors → Shows kept a calls i
     → Shows (after_phase kept phase) a 0 (phase_begun a i phase)
 phase_shown kept a calls i phase long within shows =
     let keeps : Keeps (record i { opening = i.opening ++ i.late; late = []; controls = phase.controls; commands = i.commands ++ commands_for a phase.commands }) (phase_begun a i phase) = opened_keeps phase.controls _ in

@@ -5,6 +5,7 @@ use Rattle.std.proofs.lemmas.List.{get_or-set_other, get_or-set_same}
 use Rattle.qc_script.specs.Inbox.{count_of, one_more}
 use Rattle.qc_inbox.specs.Few.{AreFew}
 use Rattle.qc_inbox.specs.Tallies.{Tally, count, one_message_more, place}
+use Rattle.qc_link.specs.Limits.{most_actors}
 
 -- what stands at a place after a write
 
@@ -24,16 +25,16 @@ more_of xs k j within = at_set xs k j (count_of xs k + 1) 0 within ∙ by (k == 
 
 -- places of pairs
 
-pub place_within : (from to : ℕ) → from < 34 → to < 34 → place from to < 1156
+pub place_within : (from to : ℕ) → from < most_actors → to < most_actors → place from to < most_actors * most_actors
 place_within from to from_within to_within = omega arith
 
-same_place : (a b x y : ℕ) → b < 34 → y < 34 → (place a b == place x y) ≡ (if a == x then b == y else false)
+same_place : (a b x y : ℕ) → b < most_actors → y < most_actors → (place a b == place x y) ≡ (if a == x then b == y else false)
 same_place a b x y b_within y_within = by (a == x) refl (place a b == place x y) refl
   where
     by : (s : Bool) → (a == x) ≡ s → (t : Bool) → (place a b == place x y) ≡ t → t ≡ (if s then b == y else false)
     by true first true same =
         let firsts : a ≡ x = eqb-true a x first in
-        let places : 34 * a + b ≡ 34 * x + y = eqb-true (place a b) (place x y) same in
+        let places : most_actors * a + b ≡ most_actors * x + y = eqb-true (place a b) (place x y) same in
         let seconds : b ≡ y = omega arith in
         sym (eq-eqb b y seconds)
     by true first false other = inner (b == y) refl
@@ -44,12 +45,12 @@ same_place a b x y b_within y_within = by (a == x) refl (place a b == place x y)
             sym other ∙ on
         inner false second = refl
     by false first true same =
-        let places : 34 * a + b ≡ 34 * x + y = eqb-true (place a b) (place x y) same in
+        let places : most_actors * a + b ≡ most_actors * x + y = eqb-true (place a b) (place x y) same in
         let firsts : a ≡ x = omega arith in
         absurd (eqb-false a x first firsts)
     by false first false other = refl
 
-pub count_more : (t : Tally) (a b x y : ℕ) → length t.each ≡ 1156 → a < 34 → b < 34 → y < 34
+pub count_more : (t : Tally) (a b x y : ℕ) → length t.each ≡ most_actors * most_actors → a < most_actors → b < most_actors → y < most_actors
     → count (one_message_more t a b) x y ≡ (if (if a == x then b == y else false) then count t x y + 1 else count t x y)
 count_more t a b x y long a_within b_within y_within =
     more_of t.each (place a b) (place x y) (subst (λ (n : ℕ). place a b < n) (sym long) (place_within a b a_within b_within))

@@ -1,5 +1,5 @@
 -- Each step of a history keeps what is kept: what all of them have in common, and messages.
-use Rattle.std.proofs.Common.{◌≡◌, ℕ, zero, suc, ◌+◌, ◌<◌, List, [], ◌∷◌, ◌++◌, length, Option, Some, None, refl, ap, sym, subst, ◌∙◌, arith, length-append}
+use Rattle.std.proofs.Common.{◌*◌, ◌≡◌, ℕ, zero, suc, ◌+◌, ◌<◌, List, [], ◌∷◌, ◌++◌, length, Option, Some, None, refl, ap, sym, subst, ◌∙◌, arith, length-append}
 use Rattle.std.specs.Prelude.{slice_get}
 use Rattle.std.specs.List.{cons_option}
 use Rattle.std.proofs.lemmas.List.{append-nil, get_or-replicate, length-set}
@@ -22,6 +22,7 @@ use Rattle.qc_inbox.specs.Tallies.{Tally, place}
 use Rattle.qc_inbox.specs.Trays.{empty_tray}
 use Rattle.qc_inbox.proofs.Counting.{place_within}
 use Rattle.qc_inbox.proofs.Shipping.{sending_shown}
+use Rattle.qc_link.specs.Limits.{most_actors}
 
 -- an inbox, and a count of calls, after one entry more
 
@@ -55,8 +56,8 @@ same_mail h e none = mail_after h e ∙ (ap (λ (ms : List Envelope). mail h ++ 
 
 -- a step that sends nothing
 pub kept_step : (script : Script) (h : List Entry) (e : Entry) (old new : Inboxes) → IsKept script h old → envelope_of e ≡ None
-    → new.links ≡ old.links → new.counts ≡ old.counts → length new.trays ≡ 34
-    → ((a : ℕ) → a < 34 → Shows old a (calls_of a h) (inbox script a h)
+    → new.links ≡ old.links → new.counts ≡ old.counts → length new.trays ≡ most_actors
+    → ((a : ℕ) → a < most_actors → Shows old a (calls_of a h) (inbox script a h)
     → Shows new a (calls_at a (calls_of a h) e.actor e.step) (inbox_at script a (inbox script a h) e.actor e.step))
     → IsKept script (h ++ e ∷ []) new
 kept_step script h e old new kept none links counts trays each = record {
@@ -93,7 +94,7 @@ numbered_more ms e before is n f found =
     omega arith
 
 -- a message is sent
-pub kept_send : (script : Script) (h : List Entry) (old : Inboxes) (from : ℕ) (p : Posting) → IsKept script h old → from < 34 → p.to < 34
+pub kept_send : (script : Script) (h : List Entry) (old : Inboxes) (from : ℕ) (p : Posting) → IsKept script h old → from < most_actors → p.to < most_actors
     → IsKept script (h ++ marked from (Sent old.counts.all p.to p.message) ∷ []) (after_send old from p)
 kept_send script h old from p kept from_within to_within = record {
   links = kept.links;
@@ -102,7 +103,7 @@ kept_send script h old from p kept from_within to_within = record {
       ∙ sym (ap (λ (ms : List Envelope). length ms) (mail_after h sends) ∙ length-append (mail h) (mail (sends ∷ [])));
   numbered = subst AreNumbered (sym (mail_after h sends)) (numbered_more (mail h) (record { number = old.counts.all; from = from; to = p.to; message = p.message }) kept.numbered kept.sent);
   ends = subst AreBetweenActors (sym (mail_after h sends))
-      (every-append (λ (e : Envelope). (e.from < 34) × (e.to < 34)) (mail h) (record { number = old.counts.all; from = from; to = p.to; message = p.message } ∷ []) kept.ends ((from_within, to_within), tt));
+      (every-append (λ (e : Envelope). (e.from < most_actors) × (e.to < most_actors)) (mail h) (record { number = old.counts.all; from = from; to = p.to; message = p.message } ∷ []) kept.ends ((from_within, to_within), tt));
   counts = length-set old.counts.each _ _ ∙ kept.counts;
   trays = length-set _ from _ ∙ (length-set old.trays p.to _ ∙ kept.trays);
   inboxes = λ a within. after_entry script h sends (after_send old from p) a
@@ -127,10 +128,10 @@ kept_begins script = record {
   inboxes = λ a within. record {
     cuts = refl;
     controls = refl;
-    from_each = λ b b_within. get_or-replicate 34 b 0 0 b_within ∙ sym (get_or-replicate 1156 (place b a) 0 0 (place_within b a b_within within));
-    to_each = λ b b_within. get_or-replicate 34 b 0 0 b_within ∙ sym (get_or-replicate 1156 (place a b) 0 0 (place_within a b within b_within));
+    from_each = λ b b_within. get_or-replicate most_actors b 0 0 b_within ∙ sym (get_or-replicate (most_actors * most_actors) (place b a) 0 0 (place_within b a b_within within));
+    to_each = λ b b_within. get_or-replicate most_actors b 0 0 b_within ∙ sym (get_or-replicate (most_actors * most_actors) (place a b) 0 0 (place_within a b within b_within));
     from_length = refl;
     to_length = refl;
-    tray = get_or-replicate 34 a empty_tray empty_tray within;
+    tray = get_or-replicate most_actors a empty_tray empty_tray within;
   };
 }

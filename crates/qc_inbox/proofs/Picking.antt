@@ -21,6 +21,7 @@ use Rattle.qc_inbox.specs.declared.input.Input.{Input}
 use Rattle.qc_inbox.specs.declared.input.Candidate.{Candidate}
 use Rattle.qc_inbox.specs.declared.input.Rank.{Rank}
 use Rattle.qc_inbox.proofs.Seeing.{ready_kept}
+use Rattle.qc_link.specs.Limits.{most_actors}
 
 -- the first of some actors, by ranks that are the same
 
@@ -45,7 +46,7 @@ ranks_same : (calls : ℕ) (o : Option Given) → option_map (input_rank calls) 
 ranks_same calls None = refl
 ranks_same calls (Some g) = ap (λ (r : Rank). Some r) (input_rank_of calls g)
 
-rank_kept : (decl : Declaration) (script : Script) (held : List Bool) (h : List Entry) (kept : Inboxes) (a : ℕ) → IsKept script h kept → a < 34
+rank_kept : (decl : Declaration) (script : Script) (held : List Bool) (h : List Entry) (kept : Inboxes) (a : ℕ) → IsKept script h kept → a < most_actors
     → rank_in decl held kept a ≡ rank_at decl script held h a
 rank_kept decl script held h kept a is within =
     let shows : Shows kept a (calls_of a h) (inbox script a h) = is.inboxes a within in
@@ -54,10 +55,10 @@ rank_kept decl script held h kept a is within =
     ∙ (ap (λ (o : Option Input). unless_held (is_held held a) (option_map (input_rank (calls_of a h)) o)) (sym (ready_kept decl script h kept a is within))
     ∙ ap (λ (o : Option Rank). unless_held (is_held held a) o) (ranks_same (calls_of a h) (ready decl script a h)))
 
-below_all : (a n : ℕ) → a < n → n ≤ 34 → a < 34
+below_all : (a n : ℕ) → a < n → n ≤ most_actors → a < most_actors
 below_all a n h few = omega arith
 
-pub picked_kept : (decl : Declaration) (script : Script) (held : List Bool) (h : List Entry) (kept : Inboxes) → IsKept script h kept → actors decl ≤ 34
+pub picked_kept : (decl : Declaration) (script : Script) (held : List Bool) (h : List Entry) (kept : Inboxes) → IsKept script h kept → actors decl ≤ most_actors
     → picked_in decl held kept ≡ picked decl script held h
 picked_kept decl script held h kept is few =
     ap (λ (o : Option Candidate). option_map (λ (c : Candidate). c.actor) o)

@@ -12,8 +12,9 @@ use Rattle.qc_inbox.specs.Inputs.{after_controls, input_in, input_of, next_in}
 use Rattle.qc_inbox.specs.Kept.{IsKept, Shows, tray_of}
 use Rattle.qc_inbox.specs.Picks.{calls_of}
 use Rattle.qc_inbox.proofs.Taking.{ready_shown}
+use Rattle.qc_link.specs.Limits.{most_actors}
 
-pub ready_kept : (decl : Declaration) (script : Script) (h : List Entry) (kept : Inboxes) (a : ℕ) → IsKept script h kept → a < 34
+pub ready_kept : (decl : Declaration) (script : Script) (h : List Entry) (kept : Inboxes) (a : ℕ) → IsKept script h kept → a < most_actors
     → option_map input_of (ready decl script a h) ≡ input_in decl a kept
 ready_kept decl script h kept a is within =
     let shows : Shows kept a (calls_of a h) (inbox script a h) = is.inboxes a within in

@@ -1,5 +1,5 @@
 -- A message that is sent: what is kept shows each inbox after it.
-use Rattle.std.proofs.Common.{◌≡◌, ℕ, ◌+◌, ◌<◌, ◌==◌, Bool, true, false, if◌then◌else◌, List, length, set, refl, ap, sym, subst, ◌∙◌}
+use Rattle.std.proofs.Common.{◌*◌, ◌≡◌, ℕ, ◌+◌, ◌<◌, ◌==◌, Bool, true, false, if◌then◌else◌, List, length, set, refl, ap, sym, subst, ◌∙◌}
 use Rattle.std.proofs.lemmas.Bool.{eqb-true}
 use Rattle.std.proofs.lemmas.List.{length-set}
 use Rattle.qc_link.specs.Fate.{fate}
@@ -15,6 +15,7 @@ use Rattle.qc_inbox.specs.Trays.{empty_tray, tray_comes, tray_goes}
 use Rattle.qc_inbox.proofs.Counting.{at_set, count_more, more_of}
 use Rattle.qc_inbox.proofs.Sent.{Counts, comes_counts, sends_count}
 use Rattle.qc_inbox.proofs.Shown.{comes_shown, goes_shown}
+use Rattle.qc_link.specs.Limits.{most_actors}
 
 abbrev envelope : ℕ → ℕ → Posting → Envelope
 envelope n from p = record { number = n; from = from; to = p.to; message = p.message }
@@ -28,7 +29,7 @@ tray_set trays k a t within = at_set trays k a t empty_tray within
 
 -- the tray of an actor to which it may come
 
-coming_tray : (kept : Inboxes) (a calls : ℕ) (i : Inbox) (from : ℕ) (p : Posting) (n : ℕ) → Shows kept a calls i → from < 34 → p.to < length kept.trays
+coming_tray : (kept : Inboxes) (a calls : ℕ) (i : Inbox) (from : ℕ) (p : Posting) (n : ℕ) → Shows kept a calls i → from < most_actors → p.to < length kept.trays
     → tray_at (with_coming kept.trays p.to n p.message (fate_in kept from p)) a ≡ tray_of calls (comes kept.links a i (envelope n from p))
 coming_tray kept a calls i from p n shows from_within within =
     tray_set kept.trays p.to a (tray_comes (tray_at kept.trays p.to) n p.message (fate_in kept from p)) within ∙ by (p.to == a) refl
@@ -93,13 +94,13 @@ count_if : (t : Bool) (xs : List ℕ) (k b : ℕ) → k < length xs → count_of
 count_if true xs k b within = more_of xs k b within
 count_if false xs k b within = refl
 
-pub length_if : (t : Bool) (xs : List ℕ) (k : ℕ) → length xs ≡ 34 → length (if t then one_more xs k else xs) ≡ 34
+pub length_if : (t : Bool) (xs : List ℕ) (k : ℕ) → length xs ≡ most_actors → length (if t then one_more xs k else xs) ≡ most_actors
 length_if true xs k is = length-set xs k (count_of xs k + 1) ∙ is
 length_if false xs k is = is
 
 -- all of it
-pub sending_shown : (kept : Inboxes) (a calls : ℕ) (i : Inbox) (from : ℕ) (p : Posting) → Shows kept a calls i → a < 34 → from < 34 → p.to < 34
-    → length kept.trays ≡ 34 → length kept.counts.each ≡ 1156
+pub sending_shown : (kept : Inboxes) (a calls : ℕ) (i : Inbox) (from : ℕ) (p : Posting) → Shows kept a calls i → a < most_actors → from < most_actors → p.to < most_actors
+    → length kept.trays ≡ most_actors → length kept.counts.each ≡ most_actors * most_actors
     → Shows (after_send kept from p) a calls (goes kept.links a (comes kept.links a i (envelope kept.counts.all from p)) (envelope kept.counts.all from p))
 sending_shown kept a calls i from p shows a_within from_within to_within long counted = record {
   cuts = all.cuts ∙ shows.cuts;

@@ -11,6 +11,7 @@ use Rattle.qc_inbox.specs.Inboxes.{Inboxes, Tray}
 use Rattle.qc_inbox.specs.Rooms.{tray_at}
 use Rattle.qc_inbox.specs.declared.input.Input.{Input}
 use Rattle.qc_inbox.specs.declared.input.Input.TheVariants.{Copy, Lost, Command as Called}
+use Rattle.qc_link.specs.Limits.{most_actors}
 
 -- an input, its message named by its number
 abbrev pub input_of : Given → Input
@@ -49,8 +50,8 @@ input_in decl a i = after_controls i.controls (next_in (takes_commands decl a) (
 -- the actors that a control line cuts or heals are actors
 abbrev pub IsWithin : Control → Type 0
 IsWithin (controls.Phase k) = Unit {0}
-IsWithin (controls.Cut a b) = (a < 34) × (b < 34)
-IsWithin (controls.Heal a b) = (a < 34) × (b < 34)
+IsWithin (controls.Cut a b) = (a < most_actors) × (b < most_actors)
+IsWithin (controls.Heal a b) = (a < most_actors) × (b < most_actors)
 IsWithin (controls.Armed actor kind at) = Unit {0}
 IsWithin (controls.Crash a) = Unit {0}
 IsWithin (controls.Restart a) = Unit {0}

@@ -1,5 +1,5 @@
 -- What is kept of the inboxes is what the history gives.
-use Rattle.std.specs.Prelude.{◌≡◌, ℕ, ◌<◌, List, Some, length, map, slice_get}
+use Rattle.std.specs.Prelude.{◌*◌, ◌≡◌, ℕ, ◌<◌, List, Some, length, map, slice_get}
 use Rattle.std.specs.List.{AllByRecursion as Every}
 use Rattle.qc_msg.specs.declared.message.Envelope.{Envelope}
 use Rattle.qc_msg.specs.Deeds.{mail}
@@ -10,6 +10,7 @@ use Rattle.qc_inbox.specs.Inboxes.{Inboxes, Tray}
 use Rattle.qc_inbox.specs.Picks.{calls_of}
 use Rattle.qc_inbox.specs.Rooms.{tray_at}
 use Rattle.qc_inbox.specs.Tallies.{count}
+use Rattle.qc_link.specs.Limits.{most_actors}
 
 abbrev pub numbers_of : List Envelope → List ℕ
 numbers_of es = map (λ (e : Envelope). e.number) es
@@ -33,10 +34,10 @@ pub record Shows (kept : Inboxes) (a calls : ℕ) (i : Inbox) : Type 0 where
   pub cuts : i.cuts ≡ kept.cuts
   pub controls : i.controls ≡ kept.controls
   -- one table of counts serves senders and receivers
-  pub from_each : (b : ℕ) → b < 34 → count_of i.from_each b ≡ count kept.counts b a
-  pub to_each : (b : ℕ) → b < 34 → count_of i.to_each b ≡ count kept.counts a b
-  pub from_length : length i.from_each ≡ 34
-  pub to_length : length i.to_each ≡ 34
+  pub from_each : (b : ℕ) → b < most_actors → count_of i.from_each b ≡ count kept.counts b a
+  pub to_each : (b : ℕ) → b < most_actors → count_of i.to_each b ≡ count kept.counts a b
+  pub from_length : length i.from_each ≡ most_actors
+  pub to_length : length i.to_each ≡ most_actors
   pub tray : tray_at kept.trays a ≡ tray_of calls i
 
 -- each message is found under its number
@@ -45,13 +46,13 @@ AreNumbered ms = (n : ℕ) (e : Envelope) → slice_get ms n ≡ Some e → e.nu
 
 -- each message goes from an actor to one
 abbrev pub AreBetweenActors : List Envelope → Type 0
-AreBetweenActors ms = Every (λ (e : Envelope). (e.from < 34) × (e.to < 34)) ms
+AreBetweenActors ms = Every (λ (e : Envelope). (e.from < most_actors) × (e.to < most_actors)) ms
 
 pub record IsKept (script : Script) (h : List Entry) (kept : Inboxes) : Type 0 where
   pub links : kept.links ≡ script.links
   pub sent : kept.counts.all ≡ length (mail h)
   pub numbered : AreNumbered (mail h)
   pub ends : AreBetweenActors (mail h)
-  pub counts : length kept.counts.each ≡ 1156
-  pub trays : length kept.trays ≡ 34
-  pub inboxes : (a : ℕ) → a < 34 → Shows kept a (calls_of a h) (inbox script a h)
+  pub counts : length kept.counts.each ≡ most_actors * most_actors
+  pub trays : length kept.trays ≡ most_actors
+  pub inboxes : (a : ℕ) → a < most_actors → Shows kept a (calls_of a h) (inbox script a h)

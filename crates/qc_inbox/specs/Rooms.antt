@@ -17,6 +17,7 @@ use Rattle.qc_inbox.specs.Inboxes.{Inboxes, Tray}
 use Rattle.qc_inbox.specs.Tallies.{count, no_messages, one_message_more}
 use Rattle.qc_inbox.specs.Trays.{empty_tray, tray_asked, tray_begun, tray_comes, tray_goes, tray_opened, tray_taken}
 use Rattle.qc_inbox.specs.Trays.{tray_told}
+use Rattle.qc_link.specs.Limits.{most_actors}
 
 abbrev pub tray_at : List Tray → ℕ → Tray
 tray_at trays a = get_or trays a empty_tray
@@ -33,7 +34,7 @@ empty_inboxes script =
       cuts = no_cuts;
       counts = no_messages;
       controls = [];
-      trays = replicate 34 empty_tray;
+      trays = replicate most_actors empty_tray;
     }
 
 -- a message comes to an actor, and goes out from one

@@ -1,5 +1,6 @@
--- How many messages there were, in all and from each actor to each. Actors are numbered below 34.
+-- How many messages there were, in all and from each actor to each. Actors are numbered below the most actors.
 use Rattle.std.specs.Prelude.{ℕ, ◌+◌, ◌*◌, List, get_or, replicate, set}
+use Rattle.qc_link.specs.Limits.{most_actors}
 
 pub record Tally : Type 0 where
   -- by sender, then by receiver
@@ -7,11 +8,11 @@ pub record Tally : Type 0 where
   pub all : ℕ
 
 abbrev pub no_messages : Tally
-no_messages = record { each = replicate 1156 0; all = 0 }
+no_messages = record { each = replicate (most_actors * most_actors) 0; all = 0 }
 
 -- the place of a sender and a receiver
 abbrev pub place : ℕ → ℕ → ℕ
-place from to = 34 * from + to
+place from to = most_actors * from + to
 
 abbrev pub count : Tally → ℕ → ℕ → ℕ
 count t from to = get_or t.each (place from to) 0

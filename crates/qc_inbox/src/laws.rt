@@ -30,6 +30,7 @@ ghost use Rattle.qc_inbox.specs.Picks.{comes_before, is_held, picked, rank_at};
 ghost use Rattle.qc_inbox.specs.PicksKept.{picked_in};
 ghost use Rattle.qc_inbox.specs.Rooms.{after_control, after_phase, after_take, after_turn, empty_inboxes, tray_at};
 ghost use Rattle.qc_inbox.specs.declared.input.Rank.{Rank};
+ghost use Rattle.qc_link.specs.Limits.{most_actors};
 
 /// Before the first step, nothing waits for anybody.
 pub fn new_trays_are_kept()
@@ -39,20 +40,20 @@ pub fn new_trays_are_kept()
 /// What is ready is what the trays show.
 pub fn trays_show_what_is_ready()
     ensures { (decl : Declaration) (script : Script) (h : List Entry) (kept : Inboxes) (a : ℕ)
-        → IsKept script h kept → a < 34 → option_map input_of (ready decl script a h) ≡ input_in decl a kept }
+        → IsKept script h kept → a < most_actors → option_map input_of (ready decl script a h) ≡ input_in decl a kept }
 {}
 
 /// An actor's input keeps the trays.
 pub fn inputs_keep_trays()
     ensures { (decl : Declaration) (script : Script) (h : List Entry) (kept : Inboxes) (a : ℕ) (given : Given)
-        → IsKept script h kept → a < 34 → ready decl script a h ≡ Some given
+        → IsKept script h kept → a < most_actors → ready decl script a h ≡ Some given
         → IsKept script (h ++ marked a (step_of given) ∷ []) (after_take kept a) }
 {}
 
 /// So does an actor's turn, whose messages have the next numbers.
 pub fn turns_keep_trays()
     ensures { (script : Script) (h : List Entry) (kept : Inboxes) (a : ℕ) (turn : Turn)
-        → IsKept script h kept → a < 34 → Every (λ (p : Posting). p.to < 34) turn.sends
+        → IsKept script h kept → a < most_actors → Every (λ (p : Posting). p.to < most_actors) turn.sends
         → IsKept script (h ++ by a (posted (length (mail h)) turn)) (after_turn kept a turn) }
 {}
 
@@ -73,7 +74,7 @@ pub fn controls_keep_trays()
 /// The trays tell which actor comes next.
 pub fn picks_are_made_by_trays()
     ensures { (decl : Declaration) (script : Script) (held : List Bool) (h : List Entry) (kept : Inboxes)
-        → IsKept script h kept → actors decl ≤ 34 → picked_in decl held kept ≡ picked decl script held h }
+        → IsKept script h kept → actors decl ≤ most_actors → picked_in decl held kept ≡ picked decl script held h }
 {}
 
 /// None comes next exactly where nothing is ready for any site or client that
@@ -113,7 +114,7 @@ pub fn ready_messages_were_sent()
 /// Who sent it is an actor.
 pub fn ready_messages_have_senders()
     ensures { (decl : Declaration) (script : Script) (h : List Entry) (kept : Inboxes) (a : ℕ) (e : Envelope)
-        → IsKept script h kept → ready decl script a h ≡ Some (Got e) → e.from < 34 }
+        → IsKept script h kept → ready decl script a h ≡ Some (Got e) → e.from < most_actors }
 {}
 
 /// Each copy that waits was sent to the actor too.
@@ -132,10 +133,10 @@ pub fn trays_show_controls()
 /// the script is sound, and an actor's calls are no more than the steps.
 pub fn trays_are_in_range()
     ensures control { (decl : Declaration) (script : Script) (h : List Entry) (kept : Inboxes)
-        → IsKept script h kept → IsScriptFor decl script → administrator decl < 34
+        → IsKept script h kept → IsScriptFor decl script → administrator decl < most_actors
         → IfSome (slice_get kept.controls 0) IsWithin }
     ensures calls { (script : Script) (h : List Entry) (kept : Inboxes) (a : ℕ)
-        → IsKept script h kept → a < 34 → (tray_at kept.trays a).calls ≤ length h }
+        → IsKept script h kept → a < most_actors → (tray_at kept.trays a).calls ≤ length h }
 {}
 
 /// A message changes the inboxes of its sender and its receiver alone; an input,
@@ -153,10 +154,10 @@ pub fn steps_leave_other_inboxes()
 /// All inboxes have the same cuts and control lines, and a message is counted
 /// alike by its sender and its receiver.
 pub fn inboxes_agree()
-    ensures cuts { (script : Script) (h : List Entry) (a b : ℕ) → a < 34 → b < 34
+    ensures cuts { (script : Script) (h : List Entry) (a b : ℕ) → a < most_actors → b < most_actors
         → (inbox script a h).cuts ≡ (inbox script b h).cuts }
-    ensures controls { (script : Script) (h : List Entry) (a b : ℕ) → a < 34 → b < 34
+    ensures controls { (script : Script) (h : List Entry) (a b : ℕ) → a < most_actors → b < most_actors
         → (inbox script a h).controls ≡ (inbox script b h).controls }
-    ensures counts { (script : Script) (h : List Entry) (a b : ℕ) → a < 34 → b < 34
+    ensures counts { (script : Script) (h : List Entry) (a b : ℕ) → a < most_actors → b < most_actors
         → count_of (inbox script a h).from_each b ≡ count_of (inbox script b h).to_each a }
 {}

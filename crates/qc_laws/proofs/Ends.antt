@@ -24,6 +24,7 @@ use Rattle.qc_laws.specs.Whole.{IsClosed, IsQuiet}
 use Rattle.qc_laws.proofs.Covered.{open_requests_awaited}
 use Rattle.qc_laws.proofs.Places.{replicate_at}
 use Rattle.qc_laws.proofs.Reached.{receiver_is_site, unanswered_at_site}
+use Rattle.qc_link.specs.Limits.{most_actors}
 
 no_copies : (es : List Envelope) (other : Option Given) → first_copy es other ≡ None → es ≡ []
 no_copies [] other is = refl
@@ -39,7 +40,7 @@ both true y is = is
 both false y is = absurd (let never : ⊥ = cc in never)
 
 module _ (decl : Declaration) (script : Script) (accepted : IsAccepted decl) (asks : AsksDeclared decl script) (h : List Entry) (closed : IsClosed decl script h) (quiet : IsQuiet decl script h) (done : controls_left script h ≡ []) where
-  low : (a : ℕ) → a < actors decl → a < 34
+  low : (a : ℕ) → a < actors decl → a < most_actors
   low a within =
       let sites : decl.sites ≤ 16 = accepted.sites in
       let clients : decl.clients ≤ 16 = accepted.clients in

@@ -25,6 +25,7 @@ use Rattle.qc_script.specs.Inbox.{Inbox, comes_at_once, empty_inbox, inbox, inbo
 use Rattle.qc_script.proofs.Inboxes.{one_fate}
 use Rattle.qc_laws.proofs.Answering.{answer_ends, copies_stay, copy_made, others_fewer, own_fate, own_new, silent_fewer}
 use Rattle.qc_laws.proofs.SiteReplies.{IsMailProper, IsProperFrom}
+use Rattle.qc_link.specs.Limits.{most_actors}
 
 -- The steps of a turn, one by one: the requests that are unanswered before it stay somewhere, and those that it adds are
 -- ready at their sites. Here for any predicate of where else a request may be, which no step of the turn touches.
@@ -72,7 +73,7 @@ module _ (script : Script) (X : Envelope → Type 0) (a : ℕ) where
           at (inr taken) = inr taken
 
   -- a request of the actor's own
-  sent_new : (h : List Entry) (n to : ℕ) (m : Message) → a < 34 → to < 34 → (to == a) ≡ false → is_request m ≡ true → AreSomewhere script X h a → AreSomewhere script X (h ++ marked a (steps.Sent n to m) ∷ []) a
+  sent_new : (h : List Entry) (n to : ℕ) (m : Message) → a < most_actors → to < most_actors → (to == a) ≡ false → is_request m ≡ true → AreSomewhere script X h a → AreSomewhere script X (h ++ marked a (steps.Sent n to m) ∷ []) a
   sent_new h n to m a_low to_low away request are k member =
       at (own_new script a (inbox script a h) e away (eq-eqb a a refl) k (subst (λ (i : Inbox). In k i.unanswered) (inbox_one a h a (steps.Sent n to m)) member))
     where
@@ -107,7 +108,7 @@ module _ (script : Script) (X : Envelope → Type 0) (a : ℕ) where
 
   -- a turn
 
-  module _ (decl : Declaration) (few : decl.sites ≤ 16) (a_low : a < 34) where
+  module _ (decl : Declaration) (few : decl.sites ≤ 16) (a_low : a < most_actors) where
     one_sent : (h : List Entry) (b n to : ℕ) (m : Message) → IsProperFrom decl b to m → AreSomewhere script X h a → AreSomewhere script X (h ++ marked b (steps.Sent n to m) ∷ []) a
     one_sent h b n to m proper are = on (b == a) refl (is_request m) refl
       where

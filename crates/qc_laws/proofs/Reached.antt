@@ -43,6 +43,7 @@ use Rattle.qc_laws.proofs.Places.{slice_get-set_other, slice_get-set_same}
 use Rattle.qc_laws.proofs.Proper.{run_proper}
 use Rattle.qc_laws.proofs.Served.{lawful_site}
 use Rattle.qc_laws.proofs.SiteReplies.{IsMailProper, IsProperFrom, IsReply, request_reply}
+use Rattle.qc_link.specs.Limits.{most_actors}
 
 -- what a site's turn for a request begins with
 
@@ -71,7 +72,7 @@ second_all : {A : Type 0} (P : A → Type 0) (xs ys : List A) → Every P (xs ++
 second_all P [] ys all = all
 second_all P (x ∷ xs) ys all = second_all P xs ys all.1
 
-module _ (decl : Declaration) (script : Script) (accepted : IsAccepted decl) (asks : AsksDeclared decl script) (a : ℕ) (a_low : a < 34) where
+module _ (decl : Declaration) (script : Script) (accepted : IsAccepted decl) (asks : AsksDeclared decl script) (a : ℕ) (a_low : a < most_actors) where
   abbrev IsKept : List Entry → List Bool → Type 0
   IsKept h open_inputs = AreSomewhere script (IsTaken h open_inputs) h a
 

@@ -18,6 +18,7 @@ ghost use Rattle.qc_laws.specs.Asked.{AsksDeclared};
 ghost use Rattle.qc_laws.specs.Calls.{IsAwaited, open_calls};
 ghost use Rattle.qc_laws.specs.Waits.{IsAtReceiver};
 ghost use Rattle.qc_laws.specs.Whole.{IsClosed, IsQuiet};
+ghost use Rattle.qc_link.specs.Limits.{most_actors};
 
 /// Each open request of a client is awaited in its inbox: that it is lost isn't
 /// taken yet, or it is unanswered, or a copy of its answer is ready.
@@ -35,7 +36,7 @@ pub fn open_requests_are_awaited()
 #[tactic(auto, using(crate::proofs::Reached::unanswered_at_site))]
 pub fn unanswered_requests_are_at_their_sites()
     ensures { (decl : Declaration) (script : Script) → IsAccepted decl → AsksDeclared decl script
-        → (a : ℕ) → a < 34 → (h : List Entry) (open_inputs : List Bool)
+        → (a : ℕ) → a < most_actors → (h : List Entry) (open_inputs : List Bool)
         → Runs (IsLawful decl) decl script h open_inputs
         → (n : ℕ) → In n (inbox script a h).unanswered → IsAtReceiver script h open_inputs a n }
 {}

@@ -1,3 +1,4 @@
 pub mod Cuts
 pub mod Fate
+pub mod Limits
 pub mod Places

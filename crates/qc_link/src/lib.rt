@@ -14,10 +14,12 @@
 
 mod cuts;
 mod laws;
+mod limits;
 mod plan;
 mod rule;
 
-pub use cuts::{ACTORS, Cuts};
+pub use cuts::Cuts;
 pub use laws::{cuts_part_two_actors, heals_join_two_actors};
+pub use limits::{ACTOR_PAIRS, MOST_ACTORS, limit_of_actors_is_as_defined};
 pub use plan::{Link, LinkPlan, fate};
 pub use rule::{Fate, Rule};

@@ -4,6 +4,7 @@ ghost use Rattle.std.specs.Prelude.{◌≡◌, ◌++◌, ◌∷◌, [], ◌<◌,
 ghost use Rattle.std.specs.Option.{option_eq};
 ghost use Rattle.qc_link.specs.Fate.{fate, matches, is_for, by_rules};
 ghost use Rattle.qc_link.specs.Places.{first, has_pattern};
+ghost use Rattle.qc_link.specs.Limits.{most_actors};
 
 use crate::cuts::Cuts;
 use crate::rule::{Fate, Rule};
@@ -150,8 +151,8 @@ impl LinkPlan {
 /// that is for it says, and `Pass` where there is none. It takes no memory, and
 /// looks at eight patterns, not at all rules.
 pub fn fate(plan: &LinkPlan, cuts: &Cuts, from: u8, to: u8, ordinal: u32) -> Fate
-    requires from { from < 34 }
-    requires to { to < 34 }
+    requires from { from < most_actors }
+    requires to { to < most_actors }
     ensures { result ≡ fate plan.now cuts.now from to ordinal }
 {
     if cuts.is_cut(from, to) {

@@ -9,6 +9,7 @@ use Rattle.qc_mailbox.specs.Boxes.{HasRoom, tray}
 use Rattle.qc_mailbox.specs.Queues.{items}
 use Rattle.qc_mailbox.specs.declared.mailbox.Mailbox.{Mailbox}
 use Rattle.qc_mailbox.specs.declared.queue.Queue.{Queue}
+use Rattle.qc_link.specs.Limits.{most_actors}
 
 -- the inboxes, and for how many messages there is room
 pub record Roomy : Type 0 where
@@ -24,5 +25,5 @@ abbrev pub places_of : ℕ → ℕ
 places_of messages = 4 * messages
 
 pub record IsRoomy (room : ℕ) (boxes : List Mailbox) : Type 0 where
-  pub boxes_are : length boxes ≡ 34
+  pub boxes_are : length boxes ≡ most_actors
   pub room_is : Every (HasRoom (places_of room)) boxes

@@ -6,9 +6,10 @@ ghost use Rattle.qc_inbox.specs.Rooms.{tray_at, with_coming, with_command, with_
 ghost use Rattle.qc_inbox.specs.Trays.{empty_tray, tray_begun, tray_opened, tray_taken, tray_told};
 ghost use Rattle.qc_mailbox.specs.Boxes.{HasRoom, tray};
 ghost use Rattle.qc_mailbox.specs.Phases.{IsPrepared};
+ghost use Rattle.qc_link.specs.Limits.{most_actors};
 
 use crate::mailbox::Mailbox;
-use qc_link::{ACTORS, Fate};
+use qc_link::{Fate, MOST_ACTORS};
 use qc_list::OutOfMemory;
 use qc_msg::Message;
 use qc_script::CommandLine;
@@ -16,10 +17,10 @@ use std::alloc::Global;
 
 /// Empty mailboxes, one for each actor.
 pub(crate) fn empty(alloc: Global) -> Result<Vec<Mailbox>, OutOfMemory>
-    ensures { IfOk result (λ boxes. map tray boxes.items ≡ replicate 34 empty_tray) }
+    ensures { IfOk result (λ boxes. map tray boxes.items ≡ replicate most_actors empty_tray) }
 {
     let mut boxes = Vec::new(alloc);
-    'actors: for _ in 0..ACTORS {
+    'actors: for _ in 0..MOST_ACTORS {
         boxes.push(Mailbox::new(alloc))?;
     }
     Ok(boxes)
@@ -27,8 +28,8 @@ pub(crate) fn empty(alloc: Global) -> Result<Vec<Mailbox>, OutOfMemory>
 
 /// A message comes to an actor.
 pub(crate) fn come(boxes: &mut Vec<Mailbox>, to: u8, number: u32, message: &Message, fate: Fate)
-    requires length { length boxes.old.items ≡ 34 }
-    requires to { to < 34 }
+    requires length { length boxes.old.items ≡ most_actors }
+    requires to { to < most_actors }
     requires room { Every (HasRoom 3) boxes.old.items }
     ensures length { length boxes.new.items ≡ length boxes.old.items }
     ensures trays { map tray boxes.new.items ≡ with_coming (map tray boxes.old.items) to number message.now fate }
@@ -39,8 +40,8 @@ pub(crate) fn come(boxes: &mut Vec<Mailbox>, to: u8, number: u32, message: &Mess
 
 /// A message of an actor's goes out.
 pub(crate) fn go(boxes: &mut Vec<Mailbox>, from: u8, number: u32, message: &Message, fate: Fate)
-    requires length { length boxes.old.items ≡ 34 }
-    requires from { from < 34 }
+    requires length { length boxes.old.items ≡ most_actors }
+    requires from { from < most_actors }
     requires room { Every (HasRoom 1) boxes.old.items }
     ensures length { length boxes.new.items ≡ length boxes.old.items }
     ensures trays { map tray boxes.new.items ≡ with_going (map tray boxes.old.items) from number message.now fate }
@@ -51,8 +52,8 @@ pub(crate) fn go(boxes: &mut Vec<Mailbox>, from: u8, number: u32, message: &Mess
 
 /// What is ready first for an actor is taken.
 pub(crate) fn take(boxes: &mut Vec<Mailbox>, actor: u8)
-    requires length { length boxes.old.items ≡ 34 }
-    requires actor { actor < 34 }
+    requires length { length boxes.old.items ≡ most_actors }
+    requires actor { actor < most_actors }
     requires calls { (tray_at (map tray boxes.old.items) actor).calls + 1 < 2 ^ 32 }
     ensures length { length boxes.new.items ≡ length boxes.old.items }
     ensures trays { map tray boxes.new.items
@@ -64,8 +65,8 @@ pub(crate) fn take(boxes: &mut Vec<Mailbox>, actor: u8)
 
 /// An actor tells the reply to its command.
 pub(crate) fn tell(boxes: &mut Vec<Mailbox>, actor: u8)
-    requires length { length boxes.old.items ≡ 34 }
-    requires actor { actor < 34 }
+    requires length { length boxes.old.items ≡ most_actors }
+    requires actor { actor < most_actors }
     ensures length { length boxes.new.items ≡ length boxes.old.items }
     ensures trays { map tray boxes.new.items
         ≡ set (map tray boxes.old.items) actor (tray_told (tray_at (map tray boxes.old.items) actor)) }
@@ -77,13 +78,13 @@ pub(crate) fn tell(boxes: &mut Vec<Mailbox>, actor: u8)
 /// Makes this room in each mailbox. What waits stays, and so does a smaller
 /// room, also after want of memory.
 pub(crate) fn reserve(boxes: &mut Vec<Mailbox>, room: usize) -> Result<(), OutOfMemory>
-    requires { length boxes.old.items ≡ 34 }
+    requires { length boxes.old.items ≡ most_actors }
     ensures length { length boxes.new.items ≡ length boxes.old.items }
     ensures same { map tray boxes.new.items ≡ map tray boxes.old.items }
     ensures kept { (kept : ℕ) → Every (HasRoom kept) boxes.old.items → Every (HasRoom kept) boxes.new.items }
     ensures ok { OnOk result (Every (HasRoom room) boxes.new.items) }
 {
-    'actors: for actor in 0..ACTORS {
+    'actors: for actor in 0..MOST_ACTORS {
         boxes[actor].reserve(room)?;
     }
     Ok(())
@@ -96,14 +97,14 @@ pub(crate) fn prepare(
     room: usize,
     commands: usize,
 ) -> Result<(), OutOfMemory>
-    requires length { length boxes.old.items ≡ 34 }
+    requires length { length boxes.old.items ≡ most_actors }
     requires room { Every (HasRoom room) boxes.old.items }
     ensures length { length boxes.new.items ≡ length boxes.old.items }
     ensures same { map tray boxes.new.items ≡ map tray boxes.old.items }
     ensures room { Every (HasRoom room) boxes.new.items }
     ensures ok { OnOk result (Every (IsPrepared room commands) boxes.new.items) }
 {
-    'actors: for actor in 0..ACTORS {
+    'actors: for actor in 0..MOST_ACTORS {
         boxes[actor].prepare(room, commands)?;
     }
     Ok(())
@@ -136,26 +137,26 @@ fn ask_command(boxes: &mut Vec<Mailbox>, line: &CommandLine)
 
 /// Late copies are ready, where no control line is left.
 pub(crate) fn open(boxes: &mut Vec<Mailbox>, none_left: bool)
-    requires length { length boxes.old.items ≡ 34 }
+    requires length { length boxes.old.items ≡ most_actors }
     requires prepared { Every (IsPrepared 0 0) boxes.old.items }
     ensures length { length boxes.new.items ≡ length boxes.old.items }
     ensures trays { map tray boxes.new.items ≡ map (tray_opened none_left) (map tray boxes.old.items) }
     ensures room { (room : ℕ) → Every (IsPrepared room 0) boxes.old.items → Every (HasRoom room) boxes.new.items }
 {
-    'actors: for actor in 0..ACTORS {
+    'actors: for actor in 0..MOST_ACTORS {
         boxes[actor].open(none_left);
     }
 }
 
 /// The next phase begins, with no control line or some.
 pub(crate) fn begin(boxes: &mut Vec<Mailbox>, none_left: bool)
-    requires length { length boxes.old.items ≡ 34 }
+    requires length { length boxes.old.items ≡ most_actors }
     requires prepared { Every (IsPrepared 0 0) boxes.old.items }
     ensures length { length boxes.new.items ≡ length boxes.old.items }
     ensures trays { map tray boxes.new.items ≡ map (tray_begun none_left) (map tray boxes.old.items) }
     ensures room { (room : ℕ) → Every (IsPrepared room 0) boxes.old.items → Every (HasRoom room) boxes.new.items }
 {
-    'actors: for actor in 0..ACTORS {
+    'actors: for actor in 0..MOST_ACTORS {
         boxes[actor].begin(none_left);
     }
 }

@@ -1,22 +1,24 @@
 //! How many messages there were from each actor to each.
 
-ghost use Rattle.std.specs.Prelude.{◌≡◌, ◌+◌, ◌^◌, ◌<◌};
+ghost use Rattle.std.specs.Prelude.{◌≡◌, ◌+◌, ◌*◌, ◌^◌, ◌<◌};
 ghost use Rattle.qc_inbox.specs.Tallies.{count, no_messages, one_message_more, place};
+ghost use Rattle.qc_link.specs.Limits.{most_actors};
 
-use qc_link::ACTORS;
+use qc_link::{ACTOR_PAIRS, MOST_ACTORS};
 use std::marker::Model;
 
 /// How many messages there were, in all and from each actor to each.
 #[derive(Drop)]
 pub struct Counts {
     /// By sender, then by receiver.
-    each: [u32; 1156],
+    each: [u32; ACTOR_PAIRS],
     /// In all.
     all: u32,
 }
 
 impl Model for Counts {
-    ghost use Rattle.std.specs.Prelude.{◌≡◌, length};
+    ghost use Rattle.std.specs.Prelude.{◌≡◌, ◌*◌, length};
+    ghost use Rattle.qc_link.specs.Limits.{most_actors};
     ghost use Rattle.qc_inbox.specs.Few.{AreFew};
     ghost use Rattle.qc_inbox.specs.Tallies.{Tally};
 
@@ -24,7 +26,7 @@ impl Model for Counts {
 
     ghost view = { λ c. record { each = c.each; all = c.all } };
 
-    ghost invariant = { λ c. (length c.each ≡ 1156) × AreFew c.each c.all };
+    ghost invariant = { λ c. (length c.each ≡ most_actors * most_actors) × AreFew c.each c.all };
 }
 
 impl Counts {
@@ -33,7 +35,7 @@ impl Counts {
         ensures { result ≡ no_messages }
     {
         Counts {
-            each: [0; 1156],
+            each: [0; ACTOR_PAIRS],
             all: 0,
         }
     }
@@ -48,8 +50,8 @@ impl Counts {
     /// Counts one message more, and tells its number among those from its
     /// sender to its receiver, from 1.
     pub(crate) fn add(&mut self, from: u8, to: u8) -> u32
-        requires from { from < 34 }
-        requires to { to < 34 }
+        requires from { from < most_actors }
+        requires to { to < most_actors }
         requires room { self.old.all + 1 < 2 ^ 32 }
         ensures after { self.new ≡ one_message_more self.old from to }
         ensures ordinal { result ≡ count self.old from to + 1 }
@@ -64,10 +66,10 @@ impl Counts {
 
 /// The place of a sender and a receiver.
 fn place(from: u8, to: u8) -> usize
-    requires from { from < 34 }
-    requires to { to < 34 }
+    requires from { from < most_actors }
+    requires to { to < most_actors }
     ensures place { result ≡ place from to }
-    ensures within { result < 1156 }
+    ensures within { result < most_actors * most_actors }
 {
-    ACTORS * from as usize + to as usize
+    MOST_ACTORS * from as usize + to as usize
 }

@@ -12,6 +12,7 @@ ghost use Rattle.qc_inbox.specs.Trays.{tray_opened};
 ghost use Rattle.qc_mailbox.specs.Boxes.{HasRoom, tray};
 ghost use Rattle.qc_mailbox.specs.Phases.{IsPrepared};
 ghost use Rattle.qc_mailbox.specs.Queues.{items};
+ghost use Rattle.qc_link.specs.Limits.{most_actors};
 
 use crate::boxes;
 use crate::counts::Counts;
@@ -74,7 +75,7 @@ impl Mailboxes {
 
     /// How many commands an actor called in this phase.
     pub(crate) fn calls(&self, actor: u8) -> u32
-        requires { actor < 34 }
+        requires { actor < most_actors }
         ensures { result ≡ (tray_at self.now.inboxes.trays actor).calls }
     {
         self.boxes[actor as usize].calls
@@ -83,7 +84,7 @@ impl Mailboxes {
     /// What is ready next for an actor that takes commands or doesn't, where the
     /// phase's control lines have acted.
     pub(crate) fn next(&self, actor: u8, takes_commands: bool) -> Option<Input>
-        requires { actor < 34 }
+        requires { actor < most_actors }
         ensures { result ≡ next_in takes_commands (tray_at self.now.inboxes.trays actor) }
     {
         self.boxes[actor as usize].next(takes_commands)
@@ -106,6 +107,7 @@ impl Mailboxes {
         if messages <= self.room {
             return Ok(());
         }
+        // Such numbers of messages find no memory anyhow.
         let Some(room) = messages.checked_add(MORE) else {
             return Err(AllocError);
         };
@@ -119,7 +121,7 @@ impl Mailboxes {
 
     /// An actor takes what is ready next for it.
     pub fn take(&mut self, actor: u8)
-        requires actor { actor < 34 }
+        requires actor { actor < most_actors }
         requires calls { (tray_at self.old.inboxes.trays actor).calls + 1 < 2 ^ 32 }
         ensures inboxes { self.new.inboxes ≡ after_take self.old.inboxes actor }
         ensures room { self.new.room ≡ self.old.room }
@@ -130,8 +132,8 @@ impl Mailboxes {
     /// An actor posts a turn whose record is written, or that has none. There
     /// is room for its messages.
     pub fn post(&mut self, actor: u8, turn: &Turn)
-        requires actor { actor < 34 }
-        requires receivers { Every (λ (p : Posting). p.to < 34) turn.now.sends }
+        requires actor { actor < most_actors }
+        requires receivers { Every (λ (p : Posting). p.to < most_actors) turn.now.sends }
         requires few { self.old.inboxes.counts.all + length turn.now.sends < 2 ^ 32 }
         requires room { length turn.now.sends ≤ self.old.room }
         ensures inboxes { self.new.inboxes ≡ after_turn self.old.inboxes actor turn.now }
@@ -145,8 +147,8 @@ impl Mailboxes {
 
     /// An actor sends messages, one after another.
     fn send_all(&mut self, actor: u8, postings: &[Posting])
-        requires actor { actor < 34 }
-        requires receivers { Every (λ (p : Posting). p.to < 34) postings.now }
+        requires actor { actor < most_actors }
+        requires receivers { Every (λ (p : Posting). p.to < most_actors) postings.now }
         requires few { self.old.inboxes.counts.all + length postings.now < 2 ^ 32 }
         requires room { length postings.now ≤ self.old.room }
         ensures inboxes { self.new.inboxes ≡ after_sends self.old.inboxes actor postings.now }
@@ -159,8 +161,8 @@ impl Mailboxes {
 
     /// An actor sends a message: its fate is decided at once.
     fn send(&mut self, actor: u8, posting: &Posting)
-        requires actor { actor < 34 }
-        requires receiver { posting.now.to < 34 }
+        requires actor { actor < most_actors }
+        requires receiver { posting.now.to < most_actors }
         requires few { self.old.inboxes.counts.all + 1 < 2 ^ 32 }
         requires room { 0 < self.old.room }
         ensures inboxes { self.new.inboxes ≡ after_send self.old.inboxes actor posting.now }
@@ -226,7 +228,7 @@ impl Mailboxes {
 
 /// The first control line left has acted. Late copies find their places.
 fn pass_control(controls: &mut Queue<Control>, boxes: &mut Vec<Mailbox>)
-    requires length { length boxes.old.items ≡ 34 }
+    requires length { length boxes.old.items ≡ most_actors }
     requires prepared { Every (IsPrepared 0 0) boxes.old.items }
     ensures controls { items controls.new ≡ drop 1 (items controls.old) }
     ensures length { length boxes.new.items ≡ length boxes.old.items }

@@ -7,6 +7,7 @@ ghost use Rattle.qc_inbox.specs.Inputs.{input_in};
 ghost use Rattle.qc_inbox.specs.Picks.{comes_before, is_held, sooner};
 ghost use Rattle.qc_inbox.specs.PicksKept.{input_rank, picked_in, rank_in};
 ghost use Rattle.qc_mailbox.specs.Passed.{either};
+ghost use Rattle.qc_link.specs.Limits.{most_actors};
 
 use crate::mailboxes::Mailboxes;
 use qc_decl::Declaration;
@@ -78,7 +79,7 @@ fn is_passed(inputs: &[bool], held: &[bool], actor: u8) -> bool
 impl Mailboxes {
     /// What is ready next for an actor.
     pub fn ready(&self, decl: &Declaration, actor: u8) -> Option<Input>
-        requires { actor < 34 }
+        requires { actor < most_actors }
         ensures { result ≡ input_in decl.now actor self.now.inboxes }
     {
         match self.next_control() {
@@ -90,7 +91,7 @@ impl Mailboxes {
     /// How soon an actor comes, if something is ready for it and no bit of it
     /// is set, neither that of an open input nor that of being held.
     fn rank(&self, decl: &Declaration, inputs: &[bool], held: &[bool], actor: u8) -> Option<Rank>
-        requires { actor < 34 }
+        requires { actor < most_actors }
         ensures { result ≡ rank_in decl.now (either inputs.now held.now) self.now.inboxes actor }
     {
         if is_passed(inputs, held, actor) {
@@ -108,7 +109,7 @@ impl Mailboxes {
     /// in this phase, the lowest on a tie. None where nothing is ready for any of
     /// them.
     pub fn pick(&self, decl: &Declaration, inputs: &[bool], held: &[bool]) -> Option<u8>
-        requires { actors decl.now ≤ 34 }
+        requires { actors decl.now ≤ most_actors }
         ensures { result ≡ picked_in decl.now (either inputs.now held.now) self.now.inboxes }
     {
         let mut best = None;

@@ -19,6 +19,7 @@ use Rattle.qc_script.specs.Ready.{phase_of}
 use Rattle.qc_script.specs.Runs.{Runs, begins, takes, posts, phase, control}
 use Rattle.qc_script.specs.declared.script.Script.{Script}
 use Rattle.qc_fabric.proofs.Placed.{mail-cons}
+use Rattle.qc_link.specs.Limits.{most_actors}
 
 abbrev pub AreFrom : ℕ → List Envelope → Type 0
 AreFrom n ms = Every (λ (e : Envelope). e.from < n) ms
@@ -41,17 +42,17 @@ run_senders decl script h open_inputs (control line lines step before older run 
 
 -- what is taken comes from them
 
-heard_from : (o : Option Envelope) → ((e : Envelope) → o ≡ Some e → e.from < 34) → Every IsFromActor (heard o)
+heard_from : (o : Option Envelope) → ((e : Envelope) → o ≡ Some e → e.from < most_actors) → Every IsFromActor (heard o)
 heard_from None low = tt
 heard_from (Some e) low = (low e refl, tt)
 
-deed_from : (ms : List Envelope) (step : Step) → AreFrom 34 ms → Every IsFromActor (deed_at ms step)
+deed_from : (ms : List Envelope) (step : Step) → AreFrom most_actors ms → Every IsFromActor (deed_at ms step)
 deed_from ms (steps.Phase number) from = tt
 deed_from ms (steps.Cut x y) from = tt
 deed_from ms (steps.Heal x y) from = tt
 deed_from ms (steps.Armed actor kind at) from = tt
 deed_from ms (steps.Called command) from = (tt, tt)
-deed_from ms (steps.Got number) from = heard_from (slice_get ms number) (λ e is. every-at (λ (e : Envelope). e.from < 34) ms number e from is)
+deed_from ms (steps.Got number) from = heard_from (slice_get ms number) (λ e is. every-at (λ (e : Envelope). e.from < most_actors) ms number e from is)
 deed_from ms (steps.Lost number) from = (tt, tt)
 deed_from ms (steps.Wrote written) from = (tt, tt)
 deed_from ms (steps.Sent number to message) from = (tt, tt)
@@ -60,11 +61,11 @@ deed_from ms (steps.Fell cause pending) from = tt
 deed_from ms (steps.Rose records) from = tt
 deed_from ms (steps.Damaged offset) from = tt
 
-first_from : (xs ys : List Envelope) → AreFrom 34 (xs ++ ys) → AreFrom 34 xs
+first_from : (xs ys : List Envelope) → AreFrom most_actors (xs ++ ys) → AreFrom most_actors xs
 first_from [] ys all = tt
 first_from (x ∷ xs) ys all = (all.0, first_from xs ys all.1)
 
-last_from : (xs ys : List Envelope) → AreFrom 34 (xs ++ ys) → AreFrom 34 ys
+last_from : (xs ys : List Envelope) → AreFrom most_actors (xs ++ ys) → AreFrom most_actors ys
 last_from [] ys all = all
 last_from (x ∷ xs) ys all = last_from xs ys all.1
 
@@ -72,16 +73,16 @@ own_from : (b : Bool) (ds : List Deed) → Every IsFromActor ds → Every IsFrom
 own_from true ds all = all
 own_from false ds all = tt
 
-pub deeds_from : (a : ℕ) (ms : List Envelope) (h : List Entry) → AreFrom 34 ms → AreFrom 34 (mail h) → Every IsFromActor (deeds a ms h)
+pub deeds_from : (a : ℕ) (ms : List Envelope) (h : List Entry) → AreFrom most_actors ms → AreFrom most_actors (mail h) → Every IsFromActor (deeds a ms h)
 deeds_from a ms [] from more = tt
 deeds_from a ms (e ∷ h) from more =
-    let both : AreFrom 34 (option_to_list (envelope_of e) ++ mail h) = subst (AreFrom 34) (mail-cons e h) more in
+    let both : AreFrom most_actors (option_to_list (envelope_of e) ++ mail h) = subst (AreFrom most_actors) (mail-cons e h) more in
     every-append IsFromActor (cond (e.actor == a) (deed_at ms e.step) []) (deeds a (ms ++ option_to_list (envelope_of e)) h)
     (own_from (e.actor == a) (deed_at ms e.step) (deed_from ms e.step from))
     (deeds_from a (ms ++ option_to_list (envelope_of e)) h
-    (every-append (λ (x : Envelope). x.from < 34) ms (option_to_list (envelope_of e)) from (first_from (option_to_list (envelope_of e)) (mail h) both))
+    (every-append (λ (x : Envelope). x.from < most_actors) ms (option_to_list (envelope_of e)) from (first_from (option_to_list (envelope_of e)) (mail h) both))
     (last_from (option_to_list (envelope_of e)) (mail h) both))
 
--- there are fewer than 34 actors
-pub low_from : (n : ℕ) (ms : List Envelope) → n ≤ 34 → AreFrom n ms → AreFrom 34 ms
-low_from n ms few from = every-weaker (λ (e : Envelope). e.from < n) (λ (e : Envelope). e.from < 34) (λ e low. omega arith) ms from
+-- there are fewer than the most actors
+pub low_from : (n : ℕ) (ms : List Envelope) → n ≤ most_actors → AreFrom n ms → AreFrom most_actors ms
+low_from n ms few from = every-weaker (λ (e : Envelope). e.from < n) (λ (e : Envelope). e.from < most_actors) (λ e low. omega arith) ms from

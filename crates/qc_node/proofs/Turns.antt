@@ -41,6 +41,7 @@ use Rattle.qc_script.specs.declared.script.Script.{Script}
 use Rattle.qc_fabric.specs.Tells.{HasNone, Posts, Sees, Takes, Waits}
 use Rattle.qc_node.specs.Cells.{IsCell, IsIdle, IsServed, actor_in}
 use Rattle.qc_node.specs.Inputs.{IsReadable}
+use Rattle.qc_link.specs.Limits.{most_actors}
 
 in_mail : (ms : List Envelope) (n : ℕ) (e : Envelope) → slice_get ms n ≡ Some e → In e ms
 in_mail [] n e is = absurd (let no : ⊥ = cc in no)
@@ -103,14 +104,14 @@ module _ (decl : Declaration) (script : Script) (accepted : IsAccepted decl) (p 
   pub readable : IsReadable g
   readable = readable_if g sent
 
-  mails_low : Every (λ (e : Envelope). e.from < 34) (mail took.before)
+  mails_low : Every (λ (e : Envelope). e.from < most_actors) (mail took.before)
   mails_low =
       let sites : decl.sites ≤ 16 = accepted.sites in let clients : decl.clients ≤ 16 = accepted.clients in
       low_from (actors decl) (mail took.before) (omega arith) (run_senders decl script took.before took.run_before.0 took.run_before.1)
 
   from_if : (t : Given) → WasSentTo (number p) (mail took.before) t → IsFrom t
   from_if (given.Called command) is = tt
-  from_if (given.Got e) is = every-at (λ (x : Envelope). x.from < 34) (mail took.before) e.number e mails_low is.0
+  from_if (given.Got e) is = every-at (λ (x : Envelope). x.from < most_actors) (mail took.before) e.number e mails_low is.0
   from_if (given.Lost k) is = tt
 
   short : IsShort move.turn

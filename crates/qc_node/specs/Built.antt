@@ -11,10 +11,11 @@ use Rattle.qc_msg.specs.declared.step.Control.TheVariants as controls
 use Rattle.qc_script.specs.declared.script.CommandLine.{CommandLine}
 use Rattle.qc_script.specs.declared.script.PhaseLines.{PhaseLines}
 use Rattle.qc_script.specs.declared.script.Script.{Script}
+use Rattle.qc_link.specs.Limits.{most_actors}
 
--- actors are numbered below 34
+-- actors are numbered below the most actors
 abbrev pub is_actor : ℕ → Bool
-is_actor a = nat_lt a 34
+is_actor a = nat_lt a most_actors
 
 abbrev pub is_built_control : Control → Bool
 is_built_control (controls.Phase number) = false

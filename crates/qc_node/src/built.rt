@@ -2,14 +2,12 @@
 
 ghost use Rattle.std.specs.Prelude.{◌≡◌};
 ghost use Rattle.std.specs.List.{list_all};
-ghost use Rattle.qc_node.specs.Built.{is_built, is_built_command, is_built_control, is_built_line, is_built_phase};
+ghost use Rattle.qc_node.specs.Built.{is_actor, is_built, is_built_command, is_built_control, is_built_line, is_built_phase};
 
 use qc_decl::Declaration;
+use qc_link::MOST_ACTORS;
 use qc_msg::{Command, Control};
 use qc_script::{CommandLine, PhaseLines, Script};
-
-/// The number below which actors are numbered.
-const MOST_ACTORS: u8 = 34;
 
 /// Whether this script is run: of control lines it has cuts and heals alone, and
 /// it asks clients alone, and no epoch.
@@ -46,7 +44,7 @@ fn is_built_control(control: Control) -> bool
     ensures { result ≡ is_built_control control }
 {
     match control {
-        Control::Cut(a, b) | Control::Heal(a, b) => a < MOST_ACTORS && b < MOST_ACTORS,
+        Control::Cut(a, b) | Control::Heal(a, b) => is_actor(a) && is_actor(b),
         Control::Phase(_) | Control::Armed { .. } | Control::Crash(_) | Control::Restart(_) => {
             false
         }
@@ -70,4 +68,11 @@ fn is_built_command(command: Command) -> bool
         Command::Begin | Command::Do { .. } | Command::Commit | Command::Abort => true,
         Command::Epoch { .. } => false,
     }
+}
+
+/// Whether an actor may have this number.
+fn is_actor(number: u8) -> bool
+    ensures { result ≡ is_actor number }
+{
+    (number as usize) < MOST_ACTORS
 }

@@ -109,6 +109,8 @@ impl<N: Named> Cell<N> {
         let Some(Taken { given, steps }) = fabric.take(rt, alloc, decl, &mut self.pass)? else {
             return Ok(TurnEnd::NothingReady);
         };
+        // An actor that was given up has an open input, so nothing is ready for
+        // it, and none was taken here. The lock doesn't let that be known.
         if self.given_up {
             return Err(AllocError);
         }

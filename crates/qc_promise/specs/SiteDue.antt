@@ -1,6 +1,6 @@
 -- What a site is to answer and to write for what it takes, by what its own steps show: the first row that applies.
-use Rattle.std.specs.Prelude.{◌≡◌, ℕ, ◌+◌, ◌*◌, ◌==◌, ◌&&◌, nat_lt, nat_le, Bool, true, not, if◌then◌else◌, is_some}
-use Rattle.std.specs.Prelude.{List, [], ◌∷◌, ◌++◌, length, Option, Some, None, option_map, unwrap_or}
+use Rattle.std.specs.Prelude.{◌≡◌, ℕ, ◌==◌, ◌&&◌, nat_lt, nat_le, Bool, true, not, if◌then◌else◌, is_some}
+use Rattle.std.specs.Prelude.{List, [], ◌∷◌, ◌++◌, Option, Some, None, option_map, unwrap_or}
 use Rattle.std.specs.Option.{option_map_or, option_or}
 use Rattle.qc_stamp.specs.declared.stamp.TxId.{TxId}
 use Rattle.qc_entry.specs.declared.record.Prepared.{Prepared}
@@ -28,6 +28,7 @@ use Rattle.qc_msg.specs.declared.step.Given.{Given}
 use Rattle.qc_msg.specs.declared.step.Given.TheVariants as given
 use Rattle.qc_msg.specs.declared.turn.Posting.{Posting}
 use Rattle.qc_msg.specs.Deeds.{Deed, Takes, Writes, Sends, Tells}
+use Rattle.qc_msg.specs.Lengths.{prepare_length}
 use Rattle.qc_promise.specs.SiteClocks.{clock_shown}
 use Rattle.qc_promise.specs.SiteHeld.{held_shown}
 use Rattle.qc_promise.specs.SiteLogs.{log_shown, recorded_shown}
@@ -64,12 +65,8 @@ promise_due ds tx =
       lines = without (log_shown ds) (recorded_shown ds);
     }
 
--- the bytes of a Prepare record's body: kind, transaction, epoch, and three counted lists
-abbrev pub prepare_bytes : Prepared → ℕ
-prepare_bytes p = 18 + 2 * length p.locks + 3 * length p.own + 20 * length p.lines
-
 abbrev pub fits_record : Prepared → Bool
-fits_record p = nat_le (prepare_bytes p) most_record_bytes
+fits_record p = nat_le (prepare_length p) most_record_bytes
 
 -- the refusal that the want is due, if any: the least of what is in its way; a Prepare of what isn't held, and one
 -- whose promise would be longer than a record

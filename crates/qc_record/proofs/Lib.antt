@@ -10,3 +10,4 @@ pub mod Logs
 pub mod Ranges
 pub mod InForm
 pub mod Puts
+pub mod Lengths

@@ -1,7 +1,10 @@
 //! Laws of the bytes of records.
 
 ghost use Rattle.std.specs.Prelude.{◌≡◌, ◌↔◌, ◌<◌, ◌≤◌, ℕ, List, true, length, take, ◌++◌, ◌∷◌, Ok, Err};
+ghost use Rattle.qc_entry.specs.declared.record.Prepared.{Prepared};
+ghost use Rattle.qc_msg.specs.Lengths.{prepare_length};
 ghost use Rattle.qc_msg.specs.declared.record.Record.{Record};
+ghost use Rattle.qc_msg.specs.declared.record.Record.TheVariants.{Prepare};
 ghost use Rattle.qc_record.specs.declared.fault.RecordFault.TheVariants.{Torn};
 ghost use Rattle.qc_record.specs.Form.{IsBytes};
 ghost use Rattle.qc_record.specs.Legal.{IsInForm};
@@ -24,6 +27,12 @@ pub fn legal_records_are_in_form()
 /// Different records have different spellings.
 pub fn spellings_are_apart()
     ensures { (a b : Record) → is_legal a ≡ true → is_legal b ≡ true → spelled a ≡ spelled b → a ≡ b }
+{}
+
+/// A Prepare's spelling is as long as its length tells, by which a site knows
+/// before it promises whether the record fits.
+pub fn prepares_are_as_long_as_told()
+    ensures { (p : Prepared) → length (spelled (Prepare p)) ≡ prepare_length p }
 {}
 
 /// No record's spelling behind a gate and its length is a prefix of another's.

@@ -37,7 +37,8 @@ mod writing;
 pub use fault::RecordFault;
 pub use laws::{
     cut_spellings_are_refused, legal_records_are_in_form, longer_spellings_are_refused,
-    no_frame_is_a_prefix, no_spelling_is_a_prefix, one_spelling, spellings_are_apart,
+    no_frame_is_a_prefix, no_spelling_is_a_prefix, one_spelling, prepares_are_as_long_as_told,
+    spellings_are_apart,
 };
 pub use reading::read_bytes;
 pub use spellings::{

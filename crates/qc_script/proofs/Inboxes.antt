@@ -20,6 +20,7 @@ use Rattle.qc_msg.specs.Steps.{Entry}
 use Rattle.qc_script.specs.declared.script.PhaseLines.{PhaseLines}
 use Rattle.qc_script.specs.declared.script.Script.{Script}
 use Rattle.qc_script.specs.Inbox.{Inbox, answers_by, comes, comes_at_once, comes_with, command_called, control_acted, copy_taken, count_of, empty_inbox, goes, goes_with, has_number, inbox, inbox_at, is_request, loss_taken, one_more, opened, opened_by, phase_begun, reply_told, request_answered, request_sent, with_copies}
+use Rattle.qc_link.specs.Limits.{most_actors}
 
 -- another inbox with the same cuts, control lines and counts
 record Keeps (i j : Inbox) : Type 0 where
@@ -62,8 +63,8 @@ opened_keeps (line ∷ lines) i = same i
 pub record InCommon (a b : ℕ) (i j : Inbox) : Type 0 where
   pub cuts : i.cuts ≡ j.cuts
   pub controls : i.controls ≡ j.controls
-  pub from_length : length i.from_each ≡ 34
-  pub to_length : length j.to_each ≡ 34
+  pub from_length : length i.from_each ≡ most_actors
+  pub to_length : length j.to_each ≡ most_actors
   pub count : count_of i.from_each b ≡ count_of j.to_each a
 
 -- what keeps each of the two keeps what they have in common
@@ -137,7 +138,7 @@ length_more : (t : Bool) (xs : List ℕ) (k n : ℕ) → length xs ≡ n → len
 length_more true xs k n is = length-set xs k (count_of xs k + 1) ∙ is
 length_more false xs k n is = is
 
-one_count : (a b to from : ℕ) (xs ys : List ℕ) → a < 34 → b < 34 → length xs ≡ 34 → length ys ≡ 34 → count_of xs b ≡ count_of ys a
+one_count : (a b to from : ℕ) (xs ys : List ℕ) → a < most_actors → b < most_actors → length xs ≡ most_actors → length ys ≡ most_actors → count_of xs b ≡ count_of ys a
     → count_of (if to == a then one_more xs from else xs) b ≡ count_of (if from == b then one_more ys to else ys) a
 one_count a b to from xs ys a_within b_within xs_long ys_long count = by (to == a) (from == b) refl refl
   where
@@ -172,7 +173,7 @@ own_both : (a b : ℕ) (i j k l : Inbox) (s t : Bool) → InCommon a b i j → K
 own_both a b i j k l s t common first second =
     kept a b i j (if s then k else i) (if t then l else j) common (by_test (Keeps i) s k i first (same i)) (by_test (Keeps j) t l j second (same j))
 
-sends_both : (links : List Link) (a b : ℕ) (i j : Inbox) (e : Envelope) → a < 34 → b < 34 → InCommon a b i j
+sends_both : (links : List Link) (a b : ℕ) (i j : Inbox) (e : Envelope) → a < most_actors → b < most_actors → InCommon a b i j
     → InCommon a b (goes links a (comes links a i e) e) (goes links b (comes links b j e) e)
 sends_both links a b i j e a_within b_within common =
     let first : Sends i (goes links a (comes links a i e) e) (if e.to == a then one_more i.from_each e.from else i.from_each) (if e.from == a then one_more i.to_each e.to else i.to_each) = sends_does links a i e in
@@ -180,8 +181,8 @@ sends_both links a b i j e a_within b_within common =
     record {
       cuts = first.cuts ∙ (common.cuts ∙ sym second.cuts);
       controls = first.controls ∙ (common.controls ∙ sym second.controls);
-      from_length = ap (λ (c : List ℕ). length c) first.from_each ∙ length_more (e.to == a) i.from_each e.from 34 common.from_length;
-      to_length = ap (λ (c : List ℕ). length c) second.to_each ∙ length_more (e.from == b) j.to_each e.to 34 common.to_length;
+      from_length = ap (λ (c : List ℕ). length c) first.from_each ∙ length_more (e.to == a) i.from_each e.from most_actors common.from_length;
+      to_length = ap (λ (c : List ℕ). length c) second.to_each ∙ length_more (e.from == b) j.to_each e.to most_actors common.to_length;
       count =
           ap (λ (c : List ℕ). count_of c b) first.from_each
           ∙ (one_count a b e.to e.from i.from_each j.to_each a_within b_within common.from_length common.to_length common.count
@@ -191,7 +192,7 @@ sends_both links a b i j e a_within b_within common =
 unchanged : (i j : Inbox) → j.cuts ≡ i.cuts → j.controls ≡ i.controls → j.from_each ≡ i.from_each → j.to_each ≡ i.to_each → Keeps i j
 unchanged i j cuts controls from_each to_each = record { cuts = cuts; controls = controls; from_each = from_each; to_each = to_each }
 
-step_both : (script : Script) (a b : ℕ) (i j : Inbox) (by : ℕ) (step : Step) → a < 34 → b < 34 → InCommon a b i j → InCommon a b (inbox_at script a i by step) (inbox_at script b j by step)
+step_both : (script : Script) (a b : ℕ) (i j : Inbox) (by : ℕ) (step : Step) → a < most_actors → b < most_actors → InCommon a b i j → InCommon a b (inbox_at script a i by step) (inbox_at script b j by step)
 step_both script a b i j by (steps.Phase k) a_within b_within common = phases_both a b i j (slice_get script.phases (k - 1)) common
 step_both script a b i j by (steps.Cut x y) a_within b_within common = acts_both a b i j (λ cuts. with_cut cuts x y) common
 step_both script a b i j by (steps.Heal x y) a_within b_within common = acts_both a b i j (λ cuts. without_cut cuts x y) common
@@ -207,18 +208,18 @@ step_both script a b i j by (steps.Fell cause pending) a_within b_within common 
 step_both script a b i j by (steps.Rose written) a_within b_within common = common
 step_both script a b i j by (steps.Damaged offset) a_within b_within common = common
 
-steps_both : (script : Script) (a b : ℕ) (h : List Entry) (i j : Inbox) → a < 34 → b < 34 → InCommon a b i j
+steps_both : (script : Script) (a b : ℕ) (h : List Entry) (i j : Inbox) → a < most_actors → b < most_actors → InCommon a b i j
     → InCommon a b (fold (λ i e. inbox_at script a i e.actor e.step) i h) (fold (λ i e. inbox_at script b i e.actor e.step) j h)
 steps_both script a b [] i j a_within b_within common = common
 steps_both script a b (e ∷ h) i j a_within b_within common =
     steps_both script a b h (inbox_at script a i e.actor e.step) (inbox_at script b j e.actor e.step) a_within b_within (step_both script a b i j e.actor e.step a_within b_within common)
 
-pub inboxes_have_in_common : (script : Script) (a b : ℕ) (h : List Entry) → a < 34 → b < 34 → InCommon a b (inbox script a h) (inbox script b h)
+pub inboxes_have_in_common : (script : Script) (a b : ℕ) (h : List Entry) → a < most_actors → b < most_actors → InCommon a b (inbox script a h) (inbox script b h)
 inboxes_have_in_common script a b h a_within b_within =
-    steps_both script a b h empty_inbox empty_inbox a_within b_within (record { cuts = refl; controls = refl; from_length = refl; to_length = refl; count = get_or-replicate 34 b 0 0 b_within ∙ sym (get_or-replicate 34 a 0 0 a_within) })
+    steps_both script a b h empty_inbox empty_inbox a_within b_within (record { cuts = refl; controls = refl; from_length = refl; to_length = refl; count = get_or-replicate most_actors b 0 0 b_within ∙ sym (get_or-replicate most_actors a 0 0 a_within) })
 
 -- a message from b to a has the fate for its receiver that it has for its sender
-pub one_fate : (script : Script) (a b : ℕ) (h : List Entry) → a < 34 → b < 34
+pub one_fate : (script : Script) (a b : ℕ) (h : List Entry) → a < most_actors → b < most_actors
     → fate script.links (inbox script a h).cuts b a (count_of (inbox script a h).from_each b + 1) ≡ fate script.links (inbox script b h).cuts b a (count_of (inbox script b h).to_each a + 1)
 one_fate script a b h a_within b_within =
     let common : InCommon a b (inbox script a h) (inbox script b h) = inboxes_have_in_common script a b h a_within b_within in

@@ -20,6 +20,7 @@ use Rattle.qc_msg.specs.Steps.{Entry}
 use Rattle.qc_script.specs.declared.script.CommandLine.{CommandLine}
 use Rattle.qc_script.specs.declared.script.PhaseLines.{PhaseLines}
 use Rattle.qc_script.specs.declared.script.Script.{Script}
+use Rattle.qc_link.specs.Limits.{most_actors}
 
 pub record Inbox : Type 0 where
   -- which actors are cut from each other
@@ -42,10 +43,10 @@ pub record Inbox : Type 0 where
   pub commands : List Command
   pub busy : Bool
 
--- how many messages there were from each actor, or to each; actors are numbered below 34
+-- how many messages there were from each actor, or to each; actors are numbered below the most actors
 
 abbrev pub no_counts : List ℕ
-no_counts = replicate 34 0
+no_counts = replicate most_actors 0
 
 abbrev pub count_of : List ℕ → ℕ → ℕ
 count_of counts a = get_or counts a 0

@@ -1,5 +1,5 @@
 -- What a site promises of a transaction that is to commit, and what it does as the verdict comes (presumed abort).
-use Rattle.std.specs.Prelude.{ℕ, ◌+◌, ◌*◌, nat_le, Bool, if◌then◌else◌, not, List, [], ◌∷◌, ◌++◌, fold, length}
+use Rattle.std.specs.Prelude.{ℕ, nat_le, Bool, if◌then◌else◌, not, List, [], ◌∷◌, ◌++◌, fold}
 use Rattle.std.specs.Prelude.{filter, Option, Some, None, is_some}
 use Rattle.std.specs.List.{find}
 use Rattle.qc_stamp.specs.declared.stamp.Stamp.{Stamp}
@@ -18,12 +18,9 @@ use Rattle.qc_msg.specs.declared.message.Outcome.TheVariants.{Committed, Aborted
 use Rattle.qc_msg.specs.declared.record.Record.TheVariants as records
 use Rattle.qc_msg.specs.declared.turn.Appended.TheVariants.{Done}
 use Rattle.qc_msg.specs.declared.turn.Turn.{Turn}
+pub use Rattle.qc_msg.specs.Lengths.{prepare_length}
 use Rattle.qc_msg.specs.Turns.{quiet}
 use Rattle.qc_site.specs.Site.{SiteState, SiteMove, moved, answering, answers}
-
--- the bytes of a Prepare record's body: kind, transaction, epoch, and three counted lists
-abbrev pub prepare_length : Prepared → ℕ
-prepare_length p = 18 + 2 * length p.locks + 3 * length p.own + 20 * length p.lines
 
 -- what the site would promise: all that the transaction holds, and the lines that no record gives yet
 abbrev pub promise_of : SiteState → TxId → Prepared

@@ -27,7 +27,7 @@ pub fn undisturbed_dos_succeed()
 {}
 
 /// Each commit of a begun transaction that isn't doomed commits, in a run that
-/// has committed at most as many operations again as the limit.
+/// has committed at most twice as many operations as the limit.
 #[tactic(auto, using(crate::proofs::Commits::commits_succeed))]
 pub fn undisturbed_commits_succeed()
     ensures { (decl : Declaration) (script : Script) → IsAccepted decl → IsScriptFor decl script

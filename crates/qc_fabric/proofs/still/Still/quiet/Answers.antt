@@ -7,6 +7,7 @@ use Rattle.qc_fabric.specs.Picks.{IsStopped, has_any}
 use Rattle.qc_fabric.specs.Stills.{Shown}
 use Rattle.qc_fabric.proofs.Stopped.{is_nothing, not_some, stopped_inputs, stopped_picks, stops, was_nothing}
 use Rattle.qc_fabric.proofs.still.Still.quiet.Goals as goal
+use Rattle.qc_link.specs.Limits.{most_actors}
 
 pub returns-then-any-clause-all : goal.returns-then-any-clause-all
 returns-then-any-clause-all g c = λ s.
@@ -16,7 +17,7 @@ returns-then-any-clause-all g c = λ s.
 
 pub returns-clause-only : goal.returns-clause-only
 returns-clause-only g c = λ is.
-    (let few : actors g.N.Named.declaration ≤ 34 = omega (arith, c.self.invariant.few) in
+    (let few : actors g.N.Named.declaration ≤ most_actors = omega (arith, c.self.invariant.few) in
     let none : has_any c.self.inside.inputs.items ≡ false = search rules in
     let left : is_some (slice_get c.self.inside.mailboxes.inboxes.controls 0) ≡ false = search rules in
     let nobody : c.pick.result ≡ None = is_nothing c.pick.result c.is_none.result c.is_none.ensures is in
@@ -26,7 +27,7 @@ returns-clause-only g c = λ is.
 
 pub returns-clause-all : goal.returns-clause-all
 returns-clause-all g c = λ s.
-    (let few : actors g.N.Named.declaration ≤ 34 = omega (arith, c.self.invariant.few) in
+    (let few : actors g.N.Named.declaration ≤ most_actors = omega (arith, c.self.invariant.few) in
     let here : IsStopped g.N.Named.declaration g.N.Named.script c.self.inside.log.history c.self.inside.inputs.items =
     subst (λ (v : Shown). IsStopped g.N.Named.declaration g.N.Named.script v.history v.open_inputs) (sym c.self.view_is) s in
     let picks : picked_in g.N.Named.declaration (either c.self.inside.inputs.items c.self.inside.inputs.items) c.self.inside.mailboxes.inboxes ≡ None =

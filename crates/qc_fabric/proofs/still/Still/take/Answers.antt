@@ -11,6 +11,7 @@ use Rattle.qc_fabric.proofs.Kept.{other_memory}
 use Rattle.qc_fabric.proofs.Ready.{input_as, input_there}
 use Rattle.qc_fabric.proofs.Taking.{next_for, none_for, takes_on, took, waits}
 use Rattle.qc_fabric.proofs.still.Still.take.Goals as goal
+use Rattle.qc_link.specs.Limits.{most_actors}
 
 pub input_for-requires : goal.input_for-requires
 input_for-requires g c = omega (arith, c.requires.actor, c.self.invariant.few, c.number-actor.ensures)
@@ -41,7 +42,7 @@ invariant_of-self g c = other_memory c.self.invariant c.reserve.new.self c.self.
 
 pub take-requires-2-clause-calls : goal.take-requires-2-clause-calls
 take-requires-2-clause-calls g c =
-    let low : c.number-actor.result < 34 = omega (arith, c.requires.actor, c.self.invariant.few, c.number-actor.ensures) in
+    let low : c.number-actor.result < most_actors = omega (arith, c.requires.actor, c.self.invariant.few, c.number-actor.ensures) in
     let few : (tray_at c.self.inside.mailboxes.inboxes.trays c.number-actor.result).calls ≤ length c.self.inside.log.history = calls_few g.N.Named.script c.self.inside.log.history c.self.inside.mailboxes.inboxes c.number-actor.result c.self.invariant.kept low in
     omega (arith, few, c.self.invariant.bound)
 
