@@ -320,7 +320,10 @@ def output_of(*command):
 
 
 def at_once():
-    """Returns how many checks run at once: one a processor, as many as memory holds."""
+    """Returns how many checks run at once: one a processor, as many as memory holds, or what RT_JOBS says."""
+    said = os.environ.get("RT_JOBS", "")
+    if said.isdigit() and said != "0":
+        return int(said)
     with open("/proc/meminfo", encoding="utf-8") as it:
         free = 1024 * int(re.search(r"MemAvailable:\s+(\d+)", it.read())[1])
     return max(1, min(len(os.sched_getaffinity(0)), free // MEMORY))
