@@ -20,6 +20,9 @@ import threading
 import time
 from concurrent.futures import FIRST_COMPLETED, ThreadPoolExecutor, wait
 
+# Nothing is left beside these files.
+sys.dont_write_bytecode = True
+
 from edits import Wrong, at_once, below, kit, read_crates
 
 TOP = os.path.dirname(os.path.dirname(os.path.abspath(__file__)))
@@ -112,7 +115,6 @@ def load(folder):
     file = f"{folder}/bin/rtlib.py"
     if not os.path.isfile(file):
         return None
-    sys.dont_write_bytecode = True
     loader = importlib.machinery.SourceFileLoader("rtlib", file)
     made = importlib.util.module_from_spec(importlib.util.spec_from_loader("rtlib", loader))
     sys.modules["rtlib"] = made
