@@ -263,7 +263,8 @@ def judged(crate, edit, said):
         return "NOT REFUSED: the function is still proved"
     if re.match(r"no(t proved|t assumed| proof): it calls ", line[1]):
         return MASKED
-    if line[1].startswith(("no proof", "not proved")):
+    # A function that only wants a proof by hand now isn't refused by a clause.
+    if line[1].startswith(("no proof", "not proved")) and "/Proof.antt" not in line[1]:
         return REFUSED
     return f"NOT JUDGED: {line[1][:300]}"
 
@@ -373,8 +374,9 @@ def main(given):
     with concurrent.futures.ThreadPoolExecutor(given.jobs or at_once()) as pool:
         runs = [(it, pool.submit(tried, crates, folder, it, given.kept)) for it in wanted]
         for crate, run in runs:
-            wrong = {label: text for label, text in run.result().items() if text != REFUSED}
-            print(f"{crate}: {len(run.result()) - len(wrong)} edits refused", flush=True)
+            found = run.result()
+            wrong = {label: text for label, text in found.items() if text != REFUSED}
+            print(f"{crate}: {len(found) - len(wrong)} of {len(found)} edits refused", flush=True)
             for label, text in wrong.items():
                 print(f"{label}: {text}", flush=True)
             failed += wrong
@@ -382,7 +384,7 @@ def main(given):
                 noted[crate] = sums[crate]
     if given.note:
         write_ledger({it: noted[it] for it in mine if it in noted})
-    print(f"edits: {len(wanted)} of {len(mine)} crates tried, {len(failed)} edits not refused")
+    print(f"edits: {len(wanted)} of {len(mine)} crates tried, {len(failed)} edits not refused", flush=True)
     return 1 if failed else 0
 
 
