@@ -16,7 +16,7 @@ import time
 
 TOP = os.path.dirname(os.path.dirname(os.path.abspath(__file__)))
 DOCUMENT = f"{TOP}/README.md"
-BEGIN, END = "<!-- written by tools/first_call.py -->", "<!-- end of what first_call.py wrote -->"
+BEGIN, END = "<!-- first call -->\n", "<!-- end -->"
 
 
 def first_call(more):
@@ -42,17 +42,18 @@ def write(text):
         before, mark, rest = it.read().partition(BEGIN)
     _, end, after = rest.partition(END)
     if not mark or not end:
-        sys.exit(f"{DOCUMENT} lacks the lines {BEGIN} and {END}; they are for: {text}")
+        sys.exit(f"{DOCUMENT} lacks the marks of the first call")
     with open(DOCUMENT, "w", encoding="utf-8") as it:
-        it.write(f"{before}{BEGIN}\n{text}\n{END}{after}")
+        it.write(f"{before}{BEGIN}{text}\n{END}{after}")
 
 
 def main(words):
     unproved, _ = first_call({"QUORUM_UNPROVED": "1"})
     clock, spent = first_call({"QUORUM_UNPROVED": ""})
-    text = f"""Of {time.strftime('%Y-%m-%d', time.gmtime())}, on a machine with {machine()}:
-the first call of a new clone took {clock:.0f} minutes, and {spent:.0f} minutes of processor time;
-with `QUORUM_UNPROVED=1` it took {60 * unproved:.0f} seconds."""
+    text = f"""The first call proves and builds the program, and tells of each crate as it is done; later calls start at once.
+With `QUORUM_UNPROVED=1` before it a program is built with no proof, and says so at each call. Of
+{time.strftime('%Y-%m-%d', time.gmtime())}, on {machine()}, the first call of a new clone took
+{clock:.0f} minutes, and {spent:.0f} minutes of processor time; unproved it took {60 * unproved:.0f} seconds."""
     print(text)
     if not words:
         write(text)

@@ -21,7 +21,7 @@ TICK = os.sysconf("SC_CLK_TCK")
 TOP = os.path.dirname(os.path.dirname(os.path.abspath(__file__)))
 PARTS = "proof", "tests", "must-fail", "edits"
 DOCUMENT = f"{TOP}/docs/TESTING.md"
-BEGIN, END = "<!-- written by tools/gate_times.py -->", "<!-- end of what gate_times.py wrote -->"
+BEGIN, END = "<!-- gate -->\n", "<!-- end -->"
 
 
 def below(root):
@@ -121,9 +121,9 @@ def write(log):
         before, mark, rest = it.read().partition(BEGIN)
     _, end, after = rest.partition(END)
     if not mark or not end:
-        sys.exit(f"{DOCUMENT} lacks the lines {BEGIN} and {END}")
+        sys.exit(f"{DOCUMENT} lacks the marks of the gate's table")
     with open(DOCUMENT, "w", encoding="utf-8") as it:
-        it.write(f"{before}{BEGIN}\n{lines}{END}{after}")
+        it.write(f"{before}{BEGIN}{lines}{END}{after}")
 
 
 def main(log):

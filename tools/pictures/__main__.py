@@ -14,6 +14,7 @@ sys.dont_write_bytecode = True
 import crates
 import inputs
 import messages
+import ordering
 import quorums
 import states
 
@@ -24,6 +25,7 @@ PICTURES = {
     "first_run.svg": messages.draw_first_run,
     "inputs.svg": inputs.draw,
     "one_do.svg": messages.draw_one_do,
+    "ordering.svg": ordering.draw,
     "quorums.svg": quorums.draw,
     "site.svg": states.draw_site,
     "transaction.svg": states.draw_transaction,

@@ -1,12 +1,23 @@
-"""The crates of crates.txt, each above those that it stands on."""
+"""The crates of crates.txt, in bands, each above those that it stands on.
+
+Dashed are those on which the program doesn't stand.
+"""
 
 import os
 
-from layers import Layers
+from layers import Layers, heights, reachable
 from svg import Picture, WIDTH, width_of
 
-SIZE, HIGH, STEP, MARGIN, GAP = 12, 26, 68, 16, 14
-TESTS = "tests_"
+SIZE, HIGH, STEP, MARGIN, LABEL, GAP = 12, 24, 50, 10, 22, 12
+TESTS, PROGRAM = "tests_", "quorum"
+# from the bottom up; a crate stands on none of a later band
+BANDS = {
+    "base": "list stamp table cert plan entry lock link view outside pass journal decl accept",
+    "theory": "onecopy protocol runs",
+    "system": "msg record fit script inbox mailbox fabric promise site commit front client core",
+    "laws": "laws records account net atomic seen guarantees undisturbed order falls",
+    "outside": "node report text top files quorum",
+}
 
 
 def crates_of(text):
@@ -19,9 +30,38 @@ def crates_of(text):
     return {name: [d for d in deps if d in below] for name, deps in below.items()}
 
 
+def bands_of(below):
+    """The band of each crate, by its place in BANDS."""
+    found = {}
+    for place, names in enumerate(BANDS.values()):
+        for name in names.split():
+            found[name if name in below else "qc_" + name] = place
+    if set(found) != set(below):
+        raise SystemExit("BANDS and crates.txt differ: %s" % sorted(set(found) ^ set(below)))
+    wrong = [(name, d) for name, deps in below.items() for d in deps if found[d] > found[name]]
+    if wrong:
+        raise SystemExit("crates that stand on one of a later band: %s" % wrong)
+    return found
+
+
+def rows_of(below, bands):
+    """How high each crate stands, and how high each band begins and ends."""
+    high, ends, start = {}, [], 0
+    for place in range(len(BANDS)):
+        inside = {name: [d for d in deps if bands[d] == place] for name, deps in below.items() if bands[name] == place}
+        within = heights(inside)
+        for name in inside:
+            # what nobody stands on and stands on others of its band is a row higher where there is one
+            alone = inside[name] and not any(name in deps for deps in below.values())
+            high[name] = start + min(within[name] + (1 if alone else 0), max(within.values()))
+        ends.append((start, start + max(within.values())))
+        start += max(within.values()) + 1
+    return high, ends
+
+
 def room(place):
     """How wide a place is: a crate's box, or an arrow that passes."""
-    return width_of(place, SIZE, mono=True) + 16 if isinstance(place, str) else 14
+    return width_of(place, SIZE, mono=True) + 12 if isinstance(place, str) else 12
 
 
 def ends(layers, x, of, to, sign):
@@ -50,26 +90,37 @@ def smooth(points):
     return steps
 
 
+def draw_bands(picture, ends_of_bands, rows):
+    """A ground for each band, every other one grey, with its name at the left."""
+    for place, (name, (low, top)) in enumerate(zip(BANDS, ends_of_bands)):
+        upper, tall = MARGIN + STEP * (rows - 1 - top) - (STEP - HIGH) / 2, STEP * (top - low + 1)
+        picture.add("rect", x=0, y=upper, width=WIDTH, height=tall, fill="#eeeeee" if place % 2 == 0 else "white")
+        picture.text(LABEL - 4, upper + tall / 2, name, size=13, bold=True, slope=-90)
+
+
 def draw(root):
     with open(os.path.join(root, "crates.txt"), encoding="utf-8") as file:
         below = crates_of(file.read())
     below = {name: deps for name, deps in below.items() if not name.startswith(TESTS)}
-    layers = Layers(below)
-    x = {it: MARGIN + at for it, at in layers.across(WIDTH - 2 * MARGIN, room, GAP).items()}
+    used = reachable(below, PROGRAM) | {PROGRAM}
+    high, ends_of_bands = rows_of(below, bands_of(below))
+    layers = Layers(below, high)
+    x = {it: LABEL + MARGIN + at for it, at in layers.across(WIDTH - LABEL - 2 * MARGIN, room, GAP).items()}
     y = {it: MARGIN + STEP * row for row, its in enumerate(layers.rows) for it in its}
     notes = ["An arrow leads to a crate that is used; arrows that follow from others are left out."]
-    notes += ["The crates of tests, %s.., aren't drawn." % TESTS]
-    height = MARGIN + STEP * (len(layers.rows) - 1) + HIGH + 20 + 16 * len(notes) + 4
+    notes += ["Dashed: the program doesn't stand on it. The crates of tests, %s.., aren't drawn." % TESTS]
+    height = MARGIN + STEP * (len(layers.rows) - 1) + HIGH + 24 + 16 * len(notes) + 4
     picture = Picture(height, "The crates, each above those that it stands on")
+    draw_bands(picture, ends_of_bands, len(layers.rows))
     out, into = ends(layers, x, layers.down, x, True), ends(layers, x, layers.up, x, False)
     for way in layers.ways:
         bend = [(x[it], y[it] + HIGH / 2) for it in way[1:-1]]
         points = [(out[way[0], way[1]], y[way[0]] + HIGH), *bend, (into[way[-2], way[-1]], y[way[-1]])]
-        picture.path(smooth(points))
+        picture.path(smooth(points), dash="" if way[0] in used else "4 3")
         picture.head(points[-1], (points[-1][0], points[-1][1] - 10))
     for it in x:
         if isinstance(it, str):
-            picture.box(x[it] - room(it) / 2, y[it], room(it), HIGH, 4)
+            picture.box(x[it] - room(it) / 2, y[it], room(it), HIGH, 4, dash="" if it in used else "4 3")
             picture.text(x[it], y[it] + HIGH / 2 + 4, it, size=SIZE, mono=True)
     for place, note in enumerate(notes):
         picture.text(WIDTH / 2, height - 8 - 16 * (len(notes) - 1 - place), note, size=11)

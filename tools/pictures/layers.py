@@ -40,10 +40,11 @@ def heights(below):
 class Layers:
     """The layers, from the top down, each a list of places in order; a place is a
     name, or a triple (start, end, height) where an arrow passes; and the short
-    arrows between places of neighbouring layers."""
+    arrows between places of neighbouring layers. Each thing is as high as the
+    longest way down from it, unless heights are given."""
 
-    def __init__(self, below):
-        graph, high = reduced(below), heights(below)
+    def __init__(self, below, high=None):
+        graph, high = reduced(below), high or heights(below)
         self.rows = [[] for _ in range(max(high.values()) + 1)]
         self.arrows, self.ways = [], []
         for name in sorted(below):
