@@ -16,6 +16,8 @@ import time
 
 TOP = os.path.dirname(os.path.dirname(os.path.abspath(__file__)))
 DOCUMENT = f"{TOP}/README.md"
+SAID = """The first call proves and builds the program, and tells of each crate as it is done; later calls start at once.
+With `QUORUM_UNPROVED=1` before it a program is built with no proof, and says so at each call."""
 BEGIN, END = "<!-- first call -->\n", "<!-- end -->"
 
 
@@ -50,10 +52,9 @@ def write(text):
 def main(words):
     unproved, _ = first_call({"QUORUM_UNPROVED": "1"})
     clock, spent = first_call({"QUORUM_UNPROVED": ""})
-    text = f"""The first call proves and builds the program, and tells of each crate as it is done; later calls start at once.
-With `QUORUM_UNPROVED=1` before it a program is built with no proof, and says so at each call. Of
-{time.strftime('%Y-%m-%d', time.gmtime())}, on {machine()}, the first call of a new clone took
-{clock:.0f} minutes, and {spent:.0f} minutes of processor time; unproved it took {60 * unproved:.0f} seconds."""
+    text = f"""{SAID} Of {time.strftime('%Y-%m-%d', time.gmtime())},
+on {machine()}, the first call of a new clone took {clock:.0f} minutes, and
+{spent:.0f} minutes of processor time; unproved it took {60 * unproved:.0f} seconds."""
     print(text)
     if not words:
         write(text)
