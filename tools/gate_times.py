@@ -1,14 +1,14 @@
 #!/usr/bin/env python3
-"""What the gate costs, by crate: runs `rt ci` in the current folder and watches it.
+"""What the gate costs, by crate: runs `.ci/run` and watches it.
 
-usage: gate_times.py LOG [WORD..]
+usage: gate_times.py LOG             at the top of the repository, best in a new clone
+       gate_times.py --write LOG     writes the table of an earlier run into docs/TESTING.md, and runs nothing
 
-The words are those of `rt ci`: with --anew nothing is taken from earlier runs.
-
-The gate's text goes to LOG.out. On standard output, and in LOG: for each crate the processor seconds of its proof, its tests
-and its edits, added up over the processes of the checker as each was seen last (three times a second), and the processor
-minutes of the whole gate as the system counts them. Compare figures of one machine alone. It gives no verdict: it ends with
-the gate's status.
+The gate's text goes to LOG.out. In LOG, and on standard output, comes the table as docs/TESTING.md has it: for each
+crate the processor seconds of its proof, its tests, its edits in must-fail/ and those in edits/ that were tried, added
+up over the processes of the checker as each was seen last (three times a second), and the processor minutes of the
+whole gate as the system counts them. Compare figures of one machine alone. It gives no verdict: it ends with the
+gate's status.
 """
 import collections
 import os
@@ -18,7 +18,10 @@ import sys
 import time
 
 TICK = os.sysconf("SC_CLK_TCK")
-PARTS = "proof", "tests", "edits"
+TOP = os.path.dirname(os.path.dirname(os.path.abspath(__file__)))
+PARTS = "proof", "tests", "must-fail", "edits"
+DOCUMENT = f"{TOP}/docs/TESTING.md"
+BEGIN, END = "<!-- gate -->\n", "<!-- end -->"
 
 
 def below(root):
@@ -52,8 +55,10 @@ def part_of(words, folder):
     if not words[0].endswith("/rattle") or "--crate-name" not in words:
         return None
     crate = words[words.index("--crate-name") + 1]
-    if re.search(r"/rt-edits?-", folder) or "/rt-edit" in " ".join(words):
+    if "/edits-" in folder:
         return crate, "edits"
+    if "/rt-edit-" in folder:
+        return crate, "must-fail"
     return crate, "tests" if "--test" in words else "proof"
 
 
@@ -74,30 +79,72 @@ def watch(gate):
     return spent
 
 
+def number_of_edits(crate, part):
+    """Returns how many edits a crate has in must-fail/ or in edits/."""
+    folder = f"{TOP}/edits/{crate}" if part == "edits" else f"{TOP}/crates/{crate}/must-fail"
+    return len(os.listdir(folder)) if os.path.isdir(folder) else 0
+
+
+def cell(spent, crate, part):
+    seconds, edits = spent[crate, part], 0
+    if part in ("must-fail", "edits"):
+        edits = number_of_edits(crate, part)
+    if not seconds and not edits:
+        return " "
+    said = f"{seconds:.0f}" if seconds else "not tried"
+    return f"{said} ({edits})" if edits else said
+
+
 def table(spent):
-    """Yields the lines of the table, the dearest crate first."""
-    crates = {crate for crate, _ in spent}
-    yield f"{'crate':<16}" + "".join(f"{part:>8}" for part in PARTS)
-    for crate in sorted(crates, key=lambda it: -sum(spent[it, part] for part in PARTS)):
-        yield f"{crate:<16}" + "".join(f"{spent[crate, part]:8.0f}" for part in PARTS)
-    yield f"{'all':<16}" + "".join(f"{sum(spent[it, part] for it in crates):8.0f}" for part in PARTS)
+    """Yields the lines of the table, in the order of crates.txt."""
+    yield f"| crate | {' | '.join(PARTS)} |"
+    yield f"|---{'|---' * len(PARTS)}|"
+    with open(f"{TOP}/crates.txt", encoding="utf-8") as it:
+        crates = [line.split()[0].rstrip(":") for line in it if re.match(r"\w", line)]
+    for crate in crates:
+        yield f"| `{crate}` | {' | '.join(cell(spent, crate, part) for part in PARTS)} |"
+    yield f"| all | {' | '.join(f'{sum(spent[it, part] for it in crates):.0f}' for part in PARTS)} |"
 
 
-def main(log, words):
+def machine():
+    """Returns what the figures were measured on."""
+    with open("/proc/cpuinfo", encoding="utf-8") as it:
+        found = re.search(r"model name\s*:\s*(.*)", it.read())
+    return f"{len(os.sched_getaffinity(0))} processors ({found[1] if found else 'of no name'})"
+
+
+def write(log):
+    """Puts the table of a run into the document, between its marks."""
+    with open(log, encoding="utf-8") as it:
+        lines = it.read()
+    with open(DOCUMENT, encoding="utf-8") as it:
+        before, mark, rest = it.read().partition(BEGIN)
+    _, end, after = rest.partition(END)
+    if not mark or not end:
+        sys.exit(f"{DOCUMENT} lacks the marks of the gate's table")
+    with open(DOCUMENT, "w", encoding="utf-8") as it:
+        it.write(f"{before}{BEGIN}{lines}{END}{after}")
+
+
+def main(log):
     began, before = time.time(), os.times()
-    with open(f"{log}.out", "w") as out:
-        gate = subprocess.Popen(["rt", "ci", *words], stdout=out, stderr=out, stdin=subprocess.DEVNULL)
+    with open(f"{log}.out", "w", encoding="utf-8") as out:
+        gate = subprocess.Popen(["bash", f"{TOP}/.ci/run"], stdout=out, stderr=out, stdin=subprocess.DEVNULL)
         spent = watch(gate)
     after = os.times()
     seconds = after.children_user + after.children_system - before.children_user - before.children_system
-    lines = [*table(spent), f"processor minutes {seconds / 60:.0f}, by the clock {(time.time() - began) / 60:.0f}"]
-    with open(log, "w") as it:
-        it.write("\n".join(lines) + "\n")
-    print("\n".join(lines))
+    said = f"Processor seconds of the gate of {time.strftime('%Y-%m-%d', time.gmtime(began))}, on {machine()}:"
+    whole = f"The whole gate: {seconds / 60:.0f} processor minutes, {(time.time() - began) / 60:.0f} by the clock."
+    text = "\n".join(["", said, "", *table(spent), "", whole, "", ""])
+    with open(log, "w", encoding="utf-8") as it:
+        it.write(text)
+    print(text)
     return gate.returncode
 
 
 if __name__ == "__main__":
-    if len(sys.argv) < 2:
+    if sys.argv[1:2] == ["--write"] and len(sys.argv) == 3:
+        sys.exit(write(sys.argv[2]))
+    if len(sys.argv) != 2 or sys.argv[1].startswith("-"):
         sys.exit(__doc__)
-    sys.exit(main(sys.argv[1], sys.argv[2:]))
+    sys.exit(main(sys.argv[1]))

@@ -1,0 +1,67 @@
+#!/usr/bin/env python3
+"""Measures the first call of a new clone, proved and unproved, and writes what it took into README.md.
+
+usage: first_call.py [--print]
+
+Clones the last commit into a folder of its own, and calls `./quorum check @one` there with and without QUORUM_UNPROVED.
+It takes as long as they do: let the machine do nothing else. What is said stands in README.md between two marks; with
+--print it is printed, and nothing is written.
+"""
+import os
+import re
+import subprocess
+import sys
+import tempfile
+import time
+
+TOP = os.path.dirname(os.path.dirname(os.path.abspath(__file__)))
+DOCUMENT = f"{TOP}/README.md"
+SAID = """\
+The first call proves and builds the program, and tells of each crate as it is done; later calls start at once.
+With `QUORUM_UNPROVED=1` before it a program is built with no proof, and says so at each call."""
+BEGIN, END = "<!-- first call -->\n", "<!-- end -->"
+
+
+def first_call(more):
+    """Returns the minutes by the clock and by the processors that the first call of a new clone takes."""
+    with tempfile.TemporaryDirectory(prefix="first-call-") as room:
+        subprocess.run(["git", "clone", "-q", TOP, f"{room}/clone"], check=True)
+        began, before = time.time(), os.times()
+        subprocess.run(["./quorum", "check", "@one"], cwd=f"{room}/clone", env={**os.environ, **more}, check=True)
+        after = os.times()
+        spent = after.children_user + after.children_system - before.children_user - before.children_system
+        return (time.time() - began) / 60, spent / 60
+
+
+def machine():
+    with open("/proc/cpuinfo", encoding="utf-8") as it:
+        found = re.search(r"model name\s*:\s*(.*)", it.read())
+    return f"{len(os.sched_getaffinity(0))} processors ({found[1] if found else 'of no name'})"
+
+
+def write(text):
+    """Puts the text into the document, between its marks."""
+    with open(DOCUMENT, encoding="utf-8") as it:
+        before, mark, rest = it.read().partition(BEGIN)
+    _, end, after = rest.partition(END)
+    if not mark or not end:
+        sys.exit(f"{DOCUMENT} lacks the marks of the first call")
+    with open(DOCUMENT, "w", encoding="utf-8") as it:
+        it.write(f"{before}{BEGIN}{text}\n{END}{after}")
+
+
+def main(words):
+    unproved, _ = first_call({"QUORUM_UNPROVED": "1"})
+    clock, spent = first_call({"QUORUM_UNPROVED": ""})
+    text = f"""{SAID} Of {time.strftime('%Y-%m-%d', time.gmtime())},
+on {machine()}, the first call of a new clone took {clock:.0f} minutes, and
+{spent:.0f} minutes of processor time; unproved it took {60 * unproved:.0f} seconds."""
+    print(text)
+    if not words:
+        write(text)
+
+
+if __name__ == "__main__":
+    if sys.argv[1:] not in ([], ["--print"]):
+        sys.exit(__doc__)
+    main(sys.argv[1:])
