@@ -1,16 +1,15 @@
 //! A list of triples, each once in the group of its two states.
 
-ghost use Rattle.std.specs.Prelude.{◌≡◌, ℕ, ◌*◌, ◌<◌, ◌++◌, [], ◌∷◌, All, IfOk, OnOk, length, slice_index_or};
-ghost use Rattle.std.specs.Prelude.{slice_set};
-ghost use Rattle.std.specs.List.{list_any};
+ghost use Rattle.std.specs.Prelude.{◌≡◌, ℕ, ◌*◌, ◌<◌, ◌≤◌, ◌||◌, [], ◌∷◌, All, IfOk, OnOk, length, slice_index_or};
 ghost use Rattle.qc_cert.specs.Faults.{is_covered};
 ghost use Rattle.qc_cert.specs.Firsts.{firsts, marked};
-ghost use Rattle.qc_cert.specs.Groups.{AreStates, outs_at, place_of};
+ghost use Rattle.qc_cert.specs.Groups.{AreStates, any_within, outs_at, parts_within, place_of};
 ghost use Rattle.qc_cert.specs.declared.triple.Triple.{Triple};
 ghost use Rattle.qc_table.specs.Sets.{is_within};
 ghost use Rattle.qc_table.specs.Limits.{most_states};
 
 use crate::firsts::firsts;
+use crate::parts::Part;
 use crate::triple::Triple;
 use qc_list::OutOfMemory;
 use qc_table::MOST_STATES;
@@ -20,19 +19,25 @@ use std::marker::Model;
 /// How many groups there are: one for each two states.
 const GROUPS: usize = MOST_STATES * MOST_STATES;
 
-/// The events that the triples with the same two states leave out, in the
-/// list's order, those of equal triples once.
+/// The sets of events that the triples with the same two states leave out.
+/// They stand in parts by an event that those of a part have, each set in the
+/// shortest part that it fits in. So a search looks at few of the sets where it
+/// has few events. Contracts see a group as its parts, of which the empty set is
+/// one, where it is among them.
 #[derive(Drop)]
 struct Group {
-    outs: Vec<u64>,
+    /// Whether the empty set is among them, which is within each set.
+    has_empty: bool,
+    parts: Vec<Part>,
 }
 
 impl Model for Group {
     ghost use Rattle.std.specs.Prelude.{List, ℕ};
+    ghost use Rattle.qc_cert.specs.Groups.{parts_of};
 
-    ghost Value = { List ℕ };
+    ghost Value = { List (List ℕ) };
 
-    ghost view = { λ g. g.outs.items };
+    ghost view = { λ g. parts_of g.has_empty g.parts.items };
 }
 
 impl Group {
@@ -41,25 +46,81 @@ impl Group {
         ensures { result ≡ [] }
     {
         Group {
-            outs: Vec::new(alloc),
+            has_empty: false,
+            parts: Vec::new(alloc),
         }
     }
 
     /// Adds what a triple leaves out.
-    fn push(&mut self, out: u64) -> Result<(), OutOfMemory>
-        ensures { OnOk result (self.new ≡ self.old ++ out ∷ []) }
+    fn push(&mut self, alloc: Global, out: u64) -> Result<(), OutOfMemory>
+        ensures { OnOk result ((other : ℕ)
+            → parts_within self.new other ≡ (parts_within self.old other || is_within out other)) }
     {
-        self.outs.push(out)?;
-        Ok(())
+        if out == 0 {
+            self.has_empty = true;
+            return Ok(());
+        }
+        add(&mut self.parts, alloc, out)
     }
 
-    /// Whether a triple of the group leaves out none but these events. The
-    /// first that does is the last one looked at.
+    /// Whether a triple of the group leaves out none but these events.
     fn covers(&self, out: u64) -> bool
-        ensures { result ≡ list_any (λ o. is_within o out) self.now }
+        ensures { result ≡ parts_within self.now out }
     {
-        self.outs.iter().any(|o| *o & out == *o)
+        self.has_empty || self.parts.iter().any(|part| part.covers(out))
     }
+}
+
+/// Adds a set to one of some parts.
+fn add(parts: &mut Vec<Part>, alloc: Global, set: u64) -> Result<(), OutOfMemory>
+    ensures { OnOk result ((out : ℕ)
+        → parts_within parts.new.items out ≡ (parts_within parts.old.items out || is_within set out)) }
+{
+    let place = place_for(parts, alloc, set)?;
+    parts[place].push(set)
+}
+
+/// The place of the shortest part that a set fits in, or of a new one where it
+/// has an event that no part is of.
+fn place_for(parts: &mut Vec<Part>, alloc: Global, set: u64) -> Result<usize, OutOfMemory>
+    ensures within { IfOk result (λ place. place < length parts.new.items) }
+    ensures same { OnOk result ((out : ℕ) → parts_within parts.new.items out ≡ parts_within parts.old.items out) }
+{
+    let new = set & !events_of(parts);
+    let count = parts.len();
+    if new == 0 {
+        let place = shortest(parts, set);
+        if place < count {
+            return Ok(place);
+        }
+    }
+    parts.push(Part::new(alloc, new & new.wrapping_neg()))?;
+    Ok(count)
+}
+
+/// The events that parts are of.
+fn events_of(parts: &[Part]) -> u64 {
+    let mut events = 0;
+    for part in parts {
+        events |= part.common();
+    }
+    events
+}
+
+/// The shortest part that a set fits in, and how many there are where it fits
+/// in none.
+fn shortest(parts: &[Part], set: u64) -> usize
+    ensures { result ≤ length parts.now }
+{
+    let mut found = parts.len();
+    let mut least = usize::MAX;
+    for (place, part) in parts.iter().enumerate() {
+        if part.common() & set == part.common() && part.len() < least {
+            found = place;
+            least = part.len();
+        }
+    }
+    found
 }
 
 /// A list of triples with its groups. They are looked up by two states, so
@@ -92,7 +153,7 @@ impl<'a> Grouped<'a> {
     {
         let firsts = firsts(alloc, list)?;
         let mut groups = empty_groups(alloc)?;
-        add_triples(&mut groups, list, &firsts)?;
+        add_triples(alloc, &mut groups, list, &firsts)?;
         Ok(Grouped {
             list,
             firsts,
@@ -149,30 +210,36 @@ fn empty_groups(alloc: Global) -> Result<Vec<Group>, OutOfMemory>
 }
 
 /// Adds the triples with a mark to empty groups.
-fn add_triples(groups: &mut [Group], list: &[Triple], marks: &[bool]) -> Result<(), OutOfMemory>
+fn add_triples(
+    alloc: Global,
+    groups: &mut [Group],
+    list: &[Triple],
+    marks: &[bool],
+) -> Result<(), OutOfMemory>
     requires all { length groups.old ≡ most_states * most_states }
     requires empty { (place : ℕ) → slice_index_or groups.old place [] ≡ [] }
     requires states { All AreStates list.now }
     requires marks { length marks.now ≡ length list.now }
     ensures all { length groups.new ≡ most_states * most_states }
-    ensures outs { OnOk result ((place : ℕ)
-        → slice_index_or groups.new place [] ≡ outs_at (marked marks.now list.now) place) }
+    ensures outs { OnOk result ((place out : ℕ) → parts_within (slice_index_or groups.new place []) out
+        ≡ any_within (outs_at (marked marks.now list.now) place) out) }
 {
     'triples: for (place, triple) in list.iter().enumerate() {
         if marks[place] {
-            add_triple(groups, triple)?;
+            add_triple(alloc, groups, triple)?;
         }
     }
     Ok(())
 }
 
 /// Adds a triple to its group.
-fn add_triple(groups: &mut [Group], triple: &Triple) -> Result<(), OutOfMemory>
+fn add_triple(alloc: Global, groups: &mut [Group], triple: &Triple) -> Result<(), OutOfMemory>
     requires all { length groups.old ≡ most_states * most_states }
     requires states { AreStates triple.now }
     ensures all { length groups.new ≡ most_states * most_states }
-    ensures added { OnOk result (let place = place_of triple.now.view triple.now.log in
-        groups.new ≡ slice_set groups.old place (slice_index_or groups.old place [] ++ triple.now.out ∷ [])) }
+    ensures added { OnOk result ((place out : ℕ) → parts_within (slice_index_or groups.new place []) out
+        ≡ (parts_within (slice_index_or groups.old place []) out
+        || any_within (outs_at (triple.now ∷ []) place) out)) }
 {
-    groups[place(triple.view, triple.log)].push(triple.out)
+    groups[place(triple.view, triple.log)].push(alloc, triple.out)
 }
