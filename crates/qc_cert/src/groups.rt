@@ -9,7 +9,7 @@ ghost use Rattle.qc_table.specs.Sets.{is_within};
 ghost use Rattle.qc_table.specs.Limits.{most_states};
 
 use crate::firsts::firsts;
-use crate::parts::Part;
+use crate::parts::{self, Part};
 use crate::triple::Triple;
 use qc_list::OutOfMemory;
 use qc_table::MOST_STATES;
@@ -20,10 +20,9 @@ use std::marker::Model;
 const GROUPS: usize = MOST_STATES * MOST_STATES;
 
 /// The sets of events that the triples with the same two states leave out.
-/// They stand in parts by an event that those of a part have, each set in the
-/// shortest part that it fits in. So a search looks at few of the sets where it
-/// has few events. Contracts see a group as its parts, of which the empty set is
-/// one, where it is among them.
+/// Each but the empty one stands in the part of one of its events. So a search
+/// looks only at parts of the events that it has. Contracts see a group as its
+/// parts, of which the empty set is one, where it is among them.
 #[derive(Drop)]
 struct Group {
     /// Whether the empty set is among them, which is within each set.
@@ -33,11 +32,13 @@ struct Group {
 
 impl Model for Group {
     ghost use Rattle.std.specs.Prelude.{List, ℕ};
-    ghost use Rattle.qc_cert.specs.Groups.{parts_of};
+    ghost use Rattle.qc_cert.specs.Groups.{AreParted, parts_of};
 
     ghost Value = { List (List ℕ) };
 
     ghost view = { λ g. parts_of g.has_empty g.parts.items };
+
+    ghost invariant = { λ g. AreParted g.parts.items };
 }
 
 impl Group {
@@ -60,67 +61,15 @@ impl Group {
             self.has_empty = true;
             return Ok(());
         }
-        add(&mut self.parts, alloc, out)
+        parts::add(&mut self.parts, alloc, out)
     }
 
     /// Whether a triple of the group leaves out none but these events.
     fn covers(&self, out: u64) -> bool
         ensures { result ≡ parts_within self.now out }
     {
-        self.has_empty || self.parts.iter().any(|part| part.covers(out))
+        self.has_empty || parts::covers(&self.parts, out)
     }
-}
-
-/// Adds a set to one of some parts.
-fn add(parts: &mut Vec<Part>, alloc: Global, set: u64) -> Result<(), OutOfMemory>
-    ensures { OnOk result ((out : ℕ)
-        → parts_within parts.new.items out ≡ (parts_within parts.old.items out || is_within set out)) }
-{
-    let place = place_for(parts, alloc, set)?;
-    parts[place].push(set)
-}
-
-/// The place of the shortest part that a set fits in, or of a new one where it
-/// has an event that no part is of.
-fn place_for(parts: &mut Vec<Part>, alloc: Global, set: u64) -> Result<usize, OutOfMemory>
-    ensures within { IfOk result (λ place. place < length parts.new.items) }
-    ensures same { OnOk result ((out : ℕ) → parts_within parts.new.items out ≡ parts_within parts.old.items out) }
-{
-    let new = set & !events_of(parts);
-    let count = parts.len();
-    if new == 0 {
-        let place = shortest(parts, set);
-        if place < count {
-            return Ok(place);
-        }
-    }
-    parts.push(Part::new(alloc, new & new.wrapping_neg()))?;
-    Ok(count)
-}
-
-/// The events that parts are of.
-fn events_of(parts: &[Part]) -> u64 {
-    let mut events = 0;
-    for part in parts {
-        events |= part.common();
-    }
-    events
-}
-
-/// The shortest part that a set fits in, and how many there are where it fits
-/// in none.
-fn shortest(parts: &[Part], set: u64) -> usize
-    ensures { result ≤ length parts.now }
-{
-    let mut found = parts.len();
-    let mut least = usize::MAX;
-    for (place, part) in parts.iter().enumerate() {
-        if part.common() & set == part.common() && part.len() < least {
-            found = place;
-            least = part.len();
-        }
-    }
-    found
 }
 
 /// A list of triples with its groups. They are looked up by two states, so
