@@ -1,5 +1,5 @@
 -- Groups have what a search for a covering triple looks at.
-use Rattle.std.proofs.Common.{◌≡◌, ℕ, suc, ◌<◌, ◌≤◌, ◌⊎◌, Bool, true, false, cond, List, [], ◌∷◌, ◌++◌, All, length, get_or, set, append_assoc, refl, sym, ap, ◌∙◌, inl, inr, suc-le-suc, zero-lt-suc, arith}
+use Rattle.std.proofs.Common.{◌≡◌, ℕ, suc, ◌<◌, ◌≤◌, ◌⊎◌, Bool, true, false, cond, List, [], ◌∷◌, All, length, get_or, set, refl, sym, ap, ◌∙◌, inl, inr, suc-le-suc, zero-lt-suc, arith}
 use Rattle.std.specs.Prelude.{◌==◌, ◌&&◌, ◌||◌}
 use Rattle.std.specs.List.{list_any}
 use Rattle.std.proofs.lemmas.Bool.{eqb-true, eqb-false, eq-eqb, ne_eqb}

@@ -1,17 +1,24 @@
 -- Parts of a group: what is within a set, and how it grows as sets are added.
-use Rattle.std.proofs.Common.{◌≡◌, ◌⊎◌, inl, inr, ℕ, zero, suc, ◌+◌, ◌^◌, ◌%◌, ◌*◌, ◌<◌, ◌≤◌, Bool, true, false, IsTrue, List, [], ◌∷◌, ◌++◌, All, length, get_or, set as put, bit_and, refl, sym, ap, subst, ◌∙◌, arith, w64}
+use Rattle.std.proofs.Common.{◌≡◌, ◌⊎◌, inl, inr, ℕ, zero, suc, ◌+◌, ◌-◌, ◌^◌, ◌%◌, ◌*◌, ◌<◌, ◌≤◌, Bool, true, false, List, [], ◌∷◌, ◌++◌, All, length, get_or, set as put, bit_and, refl, sym, ap, subst, ◌∙◌, arith, w64}
 use Rattle.std.specs.Prelude.{◌==◌, ◌||◌}
 use Rattle.std.specs.Int.{bit_at, bit_not, trailing_zeros}
-use Rattle.std.specs.List.{list_any}
 use Rattle.std.proofs.lemmas.Bool.{cases_lt, eqb-true, eqb-false, eq-eqb, false_from_ne_true, true≢false}
 use Rattle.std.proofs.lemmas.Nat.{and_le_l}
 use Rattle.std.proofs.lemmas.List.{get_or_default, get_or_past, get_or-set_same, get_or-set_other}
 use Rattle.std.proofs.lemmas.List.Elements.{All-push}
 use Rattle.std.proofs.lemmas.List.Folds.{list_any-append, list_any_at, list_any_none}
-use Rattle.std.proofs.lemmas.Nat.Bits.{bit_at-zero, bit_at_above, bit_at_clear_same, bit_at_clear_other, bit_at-trailing_zeros}
+use Rattle.std.proofs.lemmas.Nat.Bits.{bit_at-lt, bit_at-zero, bit_at_above, bit_at_and, bit_at_not, bit_at_clear_same, bit_at_clear_other, bit_at-trailing_zeros}
 use Rattle.qc_cert.specs.Groups.{AreParted, any_within, parts_within, parts_of}
 use Rattle.qc_cert.proofs.Computed.{within_true}
 use Rattle.qc_table.specs.Sets.{has, is_within}
+
+-- a number below 2 ^ 64 has events below 64
+pub below_64 : (set k : ℕ) → set < 2 ^ 64 → has set k ≡ true → k < 64
+below_64 set k small here = by (cases_lt k 64)
+  where
+    by : (k < 64) ⊎ (64 ≤ k) → k < 64
+    by (inl l) = l
+    by (inr past) = absurd (let zero_bit : bit_at set k ≡ 0 = bit_at_above set 64 k small past in let one : bit_at set k ≡ 1 = eqb-true (bit_at set k) 1 here in omega arith)
 
 -- ---- parts
 -- a part's sets have its event, so that none is within a set that hasn't
@@ -20,16 +27,27 @@ passed_over sets event out all lacks = list_any_none (λ s. is_within s out) set
     false_from_ne_true (is_within (get_or sets k d) out) (λ (here : is_within (get_or sets k d) out ≡ true).
     true≢false (sym (within_true (get_or sets k d) out here event (all k d l)) ∙ lacks)))
 
--- where no part of an event of the set has one that is within it, none has
-pub none_looked : (parts : List (List ℕ)) (out rest : ℕ) → AreParted parts → ((k : ℕ) → has rest k ≡ false)
-    → ((k : ℕ) → has out k ≡ true → has rest k ≡ false → any_within (get_or parts k []) out ≡ false) → parts_within parts out ≡ false
-none_looked parts out rest parted done looked = list_any_none (λ sets. any_within sets out) parts (λ k d l. ap (λ sets. any_within sets out) (get_or_default parts k d [] l) ∙ at k)
+-- where the events of the set are looked at in two lots, and no part of either has one that is within it, none has
+pub none_looked : (parts : List (List ℕ)) (out high : ℕ) → AreParted parts → out < 2 ^ 64 → high < 2 ^ 64
+    → ((k : ℕ) → has (bit_and out high) k ≡ true → any_within (get_or parts k []) out ≡ false)
+    → ((k : ℕ) → has (bit_and out (bit_not w64 high)) k ≡ true → any_within (get_or parts k []) out ≡ false)
+    → parts_within parts out ≡ false
+none_looked parts out high parted small fits first second =
+    list_any_none (λ sets. any_within sets out) parts (λ k d l. ap (λ sets. any_within sets out) (get_or_default parts k d [] l) ∙ at k)
   where
     at : (k : ℕ) → any_within (get_or parts k []) out ≡ false
-    at k = by (has out k) refl where
-      by : (b : Bool) → has out k ≡ b → any_within (get_or parts k []) out ≡ false
-      by true e = looked k e (done k)
-      by false e = passed_over (get_or parts k []) k out (parted k) e
+    at k = by (has out k) (has high k) refl refl where
+      by : (b c : Bool) → has out k ≡ b → has high k ≡ c → any_within (get_or parts k []) out ≡ false
+      by false c e f = passed_over (get_or parts k []) k out (parted k) e
+      by true true e f =
+          let one : bit_at out k ≡ 1 = eqb-true (bit_at out k) 1 e in
+          let other : bit_at high k ≡ 1 = eqb-true (bit_at high k) 1 f in
+          first k (eq-eqb (bit_at (bit_and out high) k) 1 (omega (arith, bit_at_and out high k)))
+      by true false e f =
+          let one : bit_at out k ≡ 1 = eqb-true (bit_at out k) 1 e in
+          let other : bit_at high k ≡ 0 = grind (arith, bit_at-lt high k, eqb-false (bit_at high k) 1 f) in
+          let turned : bit_at (bit_not w64 high) k ≡ 1 - bit_at high k = bit_at_not w64 high k fits (below_64 out k small e) in
+          second k (eq-eqb (bit_at (bit_and out (bit_not w64 high)) k) 1 (omega (arith, bit_at_and out (bit_not w64 high) k)))
 
 -- a part with one that is within it
 pub some_looked : (parts : List (List ℕ)) (out event : ℕ) → any_within (get_or parts event []) out ≡ true → parts_within parts out ≡ true
@@ -78,14 +96,6 @@ without_same rest event l = ap (λ n. n == 1) (bit_at_clear_same w64 rest event 
 without_other : (rest event k : ℕ) → event < 64 → k < 64 → (k ≡ event → ⊥) → has (without rest event) k ≡ has rest k
 without_other rest event k l kl ne = ap (λ n. n == 1) (bit_at_clear_other w64 rest event l k kl ne)
 
--- a number below 2 ^ 64 has events below 64
-pub below_64 : (set k : ℕ) → set < 2 ^ 64 → has set k ≡ true → k < 64
-below_64 set k small here = by (cases_lt k 64)
-  where
-    by : (k < 64) ⊎ (64 ≤ k) → k < 64
-    by (inl l) = l
-    by (inr past) = absurd (let zero_bit : bit_at set k ≡ 0 = bit_at_above set 64 k small past in let one : bit_at set k ≡ 1 = eqb-true (bit_at set k) 1 here in omega arith)
-
 pub without_small : (rest event : ℕ) → rest < 2 ^ 64 → without rest event < 2 ^ 64
 without_small rest event small = let less : without rest event ≤ rest = and_le_l rest (bit_not w64 (1 * 2 ^ event % 2 ^ 64)) in omega (arith, less, small)
 
@@ -117,18 +127,18 @@ left_more rest turn some small left k here = by (k == low) refl
         above from old (inr past) = let ne : k ≡ low → ⊥ = eqb-false k low e in grind (arith, from, past, ne)
 
 -- the part of its lowest event was looked at
-pub looked_more : (parts : List (List ℕ)) (out rest : ℕ) → out < 2 ^ 64 → 0 < rest → rest < 2 ^ 64
+pub looked_more : (parts : List (List ℕ)) (out events rest : ℕ) → events < 2 ^ 64 → 0 < rest → rest < 2 ^ 64
     → any_within (get_or parts (trailing_zeros w64 rest) []) out ≡ false
-    → ((k : ℕ) → has out k ≡ true → has rest k ≡ false → any_within (get_or parts k []) out ≡ false)
-    → (k : ℕ) → has out k ≡ true → has (without rest (trailing_zeros w64 rest)) k ≡ false → any_within (get_or parts k []) out ≡ false
-looked_more parts out rest small some fits here looked k has_it lacks = by (k == low) refl
+    → ((k : ℕ) → has events k ≡ true → has rest k ≡ false → any_within (get_or parts k []) out ≡ false)
+    → (k : ℕ) → has events k ≡ true → has (without rest (trailing_zeros w64 rest)) k ≡ false → any_within (get_or parts k []) out ≡ false
+looked_more parts out events rest small some fits here looked k has_it lacks = by (k == low) refl
   where
     low : ℕ
     low = trailing_zeros w64 rest
 
     by : (b : Bool) → (k == low) ≡ b → any_within (get_or parts k []) out ≡ false
     by true e = ap (λ n. any_within (get_or parts n []) out) (eqb-true k low e) ∙ here
-    by false e = looked k has_it (sym (without_other rest low k (bit_at-trailing_zeros w64 rest some fits).0 (below_64 out k small has_it) (eqb-false k low e)) ∙ lacks)
+    by false e = looked k has_it (sym (without_other rest low k (bit_at-trailing_zeros w64 rest some fits).0 (below_64 events k small has_it) (eqb-false k low e)) ∙ lacks)
 
 -- the empty set has no event, nor has one whose events are past all
 pub none_left : (rest : ℕ) → rest ≡ 0 → (k : ℕ) → has rest k ≡ false

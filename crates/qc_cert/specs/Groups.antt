@@ -41,4 +41,5 @@ pub record IsGrouped (list : List Triple) (marks : List Bool) (groups : List (Li
   pub all : length groups ≡ most_states * most_states
   pub states : All AreStates list
   pub first : marks ≡ firsts list
-  pub outs : (place out : ℕ) → parts_within (slice_index_or groups place []) out ≡ any_within (outs_at (distinct list) place) out
+  pub outs : (place out : ℕ)
+      → parts_within (slice_index_or groups place []) out ≡ any_within (outs_at (distinct list) place) out

@@ -1,7 +1,7 @@
 //! Sets of events in parts, one for each event: the sets of a part have its
 //! event, and each set stands in one part.
 
-ghost use Rattle.std.specs.Prelude.{◌≡◌, ℕ, ◌<◌, ◌≤◌, ◌++◌, ◌∷◌, [], ◌||◌, true, OnOk, OnErr, length, slice_index_or};
+ghost use Rattle.std.specs.Prelude.{◌≡◌, ℕ, ◌<◌, ◌≤◌, ◌++◌, ◌∷◌, [], ◌||◌, true, false, OnOk, OnErr, length, slice_index_or};
 ghost use Rattle.qc_cert.specs.Groups.{any_within, parts_within, AreParted};
 ghost use Rattle.qc_table.specs.Limits.{most_events};
 ghost use Rattle.qc_table.specs.Sets.{has, is_within};
@@ -128,13 +128,25 @@ fn covers_at(parts: &[Part], event: usize, out: u64) -> bool
     }
 }
 
-/// Whether a set of one of the parts is within this one: only the parts of its
-/// events can have one.
+/// Whether a set of one of the parts is within this one. Only the parts of its
+/// events can have one. Where the search begins seems drawn by chance, so that
+/// no order of a list puts what covers last for all.
 pub(crate) fn covers(parts: &[Part], out: u64) -> bool
     requires { AreParted parts.now }
     ensures { result ≡ parts_within parts.now out }
 {
-    let mut rest = out;
+    let high = u64::MAX << (out.wrapping_mul(0x9e37_79b9_7f4a_7c15) >> 32) % 64;
+    covers_among(parts, out & high, out) || covers_among(parts, out & !high, out)
+}
+
+/// Whether a set of the part of one of these events is within this one. The
+/// parts are looked at in the events' order.
+fn covers_among(parts: &[Part], events: u64, out: u64) -> bool
+    ensures some { result ≡ true → parts_within parts.now out ≡ true }
+    ensures none { result ≡ false → (event : ℕ) → has events event ≡ true
+        → any_within (slice_index_or parts.now event []) out ≡ false }
+{
+    let mut rest = events;
     'turns: for _turn in 0..MOST_EVENTS {
         if rest == 0 {
             return false;

@@ -1,5 +1,5 @@
 use Rattle.std.specs.Prelude.{◌||◌}
-use Rattle.std.proofs.Common.{◌≡◌, ◌+◌, ◌<◌, ◌++◌, ◌∷◌, false, cond, List, [], length, get_or, drop, refl, sym, ap, ◌∙◌, arith}
+use Rattle.std.proofs.Common.{◌≡◌, ◌+◌, ◌<◌, ◌∷◌, false, cond, List, [], length, get_or, drop, refl, sym, ap, ◌∙◌, arith}
 use Rattle.qc_cert.proofs.Grouped.{group_more}
 use Rattle.qc_cert.proofs.Repeats.{marked_more}
 use Rattle.qc_cert.proofs.groups.add_triples.Goals as goal
