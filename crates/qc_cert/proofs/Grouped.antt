@@ -1,12 +1,13 @@
 -- Groups have what a search for a covering triple looks at.
-use Rattle.std.proofs.Common.{◌≡◌, ℕ, suc, ◌<◌, ◌≤◌, ◌⊎◌, Bool, true, false, cond, List, [], ◌∷◌, ◌++◌, All, length, get_or, set, append_assoc, refl, sym, ap, ◌∙◌, inl, inr, suc-le-suc, zero-lt-suc, arith}
+use Rattle.std.proofs.Common.{◌≡◌, ℕ, suc, ◌<◌, ◌≤◌, ◌⊎◌, Bool, true, false, cond, List, [], ◌∷◌, All, length, get_or, set, refl, sym, ap, ◌∙◌, inl, inr, suc-le-suc, zero-lt-suc, arith}
 use Rattle.std.specs.Prelude.{◌==◌, ◌&&◌, ◌||◌}
 use Rattle.std.specs.List.{list_any}
 use Rattle.std.proofs.lemmas.Bool.{eqb-true, eqb-false, eq-eqb, ne_eqb}
 use Rattle.std.proofs.lemmas.List.{get_or-set_same, get_or-set_other}
 use Rattle.std.proofs.lemmas.List.Folds.{list_any_none}
 use Rattle.qc_cert.specs.Faults.{covers, is_covered}
-use Rattle.qc_cert.specs.Groups.{AreStates, place_of, outs_at}
+use Rattle.qc_cert.specs.Groups.{AreStates, any_within, parts_within, place_of, outs_at}
+use Rattle.qc_cert.proofs.Shared.{or_none, or_deep}
 use Rattle.qc_cert.specs.declared.triple.Triple.{Triple}
 use Rattle.qc_table.specs.Sets.{is_within}
 
@@ -61,15 +62,36 @@ uncovered_past list t all past = list_any_none (λ a. covers a t) list (λ k d l
     by a states (inr v) = logs (a.view == t.view) (a.log == t.log) (is_within a.out t.out) (ne_eqb a.log t.log (λ (e : a.log ≡ t.log). let n : a.log < 64 = states.1 in omega arith))
 
 -- a triple that was added to its group
-pub group_added : (groups : List (List ℕ)) (place group out : ℕ) (later : List ℕ) → place < length groups
-    → get_or (set groups place (get_or groups place [] ++ out ∷ [])) group [] ++ later ≡ get_or groups group [] ++ cond (place == group) (out ∷ later) later
-group_added groups place group out later within = by (place == group) refl
+pub group_added : (groups : List (List (List ℕ))) (t : Triple) (place : ℕ) (new : List (List ℕ)) → place ≡ place_of t.view t.log → place < length groups
+    → ((out : ℕ) → parts_within new out ≡ (parts_within (get_or groups place []) out || is_within t.out out))
+    → (group out : ℕ) → parts_within (get_or (set groups place new) group []) out ≡ (parts_within (get_or groups group []) out || any_within (outs_at (t ∷ []) group) out)
+group_added groups t place new at within more group out = by (place_of t.view t.log == group) refl
   where
-    by : (b : Bool) → (place == group) ≡ b
-        → get_or (set groups place (get_or groups place [] ++ out ∷ [])) group [] ++ later ≡ get_or groups group [] ++ cond b (out ∷ later) later
+    by : (b : Bool) → (place_of t.view t.log == group) ≡ b
+        → parts_within (get_or (set groups place new) group []) out ≡ (parts_within (get_or groups group []) out || any_within (cond b (t.out ∷ []) []) out)
     by true e =
-        let same : group ≡ place = sym (eqb-true place group e) in
-        ap (λ outs. outs ++ later) (ap (λ g. get_or (set groups place (get_or groups place [] ++ out ∷ [])) g []) same ∙ get_or-set_same groups place (get_or groups place [] ++ out ∷ []) [] within)
-        ∙ append_assoc (get_or groups place []) (out ∷ []) later
-        ∙ ap (λ g. get_or groups g [] ++ out ∷ later) (sym same)
-    by false e = ap (λ outs. outs ++ later) (get_or-set_other groups place group (get_or groups place [] ++ out ∷ []) [] (λ same. eqb-false place group e (sym same)))
+        let same : group ≡ place = sym (eqb-true _ _ e) ∙ sym at in
+        ap (λ g. parts_within (get_or (set groups place new) g []) out) same
+        ∙ ap (λ p. parts_within p out) (get_or-set_same groups place new [] within)
+        ∙ more out
+        ∙ ap (λ g. parts_within (get_or groups g []) out || is_within t.out out) (sym same)
+        ∙ ap (λ b. parts_within (get_or groups group []) out || b) (sym (or_none (is_within t.out out)))
+    by false e =
+        ap (λ p. parts_within p out) (get_or-set_other groups place group new [] (λ (same : group ≡ place). eqb-false _ _ e (sym at ∙ sym same)))
+        ∙ sym (or_none (parts_within (get_or groups group []) out))
+
+-- the first of the triples that are left
+first_at : (t : Triple) (ts : List Triple) (group out : ℕ) → any_within (outs_at (t ∷ ts) group) out ≡ (any_within (outs_at (t ∷ []) group) out || any_within (outs_at ts group) out)
+first_at t ts group out = by (place_of t.view t.log == group)
+  where
+    by : (b : Bool) → any_within (cond b (t.out ∷ outs_at ts group) (outs_at ts group)) out ≡ (any_within (cond b (t.out ∷ []) []) out || any_within (outs_at ts group) out)
+    by true = ap (λ b. b || any_within (outs_at ts group) out) (sym (or_none (is_within t.out out)))
+    by false = refl
+
+-- what a group has with the first of them, and what the others add
+pub group_more : (new old : Bool) (t : Triple) (ts : List Triple) (group out : ℕ) → new ≡ (old || any_within (outs_at (t ∷ []) group) out)
+    → (new || any_within (outs_at ts group) out) ≡ (old || any_within (outs_at (t ∷ ts) group) out)
+group_more new old t ts group out more =
+    ap (λ b. b || any_within (outs_at ts group) out) more
+    ∙ sym (or_deep old (any_within (outs_at (t ∷ []) group) out) (any_within (outs_at ts group) out))
+    ∙ ap (λ b. old || b) (sym (first_at t ts group out))

@@ -3,4 +3,5 @@ pub mod Computed
 pub mod Faultless
 pub mod Grouped
 pub mod Repeats
+pub mod Shared
 pub mod Walk

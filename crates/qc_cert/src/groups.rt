@@ -1,16 +1,15 @@
 //! A list of triples, each once in the group of its two states.
 
-ghost use Rattle.std.specs.Prelude.{◌≡◌, ℕ, ◌*◌, ◌<◌, ◌++◌, [], ◌∷◌, All, IfOk, OnOk, length, slice_index_or};
-ghost use Rattle.std.specs.Prelude.{slice_set};
-ghost use Rattle.std.specs.List.{list_any};
+ghost use Rattle.std.specs.Prelude.{◌≡◌, ℕ, ◌*◌, ◌<◌, ◌≤◌, ◌||◌, [], ◌∷◌, All, IfOk, OnOk, length, slice_index_or};
 ghost use Rattle.qc_cert.specs.Faults.{is_covered};
 ghost use Rattle.qc_cert.specs.Firsts.{firsts, marked};
-ghost use Rattle.qc_cert.specs.Groups.{AreStates, outs_at, place_of};
+ghost use Rattle.qc_cert.specs.Groups.{AreStates, any_within, outs_at, parts_within, place_of};
 ghost use Rattle.qc_cert.specs.declared.triple.Triple.{Triple};
 ghost use Rattle.qc_table.specs.Sets.{is_within};
 ghost use Rattle.qc_table.specs.Limits.{most_states};
 
 use crate::firsts::firsts;
+use crate::parts::{self, Part};
 use crate::triple::Triple;
 use qc_list::OutOfMemory;
 use qc_table::MOST_STATES;
@@ -20,19 +19,26 @@ use std::marker::Model;
 /// How many groups there are: one for each two states.
 const GROUPS: usize = MOST_STATES * MOST_STATES;
 
-/// The events that the triples with the same two states leave out, in the
-/// list's order, those of equal triples once.
+/// The sets of events that the triples with the same two states leave out.
+/// Each but the empty one stands in the part of one of its events. So a search
+/// looks only at parts of the events that it has. Contracts see a group as its
+/// parts, of which the empty set is one, where it is among them.
 #[derive(Drop)]
 struct Group {
-    outs: Vec<u64>,
+    /// Whether the empty set is among them, which is within each set.
+    has_empty: bool,
+    parts: Vec<Part>,
 }
 
 impl Model for Group {
     ghost use Rattle.std.specs.Prelude.{List, ℕ};
+    ghost use Rattle.qc_cert.specs.Groups.{AreParted, parts_of};
 
-    ghost Value = { List ℕ };
+    ghost Value = { List (List ℕ) };
 
-    ghost view = { λ g. g.outs.items };
+    ghost view = { λ g. parts_of g.has_empty g.parts.items };
+
+    ghost invariant = { λ g. AreParted g.parts.items };
 }
 
 impl Group {
@@ -41,24 +47,28 @@ impl Group {
         ensures { result ≡ [] }
     {
         Group {
-            outs: Vec::new(alloc),
+            has_empty: false,
+            parts: Vec::new(alloc),
         }
     }
 
     /// Adds what a triple leaves out.
-    fn push(&mut self, out: u64) -> Result<(), OutOfMemory>
-        ensures { OnOk result (self.new ≡ self.old ++ out ∷ []) }
+    fn push(&mut self, alloc: Global, out: u64) -> Result<(), OutOfMemory>
+        ensures { OnOk result ((other : ℕ)
+            → parts_within self.new other ≡ (parts_within self.old other || is_within out other)) }
     {
-        self.outs.push(out)?;
-        Ok(())
+        if out == 0 {
+            self.has_empty = true;
+            return Ok(());
+        }
+        parts::add(&mut self.parts, alloc, out)
     }
 
-    /// Whether a triple of the group leaves out none but these events. The
-    /// first that does is the last one looked at.
+    /// Whether a triple of the group leaves out none but these events.
     fn covers(&self, out: u64) -> bool
-        ensures { result ≡ list_any (λ o. is_within o out) self.now }
+        ensures { result ≡ parts_within self.now out }
     {
-        self.outs.iter().any(|o| *o & out == *o)
+        self.has_empty || parts::covers(&self.parts, out)
     }
 }
 
@@ -92,7 +102,7 @@ impl<'a> Grouped<'a> {
     {
         let firsts = firsts(alloc, list)?;
         let mut groups = empty_groups(alloc)?;
-        add_triples(&mut groups, list, &firsts)?;
+        add_triples(alloc, &mut groups, list, &firsts)?;
         Ok(Grouped {
             list,
             firsts,
@@ -149,30 +159,36 @@ fn empty_groups(alloc: Global) -> Result<Vec<Group>, OutOfMemory>
 }
 
 /// Adds the triples with a mark to empty groups.
-fn add_triples(groups: &mut [Group], list: &[Triple], marks: &[bool]) -> Result<(), OutOfMemory>
+fn add_triples(
+    alloc: Global,
+    groups: &mut [Group],
+    list: &[Triple],
+    marks: &[bool],
+) -> Result<(), OutOfMemory>
     requires all { length groups.old ≡ most_states * most_states }
     requires empty { (place : ℕ) → slice_index_or groups.old place [] ≡ [] }
     requires states { All AreStates list.now }
     requires marks { length marks.now ≡ length list.now }
     ensures all { length groups.new ≡ most_states * most_states }
-    ensures outs { OnOk result ((place : ℕ)
-        → slice_index_or groups.new place [] ≡ outs_at (marked marks.now list.now) place) }
+    ensures outs { OnOk result ((place out : ℕ) → parts_within (slice_index_or groups.new place []) out
+        ≡ any_within (outs_at (marked marks.now list.now) place) out) }
 {
     'triples: for (place, triple) in list.iter().enumerate() {
         if marks[place] {
-            add_triple(groups, triple)?;
+            add_triple(alloc, groups, triple)?;
         }
     }
     Ok(())
 }
 
 /// Adds a triple to its group.
-fn add_triple(groups: &mut [Group], triple: &Triple) -> Result<(), OutOfMemory>
+fn add_triple(alloc: Global, groups: &mut [Group], triple: &Triple) -> Result<(), OutOfMemory>
     requires all { length groups.old ≡ most_states * most_states }
     requires states { AreStates triple.now }
     ensures all { length groups.new ≡ most_states * most_states }
-    ensures added { OnOk result (let place = place_of triple.now.view triple.now.log in
-        groups.new ≡ slice_set groups.old place (slice_index_or groups.old place [] ++ triple.now.out ∷ [])) }
+    ensures added { OnOk result ((place out : ℕ) → parts_within (slice_index_or groups.new place []) out
+        ≡ (parts_within (slice_index_or groups.old place []) out
+        || any_within (outs_at (triple.now ∷ []) place) out)) }
 {
-    groups[place(triple.view, triple.log)].push(triple.out)
+    groups[place(triple.view, triple.log)].push(alloc, triple.out)
 }

@@ -18,6 +18,7 @@ mod firsts;
 mod groups;
 mod laws;
 mod limits;
+mod parts;
 mod rules;
 mod triple;
 

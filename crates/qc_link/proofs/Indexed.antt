@@ -1,12 +1,13 @@
 -- The index stays right as a rule is added.
-use Rattle.std.proofs.Common.{◌≡◌, ℕ, suc, ◌&&◌, Bool, true, false, cond, List, [], ◌∷◌, ◌++◌, length, Option, Some, None, is_some, refl, sym, ◌∙◌, ap, subst, nat_eq}
-use Rattle.std.specs.HashMap.{HashMap, get}
-use Rattle.std.specs.Option.{option_eq, option_map, option_or}
-use Rattle.std.specs.declared.hash.FoldHasher.{FoldHasher}
-use Rattle.std.specs.declared.hash.BuildHasherDefault.{BuildHasherDefault}
+use Rattle.std.proofs.Common.{arith, ◌≡◌, ℕ, suc, ◌&&◌, Bool, true, false, cond, List, [], ◌∷◌, ◌++◌, length, Option, Some, None, is_some, refl, sym, ◌∙◌, ap, subst, nat_eq}
+use Rattle.std.specs.BTreeMap.{BTreeMap, get}
+use Rattle.std.specs.Cmp.{both_tied}
+use Rattle.std.specs.Option.{option_cmp, option_eq, option_map, option_or}
+use Rattle.std.specs.Ordering.{is_eq, nat_cmp, ordering_then}
 use Rattle.std.proofs.lemmas.Bool.{eq-eqb, eqb-true}
+use Rattle.std.proofs.lemmas.Grind.{common_steps}
 use Rattle.qc_link.specs.declared.plan.Link.{Link}
-use Rattle.qc_link.specs.Places.{Pattern, same_pattern, pattern_of, has_pattern, place, IsIndex}
+use Rattle.qc_link.specs.Places.{Pattern, same_pattern, pattern_cmp, pattern_of, has_pattern, place, IsIndex}
 
 -- patterns that are the same are equal
 
@@ -46,6 +47,23 @@ same_turned x y apart = by (same_pattern y x) refl where
   by true is = let here : same_pattern x y ≡ true = subst (λ z. same_pattern z y ≡ true) (same_is y x is) (same_self y) in absurd (let never : true ≡ false = sym here ∙ apart in cc)
   by false is = refl
 
+-- patterns that are the same are those that the order has equal
+
+option_tied : (a b : Option ℕ) → option_eq nat_eq a b ≡ is_eq (option_cmp nat_cmp a b)
+option_tied None None = refl
+option_tied None (Some n) = refl
+option_tied (Some m) None = refl
+option_tied (Some m) (Some n) = number_tied m n where
+  number_tied : (x y : ℕ) → nat_eq x y ≡ is_eq (nat_cmp x y)
+  number_tied x y = grind (arith, common_steps)
+
+same_tied : (x y : Pattern) → same_pattern x y ≡ is_eq (pattern_cmp x y)
+same_tied x y =
+    both_tied (option_eq nat_eq x.0 y.0 && option_eq nat_eq x.1 y.1) (option_eq nat_eq x.2 y.2)
+    (ordering_then (option_cmp nat_cmp x.0 y.0) (option_cmp nat_cmp x.1 y.1)) (option_cmp nat_cmp x.2 y.2)
+    (both_tied (option_eq nat_eq x.0 y.0) (option_eq nat_eq x.1 y.1) (option_cmp nat_cmp x.0 y.0) (option_cmp nat_cmp x.1 y.1) (option_tied x.0 y.0) (option_tied x.1 y.1))
+    (option_tied x.2 y.2)
+
 -- a rule more
 
 pub place_push : (test : Link → Bool) (links : List Link) (link : Link) → place test (links ++ link ∷ []) ≡ option_or (place test links) (cond (test link) (Some (length links)) None)
@@ -67,36 +85,36 @@ or_none (Some n) = refl
 
 -- a rule of a pattern that the index lacks
 
-pub index_more : (old new : HashMap Pattern ℕ (BuildHasherDefault FoldHasher)) (links : List Link) (link : Link)
-    → IsIndex old links → get same_pattern old (pattern_of link) ≡ None
-    → ((q : Pattern) → get same_pattern new q ≡ cond (same_pattern (pattern_of link) q) (Some (length links)) (get same_pattern old q))
+pub index_more : (old new : BTreeMap Pattern ℕ) (links : List Link) (link : Link)
+    → IsIndex old links → get pattern_cmp old (pattern_of link) ≡ None
+    → ((q : Pattern) → get pattern_cmp new q ≡ cond (is_eq (pattern_cmp (pattern_of link) q)) (Some (length links)) (get pattern_cmp old q))
     → IsIndex new (links ++ link ∷ [])
 index_more old new links link index missing updates q = by (same_pattern (pattern_of link) q) refl where
-  by : (t : Bool) → same_pattern (pattern_of link) q ≡ t → get same_pattern new q ≡ place (has_pattern q) (links ++ link ∷ [])
+  by : (t : Bool) → same_pattern (pattern_of link) q ≡ t → get pattern_cmp new q ≡ place (has_pattern q) (links ++ link ∷ [])
   by true is =
       let same : pattern_of link ≡ q = same_is (pattern_of link) q is in
-      let none : place (has_pattern q) links ≡ None = sym (index q) ∙ subst (λ k. get same_pattern old k ≡ None) same missing in
+      let none : place (has_pattern q) links ≡ None = sym (index q) ∙ subst (λ k. get pattern_cmp old k ≡ None) same missing in
       let here : has_pattern q link ≡ true = subst (λ k. same_pattern q k ≡ true) (sym same) (same_self q) in
-      updates q ∙ ap (λ t. cond t (Some (length links)) (get same_pattern old q)) is
+      updates q ∙ ap (λ t. cond t (Some (length links)) (get pattern_cmp old q)) (sym (same_tied (pattern_of link) q) ∙ is)
       ∙ sym (place_push (has_pattern q) links link ∙ ap (λ o. option_or o (cond (has_pattern q link) (Some (length links)) None)) none ∙ ap (λ t. cond t (Some (length links)) None) here)
   by false is =
       let apart : has_pattern q link ≡ false = same_turned (pattern_of link) q is in
-      updates q ∙ ap (λ t. cond t (Some (length links)) (get same_pattern old q)) is ∙ index q
+      updates q ∙ ap (λ t. cond t (Some (length links)) (get pattern_cmp old q)) (sym (same_tied (pattern_of link) q) ∙ is) ∙ index q
       ∙ sym (place_push (has_pattern q) links link ∙ ap (λ t. option_or (place (has_pattern q) links) (cond t (Some (length links)) None)) apart ∙ or_none (place (has_pattern q) links))
 
 -- a rule of a pattern that the index has
 
-pub index_again : (places : HashMap Pattern ℕ (BuildHasherDefault FoldHasher)) (links : List Link) (link : Link)
-    → IsIndex places links → is_some (get same_pattern places (pattern_of link)) ≡ true → IsIndex places (links ++ link ∷ [])
+pub index_again : (places : BTreeMap Pattern ℕ) (links : List Link) (link : Link)
+    → IsIndex places links → is_some (get pattern_cmp places (pattern_of link)) ≡ true → IsIndex places (links ++ link ∷ [])
 index_again places links link index has q = by (has_pattern q link) refl where
   some_or : (o p : Option ℕ) → is_some o ≡ true → option_or o p ≡ o
   some_or None p is = absurd (cc)
   some_or (Some n) p is = refl
 
-  by : (t : Bool) → has_pattern q link ≡ t → get same_pattern places q ≡ place (has_pattern q) (links ++ link ∷ [])
+  by : (t : Bool) → has_pattern q link ≡ t → get pattern_cmp places q ≡ place (has_pattern q) (links ++ link ∷ [])
   by true is =
       let same : q ≡ pattern_of link = same_is q (pattern_of link) is in
-      let some : is_some (place (has_pattern q) links) ≡ true = subst (λ o. is_some o ≡ true) (index q) (subst (λ k. is_some (get same_pattern places k) ≡ true) (sym same) has) in
+      let some : is_some (place (has_pattern q) links) ≡ true = subst (λ o. is_some o ≡ true) (index q) (subst (λ k. is_some (get pattern_cmp places k) ≡ true) (sym same) has) in
       index q ∙ sym (place_push (has_pattern q) links link ∙ some_or (place (has_pattern q) links) (cond (has_pattern q link) (Some (length links)) None) some)
   by false is =
       index q ∙ sym (place_push (has_pattern q) links link ∙ ap (λ t. option_or (place (has_pattern q) links) (cond t (Some (length links)) None)) is ∙ or_none (place (has_pattern q) links))

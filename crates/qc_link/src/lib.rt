@@ -7,7 +7,8 @@
 //!
 //! 1. The first rule added that is for a message decides, however many rules
 //!    there are: each pattern's first place is looked up, and no list of rules
-//!    is walked.
+//!    is walked. A message costs eight look-ups in a tree, of some
+//!    log2 of the rules comparisons each, whatever the rules are.
 //! 2. Two actors that were cut any number of times are joined by one heal.
 //! 3. To ask for a fate takes no memory.
 #![tactic(auto)]

@@ -10,7 +10,7 @@ use crate::cuts::Cuts;
 use crate::rule::{Fate, Rule};
 use qc_list::OutOfMemory;
 use std::alloc::{AllocError, Global};
-use std::collections::HashMap;
+use std::collections::BTreeMap;
 use std::marker::Model;
 
 /// A rule for the messages from an actor to another that have this ordinal;
@@ -27,7 +27,7 @@ pub struct Link {
     pub rule: Rule,
 }
 
-/// What a rule names: sender, receiver, ordinal.
+/// What a rule names: sender, receiver, ordinal, in this order among others.
 type Pattern = (Option<u8>, Option<u8>, Option<u32>);
 
 /// The rules of the links, which contracts see as the list of the rules in the
@@ -35,8 +35,9 @@ type Pattern = (Option<u8>, Option<u8>, Option<u32>);
 #[derive(Drop)]
 pub struct LinkPlan {
     rules: Vec<Link>,
-    /// The place of the first rule of each pattern.
-    places: HashMap<Pattern, usize>,
+    /// The place of the first rule of each pattern. The patterns are in order,
+    /// so that no choice of rules makes a look-up long.
+    places: BTreeMap<Pattern, usize>,
 }
 
 impl Model for LinkPlan {
@@ -58,7 +59,7 @@ impl LinkPlan {
     {
         LinkPlan {
             rules: Vec::new(alloc),
-            places: HashMap::new(alloc),
+            places: BTreeMap::new(alloc),
         }
     }
 
@@ -149,7 +150,8 @@ impl LinkPlan {
 /// What becomes of a message from an actor to another with this ordinal:
 /// `Drop` where the two are cut from each other, else what the first rule added
 /// that is for it says, and `Pass` where there is none. It takes no memory, and
-/// looks at eight patterns, not at all rules.
+/// looks up eight patterns, each in steps that grow with the logarithm of the
+/// patterns.
 pub fn fate(plan: &LinkPlan, cuts: &Cuts, from: u8, to: u8, ordinal: u32) -> Fate
     requires from { from < most_actors }
     requires to { to < most_actors }
