@@ -1,6 +1,7 @@
 //! Locks: the calls.
 
-ghost use Rattle.std.specs.Prelude.{◌≡◌, ◌<◌, ◌+◌, ℕ, ◌||◌, true, false, None, Some, [], ◌∷◌, length, IfErr, OnOk, OnErr};
+ghost use Rattle.std.specs.Prelude.{◌≡◌, ◌<◌, ◌+◌, ◌||◌, ℕ, true, false, None, Some, [], ◌∷◌, length};
+ghost use Rattle.std.specs.Prelude.{IfErr, OnOk, OnErr};
 ghost use Rattle.qc_lock.specs.declared.clash.LockFault.TheVariants.{OutOfMemory};
 ghost use Rattle.qc_lock.specs.Clash.{read_clash, append_clash, IsTold};
 ghost use Rattle.qc_lock.specs.Held.{lock_cmp, own_cmp, held_of, has_lock, is_held};
