@@ -14,6 +14,8 @@ seen is this program's own, some 17 MB. Cases:
   until the limit of steps;
 - sixteen sites: the same over sixteen sites, of which each read asks nine, 100,000 messages; alone, and behind 55,000 rules of
   links for messages to a client that nobody sends one;
+- lost decisions: transactions of one read over one site that are given up, of one client, where each decision is lost, so that
+  each read lock stays; 8,000 and 16,000;
 - triples: `check` of six types of 64 events with 64 groups of 1,024 triples each, those of a group all equal;
 - start: `check @one`.
 
@@ -38,6 +40,7 @@ TRANSACTIONS = (125, 250, 500)
 MESSAGES = (25_000, 50_000, 100_000)
 PAST_THE_LIMIT = 110_000
 RULES = 55_000
+LOST = (8_000, 16_000)
 SEED = 7
 NOTHING = "python3 -c pass"
 
@@ -45,6 +48,35 @@ NOTHING = "python3 -c pass"
 def begins(count):
     """One phase in which the client is asked to begin, over and over."""
     return "phase\n" + "c0 begin\n" * count
+
+
+def one_reader():
+    """One site, one client and one object, whose only invocation depends on nothing."""
+    return """sites = 1
+clients = 1
+[[type]]
+name = "t"
+states = ["0"]
+start = "0"
+invocations = ["L"]
+responses = ["ok"]
+rows = ["0 L ok 0"]
+depends = []
+triples = ["0 0 -"]
+[[object]]
+name = "x0"
+type = "t"
+[[epoch]]
+weights = [1]
+initial = ["x0 L 1"]
+final = ["x0 L:ok 1"]
+"""
+
+
+def lost_decisions(count):
+    """Transactions of one read that are given up, each of whose third message, the decision, is lost."""
+    lines = ["link c0 s0 %d drop" % (3 * number) for number in range(1, count + 1)]
+    return "\n".join((*lines, "phase", *["c0 begin", "c0 do x0 L", "c0 abort"] * count)) + "\n"
 
 
 def equal_triples():
@@ -101,6 +133,9 @@ def cases(program, folder):
     for name, rules in (("sixteen sites", ()), ("sixteen sites, rules", ["link * c2 1 drop"] * RULES)):
         text = "\n".join((*rules, *reads(MESSAGES[-1], of_a_read=18))) + "\n"
         words[name] = [program, "run", sixteen, written(folder, name.replace(" ", "_"), text)]
+    one = written(folder, "one.toml", one_reader())
+    for count in LOST:
+        words["%d lost decisions" % count] = [program, "run", one, written(folder, "lost_%d" % count, lost_decisions(count))]
     words["triples"] = [program, "check", written(folder, "triples.toml", equal_triples())]
     return words
 
@@ -131,6 +166,9 @@ def bars(found):
     yield "%d rules more, s" % RULES, seconds["sixteen sites, rules"] - seconds["sixteen sites"], 1
     yield "step limit, s", seconds["step limit"], 2
     yield "step limit, MB", found["step limit"][1] / 1024, 512
+    few, many = ("%d lost decisions" % count for count in LOST)
+    yield "%s / %s" % (many, few), seconds[many] / seconds[few], 2.3
+    yield "%s, s" % many, seconds[many], 0.3
     yield "triples, s", seconds["triples"], 1
     yield "start, ms", 1e3 * seconds["start"], 2
 

@@ -20,7 +20,7 @@ use Rattle.qc_lock.specs.Clash.{clash_cmp, smaller, smallest, lines_in_way, lock
 use Rattle.qc_lock.specs.Conflict.{In, IsReadConflict, IsAppendConflict, IsSmallest}
 use Rattle.qc_lock.proofs.Entries.{and_first, and_second}
 
-clash_total : IsTotalOrder clash_cmp
+pub clash_total : IsTotalOrder clash_cmp
 clash_total = then_total (on_total (λ (c : Clash). c.holder) tx_order.total) (then_total (on_total (λ (c : Clash). c.inv) nat_cmp_total) (on_total (λ (c : Clash). c.event) nat_cmp_total))
 
 never_both : (o : Ordering) → o ≡ Less → o ≡ Greater → ⊥
@@ -38,7 +38,7 @@ equal_self c = by (clash_cmp c c) refl where
 equal_or : (o : Ordering) → o ≡ Equal → o ≡ Greater → ⊥
 equal_or o a b = cc
 
-turned : (a b : Clash) (o : Ordering) → clash_cmp a b ≡ o → clash_cmp b a ≡ ordering_reverse o
+pub turned : (a b : Clash) (o : Ordering) → clash_cmp a b ≡ o → clash_cmp b a ≡ ordering_reverse o
 turned a b o is = clash_total.antisymm b a ∙ ap ordering_reverse is
 
 -- a clash below the smallest so far is below all
@@ -68,7 +68,7 @@ step P (Some best) c least = by (clash_cmp c best) refl where
     all d (inr same) greater = never_both (clash_cmp best c) (turned c best Greater is) (subst (λ x. clash_cmp best x ≡ Greater) same greater)
 
 -- smallest by one predicate is so by another that says the same
-smallest_by : (P Q : Clash → Type 0) (best : Option Clash) → ((d : Clash) → P d → Q d) → ((d : Clash) → Q d → P d) → IsSmallest P best → IsSmallest Q best
+pub smallest_by : (P Q : Clash → Type 0) (best : Option Clash) → ((d : Clash) → P d → Q d) → ((d : Clash) → Q d → P d) → IsSmallest P best → IsSmallest Q best
 smallest_by P Q None to back least = λ d q. least d (back d q)
 smallest_by P Q (Some best) to back least = (to best least.0, λ d q. least.1 d (back d q))
 
@@ -97,16 +97,16 @@ smallest_of cs = smallest_by (λ d. ⊥ ⊎ In d cs) (λ d. In d cs) (smallest c
 
 -- membership
 
-in-append_left : {A : Type 0} (x : A) (xs ys : List A) → In x xs → In x (xs ++ ys)
+pub in-append_left : {A : Type 0} (x : A) (xs ys : List A) → In x xs → In x (xs ++ ys)
 in-append_left x [] ys member = absurd member
 in-append_left x (z ∷ zs) ys (inl is) = inl is
 in-append_left x (z ∷ zs) ys (inr member) = inr (in-append_left x zs ys member)
 
-in-append_right : {A : Type 0} (x : A) (xs ys : List A) → In x ys → In x (xs ++ ys)
+pub in-append_right : {A : Type 0} (x : A) (xs ys : List A) → In x ys → In x (xs ++ ys)
 in-append_right x [] ys member = member
 in-append_right x (z ∷ zs) ys member = inr (in-append_right x zs ys member)
 
-in-append : {A : Type 0} (x : A) (xs ys : List A) → In x (xs ++ ys) → In x xs ⊎ In x ys
+pub in-append : {A : Type 0} (x : A) (xs ys : List A) → In x (xs ++ ys) → In x xs ⊎ In x ys
 in-append x [] ys member = inr member
 in-append x (z ∷ zs) ys (inl is) = inl (inl is)
 in-append {A = A} x (z ∷ zs) ys (inr member) = by (in-append x zs ys member) where

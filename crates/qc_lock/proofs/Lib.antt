@@ -1,4 +1,10 @@
 pub mod Conflicts
 pub mod Entries
-pub mod Loops
+pub mod Holding
+pub mod Indexing
+pub mod Numbering
+pub mod Numbers
 pub mod Order
+pub mod Searching
+pub mod Smallest
+pub mod Widening

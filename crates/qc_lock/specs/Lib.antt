@@ -1,4 +1,6 @@
 pub mod Clash
 pub mod Conflict
 pub mod Held
+pub mod Numbered
+pub mod Places
 pub mod Sound

@@ -1,15 +1,16 @@
 //! Clashes: who is in the way.
 
-ghost use Rattle.std.specs.Prelude.{◌≡◌, fold};
-ghost use Rattle.std.specs.List.{flat_map};
+ghost use Rattle.std.specs.Prelude.{◌≡◌};
 ghost use Rattle.qc_lock.specs.declared.clash.LockFault.TheVariants.{OutOfMemory};
-ghost use Rattle.qc_lock.specs.Clash.{clash_cmp, smaller, lines_in_way, locks_in_way, read_clash, append_clash};
+ghost use Rattle.qc_lock.specs.Clash.{clash_cmp};
+ghost use Rattle.qc_lock.specs.Conflict.{IsSmallest};
+ghost use Rattle.qc_lock.specs.Places.{AreSmall, IsAppendPlaced, IsLinePlaced, IsPlaced, IsReadPlaced, smaller_of};
 
-use crate::held::Held;
+use crate::places::{Places, holder_beside};
 use qc_entry::OwnLine;
 use qc_list::OutOfMemory;
 use qc_stamp::TxId;
-use qc_table::Relation;
+use qc_table::{Pair, Relation};
 use std::cmp::Ordering;
 
 /// Who is in the way. Clashes are ordered by holder, invocation, event.
@@ -49,126 +50,85 @@ impl Clash {
     }
 }
 
-/// The smaller of the best clash so far and one more.
-fn smaller(best: Option<Clash>, clash: Clash) -> Option<Clash>
-    ensures { result ≡ smaller best clash }
+/// The smaller of two clashes, where there are two.
+fn smaller_of(a: Option<Clash>, b: Option<Clash>) -> Option<Clash>
+    ensures { result ≡ smaller_of a b }
 {
-    match best {
-        Some(best) if clash.compare(&best).is_ge() => Some(best),
-        _ => Some(clash),
+    match (a, b) {
+        (Some(a), Some(b)) if b.compare(&a).is_lt() => Some(b),
+        (None, b) => b,
+        (a, _) => a,
     }
 }
 
-/// The smallest of the best clash so far and those of a read with the own
-/// lines of an entry of another transaction.
-fn with_lines(
-    best: Option<Clash>,
+/// The smallest clash of an invocation with an event, by the places of one
+/// number.
+fn clash_at(
+    places: &Places,
     relation: &Relation,
     tx: TxId,
     object: u8,
-    inv: u8,
-    held: &Held,
+    number: u8,
+    pair: Pair,
 ) -> Option<Clash>
-    ensures { result ≡ fold smaller best (lines_in_way relation.now tx object inv held.now) }
+    ensures { IsSmallest (IsPlaced relation.now places.now tx object number pair.inv pair.event) result }
 {
-    if held.tx == tx {
-        return best;
+    let Pair { inv, event } = pair;
+    if !relation.depends(inv, event) {
+        return None;
     }
-    let mut best = best;
-    'own: for line in held.own.items() {
-        if line.object == object && relation.depends(inv, line.event) {
-            best = smaller(
-                best,
-                Clash {
-                    holder: held.tx,
-                    inv,
-                    event: line.event,
-                },
-            );
-        }
-    }
-    best
+    let holder = holder_beside(places, tx, object, number)?;
+    Some(Clash { holder, inv, event })
 }
 
-/// The smallest of the best clash so far and those of an own line with the
-/// read locks of an entry of another transaction.
-fn with_locks(
-    best: Option<Clash>,
-    relation: &Relation,
-    tx: TxId,
-    line: &OwnLine,
-    held: &Held,
-) -> Option<Clash>
-    ensures { result ≡ fold smaller best (locks_in_way relation.now tx line.now held.now) }
-{
-    if held.tx == tx {
-        return best;
-    }
-    let mut best = best;
-    'locks: for lock in held.locks.items() {
-        if lock.object == line.object && relation.depends(lock.inv, line.event) {
-            best = smaller(
-                best,
-                Clash {
-                    holder: held.tx,
-                    inv: lock.inv,
-                    event: line.event,
-                },
-            );
-        }
-    }
-    best
-}
-
-/// The smallest of the best clash so far and those of one own line.
-#[tactic(auto, using(crate::proofs::Loops::fold_flat))]
-fn with_entries(
-    best: Option<Clash>,
-    relation: &Relation,
-    tx: TxId,
-    line: &OwnLine,
-    held: &[Held],
-) -> Option<Clash>
-    ensures { result ≡ fold smaller best (flat_map (locks_in_way relation.now tx line.now) held.now) }
-{
-    let mut best = best;
-    'entries: for entry in held {
-        best = with_locks(best, relation, tx, line, entry);
-    }
-    best
-}
-
-/// The smallest clash of a read.
-#[tactic(auto, using(crate::proofs::Loops::fold_flat))]
+/// The smallest clash of a read with own lines, by their places.
 pub(crate) fn read_clash(
-    held: &[Held],
+    lines: &Places,
     relation: &Relation,
     tx: TxId,
     object: u8,
     inv: u8,
 ) -> Option<Clash>
-    ensures { result ≡ read_clash relation.now held.now tx object inv }
+    requires { AreSmall lines.now }
+    ensures { IsSmallest (IsReadPlaced relation.now lines.now tx object inv) result }
 {
     let mut best = None;
-    'entries: for entry in held {
-        best = with_lines(best, relation, tx, object, inv, entry);
+    'events: for number in 0..256u16 {
+        let event = number as u8;
+        let clash = clash_at(lines, relation, tx, object, event, Pair { inv, event });
+        best = smaller_of(best, clash);
     }
     best
 }
 
-/// The smallest clash of own lines.
-#[tactic(auto, using(crate::proofs::Loops::fold_flat))]
+/// The smallest clash of an own line with read locks, by their places.
+fn line_clash(locks: &Places, relation: &Relation, tx: TxId, line: &OwnLine) -> Option<Clash>
+    requires { AreSmall locks.now }
+    ensures { IsSmallest (IsLinePlaced relation.now locks.now tx line.now) result }
+{
+    let event = line.event;
+    let mut best = None;
+    'invs: for number in 0..256u16 {
+        let inv = number as u8;
+        let clash = clash_at(locks, relation, tx, line.object, inv, Pair { inv, event });
+        best = smaller_of(best, clash);
+    }
+    best
+}
+
+/// The smallest clash of own lines with read locks, by their places.
 pub(crate) fn append_clash(
-    held: &[Held],
+    locks: &Places,
     relation: &Relation,
     tx: TxId,
     own: &[OwnLine],
 ) -> Option<Clash>
-    ensures { result ≡ append_clash relation.now held.now tx own.now }
+    requires { AreSmall locks.now }
+    ensures { IsSmallest (IsAppendPlaced relation.now locks.now tx own.now) result }
 {
     let mut best = None;
     'own: for line in own {
-        best = with_entries(best, relation, tx, line, held);
+        best = smaller_of(best, line_clash(locks, relation, tx, line));
     }
     best
 }

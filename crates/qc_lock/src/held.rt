@@ -1,9 +1,10 @@
-//! What one transaction holds, and where it stands among others.
+//! What one transaction holds.
 
-ghost use Rattle.std.specs.Prelude.{◌≡◌, ◌≤◌, ◌+◌, ◌++◌, ◌∷◌, length, drop, take, MatchOption, Some, None};
-ghost use Rattle.qc_lock.specs.Held.{entry_of, with_entry};
+ghost use Rattle.std.specs.Prelude.{◌≡◌};
+ghost use Rattle.qc_entry.specs.declared.line.OwnLine.{OwnLine};
+ghost use Rattle.qc_lock.specs.Places.{has_line, has_read};
 
-use qc_entry::{Owns, Reads};
+use qc_entry::{OwnLine, Owns, ReadLock, Reads};
 use qc_stamp::TxId;
 
 /// What one unfinished transaction holds.
@@ -17,27 +18,26 @@ pub struct Held {
     pub own: Owns,
 }
 
-/// The entry of a transaction, if it holds something.
-pub(crate) fn entry_of<'a>(held: &'a [Held], tx: TxId) -> Option<&'a Held>
-    ensures { MatchOption result (entry_of held.now tx ≡ None) (λ h. entry_of held.now tx ≡ Some h.now) }
+/// Whether one of the locks is of this lock's object and invocation.
+pub(crate) fn has_read(locks: &[ReadLock], lock: &ReadLock) -> bool
+    ensures { result ≡ has_read locks.now lock.now.object lock.now.inv }
 {
-    'entries: for entry in held {
-        if entry.tx == tx {
-            return Some(entry);
+    'locks: for other in locks {
+        if other.object == lock.object && other.inv == lock.inv {
+            return true;
         }
     }
-    None
+    false
 }
 
-/// The place of the entry of an entry's transaction, or the number of entries
-/// where it has none.
-pub(crate) fn place_of(held: &[Held], entry: &Held) -> usize
-    ensures within { result ≤ length held.now }
-    ensures put { with_entry held.now entry.now ≡ take result held.now ++ entry.now ∷ drop (result + 1) held.now }
+/// Whether one of the own lines is of this line's object and event.
+pub(crate) fn has_line(own: &[OwnLine], line: &OwnLine) -> bool
+    ensures { result ≡ has_line own.now line.now.object line.now.event }
 {
-    let mut place = 0;
-    'entries: while place < held.len() && held[place].tx != entry.tx {
-        place += 1;
+    'own: for other in own {
+        if other.object == line.object && other.event == line.event {
+            return true;
+        }
     }
-    place
+    false
 }

@@ -12,12 +12,19 @@
 //! 2. Each lock and each operation's own line stands in an entry once, in
 //!    order.
 //! 3. A call that is refused, or that finds no memory, changes nothing.
+//!
+//! What a call costs grows with the logarithm of what is held in all, and with
+//! what its own transaction holds: entries, and the index of who holds what,
+//! are trees. A read looks once for each event on which its invocation depends,
+//! and an append once for each invocation that depends on one of its lines.
 #![tactic(auto)]
 
 mod clash;
 mod held;
 mod laws;
 mod locks;
+mod numbered;
+mod places;
 mod sorted;
 
 pub use clash::{Clash, LockFault};

@@ -1,20 +1,24 @@
 //! Locks: the calls.
 
-ghost use Rattle.std.specs.Prelude.{◌≡◌, ◌<◌, ◌+◌, false, None, Some, [], ◌∷◌, length, IfErr, OnOk, OnErr};
+ghost use Rattle.std.specs.Prelude.{◌≡◌, ◌<◌, ◌+◌, ◌||◌, ℕ, true, false, None, Some, [], ◌∷◌, length};
+ghost use Rattle.std.specs.Prelude.{IfErr, OnOk, OnErr};
 ghost use Rattle.qc_lock.specs.declared.clash.LockFault.TheVariants.{OutOfMemory};
 ghost use Rattle.qc_lock.specs.Clash.{read_clash, append_clash, IsTold};
 ghost use Rattle.qc_lock.specs.Held.{lock_cmp, own_cmp, held_of, has_lock, is_held};
 ghost use Rattle.qc_lock.specs.Held.{with_entry, with_held, without_held};
 ghost use Rattle.qc_list.specs.Order.{Ascends};
+ghost use Rattle.qc_lock.specs.Places.{has_line, has_read, lines_held, reads_held};
 ghost use Rattle.qc_lock.specs.Sound.{IsSound};
 
-use crate::clash::{self, LockFault};
-use crate::held::{self, Held};
+use crate::clash::{self, Clash, LockFault};
+use crate::held::Held;
+use crate::numbered::Entries;
+use crate::places::Index;
 use crate::sorted::{with_locks, with_owns};
 use qc_entry::{OwnLine, Prepared, ReadLock};
 use qc_list::OutOfMemory;
 use qc_stamp::TxId;
-use qc_table::Kind;
+use qc_table::{Kind, Relation};
 use std::alloc::Global;
 use std::marker::Model;
 
@@ -22,19 +26,21 @@ use std::marker::Model;
 /// entries, one for each transaction that holds something.
 #[derive(Drop)]
 pub struct Locks {
-    held: Vec<Held>,
+    alloc: Global,
+    entries: Entries,
+    index: Index,
 }
 
 impl Model for Locks {
     ghost use Rattle.std.specs.Prelude.{List};
     ghost use Rattle.qc_lock.specs.declared.held.Held.{Held};
-    ghost use Rattle.qc_lock.specs.Sound.{IsSound};
+    ghost use Rattle.qc_lock.specs.Places.{AreIndexed};
 
     ghost Value = { List Held };
 
-    ghost view = { λ l. l.held.items };
+    ghost view = { λ l. l.entries };
 
-    ghost invariant = { λ l. IsSound l.held.items };
+    ghost invariant = { λ l. AreIndexed l.entries l.index.readers l.index.writers };
 }
 
 impl Locks {
@@ -43,7 +49,9 @@ impl Locks {
         ensures { result ≡ [] }
     {
         Locks {
-            held: Vec::new(alloc),
+            alloc,
+            entries: Entries::new(alloc),
+            index: Index::new(alloc),
         }
     }
 
@@ -51,34 +59,28 @@ impl Locks {
     pub fn holders(&self) -> usize
         ensures { result ≡ length self.now }
     {
-        self.held.len()
+        self.entries.count()
     }
 
     /// A transaction's read locks, ascending by object and invocation.
     pub fn locks_of(&self, tx: TxId) -> &[ReadLock]
         ensures { result.now ≡ (held_of self.now tx).locks }
     {
-        match held::entry_of(self.held.as_slice(), tx) {
-            Some(entry) => entry.locks.items(),
-            None => &[],
-        }
+        self.entries.locks_of(tx)
     }
 
     /// A transaction's own lines, ascending by operation.
     pub fn own_of(&self, tx: TxId) -> &[OwnLine]
         ensures { result.now ≡ (held_of self.now tx).own }
     {
-        match held::entry_of(self.held.as_slice(), tx) {
-            Some(entry) => entry.own.items(),
-            None => &[],
-        }
+        self.entries.own_of(tx)
     }
 
     /// Whether a transaction has a read lock or an own line.
     pub fn holds(&self, tx: TxId) -> bool
         ensures { result ≡ is_held self.now tx }
     {
-        held::entry_of(self.held.as_slice(), tx).is_some()
+        self.entries.of(tx).is_some()
     }
 
     /// Grants a read of an object of this type, and holds its lock, unless
@@ -93,17 +95,11 @@ impl Locks {
         ensures memory { result ≡ Err OutOfMemory
             → has_lock self.old tx (record { object = object; inv = inv }) ≡ false }
     {
-        if let Some(clash) = clash::read_clash(
-            self.held.as_slice(),
-            &kind.relation,
-            tx,
-            object,
-            inv,
-        ) {
+        if let Some(clash) = self.read_clash(&kind.relation, tx, object, inv) {
             return Err(LockFault::Conflict(clash));
         }
         let lock = ReadLock { object, inv };
-        if self.locks_of(tx).contains(&lock) {
+        if self.entries.locks_of(tx).contains(&lock) {
             return Ok(());
         }
         self.add(tx, &[lock], &[])?;
@@ -120,7 +116,7 @@ impl Locks {
         ensures told { IfErr result (λ e. IsTold e (append_clash kind.now.relation self.old tx own.now)) }
         ensures err { OnErr result (self.new ≡ self.old) }
     {
-        if let Some(clash) = clash::append_clash(self.held.as_slice(), &kind.relation, tx, own) {
+        if let Some(clash) = self.append_clash(&kind.relation, tx, own) {
             return Err(LockFault::Conflict(clash));
         }
         self.add(tx, &[], own)?;
@@ -140,7 +136,10 @@ impl Locks {
     pub fn drop_tx(&mut self, tx: TxId)
         ensures { self.new ≡ without_held self.old tx }
     {
-        self.held.retain(|entry| entry.tx != tx);
+        if let Some(entry) = self.entries.take(tx) {
+            let (locks, own) = (entry.locks.items(), entry.own.items());
+            self.index.keep(&self.entries, tx, locks, own);
+        }
     }
 
     /// A transaction holds these locks and own lines too. What is new is made
@@ -152,28 +151,52 @@ impl Locks {
         if locks.is_empty() && own.is_empty() {
             return Ok(());
         }
-        let alloc = *self.held.allocator();
-        let locks = with_locks(alloc, self.locks_of(tx), locks)?;
-        let own = with_owns(alloc, self.own_of(tx), own)?;
-        self.put(Held { tx, locks, own })
+        let all = with_locks(self.alloc, self.locks_of(tx), locks)?;
+        let lines = with_owns(self.alloc, self.own_of(tx), own)?;
+        let entry = Held {
+            tx,
+            locks: all,
+            own: lines,
+        };
+        self.put(entry, locks, own)
     }
 
     /// Puts an entry in the place of its transaction's, or last where there is
-    /// none.
-    fn put(&mut self, entry: Held) -> Result<(), OutOfMemory>
+    /// none. It holds only what the transaction held before, and what is given.
+    /// Places that nothing needs in the end, as after want of memory, go.
+    fn put(&mut self, entry: Held, locks: &[ReadLock], own: &[OwnLine]) -> Result<(), OutOfMemory>
         requires full { 0 < length entry.locks + length entry.own }
         requires locks { Ascends lock_cmp entry.locks }
         requires own { Ascends own_cmp entry.own }
+        requires reads { (object inv : ℕ) → has_read entry.locks object inv ≡ true
+            → (reads_held self.old entry.tx object inv || has_read locks.now object inv) ≡ true }
+        requires lines { (object event : ℕ) → has_line entry.own object event ≡ true
+            → (lines_held self.old entry.tx object event || has_line own.now object event) ≡ true }
         ensures ok { OnOk result (self.new ≡ with_entry self.old entry) }
         ensures err { OnErr result (self.new ≡ self.old) }
     {
-        let place = held::place_of(self.held.as_slice(), &entry);
-        if place < self.held.len() {
-            self.held[place] = entry;
-        } else {
-            self.held.push(entry)?;
+        let tx = entry.tx;
+        let put = self.index.enter(&mut self.entries, entry, locks, own);
+        self.index.keep(&self.entries, tx, locks, own);
+        if let Some(before) = put? {
+            let (locks, own) = (before.locks.items(), before.own.items());
+            self.index.keep(&self.entries, tx, locks, own);
         }
         Ok(())
+    }
+
+    /// The smallest clash of a read.
+    fn read_clash(&self, relation: &Relation, tx: TxId, object: u8, inv: u8) -> Option<Clash>
+        ensures { result ≡ read_clash relation.now self.now tx object inv }
+    {
+        clash::read_clash(&self.index.writers, relation, tx, object, inv)
+    }
+
+    /// The smallest clash of own lines.
+    fn append_clash(&self, relation: &Relation, tx: TxId, own: &[OwnLine]) -> Option<Clash>
+        ensures { result ≡ append_clash relation.now self.now tx own.now }
+    {
+        clash::append_clash(&self.index.readers, relation, tx, own)
     }
 }
 
@@ -182,5 +205,5 @@ impl Locks {
 pub fn locks_are_sound(locks: &Locks)
     ensures { IsSound locks.now }
 {
-    let _held = locks.held.len();
+    let _holders = locks.entries.count();
 }

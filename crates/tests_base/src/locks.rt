@@ -130,3 +130,67 @@ fn transactions_come_and_go(rt: HostRuntime) -> Result<(), Fail> {
     check_answers(&rt, &mut locks, &kind, &[(1, 0, Ask::Append(1, 3), None)]);
     Ok(())
 }
+
+/// Who holds what, as entries change: a transaction that stands first among the
+/// holders itself, own lines of the same operation with another event or in
+/// another object, one of two lines of an event that goes, and one that is left
+/// behind by its other line.
+const CHANGED: [Asked; 16] = [
+    (1, 0, Ask::Append(1, 2), None),
+    (2, 0, Ask::Append(1, 2), None),
+    (3, 0, Ask::Append(1, 3), None),
+    (1, 0, Ask::Read(0), Some((2, 0, 2))),
+    (2, 0, Ask::Append(1, 1), None),
+    (1, 0, Ask::Read(0), Some((3, 0, 3))),
+    (3, 1, Ask::Append(1, 3), None),
+    (1, 0, Ask::Read(0), None),
+    (4, 1, Ask::Read(0), Some((3, 0, 3))),
+    (1, 0, Ask::Append(2, 2), None),
+    (1, 0, Ask::Append(1, 3), None),
+    (1, 0, Ask::Append(1, 1), None),
+    (4, 0, Ask::Read(0), Some((1, 0, 2))),
+    (1, 0, Ask::Append(2, 1), None),
+    (4, 0, Ask::Read(0), None),
+    (2, 0, Ask::Append(2, 3), Some((1, 0, 3))),
+];
+
+#[test]
+fn clashes_follow_what_is_held(rt: HostRuntime) -> Result<(), Fail> {
+    let kind = kind(rt.alloc())?;
+    let mut locks = Locks::new(rt.alloc());
+    check_answers(&rt, &mut locks, &kind, &CHANGED);
+    assert_eq!(rt; locks.holders(), 4);
+    Ok(())
+}
+
+/// Of many that hold the same, some go in the middle: the first of those that
+/// stay is in the way.
+#[test]
+fn holders_go_in_the_middle(rt: HostRuntime) -> Result<(), Fail> {
+    let kind = kind(rt.alloc())?;
+    let mut locks = Locks::new(rt.alloc());
+    for client in 0..40 {
+        locks.try_append(&kind, tx(client), &[line(1, 0, 2)])?;
+    }
+    for client in 1..20 {
+        locks.drop_tx(tx(client));
+    }
+    locks.drop_tx(tx(17));
+    assert_eq!(rt; locks.holders(), 21);
+    check_answers(
+        &rt,
+        &mut locks,
+        &kind,
+        &[(0, 0, Ask::Read(0), Some((20, 0, 2)))],
+    );
+    locks.drop_tx(tx(20));
+    let later = [
+        (0, 0, Ask::Read(0), Some((21, 0, 2))),
+        (50, 0, Ask::Read(0), Some((0, 0, 2))),
+        (5, 0, Ask::Append(1, 2), None),
+        (0, 0, Ask::Read(0), Some((5, 0, 2))),
+    ];
+    check_answers(&rt, &mut locks, &kind, &later);
+    assert!(rt; !locks.holds(tx(20)) && locks.holds(tx(5)));
+    Ok(())
+}
