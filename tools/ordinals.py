@@ -7,8 +7,8 @@ PROGRAM is ./quorum of this repository unless it is given. Of a row each message
 each answer of that, is dropped by a rule, with the client cut from the site that would be asked in its place: in the
 client's first transaction, and in its second, behind one that is undisturbed. What is printed tells which message it
 was: too few sites to read or to append, a vote that is wanting, a site that holds the transaction to the end. A rule
-for the message behind the last does nothing. Ends with status 1 where a message of the table is another one, and where
-there is no table.
+for the message behind the last does nothing. Then a site asks a client what became of its transaction, and these
+messages have to count. Ends with status 1 where a message of the table is another one, and where there is no table.
 """
 
 import os
@@ -50,19 +50,35 @@ def rows():
     return [Row(line) for line in lines[2:]]
 
 
+def losses(program, declaration, lines, site):
+    """Which losses show in a run of a script."""
+    with tempfile.NamedTemporaryFile("w", suffix=".script") as script:
+        script.write("\n".join(lines) + "\n")
+        script.flush()
+        ran = subprocess.run([program, "run", declaration, script.name], cwd=ROOT, capture_output=True, text=True)
+    if ran.returncode != 0:
+        return ["status %d, %s" % (ran.returncode, ran.stderr)]
+    return [name for name, text in LOST.items() if re.search(text.replace("%d", str(site)), ran.stdout)]
+
+
 def seen(program, row, client, before, link):
     """Which losses show where that message is lost, in a transaction with so many before it."""
     actor, far = "c%d" % client, "s%d" % ((client + 2) % 3)
     commands = ["begin", *row.commands]
     lines = ["link " + link, "phase", *(actor + " " + command for command in commands * before)]
     lines += ["phase", "cut %s %s" % (actor, far), *(actor + " " + command for command in commands)]
-    with tempfile.NamedTemporaryFile("w", suffix=".script") as script:
-        script.write("\n".join(lines) + "\n")
-        script.flush()
-        ran = subprocess.run([program, "run", row.declaration, script.name], cwd=ROOT, capture_output=True, text=True)
-    if ran.returncode != 0:
-        return ["status %d, %s" % (ran.returncode, ran.stderr)]
-    return [name for name, text in LOST.items() if re.search(text.replace("%d", str(client)), ran.stdout)]
+    return losses(program, row.declaration, lines, client)
+
+
+def asked(program):
+    """Whether an Inquiry and its Decision count: the site `s1` refuses `c1` in the middle of a transaction of `c0`."""
+    lines = ["phase", "c0 begin", "c0 do x W1", "phase", "c1 begin", "c1 do x R", "phase", "c0 commit"]
+    for link, want in (("c0 s1 2", []), ("c0 s1 3", ["Prepare"]), ("s1 c0 2", []), ("s1 c0 3", ["Prepare"])):
+        have = losses(program, "@three", ["link %s drop" % link, *lines], 1)
+        if have != want:
+            print("with an Inquiry, link %s: lost are %s" % (link, have), file=sys.stderr)
+            return False
+    return True
 
 
 def cases(row, client, before):
@@ -94,7 +110,7 @@ def main():
     program = os.path.abspath(sys.argv[1]) if len(sys.argv) > 1 else os.path.join(ROOT, "quorum")
     counts = [right(program, row) for row in rows()]
     print("ordinals: %d rows, %d messages dropped" % (len(counts), sum(counts)))
-    return 0 if counts and all(counts) else 1
+    return 0 if counts and all(counts) and asked(program) else 1
 
 
 if __name__ == "__main__":
