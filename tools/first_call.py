@@ -16,8 +16,8 @@ import time
 TOP = os.path.dirname(os.path.dirname(os.path.abspath(__file__)))
 DOCUMENT = f"{TOP}/README.md"
 SAID = """\
-The first call proves and builds the program%s, and tells of each crate as it is done; later calls
-start at once. With `QUORUM_UNPROVED=1` before it one is built with no proof%s, and says so at each call."""
+The first call proves and builds the program%s; later calls start at once.
+With `QUORUM_UNPROVED=1` before it one is built with no proof%s, and says so at each call."""
 BEGIN, END = "<!-- first call -->\n", "<!-- end -->"
 
 
