@@ -75,5 +75,5 @@ LIMITS = {"steps": steps, "operations": operations, "lines": lines}
 MEETING = {
     "steps": (side_by_side(600, 16, "R", "abort"), 262144),
     "operations": (side_by_side(24, 15, "W1", "commit"), 1035),
-    "lines": (side_by_side(21, 16, "W1", "commit") + side_by_side(140, 16, "R", "abort"), 8389584),
+    "lines": (side_by_side(21, 16, "W1", "commit") + side_by_side(140, 16, "R", "abort"), 8389248),
 }
