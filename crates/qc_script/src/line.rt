@@ -1,7 +1,8 @@
 //! What a line's words say.
 
 ghost use Rattle.std.specs.Prelude.{◌≡◌};
-ghost use Rattle.qc_script.specs.Lines.{line_of, other_line, phase_line, link_line, link_of, pair_of, cut_line, heal_line};
+ghost use Rattle.qc_script.specs.Lines.{line_of, other_line, phase_line, link_line, link_of};
+ghost use Rattle.qc_script.specs.Lines.{pair_of, cut_line, heal_line};
 ghost use Rattle.qc_script.specs.Lines.{single_of, crash_line, restart_line, armed_line, epoch_line};
 ghost use Rattle.qc_script.specs.Lines.{alone_of, do_of, verb_of, command_line};
 
