@@ -158,7 +158,13 @@ fn of_invs(kind: &Prepared, triples: &Grouped, place: u32, triple: &Triple) -> O
 
 /// The first fault of an invocation at a triple: none where it depends on
 /// something left out.
-fn of_inv(kind: &Prepared, triples: &Grouped, place: u32, triple: &Triple, inv: u8) -> Option<CertFault>
+fn of_inv(
+    kind: &Prepared,
+    triples: &Grouped,
+    place: u32,
+    triple: &Triple,
+    inv: u8,
+) -> Option<CertFault>
     ensures { result ≡ inv_fault kind.now triples.now place triple.now inv }
 {
     if kind.plain().relation.depended(inv) & triple.out != 0 {
