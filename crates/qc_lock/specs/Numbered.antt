@@ -41,7 +41,8 @@ AreBelow next [] = Unit {0}
 AreBelow next (e ∷ es) = (e.0 < next) × AreBelow next es
 
 -- each transaction has one, each number is known by its transaction, and the next number is free
-pub record AreNumbered {A : Type 0} (tx_of : A → TxId) (entries : BTreeMap ℕ A) (numbers : BTreeMap TxId ℕ) (next : ℕ) : Type 0 where
+pub record AreNumbered {A : Type 0} (tx_of : A → TxId) (entries : BTreeMap ℕ A) (numbers : BTreeMap TxId ℕ)
+    (next : ℕ) : Type 0 where
   pub ordered : IsOrdered nat_cmp entries
   pub single : IsOneForEach tx_of (values entries)
   pub known : (tx : TxId) → get tx_cmp numbers tx ≡ number_of tx_of entries.entries tx
