@@ -1,13 +1,17 @@
 #!/usr/bin/env python3
-"""Finds the certificate of a dependency relation, or why there is none.
+"""Finds the certificate of a dependency relation that is given, or why there is none.
 
 usage: tools/certificate.py DECL [--needed]
 
-DECL is a declaration's file. Its triples aren't read: of each type it prints those
-that follow from the rows and the dependences, in the form that a declaration has
-them in. Where an invocation answers otherwise from a view than from the whole log
-it prints both, and ends with status 1: the relation isn't exact then, and no
-triples help.
+It finds no relation by itself: which invocation depends on which events is the
+designer's to say, in `depends`. DECL is a declaration's file. Its triples aren't
+read: of each type it prints those that follow from the rows and the dependences, in
+the form that a declaration has them in. Where an invocation answers otherwise from a
+view than from the whole log it prints both, and ends with status 1: the relation
+isn't exact then, and no triples help. A dependence has to be added.
+
+A file that it can't use is told in a sentence: status 2. Whether a declaration is
+right in all else is for `./quorum check` to say, which tells each fault by its path.
 
 With --needed it prints for each dependence whether the relation is exact without
 it, and if not a log and the part of it that a view then has.
@@ -21,20 +25,33 @@ import sys
 import tomllib
 
 
+class Wrong(Exception):
+    """What is wrong with a file, in words."""
+
+
 class Type:
     """The rows of a type by state and invocation, its events and its dependences."""
 
     def __init__(self, table):
-        self.name, self.start = table["name"], table["start"]
+        self.name, self.start = text_of(table, "name"), text_of(table, "start")
         self.rows, self.events = {}, []
-        for row in table["rows"]:
-            state, inv, resp, after = row.split(" ")
+        for state, inv, resp, after in self.texts(table, "rows", 4):
             event = inv + ":" + resp
             self.rows.setdefault((state, inv), {})[event] = after
             if event not in self.events:
                 self.events.append(event)
-        self.invocations = table["invocations"]
-        self.depends = [tuple(pair.split(" ")) for pair in table.get("depends", [])]
+        self.invocations = list_of(table, "invocations")
+        self.depends = [tuple(words) for words in self.texts(table, "depends", 2)]
+        for inv, event in self.depends:
+            if inv not in self.invocations or event not in self.events:
+                raise Wrong("%s: no row has what `%s %s` in `depends` names" % (self.name, inv, event))
+
+    def texts(self, table, key, count):
+        """The words of each text of a list."""
+        for item in list_of(table, key):
+            if len(item.split(" ")) != count:
+                raise Wrong("%s: `%s` in `%s` hasn't %d words" % (self.name, item, key, count))
+            yield item.split(" ")
 
     def step(self, state, event):
         """The state behind an event, or None where it isn't legal."""
@@ -124,13 +141,50 @@ def show_needed(type_):
     return True
 
 
+# Reading a declaration.
+
+
+def text_of(table, key):
+    if not isinstance(table.get(key), str):
+        raise Wrong("a type has no text `%s`" % key)
+    return table[key]
+
+
+def list_of(table, key):
+    """A list of texts; `depends` may be missing."""
+    found = table.get(key, [] if key == "depends" else None)
+    if not isinstance(found, list) or not all(isinstance(item, str) for item in found):
+        raise Wrong("a type has no list of texts `%s`" % key)
+    return found
+
+
+def types_in(name):
+    """The types of a declaration's file."""
+    try:
+        with open(name, "rb") as file:
+            tables = tomllib.load(file).get("type")
+    except OSError as fault:
+        raise Wrong("the file can't be read: %s" % fault.strerror)
+    except (tomllib.TOMLDecodeError, UnicodeDecodeError, RecursionError) as fault:
+        raise Wrong("the file isn't TOML: %s" % fault)
+    if not isinstance(tables, list) or not tables or not all(isinstance(table, dict) for table in tables):
+        raise Wrong("the file has no tables `[[type]]`")
+    return [Type(table) for table in tables]
+
+
 def main(words):
     show_one = {(): show, ("--needed",): show_needed}.get(tuple(words[1:]))
-    if not words or show_one is None:
+    if "--help" in words or "-h" in words:
+        print(__doc__)
+        return 0
+    if not words or words[0].startswith("-") or show_one is None:
         print(__doc__, file=sys.stderr)
         return 2
-    with open(words[0], "rb") as file:
-        types = [Type(table) for table in tomllib.load(file)["type"]]
+    try:
+        types = types_in(words[0])
+    except Wrong as wrong:
+        print("%s: %s" % (words[0], wrong), file=sys.stderr)
+        return 2
     return 0 if all([show_one(type_) for type_ in types]) else 1
 
 

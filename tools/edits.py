@@ -289,9 +289,15 @@ def tried(crates, folder, crate, is_kept):
 # The ledger.
 
 
-def sum_of(crate, kit_line):
-    """Returns a sum of the crate's own files and edits, and of the kit's version."""
-    sum = hashlib.sha256(kit_line.encode())
+def logic_of(version):
+    """Returns the part of the kit's version that proofs rest on; kits that differ in letters alone have one logic."""
+    found = re.search(r"logic [0-9a-f]+", version)
+    return found[0] if found else version
+
+
+def sum_of(crate, logic):
+    """Returns a sum of the crate's own files and edits, and of the kit's logic."""
+    sum = hashlib.sha256(logic.encode())
     for file in [*sources(crate), *files_of(f"{TOP}/edits/{crate}")]:
         with open(file, "rb") as it:
             sum.update(repr((os.path.relpath(file, TOP), it.read())).encode())
@@ -365,8 +371,8 @@ def main(given):
     if given.clear:
         clear(crates, mine)
         return 0
-    kit_line, noted = output_of("rt", "version"), read_ledger()
-    sums = {it: sum_of(it, kit_line) for it in mine}
+    logic, noted = logic_of(output_of("rt", "version")), read_ledger()
+    sums = {it: sum_of(it, logic) for it in mine}
     wanted = chosen(given, mine, sums, noted)
     if unusable(crates, wanted):
         build(crates, wanted)

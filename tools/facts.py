@@ -26,7 +26,7 @@ def kit():
     logic = re.search(r"logic [0-9a-f]+", done.stdout)
     if logic is None:
         raise SystemExit("rt version names no logic: %s" % done.stdout.strip())
-    return "All is proved and built with the Rattle kit of `%s`, as `rt version` tells." % logic[0]
+    return "All is proved and built with the Rattle kit of `%s`." % logic[0]
 
 
 FACTS = {"kit": kit}

@@ -6,11 +6,12 @@ usage: tools/failing_allocations.py [PROGRAM [WORKERS]]
 PROGRAM is crates/quorum/out/quorum unless it is given; it has to be built, and
 a C compiler has to be on the path as `cc`. With WORKERS each script is run by so
 many; which allocation a number names then differs from run to run, and an
-example may be over before each was met. Each run has to end as the example
-says, or with nothing on standard output, status 8 and its cause; a cause may be
-left untold where its text wants memory. An example is over when 100 runs after
-one another met no failing allocation. Ends with status 1 where a run did
-something else, and where there is no example.
+example may be over before each was met. Left out are examples without words, as
+the gallery of types, and those with a long text, of which a sweep takes hours.
+Each run has to end as the example says, or with nothing on standard output,
+status 8 and its cause; a cause may be left untold where its text wants memory.
+An example is over when 100 runs after one another met no failing allocation.
+Ends with status 1 where a run did something else, and where there is no example.
 """
 
 import collections
@@ -23,6 +24,7 @@ HERE = os.path.dirname(os.path.abspath(__file__))
 ROOT = os.path.dirname(HERE)
 EXAMPLES = os.path.join(ROOT, "examples")
 WANTING = b"quorum: out of memory\n"
+LONG = 10000
 
 
 def content(folder, name, missing=b""):
@@ -65,14 +67,15 @@ def main():
     program = os.path.abspath(sys.argv[1] if len(sys.argv) > 1 else os.path.join(ROOT, "crates/quorum/out/quorum"))
     more = ["--workers", sys.argv[2]] if len(sys.argv) > 2 else []
     seen = set()
-    with tempfile.TemporaryDirectory() as folder:
-        shim = os.path.join(folder, "shim.so")
+    with tempfile.TemporaryDirectory() as made:
+        shim = os.path.join(made, "shim.so")
         source = os.path.join(HERE, "malloc_that_fails.c")
         subprocess.run(["cc", "-O1", "-shared", "-fPIC", "-o", shim, source, "-ldl"], check=True)
         for name in sorted(os.listdir(EXAMPLES)):
-            if not os.path.exists(os.path.join(EXAMPLES, name, "words")):
-                continue  # the gallery of types
-            counts = sweep(program, shim, os.path.join(EXAMPLES, name), more)
+            folder = os.path.join(EXAMPLES, name)
+            if not os.path.exists(os.path.join(folder, "words")) or len(content(folder, "expected")) > LONG:
+                continue
+            counts = sweep(program, shim, folder, more)
             print("%s: %s" % (name, ", ".join("%s: %d" % pair for pair in sorted(counts.items()))))
             seen |= set(counts)
     return 0 if seen and seen <= {"whole", "untold", "wanting"} else 1

@@ -8,7 +8,6 @@ It takes as long as they do: let the machine do nothing else. What is said stand
 --print it is printed, and nothing is written.
 """
 import os
-import re
 import subprocess
 import sys
 import tempfile
@@ -17,8 +16,8 @@ import time
 TOP = os.path.dirname(os.path.dirname(os.path.abspath(__file__)))
 DOCUMENT = f"{TOP}/README.md"
 SAID = """\
-The first call proves and builds the program, and tells of each crate as it is done; later calls start at once.
-With `QUORUM_UNPROVED=1` before it a program is built with no proof, and says so at each call."""
+The first call proves and builds the program%s; later calls start at once.
+With `QUORUM_UNPROVED=1` before it one is built with no proof%s, and says so at each call."""
 BEGIN, END = "<!-- first call -->\n", "<!-- end -->"
 
 
@@ -34,9 +33,7 @@ def first_call(more):
 
 
 def machine():
-    with open("/proc/cpuinfo", encoding="utf-8") as it:
-        found = re.search(r"model name\s*:\s*(.*)", it.read())
-    return f"{len(os.sched_getaffinity(0))} processors ({found[1] if found else 'of no name'})"
+    return f"{len(os.sched_getaffinity(0))} processors"
 
 
 def write(text):
@@ -53,9 +50,9 @@ def write(text):
 def main(words):
     unproved, _ = first_call({"QUORUM_UNPROVED": "1"})
     clock, spent = first_call({"QUORUM_UNPROVED": ""})
-    text = f"""{SAID} Of {time.strftime('%Y-%m-%d', time.gmtime())},
-on {machine()}, the first call of a new clone took {clock:.0f} minutes, and
-{spent:.0f} minutes of processor time; unproved it took {60 * unproved:.0f} seconds."""
+    day = time.strftime("%Y-%m-%d", time.gmtime())
+    took = f" (of {day}, on {machine()}: {clock:.0f} minutes, {spent:.0f} of processor time)"
+    text = SAID % (took, f" ({60 * unproved:.0f} seconds)")
     print(text)
     if not words:
         write(text)

@@ -30,7 +30,9 @@ impl Cuts {
     pub fn new() -> Cuts
         ensures { result ≡ no_cuts }
     {
-        Cuts { cut: [false; ACTOR_PAIRS] }
+        Cuts {
+            cut: [false; ACTOR_PAIRS],
+        }
     }
 
     /// Cuts two actors from each other.

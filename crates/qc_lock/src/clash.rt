@@ -51,6 +51,7 @@ impl Clash {
 }
 
 /// The smaller of two clashes, where there are two.
+#[inline(always)]
 fn smaller_of(a: Option<Clash>, b: Option<Clash>) -> Option<Clash>
     ensures { result ≡ smaller_of a b }
 {
@@ -63,6 +64,7 @@ fn smaller_of(a: Option<Clash>, b: Option<Clash>) -> Option<Clash>
 
 /// The smallest clash of an invocation with an event, by the places of one
 /// number.
+#[inline(always)]
 fn clash_at(
     places: &Places,
     relation: &Relation,

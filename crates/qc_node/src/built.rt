@@ -2,7 +2,8 @@
 
 ghost use Rattle.std.specs.Prelude.{◌≡◌};
 ghost use Rattle.std.specs.List.{list_all};
-ghost use Rattle.qc_node.specs.Built.{is_actor, is_built, is_built_command, is_built_control, is_built_line, is_built_phase};
+ghost use Rattle.qc_node.specs.Built.{is_actor, is_built, is_built_command, is_built_control};
+ghost use Rattle.qc_node.specs.Built.{is_built_line, is_built_phase};
 
 use qc_decl::Declaration;
 use qc_link::MOST_ACTORS;

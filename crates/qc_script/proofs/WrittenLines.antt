@@ -6,7 +6,7 @@ use Rattle.qc_outside.specs.declared.disk.ArmKind.{ArmKind}
 use Rattle.qc_outside.specs.declared.disk.ArmKind.TheVariants.{Stop, Fail}
 use Rattle.qc_script.proofs.WrittenWords.{actor_read, apart, client_read, end_read, name_read, number_read, ordinal_read, rule_read}
 use Rattle.qc_script.specs.Forms.{actor_of, client_of, end_of, name_of, number_of, ordinal_of, rule_of}
-use Rattle.qc_script.specs.Lines.{command_line, line_of, link_of, pair_of, verb_of}
+use Rattle.qc_script.specs.Lines.{command_line, line_of, link_of, other_line, pair_of, verb_of}
 use Rattle.qc_script.specs.Options.{◌>>=◌}
 use Rattle.qc_script.specs.Written.{HasFewDigits, IsWritable, IsWritableActor, IsWritableEnd, IsWritableOrdinal, IsWritableVerb, actor_word, end_word, ordinal_word, rule_word, verb_words, words_in}
 use Rattle.qc_script.specs.declared.actor.ActorName.{ActorName}
@@ -37,6 +37,7 @@ link_read from to ordinal what first second third =
 
 armed_read : (kind : ArmKind) (actor : ActorName) (at : ℕ) → IsWritableActor actor → HasFewDigits at
     → line_of (words_in (lines.Armed actor kind at)) ≡ Some (lines.Armed actor kind at)
+unfolding other_line
 armed_read Stop actor at first second =
     then (actor_of (actor_word actor)) actor (λ a. number_of (decimal at) >>= (λ n. Some (lines.Armed a Stop n))) (actor_read actor first)
     ∙ then (number_of (decimal at)) at (λ n. Some (lines.Armed actor Stop n)) (number_read at second)
@@ -54,6 +55,7 @@ verb_read Abort few = refl
 
 -- a client's word is none of the words that begin the other lines
 client_line : (n : ℕ) (words : List (List ℕ)) → HasFewDigits n → line_of (actor_word (Client n) ∷ words) ≡ command_line (actor_word (Client n)) words
+unfolding other_line
 client_line n words few =
     let cut = apart client_of (actor_word (Client n)) (codes "cut") n (client_read n few) refl in
     let crash = apart client_of (actor_word (Client n)) (codes "crash") n (client_read n few) refl in
@@ -61,6 +63,7 @@ client_line n words few =
 
 -- the words of a line
 pub line_read : (line : Line) → IsWritable line → line_of (words_in line) ≡ Some line
+unfolding other_line
 line_read lines.Phase few = refl
 line_read (lines.Link from to ordinal what) few = link_read from to ordinal what few.0 few.1 few.2
 line_read (lines.Cut a b) few = then (pair_of (actor_word a ∷ actor_word b ∷ [])) (a, b) (λ p. Some (lines.Cut p.0 p.1)) (pair_read a b few.0 few.1)

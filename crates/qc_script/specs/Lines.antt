@@ -109,6 +109,16 @@ command_line word words = do
   verb ← verb_of words
   Some (lines.Command client verb)
 
+-- a line that tells of an actor's fall or rise, of a disk, or of what is asked
+unfoldable pub other_line : List ℕ → List (List ℕ) → Option Line
+other_line word words =
+    if bytes_eq word (codes "crash") then crash_line words
+    else (if bytes_eq word (codes "restart") then restart_line words
+    else (if bytes_eq word (codes "stop") then armed_line Stop words
+    else (if bytes_eq word (codes "fail") then armed_line Fail words
+    else (if bytes_eq word (codes "admin") then epoch_line words
+    else command_line word words))))
+
 -- the line that words are
 abbrev pub line_of : List (List ℕ) → Option Line
 line_of [] = None
@@ -117,9 +127,4 @@ line_of (word ∷ words) =
     else (if bytes_eq word (codes "link") then link_line words
     else (if bytes_eq word (codes "cut") then cut_line words
     else (if bytes_eq word (codes "heal") then heal_line words
-    else (if bytes_eq word (codes "crash") then crash_line words
-    else (if bytes_eq word (codes "restart") then restart_line words
-    else (if bytes_eq word (codes "stop") then armed_line Stop words
-    else (if bytes_eq word (codes "fail") then armed_line Fail words
-    else (if bytes_eq word (codes "admin") then epoch_line words
-    else command_line word words))))))))
+    else other_line word words)))

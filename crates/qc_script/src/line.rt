@@ -1,7 +1,8 @@
 //! What a line's words say.
 
 ghost use Rattle.std.specs.Prelude.{◌≡◌};
-ghost use Rattle.qc_script.specs.Lines.{line_of, phase_line, link_line, link_of, pair_of, cut_line, heal_line};
+ghost use Rattle.qc_script.specs.Lines.{line_of, other_line, phase_line, link_line, link_of};
+ghost use Rattle.qc_script.specs.Lines.{pair_of, cut_line, heal_line};
 ghost use Rattle.qc_script.specs.Lines.{single_of, crash_line, restart_line, armed_line, epoch_line};
 ghost use Rattle.qc_script.specs.Lines.{alone_of, do_of, verb_of, command_line};
 
@@ -82,23 +83,32 @@ impl<'a> Line<'a> {
         if first == b"heal".as_slice() {
             return heal(words);
         }
-        if first == b"crash".as_slice() {
-            return crash(words);
-        }
-        if first == b"restart".as_slice() {
-            return restart(words);
-        }
-        if first == b"stop".as_slice() {
-            return armed(ArmKind::Stop, words);
-        }
-        if first == b"fail".as_slice() {
-            return armed(ArmKind::Fail, words);
-        }
-        if first == b"admin".as_slice() {
-            return epoch(words);
-        }
-        command(first, words)
+        other(first, words)
     }
+}
+
+/// A line that tells of an actor's fall or rise, of a disk, or of what is asked,
+/// behind its first word.
+#[tactic(auto, unfolding(crate::specs::Lines::other_line))]
+fn other<'a>(first: &[u8], words: Words<'a>) -> Option<Line<'a>>
+    ensures { result ≡ other_line first.now words.entry }
+{
+    if first == b"crash".as_slice() {
+        return crash(words);
+    }
+    if first == b"restart".as_slice() {
+        return restart(words);
+    }
+    if first == b"stop".as_slice() {
+        return armed(ArmKind::Stop, words);
+    }
+    if first == b"fail".as_slice() {
+        return armed(ArmKind::Fail, words);
+    }
+    if first == b"admin".as_slice() {
+        return epoch(words);
+    }
+    command(first, words)
 }
 
 /// `phase`, behind that word.

@@ -96,24 +96,22 @@ leaves_refused asked answers taken cause (inr wanting) =
 pub words_leave : {S : Type 0} (gives : S → List ℕ → ℕ → Answer → S → Type 0) (files : Option Files) (words : List (List ℕ)) (a : AskedOf) (before after : S) (old : Option (List ℕ)) (cause : Cause) (new : Option (List ℕ)) (h : List Entry)
     → asked words ≡ Some a → LeavesAsked gives files a before after old cause new h → LeavesWords gives files words before after old cause new h
 words_leave gives files words a before after old cause new h is here =
-    subst (λ (o : Option AskedOf). MatchOption o (LeavesNothing causes.NotBuilt old cause new h) (λ x. LeavesAsked gives files x before after old cause new h)) (sym is) here
-
-pub no_words_leave : {S : Type 0} (gives : S → List ℕ → ℕ → Answer → S → Type 0) (files : Option Files) (words : List (List ℕ)) (before after : S) (old : Option (List ℕ)) (cause : Cause) (h : List Entry)
-    → asked words ≡ None → cause ≡ causes.NotBuilt → h ≡ [] → LeavesWords gives files words before after old cause old h
-no_words_leave gives files words before after old cause h is why none =
-    subst (λ (o : Option AskedOf). MatchOption o (LeavesNothing causes.NotBuilt old cause old h) (λ x. LeavesAsked gives files x before after old cause old h)) (sym is)
-    (record { due = inl why; history = none; text = refl })
+    subst (λ (o : Option AskedOf). MatchOption o (LeavesNothing causes.NotBuilt old cause new h × (after ≡ before)) (λ x. LeavesAsked gives files x before after old cause new h)) (sym is) here
 
 -- limits, where nothing ran
 
+below_at_first : (h : List Entry) → h ≡ [] → IsBelow h
+below_at_first h none =
+    subst IsBelow (sym none) (record { steps = omega arith; operations = omega arith; carried = omega arith })
+
 pub told_full : (cause : Cause) (h : List Entry) → IsTold cause → h ≡ [] → IsFullCause cause h
-told_full causes.Done h told none = subst IsBelow (sym none) (record { steps = omega arith; operations = omega arith; carried = omega arith })
-told_full causes.Sink h told none = subst IsBelow (sym none) (record { steps = omega arith; operations = omega arith; carried = omega arith })
+told_full causes.Done h told none = below_at_first h none
+told_full causes.Sink h told none = below_at_first h none
 told_full (causes.Shelf script fault) h told none = none
 told_full (causes.Declaration fault) h told none = none
 told_full (causes.Script fault) h told none = none
 told_full causes.NotBuilt h told none = none
-told_full causes.OutOfMemory h told none = tt
+told_full causes.OutOfMemory h told none = below_at_first h none
 told_full (causes.Full what number) h told none = absurd told
 
 pub refused_full : (cause : Cause) (h : List Entry) → IsRefusal cause → h ≡ [] → IsFullCause cause h
@@ -121,7 +119,7 @@ refused_full (causes.Shelf script fault) h refusal none = none
 refused_full (causes.Declaration fault) h refusal none = none
 refused_full (causes.Script fault) h refusal none = none
 refused_full causes.NotBuilt h refusal none = none
-refused_full causes.OutOfMemory h refusal none = tt
+refused_full causes.OutOfMemory h refusal none = below_at_first h none
 refused_full causes.Done h refusal none = absurd refusal
 refused_full causes.Sink h refusal none = absurd refusal
 refused_full (causes.Full what number) h refusal none = absurd refusal

@@ -55,7 +55,7 @@ module _ (decl : Declaration) (script : Script) (ready : IsRunnable decl script)
   pub ended_end : (end : DriveEnd) → HasEnded decl script h end → IsEnd end h
   ended_end ends.Quiet ended = none_reached h ended.ended.0
   ended_end (ends.Full full) ended = first_reached h full ended.ended
-  ended_end ends.OutOfMemory ended = tt
+  ended_end ends.OutOfMemory ended = none_reached h ended.ended.0
 
   pub ended_below : (end : DriveEnd) → HasEnded decl script h end → IsBelow (before_last_event h)
   ended_below end ended = none_reached (before_last_event h) ended.below

@@ -30,11 +30,11 @@ use Rattle.qc_top.specs.declared.answers.Answers.{Answers}
 use Rattle.qc_top.specs.declared.work.Work.{Work}
 use Rattle.qc_top.specs.declared.work.Work.TheVariants as works
 
--- how a run ended, by its history: a limit is told exactly where it was reached
+-- how a run ended, by its history: a limit is told exactly where it was reached, and want of memory only below
 abbrev pub IsEnd : DriveEnd → List Entry → Type 0
 IsEnd ends.Quiet h = IsBelow h
 IsEnd (ends.Full full) h = HasReached full.what full.number h
-IsEnd ends.OutOfMemory h = Unit {0}
+IsEnd ends.OutOfMemory h = IsBelow h
 
 -- the same by the cause that is told
 abbrev pub IsFullCause : Cause → List Entry → Type 0
@@ -45,7 +45,7 @@ IsFullCause (causes.Shelf script fault) h = h ≡ []
 IsFullCause (causes.Declaration fault) h = h ≡ []
 IsFullCause (causes.Script fault) h = h ≡ []
 IsFullCause causes.NotBuilt h = h ≡ []
-IsFullCause causes.OutOfMemory h = Unit {0}
+IsFullCause causes.OutOfMemory h = IsBelow h
 
 -- what a telling sink took: the whole text where all was done, a part of it where the sink failed, and else nothing
 
@@ -155,11 +155,11 @@ pub record LeavesAsked {S : Type 0} (gives : S → List ℕ → ℕ → Answer �
   pub leaves : Leaves (work_of asked answers) old cause new h
   pub blame : (script : Bool) → cause ≡ causes.Shelf script faults.Failed → IsBlamed asked answers script
 
--- the same of words; words of another form come to nothing
+-- the same of words; words of another form come to nothing, and the shelf is left as it was
 abbrev pub LeavesWords : {S : Type 0} → (S → List ℕ → ℕ → Answer → S → Type 0) → Option Files → List (List ℕ)
     → S → S → Option (List ℕ) → Cause → Option (List ℕ) → List Entry → Type 0
 LeavesWords gives files words before after old cause new h =
-    MatchOption (asked words) (LeavesNothing causes.NotBuilt old cause new h)
+    MatchOption (asked words) (LeavesNothing causes.NotBuilt old cause new h × (after ≡ before))
     (λ a. LeavesAsked gives files a before after old cause new h)
 
 -- a script that is run, over a declaration: it names what is declared

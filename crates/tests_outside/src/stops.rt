@@ -41,10 +41,10 @@ const SHAPES: [[&[u8]; 3]; 8] = [
     [&[2], &[0; 60], &[3]],
 ];
 
-/// Adds a record of 1 to 65,536 bytes to a journal of at most nine.
+/// Adds a record of 1 to 65,536 bytes to a journal of at most 9,999.
 pub(crate) fn add<D: Disk>(journal: &mut Journal<D>, body: &[u8]) -> Result<(), JournalFault> {
     let count = body.len();
-    if count == 0 || count > 65_536 || journal.records() > 9 {
+    if count == 0 || count > 65_536 || journal.records() > 9999 {
         return Err(JournalFault::Torn { offset: 0 });
     }
     journal.reserve(count as u32)?;
@@ -138,14 +138,23 @@ fn stop_leaves_whole_records(rt: HostRuntime) -> Result<(), Fail> {
     Ok(())
 }
 
-/// The shortest and the longest body.
+/// Adds bodies to a new journal and reads it again. Tells how many were
+/// acknowledged, and how many stand.
+fn kept(alloc: Global, bodies: &[&[u8]]) -> Result<(usize, Option<usize>), JournalFault> {
+    let (disk, added) = begin(alloc, MemDisk::new(alloc, Tear::Nothing)?, bodies)?;
+    let read = read(alloc, disk)?;
+    Ok((added, first_of(&read, bodies)))
+}
+
+/// The longest body between shortest ones, a hundred of the longest, and a
+/// thousand of the shortest.
 #[test]
-fn longest_body_is_kept(rt: HostRuntime) -> Result<(), Fail> {
+fn greatest_journals_are_kept(rt: HostRuntime) -> Result<(), Fail> {
     let alloc = rt.alloc();
     let longest = vec![in alloc; 3; 65_536]?;
-    let bodies = [&[1][..], longest.as_slice(), &[2][..]];
-    let (disk, added) = begin(alloc, MemDisk::new(alloc, Tear::Nothing)?, &bodies)?;
-    assert_eq!(rt; added, 3);
-    assert_eq!(rt; first_of(&read(alloc, disk)?, &bodies), Some(3));
+    let longest = longest.as_slice();
+    assert_eq!(rt; kept(alloc, &[&[1], longest, &[2]]), Ok((3, Some(3))));
+    assert_eq!(rt; kept(alloc, &[longest; 100]), Ok((100, Some(100))));
+    assert_eq!(rt; kept(alloc, &[&[7][..]; 1000]), Ok((1000, Some(1000))));
     Ok(())
 }

@@ -49,9 +49,9 @@ pub(crate) enum Reading {
     Other,
 }
 
-/// What becomes of at most 64 bytes.
+/// What becomes of at most 65,536 bytes.
 pub(crate) fn told(rt: HostRuntime, bytes: &[u8]) -> Reading {
-    if bytes.len() > 64 {
+    if bytes.len() > 65_536 {
         return Reading::Other;
     }
     match read_bytes(rt.alloc(), bytes) {

@@ -12,6 +12,8 @@ mod dones;
 #[cfg(test)]
 mod fitting;
 #[cfg(test)]
+mod greatest;
+#[cfg(test)]
 mod refusals;
 #[cfg(test)]
 mod vectors;

@@ -1,0 +1,8 @@
+use Rattle.std.proofs.Common.{◌≤◌, length, take}
+use Rattle.std.specs.Io.KnownBytes.{Appends}
+use Rattle.qc_files.proofs.out_sink.write_front.Given as goal
+
+abbrev pub invariant-loop : goal.invariant-loop
+invariant-loop g l =
+    (l.count ≤ length l.bytes)
+    × Appends (g.W.Write.contents l.initial.writer) (g.W.Write.contents l.writer) (take l.count l.bytes)

@@ -1,0 +1,4 @@
+pub mod Answered
+pub mod Handed
+pub mod Outside
+pub mod Reads
