@@ -16,6 +16,8 @@ seen is this program's own, some 17 MB. Cases:
   links for messages to a client that nobody sends one;
 - lost decisions: transactions of one read over one site that are given up, of one client, where each decision is lost, so that
   each read lock stays; 8,000 and 16,000;
+- lost promises: the same with `commit` of a read that no response is legal for, so that each promise stays too; 6,000 and
+  12,000;
 - triples: `check` of six types of 64 events with 64 groups of 1,024 triples each, those of a group all equal;
 - start: `check @one`.
 
@@ -40,7 +42,8 @@ TRANSACTIONS = (125, 250, 500)
 MESSAGES = (25_000, 50_000, 100_000)
 PAST_THE_LIMIT = 110_000
 RULES = 55_000
-LOST = (8_000, 16_000)
+# What stays as decisions are lost, how many of them, and what each transaction reads and how it ends.
+LOST = (("lost decisions", (8_000, 16_000), "L", "abort"), ("lost promises", (6_000, 12_000), "N", "commit"))
 SEED = 7
 NOTHING = "python3 -c pass"
 
@@ -51,14 +54,14 @@ def begins(count):
 
 
 def one_reader():
-    """One site, one client and one object, whose only invocation depends on nothing."""
+    """One site, one client and one object, whose invocations depend on nothing; to N no response is legal."""
     return """sites = 1
 clients = 1
 [[type]]
 name = "t"
 states = ["0"]
 start = "0"
-invocations = ["L"]
+invocations = ["L", "N"]
 responses = ["ok"]
 rows = ["0 L ok 0"]
 depends = []
@@ -68,15 +71,15 @@ name = "x0"
 type = "t"
 [[epoch]]
 weights = [1]
-initial = ["x0 L 1"]
+initial = ["x0 L 1", "x0 N 1"]
 final = ["x0 L:ok 1"]
 """
 
 
-def lost_decisions(count):
-    """Transactions of one read that are given up, each of whose third message, the decision, is lost."""
+def lost_decisions(count, invocation, end):
+    """Transactions of one read that end so, each of whose third message, the decision, is lost."""
     lines = ["link c0 s0 %d drop" % (3 * number) for number in range(1, count + 1)]
-    return "\n".join((*lines, "phase", *["c0 begin", "c0 do x0 L", "c0 abort"] * count)) + "\n"
+    return "\n".join((*lines, "phase", *["c0 begin", "c0 do x0 " + invocation, "c0 " + end] * count)) + "\n"
 
 
 def equal_triples():
@@ -134,8 +137,10 @@ def cases(program, folder):
         text = "\n".join((*rules, *reads(MESSAGES[-1], of_a_read=18))) + "\n"
         words[name] = [program, "run", sixteen, written(folder, name.replace(" ", "_"), text)]
     one = written(folder, "one.toml", one_reader())
-    for count in LOST:
-        words["%d lost decisions" % count] = [program, "run", one, written(folder, "lost_%d" % count, lost_decisions(count))]
+    for name, counts, invocation, end in LOST:
+        for count in counts:
+            text = lost_decisions(count, invocation, end)
+            words["%d %s" % (count, name)] = [program, "run", one, written(folder, "%s_%d" % (end, count), text)]
     words["triples"] = [program, "check", written(folder, "triples.toml", equal_triples())]
     return words
 
@@ -166,9 +171,10 @@ def bars(found):
     yield "%d rules more, s" % RULES, seconds["sixteen sites, rules"] - seconds["sixteen sites"], 1
     yield "step limit, s", seconds["step limit"], 2
     yield "step limit, MB", found["step limit"][1] / 1024, 512
-    few, many = ("%d lost decisions" % count for count in LOST)
-    yield "%s / %s" % (many, few), seconds[many] / seconds[few], 2.3
-    yield "%s, s" % many, seconds[many], 0.3
+    for name, counts, _, _ in LOST:
+        few, many = ("%d %s" % (count, name) for count in counts)
+        yield "%s / %s" % (many, few), seconds[many] / seconds[few], 2.3
+    yield "16000 lost decisions, s", seconds["16000 lost decisions"], 0.3
     yield "triples, s", seconds["triples"], 1
     yield "start, ms", 1e3 * seconds["start"], 2
 

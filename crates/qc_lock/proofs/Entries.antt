@@ -11,7 +11,7 @@ use Rattle.qc_entry.specs.declared.line.OwnLine.{OwnLine}
 use Rattle.qc_entry.specs.declared.line.ReadLock.{ReadLock}
 use Rattle.qc_list.specs.Order.{by_order}
 use Rattle.qc_lock.specs.Held.{same_tx, lock_cmp, own_cmp, inserted, with_locks, with_owns, entry_of, held_of, with_entry, with_held, without_held}
-use Rattle.qc_lock.specs.Sound.{IsApart, IsSingle, AreFull}
+use Rattle.qc_lock.specs.Sound.{AreFull}
 
 -- the test of names
 
@@ -94,36 +94,6 @@ entry-without_other (h ∷ hs) tx other apart = by (same_tx h.tx tx) refl (entry
 
 pub held-without_other : (held : List Held) (tx other : TxId) → same_tx tx other ≡ false → held_of (without_held held tx) other ≡ held_of held other
 held-without_other held tx other apart = ap (λ (o : Option Held). unwrap_or o (record { tx = other; locks = []; own = [] })) (entry-without_other held tx other apart)
-
--- one entry for each transaction
-
-apart-put : (tx : TxId) (held : List Held) (e : Held) → same_tx e.tx tx ≡ false → IsApart tx held → IsApart tx (with_entry held e)
-apart-put tx [] e other apart = (other, tt)
-apart-put tx (h ∷ hs) e other apart = by (same_tx h.tx e.tx) (apart-put tx hs e other apart.1) where
-  by : (t : Bool) → IsApart tx (with_entry hs e) → IsApart tx (cond t (e ∷ hs) (h ∷ with_entry hs e))
-  by true rest = (other, apart.1)
-  by false rest = (apart.0, rest)
-
-pub single-put : (held : List Held) (e : Held) → IsSingle held → IsSingle (with_entry held e)
-single-put [] e single = (tt, tt)
-single-put (h ∷ hs) e single = by (same_tx h.tx e.tx) refl (single-put hs e single.1) where
-  by : (t : Bool) → same_tx h.tx e.tx ≡ t → IsSingle (with_entry hs e) → IsSingle (cond t (e ∷ hs) (h ∷ with_entry hs e))
-  by true is rest = (subst (λ u. IsApart u hs) (tx_apart h.tx e.tx is) single.0, single.1)
-  by false is rest = (apart-put h.tx hs e (apart_sym h.tx e.tx is) single.0, rest)
-
-apart-filter : (tx : TxId) (test : Held → Bool) (held : List Held) → IsApart tx held → IsApart tx (filter test held)
-apart-filter tx test [] apart = tt
-apart-filter tx test (h ∷ hs) apart = by (test h) (apart-filter tx test hs apart.1) where
-  by : (t : Bool) → IsApart tx (filter test hs) → IsApart tx (cond t (h ∷ filter test hs) (filter test hs))
-  by true rest = (apart.0, rest)
-  by false rest = rest
-
-pub single-filter : (test : Held → Bool) (held : List Held) → IsSingle held → IsSingle (filter test held)
-single-filter test [] single = tt
-single-filter test (h ∷ hs) single = by (test h) (single-filter test hs single.1) where
-  by : (t : Bool) → IsSingle (filter test hs) → IsSingle (cond t (h ∷ filter test hs) (filter test hs))
-  by true rest = (apart-filter h.tx test hs single.0, rest)
-  by false rest = rest
 
 -- entries that hold something
 

@@ -4,6 +4,7 @@ pub mod Holding
 pub mod Indexing
 pub mod Numbering
 pub mod Numbers
+pub mod Ones
 pub mod Order
 pub mod Searching
 pub mod Smallest

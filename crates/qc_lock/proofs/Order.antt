@@ -14,8 +14,9 @@ use Rattle.qc_list.specs.Order.{Ascends, IsBelowAll, by_order, inserted}
 use Rattle.qc_list.proofs.Order.{ascends-inserted}
 use Rattle.qc_lock.specs.declared.held.Held.{Held}
 use Rattle.qc_lock.specs.Held.{same_tx, same_lock, has_lock, lock_cmp, own_cmp, with_lock, with_locks, with_owns, with_held, entry_of, held_of, with_entry, without_held}
-use Rattle.qc_lock.specs.Sound.{AreSorted, IsSound}
-use Rattle.qc_lock.proofs.Entries.{and_first, and_second, tx_apart, single-put, single-filter, full-put, full-filter}
+use Rattle.qc_lock.specs.Sound.{AreSorted, IsSingle, IsSound}
+use Rattle.qc_lock.proofs.Entries.{and_first, and_second, tx_apart, full-put, full-filter}
+use Rattle.qc_lock.proofs.Ones.{holder, once-put, once-filter, put_entry}
 
 lock_total : IsTotalOrder lock_cmp
 lock_total = then_total (on_total (λ (l : ReadLock). l.object) nat_cmp_total) (on_total (λ (l : ReadLock). l.inv) nat_cmp_total)
@@ -115,14 +116,14 @@ held_already held tx lock sorted member = put_again held tx lock sorted member
 
 pub sound-put : (held : List Held) (e : Held) → IsSound held → 0 < length e.locks + length e.own → Ascends lock_cmp e.locks → Ascends own_cmp e.own → IsSound (with_entry held e)
 sound-put held e sound some locks own = record {
-  single = single-put held e sound.single;
+  single = subst IsSingle (put_entry held e) (once-put holder held e sound.single);
   full = full-put held e sound.full some;
   sorted = sorted-put held e sound.sorted locks own;
 }
 
 pub sound-without : (held : List Held) (tx : TxId) → IsSound held → IsSound (without_held held tx)
 sound-without held tx sound = record {
-  single = single-filter (λ (h : Held). not (same_tx h.tx tx)) held sound.single;
+  single = once-filter holder (λ (h : Held). not (same_tx h.tx tx)) held sound.single;
   full = full-filter (λ (h : Held). not (same_tx h.tx tx)) held sound.full;
   sorted = sorted-filter (λ (h : Held). not (same_tx h.tx tx)) held sound.sorted;
 }

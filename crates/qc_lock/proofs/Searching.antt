@@ -18,10 +18,12 @@ use Rattle.qc_lock.specs.Held.{same_tx, entry_of, held_of}
 use Rattle.qc_lock.specs.Clash.{clash_cmp, read_clash, append_clash}
 use Rattle.qc_lock.specs.Conflict.{In, IsReadConflict, IsAppendConflict, IsSmallest}
 use Rattle.qc_lock.specs.Places.{has_line, has_read, is_there, lines_held, reads_held, IsAppendPlaced, IsFirst, IsIndex, IsPlaced, IsReadPlaced}
-use Rattle.qc_lock.specs.Sound.{IsApart, IsSingle}
+use Rattle.qc_lock.specs.Numbered.{AreOfOthers}
+use Rattle.qc_lock.specs.Sound.{IsSingle}
 use Rattle.qc_lock.proofs.Conflicts.{append_smallest, read_smallest, smallest_by}
 use Rattle.qc_lock.proofs.Entries.{same_self, tx_apart}
 use Rattle.qc_lock.proofs.Numbers.{nat_self}
+use Rattle.qc_lock.proofs.Ones.{holder}
 use Rattle.qc_lock.proofs.Smallest.{smallest_one}
 
 -- one invocation with one event
@@ -52,7 +54,7 @@ one_holds relation places tx object number inv event holder depended first = (pl
 
 -- what transactions hold, by name
 
-apart_in : (hs : List Held) (h : Held) (tx : TxId) → IsApart tx hs → In h hs → same_tx h.tx tx ≡ false
+apart_in : (hs : List Held) (h : Held) (tx : TxId) → AreOfOthers holder tx hs → In h hs → same_tx h.tx tx ≡ false
 apart_in [] h tx apart member = absurd member
 apart_in (k ∷ ks) h tx apart (inl is) = subst (λ (x : Held). same_tx x.tx tx ≡ false) (sym is) apart.0
 apart_in (k ∷ ks) h tx apart (inr member) = apart_in ks h tx apart.1 member

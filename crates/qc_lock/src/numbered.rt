@@ -30,7 +30,7 @@ impl Model for Entries {
 
     ghost view = { λ e. values e.entries };
 
-    ghost invariant = { λ e. AreNumbered e.entries e.numbers e.next };
+    ghost invariant = { λ e. AreNumbered (λ h. h.tx) e.entries e.numbers e.next };
 }
 
 impl Entries {

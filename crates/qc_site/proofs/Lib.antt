@@ -1,4 +1,5 @@
 pub mod Holders
+pub mod Promised
 pub mod Cases
 pub mod Clocks
 pub mod Refusals

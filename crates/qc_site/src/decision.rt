@@ -4,7 +4,6 @@ ghost use Rattle.std.specs.Prelude.{◌≡◌, IfOk, OnErr};
 ghost use Rattle.qc_site.specs.Promise.{dropped, finishes, joins, lines_of, prepared_of, records_done, stamped};
 
 use crate::Site;
-use crate::promise::prepared_of;
 use qc_entry::{Line, Log, OwnLine};
 use qc_list::{List, OutOfMemory};
 use qc_msg::{Appended, Outcome, Record, Turn};
@@ -39,7 +38,7 @@ impl Site {
             ≡ record { site = self.new; turn = turn }) }
         ensures err { OnErr result (self.new ≡ self.old) }
     {
-        let Some(promise) = prepared_of(self.prepared.as_slice(), tx) else {
+        let Some(promise) = self.prepared.of(tx) else {
             self.forget(tx);
             return Ok(Turn::quiet(alloc));
         };
@@ -55,7 +54,7 @@ impl Site {
         ensures { self.new ≡ dropped self.old tx }
     {
         self.held.drop_tx(tx);
-        self.prepared.retain(|promise| promise.tx != tx);
+        self.prepared.remove(tx);
     }
 }
 

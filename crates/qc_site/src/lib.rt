@@ -23,6 +23,7 @@ mod decision;
 mod grants;
 mod laws;
 mod promise;
+mod promises;
 mod readers;
 mod requests;
 mod site;

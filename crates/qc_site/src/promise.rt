@@ -1,9 +1,10 @@
 //! What a site promises, and when (presumed abort).
 
-ghost use Rattle.std.specs.Prelude.{◌≡◌, ◌+◌, ◌*◌, IfOk, OnErr, MatchOption, Some, None, nat_le, IsTrue, length};
+ghost use Rattle.std.specs.Prelude.{◌≡◌, ◌+◌, ◌*◌, IfOk, OnErr, OnOk, None, nat_le, IsTrue, length};
 ghost use Rattle.qc_decl.specs.Limits.{most_record_bytes};
 ghost use Rattle.qc_msg.specs.declared.message.Answer.TheVariants.{Yes};
-ghost use Rattle.qc_site.specs.Promise.{is_prepared, prepare_length, prepared_of, prepares, promise_of, promises};
+ghost use Rattle.qc_site.specs.Promise.{is_prepared, prepare_length, prepared_of, prepares};
+ghost use Rattle.qc_site.specs.Promise.{promise_of, promised, promises};
 
 use crate::Site;
 use crate::asker::Asker;
@@ -30,7 +31,7 @@ impl Site {
         if !self.held.holds(tx) {
             return asker.answered(alloc, Answer::Stale);
         }
-        if prepared_of(self.prepared.as_slice(), tx).is_some() {
+        if self.prepared.of(tx).is_some() {
             return asker.answered(alloc, self.yes());
         }
         let promise = self.promise_of(alloc, tx)?;
@@ -71,17 +72,15 @@ impl Site {
         asker: Asker,
         promise: Prepared,
     ) -> Result<Turn, OutOfMemory>
-        requires { IsTrue (nat_le (prepare_length promise) most_record_bytes) }
+        requires first { prepared_of self.old.prepared promise.tx ≡ None }
+        requires fits { IsTrue (nat_le (prepare_length promise) most_record_bytes) }
         ensures ok { IfOk result (λ turn. promises self.old asker.from asker.number promise
             ≡ record { site = self.new; turn = turn }) }
         ensures err { OnErr result (self.new ≡ self.old) }
     {
         let sends = asker.answering(alloc, self.yes())?;
         let failed_sends = asker.answering(alloc, Answer::Fault)?;
-        let kept = promise.copy()?;
-        self.prepared.reserve(1)?;
-        self.recorded.merge(&promise.lines)?;
-        self.prepared.push_reserved(kept);
+        self.keep(&promise)?;
         Ok(Turn {
             write: Some(Record::Prepare(promise)),
             sends,
@@ -90,6 +89,20 @@ impl Site {
             failed_told: None,
             append: Appended::Done,
         })
+    }
+
+    /// Keeps the first promise of a transaction, whose record gives its lines.
+    fn keep(&mut self, promise: &Prepared) -> Result<(), OutOfMemory>
+        requires { prepared_of self.old.prepared promise.now.tx ≡ None }
+        ensures ok { OnOk result (self.new ≡ promised self.old promise.now) }
+        ensures err { OnErr result (self.new ≡ self.old) }
+    {
+        self.prepared.add(promise.copy()?)?;
+        if let Err(refused) = self.recorded.merge(&promise.lines) {
+            self.prepared.remove(promise.tx);
+            return Err(refused);
+        }
+        Ok(())
     }
 }
 
@@ -102,16 +115,4 @@ fn fits(promise: &Prepared) -> bool
     let lines = promise.lines.lines().len().saturating_mul(20);
     let length = locks.saturating_add(own).saturating_add(lines);
     length.saturating_add(18) <= MOST_RECORD_BYTES
-}
-
-/// The promise of a transaction, if the site has made one.
-pub(crate) fn prepared_of<'a>(prepared: &'a [Prepared], tx: TxId) -> Option<&'a Prepared>
-    ensures { MatchOption result (prepared_of prepared.now tx ≡ None) (λ p. prepared_of prepared.now tx ≡ Some p.now) }
-{
-    'promises: for promise in prepared {
-        if promise.tx == tx {
-            return Some(promise);
-        }
-    }
-    None
 }

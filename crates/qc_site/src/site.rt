@@ -8,8 +8,9 @@ ghost use Rattle.qc_site.specs.Site.{new_site};
 
 use crate::asker::Asker;
 use crate::clock::clock_after;
+use crate::promises::Promises;
 use qc_decl::Declaration;
-use qc_entry::{Log, Prepared};
+use qc_entry::Log;
 use qc_list::OutOfMemory;
 use qc_lock::Locks;
 use qc_msg::{FIRST_EPOCH, Message, Turn};
@@ -29,7 +30,7 @@ pub struct Site {
     pub(crate) log: Log,
     pub(crate) recorded: Log,
     pub(crate) held: Locks,
-    pub(crate) prepared: Vec<Prepared>,
+    pub(crate) prepared: Promises,
     pub(crate) clock: Clock,
 }
 
@@ -47,7 +48,7 @@ impl Model for Site {
       log = s.log;
       recorded = s.recorded;
       held = s.held;
-      prepared = s.prepared.items;
+      prepared = s.prepared;
       clock = s.clock.value;
     } };
 
@@ -67,7 +68,7 @@ impl Site {
             log: Log::new(alloc)?,
             recorded: Log::new(alloc)?,
             held: Locks::new(alloc),
-            prepared: Vec::new(alloc),
+            prepared: Promises::new(alloc),
             clock: Clock { value: 0 },
         })
     }

@@ -6,6 +6,7 @@ use Rattle.qc_lock.specs.Held.{held_of, without_held}
 use Rattle.qc_lock.specs.Places.{has_line, has_read, lines_held, reads_held, AreIndexed, Narrows}
 use Rattle.qc_lock.proofs.Indexing.{held_found, lines_part, reads_part, taken_done}
 use Rattle.qc_lock.proofs.Numbers.{without_none}
+use Rattle.qc_lock.proofs.Ones.{holder}
 use Rattle.qc_lock.proofs.Order.{sound-without}
 use Rattle.qc_lock.proofs.locks.Locks.drop_tx.Goals as goal
 
@@ -32,5 +33,5 @@ invariant_of-self c =
 pub invariant_of-self-in_default : goal.invariant_of-self-in_default
 invariant_of-self-in_default c =
     let held = c.self.inside.entries in
-    let same : c.take.new.self ≡ held = c.in_default.ensures.after ∙ without_none held c.args.tx (sym c.in_default.ensures.entry) in
+    let same : c.take.new.self ≡ held = c.in_default.ensures.after ∙ without_none holder held c.args.tx (sym c.in_default.ensures.entry) in
     subst (λ (hs : List Held). AreIndexed hs c.self.inside.index.readers c.self.inside.index.writers) (sym same) c.self.invariant
