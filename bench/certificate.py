@@ -1,6 +1,7 @@
 #!/usr/bin/env python3
-"""Measures `check` of qc_cert over the dearest certificates that were found
-within the limits, beside the plain walk of certificate_walk.rs over the same ones.
+"""Measures `check` of qc_cert over two dear certificates within the limits, beside
+the plain walk of certificate_walk.rs over the same ones. Dearer ones, as texts, are
+in bench/certified.py.
 
 usage: bench/certificate.py [RUNS]
 

@@ -44,7 +44,7 @@ def draw(root):
     shared = sorted(set(first) & set(last))
     x = [WIDTH / 2 + APART * (s - (len(sites) - 1) / 2) for s in sites]
     picture = Picture(352, "Two quorums that meet")
-    quorums = [("an initial quorum of R", first, 0, "7 5", -1), ("a final quorum of W1:ok", last, 12, "", 1)]
+    quorums = [("a final quorum of W1:ok", first, 0, "", -1), ("an initial quorum of R", last, 12, "7 5", 1)]
     for name, of, grow, dash, side in quorums:
         left, right = x[of[0]] - TALL - grow, x[of[-1]] + TALL + grow
         picture.box(left, Y - TALL - grow, right - left, 2 * (TALL + grow), TALL, dash=dash, thick=1.8, fill="none")

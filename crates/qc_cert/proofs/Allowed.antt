@@ -1,14 +1,13 @@
 -- Which responses only one of two states allows.
 use Rattle.std.proofs.Common.{◌≡◌, ℕ, Bool, true, false, cond, Some, None, refl, sym, ap, ◌∙◌}
-use Rattle.std.specs.Prelude.{◌↔◌, IsBitSet, IsSome, IsTrue, not}
+use Rattle.std.specs.Prelude.{◌↔◌, IsBitSet, IsTrue, not}
 use mathlib.Core.Bool.{beq}
 use Rattle.qc_cert.specs.Faults.{unequal_fault}
 use Rattle.qc_cert.specs.Inductive.{is_allowed}
+use Rattle.qc_cert.specs.Prepared.{AreAllowed}
 use Rattle.qc_cert.specs.declared.fault.CertFault.{CertFault}
 use Rattle.qc_cert.specs.declared.fault.CertFault.TheVariants.{Unequal}
 use Rattle.qc_cert.specs.declared.triple.Triple.{Triple}
-use Rattle.qc_table.specs.Rules.{event}
-use Rattle.qc_table.specs.Run.{next_in}
 use Rattle.qc_table.specs.declared.kind.Kind.{Kind}
 
 -- two tests of one fact agree
@@ -16,10 +15,6 @@ agree : {P : Type 0} (a b : Bool) → (IsTrue a ↔ P) → (P ↔ IsTrue b) → 
 agree true b l r = sym (r.0 (l.0 refl))
 agree false true l r = l.1 (r.1 refl)
 agree false false l r = refl
-
--- the responses of a state, as a set of bits
-abbrev pub AreAllowed : Kind → ℕ → ℕ → ℕ → Type 0
-AreAllowed kind state inv set = (k : ℕ) → IsBitSet set k ↔ IsSome (next_in kind.table.rows state (event inv k))
 
 different : (a b : Bool) (fault : CertFault) → not (beq a b) ≡ true → cond a (cond b None (Some fault)) (cond b (Some fault) None) ≡ Some fault
 different true true fault e = absurd (let never : ⊥ = cc in never)

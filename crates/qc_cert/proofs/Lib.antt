@@ -4,4 +4,5 @@ pub mod Faultless
 pub mod Grouped
 pub mod Repeats
 pub mod Shared
+pub mod Told
 pub mod Walk

@@ -90,10 +90,10 @@ parted_added parts event set parted here l other = by (event == other) refl
 abbrev pub without : ℕ → ℕ → ℕ
 without rest event = bit_and rest (bit_not w64 (1 * 2 ^ event % 2 ^ 64))
 
-without_same : (rest event : ℕ) → event < 64 → has (without rest event) event ≡ false
+pub without_same : (rest event : ℕ) → event < 64 → has (without rest event) event ≡ false
 without_same rest event l = ap (λ n. n == 1) (bit_at_clear_same w64 rest event l)
 
-without_other : (rest event k : ℕ) → event < 64 → k < 64 → (k ≡ event → ⊥) → has (without rest event) k ≡ has rest k
+pub without_other : (rest event k : ℕ) → event < 64 → k < 64 → (k ≡ event → ⊥) → has (without rest event) k ≡ has rest k
 without_other rest event k l kl ne = ap (λ n. n == 1) (bit_at_clear_other w64 rest event l k kl ne)
 
 pub without_small : (rest event : ℕ) → rest < 2 ^ 64 → without rest event < 2 ^ 64

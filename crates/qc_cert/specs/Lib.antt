@@ -4,4 +4,5 @@ pub mod Firsts
 pub mod Groups
 pub mod Inductive
 pub mod Limits
+pub mod Prepared
 pub mod Views

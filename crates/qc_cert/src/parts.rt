@@ -1,7 +1,8 @@
 //! Sets of events in parts, one for each event: the sets of a part have its
 //! event, and each set stands in one part.
 
-ghost use Rattle.std.specs.Prelude.{◌≡◌, ℕ, ◌<◌, ◌≤◌, ◌++◌, ◌∷◌, [], ◌||◌, true, false, OnOk, OnErr, length, slice_index_or};
+ghost use Rattle.std.specs.Prelude.{◌≡◌, ℕ, ◌<◌, ◌≤◌, ◌++◌, ◌∷◌, []};
+ghost use Rattle.std.specs.Prelude.{◌||◌, true, false, OnOk, OnErr, length, slice_index_or};
 ghost use Rattle.qc_cert.specs.Groups.{any_within, parts_within, AreParted};
 ghost use Rattle.qc_table.specs.Limits.{most_events};
 ghost use Rattle.qc_table.specs.Sets.{has, is_within};

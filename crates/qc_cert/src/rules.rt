@@ -13,8 +13,9 @@ ghost use Rattle.qc_cert.specs.Limits.{most_triples};
 
 use crate::fault::CertFault;
 use crate::groups::Grouped;
+use crate::prepared::{Prepared, inv_of};
 use crate::triple::Triple;
-use qc_table::{Kind, tables_are_sound};
+use qc_table::{Kind, MOST_EVENTS, tables_are_sound};
 use std::alloc::Global;
 
 /// Whether a list of triples is inductive for a type. Some triple has to cover
@@ -38,19 +39,20 @@ pub fn check(alloc: Global, kind: &Kind, list: &[Triple]) -> Result<(), CertFaul
     ensures exact { OnOk result (IsExact kind.now) }
 {
     tables_are_sound(&kind.table);
+    let kind = Prepared::new(alloc, kind)?;
     let triples = Grouped::new(alloc, list)?;
-    match first_fault(kind, &triples) {
+    match first_fault(&kind, &triples) {
         Some(fault) => Err(fault),
         None => Ok(()),
     }
 }
 
 /// The first fault of a list.
-fn first_fault(kind: &Kind, triples: &Grouped) -> Option<CertFault>
+fn first_fault(kind: &Prepared, triples: &Grouped) -> Option<CertFault>
     requires { length triples.now ≤ most_triples }
     ensures { result ≡ fault_of kind.now triples.now }
 {
-    let start = kind.table.start();
+    let start = kind.plain().table.start();
     let begun = Triple {
         view: start,
         log: start,
@@ -75,7 +77,7 @@ fn unless_covered(triples: &Grouped, fault: CertFault, triple: &Triple) -> Optio
 
 /// The first fault of the triples. One that is equal to another before it has
 /// a fault just where that one has, so it isn't looked at.
-fn of_triples(kind: &Kind, triples: &Grouped) -> Option<CertFault>
+fn of_triples(kind: &Prepared, triples: &Grouped) -> Option<CertFault>
     requires { length triples.now ≤ most_triples }
     ensures { result ≡ triples_fault kind.now triples.now 0 triples.now }
 {
@@ -92,7 +94,7 @@ fn of_triples(kind: &Kind, triples: &Grouped) -> Option<CertFault>
 }
 
 /// The first fault of a triple, which has this place in the list.
-fn of_triple(kind: &Kind, triples: &Grouped, place: u32, triple: &Triple) -> Option<CertFault>
+fn of_triple(kind: &Prepared, triples: &Grouped, place: u32, triple: &Triple) -> Option<CertFault>
     ensures { result ≡ triple_fault kind.now triples.now place triple.now }
 {
     match of_left_out(kind, triples, place, triple) {
@@ -102,11 +104,11 @@ fn of_triple(kind: &Kind, triples: &Grouped, place: u32, triple: &Triple) -> Opt
 }
 
 /// The first fault of a triple's events left out.
-fn of_left_out(kind: &Kind, triples: &Grouped, place: u32, triple: &Triple) -> Option<CertFault>
+fn of_left_out(kind: &Prepared, triples: &Grouped, place: u32, triple: &Triple) -> Option<CertFault>
     ensures { result ≡ first_below (length (events_of kind.now.table.rows))
         (left_out_fault kind.now triples.now place triple.now) }
 {
-    let events = kind.table.events().len();
+    let events = kind.plain().table.events().len();
     for event in 0..events {
         let fault = left_out(kind, triples, place, triple, event as u8);
         if fault.is_some() {
@@ -118,7 +120,7 @@ fn of_left_out(kind: &Kind, triples: &Grouped, place: u32, triple: &Triple) -> O
 
 /// The fault of an event that a triple's log takes and its view leaves out.
 fn left_out(
-    kind: &Kind,
+    kind: &Prepared,
     triples: &Grouped,
     place: u32,
     triple: &Triple,
@@ -127,7 +129,7 @@ fn left_out(
     requires { event < most_events }
     ensures { result ≡ left_out_fault kind.now triples.now place triple.now event }
 {
-    let log = kind.table.step(triple.log, event)?;
+    let log = kind.plain().table.step(triple.log, event)?;
     let fault = CertFault::Uncovered {
         triple: place,
         event,
@@ -142,10 +144,10 @@ fn left_out(
 }
 
 /// The first fault of the invocations at a triple.
-fn of_invs(kind: &Kind, triples: &Grouped, place: u32, triple: &Triple) -> Option<CertFault>
+fn of_invs(kind: &Prepared, triples: &Grouped, place: u32, triple: &Triple) -> Option<CertFault>
     ensures { result ≡ first_below kind.now.table.invs (inv_fault kind.now triples.now place triple.now) }
 {
-    for inv in 0..kind.table.invs() {
+    for inv in 0..kind.plain().table.invs() {
         let fault = of_inv(kind, triples, place, triple, inv);
         if fault.is_some() {
             return fault;
@@ -156,10 +158,16 @@ fn of_invs(kind: &Kind, triples: &Grouped, place: u32, triple: &Triple) -> Optio
 
 /// The first fault of an invocation at a triple: none where it depends on
 /// something left out.
-fn of_inv(kind: &Kind, triples: &Grouped, place: u32, triple: &Triple, inv: u8) -> Option<CertFault>
+fn of_inv(
+    kind: &Prepared,
+    triples: &Grouped,
+    place: u32,
+    triple: &Triple,
+    inv: u8,
+) -> Option<CertFault>
     ensures { result ≡ inv_fault kind.now triples.now place triple.now inv }
 {
-    if kind.relation.depended(inv) & triple.out != 0 {
+    if kind.plain().relation.depended(inv) & triple.out != 0 {
         return None;
     }
     match of_responses(kind, place, triple, inv) {
@@ -170,16 +178,16 @@ fn of_inv(kind: &Kind, triples: &Grouped, place: u32, triple: &Triple, inv: u8) 
 
 /// The fault of the lowest response that only one of a triple's states
 /// allows an invocation.
-fn of_responses(kind: &Kind, place: u32, triple: &Triple, inv: u8) -> Option<CertFault>
+fn of_responses(kind: &Prepared, place: u32, triple: &Triple, inv: u8) -> Option<CertFault>
     ensures { result ≡ first_below kind.now.table.resps (unequal_fault kind.now place triple.now inv) }
 {
-    tables_are_sound(&kind.table);
-    let view = kind.table.responses(triple.view, inv);
-    let log = kind.table.responses(triple.log, inv);
+    tables_are_sound(&kind.plain().table);
+    let view = kind.responses(triple.view, inv);
+    let log = kind.responses(triple.log, inv);
     if view == log {
         return None;
     }
-    for resp in 0..kind.table.resps() {
+    for resp in 0..kind.plain().table.resps() {
         if has(view, resp) != has(log, resp) {
             return Some(CertFault::Unequal {
                 triple: place,
@@ -202,7 +210,7 @@ fn has(responses: u32, resp: u8) -> bool
 /// The first fault of the events of an invocation that both the view and the
 /// log of a triple take.
 fn of_taken(
-    kind: &Kind,
+    kind: &Prepared,
     triples: &Grouped,
     place: u32,
     triple: &Triple,
@@ -211,12 +219,17 @@ fn of_taken(
     ensures { result ≡ first_below (length (events_of kind.now.table.rows))
         (taken_fault kind.now triples.now place triple.now inv) }
 {
-    let events = kind.table.events().len();
-    for event in 0..events {
+    let mut rest = kind.events(inv);
+    'turns: for _turn in 0..MOST_EVENTS {
+        if rest == 0 {
+            return None;
+        }
+        let event = rest.trailing_zeros();
         let fault = taken(kind, triples, place, triple, inv, event as u8);
         if fault.is_some() {
             return fault;
         }
+        rest &= !(1 << event);
     }
     None
 }
@@ -224,7 +237,7 @@ fn of_taken(
 /// The fault of an event of an invocation that both the view and the log of a
 /// triple take.
 fn taken(
-    kind: &Kind,
+    kind: &Prepared,
     triples: &Grouped,
     place: u32,
     triple: &Triple,
@@ -233,7 +246,7 @@ fn taken(
 ) -> Option<CertFault>
     ensures { result ≡ taken_fault kind.now triples.now place triple.now inv event }
 {
-    if inv_of(kind, event) != inv {
+    if inv_of(kind.plain(), event) != inv {
         return None;
     }
     let fault = CertFault::Uncovered {
@@ -242,19 +255,9 @@ fn taken(
         taken: true,
     };
     let next = Triple {
-        view: kind.table.step(triple.view, event)?,
-        log: kind.table.step(triple.log, event)?,
+        view: kind.plain().table.step(triple.view, event)?,
+        log: kind.plain().table.step(triple.log, event)?,
         out: triple.out,
     };
     unless_covered(triples, fault, &next)
-}
-
-/// The invocation of an event, and 0 where the type has no such event.
-fn inv_of(kind: &Kind, event: u8) -> u8
-    ensures { result ≡ inv_of kind.now event }
-{
-    kind.table
-        .events()
-        .get(event as usize)
-        .map_or(0, |event| event.inv)
 }

@@ -1,8 +1,6 @@
-use Rattle.std.proofs.Common.{◌≡◌, ◌<◌, ◌≤◌, ◌^◌, ◌+◌, ℕ, [], true, false, get_or, sym, ap, ◌∙◌, arith, w64}
+use Rattle.std.proofs.Common.{◌<◌, ◌≤◌, ◌^◌, sym, ◌∙◌, arith, w64}
 use Rattle.std.specs.Int.{trailing_zeros}
-use Rattle.qc_cert.specs.Groups.{any_within}
-use Rattle.qc_cert.proofs.Shared.{left_more, looked_more, none_left, none_past, some_looked, without_small}
-use Rattle.qc_table.specs.Sets.{has}
+use Rattle.qc_cert.proofs.Shared.{left_more, looked_more, none_past, without_small}
 use Rattle.qc_cert.proofs.parts.covers_among.Goals as goal
 
 pub turns-preserved : goal.turns-preserved

@@ -1,6 +1,8 @@
-use Rattle.std.proofs.Common.{rules, ◌<◌, sym, arith, subst}
-use Rattle.qc_cert.proofs.Allowed.{AreAllowed, equal_everywhere, unequal_here}
+use Rattle.std.proofs.Common.{rules, ◌<◌, sym, ap, arith, subst}
+use Rattle.qc_cert.proofs.Allowed.{equal_everywhere, unequal_here}
+use Rattle.qc_cert.specs.Prepared.{AreAllowed}
 use Rattle.qc_list.proofs.Search.{first_found, below_none}
+use Rattle.qc_table.specs.declared.kind.Kind.{Kind}
 use Rattle.qc_cert.proofs.rules.of_responses.Goals as goal
 
 pub returns-then-view-log : goal.returns-then-view-log
@@ -10,7 +12,7 @@ returns-then-view-log c =
 
 pub returns-then-has : goal.returns-then-has
 returns-then-has c =
-    let within : c.loop-resp.resp < c.args.kind.now.table.resps = omega arith in
+    let within : c.loop-resp.resp < c.args.kind.now.table.resps = omega (arith, ap (λ (k : Kind). k.table.resps) c.plain-2.ensures) in
     first_found _ _ _ _ within c.loop-resp.invariant
     (unequal_here c.args.kind.now c.args.place c.args.triple.now c.args.inv c.loop-resp.resp c.responses-view.result c.responses-log.result c.has.result c.has-in-loop-resp.result c.responses-view.ensures c.responses-log.ensures c.has.ensures c.has-in-loop-resp.ensures c.if-has.true)
     (search rules)

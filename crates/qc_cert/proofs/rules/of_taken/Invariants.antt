@@ -1,7 +1,13 @@
-use Rattle.std.proofs.Common.{◌≡◌, None}
+use Rattle.std.proofs.Common.{◌≡◌, ◌<◌, ◌≤◌, ◌^◌, ℕ, None, true, false, length}
 use Rattle.qc_cert.specs.Faults.{taken_fault}
-use Rattle.qc_list.specs.Search.{first_below}
+use Rattle.qc_table.specs.Rules.{events_of}
+use Rattle.qc_table.specs.Sets.{has}
 use Rattle.qc_cert.proofs.rules.of_taken.Given as goal
 
-abbrev pub invariant-loop-event : goal.invariant-loop-event
-invariant-loop-event l = first_below l.event (taken_fault l.kind l.triples l.place l.triple l.inv) ≡ None
+abbrev pub invariant-turns : goal.invariant-turns
+invariant-turns l = record {
+  small : l.rest < 2 ^ 64;
+  left : (k : ℕ) → has l.rest k ≡ true → l._turn ≤ k;
+  within : (k : ℕ) → has l.rest k ≡ true → k < length (events_of l.kind.table.rows);
+  none : (k : ℕ) → k < length (events_of l.kind.table.rows) → has l.rest k ≡ false → taken_fault l.kind l.triples l.place l.triple l.inv k ≡ None;
+}

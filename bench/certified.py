@@ -1,0 +1,189 @@
+#!/usr/bin/env python3
+"""Measures how declarations of nearly 4 MiB with the dearest certificates that
+were found are accepted, from the text on, beside the plain walk of certificate_walk.rs.
+
+usage: bench/certified.py [RUNS [FOLDER]]
+
+Makes a program of declaration_read.rt.in on a copy of the crates in a temporary
+folder, proves and builds it with rt, and runs it on each text in turn RUNS times,
+3 unless it is given: to accept it, and to refuse the same text without a start
+triple, so that no certificate is walked. What is between is the time of
+certificates. All are seconds of the processor. The plain walk over one type of the
+drawn list tells how fast the machine was meanwhile. The texts stay in FOLDER, where
+it is given, for `quorum check`. Ends with status 1 where a text takes more than
+MOST_SECONDS, or isn't accepted.
+
+Each type has 64 states and 64 events, each legal in each state but in the first
+leading on to another one, and depends on nothing. So an event is looked up twice at
+each triple, left out and taken.
+"""
+
+import itertools
+import os
+import random
+import statistics
+import sys
+import tempfile
+
+sys.dont_write_bytecode = True
+
+import programs
+
+USES = ("qc_cert", "qc_accept", "toml")
+MOST_BYTES = 4_194_304
+MOST_TYPES = 8
+MOST_ALIKE = 1024
+MOST_SECONDS = 4.0
+EVENTS = 64
+
+NAMES = "abcdefghijklmnopqrstuvwxyzABCDEFGHIJKLMNOPQRSTUVWXYZ0123456789_"
+STATES = [*NAMES, "aa"]
+TEXTS = ["%s:%s" % (NAMES[event // 2], NAMES[event % 2]) for event in range(EVENTS)]
+START = "a a -"
+
+# The event that alone covers, in the lists but `own`.
+LAST = EVENTS - 1
+
+
+def looked_last(events):
+    """Whether a search for this set looks at the part of the last event last: it
+    begins at the event that the set's hash gives."""
+    number = sum(1 << event for event in events)
+    return (number * 0x9E3779B97F4A7C15 % 2**64 >> 32) % 64 <= min(events)
+
+
+# A list is a step, from a state past 0 and an event to a state past 0, and groups:
+# view, log, whether all of the sets are kept where a type is cut short, and the sets.
+
+
+def two(_seed):
+    """Two events each, in 1,024 groups of 32 by 32 states."""
+    sets = [(LAST,), *((event, LAST) for event in range(LAST - 1))]
+    groups = [(view, log, False, sets) for view in range(1, 33) for log in range(1, 33)]
+    random.Random(0).shuffle(groups)
+    return (lambda state, event: 1 + (state + 7 * event) % 32), groups
+
+
+def drawn(seed):
+    """Four events each, drawn by chance, in 63 groups of 1,024."""
+    chance, groups = random.Random(seed), []
+    for log in range(1, 64):
+        found = {(LAST,)}
+        while len(found) < MOST_ALIKE:
+            found.add((*sorted(chance.sample(range(LAST), 3)), LAST))
+        groups.append((0, log, False, sorted(found, key=len)))
+    return (lambda state, event: 1 + (state + event % 62) % 63), groups
+
+
+def own(seed):
+    """Four of 14 events each, in 63 groups of 1,001. Each set alone covers itself."""
+    sets = list(itertools.combinations(range(50, 64), 4))
+    random.Random(seed).shuffle(sets)
+    return (lambda state, event: 1 + (state + event % 62) % 63), [(0, log, False, sets) for log in range(1, 64)]
+
+
+def ten(seed):
+    """Eight groups have each set of some of ten events, with an event apart. Those
+    of the others have seven of the ten, another and the last. So all but one set of
+    what is looked at are looked at in vain."""
+    chance, tens, apart = random.Random(seed), range(53, 63), 52
+    full = [(apart, *(e for e in tens if bits >> e - 53 & 1)) for bits in range(1, 1024)]
+    chance.shuffle(full)
+    asking = [(other, *seven, LAST) for seven in itertools.combinations(tens, 7) for other in range(apart)]
+    chance.shuffle(asking)
+    asking.sort(key=lambda events: not looked_last(events))
+    groups = [(0, 9, True, [()]), *((0, log, True, [(LAST,), *full]) for log in range(1, 9))]
+    groups += [(0, log, False, asking[:MOST_ALIKE]) for log in range(10, 64)]
+    return (lambda state, event: 9 if state < 9 else 0 if state == 9 else 1 + (state + event) % 8), groups
+
+
+LISTS = {"two": two, "drawn": drawn, "own": own, "ten": ten}
+
+
+def texts(key, items):
+    """A line of an array of texts."""
+    return "%s = [%s]\n" % (key, ",".join('"%s"' % item for item in items))
+
+
+def rows(step):
+    """Each event in each state."""
+    for state in range(64):
+        for event in range(EVENTS):
+            to = step(state, event) if state else 0
+            yield "%s %s %s %s" % (STATES[state], NAMES[event // 2], NAMES[event % 2], STATES[to])
+
+
+def triples(groups, most):
+    """The triples, at most so many of a group that may be cut short."""
+    yield START
+    for view, log, is_whole, sets in groups:
+        for events in sets if is_whole else sets[:most]:
+            yield "%s %s %s" % (STATES[view], STATES[log], ",".join(TEXTS[e] for e in events) or "-")
+
+
+def type_text(number, step, groups, most):
+    """A type, with at most so many triples of a group."""
+    return "[[type]]\n" + "".join((
+        'name = "%s"\n' % NAMES[number],
+        texts("states", STATES),
+        'start = "%s"\n' % STATES[0],
+        texts("invocations", NAMES[:32]),
+        texts("responses", NAMES[:2]),
+        texts("rows", rows(step)),
+        texts("depends", []),
+        texts("triples", triples(groups, most)),
+    ))
+
+
+def document(name):
+    """The declaration of as many types of a list as fit, the last one cut short."""
+    text = "sites = 1\nclients = 1\n"
+    end = '[[object]]\nname = "x"\ntype = "a"\n[[epoch]]\nweights = [1]\n'
+    end += texts("initial", ["x %s 1" % inv for inv in NAMES[:32]]) + texts("final", ["x %s 1" % e for e in TEXTS])
+    for number in range(MOST_TYPES):
+        step, groups = LISTS[name](number)
+        left, low, high = MOST_BYTES - len(text) - len(end), 0, MOST_ALIKE
+        if len(type_text(number, step, groups, 1)) > left:
+            break
+        while low < high:
+            most = (low + high + 1) // 2
+            fits = len(type_text(number, step, groups, most)) <= left
+            low, high = (most, high) if fits else (low, most - 1)
+        text += type_text(number, step, groups, low)
+    return text + end
+
+
+def write(folder, name):
+    """Writes the text of a list and that without a start triple, and tells both paths."""
+    text = document(name)
+    paths = [os.path.join(folder, "%s%s.toml" % (name, end)) for end in ("", "_unstarted")]
+    for path, content in zip(paths, (text, text.replace('"%s",' % START, "", 1))):
+        with open(path, "w") as file:
+            file.write(content)
+    return paths
+
+
+def main():
+    runs = int(sys.argv[1]) if len(sys.argv) > 1 else 3
+    with tempfile.TemporaryDirectory() as folder:
+        program = programs.build(folder, "reader", "declaration_read.rt.in", USES)
+        walk = programs.plain(folder, "certificate_walk.rs")
+        calls = {"walk": [walk, "drawn"]}
+        for name in LISTS:
+            whole, unstarted = write(sys.argv[2] if len(sys.argv) > 2 else folder, name)
+            calls[name] = [program, "accept", whole]
+            calls[name + " read"] = [program, "accept", unstarted]
+        seen = programs.in_turn(calls, runs)
+    found = {case: statistics.median(run[0] for run in seen[case]) for case in seen}
+    good = True
+    for name in LISTS:
+        told = seen[name][0][2] + seen[name + " read"][0][2]
+        good = good and found[name] <= MOST_SECONDS and "accepted" in told and "no start" in told
+        print("%-6s accepted in %.2f s, at most %.1f; its reading %.2f s" % (
+            name, found[name], MOST_SECONDS, found[name + " read"]))
+    print("the plain walk over one type of the drawn list %.2f s" % found["walk"])
+    sys.exit(0 if good else 1)
+
+
+if __name__ == "__main__":
+    main()

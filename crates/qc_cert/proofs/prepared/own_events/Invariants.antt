@@ -1,0 +1,9 @@
+use Rattle.std.proofs.Common.{◌≡◌, length}
+use Rattle.qc_cert.specs.Prepared.{AreOwn}
+use Rattle.qc_cert.proofs.prepared.own_events.Given as goal
+
+abbrev pub invariant-invs : goal.invariant-invs
+invariant-invs l = record {
+  all : length l.own.items ≡ l.inv;
+  events : AreOwn l.kind l.own.items;
+}
