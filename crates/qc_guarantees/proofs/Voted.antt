@@ -1,6 +1,6 @@
 -- Where a client without an open input waits for a promise, the site that it asked holds something of its transaction,
 -- and what it would promise fits a record.
-use Rattle.std.proofs.Common.{◌≡◌, ◌⊎◌, ◌≤◌, ◌-◌, ℕ, nat_le, Bool, true, false, List, [], inl, inr, map, Option, Some, None, is_none, slice_get, refl, sym, ap, ◌∙◌, subst, lt-ltb}
+use Rattle.std.proofs.Common.{◌*◌, ◌≡◌, ◌⊎◌, ◌≤◌, ◌-◌, ℕ, nat_le, Bool, true, false, List, [], inl, inr, map, Option, Some, None, is_none, slice_get, refl, sym, ap, ◌∙◌, subst, lt-ltb}
 use Rattle.std.specs.Prelude.{sum_by}
 use Rattle.qc_stamp.specs.declared.stamp.TxId.{TxId}
 use Rattle.qc_list.specs.Members.{In}
