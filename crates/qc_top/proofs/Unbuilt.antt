@@ -2,6 +2,7 @@
 use Rattle.std.proofs.Common.{◌≡◌, ℕ, ◌≤◌, Bool, true, false, not, ◌&&◌, ◌||◌, List, [], ◌∷◌, refl, ap, ◌∙◌, arith}
 use Rattle.std.specs.List.{AllByRecursion as Every, list_all, list_any}
 use Rattle.std.proofs.lemmas.Bool.{lt-ltb}
+use Rattle.qc_link.specs.Limits.{most_actors}
 use Rattle.qc_decl.specs.Accepted.{IsAccepted}
 use Rattle.qc_decl.specs.Actors.{administrator}
 use Rattle.qc_decl.specs.declared.declaration.Declaration.{Declaration}
@@ -32,7 +33,7 @@ module _ (decl : Declaration) (accepted : IsAccepted decl) where
       let sites : decl.sites ≤ 16 = accepted.sites in
       let clients : decl.clients ≤ 16 = accepted.clients in
       let within : a ≤ administrator decl = is in
-      lt-ltb a 34 (omega arith)
+      lt-ltb a most_actors (omega arith)
 
   two_actors : (a b : ℕ) → IsActor decl a → IsActor decl b → (is_actor a && is_actor b) ≡ true
   two_actors a b first second = ap (λ (x : Bool). x && is_actor b) (actors_few a first) ∙ actors_few b second
