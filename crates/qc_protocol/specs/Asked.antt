@@ -41,9 +41,9 @@ pub data Guard : Type 0 where
   -- votes
   PreparesOnce : Guard  -- Prepare is sent for a transaction that is active
   PreparesWhenExecuted : Guard  -- Prepare is sent where no operation is chosen and not yet executed
-  VotesWhenAsked : Guard  -- a site votes after Prepare was sent
+  VotesWhenAsked : Guard  -- a site votes once the operations are over: Prepare may have been sent
   VotesInGrantedLife : Guard  -- a site votes in the life in which it gave the counted grants
-  RecordsPrepareWhenAsked : Guard  -- a Prepare record that brings no vote is written after Prepare was sent, too
+  RecordsPrepareWhenAsked : Guard  -- a Prepare record that brings no vote is written then, too
   -- the commit record
   CommitsWhenVoting : Guard  -- a record is written for a transaction that is voted on
   AllHaveVoted : Guard  -- each site with a counted grant voted Yes

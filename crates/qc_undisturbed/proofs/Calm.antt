@@ -1,5 +1,5 @@
 -- An inbox in which nothing is lost or late stays so, as somebody posts: each message passes.
-use Rattle.std.proofs.Common.{◌≡◌, ℕ, zero, suc, ◌+◌, ◌==◌, not, Bool, true, false, if◌then◌else◌, List, [], ◌∷◌, ◌++◌, Option, Some, None, refl, sym, ap, ◌∙◌, subst}
+use Rattle.std.proofs.Common.{◌*◌, ◌≡◌, ℕ, zero, suc, ◌+◌, ◌==◌, not, Bool, true, false, if◌then◌else◌, List, [], ◌∷◌, ◌++◌, Option, Some, None, refl, sym, ap, ◌∙◌, subst}
 use Rattle.std.specs.Prelude.{filter, get_or, replicate}
 use Rattle.std.specs.List.{fold}
 use Rattle.std.proofs.lemmas.List.{append-nil, append_assoc}
@@ -9,6 +9,7 @@ use Rattle.qc_link.specs.Fate.{fate}
 use Rattle.qc_link.specs.declared.plan.Link.{Link}
 use Rattle.qc_link.specs.declared.rule.Fate.{Fate}
 use Rattle.qc_link.specs.declared.rule.Fate.TheVariants.{Pass, Drop}
+use Rattle.qc_link.specs.Limits.{most_actors}
 use Rattle.qc_msg.specs.declared.message.Envelope.{Envelope}
 use Rattle.qc_msg.specs.declared.message.Message.{Message}
 use Rattle.qc_msg.specs.declared.message.Message.TheVariants as messages
@@ -32,7 +33,7 @@ none_cut (suc n) (suc k) = none_cut n k
 
 passes : (cuts : List Bool) (from to n : ℕ) → cuts ≡ no_cuts → fate [] cuts from to n ≡ Pass
 passes cuts from to n is =
-    ap (λ (c : List Bool). fate [] c from to n) is ∙ ap (λ (t : Bool). if t then Drop else Pass) (none_cut 1156 (pair_place from to))
+    ap (λ (c : List Bool). fate [] c from to n) is ∙ ap (λ (t : Bool). if t then Drop else Pass) (none_cut (most_actors * most_actors) (pair_place from to))
 
 -- the copy of a message that comes
 
