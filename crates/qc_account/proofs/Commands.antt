@@ -21,7 +21,7 @@ use Rattle.qc_msg.specs.declared.step.Command.{Command}
 use Rattle.qc_msg.specs.declared.step.Given.{Given}
 use Rattle.qc_msg.specs.declared.step.Given.TheVariants as given
 use Rattle.qc_msg.specs.declared.turn.Turn.{Turn}
-use Rattle.qc_msg.specs.Deeds.{Deed, Takes, Writes, Sends, Tells}
+use Rattle.qc_msg.specs.Deeds.{Deed, Takes, Writes, Sends, Tells, Falls, Rises}
 use Rattle.qc_promise.specs.Account.{Account, ClientRequest, new_account}
 use Rattle.qc_promise.specs.Accounting.{account_at, account_heard, account_sent, account_written, counted, counted_for, granted, is_open, promised, taken_for, told_by}
 use Rattle.qc_promise.specs.Asked.{is_asked_for}
@@ -97,6 +97,8 @@ runs_step decl d (Takes (given.Lost n)) = ap is_some (sym (counted_command d n N
 runs_step decl d (Writes w) = ap is_some (sym (written_command d w))
 runs_step decl d (Sends n to m) = ap is_some (sym (sent_command decl d n to m))
 runs_step decl d (Tells reply) = refl
+runs_step decl d (Falls cause pending) = refl
+runs_step decl d (Rises records) = refl
 
 runs_on : (decl : Declaration) (ds : List Deed) (d : Account) → fold runs_at (is_some d.command) ds ≡ is_some (fold (account_at decl) d ds).command
 runs_on decl [] d = refl

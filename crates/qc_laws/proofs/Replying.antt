@@ -17,7 +17,7 @@ use Rattle.qc_msg.specs.declared.step.Given.{Given}
 use Rattle.qc_msg.specs.declared.step.Given.TheVariants as given
 use Rattle.qc_msg.specs.declared.turn.Posting.{Posting}
 use Rattle.qc_msg.specs.declared.turn.Turn.{Turn}
-use Rattle.qc_msg.specs.Deeds.{Deed, Takes, Writes, Sends, Tells, sends_of, tells_of, turn_deeds, writes_of}
+use Rattle.qc_msg.specs.Deeds.{Deed, Takes, Writes, Sends, Tells, Falls, Rises, sends_of, tells_of, turn_deeds, writes_of}
 use Rattle.qc_msg.specs.Turns.{quiet}
 use Rattle.qc_client.specs.Client.{ClientMove, moved, new_client}
 use Rattle.qc_client.specs.Conduct.{client_after, client_does, client_takes}
@@ -207,6 +207,8 @@ one_deed before (Takes (given.Lost number)) is = refl
 one_deed before (Writes written) is = refl
 one_deed before (Sends number to message) is = refl
 one_deed before (Tells reply) is = let one : open_commands (is_running before) ≡ 1 = ap open_commands is in omega arith
+one_deed before (Falls cause pending) is = let one : open_commands (is_running before) ≡ 1 = ap open_commands is in omega arith
+one_deed before (Rises records) is = let one : open_commands (is_running before) ≡ 1 = ap open_commands is in omega arith
 
 pub counted_from : (before ds : List Deed) → AreInOrder before ds
     → length (filter_map call_in ds) + open_commands (is_running before) ≡ length (filter_map reply_in ds) + open_commands (is_running (before ++ ds))
