@@ -11,8 +11,8 @@ IsSaidDue decl d (Takes given) = Unit {0}
 IsSaidDue decl d (Writes written) = IsRecordDue decl d [] written
 IsSaidDue decl d (Sends number to message) = Unit {0}
 IsSaidDue decl d (Tells reply) = IsReplyDue decl d [] reply
-IsSaidDue decl d (Falls cause pending) = IsReplyDue decl d [] reply
-IsSaidDue decl d (Rises records) = IsReplyDue decl d [] reply
+IsSaidDue decl d (Falls cause pending) = Unit {0}
+IsSaidDue decl d (Rises records) = Unit {0}
 
 abbrev pub AreSaidDue : Declaration → Account → List Deed → Type 0
 AreSaidDue decl d [] = Unit {0}

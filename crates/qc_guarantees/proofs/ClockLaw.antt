@@ -159,8 +159,8 @@ module _ (decl : Declaration) where
   deed_clock d (Writes w) is = written_clock d w
   deed_clock d (Sends n to m) is = sent_clock d n to m
   deed_clock d (Tells reply) is = reply_clock d reply is.0
-  deed_clock d (Falls cause pending) is = reply_clock d reply is.0
-  deed_clock d (Rises records) is = reply_clock d reply is.0
+  deed_clock d (Falls cause pending) is = same_clock d
+  deed_clock d (Rises records) is = same_clock d
 
   pub clock_rises : (ds : List Deed) (d : Account) → AreDeedsDue decl d ds → d.clock ≤ (fold (account_at decl) d ds).clock
   clock_rises [] d is = same_clock d

@@ -126,8 +126,6 @@ module _ (decl : Declaration) (script : Script) (accepted : IsAccepted decl) (so
       reply_in : Deed → Option Reply
       reply_in (Takes g) = None
       reply_in (Tells x) = Some x
-      reply_in (Falls cause pending) = Some x
-      reply_in (Rises records) = Some x
       reply_in _ = None
   sends_tell n [] (Some r) reply (inr never) = absurd never
   sends_tell n (p ∷ ps) told reply (inl same) = absurd (let never : ⊥ = cc in never)

@@ -204,8 +204,8 @@ module _ (decl : Declaration) where
   one_more ds d (Writes w) k = written_grounds ds d w k
   one_more ds d (Sends n to m) k = sent_grounds ds d n to m k
   one_more ds d (Tells reply) k = told_grounds ds d reply k
-  one_more ds d (Falls cause pending) k = told_grounds ds d reply k
-  one_more ds d (Rises records) k = told_grounds ds d reply k
+  one_more ds d (Falls cause pending) k = same_grounds ds (Falls cause pending) d d refl refl refl k
+  one_more ds d (Rises records) k = same_grounds ds (Rises records) d d refl refl refl k
 
   all_more : (ds more : List Deed) (d : Account) → HasGrounds ds d → HasGrounds (ds ++ more) (fold (account_at decl) d more)
   all_more ds [] d k = subst (λ (v : List Deed). HasGrounds v d) (sym (append-nil ds)) k

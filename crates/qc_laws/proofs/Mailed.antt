@@ -76,8 +76,8 @@ step_inputs ms (steps.Lost n) stamped = (tt, tt)
 step_inputs ms (steps.Wrote written) stamped = (tt, tt)
 step_inputs ms (steps.Sent n to message) stamped = (tt, tt)
 step_inputs ms (steps.Told reply) stamped = (tt, tt)
-step_inputs ms (steps.Fell cause pending) stamped = tt
-step_inputs ms (steps.Rose records) stamped = tt
+step_inputs ms (steps.Fell cause pending) stamped = (tt, tt)
+step_inputs ms (steps.Rose records) stamped = (tt, tt)
 step_inputs ms (steps.Damaged offset) stamped = tt
 
 mine_inputs : (mine : Bool) (ms : List Envelope) (step : Step) → IsMailStamped ms → AreInputs (cond mine (deed_at ms step) [])

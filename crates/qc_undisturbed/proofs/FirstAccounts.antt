@@ -269,8 +269,8 @@ deeds_first decl d (Takes g ∷ ds) f due all = (tt, deeds_first decl (account_t
 deeds_first decl d (Writes w ∷ ds) f due all = (tt, deeds_first decl (account_written d w) ds (written_first d w f) due.1 all.1)
 deeds_first decl d (Sends n to m ∷ ds) f due all = (sent_is decl d to m f due.0, deeds_first decl (account_sent decl d n to m) ds (sent_first decl d n to m f) due.1 all.1)
 deeds_first decl d (Tells r ∷ ds) f due all = (tt, deeds_first decl (account_told decl d r) ds (reply_first decl d r f) due.1 all.1)
-deeds_first decl d (Falls cause pending ∷ ds) f due all = (tt, deeds_first decl (account_told decl d r) ds (reply_first decl d r f) due.1 all.1)
-deeds_first decl d (Rises records ∷ ds) f due all = (tt, deeds_first decl (account_told decl d r) ds (reply_first decl d r f) due.1 all.1)
+deeds_first decl d (Falls cause pending ∷ ds) f due all = (tt, deeds_first decl d ds f due.1 all.1)
+deeds_first decl d (Rises records ∷ ds) f due all = (tt, deeds_first decl d ds f due.1 all.1)
 
 pub account_first : (decl : Declaration) (d : Account) (ds : List Deed) → IsFirstAccount d → Every TakesFirst ds → IsFirstAccount (fold (account_at decl) d ds)
 account_first decl d [] f all = f
@@ -278,8 +278,8 @@ account_first decl d (Takes g ∷ ds) f all = account_first decl (account_taken 
 account_first decl d (Writes w ∷ ds) f all = account_first decl (account_written d w) ds (written_first d w f) all.1
 account_first decl d (Sends n to m ∷ ds) f all = account_first decl (account_sent decl d n to m) ds (sent_first decl d n to m f) all.1
 account_first decl d (Tells r ∷ ds) f all = account_first decl (account_told decl d r) ds (reply_first decl d r f) all.1
-account_first decl d (Falls cause pending ∷ ds) f all = account_first decl (account_told decl d r) ds (reply_first decl d r f) all.1
-account_first decl d (Rises records ∷ ds) f all = account_first decl (account_told decl d r) ds (reply_first decl d r f) all.1
+account_first decl d (Falls cause pending ∷ ds) f all = account_first decl d ds f all.1
+account_first decl d (Rises records ∷ ds) f all = account_first decl d ds f all.1
 
 pub new_first : (client : ℕ) → IsFirstAccount (new_account client)
 new_first client = record { known = refl; current = tt }
