@@ -1,5 +1,5 @@
 -- What changes in an inbox changes in its tray.
-use Rattle.std.proofs.Common.{◌≡◌, ℕ, ◌==◌, ◌&&◌, ◌||◌, Bool, true, false, cond, not, if◌then◌else◌, List, [], ◌∷◌, ◌++◌, refl, ap, sym, ◌∙◌, append_assoc}
+use Rattle.std.proofs.Common.{◌≡◌, ℕ, ◌&&◌, Bool, true, false, if◌then◌else◌, List, [], ◌∷◌, ◌++◌, refl, ap, sym, ◌∙◌, append_assoc}
 use Rattle.std.proofs.lemmas.List.{append-nil, map-append}
 use Rattle.qc_link.specs.declared.rule.Fate.{Fate}
 use Rattle.qc_link.specs.declared.rule.Fate.TheVariants.{Pass, Drop, Twice, Late, Again}
@@ -7,10 +7,11 @@ use Rattle.qc_msg.specs.declared.message.Envelope.{Envelope}
 use Rattle.qc_msg.specs.declared.message.Message.{Message}
 use Rattle.qc_msg.specs.declared.message.Message.TheVariants as messages
 use Rattle.qc_script.specs.Inbox.{Inbox, answers_by, comes_at_once, comes_with, goes_with, is_request, is_up, one_more, request_answered, request_sent, with_copies}
-use Rattle.qc_script.specs.Requests.{SentRequest, has_request, with_number, without_request}
+use Rattle.qc_script.specs.Requests.{SentRequest, has_request, request_numbers, with_number, without_number, without_request}
+use Rattle.qc_script.proofs.Requests.{has-numbers, without-numbers}
 use Rattle.qc_inbox.specs.Inboxes.{Tray}
-use Rattle.qc_inbox.specs.Kept.{numbers_of, request_numbers, tray_of}
-use Rattle.qc_inbox.specs.Trays.{has_number, without_number, tray_answered, tray_answered_by, tray_asks, tray_comes, tray_goes, tray_lost_unless, tray_with_copies}
+use Rattle.qc_inbox.specs.Kept.{numbers_of, tray_of}
+use Rattle.qc_inbox.specs.Trays.{tray_answered, tray_answered_by, tray_asks, tray_comes, tray_goes, tray_lost_unless, tray_with_copies}
 
 -- numbers of copies
 
@@ -29,21 +30,6 @@ copies_shown calls i e Drop = λ j. record (tray_of calls i) { copies = numbers-
 copies_shown calls i e Twice = λ j. record (tray_of calls i) { copies = numbers-two i.copies e j; late = numbers-none i.late j }
 copies_shown calls i e Late = λ j. record (tray_of calls i) { copies = numbers-none i.copies j; late = numbers-append i.late (e ∷ []) j }
 copies_shown calls i e Again = λ j. record (tray_of calls i) { copies = numbers-append i.copies (e ∷ []) j; late = numbers-append i.late (e ∷ []) j }
-
--- requests by their numbers
-
-has-numbers : (rs : List SentRequest) (n : ℕ) → has_request rs n ≡ has_number (request_numbers rs) n
-has-numbers [] n = refl
-has-numbers (r ∷ rs) n = ap (λ (t : Bool). (r.number == n) || t) (has-numbers rs n)
-
-without-numbers : (rs : List SentRequest) (n : ℕ) → request_numbers (without_request rs n) ≡ without_number (request_numbers rs) n
-without-numbers [] n = refl
-without-numbers (r ∷ rs) n = by (not (r.number == n)) (without-numbers rs n)
-  where
-    by : (t : Bool) → request_numbers (without_request rs n) ≡ without_number (request_numbers rs) n
-        → request_numbers (cond t (r ∷ without_request rs n) (without_request rs n)) ≡ cond t (r.number ∷ without_number (request_numbers rs) n) (without_number (request_numbers rs) n)
-    by true rest = ap (λ (ns : List ℕ). r.number ∷ ns) rest
-    by false rest = rest
 
 answered_shown : (calls : ℕ) (i : Inbox) (number : ℕ) (f : Fate) → tray_of calls (request_answered i number f) ≡ tray_answered (tray_of calls i) number f
 answered_shown calls i number f =

@@ -5,7 +5,7 @@ use Rattle.qc_msg.specs.declared.message.Envelope.{Envelope}
 use Rattle.qc_msg.specs.Deeds.{mail}
 use Rattle.qc_msg.specs.Steps.{Entry}
 use Rattle.qc_script.specs.Inbox.{Inbox, count_of, everybody, inbox}
-use Rattle.qc_script.specs.Requests.{SentRequest}
+use Rattle.qc_script.specs.Requests.{request_numbers}
 use Rattle.qc_script.specs.Steady.{LeavesAllUp, LeavesUp}
 use Rattle.qc_script.specs.declared.script.Script.{Script}
 use Rattle.qc_inbox.specs.Inboxes.{Inboxes, Tray}
@@ -16,9 +16,6 @@ use Rattle.qc_link.specs.Limits.{most_actors}
 
 abbrev pub numbers_of : List Envelope → List ℕ
 numbers_of es = map (λ (e : Envelope). e.number) es
-
-abbrev pub request_numbers : List SentRequest → List ℕ
-request_numbers requests = map (λ (r : SentRequest). r.number) requests
 
 -- the tray of an inbox whose actor called so many commands in this phase
 abbrev pub tray_of : ℕ → Inbox → Tray

@@ -1,14 +1,13 @@
 -- What changes in an actor's tray. What all inboxes have in common, cuts, counts and control lines, stands beside the
 -- trays.
-use Rattle.std.specs.Prelude.{ℕ, ◌+◌, ◌==◌, Bool, true, false, not, if◌then◌else◌, List, [], ◌∷◌, ◌++◌, drop, filter}
-use Rattle.std.specs.List.{list_any}
+use Rattle.std.specs.Prelude.{ℕ, ◌+◌, Bool, true, false, if◌then◌else◌, List, [], ◌∷◌, ◌++◌, drop}
 use Rattle.qc_link.specs.declared.rule.Fate.{Fate}
 use Rattle.qc_link.specs.declared.rule.Fate.TheVariants.{Pass, Drop, Twice, Late, Again}
 use Rattle.qc_msg.specs.declared.message.Message.{Message}
 use Rattle.qc_msg.specs.declared.message.Message.TheVariants as messages
 use Rattle.qc_msg.specs.declared.step.Command.{Command}
 use Rattle.qc_script.specs.Inbox.{comes_at_once, is_request}
-use Rattle.qc_script.specs.Requests.{with_number}
+use Rattle.qc_script.specs.Requests.{has_number, with_number, without_number}
 use Rattle.qc_inbox.specs.Inboxes.{Tray}
 
 abbrev pub empty_tray : Tray
@@ -23,14 +22,6 @@ empty_tray =
       busy = false;
       calls = 0;
     }
-
--- numbers of requests
-
-abbrev pub without_number : List ℕ → ℕ → List ℕ
-without_number ns n = filter (λ m. not (m == n)) ns
-
-abbrev pub has_number : List ℕ → ℕ → Bool
-has_number ns n = list_any (λ m. m == n) ns
 
 -- the copies that a fate makes of the message of a number
 abbrev pub tray_with_copies : Tray → ℕ → Fate → Tray
