@@ -10,7 +10,7 @@ that make it, and its script. A law names each: performed over its script, the
 moves give just the history, and nothing is left to do. And wrong histories
 (`wrong_falls.py`), with a law that refuses each. It writes specs/, proofs/ and
 src/ there, but not specs/Perform.antt, Words.antt, Whole.antt, Refused.antt,
-proofs/Sound.antt, Refusing.antt, src/lib.rt and src/laws.rt; `rt fmt` then finds
+proofs/KeptRecords.antt, Sound.antt, Refusing.antt, src/lib.rt and src/laws.rt; `rt fmt` then finds
 nothing to lay out.
 """
 
@@ -21,7 +21,7 @@ sys.dont_write_bytecode = True
 import wrong_falls
 from choosing import chosen_of
 from falling import moves
-from modules import IMPORTS, filled, imported, module, told, variants, words_of
+from modules import COLUMNS, IMPORTS, filled, imported, module, told, variants, words_of
 from runs import low, module as scripts_module
 from spelling import kind, record as spelled_record, step as spelled_step
 from wrong_falls import NEVER, PARTS
@@ -112,14 +112,18 @@ def told_falls(decl, history):
     """A line on a random history: what it holds."""
     fell = [x for _, x in history if kind(x) == "Fell"]
     unwritten = sum(x.pending is not None for x in fell)
-    return told(decl, history)[:-1] + ", falls %d, rises %d%s." % (
-        len(fell), sum(kind(x) == "Rose" for _, x in history), ", unwritten records %d" % unwritten if unwritten else "")
+    rises = sum(kind(x) == "Rose" for _, x in history)
+    more = ", unwritten records %d" % unwritten if unwritten else ""
+    return told(decl, history)[:-1] + ", falls %d, rises %d%s." % (len(fell), rises, more)
 
 
 # Laws.
 
 def law(doc, name, clauses):
-    text = "".join("    ensures %s { %s }\n" % clause for clause in clauses)
+    text = ""
+    for clause in clauses:
+        line = "    ensures %s { %s }\n" % clause
+        text += line if len(line) <= COLUMNS + 1 else line.replace(" ≡ ", "\n        ≡ ")
     return "\n/// %s\npub fn %s()\n%s{}\n" % (doc, name, text)
 
 
@@ -132,7 +136,7 @@ def answers(source, name, lemmas, names, end):
 
 
 def make_runs(source, name, doc, file, group, histories):
-    """A law of right histories: (name, what it holds, its declaration or None for the built-in one, script, history)."""
+    """A law of right histories: (name, what it holds, declaration, or None for the built-in one, script, history)."""
     write("specs/%sScripts.antt" % file, scripts_module(doc, [(low(n), s) for n, _, _, s, _ in histories]))
     statements, paths = [], ["Rattle.tests_falls.specs.Perform.{run_with_falls}"]
     for n, says, decl, _, history in histories:
@@ -160,7 +164,8 @@ def make_worked(model):
         run.go()
         histories.append((name, says, None if text.startswith("@") else decl, script, run.still.history))
     modules, lemmas, paths, text = make_runs(
-        "worked", "worked_falls_are_runs", "The worked histories are whole runs of their scripts.", "Worked", "", histories)
+        "worked", "worked_falls_are_runs", "The worked histories are whole runs of their scripts.", "Worked", "",
+        histories)
     write("src/worked.rt", "//! Histories with falls that were worked by hand first.\n\n"
           "ghost use Rattle.std.specs.Prelude.{◌≡◌, Some};\n%s%s" % ("".join(paths), text))
     return modules, [lemmas]
@@ -174,8 +179,9 @@ def make_random(picked):
         named = [("Random%d" % (first + k + 1), told_falls(decl, history), decl, script, history)
                  for k, (_, decl, script, history) in enumerate(group)]
         m, l, p, text = make_runs(
-            "random", "falls_%d_to_%d_are_runs" % span, "The random histories %d to %d are whole runs of their scripts." % span,
-            "Random%dTo%d" % span, str(first // GROUP + 1), named)
+            "random", "falls_%d_to_%d_are_runs" % span,
+            "The random histories %d to %d are whole runs of their scripts." % span, "Random%dTo%d" % span,
+            str(first // GROUP + 1), named)
         modules, lemmas, paths, laws = modules + m, lemmas + [l], paths + p, laws + text
     write("src/random.rt", "//! Random histories of the model with falls, from the shortest to the longest.\n\n"
           "ghost use Rattle.std.specs.Prelude.{◌≡◌, Some};\n%s%s" % ("".join(dict.fromkeys(paths)), laws))
@@ -210,10 +216,12 @@ def make_wrong(stories):
                          ("Rattle.qc_msg.specs.declared.record.Record", ("Record",))):
         out += imported(where, [n for n in names if n in used or n == "◌∷◌"])
     write("specs/WrongFalls.antt", out + variants(used) + body)
-    paths = [THREE, "Rattle.tests_falls.specs.Refused.{IsNoPost, IsNoRise}", "Rattle.tests_falls.specs.WrongFalls as wrong"]
+    paths = [THREE, "Rattle.tests_falls.specs.Refused.{IsNoPost, IsNoRise}",
+             "Rattle.tests_falls.specs.WrongFalls as wrong"]
     write("proofs/WrongFalls.antt", (
         "-- No wrong history with falls is right.\nuse Rattle.std.proofs.Common.{◌≡◌, ℕ, inl, inr, refl, ap}\n%s"
-        "use Rattle.tests_falls.proofs.Refusing.{clock_written, life_begun, refused}\n%s" % ("".join("use %s\n" % p for p in paths), lemmas)))
+        "use Rattle.tests_falls.proofs.Refusing.{clock_written, life_begun, refused}\n%s" % (
+            "".join("use %s\n" % path for path in paths), lemmas)))
     text = ""
     for what, doc, name in (
             ("posts", "No lawful turn posts these steps.", "wrong_posts_through_falls_are_refused"),
@@ -243,7 +251,8 @@ def main(words):
     made.append(make_wrong(wrong_falls.stories(run, step, msg, record, reply)))
     for feature, count in sorted(seen.items()):
         print("%4d  %s" % (count, feature))
-    for folder, known, which in (("specs", ["Words", "Perform", "Whole", "Refused"], 0), ("proofs", ["Sound", "Refusing"], 1)):
+    for folder, known, which in (("specs", ["Words", "Perform", "Whole", "Refused"], 0),
+                                 ("proofs", ["KeptRecords", "Sound", "Refusing"], 1)):
         write("%s/Lib.antt" % folder, "".join("pub mod %s\n" % m for m in known + sum((m[which] for m in made), [])))
 
 

@@ -1,5 +1,5 @@
-"""Wrong histories with falls: after a right beginning of the model's, a post that no lawful turn has, or records that no
-journal gives back. A story is (name, what is wrong, the law that it belongs to, actor, the steps before, what is wrong).
+"""Wrong histories with falls: after a right beginning of the model's, a post that no lawful turn has, or records that
+no journal gives back. A story is (name, what is wrong, which of the two, actor, the steps before, the wrong ones).
 """
 
 import dataclasses

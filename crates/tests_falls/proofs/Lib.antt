@@ -1,3 +1,4 @@
+pub mod KeptRecords
 pub mod Sound
 pub mod Refusing
 pub mod WorkedRuns

@@ -6,19 +6,20 @@ use Rattle.std.proofs.lemmas.List.{length-replicate, length-set}
 use Rattle.qc_core.specs.Conduct.{IsLawfulWithFalls, turn_with_falls}
 use Rattle.qc_core.proofs.LivesLaws.{called_written}
 use Rattle.qc_decl.specs.declared.declaration.Declaration.{Declaration}
-use Rattle.qc_decl.specs.Actors.{actors}
+use Rattle.qc_decl.specs.Actors.{actors, controller}
 use Rattle.qc_msg.specs.declared.record.Record.{Record}
 use Rattle.qc_msg.specs.declared.step.Control.{Control}
 use Rattle.qc_msg.specs.declared.step.Control.TheVariants as controls
 use Rattle.qc_msg.specs.declared.step.Fall.{Fall}
 use Rattle.qc_msg.specs.declared.step.Fall.TheVariants as causes
 use Rattle.qc_msg.specs.declared.step.Given.{Given}
+use Rattle.qc_msg.specs.declared.step.Given.TheVariants as given
 use Rattle.qc_msg.specs.declared.step.Step.TheVariants as steps
 use Rattle.qc_msg.specs.declared.turn.Appended.{Appended}
 use Rattle.qc_msg.specs.declared.turn.Appended.TheVariants.{Done, Failed, Stopped}
 use Rattle.qc_msg.specs.declared.turn.Turn.{Turn}
-use Rattle.qc_msg.specs.Deeds.{Deed, deeds, own}
-use Rattle.qc_msg.specs.Steps.{Entry, HasRecord, marked}
+use Rattle.qc_msg.specs.Deeds.{Deed, deeds, mail, own}
+use Rattle.qc_msg.specs.Steps.{Entry, HasRecord, by, marked, posted_as, step_of}
 use Rattle.qc_promise.specs.Kept.{journal_of}
 use Rattle.qc_script.specs.declared.script.Script.{Script}
 use Rattle.qc_script.specs.Ready.{controls_left, phase_of, ready}
@@ -26,10 +27,18 @@ use Rattle.qc_script.specs.RunsWithFalls.{IsByDisk, begins, takes, posts, phase,
 use Rattle.tests_runs.specs.Perform.{Stage, ended, is_over, is_quiet, may_begin, none_left, nothing_done, taken_by, with_step, with_taken}
 use Rattle.tests_runs.proofs.Sound.{all_closed, first_of_both, no_controls, none_open, quiet_below, quiet_closed, second_of_both}
 use Rattle.tests_falls.specs.Perform.{Move, Begins, Acts, Takes, Posts, Rises, Unopened, acted_by, are_fit, ending_so, given_back, is_by_disk, moved, moved_on, posted_by, restarted, rises_by, risen_with, run_with_falls, turn_in, unopened_by, where_recorded, with_fall, with_posted, with_rise}
+use Rattle.tests_falls.proofs.KeptRecords.{KeptFrom, all_kept, kept_both, post_kept, rise_kept}
 use Rattle.tests_falls.specs.Whole.{IsRun, IsWholeRun}
 
-abbrev IsRunTo : Declaration → Script → Stage → Type 0
-IsRunTo decl script s = IsRun decl script s.history s.open_inputs
+-- what a schedule has made so far
+
+record IsRunTo (decl : Declaration) (script : Script) (s : Stage) : Type 0 where
+  run : IsRun decl script s.history s.open_inputs
+  kept : KeptFrom [] s.history
+
+goes_on : (decl : Declaration) (script : Script) (s t : Stage) (next : Stage) (more : List Entry) → IsRunTo decl script s → next.history ≡ s.history ++ more → KeptFrom s.history more → next ≡ t → IsRun decl script next.history next.open_inputs → IsRunTo decl script t
+goes_on decl script s t next more so is kept same run =
+    subst (IsRunTo decl script) same (record { run = run; kept = subst (KeptFrom []) (sym is) (kept_both [] s.history more so.kept kept) })
 
 -- a turn whose record ends as the schedule says is lawful
 
@@ -67,6 +76,11 @@ lawful_in decl a h end t is = by (turn_with_falls decl a (deeds a [] h)) refl is
 
 -- each move is an event of a run
 
+input_kept : (h : List Entry) (a : ℕ) (given : Given) → KeptFrom h (marked a (step_of given) ∷ [])
+input_kept h a (given.Called command) = (tt, tt)
+input_kept h a (given.Got envelope) = (tt, tt)
+input_kept h a (given.Lost number) = (tt, tt)
+
 takes_soundly : (decl : Declaration) (script : Script) (s t : Stage) (a : ℕ) (opened : Option Bool) (given : Option Given) → IsRunTo decl script s
     → slice_get s.open_inputs a ≡ opened → ready decl script a s.history ≡ given → taken_by s a opened given ≡ Some t → IsRunTo decl script t
 takes_soundly decl script s t a None given run opens comes is = absurd (let never : ⊥ = cc in never)
@@ -74,7 +88,7 @@ takes_soundly decl script s t a (Some true) given run opens comes is = absurd (l
 takes_soundly decl script s t a (Some false) None run opens comes is = absurd (let never : ⊥ = cc in never)
 takes_soundly decl script s t a (Some false) (Some given) run opens comes is =
     let same : with_taken s a given ≡ t = cc in
-    subst (IsRunTo decl script) same (takes a given s.open_inputs s.history run opens comes)
+    goes_on decl script s t (with_taken s a given) (marked a (step_of given) ∷ []) run refl (input_kept s.history a given) same (takes a given s.open_inputs s.history run.run opens comes)
 
 posts_soundly : (decl : Declaration) (script : Script) (s t : Stage) (a : ℕ) (end : Appended) (opened : Option Bool) (turn : Option Turn) → IsRunTo decl script s
     → slice_get s.open_inputs a ≡ opened → turn_in decl a s.history end ≡ turn → posted_by s a opened turn ≡ Some t → IsRunTo decl script t
@@ -83,7 +97,8 @@ posts_soundly decl script s t a end (Some false) turn run opens calls is = absur
 posts_soundly decl script s t a end (Some true) None run opens calls is = absurd (let never : ⊥ = cc in never)
 posts_soundly decl script s t a end (Some true) (Some turn) run opens calls is =
     let same : with_posted s a turn ≡ t = cc in
-    subst (IsRunTo decl script) same (posts a turn s.open_inputs s.history run opens (lawful_in decl a s.history end turn calls))
+    goes_on decl script s t (with_posted s a turn) (by a (posted_as turn.append (length (mail s.history)) turn)) run refl (post_kept turn.append (length (mail s.history)) turn s.history a) same
+    (posts a turn s.open_inputs s.history run.run opens (lawful_in decl a s.history end turn calls))
 
 begins_soundly : (decl : Declaration) (script : Script) (s t : Stage) (may : Bool) → IsRunTo decl script s → may_begin decl script s ≡ may
     → cond may (Some (with_step decl s (steps.Phase (phase_of s.history + 1)))) None ≡ Some t → IsRunTo decl script t
@@ -94,8 +109,8 @@ begins_soundly decl script s t true run may is =
     let quiet : is_quiet decl script s ≡ true =
     second_of_both (none_left (controls_left script s.history) && nat_lt (phase_of s.history) (length script.phases)) (is_quiet decl script s) may in
     let same : with_step decl s (steps.Phase (phase_of s.history + 1)) ≡ t = cc in
-    subst (IsRunTo decl script) same
-    (phase s.open_inputs s.history run
+    goes_on decl script s t (with_step decl s (steps.Phase (phase_of s.history + 1))) (marked (controller decl) (steps.Phase (phase_of s.history + 1)) ∷ []) run refl (tt, tt) same
+    (phase s.open_inputs s.history run.run
     (λ a. none_open s.open_inputs a (quiet_closed decl script s quiet))
     (no_controls (controls_left script s.history) (first_of_both (none_left (controls_left script s.history)) (nat_lt (phase_of s.history) (length script.phases)) before))
     (quiet_below decl script s quiet)
@@ -107,16 +122,17 @@ acts_soundly decl script s t [] run left is = absurd (let never : ⊥ = cc in ne
 acts_soundly decl script s t (controls.Phase k ∷ lines) run left is = absurd (let never : ⊥ = cc in never)
 acts_soundly decl script s t (controls.Cut a b ∷ lines) run left is =
     let same : with_step decl s (steps.Cut a b) ≡ t = cc in
-    subst (IsRunTo decl script) same (control (controls.Cut a b) lines (steps.Cut a b) s.open_inputs s.history run left refl)
+    goes_on decl script s t (with_step decl s (steps.Cut a b)) (marked (controller decl) (steps.Cut a b) ∷ []) run refl (tt, tt) same (control (controls.Cut a b) lines (steps.Cut a b) s.open_inputs s.history run.run left refl)
 acts_soundly decl script s t (controls.Heal a b ∷ lines) run left is =
     let same : with_step decl s (steps.Heal a b) ≡ t = cc in
-    subst (IsRunTo decl script) same (control (controls.Heal a b) lines (steps.Heal a b) s.open_inputs s.history run left refl)
+    goes_on decl script s t (with_step decl s (steps.Heal a b)) (marked (controller decl) (steps.Heal a b) ∷ []) run refl (tt, tt) same (control (controls.Heal a b) lines (steps.Heal a b) s.open_inputs s.history run.run left refl)
 acts_soundly decl script s t (controls.Armed actor kind at ∷ lines) run left is =
     let same : with_step decl s (steps.Armed actor kind at) ≡ t = cc in
-    subst (IsRunTo decl script) same (control (controls.Armed actor kind at) lines (steps.Armed actor kind at) s.open_inputs s.history run left refl)
+    goes_on decl script s t (with_step decl s (steps.Armed actor kind at)) (marked (controller decl) (steps.Armed actor kind at) ∷ []) run refl (tt, tt) same
+    (control (controls.Armed actor kind at) lines (steps.Armed actor kind at) s.open_inputs s.history run.run left refl)
 acts_soundly decl script s t (controls.Crash a ∷ lines) run left is =
     let same : with_fall s a causes.Script ≡ t = cc in
-    subst (IsRunTo decl script) same (falls a lines s.open_inputs s.history run left)
+    goes_on decl script s t (with_fall s a causes.Script) (marked a (steps.Fell causes.Script None) ∷ []) run refl (tt, tt) same (falls a lines s.open_inputs s.history run.run left)
 acts_soundly decl script s t (controls.Restart a ∷ lines) run left is = absurd (let never : ⊥ = cc in never)
 
 -- whom the first line restarts
@@ -139,17 +155,18 @@ recorded : (write : Option Record) → is_some write ≡ true → HasRecord writ
 recorded None is = absurd (let never : ⊥ = cc in never)
 recorded (Some written) is = tt
 
-rises_soundly : (decl : Declaration) (script : Script) (s t : Stage) (a : ℕ) (end : Appended) (records : List Record) → IsRunTo decl script s → Restarts script s.history a → (turn : Option Turn)
+rises_soundly : (decl : Declaration) (script : Script) (s t : Stage) (a : ℕ) (end : Appended) (records : List Record) → IsRunTo decl script s → Restarts script s.history a
+    → ((end : Appended) (n : ℕ) (turn : Turn) → KeptFrom s.history (by a (steps.Rose records ∷ posted_as end n turn))) → (turn : Option Turn)
     → turn_in decl a (s.history ++ marked a (steps.Rose records) ∷ []) end ≡ turn → risen_with decl s a records turn ≡ Some t → IsRunTo decl script t
-rises_soundly decl script s t a end records run line None calls is = absurd (let never : ⊥ = cc in never)
-rises_soundly decl script s t a end records run line (Some turn) calls is = by (are_fit decl a 0 records && is_some turn.write) refl is
+rises_soundly decl script s t a end records run line kept None calls is = absurd (let never : ⊥ = cc in never)
+rises_soundly decl script s t a end records run line kept (Some turn) calls is = if_fit (are_fit decl a 0 records && is_some turn.write) refl is
   where
-    by : (may : Bool) → (are_fit decl a 0 records && is_some turn.write) ≡ may → cond may (Some (with_rise s a records turn)) None ≡ Some t → IsRunTo decl script t
-    by false may is = absurd (let never : ⊥ = cc in never)
-    by true may is =
+    if_fit : (may : Bool) → (are_fit decl a 0 records && is_some turn.write) ≡ may → cond may (Some (with_rise s a records turn)) None ≡ Some t → IsRunTo decl script t
+    if_fit false may is = absurd (let never : ⊥ = cc in never)
+    if_fit true may is =
         let same : with_rise s a records turn ≡ t = cc in
-        subst (IsRunTo decl script) same
-        (rises a records turn line.0 s.open_inputs s.history run line.1
+        goes_on decl script s t (with_rise s a records turn) (by a (steps.Rose records ∷ posted_as turn.append (length (mail s.history)) turn)) run refl (kept turn.append (length (mail s.history)) turn) same
+        (rises a records turn line.0 s.open_inputs s.history run.run line.1
         (first_of_both (are_fit decl a 0 records) (is_some turn.write) may)
         (recorded turn.write (second_of_both (are_fit decl a 0 records) (is_some turn.write) may))
         (lawful_in decl a (s.history ++ marked a (steps.Rose records) ∷ []) end turn calls))
@@ -159,6 +176,7 @@ rises_by_soundly : (decl : Declaration) (script : Script) (s t : Stage) (back : 
 rises_by_soundly decl script s t back end None run line is = absurd (let never : ⊥ = cc in never)
 rises_by_soundly decl script s t back end (Some a) run line is =
     rises_soundly decl script s t a end (given_back back (journal_of (own a s.history))) run (restarts script s.history a (controls_left script s.history) refl line)
+    (rise_kept s.history a back)
     (turn_in decl a (s.history ++ marked a (steps.Rose (given_back back (journal_of (own a s.history)))) ∷ []) end) refl is
 
 by_disk : (cause : Fall) → is_by_disk cause ≡ true → IsByDisk cause
@@ -178,7 +196,7 @@ unopened_soundly decl script s t cause (Some a) run line is = by (is_by_disk cau
     by false may is = absurd (let never : ⊥ = cc in never)
     by true may is =
         let same : with_fall s a cause ≡ t = cc in
-        subst (IsRunTo decl script) same (unopened a cause here.0 s.open_inputs s.history run here.1 (by_disk cause may))
+        goes_on decl script s t (with_fall s a cause) (marked a (steps.Fell cause None) ∷ []) run refl (tt, tt) same (unopened a cause here.0 s.open_inputs s.history run.run here.1 (by_disk cause may))
 
 moves_soundly : (decl : Declaration) (script : Script) (s t : Stage) (move : Move) → IsRunTo decl script s → moved decl script s move ≡ Some t → IsRunTo decl script t
 moves_soundly decl script s t Begins run is = begins_soundly decl script s t (may_begin decl script s) run refl is
@@ -213,16 +231,17 @@ runs_length decl script h open_inputs (unopened a cause lines before k run left 
 -- the whole run
 
 over_is_whole : (decl : Declaration) (script : Script) (s : Stage) → IsRunTo decl script s → is_over decl script s ≡ true → IsWholeRun decl script s.history
-over_is_whole decl script s run over =
+over_is_whole decl script s so over =
     let before : (none_left (controls_left script s.history) && (phase_of s.history == length script.phases)) ≡ true =
     first_of_both (none_left (controls_left script s.history) && (phase_of s.history == length script.phases)) (is_quiet decl script s) over in
     let quiet : is_quiet decl script s ≡ true =
     second_of_both (none_left (controls_left script s.history) && (phase_of s.history == length script.phases)) (is_quiet decl script s) over in
     let closed : s.open_inputs ≡ replicate (actors decl) false =
     all_closed s.open_inputs (quiet_closed decl script s quiet)
-    ∙ ap (λ n. replicate n false) (runs_length decl script s.history s.open_inputs run) in
+    ∙ ap (λ n. replicate n false) (runs_length decl script s.history s.open_inputs so.run) in
     record {
-      closed = subst (IsRun decl script s.history) closed run;
+      closed = subst (IsRun decl script s.history) closed so.run;
+      kept = all_kept s.history so.kept;
       begun = eqb-true (phase_of s.history) (length script.phases) (second_of_both (none_left (controls_left script s.history)) (phase_of s.history == length script.phases) before);
       acted = no_controls (controls_left script s.history) (first_of_both (none_left (controls_left script s.history)) (phase_of s.history == length script.phases) before);
       quiet = quiet_below decl script s quiet;
@@ -237,4 +256,4 @@ run_is_whole decl script moves h is = by_end (moved_on decl script (nothing_done
 
     by_end : (last : Option Stage) → moved_on decl script (nothing_done decl) moves ≡ last → option_and_then (ended decl script) last ≡ Some h → IsWholeRun decl script h
     by_end None goes is = absurd (let never : ⊥ = cc in never)
-    by_end (Some t) goes is = by_test t (is_over decl script t) (goes_soundly decl script moves (nothing_done decl) t begins goes) refl is
+    by_end (Some t) goes is = by_test t (is_over decl script t) (goes_soundly decl script moves (nothing_done decl) t (record { run = begins; kept = tt }) goes) refl is

@@ -1,6 +1,6 @@
--- A run with falls made by a schedule: whoever is named takes what is ready for it, or posts the turn of its conduct, whose
--- record ends as the schedule says; the controller begins the next phase; the first control line that is left acts. A
--- move that no run has there ends it.
+-- A run with falls made by a schedule: whoever is named takes what is ready for it, or posts the turn of its conduct,
+-- whose record ends as the schedule says; the controller begins the next phase; the first control line that is left
+-- acts. A move that no run has there ends it.
 use Rattle.std.specs.Prelude.{ℕ, ◌+◌, ◌&&◌, Bool, true, false, cond, List, [], ◌∷◌, ◌++◌, length, slice_set}
 use Rattle.std.specs.Prelude.{Option, Some, None, is_some, option_and_then, option_map, option_to_list, slice_get}
 use Rattle.qc_core.specs.Conduct.{turn_with_falls}
@@ -22,9 +22,9 @@ use Rattle.qc_script.specs.declared.script.Script.{Script}
 use Rattle.qc_script.specs.Ready.{controls_left, ready}
 use Rattle.tests_runs.specs.Perform.{Stage, ended, nothing_done, taken_by, with_phase, with_step}
 
--- the next phase begins; the first control line that is left acts, and restarts nobody; an actor takes what is ready for
--- it; an actor posts its turn, whose record ends so; an actor rises by the first control line, with the record that was
--- being written as it fell or without it, and its rising turn ends so; or its journal isn't opened, for this cause
+-- the next phase begins; the first control line that is left acts, and restarts nobody; an actor takes what is ready
+-- for it; an actor posts its turn, whose record ends so; an actor rises by the first control line, with the record that
+-- was being written as it fell or without it, and its rising turn ends so; or its journal isn't opened, for this cause
 pub data Move : Type 0 where
   Begins : Move
   Acts : Move

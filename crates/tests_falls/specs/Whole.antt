@@ -5,6 +5,7 @@ use Rattle.qc_decl.specs.declared.declaration.Declaration.{Declaration}
 use Rattle.qc_decl.specs.Actors.{actors}
 use Rattle.qc_msg.specs.declared.record.Record.{Record}
 use Rattle.qc_msg.specs.Steps.{Entry}
+use Rattle.qc_promise.specs.Kept.{Kept}
 use Rattle.qc_script.specs.declared.script.Script.{Script}
 use Rattle.qc_script.specs.Ready.{controls_left, phase_of, ready}
 use Rattle.qc_script.specs.RunsWithFalls.{RunsWithFalls}
@@ -20,6 +21,8 @@ IsRun decl script h open_inputs = RunsWithFalls (IsLawfulWithFalls decl) (AreFit
 pub record IsWholeRun (decl : Declaration) (script : Script) (h : List Entry) : Type 0 where
   -- it is a run with falls, and each input that was taken has its turn
   pub closed : IsRun decl script h (replicate (actors decl) false)
+  -- no disk has lost a record
+  pub kept : Kept h
   -- every phase began, and all their control lines acted
   pub begun : phase_of h ≡ length script.phases
   pub acted : controls_left script h ≡ []

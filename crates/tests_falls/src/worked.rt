@@ -13,10 +13,14 @@ ghost use Rattle.tests_falls.specs.WorkedScripts as scripts;
 
 /// The worked histories are whole runs of their scripts.
 pub fn worked_falls_are_runs()
-    ensures restarted_site { run_with_falls three scripts.restarted_site restarted_site.moves ≡ Some restarted_site.history }
-    ensures unknown_commit { run_with_falls three scripts.unknown_commit unknown_commit.moves ≡ Some unknown_commit.history }
-    ensures lost_decisions { run_with_falls three scripts.lost_decisions lost_decisions.moves ≡ Some lost_decisions.history }
-    ensures faulty_promise { run_with_falls faulty_promise.decl scripts.faulty_promise faulty_promise.moves ≡ Some faulty_promise.history }
+    ensures restarted_site { run_with_falls three scripts.restarted_site restarted_site.moves
+        ≡ Some restarted_site.history }
+    ensures unknown_commit { run_with_falls three scripts.unknown_commit unknown_commit.moves
+        ≡ Some unknown_commit.history }
+    ensures lost_decisions { run_with_falls three scripts.lost_decisions lost_decisions.moves
+        ≡ Some lost_decisions.history }
+    ensures faulty_promise { run_with_falls faulty_promise.decl scripts.faulty_promise faulty_promise.moves
+        ≡ Some faulty_promise.history }
     ensures second_lives { run_with_falls three scripts.second_lives second_lives.moves ≡ Some second_lives.history }
     ensures kept_promise { run_with_falls three scripts.kept_promise kept_promise.moves ≡ Some kept_promise.history }
 {}
