@@ -62,7 +62,7 @@ still_shown old trays a m n i j shows keeps tray = record {
 
 -- inputs
 
-input_keeps : (script : Script) (b : ℕ) (i : Inbox) (a : ℕ) (g : Given) → Keeps i (inbox_at script b i a (step_of g))
+pub input_keeps : (script : Script) (b : ℕ) (i : Inbox) (a : ℕ) (g : Given) → Keeps i (inbox_at script b i a (step_of g))
 input_keeps script b i a (given.Called command) = by_test (Keeps i) (a == b) (command_called i) i (record { cuts = refl; up = refl; controls = refl; from_each = refl; to_each = refl }) (same i)
 input_keeps script b i a (given.Got envelope) = by_test (Keeps i) (a == b) (copy_taken i) i (record { cuts = refl; up = refl; controls = refl; from_each = refl; to_each = refl }) (same i)
 input_keeps script b i a (given.Lost number) = by_test (Keeps i) (a == b) (loss_taken i) i (record { cuts = refl; up = refl; controls = refl; from_each = refl; to_each = refl }) (same i)

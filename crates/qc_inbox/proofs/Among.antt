@@ -246,6 +246,9 @@ first_found decl a ms i g numbered waits is = controls i.controls is
     controls [] is = copy i.copies waits.copies is
     controls (c ∷ cs) is = absurd (let never : ⊥ = cc in never)
 
+pub sent_ready : (decl : Declaration) (script : Script) (h : List Entry) (a : ℕ) (g : Given) → AreNumbered (mail h) → ready.ready decl script a h ≡ Some g → WasSentTo a (mail h) g
+sent_ready decl script h a g numbered ready_ = first_found decl a (mail h) (inbox script a h) g numbered (inbox_waits script a h) ready_
+
 pub ready_found : (decl : Declaration) (script : Script) (h : List Entry) (kept : Inboxes) (a : ℕ) (g : Given) → IsKept script h kept → ready.ready decl script a h ≡ Some g → WasSentTo a (mail h) g
 ready_found decl script h kept a g is ready_ = first_found decl a (mail h) (inbox script a h) g is.numbered (inbox_waits script a h) ready_
 

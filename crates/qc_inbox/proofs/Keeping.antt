@@ -88,7 +88,7 @@ numbered_from k (m ∷ ms) e before is (suc n) f found =
     let there : f.number ≡ (k + 1) + n = numbered_from (k + 1) ms e after long n f found in
     omega arith
 
-numbered_more : (ms : List Envelope) (e : Envelope) → AreNumbered ms → e.number ≡ length ms → AreNumbered (ms ++ e ∷ [])
+pub numbered_more : (ms : List Envelope) (e : Envelope) → AreNumbered ms → e.number ≡ length ms → AreNumbered (ms ++ e ∷ [])
 numbered_more ms e before is n f found =
     let after : (j : ℕ) (g : Envelope) → slice_get ms j ≡ Some g → g.number ≡ 0 + j = λ j g at. let there : g.number ≡ j = before j g at in omega arith in
     let long : e.number ≡ 0 + length ms = omega arith in
