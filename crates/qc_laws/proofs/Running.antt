@@ -97,7 +97,7 @@ never_mine : (mine running : Bool) (d : Deed) → AreUp (cond mine (d ∷ []) []
 never_mine true running d up never = absurd (never up.0)
 never_mine false running d up never = refl
 
-busy_step : (script : Script) (a : ℕ) (i : Inbox) (b : ℕ) (ms : List Envelope) (step : Step) → AreUp (cond (b == a) (deed_at ms step) []) → (inbox_at script a i b step).busy ≡ fold runs_at i.busy (cond (b == a) (deed_at ms step) [])
+pub busy_step : (script : Script) (a : ℕ) (i : Inbox) (b : ℕ) (ms : List Envelope) (step : Step) → AreUp (cond (b == a) (deed_at ms step) []) → (inbox_at script a i b step).busy ≡ fold runs_at i.busy (cond (b == a) (deed_at ms step) [])
 busy_step script a i b ms (steps.Phase k) up = busy_phase a i (slice_get script.phases (k - 1)) ∙ no_deed (b == a) i.busy
 busy_step script a i b ms (steps.Cut x y) up = busy_acted a (record i { cuts = with_cut i.cuts x y }) ∙ no_deed (b == a) i.busy
 busy_step script a i b ms (steps.Heal x y) up = busy_acted a (record i { cuts = without_cut i.cuts x y }) ∙ no_deed (b == a) i.busy
