@@ -1,0 +1,5 @@
+pub mod SiteRows
+pub mod Admin
+pub mod Answers
+pub mod Deciding
+pub mod Conduct
