@@ -16,7 +16,7 @@ use Rattle.qc_msg.specs.declared.message.Want.TheVariants.{Read, Append, Prepare
 use Rattle.qc_msg.specs.declared.record.Record.{Record}
 use Rattle.qc_msg.specs.declared.record.Record.TheVariants as records
 use Rattle.qc_msg.specs.declared.step.Given.TheVariants as given
-use Rattle.qc_msg.specs.Deeds.{Deed, Takes, Writes, Sends, Tells}
+use Rattle.qc_msg.specs.Deeds.{Deed, Takes, Writes, Sends, Tells, Falls, Rises}
 use Rattle.qc_promise.specs.Account.{Account, ClientRequest, new_account}
 use Rattle.qc_promise.specs.Accounting.{account_at, account_heard, account_sent, account_written, counted, counted_for, granted, is_open, promised, taken_for, told_by}
 use Rattle.qc_promise.specs.Asked.{is_asked_for}
@@ -129,6 +129,8 @@ module _ (decl : Declaration) where
   one_open d (Writes w) q untaken among = inl (written_open d w q among, tt)
   one_open d (Sends n to m) q untaken among = elim (sent_open d n to m q among) [ inl old ↦ inl (old, tt) | inr new ↦ inr new ]
   one_open d (Tells reply) q untaken among = absurd among
+  one_open d (Falls cause pending) q untaken among = inl (among, tt)
+  one_open d (Rises records) q untaken among = inl (among, tt)
 
   came : (ds : List Deed) (d : Account) (q : ClientRequest) → q.taken ≡ None → In q (fold (account_at decl) d ds).requests → (In q d.requests × Every (IsNotFor q.number) ds) ⊎ IsAwaited ds q
   came [] d q untaken among = inl (among, tt)

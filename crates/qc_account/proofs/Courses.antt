@@ -22,6 +22,7 @@ use Rattle.qc_account.proofs.Asks.{due_more}
 use Rattle.qc_account.proofs.Commands.{lawful_turn, may_give}
 use Rattle.qc_account.proofs.Fits.{takes_fit}
 use Rattle.qc_account.proofs.Step.{takes_go}
+use Rattle.qc_laws.proofs.Up.{AreUp, acts_up}
 
 module _ (decl : Declaration) (a : ℕ) (client : is_client decl a ≡ true) where
   abbrev pub account_of : List Deed → Account
@@ -40,6 +41,7 @@ module _ (decl : Declaration) (a : ℕ) (client : is_client decl a ≡ true) whe
     pub given : Given
     pub is : ds ≡ before ++ Takes given ∷ []
     pub rest : IsAtRest before
+    pub up : AreUp before
     pub may : MayTake before given
 
   abbrev pub IsAt : List Deed → Bool → Type 0
@@ -66,9 +68,9 @@ module _ (decl : Declaration) (a : ℕ) (client : is_client decl a ≡ true) whe
   account_take : (ds : List Deed) (g : Given) → account_of (ds ++ Takes g ∷ []) ≡ account_taken (account_of ds) g
   account_take ds g = fold-append (account_at decl) (new_account (a - decl.sites)) ds (Takes g ∷ [])
 
-  at_turn : (ds : List Deed) (g : Given) (first : ℕ) → IsAtRest ds → MayTake ds g
+  at_turn : (ds : List Deed) (g : Given) (first : ℕ) → IsAtRest ds → AreUp ds → MayTake ds g
       → IsAtRest ((ds ++ Takes g ∷ []) ++ turn_deeds first (client_takes decl (move_of ds).client g).turn)
-  at_turn ds g first r may = record {
+  at_turn ds g first r up may = record {
     due = due_more decl (new_account (a - decl.sites)) (ds ++ Takes g ∷ []) (turn_deeds first move.turn)
         (due_more decl (new_account (a - decl.sites)) ds (Takes g ∷ []) r.due (tt, tt))
         (subst (λ (d : Account). AreDeedsDue decl d (turn_deeds first move.turn)) (sym (account_take ds g)) goes.due);
@@ -88,11 +90,11 @@ module _ (decl : Declaration) (a : ℕ) (client : is_client decl a ≡ true) whe
           ∙ ap (λ (m : ClientMove). fold (client_does decl) m (turn_deeds first (client_takes decl (move_of ds).client g).turn)) (after_take ds g)
 
       goes : Goes decl first (account_taken (account_of ds) g) (client_takes decl (move_of ds).client g)
-      goes = takes_go decl first (account_of ds) (move_of ds).client r.holds g (may_give decl (a - decl.sites) ds g may) r.ties
+      goes = takes_go decl first (account_of ds) (move_of ds).client r.holds g (may_give decl (a - decl.sites) ds up g may) r.ties
 
   pub client_acts : (ds : List Deed) (b : Bool) (n : ℕ) → Acts decl a ds b n → IsAt ds b
   client_acts ds b n starts = at_first
-  client_acts ds b n (takes older g m acts may) = record { before = older; given = g; is = refl; rest = client_acts older false m acts; may = may }
+  client_acts ds b n (takes older g m acts may) = record { before = older; given = g; is = refl; rest = client_acts older false m acts; up = acts_up decl a older false m acts; may = may }
   client_acts ds b n (posts older turn m first acts low law) = by (client_acts older true m acts)
     where
       by : IsAtInput older → IsAtRest (older ++ turn_deeds first turn)
@@ -100,7 +102,7 @@ module _ (decl : Declaration) (a : ℕ) (client : is_client decl a ≡ true) whe
           subst (λ (v : List Deed). IsAtRest (v ++ turn_deeds first turn)) (sym at.is)
           (subst (λ (t : Turn). IsAtRest ((at.before ++ Takes at.given ∷ []) ++ turn_deeds first t))
           (sym (lawful_turn decl a older turn client law ∙ ap (λ (v : List Deed). (move_of v).turn) at.is ∙ ap (λ (m : ClientMove). m.turn) (after_take at.before at.given)))
-          (at_turn at.before at.given first at.rest at.may))
+          (at_turn at.before at.given first at.rest at.up at.may))
 
   pub clients_due : (ds : List Deed) (b : Bool) (n : ℕ) → Acts decl a ds b n → AreDeedsDue decl (new_account (a - decl.sites)) ds
   clients_due ds b n acts = by b (client_acts ds b n acts)
@@ -119,5 +121,5 @@ module _ (decl : Declaration) (a : ℕ) (client : is_client decl a ≡ true) whe
   turns_tell ds n turn acts law =
       let at : IsAtInput ds = client_acts ds true n acts in
       ap (λ (t : Turn). t.told) (lawful_turn decl a ds turn client law ∙ ap (λ (v : List Deed). (move_of v).turn) at.is ∙ ap (λ (m : ClientMove). m.turn) (after_take at.before at.given))
-      ∙ (takes_go decl 0 (account_of at.before) (move_of at.before).client at.rest.holds at.given (may_give decl (a - decl.sites) at.before at.given at.may) at.rest.ties).tells
+      ∙ (takes_go decl 0 (account_of at.before) (move_of at.before).client at.rest.holds at.given (may_give decl (a - decl.sites) at.before at.up at.given at.may) at.rest.ties).tells
       ∙ sym (ap (λ (v : List Deed). due decl (account_of v) []) at.is ∙ ap (λ (d : Account). due decl d []) (account_take at.before at.given))

@@ -16,7 +16,7 @@ use Rattle.qc_msg.specs.declared.step.Command.{Command}
 use Rattle.qc_msg.specs.declared.step.Command.TheVariants as commands
 use Rattle.qc_msg.specs.declared.step.Step.{Step}
 use Rattle.qc_msg.specs.declared.step.Step.TheVariants as steps
-use Rattle.qc_msg.specs.Deeds.{Deed, Takes, Writes, Sends, Tells, deed_at, deeds, envelope_of, mail}
+use Rattle.qc_msg.specs.Deeds.{Deed, Takes, Writes, Sends, Tells, Falls, Rises, deed_at, deeds, envelope_of, mail}
 use Rattle.qc_msg.specs.Steps.{Entry}
 use Rattle.qc_msg.proofs.Growth.{deeds-append, mail-append}
 use Rattle.qc_promise.specs.Account.{Account, Current, is_prepare, new_account, requests_for}
@@ -80,6 +80,8 @@ said_due decl (Takes g ∷ ds) d all = (tt, said_due decl ds (account_at decl d 
 said_due decl (Writes w ∷ ds) d all = (all.0, said_due decl ds (account_at decl d (Writes w)) all.1)
 said_due decl (Sends n to m ∷ ds) d all = (tt, said_due decl ds (account_at decl d (Sends n to m)) all.1)
 said_due decl (Tells r ∷ ds) d all = (all.0, said_due decl ds (account_at decl d (Tells r)) all.1)
+said_due decl (Falls cause pending ∷ ds) d all = (all.0, said_due decl ds (account_at decl d (Falls cause pending)) all.1)
+said_due decl (Rises records ∷ ds) d all = (all.0, said_due decl ds (account_at decl d (Rises records)) all.1)
 
 said_behind : (decl : Declaration) (xs ys : List Deed) (d : Account) → AreSaidDue decl d (xs ++ ys) → AreSaidDue decl (fold (account_at decl) d xs) ys
 said_behind decl [] ys d all = all

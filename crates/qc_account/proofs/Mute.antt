@@ -27,7 +27,7 @@ use Rattle.qc_msg.specs.declared.step.Given.{Given}
 use Rattle.qc_msg.specs.declared.step.Given.TheVariants as given
 use Rattle.qc_msg.specs.declared.turn.Posting.{Posting}
 use Rattle.qc_msg.specs.declared.turn.Turn.{Turn}
-use Rattle.qc_msg.specs.Deeds.{Deed, Takes, Writes, Sends, Tells, sends_of, tells_of, turn_deeds, writes_of}
+use Rattle.qc_msg.specs.Deeds.{Deed, Takes, Writes, Sends, Tells, Falls, Rises, sends_of, tells_of, turn_deeds, writes_of}
 use Rattle.qc_msg.specs.Turns.{quiet}
 use Rattle.qc_promise.specs.Account.{Account}
 use Rattle.qc_promise.specs.Accounting.{account_at}
@@ -123,6 +123,8 @@ does_mute decl (Takes g ∷ ds) move is = does_mute decl ds (site_takes decl mov
 does_mute decl (Writes w ∷ ds) move is = does_mute decl ds move is
 does_mute decl (Sends n to m ∷ ds) move is = does_mute decl ds move is
 does_mute decl (Tells r ∷ ds) move is = does_mute decl ds move is
+does_mute decl (Falls cause pending ∷ ds) move is = does_mute decl ds move is
+does_mute decl (Rises records ∷ ds) move is = does_mute decl ds move is
 
 -- so are its deeds
 
@@ -131,6 +133,8 @@ IsMuteDeed (Takes g) = Unit {0}
 IsMuteDeed (Writes w) = NoCommit w
 IsMuteDeed (Sends n to m) = Unit {0}
 IsMuteDeed (Tells r) = ⊥
+IsMuteDeed (Falls cause pending) = ⊥
+IsMuteDeed (Rises records) = ⊥
 
 tells_mute : (n : ℕ) (ps : List Posting) (told : Option Reply) → told ≡ None → Every IsMuteDeed (sends_of n ps ++ tells_of told)
 tells_mute n [] None is = tt
@@ -165,3 +169,5 @@ mute_due decl (Writes (records.Commit commit) ∷ ds) d all = absurd all.0
 mute_due decl (Writes (records.Decide epoch clock lines) ∷ ds) d all = (tt, mute_due decl ds d all.1)
 mute_due decl (Sends n to m ∷ ds) d all = (tt, mute_due decl ds (account_at decl d (Sends n to m)) all.1)
 mute_due decl (Tells r ∷ ds) d all = absurd all.0
+mute_due decl (Falls cause pending ∷ ds) d all = absurd all.0
+mute_due decl (Rises records ∷ ds) d all = absurd all.0

@@ -3,7 +3,7 @@ use Rattle.std.specs.Prelude.{◌≡◌, ℕ, true, List, [], ◌∷◌}
 use Rattle.qc_decl.specs.declared.declaration.Declaration.{Declaration}
 use Rattle.qc_msg.specs.declared.message.Message.{Message}
 use Rattle.qc_msg.specs.declared.message.Message.TheVariants as messages
-use Rattle.qc_msg.specs.Deeds.{Deed, Takes, Writes, Sends, Tells}
+use Rattle.qc_msg.specs.Deeds.{Deed, Takes, Writes, Sends, Tells, Falls, Rises}
 use Rattle.qc_promise.specs.Account.{Account}
 use Rattle.qc_promise.specs.Accounting.{account_at}
 use Rattle.qc_promise.specs.Asked.{is_asked_for}
@@ -25,6 +25,8 @@ IsDeedDue decl d (Takes given) = Unit {0}
 IsDeedDue decl d (Writes written) = IsRecordDue decl d [] written
 IsDeedDue decl d (Sends number to message) = IsSendDue decl d to message
 IsDeedDue decl d (Tells reply) = IsReplyDue decl d [] reply
+IsDeedDue decl d (Falls cause pending) = Unit {0}
+IsDeedDue decl d (Rises records) = Unit {0}
 
 abbrev pub AreDeedsDue : Declaration → Account → List Deed → Type 0
 AreDeedsDue decl d [] = Unit {0}

@@ -12,7 +12,7 @@ use Rattle.qc_msg.specs.declared.message.Message.TheVariants as messages
 use Rattle.qc_msg.specs.declared.message.Want.{Want}
 use Rattle.qc_msg.specs.declared.step.Given.{Given}
 use Rattle.qc_msg.specs.declared.step.Given.TheVariants as given
-use Rattle.qc_msg.specs.Deeds.{Deed, Takes, Writes, Sends, Tells}
+use Rattle.qc_msg.specs.Deeds.{Deed, Takes, Writes, Sends, Tells, Falls, Rises}
 use Rattle.qc_plan.specs.Round.{has_granted}
 use Rattle.qc_plan.specs.Weights.{weight}
 use Rattle.qc_promise.specs.Account.{Account, ClientRequest, Current, is_read}
@@ -63,6 +63,8 @@ IsNotFor number (Takes given) = IsFor number given → ⊥
 IsNotFor number (Writes written) = Unit {0}
 IsNotFor number (Sends sent to message) = Unit {0}
 IsNotFor number (Tells reply) = Unit {0}
+IsNotFor number (Falls cause pending) = Unit {0}
+IsNotFor number (Rises records) = Unit {0}
 
 -- a request was sent, and nothing was taken for it since
 pub record IsAwaited (ds : List Deed) (q : ClientRequest) : Type 0 where

@@ -15,7 +15,7 @@ use Rattle.qc_msg.specs.declared.step.Command.{Command}
 use Rattle.qc_msg.specs.declared.step.Command.TheVariants as commands
 use Rattle.qc_msg.specs.declared.step.Given.{Given}
 use Rattle.qc_msg.specs.declared.step.Given.TheVariants as given
-use Rattle.qc_msg.specs.Deeds.{Deed, Takes, Writes, Sends, Tells}
+use Rattle.qc_msg.specs.Deeds.{Deed, Takes, Writes, Sends, Tells, Falls, Rises}
 use Rattle.qc_msg.specs.Turns.{quiet, sending}
 use Rattle.qc_client.specs.declared.client.Client.{Client}
 use Rattle.qc_client.specs.Client.{ClientMove, moved, by_desk, by_front, new_client, outcome_of}
@@ -84,6 +84,8 @@ client_does decl move (Takes given) = client_takes decl move.client given
 client_does decl move (Writes written) = move
 client_does decl move (Sends number to message) = record move { client = sent_one move.client number to message }
 client_does decl move (Tells reply) = move
+client_does decl move (Falls cause pending) = move
+client_does decl move (Rises records) = move
 
 -- what a client is after these deeds, and its turn for the last input
 abbrev pub client_after : Declaration → ℕ → List Deed → ClientMove

@@ -16,7 +16,7 @@ use Rattle.qc_front.specs.Fits.{FrontFits}
 use Rattle.qc_front.proofs.Fitting.{fits}
 use Rattle.qc_msg.specs.declared.step.Given.{Given}
 use Rattle.qc_msg.specs.declared.turn.Turn.{Turn}
-use Rattle.qc_msg.specs.Deeds.{Deed, Takes, Writes, Sends, Tells, turn_deeds}
+use Rattle.qc_msg.specs.Deeds.{Deed, Takes, Writes, Sends, Tells, Falls, Rises, turn_deeds}
 use Rattle.qc_client.specs.declared.client.Client.{Client}
 use Rattle.qc_client.specs.Client.{ClientMove}
 use Rattle.qc_client.specs.Conduct.{client_after, client_does, client_takes, sent, sent_by}
@@ -107,6 +107,8 @@ site_clients decl accepted m (Takes g ∷ ds) from clients = site_clients decl a
 site_clients decl accepted m (Writes written ∷ ds) from clients = site_clients decl accepted m ds from.1 clients
 site_clients decl accepted m (Sends number to message ∷ ds) from clients = site_clients decl accepted m ds from.1 clients
 site_clients decl accepted m (Tells reply ∷ ds) from clients = site_clients decl accepted m ds from.1 clients
+site_clients decl accepted m (Falls cause pending ∷ ds) from clients = site_clients decl accepted m ds from.1 clients
+site_clients decl accepted m (Rises records ∷ ds) from clients = site_clients decl accepted m ds from.1 clients
 
 -- so are a client's: the sites that it asked are sites
 

@@ -9,7 +9,7 @@ use Rattle.qc_client.specs.Conduct.{client_after, client_does}
 use Rattle.qc_msg.specs.declared.message.Envelope.{Envelope}
 use Rattle.qc_msg.specs.declared.step.Given.{Given}
 use Rattle.qc_msg.specs.declared.step.Given.TheVariants as given
-use Rattle.qc_msg.specs.Deeds.{Deed, Takes, Writes, Sends, Tells}
+use Rattle.qc_msg.specs.Deeds.{Deed, Takes, Writes, Sends, Tells, Falls, Rises}
 use Rattle.qc_msg.specs.Turns.{quiet}
 use Rattle.qc_site.specs.Conduct.{site_after, site_does}
 use Rattle.qc_site.specs.Site.{SiteMove, new_site, moved as site_moved}
@@ -34,6 +34,8 @@ site_deed decl m (Takes g) = refl
 site_deed decl m (Writes written) = refl
 site_deed decl m (Sends number to message) = refl
 site_deed decl m (Tells reply) = refl
+site_deed decl m (Falls cause pending) = refl
+site_deed decl m (Rises records) = refl
 
 sites : (decl : Declaration) (m : SiteMove) (ds : List Deed) → fold (actor_does decl) (by_site m) ds ≡ by_site (fold (site_does decl) m ds)
 sites decl m [] = refl
@@ -44,6 +46,8 @@ client_deed decl m (Takes g) = refl
 client_deed decl m (Writes written) = refl
 client_deed decl m (Sends number to message) = refl
 client_deed decl m (Tells reply) = refl
+client_deed decl m (Falls cause pending) = refl
+client_deed decl m (Rises records) = refl
 
 clients : (decl : Declaration) (m : ClientMove) (ds : List Deed) → fold (actor_does decl) (by_client m) ds ≡ by_client (fold (client_does decl) m ds)
 clients decl m [] = refl

@@ -15,7 +15,7 @@ use Rattle.qc_msg.specs.declared.record.Record.TheVariants as records
 use Rattle.qc_msg.specs.declared.step.Given.{Given}
 use Rattle.qc_msg.specs.declared.step.Given.TheVariants as given
 use Rattle.qc_msg.specs.declared.turn.Posting.{Posting}
-use Rattle.qc_msg.specs.Deeds.{Deed, Takes, Writes, Sends, Tells}
+use Rattle.qc_msg.specs.Deeds.{Deed, Takes, Writes, Sends, Tells, Falls, Rises}
 use Rattle.qc_promise.specs.SiteEnds.{ends, frees, is_ended, is_over}
 use Rattle.qc_promise.specs.SiteHeld.{Grant, grants, is_granted, standing, standing_at, standing_by}
 use Rattle.qc_promise.specs.SiteLogs.{given_at, joining, log_from, recorded_from, view_by, view_in}
@@ -30,6 +30,8 @@ module _ (g : Given) (ps : List Deed) where
   sent-more (Writes w ∷ xs) = sent-more xs
   sent-more (Sends n to m ∷ xs) = ap (λ (v : List Posting). record { to = to; message = m } ∷ v) (sent-more xs)
   sent-more (Tells r ∷ xs) = sent-more xs
+  sent-more (Falls cause pending ∷ xs) = sent-more xs
+  sent-more (Rises records ∷ xs) = sent-more xs
 
   pub written-more : (xs : List Deed) → written_next (xs ++ Takes g ∷ ps) ≡ written_next xs
   written-more [] = refl
@@ -37,6 +39,8 @@ module _ (g : Given) (ps : List Deed) where
   written-more (Writes w ∷ xs) = ap (λ (v : List Record). w ∷ v) (written-more xs)
   written-more (Sends n to m ∷ xs) = written-more xs
   written-more (Tells r ∷ xs) = written-more xs
+  written-more (Falls cause pending ∷ xs) = written-more xs
+  written-more (Rises records ∷ xs) = written-more xs
 
   granted-more : (number : ℕ) (xs : List Deed) → is_granted number (xs ++ Takes g ∷ ps) ≡ is_granted number xs
   granted-more number xs = ap (λ (v : List Posting). list_any (λ (p : Posting). grants number p.message) v) (sent-more xs)
@@ -71,6 +75,8 @@ module _ (g : Given) (ps : List Deed) where
   stands_at (Writes w) xs = refl
   stands_at (Sends n to m) xs = refl
   stands_at (Tells r) xs = refl
+  stands_at (Falls cause pending) xs = refl
+  stands_at (Rises records) xs = refl
 
   pub standing-more : (xs : List Deed) → standing (xs ++ Takes g ∷ ps) ≡ filter stays (standing xs) ++ standing (Takes g ∷ ps)
   standing-more [] = refl
@@ -98,6 +104,8 @@ module _ (g : Given) (ps : List Deed) where
   joining-more before (Writes w) xs = refl
   joining-more before (Sends n to m) xs = refl
   joining-more before (Tells r) xs = refl
+  joining-more before (Falls cause pending) xs = refl
+  joining-more before (Rises records) xs = refl
 
   pub log-more : (lines : List Line) (before xs : List Deed) → log_from lines before (xs ++ Takes g ∷ ps) ≡ log_from (log_from lines before xs) (before ++ xs) (Takes g ∷ ps)
   log-more lines before [] = ap (λ (v : List Deed). log_from lines v (Takes g ∷ ps)) (sym (append-nil before))
@@ -132,6 +140,8 @@ module _ (ys : List Deed) where
   promises_at (Writes w) xs = promised_in w xs
   promises_at (Sends n to m) xs = refl
   promises_at (Tells r) xs = refl
+  promises_at (Falls cause pending) xs = refl
+  promises_at (Rises records) xs = refl
 
   pub prepared-more : (xs : List Deed) → prepared_shown (xs ++ ys) ≡ filter lasts (prepared_shown xs) ++ prepared_shown ys
   prepared-more [] = refl

@@ -9,7 +9,7 @@ use Rattle.qc_msg.specs.declared.reply.Reply.{Reply}
 use Rattle.qc_msg.specs.declared.step.Given.{Given}
 use Rattle.qc_msg.specs.declared.turn.Posting.{Posting}
 use Rattle.qc_msg.specs.declared.turn.Turn.{Turn}
-use Rattle.qc_msg.specs.Deeds.{Deed, Takes, Writes, Sends, Tells, turn_deeds, writes_of}
+use Rattle.qc_msg.specs.Deeds.{Deed, Takes, Writes, Sends, Tells, Falls, Rises, turn_deeds, writes_of}
 use Rattle.qc_msg.specs.Turns.{quiet}
 use Rattle.qc_promise.specs.SiteDue.{AreDue, IsDue, IsDueAt}
 use Rattle.qc_site.specs.Conduct.{site_after, site_does, site_takes}
@@ -60,6 +60,8 @@ module _ (decl : Declaration) (site : ℕ) where
   IsServed before (Writes w) after = Unit {0}
   IsServed before (Sends n to m) after = Unit {0}
   IsServed before (Tells r) after = Unit {0}
+  IsServed before (Falls cause pending) after = Unit {0}
+  IsServed before (Rises records) after = Unit {0}
 
   abbrev AreServed : List Deed → List Deed → Type 0
   AreServed before [] = Unit {0}
@@ -70,6 +72,8 @@ module _ (decl : Declaration) (site : ℕ) where
   served_more before (Writes w) xs g ps is = tt
   served_more before (Sends n to m) xs g ps is = tt
   served_more before (Tells r) xs g ps is = tt
+  served_more before (Falls cause pending) xs g ps is = tt
+  served_more before (Rises records) xs g ps is = tt
 
   all_more : (before xs : List Deed) (g : Given) (ps : List Deed) → AreServed before xs → AreServed (before ++ xs) (Takes g ∷ ps) → AreServed before (xs ++ Takes g ∷ ps)
   all_more before [] g ps old new = subst (λ (v : List Deed). AreServed v (Takes g ∷ ps)) (append-nil before) new
@@ -107,6 +111,8 @@ module _ (decl : Declaration) (site : ℕ) where
   due_of before (Writes w) after is = tt
   due_of before (Sends n to m) after is = tt
   due_of before (Tells r) after is = tt
+  due_of before (Falls cause pending) after is = tt
+  due_of before (Rises records) after is = tt
 
   all_due : (before ds : List Deed) → AreServed before ds → AreDue decl before ds
   all_due before [] is = tt

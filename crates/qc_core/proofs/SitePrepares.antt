@@ -11,7 +11,7 @@ use Rattle.qc_entry.specs.declared.record.Prepared.{Prepared}
 use Rattle.qc_msg.specs.declared.record.Record.{Record}
 use Rattle.qc_msg.specs.declared.record.Record.TheVariants as records
 use Rattle.qc_msg.specs.declared.step.Given.{Given}
-use Rattle.qc_msg.specs.Deeds.{Deed, Takes, Writes, Sends, Tells}
+use Rattle.qc_msg.specs.Deeds.{Deed, Takes, Writes, Sends, Tells, Falls, Rises}
 use Rattle.qc_promise.specs.SiteEnds.{is_over, redeems}
 use Rattle.qc_promise.specs.SitePromises.{prepared_shown, promise_in}
 use Rattle.qc_promise.specs.SiteRecords.{last_prepare, prepare_by, record_in, records_in}
@@ -49,6 +49,8 @@ none_later tx before (Takes g ∷ ds) e = none_later tx before ds (or_second _ _
 none_later tx before (Writes w ∷ ds) e = ap (λ (o : Option Prepared). fold (prepare_by tx) o (records_in ds)) (none_later_record tx before w (or_first _ _ e)) ∙ none_later tx before ds (or_second _ _ e)
 none_later tx before (Sends n to m ∷ ds) e = none_later tx before ds e
 none_later tx before (Tells r ∷ ds) e = none_later tx before ds e
+none_later tx before (Falls cause pending ∷ ds) e = none_later tx before ds e
+none_later tx before (Rises records ∷ ds) e = none_later tx before ds e
 
 -- the promise that stands is the last one
 pub promise_is_last : (tx : TxId) (p : Prepared) (before : Option Prepared) (ds : List Deed) → promise_in (prepared_shown ds) tx ≡ Some p → fold (prepare_by tx) before (records_in ds) ≡ Some p
@@ -75,6 +77,8 @@ promise_is_last tx p before (Writes (records.Commit commit) ∷ ds) e = promise_
 promise_is_last tx p before (Writes (records.Decide epoch clock lines) ∷ ds) e = promise_is_last tx p before ds e
 promise_is_last tx p before (Sends n to m ∷ ds) e = promise_is_last tx p before ds e
 promise_is_last tx p before (Tells r ∷ ds) e = promise_is_last tx p before ds e
+promise_is_last tx p before (Falls cause pending ∷ ds) e = promise_is_last tx p before ds e
+promise_is_last tx p before (Rises records ∷ ds) e = promise_is_last tx p before ds e
 
 -- also once an input is taken
 pub last_of : (tx : TxId) (p : Prepared) (ds : List Deed) (g : Given) → promise_in (prepared_shown ds) tx ≡ Some p → last_prepare tx (ds ++ Takes g ∷ []) ≡ Some p

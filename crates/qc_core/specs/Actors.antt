@@ -14,7 +14,7 @@ use Rattle.qc_msg.specs.declared.step.Given.{Given}
 use Rattle.qc_msg.specs.declared.step.Given.TheVariants as given
 use Rattle.qc_msg.specs.declared.turn.Posting.{Posting}
 use Rattle.qc_msg.specs.declared.turn.Turn.{Turn}
-use Rattle.qc_msg.specs.Deeds.{Deed, Takes, Writes, Sends, Tells}
+use Rattle.qc_msg.specs.Deeds.{Deed, Takes, Writes, Sends, Tells, Falls, Rises}
 use Rattle.qc_msg.specs.Turns.{quiet}
 use Rattle.qc_site.specs.Conduct.{site_on, site_takes}
 use Rattle.qc_site.specs.Site.{SiteMove, new_site}
@@ -67,6 +67,8 @@ actor_does decl move (Takes given) = actor_takes decl move.actor given
 actor_does decl move (Writes written) = move
 actor_does decl move (Sends number to message) = record move { actor = actor_sends move.actor number to message }
 actor_does decl move (Tells reply) = move
+actor_does decl move (Falls cause pending) = move
+actor_does decl move (Rises records) = move
 
 -- what an actor is after these deeds, and its turn for the last input
 abbrev pub actor_after : Declaration → ℕ → List Deed → ActorMove
@@ -100,6 +102,8 @@ IsFromActor (Takes given) = IsFrom given
 IsFromActor (Writes written) = Unit {0}
 IsFromActor (Sends number to message) = Unit {0}
 IsFromActor (Tells reply) = Unit {0}
+IsFromActor (Falls cause pending) = Unit {0}
+IsFromActor (Rises records) = Unit {0}
 
 -- a turn goes to actors, and has few messages: at most one for each site
 pub record IsShort (turn : Turn) : Type 0 where

@@ -4,7 +4,7 @@ use Rattle.qc_decl.specs.declared.declaration.Declaration.{Declaration}
 use Rattle.qc_msg.specs.declared.step.Given.{Given}
 use Rattle.qc_msg.specs.declared.step.Given.TheVariants as given
 use Rattle.qc_msg.specs.declared.turn.Turn.{Turn}
-use Rattle.qc_msg.specs.Deeds.{Deed, Takes, Writes, Sends, Tells, turn_deeds}
+use Rattle.qc_msg.specs.Deeds.{Deed, Takes, Writes, Sends, Tells, Falls, Rises, turn_deeds}
 use Rattle.qc_core.specs.Conduct.{IsLawful}
 
 -- whether a command runs: one was called, and its reply isn't told yet
@@ -19,6 +19,8 @@ runs_at running (Takes given) = runs_given running given
 runs_at running (Writes written) = running
 runs_at running (Sends number to message) = running
 runs_at running (Tells reply) = false
+runs_at running (Falls cause pending) = false
+runs_at running (Rises records) = false
 
 abbrev pub is_running : List Deed → Bool
 is_running ds = fold runs_at false ds

@@ -22,7 +22,7 @@ use Rattle.qc_msg.specs.declared.reply.Reply.TheVariants as replies
 use Rattle.qc_msg.specs.declared.step.Command.{Command}
 use Rattle.qc_msg.specs.declared.step.Command.TheVariants as commands
 use Rattle.qc_msg.specs.declared.step.Given.TheVariants as given
-use Rattle.qc_msg.specs.Deeds.{Deed, Takes, Writes, Sends, Tells}
+use Rattle.qc_msg.specs.Deeds.{Deed, Takes, Writes, Sends, Tells, Falls, Rises}
 use Rattle.qc_promise.specs.Account.{Account, ClientRequest, new_account}
 use Rattle.qc_promise.specs.Accounting.{account_at, account_heard, account_sent, account_told_in, account_written, counted, counted_for, found_absent, granted, is_open, promised, responded, short_of, taken_for, told_by}
 use Rattle.qc_promise.specs.Asked.{is_asked_for}
@@ -159,6 +159,8 @@ module _ (decl : Declaration) where
   deed_clock d (Writes w) is = written_clock d w
   deed_clock d (Sends n to m) is = sent_clock d n to m
   deed_clock d (Tells reply) is = reply_clock d reply is.0
+  deed_clock d (Falls cause pending) is = same_clock d
+  deed_clock d (Rises records) is = same_clock d
 
   pub clock_rises : (ds : List Deed) (d : Account) → AreDeedsDue decl d ds → d.clock ≤ (fold (account_at decl) d ds).clock
   clock_rises [] d is = same_clock d

@@ -28,7 +28,7 @@ use Rattle.qc_msg.specs.declared.step.Given.TheVariants as given
 use Rattle.qc_msg.specs.declared.turn.Posting.{Posting}
 use Rattle.qc_msg.specs.declared.turn.Turn.{Turn}
 use Rattle.qc_msg.specs.Begun.{has_granted}
-use Rattle.qc_msg.specs.Deeds.{Deed, Takes, Writes, Sends, Tells, sends_of, tells_of, turn_deeds, writes_of}
+use Rattle.qc_msg.specs.Deeds.{Deed, Takes, Writes, Sends, Tells, Falls, Rises, sends_of, tells_of, turn_deeds, writes_of}
 use Rattle.qc_promise.specs.Account.{Account, ClientRequest, Current, new_account, new_current}
 use Rattle.qc_promise.specs.Accounting.{account_at, account_heard, account_sent, account_taken, account_told_in, account_written, counted, counted_for, refused, responded, found_absent, requested, short_of, taken_for, with_response}
 use Rattle.qc_promise.specs.Asked.{command_asks, is_asked_for, is_of}
@@ -204,6 +204,8 @@ module _ (decl : Declaration) where
   one_more ds d (Writes w) k = written_grounds ds d w k
   one_more ds d (Sends n to m) k = sent_grounds ds d n to m k
   one_more ds d (Tells reply) k = told_grounds ds d reply k
+  one_more ds d (Falls cause pending) k = same_grounds ds (Falls cause pending) d d refl refl refl k
+  one_more ds d (Rises records) k = same_grounds ds (Rises records) d d refl refl refl k
 
   all_more : (ds more : List Deed) (d : Account) → HasGrounds ds d → HasGrounds (ds ++ more) (fold (account_at decl) d more)
   all_more ds [] d k = subst (λ (v : List Deed). HasGrounds v d) (sym (append-nil ds)) k

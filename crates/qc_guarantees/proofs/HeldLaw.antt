@@ -24,7 +24,7 @@ use Rattle.qc_msg.specs.declared.message.Want.{Want}
 use Rattle.qc_msg.specs.declared.message.Want.TheVariants.{Read, Append, Prepare}
 use Rattle.qc_msg.specs.declared.step.Given.TheVariants as given
 use Rattle.qc_msg.specs.Counts.{written}
-use Rattle.qc_msg.specs.Deeds.{Deed, Takes, Writes, Sends, Tells, deeds, mail}
+use Rattle.qc_msg.specs.Deeds.{Deed, Takes, Writes, Sends, Tells, Falls, Rises, deeds, mail}
 use Rattle.qc_msg.specs.Steps.{Entry}
 use Rattle.qc_onecopy.specs.Executed.{Executed, own_line}
 use Rattle.qc_promise.specs.SiteEnds.{decides, ends, is_ended, is_final}
@@ -78,6 +78,8 @@ not_ended tx (d ∷ ds) none = by (ends tx d) (one d (λ e verdict same. none e 
     one (Writes w) n = refl
     one (Sends number to m) n = refl
     one (Tells reply) n = refl
+    one (Falls cause pending) n = refl
+    one (Rises records) n = refl
 
 -- what stands among later deeds stands among all
 standing_more : (before ds : List Deed) (g : Grant) → In g (standing ds) → In g (standing (before ++ ds))
@@ -125,6 +127,8 @@ was_taken (d ∷ ds) g among = elim (in_split g (standing_at d ds) (standing ds)
     at_deed (Writes w) here = absurd here
     at_deed (Sends number to m) here = absurd here
     at_deed (Tells reply) here = absurd here
+    at_deed (Falls cause pending) here = absurd here
+    at_deed (Rises records) here = absurd here
 
 -- what stands is held
 

@@ -10,7 +10,7 @@ use Rattle.qc_msg.specs.declared.message.Message.{Message}
 use Rattle.qc_msg.specs.declared.step.Given.TheVariants as given
 use Rattle.qc_msg.specs.declared.step.Step.{Step}
 use Rattle.qc_msg.specs.declared.step.Step.TheVariants as steps
-use Rattle.qc_msg.specs.Deeds.{Deed, Takes, Writes, Sends, Tells, deed_at, deeds, envelope_at, envelope_of, heard, mail}
+use Rattle.qc_msg.specs.Deeds.{Deed, Takes, Writes, Sends, Tells, Falls, Rises, deed_at, deeds, envelope_at, envelope_of, heard, mail}
 use Rattle.qc_msg.specs.Steps.{Entry}
 
 abbrev pub sent_as : ℕ → ℕ → ℕ → Message → Envelope
@@ -22,6 +22,8 @@ message_of a (Takes g) = None
 message_of a (Writes written) = None
 message_of a (Sends n to m) = Some (sent_as a n to m)
 message_of a (Tells reply) = None
+message_of a (Falls cause pending) = None
+message_of a (Rises records) = None
 
 heard_sends : (o : Option Envelope) (n to : ℕ) (m : Message) → In (Sends n to m) (heard o) → ⊥
 heard_sends None n to m among = among
@@ -114,6 +116,8 @@ taken_of (Takes (given.Lost n)) = None
 taken_of (Writes written) = None
 taken_of (Sends n to m) = None
 taken_of (Tells reply) = None
+taken_of (Falls cause pending) = None
+taken_of (Rises records) = None
 
 in_at : (ms : List Envelope) (n : ℕ) (e : Envelope) → slice_get ms n ≡ Some e → In e ms
 in_at ms n e is = every-at (λ (x : Envelope). In x ms) ms n e (every-from_In (λ (x : Envelope). In x ms) ms (λ x among. among)) is

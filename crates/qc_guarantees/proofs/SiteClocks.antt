@@ -24,7 +24,7 @@ use Rattle.qc_msg.specs.declared.record.Record.{Record}
 use Rattle.qc_msg.specs.declared.record.Record.TheVariants as records
 use Rattle.qc_msg.specs.declared.step.Given.{Given}
 use Rattle.qc_msg.specs.declared.step.Given.TheVariants as given
-use Rattle.qc_msg.specs.Deeds.{Deed, Takes, Writes, Sends, Tells, deeds, turn_deeds}
+use Rattle.qc_msg.specs.Deeds.{Deed, Takes, Writes, Sends, Tells, Falls, Rises, deeds, turn_deeds}
 use Rattle.qc_msg.specs.Steps.{Entry}
 use Rattle.qc_promise.specs.SiteClocks.{clock_shown, clocks_at, clocks_in}
 use Rattle.qc_promise.specs.SiteDue.{AreDue, IsDueAt, IsDueOrOpen, is_declared, outcome_written, records_by, records_due, refusal_due, request_written, want_written}
@@ -120,7 +120,11 @@ module _ (decl : Declaration) where
       by (Sends number to m) due (inl same) rest = absurd (let never : ⊥ = cc in never)
       by (Sends number to m) due (inr there) rest = elim (rest there) [ inl next ↦ inl next | inr old ↦ inr (later_brought tx clock (Sends number to m) ds old) ]
       by (Tells reply) due (inl same) rest = absurd (let never : ⊥ = cc in never)
+      by (Falls cause pending) due (inl same) rest = absurd (let never : ⊥ = cc in never)
+      by (Rises records) due (inl same) rest = absurd (let never : ⊥ = cc in never)
       by (Tells reply) due (inr there) rest = elim (rest there) [ inl next ↦ inl next | inr old ↦ inr (later_brought tx clock (Tells reply) ds old) ]
+      by (Falls cause pending) due (inr there) rest = elim (rest there) [ inl next ↦ inl next | inr old ↦ inr (later_brought tx clock (Falls cause pending) ds old) ]
+      by (Rises records) due (inr there) rest = elim (rest there) [ inl next ↦ inl next | inr old ↦ inr (later_brought tx clock (Rises records) ds old) ]
 
   -- deeds begin with a take
 

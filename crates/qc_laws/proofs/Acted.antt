@@ -22,6 +22,7 @@ use Rattle.qc_laws.proofs.Numbered.{IsSilent, control_silent, phase_silent}
 use Rattle.qc_laws.proofs.Places.{length-replicate, length-slice_set, replicate_at, replicate_within, slice_get-set_other, slice_get-set_same, slice_get-within}
 use Rattle.qc_laws.proofs.Running.{what_is_ready_may_be_taken}
 use Rattle.qc_laws.specs.Turns.{ActsIn}
+use Rattle.qc_laws.proofs.Up.{run_up}
 
 -- a step that is nobody's deed
 pub deeds-silent : (a b : ℕ) (h : List Entry) (step : Step) → IsSilent step → deeds a [] (h ++ marked b step ∷ []) ≡ deeds a [] h
@@ -90,7 +91,7 @@ module _ (decl : Declaration) (script : Script) where
       at true same old =
           subst (λ (v : Bool). ActsIn decl a (older ++ marked c (step_of given) ∷ []) v) (open_here before a c true false t same free is)
           (subst (λ (k : ℕ). ActsIn decl k (older ++ marked c (step_of given) ∷ []) true) (eqb-true c a same)
-          (acts_takes c given older (what_is_ready_was_sent (IsLawful decl) decl script older before run c given rdy) (what_is_ready_may_be_taken decl script c older given rdy) (old c false free)))
+          (acts_takes c given older (what_is_ready_was_sent (IsLawful decl) decl script older before run c given rdy) (what_is_ready_may_be_taken decl script c older (run_up (IsLawful decl) decl script older before run c) given rdy) (old c false free)))
       at false other old =
           acts_on a t older (older ++ marked c (step_of given) ∷ []) (deeds-other c a [] older (step_of given ∷ []) other) (mail_grows older (marked c (step_of given) ∷ []))
           (old a t (open_elsewhere before a c true t other is))

@@ -1,12 +1,13 @@
 pub mod Places
 pub mod Numbered
 pub mod Arrivals
-pub mod Running
-pub mod Acted
 pub mod OwnFronts
 pub mod OwnStamps
 pub mod Stamped
 pub mod Mailed
+pub mod Up
+pub mod Running
+pub mod Acted
 pub mod Served
 pub mod Waiting
 pub mod Replying

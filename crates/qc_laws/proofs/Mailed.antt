@@ -10,7 +10,7 @@ use Rattle.qc_msg.specs.declared.message.Envelope.{Envelope}
 use Rattle.qc_msg.specs.declared.step.Step.{Step}
 use Rattle.qc_msg.specs.declared.step.Step.TheVariants as steps
 use Rattle.qc_msg.specs.declared.turn.Posting.{Posting}
-use Rattle.qc_msg.specs.Deeds.{Deed, Takes, Writes, Sends, Tells, deed_at, deeds, envelope_of, envelopes, heard, mail}
+use Rattle.qc_msg.specs.Deeds.{Deed, Takes, Writes, Sends, Tells, Falls, Rises, deed_at, deeds, envelope_of, envelopes, heard, mail}
 use Rattle.qc_msg.specs.Steps.{Entry, by, posted}
 use Rattle.qc_msg.proofs.Growth.{mail-append, mail-posted, mail-taken}
 use Rattle.qc_script.specs.Ready.{phase_of}
@@ -55,6 +55,8 @@ IsInputDeed (Takes g) = IsInput g
 IsInputDeed (Writes written) = Unit {0}
 IsInputDeed (Sends number to message) = Unit {0}
 IsInputDeed (Tells reply) = Unit {0}
+IsInputDeed (Falls cause pending) = Unit {0}
+IsInputDeed (Rises records) = Unit {0}
 
 abbrev pub AreInputs : List Deed → Type 0
 AreInputs ds = Every IsInputDeed ds
@@ -74,8 +76,8 @@ step_inputs ms (steps.Lost n) stamped = (tt, tt)
 step_inputs ms (steps.Wrote written) stamped = (tt, tt)
 step_inputs ms (steps.Sent n to message) stamped = (tt, tt)
 step_inputs ms (steps.Told reply) stamped = (tt, tt)
-step_inputs ms (steps.Fell cause pending) stamped = tt
-step_inputs ms (steps.Rose records) stamped = tt
+step_inputs ms (steps.Fell cause pending) stamped = (tt, tt)
+step_inputs ms (steps.Rose records) stamped = (tt, tt)
 step_inputs ms (steps.Damaged offset) stamped = tt
 
 mine_inputs : (mine : Bool) (ms : List Envelope) (step : Step) → IsMailStamped ms → AreInputs (cond mine (deed_at ms step) [])

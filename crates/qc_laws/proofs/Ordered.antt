@@ -15,6 +15,7 @@ use Rattle.qc_laws.specs.Turns.{ActsIn}
 use Rattle.qc_laws.specs.Whole.{calls_of, replies_of}
 use Rattle.qc_laws.proofs.Acted.{has_entry, others_do_nothing, run_acts}
 use Rattle.qc_laws.proofs.Replying.{acts_ordered, all_counted, open_commands}
+use Rattle.qc_laws.proofs.Up.{run_up}
 
 module _ (decl : Declaration) (script : Script) (h : List Entry) (open_inputs : List Bool) (run : Runs (IsLawful decl) decl script h open_inputs) (a : ℕ) where
   pub run_ordered : AreInOrder [] (deeds a [] h)
@@ -28,4 +29,4 @@ module _ (decl : Declaration) (script : Script) (h : List Entry) (open_inputs : 
       by false is = subst (λ (ds : List Deed). AreInOrder [] ds) (sym (others_do_nothing (IsLawful decl) decl script h open_inputs run a (ltb-false a (actors decl) is))) tt
 
   pub run_replied : length (calls_of a h) ≡ length (replies_of a h) + open_commands (is_running (deeds a [] h))
-  run_replied = all_counted (deeds a [] h) run_ordered
+  run_replied = all_counted (deeds a [] h) run_ordered (run_up (IsLawful decl) decl script h open_inputs run a)

@@ -23,7 +23,7 @@ use Rattle.qc_msg.specs.declared.step.Given.TheVariants as given
 use Rattle.qc_msg.specs.declared.turn.Posting.{Posting}
 use Rattle.qc_msg.specs.declared.turn.Turn.{Turn}
 use Rattle.qc_msg.specs.Begun.{decisions}
-use Rattle.qc_msg.specs.Deeds.{Deed, Takes, Writes, Sends, Tells}
+use Rattle.qc_msg.specs.Deeds.{Deed, Takes, Writes, Sends, Tells, Falls, Rises}
 use Rattle.qc_msg.specs.Turns.{quiet}
 use Rattle.qc_commit.specs.declared.desk.Desk.{Desk}
 use Rattle.qc_commit.specs.declared.desk.Known.{Known}
@@ -212,6 +212,8 @@ does_own decl k m (Takes g) own = takes_own decl k m.client g own.own
 does_own decl k m (Writes written) own = own
 does_own decl k m (Sends number to message) own = record { own = sent_own k m.client number to message own.own; sends = own.sends }
 does_own decl k m (Tells reply) own = own
+does_own decl k m (Falls cause pending) own = own
+does_own decl k m (Rises records) own = own
 
 folded_own : (decl : Declaration) (k : ℕ) (ds : List Deed) (m : ClientMove) → OwnMove k m → OwnMove k (fold (client_does decl) m ds)
 folded_own decl k [] m own = own

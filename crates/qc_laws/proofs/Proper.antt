@@ -26,7 +26,7 @@ use Rattle.qc_msg.specs.declared.turn.Turn.{Turn}
 use Rattle.qc_msg.specs.Begun.{has_granted}
 use Rattle.qc_msg.specs.Calls.{site_called}
 use Rattle.qc_plan.specs.Round.{cyclic}
-use Rattle.qc_msg.specs.Deeds.{Deed, Takes, Writes, Sends, Tells, deeds, envelopes, mail}
+use Rattle.qc_msg.specs.Deeds.{Deed, Takes, Writes, Sends, Tells, Falls, Rises, deeds, envelopes, mail}
 use Rattle.qc_msg.specs.Steps.{Entry, by, posted}
 use Rattle.qc_msg.specs.Turns.{quiet}
 use Rattle.qc_msg.proofs.Growth.{mail-append, mail-posted, mail-taken}
@@ -90,6 +90,8 @@ IsAskableDeed decl a (Takes g) = IsAskableGiven decl a g
 IsAskableDeed decl a (Writes written) = Unit {0}
 IsAskableDeed decl a (Sends number to message) = Unit {0}
 IsAskableDeed decl a (Tells reply) = Unit {0}
+IsAskableDeed decl a (Falls cause pending) = Unit {0}
+IsAskableDeed decl a (Rises records) = Unit {0}
 
 askable_deeds : (decl : Declaration) (a : ℕ) (ds : List Deed) → Every (IsAskable decl a) (filter_map call_in ds) → Every (IsAskableDeed decl a) ds
 askable_deeds decl a [] all = tt
@@ -99,6 +101,8 @@ askable_deeds decl a (Takes (given.Lost number) ∷ ds) all = (tt, askable_deeds
 askable_deeds decl a (Writes written ∷ ds) all = (tt, askable_deeds decl a ds all)
 askable_deeds decl a (Sends number to message ∷ ds) all = (tt, askable_deeds decl a ds all)
 askable_deeds decl a (Tells reply ∷ ds) all = (tt, askable_deeds decl a ds all)
+askable_deeds decl a (Falls cause pending ∷ ds) all = (tt, askable_deeds decl a ds all)
+askable_deeds decl a (Rises records ∷ ds) all = (tt, askable_deeds decl a ds all)
 
 pub run_askable : (decl : Declaration) (script : Script) (a : ℕ) (h : List Entry) (open_inputs : List Bool) → AsksDeclared decl script → Runs (IsLawful decl) decl script h open_inputs → Every (IsAskableDeed decl a) (deeds a [] h)
 run_askable decl script a h open_inputs asks run =
@@ -223,6 +227,8 @@ module _ (decl : Declaration) (accepted : IsAccepted decl) (a k : ℕ) (within :
   does_sound m (Writes written) is s = s
   does_sound m (Sends number to message) is s = record { sound = sent_sound m.client number to message s.sound; sends = s.sends }
   does_sound m (Tells reply) is s = s
+  does_sound m (Falls cause pending) is s = s
+  does_sound m (Rises records) is s = s
 
   all_sound : (ds : List Deed) (m : ClientMove) → Every (IsAskableDeed decl a) ds → SoundMove decl k m → SoundMove decl k (fold (client_does decl) m ds)
   all_sound [] m are s = s

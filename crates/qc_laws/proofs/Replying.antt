@@ -17,7 +17,7 @@ use Rattle.qc_msg.specs.declared.step.Given.{Given}
 use Rattle.qc_msg.specs.declared.step.Given.TheVariants as given
 use Rattle.qc_msg.specs.declared.turn.Posting.{Posting}
 use Rattle.qc_msg.specs.declared.turn.Turn.{Turn}
-use Rattle.qc_msg.specs.Deeds.{Deed, Takes, Writes, Sends, Tells, sends_of, tells_of, turn_deeds, writes_of}
+use Rattle.qc_msg.specs.Deeds.{Deed, Takes, Writes, Sends, Tells, Falls, Rises, sends_of, tells_of, turn_deeds, writes_of}
 use Rattle.qc_msg.specs.Turns.{quiet}
 use Rattle.qc_client.specs.Client.{ClientMove, moved, new_client}
 use Rattle.qc_client.specs.Conduct.{client_after, client_does, client_takes}
@@ -27,6 +27,7 @@ use Rattle.qc_laws.specs.Order.{AreInOrder, IsInOrder}
 use Rattle.qc_laws.specs.Whole.{call_in, reply_in}
 use Rattle.qc_laws.proofs.Stamped.{site_answering}
 use Rattle.qc_laws.proofs.Waiting.{Ends, IsNoCall, Rests, called_ends, epoch_rests, sent_waits, takes_ends, takes_rests}
+use Rattle.qc_laws.proofs.Up.{AreUp, IsUp}
 
 -- whether a command runs, as deeds go on
 
@@ -199,26 +200,28 @@ module _ (decl : Declaration) (a : ℕ) where
 abbrev pub open_commands : Bool → ℕ
 open_commands running = cond running 1 0
 
-one_deed : (before : List Deed) (d : Deed) → IsInOrder before d
+one_deed : (before : List Deed) (d : Deed) → IsInOrder before d → IsUp d
     → length (filter_map call_in (d ∷ [])) + open_commands (is_running before) ≡ length (filter_map reply_in (d ∷ [])) + open_commands (runs_at (is_running before) d)
-one_deed before (Takes (given.Called command)) is = ap (λ (r : Bool). 1 + open_commands r) is
-one_deed before (Takes (given.Got envelope)) is = refl
-one_deed before (Takes (given.Lost number)) is = refl
-one_deed before (Writes written) is = refl
-one_deed before (Sends number to message) is = refl
-one_deed before (Tells reply) is = let one : open_commands (is_running before) ≡ 1 = ap open_commands is in omega arith
+one_deed before (Takes (given.Called command)) is up = ap (λ (r : Bool). 1 + open_commands r) is
+one_deed before (Takes (given.Got envelope)) is up = refl
+one_deed before (Takes (given.Lost number)) is up = refl
+one_deed before (Writes written) is up = refl
+one_deed before (Sends number to message) is up = refl
+one_deed before (Tells reply) is up = let one : open_commands (is_running before) ≡ 1 = ap open_commands is in omega arith
+one_deed before (Falls cause pending) is up = absurd up
+one_deed before (Rises records) is up = absurd up
 
-pub counted_from : (before ds : List Deed) → AreInOrder before ds
+pub counted_from : (before ds : List Deed) → AreInOrder before ds → AreUp ds
     → length (filter_map call_in ds) + open_commands (is_running before) ≡ length (filter_map reply_in ds) + open_commands (is_running (before ++ ds))
-counted_from before [] are = ap (λ (v : List Deed). 0 + open_commands (is_running v)) (sym (append-nil before))
-counted_from before (d ∷ ds) are =
-    let one : length (filter_map call_in (d ∷ [])) + open_commands (is_running before) ≡ length (filter_map reply_in (d ∷ [])) + open_commands (runs_at (is_running before) d) = one_deed before d are.0 in
+counted_from before [] are up = ap (λ (v : List Deed). 0 + open_commands (is_running v)) (sym (append-nil before))
+counted_from before (d ∷ ds) are up =
+    let one : length (filter_map call_in (d ∷ [])) + open_commands (is_running before) ≡ length (filter_map reply_in (d ∷ [])) + open_commands (runs_at (is_running before) d) = one_deed before d are.0 up.0 in
     let next : open_commands (runs_at (is_running before) d) ≡ open_commands (is_running (before ++ d ∷ [])) = ap open_commands (sym (running_more before (d ∷ []))) in
-    let rest : length (filter_map call_in ds) + open_commands (is_running (before ++ d ∷ [])) ≡ length (filter_map reply_in ds) + open_commands (is_running ((before ++ d ∷ []) ++ ds)) = counted_from (before ++ d ∷ []) ds are.1 in
+    let rest : length (filter_map call_in ds) + open_commands (is_running (before ++ d ∷ [])) ≡ length (filter_map reply_in ds) + open_commands (is_running ((before ++ d ∷ []) ++ ds)) = counted_from (before ++ d ∷ []) ds are.1 up.1 in
     let whole : open_commands (is_running ((before ++ d ∷ []) ++ ds)) ≡ open_commands (is_running (before ++ d ∷ ds)) = ap (λ (v : List Deed). open_commands (is_running v)) (append_assoc before (d ∷ []) ds) in
     let calls : length (filter_map call_in (d ∷ ds)) ≡ length (filter_map call_in (d ∷ [])) + length (filter_map call_in ds) = ap length (filter_map-append call_in (d ∷ []) ds) ∙ length-append (filter_map call_in (d ∷ [])) (filter_map call_in ds) in
     let told : length (filter_map reply_in (d ∷ ds)) ≡ length (filter_map reply_in (d ∷ [])) + length (filter_map reply_in ds) = ap length (filter_map-append reply_in (d ∷ []) ds) ∙ length-append (filter_map reply_in (d ∷ [])) (filter_map reply_in ds) in
     omega arith
 
-pub all_counted : (ds : List Deed) → AreInOrder [] ds → length (filter_map call_in ds) ≡ length (filter_map reply_in ds) + open_commands (is_running ds)
-all_counted ds are = let count : length (filter_map call_in ds) + 0 ≡ length (filter_map reply_in ds) + open_commands (is_running ds) = counted_from [] ds are in omega arith
+pub all_counted : (ds : List Deed) → AreInOrder [] ds → AreUp ds → length (filter_map call_in ds) ≡ length (filter_map reply_in ds) + open_commands (is_running ds)
+all_counted ds are up = let count : length (filter_map call_in ds) + 0 ≡ length (filter_map reply_in ds) + open_commands (is_running ds) = counted_from [] ds are up in omega arith

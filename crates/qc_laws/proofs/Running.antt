@@ -24,6 +24,7 @@ use Rattle.qc_script.specs.declared.script.PhaseLines.{PhaseLines}
 use Rattle.qc_script.specs.declared.script.Script.{Script}
 use Rattle.qc_script.specs.Inbox.{Inbox, answers_by, comes, comes_at_once, command_called, commands_for, copy_taken, count_of, empty_inbox, goes, goes_with, has_number, inbox, inbox_at, is_request, loss_taken, opened, opened_by, phase_begun, reply_told, with_copies}
 use Rattle.qc_script.specs.Ready.{after_controls, command_in, first_command, first_copy, first_lost, ready, ready_in, takes_commands}
+use Rattle.qc_laws.proofs.Up.{AreUp, IsUp, first_up, rest_up}
 
 busy_if : (t : Bool) (i j : Inbox) (b : Bool) → i.busy ≡ b → j.busy ≡ b → (if t then i else j).busy ≡ b
 busy_if true i j b here there = here
@@ -73,51 +74,56 @@ hears true running None = refl
 hears true running (Some e) = refl
 hears false running o = refl
 
-busy_step : (script : Script) (a : ℕ) (i : Inbox) (b : ℕ) (ms : List Envelope) (step : Step) → (inbox_at script a i b step).busy ≡ fold runs_at i.busy (cond (b == a) (deed_at ms step) [])
-busy_step script a i b ms (steps.Phase k) = busy_phase a i (slice_get script.phases (k - 1)) ∙ no_deed (b == a) i.busy
-busy_step script a i b ms (steps.Cut x y) = busy_opened (record i { cuts = with_cut i.cuts x y; controls = drop 1 i.controls }) ∙ no_deed (b == a) i.busy
-busy_step script a i b ms (steps.Heal x y) = busy_opened (record i { cuts = without_cut i.cuts x y; controls = drop 1 i.controls }) ∙ no_deed (b == a) i.busy
-busy_step script a i b ms (steps.Armed actor kind at) = no_deed (b == a) i.busy
-busy_step script a i b ms (steps.Called command) = by (b == a)
+-- an actor that is up neither falls nor rises
+never_mine : (mine running : Bool) (d : Deed) → AreUp (cond mine (d ∷ []) []) → (IsUp d → ⊥) → running ≡ fold runs_at running (cond mine (d ∷ []) [])
+never_mine true running d up never = absurd (never up.0)
+never_mine false running d up never = refl
+
+busy_step : (script : Script) (a : ℕ) (i : Inbox) (b : ℕ) (ms : List Envelope) (step : Step) → AreUp (cond (b == a) (deed_at ms step) []) → (inbox_at script a i b step).busy ≡ fold runs_at i.busy (cond (b == a) (deed_at ms step) [])
+busy_step script a i b ms (steps.Phase k) up = busy_phase a i (slice_get script.phases (k - 1)) ∙ no_deed (b == a) i.busy
+busy_step script a i b ms (steps.Cut x y) up = busy_opened (record i { cuts = with_cut i.cuts x y; controls = drop 1 i.controls }) ∙ no_deed (b == a) i.busy
+busy_step script a i b ms (steps.Heal x y) up = busy_opened (record i { cuts = without_cut i.cuts x y; controls = drop 1 i.controls }) ∙ no_deed (b == a) i.busy
+busy_step script a i b ms (steps.Armed actor kind at) up = no_deed (b == a) i.busy
+busy_step script a i b ms (steps.Called command) up = by (b == a)
   where
     by : (t : Bool) → (if t then command_called i else i).busy ≡ fold runs_at i.busy (cond t (deed_at ms (steps.Called command)) [])
     by true = refl
     by false = refl
-busy_step script a i b ms (steps.Got n) = busy_if (b == a) (copy_taken i) i i.busy refl refl ∙ hears (b == a) i.busy (slice_get ms n)
-busy_step script a i b ms (steps.Lost n) = by (b == a)
+busy_step script a i b ms (steps.Got n) up = busy_if (b == a) (copy_taken i) i i.busy refl refl ∙ hears (b == a) i.busy (slice_get ms n)
+busy_step script a i b ms (steps.Lost n) up = by (b == a)
   where
     by : (t : Bool) → (if t then loss_taken i else i).busy ≡ fold runs_at i.busy (cond t (deed_at ms (steps.Lost n)) [])
     by true = refl
     by false = refl
-busy_step script a i b ms (steps.Wrote written) = by (b == a)
+busy_step script a i b ms (steps.Wrote written) up = by (b == a)
   where
     by : (t : Bool) → i.busy ≡ fold runs_at i.busy (cond t (deed_at ms (steps.Wrote written)) [])
     by true = refl
     by false = refl
-busy_step script a i b ms (steps.Sent n to message) = busy_sent script a i (record { number = n; from = b; to = to; message = message }) ∙ by (b == a)
+busy_step script a i b ms (steps.Sent n to message) up = busy_sent script a i (record { number = n; from = b; to = to; message = message }) ∙ by (b == a)
   where
     by : (t : Bool) → i.busy ≡ fold runs_at i.busy (cond t (deed_at ms (steps.Sent n to message)) [])
     by true = refl
     by false = refl
-busy_step script a i b ms (steps.Told reply) = by (b == a)
+busy_step script a i b ms (steps.Told reply) up = by (b == a)
   where
     by : (t : Bool) → (if t then reply_told i else i).busy ≡ fold runs_at i.busy (cond t (deed_at ms (steps.Told reply)) [])
     by true = refl
     by false = refl
-busy_step script a i b ms (steps.Fell cause pending) = no_deed (b == a) i.busy
-busy_step script a i b ms (steps.Rose records) = no_deed (b == a) i.busy
-busy_step script a i b ms (steps.Damaged offset) = no_deed (b == a) i.busy
+busy_step script a i b ms (steps.Fell cause pending) up = never_mine (b == a) i.busy _ up (λ never. never)
+busy_step script a i b ms (steps.Rose records) up = never_mine (b == a) i.busy _ up (λ never. never)
+busy_step script a i b ms (steps.Damaged offset) up = no_deed (b == a) i.busy
 
-busy_all : (script : Script) (a : ℕ) (h : List Entry) (i : Inbox) (ms : List Envelope) → (fold (λ (i : Inbox) (e : Entry). inbox_at script a i e.actor e.step) i h).busy ≡ fold runs_at i.busy (deeds a ms h)
-busy_all script a [] i ms = refl
-busy_all script a (e ∷ h) i ms =
-    busy_all script a h (inbox_at script a i e.actor e.step) (ms ++ option_to_list (envelope_of e))
-    ∙ ap (λ (t : Bool). fold runs_at t (deeds a (ms ++ option_to_list (envelope_of e)) h)) (busy_step script a i e.actor ms e.step)
+busy_all : (script : Script) (a : ℕ) (h : List Entry) (i : Inbox) (ms : List Envelope) → AreUp (deeds a ms h) → (fold (λ (i : Inbox) (e : Entry). inbox_at script a i e.actor e.step) i h).busy ≡ fold runs_at i.busy (deeds a ms h)
+busy_all script a [] i ms up = refl
+busy_all script a (e ∷ h) i ms up =
+    busy_all script a h (inbox_at script a i e.actor e.step) (ms ++ option_to_list (envelope_of e)) (rest_up (cond (e.actor == a) (deed_at ms e.step) []) (deeds a (ms ++ option_to_list (envelope_of e)) h) up)
+    ∙ ap (λ (t : Bool). fold runs_at t (deeds a (ms ++ option_to_list (envelope_of e)) h)) (busy_step script a i e.actor ms e.step (first_up (cond (e.actor == a) (deed_at ms e.step) []) (deeds a (ms ++ option_to_list (envelope_of e)) h) up))
     ∙ sym (fold-append runs_at i.busy (cond (e.actor == a) (deed_at ms e.step) []) (deeds a (ms ++ option_to_list (envelope_of e)) h))
 
--- of each history, run or none
-pub busy_is_running : (script : Script) (a : ℕ) (h : List Entry) → (inbox script a h).busy ≡ is_running (deeds a [] h)
-busy_is_running script a h = busy_all script a h empty_inbox []
+-- of each history in which the actor neither falls nor rises
+pub busy_is_running : (script : Script) (a : ℕ) (h : List Entry) → AreUp (deeds a [] h) → (inbox script a h).busy ≡ is_running (deeds a [] h)
+busy_is_running script a h up = busy_all script a h empty_inbox [] up
 
 -- a command is ready only where none runs
 
@@ -141,7 +147,7 @@ not_busy decl a i c is = by i.controls is
     by [] e = free_copy i.copies (first_lost i.lost (command_in decl a i)) c i.busy (free_lost i.lost (command_in decl a i) c i.busy (free_command (takes_commands decl a) i.busy i.commands c)) e
     by (line ∷ lines) e = absurd (let never : ⊥ = cc in never)
 
-pub what_is_ready_may_be_taken : (decl : Declaration) (script : Script) (a : ℕ) (h : List Entry) (taken : Given) → ready decl script a h ≡ Some taken → MayTake (deeds a [] h) taken
-what_is_ready_may_be_taken decl script a h (given.Called command) is = sym (busy_is_running script a h) ∙ not_busy decl a (inbox script a h) command is
-what_is_ready_may_be_taken decl script a h (given.Got envelope) is = tt
-what_is_ready_may_be_taken decl script a h (given.Lost number) is = tt
+pub what_is_ready_may_be_taken : (decl : Declaration) (script : Script) (a : ℕ) (h : List Entry) → AreUp (deeds a [] h) → (taken : Given) → ready decl script a h ≡ Some taken → MayTake (deeds a [] h) taken
+what_is_ready_may_be_taken decl script a h up (given.Called command) is = sym (busy_is_running script a h up) ∙ not_busy decl a (inbox script a h) command is
+what_is_ready_may_be_taken decl script a h up (given.Got envelope) is = tt
+what_is_ready_may_be_taken decl script a h up (given.Lost number) is = tt

@@ -14,7 +14,7 @@ use Rattle.qc_msg.specs.declared.record.Record.{Record}
 use Rattle.qc_msg.specs.declared.step.Given.{Given}
 use Rattle.qc_msg.specs.declared.turn.Posting.{Posting}
 use Rattle.qc_msg.specs.declared.turn.Turn.{Turn}
-use Rattle.qc_msg.specs.Deeds.{Deed, Takes, Writes, Sends, Tells, deeds, turn_deeds}
+use Rattle.qc_msg.specs.Deeds.{Deed, Takes, Writes, Sends, Tells, Falls, Rises, deeds, turn_deeds}
 use Rattle.qc_msg.specs.Steps.{Entry}
 use Rattle.qc_promise.specs.SiteDue.{AreDue, IsDueAt, IsDueOrOpen}
 use Rattle.qc_promise.specs.SitePosts.{sent_next, written_next}
@@ -41,6 +41,8 @@ sent_cut (Takes other ∷ xs) ys g = refl
 sent_cut (Writes written ∷ xs) ys g = sent_cut xs ys g
 sent_cut (Sends number to message ∷ xs) ys g = ap (λ (v : List Posting). record { to = to; message = message } ∷ v) (sent_cut xs ys g)
 sent_cut (Tells reply ∷ xs) ys g = sent_cut xs ys g
+sent_cut (Falls cause pending ∷ xs) ys g = sent_cut xs ys g
+sent_cut (Rises records ∷ xs) ys g = sent_cut xs ys g
 
 written_cut : (xs ys : List Deed) (g : Given) → written_next (xs ++ Takes g ∷ ys) ≡ written_next (xs ++ Takes g ∷ [])
 written_cut [] ys g = refl
@@ -48,6 +50,8 @@ written_cut (Takes other ∷ xs) ys g = refl
 written_cut (Writes written ∷ xs) ys g = ap (λ (v : List Record). written ∷ v) (written_cut xs ys g)
 written_cut (Sends number to message ∷ xs) ys g = written_cut xs ys g
 written_cut (Tells reply ∷ xs) ys g = written_cut xs ys g
+written_cut (Falls cause pending ∷ xs) ys g = written_cut xs ys g
+written_cut (Rises records ∷ xs) ys g = written_cut xs ys g
 
 module _ (decl : Declaration) where
   take_cut : (before : List Deed) (other : Given) (xs ys : List Deed) (g : Given) → IsDueOrOpen decl before other (xs ++ Takes g ∷ ys) → IsDueOrOpen decl before other (xs ++ Takes g ∷ [])
@@ -59,6 +63,8 @@ module _ (decl : Declaration) where
   deed_cut before (Writes written) xs ys g due = tt
   deed_cut before (Sends number to message) xs ys g due = tt
   deed_cut before (Tells reply) xs ys g due = tt
+  deed_cut before (Falls cause pending) xs ys g due = tt
+  deed_cut before (Rises records) xs ys g due = tt
 
   due_cut : (before xs ys : List Deed) (g : Given) → AreDue decl before (xs ++ Takes g ∷ ys) → AreDue decl before (xs ++ Takes g ∷ [])
   due_cut before [] ys g due = (tt, tt)

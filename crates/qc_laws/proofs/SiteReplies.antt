@@ -21,7 +21,7 @@ use Rattle.qc_msg.specs.declared.message.Want.TheVariants.{Read, Append, Prepare
 use Rattle.qc_msg.specs.declared.step.Given.{Given}
 use Rattle.qc_msg.specs.declared.step.Given.TheVariants as given
 use Rattle.qc_msg.specs.declared.turn.Posting.{Posting}
-use Rattle.qc_msg.specs.Deeds.{Deed, Takes, Writes, Sends, Tells, envelopes}
+use Rattle.qc_msg.specs.Deeds.{Deed, Takes, Writes, Sends, Tells, Falls, Rises, envelopes}
 use Rattle.qc_msg.specs.Turns.{quiet}
 use Rattle.qc_stamp.specs.declared.stamp.Stamp.{Stamp}
 use Rattle.qc_stamp.specs.declared.stamp.TxId.{TxId}
@@ -135,6 +135,8 @@ does_asks decl m (Takes g) is = takes_asks decl m.site g
 does_asks decl m (Writes written) is = is
 does_asks decl m (Sends number to message) is = is
 does_asks decl m (Tells reply) is = is
+does_asks decl m (Falls cause pending) is = is
+does_asks decl m (Rises records) is = is
 
 folded_asks : (decl : Declaration) (ds : List Deed) (m : SiteMove) → AskNothing m.turn.sends → AskNothing (fold (site_does decl) m ds).turn.sends
 folded_asks decl [] m is = is

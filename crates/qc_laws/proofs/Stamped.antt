@@ -24,7 +24,7 @@ use Rattle.qc_msg.specs.declared.message.Want.TheVariants.{Read, Append, Prepare
 use Rattle.qc_msg.specs.declared.step.Given.{Given}
 use Rattle.qc_msg.specs.declared.step.Given.TheVariants as given
 use Rattle.qc_msg.specs.declared.turn.Turn.{Turn}
-use Rattle.qc_msg.specs.Deeds.{Deed, Takes, Writes, Sends, Tells}
+use Rattle.qc_msg.specs.Deeds.{Deed, Takes, Writes, Sends, Tells, Falls, Rises}
 use Rattle.qc_msg.specs.Turns.{quiet}
 use Rattle.qc_client.specs.Conduct.{client_after}
 use Rattle.qc_site.specs.Conduct.{passed, site_after, site_at, site_does, site_takes}
@@ -94,6 +94,8 @@ does_answer decl m (Takes g) is = takes_answer decl m.site g
 does_answer decl m (Writes written) is = is
 does_answer decl m (Sends number to message) is = is
 does_answer decl m (Tells reply) is = is
+does_answer decl m (Falls cause pending) is = is
+does_answer decl m (Rises records) is = is
 
 folded_answer : (decl : Declaration) (ds : List Deed) (m : SiteMove) → IsAnswering m → IsAnswering (fold (site_does decl) m ds)
 folded_answer decl [] m is = is

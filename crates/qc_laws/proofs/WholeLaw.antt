@@ -23,6 +23,7 @@ use Rattle.qc_laws.proofs.Ends.{copies_none, losts_none, nothing_ready}
 use Rattle.qc_laws.proofs.Ordered.{run_replied}
 use Rattle.qc_laws.proofs.Replying.{open_commands}
 use Rattle.qc_laws.proofs.Running.{busy_is_running}
+use Rattle.qc_laws.proofs.Up.{run_up}
 
 second_true : (x y : Bool) → (x && y) ≡ true → y ≡ true
 second_true true y is = is
@@ -47,7 +48,7 @@ module _ (decl : Declaration) (script : Script) (accepted : IsAccepted decl) (as
 
   none_left : (a : ℕ) → is_client decl a ≡ true → (inbox script a h).commands ≡ []
   none_left a client =
-      no_commands (takes_commands decl a) (inbox script a h).busy (inbox script a h).commands (ap (λ (t : Bool). t || (a == administrator decl)) client) (busy_is_running script a h ∙ idle a client) (no_command a client)
+      no_commands (takes_commands decl a) (inbox script a h).busy (inbox script a h).commands (ap (λ (t : Bool). t || (a == administrator decl)) client) (busy_is_running script a h (run_up (IsLawful decl) decl script h (replicate (actors decl) false) closed a) ∙ idle a client) (no_command a client)
 
   calls_whole : length script.phases ≤ phase_of h → (a : ℕ) → is_client decl a ≡ true → calls_of a h ≡ asked_by a script
   calls_whole all a client =

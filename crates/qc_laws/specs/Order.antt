@@ -2,13 +2,15 @@
 -- where one does, whose reply it is.
 use Rattle.std.specs.Prelude.{◌≡◌, true, List, [], ◌∷◌, ◌++◌}
 use Rattle.qc_core.specs.Acts.{MayTake, is_running}
-use Rattle.qc_msg.specs.Deeds.{Deed, Takes, Writes, Sends, Tells}
+use Rattle.qc_msg.specs.Deeds.{Deed, Takes, Writes, Sends, Tells, Falls, Rises}
 
 abbrev pub IsInOrder : List Deed → Deed → Type 0
 IsInOrder before (Takes given) = MayTake before given
 IsInOrder before (Writes written) = Unit {0}
 IsInOrder before (Sends number to message) = Unit {0}
 IsInOrder before (Tells reply) = is_running before ≡ true
+IsInOrder before (Falls cause pending) = Unit {0}
+IsInOrder before (Rises records) = Unit {0}
 
 -- so is each of these deeds, those before them being `before`
 abbrev pub AreInOrder : List Deed → List Deed → Type 0

@@ -8,7 +8,7 @@ use Rattle.qc_msg.specs.declared.reply.Reply.{Reply}
 use Rattle.qc_msg.specs.declared.step.Command.{Command}
 use Rattle.qc_msg.specs.declared.step.Given.{Given}
 use Rattle.qc_msg.specs.declared.step.Given.TheVariants as given
-use Rattle.qc_msg.specs.Deeds.{Deed, Takes, Writes, Sends, Tells, deeds}
+use Rattle.qc_msg.specs.Deeds.{Deed, Takes, Writes, Sends, Tells, Falls, Rises, deeds}
 use Rattle.qc_msg.specs.Steps.{Entry}
 use Rattle.qc_script.specs.Inbox.{commands_for}
 use Rattle.qc_script.specs.Ready.{controls_left, phase_of, ready}
@@ -28,6 +28,8 @@ call_in (Takes taken) = call_taken taken
 call_in (Writes written) = None
 call_in (Sends number to message) = None
 call_in (Tells reply) = None
+call_in (Falls cause pending) = None
+call_in (Rises records) = None
 
 abbrev pub calls_of : ℕ → List Entry → List Command
 calls_of a h = filter_map call_in (deeds a [] h)
@@ -39,6 +41,8 @@ reply_in (Takes taken) = None
 reply_in (Writes written) = None
 reply_in (Sends number to message) = None
 reply_in (Tells reply) = Some reply
+reply_in (Falls cause pending) = None
+reply_in (Rises records) = None
 
 abbrev pub replies_of : ℕ → List Entry → List Reply
 replies_of a h = filter_map reply_in (deeds a [] h)

@@ -8,16 +8,20 @@ use Rattle.std.proofs.lemmas.List.Sums.{sum_by-cons}
 use Rattle.qc_msg.specs.declared.message.Envelope.{Envelope}
 use Rattle.qc_msg.specs.declared.record.Record.{Record}
 use Rattle.qc_msg.specs.declared.reply.Reply.{Reply}
+use Rattle.qc_msg.specs.declared.step.Fall.{Fall}
+use Rattle.qc_msg.specs.declared.step.Fall.TheVariants as causes
 use Rattle.qc_msg.specs.declared.step.Given.{Given}
 use Rattle.qc_msg.specs.declared.step.Given.TheVariants as given
 use Rattle.qc_msg.specs.declared.step.Step.{Step}
-use Rattle.qc_msg.specs.declared.step.Step.TheVariants.{Wrote, Sent, Told}
+use Rattle.qc_msg.specs.declared.step.Step.TheVariants.{Fell, Rose, Wrote, Sent, Told}
+use Rattle.qc_msg.specs.declared.turn.Appended.{Appended}
+use Rattle.qc_msg.specs.declared.turn.Appended.TheVariants.{Done, Failed, Stopped}
 use Rattle.qc_msg.specs.declared.turn.Posting.{Posting}
 use Rattle.qc_msg.specs.declared.turn.Turn.{Turn}
-use Rattle.qc_msg.specs.Deeds.{Deed, Takes, Sends, deed_at, deeds, envelope_of, envelopes, heard, mail, own, sends_of, tells_of, turn_deeds, writes_of, WasSentTo}
+use Rattle.qc_msg.specs.Deeds.{Deed, Falls, Rises, Takes, Sends, deed_at, deeds, deeds_as, envelope_of, envelopes, heard, mail, own, sends_of, tells_of, turn_deeds, writes_of, WasSentTo}
 use Rattle.qc_entry.specs.declared.record.Commit.{Commit}
 use Rattle.qc_msg.specs.Counts.{answered, answered_in, commit_in, operations_of, written}
-use Rattle.qc_msg.specs.Steps.{Entry, by, marked, posted, sents, step_of, told, wrote}
+use Rattle.qc_msg.specs.Steps.{Entry, by, fell, marked, posted, posted_as, sends_as, sents, step_of, told, wrote}
 
 -- an actor's steps, as entries
 
@@ -174,6 +178,43 @@ deeds-by_same a n ms turn =
     (deeds-append a (ms ++ mail w) s t
     ∙ ap (λ (v : List Deed). v ++ deeds a ((ms ++ mail w) ++ mail s) t) (deeds-sents a n (ms ++ mail w) turn.sends)
     ∙ ap (λ (v : List Deed). sends_of n turn.sends ++ v) (deeds-told a ((ms ++ mail w) ++ mail s) turn.told))
+
+-- posts by what became of the record
+
+deeds-two : (a : ℕ) (ms : List Envelope) (xs ys : List Step) (ds es : List Deed) → ((ns : List Envelope) → deeds a ns (by a xs) ≡ ds) → ((ns : List Envelope) → deeds a ns (by a ys) ≡ es) → deeds a ms (by a (xs ++ ys)) ≡ ds ++ es
+deeds-two a ms xs ys ds es first second =
+    ap (λ (v : List Entry). deeds a ms v) (by-append a xs ys)
+    ∙ deeds-append a ms (by a xs) (by a ys)
+    ∙ ap (λ (v : List Deed). v ++ deeds a (ms ++ mail (by a xs)) (by a ys)) (first ms)
+    ∙ ap (λ (v : List Deed). ds ++ v) (second (ms ++ mail (by a xs)))
+
+pub deeds-fell : (a : ℕ) (ms : List Envelope) (cause : Fall) (pending : Option Record) → deeds a ms (by a (fell cause pending)) ≡ Falls cause pending ∷ []
+deeds-fell a ms cause pending = ap (λ (v : Bool). cond v (deed_at ms (Fell cause pending)) [] ++ []) (same_actor a)
+
+pub deeds-rose : (a : ℕ) (ms : List Envelope) (records : List Record) → deeds a ms (by a (Rose records ∷ [])) ≡ Rises records ∷ []
+deeds-rose a ms records = ap (λ (v : Bool). cond v (deed_at ms (Rose records)) [] ++ []) (same_actor a)
+
+deeds-as_same : (end : Appended) (a n : ℕ) (ms : List Envelope) (turn : Turn) → deeds a ms (by a (posted_as end n turn)) ≡ deeds_as end n turn
+deeds-as_same Done a n ms turn = deeds-by_same a n ms turn
+deeds-as_same Failed a n ms turn = deeds-two a ms (sents n turn.failed_sends) (told turn.failed_told ++ fell causes.Disk turn.write) (sends_of n turn.failed_sends) (tells_of turn.failed_told ++ Falls causes.Disk turn.write ∷ [])
+    (λ ns. deeds-sents a n ns turn.failed_sends) (λ ns. deeds-two a ns (told turn.failed_told) (fell causes.Disk turn.write) (tells_of turn.failed_told) (Falls causes.Disk turn.write ∷ []) (λ os. deeds-told a os turn.failed_told) (λ os. deeds-fell a os causes.Disk turn.write))
+deeds-as_same Stopped a n ms turn = deeds-two a ms (told turn.failed_told) (fell causes.Stop turn.write) (tells_of turn.failed_told) (Falls causes.Stop turn.write ∷ []) (λ ns. deeds-told a ns turn.failed_told) (λ ns. deeds-fell a ns causes.Stop turn.write)
+
+-- the actor's deeds go on by its post
+pub deeds-posted_as : (end : Appended) (a n : ℕ) (h : List Entry) (turn : Turn) → deeds a [] (h ++ by a (posted_as end n turn)) ≡ deeds a [] h ++ deeds_as end n turn
+deeds-posted_as end a n h turn =
+    deeds-append a [] h (by a (posted_as end n turn))
+    ∙ ap (λ (v : List Deed). deeds a [] h ++ v) (deeds-as_same end a n (mail h) turn)
+
+mail-two : (a : ℕ) (xs ys : List Step) (es fs : List Envelope) → mail (by a xs) ≡ es → mail (by a ys) ≡ fs → mail (by a (xs ++ ys)) ≡ es ++ fs
+mail-two a xs ys es fs first second = ap mail (by-append a xs ys) ∙ mail-append (by a xs) (by a ys) ∙ ap (λ (v : List Envelope). v ++ mail (by a ys)) first ∙ ap (λ (v : List Envelope). es ++ v) second
+
+-- what a post sends
+pub mail-posted_as : (end : Appended) (a n : ℕ) (turn : Turn) → mail (by a (posted_as end n turn)) ≡ envelopes a n (sends_as end turn)
+mail-posted_as Done a n turn = mail-posted a n turn
+mail-posted_as Failed a n turn = mail-two a (sents n turn.failed_sends) (told turn.failed_told ++ fell causes.Disk turn.write) (envelopes a n turn.failed_sends) [] (mail-sents a n turn.failed_sends)
+    (mail-two a (told turn.failed_told) (fell causes.Disk turn.write) [] [] (mail-told a turn.failed_told) refl) ∙ append-nil (envelopes a n turn.failed_sends)
+mail-posted_as Stopped a n turn = mail-two a (told turn.failed_told) (fell causes.Stop turn.write) [] [] (mail-told a turn.failed_told) refl
 
 -- what an input does
 pub deed_at-given : (a : ℕ) (ms : List Envelope) (input : Given) → WasSentTo a ms input → deed_at ms (step_of input) ≡ Takes input ∷ []

@@ -6,10 +6,14 @@ use Rattle.qc_msg.specs.declared.message.Envelope.{Envelope}
 use Rattle.qc_msg.specs.declared.message.Message.{Message}
 use Rattle.qc_msg.specs.declared.record.Record.{Record}
 use Rattle.qc_msg.specs.declared.reply.Reply.{Reply}
+use Rattle.qc_msg.specs.declared.step.Fall.{Fall}
+use Rattle.qc_msg.specs.declared.step.Fall.TheVariants as causes
 use Rattle.qc_msg.specs.declared.step.Given.{Given}
 use Rattle.qc_msg.specs.declared.step.Given.TheVariants as given
 use Rattle.qc_msg.specs.declared.step.Step.{Step}
 use Rattle.qc_msg.specs.declared.step.Step.TheVariants as steps
+use Rattle.qc_msg.specs.declared.turn.Appended.{Appended}
+use Rattle.qc_msg.specs.declared.turn.Appended.TheVariants.{Done, Failed, Stopped}
 use Rattle.qc_msg.specs.declared.turn.Posting.{Posting}
 use Rattle.qc_msg.specs.declared.turn.Turn.{Turn}
 use Rattle.qc_msg.specs.Steps.{Entry}
@@ -43,19 +47,21 @@ envelopes from n [] = []
 envelopes from n (p ∷ ps) =
     record { number = n; from = from; to = p.to; message = p.message } ∷ envelopes from (n + 1) ps
 
--- what an actor does: it takes an input, a message in full; it writes a record; it sends a message; it tells a reply.
--- Its falls and rises are no deeds yet: no actor falls
+-- what an actor does: it takes an input, a message in full; it writes a record; it sends a message; it tells a reply; it
+-- falls, with the record that was being written, if one was; it rises with the records that its journal gave
 pub data Deed : Type 0 where
   Takes : (given : Given) → Deed
   Writes : (written : Record) → Deed
   Sends : (number to : ℕ) (message : Message) → Deed
   Tells : (reply : Reply) → Deed
+  Falls : (cause : Fall) (pending : Option Record) → Deed
+  Rises : (records : List Record) → Deed
 
 abbrev pub heard : Option Envelope → List Deed
 heard None = []
 heard (Some envelope) = Takes (given.Got envelope) ∷ []
 
--- what a step does, the messages so far being ms
+-- what a step does, the messages so far being ms; where a journal is damaged its actor stays down
 abbrev pub deed_at : List Envelope → Step → List Deed
 deed_at ms (steps.Phase k) = []
 deed_at ms (steps.Cut x y) = []
@@ -67,8 +73,8 @@ deed_at ms (steps.Lost n) = Takes (given.Lost n) ∷ []
 deed_at ms (steps.Wrote written) = Writes written ∷ []
 deed_at ms (steps.Sent n to message) = Sends n to message ∷ []
 deed_at ms (steps.Told reply) = Tells reply ∷ []
-deed_at ms (steps.Fell cause pending) = []
-deed_at ms (steps.Rose records) = []
+deed_at ms (steps.Fell cause pending) = Falls cause pending ∷ []
+deed_at ms (steps.Rose records) = Rises records ∷ []
 deed_at ms (steps.Damaged offset) = []
 
 -- the deeds of an actor in a history, each message that it takes looked up among those sent before: ms, and those of
@@ -97,6 +103,13 @@ tells_of (Some reply) = Tells reply ∷ []
 
 abbrev pub turn_deeds : ℕ → Turn → List Deed
 turn_deeds n turn = writes_of turn.write ++ (sends_of n turn.sends ++ tells_of turn.told)
+
+-- the deeds of a post, by what became of the turn's record: where it isn't written, a fall ends them
+abbrev pub deeds_as : Appended → ℕ → Turn → List Deed
+deeds_as Done n turn = turn_deeds n turn
+deeds_as Failed n turn =
+    sends_of n turn.failed_sends ++ (tells_of turn.failed_told ++ Falls causes.Disk turn.write ∷ [])
+deeds_as Stopped n turn = tells_of turn.failed_told ++ Falls causes.Stop turn.write ∷ []
 
 -- where the input is a message, it is the one that was sent to actor a under its number
 abbrev pub WasSentTo : ℕ → List Envelope → Given → Type 0

@@ -5,3 +5,4 @@ pub mod Lengths
 pub mod Counts
 pub mod Calls
 pub mod Begun
+pub mod Readings

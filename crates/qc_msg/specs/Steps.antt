@@ -3,10 +3,14 @@ use Rattle.std.specs.Prelude.{ℕ, ◌+◌, List, [], ◌∷◌, ◌++◌, Optio
 use Rattle.qc_list.specs.declared.marked.Marked.{Marked}
 use Rattle.qc_msg.specs.declared.record.Record.{Record}
 use Rattle.qc_msg.specs.declared.reply.Reply.{Reply}
+use Rattle.qc_msg.specs.declared.step.Fall.{Fall}
+use Rattle.qc_msg.specs.declared.step.Fall.TheVariants as causes
 use Rattle.qc_msg.specs.declared.step.Given.{Given}
 use Rattle.qc_msg.specs.declared.step.Given.TheVariants as given
 use Rattle.qc_msg.specs.declared.step.Step.{Step}
-use Rattle.qc_msg.specs.declared.step.Step.TheVariants.{Called, Got, Lost, Wrote, Sent, Told}
+use Rattle.qc_msg.specs.declared.step.Step.TheVariants.{Called, Got, Lost, Wrote, Sent, Told, Fell}
+use Rattle.qc_msg.specs.declared.turn.Appended.{Appended}
+use Rattle.qc_msg.specs.declared.turn.Appended.TheVariants.{Done, Failed, Stopped}
 use Rattle.qc_msg.specs.declared.turn.Posting.{Posting}
 use Rattle.qc_msg.specs.declared.turn.Turn.{Turn}
 
@@ -45,3 +49,32 @@ told (Some reply) = Told reply ∷ []
 
 abbrev pub posted : ℕ → Turn → List Step
 posted n turn = wrote turn.write ++ (sents n turn.sends ++ told turn.told)
+
+-- the steps of a post, by what became of the turn's record. Where the disk fails the actor says that the record isn't
+-- written, and falls; where it stops, nothing is sent any more. The record that wasn't written may be there when the actor
+-- rises: it is pending
+
+abbrev pub fell : Fall → Option Record → List Step
+fell cause pending = Fell cause pending ∷ []
+
+abbrev pub posted_as : Appended → ℕ → Turn → List Step
+posted_as Done n turn = posted n turn
+posted_as Failed n turn = sents n turn.failed_sends ++ (told turn.failed_told ++ fell causes.Disk turn.write)
+posted_as Stopped n turn = told turn.failed_told ++ fell causes.Stop turn.write
+
+-- the messages of a post
+abbrev pub sends_as : Appended → Turn → List Posting
+sends_as Done turn = turn.sends
+sends_as Failed turn = turn.failed_sends
+sends_as Stopped turn = []
+
+-- only where there is a record can it fail to be written
+
+abbrev pub HasRecord : Option Record → Type 0
+HasRecord None = ⊥
+HasRecord (Some written) = Unit {0}
+
+abbrev pub MayEnd : Option Record → Appended → Type 0
+MayEnd write Done = Unit {0}
+MayEnd write Failed = HasRecord write
+MayEnd write Stopped = HasRecord write

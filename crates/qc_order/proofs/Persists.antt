@@ -25,7 +25,7 @@ use Rattle.qc_msg.specs.declared.reply.Reply.TheVariants as replies
 use Rattle.qc_msg.specs.declared.step.Command.{Command}
 use Rattle.qc_msg.specs.declared.step.Command.TheVariants as commands
 use Rattle.qc_msg.specs.declared.step.Given.TheVariants as given
-use Rattle.qc_msg.specs.Deeds.{Deed, Takes, Writes, Sends, Tells}
+use Rattle.qc_msg.specs.Deeds.{Deed, Takes, Writes, Sends, Tells, Falls, Rises}
 use Rattle.qc_promise.specs.Account.{Account, ClientRequest, Current, new_account, new_current}
 use Rattle.qc_promise.specs.Accounting.{account_at, account_heard, account_sent, account_told_in, account_written, counted, counted_for, found_absent, granted, is_open, lived, promised, responded, short_of, taken_for, told_by, with_read, with_response}
 use Rattle.qc_promise.specs.Asked.{is_asked_for}
@@ -174,6 +174,8 @@ module _ (decl : Declaration) where
   deed_step d (Writes w) is = written_step d w
   deed_step d (Sends n to m) is = sent_step d n to m
   deed_step d (Tells reply) is = reply_step d reply is
+  deed_step d (Falls cause pending) is = stays d
+  deed_step d (Rises records) is = stays d
 
 -- the begun transaction's number is at most the count
 

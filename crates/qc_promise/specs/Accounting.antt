@@ -22,7 +22,7 @@ use Rattle.qc_msg.specs.declared.step.Command.TheVariants as commands
 use Rattle.qc_msg.specs.declared.step.Given.{Given}
 use Rattle.qc_msg.specs.declared.step.Given.TheVariants as given
 use Rattle.qc_msg.specs.Begun.{with_life}
-use Rattle.qc_msg.specs.Deeds.{Deed, Takes, Writes, Sends, Tells, deeds}
+use Rattle.qc_msg.specs.Deeds.{Deed, Takes, Writes, Sends, Tells, Falls, Rises, deeds}
 use Rattle.qc_msg.specs.Steps.{Entry}
 use Rattle.qc_promise.specs.Account.{Account, Current, ClientRequest, is_append, new_account, new_current, requests_for}
 use Rattle.qc_promise.specs.Asked.{is_asked_for}
@@ -212,6 +212,8 @@ account_at decl d (Takes given) = account_taken d given
 account_at decl d (Writes written) = account_written d written
 account_at decl d (Sends number to message) = account_sent decl d number to message
 account_at decl d (Tells reply) = account_told decl d reply
+account_at decl d (Falls cause pending) = d
+account_at decl d (Rises records) = d
 
 -- the account of an actor's deeds in a history; a client's number is its actor's without the sites
 abbrev pub account : Declaration → ℕ → List Entry → Account

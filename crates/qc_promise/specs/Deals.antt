@@ -3,7 +3,7 @@ use Rattle.std.specs.Prelude.{ℕ, Bool, false, if◌then◌else◌, List, [], �
 use Rattle.qc_decl.specs.Actors.{client_actor}
 use Rattle.qc_decl.specs.declared.declaration.Declaration.{Declaration}
 use Rattle.qc_entry.specs.declared.line.Op.{Op}
-use Rattle.qc_msg.specs.Deeds.{Deed, Sends, Takes, Tells, Writes, deeds}
+use Rattle.qc_msg.specs.Deeds.{Deed, Sends, Takes, Tells, Falls, Rises, Writes, deeds}
 use Rattle.qc_msg.specs.Steps.{Entry}
 use Rattle.qc_msg.specs.declared.reply.Reply.{Reply}
 use Rattle.qc_msg.specs.declared.reply.Reply.TheVariants as replies
@@ -80,6 +80,8 @@ deal tx d (Takes given) = deal_taken d given
 deal tx d (Writes written) = d
 deal tx d (Sends number to message) = d
 deal tx d (Tells reply) = deal_told tx d reply
+deal tx d (Falls cause pending) = d
+deal tx d (Rises records) = d
 
 abbrev pub no_dealing : Dealing
 no_dealing = record { asked = None; begun = None; ops = []; ends = [] }

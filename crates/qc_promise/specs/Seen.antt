@@ -5,7 +5,7 @@ use Rattle.std.specs.List.{list_any}
 use Rattle.qc_decl.specs.Actors.{client_actor}
 use Rattle.qc_decl.specs.declared.declaration.Declaration.{Declaration}
 use Rattle.qc_entry.specs.declared.line.Line.{Line}
-use Rattle.qc_msg.specs.Deeds.{Deed, Sends, Takes, Tells, Writes, deeds}
+use Rattle.qc_msg.specs.Deeds.{Deed, Sends, Takes, Tells, Falls, Rises, Writes, deeds}
 use Rattle.qc_msg.specs.Steps.{Entry}
 use Rattle.qc_msg.specs.declared.message.Answer.{Answer}
 use Rattle.qc_msg.specs.declared.message.Answer.TheVariants as answers
@@ -115,6 +115,8 @@ sight tx s (Takes given) = sight_taken tx s given
 sight tx s (Writes written) = s
 sight tx s (Sends number to message) = sight_sent s number message
 sight tx s (Tells reply) = sight_told tx s reply
+sight tx s (Falls cause pending) = s
+sight tx s (Rises records) = s
 
 abbrev pub no_sight : Sight
 no_sight = record { begun = None; waiting = []; known = []; seen = [] }

@@ -10,7 +10,7 @@ use Rattle.qc_msg.specs.declared.message.Want.{Want}
 use Rattle.qc_msg.specs.declared.message.Want.TheVariants.{Read, Append, Prepare}
 use Rattle.qc_msg.specs.declared.step.Given.{Given}
 use Rattle.qc_msg.specs.declared.step.Given.TheVariants as given
-use Rattle.qc_msg.specs.Deeds.{Deed, Takes, Writes, Sends, Tells}
+use Rattle.qc_msg.specs.Deeds.{Deed, Takes, Writes, Sends, Tells, Falls, Rises}
 
 abbrev pub clocks_in_want : Want → List ℕ
 clocks_in_want (Read object inv) = []
@@ -42,6 +42,8 @@ clocks_at (Takes given) = clocks_given given
 clocks_at (Writes written) = []
 clocks_at (Sends number to message) = []
 clocks_at (Tells reply) = []
+clocks_at (Falls cause pending) = []
+clocks_at (Rises records) = []
 
 abbrev pub clock_shown : List Deed → ℕ
 clock_shown ds = fold max 0 (flat_map clocks_at ds)

@@ -27,7 +27,7 @@ use Rattle.qc_msg.specs.declared.record.Record.TheVariants as records
 use Rattle.qc_msg.specs.declared.step.Given.{Given}
 use Rattle.qc_msg.specs.declared.step.Given.TheVariants as given
 use Rattle.qc_msg.specs.declared.turn.Posting.{Posting}
-use Rattle.qc_msg.specs.Deeds.{Deed, Takes, Writes, Sends, Tells}
+use Rattle.qc_msg.specs.Deeds.{Deed, Takes, Writes, Sends, Tells, Falls, Rises}
 use Rattle.qc_msg.specs.Lengths.{prepare_length}
 use Rattle.qc_promise.specs.SiteClocks.{clock_shown}
 use Rattle.qc_promise.specs.SiteHeld.{held_shown}
@@ -199,6 +199,8 @@ IsDueAt decl before (Takes given) after = IsDueOrOpen decl (before ++ Takes give
 IsDueAt decl before (Writes written) after = Unit {0}
 IsDueAt decl before (Sends number to message) after = Unit {0}
 IsDueAt decl before (Tells reply) after = Unit {0}
+IsDueAt decl before (Falls cause pending) after = Unit {0}
+IsDueAt decl before (Rises records) after = Unit {0}
 
 abbrev pub AreDue : Declaration → List Deed → List Deed → Type 0
 AreDue decl before [] = Unit {0}

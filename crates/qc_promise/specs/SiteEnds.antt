@@ -11,7 +11,7 @@ use Rattle.qc_msg.specs.declared.record.Record.{Record}
 use Rattle.qc_msg.specs.declared.record.Record.TheVariants as records
 use Rattle.qc_msg.specs.declared.step.Given.{Given}
 use Rattle.qc_msg.specs.declared.step.Given.TheVariants as given
-use Rattle.qc_msg.specs.Deeds.{Deed, Takes, Writes, Sends, Tells}
+use Rattle.qc_msg.specs.Deeds.{Deed, Takes, Writes, Sends, Tells, Falls, Rises}
 
 -- what a test of Decisions finds of an input
 
@@ -41,6 +41,8 @@ ends tx (Takes given) = is_decision is_final tx given
 ends tx (Writes written) = false
 ends tx (Sends number to message) = false
 ends tx (Tells reply) = false
+ends tx (Falls cause pending) = false
+ends tx (Rises records) = false
 
 abbrev pub is_ended : TxId → List Deed → Bool
 is_ended tx ds = list_any (ends tx) ds
@@ -67,6 +69,8 @@ frees tx (Takes given) = is_decision is_aborted tx given
 frees tx (Writes written) = redeems tx written
 frees tx (Sends number to message) = false
 frees tx (Tells reply) = false
+frees tx (Falls cause pending) = false
+frees tx (Rises records) = false
 
 abbrev pub is_over : TxId → List Deed → Bool
 is_over tx ds = list_any (frees tx) ds

@@ -14,7 +14,7 @@ use Rattle.qc_msg.specs.declared.message.Want.TheVariants.{Read, Append, Prepare
 use Rattle.qc_msg.specs.declared.step.Given.{Given}
 use Rattle.qc_msg.specs.declared.step.Given.TheVariants as given
 use Rattle.qc_msg.specs.declared.turn.Posting.{Posting}
-use Rattle.qc_msg.specs.Deeds.{Deed, Takes, Writes, Sends, Tells}
+use Rattle.qc_msg.specs.Deeds.{Deed, Takes, Writes, Sends, Tells, Falls, Rises}
 use Rattle.qc_promise.specs.SiteEnds.{is_ended}
 use Rattle.qc_promise.specs.SitePosts.{sent_next}
 
@@ -74,6 +74,8 @@ standing_at (Takes given) after = standing_given given after
 standing_at (Writes written) after = []
 standing_at (Sends number to message) after = []
 standing_at (Tells reply) after = []
+standing_at (Falls cause pending) after = []
+standing_at (Rises records) after = []
 
 -- the requests that stand, in the order in which they came
 abbrev pub standing : List Deed → List Grant

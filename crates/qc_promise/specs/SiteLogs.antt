@@ -16,7 +16,7 @@ use Rattle.qc_msg.specs.declared.record.Record.{Record}
 use Rattle.qc_msg.specs.declared.record.Record.TheVariants as records
 use Rattle.qc_msg.specs.declared.step.Given.{Given}
 use Rattle.qc_msg.specs.declared.step.Given.TheVariants as given
-use Rattle.qc_msg.specs.Deeds.{Deed, Takes, Writes, Sends, Tells}
+use Rattle.qc_msg.specs.Deeds.{Deed, Takes, Writes, Sends, Tells, Falls, Rises}
 use Rattle.qc_promise.specs.SiteHeld.{is_granted}
 use Rattle.qc_promise.specs.SiteRecords.{last_prepare}
 
@@ -63,6 +63,8 @@ given_at before (Takes given) = []
 given_at before (Writes written) = lines_given before written
 given_at before (Sends number to message) = []
 given_at before (Tells reply) = []
+given_at before (Falls cause pending) = []
+given_at before (Rises records) = []
 
 abbrev pub recorded_from : List Line → List Deed → List Deed → List Line
 recorded_from lines before [] = lines
@@ -99,6 +101,8 @@ joining before (Takes given) after = view_given given after
 joining before (Writes written) after = lines_done before written
 joining before (Sends number to message) after = []
 joining before (Tells reply) after = []
+joining before (Falls cause pending) after = []
+joining before (Rises records) after = []
 
 abbrev pub log_from : List Line → List Deed → List Deed → List Line
 log_from lines before [] = lines

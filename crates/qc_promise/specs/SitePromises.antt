@@ -6,7 +6,7 @@ use Rattle.qc_stamp.specs.Order.{same_tx}
 use Rattle.qc_entry.specs.declared.record.Prepared.{Prepared}
 use Rattle.qc_msg.specs.declared.record.Record.{Record}
 use Rattle.qc_msg.specs.declared.record.Record.TheVariants as records
-use Rattle.qc_msg.specs.Deeds.{Deed, Takes, Writes, Sends, Tells}
+use Rattle.qc_msg.specs.Deeds.{Deed, Takes, Writes, Sends, Tells, Falls, Rises}
 use Rattle.qc_promise.specs.SiteEnds.{is_over}
 
 -- the promise stands among the deeds after it: it isn't over
@@ -24,6 +24,8 @@ promised_at (Takes given) after = []
 promised_at (Writes written) after = promised_by written after
 promised_at (Sends number to message) after = []
 promised_at (Tells reply) after = []
+promised_at (Falls cause pending) after = []
+promised_at (Rises records) after = []
 
 -- what is promised, in the order of the promises
 abbrev pub prepared_shown : List Deed → List Prepared

@@ -9,7 +9,7 @@ use Rattle.qc_entry.specs.declared.record.Prepared.{Prepared}
 use Rattle.qc_msg.specs.declared.record.Record.{Record}
 use Rattle.qc_msg.specs.declared.record.Record.TheVariants as records
 use Rattle.qc_msg.specs.Begun.{first_epoch}
-use Rattle.qc_msg.specs.Deeds.{Deed, Takes, Writes, Sends, Tells}
+use Rattle.qc_msg.specs.Deeds.{Deed, Takes, Writes, Sends, Tells, Falls, Rises}
 
 -- the record that a deed writes
 abbrev pub record_in : Deed → Option Record
@@ -17,6 +17,8 @@ record_in (Takes given) = None
 record_in (Writes written) = Some written
 record_in (Sends number to message) = None
 record_in (Tells reply) = None
+record_in (Falls cause pending) = None
+record_in (Rises records) = None
 
 -- the records that are written, in order
 abbrev pub records_in : List Deed → List Record

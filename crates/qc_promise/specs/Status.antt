@@ -1,7 +1,7 @@
 -- How far a transaction is, as its client's deeds show (presumed abort: without a commit record it is given up), and
 -- which deeds are right for it.
 use Rattle.std.specs.Prelude.{◌≡◌, ◌⊎◌, true, if◌then◌else◌, List, [], ◌∷◌, fold}
-use Rattle.qc_msg.specs.Deeds.{Deed, Sends, Takes, Tells, Writes}
+use Rattle.qc_msg.specs.Deeds.{Deed, Sends, Takes, Tells, Falls, Rises, Writes}
 use Rattle.qc_msg.specs.declared.message.Message.{Message}
 use Rattle.qc_msg.specs.declared.message.Message.TheVariants as messages
 use Rattle.qc_msg.specs.declared.message.Outcome.{Outcome}
@@ -79,6 +79,8 @@ status_at tx s (Takes given) = s
 status_at tx s (Writes written) = status_written tx s written
 status_at tx s (Sends number to message) = status_sent tx s message
 status_at tx s (Tells reply) = status_told tx s reply
+status_at tx s (Falls cause pending) = s
+status_at tx s (Rises records) = s
 
 -- the status of a transaction after these deeds of its client
 abbrev pub status : List Deed → TxId → Status
@@ -137,6 +139,8 @@ IsRight tx s (Takes given) = Unit {0}
 IsRight tx s (Writes written) = IsRightRecord tx s written
 IsRight tx s (Sends number to message) = IsRightMessage tx s message
 IsRight tx s (Tells reply) = IsRightReply tx s reply
+IsRight tx s (Falls cause pending) = Unit {0}
+IsRight tx s (Rises records) = Unit {0}
 
 -- each deed is right for a transaction of its actor, as far as that is then
 abbrev pub AreRightFrom : TxId → Status → List Deed → Type 0

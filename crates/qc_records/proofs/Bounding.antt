@@ -14,7 +14,7 @@ use Rattle.qc_msg.specs.declared.step.Given.TheVariants as given
 use Rattle.qc_msg.specs.declared.step.Step.{Step}
 use Rattle.qc_msg.specs.declared.turn.Posting.{Posting}
 use Rattle.qc_msg.specs.declared.turn.Turn.{Turn}
-use Rattle.qc_msg.specs.Deeds.{Deed, Takes, Writes, Sends, Tells, WasSentTo, deed_at, deeds, envelopes, mail, sends_of, tells_of, turn_deeds, writes_of}
+use Rattle.qc_msg.specs.Deeds.{Deed, Takes, Writes, Sends, Tells, Falls, Rises, WasSentTo, deed_at, deeds, envelopes, mail, sends_of, tells_of, turn_deeds, writes_of}
 use Rattle.qc_msg.specs.Steps.{Entry, by, marked, posted, step_of}
 use Rattle.qc_msg.specs.Turns.{quiet}
 use Rattle.qc_msg.proofs.Growth.{deeds-append, deeds-other, deeds-posted, deeds-taken, length-mail, mail-append, mail-posted, mail-taken}
@@ -51,6 +51,8 @@ site_posts decl m (Takes g ∷ ds) all = absurd all.0
 site_posts decl m (Writes written ∷ ds) all = site_posts decl m ds all.1
 site_posts decl m (Sends number to message ∷ ds) all = site_posts decl m ds all.1
 site_posts decl m (Tells reply ∷ ds) all = site_posts decl m ds all.1
+site_posts decl m (Falls cause pending ∷ ds) all = site_posts decl m ds all.1
+site_posts decl m (Rises records ∷ ds) all = site_posts decl m ds all.1
 
 -- what was sent to an actor is within the bound of all messages
 pub given-within : (bound a : ℕ) (ms : List Envelope) (g : Given) → MailWithin bound ms → WasSentTo a ms g → GivenWithin bound g

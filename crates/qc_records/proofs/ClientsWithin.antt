@@ -12,7 +12,7 @@ use Rattle.qc_msg.specs.declared.step.Command.{Command}
 use Rattle.qc_msg.specs.declared.step.Command.TheVariants as commands
 use Rattle.qc_msg.specs.declared.step.Given.{Given}
 use Rattle.qc_msg.specs.declared.step.Given.TheVariants as given
-use Rattle.qc_msg.specs.Deeds.{Deed, Takes, Writes, Sends, Tells}
+use Rattle.qc_msg.specs.Deeds.{Deed, Takes, Writes, Sends, Tells, Falls, Rises}
 use Rattle.qc_msg.specs.Turns.{quiet}
 use Rattle.qc_commit.specs.declared.desk.Known.{Known}
 use Rattle.qc_commit.specs.declared.desk.Known.TheVariants as knowns
@@ -125,12 +125,16 @@ IsPost (Takes g) = ⊥
 IsPost (Writes written) = Unit {0}
 IsPost (Sends number to message) = Unit {0}
 IsPost (Tells reply) = Unit {0}
+IsPost (Falls cause pending) = Unit {0}
+IsPost (Rises records) = Unit {0}
 
 posts-within : (bound : ℕ) (decl : Declaration) (m : ClientMove) (d : Deed) → IsPost d → ClientMoveWithin bound m → ClientMoveWithin bound (client_does decl m d)
 posts-within bound decl m (Takes g) never w = absurd never
 posts-within bound decl m (Writes written) is w = w
 posts-within bound decl m (Sends number to message) is w = record { client = sent_one-within bound m.client number to message w.client; sends = w.sends }
 posts-within bound decl m (Tells reply) is w = w
+posts-within bound decl m (Falls cause pending) is w = w
+posts-within bound decl m (Rises records) is w = w
 
 pub all_posts-within : (bound : ℕ) (decl : Declaration) (m : ClientMove) (ds : List Deed) → Every IsPost ds → ClientMoveWithin bound m → ClientMoveWithin bound (fold (client_does decl) m ds)
 all_posts-within bound decl m [] all w = w

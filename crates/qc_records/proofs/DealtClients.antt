@@ -20,7 +20,7 @@ use Rattle.qc_msg.specs.declared.step.Given.TheVariants as given
 use Rattle.qc_msg.specs.declared.turn.Posting.{Posting}
 use Rattle.qc_msg.specs.declared.turn.Turn.{Turn}
 use Rattle.qc_msg.specs.Counts.{commit_of as commit_of_record}
-use Rattle.qc_msg.specs.Deeds.{Deed, Takes, Writes, Sends, Tells, sends_of, tells_of, turn_deeds, writes_of}
+use Rattle.qc_msg.specs.Deeds.{Deed, Takes, Writes, Sends, Tells, Falls, Rises, sends_of, tells_of, turn_deeds, writes_of}
 use Rattle.qc_msg.specs.Turns.{quiet}
 use Rattle.qc_commit.specs.declared.desk.Voting.{Voting}
 use Rattle.qc_commit.specs.Conduct as desks
@@ -219,6 +219,8 @@ posts-keep decl k tx told asked m (Takes g ∷ ds) all w = absurd all.0
 posts-keep decl k tx told asked m (Writes written ∷ ds) all w = posts-keep decl k tx told asked m ds all.1 w
 posts-keep decl k tx told asked m (Sends number to message ∷ ds) all w = posts-keep decl k tx told asked (record m { client = sent_one m.client number to message }) ds all.1 (sent-keeps k tx told asked m.client number to message w)
 posts-keep decl k tx told asked m (Tells reply ∷ ds) all w = posts-keep decl k tx told asked m ds all.1 w
+posts-keep decl k tx told asked m (Falls cause pending ∷ ds) all w = posts-keep decl k tx told asked m ds all.1 w
+posts-keep decl k tx told asked m (Rises records ∷ ds) all w = posts-keep decl k tx told asked m ds all.1 w
 
 -- what is told over a turn's deeds
 

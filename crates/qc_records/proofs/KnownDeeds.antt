@@ -7,7 +7,7 @@ use Rattle.qc_msg.specs.declared.message.Message.{Message}
 use Rattle.qc_msg.specs.declared.message.Message.TheVariants as messages
 use Rattle.qc_msg.specs.declared.step.Given.{Given}
 use Rattle.qc_msg.specs.declared.step.Given.TheVariants as given
-use Rattle.qc_msg.specs.Deeds.{Deed, Takes, Writes, Sends, Tells}
+use Rattle.qc_msg.specs.Deeds.{Deed, Takes, Writes, Sends, Tells, Falls, Rises}
 use Rattle.qc_promise.specs.Status.{AreRightFrom, Status, status_at}
 use Rattle.qc_promise.specs.Status.{Unborn}
 use Rattle.qc_records.proofs.ClientsWithin.{IsPost}
@@ -34,6 +34,8 @@ KnownFrom tx s (Takes given ∷ ds) = IsKnown tx s given × KnownFrom tx s ds
 KnownFrom tx s (Writes written ∷ ds) = KnownFrom tx (status_at tx s (Writes written)) ds
 KnownFrom tx s (Sends number to message ∷ ds) = KnownFrom tx (status_at tx s (Sends number to message)) ds
 KnownFrom tx s (Tells reply ∷ ds) = KnownFrom tx (status_at tx s (Tells reply)) ds
+KnownFrom tx s (Falls cause pending ∷ ds) = KnownFrom tx (status_at tx s (Falls cause pending)) ds
+KnownFrom tx s (Rises records ∷ ds) = KnownFrom tx (status_at tx s (Rises records)) ds
 
 -- lists of deeds one after another
 
@@ -47,6 +49,8 @@ known-first tx s (Takes g ∷ xs) ys all = (all.0, known-first tx s xs ys all.1)
 known-first tx s (Writes written ∷ xs) ys all = known-first tx (status_at tx s (Writes written)) xs ys all
 known-first tx s (Sends number to message ∷ xs) ys all = known-first tx (status_at tx s (Sends number to message)) xs ys all
 known-first tx s (Tells reply ∷ xs) ys all = known-first tx (status_at tx s (Tells reply)) xs ys all
+known-first tx s (Falls cause pending ∷ xs) ys all = known-first tx (status_at tx s (Falls cause pending)) xs ys all
+known-first tx s (Rises records ∷ xs) ys all = known-first tx (status_at tx s (Rises records)) xs ys all
 
 pub known-second : (tx : TxId) (s : Status) (xs ys : List Deed) → KnownFrom tx s (xs ++ ys) → KnownFrom tx (fold (status_at tx) s xs) ys
 known-second tx s [] ys all = all
@@ -54,6 +58,8 @@ known-second tx s (Takes g ∷ xs) ys all = known-second tx s xs ys all.1
 known-second tx s (Writes written ∷ xs) ys all = known-second tx (status_at tx s (Writes written)) xs ys all
 known-second tx s (Sends number to message ∷ xs) ys all = known-second tx (status_at tx s (Sends number to message)) xs ys all
 known-second tx s (Tells reply ∷ xs) ys all = known-second tx (status_at tx s (Tells reply)) xs ys all
+known-second tx s (Falls cause pending ∷ xs) ys all = known-second tx (status_at tx s (Falls cause pending)) xs ys all
+known-second tx s (Rises records ∷ xs) ys all = known-second tx (status_at tx s (Rises records)) xs ys all
 
 pub known-append : (tx : TxId) (s : Status) (xs ys : List Deed) → KnownFrom tx s xs → KnownFrom tx (fold (status_at tx) s xs) ys → KnownFrom tx s (xs ++ ys)
 known-append tx s [] ys first second = second
@@ -61,6 +67,8 @@ known-append tx s (Takes g ∷ xs) ys first second = (first.0, known-append tx s
 known-append tx s (Writes written ∷ xs) ys first second = known-append tx (status_at tx s (Writes written)) xs ys first second
 known-append tx s (Sends number to message ∷ xs) ys first second = known-append tx (status_at tx s (Sends number to message)) xs ys first second
 known-append tx s (Tells reply ∷ xs) ys first second = known-append tx (status_at tx s (Tells reply)) xs ys first second
+known-append tx s (Falls cause pending ∷ xs) ys first second = known-append tx (status_at tx s (Falls cause pending)) xs ys first second
+known-append tx s (Rises records ∷ xs) ys first second = known-append tx (status_at tx s (Rises records)) xs ys first second
 
 pub known-posts : (tx : TxId) (s : Status) (ds : List Deed) → Every IsPost ds → KnownFrom tx s ds
 known-posts tx s [] all = tt
@@ -68,3 +76,5 @@ known-posts tx s (Takes g ∷ ds) all = absurd all.0
 known-posts tx s (Writes written ∷ ds) all = known-posts tx (status_at tx s (Writes written)) ds all.1
 known-posts tx s (Sends number to message ∷ ds) all = known-posts tx (status_at tx s (Sends number to message)) ds all.1
 known-posts tx s (Tells reply ∷ ds) all = known-posts tx (status_at tx s (Tells reply)) ds all.1
+known-posts tx s (Falls cause pending ∷ ds) all = known-posts tx (status_at tx s (Falls cause pending)) ds all.1
+known-posts tx s (Rises records ∷ ds) all = known-posts tx (status_at tx s (Rises records)) ds all.1

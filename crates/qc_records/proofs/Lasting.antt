@@ -13,7 +13,7 @@ use Rattle.qc_msg.specs.declared.record.Record.{Record}
 use Rattle.qc_msg.specs.declared.record.Record.TheVariants as records
 use Rattle.qc_msg.specs.declared.reply.Reply.{Reply}
 use Rattle.qc_msg.specs.declared.reply.Reply.TheVariants as replies
-use Rattle.qc_msg.specs.Deeds.{Deed, Takes, Writes, Sends, Tells}
+use Rattle.qc_msg.specs.Deeds.{Deed, Takes, Writes, Sends, Tells, Falls, Rises}
 use Rattle.qc_promise.specs.Status.{AreRightFrom, IsRight, IsRightVerdict, Status, given_up, status_at}
 use Rattle.qc_promise.specs.Status.{Unborn, Begun, Committed, Dead}
 
@@ -77,6 +77,8 @@ module _ (tx : TxId) where
   born_on s (Writes w ∷ ds) born = born_on (status_at tx s (Writes w)) ds (born_written s w born)
   born_on s (Sends n to m ∷ ds) born = born_on (status_at tx s (Sends n to m)) ds (born_sent s n to m born)
   born_on s (Tells r ∷ ds) born = born_on (status_at tx s (Tells r)) ds (born_told s r born)
+  born_on s (Falls cause pending ∷ ds) born = born_on s ds born
+  born_on s (Rises records ∷ ds) born = born_on s ds born
 
   -- where deeds are right, one that has ended stays so
 
@@ -148,6 +150,8 @@ module _ (tx : TxId) where
   ended_one s (Writes w) ends right = ended_written s w ends right
   ended_one s (Sends n to m) ends right = ended_sent s n to m ends
   ended_one s (Tells r) ends right = ended_told s r ends right
+  ended_one s (Falls cause pending) ends right = refl
+  ended_one s (Rises records) ends right = refl
 
   pub ended_on : (s : Status) (ds : List Deed) → HasEnd s → AreRightFrom tx s ds → fold (status_at tx) s ds ≡ s
   ended_on s [] ends right = refl

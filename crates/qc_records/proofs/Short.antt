@@ -13,7 +13,7 @@ use Rattle.qc_msg.specs.declared.step.Command.{Command}
 use Rattle.qc_msg.specs.declared.step.Command.TheVariants as commands
 use Rattle.qc_msg.specs.declared.step.Given.{Given}
 use Rattle.qc_msg.specs.declared.step.Given.TheVariants as given
-use Rattle.qc_msg.specs.Deeds.{Deed, Takes, Writes, Sends, Tells, turn_deeds}
+use Rattle.qc_msg.specs.Deeds.{Deed, Takes, Writes, Sends, Tells, Falls, Rises, turn_deeds}
 use Rattle.qc_msg.specs.Turns.{quiet}
 use Rattle.qc_commit.specs.declared.desk.Voting.{Voting}
 use Rattle.qc_commit.specs.Conduct as desks
@@ -71,6 +71,8 @@ sites_fold decl m (Takes g ∷ ds) few = sites_fold decl (site_takes decl m.site
 sites_fold decl m (Writes written ∷ ds) few = sites_fold decl m ds few
 sites_fold decl m (Sends number to message ∷ ds) few = sites_fold decl m ds few
 sites_fold decl m (Tells reply ∷ ds) few = sites_fold decl m ds few
+sites_fold decl m (Falls cause pending ∷ ds) few = sites_fold decl m ds few
+sites_fold decl m (Rises records ∷ ds) few = sites_fold decl m ds few
 
 -- whatever it took
 pub sites_short : (decl : Declaration) (number : ℕ) (ds : List Deed) → length (site_after decl number ds).turn.sends ≤ 2
@@ -160,6 +162,8 @@ posts_asks decl m (Takes g ∷ ds) all short = absurd all.0
 posts_asks decl m (Writes written ∷ ds) all short = posts_asks decl m ds all.1 short
 posts_asks decl m (Sends number to message ∷ ds) all short = posts_asks decl (record m { client = sent_one m.client number to message }) ds all.1 (record { asks = sent_asks decl m.client number to message short.asks; few = short.few })
 posts_asks decl m (Tells reply ∷ ds) all short = posts_asks decl m ds all.1 short
+posts_asks decl m (Falls cause pending ∷ ds) all short = posts_asks decl m ds all.1 short
+posts_asks decl m (Rises records ∷ ds) all short = posts_asks decl m ds all.1 short
 
 -- over all that a client does by turns, where between two inputs it has what its calls rely on
 pub clients_short : (decl : Declaration) (a : ℕ) → IsAccepted decl

@@ -23,7 +23,7 @@ use Rattle.qc_msg.specs.declared.step.Given.{Given}
 use Rattle.qc_msg.specs.declared.step.Given.TheVariants as given
 use Rattle.qc_msg.specs.declared.turn.Posting.{Posting}
 use Rattle.qc_msg.specs.declared.turn.Turn.{Turn}
-use Rattle.qc_msg.specs.Deeds.{Deed, Takes, Writes, Sends, Tells, turn_deeds}
+use Rattle.qc_msg.specs.Deeds.{Deed, Takes, Writes, Sends, Tells, Falls, Rises, turn_deeds}
 use Rattle.qc_msg.specs.Turns.{quiet}
 use Rattle.qc_commit.specs.declared.desk.Voting.{Voting}
 use Rattle.qc_commit.specs.Conduct as desks
@@ -204,6 +204,8 @@ page_posts decl m (Takes g ∷ ds) all = absurd all.0
 page_posts decl m (Writes written ∷ ds) all = page_posts decl m ds all.1
 page_posts decl m (Sends number to message ∷ ds) all = page_posts decl (record m { client = sent_one m.client number to message }) ds all.1 ∙ page_one m.client number to message
 page_posts decl m (Tells reply ∷ ds) all = page_posts decl m ds all.1
+page_posts decl m (Falls cause pending ∷ ds) all = page_posts decl m ds all.1
+page_posts decl m (Rises records ∷ ds) all = page_posts decl m ds all.1
 
 -- over all that a client does by turns
 

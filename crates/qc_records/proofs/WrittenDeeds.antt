@@ -20,7 +20,7 @@ use Rattle.qc_msg.specs.declared.step.Step.TheVariants as steps
 use Rattle.qc_msg.specs.declared.turn.Posting.{Posting}
 use Rattle.qc_msg.specs.declared.turn.Turn.{Turn}
 use Rattle.qc_msg.specs.Counts.{commit_in, commit_of}
-use Rattle.qc_msg.specs.Deeds.{Deed, Takes, Writes, Sends, Tells, deed_at, deeds, envelope_of, heard, sends_of, tells_of, turn_deeds, writes_of}
+use Rattle.qc_msg.specs.Deeds.{Deed, Takes, Writes, Sends, Tells, Falls, Rises, deed_at, deeds, envelope_of, heard, sends_of, tells_of, turn_deeds, writes_of}
 use Rattle.qc_msg.specs.Steps.{Entry}
 use Rattle.qc_commit.specs.declared.desk.Voting.{Voting}
 use Rattle.qc_commit.specs.Conduct as desks
@@ -75,6 +75,8 @@ desk_posts decl m (Takes g ∷ ds) all = absurd all.0
 desk_posts decl m (Writes written ∷ ds) all = desk_posts decl m ds all.1
 desk_posts decl m (Sends number to message ∷ ds) all = desk_posts decl (record m { client = sent_one m.client number to message }) ds all.1 ∙ desk_one m.client number to message
 desk_posts decl m (Tells reply ∷ ds) all = desk_posts decl m ds all.1
+desk_posts decl m (Falls cause pending ∷ ds) all = desk_posts decl m ds all.1
+desk_posts decl m (Rises records ∷ ds) all = desk_posts decl m ds all.1
 
 -- the records of a history are those of its clients' deeds
 

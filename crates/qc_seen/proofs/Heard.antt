@@ -8,7 +8,7 @@ use Rattle.qc_msg.specs.declared.message.Message.{Message}
 use Rattle.qc_msg.specs.declared.step.Given.TheVariants as given
 use Rattle.qc_msg.specs.declared.step.Step.{Step}
 use Rattle.qc_msg.specs.declared.step.Step.TheVariants as steps
-use Rattle.qc_msg.specs.Deeds.{Deed, Sends, Takes, Tells, Writes, deed_at, deeds, envelope_at, envelope_of, heard, mail}
+use Rattle.qc_msg.specs.Deeds.{Deed, Sends, Takes, Tells, Falls, Rises, Writes, deed_at, deeds, envelope_at, envelope_of, heard, mail}
 use Rattle.qc_msg.specs.Steps.{Entry}
 use Rattle.qc_seen.proofs.Seeing.{in_split}
 
@@ -30,6 +30,8 @@ got (Takes (given.Lost n)) = None
 got (Writes written) = None
 got (Sends n to m) = None
 got (Tells reply) = None
+got (Falls cause pending) = None
+got (Rises records) = None
 
 heard_in : (ms : List Envelope) (o : Option Envelope) (e : Envelope) → ((d : Envelope) → o ≡ Some d → In d ms) → In (Takes (given.Got e)) (heard o) → In e ms
 heard_in ms None e there among = absurd among
@@ -76,6 +78,8 @@ posted_by a (Takes given) = None
 posted_by a (Writes written) = None
 posted_by a (Sends n to m) = Some (record { number = n; from = a; to = to; message = m })
 posted_by a (Tells reply) = None
+posted_by a (Falls cause pending) = None
+posted_by a (Rises records) = None
 
 not_sent : (a n to : ℕ) (m : Message) (d : Deed) → posted_by a d ≡ None → In (Sends n to m) (d ∷ []) → ⊥
 not_sent a n to m d none (inl same) = let is : Some (record { number = n; from = a; to = to; message = m }) ≡ posted_by a d = ap (posted_by a) same in let never : ⊥ = cc in never

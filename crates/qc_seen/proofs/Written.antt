@@ -6,7 +6,7 @@ use Rattle.qc_entry.specs.declared.record.Commit.{Commit}
 use Rattle.qc_msg.specs.declared.record.Record.{Record}
 use Rattle.qc_msg.specs.declared.record.Record.TheVariants as records
 use Rattle.qc_msg.specs.Counts.{commit_of}
-use Rattle.qc_msg.specs.Deeds.{Deed, Sends, Takes, Tells, Writes}
+use Rattle.qc_msg.specs.Deeds.{Deed, Sends, Takes, Tells, Falls, Rises, Writes}
 use Rattle.qc_records.specs.Written.{written_by, written_in}
 use Rattle.qc_seen.proofs.Seeing.{wrote_at}
 
@@ -24,6 +24,8 @@ deed_is (Takes given) c is = absurd (let never : ⊥ = cc in never)
 deed_is (Writes w) c is = ap (λ (x : Record). Writes x) (record_is w c is)
 deed_is (Sends n to m) c is = absurd (let never : ⊥ = cc in never)
 deed_is (Tells reply) c is = absurd (let never : ⊥ = cc in never)
+deed_is (Falls cause pending) c is = absurd (let never : ⊥ = cc in never)
+deed_is (Rises records) c is = absurd (let never : ⊥ = cc in never)
 
 pub deed_written : (ds : List Deed) (c : Commit) → In (Writes (records.Commit c)) ds → In c (written_in ds)
 deed_written [] c among = absurd among

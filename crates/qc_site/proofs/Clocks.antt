@@ -12,7 +12,7 @@ use Rattle.qc_msg.specs.declared.message.Want.{Want}
 use Rattle.qc_msg.specs.declared.message.Want.TheVariants.{Read, Append, Prepare}
 use Rattle.qc_msg.specs.declared.step.Given.{Given}
 use Rattle.qc_msg.specs.declared.step.Given.TheVariants as given
-use Rattle.qc_msg.specs.Deeds.{Deed, Takes, Writes, Sends, Tells}
+use Rattle.qc_msg.specs.Deeds.{Deed, Takes, Writes, Sends, Tells, Falls, Rises}
 use Rattle.qc_msg.specs.Turns.{quiet}
 use Rattle.qc_site.specs.Brought.{stamps_at, stamps_given, stamps_in, stamps_taken, stamps_told, view_in}
 use Rattle.qc_site.specs.Conduct.{clock_after, clock_asked, clock_told, latest, passed, site_after, site_at, site_does, site_on, site_takes}
@@ -103,6 +103,8 @@ does_later decl m (Takes g) = takes_later decl m.site g
 does_later decl m (Writes written) = omega arith
 does_later decl m (Sends number to message) = omega arith
 does_later decl m (Tells reply) = omega arith
+does_later decl m (Falls cause pending) = omega arith
+does_later decl m (Rises records) = omega arith
 
 deeds_later : (decl : Declaration) (m : SiteMove) (ds : List Deed) → m.site.clock ≤ (fold (site_does decl) m ds).site.clock
 deeds_later decl m [] = omega arith
@@ -121,6 +123,8 @@ does_passes decl m (Takes g) stamp member = takes_passes decl m.site g stamp mem
 does_passes decl m (Writes written) stamp member = absurd member
 does_passes decl m (Sends number to message) stamp member = absurd member
 does_passes decl m (Tells reply) stamp member = absurd member
+does_passes decl m (Falls cause pending) stamp member = absurd member
+does_passes decl m (Rises records) stamp member = absurd member
 
 in_parts : {X : Type 0} (x : X) (xs ys : List X) → In x (xs ++ ys) → In x xs ⊎ In x ys
 in_parts x [] ys member = inr member

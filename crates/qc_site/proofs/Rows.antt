@@ -10,7 +10,7 @@ use Rattle.qc_msg.specs.declared.message.Message.TheVariants as messages
 use Rattle.qc_msg.specs.declared.message.Want.{Want}
 use Rattle.qc_msg.specs.declared.step.Given.{Given}
 use Rattle.qc_msg.specs.declared.step.Given.TheVariants as given
-use Rattle.qc_msg.specs.Deeds.{Deed, Takes, Writes, Sends, Tells}
+use Rattle.qc_msg.specs.Deeds.{Deed, Takes, Writes, Sends, Tells, Falls, Rises}
 use Rattle.qc_msg.specs.Turns.{quiet}
 use Rattle.qc_site.specs.Conduct.{passed, site_after, site_at, site_does, site_on, site_takes}
 use Rattle.qc_site.specs.Requests.{closed_fault, fault_of, grants, life_fault, names_declared, requested}
@@ -146,6 +146,8 @@ deeds_at_first number decl m (Takes g ∷ ds) first = deeds_at_first number decl
 deeds_at_first number decl m (Writes written ∷ ds) first = deeds_at_first number decl m ds first
 deeds_at_first number decl m (Sends n to message ∷ ds) first = deeds_at_first number decl m ds first
 deeds_at_first number decl m (Tells reply ∷ ds) first = deeds_at_first number decl m ds first
+deeds_at_first number decl m (Falls cause pending ∷ ds) first = deeds_at_first number decl m ds first
+deeds_at_first number decl m (Rises records ∷ ds) first = deeds_at_first number decl m ds first
 
 pub after_at_first : (decl : Declaration) (number : ℕ) (ds : List Deed) → IsAtFirst number (site_after decl number ds).site
 after_at_first decl number ds =

@@ -21,7 +21,7 @@ use Rattle.qc_lock.proofs.Order.{ascends-locks, ascends-owns, sorted-find, sound
 use Rattle.qc_msg.specs.declared.message.Message.{Message}
 use Rattle.qc_msg.specs.declared.step.Given.{Given}
 use Rattle.qc_msg.specs.declared.step.Given.TheVariants as given
-use Rattle.qc_msg.specs.Deeds.{Deed, Takes, Writes, Sends, Tells}
+use Rattle.qc_msg.specs.Deeds.{Deed, Takes, Writes, Sends, Tells, Falls, Rises}
 use Rattle.qc_msg.specs.Turns.{quiet}
 use Rattle.qc_site.specs.Conduct.{passed, site_after, site_at, site_does, site_on, site_takes}
 use Rattle.qc_site.specs.Promise.{dropped, joins, lines_of, promise_of, promised, stamped, with_stamped}
@@ -128,6 +128,8 @@ deeds-sorted decl m (Takes g ∷ ds) w sorted = deeds-sorted decl (site_takes de
 deeds-sorted decl m (Writes written ∷ ds) w sorted = deeds-sorted decl m ds w sorted
 deeds-sorted decl m (Sends number to message ∷ ds) w sorted = deeds-sorted decl m ds w sorted
 deeds-sorted decl m (Tells reply ∷ ds) w sorted = deeds-sorted decl m ds w sorted
+deeds-sorted decl m (Falls cause pending ∷ ds) w sorted = deeds-sorted decl m ds w sorted
+deeds-sorted decl m (Rises records ∷ ds) w sorted = deeds-sorted decl m ds w sorted
 
 pub after_sorted : (decl : Declaration) (number : ℕ) (ds : List Deed) → AreDeedsSorted ds → IsSiteSorted (site_after decl number ds).site
 after_sorted decl number ds sorted =

@@ -13,7 +13,7 @@ use Rattle.qc_msg.specs.declared.message.Want.{Want}
 use Rattle.qc_msg.specs.declared.message.Want.TheVariants.{Read, Append, Prepare}
 use Rattle.qc_msg.specs.declared.step.Given.{Given}
 use Rattle.qc_msg.specs.declared.step.Given.TheVariants as given
-use Rattle.qc_msg.specs.Deeds.{Deed, Takes, Writes, Sends, Tells}
+use Rattle.qc_msg.specs.Deeds.{Deed, Takes, Writes, Sends, Tells, Falls, Rises}
 use Rattle.qc_site.specs.Promise.{lines_of, prepared_of}
 
 -- the view that a request carries
@@ -48,6 +48,8 @@ stamps_at (Takes given) = stamps_given given
 stamps_at (Writes written) = []
 stamps_at (Sends number to message) = []
 stamps_at (Tells reply) = []
+stamps_at (Falls cause pending) = []
+stamps_at (Rises records) = []
 
 -- all stamps that came in these deeds
 abbrev pub stamps_taken : List Deed → List Stamp

@@ -11,7 +11,7 @@ use Rattle.qc_msg.specs.declared.message.Want.{Want}
 use Rattle.qc_msg.specs.declared.message.Want.TheVariants.{Read, Append, Prepare}
 use Rattle.qc_msg.specs.declared.step.Given.{Given}
 use Rattle.qc_msg.specs.declared.step.Given.TheVariants as given
-use Rattle.qc_msg.specs.Deeds.{Deed, Takes, Writes, Sends, Tells}
+use Rattle.qc_msg.specs.Deeds.{Deed, Takes, Writes, Sends, Tells, Falls, Rises}
 use Rattle.qc_msg.specs.Turns.{quiet}
 use Rattle.qc_site.specs.Site.{SiteState, SiteMove, moved, new_site}
 use Rattle.qc_site.specs.Promise.{finishes}
@@ -84,6 +84,8 @@ site_does decl move (Takes given) = site_takes decl move.site given
 site_does decl move (Writes written) = move
 site_does decl move (Sends number to message) = move
 site_does decl move (Tells reply) = move
+site_does decl move (Falls cause pending) = move
+site_does decl move (Rises records) = move
 
 -- what a site is after these deeds, and its turn for the last input
 abbrev pub site_after : Declaration → ℕ → List Deed → SiteMove

@@ -9,7 +9,7 @@ use Rattle.qc_msg.specs.declared.message.Message.{Message}
 use Rattle.qc_msg.specs.declared.message.Message.TheVariants as messages
 use Rattle.qc_msg.specs.declared.step.Given.{Given}
 use Rattle.qc_msg.specs.declared.step.Given.TheVariants as given
-use Rattle.qc_msg.specs.Deeds.{Deed, Takes, Writes, Sends, Tells}
+use Rattle.qc_msg.specs.Deeds.{Deed, Takes, Writes, Sends, Tells, Falls, Rises}
 use Rattle.qc_site.specs.Brought.{view_in}
 use Rattle.qc_site.specs.Site.{SiteState}
 
@@ -47,3 +47,5 @@ AreDeedsSorted (Takes given ∷ deeds) = IsGivenSorted given × AreDeedsSorted d
 AreDeedsSorted (Writes written ∷ deeds) = AreDeedsSorted deeds
 AreDeedsSorted (Sends number to message ∷ deeds) = AreDeedsSorted deeds
 AreDeedsSorted (Tells reply ∷ deeds) = AreDeedsSorted deeds
+AreDeedsSorted (Falls cause pending ∷ deeds) = AreDeedsSorted deeds
+AreDeedsSorted (Rises records ∷ deeds) = AreDeedsSorted deeds

@@ -5,7 +5,7 @@ use Rattle.qc_entry.specs.Log.{union}
 use Rattle.qc_entry.proofs.Union.{union-nil}
 use Rattle.qc_msg.specs.declared.message.Message.{Message}
 use Rattle.qc_msg.specs.declared.message.Message.TheVariants as messages
-use Rattle.qc_msg.specs.Deeds.{Deed, Takes, Writes, Sends, Tells}
+use Rattle.qc_msg.specs.Deeds.{Deed, Takes, Writes, Sends, Tells, Falls, Rises}
 use Rattle.qc_promise.specs.SiteHeld.{is_granted}
 use Rattle.qc_promise.specs.SiteLogs.{view_by}
 use Rattle.qc_text.specs.Deeds.{deed_of}
@@ -21,12 +21,16 @@ granted_taken number (Takes given) ds t = refl
 granted_taken number (Writes written) ds t = absurd (let never : ⊥ = cc in never)
 granted_taken number (Sends n to message) ds t = absurd (let never : ⊥ = cc in never)
 granted_taken number (Tells reply) ds t = absurd (let never : ⊥ = cc in never)
+granted_taken number (Falls cause pending) ds t = absurd (let never : ⊥ = cc in never)
+granted_taken number (Rises records) ds t = absurd (let never : ⊥ = cc in never)
 
 granted_other : (number : ℕ) (d : Deed) (ds : List Deed) → is_take d ≡ false → is_granted number (d ∷ ds) ≡ (sends_grant number d || is_granted number ds)
 granted_other number (Takes given) ds t = absurd (let never : ⊥ = cc in never)
 granted_other number (Writes written) ds t = refl
 granted_other number (Sends n to message) ds t = refl
 granted_other number (Tells reply) ds t = refl
+granted_other number (Falls cause pending) ds t = refl
+granted_other number (Rises records) ds t = refl
 
 pub not_granted : (number : ℕ) (xs : List Found) (i : ℕ) (x d : Found) (all : Bool) → i < length xs → x ≡ get_or xs i d → is_take (deed_of x) ≡ true
     → is_granted number (map deed_of (drop i xs)) ≡ all → false ≡ all

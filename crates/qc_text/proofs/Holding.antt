@@ -16,7 +16,7 @@ use Rattle.qc_msg.specs.declared.message.Outcome.TheVariants.{Committed, Aborted
 use Rattle.qc_msg.specs.declared.message.Want.{Want}
 use Rattle.qc_msg.specs.declared.message.Want.TheVariants.{Read, Append, Prepare}
 use Rattle.qc_msg.specs.declared.step.Given.TheVariants as given
-use Rattle.qc_msg.specs.Deeds.{Deed, Takes, Writes, Sends, Tells}
+use Rattle.qc_msg.specs.Deeds.{Deed, Takes, Writes, Sends, Tells, Falls, Rises}
 use Rattle.qc_promise.specs.SiteEnds.{is_ended, is_final}
 use Rattle.qc_promise.specs.SiteHeld.{Grant, held_shown, holding, is_granted, standing}
 use Rattle.qc_text.specs.Holders.{holders_from, is_holding, is_holder, with_holder, without_holder}
@@ -209,6 +209,8 @@ walks (Takes (given.Lost number) ∷ ds) gs = walks ds gs
 walks (Writes written ∷ ds) gs = walks ds gs
 walks (Sends number to message ∷ ds) gs = walks ds gs
 walks (Tells reply ∷ ds) gs = walks ds gs
+walks (Falls cause pending ∷ ds) gs = walks ds gs
+walks (Rises records ∷ ds) gs = walks ds gs
 
 -- as many as hold something by what the deeds show
 pub holders_counted : (ds : List Deed) → length (holders_from [] ds) ≡ length (held_shown ds)

@@ -13,7 +13,7 @@ use Rattle.qc_entry.specs.Log.{union}
 use Rattle.qc_entry.proofs.Union.{union-nil}
 use Rattle.qc_msg.specs.declared.record.Record.{Record}
 use Rattle.qc_msg.specs.declared.record.Record.TheVariants as records
-use Rattle.qc_msg.specs.Deeds.{Deed, Takes, Writes, Sends, Tells}
+use Rattle.qc_msg.specs.Deeds.{Deed, Takes, Writes, Sends, Tells, Falls, Rises}
 use Rattle.qc_promise.specs.SiteLogs.{done_lines, done_stamp, joining, lines_of, log_from}
 use Rattle.qc_promise.specs.SiteRecords.{epoch_by, last_prepare, life_by, prepare_by, records_in, record_in}
 use Rattle.qc_text.specs.Deeds.{deed_of}
@@ -30,12 +30,16 @@ life_one life (Takes given) ds = refl
 life_one life (Writes written) ds = refl
 life_one life (Sends n to message) ds = refl
 life_one life (Tells reply) ds = refl
+life_one life (Falls cause pending) ds = refl
+life_one life (Rises records) ds = refl
 
 epoch_one : (epoch : ℕ) (d : Deed) (ds : List Deed) → fold epoch_by epoch (records_in (d ∷ ds)) ≡ fold epoch_by (epoch_at epoch d) (records_in ds)
 epoch_one epoch (Takes given) ds = refl
 epoch_one epoch (Writes written) ds = refl
 epoch_one epoch (Sends n to message) ds = refl
 epoch_one epoch (Tells reply) ds = refl
+epoch_one epoch (Falls cause pending) ds = refl
+epoch_one epoch (Rises records) ds = refl
 
 pub life_more : (xs : List Found) (i : ℕ) (x d : Found) (life after all : ℕ) → i < length xs → x ≡ get_or xs i d → after ≡ life_at life (deed_of x)
     → fold life_by life (records_in (map deed_of (drop i xs))) ≡ all → fold life_by after (records_in (map deed_of (drop (i + 1) xs))) ≡ all
@@ -78,6 +82,8 @@ last_more tx ds (Takes given) = appended tx ds (Takes given)
 last_more tx ds (Writes written) = appended tx ds (Writes written) ∙ by_later tx (last_prepare tx ds) written
 last_more tx ds (Sends n to message) = appended tx ds (Sends n to message)
 last_more tx ds (Tells reply) = appended tx ds (Tells reply)
+last_more tx ds (Falls cause pending) = appended tx ds (Falls cause pending)
+last_more tx ds (Rises records) = appended tx ds (Rises records)
 
 -- a map has the last Prepares, as a function from names
 

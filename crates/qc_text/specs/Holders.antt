@@ -11,7 +11,7 @@ use Rattle.qc_msg.specs.declared.message.Want.{Want}
 use Rattle.qc_msg.specs.declared.message.Want.TheVariants.{Read, Append, Prepare}
 use Rattle.qc_msg.specs.declared.step.Given.{Given}
 use Rattle.qc_msg.specs.declared.step.Given.TheVariants as given
-use Rattle.qc_msg.specs.Deeds.{Deed, Takes, Writes, Sends, Tells}
+use Rattle.qc_msg.specs.Deeds.{Deed, Takes, Writes, Sends, Tells, Falls, Rises}
 use Rattle.qc_promise.specs.SiteEnds.{is_final}
 use Rattle.qc_promise.specs.SiteHeld.{grants, is_granted}
 
@@ -22,12 +22,16 @@ is_take (Takes given) = true
 is_take (Writes written) = false
 is_take (Sends number to message) = false
 is_take (Tells reply) = false
+is_take (Falls cause pending) = false
+is_take (Rises records) = false
 
 abbrev pub sends_grant : ℕ → Deed → Bool
 sends_grant number (Takes given) = false
 sends_grant number (Writes written) = false
 sends_grant number (Sends n to message) = grants number message
 sends_grant number (Tells reply) = false
+sends_grant number (Falls cause pending) = false
+sends_grant number (Rises records) = false
 
 -- whether a transaction that is granted this holds something
 abbrev pub is_holding : Want → Bool
@@ -76,6 +80,8 @@ holders_at txs (Takes given) after = holders_given txs given after
 holders_at txs (Writes written) after = txs
 holders_at txs (Sends number to message) after = txs
 holders_at txs (Tells reply) after = txs
+holders_at txs (Falls cause pending) after = txs
+holders_at txs (Rises records) after = txs
 
 abbrev pub holders_from : List TxId → List Deed → List TxId
 holders_from txs [] = txs

@@ -6,7 +6,7 @@ use Rattle.qc_stamp.specs.declared.stamp.TxId.{TxId}
 use Rattle.qc_entry.specs.declared.record.Prepared.{Prepared}
 use Rattle.qc_msg.specs.declared.record.Record.{Record}
 use Rattle.qc_msg.specs.declared.record.Record.TheVariants as records
-use Rattle.qc_msg.specs.Deeds.{Deed, Takes, Writes, Sends, Tells}
+use Rattle.qc_msg.specs.Deeds.{Deed, Takes, Writes, Sends, Tells, Falls, Rises}
 use Rattle.qc_promise.specs.SiteRecords.{last_prepare}
 use Rattle.qc_text.specs.declared.prepares.Prepares.{Prepares}
 
@@ -25,6 +25,8 @@ prepare_in (Takes given) = None
 prepare_in (Writes written) = prepare_of written
 prepare_in (Sends number to message) = None
 prepare_in (Tells reply) = None
+prepare_in (Falls cause pending) = None
+prepare_in (Rises records) = None
 
 -- what the map has of each transaction is its last Prepare among these deeds
 abbrev pub AreLast : Prepares → List Deed → Type 0

@@ -22,7 +22,7 @@ use Rattle.qc_msg.specs.declared.step.Given.{Given}
 use Rattle.qc_msg.specs.declared.step.Given.TheVariants as given
 use Rattle.qc_msg.specs.declared.turn.Posting.{Posting}
 use Rattle.qc_msg.specs.declared.turn.Turn.{Turn}
-use Rattle.qc_msg.specs.Deeds.{Deed, Takes, Writes, Sends, Tells, envelopes, sends_of, tells_of, turn_deeds, writes_of}
+use Rattle.qc_msg.specs.Deeds.{Deed, Takes, Writes, Sends, Tells, Falls, Rises, envelopes, sends_of, tells_of, turn_deeds, writes_of}
 use Rattle.qc_core.specs.Acts.{is_running, runs_at}
 use Rattle.qc_promise.specs.Account.{Account, ClientRequest, Current, new_account}
 use Rattle.qc_promise.specs.Accounting.{account_at, account_heard, account_sent, account_taken, account_written, counted, counted_for, is_open, taken_for}
@@ -139,6 +139,8 @@ busy_from decl d running (Takes g ∷ ds) b = busy_from decl (account_taken d g)
 busy_from decl d running (Writes w ∷ ds) b = busy_from decl (account_written d w) running ds (busy_written d running w b)
 busy_from decl d running (Sends n to m ∷ ds) b = busy_from decl (account_sent decl d n to m) running ds (busy_sent decl d running n to m b)
 busy_from decl d running (Tells r ∷ ds) b = busy_from decl (account_at decl d (Tells r)) false ds (record { command = refl; requests = λ q never. absurd never })
+busy_from decl d running (Falls cause pending ∷ ds) b = busy_from decl (account_at decl d (Falls cause pending)) false ds (record { command = refl; requests = λ q never. absurd never })
+busy_from decl d running (Rises records ∷ ds) b = busy_from decl (account_at decl d (Rises records)) false ds (record { command = refl; requests = λ q never. absurd never })
 
 pub is_busy : (decl : Declaration) (client : ℕ) (ds : List Deed) → IsBusy (fold (account_at decl) (new_account client) ds) (is_running ds)
 is_busy decl client ds = busy_from decl (new_account client) false ds (record { command = refl; requests = λ q never. absurd never })

@@ -24,7 +24,7 @@ use Rattle.qc_msg.specs.declared.record.Record.TheVariants as records
 use Rattle.qc_msg.specs.declared.step.Given.{Given}
 use Rattle.qc_msg.specs.declared.step.Given.TheVariants as given
 use Rattle.qc_msg.specs.declared.step.Step.TheVariants as steps
-use Rattle.qc_msg.specs.Deeds.{Deed, Takes, Writes, Sends, Tells, deeds, mail, turn_deeds}
+use Rattle.qc_msg.specs.Deeds.{Deed, Takes, Writes, Sends, Tells, Falls, Rises, deeds, mail, turn_deeds}
 use Rattle.qc_msg.specs.Steps.{Entry, by, marked, posted, step_of}
 use Rattle.qc_msg.proofs.Growth.{deeds-other, deeds-posted, deeds-taken}
 use Rattle.qc_script.specs.Inbox.{inbox}
@@ -61,6 +61,8 @@ IsNoLoss (Takes (given.Lost n)) = ⊥
 IsNoLoss (Writes written) = Unit {0}
 IsNoLoss (Sends n to m) = Unit {0}
 IsNoLoss (Tells reply) = Unit {0}
+IsNoLoss (Falls cause pending) = Unit {0}
+IsNoLoss (Rises records) = Unit {0}
 
 abbrev NoneLost : Account → Type 0
 NoneLost d = (q : ClientRequest) → In q d.requests → q.taken ≡ Some None → ⊥
@@ -119,6 +121,8 @@ lost_from decl d (Takes (given.Lost n) ∷ ds) all none = absurd all.0
 lost_from decl d (Writes w ∷ ds) all none = lost_from decl (account_written d w) ds all.1 (written_lost d w none)
 lost_from decl d (Sends n to m ∷ ds) all none = lost_from decl (account_sent decl d n to m) ds all.1 (sent_lost decl d n to m none)
 lost_from decl d (Tells r ∷ ds) all none = lost_from decl (account_at decl d (Tells r)) ds all.1 (λ q never is. never)
+lost_from decl d (Falls cause pending ∷ ds) all none = lost_from decl (account_at decl d (Falls cause pending)) ds all.1 (λ q never is. never)
+lost_from decl d (Rises records ∷ ds) all none = lost_from decl (account_at decl d (Rises records)) ds all.1 (λ q never is. never)
 
 post_lost : (ds : List Deed) → Every IsPost ds → Every IsNoLoss ds
 post_lost [] all = tt
@@ -126,6 +130,8 @@ post_lost (Takes g ∷ ds) all = absurd all.0
 post_lost (Writes written ∷ ds) all = (tt, post_lost ds all.1)
 post_lost (Sends number to message ∷ ds) all = (tt, post_lost ds all.1)
 post_lost (Tells reply ∷ ds) all = (tt, post_lost ds all.1)
+post_lost (Falls cause pending ∷ ds) all = (tt, post_lost ds all.1)
+post_lost (Rises records ∷ ds) all = (tt, post_lost ds all.1)
 
 -- in an undisturbed run nobody takes that a request is lost
 

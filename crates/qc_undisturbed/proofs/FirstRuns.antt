@@ -16,7 +16,7 @@ use Rattle.qc_msg.specs.declared.step.Given.TheVariants as given
 use Rattle.qc_msg.specs.declared.step.Step.TheVariants as steps
 use Rattle.qc_msg.specs.declared.turn.Posting.{Posting}
 use Rattle.qc_msg.specs.declared.turn.Turn.{Turn}
-use Rattle.qc_msg.specs.Deeds.{Deed, Takes, Writes, Sends, Tells, deeds, envelopes, mail, sends_of, tells_of, turn_deeds, writes_of}
+use Rattle.qc_msg.specs.Deeds.{Deed, Takes, Writes, Sends, Tells, Falls, Rises, deeds, envelopes, mail, sends_of, tells_of, turn_deeds, writes_of}
 use Rattle.qc_msg.specs.Steps.{Entry, by, posted}
 use Rattle.qc_msg.specs.Turns.{quiet}
 use Rattle.qc_msg.proofs.Growth.{deeds-posted, mail-append, mail-posted, mail-taken}
@@ -65,6 +65,8 @@ deed_first h a (Takes g) all among = given_first h a g all among
 deed_first h a (Writes written) all among = tt
 deed_first h a (Sends number to message) all among = tt
 deed_first h a (Tells reply) all among = tt
+deed_first h a (Falls cause pending) all among = tt
+deed_first h a (Rises records) all among = tt
 
 pub takes_first : (h : List Entry) (a : ℕ) → AreFirst (mail h) → Every TakesFirst (deeds a [] h)
 takes_first h a all = every-from_In TakesFirst (deeds a [] h) (λ d among. deed_first h a d all among)
@@ -75,6 +77,8 @@ post_first (Takes g ∷ ds) all = absurd all.0
 post_first (Writes written ∷ ds) all = (tt, post_first ds all.1)
 post_first (Sends number to message ∷ ds) all = (tt, post_first ds all.1)
 post_first (Tells reply ∷ ds) all = (tt, post_first ds all.1)
+post_first (Falls cause pending ∷ ds) all = (tt, post_first ds all.1)
+post_first (Rises records ∷ ds) all = (tt, post_first ds all.1)
 
 -- what a turn says
 

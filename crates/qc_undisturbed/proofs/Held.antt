@@ -25,7 +25,7 @@ use Rattle.qc_msg.specs.declared.message.Want.{Want}
 use Rattle.qc_msg.specs.declared.message.Want.TheVariants.{Append, Prepare, Read}
 use Rattle.qc_msg.specs.declared.step.Given.{Given}
 use Rattle.qc_msg.specs.declared.step.Given.TheVariants as given
-use Rattle.qc_msg.specs.Deeds.{Deed, Takes, Writes, Sends, Tells}
+use Rattle.qc_msg.specs.Deeds.{Deed, Takes, Writes, Sends, Tells, Falls, Rises}
 use Rattle.qc_msg.specs.Turns.{quiet}
 use Rattle.qc_promise.specs.SiteEnds.{is_final}
 use Rattle.qc_site.specs.Conduct.{passed, site_after, site_at, site_does, site_takes}
@@ -138,6 +138,8 @@ open_from decl ms m (Takes g ∷ ds) all =
 open_from decl ms m (Writes written ∷ ds) all = open_from decl ms m ds all
 open_from decl ms m (Sends number to message ∷ ds) all = open_from decl ms m ds all
 open_from decl ms m (Tells reply ∷ ds) all = open_from decl ms m ds all
+open_from decl ms m (Falls cause pending ∷ ds) all = open_from decl ms m ds all
+open_from decl ms m (Rises records ∷ ds) all = open_from decl ms m ds all
 
 -- each that holds something at a site is open by what the site took
 pub held_open : (decl : Declaration) (site : ℕ) (ds : List Deed) → AreOpen (taken_in ds) (site_after decl site ds).site.held

@@ -13,7 +13,7 @@ use Rattle.qc_msg.specs.declared.record.Record.{Record}
 use Rattle.qc_msg.specs.declared.reply.Reply.{Reply}
 use Rattle.qc_msg.specs.declared.turn.Posting.{Posting}
 use Rattle.qc_msg.specs.declared.turn.Turn.{Turn}
-use Rattle.qc_msg.specs.Deeds.{Deed, Takes, Writes, Sends, Tells, sends_of, tells_of, turn_deeds, writes_of}
+use Rattle.qc_msg.specs.Deeds.{Deed, Takes, Writes, Sends, Tells, Falls, Rises, sends_of, tells_of, turn_deeds, writes_of}
 use Rattle.qc_msg.specs.Turns.{quiet}
 use Rattle.qc_front.specs.declared.transaction.Transaction.{Transaction}
 use Rattle.qc_client.specs.declared.client.Client.{Client}
@@ -39,6 +39,8 @@ open_did s x before (Takes given) = before
 open_did s x before (Writes written) = before
 open_did s x before (Sends number to message) = open_sent s x before to message
 open_did s x before (Tells reply) = before
+open_did s x before (Falls cause pending) = before
+open_did s x before (Rises records) = before
 
 abbrev pub open_done : ℕ → TxId → List Deed → Bool
 open_done s x ds = fold (open_did s x) false ds
@@ -82,6 +84,8 @@ transaction_posts decl m (Takes g ∷ ds) all = absurd all.0
 transaction_posts decl m (Writes written ∷ ds) all = transaction_posts decl m ds all.1
 transaction_posts decl m (Sends number to message ∷ ds) all = transaction_posts decl (record m { client = sent_one m.client number to message }) ds all.1 ∙ transaction_one m.client number to message
 transaction_posts decl m (Tells reply ∷ ds) all = transaction_posts decl m ds all.1
+transaction_posts decl m (Falls cause pending ∷ ds) all = transaction_posts decl m ds all.1
+transaction_posts decl m (Rises records ∷ ds) all = transaction_posts decl m ds all.1
 
 asked_named : (s : ℕ) (x : TxId) (o : Option Transaction) → HasAsked s x o → front_name o ≡ Some x
 asked_named s x o h = ap front_name h.is ∙ ap (λ (y : TxId). Some y) h.named

@@ -22,7 +22,7 @@ use Rattle.qc_msg.specs.declared.step.Command.{Command}
 use Rattle.qc_msg.specs.declared.step.Command.TheVariants as commands
 use Rattle.qc_msg.specs.declared.step.Given.{Given}
 use Rattle.qc_msg.specs.declared.step.Given.TheVariants as given
-use Rattle.qc_msg.specs.Deeds.{Deed, Takes, Writes, Sends, Tells}
+use Rattle.qc_msg.specs.Deeds.{Deed, Takes, Writes, Sends, Tells, Falls, Rises}
 use Rattle.qc_promise.specs.Account.{Account, ClientRequest, Current, is_append, is_read, new_account, requests_for}
 use Rattle.qc_promise.specs.Accounting.{account_at, account_heard, account_sent, account_taken, account_written, counted, counted_for, granted, is_open, lived, promised, taken_for, told_by, with_current, with_read}
 use Rattle.qc_promise.specs.Asked.{are_reads_met, carries, command_asks, commit_asks, do_asks, is_asked_for, is_next_voter, is_of, is_this}
@@ -247,6 +247,8 @@ module _ (decl : Declaration) where
   order_from half is_half d (Writes w ∷ ds) due old = order_from half is_half (account_written d w) ds due.1 (written_order decl half d w old)
   order_from half is_half d (Sends n to m ∷ ds) due old = order_from half is_half (account_sent decl d n to m) ds due.1 (sent_order half is_half d n to m due.0 old)
   order_from half is_half d (Tells r ∷ ds) due old = order_from half is_half (account_at decl d (Tells r)) ds due.1 (λ e is. refl)
+  order_from half is_half d (Falls cause pending ∷ ds) due old = order_from half is_half (account_at decl d (Falls cause pending)) ds due.1 (λ e is. refl)
+  order_from half is_half d (Rises records ∷ ds) due old = order_from half is_half (account_at decl d (Rises records)) ds due.1 (λ e is. refl)
 
   pub in_order : (half : Want → Bool) → IsHalf half → (client : ℕ) (ds : List Deed) → AreDeedsDue decl (new_account client) ds → IsInOrder decl half (fold (account_at decl) (new_account client) ds)
   in_order half is_half client ds due = order_from half is_half (new_account client) ds due (λ e is. refl)

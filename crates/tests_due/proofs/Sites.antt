@@ -4,7 +4,7 @@ use Rattle.std.proofs.lemmas.Bool.{eqb-false, eqb-true}
 use Rattle.qc_decl.specs.declared.declaration.Declaration.{Declaration}
 use Rattle.qc_msg.specs.declared.record.Record.{Record}
 use Rattle.qc_msg.specs.declared.turn.Posting.{Posting}
-use Rattle.qc_msg.specs.Deeds.{Deed, Takes, Writes, Sends, Tells, deeds}
+use Rattle.qc_msg.specs.Deeds.{Deed, Takes, Writes, Sends, Tells, Falls, Rises, deeds}
 use Rattle.qc_msg.specs.Steps.{Entry}
 use Rattle.qc_promise.specs.SiteDue.{AreDue, IsDueAt, records_due, sends_due}
 use Rattle.qc_promise.specs.SitePosts.{sent_next, written_next}
@@ -55,6 +55,8 @@ at_deed decl before (Takes given) (d ∷ after) xs ys same =
 at_deed decl before (Writes written) after xs ys same = (same, tt)
 at_deed decl before (Sends number to message) after xs ys same = (same, tt)
 at_deed decl before (Tells reply) after xs ys same = (same, tt)
+at_deed decl before (Falls cause pending) after xs ys same = (same, tt)
+at_deed decl before (Rises records) after xs ys same = (same, tt)
 
 site_due_where_posted : (decl : Declaration) (before after : List Deed) → all_due decl before after ≡ all_posted after → AreDue decl before after
 site_due_where_posted decl before [] same = tt

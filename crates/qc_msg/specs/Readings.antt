@@ -1,0 +1,210 @@
+-- What deeds and what they hold have to say, each kind read once: a definition that asks for one kind is a line by these.
+use Rattle.std.specs.Prelude.{ℕ, Bool, true, false, List, Option, Some, None, option_and_then}
+use Rattle.qc_stamp.specs.declared.stamp.TxId.{TxId}
+use Rattle.qc_entry.specs.declared.line.Line.{Line}
+use Rattle.qc_entry.specs.declared.record.Prepared.{Prepared}
+use Rattle.qc_msg.specs.declared.message.Answer.{Answer}
+use Rattle.qc_msg.specs.declared.message.Answer.TheVariants as answers
+use Rattle.qc_msg.specs.declared.message.Envelope.{Envelope}
+use Rattle.qc_msg.specs.declared.message.Message.{Message}
+use Rattle.qc_msg.specs.declared.message.Message.TheVariants as messages
+use Rattle.qc_msg.specs.declared.message.Outcome.{Outcome}
+use Rattle.qc_msg.specs.declared.message.Want.{Want}
+use Rattle.qc_msg.specs.declared.record.Record.{Record}
+use Rattle.qc_msg.specs.declared.record.Record.TheVariants as journals
+use Rattle.qc_msg.specs.declared.step.Command.{Command}
+use Rattle.qc_msg.specs.declared.step.Given.{Given}
+use Rattle.qc_msg.specs.declared.step.Given.TheVariants as inputs
+use Rattle.qc_msg.specs.Deeds.{Deed, Takes, Writes, Sends, Tells, Falls, Rises}
+
+-- of a message: a request, an answer, a Decision
+
+pub record Requested : Type 0 where
+  pub tx : TxId
+  pub epoch : ℕ
+  pub life : ℕ
+  pub want : Want
+
+abbrev pub request_in : Message → Option Requested
+request_in (messages.Request tx epoch life want) =
+    Some (record { tx = tx; epoch = epoch; life = life; want = want })
+request_in (messages.Answer to answer) = None
+request_in (messages.Decision tx verdict) = None
+request_in (messages.Inquiry tx) = None
+request_in (messages.Ask tx) = None
+request_in (messages.Close epoch) = None
+request_in (messages.Install epoch clock log) = None
+
+pub record Answered : Type 0 where
+  pub to : ℕ
+  pub answer : Answer
+
+abbrev pub answer_in : Message → Option Answered
+answer_in (messages.Request tx epoch life want) = None
+answer_in (messages.Answer to answer) = Some (record { to = to; answer = answer })
+answer_in (messages.Decision tx verdict) = None
+answer_in (messages.Inquiry tx) = None
+answer_in (messages.Ask tx) = None
+answer_in (messages.Close epoch) = None
+answer_in (messages.Install epoch clock log) = None
+
+pub record Decided : Type 0 where
+  pub tx : TxId
+  pub verdict : Outcome
+
+abbrev pub decision_in : Message → Option Decided
+decision_in (messages.Request tx epoch life want) = None
+decision_in (messages.Answer to answer) = None
+decision_in (messages.Decision tx verdict) = Some (record { tx = tx; verdict = verdict })
+decision_in (messages.Inquiry tx) = None
+decision_in (messages.Ask tx) = None
+decision_in (messages.Close epoch) = None
+decision_in (messages.Install epoch clock log) = None
+
+-- of an answer: a grant, a promise with its clock, the epoch that another one closed
+
+pub record Granting : Type 0 where
+  pub life : ℕ
+  pub clock : ℕ
+  pub log : List Line
+
+abbrev pub granted_in : Answer → Option Granting
+granted_in (answers.Granted life clock log) = Some (record { life = life; clock = clock; log = log })
+granted_in (answers.Clash holder inv event) = None
+granted_in (answers.Closed epoch) = None
+granted_in (answers.Behind epoch) = None
+granted_in (answers.Restarted life) = None
+granted_in answers.Stale = None
+granted_in answers.Fault = None
+granted_in (answers.Yes clock) = None
+granted_in (answers.Shut clock log prepared) = None
+granted_in answers.Installed = None
+granted_in (answers.Answered verdict) = None
+
+abbrev pub promised_in : Answer → Option ℕ
+promised_in (answers.Granted life clock log) = None
+promised_in (answers.Clash holder inv event) = None
+promised_in (answers.Closed epoch) = None
+promised_in (answers.Behind epoch) = None
+promised_in (answers.Restarted life) = None
+promised_in answers.Stale = None
+promised_in answers.Fault = None
+promised_in (answers.Yes clock) = Some clock
+promised_in (answers.Shut clock log prepared) = None
+promised_in answers.Installed = None
+promised_in (answers.Answered verdict) = None
+
+abbrev pub closed_in : Answer → Option ℕ
+closed_in (answers.Granted life clock log) = None
+closed_in (answers.Clash holder inv event) = None
+closed_in (answers.Closed epoch) = Some epoch
+closed_in (answers.Behind epoch) = None
+closed_in (answers.Restarted life) = None
+closed_in answers.Stale = None
+closed_in answers.Fault = None
+closed_in (answers.Yes clock) = None
+closed_in (answers.Shut clock log prepared) = None
+closed_in answers.Installed = None
+closed_in (answers.Answered verdict) = None
+
+-- of a record: a rise, a promise, that a promised transaction committed, a closed and an installed epoch (a commit: Counts)
+
+abbrev pub is_life : Record → Bool
+is_life journals.Life = true
+is_life (journals.Prepare prepared) = false
+is_life (journals.Done tx clock) = false
+is_life (journals.Close epoch) = false
+is_life (journals.Install epoch clock lines) = false
+is_life (journals.Commit commit) = false
+is_life (journals.Decide epoch clock lines) = false
+
+abbrev pub prepare_in : Record → Option Prepared
+prepare_in journals.Life = None
+prepare_in (journals.Prepare prepared) = Some prepared
+prepare_in (journals.Done tx clock) = None
+prepare_in (journals.Close epoch) = None
+prepare_in (journals.Install epoch clock lines) = None
+prepare_in (journals.Commit commit) = None
+prepare_in (journals.Decide epoch clock lines) = None
+
+pub record Finished : Type 0 where
+  pub tx : TxId
+  pub clock : ℕ
+
+abbrev pub done_in : Record → Option Finished
+done_in journals.Life = None
+done_in (journals.Prepare prepared) = None
+done_in (journals.Done tx clock) = Some (record { tx = tx; clock = clock })
+done_in (journals.Close epoch) = None
+done_in (journals.Install epoch clock lines) = None
+done_in (journals.Commit commit) = None
+done_in (journals.Decide epoch clock lines) = None
+
+abbrev pub close_in : Record → Option ℕ
+close_in journals.Life = None
+close_in (journals.Prepare prepared) = None
+close_in (journals.Done tx clock) = None
+close_in (journals.Close epoch) = Some epoch
+close_in (journals.Install epoch clock lines) = None
+close_in (journals.Commit commit) = None
+close_in (journals.Decide epoch clock lines) = None
+
+pub record Installing : Type 0 where
+  pub epoch : ℕ
+  pub clock : ℕ
+  pub lines : List Line
+
+abbrev pub install_in : Record → Option Installing
+install_in journals.Life = None
+install_in (journals.Prepare prepared) = None
+install_in (journals.Done tx clock) = None
+install_in (journals.Close epoch) = None
+install_in (journals.Install epoch clock lines) = Some (record { epoch = epoch; clock = clock; lines = lines })
+install_in (journals.Commit commit) = None
+install_in (journals.Decide epoch clock lines) = None
+
+-- of an input: a message, a command
+
+abbrev pub heard_in : Given → Option Envelope
+heard_in (inputs.Called command) = None
+heard_in (inputs.Got envelope) = Some envelope
+heard_in (inputs.Lost number) = None
+
+abbrev pub command_in : Given → Option Command
+command_in (inputs.Called command) = Some command
+command_in (inputs.Got envelope) = None
+command_in (inputs.Lost number) = None
+
+-- of a deed: what it takes, what it writes, what its rise gives
+
+abbrev pub taken_in : Deed → Option Given
+taken_in (Takes given) = Some given
+taken_in (Writes written) = None
+taken_in (Sends number to message) = None
+taken_in (Tells reply) = None
+taken_in (Falls cause pending) = None
+taken_in (Rises records) = None
+
+abbrev pub written_in : Deed → Option Record
+written_in (Takes given) = None
+written_in (Writes written) = Some written
+written_in (Sends number to message) = None
+written_in (Tells reply) = None
+written_in (Falls cause pending) = None
+written_in (Rises records) = None
+
+abbrev pub risen_in : Deed → Option (List Record)
+risen_in (Takes given) = None
+risen_in (Writes written) = None
+risen_in (Sends number to message) = None
+risen_in (Tells reply) = None
+risen_in (Falls cause pending) = None
+risen_in (Rises records) = Some records
+
+-- the message that a deed takes, and the Decision in it
+
+abbrev pub got_in : Deed → Option Envelope
+got_in d = option_and_then heard_in (taken_in d)
+
+abbrev pub decided_in : Deed → Option Decided
+decided_in d = option_and_then (λ (e : Envelope). decision_in e.message) (got_in d)
