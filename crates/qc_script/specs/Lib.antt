@@ -10,7 +10,9 @@ pub mod Ranges
 pub mod Refused
 pub mod Sound
 pub mod Text
+pub mod Requests
 pub mod Inbox
 pub mod Ready
 pub mod Runs
+pub mod RunsWithFalls
 pub mod Written
