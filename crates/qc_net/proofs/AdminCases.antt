@@ -50,7 +50,7 @@ use Rattle.qc_epoch.specs.SiteRows.{epoch_length}
 use Rattle.qc_net.specs.Admins.{AdminMirrors, AreEnough, AreSnapshots, DecidedMirrors, DoingMirrors, HasTold, IsCovered, IsNumbered, IsPendingRule, IsTaken, QuestionMirrors, RoundMirrors, RulesMirror}
 use Rattle.qc_net.specs.Messages.{Backed, IsAnswerBacked, IsMessage, IsShutTo, IsSnapshot, IsVerdictBacked}
 use Rattle.qc_net.specs.Mirrors.{Continues, Mirrors}
-use Rattle.qc_net.specs.Net.{IsNamed, MayCome, Net, after_admin, all_sent}
+use Rattle.qc_net.specs.Net.{MayAdminister, MayCome, Net, after_admin, all_sent}
 use Rattle.qc_net.specs.Sites.{IsDecided, IsPlanned}
 use Rattle.std.specs.Prelude.{option_to_list}
 use Rattle.std.proofs.lemmas.List.{append-nil}
@@ -640,7 +640,7 @@ module _ (decl : Declaration) (acts : List Act) (net : Net) (run : IsRun decl ac
   answer_case from number answer backed (Installing closed awaited calls done) is = installing_case closed awaited calls done number answer
 
   -- whatever the administrator takes
-  pub admin_case : (given : Given) → MayCome net (administrator decl) given → IsNamed decl given → Goes ((admin_takes decl net.admin given))
+  pub admin_case : (given : Given) → MayCome net (administrator decl) given → MayAdminister decl given → Goes ((admin_takes decl net.admin given))
   admin_case (Called commands.Begin) came named = nothing
   admin_case (Called (commands.Do object inv)) came named = nothing
   admin_case (Called commands.Commit) came named = nothing

@@ -35,6 +35,12 @@ pub record IsRequest (mail : List Envelope) (number site : ℕ) (tx : TxId) (wan
   pub life : ℕ
   pub is : IsMessage mail number site (messages.Request tx epoch life want)
 
+-- a Read or an Append is granted, a Prepare is voted on
+abbrev pub IsGrantable : Want → Type 0
+IsGrantable (Read object inv) = Unit {0}
+IsGrantable (Append object view own) = Unit {0}
+IsGrantable Prepare = ⊥
+
 -- the machine's site granted what the request wants, with this life, clock and log; to a Read all lines of the object
 -- that the site had, and no others
 pub record IsGrant (decl : Declaration) (now : State) (site life clock : ℕ) (log : List Line) (tx : TxId)
@@ -48,6 +54,7 @@ pub record IsGrant (decl : Declaration) (now : State) (site life clock : ℕ) (l
   pub life_is : grant.life ≡ life
   pub some : 0 < life
   pub clock_is : grant.clock ≡ clock
+  pub asks : IsGrantable want
   pub items_are : grant.items ≡ items_wanted want
   pub sorted : IsAscending log
   pub lines : (l : Line) → In l log → In l (site_after grant.before).volatile

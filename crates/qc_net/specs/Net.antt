@@ -130,12 +130,12 @@ after_client net a move =
 abbrev pub IsNamedAt : Declaration → ℕ → ℕ → Type 0
 IsNamedAt decl object inv = (kind : Kind) × (kind_at decl object ≡ Some kind) × (inv < kind.table.invs)
 
-abbrev pub IsNamedDo : Declaration → Command → Type 0
-IsNamedDo decl Begin = Unit {0}
-IsNamedDo decl (Do object inv) = IsNamedAt decl object inv
-IsNamedDo decl Commit = Unit {0}
-IsNamedDo decl Abort = Unit {0}
-IsNamedDo decl (Epoch number) = Unit {0}
+abbrev pub IsNamed : Declaration → Command → Type 0
+IsNamed decl Begin = Unit {0}
+IsNamed decl (Do object inv) = IsNamedAt decl object inv
+IsNamed decl Commit = Unit {0}
+IsNamed decl Abort = Unit {0}
+IsNamed decl (Epoch number) = Unit {0}
 
 -- what may come to an actor: a message that was sent to it; anything may be taken for lost
 abbrev pub MayCome : Net → ℕ → Given → Type 0
@@ -143,19 +143,19 @@ MayCome net a (Called command) = Unit {0}
 MayCome net a (Got envelope) = In envelope net.mail × (envelope.to ≡ a)
 MayCome net a (Lost number) = Unit {0}
 
--- an `epoch` names a declared one
-abbrev pub IsNamed : Declaration → Given → Type 0
-IsNamed decl (Called commands.Begin) = Unit {0}
-IsNamed decl (Called (commands.Do object inv)) = Unit {0}
-IsNamed decl (Called commands.Commit) = Unit {0}
-IsNamed decl (Called commands.Abort) = Unit {0}
-IsNamed decl (Called (commands.Epoch number)) = IsPlanned decl number
-IsNamed decl (Got envelope) = Unit {0}
-IsNamed decl (Lost number) = Unit {0}
+-- and to the administrator: an `epoch` of one that is declared
+abbrev pub MayAdminister : Declaration → Given → Type 0
+MayAdminister decl (Called commands.Begin) = Unit {0}
+MayAdminister decl (Called (commands.Do object inv)) = Unit {0}
+MayAdminister decl (Called commands.Commit) = Unit {0}
+MayAdminister decl (Called commands.Abort) = Unit {0}
+MayAdminister decl (Called (commands.Epoch number)) = IsPlanned decl number
+MayAdminister decl (Got envelope) = Unit {0}
+MayAdminister decl (Lost number) = Unit {0}
 
 -- and to a client: a command where none runs, which names what is declared
 abbrev pub MayCommand : Declaration → Client → Given → Type 0
-MayCommand decl c (Called command) = IsFree c × IsNamedDo decl command
+MayCommand decl c (Called command) = IsFree c × IsNamed decl command
 MayCommand decl c (Got envelope) = Unit {0}
 MayCommand decl c (Lost number) = Unit {0}
 
@@ -237,7 +237,7 @@ pub data Reaches (decl : Declaration) : Net → Type 0 where
       → MayCome net a given → MayCommand decl (net.clients a) given
       → Reaches decl (after_client net a (client_takes decl (net.clients a) given))
   administers : (given : Given) (net : Net) → Reaches decl net → net.up (administrator decl) ≡ true
-      → MayCome net (administrator decl) given → IsNamed decl given
+      → MayCome net (administrator decl) given → MayAdminister decl given
       → Reaches decl (after_admin decl net (admin_takes decl net.admin given))
   -- an actor that is up falls
   site_falls : (a : ℕ) (net : Net) → Reaches decl net → is_site decl a ≡ true → net.up a ≡ true
@@ -258,7 +258,7 @@ pub data Reaches (decl : Declaration) : Net → Type 0 where
       → AreFailedSends (client_takes decl (net.clients a) given).turn sends
       → Reaches decl (after_fall net a (Some written) sends)
   admin_fails : (given : Given) (written : Record) (sends : List Posting) (net : Net) → Reaches decl net
-      → net.up (administrator decl) ≡ true → MayCome net (administrator decl) given → IsNamed decl given
+      → net.up (administrator decl) ≡ true → MayCome net (administrator decl) given → MayAdminister decl given
       → (admin_takes decl net.admin given).turn.write ≡ Some written
       → AreFailedSends (admin_takes decl net.admin given).turn sends
       → Reaches decl (after_fall net (administrator decl) (Some written) sends)

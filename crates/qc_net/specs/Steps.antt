@@ -14,7 +14,7 @@ use Rattle.qc_epoch.specs.Conduct.{admin_takes}
 use Rattle.qc_epoch.specs.SiteRows.{takes as site_takes}
 use Rattle.qc_client.specs.Conduct.{client_takes}
 use Rattle.qc_recover.specs.Sites.{kept_by}
-use Rattle.qc_net.specs.Net.{AreFailedSends, IsGivenBack, IsNamed, MayCome, MayCommand, Net}
+use Rattle.qc_net.specs.Net.{AreFailedSends, IsGivenBack, MayAdminister, MayCome, MayCommand, Net}
 use Rattle.qc_net.specs.Net.{after_admin, after_admin_rise, after_client, after_client_rise, after_fall}
 use Rattle.qc_net.specs.Net.{after_site, after_site_rise, after_vain_rise}
 
@@ -26,7 +26,7 @@ pub data Step (decl : Declaration) : Net → Net → Type 0 where
       → MayCome net a given → MayCommand decl (net.clients a) given
       → Step decl net (after_client net a (client_takes decl (net.clients a) given))
   administers : (given : Given) (net : Net) → net.up (administrator decl) ≡ true
-      → MayCome net (administrator decl) given → IsNamed decl given
+      → MayCome net (administrator decl) given → MayAdminister decl given
       → Step decl net (after_admin decl net (admin_takes decl net.admin given))
   -- an actor that is up falls
   site_falls : (a : ℕ) (net : Net) → is_site decl a ≡ true → net.up a ≡ true
@@ -47,7 +47,7 @@ pub data Step (decl : Declaration) : Net → Net → Type 0 where
       → AreFailedSends (client_takes decl (net.clients a) given).turn sends
       → Step decl net (after_fall net a (Some written) sends)
   admin_fails : (given : Given) (written : Record) (sends : List Posting) (net : Net)
-      → net.up (administrator decl) ≡ true → MayCome net (administrator decl) given → IsNamed decl given
+      → net.up (administrator decl) ≡ true → MayCome net (administrator decl) given → MayAdminister decl given
       → (admin_takes decl net.admin given).turn.write ≡ Some written
       → AreFailedSends (admin_takes decl net.admin given).turn sends
       → Step decl net (after_fall net (administrator decl) (Some written) sends)
