@@ -42,6 +42,7 @@ use Rattle.qc_fabric.specs.Tells.{HasNone, Posts, Sees, Takes, Waits}
 use Rattle.qc_node.specs.Cells.{IsCell, IsIdle, IsServed, actor_in}
 use Rattle.qc_node.specs.Inputs.{IsReadable}
 use Rattle.qc_link.specs.Limits.{most_actors}
+use Rattle.qc_laws.proofs.Up.{run_up}
 
 in_mail : (ms : List Envelope) (n : ℕ) (e : Envelope) → slice_get ms n ≡ Some e → In e ms
 in_mail [] n e is = absurd (let no : ⊥ = cc in no)
@@ -71,7 +72,7 @@ module _ (decl : Declaration) (script : Script) (accepted : IsAccepted decl) (p 
   sent = what_is_ready_was_sent (IsLawful decl) decl script took.before took.run_before.0 took.run_before.1 (number p) g took.is_ready
 
   may : MayTake (deeds (number p) [] (seen p)) g
-  may = subst (λ (ds : List Deed). MayTake ds g) took.does_before (what_is_ready_may_be_taken decl script (number p) took.before g took.is_ready)
+  may = subst (λ (ds : List Deed). MayTake ds g) took.does_before (what_is_ready_may_be_taken decl script (number p) took.before (run_up (IsLawful decl) decl script took.before took.run_before.0 took.run_before.1 (number p)) g took.is_ready)
 
   turns : ActsIn decl (number p) took.before false
   turns = run_acts decl script took.before took.run_before.0 took.run_before.1 (number p) false took.is_closed
