@@ -1,0 +1,7 @@
+pub mod Ascending
+pub mod Logs
+pub mod Last
+pub mod Promised
+pub mod Asked
+pub mod Lives
+pub mod Holders
