@@ -1,5 +1,5 @@
 -- The promised transactions in their order.
-use Rattle.std.proofs.Common.{◌≡◌, ◌⊎◌, inl, inr, Bool, true, false, cond, Some, List, [], ◌∷◌, fold, map, refl, sym, ◌∙◌, ap, subst}
+use Rattle.std.proofs.Common.{◌≡◌, ◌⊎◌, ◌↔◌, inl, inr, Bool, true, false, cond, Some, List, [], ◌∷◌, fold, map, refl, sym, ◌∙◌, ap, subst}
 use Rattle.std.specs.List.{AllByRecursion as Every}
 use Rattle.std.specs.List.Sorted.{IsStrictlySortedBy}
 use Rattle.std.specs.Ordering.{eq_by_cmp, is_eq}
@@ -46,6 +46,15 @@ from_In tx txs (t ∷ ts) member = by (from_In tx (inserted tx_cmp txs t) ts mem
   by : In tx (inserted tx_cmp txs t) ⊎ In tx ts → In tx txs ⊎ In tx (t ∷ ts)
   by (inl member) = first (In_inserted tx_cmp tx t txs member)
   by (inr later) = inr (inr later)
+
+pub order_ascends : (txs : List TxId) → Ascends tx_cmp (in_order txs)
+order_ascends txs = ascends_from [] txs tt
+
+pub In_order_is : (tx : TxId) (txs : List TxId) → In tx (in_order txs) ↔ In tx txs
+In_order_is tx txs = (λ member. by (from_In tx [] txs member), λ member. In_from tx [] txs (inr member)) where
+  by : In tx [] ⊎ In tx txs → In tx txs
+  by (inl never) = absurd never
+  by (inr member) = member
 
 -- a strict order, said in two ways
 

@@ -5,3 +5,5 @@ pub mod Promised
 pub mod Asked
 pub mod Lives
 pub mod Holders
+pub mod SiteLaws
+pub mod ClientLaws
