@@ -58,6 +58,7 @@ find_filtered [] of tx other = refl
 find_filtered (d ∷ ds) of tx other = by (same_tx d.tx of) refl (find_filtered ds of tx other) where
   left : List Commit
   left = filter (λ (e : Commit). not (same_tx e.tx of)) ds
+
   by : (b : Bool) → same_tx d.tx of ≡ b → record_of left tx ≡ record_of ds tx → record_of (cond (not b) (d ∷ left) left) tx ≡ record_of (d ∷ ds) tx
   by true same rest =
       let apart : same_tx d.tx tx ≡ false = subst (λ t. same_tx t tx ≡ false) (sym (tx_apart d.tx of same)) other in
@@ -132,6 +133,7 @@ clocks_reached k [] = inl refl
 clocks_reached k (r ∷ rs) = by (clocks_reached (keeps k r) rs) (clock_reached k r) where
   last : ℕ
   last = (fold keeps k (r ∷ rs)).clock
+
   by : IsReached (keeps k r).clock rs last → IsReached k.clock (r ∷ []) (keeps k r).clock → IsReached k.clock (r ∷ rs) last
   by (inl same) (inl before) = inl (same ∙ before)
   by (inl same) (inr (c, inl is, clock)) = inr (c, inl is, same ∙ clock)

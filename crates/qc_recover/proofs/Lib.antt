@@ -7,3 +7,4 @@ pub mod Lives
 pub mod Holders
 pub mod SiteLaws
 pub mod ClientLaws
+pub mod SortedRecords

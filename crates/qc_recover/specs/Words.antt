@@ -1,6 +1,9 @@
--- Words for what records tell: the lives that they begin, and their clocks.
+-- Words for what records tell: the lives that they begin, their clocks, and what is in order in them.
 use Rattle.std.specs.Prelude.{ℕ, Bool, true, false, List, [], ◌∷◌, map}
 use Rattle.qc_entry.specs.declared.line.Line.{Line}
+use Rattle.qc_entry.specs.Line.{IsAscending}
+use Rattle.qc_list.specs.Order.{Ascends}
+use Rattle.qc_lock.specs.Held.{lock_cmp, own_cmp}
 use Rattle.qc_msg.specs.declared.record.Record.{Record}
 use Rattle.qc_msg.specs.declared.record.Record.TheVariants as records
 
@@ -36,3 +39,13 @@ clocks_in (records.Close epoch) = []
 clocks_in (records.Install epoch clock lines) = clock ∷ clocks_of lines
 clocks_in (records.Commit commit) = []
 clocks_in (records.Decide epoch clock lines) = []
+
+-- the locks, own lines and lines of a site's record
+abbrev pub IsRecordSorted : Record → Type 0
+IsRecordSorted records.Life = Unit {0}
+IsRecordSorted (records.Prepare p) = Ascends lock_cmp p.locks × Ascends own_cmp p.own × IsAscending p.lines
+IsRecordSorted (records.Done tx clock) = Unit {0}
+IsRecordSorted (records.Close epoch) = Unit {0}
+IsRecordSorted (records.Install epoch clock lines) = IsAscending lines
+IsRecordSorted (records.Commit commit) = Unit {0}
+IsRecordSorted (records.Decide epoch clock lines) = Unit {0}

@@ -18,10 +18,11 @@ ghost use Rattle.qc_msg.specs.declared.record.Record.{Record};
 ghost use Rattle.qc_msg.specs.declared.record.Record.TheVariants.{Close, Commit, Done, Install, Life, Prepare};
 ghost use Rattle.qc_recover.specs.Clients.{client_of, client_rises};
 ghost use Rattle.qc_recover.specs.Sites.{in_order, site_of, site_rises};
-ghost use Rattle.qc_recover.specs.Words.{begins_life, clocks_in, is_rise};
+ghost use Rattle.qc_recover.specs.Words.{IsRecordSorted, begins_life, clocks_in, is_rise};
 ghost use Rattle.qc_site.specs.Conduct.{latest};
 ghost use Rattle.qc_site.specs.Promise.{is_prepared, prepared_of};
 ghost use Rattle.qc_site.specs.Site.{new_site};
+ghost use Rattle.qc_site.specs.Sorted.{IsSiteSorted};
 ghost use Rattle.qc_stamp.specs.Order.{same_tx, tx_cmp};
 ghost use Rattle.qc_stamp.specs.declared.stamp.TxId.{TxId};
 
@@ -63,11 +64,11 @@ pub fn closes_add_a_life()
 pub fn installs_begin_anew()
     ensures anew { (number : ℕ) (rs : List Record) (epoch clock : ℕ) (lines : List Line)
         → site_of number (rs ++ Install epoch clock lines ∷ []) ≡ record (new_site number) {
-            life = (site_of number rs).life;
-            epoch = epoch;
-            log = lines;
-            recorded = lines;
-            clock = max (latest (site_of number rs).clock lines) clock;
+          life = (site_of number rs).life;
+          epoch = epoch;
+          log = lines;
+          recorded = lines;
+          clock = max (latest (site_of number rs).clock lines) clock;
         } }
     ensures late { (number : ℕ) (rs : List Record) (epoch clock done : ℕ) (lines : List Line) (tx : TxId)
         → (site_of number (rs ++ Install epoch clock lines ∷ Done tx done ∷ [])).log ≡ lines }
@@ -84,7 +85,7 @@ pub fn last_prepares_are_promises()
         → prepared_of (site_of number (rs ++ Prepare p ∷ [])).prepared tx ≡ prepared_of (site_of number rs).prepared tx }
     ensures beside_done { (number : ℕ) (rs : List Record) (tx other : TxId) (clock : ℕ) → same_tx tx other ≡ false
         → prepared_of (site_of number (rs ++ Done tx clock ∷ [])).prepared other
-            ≡ prepared_of (site_of number rs).prepared other }
+        ≡ prepared_of (site_of number rs).prepared other }
 {}
 
 /// What is promised is held, and nothing else is.
@@ -108,6 +109,12 @@ pub fn promises_are_asked_about_in_order()
 pub fn clocks_pass_records()
     ensures { (number : ℕ) (rs : List Record) (r : Record) (clock : ℕ) → In r rs → In clock (clocks_in r)
         → clock ≤ (site_of number rs).clock }
+{}
+
+/// What is in order at a site is so as it rises, where it is in its records.
+pub fn risen_sites_are_sorted()
+    ensures { (decl : Declaration) (number : ℕ) (rs : List Record) → ((r : Record) → In r rs → IsRecordSorted r)
+        → IsSiteSorted (site_rises decl number rs).site }
 {}
 
 /// The last commit record of a transaction tells how it stands, and one without
