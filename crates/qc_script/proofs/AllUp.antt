@@ -21,6 +21,7 @@ use Rattle.qc_msg.specs.Steps.{Entry, by, marked, posted, sents, step_of, told, 
 use Rattle.qc_msg.proofs.Growth.{by-posted}
 use Rattle.qc_script.specs.Inbox.{Inbox, acting, command_called, control_acted, copy_taken, everybody, inbox, inbox_at, is_up, loss_taken, opened, phase_begun, reply_told, wrote_record}
 use Rattle.qc_script.specs.Ready.{step_of_control}
+use Rattle.qc_script.specs.Steady.{LeavesUp}
 use Rattle.qc_script.specs.Runs.{Runs, begins, takes, posts, phase, control}
 use Rattle.qc_script.specs.declared.script.PhaseLines.{PhaseLines}
 use Rattle.qc_script.specs.declared.script.Script.{Script}
@@ -137,3 +138,13 @@ run_up lawful decl script h inputs run a = steps_up script a h _ (run_stays lawf
 
 pub actor_up : (lawful : ℕ → List Deed → Turn → Type 0) (decl : Declaration) (script : Script) (h : List Entry) (inputs : List Bool) (a b : ℕ) → Runs lawful decl script h inputs → is_up (inbox script a h).up b ≡ true
 actor_up lawful decl script h inputs a b run = is_up-everybody (inbox script a h).up b (run_up lawful decl script h inputs run a)
+
+-- lines that leave everybody up have a step each
+pub acting-steady : (up : List Bool) (lines : List Control) → Every LeavesUp lines → acting up lines ≡ lines
+acting-steady up [] steady = refl
+acting-steady up (controls.Phase k ∷ lines) steady = refl
+acting-steady up (controls.Cut x y ∷ lines) steady = refl
+acting-steady up (controls.Heal x y ∷ lines) steady = refl
+acting-steady up (controls.Armed actor kind at ∷ lines) steady = refl
+acting-steady up (controls.Crash r ∷ lines) steady = absurd steady.0
+acting-steady up (controls.Restart r ∷ lines) steady = absurd steady.0

@@ -12,3 +12,4 @@ pub mod WrittenWords
 pub mod Inboxes
 pub mod AllUp
 pub mod Fallless
+pub mod Requests

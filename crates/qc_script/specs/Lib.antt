@@ -13,6 +13,7 @@ pub mod Text
 pub mod Requests
 pub mod Inbox
 pub mod Ready
+pub mod Steady
 pub mod Runs
 pub mod RunsWithFalls
 pub mod Written
