@@ -22,10 +22,10 @@ import wrong_commits
 import wrong_reads
 import wrong_sites
 from editing import Edited
-from modules import IMPORTS, VARIANTS, filled, imported, words_of
+from modules import IMPORTS, filled, imported, variants, words_of
 from refusing import last_post, lemma_module, reply_at
 from runs import GROUP, WORKED, low
-from spelling import kind, record as spelled_record, step as spelled_step
+from spelling import step as spelled_step
 
 CRATE = os.path.join(os.path.dirname(os.path.abspath(__file__)), "..", "..", "crates", "tests_due")
 TOO_LONG = "phase|c0 begin|" + "c0 do x W1|" * 17 + "c0 abort"
@@ -43,12 +43,6 @@ def write(path, text):
 # Histories as terms.
 
 def entry(actor, x):
-    if kind(x) == "Fell":
-        return "marked %d (Fell falls.%s (Some %s))" % (actor, x.cause, spelled_record(x.pending))
-    if kind(x) == "Told" and kind(x.reply) == "Unknown":
-        return "marked %d (Told replies.Unknown)" % actor
-    if kind(x) == "Sent" and kind(x.message) == "Fault":
-        return "marked %d (Sent %d %d (messages.Answer %d answers.Fault))" % (actor, x.number, x.to, x.message.to)
     return "marked %d %s" % (actor, spelled_step(x))
 
 
@@ -59,12 +53,8 @@ def module(head, named):
     used = words_of("\n".join(text for text in body.split("\n") if not text.startswith("--")))
     out = "-- %s\n" % head
     for where, names in IMPORTS:
-        names += ("Fell",) if where.endswith("Step.TheVariants") else ()
         out += imported(where, [n for n in names if n in used or n == "◌∷◌"])
-    for name, where in VARIANTS + (("falls", "step.Fall"),):
-        if any(word.startswith(name + ".") for word in used):
-            out += "use Rattle.qc_msg.specs.declared.%s.TheVariants as %s\n" % (where, name)
-    return out + body
+    return out + variants(used) + body
 
 
 # Laws.

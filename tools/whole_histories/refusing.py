@@ -1,6 +1,6 @@
 """Lemmas that refuse wrong histories: what is due at a step isn't what stands there."""
 
-from modules import VARIANTS, imported, words_of
+from modules import imported, variants, words_of
 from spelling import kind, listed, operation, reply as spelled_reply, stamp, term, tx
 
 IMPORTS = (
@@ -28,10 +28,7 @@ def lemma_module(head, body, file, name):
     out = "-- %s\n" % head
     for where, names in IMPORTS:
         out += imported(where, [n for n in names if signs.get(n, n in used)])
-    for variant, where in VARIANTS:
-        if any(word.startswith(variant + ".") for word in used):
-            out += "use Rattle.qc_msg.specs.declared.%s.TheVariants as %s\n" % (where, variant)
-    return out + "use Rattle.tests_due.specs.%s as %s\n" % (file, name) + body
+    return out + variants(used) + "use Rattle.tests_due.specs.%s as %s\n" % (file, name) + body
 
 
 def reply_at(said, name, history, place, part, due):
