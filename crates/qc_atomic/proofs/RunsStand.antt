@@ -51,6 +51,7 @@ use Rattle.qc_atomic.proofs.Asked.{ready_named}
 use Rattle.qc_atomic.proofs.Posted.{client_posted, control_writes, site_posted, site_taken, taken_writes, written_posted, written_same}
 use Rattle.qc_atomic.proofs.Silent.{site_silent}
 use Rattle.qc_atomic.proofs.Stood.{ClientStands, OpenClient, OpenSite, SiteStands, Stood, apart, both, client_stays, false_true, may_come, not_now, site_stays, slot_other, true_false}
+use Rattle.qc_laws.proofs.Up.{run_up}
 
 module _ (decl : Declaration) (script : Script) where
   -- an input is taken
@@ -77,7 +78,7 @@ module _ (decl : Declaration) (script : Script) where
       still : is_client decl a ≡ true → (command : Command) → g ≡ given.Called command → is_waiting (client_after decl (a - decl.sites) (deeds a [] h)).client ≡ false
       still client command is =
           client_replies decl a (at (is_site decl a) refl) client (deeds a [] h) false (run_acts decl script h open_inputs run a false free).above (run_acts decl script h open_inputs run a false free).acts
-          (subst (MayTake (deeds a [] h)) is (what_is_ready_may_be_taken decl script a h g rdy))
+          (subst (MayTake (deeds a [] h)) is (what_is_ready_may_be_taken decl script a h (run_up (IsLawful decl) decl script h open_inputs run a) g rdy))
         where
           at : (t : Bool) → is_site decl a ≡ t → t ≡ false
           at true site = absurd (both decl a site client)

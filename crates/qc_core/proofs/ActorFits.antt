@@ -33,6 +33,7 @@ use Rattle.qc_core.proofs.ClientReaches.{AskedFit, client_reach, new_asked, sent
 use Rattle.qc_core.proofs.ClientLands.{lands}
 use Rattle.qc_core.proofs.ClientStands.{Lands, Stands}
 use Rattle.qc_core.proofs.SiteReaches.{site_reach}
+use Rattle.qc_core.proofs.Steady.{acts_steady}
 
 -- few sites are asked, before the numbers of a turn's messages are known as after
 
@@ -72,23 +73,23 @@ pub actor_fits : (decl : Declaration) (a : ℕ) (ds : List Deed) (m n : ℕ) →
 actor_fits decl a ds m n accepted below acts low = by (is_site decl a) refl
   where
     by : (b : Bool) → is_site decl a ≡ b → ActorWithin n (actor_after decl a ds).actor → ActorFits (actor_after decl a ds).actor
-    by true is within = subst (λ (v : ActorMove). ActorFits v.actor) (sym (at_site decl a ds is)) tt
+    by true is within = subst (λ (v : ActorMove). ActorFits v.actor) (sym (at_site decl a ds (acts_steady decl a ds false m acts) is)) tt
     by false is within =
-        subst (λ (v : ActorMove). ActorFits v.actor) (sym (at_client decl a ds is))
+        subst (λ (v : ActorMove). ActorFits v.actor) (sym (at_client decl a ds (acts_steady decl a ds false m acts) is))
         (client_fits decl (is_running ds) (client_after decl (a - decl.sites) ds).client n accepted low
         (known decl a ds false m accepted.has_site accepted.sites is (other_client decl a below is) acts)
-        (subst (λ (v : ActorMove). ActorWithin n v.actor) (at_client decl a ds is) within))
+        (subst (λ (v : ActorMove). ActorWithin n v.actor) (at_client decl a ds (acts_steady decl a ds false m acts) is) within))
 
 -- after an input it asked few sites
 pub actor_asks_few : (decl : Declaration) (a : ℕ) (ds : List Deed) (m : ℕ) (g : Given) → IsAccepted decl → a < actors decl → Acts decl a ds false m → MayTake ds g → AsksFew (actor_takes decl (actor_after decl a ds).actor g).actor
 actor_asks_few decl a ds m g accepted below acts may = by (is_site decl a) refl
   where
     by : (b : Bool) → is_site decl a ≡ b → AsksFew (actor_takes decl (actor_after decl a ds).actor g).actor
-    by true is = subst (λ (v : ActorMove). AsksFew (actor_takes decl v.actor g).actor) (sym (at_site decl a ds is)) tt
+    by true is = subst (λ (v : ActorMove). AsksFew (actor_takes decl v.actor g).actor) (sym (at_site decl a ds (acts_steady decl a ds false m acts) is)) tt
     by false is =
         let st : Stands decl (is_running ds) (client_after decl (a - decl.sites) ds).client = known decl a ds false m accepted.has_site accepted.sites is (other_client decl a below is) acts in
         let on : Lands decl _ 0 (client_takes decl (client_after decl (a - decl.sites) ds).client g) = lands decl ds (client_after decl (a - decl.sites) ds).client g 0 accepted.has_site accepted.sites st may in
-        subst (λ (v : ActorMove). AsksFew (actor_takes decl v.actor g).actor) (sym (at_client decl a ds is))
+        subst (λ (v : ActorMove). AsksFew (actor_takes decl v.actor g).actor) (sym (at_client decl a ds (acts_steady decl a ds false m acts) is))
         (few_sent (client_takes decl (client_after decl (a - decl.sites) ds).client g).client 0 on.stands.few (round_few decl _ _ accepted on.stands))
 
 -- a site's turns are short
@@ -156,10 +157,10 @@ actor_short decl a ds m g accepted below acts from here = by (is_site decl a) re
   where
     by : (b : Bool) → is_site decl a ≡ b → IsShort (actor_takes decl (actor_after decl a ds).actor g).turn
     by true is =
-        subst (λ (v : ActorMove). IsShort (actor_takes decl v.actor g).turn) (sym (at_site decl a ds is))
+        subst (λ (v : ActorMove). IsShort (actor_takes decl v.actor g).turn) (sym (at_site decl a ds (acts_steady decl a ds false m acts) is))
         (site_reach decl accepted (site_after decl a ds).site g here (site_clients decl accepted _ ds from tt)).turn
     by false is =
-        subst (λ (v : ActorMove). IsShort (actor_takes decl v.actor g).turn) (sym (at_client decl a ds is))
+        subst (λ (v : ActorMove). IsShort (actor_takes decl v.actor g).turn) (sym (at_client decl a ds (acts_steady decl a ds false m acts) is))
         (client_reach decl accepted (client_after decl (a - decl.sites) ds).client g here
         (known decl a ds false m accepted.has_site accepted.sites is (other_client decl a below is) acts).front
         (client_asked decl a ds false m accepted is (other_client decl a below is) acts from)).turn

@@ -1,4 +1,4 @@
--- An actor is a site or a client over its deeds.
+-- An actor that neither falls nor rises is a site or a client over its deeds.
 use Rattle.std.proofs.Common.{◌≡◌, ℕ, ◌-◌, ◌<◌, ◌&&◌, nat_le, nat_lt, Bool, true, false, cond, List, [], ◌∷◌, ◌++◌, fold, Some, None, refl, ap, sym, ◌∙◌, arith}
 use Rattle.std.proofs.lemmas.Bool.Decides.{nat_tests}
 use Rattle.std.proofs.lemmas.List.Sums.{fold-append}
@@ -14,54 +14,56 @@ use Rattle.qc_msg.specs.Turns.{quiet}
 use Rattle.qc_site.specs.Conduct.{site_after, site_does}
 use Rattle.qc_site.specs.Site.{SiteMove, new_site, moved as site_moved}
 use Rattle.qc_core.specs.declared.actor.Actor.{Actor}
-use Rattle.qc_core.specs.declared.actor.Actor.TheVariants.{Site, Client}
+use Rattle.qc_core.specs.declared.actor.Actor.TheVariants.{Site, Client, Down}
 use Rattle.qc_core.specs.Actors.{ActorMove, actor_after, actor_does, actor_hears, actor_takes, by_client, by_site, moved}
 use Rattle.qc_core.specs.Conduct.{turn_after}
+use Rattle.qc_core.specs.Lives.{AreSteady, IsSteady}
 
 -- one more input
 
 pub input : (decl : Declaration) (a : ℕ) (ds : List Deed) (g : Given) → actor_after decl a (ds ++ Takes g ∷ []) ≡ actor_takes decl (actor_after decl a ds).actor g
-input decl a ds g = fold-append (actor_does decl) _ ds (Takes g ∷ [])
+input decl a ds g = fold-append (actor_does decl a) _ ds (Takes g ∷ [])
 
 pub message : (decl : Declaration) (actor : Actor) (e : Envelope) → actor_takes decl actor (given.Got e) ≡ actor_hears decl actor e.from e.number e.message
 message decl (Site s) e = refl
 message decl (Client c) e = refl
+message decl Down e = refl
 
 -- a site's fold, and a client's
 
-site_deed : (decl : Declaration) (m : SiteMove) (d : Deed) → actor_does decl (by_site m) d ≡ by_site (site_does decl m d)
-site_deed decl m (Takes g) = refl
-site_deed decl m (Writes written) = refl
-site_deed decl m (Sends number to message) = refl
-site_deed decl m (Tells reply) = refl
-site_deed decl m (Falls cause pending) = refl
-site_deed decl m (Rises records) = refl
+site_deed : (decl : Declaration) (a : ℕ) (m : SiteMove) (d : Deed) → IsSteady d → actor_does decl a (by_site m) d ≡ by_site (site_does decl m d)
+site_deed decl a m (Takes g) steady = refl
+site_deed decl a m (Writes written) steady = refl
+site_deed decl a m (Sends number to message) steady = refl
+site_deed decl a m (Tells reply) steady = refl
+site_deed decl a m (Falls cause pending) steady = absurd steady
+site_deed decl a m (Rises records) steady = absurd steady
 
-sites : (decl : Declaration) (m : SiteMove) (ds : List Deed) → fold (actor_does decl) (by_site m) ds ≡ by_site (fold (site_does decl) m ds)
-sites decl m [] = refl
-sites decl m (d ∷ ds) = ap (λ (v : ActorMove). fold (actor_does decl) v ds) (site_deed decl m d) ∙ sites decl (site_does decl m d) ds
+sites : (decl : Declaration) (a : ℕ) (m : SiteMove) (ds : List Deed) → AreSteady ds → fold (actor_does decl a) (by_site m) ds ≡ by_site (fold (site_does decl) m ds)
+sites decl a m [] steady = refl
+sites decl a m (d ∷ ds) steady = ap (λ (v : ActorMove). fold (actor_does decl a) v ds) (site_deed decl a m d steady.0) ∙ sites decl a (site_does decl m d) ds steady.1
 
-client_deed : (decl : Declaration) (m : ClientMove) (d : Deed) → actor_does decl (by_client m) d ≡ by_client (client_does decl m d)
-client_deed decl m (Takes g) = refl
-client_deed decl m (Writes written) = refl
-client_deed decl m (Sends number to message) = refl
-client_deed decl m (Tells reply) = refl
-client_deed decl m (Falls cause pending) = refl
-client_deed decl m (Rises records) = refl
+client_deed : (decl : Declaration) (a : ℕ) (m : ClientMove) (d : Deed) → IsSteady d → actor_does decl a (by_client m) d ≡ by_client (client_does decl m d)
+client_deed decl a m (Takes g) steady = refl
+client_deed decl a m (Writes written) steady = refl
+client_deed decl a m (Sends number to message) steady = refl
+client_deed decl a m (Tells reply) steady = refl
+client_deed decl a m (Falls cause pending) steady = absurd steady
+client_deed decl a m (Rises records) steady = absurd steady
 
-clients : (decl : Declaration) (m : ClientMove) (ds : List Deed) → fold (actor_does decl) (by_client m) ds ≡ by_client (fold (client_does decl) m ds)
-clients decl m [] = refl
-clients decl m (d ∷ ds) = ap (λ (v : ActorMove). fold (actor_does decl) v ds) (client_deed decl m d) ∙ clients decl (client_does decl m d) ds
+clients : (decl : Declaration) (a : ℕ) (m : ClientMove) (ds : List Deed) → AreSteady ds → fold (actor_does decl a) (by_client m) ds ≡ by_client (fold (client_does decl) m ds)
+clients decl a m [] steady = refl
+clients decl a m (d ∷ ds) steady = ap (λ (v : ActorMove). fold (actor_does decl a) v ds) (client_deed decl a m d steady.0) ∙ clients decl a (client_does decl m d) ds steady.1
 
-pub at_site : (decl : Declaration) (a : ℕ) (ds : List Deed) → is_site decl a ≡ true → actor_after decl a ds ≡ by_site (site_after decl a ds)
-at_site decl a ds is =
-    ap (λ (b : Bool). fold (actor_does decl) (moved (cond b (Site (new_site a)) (Client (new_client (a - decl.sites)))) quiet) ds) is
-    ∙ sites decl (site_moved (new_site a) quiet) ds
+pub at_site : (decl : Declaration) (a : ℕ) (ds : List Deed) → AreSteady ds → is_site decl a ≡ true → actor_after decl a ds ≡ by_site (site_after decl a ds)
+at_site decl a ds steady is =
+    ap (λ (b : Bool). fold (actor_does decl a) (moved (cond b (Site (new_site a)) (Client (new_client (a - decl.sites)))) quiet) ds) is
+    ∙ sites decl a (site_moved (new_site a) quiet) ds steady
 
-pub at_client : (decl : Declaration) (a : ℕ) (ds : List Deed) → is_site decl a ≡ false → actor_after decl a ds ≡ by_client (client_after decl (a - decl.sites) ds)
-at_client decl a ds is =
-    ap (λ (b : Bool). fold (actor_does decl) (moved (cond b (Site (new_site a)) (Client (new_client (a - decl.sites)))) quiet) ds) is
-    ∙ clients decl (client_moved (new_client (a - decl.sites)) quiet) ds
+pub at_client : (decl : Declaration) (a : ℕ) (ds : List Deed) → AreSteady ds → is_site decl a ≡ false → actor_after decl a ds ≡ by_client (client_after decl (a - decl.sites) ds)
+at_client decl a ds steady is =
+    ap (λ (b : Bool). fold (actor_does decl a) (moved (cond b (Site (new_site a)) (Client (new_client (a - decl.sites)))) quiet) ds) is
+    ∙ clients decl a (client_moved (new_client (a - decl.sites)) quiet) ds steady
 
 -- who is no site is a client
 
@@ -71,14 +73,14 @@ other_client decl a below is = is_there decl.sites (actors decl) a below is
     is_there : (s n k : ℕ) → k < n → nat_lt k s ≡ false → (nat_le s k && nat_lt k n) ≡ true
     is_there s n k below is = grind (arith, nat_tests)
 
-turn_by : (decl : Declaration) (a : ℕ) (ds : List Deed) → a < actors decl → (b : Bool) → is_site decl a ≡ b → turn_after decl a ds ≡ Some (actor_after decl a ds).turn
-turn_by decl a ds below true is =
+turn_by : (decl : Declaration) (a : ℕ) (ds : List Deed) → AreSteady ds → a < actors decl → (b : Bool) → is_site decl a ≡ b → turn_after decl a ds ≡ Some (actor_after decl a ds).turn
+turn_by decl a ds steady below true is =
     ap (λ (b : Bool). cond b (Some (site_after decl a ds).turn) (cond (is_client decl a) (Some (client_after decl (a - decl.sites) ds).turn) None)) is
-    ∙ ap (λ (m : ActorMove). Some m.turn) (sym (at_site decl a ds is))
-turn_by decl a ds below false is =
+    ∙ ap (λ (m : ActorMove). Some m.turn) (sym (at_site decl a ds steady is))
+turn_by decl a ds steady below false is =
     ap (λ (b : Bool). cond b (Some (site_after decl a ds).turn) (cond (is_client decl a) (Some (client_after decl (a - decl.sites) ds).turn) None)) is
     ∙ ap (λ (b : Bool). cond b (Some (client_after decl (a - decl.sites) ds).turn) None) (other_client decl a below is)
-    ∙ ap (λ (m : ActorMove). Some m.turn) (sym (at_client decl a ds is))
+    ∙ ap (λ (m : ActorMove). Some m.turn) (sym (at_client decl a ds steady is))
 
-pub turn : (decl : Declaration) (a : ℕ) (ds : List Deed) → a < actors decl → turn_after decl a ds ≡ Some (actor_after decl a ds).turn
-turn decl a ds below = turn_by decl a ds below (is_site decl a) refl
+pub turn : (decl : Declaration) (a : ℕ) (ds : List Deed) → AreSteady ds → a < actors decl → turn_after decl a ds ≡ Some (actor_after decl a ds).turn
+turn decl a ds steady below = turn_by decl a ds steady below (is_site decl a) refl

@@ -23,6 +23,8 @@ use Rattle.qc_core.specs.Acts.{Acts, MayTake, is_running, runs_at, runs_given, s
 use Rattle.qc_core.specs.Conduct.{IsLawful}
 use Rattle.qc_core.proofs.ClientLands.{lands}
 use Rattle.qc_core.proofs.ClientStands.{Stands, new_stands, runs_told, sends_all}
+use Rattle.qc_core.proofs.Steady.{acts_steady, event_steady}
+use Rattle.qc_core.specs.Lives.{AreSteady}
 
 -- a client over the deeds of a turn
 
@@ -176,16 +178,19 @@ pub actor_sent_at_once : (decl : Declaration) (a : ℕ) (ds : List Deed) (n : �
     → (actor_after decl a ((ds ++ Takes g ∷ []) ++ turn_deeds first (actor_takes decl (actor_after decl a ds).actor g).turn)).actor ≡ actor_sent (actor_takes decl (actor_after decl a ds).actor g).actor first
 actor_sent_at_once decl a ds n g first some most below acts may = by (is_site decl a) refl
   where
+    steady : AreSteady ds
+    steady = acts_steady decl a ds false n acts
+
     by : (b : Bool) → is_site decl a ≡ b → (actor_after decl a ((ds ++ Takes g ∷ []) ++ turn_deeds first (actor_takes decl (actor_after decl a ds).actor g).turn)).actor ≡ actor_sent (actor_takes decl (actor_after decl a ds).actor g).actor first
     by true is =
-        subst (λ (m : ActorMove). (actor_after decl a ((ds ++ Takes g ∷ []) ++ turn_deeds first (actor_takes decl m.actor g).turn)).actor ≡ actor_sent (actor_takes decl m.actor g).actor first) (sym (at_site decl a ds is))
-        (ap (λ (m : ActorMove). m.actor) (at_site decl a ((ds ++ Takes g ∷ []) ++ turn_deeds first (site_takes decl (site_after decl a ds).site g).turn) is)
+        subst (λ (m : ActorMove). (actor_after decl a ((ds ++ Takes g ∷ []) ++ turn_deeds first (actor_takes decl m.actor g).turn)).actor ≡ actor_sent (actor_takes decl m.actor g).actor first) (sym (at_site decl a ds steady is))
+        (ap (λ (m : ActorMove). m.actor) (at_site decl a ((ds ++ Takes g ∷ []) ++ turn_deeds first (site_takes decl (site_after decl a ds).site g).turn) (event_steady ds g first (site_takes decl (site_after decl a ds).site g).turn steady) is)
         ∙ ap (λ (m : SiteMove). (by_site m).actor)
         (fold-append (site_does decl) _ (ds ++ Takes g ∷ []) (turn_deeds first (site_takes decl (site_after decl a ds).site g).turn)
         ∙ site_turn decl (site_after decl a (ds ++ Takes g ∷ [])) first (site_takes decl (site_after decl a ds).site g).turn
         ∙ fold-append (site_does decl) _ ds (Takes g ∷ [])))
     by false is =
-        subst (λ (m : ActorMove). (actor_after decl a ((ds ++ Takes g ∷ []) ++ turn_deeds first (actor_takes decl m.actor g).turn)).actor ≡ actor_sent (actor_takes decl m.actor g).actor first) (sym (at_client decl a ds is))
-        (ap (λ (m : ActorMove). m.actor) (at_client decl a ((ds ++ Takes g ∷ []) ++ turn_deeds first (client_takes decl (client_after decl (a - decl.sites) ds).client g).turn) is)
+        subst (λ (m : ActorMove). (actor_after decl a ((ds ++ Takes g ∷ []) ++ turn_deeds first (actor_takes decl m.actor g).turn)).actor ≡ actor_sent (actor_takes decl m.actor g).actor first) (sym (at_client decl a ds steady is))
+        (ap (λ (m : ActorMove). m.actor) (at_client decl a ((ds ++ Takes g ∷ []) ++ turn_deeds first (client_takes decl (client_after decl (a - decl.sites) ds).client g).turn) (event_steady ds g first (client_takes decl (client_after decl (a - decl.sites) ds).client g).turn steady) is)
         ∙ ap (λ (c : Client). (by_client (record { client = c; turn = quiet })).actor)
         (sent_at_once decl (a - decl.sites) ds g first some most (known decl a ds false n some most is (other_client decl a below is) acts) may))

@@ -9,6 +9,7 @@ pub mod SiteDecisions
 pub mod SiteMoves
 pub mod SiteDues
 pub mod SiteLaws
+pub mod Steady
 pub mod ActorLaws
 pub mod ClientStands
 pub mod ClientLands
@@ -19,3 +20,5 @@ pub mod FrontReaches
 pub mod ClientReaches
 pub mod SiteReaches
 pub mod ActorFits
+pub mod Written
+pub mod LivesLaws

@@ -1,4 +1,5 @@
--- An actor's state: a site's, or a client's. What it becomes and does for each input, and over all its deeds.
+-- An actor's state: a site's, or a client's, or none while it is down. What it becomes and does for each input and as it
+-- rises, and over all its deeds.
 use Rattle.std.specs.Prelude.{ℕ, ◌-◌, ◌<◌, ◌≤◌, if◌then◌else◌, List, fold, length}
 use Rattle.std.specs.List.{AllByRecursion as Every}
 use Rattle.qc_decl.specs.declared.declaration.Declaration.{Declaration}
@@ -10,16 +11,20 @@ use Rattle.qc_client.specs.Client.{ClientMove, new_client}
 use Rattle.qc_client.specs.Conduct as clients
 use Rattle.qc_client.specs.Fits.{ClientFits}
 use Rattle.qc_msg.specs.declared.message.Message.{Message}
+use Rattle.qc_msg.specs.declared.record.Record.{Record}
+use Rattle.qc_msg.specs.declared.reply.Reply.TheVariants as replies
 use Rattle.qc_msg.specs.declared.step.Given.{Given}
 use Rattle.qc_msg.specs.declared.step.Given.TheVariants as given
 use Rattle.qc_msg.specs.declared.turn.Posting.{Posting}
 use Rattle.qc_msg.specs.declared.turn.Turn.{Turn}
 use Rattle.qc_msg.specs.Deeds.{Deed, Takes, Writes, Sends, Tells, Falls, Rises}
-use Rattle.qc_msg.specs.Turns.{quiet}
+use Rattle.qc_msg.specs.Turns.{quiet, telling}
+use Rattle.qc_recover.specs.Clients.{client_rises}
+use Rattle.qc_recover.specs.Sites.{site_rises}
 use Rattle.qc_site.specs.Conduct.{site_on, site_takes}
 use Rattle.qc_site.specs.Site.{SiteMove, new_site}
 use Rattle.qc_core.specs.declared.actor.Actor.{Actor}
-use Rattle.qc_core.specs.declared.actor.Actor.TheVariants.{Site, Client}
+use Rattle.qc_core.specs.declared.actor.Actor.TheVariants.{Site, Client, Down}
 use Rattle.qc_link.specs.Limits.{most_actors}
 
 -- what an actor becomes, and what it does
@@ -40,56 +45,77 @@ by_client move = moved (Client move.client) move.turn
 abbrev pub new_actor : Declaration → ℕ → Actor
 new_actor decl a = if is_site decl a then Site (new_site a) else Client (new_client (a - decl.sites))
 
+-- while it is down it tells so for a command, and nothing else comes to it
+abbrev pub down_takes : Given → Turn
+down_takes (given.Called command) = telling replies.Down
+down_takes (given.Got envelope) = quiet
+down_takes (given.Lost number) = quiet
+
 -- what it takes
 abbrev pub actor_takes : Declaration → Actor → Given → ActorMove
 actor_takes decl (Site s) given = by_site (site_takes decl s given)
 actor_takes decl (Client c) given = by_client (clients.client_takes decl c given)
+actor_takes decl Down given = moved Down (down_takes given)
 
 -- the same of a message of this sender and number
 abbrev pub actor_hears : Declaration → Actor → ℕ → ℕ → Message → ActorMove
 actor_hears decl (Site s) from number message = by_site (site_on decl s from number message)
 actor_hears decl (Client c) from number message = by_client (clients.heard decl c from number message)
+actor_hears decl Down from number message = moved Down quiet
 
--- a message of its own was sent under this number; a site keeps none
+-- what it is by these records, with the one of its rise, and its rising turn
+abbrev pub actor_rises : Declaration → ℕ → List Record → ActorMove
+actor_rises decl a records =
+    if is_site decl a
+    then by_site (site_rises decl a records)
+    else by_client (client_rises (a - decl.sites) records)
+
+-- a message of its own was sent under this number; a site keeps none, nor does an actor that is down
 abbrev pub actor_sends : Actor → ℕ → ℕ → Message → Actor
 actor_sends (Site s) number to message = Site s
 actor_sends (Client c) number to message = Client (clients.sent_one c number to message)
+actor_sends Down number to message = Down
 
 -- the messages of its last turn have the numbers from this one on
 abbrev pub actor_sent : Actor → ℕ → Actor
 actor_sent (Site s) first = Site s
 actor_sent (Client c) first = Client (clients.sent c first)
+actor_sent Down first = Down
 
--- an actor over its deeds
+-- an actor over its deeds. After an input, or a rise, it is what it becomes where the turn's record is written: where it
+-- isn't, a fall follows at once, so that nobody sees it
 
-abbrev pub actor_does : Declaration → ActorMove → Deed → ActorMove
-actor_does decl move (Takes given) = actor_takes decl move.actor given
-actor_does decl move (Writes written) = move
-actor_does decl move (Sends number to message) = record move { actor = actor_sends move.actor number to message }
-actor_does decl move (Tells reply) = move
-actor_does decl move (Falls cause pending) = move
-actor_does decl move (Rises records) = move
+abbrev pub actor_does : Declaration → ℕ → ActorMove → Deed → ActorMove
+actor_does decl a move (Takes given) = actor_takes decl move.actor given
+actor_does decl a move (Writes written) = move
+actor_does decl a move (Sends number to message) = record move { actor = actor_sends move.actor number to message }
+actor_does decl a move (Tells reply) = move
+actor_does decl a move (Falls cause pending) = moved Down quiet
+actor_does decl a move (Rises records) = actor_rises decl a records
 
--- what an actor is after these deeds, and its turn for the last input
+-- what an actor is after these deeds, and its turn for the last input or rise
 abbrev pub actor_after : Declaration → ℕ → List Deed → ActorMove
-actor_after decl a deeds = fold (actor_does decl) (moved (new_actor decl a) quiet) deeds
+actor_after decl a deeds = fold (actor_does decl a) (moved (new_actor decl a) quiet) deeds
 
 -- What holds of an actor, and of what it takes, in every run of fewer steps than the limit, and its calls rely on. A
--- site's calls rely on nothing.
+-- site's calls rely on nothing, nor do those of an actor that is down.
 
 abbrev pub ActorFits : Actor → Type 0
 ActorFits (Site s) = Unit {0}
 ActorFits (Client c) = ClientFits c
+ActorFits Down = Unit {0}
 
 -- the count and the clocks of a client are at most this
 abbrev pub ActorWithin : ℕ → Actor → Type 0
 ActorWithin n (Site s) = Unit {0}
 ActorWithin n (Client c) = (c.front.count ≤ n) × (c.front.clock.value ≤ n) × (c.desk.clock.value ≤ n)
+ActorWithin n Down = Unit {0}
 
 -- the actor has asked few sites, so that it can number what it asked
 abbrev pub AsksFew : Actor → Type 0
 AsksFew (Site s) = Unit {0}
 AsksFew (Client c) = votes.AsksFew c.desk.voting × rounds.AsksFew c.front.doing
+AsksFew Down = Unit {0}
 
 -- a message comes from an actor; actors are numbered below the most actors
 abbrev pub IsFrom : Given → Type 0

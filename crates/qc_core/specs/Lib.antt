@@ -2,3 +2,5 @@ pub mod Conduct
 pub mod Sites
 pub mod Acts
 pub mod Actors
+pub mod Lives
+pub mod Journals

@@ -1,6 +1,6 @@
-//! One actor of a run: a site or a client.
+//! One actor of a run: a site or a client, or none while it is down.
 //!
-//! The administrator will be a third variant, with a line in each definition of
+//! The administrator will be one more variant, with a line in each definition of
 //! `specs/Actors.antt` and an arm in each call.
 
 ghost use Rattle.std.specs.Prelude.{◌≡◌, ◌+◌, ◌<◌, ◌^◌, IfOk, OnErr};
@@ -12,7 +12,7 @@ ghost use Rattle.qc_msg.specs.declared.step.Given.TheVariants as given;
 use qc_client::Client;
 use qc_decl::Declaration;
 use qc_list::OutOfMemory;
-use qc_msg::{Command, Message, Turn};
+use qc_msg::{Command, Message, Reply, Turn};
 use qc_site::Site;
 use std::alloc::Global;
 
@@ -23,6 +23,8 @@ pub enum Actor {
     Site(Site),
     /// A client.
     Client(Client),
+    /// One that fell and hasn't risen: of what it was nothing is left.
+    Down,
 }
 
 impl Actor {
@@ -56,6 +58,7 @@ impl Actor {
         match self {
             Actor::Site(_) => Ok(Turn::quiet(alloc)),
             Actor::Client(client) => client.command(alloc, decl, &command),
+            Actor::Down => Ok(Turn::telling(alloc, Reply::Down)),
         }
     }
 
@@ -79,6 +82,7 @@ impl Actor {
         match self {
             Actor::Site(site) => site.handle(alloc, decl, from, number, message),
             Actor::Client(client) => client.hear(alloc, decl, from, number, message),
+            Actor::Down => Ok(Turn::quiet(alloc)),
         }
     }
 
@@ -98,6 +102,7 @@ impl Actor {
         match self {
             Actor::Site(_) => Ok(Turn::quiet(alloc)),
             Actor::Client(client) => client.lose(alloc, decl, number),
+            Actor::Down => Ok(Turn::quiet(alloc)),
         }
     }
 
@@ -111,6 +116,7 @@ impl Actor {
         match self {
             Actor::Site(_) => {}
             Actor::Client(client) => client.sent(first),
+            Actor::Down => {}
         }
     }
 }

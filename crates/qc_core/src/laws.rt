@@ -7,6 +7,7 @@ ghost use Rattle.qc_core.specs.Actors.{ActorFits, ActorWithin, AsksFew, IsFrom, 
 ghost use Rattle.qc_core.specs.Actors.{actor_after, actor_hears, actor_sent, actor_takes};
 ghost use Rattle.qc_core.specs.Acts.{Acts, MayTake};
 ghost use Rattle.qc_core.specs.Conduct.{turn_after};
+ghost use Rattle.qc_core.specs.Lives.{AreSteady};
 ghost use Rattle.qc_core.specs.Sites.{IsShown, Serves};
 ghost use Rattle.qc_decl.specs.Accepted.{IsAccepted};
 ghost use Rattle.qc_decl.specs.Actors.{actors};
@@ -45,10 +46,11 @@ pub fn actors_are_folds()
         ≡ actor_hears decl actor envelope.from envelope.number envelope.message }
 {}
 
-/// The turn that an actor's deeds call for is the last one of that fold.
+/// The turn that the deeds of an actor that never falls call for is the last one
+/// of that fold.
 #[tactic(auto, using(crate::proofs::ActorLaws::turn))]
 pub fn turns_are_those_of_actors()
-    ensures { (decl : Declaration) (a : ℕ) (ds : List Deed) → a < actors decl
+    ensures { (decl : Declaration) (a : ℕ) (ds : List Deed) → AreSteady ds → a < actors decl
         → turn_after decl a ds ≡ Some (actor_after decl a ds).turn }
 {}
 

@@ -11,13 +11,21 @@
 //! 3. An actor's turn is the one that its deeds call for
 //!    (`turns_are_those_of_actors`), and each call of `Actor` is one step of
 //!    the fold over them (`actors_are_folds`).
+//! 4. After a fall an actor has no state, and after a rise it is what its
+//!    records give (`actors_fall_and_rise`, `who_is_down_has_no_state`); who
+//!    never falls lives as it acts (`who_never_falls_lives_as_it_acts`).
 #![tactic(auto)]
 
 mod actor;
 mod laws;
+mod lives;
 
 pub use actor::Actor;
 pub use laws::{
     actors_are_folds, actors_fit, answers_of_sites_are_due, requests_are_numbered_at_once,
     sites_are_read_off_their_steps, turns_are_short, turns_are_those_of_actors,
+};
+pub use lives::{
+    actors_fall_and_rise, journals_are_those_of_steps, who_is_down_has_no_state,
+    who_is_up_has_no_pending_record, who_never_falls_lives_as_it_acts,
 };

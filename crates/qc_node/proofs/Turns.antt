@@ -9,9 +9,11 @@ use Rattle.qc_core.specs.declared.actor.Actor.{Actor}
 use Rattle.qc_core.specs.Actors.{ActorFits, ActorMove, ActorWithin, AsksFew, IsFrom, IsFromActor, IsShort, actor_after, actor_sent, actor_takes, moved}
 use Rattle.qc_core.specs.Acts.{Acts, MayTake}
 use Rattle.qc_core.specs.Conduct.{IsLawful, turn_after}
+use Rattle.qc_core.specs.Lives.{AreSteady}
 use Rattle.qc_core.proofs.ActorFits.{actor_asks_few, actor_fits, actor_short}
 use Rattle.qc_core.proofs.ActorLaws.{at_client, at_site, input, turn}
 use Rattle.qc_core.proofs.ActorSent.{actor_sent_at_once}
+use Rattle.qc_core.proofs.Steady.{acts_steady, both_steady}
 use Rattle.qc_decl.specs.Accepted.{IsAccepted}
 use Rattle.qc_decl.specs.Actors.{actors, is_site}
 use Rattle.qc_decl.specs.declared.declaration.Declaration.{Declaration}
@@ -42,6 +44,7 @@ use Rattle.qc_fabric.specs.Tells.{HasNone, Posts, Sees, Takes, Waits}
 use Rattle.qc_node.specs.Cells.{IsCell, IsIdle, IsServed, actor_in}
 use Rattle.qc_node.specs.Inputs.{IsReadable}
 use Rattle.qc_link.specs.Limits.{most_actors}
+use Rattle.qc_laws.proofs.Up.{run_up}
 
 in_mail : (ms : List Envelope) (n : ℕ) (e : Envelope) → slice_get ms n ≡ Some e → In e ms
 in_mail [] n e is = absurd (let no : ⊥ = cc in no)
@@ -71,7 +74,7 @@ module _ (decl : Declaration) (script : Script) (accepted : IsAccepted decl) (p 
   sent = what_is_ready_was_sent (IsLawful decl) decl script took.before took.run_before.0 took.run_before.1 (number p) g took.is_ready
 
   may : MayTake (deeds (number p) [] (seen p)) g
-  may = subst (λ (ds : List Deed). MayTake ds g) took.does_before (what_is_ready_may_be_taken decl script (number p) took.before g took.is_ready)
+  may = subst (λ (ds : List Deed). MayTake ds g) took.does_before (what_is_ready_may_be_taken decl script (number p) took.before (run_up (IsLawful decl) decl script took.before took.run_before.0 took.run_before.1 (number p)) g took.is_ready)
 
   turns : ActsIn decl (number p) took.before false
   turns = run_acts decl script took.before took.run_before.0 took.run_before.1 (number p) false took.is_closed
@@ -82,11 +85,14 @@ module _ (decl : Declaration) (script : Script) (accepted : IsAccepted decl) (p 
   events : Events decl took.before
   events = run_events decl script took.before took.run_before.0 took.run_before.1
 
+  steady : AreSteady (deeds (number p) [] took.before)
+  steady = acts_steady decl (number p) (deeds (number p) [] took.before) false turns.above turns.acts
+
   within : (b : Bool) → is_site decl (number p) ≡ b → ActorWithin (length took.before) (actor_after decl (number p) (deeds (number p) [] took.before)).actor
-  within true is = subst (λ (m : ActorMove). ActorWithin (length took.before) m.actor) (sym (at_site decl (number p) (deeds (number p) [] took.before) is)) tt
+  within true is = subst (λ (m : ActorMove). ActorWithin (length took.before) m.actor) (sym (at_site decl (number p) (deeds (number p) [] took.before) steady is)) tt
   within false is =
       let bounds : ClockBounds (length took.before) _ = client_bounds decl took.before (number p) events in
-      subst (λ (m : ActorMove). ActorWithin (length took.before) m.actor) (sym (at_client decl (number p) (deeds (number p) [] took.before) is)) (bounds.count, bounds.front, bounds.desk)
+      subst (λ (m : ActorMove). ActorWithin (length took.before) m.actor) (sym (at_client decl (number p) (deeds (number p) [] took.before) steady is)) (bounds.count, bounds.front, bounds.desk)
 
   pub fits : ActorFits (actor_in decl (number p) (seen p))
   fits =
@@ -122,7 +128,10 @@ module _ (decl : Declaration) (script : Script) (accepted : IsAccepted decl) (p 
   few_asked = actor_asks_few decl (number p) (deeds (number p) [] (seen p)) turns.above g accepted below acts may
 
   input_turn : turn_after decl (number p) (deeds (number p) [] (seen p) ++ TakesInput g ∷ []) ≡ Some move.turn
-  input_turn = turn decl (number p) (deeds (number p) [] (seen p) ++ TakesInput g ∷ []) below ∙ ap (λ (m : ActorMove). Some m.turn) (input decl (number p) (deeds (number p) [] (seen p)) g)
+  input_turn =
+      turn decl (number p) (deeds (number p) [] (seen p) ++ TakesInput g ∷ [])
+      (both_steady (deeds (number p) [] (seen p)) (TakesInput g ∷ []) (acts_steady decl (number p) (deeds (number p) [] (seen p)) false turns.above acts) (tt, tt)) below
+      ∙ ap (λ (m : ActorMove). Some m.turn) (input decl (number p) (deeds (number p) [] (seen p)) g)
 
   -- it acted, and made room
 

@@ -47,6 +47,7 @@ use Rattle.qc_seen.proofs.Founded.{AreFounded, founded-first}
 use Rattle.qc_seen.proofs.Seeing.{Sees, wrote_at}
 use Rattle.qc_seen.proofs.Sights.{answer_sees, called_sees, lost_sees, sent_sees, wrote_sees}
 use Rattle.qc_seen.proofs.Tellings.{told_sees}
+use Rattle.qc_laws.proofs.Up.{acts_up}
 
 -- a turn
 
@@ -163,7 +164,7 @@ module _ (decl : Declaration) (a : ℕ) (client : is_client decl a ≡ true) (co
     take : (g : Given) → MayTake ds g → AreFounded commits (ds ++ Takes g ∷ []) → Sees commits tx (account_taken (account_of ds) g) (sight_taken tx (fold (sight tx) no_sight ds) g) (fold wrote_at [] ds) (fold (status_at tx) statuses.Unborn ds)
     take (given.Called command) may f =
         called_sees commits tx (account_of ds) (fold (sight tx) no_sight ds) (fold wrote_at [] ds) (fold (status_at tx) statuses.Unborn ds) w command
-        (free_of (may_give decl (a - decl.sites) ds (given.Called command) may)) (unwritten_of decl (account_of ds) (client_after decl (a - decl.sites) ds).client tied)
+        (free_of (may_give decl (a - decl.sites) ds (acts_up decl a ds false n acts) (given.Called command) may)) (unwritten_of decl (account_of ds) (client_after decl (a - decl.sites) ds).client tied)
     take (given.Got e) may f = by e.message refl
       where
         by : (m : Message) → e.message ≡ m

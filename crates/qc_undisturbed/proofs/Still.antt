@@ -52,6 +52,7 @@ use Rattle.qc_undisturbed.specs.Undisturbed.{AsksOne, IsUndisturbed}
 use Rattle.qc_undisturbed.proofs.Names.{stays_named, taken_named, untold_stays}
 use Rattle.qc_undisturbed.proofs.PartsOf.{phase_parts, posted_parts, taken_parts}
 use Rattle.qc_undisturbed.proofs.Passing.{run_arrives}
+use Rattle.qc_laws.proofs.Up.{run_up}
 
 -- commands of phases
 
@@ -214,7 +215,7 @@ module _ (decl : Declaration) (script : Script) (accepted : IsAccepted decl) (as
         ∙ nothing_ready decl script accepted asks h closed rests done c low in
         let left : (inbox script c h).commands ≡ [] =
         no_commands (takes_commands decl c) (inbox script c h).busy (inbox script c h).commands (ap (λ (t : Bool). t || (c == administrator decl)) named)
-        (busy_is_running script c h ∙ none_runs decl script accepted asks h closed rests done c named) idle in
+        (busy_is_running script c h (run_up (IsLawful decl) decl script h before run c) ∙ none_runs decl script accepted asks h closed rests done c named) idle in
         sym (append-nil (calls_of c h)) ∙ ap (λ (v : List Command). calls_of c h ++ v) (sym left) ∙ run_asked decl script c h before run
 
     now : List Entry
