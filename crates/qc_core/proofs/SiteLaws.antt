@@ -11,9 +11,9 @@ use Rattle.qc_msg.specs.declared.turn.Posting.{Posting}
 use Rattle.qc_msg.specs.declared.turn.Turn.{Turn}
 use Rattle.qc_msg.specs.Deeds.{Deed, Takes, Writes, Sends, Tells, Falls, Rises, turn_deeds, writes_of}
 use Rattle.qc_msg.specs.Turns.{quiet}
-use Rattle.qc_promise.specs.Posts.{Act, IsPostOf, fallen_in, posted_due}
+use Rattle.qc_promise.specs.Posts.{IsPostOf}
 use Rattle.qc_promise.specs.SiteDue.{AreDue, IsDueAt, rising_turn, turn_due}
-use Rattle.qc_promise.proofs.Posts.{posted-more}
+use Rattle.qc_promise.proofs.Posts.{post_more}
 use Rattle.qc_site.specs.Conduct.{site_after, site_does, site_takes}
 use Rattle.qc_site.specs.Site.{SiteMove, SiteState, moved, new_site}
 use Rattle.qc_core.specs.Sites.{IsShown, Serves, serves, starts}
@@ -69,12 +69,12 @@ module _ (decl : Declaration) (site : ℕ) where
   AreServed before (d ∷ after) = IsServed before d after × AreServed (before ++ d ∷ []) after
 
   served_more : (before : List Deed) (d : Deed) (xs : List Deed) (g : Given) (ps : List Deed) → IsServed before d xs → IsServed before d (xs ++ Takes g ∷ ps)
-  served_more before (Takes given) xs g ps is = subst (λ (acts : List Act). acts ≡ posted_due (turn_due decl (before ++ Takes given ∷ []) given) (fallen_in acts)) (sym (posted-more (Takes g ∷ ps) refl xs)) is
+  served_more before (Takes given) xs g ps is = post_more (turn_due decl (before ++ Takes given ∷ []) given) xs (Takes g ∷ ps) refl is
   served_more before (Writes w) xs g ps is = tt
   served_more before (Sends n to m) xs g ps is = tt
   served_more before (Tells r) xs g ps is = tt
   served_more before (Falls cause pending) xs g ps is = tt
-  served_more before (Rises records) xs g ps is = subst (λ (acts : List Act). acts ≡ posted_due (rising_turn decl (before ++ Rises records ∷ [])) (fallen_in acts)) (sym (posted-more (Takes g ∷ ps) refl xs)) is
+  served_more before (Rises records) xs g ps is = post_more (rising_turn decl (before ++ Rises records ∷ [])) xs (Takes g ∷ ps) refl is
 
   all_more : (before xs : List Deed) (g : Given) (ps : List Deed) → AreServed before xs → AreServed (before ++ xs) (Takes g ∷ ps) → AreServed before (xs ++ Takes g ∷ ps)
   all_more before [] g ps old new = subst (λ (v : List Deed). AreServed v (Takes g ∷ ps)) (append-nil before) new
@@ -101,7 +101,7 @@ module _ (decl : Declaration) (site : ℕ) where
       let old : (site_after decl site before).site ≡ shown site before = is_shown before served in
       all_more [] before g (turn_deeds n (site_after decl site (before ++ Takes g ∷ [])).turn) (are_served before served) (
         subst (λ (move : SiteMove). IsPostOf (turn_due decl (before ++ Takes g ∷ []) g) (turn_deeds n move.turn)) (sym (after_take before g old))
-        (written_post n (site_takes decl (shown site before) g).turn (turn_due decl (before ++ Takes g ∷ []) g) (turns_are_due decl site before g)),
+            (written_post n (site_takes decl (shown site before) g).turn (turn_due decl (before ++ Takes g ∷ []) g) (turns_are_due decl site before g)),
         turn_served (before ++ Takes g ∷ []) n (site_after decl site (before ++ Takes g ∷ [])).turn,
       )
 

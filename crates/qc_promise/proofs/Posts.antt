@@ -1,10 +1,10 @@
 -- The post of an input or of a rise ends where the next input is taken, at a line's fall, and at a rise.
-use Rattle.std.proofs.Common.{◌≡◌, ℕ, ◌+◌, List, [], ◌∷◌, ◌++◌, None, refl, ap}
+use Rattle.std.proofs.Common.{◌≡◌, ℕ, ◌+◌, List, [], ◌∷◌, ◌++◌, None, refl, sym, ap, subst}
 use Rattle.std.specs.Prelude.{map}
 use Rattle.std.specs.List.{filter_map}
 use Rattle.qc_msg.specs.declared.turn.Posting.{Posting}
 use Rattle.qc_msg.specs.Deeds.{Deed, Takes, Writes, Sends, Tells, Falls, Rises, sends_of}
-use Rattle.qc_promise.specs.Posts.{Act, Sent, Told, Wrote, fallen_in, posted_next, sent_by}
+use Rattle.qc_promise.specs.Posts.{Act, IsPostOf, TurnDue, posted_due, Sent, Told, Wrote, fallen_in, posted_next, sent_by}
 
 -- what comes after the post doesn't change it
 pub posted-more : (ys : List Deed) → posted_next ys ≡ [] → (xs : List Deed) → posted_next (xs ++ ys) ≡ posted_next xs
@@ -15,6 +15,14 @@ posted-more ys ends (Sends n to m ∷ xs) = ap (λ (v : List Act). Sent (record 
 posted-more ys ends (Tells r ∷ xs) = ap (λ (v : List Act). Told r ∷ v) (posted-more ys ends xs)
 posted-more ys ends (Falls cause pending ∷ xs) = refl
 posted-more ys ends (Rises records ∷ xs) = refl
+
+-- so whatever comes there, the post stays one of the turn's
+
+pub post_more : (t : TurnDue) (xs ys : List Deed) → posted_next ys ≡ [] → IsPostOf t xs → IsPostOf t (xs ++ ys)
+post_more t xs ys ends is = subst (λ (acts : List Act). acts ≡ posted_due t (fallen_in acts)) (sym (posted-more ys ends xs)) is
+
+pub post_less : (t : TurnDue) (xs ys : List Deed) → posted_next ys ≡ [] → IsPostOf t (xs ++ ys) → IsPostOf t xs
+post_less t xs ys ends is = subst (λ (acts : List Act). acts ≡ posted_due t (fallen_in acts)) (posted-more ys ends xs) is
 
 -- messages, and then what comes after them
 

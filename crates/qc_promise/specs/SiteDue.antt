@@ -160,7 +160,7 @@ abbrev pub request_turn : Declaration → List Deed → Envelope → Requested �
 request_turn decl ds e q =
     if is_declared decl q.tx q.want
     then option_map_or (λ (a : Answer). sending (answers_due decl e.from e.number a))
-        (refusal_due decl ds q.tx q.epoch q.life q.want) (granting_turn decl ds e q)
+    (refusal_due decl ds q.tx q.epoch q.life q.want) (granting_turn decl ds e q)
     else quiet_turn
 
 -- that of a Decision: that a promised transaction committed is written. Nothing else has one
