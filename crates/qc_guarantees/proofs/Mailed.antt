@@ -49,8 +49,10 @@ step_sent a ms (steps.Sent k receiver message) n to m (inl same) = one_sent a n 
 step_sent a ms (steps.Sent k receiver message) n to m (inr never) = absurd never
 step_sent a ms (steps.Told reply) n to m (inl same) = absurd (let never : ⊥ = cc in never)
 step_sent a ms (steps.Told reply) n to m (inr never) = absurd never
-step_sent a ms (steps.Fell cause pending) n to m among = absurd among
-step_sent a ms (steps.Rose records) n to m among = absurd among
+step_sent a ms (steps.Fell cause pending) n to m (inl same) = absurd (let never : ⊥ = cc in never)
+step_sent a ms (steps.Fell cause pending) n to m (inr never) = absurd never
+step_sent a ms (steps.Rose records) n to m (inl same) = absurd (let never : ⊥ = cc in never)
+step_sent a ms (steps.Rose records) n to m (inr never) = absurd never
 step_sent a ms (steps.Damaged offset) n to m among = absurd among
 
 cons_first : (o : Option Envelope) (e : Envelope) (xs : List Envelope) → o ≡ Some e → In e (cons_option o xs)
@@ -143,8 +145,10 @@ step_taken ms (steps.Sent k receiver message) e (inl same) = absurd (let never :
 step_taken ms (steps.Sent k receiver message) e (inr never) = absurd never
 step_taken ms (steps.Told reply) e (inl same) = absurd (let never : ⊥ = cc in never)
 step_taken ms (steps.Told reply) e (inr never) = absurd never
-step_taken ms (steps.Fell cause pending) e among = absurd among
-step_taken ms (steps.Rose records) e among = absurd among
+step_taken ms (steps.Fell cause pending) e (inl same) = absurd (let never : ⊥ = cc in never)
+step_taken ms (steps.Fell cause pending) e (inr never) = absurd never
+step_taken ms (steps.Rose records) e (inl same) = absurd (let never : ⊥ = cc in never)
+step_taken ms (steps.Rose records) e (inr never) = absurd never
 step_taken ms (steps.Damaged offset) e among = absurd among
 
 more_mail : (ms : List Envelope) (o : Option Envelope) (xs : List Envelope) → (ms ++ option_to_list o) ++ xs ≡ ms ++ cons_option o xs

@@ -57,8 +57,8 @@ deed_from ms (steps.Lost number) from = (tt, tt)
 deed_from ms (steps.Wrote written) from = (tt, tt)
 deed_from ms (steps.Sent number to message) from = (tt, tt)
 deed_from ms (steps.Told reply) from = (tt, tt)
-deed_from ms (steps.Fell cause pending) from = tt
-deed_from ms (steps.Rose records) from = tt
+deed_from ms (steps.Fell cause pending) from = (tt, tt)
+deed_from ms (steps.Rose records) from = (tt, tt)
 deed_from ms (steps.Damaged offset) from = tt
 
 first_from : (xs ys : List Envelope) → AreFrom most_actors (xs ++ ys) → AreFrom most_actors xs

@@ -53,8 +53,8 @@ step_took ms (steps.Lost n) e among = absurd (other_deed e (Takes (given.Lost n)
 step_took ms (steps.Wrote written) e among = absurd (other_deed e (Writes written) refl among)
 step_took ms (steps.Sent n to message) e among = absurd (other_deed e (Sends n to message) refl among)
 step_took ms (steps.Told reply) e among = absurd (other_deed e (Tells reply) refl among)
-step_took ms (steps.Fell cause pending) e among = absurd among
-step_took ms (steps.Rose records) e among = absurd among
+step_took ms (steps.Fell cause pending) e among = absurd (other_deed e (Falls cause pending) refl among)
+step_took ms (steps.Rose records) e among = absurd (other_deed e (Rises records) refl among)
 step_took ms (steps.Damaged offset) e among = absurd among
 
 pub took_sent : (a : ℕ) (ms : List Envelope) (h : List Entry) (e : Envelope) → In (Takes (given.Got e)) (deeds a ms h) → In e (ms ++ mail h)
@@ -101,8 +101,8 @@ step_sent a ms (steps.Wrote written) n to m among = absurd (not_sent a n to m (W
 step_sent a ms (steps.Sent k other message) n to m (inl same) = inl (let is : Some (record { number = n; from = a; to = to; message = m }) ≡ Some (record { number = k; from = a; to = other; message = message }) = ap (posted_by a) same in cc)
 step_sent a ms (steps.Sent k other message) n to m (inr never) = absurd never
 step_sent a ms (steps.Told reply) n to m among = absurd (not_sent a n to m (Tells reply) refl among)
-step_sent a ms (steps.Fell cause pending) n to m among = absurd among
-step_sent a ms (steps.Rose records) n to m among = absurd among
+step_sent a ms (steps.Fell cause pending) n to m among = absurd (not_sent a n to m (Falls cause pending) refl among)
+step_sent a ms (steps.Rose records) n to m among = absurd (not_sent a n to m (Rises records) refl among)
 step_sent a ms (steps.Damaged offset) n to m among = absurd among
 
 pub sent_mailed : (a : ℕ) (ms : List Envelope) (h : List Entry) (n to : ℕ) (m : Message) → In (Sends n to m) (deeds a ms h) → In (record { number = n; from = a; to = to; message = m }) (mail h)

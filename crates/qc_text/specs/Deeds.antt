@@ -2,10 +2,10 @@
 use Rattle.std.specs.Prelude.{ℕ, ◌==◌, cond, List, []}
 use Rattle.qc_msg.specs.declared.message.Envelope.{Envelope}
 use Rattle.qc_msg.specs.declared.step.Given.TheVariants as given
-use Rattle.qc_msg.specs.Deeds.{Deed, Takes, Writes, Sends, Tells, deed_at}
+use Rattle.qc_msg.specs.Deeds.{Deed, Takes, Writes, Sends, Tells, Falls, Rises, deed_at}
 use Rattle.qc_msg.specs.Steps.{Entry}
 use Rattle.qc_text.specs.declared.deeds.Deed.{Deed as Found}
-use Rattle.qc_text.specs.declared.deeds.Deed.TheVariants.{Called, Got, Lost, Wrote, Sent, Told}
+use Rattle.qc_text.specs.declared.deeds.Deed.TheVariants.{Called, Got, Lost, Wrote, Sent, Told, Fell, Rose}
 use Rattle.qc_text.specs.declared.deeds.Letter.{Letter}
 
 abbrev pub envelope_in : Letter → Envelope
@@ -18,6 +18,8 @@ deed_of (Lost number) = Takes (given.Lost number)
 deed_of (Wrote written) = Writes written.now
 deed_of (Sent number to message) = Sends number to message.now
 deed_of (Told reply) = Tells reply
+deed_of (Fell cause pending) = Falls cause pending.now
+deed_of (Rose records) = Rises records.now
 
 -- what an entry's step does, where it is one of this actor
 abbrev pub deeds_at : ℕ → List Envelope → Entry → List Deed

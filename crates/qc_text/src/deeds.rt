@@ -7,7 +7,7 @@ ghost use Rattle.qc_msg.specs.Deeds.{deed_at, deeds, envelope_of};
 ghost use Rattle.qc_text.specs.Deeds.{deed_of, deeds_at, envelope_in};
 
 use qc_list::OutOfMemory;
-use qc_msg::{Command, Entry, Message, Record, Reply, Step};
+use qc_msg::{Command, Entry, Fall, Message, Record, Records, Reply, Step};
 use std::alloc::Global;
 
 /// A message that was sent, as it lies in the history.
@@ -19,7 +19,7 @@ pub(crate) struct Letter<'a> {
     pub(crate) message: &'a Message,
 }
 
-/// What an actor does in a step, with the message or the record as it lies in
+/// What an actor does in a step, with the message or the records as they lie in
 /// the history.
 #[derive(Clone, Copy)]
 pub(crate) enum Deed<'a> {
@@ -39,6 +39,13 @@ pub(crate) enum Deed<'a> {
     },
     /// It tells a reply.
     Told(Reply),
+    /// It falls, with the record that was being written.
+    Fell {
+        cause: Fall,
+        pending: &'a Option<Record>,
+    },
+    /// It rises with what its journal gave.
+    Rose(&'a Records),
 }
 
 /// The deeds of the actor with this number, in order.
@@ -97,12 +104,15 @@ fn deed_at<'a>(sent: &[Letter<'a>], step: &'a Step) -> Option<Deed<'a>>
             message,
         }),
         Step::Told(reply) => Some(Deed::Told(*reply)),
+        Step::Fell { cause, pending } => Some(Deed::Fell {
+            cause: *cause,
+            pending,
+        }),
+        Step::Rose(records) => Some(Deed::Rose(records)),
         Step::Phase(_)
         | Step::Cut(_, _)
         | Step::Heal(_, _)
         | Step::Armed { .. }
-        | Step::Fell { .. }
-        | Step::Rose(_)
         | Step::Damaged(_) => None,
     }
 }

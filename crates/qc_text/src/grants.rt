@@ -36,7 +36,8 @@ fn takes(deed: &Deed<'_>) -> bool
 {
     match deed {
         Deed::Called(_) | Deed::Got(_) | Deed::Lost(_) => true,
-        Deed::Wrote(_) | Deed::Sent { .. } | Deed::Told(_) => false,
+        Deed::Wrote(_) | Deed::Sent { .. } | Deed::Told(_) | Deed::Fell { .. } | Deed::Rose(_) =>
+            false,
     }
 }
 
@@ -74,7 +75,13 @@ fn take_deed(holders: &mut Holders, deed: &Deed<'_>, after: &[Deed<'_>]) -> Resu
 {
     match deed {
         Deed::Got(letter) => take_message(holders, letter, after)?,
-        Deed::Called(_) | Deed::Lost(_) | Deed::Wrote(_) | Deed::Sent { .. } | Deed::Told(_) => {}
+        Deed::Called(_)
+        | Deed::Lost(_)
+        | Deed::Wrote(_)
+        | Deed::Sent { .. }
+        | Deed::Told(_)
+        | Deed::Fell { .. }
+        | Deed::Rose(_) => {}
     }
     Ok(())
 }

@@ -47,7 +47,12 @@ fn join(
     match deed {
         Deed::Got(letter) => join_view(log, letter, after),
         Deed::Wrote(written) => join_written(alloc, log, prepares, written),
-        Deed::Called(_) | Deed::Lost(_) | Deed::Sent { .. } | Deed::Told(_) => Ok(()),
+        Deed::Called(_)
+        | Deed::Lost(_)
+        | Deed::Sent { .. }
+        | Deed::Told(_)
+        | Deed::Fell { .. }
+        | Deed::Rose(_) => Ok(()),
     }
 }
 

@@ -35,6 +35,7 @@ use Rattle.qc_undisturbed.specs.Arrives.{sent_to}
 use Rattle.qc_guarantees.proofs.Accounts.{IsTakenNow, after_taken, told_requests}
 use Rattle.qc_guarantees.proofs.Grounds.{asked_current}
 use Rattle.qc_undisturbed.proofs.Names.{sends_stay, stays_named, writes_stay}
+use Rattle.qc_laws.proofs.Up.{AreUp}
 
 -- a request after an input was there before it
 
@@ -133,17 +134,17 @@ busy_sent decl d running n to (messages.Ask tx) b = b
 busy_sent decl d running n to (messages.Close epoch) b = b
 busy_sent decl d running n to (messages.Install epoch clock log) b = b
 
-busy_from : (decl : Declaration) (d : Account) (running : Bool) (ds : List Deed) → IsBusy d running → IsBusy (fold (account_at decl) d ds) (fold runs_at running ds)
-busy_from decl d running [] b = b
-busy_from decl d running (Takes g ∷ ds) b = busy_from decl (account_taken d g) (runs_at running (Takes g)) ds (busy_taken d running g b)
-busy_from decl d running (Writes w ∷ ds) b = busy_from decl (account_written d w) running ds (busy_written d running w b)
-busy_from decl d running (Sends n to m ∷ ds) b = busy_from decl (account_sent decl d n to m) running ds (busy_sent decl d running n to m b)
-busy_from decl d running (Tells r ∷ ds) b = busy_from decl (account_at decl d (Tells r)) false ds (record { command = refl; requests = λ q never. absurd never })
-busy_from decl d running (Falls cause pending ∷ ds) b = busy_from decl (account_at decl d (Falls cause pending)) false ds (record { command = refl; requests = λ q never. absurd never })
-busy_from decl d running (Rises records ∷ ds) b = busy_from decl (account_at decl d (Rises records)) false ds (record { command = refl; requests = λ q never. absurd never })
+busy_from : (decl : Declaration) (d : Account) (running : Bool) (ds : List Deed) → AreUp ds → IsBusy d running → IsBusy (fold (account_at decl) d ds) (fold runs_at running ds)
+busy_from decl d running [] up b = b
+busy_from decl d running (Takes g ∷ ds) up b = busy_from decl (account_taken d g) (runs_at running (Takes g)) ds up.1 (busy_taken d running g b)
+busy_from decl d running (Writes w ∷ ds) up b = busy_from decl (account_written d w) running ds up.1 (busy_written d running w b)
+busy_from decl d running (Sends n to m ∷ ds) up b = busy_from decl (account_sent decl d n to m) running ds up.1 (busy_sent decl d running n to m b)
+busy_from decl d running (Tells r ∷ ds) up b = busy_from decl (account_at decl d (Tells r)) false ds up.1 (record { command = refl; requests = λ q never. absurd never })
+busy_from decl d running (Falls cause pending ∷ ds) up b = absurd up.0
+busy_from decl d running (Rises records ∷ ds) up b = absurd up.0
 
-pub is_busy : (decl : Declaration) (client : ℕ) (ds : List Deed) → IsBusy (fold (account_at decl) (new_account client) ds) (is_running ds)
-is_busy decl client ds = busy_from decl (new_account client) false ds (record { command = refl; requests = λ q never. absurd never })
+pub is_busy : (decl : Declaration) (client : ℕ) (ds : List Deed) → AreUp ds → IsBusy (fold (account_at decl) (new_account client) ds) (is_running ds)
+is_busy decl client ds up = busy_from decl (new_account client) false ds up (record { command = refl; requests = λ q never. absurd never })
 
 -- a turn that tells something leaves no request
 

@@ -52,6 +52,7 @@ use Rattle.qc_undisturbed.proofs.OwnWords.{client_is, open_begun}
 use Rattle.qc_undisturbed.proofs.PartsOf.{posted_parts}
 use Rattle.qc_undisturbed.proofs.Still.{one_still}
 use Rattle.qc_undisturbed.specs.Acting.{IsStill}
+use Rattle.qc_laws.proofs.Up.{run_up}
 
 pub record IsElsewhere (decl : Declaration) (a : ℕ) (h : List Entry) (x : TxId) : Type 0 where
   pub elsewhere : client_actor decl x.client ≡ a → ⊥
@@ -134,7 +135,7 @@ module _ (decl : Declaration) (script : Script) (accepted : IsAccepted decl) (as
       begun_on q among x was = split (client_actor decl x.client == b) refl
         where
           runs : is_running (deeds a [] older) ≡ true
-          runs = (is_busy decl (a - decl.sites) (deeds a [] older)).requests q among
+          runs = (is_busy decl (a - decl.sites) (deeds a [] older) (run_up (IsLawful decl) decl script older before run a)).requests q among
 
           low : b < actors decl
           low = has_place (IsLawful decl) decl script older before run b true is_opened

@@ -121,8 +121,8 @@ lost_from decl d (Takes (given.Lost n) ∷ ds) all none = absurd all.0
 lost_from decl d (Writes w ∷ ds) all none = lost_from decl (account_written d w) ds all.1 (written_lost d w none)
 lost_from decl d (Sends n to m ∷ ds) all none = lost_from decl (account_sent decl d n to m) ds all.1 (sent_lost decl d n to m none)
 lost_from decl d (Tells r ∷ ds) all none = lost_from decl (account_at decl d (Tells r)) ds all.1 (λ q never is. never)
-lost_from decl d (Falls cause pending ∷ ds) all none = lost_from decl (account_at decl d (Falls cause pending)) ds all.1 (λ q never is. never)
-lost_from decl d (Rises records ∷ ds) all none = lost_from decl (account_at decl d (Rises records)) ds all.1 (λ q never is. never)
+lost_from decl d (Falls cause pending ∷ ds) all none = lost_from decl d ds all.1 none
+lost_from decl d (Rises records ∷ ds) all none = lost_from decl d ds all.1 none
 
 post_lost : (ds : List Deed) → Every IsPost ds → Every IsNoLoss ds
 post_lost [] all = tt

@@ -39,6 +39,7 @@ use Rattle.qc_undisturbed.proofs.PartsOf.{posted_parts}
 use Rattle.qc_undisturbed.proofs.Still.{one_still}
 use Rattle.qc_undisturbed.specs.Acting.{IsStill}
 use Rattle.qc_undisturbed.proofs.GoodRows.{GoodReply, row_good}
+use Rattle.qc_laws.proofs.Up.{run_up}
 
 module _ (decl : Declaration) (script : Script) (accepted : IsAccepted decl) (asks : AsksDeclared decl script) (calm : IsUndisturbed script) where
   -- what is open elsewhere as the turn is posted
@@ -138,7 +139,7 @@ module _ (decl : Declaration) (script : Script) (accepted : IsAccepted decl) (as
       at (Some t) current (Some (commands.Do object inv)) command = λ live room.
           let row : do_row decl (account decl b older) t object inv ≡ Some r =
           (λ i. option_and_then (row_of decl (account decl b older) [] (sym current i)) (sym command i)) ∙ due_now in
-          let busy : IsBusy (account decl b older) (is_running (deeds b [] older)) = is_busy decl (b - decl.sites) (deeds b [] older) in
+          let busy : IsBusy (account decl b older) (is_running (deeds b [] older)) = is_busy decl (b - decl.sites) (deeds b [] older) (run_up (IsLawful decl) decl script older before run b) in
           done older before run b named turn (sym busy.command ∙ ap (λ (c : Option Command). is_some c) command) r (row_good decl script accepted asks calm older before run b named is_opened t current object inv r live room row)
       at (Some t) current (Some commands.Commit) command = tt
       at (Some t) current (Some commands.Abort) command = tt

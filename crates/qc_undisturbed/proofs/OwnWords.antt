@@ -128,8 +128,8 @@ module _ (s : ℕ) (x : TxId) (c : ℕ) where
   step_same b ms (steps.Wrote written) before own = nothing_done before (b == c) _ refl
   step_same b ms (steps.Sent n to message) before own = sent_same b n to message before own.0
   step_same b ms (steps.Told reply) before own = nothing_done before (b == c) _ refl
-  step_same b ms (steps.Fell cause pending) before own = no_deed before (b == c)
-  step_same b ms (steps.Rose records) before own = no_deed before (b == c)
+  step_same b ms (steps.Fell cause pending) before own = nothing_done before (b == c) _ refl
+  step_same b ms (steps.Rose records) before own = nothing_done before (b == c) _ refl
   step_same b ms (steps.Damaged offset) before own = no_deed before (b == c)
 
   first_own : (o : Option Envelope) (es : List Envelope) → Every (IsOwn c x) (cons_option o es) → Every (IsOwn c x) (option_to_list o)

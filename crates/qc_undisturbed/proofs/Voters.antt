@@ -247,8 +247,8 @@ module _ (decl : Declaration) where
   order_from half is_half d (Writes w ∷ ds) due old = order_from half is_half (account_written d w) ds due.1 (written_order decl half d w old)
   order_from half is_half d (Sends n to m ∷ ds) due old = order_from half is_half (account_sent decl d n to m) ds due.1 (sent_order half is_half d n to m due.0 old)
   order_from half is_half d (Tells r ∷ ds) due old = order_from half is_half (account_at decl d (Tells r)) ds due.1 (λ e is. refl)
-  order_from half is_half d (Falls cause pending ∷ ds) due old = order_from half is_half (account_at decl d (Falls cause pending)) ds due.1 (λ e is. refl)
-  order_from half is_half d (Rises records ∷ ds) due old = order_from half is_half (account_at decl d (Rises records)) ds due.1 (λ e is. refl)
+  order_from half is_half d (Falls cause pending ∷ ds) due old = order_from half is_half d ds due.1 old
+  order_from half is_half d (Rises records ∷ ds) due old = order_from half is_half d ds due.1 old
 
   pub in_order : (half : Want → Bool) → IsHalf half → (client : ℕ) (ds : List Deed) → AreDeedsDue decl (new_account client) ds → IsInOrder decl half (fold (account_at decl) (new_account client) ds)
   in_order half is_half client ds due = order_from half is_half (new_account client) ds due (λ e is. refl)
