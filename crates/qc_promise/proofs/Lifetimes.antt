@@ -33,6 +33,10 @@ lives l (d ∷ ds) none =
 pub lives_on : (ds xs : List Deed) → AreNoRises xs → lifetime (ds ++ xs) ≡ lived (lifetime ds) xs
 lives_on ds xs none = fold-append with_deed (begun_with []) ds xs ∙ lives (lifetime ds) xs none
 
+-- who never rose is in his first life
+pub first_life : (ds : List Deed) → AreNoRises ds → lifetime ds ≡ record { kept = []; since = ds }
+first_life ds none = lives (begun_with []) ds none
+
 pub life_begins : (ds : List Deed) (rs : List Record) → lifetime (ds ++ Rises rs ∷ []) ≡ begun_with rs
 life_begins ds rs = fold-append with_deed (begun_with []) ds (Rises rs ∷ [])
 
