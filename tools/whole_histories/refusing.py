@@ -15,7 +15,7 @@ IMPORTS = (
     ("Rattle.tests_histories.specs.Words", ("operation", "stamp", "tx")),
     ("Rattle.tests_due.proofs.Places", ("client_named", "clock_told", "count_written", "due_at", "number_begun")),
     ("Rattle.tests_due.proofs.SitePlaces",
-     ("clock_granted", "count_records", "first_answer", "holder_told", "lines_granted", "own_promised", "site_due_at")),
+     ("clock_granted", "count_records", "count_sends", "first_answer", "holder_told", "lines_granted", "own_promised", "site_due_at")),
 )
 NEVER = "let never : ⊥ = cc in never"
 # by what two replies, or two records, are told apart where their constructors are the same
@@ -55,10 +55,9 @@ def last_post(said, name, history, site, part, due, posted):
     own = [x for actor, x in history if actor == site]
     place = max(k for k, x in enumerate(own[:-1]) if kind(x) in ("Got", "Lost"))
     what = "Option Answer" if part == "first_answer" else "ℕ"
-    field = "records" if part in ("count_records", "own_promised") else "sends"
     deeds = "(deeds %d [] %s)" % (site, said)
     return (
         "\n%s_differs : ◌≡◌ {A = %s} %s %s → ⊥\n%s_differs e = %s\n"
         "\npub %s_refused : AreDue three [] %s → ⊥\n"
-        "%s_refused all = %s_differs (ap %s (site_due_at %d three [] %s all).%s)\n"
-        % (name, what, posted, due, name, NEVER, name, deeds, name, name, part, place, deeds, field))
+        "%s_refused all = %s_differs (ap %s (site_due_at %d three [] %s all))\n"
+        % (name, what, posted, due, name, NEVER, name, deeds, name, name, part, place, deeds))

@@ -12,7 +12,7 @@ TWO_WRITERS = "phase|c0 begin|c0 do x W0|phase|c2 begin|c2 do x W1|phase|c1 begi
 # what is compared of a post: the answer, the count of messages, the holder of a clash, the lines or the clock of a
 # grant, the count of records, the own lines of a promise
 ANSWER, MESSAGES, HOLDER, LINES, CLOCK, RECORDS, OWN = (
-    "first_answer", "length", "holder_told", "lines_granted", "clock_granted", "count_records", "own_promised")
+    "first_answer", "count_sends", "holder_told", "lines_granted", "clock_granted", "count_records", "own_promised")
 
 
 def cases(step, msg, record, reply):

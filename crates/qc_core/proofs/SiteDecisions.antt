@@ -10,6 +10,7 @@ use Rattle.qc_entry.specs.declared.line.Line.{Line}
 use Rattle.qc_entry.specs.declared.record.Prepared.{Prepared}
 use Rattle.qc_entry.specs.Log.{union}
 use Rattle.qc_entry.proofs.Union.{union-nil}
+use Rattle.qc_lock.specs.declared.held.Held.{Held}
 use Rattle.qc_lock.specs.Held.{without_held}
 use Rattle.qc_msg.specs.declared.message.Answer.TheVariants as answers
 use Rattle.qc_msg.specs.declared.message.Message.TheVariants as messages
@@ -21,17 +22,19 @@ use Rattle.qc_msg.specs.declared.step.Given.{Given}
 use Rattle.qc_msg.specs.declared.turn.Appended.TheVariants.{Done}
 use Rattle.qc_msg.specs.declared.turn.Turn.{Turn}
 use Rattle.qc_msg.specs.Deeds.{Deed, Takes, turn_deeds}
+use Rattle.qc_msg.specs.Readings.{Finished}
 use Rattle.qc_msg.specs.Turns.{quiet}
+use Rattle.qc_promise.specs.Lifetimes.{lifetime, records_in}
 use Rattle.qc_promise.specs.SiteEnds.{is_ended, is_final}
-use Rattle.qc_promise.specs.SiteHeld.{Grant, standing}
-use Rattle.qc_promise.specs.SiteLogs.{done_lines, done_stamp, lines_of, view_given, view_in}
+use Rattle.qc_promise.specs.SiteHeld.{Grant, standing, with_promise}
+use Rattle.qc_promise.specs.SiteLogs.{done_lines, lines_of, view_in}
 use Rattle.qc_site.specs.Promise.{dropped, finishes, is_prepared, joins, prepared_of}
 use Rattle.qc_site.specs.Site.{SiteState, answering, moved}
-use Rattle.qc_core.proofs.SiteDrops.{drops}
+use Rattle.qc_core.proofs.SiteDrops.{drops, drops_promises}
 use Rattle.qc_core.proofs.SiteGrowth.{lasts, stays}
 use Rattle.qc_core.proofs.SitePosts.{post_ends}
 use Rattle.qc_core.proofs.SitePrepares.{filter_same, last_of, none_prepared, sym_tx}
-use Rattle.qc_core.proofs.SiteShown.{grown, hold, same_state, shown, shown-more}
+use Rattle.qc_core.proofs.SiteShown.{grown, hold, remains, rose, same_state, shown, shown-more, view_given}
 use Rattle.qc_core.proofs.SiteSteps.{IsStep, and_false, letter, passed, still}
 use Rattle.qc_core.proofs.SiteTalks.{filter_all, held_on}
 
@@ -107,14 +110,21 @@ module _ (site : ℕ) (ds : List Deed) (n number from to : ℕ) where
   active tx = still site ds n number from to (messages.Decision tx Active) [] None (λ t. and_false (same_tx tx t), λ t. and_false (same_tx tx t)) refl refl
 
   -- what is held once a Decision that ends a transaction is taken
-  ended : (tx : TxId) (verdict : Outcome) (turn : Turn) → is_final verdict ≡ true → fold hold (fold hold [] (filter (stays (deciding tx verdict) (turn_deeds n turn)) (standing ds))) [] ≡ without_held (shown site ds).held tx
-  ended tx verdict turn final = drops tx (stays (deciding tx verdict) (turn_deeds n turn)) others [] (standing ds)
+  ended : (tx : TxId) (verdict : Outcome) (turn : Turn) → is_final verdict ≡ true
+      → fold hold (fold hold (fold with_promise [] (filter (remains (Takes (deciding tx verdict) ∷ turn_deeds n turn)) (rose (lifetime ds)))) (filter (stays (Takes (deciding tx verdict) ∷ turn_deeds n turn)) (standing (lifetime ds).since))) []
+      ≡ without_held (shown site ds).held tx
+  ended tx verdict turn final =
+      ap (λ (v : List Held). fold hold v (filter (stays done) (standing (lifetime ds).since))) (drops_promises tx (remains done) (λ (p : Prepared). others p.tx) [] (rose (lifetime ds)))
+      ∙ drops tx (stays done) (λ (r : Grant). others r.tx) (fold with_promise [] (rose (lifetime ds))) (standing (lifetime ds).since)
     where
-      others : (r : Grant) → stays (deciding tx verdict) (turn_deeds n turn) r ≡ not (same_tx tx r.tx)
-      others r =
-          ap (λ (b : Bool). not ((same_tx tx r.tx && b) || is_ended r.tx (turn_deeds n turn))) final
-          ∙ ap (λ (b : Bool). not ((same_tx tx r.tx && true) || b)) (post_ends n turn r.tx)
-          ∙ ap (λ (b : Bool). not b) (or_false (same_tx tx r.tx && true) ∙ and_true (same_tx tx r.tx))
+      done : List Deed
+      done = Takes (deciding tx verdict) ∷ turn_deeds n turn
+
+      others : (t : TxId) → not (is_ended t done) ≡ not (same_tx tx t)
+      others t =
+          ap (λ (b : Bool). not ((same_tx tx t && b) || is_ended t (turn_deeds n turn))) final
+          ∙ ap (λ (b : Bool). not ((same_tx tx t && true) || b)) (post_ends n turn t)
+          ∙ ap (λ (b : Bool). not b) (or_false (same_tx tx t && true) ∙ and_true (same_tx tx t))
 
   pub aborted : (tx : TxId) → IsStep site ds (deciding tx Aborted) n (moved (dropped (with_clock tx Aborted) tx) quiet)
   aborted tx =
@@ -139,9 +149,12 @@ module _ (site : ℕ) (ds : List Deed) (n number from to : ℕ) where
       apart : (q : Prepared) → lasts (Takes (deciding tx (Committed stamp)) ∷ turn_deeds n (finishing tx stamp.clock)) q ≡ not (same_tx q.tx tx)
       apart q = ap (λ (b : Bool). not (b || (same_tx tx q.tx || false))) (and_false (same_tx tx q.tx)) ∙ ap (λ (b : Bool). not b) (or_false (same_tx tx q.tx) ∙ sym_tx tx q.tx)
 
-      lines_are : (p : Prepared) → prepared_of (shown site ds).prepared tx ≡ Some p → done_lines (ds ++ Takes (deciding tx (Committed stamp)) ∷ []) tx stamp.clock ≡ lines_of stamp tx p.own
+      done : Finished
+      done = record { tx = tx; clock = stamp.clock }
+
+      lines_are : (p : Prepared) → prepared_of (shown site ds).prepared tx ≡ Some p → done_lines (records_in ds) done ≡ lines_of stamp tx p.own
       lines_are p is =
-          ap (λ (o : Option Prepared). option_map_or (λ (q : Prepared). lines_of (done_stamp tx stamp.clock) tx q.own) o []) (last_of tx p ds (deciding tx (Committed stamp)) is)
+          ap (λ (o : Option Prepared). option_map_or (λ (q : Prepared). lines_of (record { clock = stamp.clock; client = tx.client }) tx q.own) o []) (last_of tx p ds is)
           ∙ ap (λ (c : ℕ). lines_of (record { clock = stamp.clock; client = c }) tx p.own) (sym client)
 
       by : (o : Option Prepared) → prepared_of (shown site ds).prepared tx ≡ o → IsStep site ds (deciding tx (Committed stamp)) n (joins (with_clock tx (Committed stamp)) tx stamp o)
@@ -159,7 +172,7 @@ module _ (site : ℕ) (ds : List Deed) (n number from to : ℕ) where
           sym (shown-more site ds (deciding tx (Committed stamp)) n (finishing tx stamp.clock)
           ∙ same_state (grown site ds (deciding tx (Committed stamp)) n (finishing tx stamp.clock)) (record (dropped (with_clock tx (Committed stamp)) tx) { log = union (shown site ds).log (lines_of stamp tx p.own); recorded = union (shown site ds).recorded (lines_of stamp tx p.own) })
           refl refl refl refl
-          (ap (λ (v : List Line). union v (done_lines (ds ++ Takes (deciding tx (Committed stamp)) ∷ []) tx stamp.clock)) (union-nil (shown site ds).log) ∙ ap (λ (v : List Line). union (shown site ds).log v) (lines_are p is))
+          (ap (λ (v : List Line). union v (done_lines (records_in ds) done)) (union-nil (shown site ds).log) ∙ ap (λ (v : List Line). union (shown site ds).log v) (lines_are p is))
           (ap (λ (v : List Line). union (shown site ds).recorded v) (lines_are p is))
           (ended tx (Committed stamp) (finishing tx stamp.clock) refl)
           (append-nil (filter (lasts (Takes (deciding tx (Committed stamp)) ∷ turn_deeds n (finishing tx stamp.clock))) (shown site ds).prepared)

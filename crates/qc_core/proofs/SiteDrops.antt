@@ -11,7 +11,8 @@ use Rattle.qc_lock.specs.Held.{held_of, with_entry, with_held, with_locks, with_
 use Rattle.qc_lock.proofs.Entries.{held-without_other}
 use Rattle.qc_msg.specs.declared.message.Want.{Want}
 use Rattle.qc_msg.specs.declared.message.Want.TheVariants.{Read, Append, Prepare}
-use Rattle.qc_promise.specs.SiteHeld.{Grant, holding}
+use Rattle.qc_entry.specs.declared.record.Prepared.{Prepared}
+use Rattle.qc_promise.specs.SiteHeld.{Grant, holding, with_promise}
 use Rattle.qc_core.proofs.SiteShown.{hold}
 
 without-put_same : (held : List Held) (e : Held) (tx : TxId) → same_tx e.tx tx ≡ true → without_held (with_entry held e) tx ≡ without_held held tx
@@ -86,4 +87,20 @@ drops tx others is held (r ∷ gs) =
         ∙ ih
     by false other ih =
         ap (λ (v : List Held). fold hold v (filter others gs)) (hold_other held tx r.tx r.want (other_tx_sym tx r.tx other))
+        ∙ ih
+
+-- the promises of others than a transaction hold what all hold without it
+pub drops_promises : (tx : TxId) (others : Prepared → Bool) → ((p : Prepared) → others p ≡ not (same_tx tx p.tx)) → (held : List Held) (ps : List Prepared) → fold with_promise (without_held held tx) (filter others ps) ≡ without_held (fold with_promise held ps) tx
+drops_promises tx others is held [] = refl
+drops_promises tx others is held (p ∷ ps) =
+    ap (λ (b : Bool). fold with_promise (without_held held tx) (cond b (p ∷ filter others ps) (filter others ps))) (is p)
+    ∙ by (same_tx tx p.tx) refl (drops_promises tx others is (with_promise held p) ps)
+  where
+    by : (b : Bool) → same_tx tx p.tx ≡ b → fold with_promise (without_held (with_promise held p) tx) (filter others ps) ≡ without_held (fold with_promise held (p ∷ ps)) tx
+        → fold with_promise (without_held held tx) (cond (not b) (p ∷ filter others ps) (filter others ps)) ≡ without_held (fold with_promise held (p ∷ ps)) tx
+    by true same ih =
+        ap (λ (v : List Held). fold with_promise v (filter others ps)) (sym (more_same held tx p.tx p.locks p.own (subst (λ (u : TxId). same_tx u tx ≡ true) (same_tx_is tx p.tx same) (same_tx_itself tx))))
+        ∙ ih
+    by false other ih =
+        ap (λ (v : List Held). fold with_promise v (filter others ps)) (more_other held tx p.tx p.locks p.own (other_tx_sym tx p.tx other))
         ∙ ih

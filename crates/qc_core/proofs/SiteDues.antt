@@ -1,7 +1,7 @@
--- What a site's turn sends and writes for an input is due.
-use Rattle.std.proofs.Common.{◌≡◌, ℕ, ◌==◌, ◌&&◌, ◌||◌, not, nat_lt, Bool, true, false, cond, List, [], ◌∷◌, ◌++◌, Option, Some, None, is_some, refl, sym, ap, ◌∙◌, subst}
-use Rattle.std.specs.Prelude.{filter, option_map, option_to_list, unwrap_or}
-use Rattle.std.specs.Option.{option_or}
+-- A site's turn for an input is the one that is due.
+use Rattle.std.proofs.Common.{◌≡◌, ℕ, ◌==◌, ◌||◌, not, nat_lt, Bool, true, false, cond, List, [], ◌∷◌, ◌++◌, Option, Some, None, is_some, refl, sym, ap, ◌∙◌, subst}
+use Rattle.std.specs.Prelude.{filter, map, option_map, option_to_list}
+use Rattle.std.specs.Option.{option_map_or, option_or}
 use Rattle.std.proofs.lemmas.List.{append-nil}
 use Rattle.qc_stamp.specs.declared.stamp.Stamp.{Stamp}
 use Rattle.qc_stamp.specs.declared.stamp.TxId.{TxId}
@@ -14,6 +14,7 @@ use Rattle.qc_lock.specs.Clash.{append_clash, read_clash}
 use Rattle.qc_lock.specs.Held.{is_held}
 use Rattle.qc_msg.specs.declared.message.Answer.{Answer}
 use Rattle.qc_msg.specs.declared.message.Answer.TheVariants as answers
+use Rattle.qc_msg.specs.declared.message.Envelope.{Envelope}
 use Rattle.qc_msg.specs.declared.message.Message.{Message}
 use Rattle.qc_msg.specs.declared.message.Message.TheVariants as messages
 use Rattle.qc_msg.specs.declared.message.Outcome.TheVariants.{Committed, Aborted, Active}
@@ -21,29 +22,56 @@ use Rattle.qc_msg.specs.declared.message.Want.{Want}
 use Rattle.qc_msg.specs.declared.message.Want.TheVariants.{Read, Append, Prepare}
 use Rattle.qc_msg.specs.declared.record.Record.{Record}
 use Rattle.qc_msg.specs.declared.record.Record.TheVariants as records
+use Rattle.qc_msg.specs.declared.reply.Reply.{Reply}
+use Rattle.qc_msg.specs.declared.step.Fall.{Fall}
 use Rattle.qc_msg.specs.declared.step.Given.{Given}
 use Rattle.qc_msg.specs.declared.step.Given.TheVariants as given
 use Rattle.qc_msg.specs.declared.turn.Posting.{Posting}
 use Rattle.qc_msg.specs.declared.turn.Turn.{Turn}
 use Rattle.qc_msg.specs.Deeds.{Deed, Takes, turn_deeds}
+use Rattle.qc_msg.specs.Readings.{Requested}
 use Rattle.qc_msg.specs.Turns.{quiet}
-use Rattle.qc_promise.specs.SiteDue.{IsDue, answers_due, closed_refusal, epoch_refusal, fits_record, grant_due, inquiries_due, is_declared, promise_due, records_due, sends_due, want_refusal, want_written}
+use Rattle.qc_promise.specs.Posts.{Act, IsPostOf, Sent, TurnDue, Wrote, ends_with, fallen_in, posted_due, posted_next, quiet_turn, sending}
+use Rattle.qc_promise.specs.SiteDue.{answers_due, clash_told, closed_refusal, epoch_refusal, fits_record, granting_turn, inquiries_due, is_declared, promise_due, promise_turn, turn_due, want_refusal}
 use Rattle.qc_promise.specs.SitePromises.{is_promised, prepared_shown, promise_in}
+use Rattle.qc_promise.proofs.Posts.{fallen_none}
 use Rattle.qc_site.specs.Conduct.{site_at, site_on, site_takes}
 use Rattle.qc_site.specs.Promise.{joins, promise_of}
 use Rattle.qc_site.specs.Requests.{appends_by, closed_fault, fault_of, grants, names_declared, reads_by, relation_at, requested}
 use Rattle.qc_site.specs.Site.{SiteState, answering, answers as answered, moved}
 use Rattle.qc_core.proofs.SiteDecisions.{promising}
-use Rattle.qc_core.proofs.SiteGrowth.{lasts, prepared-more}
-use Rattle.qc_core.proofs.SitePosts.{post_sends, post_writes}
-use Rattle.qc_core.proofs.SiteShown.{shown}
+use Rattle.qc_core.proofs.SiteGrowth.{lasts}
+use Rattle.qc_core.proofs.SitePosts.{post_acts, told_of}
+use Rattle.qc_core.proofs.SiteShown.{shown, shown-more}
 use Rattle.qc_core.proofs.SiteSteps.{and_false, ignored, letter, passed}
 use Rattle.qc_core.proofs.SiteTalks.{filter_all}
 
--- what a turn sends and writes
-pub record Does (turn : Turn) (sends : List Posting) (written : List Record) : Type 0 where
-  pub sends_are : turn.sends ≡ sends
-  pub written_are : option_to_list turn.write ≡ written
+-- the conduct's turn is the one that is due: the same record and messages, and nothing is told
+
+abbrev pub as_due : Turn → TurnDue
+as_due turn = record { write = turn.write; sends = turn.sends; failed_sends = turn.failed_sends }
+
+pub record Does (turn : Turn) (due : TurnDue) : Type 0 where
+  pub same : as_due turn ≡ due
+  pub untold : turn.told ≡ None
+  pub failed_untold : turn.failed_told ≡ None
+
+-- so where its record is written, its post is one of those
+pub written_post : (n : ℕ) (turn : Turn) (due : TurnDue) → Does turn due → IsPostOf due (turn_deeds n turn)
+written_post n turn due does =
+    subst (λ (t : TurnDue). IsPostOf t (turn_deeds n turn)) does.same
+    (subst (λ (acts : List Act). acts ≡ posted_due (as_due turn) (fallen_in acts)) (sym posted) (by turn.write))
+  where
+    posted : posted_next (turn_deeds n turn) ≡ map Wrote (option_to_list turn.write) ++ map Sent turn.sends
+    posted =
+        post_acts n turn
+        ∙ ap (λ (o : Option Reply). map Wrote (option_to_list turn.write) ++ (map Sent turn.sends ++ told_of o)) does.untold
+        ∙ ap (λ (v : List Act). map Wrote (option_to_list turn.write) ++ v) (append-nil (map Sent turn.sends))
+
+    by : (w : Option Record) → map Wrote (option_to_list w) ++ map Sent turn.sends
+        ≡ posted_due (record { write = w; sends = turn.sends; failed_sends = turn.failed_sends }) (fallen_in (map Wrote (option_to_list w) ++ map Sent turn.sends))
+    by None = refl
+    by (Some w) = sym (ap (λ (o : Option Fall). ends_with (record { write = Some w; sends = turn.sends; failed_sends = turn.failed_sends }) w o) (fallen_none turn.sends))
 
 module _ (decl : Declaration) (site : ℕ) (ds : List Deed) (from number : ℕ) (tx : TxId) (epoch life : ℕ) where
   abbrev now : SiteState
@@ -86,58 +114,62 @@ module _ (decl : Declaration) (site : ℕ) (ds : List Deed) (from number : ℕ) 
 
   -- what a request that neither refuses is due
 
-  abbrev due_for : Want → Option Answer → List Posting
-  due_for want refusal = answers_due decl from number (unwrap_or refusal (grant_due ds want))
+  abbrev asked : Want → Requested
+  asked want = record { tx = tx; epoch = epoch; life = life; want = want }
 
-  abbrev written_for : Want → Option Answer → List Record
-  written_for want refusal = cond (not (is_some refusal)) (want_written ds tx want) []
+  abbrev sent : Envelope
+  sent = record { number = number; from = from; to = site; message = messages.Inquiry tx }
 
-  grant_does : (want : Want) → Does (grants decl now from number tx want).turn (due_for want (want_refusal decl ds tx want)) (written_for want (want_refusal decl ds tx want))
+  abbrev due_for : Want → Option Answer → TurnDue
+  due_for want refusal = option_map_or (λ (x : Answer). sending (answers_due decl from number x)) refusal (granting_turn decl ds sent (asked want))
+
+  grant_does : (want : Want) → Does (grants decl now from number tx want).turn (due_for want (want_refusal decl ds tx want))
   grant_does (Read object inv) = by (read_clash (relation_at decl object) now.held tx object inv)
     where
-      by : (o : Option Conflict) → Does (reads_by decl now from number tx object inv o).turn (due_for (Read object inv) (option_map (λ (c : Conflict). answers.Clash c.holder c.inv c.event) o)) (written_for (Read object inv) (option_map (λ (c : Conflict). answers.Clash c.holder c.inv c.event) o))
-      by None = record { sends_are = refl; written_are = refl }
-      by (Some c) = record { sends_are = refl; written_are = refl }
+      by : (o : Option Conflict) → Does (reads_by decl now from number tx object inv o).turn (due_for (Read object inv) (option_map clash_told o))
+      by None = record { same = refl; untold = refl; failed_untold = refl }
+      by (Some c) = record { same = refl; untold = refl; failed_untold = refl }
   grant_does (Append object view own) = by (append_clash (relation_at decl object) now.held tx own)
     where
-      by : (o : Option Conflict) → Does (appends_by decl now from number tx view own o).turn (due_for (Append object view own) (option_map (λ (c : Conflict). answers.Clash c.holder c.inv c.event) o)) (written_for (Append object view own) (option_map (λ (c : Conflict). answers.Clash c.holder c.inv c.event) o))
-      by None = record { sends_are = refl; written_are = refl }
-      by (Some c) = record { sends_are = refl; written_are = refl }
+      by : (o : Option Conflict) → Does (appends_by decl now from number tx view own o).turn (due_for (Append object view own) (option_map clash_told o))
+      by None = record { same = refl; untold = refl; failed_untold = refl }
+      by (Some c) = record { same = refl; untold = refl; failed_untold = refl }
   grant_does Prepare = by (is_held now.held tx) (is_promised ds tx) refl (fits_record (promise_due ds tx))
     where
+      granting : (p : Bool) → is_promised ds tx ≡ p → granting_turn decl ds sent (asked Prepare) ≡ cond (not p) (promise_turn ds from number tx) (sending (answers_due decl from number (answers.Yes now.clock)))
+      granting p is = ap (λ (b : Bool). cond (not b) (promise_turn ds from number tx) (sending (answers_due decl from number (answers.Yes now.clock)))) is
+
       by : (h p : Bool) → is_promised ds tx ≡ p → (f : Bool)
           → Does (cond (not h) (moved now (answered from number answers.Stale)) (cond p (moved now (answered from number (answers.Yes now.clock))) (cond f
           (moved (record now { recorded = union now.recorded (promise_of now tx).lines; prepared = now.prepared ++ promise_of now tx ∷ [] }) (promising from number now.clock (promise_of now tx)))
           (moved now (answered from number answers.Stale))))).turn
           (due_for Prepare (cond (not h) (Some answers.Stale) (cond p None (cond f None (Some answers.Stale)))))
-          (written_for Prepare (cond (not h) (Some answers.Stale) (cond p None (cond f None (Some answers.Stale)))))
-      by false p is f = record { sends_are = refl; written_are = refl }
-      by true true is f = record { sends_are = refl; written_are = sym (ap (λ (b : Bool). cond b [] (records.Prepare (promise_due ds tx) ∷ [])) is) }
-      by true false is true = record { sends_are = refl; written_are = sym (ap (λ (b : Bool). cond b [] (records.Prepare (promise_due ds tx) ∷ [])) is) }
-      by true false is false = record { sends_are = refl; written_are = refl }
+      by false p is f = record { same = refl; untold = refl; failed_untold = refl }
+      by true true is f = record { same = sym (granting true is); untold = refl; failed_untold = refl }
+      by true false is true = record { same = sym (granting false is); untold = refl; failed_untold = refl }
+      by true false is false = record { same = refl; untold = refl; failed_untold = refl }
 
-  pub request_does : (want : Want) → Does (site_at decl now from number (messages.Request tx epoch life want)).turn (sends_due decl ds (letter number from site (messages.Request tx epoch life want))) (records_due decl ds (letter number from site (messages.Request tx epoch life want)))
+  pub request_does : (want : Want) → Does (site_at decl now from number (messages.Request tx epoch life want)).turn (turn_due decl ds (letter number from site (messages.Request tx epoch life want)))
   request_does want = by_name (names_declared decl tx want) (same_names want)
     where
-      by : (o : Option Answer) → AsksNobody o → Does (requested decl now from number tx want o).turn (due_for want (option_or o (want_refusal decl ds tx want))) (written_for want (option_or o (want_refusal decl ds tx want)))
-      by (Some x) nobody = record { sends_are = ap (λ (v : List Posting). answering from number x ∷ v) (sym nobody); written_are = refl }
+      by : (o : Option Answer) → AsksNobody o → Does (requested decl now from number tx want o).turn (due_for want (option_or o (want_refusal decl ds tx want)))
+      by (Some x) nobody = record { same = ap (λ (v : List Posting). sending (answering from number x ∷ v)) (sym nobody); untold = refl; failed_untold = refl }
       by None nobody = grant_does want
 
-      fault : Does (requested decl now from number tx want (fault_of now epoch life)).turn (due_for want (option_or (epoch_refusal ds epoch life) (want_refusal decl ds tx want))) (written_for want (option_or (epoch_refusal ds epoch life) (want_refusal decl ds tx want)))
-      fault = subst (λ (o : Option Answer). Does (requested decl now from number tx want (fault_of now epoch life)).turn (due_for want (option_or o (want_refusal decl ds tx want))) (written_for want (option_or o (want_refusal decl ds tx want)))) same_fault (by (fault_of now epoch life) fault_asks)
+      fault : Does (requested decl now from number tx want (fault_of now epoch life)).turn (due_for want (option_or (epoch_refusal ds epoch life) (want_refusal decl ds tx want)))
+      fault = subst (λ (o : Option Answer). Does (requested decl now from number tx want (fault_of now epoch life)).turn (due_for want (option_or o (want_refusal decl ds tx want)))) same_fault (by (fault_of now epoch life) fault_asks)
 
       by_name : (b : Bool) → b ≡ is_declared decl tx want
           → Does (cond b (requested decl now from number tx want (fault_of now epoch life)) (moved now quiet)).turn
-          (cond (is_declared decl tx want) (due_for want (option_or (epoch_refusal ds epoch life) (want_refusal decl ds tx want))) [])
-          (cond (is_declared decl tx want && not (is_some (option_or (epoch_refusal ds epoch life) (want_refusal decl ds tx want)))) (want_written ds tx want) [])
+          (cond (is_declared decl tx want) (due_for want (option_or (epoch_refusal ds epoch life) (want_refusal decl ds tx want))) quiet_turn)
       by_name true is = rw (sym is) fault
-      by_name false is = rw (sym is) (record { sends_are = refl; written_are = refl })
+      by_name false is = rw (sym is) (record { same = refl; untold = refl; failed_untold = refl })
 
 module _ (decl : Declaration) (site : ℕ) (ds : List Deed) where
   -- a Decision Committed leaves the promises as they were, until it is written
   prepared_still : (number from to : ℕ) (tx : TxId) (stamp : Stamp) → prepared_shown (ds ++ Takes (letter number from to (messages.Decision tx (Committed stamp))) ∷ []) ≡ prepared_shown ds
   prepared_still number from to tx stamp =
-      prepared-more (Takes (letter number from to (messages.Decision tx (Committed stamp))) ∷ []) ds
+      ap (λ (s : SiteState). s.prepared) (shown-more site ds (letter number from to (messages.Decision tx (Committed stamp))) 0 quiet)
       ∙ append-nil (filter (lasts (Takes (letter number from to (messages.Decision tx (Committed stamp))) ∷ [])) (prepared_shown ds))
       ∙ filter_all (lasts (Takes (letter number from to (messages.Decision tx (Committed stamp))) ∷ [])) (λ (q : Prepared). ap (λ (b : Bool). not (b || false)) (and_false (same_tx tx q.tx))) (prepared_shown ds)
 
@@ -146,43 +178,36 @@ module _ (decl : Declaration) (site : ℕ) (ds : List Deed) where
     after m = ds ++ Takes (letter number from to m) ∷ []
 
     abbrev Answered : Message → Type 0
-    Answered m = Does (site_on decl (shown site ds) from number m).turn (sends_due decl (after m) (letter number from to m)) (records_due decl (after m) (letter number from to m))
+    Answered m = Does (site_on decl (shown site ds) from number m).turn (turn_due decl (after m) (letter number from to m))
 
     requested_does : (tx : TxId) (epoch life : ℕ) (want : Want) → Answered (messages.Request tx epoch life want)
     requested_does tx epoch life want =
-        subst (λ (s : SiteState). Does (site_at decl s from number (messages.Request tx epoch life want)).turn (sends_due decl (after (messages.Request tx epoch life want)) (letter number from to (messages.Request tx epoch life want))) (records_due decl (after (messages.Request tx epoch life want)) (letter number from to (messages.Request tx epoch life want))))
+        subst (λ (s : SiteState). Does (site_at decl s from number (messages.Request tx epoch life want)).turn (turn_due decl (after (messages.Request tx epoch life want)) (letter number from to (messages.Request tx epoch life want))))
         (sym (ignored site ds 0 number from to tx epoch life want))
         (request_does decl site (after (messages.Request tx epoch life want)) from number tx epoch life want)
 
     committed_does : (tx : TxId) (stamp : Stamp) → Answered (messages.Decision tx (Committed stamp))
     committed_does tx stamp =
-        subst (λ (ps : List Prepared). Does (site_on decl (shown site ds) from number (messages.Decision tx (Committed stamp))).turn [] (cond (is_some (promise_in ps tx)) (records.Done tx stamp.clock ∷ []) [])) (sym (prepared_still number from to tx stamp))
+        subst (λ (ps : List Prepared). Does (site_on decl (shown site ds) from number (messages.Decision tx (Committed stamp))).turn (cond (is_some (promise_in ps tx)) (record { write = Some (records.Done tx stamp.clock); sends = []; failed_sends = [] }) quiet_turn)) (sym (prepared_still number from to tx stamp))
         (by (promise_in (prepared_shown ds) tx))
       where
-        by : (o : Option Prepared) → Does (joins (passed site ds (messages.Decision tx (Committed stamp))) tx stamp o).turn [] (cond (is_some o) (records.Done tx stamp.clock ∷ []) [])
-        by None = record { sends_are = refl; written_are = refl }
-        by (Some p) = record { sends_are = refl; written_are = refl }
+        by : (o : Option Prepared) → Does (joins (passed site ds (messages.Decision tx (Committed stamp))) tx stamp o).turn (cond (is_some o) (record { write = Some (records.Done tx stamp.clock); sends = []; failed_sends = [] }) quiet_turn)
+        by None = record { same = refl; untold = refl; failed_untold = refl }
+        by (Some p) = record { same = refl; untold = refl; failed_untold = refl }
 
     heard_does : (m : Message) → Answered m
     heard_does (messages.Request tx epoch life want) = requested_does tx epoch life want
-    heard_does (messages.Answer k answer) = record { sends_are = refl; written_are = refl }
+    heard_does (messages.Answer k answer) = record { same = refl; untold = refl; failed_untold = refl }
     heard_does (messages.Decision tx (Committed stamp)) = committed_does tx stamp
-    heard_does (messages.Decision tx Aborted) = record { sends_are = refl; written_are = refl }
-    heard_does (messages.Decision tx Active) = record { sends_are = refl; written_are = refl }
-    heard_does (messages.Inquiry tx) = record { sends_are = refl; written_are = refl }
-    heard_does (messages.Ask tx) = record { sends_are = refl; written_are = refl }
-    heard_does (messages.Close epoch) = record { sends_are = refl; written_are = refl }
-    heard_does (messages.Install epoch clock log) = record { sends_are = refl; written_are = refl }
-
-  turn_does : (g : Given) → Does (site_takes decl (shown site ds) g).turn (sends_due decl (ds ++ Takes g ∷ []) g) (records_due decl (ds ++ Takes g ∷ []) g)
-  turn_does (given.Called command) = record { sends_are = refl; written_are = refl }
-  turn_does (given.Got e) = heard_does e.number e.from e.to e.message
-  turn_does (given.Lost number) = record { sends_are = refl; written_are = refl }
+    heard_does (messages.Decision tx Aborted) = record { same = refl; untold = refl; failed_untold = refl }
+    heard_does (messages.Decision tx Active) = record { same = refl; untold = refl; failed_untold = refl }
+    heard_does (messages.Inquiry tx) = record { same = refl; untold = refl; failed_untold = refl }
+    heard_does (messages.Ask tx) = record { same = refl; untold = refl; failed_untold = refl }
+    heard_does (messages.Close epoch) = record { same = refl; untold = refl; failed_untold = refl }
+    heard_does (messages.Install epoch clock log) = record { same = refl; untold = refl; failed_untold = refl }
 
   -- each input
-  pub turns_are_due : (g : Given) (n : ℕ) → IsDue decl (ds ++ Takes g ∷ []) g (turn_deeds n (site_takes decl (shown site ds) g).turn)
-  turns_are_due g n =
-      record {
-        sends = post_sends n (site_takes decl (shown site ds) g).turn ∙ (turn_does g).sends_are;
-        records = post_writes n (site_takes decl (shown site ds) g).turn ∙ (turn_does g).written_are;
-      }
+  pub turns_are_due : (g : Given) → Does (site_takes decl (shown site ds) g).turn (turn_due decl (ds ++ Takes g ∷ []) g)
+  turns_are_due (given.Called command) = record { same = refl; untold = refl; failed_untold = refl }
+  turns_are_due (given.Got e) = heard_does e.number e.from e.to e.message
+  turns_are_due (given.Lost number) = record { same = refl; untold = refl; failed_untold = refl }

@@ -11,12 +11,13 @@ use Rattle.qc_msg.specs.declared.turn.Posting.{Posting}
 use Rattle.qc_msg.specs.declared.turn.Turn.{Turn}
 use Rattle.qc_msg.specs.Deeds.{Deed, Takes, Writes, Sends, Tells, Falls, Rises, turn_deeds, writes_of}
 use Rattle.qc_msg.specs.Turns.{quiet}
-use Rattle.qc_promise.specs.SiteDue.{AreDue, IsDue, IsDueAt}
+use Rattle.qc_promise.specs.Posts.{IsPostOf}
+use Rattle.qc_promise.specs.SiteDue.{AreDue, IsDueAt, rising_turn, turn_due}
+use Rattle.qc_promise.proofs.Posts.{post_more}
 use Rattle.qc_site.specs.Conduct.{site_after, site_does, site_takes}
 use Rattle.qc_site.specs.Site.{SiteMove, SiteState, moved, new_site}
 use Rattle.qc_core.specs.Sites.{IsShown, Serves, serves, starts}
-use Rattle.qc_core.proofs.SiteDues.{turns_are_due}
-use Rattle.qc_core.proofs.SiteGrowth.{sent-more, written-more}
+use Rattle.qc_core.proofs.SiteDues.{turns_are_due, written_post}
 use Rattle.qc_core.proofs.SiteMoves.{steps}
 use Rattle.qc_core.proofs.SitePosts.{talk}
 use Rattle.qc_core.proofs.SiteShown.{shown}
@@ -56,24 +57,24 @@ module _ (decl : Declaration) (site : ℕ) where
   -- what is posted for each input, the last one too
 
   abbrev IsServed : List Deed → Deed → List Deed → Type 0
-  IsServed before (Takes g) after = IsDue decl (before ++ Takes g ∷ []) g after
+  IsServed before (Takes g) after = IsPostOf (turn_due decl (before ++ Takes g ∷ []) g) after
   IsServed before (Writes w) after = Unit {0}
   IsServed before (Sends n to m) after = Unit {0}
   IsServed before (Tells r) after = Unit {0}
   IsServed before (Falls cause pending) after = Unit {0}
-  IsServed before (Rises records) after = Unit {0}
+  IsServed before (Rises records) after = IsPostOf (rising_turn decl (before ++ Rises records ∷ [])) after
 
   abbrev AreServed : List Deed → List Deed → Type 0
   AreServed before [] = Unit {0}
   AreServed before (d ∷ after) = IsServed before d after × AreServed (before ++ d ∷ []) after
 
   served_more : (before : List Deed) (d : Deed) (xs : List Deed) (g : Given) (ps : List Deed) → IsServed before d xs → IsServed before d (xs ++ Takes g ∷ ps)
-  served_more before (Takes given) xs g ps is = record { sends = sent-more g ps xs ∙ is.sends; records = written-more g ps xs ∙ is.records }
+  served_more before (Takes given) xs g ps is = post_more (turn_due decl (before ++ Takes given ∷ []) given) xs (Takes g ∷ ps) refl is
   served_more before (Writes w) xs g ps is = tt
   served_more before (Sends n to m) xs g ps is = tt
   served_more before (Tells r) xs g ps is = tt
   served_more before (Falls cause pending) xs g ps is = tt
-  served_more before (Rises records) xs g ps is = tt
+  served_more before (Rises records) xs g ps is = post_more (rising_turn decl (before ++ Rises records ∷ [])) xs (Takes g ∷ ps) refl is
 
   all_more : (before xs : List Deed) (g : Given) (ps : List Deed) → AreServed before xs → AreServed (before ++ xs) (Takes g ∷ ps) → AreServed before (xs ++ Takes g ∷ ps)
   all_more before [] g ps old new = subst (λ (v : List Deed). AreServed v (Takes g ∷ ps)) (append-nil before) new
@@ -99,7 +100,8 @@ module _ (decl : Declaration) (site : ℕ) where
   are_served ds (serves before g n served ok) =
       let old : (site_after decl site before).site ≡ shown site before = is_shown before served in
       all_more [] before g (turn_deeds n (site_after decl site (before ++ Takes g ∷ [])).turn) (are_served before served) (
-        subst (λ (move : SiteMove). IsDue decl (before ++ Takes g ∷ []) g (turn_deeds n move.turn)) (sym (after_take before g old)) (turns_are_due decl site before g n),
+        subst (λ (move : SiteMove). IsPostOf (turn_due decl (before ++ Takes g ∷ []) g) (turn_deeds n move.turn)) (sym (after_take before g old))
+            (written_post n (site_takes decl (shown site before) g).turn (turn_due decl (before ++ Takes g ∷ []) g) (turns_are_due decl site before g)),
         turn_served (before ++ Takes g ∷ []) n (site_after decl site (before ++ Takes g ∷ [])).turn,
       )
 
@@ -112,7 +114,7 @@ module _ (decl : Declaration) (site : ℕ) where
   due_of before (Sends n to m) after is = tt
   due_of before (Tells r) after is = tt
   due_of before (Falls cause pending) after is = tt
-  due_of before (Rises records) after is = tt
+  due_of before (Rises records) after is = is
 
   all_due : (before ds : List Deed) → AreServed before ds → AreDue decl before ds
   all_due before [] is = tt

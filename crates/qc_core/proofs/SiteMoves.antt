@@ -1,5 +1,5 @@
 -- A site's step for each input.
-use Rattle.std.proofs.Common.{◌≡◌, ℕ, ◌==◌, not, nat_le, nat_lt, Bool, true, false, cond, List, [], ◌∷◌, ◌++◌, Option, Some, None, refl, sym, ◌∙◌}
+use Rattle.std.proofs.Common.{◌≡◌, ℕ, ◌==◌, not, nat_le, nat_lt, Bool, true, false, cond, List, [], ◌∷◌, ◌++◌, Option, Some, None, is_some, refl, sym, ◌∙◌}
 use Rattle.qc_stamp.specs.declared.stamp.TxId.{TxId}
 use Rattle.qc_entry.specs.Log.{union}
 use Rattle.qc_decl.specs.declared.declaration.Declaration.{Declaration}
@@ -17,8 +17,8 @@ use Rattle.qc_msg.specs.declared.message.Want.TheVariants.{Read, Append, Prepare
 use Rattle.qc_msg.specs.declared.step.Given.{Given}
 use Rattle.qc_msg.specs.declared.step.Given.TheVariants as given
 use Rattle.qc_msg.specs.Deeds.{Deed}
+use Rattle.qc_msg.specs.Readings.{granted_in}
 use Rattle.qc_msg.specs.Turns.{quiet}
-use Rattle.qc_promise.specs.SiteHeld.{is_grant}
 use Rattle.qc_site.specs.Conduct.{site_at, site_on, site_takes}
 use Rattle.qc_site.specs.Promise.{is_prepared, prepare_length, promise_of, promises}
 use Rattle.qc_site.specs.Requests.{appends_by, closed_fault, fault_of, grants, names_declared, reads_by, relation_at, requested}
@@ -33,7 +33,7 @@ use Rattle.qc_core.proofs.SiteTalks.{stands_still}
 
 abbrev IsNoGrant : Option Answer → Type 0
 IsNoGrant None = Unit {0}
-IsNoGrant (Some x) = is_grant x ≡ false
+IsNoGrant (Some x) = is_some (granted_in x) ≡ false
 
 fault_is_no_grant : (s : SiteState) (epoch life : ℕ) → IsNoGrant (fault_of s epoch life)
 fault_is_no_grant s epoch life = by (nat_lt s.epoch epoch) (nat_lt epoch s.epoch)

@@ -1,7 +1,7 @@
 -- What the deeds of one turn show: its record, its messages, and nothing that is taken.
-use Rattle.std.proofs.Common.{◌≡◌, ℕ, ◌+◌, ◌||◌, not, Bool, true, false, List, [], ◌∷◌, ◌++◌, Option, Some, None, refl, ap, ◌∙◌}
-use Rattle.std.specs.Prelude.{option_to_list, cond}
-use Rattle.std.specs.List.{flat_map}
+use Rattle.std.proofs.Common.{◌≡◌, ℕ, ◌+◌, ◌||◌, Bool, true, false, List, [], ◌∷◌, ◌++◌, Option, Some, None, refl, ap, ◌∙◌}
+use Rattle.std.specs.Prelude.{cond, map, option_to_list}
+use Rattle.std.specs.List.{filter_map, flat_map}
 use Rattle.std.specs.Option.{option_map_or}
 use Rattle.qc_stamp.specs.declared.stamp.TxId.{TxId}
 use Rattle.qc_entry.specs.declared.line.Line.{Line}
@@ -9,23 +9,29 @@ use Rattle.qc_entry.specs.declared.record.Prepared.{Prepared}
 use Rattle.qc_entry.specs.Log.{union}
 use Rattle.qc_entry.proofs.Union.{union-nil}
 use Rattle.qc_msg.specs.declared.record.Record.{Record}
-use Rattle.qc_msg.specs.declared.record.Record.TheVariants as records
 use Rattle.qc_msg.specs.declared.reply.Reply.{Reply}
 use Rattle.qc_msg.specs.declared.turn.Posting.{Posting}
 use Rattle.qc_msg.specs.declared.turn.Turn.{Turn}
-use Rattle.qc_msg.specs.Deeds.{Deed, Writes, Sends, sends_of, tells_of, turn_deeds, writes_of}
+use Rattle.qc_msg.specs.Deeds.{Deed, sends_of, tells_of, turn_deeds, writes_of}
+use Rattle.qc_msg.specs.Readings.{prepare_in, written_in}
+use Rattle.qc_promise.specs.Posts.{Act, Sent, Told, Wrote, posted_next, sent_by}
 use Rattle.qc_promise.specs.SiteClocks.{clocks_at}
 use Rattle.qc_promise.specs.SiteEnds.{is_ended, is_over, redeems}
 use Rattle.qc_promise.specs.SiteHeld.{standing}
-use Rattle.qc_promise.specs.SiteLogs.{lines_done, lines_given, log_from, recorded_from}
-use Rattle.qc_promise.specs.SitePosts.{sent_next, written_next}
-use Rattle.qc_promise.specs.SitePromises.{prepared_shown, promised_by}
-use Rattle.qc_promise.specs.SiteRecords.{records_in}
+use Rattle.qc_promise.specs.SiteLogs.{lines_done, log_from}
+use Rattle.qc_promise.specs.SitePromises.{promises_since, unless_over}
+use Rattle.qc_promise.proofs.Lifetimes.{AreNoRises}
+use Rattle.qc_promise.proofs.Posts.{posted_sends}
 
 -- messages and a reply
 
 abbrev pub talk : ℕ → List Posting → Option Reply → List Deed
 talk n ps told = sends_of n ps ++ tells_of told
+
+talk_rises : (n : ℕ) (ps : List Posting) (told : Option Reply) → AreNoRises (talk n ps told)
+talk_rises n [] None = tt
+talk_rises n [] (Some r) = (refl, tt)
+talk_rises n (p ∷ ps) told = (refl, talk_rises (n + 1) ps told)
 
 talk_ends : (tx : TxId) (n : ℕ) (ps : List Posting) (told : Option Reply) → is_ended tx (talk n ps told) ≡ false
 talk_ends tx n [] None = refl
@@ -42,7 +48,7 @@ talk_stands n [] None = refl
 talk_stands n [] (Some r) = refl
 talk_stands n (p ∷ ps) told = talk_stands (n + 1) ps told
 
-talk_prepares : (n : ℕ) (ps : List Posting) (told : Option Reply) → prepared_shown (talk n ps told) ≡ []
+talk_prepares : (n : ℕ) (ps : List Posting) (told : Option Reply) → promises_since (talk n ps told) ≡ []
 talk_prepares n [] None = refl
 talk_prepares n [] (Some r) = refl
 talk_prepares n (p ∷ ps) told = talk_prepares (n + 1) ps told
@@ -52,45 +58,48 @@ talk_clocks n [] None = refl
 talk_clocks n [] (Some r) = refl
 talk_clocks n (p ∷ ps) told = talk_clocks (n + 1) ps told
 
-talk_records : (n : ℕ) (ps : List Posting) (told : Option Reply) → records_in (talk n ps told) ≡ []
+talk_records : (n : ℕ) (ps : List Posting) (told : Option Reply) → filter_map written_in (talk n ps told) ≡ []
 talk_records n [] None = refl
 talk_records n [] (Some r) = refl
 talk_records n (p ∷ ps) told = talk_records (n + 1) ps told
 
-talk_sends : (n : ℕ) (ps : List Posting) (told : Option Reply) → sent_next (talk n ps told) ≡ ps
-talk_sends n [] None = refl
-talk_sends n [] (Some r) = refl
-talk_sends n (p ∷ ps) told = ap (λ (v : List Posting). p ∷ v) (talk_sends (n + 1) ps told)
-
-talk_writes : (n : ℕ) (ps : List Posting) (told : Option Reply) → written_next (talk n ps told) ≡ []
-talk_writes n [] None = refl
-talk_writes n [] (Some r) = refl
-talk_writes n (p ∷ ps) told = talk_writes (n + 1) ps told
-
-talk_log : (lines : List Line) (before : List Deed) (n : ℕ) (ps : List Posting) (told : Option Reply) → log_from lines before (talk n ps told) ≡ lines
+talk_log : (lines : List Line) (before : List Record) (n : ℕ) (ps : List Posting) (told : Option Reply) → log_from lines before (talk n ps told) ≡ lines
 talk_log lines before n [] None = refl
 talk_log lines before n [] (Some r) = union-nil lines
 talk_log lines before n (p ∷ ps) told =
-    ap (λ (v : List Line). log_from v (before ++ Sends n p.to p.message ∷ []) (talk (n + 1) ps told)) (union-nil lines)
-    ∙ talk_log lines (before ++ Sends n p.to p.message ∷ []) (n + 1) ps told
+    ap (λ (v : List Line). log_from v before (talk (n + 1) ps told)) (union-nil lines) ∙ talk_log lines before (n + 1) ps told
 
-talk_recorded : (lines : List Line) (before : List Deed) (n : ℕ) (ps : List Posting) (told : Option Reply) → recorded_from lines before (talk n ps told) ≡ lines
-talk_recorded lines before n [] None = refl
-talk_recorded lines before n [] (Some r) = union-nil lines
-talk_recorded lines before n (p ∷ ps) told =
-    ap (λ (v : List Line). recorded_from v (before ++ Sends n p.to p.message ∷ []) (talk (n + 1) ps told)) (union-nil lines)
-    ∙ talk_recorded lines (before ++ Sends n p.to p.message ∷ []) (n + 1) ps told
+-- the acts of a reply
+
+abbrev pub told_of : Option Reply → List Act
+told_of None = []
+told_of (Some reply) = Told reply ∷ []
+
+posted_tells : (told : Option Reply) → posted_next (tells_of told) ≡ told_of told
+posted_tells None = refl
+posted_tells (Some r) = refl
+
+told_sends : (told : Option Reply) → filter_map sent_by (told_of told) ≡ []
+told_sends None = refl
+told_sends (Some r) = refl
 
 -- what the record of a turn promises
 abbrev pub promises_by : Option Record → List Prepared
 promises_by None = []
-promises_by (Some written) = promised_by written []
+promises_by (Some written) = option_map_or (unless_over []) (prepare_in written) []
 
 -- a turn
 
 module _ (n : ℕ) (turn : Turn) where
   abbrev pub post : List Deed
   post = turn_deeds n turn
+
+  pub post_rises : AreNoRises post
+  post_rises = by turn.write
+    where
+      by : (w : Option Record) → AreNoRises (writes_of w ++ talk n turn.sends turn.told)
+      by None = talk_rises n turn.sends turn.told
+      by (Some w) = (refl, talk_rises n turn.sends turn.told)
 
   pub post_ends : (tx : TxId) → is_ended tx post ≡ false
   post_ends tx = by turn.write
@@ -113,26 +122,23 @@ module _ (n : ℕ) (turn : Turn) where
       by None = talk_clocks n turn.sends turn.told
       by (Some w) = talk_clocks n turn.sends turn.told
 
-  pub post_records : records_in post ≡ option_to_list turn.write
+  pub post_records : filter_map written_in post ≡ option_to_list turn.write
   post_records = by turn.write
     where
-      by : (w : Option Record) → records_in (writes_of w ++ talk n turn.sends turn.told) ≡ option_to_list w
+      by : (w : Option Record) → filter_map written_in (writes_of w ++ talk n turn.sends turn.told) ≡ option_to_list w
       by None = talk_records n turn.sends turn.told
       by (Some w) = ap (λ (v : List Record). w ∷ v) (talk_records n turn.sends turn.told)
 
-  pub post_sends : sent_next post ≡ turn.sends
-  post_sends = by turn.write
+  -- what is posted: the record, the messages, the reply
+  pub post_acts : posted_next post ≡ map Wrote (option_to_list turn.write) ++ (map Sent turn.sends ++ told_of turn.told)
+  post_acts = by turn.write
     where
-      by : (w : Option Record) → sent_next (writes_of w ++ talk n turn.sends turn.told) ≡ turn.sends
-      by None = talk_sends n turn.sends turn.told
-      by (Some w) = talk_sends n turn.sends turn.told
+      talked : posted_next (talk n turn.sends turn.told) ≡ map Sent turn.sends ++ told_of turn.told
+      talked = posted_sends n turn.sends (tells_of turn.told) ∙ ap (λ (v : List Act). map Sent turn.sends ++ v) (posted_tells turn.told)
 
-  pub post_writes : written_next post ≡ option_to_list turn.write
-  post_writes = by turn.write
-    where
-      by : (w : Option Record) → written_next (writes_of w ++ talk n turn.sends turn.told) ≡ option_to_list w
-      by None = talk_writes n turn.sends turn.told
-      by (Some w) = ap (λ (v : List Record). w ∷ v) (talk_writes n turn.sends turn.told)
+      by : (w : Option Record) → posted_next (writes_of w ++ talk n turn.sends turn.told) ≡ map Wrote (option_to_list w) ++ (map Sent turn.sends ++ told_of turn.told)
+      by None = talked
+      by (Some w) = ap (λ (v : List Act). Wrote w ∷ v) talked
 
   pub post_frees : (tx : TxId) → is_over tx post ≡ option_map_or (redeems tx) turn.write false
   post_frees tx = by turn.write
@@ -145,34 +151,28 @@ module _ (n : ℕ) (turn : Turn) where
       by None = talk_frees tx n turn.sends turn.told
       by (Some w) = or_false (redeems tx w) (is_over tx (talk n turn.sends turn.told)) (talk_frees tx n turn.sends turn.told)
 
-  pub post_prepares : prepared_shown post ≡ promises_by turn.write
+  pub post_prepares : promises_since post ≡ promises_by turn.write
   post_prepares = by turn.write
     where
-      talked : prepared_shown (talk n turn.sends turn.told) ≡ []
+      talked : promises_since (talk n turn.sends turn.told) ≡ []
       talked = talk_prepares n turn.sends turn.told
 
-      by : (w : Option Record) → prepared_shown (writes_of w ++ talk n turn.sends turn.told) ≡ promises_by w
-      by None = talked
-      by (Some records.Life) = talked
-      by (Some (records.Prepare p)) =
-          ap (λ (b : Bool). cond (not b) (p ∷ []) [] ++ prepared_shown (talk n turn.sends turn.told)) (talk_frees p.tx n turn.sends turn.told)
-          ∙ ap (λ (v : List Prepared). p ∷ v) talked
-      by (Some (records.Done tx clock)) = talked
-      by (Some (records.Close epoch)) = talked
-      by (Some (records.Install epoch clock lines)) = talked
-      by (Some (records.Commit commit)) = talked
-      by (Some (records.Decide epoch clock lines)) = talked
+      kept : (p : Prepared) → unless_over (talk n turn.sends turn.told) p ≡ p ∷ []
+      kept p = ap (λ (b : Bool). cond b [] (p ∷ [])) (talk_frees p.tx n turn.sends turn.told)
 
-  pub post_log : (lines : List Line) (before : List Deed) → log_from lines before post ≡ option_map_or (λ (w : Record). union lines (lines_done before w)) turn.write lines
+      by_prepare : (o : Option Prepared) → option_map_or (unless_over (talk n turn.sends turn.told)) o [] ++ promises_since (talk n turn.sends turn.told) ≡ option_map_or (unless_over []) o []
+      by_prepare None = talked
+      by_prepare (Some p) =
+          ap (λ (v : List Prepared). v ++ promises_since (talk n turn.sends turn.told)) (kept p)
+          ∙ ap (λ (v : List Prepared). p ∷ v) talked
+
+      by : (w : Option Record) → promises_since (writes_of w ++ talk n turn.sends turn.told) ≡ promises_by w
+      by None = talked
+      by (Some w) = by_prepare (prepare_in w)
+
+  pub post_log : (lines : List Line) (before : List Record) → log_from lines before post ≡ option_map_or (λ (w : Record). union lines (lines_done before w)) turn.write lines
   post_log lines before = by turn.write
     where
       by : (w : Option Record) → log_from lines before (writes_of w ++ talk n turn.sends turn.told) ≡ option_map_or (λ (r : Record). union lines (lines_done before r)) w lines
       by None = talk_log lines before n turn.sends turn.told
-      by (Some w) = talk_log (union lines (lines_done before w)) (before ++ Writes w ∷ []) n turn.sends turn.told
-
-  pub post_recorded : (lines : List Line) (before : List Deed) → recorded_from lines before post ≡ option_map_or (λ (w : Record). union lines (lines_given before w)) turn.write lines
-  post_recorded lines before = by turn.write
-    where
-      by : (w : Option Record) → recorded_from lines before (writes_of w ++ talk n turn.sends turn.told) ≡ option_map_or (λ (r : Record). union lines (lines_given before r)) w lines
-      by None = talk_recorded lines before n turn.sends turn.told
-      by (Some w) = talk_recorded (union lines (lines_given before w)) (before ++ Writes w ∷ []) n turn.sends turn.told
+      by (Some w) = talk_log (union lines (lines_done before w)) (before ++ w ∷ []) n turn.sends turn.told

@@ -1,5 +1,5 @@
 -- A site's step: what it becomes for an input is what its deeds show once its turn is posted. Here for requests.
-use Rattle.std.proofs.Common.{◌≡◌, ℕ, ◌==◌, ◌&&◌, ◌||◌, Bool, true, false, cond, List, [], ◌∷◌, ◌++◌, Option, None, refl, sym, ap, ◌∙◌, eq-eqb}
+use Rattle.std.proofs.Common.{◌≡◌, ℕ, ◌==◌, ◌&&◌, ◌||◌, Bool, true, false, cond, List, [], ◌∷◌, ◌++◌, Option, None, is_some, refl, sym, ap, ◌∙◌, eq-eqb}
 use Rattle.qc_stamp.specs.declared.stamp.TxId.{TxId}
 use Rattle.qc_entry.specs.declared.line.Line.{Line}
 use Rattle.qc_entry.specs.declared.line.OwnLine.{OwnLine}
@@ -18,13 +18,13 @@ use Rattle.qc_msg.specs.declared.step.Given.{Given}
 use Rattle.qc_msg.specs.declared.step.Given.TheVariants as given
 use Rattle.qc_msg.specs.declared.turn.Posting.{Posting}
 use Rattle.qc_msg.specs.Deeds.{Deed, Takes, turn_deeds}
+use Rattle.qc_msg.specs.Readings.{granted_in}
 use Rattle.qc_msg.specs.Turns.{quiet, says}
-use Rattle.qc_promise.specs.SiteHeld.{is_grant, standing_given}
-use Rattle.qc_promise.specs.SiteLogs.{view_given, view_in}
+use Rattle.qc_promise.specs.SiteLogs.{view_in}
 use Rattle.qc_site.specs.Conduct.{clock_after}
 use Rattle.qc_site.specs.Requests.{appends, clashing, reads}
 use Rattle.qc_site.specs.Site.{SiteMove, SiteState, answering, answers as answered, moved}
-use Rattle.qc_core.proofs.SiteShown.{hold, shown, shown-more}
+use Rattle.qc_core.proofs.SiteShown.{hold, shown, shown-more, standing_given, view_given}
 use Rattle.qc_core.proofs.SiteTalks.{DecidesNothing, clock_passes, stands_still, talks}
 
 abbrev pub letter : ℕ → ℕ → ℕ → Message → Given
@@ -64,13 +64,13 @@ module _ (site : ℕ) (ds : List Deed) (n number from to : ℕ) where
 
     -- an answer that grants nothing
 
-    ungranted : (want : Want) (x : Answer) → is_grant x ≡ false → standing_given (asking want) (turn_deeds n (answered from number x)) ≡ []
+    ungranted : (want : Want) (x : Answer) → is_some (granted_in x) ≡ false → standing_given (asking want) (turn_deeds n (answered from number x)) ≡ []
     ungranted want x never = ap (λ (b : Bool). cond (((number == number) && b || false) && true) (record { tx = tx; want = want } ∷ []) []) never ∙ ap (λ (b : Bool). cond ((b || false) && true) (record { tx = tx; want = want } ∷ []) []) (and_false (number == number))
 
-    unviewed : (want : Want) (x : Answer) → is_grant x ≡ false → view_given (asking want) (turn_deeds n (answered from number x)) ≡ []
+    unviewed : (want : Want) (x : Answer) → is_some (granted_in x) ≡ false → view_given (asking want) (turn_deeds n (answered from number x)) ≡ []
     unviewed want x never = ap (λ (b : Bool). cond ((number == number) && b || false) (view_in want) []) never ∙ ap (λ (b : Bool). cond (b || false) (view_in want) []) (and_false (number == number))
 
-    pub refused : (want : Want) (x : Answer) → is_grant x ≡ false → IsStep site ds (asking want) n (moved (passed site ds (asked want)) (answered from number x))
+    pub refused : (want : Want) (x : Answer) → is_some (granted_in x) ≡ false → IsStep site ds (asking want) n (moved (passed site ds (asked want)) (answered from number x))
     refused want x never = still (asked want) (answering from number x ∷ []) None (nothing want) (ungranted want x never) (unviewed want x never)
 
     pub ignored : (want : Want) → IsStep site ds (asking want) n (moved (passed site ds (asked want)) quiet)

@@ -17,15 +17,16 @@ use Rattle.qc_msg.specs.declared.turn.Posting.{Posting}
 use Rattle.qc_msg.specs.declared.turn.Turn.{Turn}
 use Rattle.qc_msg.specs.Deeds.{Deed, Takes, turn_deeds}
 use Rattle.qc_msg.specs.Turns.{says}
-use Rattle.qc_promise.specs.SiteClocks.{clock_shown, clocks_given, clocks_in}
+use Rattle.qc_promise.specs.Lifetimes.{lifetime}
+use Rattle.qc_promise.specs.SiteClocks.{clock_shown, clocks_in}
 use Rattle.qc_promise.specs.SiteEnds.{is_aborted, is_decision, is_ended, is_final, is_over}
-use Rattle.qc_promise.specs.SiteHeld.{Grant, held_shown, standing, standing_given}
-use Rattle.qc_promise.specs.SiteLogs.{log_shown, view_given}
+use Rattle.qc_promise.specs.SiteHeld.{Grant, held_shown, standing, with_promise}
+use Rattle.qc_promise.specs.SiteLogs.{log_shown}
 use Rattle.qc_promise.specs.SitePromises.{prepared_shown}
 use Rattle.qc_site.specs.Conduct.{clock_after, latest}
 use Rattle.qc_core.proofs.SiteGrowth.{lasts, stays}
 use Rattle.qc_core.proofs.SitePosts.{post_ends, post_frees}
-use Rattle.qc_core.proofs.SiteShown.{grown, hold, same_state, shown}
+use Rattle.qc_core.proofs.SiteShown.{clocks_given, grown, hold, remains, rose, same_state, shown, standing_given, view_given}
 
 pub filter_all : {A : Type 0} (f : A → Bool) → ((x : A) → f x ≡ true) → (xs : List A) → filter f xs ≡ xs
 filter_all f all [] = refl
@@ -33,17 +34,27 @@ filter_all {A = A} f all (x ∷ xs) = ap (λ (b : Bool). cond b (x ∷ filter f 
 
 -- nothing is decided by an input
 abbrev pub DecidesNothing : Given → Type 0
-DecidesNothing g = ((tx : TxId) → is_decision is_final tx g ≡ false) × ((tx : TxId) → is_decision is_aborted tx g ≡ false)
+DecidesNothing g = ((tx : TxId) → is_decision is_final tx (Takes g) ≡ false) × ((tx : TxId) → is_decision is_aborted tx (Takes g) ≡ false)
 
 module _ (ds : List Deed) (g : Given) (n : ℕ) (turn : Turn) (still : DecidesNothing g) where
-  all_stand : filter (stays g (turn_deeds n turn)) (standing ds) ≡ standing ds
-  all_stand = filter_all (stays g (turn_deeds n turn)) stay (standing ds)
-    where
-      stay : (r : Grant) → stays g (turn_deeds n turn) r ≡ true
-      stay r = ap (λ (b : Bool). not (b || is_ended r.tx (turn_deeds n turn))) (still.0 r.tx) ∙ ap (λ (b : Bool). not b) (post_ends n turn r.tx)
+  abbrev done : List Deed
+  done = Takes g ∷ turn_deeds n turn
 
-  pub held_on : (gs : List Grant) → standing_given g (turn_deeds n turn) ≡ gs → fold hold (fold hold [] (filter (stays g (turn_deeds n turn)) (standing ds))) (standing_given g (turn_deeds n turn)) ≡ fold hold (held_shown ds) gs
-  held_on gs is = ap (λ (v : List Grant). fold hold (fold hold [] v) (standing_given g (turn_deeds n turn))) all_stand ∙ ap (λ (v : List Grant). fold hold (held_shown ds) v) is
+  none_ends : (tx : TxId) → is_ended tx done ≡ false
+  none_ends tx = ap (λ (b : Bool). b || is_ended tx (turn_deeds n turn)) (still.0 tx) ∙ post_ends n turn tx
+
+  all_stand : filter (stays done) (standing (lifetime ds).since) ≡ standing (lifetime ds).since
+  all_stand = filter_all (stays done) (λ (r : Grant). ap (λ (b : Bool). not b) (none_ends r.tx)) (standing (lifetime ds).since)
+
+  all_remain : filter (remains done) (rose (lifetime ds)) ≡ rose (lifetime ds)
+  all_remain = filter_all (remains done) (λ (p : Prepared). ap (λ (b : Bool). not b) (none_ends p.tx)) (rose (lifetime ds))
+
+  pub held_on : (gs : List Grant) → standing_given g (turn_deeds n turn) ≡ gs
+      → fold hold (fold hold (fold with_promise [] (filter (remains done) (rose (lifetime ds)))) (filter (stays done) (standing (lifetime ds).since))) (standing_given g (turn_deeds n turn)) ≡ fold hold (held_shown ds) gs
+  held_on gs is =
+      ap (λ (v : List Prepared). fold hold (fold hold (fold with_promise [] v) (filter (stays done) (standing (lifetime ds).since))) (standing_given g (turn_deeds n turn))) all_remain
+      ∙ ap (λ (v : List Grant). fold hold (fold hold (fold with_promise [] (rose (lifetime ds))) v) (standing_given g (turn_deeds n turn))) all_stand
+      ∙ ap (λ (v : List Grant). fold hold (held_shown ds) v) is
 
 -- a turn without a record
 module _ (site : ℕ) (ds : List Deed) (g : Given) (n : ℕ) (sends : List Posting) (told : Option Reply) (still : DecidesNothing g) where
@@ -59,7 +70,9 @@ module _ (site : ℕ) (ds : List Deed) (g : Given) (n : ℕ) (sends : List Posti
       refl
     where
       last : (p : Prepared) → lasts (Takes g ∷ turn_deeds n (says sends told)) p ≡ true
-      last p = ap (λ (b : Bool). not (b || is_over p.tx (turn_deeds n (says sends told)))) (still.1 p.tx) ∙ ap (λ (b : Bool). not b) (post_frees n (says sends told) p.tx)
+      last p =
+          ap (λ (b : Bool). not (b || is_over p.tx (turn_deeds n (says sends told)))) (still.1 p.tx)
+          ∙ ap (λ (b : Bool). not b) (post_frees n (says sends told) p.tx)
 
   -- nothing is granted
   pub stands_still : standing_given g (turn_deeds n (says sends told)) ≡ [] → view_given g (turn_deeds n (says sends told)) ≡ [] → grown site ds g n (says sends told) ≡ record (shown site ds) { clock = fold max (clock_shown ds) (clocks_given g) }

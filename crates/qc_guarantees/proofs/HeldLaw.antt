@@ -1,6 +1,7 @@
 -- What a site granted to a transaction that committed it holds until the Decision comes.
 use Rattle.std.proofs.Common.{◌≡◌, ◌≤◌, ◌&&◌, ◌||◌, not, ℕ, suc, ◌+◌, Bool, true, false, cond, List, [], ◌∷◌, ◌++◌, inl, inr, length, Some, refl, sym, ap, ◌∙◌, subst, arith}
 use Rattle.std.specs.Prelude.{fold}
+use Rattle.std.specs.Option.{option_map_or}
 use Rattle.qc_stamp.specs.declared.stamp.TxId.{TxId}
 use Rattle.qc_stamp.specs.Order.{same_tx}
 use Rattle.qc_stamp.proofs.Orders.{same_tx_is}
@@ -27,8 +28,13 @@ use Rattle.qc_msg.specs.Counts.{written}
 use Rattle.qc_msg.specs.Deeds.{Deed, Takes, Writes, Sends, Tells, Falls, Rises, deeds, mail}
 use Rattle.qc_msg.specs.Steps.{Entry}
 use Rattle.qc_onecopy.specs.Executed.{Executed, own_line}
-use Rattle.qc_promise.specs.SiteEnds.{decides, ends, is_ended, is_final}
-use Rattle.qc_promise.specs.SiteHeld.{Grant, held_shown, holding, is_granted, standing, standing_at, standing_by, stands}
+use Rattle.qc_msg.specs.Readings.{Decided, decision_in, got_in, request_in}
+use Rattle.qc_promise.specs.Lifetimes.{Lifetime}
+use Rattle.qc_promise.specs.SiteEnds.{is_decision, is_ended, is_final}
+use Rattle.qc_promise.specs.SiteHeld.{Grant, held_shown, held_since_rise, holding, is_granted, standing, standing_as, standing_by, stands}
+use Rattle.qc_promise.specs.SitePromises.{promises_of}
+use Rattle.qc_laws.proofs.FirstLives.{only_life}
+use Rattle.qc_laws.proofs.Up.{run_up}
 use Rattle.qc_protocol.specs.Acts.{state}
 use Rattle.qc_protocol.specs.Logs.{IsExecutedOrChosen, IsOwnClosedAt, LogLaws}
 use Rattle.qc_protocol.specs.Site.{Item, Lock, Own}
@@ -49,7 +55,8 @@ use Rattle.qc_guarantees.proofs.Voted.{mirror, stood}
 
 -- a transaction that no final Decision ends among deeds
 
-undecided : (tx : TxId) (m : Message) → ((verdict : Outcome) → m ≡ messages.Decision tx verdict → is_final verdict ≡ true → ⊥) → decides is_final tx m ≡ false
+undecided : (tx : TxId) (m : Message) → ((verdict : Outcome) → m ≡ messages.Decision tx verdict → is_final verdict ≡ true → ⊥)
+    → option_map_or (λ (x : Decided). same_tx x.tx tx && is_final x.verdict) (decision_in m) false ≡ false
 undecided tx (messages.Request t epoch life want) none = refl
 undecided tx (messages.Answer to answer) none = refl
 undecided tx (messages.Decision t verdict) none = by (same_tx t tx) refl (is_final verdict) refl
@@ -65,13 +72,13 @@ undecided tx (messages.Install epoch clock log) none = refl
 
 not_ended : (tx : TxId) (ds : List Deed) → ((e : Envelope) (verdict : Outcome) → In (Takes (given.Got e)) ds → e.message ≡ messages.Decision tx verdict → is_final verdict ≡ true → ⊥) → is_ended tx ds ≡ false
 not_ended tx [] none = refl
-not_ended tx (d ∷ ds) none = by (ends tx d) (one d (λ e verdict same. none e verdict (inl (sym same)))) (not_ended tx ds (λ e verdict there. none e verdict (inr there)))
+not_ended tx (d ∷ ds) none = by (is_decision is_final tx d) (one d (λ e verdict same. none e verdict (inl (sym same)))) (not_ended tx ds (λ e verdict there. none e verdict (inr there)))
   where
     by : (b : Bool) → b ≡ false → is_ended tx ds ≡ false → (b || is_ended tx ds) ≡ false
     by true is rest = absurd (let never : ⊥ = cc in never)
     by false is rest = rest
 
-    one : (d : Deed) → ((e : Envelope) (verdict : Outcome) → d ≡ Takes (given.Got e) → e.message ≡ messages.Decision tx verdict → is_final verdict ≡ true → ⊥) → ends tx d ≡ false
+    one : (d : Deed) → ((e : Envelope) (verdict : Outcome) → d ≡ Takes (given.Got e) → e.message ≡ messages.Decision tx verdict → is_final verdict ≡ true → ⊥) → is_decision is_final tx d ≡ false
     one (Takes (given.Called command)) n = refl
     one (Takes (given.Got e)) n = undecided tx e.message (λ verdict is final. n e verdict refl is final)
     one (Takes (given.Lost number)) n = refl
@@ -84,7 +91,7 @@ not_ended tx (d ∷ ds) none = by (ends tx d) (one d (λ e verdict same. none e 
 -- what stands among later deeds stands among all
 standing_more : (before ds : List Deed) (g : Grant) → In g (standing ds) → In g (standing (before ++ ds))
 standing_more [] ds g among = among
-standing_more (d ∷ before) ds g among = In-second g (standing_at d (before ++ ds)) (standing (before ++ ds)) (standing_more before ds g among)
+standing_more (d ∷ before) ds g among = In-second g (option_map_or (standing_by (before ++ ds)) (got_in d) []) (standing (before ++ ds)) (standing_more before ds g among)
 
 -- each that stands was taken
 pub record WasTakenFor (ds : List Deed) (g : Grant) : Type 0 where
@@ -99,7 +106,7 @@ later_taken d ds g w = record { envelope = w.envelope; taken = inr w.taken; epoc
 
 was_taken : (ds : List Deed) (g : Grant) → In g (standing ds) → WasTakenFor ds g
 was_taken [] g among = absurd among
-was_taken (d ∷ ds) g among = elim (in_split g (standing_at d ds) (standing ds) among) [
+was_taken (d ∷ ds) g among = elim (in_split g (option_map_or (standing_by ds) (got_in d) []) (standing ds) among) [
   | inl here ↦ at_deed d here
   | inr there ↦ later_taken d ds g (was_taken ds g there)
 ]
@@ -109,7 +116,7 @@ was_taken (d ∷ ds) g among = elim (in_split g (standing_at d ds) (standing ds)
     by_test true x (inr never) = absurd never
     by_test false x never = absurd never
 
-    at_message : (e : Envelope) (m : Message) → e.message ≡ m → In g (standing_by e.number m ds) → WasTakenFor (Takes (given.Got e) ∷ ds) g
+    at_message : (e : Envelope) (m : Message) → e.message ≡ m → In g (option_map_or (standing_as e.number ds) (request_in m) []) → WasTakenFor (Takes (given.Got e) ∷ ds) g
     at_message e (messages.Request tx epoch life want) is here =
         let same : g ≡ record { tx = tx; want = want } = by_test (stands e.number tx ds) (record { tx = tx; want = want }) here in
         record { envelope = e; taken = inl refl; epoch = epoch; life = life; content = is ∙ (λ i. messages.Request (sym same i).tx epoch life (sym same i).want) }
@@ -120,7 +127,7 @@ was_taken (d ∷ ds) g among = elim (in_split g (standing_at d ds) (standing ds)
     at_message e (messages.Close epoch) is here = absurd here
     at_message e (messages.Install epoch clock log) is here = absurd here
 
-    at_deed : (d : Deed) → In g (standing_at d ds) → WasTakenFor (d ∷ ds) g
+    at_deed : (d : Deed) → In g (option_map_or (standing_by ds) (got_in d) []) → WasTakenFor (d ∷ ds) g
     at_deed (Takes (given.Called command)) here = absurd here
     at_deed (Takes (given.Got e)) here = at_message e e.message refl here
     at_deed (Takes (given.Lost number)) here = absurd here
@@ -208,8 +215,8 @@ module _ (decl : Declaration) (script : Script) (accepted : IsAccepted decl) (so
 
     it_stands : In asked (standing (deeds site [] h))
     it_stands = subst (λ (ds : List Deed). In asked (standing ds)) (sym g.stands) (standing_more g.before (Takes (given.Got g.request) ∷ g.since) asked
-        (In-first asked (standing_by g.request.number g.request.message g.since) (standing g.since)
-        (subst (λ (m : Message). In asked (standing_by g.request.number m g.since)) (sym g.content) (by (is_granted g.request.number g.since) (is_ended c.tx g.since) g.granted (not_ended c.tx g.since never_ended)))))
+        (In-first asked (standing_by g.since g.request) (standing g.since)
+        (subst (λ (m : Message). In asked (option_map_or (standing_as g.request.number g.since) (request_in m) [])) (sym g.content) (by (is_granted g.request.number g.since) (is_ended c.tx g.since) g.granted (not_ended c.tx g.since never_ended)))))
       where
         by : (x y : Bool) → x ≡ true → y ≡ false → In asked (cond (x && not y) (asked ∷ []) [])
         by true true is none = absurd (let never : ⊥ = cc in never)
@@ -219,8 +226,8 @@ module _ (decl : Declaration) (script : Script) (accepted : IsAccepted decl) (so
     abbrev IsKnown : OwnLine → Type 0
     IsKnown o = (d : Executed) × IsExecutedOrChosen ((state (mirror decl script accepted sound h open_inputs run).acts).executed c.tx) ((state (mirror decl script accepted sound h open_inputs run).acts).chosen c.tx) d × (o ≡ own_line d)
 
-    request_in : In g.request (mail h)
-    request_in = taken_mail site [] h g.request (subst (λ (ds : List Deed). In (Takes (given.Got g.request)) ds) (sym g.stands) (In-second (Takes (given.Got g.request)) g.before (Takes (given.Got g.request) ∷ g.since) (inl refl)))
+    request_sent : In g.request (mail h)
+    request_sent = taken_mail site [] h g.request (subst (λ (ds : List Deed). In (Takes (given.Got g.request)) ds) (sym g.stands) (In-second (Takes (given.Got g.request)) g.before (Takes (given.Got g.request) ∷ g.since) (inl refl)))
 
     wanted_known : (x : Item) (o : OwnLine) → x ≡ Own o → IsWanted want x → IsKnown o
     wanted_known x o e is = by want refl is
@@ -229,7 +236,7 @@ module _ (decl : Declaration) (script : Script) (accepted : IsAccepted decl) (so
         by (Read object inv) same locked = absurd (let clash : Own o ≡ Lock (record { object = object; inv = inv }) = sym e ∙ locked in let never : ⊥ = cc in never)
         by (Append object view own) same has =
             let one : o ≡ has.0 = (let both_are : Own o ≡ Own has.0 = sym e ∙ has.1 in cc) in
-            own_known g.request c.tx g.epoch g.life object view own o request_in (g.content ∙ ap (λ (w : Want). messages.Request c.tx g.epoch g.life w) same) (subst (λ (y : OwnLine). In y own) (sym one) has.2)
+            own_known g.request c.tx g.epoch g.life object view own o request_sent (g.content ∙ ap (λ (w : Want). messages.Request c.tx g.epoch g.life w) same) (subst (λ (y : OwnLine). In y own) (sym one) has.2)
         by Prepare same never = absurd never
 
     standing_known : (k : Grant) (l : OwnLine) → In k (standing (deeds site [] h)) → k.tx ≡ c.tx → In l (own_wanted k.want) → IsKnown l
@@ -251,7 +258,13 @@ module _ (decl : Declaration) (script : Script) (accepted : IsAccepted decl) (so
         a.2 ∙ ap own_line (one_operation c.tx a.0 b.0 a.1 b.1 numbers) ∙ sym b.2
 
     wanted_held : (x : Item) → IsWanted want x → IsHeld (held_of (held_shown (deeds site [] h)) c.tx) x
-    wanted_held x is = standing_held (standing (deeds site [] h)) [] asked x it_stands (agrees x is) is
+    wanted_held x is =
+        subst (λ (held : List Held). IsHeld (held_of held c.tx) x) (sym held_is) (standing_held (standing (deeds site [] h)) [] asked x it_stands (agrees x is) is)
+      where
+        held_is : held_shown (deeds site [] h) ≡ fold (λ (held : List Held) (k : Grant). holding held k.tx k.want) [] (standing (deeds site [] h))
+        held_is =
+            ap (λ (l : Lifetime). fold (λ (held : List Held) (k : Grant). holding held k.tx k.want) (held_since_rise l.since (promises_of l.kept)) (standing l.since))
+            (only_life (deeds site [] h) (run_up (IsLawful decl) decl script h open_inputs run site))
 
     pub granted_is_held : HasWanted (held_of (held_shown (deeds site [] h)) c.tx) want
     granted_is_held = by want wanted_held

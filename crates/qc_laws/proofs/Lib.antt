@@ -6,6 +6,7 @@ pub mod OwnStamps
 pub mod Stamped
 pub mod Mailed
 pub mod Up
+pub mod FirstLives
 pub mod Running
 pub mod Acted
 pub mod Served

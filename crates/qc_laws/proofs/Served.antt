@@ -10,14 +10,13 @@ use Rattle.qc_core.specs.Sites as serving
 use Rattle.qc_decl.specs.declared.declaration.Declaration.{Declaration}
 use Rattle.qc_decl.specs.Actors.{actors, is_client, is_site}
 use Rattle.qc_client.specs.Conduct.{client_after}
-use Rattle.qc_msg.specs.declared.record.Record.{Record}
 use Rattle.qc_msg.specs.declared.step.Given.{Given}
-use Rattle.qc_msg.specs.declared.turn.Posting.{Posting}
 use Rattle.qc_msg.specs.declared.turn.Turn.{Turn}
 use Rattle.qc_msg.specs.Deeds.{Deed, Takes, Writes, Sends, Tells, Falls, Rises, deeds, turn_deeds}
 use Rattle.qc_msg.specs.Steps.{Entry}
-use Rattle.qc_promise.specs.SiteDue.{AreDue, IsDueAt, IsDueOrOpen}
-use Rattle.qc_promise.specs.SitePosts.{sent_next, written_next}
+use Rattle.qc_promise.specs.Posts.{IsPostOf, TurnDue}
+use Rattle.qc_promise.specs.SiteDue.{AreDue, IsDueAt, IsDueOrOpen, rising_turn, turn_due}
+use Rattle.qc_promise.proofs.Posts.{post_less, post_more}
 use Rattle.qc_script.specs.Runs.{Runs}
 use Rattle.qc_script.specs.declared.script.Script.{Script}
 use Rattle.qc_site.specs.Conduct.{site_after}
@@ -33,30 +32,15 @@ pub second_part : {A : Type 0} (P : A → Type 0) (xs ys : List A) → Every P (
 second_part P [] ys all = all
 second_part P (x ∷ xs) ys all = second_part P xs ys all.1
 
--- what is posted before an input shows what was posted before it, whatever comes after the input
-
-sent_cut : (xs ys : List Deed) (g : Given) → sent_next (xs ++ Takes g ∷ ys) ≡ sent_next (xs ++ Takes g ∷ [])
-sent_cut [] ys g = refl
-sent_cut (Takes other ∷ xs) ys g = refl
-sent_cut (Writes written ∷ xs) ys g = sent_cut xs ys g
-sent_cut (Sends number to message ∷ xs) ys g = ap (λ (v : List Posting). record { to = to; message = message } ∷ v) (sent_cut xs ys g)
-sent_cut (Tells reply ∷ xs) ys g = sent_cut xs ys g
-sent_cut (Falls cause pending ∷ xs) ys g = sent_cut xs ys g
-sent_cut (Rises records ∷ xs) ys g = sent_cut xs ys g
-
-written_cut : (xs ys : List Deed) (g : Given) → written_next (xs ++ Takes g ∷ ys) ≡ written_next (xs ++ Takes g ∷ [])
-written_cut [] ys g = refl
-written_cut (Takes other ∷ xs) ys g = refl
-written_cut (Writes written ∷ xs) ys g = ap (λ (v : List Record). written ∷ v) (written_cut xs ys g)
-written_cut (Sends number to message ∷ xs) ys g = written_cut xs ys g
-written_cut (Tells reply ∷ xs) ys g = written_cut xs ys g
-written_cut (Falls cause pending ∷ xs) ys g = written_cut xs ys g
-written_cut (Rises records ∷ xs) ys g = written_cut xs ys g
+-- what was posted before an input stays due, whatever comes after the input
 
 module _ (decl : Declaration) where
+  post_cut : (t : TurnDue) (xs ys : List Deed) (g : Given) → IsPostOf t (xs ++ Takes g ∷ ys) → IsPostOf t (xs ++ Takes g ∷ [])
+  post_cut t xs ys g due = post_more t xs (Takes g ∷ []) refl (post_less t xs (Takes g ∷ ys) refl due)
+
   take_cut : (before : List Deed) (other : Given) (xs ys : List Deed) (g : Given) → IsDueOrOpen decl before other (xs ++ Takes g ∷ ys) → IsDueOrOpen decl before other (xs ++ Takes g ∷ [])
-  take_cut before other [] ys g due = record { sends = due.sends; records = due.records }
-  take_cut before other (x ∷ xs) ys g due = record { sends = sym (sent_cut (x ∷ xs) ys g) ∙ due.sends; records = sym (written_cut (x ∷ xs) ys g) ∙ due.records }
+  take_cut before other [] ys g due = due
+  take_cut before other (x ∷ xs) ys g due = post_cut (turn_due decl before other) (x ∷ xs) ys g due
 
   deed_cut : (before : List Deed) (d : Deed) (xs ys : List Deed) (g : Given) → IsDueAt decl before d (xs ++ Takes g ∷ ys) → IsDueAt decl before d (xs ++ Takes g ∷ [])
   deed_cut before (Takes other) xs ys g due = take_cut (before ++ Takes other ∷ []) other xs ys g due
@@ -64,7 +48,7 @@ module _ (decl : Declaration) where
   deed_cut before (Sends number to message) xs ys g due = tt
   deed_cut before (Tells reply) xs ys g due = tt
   deed_cut before (Falls cause pending) xs ys g due = tt
-  deed_cut before (Rises records) xs ys g due = tt
+  deed_cut before (Rises records) xs ys g due = post_cut (rising_turn decl (before ++ Rises records ∷ [])) xs ys g due
 
   due_cut : (before xs ys : List Deed) (g : Given) → AreDue decl before (xs ++ Takes g ∷ ys) → AreDue decl before (xs ++ Takes g ∷ [])
   due_cut before [] ys g due = (tt, tt)

@@ -30,7 +30,7 @@ use Rattle.qc_script.specs.declared.script.Script.{Script}
 use Rattle.qc_net.specs.Clients.{BegunMirrors, ClientMirrors, RunningMirrors, TransactionMirrors, status_by}
 use Rattle.qc_net.specs.Mirrors.{Refines}
 use Rattle.qc_net.proofs.Refining.{refines}
-use Rattle.qc_atomic.proofs.Names.{script_named}
+use Rattle.qc_atomic.proofs.Calm.{all_up, is_reached}
 use Rattle.qc_guarantees.proofs.ClockLaw.{clock_rises}
 use Rattle.qc_order.proofs.Begun.{IsKept, WasBegun, logged, taken_kept, tied_kept}
 use Rattle.qc_atomic.proofs.Stood.{OpenClient, Stood}
@@ -60,10 +60,10 @@ status_cases (Some v) s is = inr is
 
 module _ (decl : Declaration) (script : Script) (accepted : IsAccepted decl) (sound : IsScriptFor decl script) (h : List Entry) (open_inputs : List Bool) (run : Runs (IsLawful decl) decl script h open_inputs) where
   pub stood : Stood decl h open_inputs
-  stood = runs_stand decl script (script_named decl accepted script sound) h open_inputs run
+  stood = runs_stand decl script accepted sound h open_inputs run
 
   abbrev pub mirror : Refines decl stood.net
-  mirror = refines decl accepted stood.net stood.reached
+  mirror = refines decl accepted stood.net (is_reached decl stood.net stood.calm)
 
   -- the client is tied to its account, now or before its open input
   record IsTiedTo (a : ℕ) (t : Current) : Type 0 where
@@ -105,7 +105,7 @@ module _ (decl : Declaration) (script : Script) (accepted : IsAccepted decl) (so
     k = tied_kept decl o.was (stood.net.clients a) w.old o.tied w.was
 
     m : ClientMirrors decl (state mirror.acts) stood.net.mail a (stood.net.clients a)
-    m = mirror.agrees.clients a client
+    m = mirror.agrees.clients a client (all_up decl stood.net stood.calm a)
 
     b : TransactionMirrors (state mirror.acts) (stood.net.clients a).front k.x × RunningMirrors decl (state mirror.acts) stood.net.mail (stood.net.clients a) k.x
     b = subst (BegunMirrors decl (state mirror.acts) stood.net.mail (stood.net.clients a)) k.transaction m.begun

@@ -6,11 +6,12 @@ pub mod Seen
 pub mod Atomic
 pub mod Kept
 pub mod Spent
+pub mod Lifetimes
+pub mod Posts
 pub mod SiteRecords
-pub mod SitePosts
 pub mod SiteEnds
-pub mod SiteHeld
 pub mod SitePromises
+pub mod SiteHeld
 pub mod SiteLogs
 pub mod SiteClocks
 pub mod SiteDue

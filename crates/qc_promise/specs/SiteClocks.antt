@@ -1,20 +1,30 @@
--- A site's clock: the greatest of the lines and Decisions that it took, whatever became of them (Lamport 1978).
-use Rattle.std.specs.Prelude.{ℕ, max, List, [], ◌∷◌, fold, map}
+-- A site's clock: the greatest of the lines and Decisions that it took in its present life, whatever became of them, and
+-- of what stood in the records that it rose with (Lamport 1978).
+use Rattle.std.specs.Prelude.{ℕ, max, List, [], ◌∷◌, ◌++◌, fold, map}
 use Rattle.std.specs.List.{flat_map}
+use Rattle.std.specs.Option.{option_map_or}
 use Rattle.qc_entry.specs.declared.line.Line.{Line}
+use Rattle.qc_entry.specs.declared.record.Prepared.{Prepared}
+use Rattle.qc_msg.specs.declared.message.Envelope.{Envelope}
 use Rattle.qc_msg.specs.declared.message.Message.{Message}
-use Rattle.qc_msg.specs.declared.message.Message.TheVariants as messages
 use Rattle.qc_msg.specs.declared.message.Outcome.{Outcome}
 use Rattle.qc_msg.specs.declared.message.Outcome.TheVariants.{Committed, Aborted, Active}
 use Rattle.qc_msg.specs.declared.message.Want.{Want}
 use Rattle.qc_msg.specs.declared.message.Want.TheVariants.{Read, Append, Prepare}
-use Rattle.qc_msg.specs.declared.step.Given.{Given}
-use Rattle.qc_msg.specs.declared.step.Given.TheVariants as given
-use Rattle.qc_msg.specs.Deeds.{Deed, Takes, Writes, Sends, Tells, Falls, Rises}
+use Rattle.qc_msg.specs.declared.record.Record.{Record}
+use Rattle.qc_msg.specs.Deeds.{Deed}
+use Rattle.qc_promise.specs.Lifetimes.{lifetime}
+use Rattle.qc_msg.specs.Readings.{Decided, Finished, Installing, Requested}
+use Rattle.qc_msg.specs.Readings.{decision_in, done_in, got_in, install_in, prepare_in, request_in}
+
+abbrev pub clocks_of : List Line → List ℕ
+clocks_of lines = map (λ (l : Line). l.stamp.clock) lines
+
+-- what was taken; no site is asked for an epoch yet
 
 abbrev pub clocks_in_want : Want → List ℕ
 clocks_in_want (Read object inv) = []
-clocks_in_want (Append object view own) = map (λ (l : Line). l.stamp.clock) view
+clocks_in_want (Append object view own) = clocks_of view
 clocks_in_want Prepare = []
 
 abbrev pub clocks_in_outcome : Outcome → List ℕ
@@ -22,28 +32,22 @@ clocks_in_outcome (Committed stamp) = stamp.clock ∷ []
 clocks_in_outcome Aborted = []
 clocks_in_outcome Active = []
 
--- no site is asked for an epoch yet
 abbrev pub clocks_in : Message → List ℕ
-clocks_in (messages.Request tx epoch life want) = clocks_in_want want
-clocks_in (messages.Answer to answer) = []
-clocks_in (messages.Decision tx verdict) = clocks_in_outcome verdict
-clocks_in (messages.Inquiry tx) = []
-clocks_in (messages.Ask tx) = []
-clocks_in (messages.Close epoch) = []
-clocks_in (messages.Install epoch clock log) = []
-
-abbrev pub clocks_given : Given → List ℕ
-clocks_given (given.Called command) = []
-clocks_given (given.Got envelope) = clocks_in envelope.message
-clocks_given (given.Lost number) = []
+clocks_in m =
+    option_map_or (λ (q : Requested). clocks_in_want q.want) (request_in m)
+    (option_map_or (λ (x : Decided). clocks_in_outcome x.verdict) (decision_in m) [])
 
 abbrev pub clocks_at : Deed → List ℕ
-clocks_at (Takes given) = clocks_given given
-clocks_at (Writes written) = []
-clocks_at (Sends number to message) = []
-clocks_at (Tells reply) = []
-clocks_at (Falls cause pending) = []
-clocks_at (Rises records) = []
+clocks_at d = option_map_or (λ (e : Envelope). clocks_in e.message) (got_in d) []
+
+-- what records name
+
+abbrev pub clocks_in_record : Record → List ℕ
+clocks_in_record r =
+    option_map_or (λ (p : Prepared). clocks_of p.lines) (prepare_in r)
+    (option_map_or (λ (f : Finished). f.clock ∷ []) (done_in r)
+    (option_map_or (λ (i : Installing). clocks_of i.lines ++ i.clock ∷ []) (install_in r) []))
 
 abbrev pub clock_shown : List Deed → ℕ
-clock_shown ds = fold max 0 (flat_map clocks_at ds)
+clock_shown ds =
+    fold max 0 (flat_map clocks_in_record (lifetime ds).kept ++ flat_map clocks_at (lifetime ds).since)

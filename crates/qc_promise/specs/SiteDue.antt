@@ -1,8 +1,11 @@
--- What a site is to answer and to write for what it takes, by what its own steps show: the first row that applies.
-use Rattle.std.specs.Prelude.{◌≡◌, ℕ, ◌==◌, ◌&&◌, nat_lt, nat_le, Bool, true, not, if◌then◌else◌, is_some}
-use Rattle.std.specs.Prelude.{List, [], ◌∷◌, ◌++◌, Option, Some, None, option_map, unwrap_or}
+-- What a site is to write and to send for what it takes, and as it rises, by what its own steps show: the first row that
+-- applies.
+use Rattle.std.specs.Prelude.{ℕ, ◌==◌, ◌&&◌, nat_lt, nat_le, Bool, true, false, not, if◌then◌else◌, is_some}
+use Rattle.std.specs.Prelude.{List, [], ◌∷◌, ◌++◌, map, fold, Option, Some, None, option_map, unwrap_or}
 use Rattle.std.specs.Option.{option_map_or, option_or}
+use Rattle.qc_list.specs.Order.{inserted}
 use Rattle.qc_stamp.specs.declared.stamp.TxId.{TxId}
+use Rattle.qc_stamp.specs.Order.{tx_cmp}
 use Rattle.qc_entry.specs.declared.record.Prepared.{Prepared}
 use Rattle.qc_entry.specs.Log.{of_object, without}
 use Rattle.qc_table.specs.declared.kind.Kind.{Kind}
@@ -16,24 +19,23 @@ use Rattle.qc_lock.specs.Clash.{append_clash, read_clash}
 use Rattle.qc_lock.specs.Held.{held_of, is_held}
 use Rattle.qc_msg.specs.declared.message.Answer.{Answer}
 use Rattle.qc_msg.specs.declared.message.Answer.TheVariants as answers
-use Rattle.qc_msg.specs.declared.message.Message.{Message}
 use Rattle.qc_msg.specs.declared.message.Message.TheVariants as messages
 use Rattle.qc_msg.specs.declared.message.Outcome.{Outcome}
 use Rattle.qc_msg.specs.declared.message.Outcome.TheVariants.{Committed, Aborted, Active}
 use Rattle.qc_msg.specs.declared.message.Want.{Want}
 use Rattle.qc_msg.specs.declared.message.Want.TheVariants.{Read, Append, Prepare}
-use Rattle.qc_msg.specs.declared.record.Record.{Record}
 use Rattle.qc_msg.specs.declared.record.Record.TheVariants as records
+use Rattle.qc_msg.specs.declared.message.Envelope.{Envelope}
 use Rattle.qc_msg.specs.declared.step.Given.{Given}
-use Rattle.qc_msg.specs.declared.step.Given.TheVariants as given
 use Rattle.qc_msg.specs.declared.turn.Posting.{Posting}
 use Rattle.qc_msg.specs.Deeds.{Deed, Takes, Writes, Sends, Tells, Falls, Rises}
 use Rattle.qc_msg.specs.Lengths.{prepare_length}
+use Rattle.qc_promise.specs.Posts.{IsPostOf, TurnDue, quiet_turn, sending}
 use Rattle.qc_promise.specs.SiteClocks.{clock_shown}
 use Rattle.qc_promise.specs.SiteHeld.{held_shown}
 use Rattle.qc_promise.specs.SiteLogs.{log_shown, recorded_shown}
-use Rattle.qc_promise.specs.SitePosts.{sent_next, written_next}
-use Rattle.qc_promise.specs.SitePromises.{is_promised}
+use Rattle.qc_promise.specs.SitePromises.{is_promised, prepared_shown}
+use Rattle.qc_msg.specs.Readings.{Decided, Requested, decision_in, heard_in, request_in}
 use Rattle.qc_promise.specs.SiteRecords.{closed_shown, epoch_shown, life_shown}
 
 -- the refusal that the request's epoch and life are due, if any
@@ -101,11 +103,14 @@ grant_due ds Prepare = answers.Yes (clock_shown ds)
 abbrev pub answer_due : Declaration → List Deed → TxId → ℕ → ℕ → Want → Answer
 answer_due decl ds tx epoch life want = unwrap_or (refusal_due decl ds tx epoch life want) (grant_due ds want)
 
--- with a Clash, the holder's client is asked how its transaction stands
+-- the client of a transaction is asked how it stands
+abbrev pub inquiry : Declaration → TxId → Posting
+inquiry decl tx = record { to = client_actor decl tx.client; message = messages.Inquiry tx }
+
+-- with a Clash that of the holder is
 abbrev pub inquiries_due : Declaration → Answer → List Posting
 inquiries_due decl (answers.Granted life clock log) = []
-inquiries_due decl (answers.Clash holder inv event) =
-    record { to = client_actor decl holder.client; message = messages.Inquiry holder } ∷ []
+inquiries_due decl (answers.Clash holder inv event) = inquiry decl holder ∷ []
 inquiries_due decl (answers.Closed epoch) = []
 inquiries_due decl (answers.Behind epoch) = []
 inquiries_due decl (answers.Restarted life) = []
@@ -126,73 +131,74 @@ names_object decl Prepare = true
 abbrev pub is_declared : Declaration → TxId → Want → Bool
 is_declared decl tx want = nat_lt tx.client decl.clients && names_object decl want
 
--- what is sent for a message: the answer of a request to its sender, and nothing else is answered
+-- the turn of a request: its answer goes to its sender, and a promise that doesn't stand yet is written before it is
+-- answered; where that failed, the answer is Fault
 
 abbrev pub answers_due : Declaration → ℕ → ℕ → Answer → List Posting
 answers_due decl from number answer =
     record { to = from; message = messages.Answer number answer } ∷ inquiries_due decl answer
 
-abbrev pub sends_by : Declaration → List Deed → ℕ → ℕ → Message → List Posting
-sends_by decl ds from number (messages.Request tx epoch life want) =
-    if is_declared decl tx want then answers_due decl from number (answer_due decl ds tx epoch life want) else []
-sends_by decl ds from number (messages.Answer to answer) = []
-sends_by decl ds from number (messages.Decision tx verdict) = []
-sends_by decl ds from number (messages.Inquiry tx) = []
-sends_by decl ds from number (messages.Ask tx) = []
-sends_by decl ds from number (messages.Close epoch) = []
-sends_by decl ds from number (messages.Install epoch clock log) = []
+abbrev pub promise_turn : List Deed → ℕ → ℕ → TxId → TurnDue
+promise_turn ds from number tx =
+    record {
+      write = Some (records.Prepare (promise_due ds tx));
+      sends = record { to = from; message = messages.Answer number (answers.Yes (clock_shown ds)) } ∷ [];
+      failed_sends = record { to = from; message = messages.Answer number answers.Fault } ∷ [];
+    }
 
-abbrev pub sends_due : Declaration → List Deed → Given → List Posting
-sends_due decl ds (given.Called command) = []
-sends_due decl ds (given.Got envelope) = sends_by decl ds envelope.from envelope.number envelope.message
-sends_due decl ds (given.Lost number) = []
+abbrev pub is_new_promise : List Deed → TxId → Want → Bool
+is_new_promise ds tx (Read object inv) = false
+is_new_promise ds tx (Append object view own) = false
+is_new_promise ds tx Prepare = not (is_promised ds tx)
 
--- what is written: the promise that a Prepare is granted, where none stands; and that a promised transaction committed
+abbrev pub granting_turn : Declaration → List Deed → Envelope → Requested → TurnDue
+granting_turn decl ds e q =
+    if is_new_promise ds q.tx q.want then promise_turn ds e.from e.number q.tx
+    else sending (answers_due decl e.from e.number (grant_due ds q.want))
 
-abbrev pub promise_written : List Deed → TxId → List Record
-promise_written ds tx = if is_promised ds tx then [] else records.Prepare (promise_due ds tx) ∷ []
+abbrev pub request_turn : Declaration → List Deed → Envelope → Requested → TurnDue
+request_turn decl ds e q =
+    if is_declared decl q.tx q.want
+    then option_map_or (λ (a : Answer). sending (answers_due decl e.from e.number a))
+    (refusal_due decl ds q.tx q.epoch q.life q.want) (granting_turn decl ds e q)
+    else quiet_turn
 
-abbrev pub want_written : List Deed → TxId → Want → List Record
-want_written ds tx (Read object inv) = []
-want_written ds tx (Append object view own) = []
-want_written ds tx Prepare = promise_written ds tx
+-- that of a Decision: that a promised transaction committed is written. Nothing else has one
 
-abbrev pub request_written : Declaration → List Deed → TxId → ℕ → ℕ → Want → List Record
-request_written decl ds tx epoch life want =
-    if is_declared decl tx want && not (is_some (refusal_due decl ds tx epoch life want))
-    then want_written ds tx want
-    else []
+abbrev pub done_turn : List Deed → TxId → Outcome → TurnDue
+done_turn ds tx (Committed stamp) =
+    if is_promised ds tx then record { write = Some (records.Done tx stamp.clock); sends = []; failed_sends = [] } else quiet_turn
+done_turn ds tx Aborted = quiet_turn
+done_turn ds tx Active = quiet_turn
 
-abbrev pub outcome_written : List Deed → TxId → Outcome → List Record
-outcome_written ds tx (Committed stamp) = if is_promised ds tx then records.Done tx stamp.clock ∷ [] else []
-outcome_written ds tx Aborted = []
-outcome_written ds tx Active = []
+abbrev pub heard_turn : Declaration → List Deed → Envelope → TurnDue
+heard_turn decl ds e =
+    option_map_or (request_turn decl ds e) (request_in e.message)
+    (option_map_or (λ (x : Decided). done_turn ds x.tx x.verdict) (decision_in e.message) quiet_turn)
 
-abbrev pub records_by : Declaration → List Deed → Message → List Record
-records_by decl ds (messages.Request tx epoch life want) = request_written decl ds tx epoch life want
-records_by decl ds (messages.Answer to answer) = []
-records_by decl ds (messages.Decision tx verdict) = outcome_written ds tx verdict
-records_by decl ds (messages.Inquiry tx) = []
-records_by decl ds (messages.Ask tx) = []
-records_by decl ds (messages.Close epoch) = []
-records_by decl ds (messages.Install epoch clock log) = []
+abbrev pub turn_due : Declaration → List Deed → Given → TurnDue
+turn_due decl ds given = option_map_or (heard_turn decl ds) (heard_in given) quiet_turn
 
-abbrev pub records_due : Declaration → List Deed → Given → List Record
-records_due decl ds (given.Called command) = []
-records_due decl ds (given.Got envelope) = records_by decl ds envelope.message
-records_due decl ds (given.Lost number) = []
+-- that of a rise: it writes so, and then asks the clients of the transactions that it has promised, in their order
 
--- what a site posts for an input is due, the deeds up to its take being ds, and those after it after
-pub record IsDue (decl : Declaration) (ds : List Deed) (given : Given) (after : List Deed) : Type 0 where
-  pub sends : sent_next after ≡ sends_due decl ds given
-  pub records : written_next after ≡ records_due decl ds given
+abbrev pub in_order : List TxId → List TxId
+in_order txs = fold (inserted tx_cmp) [] txs
 
--- an input that nothing comes after may be open still
+abbrev pub rising_turn : Declaration → List Deed → TurnDue
+rising_turn decl ds =
+    record {
+      write = Some records.Life;
+      sends = map (inquiry decl) (in_order (map (λ (p : Prepared). p.tx) (prepared_shown ds)));
+      failed_sends = [];
+    }
+
+-- what a site posts for an input is due, the deeds up to its take being ds, and those after it after; an input that
+-- nothing comes after may be open still
 abbrev pub IsDueOrOpen : Declaration → List Deed → Given → List Deed → Type 0
 IsDueOrOpen decl ds given [] = Unit {0}
-IsDueOrOpen decl ds given (d ∷ after) = IsDue decl ds given (d ∷ after)
+IsDueOrOpen decl ds given (d ∷ after) = IsPostOf (turn_due decl ds given) (d ∷ after)
 
--- for each input of a site, what it posts for it is due; before are the deeds before these
+-- for each input and each rise of a site, what it posts for it is due; before are the deeds before these
 
 abbrev pub IsDueAt : Declaration → List Deed → Deed → List Deed → Type 0
 IsDueAt decl before (Takes given) after = IsDueOrOpen decl (before ++ Takes given ∷ []) given after
@@ -200,7 +206,7 @@ IsDueAt decl before (Writes written) after = Unit {0}
 IsDueAt decl before (Sends number to message) after = Unit {0}
 IsDueAt decl before (Tells reply) after = Unit {0}
 IsDueAt decl before (Falls cause pending) after = Unit {0}
-IsDueAt decl before (Rises records) after = Unit {0}
+IsDueAt decl before (Rises kept) after = IsPostOf (rising_turn decl (before ++ Rises kept ∷ [])) after
 
 abbrev pub AreDue : Declaration → List Deed → List Deed → Type 0
 AreDue decl before [] = Unit {0}
