@@ -83,7 +83,7 @@ goes_calm a copies i e c = by (e.from == a)
     went false = record { copies = c.copies; lost = c.lost; late = c.late; opening = c.opening; cuts = c.cuts; up = c.up; controls = c.controls }
 
     by : (t : Bool) → IsCalm copies (if t then goes_with i e (fate [] i.cuts e.from e.to (count_of i.to_each e.to + 1)) else i)
-    by true = subst (λ (f : Fate). IsCalm copies (goes_with i e f)) (sym (passes i.cuts e.from e.to (count_of i.to_each e.to + 1) c.cuts)) 
+    by true = subst (λ (f : Fate). IsCalm copies (goes_with i e f)) (sym (passes i.cuts e.from e.to (count_of i.to_each e.to + 1) c.cuts))
         (subst (λ (u : Bool). IsCalm copies (if is_request e.message then (if u then record i { to_each = one_more i.to_each e.to; unanswered = i.unanswered ++ record { number = e.number; to = e.to } ∷ [] } else record i { to_each = one_more i.to_each e.to; lost = with_number i.lost e.number }) else record i { to_each = one_more i.to_each e.to }))
         (sym (is_up-everybody i.up e.to c.up)) (went (is_request e.message)))
     by false = c
