@@ -4,9 +4,9 @@
 usage: wrong_definitions.py [WORD..]
 
 With words only the edits whose names have one of them are tried. Nothing of the tree is changed: qc_epoch, qc_recover
-and qc_net are copied, with what was kept of them, beside links to the crates below, which have to be built as `rt
-check` in crates/qc_net leaves them. An edit takes half a minute to two. The status is 0 where each is refused, 1 where
-one isn't, no longer applies, or isn't a definition any more. Python 3.8 or later.
+and qc_net are copied, with what was kept of them, beside the crates below, which have to be built, as `rt check` in
+crates/qc_net leaves them. An edit takes half a minute to two. The status is 0 where each is refused, 1 where one
+isn't, no longer applies, or isn't a definition any more. Python 3.8 or later.
 """
 import os
 import shutil
@@ -71,25 +71,31 @@ EDITS = [
 ]
 
 
-def crates_below():
-    """Returns the repository's crates that qc_net stands on."""
+def below():
+    """Returns the lines of crates.txt for qc_net and the repository's crates that it stands on, by crate."""
     with open(f"{TOP}/crates.txt", encoding="utf-8") as it:
-        for line in it:
-            head, _, rest = line.partition(":")
-            if head == "qc_net":
-                return [name for name in rest.split() if os.path.isdir(f"{TOP}/crates/{name}")]
-    raise SystemExit("wrong_definitions: crates.txt has no qc_net")
+        lines = {line.split(":")[0].split()[0]: line for line in it if ":" in line.split("#")[0]}
+    wanted = {"qc_net", *lines["qc_net"].partition(":")[2].split()}
+    return {name: line for name, line in lines.items() if name in wanted}
+
+
+def link_or_copy(old, new):
+    try:
+        os.link(old, new)
+    except OSError:
+        shutil.copy2(old, new)
 
 
 def copy_to(folder):
-    """Copies the three crates into a folder, and links those below."""
-    os.mkdir(f"{folder}/crates")
-    shutil.copy(f"{TOP}/crates.txt", folder)
-    for name in {*crates_below(), "qc_net"}:
+    """Copies the three crates into a folder, and links the files of those below."""
+    with open(f"{folder}/crates.txt", "w", encoding="utf-8") as it:
+        it.writelines(below().values())
+    for name in below():
+        old, new = f"{TOP}/crates/{name}", f"{folder}/crates/{name}"
         if name in COPIED:
-            shutil.copytree(f"{TOP}/crates/{name}", f"{folder}/crates/{name}")
+            shutil.copytree(old, new)
         else:
-            os.symlink(f"{TOP}/crates/{name}", f"{folder}/crates/{name}")
+            shutil.copytree(old, new, copy_function=link_or_copy, ignore=shutil.ignore_patterns("incremental"))
 
 
 def tried(folder):

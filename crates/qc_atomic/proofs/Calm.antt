@@ -12,7 +12,7 @@ use Rattle.qc_site.specs.Site.{IsAtFirst, SiteMove, SiteState}
 use Rattle.qc_site.proofs.Rows.{at_first}
 use Rattle.qc_net.specs.Net.{MayCome, MayCommand, Net, Reaches, after_client, after_site, first_net}
 use Rattle.qc_net.specs.Net as nets
-use Rattle.qc_net.proofs.Frames.{put_one}
+use Rattle.qc_net.proofs.Machine.{put_one}
 
 -- a site takes each input by its rules for one epoch
 pub data IsCalm (decl : Declaration) : Net → Type 0 where

@@ -48,7 +48,7 @@ use Rattle.qc_account.specs.Ties.{Ties}
 use Rattle.qc_account.proofs.Courses.{clients_tied}
 use Rattle.qc_account.proofs.Declared.{asks_declared}
 use Rattle.qc_net.specs.Net.{MayCommand, after_client, after_site, commits_in, first_net, sent_all}
-use Rattle.qc_net.proofs.Frames.{put_one}
+use Rattle.qc_net.proofs.Machine.{put_one}
 use Rattle.qc_atomic.proofs.Asked.{ready_named}
 use Rattle.qc_atomic.proofs.Calm as calm
 use Rattle.qc_atomic.proofs.Names.{script_named}

@@ -33,7 +33,7 @@ use Rattle.qc_net.specs.Mirrors.{Refines}
 use Rattle.qc_net.specs.Net.{MayCome, Net, after_site}
 use Rattle.qc_atomic.proofs.Calm.{IsCalm, is_reached}
 use Rattle.qc_atomic.proofs.Calm as calm
-use Rattle.qc_net.proofs.Frames.{put_one, slice_get-append}
+use Rattle.qc_net.proofs.Machine.{put_one, slice_get-append}
 use Rattle.qc_net.proofs.Posts.{Place, placed}
 use Rattle.qc_net.proofs.Refining.{refines}
 use Rattle.qc_guarantees.proofs.SiteLocks.{Asks, locks_were_asked}
