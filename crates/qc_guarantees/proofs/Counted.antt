@@ -29,7 +29,7 @@ use Rattle.qc_msg.specs.declared.step.Step.TheVariants as steps
 use Rattle.qc_msg.specs.declared.turn.Posting.{Posting}
 use Rattle.qc_msg.specs.declared.turn.Turn.{Turn}
 use Rattle.qc_msg.specs.Counts.{operations_of}
-use Rattle.qc_msg.specs.Deeds.{Deed, Sends, Takes, Tells, Falls, Rises, WasSentTo, deeds, mail, sends_of, tells_of, turn_deeds, writes_of}
+use Rattle.qc_msg.specs.Deeds.{Deed, Sends, Takes, Tells, WasSentTo, deeds, mail, sends_of, tells_of, turn_deeds, writes_of}
 use Rattle.qc_msg.specs.Steps.{Entry, by as by_actor, marked, posted, step_of}
 use Rattle.qc_msg.proofs.Growth.{deeds-other, deeds-posted, deeds-taken}
 use Rattle.qc_promise.specs.Account.{Account, ClientRequest, Current}

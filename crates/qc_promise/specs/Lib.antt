@@ -6,6 +6,7 @@ pub mod Seen
 pub mod Atomic
 pub mod Kept
 pub mod Spent
+pub mod Posts
 pub mod SiteRecords
 pub mod SitePosts
 pub mod SiteEnds

@@ -1,6 +1,5 @@
 -- Scripts of two clients: one that nothing disturbs, and others that something does.
 use Rattle.std.specs.Prelude.{ℕ, List, [], ◌∷◌, None}
-use Rattle.qc_link.specs.declared.plan.Link.{Link}
 use Rattle.qc_link.specs.declared.rule.Rule.TheVariants as rules
 use Rattle.qc_msg.specs.declared.step.Command.TheVariants as commands
 use Rattle.qc_msg.specs.declared.step.Control.{Control}
