@@ -24,6 +24,7 @@ use Rattle.qc_promise.specs.Accounting.{account_sent, account_written, counted}
 use Rattle.qc_promise.specs.Atomic.{HasBefore}
 use Rattle.qc_promise.specs.Deals.{is_begun}
 use Rattle.qc_promise.specs.Replies.{IsRecordDue}
+use Rattle.qc_promise.specs.Rows.{running_row}
 use Rattle.qc_promise.specs.Seen.{Sight, answered, granted, sees, sight_sent, waits}
 use Rattle.qc_promise.specs.Status.{Status, given_up, status_sent, status_written}
 use Rattle.qc_promise.specs.Status as statuses
@@ -216,7 +217,7 @@ module _ (commits : List Commit) (tx : TxId) (d : Account) (s : Sight) (wrote : 
   named_by stamp c None is = absurd (let never : ⊥ = cc in never)
   named_by stamp c (Some t) is = (let same : record { stamp = stamp; tx = t.tx; ops = t.ops } ≡ c = cc in ap (λ (x : Commit). Some x.tx) same)
 
-  commit_sees : (decl : Declaration) (c : Commit) → In c commits → IsRecordDue decl d [] (records.Commit c) → Sees commits tx (record d { written = Some c }) s (c ∷ wrote) (cond (same_tx c.tx tx) (statuses.Committed c.stamp) st)
+  commit_sees : (decl : Declaration) (c : Commit) → In c commits → IsRecordDue d (running_row decl d false) (records.Commit c) → Sees commits tx (record d { written = Some c }) s (c ∷ wrote) (cond (same_tx c.tx tx) (statuses.Committed c.stamp) st)
   commit_sees decl c there due_is = record {
     begun = w.begun;
     waiting = w.waiting;
@@ -252,8 +253,17 @@ module _ (commits : List Commit) (tx : TxId) (d : Account) (s : Sight) (wrote : 
       stands_one r (inl same) its is = ap (λ (x : Commit). Some x) (sym same)
       stands_one r (inr old) its is = absurd (let wrote_it : d.written ≡ Some r = w.stands r old its is in let none : d.written ≡ None = due_is.2 in let never : ⊥ = cc in never)
 
-  pub wrote_sees : (decl : Declaration) (written : Record) → ((c : Commit) → written ≡ records.Commit c → In c commits) → IsRecordDue decl d [] written → Sees commits tx (account_written d written) s (cons_option (commit_in written) wrote) (status_written tx st written)
-  wrote_sees decl records.Life there is = w
+  pub wrote_sees : (decl : Declaration) (written : Record) → ((c : Commit) → written ≡ records.Commit c → In c commits) → IsRecordDue d (running_row decl d false) written → Sees commits tx (account_written d written) s (cons_option (commit_in written) wrote) (status_written tx st written)
+  wrote_sees decl records.Life there is = record {
+    begun = w.begun;
+    waiting = w.waiting;
+    known = w.known;
+    seen = w.seen;
+    before = w.before;
+    ended = w.ended;
+    stands = w.stands;
+    listed = w.listed;
+  }
   wrote_sees decl (records.Prepare prepared) there is = w
   wrote_sees decl (records.Done other clock) there is = w
   wrote_sees decl (records.Close epoch) there is = w

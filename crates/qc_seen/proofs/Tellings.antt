@@ -18,7 +18,7 @@ use Rattle.qc_promise.specs.Atomic.{HasBefore}
 use Rattle.qc_promise.specs.Deals.{is_begun}
 use Rattle.qc_promise.specs.Replies.{IsReplyDue}
 use Rattle.qc_promise.specs.Rounds.{answer_of}
-use Rattle.qc_promise.specs.Rows.{commit_of}
+use Rattle.qc_promise.specs.Rows.{commit_of, running_row}
 use Rattle.qc_promise.specs.Seen.{Sight, sight_told}
 use Rattle.qc_promise.specs.Status.{IsRightReply, Status, given_up, status_told}
 use Rattle.qc_promise.specs.Status as statuses
@@ -159,7 +159,7 @@ module _ (decl : Declaration) (commits : List Commit) (tx : TxId) (d : Account) 
       known_one t (inl old) = higher commits t d.clock stamp.clock more (w.known t old)
       known_one t (inr new) = committed_is stamp d.current is t (subst (λ (o : Option TxId). In t (option_to_list o)) w.begun new)
 
-  pub told_sees : (reply : Reply) → IsReplyDue decl d [] reply → IsRightReply tx st reply → Sees commits tx (account_told decl d reply) (sight_told tx s reply) wrote (status_told tx st reply)
+  pub told_sees : (reply : Reply) → IsReplyDue d (running_row decl d false) [] reply → IsRightReply tx st reply → Sees commits tx (account_told decl d reply) (sight_told tx s reply) wrote (status_told tx st reply)
   told_sees replies.Down due right = goes_on d (as_it_is d) due.1
   told_sees (replies.Already other) due right = goes_on d (as_it_is d) due.1
   told_sees (replies.Began other) due right = begins other d.known (d.count + 1) _ refl right
