@@ -143,7 +143,8 @@ module _ (decl : Declaration) (a : ℕ) (client : is_client decl a ≡ true) (co
   first_at = record {
     begun = refl;
     waiting = λ n among. absurd among;
-    known = λ t among. absurd among;
+    shown = λ t among. absurd among;
+    committed = λ t among. absurd among;
     seen = λ is t among. absurd among;
     before = λ r among. absurd among;
     ended = λ r among. absurd among;

@@ -71,7 +71,8 @@ module _ (commits : List Commit) (tx : TxId) (d : Account) (s : Sight) (wrote : 
     skipped others = record {
       begun = w.begun ∙ sym c.named;
       waiting = λ m among. c.others m (others m among) (w.waiting m among);
-      known = λ t among. up t (w.known t among);
+      shown = λ t among. up t (w.shown t among);
+      committed = λ t among. up t (w.committed t among);
       seen = λ is t among. up t (w.seen is t among);
       before = w.before;
       ended = w.ended;
@@ -83,7 +84,8 @@ module _ (commits : List Commit) (tx : TxId) (d : Account) (s : Sight) (wrote : 
     lost_sees = record {
       begun = w.begun ∙ sym c.named;
       waiting = λ m among. c.others m (other_number n m s.waiting among) (w.waiting m (In-unfiltered (λ (k : ℕ). not (k == n)) m s.waiting among));
-      known = λ t among. up t (w.known t among);
+      shown = λ t among. up t (w.shown t among);
+      committed = λ t among. up t (w.committed t among);
       seen = λ is t among. up t (w.seen is t among);
       before = w.before;
       ended = w.ended;
@@ -96,7 +98,8 @@ module _ (commits : List Commit) (tx : TxId) (d : Account) (s : Sight) (wrote : 
     shown unwritten lines new = record {
       begun = w.begun ∙ sym c.named;
       waiting = λ m among. c.others m (other_number n m s.waiting among) (w.waiting m (In-unfiltered (λ (k : ℕ). not (k == n)) m s.waiting among));
-      known = λ t among. either t s.known (w.known t) (in_split t s.known (map (λ (l : Line). l.tx) lines) among);
+      shown = λ t among. either t s.shown (w.shown t) (in_split t s.shown (map (λ (l : Line). l.tx) lines) among);
+      committed = λ t among. up t (w.committed t among);
       seen = λ is t among. either t s.seen (w.seen is t) (in_split t s.seen (map (λ (l : Line). l.tx) lines) (subst (λ (b : Bool). In t (cond b (s.seen ++ map (λ (l : Line). l.tx) lines) s.seen)) is among));
       before = λ r among its. on_seen r among its (is_begun tx s.begun) refl;
       ended = w.ended;
@@ -148,7 +151,8 @@ module _ (commits : List Commit) (tx : TxId) (d : Account) (s : Sight) (wrote : 
   called_sees command free unwritten = record {
     begun = w.begun;
     waiting = λ n among. absurd (free n among);
-    known = w.known;
+    shown = w.shown;
+    committed = w.committed;
     seen = w.seen;
     before = w.before;
     ended = w.ended;
@@ -177,7 +181,8 @@ module _ (commits : List Commit) (tx : TxId) (d : Account) (s : Sight) (wrote : 
   unasked_sees message = record {
     begun = w.begun;
     waiting = w.waiting;
-    known = w.known;
+    shown = w.shown;
+    committed = w.committed;
     seen = w.seen;
     before = w.before;
     ended = λ r among its. sent_status st message (w.ended r among its);
@@ -194,7 +199,8 @@ module _ (commits : List Commit) (tx : TxId) (d : Account) (s : Sight) (wrote : 
           | inl old ↦ (let o : IsOpen n d.requests = w.waiting n old in record { request = o.request; among = In-first o.request d.requests (new ∷ []) o.among; number = o.number; untaken = o.untaken })
           | inr same ↦ record { request = new; among = In-last new d.requests; number = sym same; untaken = refl }
         ];
-        known = w.known;
+        shown = w.shown;
+        committed = w.committed;
         seen = w.seen;
         before = w.before;
         ended = w.ended;
@@ -221,7 +227,8 @@ module _ (commits : List Commit) (tx : TxId) (d : Account) (s : Sight) (wrote : 
   commit_sees decl c there due_is = record {
     begun = w.begun;
     waiting = w.waiting;
-    known = w.known;
+    shown = w.shown;
+    committed = w.committed;
     seen = w.seen;
     before = before_one;
     ended = ended_one;
@@ -257,7 +264,8 @@ module _ (commits : List Commit) (tx : TxId) (d : Account) (s : Sight) (wrote : 
   wrote_sees decl records.Life there is = record {
     begun = w.begun;
     waiting = w.waiting;
-    known = w.known;
+    shown = w.shown;
+    committed = w.committed;
     seen = w.seen;
     before = w.before;
     ended = w.ended;
