@@ -8,6 +8,8 @@ pub mod SitePrepares
 pub mod SiteDecisions
 pub mod SiteMoves
 pub mod SiteDues
+pub mod SiteKept
+pub mod SiteRises
 pub mod SiteLaws
 pub mod Steady
 pub mod ActorLaws
