@@ -33,29 +33,29 @@ differs_5_3 e = let never : ⊥ = cc in never
 differs_7_6 : ◌≡◌ {A = ℕ} 7 6 → ⊥
 differs_7_6 e = let never : ⊥ = cc in never
 
-pub asks_and_falls_as_it_writes_life_refused : AreDue three [] wrong_falls.asks_and_falls_as_it_writes_life → ⊥
-asks_and_falls_as_it_writes_life_refused all = differs_3_5 (ap (figure_of 0 0) (post_at 10 three [] wrong_falls.asks_and_falls_as_it_writes_life all))
+pub asks_and_falls_refused : AreDue three [] wrong_falls.asks_and_falls → ⊥
+asks_and_falls_refused all = differs_3_5 (ap (figure_of 0 0) (post_at 10 three [] wrong_falls.asks_and_falls all))
 
-pub says_fault_and_does_not_fall_refused : AreDue three [] wrong_falls.says_fault_and_does_not_fall → ⊥
-says_fault_and_does_not_fall_refused all = differs_3_2 (ap (figure_of 0 0) (post_at 4 three [] wrong_falls.says_fault_and_does_not_fall all))
+pub says_fault_and_stays_up_refused : AreDue three [] wrong_falls.says_fault_and_stays_up → ⊥
+says_fault_and_stays_up_refused all = differs_3_2 (ap (figure_of 0 0) (post_at 4 three [] wrong_falls.says_fault_and_stays_up all))
 
-pub its_disk_fails_and_it_does_not_say_fault_refused : AreDue three [] wrong_falls.its_disk_fails_and_it_does_not_say_fault → ⊥
-its_disk_fails_and_it_does_not_say_fault_refused all = differs_5_3 (ap (figure_of 0 0) (post_at 4 three [] wrong_falls.its_disk_fails_and_it_does_not_say_fault all))
+pub fails_without_fault_refused : AreDue three [] wrong_falls.fails_without_fault → ⊥
+fails_without_fault_refused all = differs_5_3 (ap (figure_of 0 0) (post_at 4 three [] wrong_falls.fails_without_fault all))
 
-pub its_disk_stops_and_it_says_fault_refused : AreDue three [] wrong_falls.its_disk_stops_and_it_says_fault → ⊥
-its_disk_stops_and_it_says_fault_refused all = differs_3_5 (ap (figure_of 0 0) (post_at 4 three [] wrong_falls.its_disk_stops_and_it_says_fault all))
+pub stops_with_fault_refused : AreDue three [] wrong_falls.stops_with_fault → ⊥
+stops_with_fault_refused all = differs_3_5 (ap (figure_of 0 0) (post_at 4 three [] wrong_falls.stops_with_fault all))
 
-pub says_yes_and_falls_as_it_writes_the_promise_refused : AreDue three [] wrong_falls.says_yes_and_falls_as_it_writes_the_promise → ⊥
-says_yes_and_falls_as_it_writes_the_promise_refused all = differs_7_6 (ap (figure_of 0 4) (post_at 4 three [] wrong_falls.says_yes_and_falls_as_it_writes_the_promise all))
+pub says_yes_and_falls_refused : AreDue three [] wrong_falls.says_yes_and_falls → ⊥
+says_yes_and_falls_refused all = differs_7_6 (ap (figure_of 0 4) (post_at 4 three [] wrong_falls.says_yes_and_falls all))
 
-pub falls_as_it_writes_another_promise_refused : AreDue three [] wrong_falls.falls_as_it_writes_another_promise → ⊥
-falls_as_it_writes_another_promise_refused all = differs_1_2 (ap (figure_of 1 3) (post_at 4 three [] wrong_falls.falls_as_it_writes_another_promise all))
+pub falls_with_another_promise_refused : AreDue three [] wrong_falls.falls_with_another_promise → ⊥
+falls_with_another_promise_refused all = differs_1_2 (ap (figure_of 1 3) (post_at 4 three [] wrong_falls.falls_with_another_promise all))
 
-pub falls_with_nothing_pending_as_it_answers_refused : AreDue three [] wrong_falls.falls_with_nothing_pending_as_it_answers → ⊥
-falls_with_nothing_pending_as_it_answers_refused all = differs_1_3 (ap (figure_of 1 1) (post_at 4 three [] wrong_falls.falls_with_nothing_pending_as_it_answers all))
+pub falls_with_nothing_pending_refused : AreDue three [] wrong_falls.falls_with_nothing_pending → ⊥
+falls_with_nothing_pending_refused all = differs_1_3 (ap (figure_of 1 1) (post_at 4 three [] wrong_falls.falls_with_nothing_pending all))
 
-pub writes_its_promise_and_falls_as_it_writes_it_again_refused : AreDue three [] wrong_falls.writes_its_promise_and_falls_as_it_writes_it_again → ⊥
-writes_its_promise_and_falls_as_it_writes_it_again_refused all = differs_2_3 (ap (figure_of 0 0) (post_at 4 three [] wrong_falls.writes_its_promise_and_falls_as_it_writes_it_again all))
+pub writes_and_falls_refused : AreDue three [] wrong_falls.writes_and_falls → ⊥
+writes_and_falls_refused all = differs_2_3 (ap (figure_of 0 0) (post_at 4 three [] wrong_falls.writes_and_falls all))
 
 pub says_yes_before_its_record_refused : AreDue three [] wrong_falls.says_yes_before_its_record → ⊥
 says_yes_before_its_record_refused all = differs_3_2 (ap (figure_of 0 0) (post_at 2 three [] wrong_falls.says_yes_before_its_record all))
@@ -66,5 +66,5 @@ posts_after_its_fall_refused all = differs_0_3 (ap (figure_of 0 0) (post_at 0 th
 pub writes_after_its_fall_refused : AreDue three [] wrong_falls.writes_after_its_fall → ⊥
 writes_after_its_fall_refused all = differs_0_2 (ap (figure_of 0 0) (post_at 2 three [] wrong_falls.writes_after_its_fall all))
 
-pub falls_by_the_script_within_a_post_refused : AreDue three [] wrong_falls.falls_by_the_script_within_a_post → ⊥
-falls_by_the_script_within_a_post_refused all = differs_0_3 (ap (figure_of 1 0) (post_at 2 three [] wrong_falls.falls_by_the_script_within_a_post all))
+pub falls_within_a_post_refused : AreDue three [] wrong_falls.falls_within_a_post → ⊥
+falls_within_a_post_refused all = differs_0_3 (ap (figure_of 1 0) (post_at 2 three [] wrong_falls.falls_within_a_post all))

@@ -27,8 +27,8 @@ differs_4_3 e = let never : ⊥ = cc in never
 differs_5_4 : ◌≡◌ {A = ℕ} 5 4 → ⊥
 differs_5_4 e = let never : ⊥ = cc in never
 
-pub keeps_what_it_held_without_a_promise_refused : AreDue three [] wrong_lives.keeps_what_it_held_without_a_promise → ⊥
-keeps_what_it_held_without_a_promise_refused all = differs_3_2 (ap (figure_of 0 4) (post_at 5 three [] wrong_lives.keeps_what_it_held_without_a_promise all))
+pub keeps_what_it_held_refused : AreDue three [] wrong_lives.keeps_what_it_held → ⊥
+keeps_what_it_held_refused all = differs_3_2 (ap (figure_of 0 4) (post_at 5 three [] wrong_lives.keeps_what_it_held all))
 
 pub grants_in_its_old_life_refused : AreDue three [] wrong_lives.grants_in_its_old_life → ⊥
 grants_in_its_old_life_refused all = differs_2_3 (ap (figure_of 0 5) (post_at 5 three [] wrong_lives.grants_in_its_old_life all))
@@ -51,17 +51,17 @@ keeps_lines_that_came_with_views_refused all = differs_2_1 (ap (figure_of 0 7) (
 pub keeps_its_clock_of_before_refused : AreDue three [] wrong_lives.keeps_its_clock_of_before → ⊥
 keeps_its_clock_of_before_refused all = differs_2_1 (ap (figure_of 0 6) (post_at 9 three [] wrong_lives.keeps_its_clock_of_before all))
 
-pub votes_for_what_it_granted_in_its_old_life_refused : AreDue three [] wrong_lives.votes_for_what_it_granted_in_its_old_life → ⊥
-votes_for_what_it_granted_in_its_old_life_refused all = differs_2_3 (ap (figure_of 0 0) (post_at 7 three [] wrong_lives.votes_for_what_it_granted_in_its_old_life all))
+pub votes_for_its_old_life_refused : AreDue three [] wrong_lives.votes_for_its_old_life → ⊥
+votes_for_its_old_life_refused all = differs_2_3 (ap (figure_of 0 0) (post_at 7 three [] wrong_lives.votes_for_its_old_life all))
 
-pub says_stale_to_a_request_that_names_its_old_life_refused : AreDue three [] wrong_lives.says_stale_to_a_request_that_names_its_old_life → ⊥
-says_stale_to_a_request_that_names_its_old_life_refused all = differs_5_4 (ap (figure_of 0 4) (post_at 7 three [] wrong_lives.says_stale_to_a_request_that_names_its_old_life all))
+pub says_stale_to_its_old_life_refused : AreDue three [] wrong_lives.says_stale_to_its_old_life → ⊥
+says_stale_to_its_old_life_refused all = differs_5_4 (ap (figure_of 0 4) (post_at 7 three [] wrong_lives.says_stale_to_its_old_life all))
 
-pub says_restarted_with_its_old_life_refused : AreDue three [] wrong_lives.says_restarted_with_its_old_life → ⊥
-says_restarted_with_its_old_life_refused all = differs_2_3 (ap (figure_of 0 5) (post_at 7 three [] wrong_lives.says_restarted_with_its_old_life all))
+pub restarted_with_its_old_life_refused : AreDue three [] wrong_lives.restarted_with_its_old_life → ⊥
+restarted_with_its_old_life_refused all = differs_2_3 (ap (figure_of 0 5) (post_at 7 three [] wrong_lives.restarted_with_its_old_life all))
 
-pub holds_for_ever_what_rose_with_it_refused : AreDue three [] wrong_lives.holds_for_ever_what_rose_with_it → ⊥
-holds_for_ever_what_rose_with_it_refused all = differs_3_2 (ap (figure_of 0 4) (post_at 15 three [] wrong_lives.holds_for_ever_what_rose_with_it all))
+pub holds_for_ever_refused : AreDue three [] wrong_lives.holds_for_ever → ⊥
+holds_for_ever_refused all = differs_3_2 (ap (figure_of 0 4) (post_at 15 three [] wrong_lives.holds_for_ever all))
 
-pub a_promise_that_rose_is_redeemed_twice_refused : AreDue three [] wrong_lives.a_promise_that_rose_is_redeemed_twice → ⊥
-a_promise_that_rose_is_redeemed_twice_refused all = differs_2_0 (ap (figure_of 0 0) (post_at 15 three [] wrong_lives.a_promise_that_rose_is_redeemed_twice all))
+pub redeems_twice_refused : AreDue three [] wrong_lives.redeems_twice → ⊥
+redeems_twice_refused all = differs_2_0 (ap (figure_of 0 0) (post_at 15 three [] wrong_lives.redeems_twice all))

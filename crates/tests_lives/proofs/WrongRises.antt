@@ -27,8 +27,8 @@ writes_life_twice_as_it_rises_refused all = differs_2_0 (ap (figure_of 1 0) (pos
 pub asks_nobody_about_its_promise_refused : AreDue three [] wrong_rises.asks_nobody_about_its_promise → ⊥
 asks_nobody_about_its_promise_refused all = differs_0_3 (ap (figure_of 1 0) (post_at 10 three [] wrong_rises.asks_nobody_about_its_promise all))
 
-pub asks_about_what_it_has_not_promised_refused : AreDue three [] wrong_rises.asks_about_what_it_has_not_promised → ⊥
-asks_about_what_it_has_not_promised_refused all = differs_3_0 (ap (figure_of 1 0) (post_at 3 three [] wrong_rises.asks_about_what_it_has_not_promised all))
+pub asks_about_no_promise_refused : AreDue three [] wrong_rises.asks_about_no_promise → ⊥
+asks_about_no_promise_refused all = differs_3_0 (ap (figure_of 1 0) (post_at 3 three [] wrong_rises.asks_about_no_promise all))
 
 pub asks_twice_refused : AreDue three [] wrong_rises.asks_twice → ⊥
 asks_twice_refused all = differs_3_0 (ap (figure_of 2 0) (post_at 10 three [] wrong_rises.asks_twice all))
@@ -39,26 +39,26 @@ asks_before_its_life_record_refused all = differs_3_2 (ap (figure_of 0 0) (post_
 pub asks_another_client_refused : AreDue three [] wrong_rises.asks_another_client → ⊥
 asks_another_client_refused all = differs_5_4 (ap (figure_of 1 1) (post_at 10 three [] wrong_rises.asks_another_client all))
 
-pub rises_and_writes_no_life_again_refused : AreDue three [] wrong_rises.rises_and_writes_no_life_again → ⊥
-rises_and_writes_no_life_again_refused all = differs_3_2 (ap (figure_of 0 0) (post_at 10 three [] wrong_rises.rises_and_writes_no_life_again all))
+pub writes_no_life_refused : AreDue three [] wrong_rises.writes_no_life → ⊥
+writes_no_life_refused all = differs_3_2 (ap (figure_of 0 0) (post_at 10 three [] wrong_rises.writes_no_life all))
 
-pub forgets_a_promise_by_an_abort_that_it_took_before_its_fall_refused : AreDue three [] wrong_rises.forgets_a_promise_by_an_abort_that_it_took_before_its_fall → ⊥
-forgets_a_promise_by_an_abort_that_it_took_before_its_fall_refused all = differs_0_3 (ap (figure_of 1 0) (post_at 9 three [] wrong_rises.forgets_a_promise_by_an_abort_that_it_took_before_its_fall all))
+pub forgets_by_an_old_abort_refused : AreDue three [] wrong_rises.forgets_by_an_old_abort → ⊥
+forgets_by_an_old_abort_refused all = differs_0_3 (ap (figure_of 1 0) (post_at 9 three [] wrong_rises.forgets_by_an_old_abort all))
 
-pub a_pending_promise_rises_and_is_not_seen_refused : AreDue three [] wrong_rises.a_pending_promise_rises_and_is_not_seen → ⊥
-a_pending_promise_rises_and_is_not_seen_refused all = differs_0_3 (ap (figure_of 1 0) (post_at 7 three [] wrong_rises.a_pending_promise_rises_and_is_not_seen all))
+pub pending_promise_not_seen_refused : AreDue three [] wrong_rises.pending_promise_not_seen → ⊥
+pending_promise_not_seen_refused all = differs_0_3 (ap (figure_of 1 0) (post_at 7 three [] wrong_rises.pending_promise_not_seen all))
 
-pub a_pending_promise_does_not_rise_and_is_seen_refused : AreDue three [] wrong_rises.a_pending_promise_does_not_rise_and_is_seen → ⊥
-a_pending_promise_does_not_rise_and_is_seen_refused all = differs_3_0 (ap (figure_of 1 0) (post_at 7 three [] wrong_rises.a_pending_promise_does_not_rise_and_is_seen all))
+pub lost_promise_seen_refused : AreDue three [] wrong_rises.lost_promise_seen → ⊥
+lost_promise_seen_refused all = differs_3_0 (ap (figure_of 1 0) (post_at 7 three [] wrong_rises.lost_promise_seen all))
 
-pub a_pending_done_rises_and_is_not_seen_refused : AreDue three [] wrong_rises.a_pending_done_rises_and_is_not_seen → ⊥
-a_pending_done_rises_and_is_not_seen_refused all = differs_3_0 (ap (figure_of 1 0) (post_at 11 three [] wrong_rises.a_pending_done_rises_and_is_not_seen all))
+pub pending_done_not_seen_refused : AreDue three [] wrong_rises.pending_done_not_seen → ⊥
+pending_done_not_seen_refused all = differs_3_0 (ap (figure_of 1 0) (post_at 11 three [] wrong_rises.pending_done_not_seen all))
 
-pub a_pending_done_does_not_rise_and_is_seen_refused : AreDue three [] wrong_rises.a_pending_done_does_not_rise_and_is_seen → ⊥
-a_pending_done_does_not_rise_and_is_seen_refused all = differs_0_3 (ap (figure_of 1 0) (post_at 11 three [] wrong_rises.a_pending_done_does_not_rise_and_is_seen all))
+pub lost_done_seen_refused : AreDue three [] wrong_rises.lost_done_seen → ⊥
+lost_done_seen_refused all = differs_0_3 (ap (figure_of 1 0) (post_at 11 three [] wrong_rises.lost_done_seen all))
 
-pub asks_about_two_promises_in_the_order_of_the_promises_refused : AreDue three [] wrong_rises.asks_about_two_promises_in_the_order_of_the_promises → ⊥
-asks_about_two_promises_in_the_order_of_the_promises_refused all = differs_5_4 (ap (figure_of 1 1) (post_at 11 three [] wrong_rises.asks_about_two_promises_in_the_order_of_the_promises all))
+pub asks_in_order_of_promises_refused : AreDue three [] wrong_rises.asks_in_order_of_promises → ⊥
+asks_in_order_of_promises_refused all = differs_5_4 (ap (figure_of 1 1) (post_at 11 three [] wrong_rises.asks_in_order_of_promises all))
 
-pub asks_about_one_of_two_promises_refused : AreDue three [] wrong_rises.asks_about_one_of_two_promises → ⊥
-asks_about_one_of_two_promises_refused all = differs_0_3 (ap (figure_of 2 0) (post_at 11 three [] wrong_rises.asks_about_one_of_two_promises all))
+pub asks_about_one_of_two_refused : AreDue three [] wrong_rises.asks_about_one_of_two → ⊥
+asks_about_one_of_two_refused all = differs_0_3 (ap (figure_of 2 0) (post_at 11 three [] wrong_rises.asks_about_one_of_two all))

@@ -10,8 +10,8 @@ use Rattle.qc_msg.specs.Deeds.{Deed, Writes, Sends, Falls, Rises}
 use Rattle.tests_lives.specs.Words.{tx, stamp, line, own_line, read_lock, prepare, got}
 
 -- a pending Done rises, and its lines with it
-abbrev pub a_pending_done_rises_and_its_lines_with_it : List Deed
-a_pending_done_rises_and_its_lines_with_it =
+abbrev pub pending_done_rises : List Deed
+pending_done_rises =
     got 1 3 1 (messages.Request (tx 0 1 1) 1 0 (wants.Append 0 [] ((own_line 1 0 3) ∷ []))) ∷
     Sends 3 3 (messages.Answer 1 (answers.Granted 1 0 [])) ∷
     got 4 4 1 (messages.Request (tx 1 1 1) 1 0 (wants.Read 0 0)) ∷
@@ -42,8 +42,8 @@ keeps_the_lines_of_its_done =
     Sends 18 4 (messages.Answer 16 (answers.Granted 2 1 ((line 1 0 1 1 1 0 3) ∷ []))) ∷ []
 
 -- a site knows the lines of views
-abbrev pub a_site_knows_the_lines_of_views : List Deed
-a_site_knows_the_lines_of_views =
+abbrev pub knows_lines_of_views : List Deed
+knows_lines_of_views =
     got 5 4 2 (messages.Request (tx 1 1 1) 1 0 (wants.Read 0 0)) ∷
     Sends 8 4 (messages.Answer 5 (answers.Granted 1 0 [])) ∷
     got 17 4 2 (messages.Request (tx 1 1 1) 1 1 (wants.Read 0 0)) ∷
@@ -55,8 +55,8 @@ a_site_knows_the_lines_of_views =
     Sends 28 5 (messages.Answer 26 (answers.Granted 1 1 ((line 1 0 1 1 1 0 3) ∷ []))) ∷ []
 
 -- lines that came with views are lost at a rise
-abbrev pub lines_that_came_with_views_are_lost_at_a_rise : List Deed
-lines_that_came_with_views_are_lost_at_a_rise =
+abbrev pub loses_lines_of_views : List Deed
+loses_lines_of_views =
     got 5 4 2 (messages.Request (tx 1 1 1) 1 0 (wants.Read 0 0)) ∷
     Sends 8 4 (messages.Answer 5 (answers.Granted 1 0 [])) ∷
     got 17 4 2 (messages.Request (tx 1 1 1) 1 1 (wants.Read 0 0)) ∷
@@ -82,8 +82,8 @@ keeps_the_lines_of_its_prepare =
     Writes records.Life ∷ Sends 27 4 (messages.Inquiry (tx 1 1 1)) ∷ []
 
 -- asks about two promises in the order of the transactions
-abbrev pub asks_about_two_promises_in_the_order_of_the_transactions : List Deed
-asks_about_two_promises_in_the_order_of_the_transactions =
+abbrev pub asks_in_order : List Deed
+asks_in_order =
     got 1 3 1 (messages.Request (tx 0 1 1) 1 0 (wants.Append 0 [] ((own_line 1 0 3) ∷ []))) ∷
     Sends 3 3 (messages.Answer 1 (answers.Granted 1 0 [])) ∷
     got 4 4 1 (messages.Request (tx 1 1 1) 1 0 (wants.Append 0 [] ((own_line 1 0 3) ∷ []))) ∷
@@ -97,8 +97,8 @@ asks_about_two_promises_in_the_order_of_the_transactions =
     Writes records.Life ∷ Sends 14 3 (messages.Inquiry (tx 0 1 1)) ∷ Sends 15 4 (messages.Inquiry (tx 1 1 1)) ∷ []
 
 -- refuses a Prepare that names its old life
-abbrev pub refuses_a_prepare_that_names_its_old_life : List Deed
-refuses_a_prepare_that_names_its_old_life =
+abbrev pub refuses_its_old_life : List Deed
+refuses_its_old_life =
     got 1 3 1 (messages.Request (tx 0 1 1) 1 0 (wants.Append 0 [] (own_line 1 0 3 ∷ []))) ∷
     Sends 3 3 (messages.Answer 1 (answers.Granted 1 0 [])) ∷ Falls causes.Script None ∷ Rises [] ∷
     Writes records.Life ∷ got 1 3 1 (messages.Request (tx 0 1 1) 1 0 (wants.Append 0 [] (own_line 1 0 3 ∷ []))) ∷
@@ -107,8 +107,8 @@ refuses_a_prepare_that_names_its_old_life =
     []
 
 -- falls by the script between two of its posts
-abbrev pub falls_by_the_script_between_two_of_its_posts : List Deed
-falls_by_the_script_between_two_of_its_posts =
+abbrev pub falls_between_posts : List Deed
+falls_between_posts =
     got 0 3 0 (messages.Request (tx 0 1 1) 1 0 (wants.Append 0 [] ((own_line 1 0 3) ∷ []))) ∷
     Sends 2 3 (messages.Answer 0 (answers.Granted 1 0 [])) ∷
     got 10 3 0 (messages.Request (tx 0 1 1) 1 1 wants.Prepare) ∷
@@ -116,8 +116,8 @@ falls_by_the_script_between_two_of_its_posts =
     Falls causes.Script None ∷ []
 
 -- what rose with it ends as it is decided
-abbrev pub what_rose_with_it_ends_as_it_is_decided : List Deed
-what_rose_with_it_ends_as_it_is_decided =
+abbrev pub ends_what_rose : List Deed
+ends_what_rose =
     got 1 3 1 (messages.Request (tx 0 1 1) 1 0 (wants.Append 0 [] ((own_line 1 0 3) ∷ []))) ∷
     Sends 3 3 (messages.Answer 1 (answers.Granted 1 0 [])) ∷
     got 4 4 1 (messages.Request (tx 1 1 1) 1 0 (wants.Read 0 0)) ∷
@@ -132,8 +132,8 @@ what_rose_with_it_ends_as_it_is_decided =
     Sends 20 4 (messages.Answer 18 (answers.Granted 2 1 ((line 1 0 1 1 1 0 3) ∷ []))) ∷ []
 
 -- a promise that rose is redeemed once
-abbrev pub a_promise_that_rose_is_redeemed_once : List Deed
-a_promise_that_rose_is_redeemed_once =
+abbrev pub redeems_once : List Deed
+redeems_once =
     got 1 3 1 (messages.Request (tx 0 1 1) 1 0 (wants.Append 0 [] ((own_line 1 0 3) ∷ []))) ∷
     Sends 3 3 (messages.Answer 1 (answers.Granted 1 0 [])) ∷
     got 4 4 1 (messages.Request (tx 1 1 1) 1 0 (wants.Read 0 0)) ∷

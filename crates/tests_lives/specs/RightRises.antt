@@ -10,16 +10,16 @@ use Rattle.qc_msg.specs.Deeds.{Deed, Writes, Sends, Falls, Rises}
 use Rattle.tests_lives.specs.Words.{tx, own_line, read_lock, prepare, got}
 
 -- lets go of what it held without a promise
-abbrev pub lets_go_of_what_it_held_without_a_promise : List Deed
-lets_go_of_what_it_held_without_a_promise =
+abbrev pub lets_go_of_what_it_held : List Deed
+lets_go_of_what_it_held =
     got 1 3 1 (messages.Request (tx 0 1 1) 1 0 (wants.Append 0 [] ((own_line 1 0 3) ∷ []))) ∷
     Sends 3 3 (messages.Answer 1 (answers.Granted 1 0 [])) ∷ Falls causes.Script None ∷ Rises [] ∷
     Writes records.Life ∷ got 4 4 1 (messages.Request (tx 1 1 1) 1 0 (wants.Read 0 0)) ∷
     Sends 6 4 (messages.Answer 4 (answers.Granted 2 0 [])) ∷ []
 
 -- keeps what it promised, and asks
-abbrev pub keeps_what_it_promised_and_asks : List Deed
-keeps_what_it_promised_and_asks =
+abbrev pub keeps_what_it_promised : List Deed
+keeps_what_it_promised =
     got 1 3 1 (messages.Request (tx 0 1 1) 1 0 (wants.Append 0 [] ((own_line 1 0 3) ∷ []))) ∷
     Sends 3 3 (messages.Answer 1 (answers.Granted 1 0 [])) ∷
     got 4 4 1 (messages.Request (tx 1 1 1) 1 0 (wants.Read 0 0)) ∷
@@ -46,8 +46,8 @@ falls_as_it_writes_life =
     Falls causes.Disk (Some records.Life) ∷ []
 
 -- falls as it writes Life, which rises: life 3
-abbrev pub falls_as_it_writes_life_which_rises_life_3 : List Deed
-falls_as_it_writes_life_which_rises_life_3 =
+abbrev pub fallen_life_rises : List Deed
+fallen_life_rises =
     got 1 3 1 (messages.Request (tx 0 1 1) 1 0 (wants.Append 0 [] ((own_line 1 0 3) ∷ []))) ∷
     Sends 3 3 (messages.Answer 1 (answers.Granted 1 0 [])) ∷ Falls causes.Script None ∷ Rises [] ∷
     Falls causes.Disk (Some records.Life) ∷ Rises (records.Life ∷ []) ∷ Writes records.Life ∷
@@ -55,8 +55,8 @@ falls_as_it_writes_life_which_rises_life_3 =
     Sends 6 4 (messages.Answer 4 (answers.Granted 3 0 [])) ∷ []
 
 -- falls as it writes Life, which doesn't rise: life 2
-abbrev pub falls_as_it_writes_life_which_does_not_rise_life_2 : List Deed
-falls_as_it_writes_life_which_does_not_rise_life_2 =
+abbrev pub fallen_life_is_lost : List Deed
+fallen_life_is_lost =
     got 1 3 1 (messages.Request (tx 0 1 1) 1 0 (wants.Append 0 [] ((own_line 1 0 3) ∷ []))) ∷
     Sends 3 3 (messages.Answer 1 (answers.Granted 1 0 [])) ∷ Falls causes.Script None ∷ Rises [] ∷
     Falls causes.Disk (Some records.Life) ∷ Rises [] ∷ Writes records.Life ∷
@@ -64,8 +64,8 @@ falls_as_it_writes_life_which_does_not_rise_life_2 =
     Sends 6 4 (messages.Answer 4 (answers.Granted 2 0 [])) ∷ []
 
 -- its promise rises again after an abort that it took before
-abbrev pub its_promise_rises_again_after_an_abort_that_it_took_before : List Deed
-its_promise_rises_again_after_an_abort_that_it_took_before =
+abbrev pub promise_rises_after_an_abort : List Deed
+promise_rises_after_an_abort =
     got 0 3 0 (messages.Request (tx 0 1 1) 1 0 (wants.Read 0 0)) ∷
     Sends 2 3 (messages.Answer 0 (answers.Granted 1 0 [])) ∷
     got 4 3 0 (messages.Request (tx 0 1 1) 1 1 (wants.Append 0 [] (own_line 1 0 0 ∷ []))) ∷
@@ -77,8 +77,8 @@ its_promise_rises_again_after_an_abort_that_it_took_before =
     Writes records.Life ∷ Sends 14 3 (messages.Inquiry (tx 0 1 1)) ∷ []
 
 -- a pending promise rises, and it asks
-abbrev pub a_pending_promise_rises_and_it_asks : List Deed
-a_pending_promise_rises_and_it_asks =
+abbrev pub pending_promise_rises : List Deed
+pending_promise_rises =
     got 1 3 1 (messages.Request (tx 0 1 1) 1 0 (wants.Read 0 0)) ∷
     Sends 3 3 (messages.Answer 1 (answers.Granted 1 0 [])) ∷
     got 5 3 1 (messages.Request (tx 0 1 1) 1 1 (wants.Append 0 [] (own_line 1 0 0 ∷ []))) ∷
@@ -89,8 +89,8 @@ a_pending_promise_rises_and_it_asks =
     Sends 12 3 (messages.Inquiry (tx 0 1 1)) ∷ []
 
 -- a pending promise doesn't rise
-abbrev pub a_pending_promise_does_not_rise : List Deed
-a_pending_promise_does_not_rise =
+abbrev pub pending_promise_is_lost : List Deed
+pending_promise_is_lost =
     got 1 3 1 (messages.Request (tx 0 1 1) 1 0 (wants.Read 0 0)) ∷
     Sends 3 3 (messages.Answer 1 (answers.Granted 1 0 [])) ∷
     got 5 3 1 (messages.Request (tx 0 1 1) 1 1 (wants.Append 0 [] (own_line 1 0 0 ∷ []))) ∷
@@ -100,8 +100,8 @@ a_pending_promise_does_not_rise =
     Writes records.Life ∷ []
 
 -- its disk stops, and it says nothing
-abbrev pub its_disk_stops_and_it_says_nothing : List Deed
-its_disk_stops_and_it_says_nothing =
+abbrev pub stops_without_a_word : List Deed
+stops_without_a_word =
     got 1 3 1 (messages.Request (tx 0 1 1) 1 0 (wants.Read 0 0)) ∷
     Sends 3 3 (messages.Answer 1 (answers.Granted 1 0 [])) ∷
     got 5 3 1 (messages.Request (tx 0 1 1) 1 1 (wants.Append 0 [] (own_line 1 0 0 ∷ []))) ∷

@@ -10,8 +10,8 @@ use Rattle.qc_msg.specs.Deeds.{Deed, Writes, Sends, Falls, Rises}
 use Rattle.tests_lives.specs.Words.{tx, stamp, own_line, read_lock, prepare, got}
 
 -- asks, and falls as it writes Life
-abbrev pub asks_and_falls_as_it_writes_life : List Deed
-asks_and_falls_as_it_writes_life =
+abbrev pub asks_and_falls : List Deed
+asks_and_falls =
     got 1 3 1 (messages.Request (tx 0 1 1) 1 0 (wants.Append 0 [] ((own_line 1 0 3) ∷ []))) ∷
     Sends 3 3 (messages.Answer 1 (answers.Granted 1 0 [])) ∷
     got 4 4 1 (messages.Request (tx 1 1 1) 1 0 (wants.Read 0 0)) ∷
@@ -23,8 +23,8 @@ asks_and_falls_as_it_writes_life =
     Sends 14 3 (messages.Inquiry (tx 0 1 1)) ∷ Falls causes.Disk (Some records.Life) ∷ []
 
 -- says Fault and doesn't fall
-abbrev pub says_fault_and_does_not_fall : List Deed
-says_fault_and_does_not_fall =
+abbrev pub says_fault_and_stays_up : List Deed
+says_fault_and_stays_up =
     got 1 3 1 (messages.Request (tx 0 1 1) 1 0 (wants.Read 0 0)) ∷
     Sends 3 3 (messages.Answer 1 (answers.Granted 1 0 [])) ∷
     got 5 3 1 (messages.Request (tx 0 1 1) 1 1 (wants.Append 0 [] (own_line 1 0 0 ∷ []))) ∷
@@ -32,8 +32,8 @@ says_fault_and_does_not_fall =
     got 9 3 1 (messages.Request (tx 0 1 1) 1 1 wants.Prepare) ∷ Sends 11 3 (messages.Answer 9 answers.Fault) ∷ []
 
 -- its disk fails, and it doesn't say Fault
-abbrev pub its_disk_fails_and_it_does_not_say_fault : List Deed
-its_disk_fails_and_it_does_not_say_fault =
+abbrev pub fails_without_fault : List Deed
+fails_without_fault =
     got 1 3 1 (messages.Request (tx 0 1 1) 1 0 (wants.Read 0 0)) ∷
     Sends 3 3 (messages.Answer 1 (answers.Granted 1 0 [])) ∷
     got 5 3 1 (messages.Request (tx 0 1 1) 1 1 (wants.Append 0 [] (own_line 1 0 0 ∷ []))) ∷
@@ -42,8 +42,8 @@ its_disk_fails_and_it_does_not_say_fault =
     Falls causes.Disk (Some (prepare (tx 0 1 1) 1 ((read_lock 0 0) ∷ []) ((own_line 1 0 0) ∷ []) [])) ∷ []
 
 -- its disk stops, and it says Fault
-abbrev pub its_disk_stops_and_it_says_fault : List Deed
-its_disk_stops_and_it_says_fault =
+abbrev pub stops_with_fault : List Deed
+stops_with_fault =
     got 1 3 1 (messages.Request (tx 0 1 1) 1 0 (wants.Read 0 0)) ∷
     Sends 3 3 (messages.Answer 1 (answers.Granted 1 0 [])) ∷
     got 5 3 1 (messages.Request (tx 0 1 1) 1 1 (wants.Append 0 [] (own_line 1 0 0 ∷ []))) ∷
@@ -52,8 +52,8 @@ its_disk_stops_and_it_says_fault =
     Falls causes.Stop (Some (prepare (tx 0 1 1) 1 ((read_lock 0 0) ∷ []) ((own_line 1 0 0) ∷ []) [])) ∷ []
 
 -- says Yes, and falls as it writes the promise
-abbrev pub says_yes_and_falls_as_it_writes_the_promise : List Deed
-says_yes_and_falls_as_it_writes_the_promise =
+abbrev pub says_yes_and_falls : List Deed
+says_yes_and_falls =
     got 1 3 1 (messages.Request (tx 0 1 1) 1 0 (wants.Read 0 0)) ∷
     Sends 3 3 (messages.Answer 1 (answers.Granted 1 0 [])) ∷
     got 5 3 1 (messages.Request (tx 0 1 1) 1 1 (wants.Append 0 [] (own_line 1 0 0 ∷ []))) ∷
@@ -62,8 +62,8 @@ says_yes_and_falls_as_it_writes_the_promise =
     Falls causes.Disk (Some (prepare (tx 0 1 1) 1 ((read_lock 0 0) ∷ []) ((own_line 1 0 0) ∷ []) [])) ∷ []
 
 -- falls as it writes another promise
-abbrev pub falls_as_it_writes_another_promise : List Deed
-falls_as_it_writes_another_promise =
+abbrev pub falls_with_another_promise : List Deed
+falls_with_another_promise =
     got 1 3 1 (messages.Request (tx 0 1 1) 1 0 (wants.Read 0 0)) ∷
     Sends 3 3 (messages.Answer 1 (answers.Granted 1 0 [])) ∷
     got 5 3 1 (messages.Request (tx 0 1 1) 1 1 (wants.Append 0 [] (own_line 1 0 0 ∷ []))) ∷
@@ -72,8 +72,8 @@ falls_as_it_writes_another_promise =
     Falls causes.Disk (Some (prepare (tx 0 1 1) 1 [] [] [])) ∷ []
 
 -- falls with nothing pending as it answers
-abbrev pub falls_with_nothing_pending_as_it_answers : List Deed
-falls_with_nothing_pending_as_it_answers =
+abbrev pub falls_with_nothing_pending : List Deed
+falls_with_nothing_pending =
     got 1 3 1 (messages.Request (tx 0 1 1) 1 0 (wants.Read 0 0)) ∷
     Sends 3 3 (messages.Answer 1 (answers.Granted 1 0 [])) ∷
     got 5 3 1 (messages.Request (tx 0 1 1) 1 1 (wants.Append 0 [] (own_line 1 0 0 ∷ []))) ∷
@@ -82,8 +82,8 @@ falls_with_nothing_pending_as_it_answers =
     Falls causes.Disk None ∷ []
 
 -- writes its promise, and falls as it writes it again
-abbrev pub writes_its_promise_and_falls_as_it_writes_it_again : List Deed
-writes_its_promise_and_falls_as_it_writes_it_again =
+abbrev pub writes_and_falls : List Deed
+writes_and_falls =
     got 1 3 1 (messages.Request (tx 0 1 1) 1 0 (wants.Read 0 0)) ∷
     Sends 3 3 (messages.Answer 1 (answers.Granted 1 0 [])) ∷
     got 5 3 1 (messages.Request (tx 0 1 1) 1 1 (wants.Append 0 [] (own_line 1 0 0 ∷ []))) ∷
@@ -118,8 +118,8 @@ writes_after_its_fall =
     Writes (prepare (tx 0 1 1) 1 [] ((own_line 1 0 3) ∷ []) []) ∷ []
 
 -- falls by the script within a post
-abbrev pub falls_by_the_script_within_a_post : List Deed
-falls_by_the_script_within_a_post =
+abbrev pub falls_within_a_post : List Deed
+falls_within_a_post =
     got 0 3 0 (messages.Request (tx 0 1 1) 1 0 (wants.Append 0 [] ((own_line 1 0 3) ∷ []))) ∷
     Sends 2 3 (messages.Answer 0 (answers.Granted 1 0 [])) ∷
     got 10 3 0 (messages.Request (tx 0 1 1) 1 1 wants.Prepare) ∷

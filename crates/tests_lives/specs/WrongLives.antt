@@ -10,8 +10,8 @@ use Rattle.qc_msg.specs.Deeds.{Deed, Writes, Sends, Falls, Rises}
 use Rattle.tests_lives.specs.Words.{tx, stamp, line, own_line, prepare, got}
 
 -- keeps what it held without a promise
-abbrev pub keeps_what_it_held_without_a_promise : List Deed
-keeps_what_it_held_without_a_promise =
+abbrev pub keeps_what_it_held : List Deed
+keeps_what_it_held =
     got 1 3 1 (messages.Request (tx 0 1 1) 1 0 (wants.Append 0 [] ((own_line 1 0 3) ∷ []))) ∷
     Sends 3 3 (messages.Answer 1 (answers.Granted 1 0 [])) ∷ Falls causes.Script None ∷ Rises [] ∷
     Writes records.Life ∷ got 4 4 1 (messages.Request (tx 1 1 1) 1 0 (wants.Read 0 0)) ∷
@@ -105,8 +105,8 @@ keeps_its_clock_of_before =
     Sends 26 5 (messages.Answer 24 (answers.Granted 2 1 [])) ∷ []
 
 -- votes for what it granted in its old life
-abbrev pub votes_for_what_it_granted_in_its_old_life : List Deed
-votes_for_what_it_granted_in_its_old_life =
+abbrev pub votes_for_its_old_life : List Deed
+votes_for_its_old_life =
     got 1 3 1 (messages.Request (tx 0 1 1) 1 0 (wants.Append 0 [] (own_line 1 0 3 ∷ []))) ∷
     Sends 3 3 (messages.Answer 1 (answers.Granted 1 0 [])) ∷ Falls causes.Script None ∷ Rises [] ∷
     Writes records.Life ∷ got 1 3 1 (messages.Request (tx 0 1 1) 1 0 (wants.Append 0 [] (own_line 1 0 3 ∷ []))) ∷
@@ -115,8 +115,8 @@ votes_for_what_it_granted_in_its_old_life =
     Writes (prepare (tx 0 1 1) 1 [] ((own_line 1 0 3) ∷ []) []) ∷ Sends 8 3 (messages.Answer 6 (answers.Yes 0)) ∷ []
 
 -- says Stale to a request that names its old life
-abbrev pub says_stale_to_a_request_that_names_its_old_life : List Deed
-says_stale_to_a_request_that_names_its_old_life =
+abbrev pub says_stale_to_its_old_life : List Deed
+says_stale_to_its_old_life =
     got 1 3 1 (messages.Request (tx 0 1 1) 1 0 (wants.Append 0 [] (own_line 1 0 3 ∷ []))) ∷
     Sends 3 3 (messages.Answer 1 (answers.Granted 1 0 [])) ∷ Falls causes.Script None ∷ Rises [] ∷
     Writes records.Life ∷ got 1 3 1 (messages.Request (tx 0 1 1) 1 0 (wants.Append 0 [] (own_line 1 0 3 ∷ []))) ∷
@@ -124,8 +124,8 @@ says_stale_to_a_request_that_names_its_old_life =
     got 6 3 1 (messages.Request (tx 0 1 1) 1 1 wants.Prepare) ∷ Sends 8 3 (messages.Answer 6 answers.Stale) ∷ []
 
 -- says Restarted with its old life
-abbrev pub says_restarted_with_its_old_life : List Deed
-says_restarted_with_its_old_life =
+abbrev pub restarted_with_its_old_life : List Deed
+restarted_with_its_old_life =
     got 1 3 1 (messages.Request (tx 0 1 1) 1 0 (wants.Append 0 [] (own_line 1 0 3 ∷ []))) ∷
     Sends 3 3 (messages.Answer 1 (answers.Granted 1 0 [])) ∷ Falls causes.Script None ∷ Rises [] ∷
     Writes records.Life ∷ got 1 3 1 (messages.Request (tx 0 1 1) 1 0 (wants.Append 0 [] (own_line 1 0 3 ∷ []))) ∷
@@ -134,8 +134,8 @@ says_restarted_with_its_old_life =
     []
 
 -- holds for ever what rose with it
-abbrev pub holds_for_ever_what_rose_with_it : List Deed
-holds_for_ever_what_rose_with_it =
+abbrev pub holds_for_ever : List Deed
+holds_for_ever =
     got 1 3 1 (messages.Request (tx 0 1 1) 1 0 (wants.Append 0 [] ((own_line 1 0 3) ∷ []))) ∷
     Sends 3 3 (messages.Answer 1 (answers.Granted 1 0 [])) ∷
     got 4 4 1 (messages.Request (tx 1 1 1) 1 0 (wants.Read 0 0)) ∷
@@ -150,8 +150,8 @@ holds_for_ever_what_rose_with_it =
     Sends 20 4 (messages.Answer 18 (answers.Clash (tx 0 1 1) 0 3)) ∷ Sends 21 3 (messages.Inquiry (tx 0 1 1)) ∷ []
 
 -- a promise that rose is redeemed twice
-abbrev pub a_promise_that_rose_is_redeemed_twice : List Deed
-a_promise_that_rose_is_redeemed_twice =
+abbrev pub redeems_twice : List Deed
+redeems_twice =
     got 1 3 1 (messages.Request (tx 0 1 1) 1 0 (wants.Append 0 [] ((own_line 1 0 3) ∷ []))) ∷
     Sends 3 3 (messages.Answer 1 (answers.Granted 1 0 [])) ∷
     got 4 4 1 (messages.Request (tx 1 1 1) 1 0 (wants.Read 0 0)) ∷

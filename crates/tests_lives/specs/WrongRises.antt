@@ -31,8 +31,8 @@ asks_nobody_about_its_promise =
     Writes records.Life ∷ []
 
 -- asks about what it hasn't promised
-abbrev pub asks_about_what_it_has_not_promised : List Deed
-asks_about_what_it_has_not_promised =
+abbrev pub asks_about_no_promise : List Deed
+asks_about_no_promise =
     got 1 3 1 (messages.Request (tx 0 1 1) 1 0 (wants.Append 0 [] ((own_line 1 0 3) ∷ []))) ∷
     Sends 3 3 (messages.Answer 1 (answers.Granted 1 0 [])) ∷ Falls causes.Script None ∷ Rises [] ∷
     Writes records.Life ∷ Sends 4 3 (messages.Inquiry (tx 0 1 1)) ∷ []
@@ -77,8 +77,8 @@ asks_another_client =
     Writes records.Life ∷ Sends 14 4 (messages.Inquiry (tx 0 1 1)) ∷ []
 
 -- rises and writes no Life
-abbrev pub rises_and_writes_no_life_again : List Deed
-rises_and_writes_no_life_again =
+abbrev pub writes_no_life : List Deed
+writes_no_life =
     got 1 3 1 (messages.Request (tx 0 1 1) 1 0 (wants.Append 0 [] ((own_line 1 0 3) ∷ []))) ∷
     Sends 3 3 (messages.Answer 1 (answers.Granted 1 0 [])) ∷
     got 4 4 1 (messages.Request (tx 1 1 1) 1 0 (wants.Read 0 0)) ∷
@@ -90,8 +90,8 @@ rises_and_writes_no_life_again =
     Sends 14 3 (messages.Inquiry (tx 0 1 1)) ∷ []
 
 -- forgets a promise by an abort that it took before its fall
-abbrev pub forgets_a_promise_by_an_abort_that_it_took_before_its_fall : List Deed
-forgets_a_promise_by_an_abort_that_it_took_before_its_fall =
+abbrev pub forgets_by_an_old_abort : List Deed
+forgets_by_an_old_abort =
     got 0 3 0 (messages.Request (tx 0 1 1) 1 0 (wants.Read 0 0)) ∷
     Sends 2 3 (messages.Answer 0 (answers.Granted 1 0 [])) ∷
     got 4 3 0 (messages.Request (tx 0 1 1) 1 1 (wants.Append 0 [] (own_line 1 0 0 ∷ []))) ∷
@@ -103,8 +103,8 @@ forgets_a_promise_by_an_abort_that_it_took_before_its_fall =
     Writes records.Life ∷ []
 
 -- a pending promise rises and isn't seen
-abbrev pub a_pending_promise_rises_and_is_not_seen : List Deed
-a_pending_promise_rises_and_is_not_seen =
+abbrev pub pending_promise_not_seen : List Deed
+pending_promise_not_seen =
     got 1 3 1 (messages.Request (tx 0 1 1) 1 0 (wants.Read 0 0)) ∷
     Sends 3 3 (messages.Answer 1 (answers.Granted 1 0 [])) ∷
     got 5 3 1 (messages.Request (tx 0 1 1) 1 1 (wants.Append 0 [] (own_line 1 0 0 ∷ []))) ∷
@@ -114,8 +114,8 @@ a_pending_promise_rises_and_is_not_seen =
     Rises ((prepare (tx 0 1 1) 1 ((read_lock 0 0) ∷ []) ((own_line 1 0 0) ∷ []) []) ∷ []) ∷ Writes records.Life ∷ []
 
 -- a pending promise doesn't rise and is seen
-abbrev pub a_pending_promise_does_not_rise_and_is_seen : List Deed
-a_pending_promise_does_not_rise_and_is_seen =
+abbrev pub lost_promise_seen : List Deed
+lost_promise_seen =
     got 1 3 1 (messages.Request (tx 0 1 1) 1 0 (wants.Read 0 0)) ∷
     Sends 3 3 (messages.Answer 1 (answers.Granted 1 0 [])) ∷
     got 5 3 1 (messages.Request (tx 0 1 1) 1 1 (wants.Append 0 [] (own_line 1 0 0 ∷ []))) ∷
@@ -125,8 +125,8 @@ a_pending_promise_does_not_rise_and_is_seen =
     Writes records.Life ∷ Sends 12 3 (messages.Inquiry (tx 0 1 1)) ∷ []
 
 -- a pending Done rises and isn't seen
-abbrev pub a_pending_done_rises_and_is_not_seen : List Deed
-a_pending_done_rises_and_is_not_seen =
+abbrev pub pending_done_not_seen : List Deed
+pending_done_not_seen =
     got 1 3 1 (messages.Request (tx 0 1 1) 1 0 (wants.Append 0 [] ((own_line 1 0 3) ∷ []))) ∷
     Sends 3 3 (messages.Answer 1 (answers.Granted 1 0 [])) ∷
     got 4 4 1 (messages.Request (tx 1 1 1) 1 0 (wants.Read 0 0)) ∷
@@ -140,8 +140,8 @@ a_pending_done_rises_and_is_not_seen =
     Writes records.Life ∷ Sends 16 3 (messages.Inquiry (tx 0 1 1)) ∷ []
 
 -- a pending Done doesn't rise and is seen
-abbrev pub a_pending_done_does_not_rise_and_is_seen : List Deed
-a_pending_done_does_not_rise_and_is_seen =
+abbrev pub lost_done_seen : List Deed
+lost_done_seen =
     got 1 3 1 (messages.Request (tx 0 1 1) 1 0 (wants.Append 0 [] ((own_line 1 0 3) ∷ []))) ∷
     Sends 3 3 (messages.Answer 1 (answers.Granted 1 0 [])) ∷
     got 4 4 1 (messages.Request (tx 1 1 1) 1 0 (wants.Read 0 0)) ∷
@@ -154,8 +154,8 @@ a_pending_done_does_not_rise_and_is_seen =
     Rises ((prepare (tx 0 1 1) 1 [] ((own_line 1 0 3) ∷ []) []) ∷ []) ∷ Writes records.Life ∷ []
 
 -- asks about two promises in the order of the promises
-abbrev pub asks_about_two_promises_in_the_order_of_the_promises : List Deed
-asks_about_two_promises_in_the_order_of_the_promises =
+abbrev pub asks_in_order_of_promises : List Deed
+asks_in_order_of_promises =
     got 1 3 1 (messages.Request (tx 0 1 1) 1 0 (wants.Append 0 [] ((own_line 1 0 3) ∷ []))) ∷
     Sends 3 3 (messages.Answer 1 (answers.Granted 1 0 [])) ∷
     got 4 4 1 (messages.Request (tx 1 1 1) 1 0 (wants.Append 0 [] ((own_line 1 0 3) ∷ []))) ∷
@@ -169,8 +169,8 @@ asks_about_two_promises_in_the_order_of_the_promises =
     Writes records.Life ∷ Sends 14 4 (messages.Inquiry (tx 1 1 1)) ∷ Sends 15 3 (messages.Inquiry (tx 0 1 1)) ∷ []
 
 -- asks about one of two promises
-abbrev pub asks_about_one_of_two_promises : List Deed
-asks_about_one_of_two_promises =
+abbrev pub asks_about_one_of_two : List Deed
+asks_about_one_of_two =
     got 1 3 1 (messages.Request (tx 0 1 1) 1 0 (wants.Append 0 [] ((own_line 1 0 3) ∷ []))) ∷
     Sends 3 3 (messages.Answer 1 (answers.Granted 1 0 [])) ∷
     got 4 4 1 (messages.Request (tx 1 1 1) 1 0 (wants.Append 0 [] ((own_line 1 0 3) ∷ []))) ∷

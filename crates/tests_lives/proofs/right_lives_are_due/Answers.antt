@@ -3,14 +3,14 @@ use Rattle.tests_lives.proofs.right_lives_are_due.Goals as goal
 
 pub returns : goal.returns
 returns c = record {
-  a_pending_done_rises_and_its_lines_with_it = lemmas.a_pending_done_rises_and_its_lines_with_it_due;
+  pending_done_rises = lemmas.pending_done_rises_due;
   keeps_the_lines_of_its_done = lemmas.keeps_the_lines_of_its_done_due;
-  a_site_knows_the_lines_of_views = lemmas.a_site_knows_the_lines_of_views_due;
-  lines_that_came_with_views_are_lost_at_a_rise = lemmas.lines_that_came_with_views_are_lost_at_a_rise_due;
+  knows_lines_of_views = lemmas.knows_lines_of_views_due;
+  loses_lines_of_views = lemmas.loses_lines_of_views_due;
   keeps_the_lines_of_its_prepare = lemmas.keeps_the_lines_of_its_prepare_due;
-  asks_about_two_promises_in_the_order_of_the_transactions = lemmas.asks_about_two_promises_in_the_order_of_the_transactions_due;
-  refuses_a_prepare_that_names_its_old_life = lemmas.refuses_a_prepare_that_names_its_old_life_due;
-  falls_by_the_script_between_two_of_its_posts = lemmas.falls_by_the_script_between_two_of_its_posts_due;
-  what_rose_with_it_ends_as_it_is_decided = lemmas.what_rose_with_it_ends_as_it_is_decided_due;
-  a_promise_that_rose_is_redeemed_once = lemmas.a_promise_that_rose_is_redeemed_once_due;
+  asks_in_order = lemmas.asks_in_order_due;
+  refuses_its_old_life = lemmas.refuses_its_old_life_due;
+  falls_between_posts = lemmas.falls_between_posts_due;
+  ends_what_rose = lemmas.ends_what_rose_due;
+  redeems_once = lemmas.redeems_once_due;
 }
