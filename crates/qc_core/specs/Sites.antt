@@ -15,7 +15,7 @@ use Rattle.qc_msg.specs.declared.step.Fall.TheVariants.{Script}
 use Rattle.qc_msg.specs.declared.turn.Appended.{Appended}
 use Rattle.qc_msg.specs.declared.turn.Appended.TheVariants.{Done, Failed, Stopped}
 use Rattle.qc_msg.specs.declared.turn.Turn.{Turn}
-use Rattle.qc_msg.specs.Deeds.{Deed, Takes, Falls, Rises, deeds_as}
+use Rattle.qc_msg.specs.Deeds.{Deed, Takes, Writes, Sends, Tells, Falls, Rises, deeds_as}
 use Rattle.qc_promise.specs.SiteClocks.{clock_shown}
 use Rattle.qc_promise.specs.SiteHeld.{held_shown}
 use Rattle.qc_promise.specs.SiteLogs.{log_shown, recorded_shown}
@@ -44,6 +44,21 @@ abbrev pub IsInput : Given → Type 0
 IsInput (given.Called command) = Unit {0}
 IsInput (given.Got envelope) = IsStamped envelope.message
 IsInput (given.Lost number) = Unit {0}
+
+-- what a site takes in a run: messages, and that a request is lost; nobody commands it
+
+abbrev pub IsSiteInput : Given → Type 0
+IsSiteInput (given.Called command) = ⊥
+IsSiteInput (given.Got envelope) = IsStamped envelope.message
+IsSiteInput (given.Lost number) = Unit {0}
+
+abbrev pub IsSiteDeed : Deed → Type 0
+IsSiteDeed (Takes given) = IsSiteInput given
+IsSiteDeed (Writes written) = Unit {0}
+IsSiteDeed (Sends number to message) = Unit {0}
+IsSiteDeed (Tells reply) = Unit {0}
+IsSiteDeed (Falls cause pending) = Unit {0}
+IsSiteDeed (Rises records) = Unit {0}
 
 -- it stays up where the record of its turn is written, or there is none
 abbrev pub stays_up : Appended → Bool

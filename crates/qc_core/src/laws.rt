@@ -9,7 +9,8 @@ ghost use Rattle.qc_core.specs.Actors.{actor_after, actor_hears, actor_sent, act
 ghost use Rattle.qc_core.specs.Acts.{Acts, MayTake};
 ghost use Rattle.qc_core.specs.Conduct.{turn_after};
 ghost use Rattle.qc_core.specs.Lives.{AreSteady};
-ghost use Rattle.qc_core.specs.Sites.{IsShown, Serves};
+ghost use Rattle.qc_core.specs.Lives.{Lives, is_up};
+ghost use Rattle.qc_core.specs.Sites.{IsShown, IsSiteDeed, Serves};
 ghost use Rattle.qc_decl.specs.Accepted.{IsAccepted};
 ghost use Rattle.qc_decl.specs.Actors.{actors};
 ghost use Rattle.qc_decl.specs.Limits.{most_sites};
@@ -37,6 +38,14 @@ pub fn sites_are_read_off_their_steps()
 pub fn answers_of_sites_are_due()
     ensures { (decl : Declaration) (site : ℕ) (ds : List Deed) (up : Bool) → site < decl.sites
         → Serves decl site ds up → AreDue decl [] ds }
+{}
+
+/// A site that lives by its conduct, and is commanded by nobody, serves: it is up
+/// as it takes what it takes.
+#[tactic(auto, using(crate::proofs::SiteLives::serves_as_lives))]
+pub fn sites_that_live_serve()
+    ensures { (decl : Declaration) (site : ℕ) (ds : List Deed) (n : ℕ) → Lives decl site ds false n
+        → Every IsSiteDeed ds → Serves decl site ds (is_up ds) }
 {}
 
 /// An actor is a fold over its deeds: an input moves it, and it stays where it
