@@ -1,11 +1,11 @@
 #!/usr/bin/env python3
 """Measures the first call of a new clone, proved and unproved, and writes what it took into README.md.
 
-usage: first_call.py [--print]
+usage: first_call.py [--busy] [--print]
 
 Clones the last commit into a folder of its own, and calls `./quorum check @one` there with and without QUORUM_UNPROVED.
 It takes as long as they do: let the machine do nothing else. What is said stands in README.md between two marks; with
---print it is printed, and nothing is written.
+--print it is printed, and nothing is written; with --busy it says that the machine did other work too.
 """
 import os
 import subprocess
@@ -16,8 +16,8 @@ import time
 TOP = os.path.dirname(os.path.dirname(os.path.abspath(__file__)))
 DOCUMENT = f"{TOP}/README.md"
 SAID = """\
-The first call proves and builds the program%s; later calls start at once.
-With `QUORUM_UNPROVED=1` before it one is built with no proof%s, and says so at each call."""
+The first call proves and builds the program; later calls start at once. With `QUORUM_UNPROVED=1` before it one is built with
+no proof, and says so at each call.%s"""
 BEGIN, END = "<!-- first call -->\n", "<!-- end -->"
 
 
@@ -32,8 +32,9 @@ def first_call(more):
         return (time.time() - began) / 60, spent / 60
 
 
-def machine():
-    return f"{len(os.sched_getaffinity(0))} processors"
+def machine(words):
+    busy = " that did other work too" if "--busy" in words else ""
+    return f"{len(os.sched_getaffinity(0))} processors{busy}"
 
 
 def write(text):
@@ -51,14 +52,14 @@ def main(words):
     unproved, _ = first_call({"QUORUM_UNPROVED": "1"})
     clock, spent = first_call({"QUORUM_UNPROVED": ""})
     day = time.strftime("%Y-%m-%d", time.gmtime())
-    took = f" (of {day}, on {machine()}: {clock:.0f} minutes, {spent:.0f} of processor time)"
-    text = SAID % (took, f" ({60 * unproved:.0f} seconds)")
+    text = SAID % f"""
+(Of {day}, on {machine(words)}: {clock:.0f} minutes, {spent:.0f} of processor time; {60 * unproved:.0f} seconds with no proof.)"""
     print(text)
-    if not words:
+    if "--print" not in words:
         write(text)
 
 
 if __name__ == "__main__":
-    if sys.argv[1:] not in ([], ["--print"]):
+    if not {*sys.argv[1:]} <= {"--busy", "--print"}:
         sys.exit(__doc__)
     main(sys.argv[1:])

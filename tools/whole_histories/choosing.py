@@ -25,6 +25,10 @@ def features(decl, history):
             name += " in a life" if getattr(q, "life", 0) and kind(q) != "Granted" else ""
         elif name == "Wrote":
             name += " " + kind(x.record)
+        elif name == "Fell":
+            name += " by %s" % x.cause + (" with " + kind(x.pending) if x.pending else "")
+        elif name == "Rose":
+            found.update("Rose with " + kind(r) for r in x.records)
         found.add(name)
         waiting = waiting | {actor} if name in INPUTS else waiting - {actor}
         most = max(most, len(waiting))
@@ -54,13 +58,18 @@ def candidates(explore):
             yield seed, decl, script, history
 
 
-def chosen(explore):
-    left, seen, out = list(candidates(explore)), collections.Counter(), []
-    for fewest, most, count in CHOSEN:
+def chosen_of(left, sizes):
+    """Of these runs, so many of each size, always the one whose features are rarest among the ones before."""
+    found, seen, out = [(c, features(c[1], c[3])) for c in left], collections.Counter(), []
+    for fewest, most, count in sizes:
         for _ in range(count):
-            fits = [c for c in left if fewest <= len(c[3]) <= most]
-            best = max(fits, key=lambda c: (sum(1 / (1 + seen[f]) ** 2 for f in features(c[1], c[3])), -c[0]))
-            left.remove(best)
-            seen.update(features(best[1], best[3]))
-            out.append(best)
+            fits = [c for c in found if fewest <= len(c[0][3]) <= most]
+            best = max(fits, key=lambda c: (sum(1 / (1 + seen[f]) ** 2 for f in c[1]), -c[0][0]))
+            found.remove(best)
+            seen.update(best[1])
+            out.append(best[0])
     return sorted(out, key=lambda c: len(c[3])), seen
+
+
+def chosen(explore):
+    return chosen_of(candidates(explore), CHOSEN)

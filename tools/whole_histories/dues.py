@@ -22,10 +22,10 @@ import wrong_commits
 import wrong_reads
 import wrong_sites
 from editing import Edited
-from modules import IMPORTS, VARIANTS, filled, imported, words_of
-from refusing import last_post, lemma_module, reply_at
+from modules import IMPORTS, filled, imported, variants, words_of
+from refusing import FIRST_CLIENT, last_post, lemma_module, reply_at
 from runs import GROUP, WORKED, low
-from spelling import kind, record as spelled_record, step as spelled_step
+from spelling import step as spelled_step
 
 CRATE = os.path.join(os.path.dirname(os.path.abspath(__file__)), "..", "..", "crates", "tests_due")
 TOO_LONG = "phase|c0 begin|" + "c0 do x W1|" * 17 + "c0 abort"
@@ -43,12 +43,6 @@ def write(path, text):
 # Histories as terms.
 
 def entry(actor, x):
-    if kind(x) == "Fell":
-        return "marked %d (Fell falls.%s (Some %s))" % (actor, x.cause, spelled_record(x.pending))
-    if kind(x) == "Told" and kind(x.reply) == "Unknown":
-        return "marked %d (Told replies.Unknown)" % actor
-    if kind(x) == "Sent" and kind(x.message) == "Fault":
-        return "marked %d (Sent %d %d (messages.Answer %d answers.Fault))" % (actor, x.number, x.to, x.message.to)
     return "marked %d %s" % (actor, spelled_step(x))
 
 
@@ -59,12 +53,8 @@ def module(head, named):
     used = words_of("\n".join(text for text in body.split("\n") if not text.startswith("--")))
     out = "-- %s\n" % head
     for where, names in IMPORTS:
-        names += ("Fell",) if where.endswith("Step.TheVariants") else ()
         out += imported(where, [n for n in names if n in used or n == "◌∷◌"])
-    for name, where in VARIANTS + (("falls", "step.Fall"),):
-        if any(word.startswith(name + ".") for word in used):
-            out += "use Rattle.qc_msg.specs.declared.%s.TheVariants as %s\n" % (where, name)
-    return out + body
+    return out + variants(used) + body
 
 
 # Laws.
@@ -97,6 +87,8 @@ DUE = "Rattle.qc_promise.specs.Due.{Due}"
 REPLIES = "Rattle.qc_promise.specs.Replies.{AreRepliesDue}"
 SITES = "Rattle.qc_promise.specs.SiteDue.{AreDue}"
 DEEDS = "Rattle.qc_msg.specs.Deeds.{deeds}"
+# the first client of `@three`, and what it does
+FIRST = "0 (deeds 3 [] %s)"
 
 
 # Right histories.
@@ -111,13 +103,15 @@ def declared(name, source):
 
 
 def statement(name, source):
-    """That all is due in a history; in one of a row to come, that its replies are."""
-    return ("AreRepliesDue %s [] %s" if source == "LaterRows" else "Due %s %s") % declared(name, source)
+    """That all is due in a history; in one of a row to come, that its first client's deeds are."""
+    decl, history = declared(name, source)
+    return "AreRepliesDue %s %s" % (decl, FIRST % history) if source == "LaterRows" else "Due %s %s" % (decl, history)
 
 
 def lemma(name, source):
     decl, history = declared(name, source)
-    replies = "due_where_shown %s [] %s refl" % (decl, history)
+    replies = ("due_where_shown %s %s refl" % (decl, FIRST % history) if source == "LaterRows" else
+               "all_due_where_shown %s %s %s.clients refl" % (decl, history, decl))
     sites = "sites_due_where_posted %s %s %s.sites refl" % (decl, history, decl)
     value = replies if source == "LaterRows" else "record {\n  replies = %s;\n  sites = %s;\n}" % (replies, sites)
     return "\npub %s_due : %s\n%s_due = %s\n" % (name, statement(name, source), name, value)
@@ -128,7 +122,8 @@ def right(lemmas, doc, name, histories):
     body = "".join(lemma(n, s) for n, s in histories)
     used = words_of(body)
     words = [path for path in (
-        "Rattle.std.proofs.Common.{[], refl}", THREE, DUE, REPLIES, "Rattle.tests_due.proofs.Owed.{due_where_shown}",
+        "Rattle.std.proofs.Common.{[], refl}", THREE, DEEDS, DUE, REPLIES,
+        "Rattle.tests_due.proofs.Owed.{all_due_where_shown}", "Rattle.tests_due.proofs.Owed.{due_where_shown}",
         "Rattle.tests_due.proofs.Sites.{sites_due_where_posted}") if set(words_of(path.split(".")[-1])) & used]
     write("proofs/%s.antt" % lemmas, "-- %s\n%s%s" % (doc, uses(words, histories), body))
     answers("right", name, lemmas, [n for n, _ in histories], "due")
@@ -160,7 +155,7 @@ def make_right(run, parts):
                        "all_is_due_in_%d_to_%d" % span, group))
     laws = "".join(right(*group) for group in groups)
     write("src/right.rt", "//! Right histories, in which all is due.\n\nghost use Rattle.std.specs.Prelude.{[]};\n"
-          + uses([THREE, DUE, REPLIES], worked + random + others, "ghost ") + laws)
+          + uses([THREE, DEEDS, DUE, REPLIES], worked + random + others, "ghost ") + laws)
     return ["LaterRows", "LongTransaction"], [group[0] for group in groups]
 
 
@@ -181,7 +176,8 @@ def make_wrong(run, kinds, source, head, words):
             named.append((name, wrong_is, history))
             if source == "wrong":
                 lemmas += reply_at(said, name, history, place, *rest[1:])
-                clauses.append((name, "AreRepliesDue three [] %s → ⊥" % said))
+                actor = history[place][0]
+                clauses.append((name, "AreRepliesDue three %d (deeds %d [] %s) → ⊥" % (actor - FIRST_CLIENT, actor, said)))
             else:
                 lemmas += last_post(said, name, history, rest[0], *rest[2:])
                 clauses.append((name, "AreDue three [] (deeds %d [] %s) → ⊥" % (rest[0], said)))
@@ -210,7 +206,7 @@ def main(words):
 
     specs, lemmas = make_right(run, parts)
     wrong_files = make_wrong(run, wrong_reads.cases(*parts) + wrong_commits.cases(*parts), "wrong",
-                             "Wrong histories of clients, each refused.", [THREE, REPLIES])
+                             "Wrong histories of clients, each refused.", [THREE, DEEDS, REPLIES])
     wrong_files += make_wrong(run, wrong_sites.cases(*parts), "wrong_sites", "Wrong histories of sites, each refused.",
                               [THREE, DEEDS, SITES])
     write("specs/Lib.antt", "".join("pub mod %s\n" % m for m in specs + wrong_files))

@@ -64,12 +64,12 @@ IMPORTS = (
      ("tx", "stamp", "line", "own_line", "operation", "read_lock", "prepare", "commit", "declaration", "kind", "pair",
       "plan")),
     ("Rattle.qc_msg.specs.declared.step.Step.TheVariants",
-     ("Phase", "Cut", "Heal", "Called", "Got", "Lost", "Wrote", "Sent", "Told")),
+     ("Phase", "Cut", "Heal", "Called", "Got", "Lost", "Wrote", "Sent", "Told", "Armed", "Fell", "Rose")),
 )
 VARIANTS = (
     ("answers", "message.Answer"), ("causes", "reply.Why"), ("commands", "step.Command"), ("halves", "reply.Half"),
     ("messages", "message.Message"), ("outcomes", "message.Outcome"), ("records", "record.Record"),
-    ("replies", "reply.Reply"), ("wants", "message.Want"),
+    ("replies", "reply.Reply"), ("wants", "message.Want"), ("falls", "step.Fall"),
 )
 
 
@@ -88,22 +88,30 @@ def imported(where, names):
     return text if len(text) <= COLUMNS else imported(where, names[:half]) + imported(where, names[half:])
 
 
-def module(head, decl, history):
+def variants(used):
+    """The lines that bring the variants of the types that are named."""
+    def named(name):
+        return any(word.startswith(name + ".") for word in used)
+
+    out = "".join("use Rattle.qc_msg.specs.declared.%s.TheVariants as %s\n" % (where, name)
+                  for name, where in VARIANTS if named(name))
+    return out + ("use Rattle.qc_outside.specs.declared.disk.ArmKind.TheVariants as arms\n" if named("arms") else "")
+
+
+def module(head, decl, history, schedule=None, imports=IMPORTS):
+    """A history's module; its moves are the schedule, or else those of `moves`."""
     body = ""
     if decl is not None:
         body += "abbrev pub decl : Declaration\ndecl =\n%s\n\n" % "\n".join(broken(declaration(decl)))
-    body += "abbrev pub moves : List Move\nmoves =\n%s\n\n" % filled(moves(history), "[]")
+    body += "abbrev pub moves : List Move\nmoves =\n%s\n\n" % filled(schedule or moves(history), "[]")
     entries = ["marked %d %s" % (actor, step(x)) for actor, x in history]
     body += "abbrev pub history : List Entry\nhistory =\n%s\n" % filled(entries, "[]")
     used = words_of(body)
     out = "".join("-- %s\n" % text for text in textwrap.wrap(head, COLUMNS - 3))
-    for where, names in IMPORTS:
+    for where, names in imports:
         names = [n for n in names if n in used or n == "◌∷◌"]
         out += imported(where, names)
-    for name, where in VARIANTS:
-        if any(word.startswith(name + ".") for word in used):
-            out += "use Rattle.qc_msg.specs.declared.%s.TheVariants as %s\n" % (where, name)
-    return out + "\n" + body
+    return out + variants(used) + "\n" + body
 
 
 def told(decl, history):

@@ -1,6 +1,6 @@
 """Lemmas that refuse wrong histories: what is due at a step isn't what stands there."""
 
-from modules import VARIANTS, imported, words_of
+from modules import imported, variants, words_of
 from spelling import kind, listed, operation, reply as spelled_reply, stamp, term, tx
 
 IMPORTS = (
@@ -17,6 +17,9 @@ IMPORTS = (
     ("Rattle.tests_due.proofs.SitePlaces",
      ("clock_granted", "count_records", "count_sends", "first_answer", "holder_told", "lines_granted", "own_promised", "site_due_at")),
 )
+# the first client of `@three` as an actor, and the steps that are deeds of their actors
+FIRST_CLIENT = 3
+DEEDS = ("Called", "Got", "Lost", "Wrote", "Sent", "Told", "Fell", "Rose")
 NEVER = "let never : ⊥ = cc in never"
 # by what two replies, or two records, are told apart where their constructors are the same
 PARTS = {"client": "client_named", "number": "number_begun", "stamp": "clock_told", "commit": "count_written"}
@@ -28,10 +31,12 @@ def lemma_module(head, body, file, name):
     out = "-- %s\n" % head
     for where, names in IMPORTS:
         out += imported(where, [n for n in names if signs.get(n, n in used)])
-    for variant, where in VARIANTS:
-        if any(word.startswith(variant + ".") for word in used):
-            out += "use Rattle.qc_msg.specs.declared.%s.TheVariants as %s\n" % (where, variant)
-    return out + "use Rattle.tests_due.specs.%s as %s\n" % (file, name) + body
+    return out + variants(used) + "use Rattle.tests_due.specs.%s as %s\n" % (file, name) + body
+
+
+def deeds_before(history, place):
+    """How many deeds the actor of a step did before it."""
+    return sum(a == history[place][0] and kind(x) in DEEDS for a, x in history[:place])
 
 
 def reply_at(said, name, history, place, part, due):
@@ -43,14 +48,17 @@ def reply_at(said, name, history, place, part, due):
         stamp(x.record.stamp), tx(x.record.tx), listed(map(operation, x.record.ops)))
     left, right, field = {"record": ("None", due, 1), "commit": (due, commit, 1), "once": (commit, due, 2)}.get(
         part, (due, told, 0))
+    actor = history[place][0]
+    deeds = "%d (deeds %d [] %s)" % (actor - FIRST_CLIENT, actor, said)
     never = NEVER
     if part in PARTS:
         never = "let same : ◌≡◌ {A = ℕ} (%s %s) (%s %s) = ap %s e in %s" % (
             PARTS[part], left, PARTS[part], right, PARTS[part], never)
     return (
         "\n%s_differs : ◌≡◌ {A = Option %s} %s %s → ⊥\n%s_differs e = %s\n"
-        "\npub %s_refused : AreRepliesDue three [] %s → ⊥\n%s_refused all = %s_differs (due_at %d three [] %s all).%d\n"
-        % (name, "Commit" if field else "Reply", left, right, name, never, name, said, name, name, place, said, field))
+        "\npub %s_refused : AreRepliesDue three %s → ⊥\n%s_refused all = %s_differs (due_at %d three %s all).%d\n"
+        % (name, "Commit" if field else "Reply", left, right, name, never, name, deeds, name, name,
+           deeds_before(history, place), deeds, field))
 
 
 def last_post(said, name, history, site, part, due, posted):

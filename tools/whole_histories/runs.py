@@ -48,7 +48,14 @@ def link(rule):
 
 
 def control(line):
-    return term("controls." + kind(line), line.a, line.b)
+    fields = {
+        "Cut": lambda: (line.a, line.b),
+        "Heal": lambda: (line.a, line.b),
+        "Armed": lambda: (line.actor, "arms." + line.kind, line.at),
+        "Crash": lambda: (line.actor,),
+        "Restart": lambda: (line.actor,),
+    }[kind(line)]()
+    return term("controls." + kind(line), *fields)
 
 
 def phase(lines):
@@ -68,7 +75,7 @@ IMPORTS = (
 )
 VARIANTS = (
     ("commands", "qc_msg.specs.declared.step.Command"), ("controls", "qc_msg.specs.declared.step.Control"),
-    ("rules", "qc_link.specs.declared.rule.Rule"),
+    ("rules", "qc_link.specs.declared.rule.Rule"), ("arms", "qc_outside.specs.declared.disk.ArmKind"),
 )
 
 

@@ -19,9 +19,9 @@ def optional(value):
 
 
 def tx(name):
+    """A transaction; one of a later life of its client names it."""
     client, life, number = name
-    assert life == 1
-    return term("tx", client, number)
+    return term("tx", client, number) if life == 1 else term("tx_in", client, life, number)
 
 
 def stamp(value):
@@ -30,7 +30,9 @@ def stamp(value):
 
 def line(value):
     (clock, client), (owner, life, number), *rest = value
-    assert client == owner and life == 1
+    assert client == owner
+    if life > 1:
+        return "line_in %d %d %d %d %d %d %d" % (clock, client, life, number, *rest)
     return "line %d %d %d %d %d %d" % (clock, client, number, *rest)
 
 
@@ -54,6 +56,7 @@ def answer(a):
         "Behind": lambda: (a.epoch,),
         "Restarted": lambda: (a.life,),
         "Stale": tuple,
+        "Fault": tuple,
         "Yes": lambda: (a.clock,),
     }[kind(a)]()
     return term("answers." + kind(a), *fields)
@@ -92,11 +95,14 @@ def reply(q):
         "Committed": lambda: (stamp(q.stamp),),
         "Aborted": lambda: (term("causes." + q.why[0], *q.why[1:]),),
         "NoTransaction": tuple, "Doomed": tuple, "TooLong": tuple, "Absent": tuple, "Dropped": tuple,
+        "Down": tuple, "Unknown": tuple,
     }[kind(q)]()
     return term("replies." + kind(q), *fields)
 
 
 def record(x):
+    if kind(x) == "Life":
+        return "records.Life"
     if kind(x) == "Prepare":
         p = x.prepared
         locks = listed("read_lock %d %d" % lock for lock in p.locks)
@@ -117,6 +123,9 @@ def step(x):
         "Wrote": lambda: (record(x.record),),
         "Sent": lambda: (x.number, x.to, message(x.message)),
         "Told": lambda: (reply(x.reply),),
+        "Armed": lambda: (x.actor, "arms." + x.kind, x.at),
+        "Fell": lambda: ("falls." + x.cause, optional(None if x.pending is None else record(x.pending))),
+        "Rose": lambda: (listed(map(record, x.records)),),
     }[kind(x)]()
     return term(kind(x), *fields)
 

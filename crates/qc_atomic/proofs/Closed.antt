@@ -31,9 +31,9 @@ module _ (decl : Declaration) (accepted : IsAccepted decl) (net : Net) (reached 
   machine_logged : (l : Line) → IsLogged decl net.written l → IsLogged decl (state mirrored.acts).records l
   machine_logged l k = record { commit = k.commit; listed = mirrored.agrees.records k.commit k.listed; stamped = k.stamped; named = k.named; operation = k.operation }
 
-  pub site_closed : (a : ℕ) → is_site decl a ≡ true → IsClosedLog decl net.written (net.sites a).log
-  site_closed a site l m among committed same before depends =
-      let s : SiteMirrors (net.sites a) ((state mirrored.acts).deeds a) = mirrored.agrees.sites a site in
+  pub site_closed : (a : ℕ) → is_site decl a ≡ true → net.up a ≡ true → IsClosedLog decl net.written (net.sites a).log
+  site_closed a site up l m among committed same before depends =
+      let s : SiteMirrors decl (net.sites a) ((state mirrored.acts).deeds a) ((state mirrored.acts).life a) = mirrored.agrees.sites a site up in
       s.log m (claims.logs_are_closed decl accepted mirrored.acts mirrored.run (site_after ((state mirrored.acts).deeds a)).volatile (OfSite a refl) l m (s.logged l among) (machine_logged m committed) same before depends)
 
   pub view_closed : (e : Envelope) (tx : TxId) (epoch life object : ℕ) (view : List Line) (own : List OwnLine) → In e net.mail → e.message ≡ messages.Request tx epoch life (Append object view own) → IsClosedLog decl net.written view

@@ -2,6 +2,8 @@ pub mod Silent
 pub mod Posted
 pub mod Names
 pub mod Asked
+pub mod Calm
+pub mod CalmGrants
 pub mod Stood
 pub mod RunsStand
 pub mod Closed

@@ -28,22 +28,23 @@ use Rattle.qc_net.specs.Lines.{IsTrueVerdict, lines_in}
 use Rattle.qc_net.proofs.NetLaws as nets
 use Rattle.qc_atomic.specs.Reached.{IsReached}
 use Rattle.qc_atomic.proofs.Closed as closed_logs
-use Rattle.qc_atomic.proofs.Names.{script_named}
+use Rattle.qc_atomic.proofs.Calm.{all_up, is_reached}
 use Rattle.qc_atomic.proofs.RunsStand.{runs_stand}
 use Rattle.qc_atomic.proofs.Stood.{Stood}
 
 module _ (decl : Declaration) (script : Script) (h : List Entry) (open_inputs : List Bool) (accepted : IsAccepted decl) (sound : IsScriptFor decl script) (run : Runs (IsLawful decl) decl script h open_inputs) where
+  stood : Stood decl h open_inputs
+  stood = runs_stand decl script accepted sound h open_inputs run
+
   pub net_of : IsReached decl h open_inputs
-  net_of =
-      let s : Stood decl h open_inputs = runs_stand decl script (script_named decl accepted script sound) h open_inputs run in
-      record {
-        net = s.net;
-        reached = s.reached;
-        mail_is = s.mail_is;
-        written_is = s.written_is;
-        sites_are = λ a site closed. (s.sites_are a site).closed closed;
-        clients_are = λ a client closed. (s.clients_are a client).closed closed;
-      }
+  net_of = record {
+    net = stood.net;
+    reached = is_reached decl stood.net stood.calm;
+    mail_is = stood.mail_is;
+    written_is = stood.written_is;
+    sites_are = λ a site closed. (stood.sites_are a site).closed closed;
+    clients_are = λ a client closed. (stood.clients_are a client).closed closed;
+  }
 
   pub one_copy : OneCopy decl (sorted (written h))
   one_copy = subst (λ (cs : List CommitRecord). OneCopy decl (sorted cs)) net_of.written_is (nets.one_copy decl accepted net_of.net net_of.reached)
@@ -53,8 +54,8 @@ module _ (decl : Declaration) (script : Script) (h : List Entry) (open_inputs : 
 
   pub site_lines : (a : ℕ) (line : Line) → is_site decl a ≡ true → slice_get open_inputs a ≡ Some false → In line (site_after decl a (deeds a [] h)).site.log → IsLogged decl (written h) line
   site_lines a line site closed among =
-      subst (λ (cs : List CommitRecord). IsLogged decl cs line) net_of.written_is
-      (nets.site_lines decl accepted net_of.net net_of.reached a line site (subst (λ (s : SiteState). In line s.log) (sym (net_of.sites_are a site closed)) among))
+      subst (λ (cs : List CommitRecord). IsLogged decl cs line) stood.written_is
+      (nets.site_lines decl accepted stood.net (is_reached decl stood.net stood.calm) a line site (all_up decl stood.net stood.calm a) (subst (λ (s : SiteState). In line s.log) (sym ((stood.sites_are a site).closed closed)) among))
 
   pub message_lines : (e : Envelope) (line : Line) → In e (mail h) → In line (lines_in e.message) → IsLogged decl (written h) line
   message_lines e line sent among =
@@ -68,8 +69,8 @@ module _ (decl : Declaration) (script : Script) (h : List Entry) (open_inputs : 
 
   pub site_closed : (a : ℕ) → is_site decl a ≡ true → slice_get open_inputs a ≡ Some false → IsClosedLog decl (written h) (site_after decl a (deeds a [] h)).site.log
   site_closed a site closed =
-      subst (λ (cs : List CommitRecord). IsClosedLog decl cs (site_after decl a (deeds a [] h)).site.log) net_of.written_is
-      (subst (λ (s : SiteState). IsClosedLog decl net_of.net.written s.log) (net_of.sites_are a site closed) (closed_logs.site_closed decl accepted net_of.net net_of.reached a site))
+      subst (λ (cs : List CommitRecord). IsClosedLog decl cs (site_after decl a (deeds a [] h)).site.log) stood.written_is
+      (subst (λ (s : SiteState). IsClosedLog decl stood.net.written s.log) ((stood.sites_are a site).closed closed) (closed_logs.site_closed decl accepted stood.net (is_reached decl stood.net stood.calm) a site (all_up decl stood.net stood.calm a)))
 
   pub view_closed : (e : Envelope) (tx : TxId) (epoch life object : ℕ) (view : List Line) (own : List OwnLine) → In e (mail h) → e.message ≡ Request tx epoch life (Append object view own) → IsClosedLog decl (written h) view
   view_closed e tx epoch life object view own sent is =

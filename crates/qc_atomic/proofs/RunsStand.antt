@@ -6,6 +6,7 @@ use Rattle.std.proofs.lemmas.List.Sums.{fold-append}
 use Rattle.qc_entry.specs.declared.record.Commit.{Commit as CommitRecord}
 use Rattle.qc_core.specs.Acts.{MayTake}
 use Rattle.qc_core.specs.Conduct.{IsLawful}
+use Rattle.qc_decl.specs.Accepted.{IsAccepted}
 use Rattle.qc_decl.specs.declared.declaration.Declaration.{Declaration}
 use Rattle.qc_decl.specs.Actors.{actors, controller, is_client, is_site}
 use Rattle.qc_msg.specs.declared.message.Envelope.{Envelope}
@@ -21,6 +22,7 @@ use Rattle.qc_msg.specs.Deeds.{Deed, Takes, WasSentTo, deeds, envelopes, mail}
 use Rattle.qc_msg.specs.Steps.{Entry, by, marked, posted, step_of}
 use Rattle.qc_msg.proofs.Growth.{deeds-other, deeds-posted, deeds-taken, mail-append, mail-posted, mail-taken}
 use Rattle.qc_script.specs.Ready.{phase_of, ready}
+use Rattle.qc_script.specs.Sound.{IsScriptFor}
 use Rattle.qc_script.specs.Runs.{Runs, begins, takes, posts, phase, control}
 use Rattle.qc_script.specs.declared.script.Script.{Script}
 use Rattle.qc_client.specs.Client.{ClientMove}
@@ -35,6 +37,7 @@ use Rattle.qc_laws.proofs.Acted.{deeds-silent, run_acts}
 use Rattle.qc_laws.proofs.Arrivals.{what_is_ready_was_sent}
 use Rattle.qc_laws.proofs.Numbered.{IsSilent, control_silent, mail-silent, phase_silent}
 use Rattle.qc_laws.proofs.Places.{replicate_at}
+use Rattle.qc_laws.proofs.Proper.{run_proper}
 use Rattle.qc_laws.proofs.Replying.{after_taken, client_replies}
 use Rattle.qc_laws.proofs.Running.{what_is_ready_may_be_taken}
 use Rattle.qc_laws.specs.Calls.{is_waiting}
@@ -43,17 +46,18 @@ use Rattle.qc_promise.specs.Account.{new_account}
 use Rattle.qc_promise.specs.Accounting.{account, account_at}
 use Rattle.qc_account.specs.Ties.{Ties}
 use Rattle.qc_account.proofs.Courses.{clients_tied}
+use Rattle.qc_account.proofs.Declared.{asks_declared}
 use Rattle.qc_net.specs.Net.{MayCommand, after_client, after_site, commits_in, first_net, sent_all}
-use Rattle.qc_net.specs.Net as nets
-use Rattle.qc_net.proofs.Frames.{put_one}
-use Rattle.qc_atomic.specs.Reached.{AreNamed}
+use Rattle.qc_net.proofs.Machine.{put_one}
 use Rattle.qc_atomic.proofs.Asked.{ready_named}
+use Rattle.qc_atomic.proofs.Calm as calm
+use Rattle.qc_atomic.proofs.Names.{script_named}
 use Rattle.qc_atomic.proofs.Posted.{client_posted, control_writes, site_posted, site_taken, taken_writes, written_posted, written_same}
 use Rattle.qc_atomic.proofs.Silent.{site_silent}
-use Rattle.qc_atomic.proofs.Stood.{ClientStands, OpenClient, OpenSite, SiteStands, Stood, apart, both, client_stays, false_true, may_come, not_now, site_stays, slot_other, true_false}
+use Rattle.qc_atomic.proofs.Stood.{ClientStands, OpenClient, OpenSite, SiteStands, Stood, apart, both, client_stays, false_true, may_come, not_now, site_stays, slot_other, takes_so, true_false}
 use Rattle.qc_laws.proofs.Up.{run_up}
 
-module _ (decl : Declaration) (script : Script) where
+module _ (decl : Declaration) (script : Script) (accepted : IsAccepted decl) (sound : IsScriptFor decl script) where
   -- an input is taken
 
   idle_is : (doing : Doing) → is_idle doing ≡ true → doing ≡ Idle
@@ -61,7 +65,7 @@ module _ (decl : Declaration) (script : Script) where
   idle_is (Reading object inv calls round) is = absurd (let never : ⊥ = cc in never)
   idle_is (Appending object inv event calls round) is = absurd (let never : ⊥ = cc in never)
 
-  module _ (named : AreNamed decl script) (h : List Entry) (open_inputs : List Bool) (run : Runs (IsLawful decl) decl script h open_inputs) (old : Stood decl h open_inputs) where
+  module _ (h : List Entry) (open_inputs : List Bool) (run : Runs (IsLawful decl) decl script h open_inputs) (old : Stood decl h open_inputs) where
     module _ (a : ℕ) (g : Given) (free : slice_get open_inputs a ≡ Some false) (rdy : ready decl script a h ≡ Some g) where
       abbrev now_taken : List Entry
       now_taken = h ++ marked a (step_of g) ∷ []
@@ -89,7 +93,7 @@ module _ (decl : Declaration) (script : Script) where
           let c : Client = (client_after decl (a - decl.sites) (deeds a [] h)).client in
           let rests : is_waiting (client_after decl (a - decl.sites) (deeds a [] h)).client ≡ false = still client command is in (
             record { voting = votes_none c rests; doing = idle_is c.front.doing (round_none c rests) },
-            ready_named decl script named h open_inputs run a command free (rdy ∙ ap (λ (v : Given). Some v) is),
+            ready_named decl script (script_named decl accepted script sound) h open_inputs run a command free (rdy ∙ ap (λ (v : Given). Some v) is),
           )
       may (given.Got envelope) is client = tt
       may (given.Lost number) is client = tt
@@ -97,7 +101,7 @@ module _ (decl : Declaration) (script : Script) where
       pub stands_taken : Stood decl now_taken (slice_set open_inputs a true)
       stands_taken = record {
         net = old.net;
-        reached = old.reached;
+        calm = old.calm;
         mail_is = old.mail_is ∙ sym (mail-taken h a g);
         written_is = old.written_is ∙ sym (written_same h a (step_of g) (taken_writes g));
         sites_are = λ b site. by_site b site (a == b) refl;
@@ -170,7 +174,8 @@ module _ (decl : Declaration) (script : Script) where
         pub stands_served : Stood decl now_posted (slice_set open_inputs a false)
         stands_served = record {
           net = after_site old.net a move;
-          reached = nets.serves a x.given old.net old.reached site (may_come old.net a x.given (subst (λ (ms : List Envelope). WasSentTo a ms x.given) (sym old.mail_is) x.sent));
+          calm = calm.serves a x.given old.net old.calm site (may_come old.net a x.given (subst (λ (ms : List Envelope). WasSentTo a ms x.given) (sym old.mail_is) x.sent))
+              (takes_so decl (old.net.sites a) a (mail h) x.given (run_proper decl script accepted (asks_declared decl script accepted sound) h open_inputs run) x.sent);
           mail_is = mail_after move.turn.sends (ap (λ (t : Turn). t.sends) turn_is);
           written_is = old.written_is ∙ sym (written_posted h a (length (mail h)) turn ∙ ap (λ (cs : List CommitRecord). written h ++ cs) (ap (λ (t : Turn). commits_in t.write) (sym turn_is) ∙ site_silent decl (old.net.sites a) x.given) ∙ append-nil (written h));
           sites_are = λ b is. put_one (λ k (s : SiteState). SiteStands decl s k now_posted (slice_get (slice_set open_inputs a false) k)) old.net.sites a move.site b here (λ other. site_elsewhere b is (differs b other));
@@ -196,7 +201,7 @@ module _ (decl : Declaration) (script : Script) where
         pub stands_done : Stood decl now_posted (slice_set open_inputs a false)
         stands_done = record {
           net = after_client old.net a step;
-          reached = nets.takes a y.given old.net old.reached client (may_come old.net a y.given (subst (λ (ms : List Envelope). WasSentTo a ms y.given) (sym old.mail_is) y.sent)) y.may;
+          calm = calm.takes a y.given old.net old.calm client (may_come old.net a y.given (subst (λ (ms : List Envelope). WasSentTo a ms y.given) (sym old.mail_is) y.sent)) y.may;
           mail_is = mail_after step.turn.sends (ap (λ (t : Turn). t.sends) turn_was);
           written_is = (λ i. old.written_is i ++ commits_in (turn_was i).write) ∙ sym (written_posted h a (length (mail h)) turn);
           sites_are = λ b is. site_elsewhere b is (apart a b (λ same. (let site : is_site decl a ≡ true = subst (λ (k : ℕ). is_site decl k ≡ true) (sym same) is in let never : ⊥ = cc in never)));
@@ -226,29 +231,29 @@ module _ (decl : Declaration) (script : Script) where
     pub stands_still : (b : ℕ) (silent_step : Step) → IsSilent silent_step → commit_in silent_step ≡ None → Stood decl (h ++ marked b silent_step ∷ []) open_inputs
     stands_still b silent_step silent none = record {
       net = old.net;
-      reached = old.reached;
+      calm = old.calm;
       mail_is = old.mail_is ∙ sym (mail-silent h b silent_step silent);
       written_is = old.written_is ∙ sym (written_same h b silent_step none);
       sites_are = λ a site. site_stays decl (old.net.sites a) a h (h ++ marked b silent_step ∷ []) [] (slice_get open_inputs a) (slice_get open_inputs a) (deeds-silent a b h silent_step silent) (mail-silent h b silent_step silent ∙ sym (append-nil (mail h))) refl (old.sites_are a site);
       clients_are = λ a client. client_stays decl (old.net.clients a) a h (h ++ marked b silent_step ∷ []) [] (slice_get open_inputs a) (slice_get open_inputs a) (deeds-silent a b h silent_step silent) (mail-silent h b silent_step silent ∙ sym (append-nil (mail h))) refl (old.clients_are a client);
     }
 
-  at_first : (a : ℕ) (t : Bool) → slice_get (replicate (actors decl) false) a ≡ Some true → ⊥
-  at_first a t is = let no : true ≡ false = replicate_at (actors decl) a false true is in true_false no
+  none_open : (a : ℕ) (t : Bool) → slice_get (replicate (actors decl) false) a ≡ Some true → ⊥
+  none_open a t is = let no : true ≡ false = replicate_at (actors decl) a false true is in true_false no
 
   -- each run is one of the net
-  pub runs_stand : AreNamed decl script → (h : List Entry) (open_inputs : List Bool) → Runs (IsLawful decl) decl script h open_inputs → Stood decl h open_inputs
-  runs_stand named h open_inputs begins = record {
+  pub runs_stand : (h : List Entry) (open_inputs : List Bool) → Runs (IsLawful decl) decl script h open_inputs → Stood decl h open_inputs
+  runs_stand h open_inputs begins = record {
     net = first_net decl;
-    reached = nets.begins;
+    calm = calm.begins;
     mail_is = refl;
     written_is = refl;
-    sites_are = λ a site. record { closed = λ e. refl; opened = λ e. absurd (at_first a true e) };
-    clients_are = λ a client. record { closed = λ e. refl; opened = λ e. absurd (at_first a true e) };
+    sites_are = λ a site. record { closed = λ e. refl; opened = λ e. absurd (none_open a true e) };
+    clients_are = λ a client. record { closed = λ e. refl; opened = λ e. absurd (none_open a true e) };
   }
-  runs_stand named h open_inputs (takes a g before older run free rdy) = stands_taken named older before run (runs_stand named older before run) a g free rdy
-  runs_stand named h open_inputs (posts a turn before older run taken law) = stands_posted named older before run (runs_stand named older before run) a turn taken law
-  runs_stand named h open_inputs (phase before older run idle done quiet more) =
-      stands_still named older before run (runs_stand named older before run) (controller decl) (steps.Phase (phase_of older + 1)) (phase_silent (phase_of older + 1)) refl
-  runs_stand named h open_inputs (control line lines acted before older run left is) =
-      stands_still named older before run (runs_stand named older before run) (controller decl) acted (control_silent line acted is) (control_writes line acted is)
+  runs_stand h open_inputs (takes a g before older run free rdy) = stands_taken older before run (runs_stand older before run) a g free rdy
+  runs_stand h open_inputs (posts a turn before older run taken law) = stands_posted older before run (runs_stand older before run) a turn taken law
+  runs_stand h open_inputs (phase before older run idle done quiet more) =
+      stands_still older before run (runs_stand older before run) (controller decl) (steps.Phase (phase_of older + 1)) (phase_silent (phase_of older + 1)) refl
+  runs_stand h open_inputs (control line lines acted before older run left is) =
+      stands_still older before run (runs_stand older before run) (controller decl) acted (control_silent line acted is) (control_writes line acted is)

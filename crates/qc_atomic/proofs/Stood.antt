@@ -8,6 +8,8 @@ use Rattle.qc_list.proofs.Members.{every-at, every-from_In}
 use Rattle.qc_decl.specs.declared.declaration.Declaration.{Declaration}
 use Rattle.qc_decl.specs.Actors.{actors, is_client, is_site}
 use Rattle.qc_msg.specs.declared.message.Envelope.{Envelope}
+use Rattle.qc_msg.specs.declared.message.Message.{Message}
+use Rattle.qc_msg.specs.declared.message.Message.TheVariants as messages
 use Rattle.qc_msg.specs.declared.step.Given.{Given}
 use Rattle.qc_msg.specs.declared.step.Given.TheVariants as given
 use Rattle.qc_msg.specs.Counts.{written}
@@ -15,13 +17,16 @@ use Rattle.qc_msg.specs.Deeds.{Deed, WasSentTo, deeds, mail}
 use Rattle.qc_msg.specs.Steps.{Entry}
 use Rattle.qc_client.specs.Conduct.{client_after, client_takes}
 use Rattle.qc_client.specs.declared.client.Client.{Client}
-use Rattle.qc_site.specs.Conduct.{site_after, site_takes}
+use Rattle.qc_epoch.specs.SiteRows.{hears, takes}
+use Rattle.qc_site.specs.Conduct.{site_after, site_on, site_takes}
 use Rattle.qc_site.specs.Site.{SiteState}
 use Rattle.qc_promise.specs.Account.{Account, new_account}
 use Rattle.qc_promise.specs.Accounting.{account, account_at, account_taken}
 use Rattle.qc_laws.proofs.Places.{slice_get-more, slice_get-set_other, slice_get-set_same}
+use Rattle.qc_laws.proofs.SiteReplies.{IsMailProper, IsProperFrom}
 use Rattle.qc_account.specs.Ties.{Ties}
-use Rattle.qc_net.specs.Net.{MayCome, MayCommand, Net, Reaches}
+use Rattle.qc_net.specs.Net.{MayCome, MayCommand, Net}
+use Rattle.qc_atomic.proofs.Calm.{IsCalm}
 
 -- what was sent stays so, and may come
 
@@ -90,11 +95,27 @@ module _ (decl : Declaration) where
 
   pub record Stood (h : List Entry) (open_inputs : List Bool) : Type 0 where
     pub net : Net
-    pub reached : Reaches decl net
+    pub calm : IsCalm decl net
     pub mail_is : net.mail ≡ mail h
     pub written_is : net.written ≡ written h
     pub sites_are : (a : ℕ) → is_site decl a ≡ true → SiteStands (net.sites a) a h (slice_get open_inputs a)
     pub clients_are : (a : ℕ) → is_client decl a ≡ true → ClientStands (net.clients a) a h (slice_get open_inputs a)
+
+  -- without a Close or an Install a site takes what comes by its rules of one epoch
+
+  heard_so : (s : SiteState) (from number to : ℕ) (m : Message) → IsProperFrom decl from to m → hears decl s from number m ≡ site_on decl s from number m
+  heard_so s from number to (messages.Request tx epoch life want) proper = refl
+  heard_so s from number to (messages.Answer request answer) proper = refl
+  heard_so s from number to (messages.Decision tx verdict) proper = refl
+  heard_so s from number to (messages.Inquiry tx) proper = refl
+  heard_so s from number to (messages.Ask tx) proper = absurd proper
+  heard_so s from number to (messages.Close epoch) proper = absurd proper
+  heard_so s from number to (messages.Install epoch clock log) proper = absurd proper
+
+  pub takes_so : (s : SiteState) (a : ℕ) (ms : List Envelope) (g : Given) → IsMailProper decl ms → WasSentTo a ms g → takes decl s g ≡ site_takes decl s g
+  takes_so s a ms (given.Called command) proper sent = refl
+  takes_so s a ms (given.Got e) proper sent = heard_so s e.from e.number e.to e.message (every-at (λ (x : Envelope). IsProperFrom decl x.from x.to x.message) ms e.number e proper sent.0)
+  takes_so s a ms (given.Lost number) proper sent = refl
 
   -- no actor is both
   pub both : (a : ℕ) → is_site decl a ≡ true → is_client decl a ≡ true → ⊥

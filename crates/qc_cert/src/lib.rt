@@ -13,12 +13,12 @@
 //! rest on exactness.
 #![tactic(auto)]
 
+mod blocks;
 mod fault;
 mod firsts;
 mod groups;
 mod laws;
 mod limits;
-mod parts;
 mod prepared;
 mod rules;
 mod triple;

@@ -2,11 +2,13 @@
 
 ghost use Rattle.std.specs.Prelude.{◌≡◌};
 ghost use Rattle.qc_client.specs.Client.{is_begun, new_client, outcome_of};
+ghost use Rattle.qc_commit.specs.Desk.{new_desk};
+ghost use Rattle.qc_front.specs.Front.{new_front};
 
-use qc_commit::{Desk, Known};
+use qc_commit::{Commits, Desk, Known};
 use qc_front::Front;
 use qc_msg::Outcome;
-use qc_stamp::TxId;
+use qc_stamp::{Clock, TxId};
 use std::alloc::Global;
 
 /// A client: the front end executes invocations, the desk commits.
@@ -27,6 +29,20 @@ impl Client {
         Client {
             front: Front::new(number),
             desk: Desk::new(alloc, number),
+        }
+    }
+
+    /// The client of this number, risen in this life, with these commit records
+    /// and a clock that they give; nothing is begun. It takes no memory.
+    pub fn risen(number: u8, life: u32, clock: Clock, commits: Commits) -> Client
+        ensures { result ≡ record {
+          front = record (new_front number) { life = life; clock = clock };
+          desk = record (new_desk number) { clock = clock; commits = commits };
+        } }
+    {
+        Client {
+            front: Front::risen(number, life, clock),
+            desk: Desk::risen(number, clock, commits),
         }
     }
 

@@ -64,6 +64,20 @@ impl Desk {
         }
     }
 
+    /// The desk of the client of this number, risen with these commit records
+    /// and a clock that they give; nothing waits. It takes no memory.
+    pub fn risen(client: u8, clock: Clock, commits: Commits) -> Desk
+        ensures { result ≡ record (new_desk client) { clock = clock; commits = commits } }
+    {
+        Desk {
+            client,
+            clock,
+            epoch: FIRST_EPOCH,
+            commits,
+            voting: None,
+        }
+    }
+
     /// It has this clock, and waits for these votes, or for none.
     pub(crate) fn replace(&mut self, clock: Clock, voting: Option<Voting>)
         ensures { self.new ≡ record self.old { clock = clock; voting = voting } }

@@ -133,7 +133,7 @@ same_turn decl a ds steady = by (is_site decl a) refl
         ∙ sym (ap (λ (x : Bool). turns x (site_after decl a ds).turn (client_after decl (a - decl.sites) ds).turn) is)
 
 -- any turn that it calls for has its record written
-called_written : (decl : Declaration) (a : ℕ) (ds : List Deed) (turn : Turn) → turn_with_falls decl a ds ≡ Some turn → turn.append ≡ Done
+pub called_written : (decl : Declaration) (a : ℕ) (ds : List Deed) (turn : Turn) → turn_with_falls decl a ds ≡ Some turn → turn.append ≡ Done
 called_written decl a ds turn = by (is_site decl a) (is_client decl a)
   where
     here : Some (actor_after decl a ds).turn ≡ Some turn → turn.append ≡ Done

@@ -52,6 +52,22 @@ impl Front {
         }
     }
 
+    /// The front end of the client of this number, risen in this life, with a
+    /// clock that its records give; nothing is begun. It takes no memory.
+    pub fn risen(client: u8, life: u32, clock: Clock) -> Front
+        ensures { result ≡ record (new_front client) { life = life; clock = clock } }
+    {
+        Front {
+            client,
+            life,
+            count: 0,
+            clock,
+            epoch: FIRST_EPOCH,
+            transaction: None,
+            doing: Doing::Idle,
+        }
+    }
+
     /// What the front end does for a command. After want of memory it is as it
     /// was.
     pub fn command(

@@ -42,11 +42,11 @@ module _ (decl : Declaration) (script : Script) (accepted : IsAccepted decl) (so
       by (subst (λ (x : Message). Backed decl (state (mirror decl script accepted sound h open_inputs run).acts) (stood decl script accepted sound h open_inputs run).net.mail answer.from answer.to x) is
       ((mirror decl script accepted sound h open_inputs run).agrees.mail answer (subst (λ (ms : List Envelope). In answer ms) (sym (stood decl script accepted sound h open_inputs run).mail_is) sent)))
     where
-      by : IsGrantTo decl (state (mirror decl script accepted sound h open_inputs run).acts).granted (stood decl script accepted sound h open_inputs run).net.mail answer.from number life clock log → In m log
+      by : IsGrantTo decl (state (mirror decl script accepted sound h open_inputs run).acts) (stood decl script accepted sound h open_inputs run).net.mail answer.from number life clock log → In m log
       by b =
-          let r : IsRequest (mail h) number request.to tx (Read object inv) = record { envelope = request; epoch = epoch; life = named; numbered = found; addressed = refl; content = asked } in
+          let r : IsRequest (mail h) number request.to tx (Read object inv) = record { epoch = epoch; life = named; is = (request, found, refl, asked) } in
           let one : (answer.from ≡ request.to) × (b.tx ≡ tx) × (b.want ≡ Read object inv) = one_request decl script accepted sound h open_inputs run number answer.from request.to b.tx tx b.want (Read object inv)
-          (subst (λ (ms : List Envelope). IsRequest ms number answer.from b.tx b.want) (stood decl script accepted sound h open_inputs run).mail_is b.request) r in
+          (subst (λ (ms : List Envelope). IsRequest ms number answer.from b.tx b.want) (stood decl script accepted sound h open_inputs run).mail_is (record { epoch = b.epoch; life = b.named; is = b.request })) r in
           b.grant.whole object inv one.2 m
           (claims.logs_are_closed decl accepted (mirror decl script accepted sound h open_inputs run).acts (mirror decl script accepted sound h open_inputs run).run (site_after b.grant.grant.before).volatile (OfGrant b.grant.grant b.grant.given refl)
           l m (b.grant.lines l among) (machine_logged m committed) same before depends)

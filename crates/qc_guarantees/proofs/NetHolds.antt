@@ -1,4 +1,4 @@
--- Of every net: what a site granted it holds until a Decision ends its transaction, each lock was asked for, and all
+-- Of every net in which nobody falls: what a site granted it holds until a Decision ends its transaction, each lock was asked for, and all
 -- that a site has is sorted.
 use Rattle.std.proofs.Common.{◌≡◌, ◌⊎◌, ◌<◌, ◌≤◌, ◌&&◌, nat_le, nat_lt, ℕ, Bool, true, false, List, ◌++◌, inl, inr, length, Option, Some, None, slice_get, refl, sym, ap, ◌∙◌, subst, arith, ltb-true}
 use Rattle.std.proofs.lemmas.Bool.{leb-true}
@@ -30,9 +30,10 @@ use Rattle.qc_site.proofs.Sorted.{stays_sorted}
 use Rattle.qc_client.specs.Conduct.{client_takes}
 use Rattle.qc_net.specs.Messages.{Backed, IsGrantTo, IsRequest}
 use Rattle.qc_net.specs.Mirrors.{Refines}
-use Rattle.qc_net.specs.Net.{MayCome, MayCommand, Net, Reaches, after_client, after_site, first_net}
-use Rattle.qc_net.specs.Net as nets
-use Rattle.qc_net.proofs.Frames.{put_one, slice_get-append}
+use Rattle.qc_net.specs.Net.{MayCome, Net, after_site}
+use Rattle.qc_atomic.proofs.Calm.{IsCalm, is_reached}
+use Rattle.qc_atomic.proofs.Calm as calm
+use Rattle.qc_net.proofs.Machine.{put_one, slice_get-append}
 use Rattle.qc_net.proofs.Posts.{Place, placed}
 use Rattle.qc_net.proofs.Refining.{refines}
 use Rattle.qc_guarantees.proofs.SiteLocks.{Asks, locks_were_asked}
@@ -146,14 +147,14 @@ module _ (decl : Declaration) (accepted : IsAccepted decl) where
 
           same_tx_there : r.tx ≡ tx
           same_tx_there =
-              let e : asked.envelope ≡ r.envelope = (let both_are : Some asked.envelope ≡ Some r.envelope = sym asked.numbered ∙ found in cc) in
-              sym (same_request tx r.tx asked.epoch asked.life r.epoch r.life want r.want (sym asked.content ∙ ap (λ (x : Envelope). x.message) e ∙ r.content)).0
+              let e : asked.is.0 ≡ r.envelope = (let both_are : Some asked.is.0 ≡ Some r.envelope = sym asked.is.1 ∙ found in cc) in
+              sym (same_request tx r.tx asked.epoch asked.life r.epoch r.life want r.want (sym asked.is.3 ∙ ap (λ (x : Envelope). x.message) e ∙ r.content)).0
 
           content : r.envelope.message ≡ messages.Request tx r.epoch r.life r.want
           content = r.content ∙ (λ i. messages.Request (same_tx_there i) r.epoch r.life r.want)
 
-  numbered_in : (net : Net) → Reaches decl net → (e : Envelope) → In e net.mail → slice_get net.mail e.number ≡ Some e
-  numbered_in net reached = let r : Refines decl net = refines decl accepted net reached in r.agrees.numbered
+  numbered_in : (net : Net) → IsCalm decl net → (e : Envelope) → In e net.mail → slice_get net.mail e.number ≡ Some e
+  numbered_in net reached = let r : Refines decl net = refines decl accepted net (is_reached decl net reached) in r.agrees.numbered
 
   -- where the posted messages stand
   longer : (ms more : List Envelope) (n : ℕ) (e : Envelope) → slice_get ms n ≡ Some e → slice_get (ms ++ more) n ≡ Some e
@@ -162,14 +163,14 @@ module _ (decl : Declaration) (accepted : IsAccepted decl) where
   -- a request that is answered was sent before its answer
   earlier : (ms more : List Envelope) (site number : ℕ) (tx : TxId) (want : Want) (e : Envelope) → slice_get ms number ≡ Some e → IsRequest (ms ++ more) number site tx want → IsRequest ms number site tx want
   earlier ms more site number tx want e here r =
-      let same : r.envelope ≡ e = (let both_are : Some r.envelope ≡ Some e = sym r.numbered ∙ slice_get-append ms more number e here in cc) in
-      record { envelope = r.envelope; epoch = r.epoch; life = r.life; numbered = here ∙ ap (λ (x : Envelope). Some x) (sym same); addressed = r.addressed; content = r.content }
+      let same : r.is.0 ≡ e = (let both_are : Some r.is.0 ≡ Some e = sym r.is.1 ∙ slice_get-append ms more number e here in cc) in
+      record { epoch = r.epoch; life = r.life; is = (r.is.0, here ∙ ap (λ (x : Envelope). Some x) (sym same), r.is.2, r.is.3) }
 
   abbrev HoldsOrEnded : Net → ℕ → TxId → Type 0
   HoldsOrEnded net site tx = (is_held (net.sites site).held tx ≡ true) ⊎ WasEnded net.mail tx
 
   -- a grant that was sent before had its request then
-  granted_before : (before : Net) (more : List Envelope) (site : ℕ) (tx : TxId) → Reaches decl before → (g : IsGrantedBy (before.mail ++ more) site tx) → In g.answer before.mail → IsGrantedBy before.mail site tx
+  granted_before : (before : Net) (more : List Envelope) (site : ℕ) (tx : TxId) → IsCalm decl before → (g : IsGrantedBy (before.mail ++ more) site tx) → In g.answer before.mail → IsGrantedBy before.mail site tx
   granted_before before more site tx r g among = record {
     answer = g.answer;
     sent = among;
@@ -180,18 +181,18 @@ module _ (decl : Declaration) (accepted : IsAccepted decl) where
     log = g.log;
     grants = g.grants;
     want = g.want;
-    asked = earlier before.mail more site g.number tx g.want b.request.envelope b.request.numbered g.asked;
+    asked = earlier before.mail more site g.number tx g.want b.request.0 b.request.1 g.asked;
   }
     where
       m : Refines decl before
-      m = refines decl accepted before r
+      m = refines decl accepted before (is_reached decl before r)
 
-      b : IsGrantTo decl (state m.acts).granted before.mail g.answer.from g.number g.life g.clock g.log
+      b : IsGrantTo decl (state m.acts) before.mail g.answer.from g.number g.life g.clock g.log
       b = subst (λ (x : Message). Backed decl (state m.acts) before.mail g.answer.from g.answer.to x) g.grants (m.agrees.mail g.answer among)
 
   -- a step of a site
 
-  module _ (before : Net) (a : ℕ) (g : Given) (r : Reaches decl before) (served : is_site decl a ≡ true) (came : MayCome before a g) (site : ℕ) (tx : TxId) where
+  module _ (before : Net) (a : ℕ) (g : Given) (r : IsCalm decl before) (served : is_site decl a ≡ true) (came : MayCome before a g) (site : ℕ) (tx : TxId) where
     abbrev step : SiteMove
     step = site_takes decl (before.sites a) g
 
@@ -218,7 +219,7 @@ module _ (decl : Declaration) (accepted : IsAccepted decl) where
     ]
 
   -- a step of a client
-  client_step : (before : Net) (a : ℕ) (ps : List Posting) (r : Reaches decl before) → is_client decl a ≡ true → (site : ℕ) (tx : TxId) → is_site decl site ≡ true
+  client_step : (before : Net) (a : ℕ) (ps : List Posting) (r : IsCalm decl before) → is_client decl a ≡ true → (site : ℕ) (tx : TxId) → is_site decl site ≡ true
       → (IsGrantedBy before.mail site tx → HoldsOrEnded before site tx) → IsGrantedBy (before.mail ++ envelopes a (length before.mail) ps) site tx → (is_held (before.sites site).held tx ≡ true) ⊎ WasEnded (before.mail ++ envelopes a (length before.mail) ps) tx
   client_step before a ps r client site tx is older k = elim (in_split k.answer before.mail (envelopes a (length before.mail) ps) k.sent) [
     | inl old ↦ elim (older (granted_before before (envelopes a (length before.mail) ps) site tx r k old)) [ inl held ↦ inl held | inr ended ↦ inr (ended_more before.mail (envelopes a (length before.mail) ps) tx ended) ]
@@ -227,12 +228,12 @@ module _ (decl : Declaration) (accepted : IsAccepted decl) where
   ]
 
   -- what a site granted it holds, or a final Decision on the transaction was sent
-  pub granted_or_ended : (net : Net) → Reaches decl net → AreFullMessages net.mail → (site : ℕ) (tx : TxId) → is_site decl site ≡ true → IsGrantedBy net.mail site tx → HoldsOrEnded net site tx
-  granted_or_ended net nets.begins full site tx is g = absurd g.sent
-  granted_or_ended net (nets.serves a input before r served came) full site tx is g =
+  pub granted_or_ended : (net : Net) → IsCalm decl net → AreFullMessages net.mail → (site : ℕ) (tx : TxId) → is_site decl site ≡ true → IsGrantedBy net.mail site tx → HoldsOrEnded net site tx
+  granted_or_ended net calm.begins full site tx is g = absurd g.sent
+  granted_or_ended net (calm.serves a input before r served came same) full site tx is g =
       let less : AreFullMessages before.mail = (λ e among. full e (In-first e before.mail (envelopes a (length before.mail) (site_takes decl (before.sites a) input).turn.sends) among)) in
       site_step before a input r served came site tx less (granted_or_ended before r less site tx is) g
-  granted_or_ended net (nets.takes a input before r client came ready) full site tx is g =
+  granted_or_ended net (calm.takes a input before r client came ready) full site tx is g =
       client_step before a (client_takes decl (before.clients a) input).turn.sends r client site tx is
       (granted_or_ended before r (λ e among. full e (In-first e before.mail (envelopes a (length before.mail) (client_takes decl (before.clients a) input).turn.sends) among)) site tx is) g
 
@@ -254,9 +255,9 @@ module _ (decl : Declaration) (accepted : IsAccepted decl) where
     | inr asks ↦ inr (record { envelope = e; sent = came.0; asks = asks })
   ]
 
-  pub locks_asked : (net : Net) → Reaches decl net → (site : ℕ) (tx : TxId) (lock : ReadLock) → In lock (held_of (net.sites site).held tx).locks → WasAsked net.mail tx lock
-  locks_asked net nets.begins site tx lock among = absurd among
-  locks_asked net (nets.serves a input before r served came) site tx lock among =
+  pub locks_asked : (net : Net) → IsCalm decl net → (site : ℕ) (tx : TxId) (lock : ReadLock) → In lock (held_of (net.sites site).held tx).locks → WasAsked net.mail tx lock
+  locks_asked net calm.begins site tx lock among = absurd among
+  locks_asked net (calm.serves a input before r served came same) site tx lock among =
       asked_more before.mail (envelopes a (length before.mail) (site_takes decl (before.sites a) input).turn.sends) tx lock
       (by (put_one (λ (n : ℕ) (s : SiteState). In lock (held_of s.held tx).locks → In lock (held_of (before.sites n).held tx).locks ⊎ WasAsked before.mail tx lock) before.sites a (site_takes decl (before.sites a) input).site site
       (asked_step before a (before.sites a) input tx lock came) (λ other there. inl there) among) (locks_asked before r site tx lock))
@@ -264,7 +265,7 @@ module _ (decl : Declaration) (accepted : IsAccepted decl) where
       by : In lock (held_of (before.sites site).held tx).locks ⊎ WasAsked before.mail tx lock → (In lock (held_of (before.sites site).held tx).locks → WasAsked before.mail tx lock) → WasAsked before.mail tx lock
       by (inl old) older = older old
       by (inr new) older = new
-  locks_asked net (nets.takes a input before r client came ready) site tx lock among =
+  locks_asked net (calm.takes a input before r client came ready) site tx lock among =
       asked_more before.mail (envelopes a (length before.mail) (client_takes decl (before.clients a) input).turn.sends) tx lock (locks_asked before r site tx lock among)
 
   -- all that a site has is sorted
@@ -283,16 +284,16 @@ module _ (decl : Declaration) (accepted : IsAccepted decl) where
   sorted_message net from to (messages.Close epoch) m b = tt
   sorted_message net from to (messages.Install epoch clock log) m b = tt
 
-  sorted_step : (net : Net) (a : ℕ) (s : SiteState) (g : Given) → Reaches decl net → MayCome net a g → IsSiteSorted s → IsSiteSorted (site_takes decl s g).site
+  sorted_step : (net : Net) (a : ℕ) (s : SiteState) (g : Given) → IsCalm decl net → MayCome net a g → IsSiteSorted s → IsSiteSorted (site_takes decl s g).site
   sorted_step net a s (given.Called command) r came sorted = sorted
   sorted_step net a s (given.Lost number) r came sorted = sorted
   sorted_step net a s (given.Got e) r came sorted =
-      let m : Refines decl net = refines decl accepted net r in
+      let m : Refines decl net = refines decl accepted net (is_reached decl net r) in
       stays_sorted decl s e.from e.number e.message sorted (sorted_message net e.from e.to e.message m (m.agrees.mail e came.0))
 
-  pub sites_sorted : (net : Net) → Reaches decl net → (site : ℕ) → IsSiteSorted (net.sites site)
-  sites_sorted net nets.begins site = record { log = tt; recorded = tt; held = record { single = tt; full = tt; sorted = tt }; prepared = tt }
-  sites_sorted net (nets.serves a input before r served came) site =
+  pub sites_sorted : (net : Net) → IsCalm decl net → (site : ℕ) → IsSiteSorted (net.sites site)
+  sites_sorted net calm.begins site = record { log = tt; recorded = tt; held = record { single = tt; full = tt; sorted = tt }; prepared = tt }
+  sites_sorted net (calm.serves a input before r served came same) site =
       put_one (λ (n : ℕ) (s : SiteState). IsSiteSorted s) before.sites a (site_takes decl (before.sites a) input).site site
       (sorted_step before a (before.sites a) input r came (sites_sorted before r a)) (λ other. sites_sorted before r site)
-  sites_sorted net (nets.takes a input before r client came ready) site = sites_sorted before r site
+  sites_sorted net (calm.takes a input before r client came ready) site = sites_sorted before r site

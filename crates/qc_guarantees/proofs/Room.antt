@@ -40,7 +40,8 @@ use Rattle.qc_site.specs.Promise.{prepare_length, promise_of}
 use Rattle.qc_site.specs.Sorted.{IsSiteSorted}
 use Rattle.qc_net.specs.Clients.{AreVotes, BegunMirrors, RunningMirrors, TransactionMirrors, VotesMirror, status_by}
 use Rattle.qc_net.specs.Mirrors.{FrontStands, Refines}
-use Rattle.qc_net.specs.Net.{IsNamedAt, Net, Reaches}
+use Rattle.qc_net.specs.Net.{IsNamedAt, Net}
+use Rattle.qc_atomic.proofs.Calm.{IsCalm, all_up, is_reached}
 use Rattle.qc_net.proofs.NetLaws.{site_lines}
 use Rattle.qc_net.proofs.Refining.{refines}
 use Rattle.qc_net.proofs.Standing.{stands}
@@ -83,9 +84,9 @@ numbered_within (x ∷ xs) earlier d order (inr there) =
     let l : length (earlier ++ x ∷ []) ≡ length earlier + 1 = length-append earlier (x ∷ []) in
     omega arith
 
-module _ (decl : Declaration) (accepted : IsAccepted decl) (net : Net) (reached : Reaches decl net) where
+module _ (decl : Declaration) (accepted : IsAccepted decl) (net : Net) (calm : IsCalm decl net) where
   pub m : Refines decl net
-  m = refines decl accepted net reached
+  m = refines decl accepted net (is_reached decl net calm)
 
   -- of a transaction that is voted on
 
@@ -93,12 +94,12 @@ module _ (decl : Declaration) (accepted : IsAccepted decl) (net : Net) (reached 
       → TransactionMirrors (state m.acts) (net.clients a).front t × ((state m.acts).status t.begun.tx ≡ IsVoting) × VotesMirror (state m.acts) net.mail (net.clients a) t v
   votes_of a t v client is voting =
       let h : TransactionMirrors (state m.acts) (net.clients a).front t × RunningMirrors decl (state m.acts) net.mail (net.clients a) t =
-      subst (λ (o : Option Transaction). BegunMirrors decl (state m.acts) net.mail (net.clients a) o) is (m.agrees.clients a client).begun in
+      subst (λ (o : Option Transaction). BegunMirrors decl (state m.acts) net.mail (net.clients a) o) is (m.agrees.clients a client (all_up decl net calm a)).begun in
       (h.0, h.1.status_is ∙ ap status_by voting, subst (λ (o : Option Voting). AreVotes (state m.acts) net.mail (net.clients a) t o) voting h.1.votes)
 
   few_operations : (a : ℕ) (t : Transaction) → (net.clients a).front.transaction ≡ Some t → (net.clients a).front.doing ≡ Idle → length t.begun.ops ≤ 16
   few_operations a t is idle =
-      let s : FrontStands decl net a = stands decl net reached a in
+      let s : FrontStands decl net a = stands decl net (is_reached decl net calm) a in
       let h : BegunHolds decl (net.clients a).front.client (Some t) Idle =
       subst (λ (d : Doing). BegunHolds decl (net.clients a).front.client (Some t) d) idle (subst (λ (o : Option Transaction). BegunHolds decl (net.clients a).front.client o (net.clients a).front.doing) is s.holds) in
       h.1
@@ -111,7 +112,7 @@ module _ (decl : Declaration) (accepted : IsAccepted decl) (net : Net) (reached 
     own_low o among =
         let l : LogLaws decl (state m.acts) = log_laws decl accepted m.acts m.run in
         let c : IsOwnClosedAt decl (state m.acts).executed (state m.acts).chosen t.begun.tx (site_after ((state m.acts).deeds site)).volatile (items_of t.begun.tx (site_after ((state m.acts).deeds site)).held) o =
-        (l.sites site).own_closed t.begun.tx o ((m.agrees.sites site place).owned t.begun.tx o among) in
+        (l.sites site).own_closed t.begun.tx o ((m.agrees.sites site place (all_up decl net calm site)).owned t.begun.tx o among) in
         by c.operation c.is c.known
       where
         count : length ((state m.acts).executed t.begun.tx) ≡ length t.begun.ops
@@ -127,7 +128,7 @@ module _ (decl : Declaration) (accepted : IsAccepted decl) (net : Net) (reached 
         by d same (inr chosen) = absurd (let none : (state m.acts).chosen t.begun.tx ≡ None = (laws decl m.acts m.run).quiet t.begun.tx votes.1 in let never : ⊥ = cc in never)
 
     sorted : IsSiteSorted (net.sites site)
-    sorted = sites_sorted decl accepted net reached site
+    sorted = sites_sorted decl accepted net calm site
 
     own_few : length (held_of (net.sites site).held t.begun.tx).own ≤ 17
     own_few =
@@ -149,7 +150,7 @@ module _ (decl : Declaration) (accepted : IsAccepted decl) (net : Net) (reached 
 
     locks_few : AreNamedMessages decl net.mail → length (held_of (net.sites site).held t.begun.tx).locks ≤ 512
     locks_few named =
-        let n : length (held_of (net.sites site).held t.begun.tx).locks ≤ 512 - 0 = lock_count (held_of (net.sites site).held t.begun.tx).locks 0 (sorted-find (net.sites site).held t.begun.tx sorted.held.sorted).0 (λ l among. low l (locks_asked decl accepted net reached site t.begun.tx l among)) in
+        let n : length (held_of (net.sites site).held t.begun.tx).locks ≤ 512 - 0 = lock_count (held_of (net.sites site).held t.begun.tx).locks 0 (sorted-find (net.sites site).held t.begun.tx sorted.held.sorted).0 (λ l among. low l (locks_asked decl accepted net calm site t.begun.tx l among)) in
         omega arith
       where
         low : (l : ReadLock) → WasAsked decl accepted net.mail t.begun.tx l → (0 ≤ key l) × (l.object < 16) × (l.inv < 32)
@@ -160,7 +161,7 @@ module _ (decl : Declaration) (accepted : IsAccepted decl) (net : Net) (reached 
 
     lines_few : (most : ℕ) → sum_by (λ (c : CommitRecord). answered c.ops) net.written ≤ most → length (without (net.sites site).log (net.sites site).recorded) ≤ most
     lines_few most few =
-        let whole : length (net.sites site).log ≤ sum_by (λ (c : CommitRecord). answered c.ops) net.written = log_count decl net.written (net.sites site).log (m.agrees.sites site place).sorted (λ l among. site_lines decl accepted net reached site l place among) in
+        let whole : length (net.sites site).log ≤ sum_by (λ (c : CommitRecord). answered c.ops) net.written = log_count decl net.written (net.sites site).log (m.agrees.sites site place (all_up decl net calm site)).sorted (λ l among. site_lines decl accepted net (is_reached decl net calm) site l place (all_up decl net calm site) among) in
         let part : length (without (net.sites site).log (net.sites site).recorded) ≡ count_by (λ (l : Line). not (has_line (net.sites site).recorded l)) (net.sites site).log = length-filter (λ (l : Line). not (has_line (net.sites site).recorded l)) (net.sites site).log in
         let less : count_by (λ (l : Line). not (has_line (net.sites site).recorded l)) (net.sites site).log ≤ length (net.sites site).log = count_by-le-length (λ (l : Line). not (has_line (net.sites site).recorded l)) (net.sites site).log in
         omega arith

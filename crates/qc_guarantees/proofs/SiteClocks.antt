@@ -48,6 +48,7 @@ use Rattle.qc_laws.specs.Turns.{ActsIn}
 use Rattle.qc_laws.proofs.FirstLives.{only_life}
 use Rattle.qc_laws.proofs.Up.{AreUp, IsUp, run_up}
 use Rattle.qc_net.specs.Sites.{SiteMirrors}
+use Rattle.qc_atomic.proofs.Calm.{all_up}
 use Rattle.qc_guarantees.proofs.Voted.{mirror, stood}
 
 -- a Done is written only for a Decision with its clock
@@ -249,6 +250,6 @@ module _ (decl : Declaration) (script : Script) (h : List Entry) (open_inputs : 
   lines_passed accepted sound l among =
       let s : IsShown (deeds site [] h) (site_after decl site (deeds site [] h)).site = run_shown decl script h open_inputs run site (ltb-true site decl.sites is) free in
       let here : (stood decl script accepted sound h open_inputs run).net.sites site ≡ (site_after decl site (deeds site [] h)).site = ((stood decl script accepted sound h open_inputs run).sites_are site is).closed free in
-      let m : SiteMirrors ((stood decl script accepted sound h open_inputs run).net.sites site) ((state (mirror decl script accepted sound h open_inputs run).acts).deeds site) = (mirror decl script accepted sound h open_inputs run).agrees.sites site is in
+      let m : SiteMirrors decl ((stood decl script accepted sound h open_inputs run).net.sites site) ((state (mirror decl script accepted sound h open_inputs run).acts).deeds site) ((state (mirror decl script accepted sound h open_inputs run).acts).life site) = (mirror decl script accepted sound h open_inputs run).agrees.sites site is (all_up decl (stood decl script accepted sound h open_inputs run).net (stood decl script accepted sound h open_inputs run).calm site) in
       let there : In l ((stood decl script accepted sound h open_inputs run).net.sites site).log = subst (λ (x : SiteState). In l x.log) (sym here) (subst (λ (ls : List Line). In l ls) (sym s.log) among) in
       subst (λ (n : ℕ). l.stamp.clock ≤ n) (ap (λ (x : SiteState). x.clock) here ∙ s.clock) (m.passed l (m.logged l there))

@@ -23,6 +23,7 @@ use Rattle.qc_msg.specs.declared.step.Given.{Given}
 use Rattle.qc_msg.specs.declared.turn.Posting.{Posting}
 use Rattle.qc_msg.specs.declared.turn.Turn.{Turn}
 use Rattle.qc_msg.specs.Counts.{answered, answered_in, commit_in, operations_of, written}
+use Rattle.qc_msg.specs.Begun.{first_epoch}
 use Rattle.qc_msg.specs.Deeds.{Deed, WasSentTo, deeds, mail}
 use Rattle.qc_msg.specs.Steps.{Entry, by as by_actor, posted}
 use Rattle.qc_msg.proofs.Growth.{deeds-other, deeds-posted, operations-written}
@@ -40,14 +41,14 @@ use Rattle.qc_laws.proofs.Acted.{has_entry, run_acts}
 use Rattle.qc_laws.proofs.Places.{slice_get-set_other, slice_get-set_same}
 use Rattle.qc_laws.specs.Turns.{ActsIn}
 use Rattle.qc_net.specs.Messages.{Backed, IsRequest}
-use Rattle.qc_net.specs.Sites.{SiteMirrors}
+use Rattle.qc_atomic.proofs.Calm.{all_first}
 use Rattle.qc_atomic.proofs.Posted.{written_posted}
 use Rattle.qc_atomic.proofs.Stood.{OpenSite}
 use Rattle.qc_guarantees.specs.Votes.{IsOpenVote}
 use Rattle.qc_guarantees.proofs.Accounts.{and_second}
 use Rattle.qc_guarantees.proofs.NetHolds.{both}
 use Rattle.qc_guarantees.proofs.SiteMoves.{Forgets, IsAnsweringTo, answers_requests, prepares_remembered}
-use Rattle.qc_guarantees.proofs.Voted.{asked, mirror, one_request, site_has_room, site_holds, stood, tie}
+use Rattle.qc_guarantees.proofs.Voted.{asked, granted, granted_first, mirror, one_request, site_has_room, site_holds, stood, tie}
 use Rattle.qc_guarantees.proofs.Waiting.{still_open, writes_no_commit}
 
 pub below_length : {X : Type 0} (xs : List X) (n : ℕ) (x : X) → slice_get xs n ≡ Some x → n < length xs
@@ -78,7 +79,7 @@ module _ (decl : Declaration) (script : Script) (accepted : IsAccepted decl) (so
 
         by : IsAnsweringTo o.given n → ⊥
         by r = prepares_remembered decl (passed ((stood decl script accepted sound h open_inputs run).net.sites b) r.envelope.message) r.envelope.from r.envelope.number r.tx r.epoch r.life
-            (backed.2 ∙ sym mirrors.epoch) held fits p n x at_site is forgets
+            (backed.2 ∙ of_first ∙ sym (all_first decl (stood decl script accepted sound h open_inputs run).net (stood decl script accepted sound h open_inputs run).calm b).epoch_is) held fits p n x at_site is forgets
           where
             sent : (slice_get (mail h) r.envelope.number ≡ Some r.envelope) × (r.envelope.to ≡ b)
             sent = subst (WasSentTo b (mail h)) r.is o.sent
@@ -87,7 +88,7 @@ module _ (decl : Declaration) (script : Script) (accepted : IsAccepted decl) (so
             number_is = r.numbered ∙ sym same
 
             here : IsRequest (mail h) q.number b r.tx r.want
-            here = record { envelope = r.envelope; epoch = r.epoch; life = r.life; numbered = ap (slice_get (mail h)) (sym number_is) ∙ sent.0; addressed = sent.1; content = r.content }
+            here = record { epoch = r.epoch; life = r.life; is = (r.envelope, ap (slice_get (mail h)) (sym number_is) ∙ sent.0, sent.1, r.content) }
 
             one : (q.site ≡ b) × ((tie decl script accepted sound h open_inputs run a client free q k).t.tx ≡ r.tx) × (Prepare ≡ r.want)
             one = one_request decl script accepted sound h open_inputs run q.number q.site b (tie decl script accepted sound h open_inputs run a client free q k).t.tx r.tx Prepare r.want
@@ -96,8 +97,9 @@ module _ (decl : Declaration) (script : Script) (accepted : IsAccepted decl) (so
             among_net : In r.envelope (stood decl script accepted sound h open_inputs run).net.mail
             among_net = subst (λ (ms : List Envelope). In r.envelope ms) (sym (stood decl script accepted sound h open_inputs run).mail_is) (at_in (mail h) r.envelope.number r.envelope sent.0)
 
-            mirrors : SiteMirrors ((stood decl script accepted sound h open_inputs run).net.sites b) ((state (mirror decl script accepted sound h open_inputs run).acts).deeds b)
-            mirrors = (mirror decl script accepted sound h open_inputs run).agrees.sites b site
+            -- the transaction is of the first epoch, since a site granted for it
+            of_first : (state (mirror decl script accepted sound h open_inputs run).acts).epoch r.tx ≡ first_epoch
+            of_first = subst (λ (tx : TxId). (state (mirror decl script accepted sound h open_inputs run).acts).epoch tx ≡ first_epoch) one.1 (granted_first decl script accepted sound h open_inputs run q.site (tie decl script accepted sound h open_inputs run a client free q k).t.tx (granted decl script accepted sound h open_inputs run a client free q k))
 
             backed : Backed decl (state (mirror decl script accepted sound h open_inputs run).acts) (stood decl script accepted sound h open_inputs run).net.mail r.envelope.from r.envelope.to (messages.Request r.tx r.epoch r.life r.want)
             backed = subst (λ (m : Message). Backed decl (state (mirror decl script accepted sound h open_inputs run).acts) (stood decl script accepted sound h open_inputs run).net.mail r.envelope.from r.envelope.to m) r.content

@@ -20,7 +20,7 @@ use Rattle.qc_msg.specs.declared.message.Outcome.{Outcome}
 use Rattle.qc_msg.specs.declared.message.Outcome.TheVariants as outcomes
 use Rattle.qc_msg.specs.declared.message.Want.{Want}
 use Rattle.qc_msg.specs.declared.message.Want.TheVariants.{Read, Prepare}
-use Rattle.qc_msg.specs.Begun.{has_granted}
+use Rattle.qc_msg.specs.Begun.{first_epoch, has_granted}
 use Rattle.qc_msg.specs.Counts.{answered, operations_of}
 use Rattle.qc_msg.specs.Deeds.{Sends, deeds, mail}
 use Rattle.qc_msg.specs.Steps.{Entry}
@@ -54,7 +54,7 @@ use Rattle.qc_account.proofs.Courses.{clients_tied}
 use Rattle.qc_account.proofs.Declared.{asks_declared}
 use Rattle.qc_net.specs.Messages.{Backed, IsGrantTo, IsRequest, IsVerdictBacked}
 use Rattle.qc_net.specs.Mirrors.{Refines}
-use Rattle.qc_atomic.proofs.Names.{script_named}
+use Rattle.qc_atomic.proofs.CalmGrants.{is_of_first_epoch}
 use Rattle.qc_atomic.proofs.RunsStand.{runs_stand}
 use Rattle.qc_atomic.proofs.Stood.{Stood}
 use Rattle.qc_guarantees.specs.Votes.{IsOpenVote}
@@ -79,10 +79,10 @@ module _ (decl : Declaration) (d : Account) (c : Client) (q : ClientRequest) (k 
 
 module _ (decl : Declaration) (script : Script) (accepted : IsAccepted decl) (sound : IsScriptFor decl script) (h : List Entry) (open_inputs : List Bool) (run : Runs (IsLawful decl) decl script h open_inputs) where
   pub stood : Stood decl h open_inputs
-  stood = runs_stand decl script (script_named decl accepted script sound) h open_inputs run
+  stood = runs_stand decl script accepted sound h open_inputs run
 
   abbrev pub mirror : Refines decl stood.net
-  mirror = refined decl accepted stood.net stood.reached
+  mirror = refined decl accepted stood.net stood.calm
 
   -- a message of the run stands at its number
   pub at_number : (e : Envelope) → In e (mail h) → slice_get (mail h) e.number ≡ Some e
@@ -90,30 +90,27 @@ module _ (decl : Declaration) (script : Script) (accepted : IsAccepted decl) (so
 
   pub request_sent : (a n to : ℕ) (tx : TxId) (epoch life : ℕ) (want : Want) → In (Sends n to (messages.Request tx epoch life want)) (deeds a [] h) → IsRequest (mail h) n to tx want
   request_sent a n to tx epoch life want among = record {
-    envelope = sent_as a n to (messages.Request tx epoch life want);
     epoch = epoch;
     life = life;
-    numbered = at_number (sent_as a n to (messages.Request tx epoch life want)) (sent_mail a [] h n to (messages.Request tx epoch life want) among);
-    addressed = refl;
-    content = refl;
+    is = (sent_as a n to (messages.Request tx epoch life want), at_number (sent_as a n to (messages.Request tx epoch life want)) (sent_mail a [] h n to (messages.Request tx epoch life want) among), refl, refl);
   }
 
   -- two requests of one number are one
   pub one_request : (n s t : ℕ) (tx u : TxId) (want wish : Want) → IsRequest (mail h) n s tx want → IsRequest (mail h) n t u wish → (s ≡ t) × (tx ≡ u) × (want ≡ wish)
   one_request n s t tx u want wish r k =
-      let same : r.envelope ≡ k.envelope = (let both_are : Some r.envelope ≡ Some k.envelope = sym r.numbered ∙ k.numbered in cc) in
-      let parts : (tx ≡ u) × (want ≡ wish) = same_request tx u r.epoch r.life k.epoch k.life want wish (sym r.content ∙ ap (λ (e : Envelope). e.message) same ∙ k.content) in
-      (sym r.addressed ∙ ap (λ (e : Envelope). e.to) same ∙ k.addressed, parts.0, parts.1)
+      let same : r.is.0 ≡ k.is.0 = (let both_are : Some r.is.0 ≡ Some k.is.0 = sym r.is.1 ∙ k.is.1 in cc) in
+      let parts : (tx ≡ u) × (want ≡ wish) = same_request tx u r.epoch r.life k.epoch k.life want wish (sym r.is.3 ∙ ap (λ (e : Envelope). e.message) same ∙ k.is.3) in
+      (sym r.is.2 ∙ ap (λ (e : Envelope). e.to) same ∙ k.is.2, parts.0, parts.1)
 
   -- what an account says was granted, its site granted
   pub granted_by : (a : ℕ) (tx : TxId) (site : ℕ) → WasGranted (deeds a [] h) tx site → IsGrantedBy stood.net.mail site tx
   granted_by a tx site w =
       let sent : In w.taken.envelope (mail h) = taken_mail a [] h w.taken.envelope w.taken.taken in
       let here : In w.taken.envelope stood.net.mail = subst (λ (ms : List Envelope). In w.taken.envelope ms) (sym stood.mail_is) sent in
-      let b : IsGrantTo decl (state mirror.acts).granted stood.net.mail w.taken.envelope.from w.number w.life w.clock w.log =
+      let b : IsGrantTo decl (state mirror.acts) stood.net.mail w.taken.envelope.from w.number w.life w.clock w.log =
       subst (λ (x : Message). Backed decl (state mirror.acts) stood.net.mail w.taken.envelope.from w.taken.envelope.to x) w.taken.is (mirror.agrees.mail w.taken.envelope here) in
       let asked : IsRequest (mail h) w.number site tx w.want = request_sent a w.number site tx w.epoch w.named w.want w.asked in
-      let from : (w.taken.envelope.from ≡ site) × (b.tx ≡ tx) × (b.want ≡ w.want) = one_request w.number w.taken.envelope.from site b.tx tx b.want w.want (subst (λ (ms : List Envelope). IsRequest ms w.number w.taken.envelope.from b.tx b.want) stood.mail_is b.request) asked in
+      let from : (w.taken.envelope.from ≡ site) × (b.tx ≡ tx) × (b.want ≡ w.want) = one_request w.number w.taken.envelope.from site b.tx tx b.want w.want (subst (λ (ms : List Envelope). IsRequest ms w.number w.taken.envelope.from b.tx b.want) stood.mail_is (record { epoch = b.epoch; life = b.named; is = b.request })) asked in
       record {
         answer = w.taken.envelope;
         sent = here;
@@ -126,6 +123,15 @@ module _ (decl : Declaration) (script : Script) (accepted : IsAccepted decl) (so
         want = w.want;
         asked = subst (λ (ms : List Envelope). IsRequest ms w.number site tx w.want) (sym stood.mail_is) asked;
       }
+
+  -- a transaction for which a site granted something is of the first epoch
+  pub granted_first : (site : ℕ) (tx : TxId) → IsGrantedBy stood.net.mail site tx → (state mirror.acts).epoch tx ≡ first_epoch
+  granted_first site tx g =
+      let b : IsGrantTo decl (state mirror.acts) stood.net.mail g.answer.from g.number g.life g.clock g.log =
+      subst (λ (x : Message). Backed decl (state mirror.acts) stood.net.mail g.answer.from g.answer.to x) g.grants (mirror.agrees.mail g.answer g.sent) in
+      let same : b.request.0 ≡ g.asked.is.0 = (let both_are : Some b.request.0 ≡ Some g.asked.is.0 = sym b.request.1 ∙ g.asked.is.1 in cc) in
+      let its : b.tx ≡ tx = (same_request b.tx tx b.epoch b.named g.asked.epoch g.asked.life b.want g.want (sym b.request.3 ∙ ap (λ (e : Envelope). e.message) same ∙ g.asked.is.3)).0 in
+      ap (state mirror.acts).epoch (sym its) ∙ sym b.grant.epoch_is ∙ is_of_first_epoch decl stood.net stood.calm mirror.acts mirror.run mirror.agrees b.grant.grant b.grant.given
 
   -- an open request was sent to a site
   pub asked_site : (a : ℕ) (n to : ℕ) (tx : TxId) (epoch life : ℕ) (want : Want) → In (Sends n to (messages.Request tx epoch life want)) (deeds a [] h) → is_site decl to ≡ true
@@ -171,7 +177,7 @@ module _ (decl : Declaration) (script : Script) (accepted : IsAccepted decl) (so
     not_final outcomes.Active final backed voting = let never : ⊥ = cc in never
 
     status_is : (state mirror.acts).status tie.x.begun.tx ≡ IsVoting
-    status_is = (votes_of decl accepted stood.net stood.reached a tie.x v client transaction_is voting_is).1
+    status_is = (votes_of decl accepted stood.net stood.calm a tie.x v client transaction_is voting_is).1
 
     sent : WasSent (deeds a [] h) q tie.t.tx
     sent =
@@ -189,9 +195,13 @@ module _ (decl : Declaration) (script : Script) (accepted : IsAccepted decl) (so
     not_ended : WasEnded stood.net.mail tie.x.begun.tx → ⊥
     not_ended e = not_final e.ends.0 e.ends.2 (subst (λ (m : Message). Backed decl (state mirror.acts) stood.net.mail e.envelope.from e.envelope.to m) e.ends.1 (mirror.agrees.mail e.envelope e.sent)) status_is
 
-    -- so the site holds what it granted
+    -- it granted
+    pub granted : IsGrantedBy stood.net.mail q.site tie.t.tx
+    granted = granted_by a tie.t.tx q.site (grounds.granted tie.t q.site tie.current site_granted)
+
+    -- so it holds something
     pub site_holds : is_held (stood.net.sites q.site).held tie.t.tx ≡ true
-    site_holds = by (granted_or_ended decl accepted stood.net stood.reached (subst AreFullMessages (sym stood.mail_is) (mail_full decl script accepted sound h open_inputs run)) q.site tie.t.tx place (granted_by a tie.t.tx q.site (grounds.granted tie.t q.site tie.current site_granted)))
+    site_holds = by (granted_or_ended decl accepted stood.net stood.calm (subst AreFullMessages (sym stood.mail_is) (mail_full decl script accepted sound h open_inputs run)) q.site tie.t.tx place granted)
       where
         by : (is_held (stood.net.sites q.site).held tie.t.tx ≡ true) ⊎ WasEnded stood.net.mail tie.t.tx → is_held (stood.net.sites q.site).held tie.t.tx ≡ true
         by (inl held) = held
@@ -201,5 +211,5 @@ module _ (decl : Declaration) (script : Script) (accepted : IsAccepted decl) (so
     pub site_has_room : operations_of h ≤ 2 * most_committed_operations → nat_le (prepare_length (promise_of (stood.net.sites q.site) tie.t.tx)) most_record_bytes ≡ true
     site_has_room few =
         subst (λ (tx : TxId). nat_le (prepare_length (promise_of (stood.net.sites q.site) tx)) most_record_bytes ≡ true) name_is
-        (promise_fits decl accepted stood.net stood.reached a tie.x v client transaction_is voting_is q.site place (subst (AreNamedMessages decl) (sym stood.mail_is) (mail_named decl script accepted sound h open_inputs run))
+        (promise_fits decl accepted stood.net stood.calm a tie.x v client transaction_is voting_is q.site place (subst (AreNamedMessages decl) (sym stood.mail_is) (mail_named decl script accepted sound h open_inputs run))
         (subst (λ (cs : List CommitRecord). sum_by (λ (c : CommitRecord). answered c.ops) cs ≤ 2 * most_committed_operations) (sym stood.written_is) (subst (λ (n : ℕ). n ≤ 2 * most_committed_operations) (operations-written h) few)))

@@ -15,6 +15,9 @@ use Rattle.qc_msg.specs.Deeds.{envelope_of, mail}
 use Rattle.qc_msg.specs.Steps.{Entry, by, marked, posted, sents, step_of, told, wrote}
 use Rattle.qc_msg.proofs.Growth.{by-posted}
 use Rattle.qc_script.specs.Inbox.{Inbox, command_called, copy_taken, count_of, inbox, inbox_at, loss_taken, reply_told}
+use Rattle.qc_msg.specs.declared.step.Control.{Control}
+use Rattle.qc_script.specs.Steady.{LeavesUp}
+use Rattle.qc_script.proofs.AllUp.{wrote_up}
 use Rattle.qc_script.specs.Ready.{ready}
 use Rattle.qc_script.specs.declared.script.Script.{Script}
 use Rattle.qc_inbox.specs.Inboxes.{Inboxes, Tray}
@@ -22,7 +25,7 @@ use Rattle.qc_inbox.specs.Kept.{IsKept, Shows, tray_of}
 use Rattle.qc_inbox.specs.Picks.{calls_at, calls_of}
 use Rattle.qc_inbox.specs.Rooms.{after_reply, after_send, after_sends, after_take, after_turn, tray_at}
 use Rattle.qc_inbox.specs.Trays.{empty_tray, tray_taken, tray_told}
-use Rattle.qc_inbox.proofs.Keeping.{kept_send, kept_step}
+use Rattle.qc_inbox.proofs.Keeping.{kept_send, kept_step, shows_along}
 use Rattle.qc_inbox.proofs.Sent.{Keeps, by_test, same}
 use Rattle.qc_inbox.proofs.Taking.{taken_shown}
 use Rattle.qc_link.specs.Limits.{most_actors}
@@ -47,6 +50,8 @@ still_shown : (old : Inboxes) (trays : List Tray) (a m n : ℕ) (i j : Inbox) �
     → Shows (record old { trays = trays }) a n j
 still_shown old trays a m n i j shows keeps tray = record {
   cuts = keeps.cuts ∙ shows.cuts;
+  up = keeps.up ∙ shows.up;
+  steady = subst (λ (cs : List Control). Every LeavesUp cs) (sym keeps.controls) shows.steady;
   controls = keeps.controls ∙ shows.controls;
   from_each = λ b within. ap (λ (c : List ℕ). count_of c b) keeps.from_each ∙ shows.from_each b within;
   to_each = λ b within. ap (λ (c : List ℕ). count_of c b) keeps.to_each ∙ shows.to_each b within;
@@ -57,10 +62,10 @@ still_shown old trays a m n i j shows keeps tray = record {
 
 -- inputs
 
-input_keeps : (script : Script) (b : ℕ) (i : Inbox) (a : ℕ) (g : Given) → Keeps i (inbox_at script b i a (step_of g))
-input_keeps script b i a (given.Called command) = by_test (Keeps i) (a == b) (command_called i) i (record { cuts = refl; controls = refl; from_each = refl; to_each = refl }) (same i)
-input_keeps script b i a (given.Got envelope) = by_test (Keeps i) (a == b) (copy_taken i) i (record { cuts = refl; controls = refl; from_each = refl; to_each = refl }) (same i)
-input_keeps script b i a (given.Lost number) = by_test (Keeps i) (a == b) (loss_taken i) i (record { cuts = refl; controls = refl; from_each = refl; to_each = refl }) (same i)
+pub input_keeps : (script : Script) (b : ℕ) (i : Inbox) (a : ℕ) (g : Given) → Keeps i (inbox_at script b i a (step_of g))
+input_keeps script b i a (given.Called command) = by_test (Keeps i) (a == b) (command_called i) i (record { cuts = refl; up = refl; controls = refl; from_each = refl; to_each = refl }) (same i)
+input_keeps script b i a (given.Got envelope) = by_test (Keeps i) (a == b) (copy_taken i) i (record { cuts = refl; up = refl; controls = refl; from_each = refl; to_each = refl }) (same i)
+input_keeps script b i a (given.Lost number) = by_test (Keeps i) (a == b) (loss_taken i) i (record { cuts = refl; up = refl; controls = refl; from_each = refl; to_each = refl }) (same i)
 
 other_input : (script : Script) (b calls : ℕ) (i : Inbox) (a : ℕ) (g : Given) → (a == b) ≡ false → tray_of calls i ≡ tray_of (calls_at b calls a (step_of g)) (inbox_at script b i a (step_of g))
 other_input script b calls i a (given.Called command) other = sym (ap (λ (t : Bool). tray_of (if t then calls + 1 else calls) (if t then command_called i else i)) other)
@@ -91,7 +96,7 @@ kept_take decl script h old a g kept within is =
 
 written : (script : Script) (h : List Entry) (old : Inboxes) (a : ℕ) (write : Option Record) → IsKept script h old → IsKept script (h ++ by a (wrote write)) old
 written script h old a None kept = subst (λ (x : List Entry). IsKept script x old) (sym (append-nil h)) kept
-written script h old a (Some record_) kept = kept_step script h (marked a (Wrote record_)) old old kept refl refl refl kept.trays (λ b within shows. shows)
+written script h old a (Some record_) kept = kept_step script h (marked a (Wrote record_)) old old kept refl refl refl kept.trays (λ b within shows. shows_along old b _ _ _ _ refl (sym (wrote_up b (inbox script b h) a shows.up)) shows)
 
 sent : (script : Script) (h : List Entry) (old : Inboxes) (a : ℕ) (ps : List Posting) → IsKept script h old → a < most_actors → Every (λ (p : Posting). p.to < most_actors) ps
     → IsKept script (h ++ by a (sents old.counts.all ps)) (after_sends old a ps)
@@ -107,7 +112,7 @@ replied script h old a (Some reply) kept within =
     kept_step script h (marked a (Told reply)) old (after_reply old a (Some reply)) kept refl refl refl (length-set old.trays a _ ∙ kept.trays)
     (λ b b_within shows.
     still_shown old _ b (calls_of b h) (calls_of b h) (inbox script b h) _ shows
-    (by_test (Keeps (inbox script b h)) (a == b) (reply_told (inbox script b h)) (inbox script b h) (record { cuts = refl; controls = refl; from_each = refl; to_each = refl }) (same (inbox script b h)))
+    (by_test (Keeps (inbox script b h)) (a == b) (reply_told (inbox script b h)) (inbox script b h) (record { cuts = refl; up = refl; controls = refl; from_each = refl; to_each = refl }) (same (inbox script b h)))
     (own_tray old.trays a b tray_told (tray_of (calls_of b h) (inbox script b h)) _ (subst (λ (n : ℕ). a < n) (sym kept.trays) within) shows.tray
     (λ here. sym (ap (λ (t : Bool). tray_of (calls_of b h) (if t then reply_told (inbox script b h) else inbox script b h)) here))
     (λ other. sym (ap (λ (t : Bool). tray_of (calls_of b h) (if t then reply_told (inbox script b h) else inbox script b h)) other))))

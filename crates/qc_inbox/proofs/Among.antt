@@ -1,6 +1,6 @@
 -- What waits for an actor was sent to it.
 use Rattle.std.proofs.Common.{◌≡◌, ℕ, zero, suc, ◌+◌, ◌-◌, ◌<◌, ◌==◌, ◌&&◌, Bool, true, false, cond, not, if◌then◌else◌, List, [], ◌∷◌, ◌++◌, Option, Some, None, inl, inr, option_to_list, refl, ap, sym, subst, ◌∙◌, append_assoc}
-use Rattle.std.specs.Prelude.{drop, slice_get}
+use Rattle.std.specs.Prelude.{drop, set, slice_get}
 use Rattle.std.specs.List.{AllByRecursion as Every, cons_option, fold}
 use Rattle.std.specs.Option.{option_map_or}
 use Rattle.std.proofs.lemmas.Bool.{eqb-true}
@@ -23,7 +23,10 @@ use Rattle.qc_msg.specs.declared.step.Step.{Step}
 use Rattle.qc_msg.specs.declared.step.Step.TheVariants as steps
 use Rattle.qc_msg.specs.Deeds.{WasSentTo, envelope_at, envelope_of, mail}
 use Rattle.qc_msg.specs.Steps.{Entry}
-use Rattle.qc_script.specs.Inbox.{Inbox, answers_by, comes, comes_at_once, comes_with, command_called, copies_at_once, copy_taken, count_of, empty_inbox, goes, goes_with, has_number, inbox, inbox_at, is_request, late_copies, loss_taken, one_more, opened_by, phase_begun, reply_told, request_answered, request_sent, with_copies}
+use Rattle.qc_link.specs.Cuts.{with_cut, without_cut}
+use Rattle.qc_msg.specs.declared.step.Fall.{Fall}
+use Rattle.qc_script.specs.Requests.{has_request, requests_to, requests_to_others, with_lost}
+use Rattle.qc_script.specs.Inbox.{Inbox, acting, actor_fell, control_acted, emptied, fell_by, if_up, is_by_line, is_up, opened, wrote_record, answers_by, comes, comes_at_once, comes_with, command_called, commands_for, copies_at_once, copy_taken, count_of, empty_inbox, goes, goes_with, inbox, inbox_at, is_request, late_copies, loss_taken, one_more, opened_by, phase_begun, reply_told, request_answered, request_sent, with_copies}
 use Rattle.qc_script.specs.Ready as ready
 use Rattle.qc_script.specs.Ready.{ready_in, takes_commands}
 use Rattle.qc_script.specs.declared.script.PhaseLines.{PhaseLines}
@@ -76,7 +79,7 @@ waits_more ms ns a i waits = record {
 -- a message that is sent
 
 answered_waits : (i : Inbox) (number : ℕ) (f : Fate) → SameWaits i (request_answered i number f)
-answered_waits i number f = by_test (SameWaits i) (has_number i.unanswered number) _ i (record { copies = refl; opening = refl; late = refl }) (same_waits i)
+answered_waits i number f = by_test (SameWaits i) (has_request i.unanswered number) _ i (record { copies = refl; opening = refl; late = refl }) (same_waits i)
 
 answers_wait : (i : Inbox) (m : Message) (f : Fate) → SameWaits i (answers_by i m f)
 answers_wait i (messages.Request tx epoch life want) f = same_waits i
@@ -101,18 +104,22 @@ every_late P fates.Twice e is = tt
 every_late P fates.Late e is = (is, tt)
 every_late P fates.Again e is = (is, tt)
 
-comes_wait : (ms : List Envelope) (a : ℕ) (i : Inbox) (e : Envelope) (f : Fate) → IsSentTo ms a e → Waits ms a i → Waits ms a (comes_with i e f)
-comes_wait ms a i e f sent waits =
-    waits_along ms a (with_copies i e f) (comes_with i e f) (answers_wait (with_copies i e f) e.message f) (record {
-      copies = every-append (IsSentTo ms a) i.copies (copies_at_once f e) waits.copies (every_copy (IsSentTo ms a) f e sent);
+every_up : (P : Envelope → Type 0) (up : Bool) (es : List Envelope) → Every P es → Every P (if_up up es)
+every_up P true es all = all
+every_up P false es all = tt
+
+comes_wait : (ms : List Envelope) (a : ℕ) (up : Bool) (i : Inbox) (e : Envelope) (f : Fate) → IsSentTo ms a e → Waits ms a i → Waits ms a (comes_with up i e f)
+comes_wait ms a up i e f sent waits =
+    waits_along ms a (with_copies up i e f) (comes_with up i e f) (answers_wait (with_copies up i e f) e.message f) (record {
+      copies = every-append (IsSentTo ms a) i.copies (if_up up (copies_at_once f e)) waits.copies (every_up (IsSentTo ms a) up _ (every_copy (IsSentTo ms a) f e sent));
       opening = waits.opening;
       late = every-append (IsSentTo ms a) i.late (late_copies f e) waits.late (every_late (IsSentTo ms a) f e sent);
     })
 
 goes_wait : (i : Inbox) (e : Envelope) (f : Fate) → SameWaits i (goes_with i e f)
 goes_wait i e f =
-    by_test (SameWaits i) (is_request e.message) (request_sent (record i { to_each = one_more i.to_each e.to }) e.number f) (record i { to_each = one_more i.to_each e.to })
-    (by_test (SameWaits i) (comes_at_once f) _ _ (record { copies = refl; opening = refl; late = refl }) (record { copies = refl; opening = refl; late = refl }))
+    by_test (SameWaits i) (is_request e.message) (request_sent (record i { to_each = one_more i.to_each e.to }) e.number e.to f) (record i { to_each = one_more i.to_each e.to })
+    (by_test (SameWaits i) (comes_at_once f && is_up i.up e.to) _ _ (record { copies = refl; opening = refl; late = refl }) (record { copies = refl; opening = refl; late = refl }))
     (record { copies = refl; opening = refl; late = refl })
 
 sends_wait : (links : List Link) (ms : List Envelope) (a : ℕ) (i : Inbox) (e : Envelope) → Waits ms a i → Waits (ms ++ e ∷ []) a (goes links a (comes links a i e) e)
@@ -125,23 +132,43 @@ sends_wait links ms a i e waits =
     more : Waits (ms ++ e ∷ []) a i
     more = waits_more ms (e ∷ []) a i waits
 
-    by : (t : Bool) → (e.to == a) ≡ t → Waits (ms ++ e ∷ []) a (if t then comes_with i e (fate links i.cuts e.from e.to (count_of i.from_each e.from + 1)) else i)
-    by true is = comes_wait (ms ++ e ∷ []) a i e _ (In-last e ms, eqb-true e.to a is) more
+    by : (t : Bool) → (e.to == a) ≡ t → Waits (ms ++ e ∷ []) a (if t then comes_with (is_up i.up a) i e (fate links i.cuts e.from e.to (count_of i.from_each e.from + 1)) else i)
+    by true is = comes_wait (ms ++ e ∷ []) a (is_up i.up a) i e _ (In-last e ms, eqb-true e.to a is) more
     by false is = more
 
 -- each step
 
-opened_wait : (ms : List Envelope) (a : ℕ) (cs : List Control) (i : Inbox) → Waits ms a i → Waits ms a (opened_by cs i)
-opened_wait ms a [] i waits = record { copies = every-append (IsSentTo ms a) i.opening i.copies waits.opening waits.copies; opening = tt; late = waits.late }
-opened_wait ms a (c ∷ cs) i waits = waits
+opened_by_wait : (ms : List Envelope) (a : ℕ) (cs : List Control) (i : Inbox) → Waits ms a i → Waits ms a (opened_by a cs i)
+opened_by_wait ms a [] i waits = record { copies = every-append (IsSentTo ms a) (if_up (is_up i.up a) i.opening) i.copies (every_up (IsSentTo ms a) (is_up i.up a) i.opening waits.opening) waits.copies; opening = tt; late = waits.late }
+opened_by_wait ms a (c ∷ cs) i waits = waits
+
+opened_wait : (ms : List Envelope) (a : ℕ) (i : Inbox) → Waits ms a i → Waits ms a (opened a i)
+opened_wait ms a i waits = opened_by_wait ms a (acting i.up i.controls) _ (record { copies = waits.copies; opening = waits.opening; late = waits.late })
 
 begun_wait : (ms : List Envelope) (a : ℕ) (i : Inbox) (o : Option PhaseLines) → Waits ms a i → Waits ms a (option_map_or (phase_begun a i) o i)
 begun_wait ms a i None waits = waits
 begun_wait ms a i (Some phase) waits =
-    opened_wait ms a phase.controls _ (record { copies = waits.copies; opening = every-append (IsSentTo ms a) i.opening i.late waits.opening waits.late; late = tt })
+    opened_wait ms a (record i { opening = i.opening ++ i.late; late = []; controls = phase.controls; commands = i.commands ++ commands_for a phase.commands })
+    (record { copies = waits.copies; opening = every-append (IsSentTo ms a) i.opening i.late waits.opening waits.late; late = tt })
 
-acted_wait : (ms : List Envelope) (a : ℕ) (i : Inbox) (cuts : List Bool) → Waits ms a i → Waits ms a (opened_by (drop 1 i.controls) (record i { cuts = cuts; controls = drop 1 i.controls }))
-acted_wait ms a i cuts waits = opened_wait ms a (drop 1 i.controls) _ (record { copies = waits.copies; opening = waits.opening; late = waits.late })
+acted_wait : (ms : List Envelope) (a : ℕ) (i : Inbox) → Waits ms a i → Waits ms a (control_acted a i)
+acted_wait ms a i waits = opened_wait ms a (record i { controls = drop 1 i.controls }) (record { copies = waits.copies; opening = waits.opening; late = waits.late })
+
+-- what a fall leaves
+fell_wait : (ms : List Envelope) (a : ℕ) (i : Inbox) (r : ℕ) → Waits ms a i → Waits ms a (actor_fell a i r)
+fell_wait ms a i r waits = by (r == a)
+  where
+    by : (t : Bool) → Waits ms a (emptied t (record i { up = set i.up r false; unanswered = requests_to_others r i.unanswered; lost = with_lost (requests_to r i.unanswered) i.lost }))
+    by true = record { copies = tt; opening = waits.opening; late = waits.late }
+    by false = record { copies = waits.copies; opening = waits.opening; late = waits.late }
+
+fell_by_waits : (ms : List Envelope) (a : ℕ) (i : Inbox) (r : ℕ) (cause : Fall) → Waits ms a i → Waits ms a (fell_by a i r cause)
+fell_by_waits ms a i r cause waits =
+    by_test (Waits ms a) (is_by_line (is_up i.up r) cause) (control_acted a (actor_fell a i r)) (actor_fell a i r) (acted_wait ms a _ (fell_wait ms a i r waits)) (fell_wait ms a i r waits)
+
+wrote_waits : (ms : List Envelope) (a : ℕ) (i : Inbox) (r : ℕ) → Waits ms a i → Waits ms a (wrote_record a i r)
+wrote_waits ms a i r waits =
+    by_test (Waits ms a) (is_up i.up r) i _ waits (acted_wait ms a (record i { up = set i.up r true }) (record { copies = waits.copies; opening = waits.opening; late = waits.late }))
 
 every_drop : (P : Envelope → Type 0) (es : List Envelope) → Every P es → Every P (drop 1 es)
 every_drop P [] every = tt
@@ -152,22 +179,22 @@ nothing ms a i waits = waits_more ms [] a i waits
 
 step_waits : (script : Script) (ms : List Envelope) (a : ℕ) (i : Inbox) (by : ℕ) (step : Step) → Waits ms a i → Waits (ms ++ option_to_list (envelope_at by step)) a (inbox_at script a i by step)
 step_waits script ms a i by (steps.Phase k) waits = nothing ms a _ (begun_wait ms a i (slice_get script.phases (k - 1)) waits)
-step_waits script ms a i by (steps.Cut x y) waits = nothing ms a _ (acted_wait ms a i _ waits)
-step_waits script ms a i by (steps.Heal x y) waits = nothing ms a _ (acted_wait ms a i _ waits)
-step_waits script ms a i by (steps.Armed actor kind at) waits = nothing ms a i waits
+step_waits script ms a i by (steps.Cut x y) waits = nothing ms a _ (acted_wait ms a (record i { cuts = with_cut i.cuts x y }) (record { copies = waits.copies; opening = waits.opening; late = waits.late }))
+step_waits script ms a i by (steps.Heal x y) waits = nothing ms a _ (acted_wait ms a (record i { cuts = without_cut i.cuts x y }) (record { copies = waits.copies; opening = waits.opening; late = waits.late }))
+step_waits script ms a i by (steps.Armed actor kind at) waits = nothing ms a _ (acted_wait ms a i waits)
 step_waits script ms a i by (steps.Called command) waits =
     nothing ms a _ (by_test (Waits ms a) (by == a) (command_called i) i (record { copies = waits.copies; opening = waits.opening; late = waits.late }) waits)
 step_waits script ms a i by (steps.Got n) waits =
     nothing ms a _ (by_test (Waits ms a) (by == a) (copy_taken i) i (record { copies = every_drop (IsSentTo ms a) i.copies waits.copies; opening = waits.opening; late = waits.late }) waits)
 step_waits script ms a i by (steps.Lost n) waits =
     nothing ms a _ (by_test (Waits ms a) (by == a) (loss_taken i) i (record { copies = waits.copies; opening = waits.opening; late = waits.late }) waits)
-step_waits script ms a i by (steps.Wrote written) waits = nothing ms a i waits
+step_waits script ms a i by (steps.Wrote written) waits = nothing ms a _ (wrote_waits ms a i by waits)
 step_waits script ms a i by (steps.Sent n to message) waits = sends_wait script.links ms a i (record { number = n; from = by; to = to; message = message }) waits
 step_waits script ms a i by (steps.Told reply) waits =
     nothing ms a _ (by_test (Waits ms a) (by == a) (reply_told i) i (record { copies = waits.copies; opening = waits.opening; late = waits.late }) waits)
-step_waits script ms a i by (steps.Fell cause pending) waits = nothing ms a i waits
+step_waits script ms a i by (steps.Fell cause pending) waits = nothing ms a _ (fell_by_waits ms a i by cause waits)
 step_waits script ms a i by (steps.Rose records) waits = nothing ms a i waits
-step_waits script ms a i by (steps.Damaged offset) waits = nothing ms a i waits
+step_waits script ms a i by (steps.Damaged offset) waits = nothing ms a _ (acted_wait ms a i waits)
 
 mail_cons : (ms : List Envelope) (o : Option Envelope) (ns : List Envelope) → (ms ++ option_to_list o) ++ ns ≡ ms ++ cons_option o ns
 mail_cons ms None ns = ap (λ (x : List Envelope). x ++ ns) (append-nil ms)
@@ -218,6 +245,9 @@ first_found decl a ms i g numbered waits is = controls i.controls is
     controls : (cs : List Control) → ready.after_controls cs (ready.first_copy i.copies (ready.first_lost i.lost (cond (takes_commands decl a && not i.busy) (ready.first_command i.commands) None))) ≡ Some g → WasSentTo a ms g
     controls [] is = copy i.copies waits.copies is
     controls (c ∷ cs) is = absurd (let never : ⊥ = cc in never)
+
+pub sent_ready : (decl : Declaration) (script : Script) (h : List Entry) (a : ℕ) (g : Given) → AreNumbered (mail h) → ready.ready decl script a h ≡ Some g → WasSentTo a (mail h) g
+sent_ready decl script h a g numbered ready_ = first_found decl a (mail h) (inbox script a h) g numbered (inbox_waits script a h) ready_
 
 pub ready_found : (decl : Declaration) (script : Script) (h : List Entry) (kept : Inboxes) (a : ℕ) (g : Given) → IsKept script h kept → ready.ready decl script a h ≡ Some g → WasSentTo a (mail h) g
 ready_found decl script h kept a g is ready_ = first_found decl a (mail h) (inbox script a h) g is.numbered (inbox_waits script a h) ready_

@@ -9,7 +9,7 @@ use Rattle.qc_msg.specs.declared.step.Given.{Given}
 use Rattle.qc_msg.specs.declared.step.Given.TheVariants as given
 use Rattle.qc_msg.specs.declared.step.Step.TheVariants.{Sent, Told}
 use Rattle.qc_msg.specs.Steps.{Entry, marked, step_of}
-use Rattle.qc_script.specs.Inbox.{Inbox, comes, comes_with, command_called, copy_taken, count_of, goes, goes_with, inbox, inbox_at, loss_taken, reply_told}
+use Rattle.qc_script.specs.Inbox.{Inbox, comes, comes_with, command_called, copy_taken, count_of, goes, goes_with, inbox, inbox_at, is_up, loss_taken, reply_told}
 use Rattle.qc_script.specs.declared.script.Script.{Script}
 use Rattle.qc_script.proofs.Inboxes.{InCommon, inboxes_have_in_common}
 use Rattle.qc_inbox.proofs.Keeping.{inbox_after}
@@ -22,7 +22,7 @@ left t i j is = ap (λ (x : Bool). if x then i else j) is
 send_left : (links : List Link) (a : ℕ) (i : Inbox) (e : Envelope) → (e.from == a) ≡ false → (e.to == a) ≡ false → goes links a (comes links a i e) e ≡ i
 send_left links a i e from to =
     left (e.from == a) (goes_with (comes links a i e) e (fate links (comes links a i e).cuts e.from e.to (count_of (comes links a i e).to_each e.to + 1))) (comes links a i e) from
-    ∙ left (e.to == a) (comes_with i e (fate links i.cuts e.from e.to (count_of i.from_each e.from + 1))) i to
+    ∙ left (e.to == a) (comes_with (is_up i.up a) i e (fate links i.cuts e.from e.to (count_of i.from_each e.from + 1))) i to
 
 pub other_send : (script : Script) (h : List Entry) (a from n to : ℕ) (message : Message) → (from == a) ≡ false → (to == a) ≡ false
     → inbox script a (h ++ marked from (Sent n to message) ∷ []) ≡ inbox script a h

@@ -1,6 +1,6 @@
 -- What the calls on what is kept require holds: calls are few, and control lines name actors.
 use Rattle.std.proofs.Common.{◌≡◌, ℕ, ◌+◌, ◌-◌, ◌<◌, ◌≤◌, ◌==◌, Bool, true, false, if◌then◌else◌, List, [], ◌∷◌, length, Option, Some, None, refl, ap, sym, subst, arith}
-use Rattle.std.specs.Prelude.{drop, slice_get}
+use Rattle.std.specs.Prelude.{drop, set, slice_get}
 use Rattle.std.specs.List.{AllByRecursion as Every, fold}
 use Rattle.std.specs.Option.{IfSome, option_map_or}
 use Rattle.qc_decl.specs.Actors.{administrator}
@@ -11,7 +11,9 @@ use Rattle.qc_msg.specs.declared.step.Control.TheVariants as controls
 use Rattle.qc_msg.specs.declared.step.Step.{Step}
 use Rattle.qc_msg.specs.declared.step.Step.TheVariants as steps
 use Rattle.qc_msg.specs.Steps.{Entry}
-use Rattle.qc_script.specs.Inbox.{Inbox, empty_inbox, inbox, inbox_at, opened_by, phase_begun}
+use Rattle.qc_link.specs.Cuts.{with_cut, without_cut}
+use Rattle.qc_script.specs.Requests.{requests_to, requests_to_others, with_lost}
+use Rattle.qc_script.specs.Inbox.{Inbox, acting, actor_fell, control_acted, does_nothing, emptied, is_by_line, is_up, opened, empty_inbox, inbox, inbox_at, opened_by, phase_begun}
 use Rattle.qc_script.specs.Ready.{controls_left}
 use Rattle.qc_script.specs.Sound.{IsControlFor, IsPhaseFor, IsScriptFor}
 use Rattle.qc_script.specs.declared.script.PhaseLines.{PhaseLines}
@@ -75,16 +77,37 @@ within decl few (controls.Restart a) is = tt
 abbrev AllWithin : Inbox → Type 0
 AllWithin i = Every IsWithin i.controls
 
-opened_controls : (cs : List Control) (i : Inbox) → (opened_by cs i).controls ≡ i.controls
-opened_controls [] i = refl
-opened_controls (c ∷ cs) i = refl
-
 along : (cs ds : List Control) → ds ≡ cs → Every IsWithin cs → Every IsWithin ds
 along cs ds same all = subst (λ (x : List Control). Every IsWithin x) (sym same) all
 
 one_less : (cs : List Control) → Every IsWithin cs → Every IsWithin (drop 1 cs)
 one_less [] all = tt
 one_less (c ∷ cs) all = all.1
+
+opened_by_controls : (a : ℕ) (cs : List Control) (i : Inbox) → (opened_by a cs i).controls ≡ i.controls
+opened_by_controls a [] i = refl
+opened_by_controls a (c ∷ cs) i = refl
+
+acting_within : (up : List Bool) (cs : List Control) → Every IsWithin cs → Every IsWithin (acting up cs)
+acting_within up [] all = tt
+acting_within up (c ∷ cs) all = by (does_nothing up c) (acting_within up cs all.1)
+  where
+    by : (t : Bool) → Every IsWithin (acting up cs) → Every IsWithin (if t then acting up cs else c ∷ cs)
+    by true rest = rest
+    by false rest = all
+
+opened_within : (a : ℕ) (i : Inbox) → AllWithin i → AllWithin (opened a i)
+opened_within a i all = along _ _ (opened_by_controls a (acting i.up i.controls) _) (acting_within i.up i.controls all)
+
+acted_within : (a : ℕ) (i : Inbox) → AllWithin i → AllWithin (control_acted a i)
+acted_within a i all = opened_within a _ (one_less i.controls all)
+
+fell_within : (a : ℕ) (i : Inbox) (r : ℕ) → AllWithin i → AllWithin (actor_fell a i r)
+fell_within a i r all = by (r == a)
+  where
+    by : (t : Bool) → AllWithin (emptied t (record i { up = set i.up r false; unanswered = requests_to_others r i.unanswered; lost = with_lost (requests_to r i.unanswered) i.lost }))
+    by true = all
+    by false = all
 
 by_test : (P : Inbox → Type 0) (t : Bool) (i j : Inbox) → P i → P j → P (if t then i else j)
 by_test P true i j here there = here
@@ -95,23 +118,24 @@ begun_within : (decl : Declaration) (script : Script) → administrator decl < m
 begun_within decl script few sound a n i None is all = all
 begun_within decl script few sound a n i (Some phase) is all =
     let there : IsPhaseFor decl phase = every-at (IsPhaseFor decl) script.phases n phase sound.phases is in
-    along phase.controls _ (opened_controls phase.controls _) (every-weaker (IsControlFor decl) IsWithin (within decl few) phase.controls there.0)
+    opened_within a _ (every-weaker (IsControlFor decl) IsWithin (within decl few) phase.controls there.0)
 
 step_within : (decl : Declaration) (script : Script) → administrator decl < most_actors → IsScriptFor decl script → (a : ℕ) (i : Inbox) (by : ℕ) (step : Step) → AllWithin i → AllWithin (inbox_at script a i by step)
 step_within decl script few sound a i by (steps.Phase k) all = begun_within decl script few sound a (k - 1) i (slice_get script.phases (k - 1)) refl all
-step_within decl script few sound a i by (steps.Cut x y) all = along (drop 1 i.controls) _ (opened_controls (drop 1 i.controls) _) (one_less i.controls all)
-step_within decl script few sound a i by (steps.Heal x y) all = along (drop 1 i.controls) _ (opened_controls (drop 1 i.controls) _) (one_less i.controls all)
-step_within decl script few sound a i by (steps.Armed actor kind at) all = all
+step_within decl script few sound a i by (steps.Cut x y) all = acted_within a (record i { cuts = with_cut i.cuts x y }) all
+step_within decl script few sound a i by (steps.Heal x y) all = acted_within a (record i { cuts = without_cut i.cuts x y }) all
+step_within decl script few sound a i by (steps.Armed actor kind at) all = acted_within a i all
 step_within decl script few sound a i by (steps.Called command) all = by_test AllWithin (by == a) _ i all all
 step_within decl script few sound a i by (steps.Got n) all = by_test AllWithin (by == a) _ i all all
 step_within decl script few sound a i by (steps.Lost n) all = by_test AllWithin (by == a) _ i all all
-step_within decl script few sound a i by (steps.Wrote written) all = all
+step_within decl script few sound a i by (steps.Wrote written) all = by_test AllWithin (is_up i.up by) i _ all (acted_within a (record i { up = set i.up by true }) all)
 step_within decl script few sound a i by (steps.Sent n to message) all =
     along i.controls _ (sends_count script.links a i (record { number = n; from = by; to = to; message = message })).controls all
 step_within decl script few sound a i by (steps.Told reply) all = by_test AllWithin (by == a) _ i all all
-step_within decl script few sound a i by (steps.Fell cause pending) all = all
+step_within decl script few sound a i by (steps.Fell cause pending) all =
+    by_test AllWithin (is_by_line (is_up i.up by) cause) (control_acted a (actor_fell a i by)) (actor_fell a i by) (acted_within a _ (fell_within a i by all)) (fell_within a i by all)
 step_within decl script few sound a i by (steps.Rose records) all = all
-step_within decl script few sound a i by (steps.Damaged offset) all = all
+step_within decl script few sound a i by (steps.Damaged offset) all = acted_within a i all
 
 steps_within : (decl : Declaration) (script : Script) → administrator decl < most_actors → IsScriptFor decl script → (a : ℕ) (h : List Entry) (i : Inbox) → AllWithin i
     → AllWithin (fold (λ (i : Inbox) (e : Entry). inbox_at script a i e.actor e.step) i h)

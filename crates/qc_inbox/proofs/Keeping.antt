@@ -13,6 +13,7 @@ use Rattle.qc_msg.specs.declared.turn.Posting.{Posting}
 use Rattle.qc_msg.specs.Deeds.{envelope_of, mail}
 use Rattle.qc_msg.specs.Steps.{Entry, marked}
 use Rattle.qc_script.specs.Inbox.{Inbox, comes, empty_inbox, goes, inbox, inbox_at}
+use Rattle.qc_script.specs.Steady.{LeavesAllUp}
 use Rattle.qc_script.specs.declared.script.Script.{Script}
 use Rattle.qc_inbox.specs.Inboxes.{Inboxes}
 use Rattle.qc_inbox.specs.Kept.{AreBetweenActors, AreNumbered, IsKept, Shows}
@@ -32,7 +33,7 @@ inbox_after script a h e = fold-append (λ (i : Inbox) (x : Entry). inbox_at scr
 pub calls_after : (a : ℕ) (h : List Entry) (e : Entry) → calls_of a (h ++ e ∷ []) ≡ calls_at a (calls_of a h) e.actor e.step
 calls_after a h e = fold-append (λ (calls : ℕ) (x : Entry). calls_at a calls x.actor x.step) 0 h (e ∷ [])
 
-shows_along : (kept : Inboxes) (a m n : ℕ) (i j : Inbox) → m ≡ n → i ≡ j → Shows kept a m i → Shows kept a n j
+pub shows_along : (kept : Inboxes) (a m n : ℕ) (i j : Inbox) → m ≡ n → i ≡ j → Shows kept a m i → Shows kept a n j
 shows_along kept a m n i j calls box shows =
     subst (λ (x : Inbox). Shows kept a n x) box (subst (λ (k : ℕ). Shows kept a k i) calls shows)
 
@@ -62,6 +63,7 @@ pub kept_step : (script : Script) (h : List Entry) (e : Entry) (old new : Inboxe
     → IsKept script (h ++ e ∷ []) new
 kept_step script h e old new kept none links counts trays each = record {
   links = links ∙ kept.links;
+  steady = kept.steady;
   sent = ap (λ (t : Tally). t.all) counts ∙ (kept.sent ∙ ap (λ (ms : List Envelope). length ms) (sym (same_mail h e none)));
   numbered = subst AreNumbered (sym (same_mail h e none)) kept.numbered;
   ends = subst AreBetweenActors (sym (same_mail h e none)) kept.ends;
@@ -86,7 +88,7 @@ numbered_from k (m ∷ ms) e before is (suc n) f found =
     let there : f.number ≡ (k + 1) + n = numbered_from (k + 1) ms e after long n f found in
     omega arith
 
-numbered_more : (ms : List Envelope) (e : Envelope) → AreNumbered ms → e.number ≡ length ms → AreNumbered (ms ++ e ∷ [])
+pub numbered_more : (ms : List Envelope) (e : Envelope) → AreNumbered ms → e.number ≡ length ms → AreNumbered (ms ++ e ∷ [])
 numbered_more ms e before is n f found =
     let after : (j : ℕ) (g : Envelope) → slice_get ms j ≡ Some g → g.number ≡ 0 + j = λ j g at. let there : g.number ≡ j = before j g at in omega arith in
     let long : e.number ≡ 0 + length ms = omega arith in
@@ -98,6 +100,7 @@ pub kept_send : (script : Script) (h : List Entry) (old : Inboxes) (from : ℕ) 
     → IsKept script (h ++ marked from (Sent old.counts.all p.to p.message) ∷ []) (after_send old from p)
 kept_send script h old from p kept from_within to_within = record {
   links = kept.links;
+  steady = kept.steady;
   sent =
       ap (λ (n : ℕ). n + 1) kept.sent
       ∙ sym (ap (λ (ms : List Envelope). length ms) (mail_after h sends) ∙ length-append (mail h) (mail (sends ∷ [])));
@@ -117,9 +120,10 @@ kept_send script h old from p kept from_within to_within = record {
     sends = marked from (Sent old.counts.all p.to p.message)
 
 -- before the first step
-pub kept_begins : (script : Script) → IsKept script [] (empty_inboxes script)
-kept_begins script = record {
+pub kept_begins : (script : Script) → LeavesAllUp script → IsKept script [] (empty_inboxes script)
+kept_begins script steady = record {
   links = refl;
+  steady = steady;
   sent = refl;
   numbered = λ n e found. absurd (let never : ⊥ = cc in never);
   ends = tt;
@@ -127,6 +131,8 @@ kept_begins script = record {
   trays = refl;
   inboxes = λ a within. record {
     cuts = refl;
+    up = refl;
+    steady = tt;
     controls = refl;
     from_each = λ b b_within. get_or-replicate most_actors b 0 0 b_within ∙ sym (get_or-replicate (most_actors * most_actors) (place b a) 0 0 (place_within b a b_within within));
     to_each = λ b b_within. get_or-replicate most_actors b 0 0 b_within ∙ sym (get_or-replicate (most_actors * most_actors) (place a b) 0 0 (place_within a b within b_within));

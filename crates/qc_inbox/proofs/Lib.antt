@@ -12,3 +12,13 @@ pub mod Among
 pub mod Bounds
 pub mod Apart
 pub mod Ranking
+mod Emptied
+mod Downs
+mod Standing
+mod Inputs
+mod Lined
+mod Falling
+mod FallRuns
+pub mod Owned
+pub mod FallMail
+pub mod FallLaws

@@ -6,7 +6,11 @@ use Rattle.qc_link.specs.Fate.{fate}
 use Rattle.qc_link.specs.declared.rule.Fate.{Fate}
 use Rattle.qc_msg.specs.declared.message.Envelope.{Envelope}
 use Rattle.qc_msg.specs.declared.turn.Posting.{Posting}
-use Rattle.qc_script.specs.Inbox.{Inbox, comes, comes_with, count_of, goes, goes_with, one_more}
+use Rattle.qc_script.specs.Inbox.{Inbox, comes, comes_with, count_of, goes, everybody, goes_with, is_up, one_more}
+use Rattle.qc_script.specs.Steady.{LeavesUp}
+use Rattle.qc_script.proofs.AllUp.{is_up-everybody}
+use Rattle.qc_msg.specs.declared.step.Control.{Control}
+use Rattle.std.specs.List.{AllByRecursion as Every}
 use Rattle.qc_inbox.specs.Inboxes.{Inboxes, Tray}
 use Rattle.qc_inbox.specs.Kept.{Shows, tray_of}
 use Rattle.qc_inbox.specs.Rooms.{after_send, tray_at, with_coming, with_going}
@@ -42,21 +46,22 @@ coming_tray kept a calls i from p n shows from_within within =
 
     by : (t : Bool) → (p.to == a) ≡ t
         → (if t then tray_comes (tray_at kept.trays p.to) n p.message (fate_in kept from p) else tray_at kept.trays a)
-        ≡ tray_of calls (if t then comes_with i (envelope n from p) (fate kept.links i.cuts from p.to (count_of i.from_each from + 1)) else i)
+        ≡ tray_of calls (if t then comes_with (is_up i.up a) i (envelope n from p) (fate kept.links i.cuts from p.to (count_of i.from_each from + 1)) else i)
     by true is =
         let here : p.to ≡ a = eqb-true p.to a is in
         ap (λ (k : ℕ). tray_comes (tray_at kept.trays k) n p.message (fate_in kept from p)) here
         ∙ ap (λ (t : Tray). tray_comes t n p.message (fate_in kept from p)) shows.tray
         ∙ ap (λ (f : Fate). tray_comes (tray_of calls i) n p.message f) (one here)
         ∙ sym (comes_shown calls i (envelope n from p) (fate kept.links i.cuts from p.to (count_of i.from_each from + 1)))
+        ∙ ap (λ (t : Bool). tray_of calls (comes_with t i (envelope n from p) (fate kept.links i.cuts from p.to (count_of i.from_each from + 1)))) (sym (is_up-everybody i.up a shows.up))
     by false is = shows.tray
 
 -- the tray of an actor from which it may go
 
 going_tray : (kept : Inboxes) (trays : List Tray) (a calls : ℕ) (j : Inbox) (from : ℕ) (p : Posting) (n : ℕ) → tray_at trays a ≡ tray_of calls j
-    → j.cuts ≡ kept.cuts → count_of j.to_each p.to ≡ count kept.counts a p.to → from < length trays
+    → j.cuts ≡ kept.cuts → j.up ≡ everybody → count_of j.to_each p.to ≡ count kept.counts a p.to → from < length trays
     → tray_at (with_going trays from n p.message (fate_in kept from p)) a ≡ tray_of calls (goes kept.links a j (envelope n from p))
-going_tray kept trays a calls j from p n shown cuts counted within =
+going_tray kept trays a calls j from p n shown cuts up counted within =
     tray_set trays from a (tray_goes (tray_at trays from) n p.message (fate_in kept from p)) within ∙ by (from == a) refl
   where
     one : from ≡ a → fate_in kept from p ≡ fate kept.links j.cuts from p.to (count_of j.to_each p.to + 1)
@@ -73,7 +78,7 @@ going_tray kept trays a calls j from p n shown cuts counted within =
         ap (λ (k : ℕ). tray_goes (tray_at trays k) n p.message (fate_in kept from p)) here
         ∙ ap (λ (t : Tray). tray_goes t n p.message (fate_in kept from p)) shown
         ∙ ap (λ (f : Fate). tray_goes (tray_of calls j) n p.message f) (one here)
-        ∙ sym (goes_shown calls j (envelope n from p) (fate kept.links j.cuts from p.to (count_of j.to_each p.to + 1)))
+        ∙ sym (goes_shown calls j (envelope n from p) (fate kept.links j.cuts from p.to (count_of j.to_each p.to + 1)) (is_up-everybody j.up p.to up))
     by false is = shown
 
 -- counts
@@ -104,6 +109,8 @@ pub sending_shown : (kept : Inboxes) (a calls : ℕ) (i : Inbox) (from : ℕ) (p
     → Shows (after_send kept from p) a calls (goes kept.links a (comes kept.links a i (envelope kept.counts.all from p)) (envelope kept.counts.all from p))
 sending_shown kept a calls i from p shows a_within from_within to_within long counted = record {
   cuts = all.cuts ∙ shows.cuts;
+  up = all.up ∙ shows.up;
+  steady = subst (λ (cs : List Control). Every LeavesUp cs) (sym all.controls) shows.steady;
   controls = all.controls ∙ shows.controls;
   from_each = λ b b_within.
       ap (λ (xs : List ℕ). count_of xs b) all.from_each
@@ -122,6 +129,7 @@ sending_shown kept a calls i from p shows a_within from_within to_within long co
   tray = going_tray kept (with_coming kept.trays p.to kept.counts.all p.message (fate_in kept from p)) a calls (comes kept.links a i (envelope kept.counts.all from p)) from p kept.counts.all
       (coming_tray kept a calls i from p kept.counts.all shows from_within (subst (λ (k : ℕ). p.to < k) (sym long) to_within))
       (first.cuts ∙ shows.cuts)
+      (first.up ∙ shows.up)
       (ap (λ (xs : List ℕ). count_of xs p.to) first.to_each ∙ shows.to_each p.to to_within)
       (subst (λ (k : ℕ). from < k) (sym (length-set kept.trays p.to _ ∙ long)) from_within);
 }

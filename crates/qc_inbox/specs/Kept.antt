@@ -1,10 +1,13 @@
--- What is kept of the inboxes is what the history gives.
+-- What is kept of the inboxes is what the history gives. It knows no falls: everybody is up, and the script leaves it
+-- so.
 use Rattle.std.specs.Prelude.{◌*◌, ◌≡◌, ℕ, ◌<◌, List, Some, length, map, slice_get}
 use Rattle.std.specs.List.{AllByRecursion as Every}
 use Rattle.qc_msg.specs.declared.message.Envelope.{Envelope}
 use Rattle.qc_msg.specs.Deeds.{mail}
 use Rattle.qc_msg.specs.Steps.{Entry}
-use Rattle.qc_script.specs.Inbox.{Inbox, count_of, inbox}
+use Rattle.qc_script.specs.Inbox.{Inbox, count_of, everybody, inbox}
+use Rattle.qc_script.specs.Requests.{request_numbers}
+use Rattle.qc_script.specs.Steady.{LeavesAllUp, LeavesUp}
 use Rattle.qc_script.specs.declared.script.Script.{Script}
 use Rattle.qc_inbox.specs.Inboxes.{Inboxes, Tray}
 use Rattle.qc_inbox.specs.Picks.{calls_of}
@@ -22,7 +25,7 @@ tray_of calls i =
       copies = numbers_of i.copies;
       opening = numbers_of i.opening;
       late = numbers_of i.late;
-      unanswered = i.unanswered;
+      unanswered = request_numbers i.unanswered;
       lost = i.lost;
       commands = i.commands;
       busy = i.busy;
@@ -32,6 +35,8 @@ tray_of calls i =
 -- what is kept shows an inbox of actor a
 pub record Shows (kept : Inboxes) (a calls : ℕ) (i : Inbox) : Type 0 where
   pub cuts : i.cuts ≡ kept.cuts
+  pub up : i.up ≡ everybody
+  pub steady : Every LeavesUp i.controls
   pub controls : i.controls ≡ kept.controls
   -- one table of counts serves senders and receivers
   pub from_each : (b : ℕ) → b < most_actors → count_of i.from_each b ≡ count kept.counts b a
@@ -50,6 +55,7 @@ AreBetweenActors ms = Every (λ (e : Envelope). (e.from < most_actors) × (e.to 
 
 pub record IsKept (script : Script) (h : List Entry) (kept : Inboxes) : Type 0 where
   pub links : kept.links ≡ script.links
+  pub steady : LeavesAllUp script
   pub sent : kept.counts.all ≡ length (mail h)
   pub numbered : AreNumbered (mail h)
   pub ends : AreBetweenActors (mail h)

@@ -7,3 +7,5 @@ pub mod Inputs
 pub mod Kept
 pub mod Picks
 pub mod PicksKept
+pub mod Downs
+pub mod Owned

@@ -21,6 +21,7 @@ ghost use Rattle.qc_msg.specs.declared.turn.Turn.{Turn};
 ghost use Rattle.qc_script.specs.Inbox.{count_of, inbox};
 ghost use Rattle.qc_script.specs.Ready.{controls_left, ready, step_of_control};
 ghost use Rattle.qc_script.specs.Sound.{IsScriptFor};
+ghost use Rattle.qc_script.specs.Steady.{LeavesAllUp};
 ghost use Rattle.qc_script.specs.declared.script.PhaseLines.{PhaseLines};
 ghost use Rattle.qc_script.specs.declared.script.Script.{Script};
 ghost use Rattle.qc_inbox.specs.Inboxes.{Inboxes};
@@ -32,9 +33,10 @@ ghost use Rattle.qc_inbox.specs.Rooms.{after_control, after_phase, after_take, a
 ghost use Rattle.qc_inbox.specs.declared.input.Rank.{Rank};
 ghost use Rattle.qc_link.specs.Limits.{most_actors};
 
-/// Before the first step, nothing waits for anybody.
+/// Before the first step, nothing waits for anybody. What is kept knows no falls:
+/// nobody is crashed or restarted by the script.
 pub fn new_trays_are_kept()
-    ensures { (script : Script) → IsKept script [] (empty_inboxes script) }
+    ensures { (script : Script) → LeavesAllUp script → IsKept script [] (empty_inboxes script) }
 {}
 
 /// What is ready is what the trays show.

@@ -4,8 +4,9 @@
 //! Beside the history stands, for each actor, a tray: which copies wait, which
 //! of its requests are lost, which commands it is asked. So what is ready next
 //! is known without a look at the history, the script or its rules. `IsKept`
-//! (`specs/Kept.antt`) says that the trays show the inboxes of the history.
-//! What holds:
+//! (`specs/Kept.antt`) says that the trays show the inboxes of the history. They
+//! are those of runs without falls: nobody is crashed or restarted by the script,
+//! and everybody is up. What holds:
 //!
 //! 1. Before the first step the trays show the inboxes (`new_trays_are_kept`),
 //!    and each step keeps that: an input that is taken, a turn that is posted, a
@@ -17,11 +18,23 @@
 //! 3. The trays tell who comes next: none just where nothing is ready, else one
 //!    that comes before all others (`picks_are_made_by_trays`,
 //!    `who_comes_next_has_something_ready`, `who_comes_next_is_first`).
+//!
+//! Of runs with falls, which no code makes yet, what waits for an actor is known
+//! by laws (`src/falls.rt`). While a control line is left, no input is open and
+//! nothing is ready; the next line crashes an actor that is up, or restarts one
+//! that is down; each inbox knows who is up; nothing waits for who is down but
+//! commands; what is ready was sent, and what is lost is an own request.
 #![tactic(auto)]
 
+mod falls;
 mod input;
 mod laws;
 
+pub use falls::{
+    inboxes_know_who_is_up, lost_requests_are_own, next_lines_have_something_to_do,
+    no_input_is_open_while_a_line_is_left, nothing_is_ready_while_a_line_is_left,
+    nothing_waits_for_who_is_down, ready_messages_were_sent_through_falls,
+};
 pub use input::{Candidate, Input, Rank};
 pub use laws::{
     controls_keep_trays, inboxes_agree, inputs_keep_trays, new_trays_are_kept, phases_keep_trays,

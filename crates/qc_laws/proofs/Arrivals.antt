@@ -1,7 +1,7 @@
 -- Every copy in an inbox is a message that was sent, under its number, to the inbox's actor; so what is ready for an
 -- actor was sent to it.
 use Rattle.std.proofs.Common.{◌≡◌, ℕ, ◌+◌, ◌-◌, ◌==◌, ◌&&◌, not, Bool, true, false, cond, if◌then◌else◌, List, [], ◌∷◌, ◌++◌, length, Option, Some, None, slice_get, refl, sym, ap, ◌∙◌, subst, arith, eqb-true, append_assoc}
-use Rattle.std.specs.Prelude.{drop, option_to_list}
+use Rattle.std.specs.Prelude.{drop, option_to_list, set}
 use Rattle.std.specs.List.{cons_option, fold}
 use Rattle.std.specs.Option.{option_map_or}
 use Rattle.std.proofs.lemmas.List.{append-nil}
@@ -24,7 +24,9 @@ use Rattle.qc_msg.specs.Deeds.{Deed, WasSentTo, envelope_of, mail}
 use Rattle.qc_msg.specs.Steps.{Entry, marked}
 use Rattle.qc_script.specs.declared.script.PhaseLines.{PhaseLines}
 use Rattle.qc_script.specs.declared.script.Script.{Script}
-use Rattle.qc_script.specs.Inbox.{Inbox, answers_by, comes, comes_at_once, comes_with, command_called, commands_for, control_acted, copies_at_once, copy_taken, count_of, empty_inbox, goes, goes_with, has_number, inbox, inbox_at, is_request, late_copies, loss_taken, one_more, opened, opened_by, phase_begun, reply_told, request_answered, request_sent, with_copies}
+use Rattle.qc_msg.specs.declared.step.Fall.{Fall}
+use Rattle.qc_script.specs.Requests.{has_request, requests_to, requests_to_others, with_lost}
+use Rattle.qc_script.specs.Inbox.{Inbox, acting, actor_fell, emptied, fell_by, if_up, is_by_line, is_up, wrote_record, answers_by, comes, comes_at_once, comes_with, command_called, commands_for, control_acted, copies_at_once, copy_taken, count_of, empty_inbox, goes, goes_with, inbox, inbox_at, is_request, late_copies, loss_taken, one_more, opened, opened_by, phase_begun, reply_told, request_answered, request_sent, with_copies}
 use Rattle.qc_script.specs.Ready.{after_controls, command_in, first_command, first_copy, first_lost, ready, ready_in, takes_commands}
 use Rattle.qc_script.specs.Runs.{Runs}
 use Rattle.qc_laws.proofs.Numbered.{AreNumbered, run_numbered}
@@ -81,15 +83,19 @@ lately a ms Twice e sent = tt
 lately a ms Late e sent = (sent, tt)
 lately a ms Again e sent = (sent, tt)
 
-arrived_copies : (a : ℕ) (ms : List Envelope) (i : Inbox) (e : Envelope) (f : Fate) → Arrived a ms i → WasSentTo a ms (given.Got e) → Arrived a ms (with_copies i e f)
-arrived_copies a ms i e f r sent = record {
-  copies = mail_joins a ms i.copies (copies_at_once f e) r.copies (at_once a ms f e sent);
+where_up : (a : ℕ) (ms : List Envelope) (up : Bool) (es : List Envelope) → AreMail a ms es → AreMail a ms (if_up up es)
+where_up a ms true es are = are
+where_up a ms false es are = tt
+
+arrived_copies : (a : ℕ) (ms : List Envelope) (up : Bool) (i : Inbox) (e : Envelope) (f : Fate) → Arrived a ms i → WasSentTo a ms (given.Got e) → Arrived a ms (with_copies up i e f)
+arrived_copies a ms up i e f r sent = record {
+  copies = mail_joins a ms i.copies (if_up up (copies_at_once f e)) r.copies (where_up a ms up (copies_at_once f e) (at_once a ms f e sent));
   opening = r.opening;
   late = mail_joins a ms i.late (late_copies f e) r.late (lately a ms f e sent);
 }
 
 arrived_answered : (a : ℕ) (ms : List Envelope) (i : Inbox) (number : ℕ) (f : Fate) → Arrived a ms i → Arrived a ms (request_answered i number f)
-arrived_answered a ms i number f r = arrived_if a ms (has_number i.unanswered number) _ i (record { copies = r.copies; opening = r.opening; late = r.late }) r
+arrived_answered a ms i number f r = arrived_if a ms (has_request i.unanswered number) _ i (record { copies = r.copies; opening = r.opening; late = r.late }) r
 
 arrived_answers : (a : ℕ) (ms : List Envelope) (i : Inbox) (m : Message) (f : Fate) → Arrived a ms i → Arrived a ms (answers_by i m f)
 arrived_answers a ms i (messages.Request tx epoch life want) f r = r
@@ -103,20 +109,20 @@ arrived_answers a ms i (messages.Install epoch clock log) f r = r
 arrived_comes : (script : Script) (a : ℕ) (ms : List Envelope) (i : Inbox) (e : Envelope) → Arrived a ms i → slice_get ms e.number ≡ Some e → Arrived a ms (comes script.links a i e)
 arrived_comes script a ms i e r there = by (e.to == a) refl
   where
-    by : (t : Bool) → (e.to == a) ≡ t → Arrived a ms (if t then comes_with i e (fate script.links i.cuts e.from e.to (count_of i.from_each e.from + 1)) else i)
-    by true is = arrived_answers a ms (with_copies i e (fate script.links i.cuts e.from e.to (count_of i.from_each e.from + 1))) e.message (fate script.links i.cuts e.from e.to (count_of i.from_each e.from + 1))
-        (arrived_copies a ms i e (fate script.links i.cuts e.from e.to (count_of i.from_each e.from + 1)) r (there, eqb-true e.to a is))
+    by : (t : Bool) → (e.to == a) ≡ t → Arrived a ms (if t then comes_with (is_up i.up a) i e (fate script.links i.cuts e.from e.to (count_of i.from_each e.from + 1)) else i)
+    by true is = arrived_answers a ms (with_copies (is_up i.up a) i e (fate script.links i.cuts e.from e.to (count_of i.from_each e.from + 1))) e.message (fate script.links i.cuts e.from e.to (count_of i.from_each e.from + 1))
+        (arrived_copies a ms (is_up i.up a) i e (fate script.links i.cuts e.from e.to (count_of i.from_each e.from + 1)) r (there, eqb-true e.to a is))
     by false is = r
 
 -- a message that goes
 
-arrived_sent : (a : ℕ) (ms : List Envelope) (i : Inbox) (number : ℕ) (f : Fate) → Arrived a ms i → Arrived a ms (request_sent i number f)
-arrived_sent a ms i number f r = arrived_if a ms (comes_at_once f) _ _ (record { copies = r.copies; opening = r.opening; late = r.late }) (record { copies = r.copies; opening = r.opening; late = r.late })
+arrived_sent : (a : ℕ) (ms : List Envelope) (i : Inbox) (number to : ℕ) (f : Fate) → Arrived a ms i → Arrived a ms (request_sent i number to f)
+arrived_sent a ms i number to f r = arrived_if a ms (comes_at_once f && is_up i.up to) _ _ (record { copies = r.copies; opening = r.opening; late = r.late }) (record { copies = r.copies; opening = r.opening; late = r.late })
 
 arrived_goes_with : (a : ℕ) (ms : List Envelope) (i : Inbox) (e : Envelope) (f : Fate) → Arrived a ms i → Arrived a ms (goes_with i e f)
 arrived_goes_with a ms i e f r =
     arrived_if a ms (is_request e.message) _ _
-    (arrived_sent a ms (record i { to_each = one_more i.to_each e.to }) e.number f (record { copies = r.copies; opening = r.opening; late = r.late }))
+    (arrived_sent a ms (record i { to_each = one_more i.to_each e.to }) e.number e.to f (record { copies = r.copies; opening = r.opening; late = r.late }))
     (record { copies = r.copies; opening = r.opening; late = r.late })
 
 arrived_goes : (script : Script) (a : ℕ) (ms : List Envelope) (i : Inbox) (e : Envelope) → Arrived a ms i → Arrived a ms (goes script.links a i e)
@@ -124,12 +130,17 @@ arrived_goes script a ms i e r = arrived_if a ms (e.from == a) _ i (arrived_goes
 
 -- phases and control lines
 
-arrived_opened : (a : ℕ) (ms : List Envelope) (i : Inbox) → Arrived a ms i → Arrived a ms (opened i)
-arrived_opened a ms i r = by i.controls
-  where
-    by : (lines : List Control) → Arrived a ms (opened_by lines i)
-    by [] = record { copies = mail_joins a ms i.opening i.copies r.opening r.copies; opening = tt; late = r.late }
-    by (line ∷ lines) = r
+arrived_opened_by : (a : ℕ) (ms : List Envelope) (lines : List Control) (i : Inbox) → Arrived a ms i → Arrived a ms (opened_by a lines i)
+arrived_opened_by a ms [] i r = record {
+  copies = mail_joins a ms (if_up (is_up i.up a) i.opening) i.copies (where_up a ms (is_up i.up a) i.opening r.opening) r.copies;
+  opening = tt;
+  late = r.late;
+}
+arrived_opened_by a ms (line ∷ lines) i r = r
+
+arrived_opened : (a : ℕ) (ms : List Envelope) (i : Inbox) → Arrived a ms i → Arrived a ms (opened a i)
+arrived_opened a ms i r =
+    arrived_opened_by a ms (acting i.up i.controls) (record i { controls = acting i.up i.controls }) (record { copies = r.copies; opening = r.opening; late = r.late })
 
 arrived_phase : (a : ℕ) (ms : List Envelope) (i : Inbox) (o : Option PhaseLines) → Arrived a ms i → Arrived a ms (option_map_or (phase_begun a i) o i)
 arrived_phase a ms i None r = r
@@ -137,8 +148,30 @@ arrived_phase a ms i (Some p) r =
     arrived_opened a ms (record i { opening = i.opening ++ i.late; late = []; controls = p.controls; commands = i.commands ++ commands_for a p.commands })
     (record { copies = r.copies; opening = mail_joins a ms i.opening i.late r.opening r.late; late = tt })
 
-arrived_controls : (a : ℕ) (ms : List Envelope) (i : Inbox) (cuts : List Bool) → Arrived a ms i → Arrived a ms (control_acted (record i { cuts = cuts }))
-arrived_controls a ms i cuts r = arrived_opened a ms (record i { cuts = cuts; controls = drop 1 i.controls }) (record { copies = r.copies; opening = r.opening; late = r.late })
+arrived_acted : (a : ℕ) (ms : List Envelope) (i : Inbox) → Arrived a ms i → Arrived a ms (control_acted a i)
+arrived_acted a ms i r = arrived_opened a ms (record i { controls = drop 1 i.controls }) (record { copies = r.copies; opening = r.opening; late = r.late })
+
+arrived_controls : (a : ℕ) (ms : List Envelope) (i : Inbox) (cuts : List Bool) → Arrived a ms i → Arrived a ms (control_acted a (record i { cuts = cuts }))
+arrived_controls a ms i cuts r = arrived_acted a ms (record i { cuts = cuts }) (record { copies = r.copies; opening = r.opening; late = r.late })
+
+-- an actor falls, and one rises
+
+arrived_emptied : (a : ℕ) (ms : List Envelope) (t : Bool) (i : Inbox) → Arrived a ms i → Arrived a ms (emptied t i)
+arrived_emptied a ms true i r = record { copies = tt; opening = r.opening; late = r.late }
+arrived_emptied a ms false i r = r
+
+arrived_fallen : (a : ℕ) (ms : List Envelope) (i : Inbox) (b : ℕ) → Arrived a ms i → Arrived a ms (actor_fell a i b)
+arrived_fallen a ms i b r =
+    arrived_emptied a ms (b == a) (record i { up = set i.up b false; unanswered = requests_to_others b i.unanswered; lost = with_lost (requests_to b i.unanswered) i.lost })
+    (record { copies = r.copies; opening = r.opening; late = r.late })
+
+arrived_fell : (a : ℕ) (ms : List Envelope) (i : Inbox) (b : ℕ) (cause : Fall) → Arrived a ms i → Arrived a ms (fell_by a i b cause)
+arrived_fell a ms i b cause r =
+    arrived_if a ms (is_by_line (is_up i.up b) cause) (control_acted a (actor_fell a i b)) (actor_fell a i b) (arrived_acted a ms (actor_fell a i b) (arrived_fallen a ms i b r)) (arrived_fallen a ms i b r)
+
+arrived_wrote : (a : ℕ) (ms : List Envelope) (i : Inbox) (b : ℕ) → Arrived a ms i → Arrived a ms (wrote_record a i b)
+arrived_wrote a ms i b r =
+    arrived_if a ms (is_up i.up b) i _ r (arrived_acted a ms (record i { up = set i.up b true }) (record { copies = r.copies; opening = r.opening; late = r.late }))
 
 -- the next message has the next number
 
@@ -161,23 +194,23 @@ arrived_step : (script : Script) (a : ℕ) (ms : List Envelope) (i : Inbox) (b :
 arrived_step script a ms i b (steps.Phase k) r next = arrived_more a ms [] (inbox_at script a i b (steps.Phase k)) (arrived_phase a ms i (slice_get script.phases (k - 1)) r)
 arrived_step script a ms i b (steps.Cut x y) r next = arrived_more a ms [] (inbox_at script a i b (steps.Cut x y)) (arrived_controls a ms i (with_cut i.cuts x y) r)
 arrived_step script a ms i b (steps.Heal x y) r next = arrived_more a ms [] (inbox_at script a i b (steps.Heal x y)) (arrived_controls a ms i (without_cut i.cuts x y) r)
-arrived_step script a ms i b (steps.Armed actor kind at) r next = arrived_more a ms [] i r
+arrived_step script a ms i b (steps.Armed actor kind at) r next = arrived_more a ms [] (control_acted a i) (arrived_acted a ms i r)
 arrived_step script a ms i b (steps.Called command) r next =
     arrived_more a ms [] (if b == a then command_called i else i) (arrived_if a ms (b == a) (command_called i) i (record { copies = r.copies; opening = r.opening; late = r.late }) r)
 arrived_step script a ms i b (steps.Got n) r next =
     arrived_more a ms [] (if b == a then copy_taken i else i) (arrived_if a ms (b == a) (copy_taken i) i (record { copies = mail_left a ms i.copies r.copies; opening = r.opening; late = r.late }) r)
 arrived_step script a ms i b (steps.Lost n) r next =
     arrived_more a ms [] (if b == a then loss_taken i else i) (arrived_if a ms (b == a) (loss_taken i) i (record { copies = r.copies; opening = r.opening; late = r.late }) r)
-arrived_step script a ms i b (steps.Wrote written) r next = arrived_more a ms [] i r
+arrived_step script a ms i b (steps.Wrote written) r next = arrived_more a ms [] (wrote_record a i b) (arrived_wrote a ms i b r)
 arrived_step script a ms i b (steps.Sent n to message) r next =
     let e : Envelope = record { number = n; from = b; to = to; message = message } in
     let there : slice_get (ms ++ e ∷ []) n ≡ Some e = ap (λ (k : ℕ). slice_get (ms ++ record { number = n; from = b; to = to; message = message } ∷ []) k) next ∙ slice_get-last ms (record { number = n; from = b; to = to; message = message }) in
     arrived_goes script a (ms ++ e ∷ []) (comes script.links a i e) e (arrived_comes script a (ms ++ e ∷ []) i e (arrived_more a ms (e ∷ []) i r) there)
 arrived_step script a ms i b (steps.Told reply) r next =
     arrived_more a ms [] (if b == a then reply_told i else i) (arrived_if a ms (b == a) (reply_told i) i (record { copies = r.copies; opening = r.opening; late = r.late }) r)
-arrived_step script a ms i b (steps.Fell cause pending) r next = arrived_more a ms [] i r
+arrived_step script a ms i b (steps.Fell cause pending) r next = arrived_more a ms [] (fell_by a i b cause) (arrived_fell a ms i b cause r)
 arrived_step script a ms i b (steps.Rose records) r next = arrived_more a ms [] i r
-arrived_step script a ms i b (steps.Damaged offset) r next = arrived_more a ms [] i r
+arrived_step script a ms i b (steps.Damaged offset) r next = arrived_more a ms [] (control_acted a i) (arrived_acted a ms i r)
 
 next_of : (ms : List Envelope) (b : ℕ) (step : Step) (more : List Envelope) → AreNumbered (length ms) (cons_option (envelope_of (marked b step)) more) → IsNext ms step
 next_of ms b (steps.Phase k) more are = tt

@@ -31,7 +31,9 @@ use Rattle.qc_msg.specs.Steps.{Entry, by, marked, posted, sents, step_of, told, 
 use Rattle.qc_msg.proofs.Growth.{deeds-other, deeds-posted, deeds-taken}
 use Rattle.qc_script.specs.declared.script.PhaseLines.{PhaseLines}
 use Rattle.qc_script.specs.declared.script.Script.{Script}
-use Rattle.qc_script.specs.Inbox.{Inbox, answers_by, comes, comes_at_once, command_called, commands_for, copy_taken, count_of, empty_inbox, goes, goes_with, has_number, inbox, inbox_at, is_request, loss_taken, opened, opened_by, phase_begun, reply_told, with_copies}
+use Rattle.std.specs.Prelude.{set}
+use Rattle.qc_script.specs.Requests.{has_request}
+use Rattle.qc_script.specs.Inbox.{Inbox, acting, is_up, wrote_record, answers_by, comes, comes_at_once, command_called, commands_for, copy_taken, count_of, empty_inbox, goes, goes_with, inbox, inbox_at, is_request, loss_taken, opened, opened_by, phase_begun, reply_told, with_copies}
 use Rattle.qc_script.specs.Ready.{after_controls, command_in, first_command, first_copy, first_lost, phase_at, phase_of, ready, ready_in, step_of_control, takes_commands}
 use Rattle.qc_script.specs.Runs.{Runs, begins, takes, posts, phase, control}
 use Rattle.qc_laws.specs.Whole.{asked_in_all, asked_until, call_in, calls_of}
@@ -45,16 +47,19 @@ left_if : (t : Bool) (i j : Inbox) (cs : List Command) → i.commands ≡ cs →
 left_if true i j cs here there = here
 left_if false i j cs here there = there
 
-left_opened : (i : Inbox) → (opened i).commands ≡ i.commands
-left_opened i = at i.controls
-  where
-    at : (lines : List Control) → (opened_by lines i).commands ≡ i.commands
-    at [] = refl
-    at (line ∷ lines) = refl
+left_opened_by : (a : ℕ) (lines : List Control) (i : Inbox) → (opened_by a lines i).commands ≡ i.commands
+left_opened_by a [] i = refl
+left_opened_by a (line ∷ lines) i = refl
+
+left_opened : (a : ℕ) (i : Inbox) → (opened a i).commands ≡ i.commands
+left_opened a i = left_opened_by a (acting i.up i.controls) (record i { controls = acting i.up i.controls })
+
+left_wrote : (a : ℕ) (i : Inbox) (r : ℕ) → (wrote_record a i r).commands ≡ i.commands
+left_wrote a i r = left_if (is_up i.up r) i _ i.commands refl (left_opened a (record i { up = set i.up r true; controls = drop 1 i.controls }))
 
 left_answers : (i : Inbox) (m : Message) (f : Fate) → (answers_by i m f).commands ≡ i.commands
 left_answers i (messages.Request tx epoch life want) f = refl
-left_answers i (messages.Answer to answer) f = left_if (has_number i.unanswered to) _ i i.commands refl refl
+left_answers i (messages.Answer to answer) f = left_if (has_request i.unanswered to) _ i i.commands refl refl
 left_answers i (messages.Decision tx verdict) f = refl
 left_answers i (messages.Inquiry tx) f = refl
 left_answers i (messages.Ask tx) f = refl
@@ -62,14 +67,14 @@ left_answers i (messages.Close epoch) f = refl
 left_answers i (messages.Install epoch clock log) f = refl
 
 left_goes : (i : Inbox) (e : Envelope) (f : Fate) → (goes_with i e f).commands ≡ i.commands
-left_goes i e f = left_if (is_request e.message) _ _ i.commands (left_if (comes_at_once f) _ _ i.commands refl refl) refl
+left_goes i e f = left_if (is_request e.message) _ _ i.commands (left_if (comes_at_once f && is_up i.up e.to) _ _ i.commands refl refl) refl
 
 left_sent : (script : Script) (a : ℕ) (i : Inbox) (e : Envelope) → (goes script.links a (comes script.links a i e) e).commands ≡ i.commands
 left_sent script a i e =
     left_if (e.from == a) _ (comes script.links a i e) i.commands (left_goes (comes script.links a i e) e (fate script.links (comes script.links a i e).cuts e.from e.to (count_of (comes script.links a i e).to_each e.to + 1)) ∙ came) came
   where
     came : (comes script.links a i e).commands ≡ i.commands
-    came = left_if (e.to == a) _ i i.commands (left_answers (with_copies i e (fate script.links i.cuts e.from e.to (count_of i.from_each e.from + 1))) e.message (fate script.links i.cuts e.from e.to (count_of i.from_each e.from + 1))) refl
+    came = left_if (e.to == a) _ i i.commands (left_answers (with_copies (is_up i.up a) i e (fate script.links i.cuts e.from e.to (count_of i.from_each e.from + 1))) e.message (fate script.links i.cuts e.from e.to (count_of i.from_each e.from + 1))) refl
 
 -- what a phase asks of an actor
 abbrev asked_in : ℕ → Option PhaseLines → List Command
@@ -77,7 +82,7 @@ asked_in a o = option_map_or (λ (p : PhaseLines). commands_for a p.commands) o 
 
 left_phase : (a : ℕ) (i : Inbox) (o : Option PhaseLines) → (option_map_or (phase_begun a i) o i).commands ≡ i.commands ++ asked_in a o
 left_phase a i None = sym (append-nil i.commands)
-left_phase a i (Some p) = left_opened (record i { opening = i.opening ++ i.late; late = []; controls = p.controls; commands = i.commands ++ commands_for a p.commands })
+left_phase a i (Some p) = left_opened a (record i { opening = i.opening ++ i.late; late = []; controls = p.controls; commands = i.commands ++ commands_for a p.commands })
 
 module _ (script : Script) (a : ℕ) where
   abbrev left : List Entry → List Command
@@ -102,7 +107,7 @@ module _ (script : Script) (a : ℕ) where
     where
       at : (w : Option Record) → (fold (λ (i : Inbox) (e : Entry). inbox_at script a i e.actor e.step) i (by b (wrote w ++ (sents n turn.sends ++ told turn.told)))).commands ≡ i.commands
       at None = left_sents i b n turn.sends turn.told
-      at (Some written) = left_sents i b n turn.sends turn.told
+      at (Some written) = left_sents (wrote_record a i b) b n turn.sends turn.told ∙ left_wrote a i b
 
   left_posted : (h : List Entry) (b n : ℕ) (turn : Turn) → left (h ++ by b (posted n turn)) ≡ left h
   left_posted h b n turn = ap (λ (i : Inbox). i.commands) (fold-append (λ (i : Inbox) (e : Entry). inbox_at script a i e.actor e.step) empty_inbox h (by b (posted n turn))) ∙ left_turn (inbox script a h) b n turn
@@ -111,10 +116,10 @@ module _ (script : Script) (a : ℕ) where
   left_control (controls.Phase k) step h b is = absurd (let never : ⊥ = cc in never)
   left_control (controls.Cut x y) step h b is =
       subst (λ (s : Step). left (h ++ marked b s ∷ []) ≡ left h) (let same : steps.Cut x y ≡ step = cc in same)
-      (left_more h b (steps.Cut x y) ∙ left_opened (record (inbox script a h) { cuts = with_cut (inbox script a h).cuts x y; controls = drop 1 (inbox script a h).controls }))
+      (left_more h b (steps.Cut x y) ∙ left_opened a (record (inbox script a h) { cuts = with_cut (inbox script a h).cuts x y; controls = drop 1 (inbox script a h).controls }))
   left_control (controls.Heal x y) step h b is =
       subst (λ (s : Step). left (h ++ marked b s ∷ []) ≡ left h) (let same : steps.Heal x y ≡ step = cc in same)
-      (left_more h b (steps.Heal x y) ∙ left_opened (record (inbox script a h) { cuts = without_cut (inbox script a h).cuts x y; controls = drop 1 (inbox script a h).controls }))
+      (left_more h b (steps.Heal x y) ∙ left_opened a (record (inbox script a h) { cuts = without_cut (inbox script a h).cuts x y; controls = drop 1 (inbox script a h).controls }))
   left_control (controls.Armed actor kind at) step h b is = absurd (let never : ⊥ = cc in never)
   left_control (controls.Crash x) step h b is = absurd (let never : ⊥ = cc in never)
   left_control (controls.Restart x) step h b is = absurd (let never : ⊥ = cc in never)

@@ -27,7 +27,8 @@ use Rattle.qc_msg.specs.Turns.{quiet}
 use Rattle.qc_msg.specs.Steps.{Entry, by, marked, posted, sents, step_of, told, wrote}
 use Rattle.qc_msg.proofs.Growth.{deeds-other, deeds-posted, deeds-taken}
 use Rattle.qc_script.specs.declared.script.Script.{Script}
-use Rattle.qc_script.specs.Inbox.{Inbox, copy_taken, empty_inbox, inbox, inbox_at, loss_taken}
+use Rattle.qc_script.proofs.AllUp.{Stays, step_up}
+use Rattle.qc_script.specs.Inbox.{Inbox, everybody, copy_taken, empty_inbox, inbox, inbox_at, loss_taken}
 use Rattle.qc_script.specs.Ready.{after_controls, command_in, first_command, first_copy, first_lost, phase_of, ready, ready_in, step_of_control, takes_commands}
 use Rattle.qc_script.specs.Runs.{Runs, begins, takes, posts, phase, control}
 use Rattle.qc_laws.specs.Calls.{IsAwaited, open_calls}
@@ -82,6 +83,7 @@ ready_loss decl a i n is = at i.controls is
 
 -- each open request of a client is awaited
 pub record AreAwaited (c : Client) (i : Inbox) : Type 0 where
+  pub up : i.up ≡ everybody
   pub calls : (q : Call) → In q (open_calls c) → IsAwaited q.number i
   pub bound : IsBound c.front
 
@@ -91,36 +93,40 @@ module _ (decl : Declaration) (script : Script) (a : ℕ) where
 
   -- steps that aren't the actor's own takes keep it
 
-  one_step : (c : Client) (i : Inbox) (b : ℕ) (step : Step) → Spares script a b step → AreAwaited c i → AreAwaited c (inbox_at script a i b step)
-  one_step c i b step spares are = record { calls = λ q member. awaited_step script a q.number i b step spares (are.calls q member); bound = are.bound }
+  one_step : (c : Client) (i : Inbox) (b : ℕ) (step : Step) → Spares script a b step → Stays step → AreAwaited c i → AreAwaited c (inbox_at script a i b step)
+  one_step c i b step spares stays are = record {
+    up = step_up script a i b step stays are.up;
+    calls = λ q member. awaited_step script a q.number i b step spares are.up (are.calls q member);
+    bound = are.bound;
+  }
 
   told_steps : (c : Client) (i : Inbox) (b : ℕ) (reply : Option Reply) → AreAwaited c i → AreAwaited c (fold step_in i (by b (told reply)))
   told_steps c i b None are = are
-  told_steps c i b (Some reply) are = one_step c i b (steps.Told reply) tt are
+  told_steps c i b (Some reply) are = one_step c i b (steps.Told reply) tt tt are
 
   sent_steps : (c : Client) (i : Inbox) (b n : ℕ) (ps : List Posting) (reply : Option Reply) → AreAwaited c i → AreAwaited c (fold step_in i (by b (sents n ps ++ told reply)))
   sent_steps c i b n [] reply are = told_steps c i b reply are
-  sent_steps c i b n (p ∷ ps) reply are = sent_steps c (inbox_at script a i b (steps.Sent n p.to p.message)) b (n + 1) ps reply (one_step c i b (steps.Sent n p.to p.message) tt are)
+  sent_steps c i b n (p ∷ ps) reply are = sent_steps c (inbox_at script a i b (steps.Sent n p.to p.message)) b (n + 1) ps reply (one_step c i b (steps.Sent n p.to p.message) tt tt are)
 
   turn_steps : (c : Client) (i : Inbox) (b n : ℕ) (turn : Turn) → AreAwaited c i → AreAwaited c (fold step_in i (by b (posted n turn)))
   turn_steps c i b n turn are = at turn.write
     where
       at : (w : Option Record) → AreAwaited c (fold step_in i (by b (wrote w ++ (sents n turn.sends ++ told turn.told))))
       at None = sent_steps c i b n turn.sends turn.told are
-      at (Some written) = sent_steps c i b n turn.sends turn.told are
+      at (Some written) = sent_steps c (inbox_at script a i b (steps.Wrote written)) b n turn.sends turn.told (one_step c i b (steps.Wrote written) tt tt are)
 
   -- the client posts: its requests are open then, and awaited
 
   own_request : (c : Client) (i : Inbox) (n : ℕ) (p : Posting) → (a == a) ≡ true → AreAwaited c i → AreAwaited (sent_one c n p.to p.message) (inbox_at script a i a (steps.Sent n p.to p.message))
-  own_request c i n p mine are = record { calls = λ q member. at q ((sent_calls c n p.to p.message are.bound).calls q member); bound = (sent_calls c n p.to p.message are.bound).bound }
+  own_request c i n p mine are = record { up = step_up script a i a (steps.Sent n p.to p.message) tt are.up; calls = λ q member. at q ((sent_calls c n p.to p.message are.bound).calls q member); bound = (sent_calls c n p.to p.message are.bound).bound }
     where
       at : (q : Call) → In q (open_calls c) ⊎ IsNewCall n p.message q → IsAwaited q.number (inbox_at script a i a (steps.Sent n p.to p.message))
-      at q (inl old) = awaited_step script a q.number i a (steps.Sent n p.to p.message) tt (are.calls q old)
+      at q (inl old) = awaited_step script a q.number i a (steps.Sent n p.to p.message) tt are.up (are.calls q old)
       at q (inr new) = subst (λ (k : ℕ). IsAwaited k (inbox_at script a i a (steps.Sent n p.to p.message))) (sym new.0) (awaited_request script a i (record { number = n; from = a; to = p.to; message = p.message }) mine new.1)
 
   own_tells : (m : ClientMove) (i : Inbox) (reply : Option Reply) → AreAwaited m.client i → AreAwaited (fold (client_does decl) m (tells_of reply)).client (fold step_in i (by a (told reply)))
   own_tells m i None are = are
-  own_tells m i (Some reply) are = one_step m.client i a (steps.Told reply) tt are
+  own_tells m i (Some reply) are = one_step m.client i a (steps.Told reply) tt tt are
 
   own_sends : (m : ClientMove) (i : Inbox) (n : ℕ) (ps : List Posting) (reply : Option Reply) → (a == a) ≡ true → AreAwaited m.client i → AreAwaited (fold (client_does decl) m (sends_of n ps ++ tells_of reply)).client (fold step_in i (by a (sents n ps ++ told reply)))
   own_sends m i n [] reply mine are = own_tells m i reply are
@@ -132,15 +138,20 @@ module _ (decl : Declaration) (script : Script) (a : ℕ) where
     where
       at : (w : Option Record) → AreAwaited (fold (client_does decl) m (writes_of w ++ (sends_of n turn.sends ++ tells_of turn.told))).client (fold step_in i (by a (wrote w ++ (sents n turn.sends ++ told turn.told))))
       at None = own_sends m i n turn.sends turn.told (eq-eqb a a refl) are
-      at (Some written) = own_sends m i n turn.sends turn.told (eq-eqb a a refl) are
+      at (Some written) = own_sends m (inbox_at script a i a (steps.Wrote written)) n turn.sends turn.told (eq-eqb a a refl) (one_step m.client i a (steps.Wrote written) tt tt are)
 
   -- the client takes what is ready
 
+  input_steady : (g : Given) → Stays (step_of g)
+  input_steady (given.Called command) = tt
+  input_steady (given.Got envelope) = tt
+  input_steady (given.Lost number) = tt
+
   own_take : (c : Client) (i : Inbox) (taken : Given) → (a == a) ≡ true → ready_in decl a i ≡ Some taken → AreAwaited c i → AreAwaited (client_takes decl c taken).client (inbox_at script a i a (step_of taken))
-  own_take c i taken mine rdy are = record { calls = at taken rdy (takes_keeps decl c are.bound taken); bound = (takes_keeps decl c are.bound taken).bound }
+  own_take c i taken mine rdy are = record { up = step_up script a i a (step_of taken) (input_steady taken) are.up; calls = at taken rdy (takes_keeps decl c are.bound taken); bound = (takes_keeps decl c are.bound taken).bound }
     where
       at : (g : Given) → ready_in decl a i ≡ Some g → Keeps c (λ n. IsNotFor n g) (client_takes decl c g) → (q : Call) → In q (open_calls (client_takes decl c g).client) → IsAwaited q.number (inbox_at script a i a (step_of g))
-      at (given.Called command) r kept q member = awaited_step script a q.number i a (steps.Called command) tt (are.calls q (kept.calls q member).0)
+      at (given.Called command) r kept q member = awaited_step script a q.number i a (steps.Called command) tt are.up (are.calls q (kept.calls q member).0)
       at (given.Got e) r kept q member =
           subst (λ (t : Bool). IsAwaited q.number (if t then copy_taken i else i)) (sym mine)
           (awaited_got script a q.number i e (drop 1 i.copies) (ready_copy decl a i e r) (kept.calls q member).1 (are.calls q (kept.calls q member).0))
@@ -149,14 +160,14 @@ module _ (decl : Declaration) (script : Script) (a : ℕ) where
           (awaited_lost script a q.number n i (drop 1 i.lost) (ready_loss decl a i n r) (kept.calls q member).1 (are.calls q (kept.calls q member).0))
 
   other_take : (c : Client) (i : Inbox) (b : ℕ) (taken : Given) → (b == a) ≡ false → AreAwaited c i → AreAwaited c (inbox_at script a i b (step_of taken))
-  other_take c i b (given.Called command) other are = one_step c i b (steps.Called command) tt are
-  other_take c i b (given.Got e) other are = one_step c i b (steps.Got e.number) other are
-  other_take c i b (given.Lost n) other are = one_step c i b (steps.Lost n) other are
+  other_take c i b (given.Called command) other are = one_step c i b (steps.Called command) tt tt are
+  other_take c i b (given.Got e) other are = one_step c i b (steps.Got e.number) other tt are
+  other_take c i b (given.Lost n) other are = one_step c i b (steps.Lost n) other tt are
 
   control_step : (line : Control) (step : Step) (c : Client) (i : Inbox) (b : ℕ) → step_of_control line ≡ Some step → AreAwaited c i → AreAwaited c (inbox_at script a i b step)
   control_step (controls.Phase k) step c i b is are = absurd (let never : ⊥ = cc in never)
-  control_step (controls.Cut x y) step c i b is are = subst (λ (s : Step). AreAwaited c (inbox_at script a i b s)) (let same : steps.Cut x y ≡ step = cc in same) (one_step c i b (steps.Cut x y) tt are)
-  control_step (controls.Heal x y) step c i b is are = subst (λ (s : Step). AreAwaited c (inbox_at script a i b s)) (let same : steps.Heal x y ≡ step = cc in same) (one_step c i b (steps.Heal x y) tt are)
+  control_step (controls.Cut x y) step c i b is are = subst (λ (s : Step). AreAwaited c (inbox_at script a i b s)) (let same : steps.Cut x y ≡ step = cc in same) (one_step c i b (steps.Cut x y) tt tt are)
+  control_step (controls.Heal x y) step c i b is are = subst (λ (s : Step). AreAwaited c (inbox_at script a i b s)) (let same : steps.Heal x y ≡ step = cc in same) (one_step c i b (steps.Heal x y) tt tt are)
   control_step (controls.Armed actor kind at) step c i b is are = absurd (let never : ⊥ = cc in never)
   control_step (controls.Crash x) step c i b is are = absurd (let never : ⊥ = cc in never)
   control_step (controls.Restart x) step c i b is are = absurd (let never : ⊥ = cc in never)
@@ -184,7 +195,7 @@ module _ (decl : Declaration) (script : Script) (a : ℕ) where
       (subst (λ (i : Inbox). AreAwaited (client_of h) i) (sym (inbox_more h k)) are)
 
   pub run_awaited : (h : List Entry) (open_inputs : List Bool) → Runs (IsLawful decl) decl script h open_inputs → AreAwaited (client_after decl (a - decl.sites) (deeds a [] h)).client (inbox script a h)
-  run_awaited h open_inputs begins = record { calls = λ q member. absurd member; bound = λ none. refl }
+  run_awaited h open_inputs begins = record { up = refl; calls = λ q member. absurd member; bound = λ none. refl }
   run_awaited h open_inputs (takes b taken before older run free rdy) = at (b == a) refl (run_awaited older before run)
     where
       at : (t : Bool) → (b == a) ≡ t → AreAwaited (client_of older) (inbox script a older) → AreAwaited (client_of (older ++ marked b (step_of taken) ∷ [])) (inbox script a (older ++ marked b (step_of taken) ∷ []))
@@ -205,7 +216,7 @@ module _ (decl : Declaration) (script : Script) (a : ℕ) where
       at false other are = stays_on older (by b (posted (length (mail older)) turn)) (deeds-other b a [] older (posted (length (mail older)) turn) other) (turn_steps (client_of older) (inbox script a older) b (length (mail older)) turn are)
   run_awaited h open_inputs (phase before older run none done quiet_all more) =
       stays_on older (marked (controller decl) (steps.Phase (phase_of older + 1)) ∷ []) (deeds-silent a (controller decl) older (steps.Phase (phase_of older + 1)) (phase_silent (phase_of older + 1)))
-      (one_step (client_of older) (inbox script a older) (controller decl) (steps.Phase (phase_of older + 1)) tt (run_awaited older before run))
+      (one_step (client_of older) (inbox script a older) (controller decl) (steps.Phase (phase_of older + 1)) tt tt (run_awaited older before run))
   run_awaited h open_inputs (control line lines step before older run at is) =
       stays_on older (marked (controller decl) step ∷ []) (deeds-silent a (controller decl) older step (control_silent line step is))
       (control_step line step (client_of older) (inbox script a older) (controller decl) is (run_awaited older before run))

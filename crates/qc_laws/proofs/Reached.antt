@@ -26,7 +26,9 @@ use Rattle.qc_msg.specs.Steps.{Entry, by, marked, posted, step_of}
 use Rattle.qc_msg.specs.Turns.{quiet}
 use Rattle.qc_msg.proofs.Growth.{deeds-other, deeds-taken, mail-append, mail-posted, mail-taken}
 use Rattle.qc_script.specs.declared.script.Script.{Script}
-use Rattle.qc_script.specs.Inbox.{Inbox, command_called, copy_taken, empty_inbox, inbox, inbox_at, is_request, loss_taken}
+use Rattle.qc_script.specs.Requests.{SentRequest, request_numbers}
+use Rattle.qc_script.proofs.AllUp.{run_up}
+use Rattle.qc_script.specs.Inbox.{Inbox, everybody, command_called, copy_taken, empty_inbox, inbox, inbox_at, is_request, loss_taken}
 use Rattle.qc_script.specs.Ready.{phase_of, step_of_control}
 use Rattle.qc_script.specs.Runs.{Runs, begins, takes, posts, phase, control}
 use Rattle.qc_site.specs.Conduct.{passed, site_after, site_at, site_does}
@@ -80,7 +82,7 @@ module _ (decl : Declaration) (script : Script) (accepted : IsAccepted decl) (as
   inbox_then s h b step = fold-append (λ (i : Inbox) (e : Entry). inbox_at script s i e.actor e.step) empty_inbox h (marked b step ∷ [])
 
   -- where else it may be, as that becomes another
-  moved_to : (X Y : Envelope → Type 0) (h : List Entry) → ((n : ℕ) (r : IsSomewhere script X h a n) → In n (inbox script a h).unanswered → X r.envelope → Y r.envelope) → AreSomewhere script X h a → AreSomewhere script Y h a
+  moved_to : (X Y : Envelope → Type 0) (h : List Entry) → ((n : ℕ) (r : IsSomewhere script X h a n) → In n (request_numbers (inbox script a h).unanswered) → X r.envelope → Y r.envelope) → AreSomewhere script X h a → AreSomewhere script Y h a
   moved_to X Y h change are n member = at (are n member)
     where
       at : IsSomewhere script X h a n → IsSomewhere script Y h a n
@@ -153,7 +155,7 @@ module _ (decl : Declaration) (script : Script) (accepted : IsAccepted decl) (as
   take_kept : (b : ℕ) (taken : Given) (before : List Bool) (older : List Entry) → slice_get before b ≡ Some false → ((e : Envelope) → taken ≡ given.Got e → (inbox script b older).copies ≡ e ∷ drop 1 (inbox script b older).copies)
       → deeds b [] (older ++ marked b (step_of taken) ∷ []) ≡ deeds b [] older ++ Takes taken ∷ [] → IsKept older before → IsKept (older ++ marked b (step_of taken) ∷ []) (slice_set before b true)
   take_kept b taken before older free head grown are n member =
-      on (are n (subst (In n) (same_unanswered (inbox script a older) b taken) (subst (λ (i : Inbox). In n i.unanswered) (inbox_then a older b (step_of taken)) member)))
+      on (are n (subst (λ (rs : List SentRequest). In n (request_numbers rs)) (same_unanswered (inbox script a older) b taken) (subst (λ (i : Inbox). In n (request_numbers i.unanswered)) (inbox_then a older b (step_of taken)) member)))
     where
       on : IsSomewhere script (IsTaken older before) older a n → IsSomewhere script (IsTaken (older ++ marked b (step_of taken) ∷ []) (slice_set before b true)) (older ++ marked b (step_of taken) ∷ []) a n
       on r = record {
@@ -204,9 +206,9 @@ module _ (decl : Declaration) (script : Script) (accepted : IsAccepted decl) (as
 
   -- a site answers the request that it took
 
-  answered_at : (b n : ℕ) (turn : Turn) (older : List Entry) (before : List Deed) (e : Envelope) → IsDeclared decl e → e.to ≡ b → e.from ≡ a → deeds b [] older ≡ before ++ Takes (given.Got e) ∷ [] → IsLawful decl b (deeds b [] older) turn
-      → In e.number (inbox script a (older ++ by b (posted n turn))).unanswered → ⊥
-  answered_at b n turn older before e d to from last law member = turn_ends script a b apart older n turn e.number reply.answer reply.rest sends member
+  answered_at : (b n : ℕ) (turn : Turn) (older : List Entry) (before : List Deed) (e : Envelope) → IsDeclared decl e → e.to ≡ b → e.from ≡ a → deeds b [] older ≡ before ++ Takes (given.Got e) ∷ [] → IsLawful decl b (deeds b [] older) turn → (inbox script a older).up ≡ everybody
+      → In e.number (request_numbers (inbox script a (older ++ by b (posted n turn))).unanswered) → ⊥
+  answered_at b n turn older before e d to from last law up member = turn_ends script a b apart older n turn e.number reply.answer reply.rest sends up member
     where
       low : b < decl.sites
       low = subst (λ (s : ℕ). s < decl.sites) to d.site
@@ -234,7 +236,7 @@ module _ (decl : Declaration) (script : Script) (accepted : IsAccepted decl) (as
       (deeds-taken b older taken (what_is_ready_was_sent (IsLawful decl) decl script older before run b taken rdy)) (run_kept older before run)
   run_kept h open_inputs (posts b turn before older run open_b law) =
       moved_to (IsTaken older before) (IsTaken (older ++ by b (posted (length (mail older)) turn)) (slice_set before b false)) (older ++ by b (posted (length (mail older)) turn)) change
-      (turn_somewhere script (IsTaken older before) a decl (let few : decl.sites ≤ 16 = accepted.sites in few) a_low older b (length (mail older)) turn proper (run_kept older before run))
+      (turn_somewhere script (IsTaken older before) a decl (let few : decl.sites ≤ 16 = accepted.sites in few) a_low older b (length (mail older)) turn (λ s. run_up (IsLawful decl) decl script older before run s) proper (run_kept older before run))
     where
       whole : IsMailProper decl (mail (older ++ by b (posted (length (mail older)) turn)))
       whole = run_proper decl script accepted asks (older ++ by b (posted (length (mail older)) turn)) (slice_set before b false) (posts b turn before older run open_b law)
@@ -244,7 +246,7 @@ module _ (decl : Declaration) (script : Script) (accepted : IsAccepted decl) (as
           second_all (λ (x : Envelope). IsProperFrom decl x.from x.to x.message) (mail older) (envelopes b (length (mail older)) turn.sends)
           (subst (IsMailProper decl) (mail-append older (by b (posted (length (mail older)) turn)) ∙ ap (λ (v : List Envelope). mail older ++ v) (mail-posted b (length (mail older)) turn)) whole)
 
-      change : (n : ℕ) (r : IsSomewhere script (IsTaken older before) (older ++ by b (posted (length (mail older)) turn)) a n) → In n (inbox script a (older ++ by b (posted (length (mail older)) turn))).unanswered → IsTaken older before r.envelope
+      change : (n : ℕ) (r : IsSomewhere script (IsTaken older before) (older ++ by b (posted (length (mail older)) turn)) a n) → In n (request_numbers (inbox script a (older ++ by b (posted (length (mail older)) turn))).unanswered) → IsTaken older before r.envelope
           → IsTaken (older ++ by b (posted (length (mail older)) turn)) (slice_set before b false) r.envelope
       change n r member t = on (b == r.envelope.to) refl
         where
@@ -256,8 +258,8 @@ module _ (decl : Declaration) (script : Script) (accepted : IsAccepted decl) (as
               let is : b ≡ r.envelope.to = eqb-true b r.envelope.to mine in
               absurd (answered_at b (length (mail older)) turn older t.before r.envelope
               (declared_at (older ++ by b (posted (length (mail older)) turn)) (slice_set before b false) (posts b turn before older run open_b law) r.envelope r.proper r.request)
-              (sym is) r.from (subst (λ (s : ℕ). deeds s [] older ≡ t.before ++ Takes (given.Got r.envelope) ∷ []) (sym is) t.last) law
-              (subst (λ (k : ℕ). In k (inbox script a (older ++ by b (posted (length (mail older)) turn))).unanswered) (sym r.number) member))
+              (sym is) r.from (subst (λ (s : ℕ). deeds s [] older ≡ t.before ++ Takes (given.Got r.envelope) ∷ []) (sym is) t.last) law (run_up (IsLawful decl) decl script older before run a)
+              (subst (λ (k : ℕ). In k (request_numbers (inbox script a (older ++ by b (posted (length (mail older)) turn))).unanswered)) (sym r.number) member))
   run_kept h open_inputs (phase before older run none done quiet_all more) =
       moved_to (IsTaken older before) (IsTaken (older ++ marked (controller decl) (steps.Phase (phase_of older + 1)) ∷ []) before) (older ++ marked (controller decl) (steps.Phase (phase_of older + 1)) ∷ [])
       (λ n r member t. taken_stays older (marked (controller decl) (steps.Phase (phase_of older + 1)) ∷ []) before before r.envelope (deeds-silent r.envelope.to (controller decl) older (steps.Phase (phase_of older + 1)) (phase_silent (phase_of older + 1))) refl t)
@@ -272,18 +274,18 @@ module _ (decl : Declaration) (script : Script) (accepted : IsAccepted decl) (as
       acts (controls.Phase k) s are = absurd (let never : ⊥ = cc in never)
       acts (controls.Cut x y) s are =
           subst (λ (v : Step). AreSomewhere script (IsTaken older before) (older ++ marked (controller decl) v ∷ []) a) (let same : steps.Cut x y ≡ step = cc in same)
-          (somewhere_still script (IsTaken older before) a older (controller decl) (steps.Cut x y) (cuts_unanswered (inbox script a older) (with_cut (inbox script a older).cuts x y))
-          (λ s x2 member. cuts_copies (inbox script s older) (with_cut (inbox script s older).cuts x y) x2 member) (λ x2 member. mail_first script (IsTaken older before) a older (marked (controller decl) (steps.Cut x y) ∷ []) x2 member) are)
+          (somewhere_still script (IsTaken older before) a older (controller decl) (steps.Cut x y) (cuts_unanswered a (inbox script a older) (with_cut (inbox script a older).cuts x y))
+          (λ s x2 member. cuts_copies s (inbox script s older) (with_cut (inbox script s older).cuts x y) x2 member) (λ x2 member. mail_first script (IsTaken older before) a older (marked (controller decl) (steps.Cut x y) ∷ []) x2 member) are)
       acts (controls.Heal x y) s are =
           subst (λ (v : Step). AreSomewhere script (IsTaken older before) (older ++ marked (controller decl) v ∷ []) a) (let same : steps.Heal x y ≡ step = cc in same)
-          (somewhere_still script (IsTaken older before) a older (controller decl) (steps.Heal x y) (cuts_unanswered (inbox script a older) (without_cut (inbox script a older).cuts x y))
-          (λ s x2 member. cuts_copies (inbox script s older) (without_cut (inbox script s older).cuts x y) x2 member) (λ x2 member. mail_first script (IsTaken older before) a older (marked (controller decl) (steps.Heal x y) ∷ []) x2 member) are)
+          (somewhere_still script (IsTaken older before) a older (controller decl) (steps.Heal x y) (cuts_unanswered a (inbox script a older) (without_cut (inbox script a older).cuts x y))
+          (λ s x2 member. cuts_copies s (inbox script s older) (without_cut (inbox script s older).cuts x y) x2 member) (λ x2 member. mail_first script (IsTaken older before) a older (marked (controller decl) (steps.Heal x y) ∷ []) x2 member) are)
       acts (controls.Armed actor kind at) s are = absurd (let never : ⊥ = cc in never)
       acts (controls.Crash x) s are = absurd (let never : ⊥ = cc in never)
       acts (controls.Restart x) s are = absurd (let never : ⊥ = cc in never)
 
   -- an unanswered request is at its site
-  pub unanswered_at_site : (h : List Entry) (open_inputs : List Bool) → Runs (IsLawful decl) decl script h open_inputs → (n : ℕ) → In n (inbox script a h).unanswered → IsAtReceiver script h open_inputs a n
+  pub unanswered_at_site : (h : List Entry) (open_inputs : List Bool) → Runs (IsLawful decl) decl script h open_inputs → (n : ℕ) → In n (request_numbers (inbox script a h).unanswered) → IsAtReceiver script h open_inputs a n
   unanswered_at_site h open_inputs run n member = at (run_kept h open_inputs run n member)
     where
       at : IsSomewhere script (IsTaken h open_inputs) h a n → IsAtReceiver script h open_inputs a n

@@ -10,6 +10,7 @@ use Rattle.qc_msg.specs.declared.message.Envelope.{Envelope}
 use Rattle.qc_msg.specs.declared.message.Message.{Message}
 use Rattle.qc_msg.specs.declared.message.Message.TheVariants as messages
 use Rattle.qc_script.specs.Inbox.{Inbox}
+use Rattle.qc_script.specs.Requests.{request_numbers}
 
 -- the requests that a client waits for: its Prepares while it commits, else those of its running `do`
 
@@ -45,4 +46,4 @@ pub record HasAnswer (n : ℕ) (es : List Envelope) : Type 0 where
 
 -- of a request of an inbox's actor: it takes yet that it is lost, or it has no answer yet, or a copy of one is ready
 abbrev pub IsAwaited : ℕ → Inbox → Type 0
-IsAwaited n i = In n i.lost ⊎ (In n i.unanswered ⊎ HasAnswer n i.copies)
+IsAwaited n i = In n i.lost ⊎ (In n (request_numbers i.unanswered) ⊎ HasAnswer n i.copies)

@@ -11,6 +11,7 @@ ghost use Rattle.qc_msg.specs.Deeds.{deeds};
 ghost use Rattle.qc_msg.specs.Steps.{Entry};
 ghost use Rattle.qc_msg.specs.declared.call.Call.{Call};
 ghost use Rattle.qc_script.specs.Inbox.{inbox};
+ghost use Rattle.qc_script.specs.Requests.{request_numbers};
 ghost use Rattle.qc_script.specs.Ready.{controls_left};
 ghost use Rattle.qc_script.specs.Runs.{Runs};
 ghost use Rattle.qc_script.specs.declared.script.Script.{Script};
@@ -38,7 +39,7 @@ pub fn unanswered_requests_are_at_their_sites()
     ensures { (decl : Declaration) (script : Script) → IsAccepted decl → AsksDeclared decl script
         → (a : ℕ) → a < most_actors → (h : List Entry) (open_inputs : List Bool)
         → Runs (IsLawful decl) decl script h open_inputs
-        → (n : ℕ) → In n (inbox script a h).unanswered → IsAtReceiver script h open_inputs a n }
+        → (n : ℕ) → In n (request_numbers (inbox script a h).unanswered) → IsAtReceiver script h open_inputs a n }
 {}
 
 /// Then no client waits for a request where no input is open, nothing is ready

@@ -1,7 +1,7 @@
 //! Queues that grow only where they are asked to, and ascending numbers in one.
 
 ghost use Rattle.std.specs.Prelude.{◌≡◌, ◌+◌, ◌≤◌, ◌<◌, [], ◌∷◌, ◌++◌, drop, insert, length, slice_get, OnOk};
-ghost use Rattle.qc_script.specs.Inbox.{has_number, with_number, without_number};
+ghost use Rattle.qc_script.specs.Requests.{has_number, with_number, without_number};
 ghost use Rattle.qc_mailbox.specs.Queues.{items, spare};
 
 use qc_list::OutOfMemory;

@@ -1,6 +1,5 @@
--- A client agrees with what the machine says of its transactions.
-use Rattle.std.specs.Prelude.{◌≡◌, ◌≢◌, ℕ, ◌+◌, ◌<◌, ◌≤◌, true, false, List, Option, Some, None, length, map}
-use Rattle.qc_stamp.specs.Lives.{first_life}
+-- A client agrees with what the machine says of its transactions, and so do its records.
+use Rattle.std.specs.Prelude.{◌≡◌, ◌≢◌, ◌⊎◌, ℕ, ◌+◌, ◌<◌, ◌≤◌, false, List, Option, Some, None, length, map}
 use Rattle.qc_stamp.specs.declared.stamp.TxId.{TxId}
 use Rattle.qc_list.specs.Members.{In}
 use Rattle.qc_entry.specs.declared.line.Line.{Line}
@@ -14,7 +13,10 @@ use Rattle.qc_msg.specs.declared.call.Call.{Call}
 use Rattle.qc_msg.specs.declared.message.Envelope.{Envelope}
 use Rattle.qc_msg.specs.declared.message.Want.{Want}
 use Rattle.qc_msg.specs.declared.message.Want.TheVariants.{Prepare}
-use Rattle.qc_msg.specs.Begun.{first_epoch, has_granted}
+use Rattle.qc_msg.specs.Begun.{life_of}
+use Rattle.qc_msg.specs.declared.message.Message.TheVariants as messages
+use Rattle.qc_net.specs.Lives.{LivesMirror}
+use Rattle.qc_net.specs.Sites.{IsPlanned}
 use Rattle.qc_onecopy.specs.Executed.{Executed}
 use Rattle.qc_protocol.specs.Guards.{HasGranted, IsShown, op_of, own_on as machine_own_on}
 use Rattle.qc_protocol.specs.Site.{Item, Lock, Own}
@@ -36,13 +38,17 @@ use Rattle.qc_front.specs.Holds.{own_on}
 use Rattle.qc_front.specs.Requests.{IsFor}
 use Rattle.qc_client.specs.Client.{is_begun}
 use Rattle.qc_client.specs.declared.client.Client.{Client}
+use Rattle.qc_msg.specs.declared.record.Record.{Record}
+use Rattle.qc_msg.specs.declared.record.Record.TheVariants as records
+use Rattle.qc_protocol.specs.Guards.{MayCommit}
+use Rattle.qc_recover.specs.Clients.{Kept}
 use Rattle.qc_net.specs.Items.{own_items}
-use Rattle.qc_net.specs.Messages.{IsRequest}
+use Rattle.qc_net.specs.Messages.{IsMessage, IsRequest}
 use Rattle.qc_net.specs.Net.{IsNamedAt}
 
 -- the name of a client's transaction of this number
 abbrev pub name_at : Front → ℕ → TxId
-name_at front number = record { client = front.client; life = first_life; number = number }
+name_at front number = record { client = front.client; life = front.life; number = number }
 
 -- a begun transaction is voted on while the desk waits for votes
 abbrev pub status_by : Option Voting → Status
@@ -105,13 +111,16 @@ IsRoundCounted decl now t (Appending object inv event calls round) =
 -- an open request of the running round was sent under its number
 abbrev pub IsAskedBy : Declaration → List Envelope → Transaction → Doing → Call → Type 0
 IsAskedBy decl mail t doing call =
-    (want : Want) × IsRequest mail call.number call.site t.begun.tx want × IsFor decl t doing want
+    (want : Want)
+    × IsMessage mail call.number call.site
+    (messages.Request t.begun.tx t.begun.epoch (life_of t.begun.lives call.site) want)
+    × IsFor decl t doing want
 
 -- a begun transaction's operations, views and participants, whatever runs
 pub record TransactionMirrors (now : State) (front : Front) (t : Transaction) : Type 0 where
   pub named : t.begun.tx ≡ name_at front front.count
-  pub epoch : t.begun.epoch ≡ first_epoch
-  pub participants : (g : Granted) → In g now.counted → g.tx ≡ t.begun.tx → has_granted t.begun.lives g.site ≡ true
+  pub epoch : t.begun.epoch ≡ now.epoch t.begun.tx
+  pub lives : LivesMirror now.counted t.begun.tx t.begun.lives
   pub ops : t.begun.ops ≡ map op_of (now.executed t.begun.tx)
   pub own : (object : ℕ) → own_on t.own object ≡ machine_own_on (now.executed t.begun.tx) object
   -- an object's view has just the lines that counted grants showed
@@ -159,11 +168,11 @@ pub record OwnMirrors (decl : Declaration) (now : State) (a : ℕ) (c : Client) 
     : Type 0 where
   pub actor : a ≡ client_actor decl c.front.client
   pub desk : c.desk.client ≡ c.front.client
-  pub life : c.front.life ≡ first_life
-  pub epoch : c.front.epoch ≡ first_epoch
-  pub desk_epoch : c.desk.epoch ≡ first_epoch
+  pub epoch : IsPlanned decl c.front.epoch
+  pub desk_epoch : IsPlanned decl c.desk.epoch
   pub clock : now.clock c.front.client ≤ c.front.clock.value
   pub to_come : (number : ℕ) → c.front.count < number → now.status (name_at c.front number) ≡ NotBegun
+  pub lives_to_come : (t : TxId) → t.client ≡ c.front.client → c.front.life < t.life → now.status t ≡ NotBegun
   pub committed : (r : CommitRecord) → In r c.desk.commits
       → (r.tx.client ≡ c.front.client) × (now.status r.tx ≡ Committed r)
   pub aborted : (t : TxId) → t.client ≡ c.front.client → now.status t ≢ NotBegun → is_begun t begun ≡ false
@@ -173,3 +182,40 @@ pub record ClientMirrors (decl : Declaration) (now : State) (mail : List Envelop
     : Type 0 where
   pub own : OwnMirrors decl now a c c.front.transaction
   pub begun : BegunMirrors decl now mail c c.front.transaction
+
+-- a client agrees with its records
+pub record IsClientKeptBy (c : Client) (k : Kept) : Type 0 where
+  pub life : c.front.life ≡ k.life
+  pub commits : (r : CommitRecord) → In r k.commits → In r c.desk.commits
+  pub none : (t : TxId) → record_of k.commits t ≡ None → record_of c.desk.commits t ≡ None
+
+-- a commit record that may stand or not: were it written, its transaction would commit by it
+
+abbrev pub IsPendingOf : TxId → Option Record → Type 0
+IsPendingOf t None = ⊥
+IsPendingOf t (Some records.Life) = ⊥
+IsPendingOf t (Some (records.Prepare p)) = ⊥
+IsPendingOf t (Some (records.Done tx clock)) = ⊥
+IsPendingOf t (Some (records.Close epoch)) = ⊥
+IsPendingOf t (Some (records.Install epoch clock lines)) = ⊥
+IsPendingOf t (Some (records.Commit r)) = t ≡ r.tx
+IsPendingOf t (Some (records.Decide epoch clock lines)) = ⊥
+
+abbrev pub IsPendingBy : State → ℕ → Option Record → Type 0
+IsPendingBy now client None = Unit {0}
+IsPendingBy now client (Some records.Life) = Unit {0}
+IsPendingBy now client (Some (records.Prepare p)) = ⊥
+IsPendingBy now client (Some (records.Done tx clock)) = ⊥
+IsPendingBy now client (Some (records.Close epoch)) = ⊥
+IsPendingBy now client (Some (records.Install epoch clock lines)) = ⊥
+IsPendingBy now client (Some (records.Commit r)) = MayCommit now r × (r.tx.client ≡ client)
+IsPendingBy now client (Some (records.Decide epoch clock lines)) = ⊥
+
+-- a client that is down: by its records; each transaction without one has aborted, but the one whose record is pending
+pub record FallenMirrors (now : State) (client : ℕ) (k : Kept) (pending : Option Record) : Type 0 where
+  pub to_come : (t : TxId) → t.client ≡ client → k.life < t.life → now.status t ≡ NotBegun
+  pub committed : (r : CommitRecord) → In r k.commits → (r.tx.client ≡ client) × (now.status r.tx ≡ Committed r)
+  pub passed : (r : CommitRecord) → In r k.commits → r.stamp.clock ≤ k.clock
+  pub ended : (t : TxId) → t.client ≡ client → now.status t ≢ NotBegun → record_of k.commits t ≡ None
+      → (now.status t ≡ Aborted) ⊎ IsPendingOf t pending
+  pub pends : IsPendingBy now client pending

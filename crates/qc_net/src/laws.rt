@@ -1,12 +1,15 @@
 //! Laws of every net that may come about, each the contract of a function with
-//! nothing to do.
+//! nothing to do: that it is a run's of the machine, and what follows of records
+//! and lines.
 
 ghost use Rattle.std.specs.Prelude.{◌≡◌, ℕ, true};
 ghost use Rattle.qc_decl.specs.Accepted.{IsAccepted};
-ghost use Rattle.qc_decl.specs.Actors.{is_site};
+ghost use Rattle.qc_decl.specs.Actors.{administrator, is_site};
 ghost use Rattle.qc_decl.specs.declared.declaration.Declaration.{Declaration};
 ghost use Rattle.qc_entry.specs.declared.line.Line.{Line};
+ghost use Rattle.qc_epoch.specs.SiteRows.{takes};
 ghost use Rattle.qc_list.specs.Members.{In};
+ghost use Rattle.qc_msg.specs.Begun.{first_epoch};
 ghost use Rattle.qc_msg.specs.declared.message.Envelope.{Envelope};
 ghost use Rattle.qc_msg.specs.declared.message.Message.TheVariants.{Decision};
 ghost use Rattle.qc_msg.specs.declared.message.Outcome.{Outcome};
@@ -14,28 +17,26 @@ ghost use Rattle.qc_msg.specs.declared.step.Given.{Given};
 ghost use Rattle.qc_onecopy.specs.Committed.{AreApart, sorted};
 ghost use Rattle.qc_onecopy.specs.Logged.{IsLogged};
 ghost use Rattle.qc_onecopy.specs.OneCopy.{OneCopy};
-ghost use Rattle.qc_site.specs.Conduct.{site_takes};
 ghost use Rattle.qc_stamp.specs.declared.stamp.TxId.{TxId};
 ghost use Rattle.qc_net.specs.Lines.{IsTrueVerdict, lines_in};
 ghost use Rattle.qc_net.specs.Mirrors.{FrontStands, Refines};
 ghost use Rattle.qc_net.specs.Net.{MayCome, Net, Reaches, after_site};
+ghost use Rattle.qc_net.specs.Rules.{AreInTurn};
 
-/// Every net that may come about is what a run of the protocol's machine may
-/// look like: each step of a site or of a client is some acts of the machine,
-/// or none.
-
+/// Every net of sites, clients and an administrator that may come about, with
+/// falls at any time, is what a run of the protocol's machine may look like: each
+/// step, each fall and each rise is some acts of the machine, or none.
 pub fn nets_refine()
     ensures { (decl : Declaration) (net : Net) → IsAccepted decl → Reaches decl net → Refines decl net }
 {}
 
-/// Whatever a site takes, the net after it is still what a run of the machine
-/// may look like: the site's grant, its vote, or its taking of a verdict is an
-/// act of the machine, and all else is none.
+/// Whatever a site that is up takes, also a Close or an Install, the net after it
+/// is still what a run of the machine may look like.
 #[tactic(auto, using(crate::proofs::SiteRefines::site_refines))]
 pub fn sites_refine()
     ensures { (decl : Declaration) (net : Net) (a : ℕ) (given : Given) → IsAccepted decl → Refines decl net
-        → is_site decl a ≡ true → MayCome net a given
-        → Refines decl (after_site net a (site_takes decl (net.sites a) given)) }
+        → is_site decl a ≡ true → net.up a ≡ true → MayCome net a given
+        → Refines decl (after_site net a (takes decl (net.sites a) given)) }
 {}
 
 /// Each front end is as its own laws say, between two of its steps.
@@ -43,19 +44,19 @@ pub fn front_ends_stand()
     ensures { (decl : Declaration) (net : Net) (a : ℕ) → Reaches decl net → FrontStands decl net a }
 {}
 
-/// The commit records that were written are one copy's, in the order of their
-/// stamps; no two of them have one stamp, or one transaction.
+/// The commit records that stand are one copy's, in the order of their stamps;
+/// no two of them have one stamp, or one transaction.
 pub fn nets_are_one_copy()
     ensures one_copy { (decl : Declaration) (net : Net) → IsAccepted decl → Reaches decl net
         → OneCopy decl (sorted net.written) }
     ensures apart { (decl : Declaration) (net : Net) → IsAccepted decl → Reaches decl net → AreApart net.written }
 {}
 
-/// Each line of a site's log, and each line that a message carries, is an
-/// operation of a record that was written.
+/// Each line of the log of a site that is up, and each line that a message
+/// carries, is an operation of a record that stands.
 pub fn lines_are_operations()
     ensures sites { (decl : Declaration) (net : Net) (a : ℕ) (line : Line) → IsAccepted decl → Reaches decl net
-        → is_site decl a ≡ true → In line (net.sites a).log → IsLogged decl net.written line }
+        → is_site decl a ≡ true → net.up a ≡ true → In line (net.sites a).log → IsLogged decl net.written line }
     ensures messages { (decl : Declaration) (net : Net) (e : Envelope) (line : Line) → IsAccepted decl
         → Reaches decl net → In e net.mail → In line (lines_in e.message) → IsLogged decl net.written line }
 {}
@@ -66,4 +67,11 @@ pub fn decisions_agree_with_records()
     ensures { (decl : Declaration) (net : Net) (e : Envelope) (tx : TxId) (verdict : Outcome) → IsAccepted decl
         → Reaches decl net → In e net.mail → e.message ≡ Decision tx verdict
         → IsTrueVerdict net.written tx verdict }
+{}
+
+/// Each Decide record of the administrator is of the epoch after the last one,
+/// the first of the second epoch, however often he falls.
+pub fn epochs_are_decided_in_turn()
+    ensures { (decl : Declaration) (net : Net) → IsAccepted decl → Reaches decl net
+        → AreInTurn first_epoch (net.records (administrator decl)) }
 {}

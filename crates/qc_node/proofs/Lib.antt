@@ -1,3 +1,4 @@
 pub mod Senders
 pub mod Turns
 pub mod News
+pub mod Steady

@@ -1,6 +1,6 @@
 -- A turn in a cell: what its calls ask follows from the run that the actor's pass has seen, and the cell keeps what it
 -- keeps.
-use Rattle.std.proofs.Common.{◌≡◌, ◌⊎◌, ℕ, zero, suc, ◌+◌, ◌^◌, ◌<◌, ◌≤◌, Bool, true, false, List, [], ◌∷◌, ◌++◌, length, Option, Some, None, inl, inr, refl, sym, ap, ◌∙◌, subst, arith, slice_get, append_assoc}
+use Rattle.std.proofs.Common.{◌≡◌, ℕ, zero, suc, ◌+◌, ◌^◌, ◌<◌, ◌≤◌, Bool, true, false, List, [], ◌∷◌, ◌++◌, length, Option, Some, inl, inr, refl, sym, ap, ◌∙◌, subst, arith, slice_get, append_assoc}
 use Rattle.std.specs.List.{AllByRecursion as Every}
 use mathlib.Core.List.{IsPrefix}
 use Rattle.atomic_table.specs.Seated.{TableId}
@@ -38,7 +38,6 @@ use Rattle.qc_records.specs.Bounds.{ClockBounds}
 use Rattle.qc_records.proofs.Events.{Events}
 use Rattle.qc_records.proofs.InRuns.{run_events}
 use Rattle.qc_records.proofs.Needs.{client_bounds, promise_bounds}
-use Rattle.qc_script.specs.Ready.{ready}
 use Rattle.qc_script.specs.declared.script.Script.{Script}
 use Rattle.qc_fabric.specs.Tells.{HasNone, Posts, Sees, Takes, Waits}
 use Rattle.qc_node.specs.Cells.{IsCell, IsIdle, IsServed, actor_in}

@@ -55,6 +55,7 @@ pub fn run_script<G: Gate + Sync, R: Threads + Wait + Sync>(
 }
 
 /// The same, under a name of its own, by these passes.
+#[tactic(auto, using(crate::proofs::Steady::built_steady))]
 fn run_named<N: Named + Send + Sync, G: Gate + Sync, R: Threads + Wait + Sync>(
     rt: &R,
     alloc: Global,

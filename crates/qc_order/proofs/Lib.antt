@@ -5,6 +5,7 @@ pub mod Replies
 pub mod DueResponses
 pub mod Recorded
 pub mod Live
+pub mod Safe
 pub mod DueNumbers
 pub mod Persists
 pub mod Committed

@@ -1,6 +1,6 @@
 -- Of the machine's transactions that haven't aborted: of two operations of which one depends on the other, the reader's view
 -- has the line of the writer, which committed, or the reader committed and a grant that the writer counted has passed its stamp.
-use Rattle.std.proofs.Common.{◌≡◌, ◌≢◌, ℕ, ◌<◌, ◌≤◌, false, IsTrue, ◌⊎◌, inl, inr, List, [], ◌∷◌, ◌++◌, length, Some, IsSome, sym, ap, ◌∙◌, subst}
+use Rattle.std.proofs.Common.{◌≡◌, ◌≢◌, ℕ, ◌<◌, ◌≤◌, false, IsTrue, ◌⊎◌, inl, inr, List, [], ◌∷◌, ◌++◌, length, Some, IsSome, refl, sym, ap, ◌∙◌, subst, arith}
 use Rattle.qc_stamp.specs.declared.stamp.Stamp.{Stamp}
 use Rattle.qc_stamp.specs.declared.stamp.TxId.{TxId}
 use Rattle.qc_list.specs.Members.{In}
@@ -13,23 +13,21 @@ use Rattle.qc_plan.specs.Weights.{IsShared, weight}
 use Rattle.qc_plan.specs.declared.plan.Plan.{Plan}
 use Rattle.qc_decl.specs.declared.declaration.Declaration.{Declaration}
 use Rattle.qc_decl.specs.Accepted.{IsAccepted}
-use Rattle.qc_decl.specs.Lookup.{append_need_of, plan_in}
+use Rattle.qc_decl.specs.Lookup.{append_need_of, plan_in, read_need_of}
 use Rattle.qc_onecopy.specs.Executed.{Executed, committed_line, depends_at, kind_at, own_line}
 use Rattle.qc_protocol.specs.Site.{Deed, Grants, LearnsCommit, Lock, Own, Site, after_deed, done_records, empty_site, epoch_from, items_of, site_after, site_from}
 use Rattle.qc_protocol.specs.SiteLaws.{SparesUntilDone}
-use Rattle.qc_protocol.specs.State.{Aborted, Granted}
+use Rattle.qc_protocol.specs.State.{Aborted, Granted, YesVote}
 use Rattle.qc_protocol.specs.Acts.{Act, state}
 use Rattle.qc_protocol.specs.Guards.{HasGranted, HasQuorum, IsRun, read_lock, weights_of}
 use Rattle.qc_protocol.specs.Logs.{IsAnsweredFromQuorum, IsReadAt, LogLaws}
-use Rattle.qc_protocol.specs.Plain.{ArePlain, IsFirst}
 use Rattle.qc_protocol.specs.StateLaws.{CountedLaw, HasRisingEpochs, IsOutcome, StateLaws}
 use Rattle.qc_protocol.proofs.Epochs.{rising-left}
 use Rattle.qc_protocol.proofs.Keeps.{laws}
 use Rattle.qc_protocol.proofs.LogKeeps.{log_laws}
 use Rattle.qc_protocol.proofs.Order.{between, ended, first_done_recorded, holds_granted, site_laws, spares_front}
-use Rattle.qc_protocol.proofs.Plain.{first}
 use Rattle.qc_protocol.proofs.PlacedOperations.{some_resp}
-use Rattle.qc_protocol.proofs.Quorums.{IsHeavy, heavy, number_within, shared}
+use Rattle.qc_protocol.proofs.Quorums.{IsHeavy, heavy, needed, number_within, read_needed, shared, some_site}
 use Rattle.qc_protocol.proofs.SiteOrder.{after_append, held_or_done, held_or_logged, laws_after}
 
 -- two places in one list
@@ -50,15 +48,22 @@ places (c ∷ cs) (d ∷ ds) x y p q e =
       | Same s ↦ Same s
     ]
 
-module _ (decl : Declaration) (accepted : IsAccepted decl) (acts : List Act) (run : IsRun decl acts) (plain : ArePlain acts) where
+-- a transaction is safe where each site whose grant it counted is in the grant's life, or has voted for it: whatever
+-- falls then, what it was granted is held until it ends
+abbrev pub IsSafe : List Act → TxId → Type 0
+IsSafe acts tx = (g : Granted) → In g (state acts).counted → g.tx ≡ tx
+    → ((state acts).life g.site ≡ g.life) ⊎ In {X = YesVote} (record { tx = g.tx; site = g.site }) (state acts).votes
+
+-- each grant is of the first epoch
+abbrev pub AreOfFirstEpoch : List Act → Type 0
+AreOfFirstEpoch acts = (g : Granted) → In g (state acts).granted → g.epoch ≡ 1
+
+module _ (decl : Declaration) (accepted : IsAccepted decl) (acts : List Act) (run : IsRun decl acts) (one : AreOfFirstEpoch acts) where
   wl : StateLaws decl (state acts)
   wl = laws decl acts run
 
   ll : LogLaws decl (state acts)
   ll = log_laws decl accepted acts run
-
-  one : IsFirst (state acts)
-  one = first decl acts run plain
 
   -- at one site: the writer's Done came first, and its line was in the log, or the reader's did
   record HasLine (gv gu : Granted) (own : OwnLine) : Type 0 where
@@ -72,13 +77,13 @@ module _ (decl : Declaration) (accepted : IsAccepted decl) (acts : List Act) (ru
     pub learned : In (LearnsCommit gv.tx stamp) ((state acts).deeds gu.site)
     pub low : stamp.clock ≤ gu.clock
 
-  spared : (g : Granted) → In g (state acts).counted → (state acts).status g.tx ≢ Aborted → (k : CountedLaw ((state acts).deeds g.site) ((state acts).life g.site) ((state acts).status g.tx) (state acts).votes g) → SparesUntilDone g.tx false k.post
-  spared g h alive k = k.unvoted alive (one.lives g.site ∙ sym (one.granted g (wl.known g h)))
+  spared : (g : Granted) → In g (state acts).counted → (state acts).status g.tx ≢ Aborted → IsSafe acts g.tx → (k : CountedLaw ((state acts).deeds g.site) ((state acts).life g.site) ((state acts).status g.tx) (state acts).votes g) → SparesUntilDone g.tx false k.post
+  spared g h alive safe k = elim (safe g h refl) [ inl same ↦ k.unvoted alive same | inr voted ↦ (k.voted alive voted).0 ]
 
   site_order : (gv gu : Granted) (lock : ReadLock) (own : OwnLine) → In gv (state acts).counted → In gu (state acts).counted → gv.site ≡ gu.site → gu.tx ≢ gv.tx
-      → (state acts).status gv.tx ≢ Aborted → (state acts).status gu.tx ≢ Aborted → In (Lock lock) gv.items → In (Own own) gu.items
+      → (state acts).status gv.tx ≢ Aborted → (state acts).status gu.tx ≢ Aborted → IsSafe acts gv.tx → IsSafe acts gu.tx → In (Lock lock) gv.items → In (Own own) gu.items
       → lock.object ≡ own.object → IsTrue (depends_at decl own.object lock.inv own.event) → HasLine gv gu own ⊎ HasEnded gv gu
-  site_order gv gu lock own hv hu site ne av au locks owns on dep = elim (places gv.before gu.before (Grants gv.tx gv.items gv.view) (Grants gu.tx gu.items gu.view) kv.post ku.post (sym kv.split ∙ ap (λ (s : ℕ). (state acts).deeds s) site ∙ ku.split)) [
+  site_order gv gu lock own hv hu site ne av au sv su locks owns on dep = elim (places gv.before gu.before (Grants gv.tx gv.items gv.view) (Grants gu.tx gu.items gu.view) kv.post ku.post (sym kv.split ∙ ap (λ (s : ℕ). (state acts).deeds s) site ∙ ku.split)) [
     | First m b s ↦ v_first m b s
     | Second m b s ↦ u_first m b s
     | Same x ↦ absurd (same x)
@@ -97,14 +102,14 @@ module _ (decl : Declaration) (accepted : IsAccepted decl) (acts : List Act) (ru
       fu = (wl.facts gu (wl.known gu hu)).current
 
       epochs : gv.epoch ≡ gu.epoch
-      epochs = wl.counts_epoch gv hv ∙ one.epochs gv.tx ∙ sym (wl.counts_epoch gu hu ∙ one.epochs gu.tx)
+      epochs = one gv (wl.known gv hv) ∙ sym (one gu (wl.known gu hu))
 
       same : Grants gv.tx gv.items gv.view ≡ Grants gu.tx gu.items gu.view → ⊥
       same x = ne (cc)
 
       v_first : (m : List Deed) → gu.before ≡ gv.before ++ Grants gv.tx gv.items gv.view ∷ m → kv.post ≡ m ++ Grants gu.tx gu.items gu.view ∷ ku.post → HasLine gv gu own ⊎ HasEnded gv gu
       v_first m b s =
-          let um : SparesUntilDone gv.tx false m = spares_front gv.tx m (Grants gu.tx gu.items gu.view) ku.post false (subst (λ (ds : List Deed). SparesUntilDone gv.tx false ds) s (spared gv hv av kv)) in
+          let um : SparesUntilDone gv.tx false m = spares_front gv.tx m (Grants gu.tx gu.items gu.view) ku.post false (subst (λ (ds : List Deed). SparesUntilDone gv.tx false ds) s (spared gv hv av sv kv)) in
           let eq : site_after gu.before ≡ site_from (after_deed (site_after gv.before) (Grants gv.tx gv.items gv.view)) m = ap (λ (ds : List Deed). site_after ds) b ∙ after_append gv.before (Grants gv.tx gv.items gv.view ∷ m) empty_site in
           elim (held_or_done m gv.tx (Lock lock) (after_deed (site_after gv.before) (Grants gv.tx gv.items gv.view)) (holds_granted gv (Lock lock) kv.fresh locks) um
           (between gv.before (Grants gv.tx gv.items gv.view) m gv.epoch (subst (λ (ds : List Deed). HasRisingEpochs 1 ds) b (rising-left gu.before (Grants gu.tx gu.items gu.view ∷ ku.post) 1 (subst (λ (ds : List Deed). HasRisingEpochs 1 ds) ku.split (wl.rising gu.site)))) tt fv (ap (epoch_from 1) (sym b) ∙ fu ∙ sym epochs))) [
@@ -118,7 +123,7 @@ module _ (decl : Declaration) (accepted : IsAccepted decl) (acts : List Act) (ru
 
       u_first : (m : List Deed) → gv.before ≡ gu.before ++ Grants gu.tx gu.items gu.view ∷ m → ku.post ≡ m ++ Grants gv.tx gv.items gv.view ∷ kv.post → HasLine gv gu own ⊎ HasEnded gv gu
       u_first m b s =
-          let um : SparesUntilDone gu.tx false m = spares_front gu.tx m (Grants gv.tx gv.items gv.view) kv.post false (subst (λ (ds : List Deed). SparesUntilDone gu.tx false ds) s (spared gu hu au ku)) in
+          let um : SparesUntilDone gu.tx false m = spares_front gu.tx m (Grants gv.tx gv.items gv.view) kv.post false (subst (λ (ds : List Deed). SparesUntilDone gu.tx false ds) s (spared gu hu au su ku)) in
           let eq : site_after gv.before ≡ site_from (after_deed (site_after gu.before) (Grants gu.tx gu.items gu.view)) m = ap (λ (ds : List Deed). site_after ds) b ∙ after_append gu.before (Grants gu.tx gu.items gu.view ∷ m) empty_site in
           elim (held_or_logged m gu.tx own (after_deed (site_after gu.before) (Grants gu.tx gu.items gu.view))
           (laws_after (Grants gu.tx gu.items gu.view ∷ []) (site_after gu.before) (site_laws gu.before))
@@ -157,10 +162,10 @@ module _ (decl : Declaration) (accepted : IsAccepted decl) (acts : List Act) (ru
     pub low : stamp.clock ≤ grant.clock
 
   pub ordered_now : (v u : TxId) (dv du : Executed) → In dv ((state acts).executed v) → In du ((state acts).executed u) → IsSome du.op.resp → du.op.object ≡ dv.op.object → u ≢ v
-      → (state acts).status v ≢ Aborted → (state acts).status u ≢ Aborted → IsTrue (depends_at decl dv.op.object dv.op.inv du.event) → IsSeen v u dv du ⊎ IsPassed v u
-  ordered_now v u dv du hv hu some object ne av au dep =
+      → (state acts).status v ≢ Aborted → (state acts).status u ≢ Aborted → IsSafe acts v → IsSafe acts u → IsTrue (depends_at decl dv.op.object dv.op.inv du.event) → IsSeen v u dv du ⊎ IsPassed v u
+  ordered_now v u dv du hv hu some object ne av au sv su dep =
       elim (site_order gv.grant gu.grant (read_lock dv.op) (own_line du) gv.counts gu.counts (gv.from ∙ sym gu.from) (λ x. ne (sym gu.its ∙ x ∙ gv.its))
-      (λ x. av (ap (state acts).status (sym gv.its) ∙ x)) (λ x. au (ap (state acts).status (sym gu.its) ∙ x)) gv.has gu.has (sym object) (subst (λ (o : ℕ). IsTrue (depends_at decl o dv.op.inv du.event)) (sym object) dep)) [
+      (λ x. av (ap (state acts).status (sym gv.its) ∙ x)) (λ x. au (ap (state acts).status (sym gu.its) ∙ x)) (subst (IsSafe acts) (sym gv.its) sv) (subst (IsSafe acts) (sym gu.its) su) gv.has gu.has (sym object) (subst (λ (o : ℕ). IsTrue (depends_at decl o dv.op.inv du.event)) (sym object) dep)) [
         | inl r ↦ inl (record {
           stamp = r.stamp;
           outcome = subst (λ (x : TxId). IsOutcome ((state acts).status x) (Some r.stamp)) gu.its (wl.deeds gv.grant.site (LearnsCommit gu.grant.tx r.stamp) r.learned);
@@ -207,8 +212,35 @@ module _ (decl : Declaration) (accepted : IsAccepted decl) (acts : List Act) (ru
       writes : HasQuorum decl ((state acts).epoch u) (state acts).counted u (Own (own_line du)) (append_need_of decl ((state acts).epoch u) du.op.object du.event)
       writes = ll.written u du hu some
 
+      -- a grant of each counts, so both are of the first epoch
+
+      read_at : (site : ℕ) × IsTrue (rv.met.sites site)
+      read_at =
+          let n : 0 < read_need_of decl ((state acts).epoch v) dv.op.object dv.op.inv = read_needed decl accepted ((state acts).epoch v) dv.op.object dv.op.inv du.event heavy_here in
+          let enough : read_need_of decl ((state acts).epoch v) dv.op.object dv.op.inv ≤ weight rv.met.sites (weights_of decl ((state acts).epoch v)) = rv.met.enough in
+          some_site decl accepted (weights_of decl ((state acts).epoch v)) rv.met.sites (omega arith)
+
+      plan_there : (plan : Plan) × (plan_in decl ((state acts).epoch u) ≡ Some plan)
+      plan_there = wl.planned u (ll.begun u du (inl hu))
+
+      heavy_there : IsHeavy decl accepted ((state acts).epoch u) dv.op.object dv.op.inv du.event
+      heavy_there = heavy decl accepted ((state acts).epoch u) dv.op.object dv.op.inv du.event rv.answered.kind plan_there.0 plan_there.1 rv.answered.typed (rv.known rv.answered.kind rv.answered.typed)
+          (subst (λ (k : Kind). du.event < length (events_of k.table.rows)) kind (number_within ru.answered.kind du.op.inv du.event du.op.resp resp.0 resp.1 ru.answered.numbered)) dep
+
+      written_at : (site : ℕ) × IsTrue (writes.sites site)
+      written_at =
+          let n : 0 < append_need_of decl ((state acts).epoch u) du.op.object du.event = subst (λ (o : ℕ). 0 < append_need_of decl ((state acts).epoch u) o du.event) (sym object) (needed decl accepted ((state acts).epoch u) dv.op.object dv.op.inv du.event heavy_there) in
+          let enough : append_need_of decl ((state acts).epoch u) du.op.object du.event ≤ weight writes.sites (weights_of decl ((state acts).epoch u)) = writes.enough in
+          some_site decl accepted (weights_of decl ((state acts).epoch u)) writes.sites (omega arith)
+
+      of_first : (tx : TxId) (g : Granted) → In g (state acts).counted → g.tx ≡ tx → (state acts).epoch tx ≡ 1
+      of_first tx g counts its = ap (state acts).epoch (sym its) ∙ sym (wl.counts_epoch g counts) ∙ one g (wl.known g counts)
+
       epochs : (state acts).epoch u ≡ (state acts).epoch v
-      epochs = one.epochs u ∙ sym (one.epochs v)
+      epochs =
+          let r : IsReadAt (state acts).counted v read_at.0 dv = rv.met.each read_at.0 read_at.1 in
+          let w : HasGranted (state acts).counted u written_at.0 (Own (own_line du)) = writes.each written_at.0 written_at.1 in
+          of_first u w.grant w.counts w.its ∙ sym (of_first v r.grant r.counts r.its)
 
       enough : append_need_of decl ((state acts).epoch v) dv.op.object du.event ≤ weight writes.sites (weights_of decl ((state acts).epoch v))
       enough =

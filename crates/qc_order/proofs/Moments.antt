@@ -29,7 +29,6 @@ use Rattle.qc_client.specs.Conduct.{client_after}
 use Rattle.qc_site.specs.Conduct.{site_after}
 use Rattle.qc_site.specs.Site.{SiteMove}
 use Rattle.qc_net.specs.Net.{commits_in}
-use Rattle.qc_atomic.proofs.Names.{script_named}
 use Rattle.qc_atomic.proofs.Posted.{control_writes, taken_writes}
 use Rattle.qc_atomic.proofs.Silent.{site_silent}
 use Rattle.qc_atomic.proofs.Stood.{OpenSite, Stood}
@@ -129,7 +128,7 @@ module _ (decl : Declaration) (script : Script) where
   writer accepted sound before a c k = at (is_site decl a) (is_client decl a) refl refl k.law
     where
       stood : Stood decl before k.open_inputs
-      stood = runs_stand decl script (script_named decl accepted script sound) before k.open_inputs k.run
+      stood = runs_stand decl script accepted sound before k.open_inputs k.run
 
       silent : (site : is_site decl a ≡ true) → k.turn ≡ (site_after decl a (deeds a [] before)).turn → ⊥
       silent site same =

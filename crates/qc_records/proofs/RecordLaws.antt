@@ -1,5 +1,5 @@
 -- In every run records are apart, and just what their clients were told.
-use Rattle.std.proofs.Common.{◌≡◌, ◌≢◌, ℕ, ◌+◌, ◌-◌, ◌<◌, ◌↔◌, nat_le, nat_lt, Bool, true, List, [], refl, sym, ap, ◌∙◌, subst, arith}
+use Rattle.std.proofs.Common.{◌≡◌, ◌≢◌, ℕ, ◌+◌, ◌-◌, ◌<◌, ◌↔◌, inl, nat_le, nat_lt, Bool, true, List, [], refl, sym, ap, ◌∙◌, subst, arith}
 use Rattle.std.specs.List.{AllPairs}
 use Rattle.std.proofs.lemmas.Bool.{le-leb, lt-ltb}
 use Rattle.qc_list.specs.Members.{In}
@@ -148,6 +148,6 @@ module _ (decl : Declaration) (script : Script) (h : List Entry) (open_inputs : 
     committed = λ n tx stamp low among. ends_in n low tx stamp among;
     aborted = λ n tx why c low among listed_c. no_abort n tx (replies.Aborted why) c low among tt listed_c;
     dropped = λ n tx c low among listed_c. no_abort n tx replies.Dropped c low among tt listed_c;
-    each = λ c among. (let listed : In c (records decl h) = listed_in c among in
+    each = λ c among. inl (let listed : In c (records decl h) = listed_in c among in
         ((kept (client_actor decl c.tx.client) (its_client c listed) c.tx).keeps.dealing.done c (its_record c listed c.tx) refl).1);
   }

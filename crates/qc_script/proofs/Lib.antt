@@ -10,3 +10,6 @@ pub mod WrittenScripts
 pub mod WrittenTexts
 pub mod WrittenWords
 pub mod Inboxes
+pub mod AllUp
+pub mod Fallless
+pub mod Requests

@@ -10,7 +10,10 @@ pub mod Ranges
 pub mod Refused
 pub mod Sound
 pub mod Text
+pub mod Requests
 pub mod Inbox
 pub mod Ready
+pub mod Steady
 pub mod Runs
+pub mod RunsWithFalls
 pub mod Written

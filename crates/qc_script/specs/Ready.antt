@@ -49,8 +49,8 @@ ready decl script a h = ready_in decl a (inbox script a h)
 abbrev pub controls_left : Script → List Entry → List Control
 controls_left script h = (inbox script 0 h).controls
 
--- the step of a control line. A phase's beginning is no line among them; lines that arm a disk, crash an actor or
--- restart it have no step yet, so no run goes on past one
+-- the step of a control line in runs without falls. A phase's beginning is no line among them; lines that arm a disk,
+-- crash an actor or restart it have no step there, so no such run goes on past one
 abbrev pub step_of_control : Control → Option Step
 step_of_control (controls.Phase k) = None
 step_of_control (controls.Cut a b) = Some (steps.Cut a b)
@@ -58,6 +58,16 @@ step_of_control (controls.Heal a b) = Some (steps.Heal a b)
 step_of_control (controls.Armed actor kind at) = None
 step_of_control (controls.Crash a) = None
 step_of_control (controls.Restart a) = None
+
+-- the step of a control line that is the controller's own. One that crashes an actor, or restarts it, has steps of that
+-- actor
+abbrev pub controller_step : Control → Option Step
+controller_step (controls.Phase k) = None
+controller_step (controls.Cut a b) = Some (steps.Cut a b)
+controller_step (controls.Heal a b) = Some (steps.Heal a b)
+controller_step (controls.Armed actor kind at) = Some (steps.Armed actor kind at)
+controller_step (controls.Crash a) = None
+controller_step (controls.Restart a) = None
 
 -- the number of the last phase that began, or 0
 

@@ -17,12 +17,17 @@
 //! 4. A script that is read names only what is declared, and its numbers are in
 //!    range (`scripts_name_what_is_declared`).
 //!
-//! What is ready for an actor after a history (`specs/Ready.antt`) and which
-//! histories are runs of a script (`specs/Runs.antt`) stand here too, as
-//! definitions: the loop makes such runs, and the laws are of all of them.
+//! What waits for an actor after a history (`specs/Inbox.antt`), through falls
+//! too, what is ready for it (`specs/Ready.antt`), and which histories are runs
+//! of a script (`specs/Runs.antt`, and `specs/RunsWithFalls.antt` where disks
+//! fail and actors fall and rise) stand here too, as definitions: the loop makes
+//! runs without falls, and the laws are of all of them. Each is a run with falls
+//! (`runs_without_falls_are_runs`), in which everybody is up
+//! (`nobody_is_down_without_falls`).
 #![tactic(auto)]
 
 mod actor;
+mod conduct;
 mod draft;
 mod form;
 mod item;
@@ -31,15 +36,18 @@ mod line;
 mod number;
 mod range;
 mod reader;
+mod runs;
 mod script;
 mod word;
 
+pub use conduct::ConductWithFalls;
 pub use laws::{
     lines_are_read_as_written, refused_scripts_have_a_first_refused_line,
     scripts_are_read_as_written, scripts_name_what_is_declared,
 };
 pub use range::MOST_NUMBER;
 pub use reader::read;
+pub use runs::{nobody_is_down_without_falls, runs_without_falls_are_runs};
 pub use script::{
     CommandLine, CommandLines, Controls, LineKind, LinkLines, PhaseLines, PhaseList, Script,
     ScriptFault,

@@ -7,7 +7,6 @@ pub mod Ended
 pub mod Alone
 pub mod Founded
 pub mod Courses
-pub mod Replying
 pub mod Heard
 pub mod Written
 pub mod Records

@@ -21,11 +21,14 @@ use Rattle.qc_msg.specs.Counts.{written}
 use Rattle.qc_msg.specs.Deeds.{Sends, Takes, deeds}
 use Rattle.qc_msg.specs.Steps.{Entry}
 use Rattle.qc_net.specs.Lines.{lines_in}
+use Rattle.qc_net.specs.Messages.{IsGrantTo, IsGrantable}
+use Rattle.qc_net.specs.Mirrors.{Refines}
 use Rattle.qc_net.proofs.Refining.{refines}
 use Rattle.qc_onecopy.specs.Committed.{sorted}
 use Rattle.qc_onecopy.specs.Logged.{IsLogged}
 use Rattle.qc_onecopy.specs.OneCopy.{OneCopy}
 use Rattle.qc_promise.specs.Account.{is_prepare}
+use Rattle.qc_protocol.specs.Acts.{state}
 use Rattle.qc_promise.specs.Atomic.{Atomic, IsAfterSeen}
 use Rattle.qc_promise.specs.Committed.{committed, records}
 use Rattle.qc_script.specs.Runs.{Runs}
@@ -39,10 +42,9 @@ use Rattle.qc_atomic.specs.Reached.{IsReached}
 use Rattle.qc_atomic.proofs.Runs as runs
 use Rattle.qc_seen.proofs.Courses.{clients_see}
 use Rattle.qc_seen.proofs.Founded.{AreFounded}
-use Rattle.qc_seen.proofs.Grants.{IsAsked, all_asked, lines_passed}
+use Rattle.qc_seen.proofs.Grants.{granted, lines_passed, no_promise}
 use Rattle.qc_seen.proofs.Heard.{sent_mailed, took_sent}
 use Rattle.qc_seen.proofs.Records.{none_write, records_are_clients}
-use Rattle.qc_seen.proofs.Replying.{AsksForGrant}
 use Rattle.qc_seen.proofs.Seeing.{IsUpTo}
 use Rattle.qc_seen.proofs.Written.{all_wrote, deed_written, written_deed}
 
@@ -70,12 +72,14 @@ module _ (decl : Declaration) (script : Script) (h : List Entry) (open_inputs : 
   was_asked : (a : ℕ) (e : Envelope) → In (Takes (given.Got e)) (deeds a [] h) → (to life clock : ℕ) (log : List Line) → e.message ≡ Answer to (Granted life clock log)
       → (site : ℕ) (tx : TxId) (epoch at : ℕ) (want : Want) → In (Sends to site (Request tx epoch at want)) (deeds a [] h) → is_prepare want ≡ false
   was_asked a e among to life clock log is site tx epoch at want sent =
-      let q : IsAsked net.net.mail to = all_asked decl accepted net.net net.reached e (in_net a e among) to life clock log is in
+      let r : Refines decl net.net = refines decl accepted net.net net.reached in
+      let g : IsGrantTo decl (state r.acts) net.net.mail e.from to life clock log = granted decl net.net r e (in_net a e among) to life clock log is in
       let there : slice_get net.net.mail to ≡ Some (record { number = to; from = a; to = site; message = Request tx epoch at want }) =
-      (refines decl accepted net.net net.reached).agrees.numbered (record { number = to; from = a; to = site; message = Request tx epoch at want }) (subst (In (record { number = to; from = a; to = site; message = Request tx epoch at want })) (sym net.mail_is) (sent_mailed a [] h to site (Request tx epoch at want) sent)) in
-      let both : Some q.envelope ≡ Some (record { number = to; from = a; to = site; message = Request tx epoch at want }) = sym q.numbered ∙ there in
-      let same : q.envelope ≡ record { number = to; from = a; to = site; message = Request tx epoch at want } = cc in
-      subst (λ (x : Envelope). AsksForGrant x.message) same q.asks
+      r.agrees.numbered (record { number = to; from = a; to = site; message = Request tx epoch at want }) (subst (In (record { number = to; from = a; to = site; message = Request tx epoch at want })) (sym net.mail_is) (sent_mailed a [] h to site (Request tx epoch at want) sent)) in
+      let both : Some g.request.0 ≡ Some (record { number = to; from = a; to = site; message = Request tx epoch at want }) = sym g.request.1 ∙ there in
+      let message : Request g.tx g.epoch g.named g.want ≡ Request tx epoch at want = sym g.request.3 ∙ (let same : g.request.0.message ≡ Request tx epoch at want = cc in same) in
+      let wants : g.want ≡ want = cc in
+      no_promise want (subst IsGrantable wants g.grant.asks)
 
   founded : (a : ℕ) → is_client decl a ≡ true → AreFounded (committed decl h) (deeds a [] h)
   founded a client = record {

@@ -130,7 +130,7 @@ closing_stays decl s from number message =
 
 -- over all deeds
 
-at_first : (number : ℕ) (decl : Declaration) (s : SiteState) (g : Given) → IsAtFirst number s → IsAtFirst number (site_takes decl s g).site
+pub at_first : (number : ℕ) (decl : Declaration) (s : SiteState) (g : Given) → IsAtFirst number s → IsAtFirst number (site_takes decl s g).site
 at_first number decl s (given.Called command) first = first
 at_first number decl s (given.Got e) first = record {
   number_is = number_stays decl s e.from e.number e.message ∙ first.number_is;

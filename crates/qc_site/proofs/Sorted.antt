@@ -30,7 +30,7 @@ use Rattle.qc_site.specs.Sorted.{AreDeedsSorted, ArePromisesSorted, IsGivenSorte
 use Rattle.qc_site.proofs.Cases.{choose, state_cases}
 
 -- what is held, with something given to a transaction
-sound-held : (held : List Held) (tx : TxId) (locks : List ReadLock) (own : List OwnLine) → IsSound held → IsSound (with_held held tx locks own)
+pub sound-held : (held : List Held) (tx : TxId) (locks : List ReadLock) (own : List OwnLine) → IsSound held → IsSound (with_held held tx locks own)
 sound-held held tx locks own sound =
     let entry = sorted-find held tx sound.sorted in
     choose IsSound ((length locks == 0) && (length own == 0)) held (with_entry held (record { tx = tx; locks = with_locks (held_of held tx).locks locks; own = with_owns (held_of held tx).own own }))
@@ -41,11 +41,11 @@ sound-held held tx locks own sound =
 
 -- promises
 
-promises-push : (ps : List Prepared) (p : Prepared) → ArePromisesSorted ps → Ascends lock_cmp p.locks → Ascends own_cmp p.own → IsAscending p.lines → ArePromisesSorted (ps ++ p ∷ [])
+pub promises-push : (ps : List Prepared) (p : Prepared) → ArePromisesSorted ps → Ascends lock_cmp p.locks → Ascends own_cmp p.own → IsAscending p.lines → ArePromisesSorted (ps ++ p ∷ [])
 promises-push [] p sorted locks own lines = (locks, own, lines, tt)
 promises-push (q ∷ qs) p sorted locks own lines = (sorted.0, sorted.1, sorted.2, promises-push qs p sorted.3 locks own lines)
 
-promises-filter : (test : Prepared → Bool) (ps : List Prepared) → ArePromisesSorted ps → ArePromisesSorted (filter test ps)
+pub promises-filter : (test : Prepared → Bool) (ps : List Prepared) → ArePromisesSorted ps → ArePromisesSorted (filter test ps)
 promises-filter test [] sorted = tt
 promises-filter test (p ∷ ps) sorted = by (test p) (promises-filter test ps sorted.3)
   where
@@ -55,7 +55,7 @@ promises-filter test (p ∷ ps) sorted = by (test p) (promises-filter test ps so
 
 -- the lines of own lines
 
-ascending-stamped : (stamp : Stamp) (tx : TxId) (lines : List Line) (own : List OwnLine) → IsAscending lines → IsAscending (fold (with_stamped stamp tx) lines own)
+pub ascending-stamped : (stamp : Stamp) (tx : TxId) (lines : List Line) (own : List OwnLine) → IsAscending lines → IsAscending (fold (with_stamped stamp tx) lines own)
 ascending-stamped stamp tx lines [] ascending = ascending
 ascending-stamped stamp tx lines (o ∷ os) ascending =
     ascending-stamped stamp tx (with_stamped stamp tx lines o) os (ascending-union lines (stamped stamp tx o ∷ []) ascending (tt, tt))

@@ -44,7 +44,7 @@ fn clock_told(clock: Clock, verdict: Outcome) -> Clock
 }
 
 /// The clock after it passes the lines' stamps.
-fn latest(clock: Clock, lines: &[Line]) -> Clock
+pub fn latest(clock: Clock, lines: &[Line]) -> Clock
     ensures { result.value ≡ latest clock.value lines.now }
 {
     let mut clock = clock;

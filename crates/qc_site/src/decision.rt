@@ -76,7 +76,7 @@ fn records_done(alloc: Global, tx: TxId, stamp: Stamp) -> Turn
 }
 
 /// The own lines as lines with this stamp.
-fn lines_of(alloc: Global, stamp: Stamp, tx: TxId, own: &[OwnLine]) -> Result<Log, OutOfMemory>
+pub fn lines_of(alloc: Global, stamp: Stamp, tx: TxId, own: &[OwnLine]) -> Result<Log, OutOfMemory>
     ensures { IfOk result (λ l. l ≡ lines_of stamp tx own.now) }
 {
     let mut lines = Log::new(alloc)?;

@@ -28,10 +28,13 @@ mod readers;
 mod requests;
 mod site;
 
+pub use clock::latest;
+pub use decision::lines_of;
 pub use laws::{
     clashes_are_the_smallest, clocks_never_fall, clocks_pass_what_comes, decisions_free,
     grants_are_held, grants_conflict_with_nothing, lives_and_epochs_stay,
     logs_gain_what_is_brought, other_inputs_do_nothing, promises_stand, refusals_change_nothing,
     requests_are_answered_by_rows, sites_stay_sorted, votes_are_backed, what_is_held_stays,
 };
+pub use promises::Promises;
 pub use site::Site;

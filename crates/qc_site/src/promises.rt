@@ -3,19 +3,27 @@
 //! drop one takes steps down two trees, however many stand.
 
 ghost use Rattle.std.specs.Prelude.{◌≡◌, ◌++◌, ◌∷◌, [], None, Some, MatchOption, OnErr, OnOk};
-ghost use Rattle.qc_site.specs.Promise.{prepared_of, without_prepared};
+ghost use Rattle.std.specs.List.Sorted.{IsStrictlySortedBy};
+ghost use Rattle.std.specs.Map.Iter.{ShowsInOrder, deref};
+ghost use Rattle.std.specs.Ordering.{eq_by_cmp};
+ghost use Rattle.std.specs.Set.{is_member};
+ghost use Rattle.qc_entry.specs.declared.record.Prepared.{Prepared};
+ghost use Rattle.qc_site.specs.Promise.{is_prepared, prepared_of, without_prepared};
+ghost use Rattle.qc_stamp.specs.Order.{tx_cmp};
+ghost use Rattle.qc_stamp.specs.declared.stamp.TxId.{TxId};
 
 use qc_entry::Prepared;
 use qc_list::OutOfMemory;
 use qc_stamp::TxId;
 use std::alloc::{AllocError, Global};
 use std::collections::BTreeMap;
+use std::collections::btree_map::{Keys, Values};
 use std::marker::Model;
 
 /// Promises, at most one of a transaction, seen as the list of them in their
 /// order.
 #[derive(Drop)]
-pub(crate) struct Promises {
+pub struct Promises {
     promises: BTreeMap<u64, Prepared>,
     numbers: BTreeMap<TxId, u64>,
     next: u64,
@@ -36,7 +44,7 @@ impl Model for Promises {
 
 impl Promises {
     /// No promise. It takes no memory.
-    pub(crate) fn new(alloc: Global) -> Promises
+    pub fn new(alloc: Global) -> Promises
         ensures { result ≡ [] }
     {
         Promises {
@@ -47,16 +55,33 @@ impl Promises {
     }
 
     /// The promise of a transaction, if one stands.
-    pub(crate) fn of(&self, tx: TxId) -> Option<&Prepared>
+    pub fn of(&self, tx: TxId) -> Option<&Prepared>
         ensures { MatchOption result (prepared_of self.now tx ≡ None) (λ p. prepared_of self.now tx ≡ Some p.now) }
     {
         let number = self.numbers.get(&tx)?;
         self.promises.get(number)
     }
 
+    /// The promises, in their order.
+    pub fn iter(&self) -> Values<'_, u64, Prepared>
+        ensures rest { result ≡ self.now }
+        ensures runs { ShowsInOrder (deref {X = Prepared}) }
+    {
+        self.promises.values()
+    }
+
+    /// The promised transactions, ascending, each once.
+    pub fn transactions(&self) -> Keys<'_, TxId, u64>
+        ensures ascending { IsStrictlySortedBy tx_cmp result }
+        ensures just { (tx : TxId) → is_member (eq_by_cmp tx_cmp) result tx ≡ is_prepared self.now tx }
+        ensures runs { ShowsInOrder (deref {X = TxId}) }
+    {
+        self.numbers.keys()
+    }
+
     /// Puts the first promise of a transaction last. The last number is never
     /// given.
-    pub(crate) fn add(&mut self, promise: Prepared) -> Result<(), OutOfMemory>
+    pub fn add(&mut self, promise: Prepared) -> Result<(), OutOfMemory>
         requires { prepared_of self.old promise.tx ≡ None }
         ensures ok { OnOk result (self.new ≡ self.old ++ promise ∷ []) }
         ensures err { OnErr result (self.new ≡ self.old) }
@@ -78,7 +103,7 @@ impl Promises {
     }
 
     /// Drops the promise of a transaction, if one stands. It takes no memory.
-    pub(crate) fn remove(&mut self, tx: TxId)
+    pub fn remove(&mut self, tx: TxId)
         ensures { self.new ≡ without_prepared self.old tx }
     {
         if let Some(number) = self.numbers.remove(&tx) {

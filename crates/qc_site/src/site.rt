@@ -4,6 +4,7 @@ ghost use Rattle.std.specs.Prelude.{◌≡◌, ◌≤◌, ◌<◌, IfOk, OnErr};
 ghost use Rattle.qc_decl.specs.Limits.{most_clients, most_sites};
 ghost use Rattle.qc_site.specs.Conduct.{site_at, site_on};
 ghost use Rattle.qc_site.specs.Promise.{dropped};
+ghost use Rattle.qc_site.specs.Holders.{AreOfClients};
 ghost use Rattle.qc_site.specs.Site.{new_site};
 
 use crate::asker::Asker;
@@ -70,6 +71,45 @@ impl Site {
             held: Locks::new(alloc),
             prepared: Promises::new(alloc),
             clock: Clock { value: 0 },
+        })
+    }
+
+    /// The site of this number that rises: its records give its life, its epoch
+    /// and the one that it has closed that for, its lines, its promises and its
+    /// clock, and its promises give what is held.
+    pub fn risen(
+        number: u8,
+        life: u32,
+        epoch: u8,
+        closed_for: Option<u8>,
+        lines: Log,
+        held: Locks,
+        prepared: Promises,
+        clock: Clock,
+    ) -> Result<Site, OutOfMemory>
+        requires { AreOfClients held }
+        ensures { IfOk result (λ s. s ≡ record {
+          number = number;
+          life = life;
+          epoch = epoch;
+          closed_for = closed_for;
+          log = lines;
+          recorded = lines;
+          held = held;
+          prepared = prepared;
+          clock = clock.value;
+        }) }
+    {
+        Ok(Site {
+            number,
+            life,
+            epoch,
+            closed_for,
+            recorded: lines.copy()?,
+            log: lines,
+            held,
+            prepared,
+            clock,
         })
     }
 

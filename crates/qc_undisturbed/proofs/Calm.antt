@@ -20,7 +20,9 @@ use Rattle.qc_msg.specs.declared.turn.Turn.{Turn}
 use Rattle.qc_msg.specs.Deeds.{envelopes}
 use Rattle.qc_msg.specs.Steps.{Entry, by, posted, sents, told, wrote}
 use Rattle.qc_msg.proofs.Growth.{by-posted}
-use Rattle.qc_script.specs.Inbox.{Inbox, answers_by, comes, comes_with, count_of, goes, goes_with, has_number, inbox_at, is_request, one_more, with_copies}
+use Rattle.qc_script.proofs.AllUp.{is_up-everybody, wrote_up}
+use Rattle.qc_script.specs.Requests.{has_request, with_number, without_request}
+use Rattle.qc_script.specs.Inbox.{Inbox, everybody, is_up, answers_by, comes, comes_with, count_of, goes, goes_with, inbox_at, is_request, one_more, with_copies}
 use Rattle.qc_script.specs.declared.script.Script.{Script}
 use Rattle.qc_undisturbed.specs.Arrives.{IsCalm, sent_to}
 
@@ -42,10 +44,10 @@ copy_for a e = sent_to a (e ∷ [])
 
 answers_calm : (copies : List Envelope) (i : Inbox) (m : Message) → IsCalm copies i → IsCalm copies (answers_by i m Pass)
 answers_calm copies i (messages.Request tx epoch life want) c = c
-answers_calm copies i (messages.Answer to answer) c = by (has_number i.unanswered to)
+answers_calm copies i (messages.Answer to answer) c = by (has_request i.unanswered to)
   where
-    by : (t : Bool) → IsCalm copies (if t then record i { unanswered = filter (λ m. not (m == to)) i.unanswered; lost = i.lost } else i)
-    by true = record { copies = c.copies; lost = c.lost; late = c.late; opening = c.opening; cuts = c.cuts; controls = c.controls }
+    by : (t : Bool) → IsCalm copies (if t then record i { unanswered = without_request i.unanswered to; lost = i.lost } else i)
+    by true = record { copies = c.copies; lost = c.lost; late = c.late; opening = c.opening; cuts = c.cuts; up = c.up; controls = c.controls }
     by false = c
 answers_calm copies i (messages.Decision tx verdict) c = c
 answers_calm copies i (messages.Inquiry tx) c = c
@@ -56,29 +58,34 @@ answers_calm copies i (messages.Install epoch clock log) c = c
 comes_calm : (a : ℕ) (copies : List Envelope) (i : Inbox) (e : Envelope) → IsCalm copies i → IsCalm (copies ++ copy_for a e) (comes [] a i e)
 comes_calm a copies i e c = by (e.to == a)
   where
-    came : IsCalm (copies ++ e ∷ []) (comes_with i e Pass)
-    came = answers_calm (copies ++ e ∷ []) (with_copies i e Pass) e.message (record {
+    came : IsCalm (copies ++ e ∷ []) (comes_with true i e Pass)
+    came = answers_calm (copies ++ e ∷ []) (with_copies true i e Pass) e.message (record {
       copies = ap (λ (v : List Envelope). v ++ e ∷ []) c.copies;
       lost = c.lost;
       late = ap (λ (v : List Envelope). v ++ []) c.late;
       opening = c.opening;
       cuts = c.cuts;
+      up = c.up;
       controls = c.controls;
     })
 
-    by : (t : Bool) → IsCalm (copies ++ (if t then e ∷ [] else [])) (if t then comes_with i e (fate [] i.cuts e.from e.to (count_of i.from_each e.from + 1)) else i)
-    by true = subst (λ (f : Fate). IsCalm (copies ++ e ∷ []) (comes_with i e f)) (sym (passes i.cuts e.from e.to (count_of i.from_each e.from + 1) c.cuts)) came
+    by : (t : Bool) → IsCalm (copies ++ (if t then e ∷ [] else [])) (if t then comes_with (is_up i.up a) i e (fate [] i.cuts e.from e.to (count_of i.from_each e.from + 1)) else i)
+    by true =
+        subst (λ (f : Fate). IsCalm (copies ++ e ∷ []) (comes_with (is_up i.up a) i e f)) (sym (passes i.cuts e.from e.to (count_of i.from_each e.from + 1) c.cuts))
+        (subst (λ (u : Bool). IsCalm (copies ++ e ∷ []) (comes_with u i e Pass)) (sym (is_up-everybody i.up a c.up)) came)
     by false = subst (λ (v : List Envelope). IsCalm v i) (sym (append-nil copies)) c
 
 goes_calm : (a : ℕ) (copies : List Envelope) (i : Inbox) (e : Envelope) → IsCalm copies i → IsCalm copies (goes [] a i e)
 goes_calm a copies i e c = by (e.from == a)
   where
-    went : (t : Bool) → IsCalm copies (if t then record i { to_each = one_more i.to_each e.to; unanswered = i.unanswered ++ e.number ∷ [] } else record i { to_each = one_more i.to_each e.to })
-    went true = record { copies = c.copies; lost = c.lost; late = c.late; opening = c.opening; cuts = c.cuts; controls = c.controls }
-    went false = record { copies = c.copies; lost = c.lost; late = c.late; opening = c.opening; cuts = c.cuts; controls = c.controls }
+    went : (t : Bool) → IsCalm copies (if t then record i { to_each = one_more i.to_each e.to; unanswered = i.unanswered ++ record { number = e.number; to = e.to } ∷ [] } else record i { to_each = one_more i.to_each e.to })
+    went true = record { copies = c.copies; lost = c.lost; late = c.late; opening = c.opening; cuts = c.cuts; up = c.up; controls = c.controls }
+    went false = record { copies = c.copies; lost = c.lost; late = c.late; opening = c.opening; cuts = c.cuts; up = c.up; controls = c.controls }
 
     by : (t : Bool) → IsCalm copies (if t then goes_with i e (fate [] i.cuts e.from e.to (count_of i.to_each e.to + 1)) else i)
-    by true = subst (λ (f : Fate). IsCalm copies (goes_with i e f)) (sym (passes i.cuts e.from e.to (count_of i.to_each e.to + 1) c.cuts)) (went (is_request e.message))
+    by true = subst (λ (f : Fate). IsCalm copies (goes_with i e f)) (sym (passes i.cuts e.from e.to (count_of i.to_each e.to + 1) c.cuts))
+        (subst (λ (u : Bool). IsCalm copies (if is_request e.message then (if u then record i { to_each = one_more i.to_each e.to; unanswered = i.unanswered ++ record { number = e.number; to = e.to } ∷ [] } else record i { to_each = one_more i.to_each e.to; lost = with_number i.lost e.number }) else record i { to_each = one_more i.to_each e.to }))
+        (sym (is_up-everybody i.up e.to c.up)) (went (is_request e.message)))
     by false = c
 
 -- a turn
@@ -87,16 +94,16 @@ module _ (script : Script) (a : ℕ) where
   abbrev pub after : Inbox → List Entry → Inbox
   after i k = fold (λ (i : Inbox) (e : Entry). inbox_at script a i e.actor e.step) i k
 
-  wrote_calm : (b : ℕ) (write : Option Record) (i : Inbox) → after i (by b (wrote write)) ≡ i
-  wrote_calm b None i = refl
-  wrote_calm b (Some written) i = refl
+  wrote_calm : (b : ℕ) (write : Option Record) (i : Inbox) → i.up ≡ everybody → after i (by b (wrote write)) ≡ i
+  wrote_calm b None i up = refl
+  wrote_calm b (Some written) i up = wrote_up a i b up
 
   told_calm : (b : ℕ) (reply : Option Reply) (copies : List Envelope) (i : Inbox) → IsCalm copies i → IsCalm copies (after i (by b (told reply)))
   told_calm b None copies i c = c
   told_calm b (Some reply) copies i c = at (b == a)
     where
       at : (t : Bool) → IsCalm copies (if t then record i { busy = false } else i)
-      at true = record { copies = c.copies; lost = c.lost; late = c.late; opening = c.opening; cuts = c.cuts; controls = c.controls }
+      at true = record { copies = c.copies; lost = c.lost; late = c.late; opening = c.opening; cuts = c.cuts; up = c.up; controls = c.controls }
       at false = c
 
   sent-first : (e : Envelope) (es : List Envelope) → copy_for a e ++ sent_to a es ≡ sent_to a (e ∷ es)
@@ -128,5 +135,5 @@ module _ (script : Script) (a : ℕ) where
       whole =
           ap (λ (k : List Entry). after i k) (by-posted b n turn)
           ∙ fold-append step i (by b (wrote turn.write)) (by b (sents n turn.sends) ++ by b (told turn.told))
-          ∙ ap (λ (j : Inbox). after j (by b (sents n turn.sends) ++ by b (told turn.told))) (wrote_calm b turn.write i)
+          ∙ ap (λ (j : Inbox). after j (by b (sents n turn.sends) ++ by b (told turn.told))) (wrote_calm b turn.write i c.up)
           ∙ fold-append step i (by b (sents n turn.sends)) (by b (told turn.told))

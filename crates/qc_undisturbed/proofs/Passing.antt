@@ -22,7 +22,7 @@ use Rattle.qc_msg.specs.declared.turn.Turn.{Turn}
 use Rattle.qc_msg.specs.Deeds.{Deed, Takes, deeds, envelopes, mail, sends_of, tells_of, turn_deeds, writes_of}
 use Rattle.qc_msg.specs.Steps.{Entry, by, marked, posted, step_of}
 use Rattle.qc_msg.proofs.Growth.{deeds-other, deeds-posted, deeds-taken, mail-append, mail-posted, mail-taken}
-use Rattle.qc_script.specs.Inbox.{Inbox, command_called, commands_for, copy_taken, empty_inbox, inbox, inbox_at, opened_by, phase_begun}
+use Rattle.qc_script.specs.Inbox.{Inbox, command_called, commands_for, copy_taken, empty_inbox, inbox, if_up, inbox_at, is_up, opened, phase_begun}
 use Rattle.qc_script.specs.Ready.{phase_of, ready}
 use Rattle.qc_script.specs.Runs.{Runs, begins, takes, posts, phase, control}
 use Rattle.qc_script.specs.declared.script.PhaseLines.{PhaseLines}
@@ -82,7 +82,7 @@ module _ (decl : Declaration) (script : Script) (calm : IsUndisturbed script) wh
       by (given.Called command) is = record {
         ready = r.ready;
         calm = subst (IsCalm r.ready) (sym (now ∙ ap (λ (x : Given). inbox_at script a (inbox script a h) a (step_of x)) is ∙ ap (λ (t : Bool). if t then command_called (inbox script a h) else inbox script a h) here))
-            (record { copies = c.copies; lost = c.lost; late = c.late; opening = c.opening; cuts = c.cuts; controls = c.controls });
+            (record { copies = c.copies; lost = c.lost; late = c.late; opening = c.opening; cuts = c.cuts; up = c.up; controls = c.controls });
         in_order =
             ap (λ (v : List Envelope). v ++ r.ready) (ap taken_in grown ∙ nothing_taken (deeds a [] h) g (ap message_in is))
             ∙ r.in_order ∙ ap (sent_to a) (sym sent);
@@ -97,7 +97,7 @@ module _ (decl : Declaration) (script : Script) (calm : IsUndisturbed script) wh
           record {
             ready = drop 1 r.ready;
             calm = subst (IsCalm (drop 1 r.ready)) (sym (now ∙ ap (λ (x : Given). inbox_at script a (inbox script a h) a (step_of x)) is ∙ ap (λ (t : Bool). if t then copy_taken (inbox script a h) else inbox script a h) here))
-                (record { copies = ap (λ (v : List Envelope). drop 1 v) c.copies; lost = c.lost; late = c.late; opening = c.opening; cuts = c.cuts; controls = c.controls });
+                (record { copies = ap (λ (v : List Envelope). drop 1 v) c.copies; lost = c.lost; late = c.late; opening = c.opening; cuts = c.cuts; up = c.up; controls = c.controls });
             in_order =
                 ap (λ (v : List Envelope). v ++ drop 1 r.ready)
                 (ap taken_in grown ∙ filter_map-append taken_by (deeds a [] h) (Takes g ∷ []) ∙ ap (λ (x : Given). taken a h ++ cons_option (message_in x) []) is)
@@ -154,17 +154,24 @@ module _ (decl : Declaration) (script : Script) (calm : IsUndisturbed script) wh
 
   -- a phase begins
 
+  none_late : (up : Bool) → if_up up [] ≡ []
+  none_late true = refl
+  none_late false = refl
+
   phase_calm : (a : ℕ) (copies : List Envelope) (i : Inbox) (o : Option PhaseLines) → ((p : PhaseLines) → o ≡ Some p → p.controls ≡ []) → IsCalm copies i → IsCalm copies (option_map_or (phase_begun a i) o i)
   phase_calm a copies i None none c = c
   phase_calm a copies i (Some p) none c =
-      subst (λ (lines : List Control). IsCalm copies (opened_by lines (record i { opening = i.opening ++ i.late; late = []; controls = p.controls; commands = i.commands ++ commands_for a p.commands }))) (sym (none p refl))
+      subst (λ (lines : List Control). IsCalm copies (opened a (record i { opening = i.opening ++ i.late; late = []; controls = lines; commands = i.commands ++ commands_for a p.commands }))) (sym (none p refl))
       (record {
-        copies = ap (λ (v : List Envelope). (v ++ i.late) ++ i.copies) c.opening ∙ ap (λ (v : List Envelope). v ++ i.copies) c.late ∙ c.copies;
+        copies =
+            ap (λ (v : List Envelope). if_up (is_up i.up a) (v ++ i.late) ++ i.copies) c.opening ∙ ap (λ (v : List Envelope). if_up (is_up i.up a) v ++ i.copies) c.late
+            ∙ ap (λ (v : List Envelope). v ++ i.copies) (none_late (is_up i.up a)) ∙ c.copies;
         lost = c.lost;
         late = refl;
         opening = refl;
         cuts = c.cuts;
-        controls = none p refl;
+        up = c.up;
+        controls = refl;
       })
 
   phase_kept : (a b k : ℕ) (h : List Entry) → Arrives script a h → Arrives script a (h ++ marked b (steps.Phase k) ∷ [])
@@ -178,7 +185,7 @@ module _ (decl : Declaration) (script : Script) (calm : IsUndisturbed script) wh
   }
 
   pub run_arrives_in : (h : List Entry) (open_inputs : List Bool) → Runs (IsLawful decl) decl script h open_inputs → (a : ℕ) → Arrives script a h
-  run_arrives_in h open_inputs begins a = record { ready = []; calm = record { copies = refl; lost = refl; late = refl; opening = refl; cuts = refl; controls = refl }; in_order = refl }
+  run_arrives_in h open_inputs begins a = record { ready = []; calm = record { copies = refl; lost = refl; late = refl; opening = refl; cuts = refl; up = refl; controls = refl }; in_order = refl }
   run_arrives_in h open_inputs (takes b g before older run free rdy) a = at (b == a) refl (run_arrives_in older before run a)
     where
       at : (t : Bool) → (b == a) ≡ t → Arrives script a older → Arrives script a (older ++ marked b (step_of g) ∷ [])

@@ -63,7 +63,7 @@ pub(crate) enum Taken<'a> {
 }
 
 /// The first transaction of a client.
-fn tx(client: u8) -> TxId {
+pub(crate) fn tx(client: u8) -> TxId {
     TxId {
         client,
         life: 1,
@@ -72,7 +72,7 @@ fn tx(client: u8) -> TxId {
 }
 
 /// A line of the first operation of a client's first transaction, on x.
-fn line(clock: u64, client: u8, event: u8) -> Line {
+pub(crate) fn line(clock: u64, client: u8, event: u8) -> Line {
     Line {
         stamp: Stamp { clock, client },
         tx: tx(client),
@@ -144,7 +144,7 @@ fn early_append(alloc: Global, epoch: u8, view: &[(u64, u8, u8)]) -> Result<Mess
 }
 
 /// A log of these lines.
-fn log(alloc: Global, view: &[(u64, u8, u8)]) -> Result<Log, OutOfMemory> {
+pub(crate) fn log(alloc: Global, view: &[(u64, u8, u8)]) -> Result<Log, OutOfMemory> {
     let mut log = Log::new(alloc)?;
     for (clock, client, event) in view {
         log.add(line(*clock, *client, *event))?;
@@ -153,7 +153,7 @@ fn log(alloc: Global, view: &[(u64, u8, u8)]) -> Result<Log, OutOfMemory> {
 }
 
 /// These own lines.
-fn own_lines(alloc: Global, owns: &[(u8, u8)]) -> Result<Owns, OutOfMemory> {
+pub(crate) fn own_lines(alloc: Global, owns: &[(u8, u8)]) -> Result<Owns, OutOfMemory> {
     let mut lines = Owns::new(alloc);
     for (op, event) in owns {
         lines.push(own(*op, *event))?;
@@ -241,7 +241,7 @@ fn sender(taken: Taken<'_>) -> u8 {
 }
 
 /// `@three`.
-fn three(rt: &impl Abort, alloc: Global) -> Result<Declaration, OutOfMemory>
+pub(crate) fn three(rt: &impl Abort, alloc: Global) -> Result<Declaration, OutOfMemory>
     ensures { IfOk result IsAccepted }
 {
     match built_in(alloc, "@three")? {
@@ -282,7 +282,7 @@ fn check_row(
 }
 
 /// A site does what the rows say, one after another, from message number 10 on.
-fn check_rows(
+pub(crate) fn check_rows(
     rt: &impl Abort,
     alloc: Global,
     decl: &Declaration,

@@ -64,6 +64,7 @@ pub fn run<G: Gate, R: Threads + Wait + Sync>(
 }
 
 /// The same, by these passes.
+#[tactic(auto, using(qc_node::proofs::Steady::built_steady))]
 fn run_named<N: Named + Send + Sync, G: Gate, R: Threads + Wait + Sync>(
     rt: &R,
     alloc: Global,

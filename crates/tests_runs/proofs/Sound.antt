@@ -23,15 +23,15 @@ use Rattle.tests_runs.specs.Whole.{IsWholeRun}
 
 -- tests
 
-first_of_both : (s t : Bool) → (s && t) ≡ true → s ≡ true
+pub first_of_both : (s t : Bool) → (s && t) ≡ true → s ≡ true
 first_of_both true t e = refl
 first_of_both false t e = e
 
-second_of_both : (s t : Bool) → (s && t) ≡ true → t ≡ true
+pub second_of_both : (s t : Bool) → (s && t) ≡ true → t ≡ true
 second_of_both true t e = e
 second_of_both false t e = absurd (let never : ⊥ = cc in never)
 
-no_controls : (lines : List Control) → none_left lines ≡ true → lines ≡ []
+pub no_controls : (lines : List Control) → none_left lines ≡ true → lines ≡ []
 no_controls [] e = refl
 no_controls (line ∷ lines) e = absurd (let never : ⊥ = cc in never)
 
@@ -39,13 +39,13 @@ is_no : (x : Option Given) → is_none x ≡ true → x ≡ None
 is_no None e = refl
 is_no (Some given) e = absurd (let never : ⊥ = cc in never)
 
-none_open : (bs : List Bool) (a : ℕ) → list_all not bs ≡ true → slice_get bs a ≡ Some true → ⊥
+pub none_open : (bs : List Bool) (a : ℕ) → list_all not bs ≡ true → slice_get bs a ≡ Some true → ⊥
 none_open [] a all e = let never : ⊥ = cc in never
 none_open (true ∷ bs) a all e = let never : ⊥ = cc in never
 none_open (false ∷ bs) zero all e = let never : ⊥ = cc in never
 none_open (false ∷ bs) (suc a) all e = none_open bs a all e
 
-all_closed : (bs : List Bool) → list_all not bs ≡ true → bs ≡ replicate (length bs) false
+pub all_closed : (bs : List Bool) → list_all not bs ≡ true → bs ≡ replicate (length bs) false
 all_closed [] all = refl
 all_closed (true ∷ bs) all = absurd (let never : ⊥ = cc in never)
 all_closed (false ∷ bs) all = ap (λ (v : List Bool). false ∷ v) (all_closed bs all)
@@ -60,13 +60,13 @@ all_below f (suc n) from a all low high = by_test (from == a) refl (λ further. 
     by_test false here rest = let differs : from ≡ a → ⊥ = eqb-false from a here in rest (omega (arith, differs))
 
 -- where nothing is left to do
-quiet_below : (decl : Declaration) (script : Script) (s : Stage) → is_quiet decl script s ≡ true → (a : ℕ) → a < actors decl → ready decl script a s.history ≡ None
+pub quiet_below : (decl : Declaration) (script : Script) (s : Stage) → is_quiet decl script s ≡ true → (a : ℕ) → a < actors decl → ready decl script a s.history ≡ None
 quiet_below decl script s quiet a below =
     all_below (λ a. ready decl script a s.history) (actors decl) 0 a
     (second_of_both (list_all not s.open_inputs) (list_all (λ a. is_none (ready decl script a s.history)) (range_with_len 0 (actors decl))) quiet)
     (omega arith) (omega arith)
 
-quiet_closed : (decl : Declaration) (script : Script) (s : Stage) → is_quiet decl script s ≡ true → list_all not s.open_inputs ≡ true
+pub quiet_closed : (decl : Declaration) (script : Script) (s : Stage) → is_quiet decl script s ≡ true → list_all not s.open_inputs ≡ true
 quiet_closed decl script s quiet =
     first_of_both (list_all not s.open_inputs) (list_all (λ a. is_none (ready decl script a s.history)) (range_with_len 0 (actors decl))) quiet
 

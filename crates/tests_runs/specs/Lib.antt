@@ -1,3 +1,4 @@
+pub mod Falls
 pub mod Perform
 pub mod Whole
 pub mod Words

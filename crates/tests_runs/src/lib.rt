@@ -8,13 +8,19 @@
 //! do, and nothing is left at the end; and that after each move something is
 //! ready just for those for whom the model has it.
 //!
+//! Short histories with falls are computed too, as far as inboxes see them.
+//!
 //! There is no code here, and nothing stands on this crate.
 #![tactic(auto)]
 
+mod falls;
 mod laws;
 mod random;
 mod worked;
 
+pub use falls::{
+    late_copies_come_to_who_is_up, lines_without_effect_have_no_step, requests_are_lost_by_falls,
+};
 pub use laws::{
     cuts_and_controls_are_everybodys, messages_have_one_fate, schedules_make_whole_runs,
 };

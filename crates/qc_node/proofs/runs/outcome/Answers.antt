@@ -1,4 +1,4 @@
-use Rattle.std.proofs.Common.{◌≡◌, List, sym, subst}
+use Rattle.std.proofs.Common.{List, sym, subst}
 use Rattle.qc_msg.specs.Steps.{Entry}
 use Rattle.qc_node.specs.Ends.{HasEnded, IsScriptEnd}
 use Rattle.qc_node.proofs.runs.outcome.Goals as goal

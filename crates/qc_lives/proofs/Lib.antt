@@ -1,0 +1,3 @@
+pub mod Downs
+pub mod Commands
+pub mod Lived
