@@ -1,7 +1,7 @@
 //! Laws of a client and the account of its deeds, each the contract of a
 //! function with nothing to do.
 
-ghost use Rattle.std.specs.Prelude.{◌≡◌, ◌-◌, ℕ, Bool, true, false, List};
+ghost use Rattle.std.specs.Prelude.{◌≡◌, ◌-◌, ℕ, Bool, true, false, List, [], ◌∷◌, ◌++◌};
 ghost use Rattle.qc_account.specs.Declares.{Declares};
 ghost use Rattle.qc_account.specs.DeedsDue.{AreDeedsDue};
 ghost use Rattle.qc_account.specs.Goes.{Goes, Holds};
@@ -13,10 +13,11 @@ ghost use Rattle.qc_core.specs.Acts.{Acts};
 ghost use Rattle.qc_core.specs.Conduct.{IsLawful};
 ghost use Rattle.qc_decl.specs.Actors.{is_client};
 ghost use Rattle.qc_decl.specs.declared.declaration.Declaration.{Declaration};
-ghost use Rattle.qc_msg.specs.Deeds.{Deed};
+ghost use Rattle.qc_msg.specs.Deeds.{Deed, Rises};
+ghost use Rattle.qc_msg.specs.declared.record.Record.{Record};
 ghost use Rattle.qc_msg.specs.declared.step.Given.{Given};
 ghost use Rattle.qc_msg.specs.declared.turn.Turn.{Turn};
-ghost use Rattle.qc_promise.specs.Account.{Account, new_account};
+ghost use Rattle.qc_promise.specs.Account.{Account, account_with, new_account};
 ghost use Rattle.qc_promise.specs.Accounting.{account_of, account_taken};
 ghost use Rattle.qc_promise.specs.Rows.{due, running_row};
 
@@ -35,6 +36,14 @@ pub fn accounts_are_their_clients()
         → Acts decl a ds false n
         → Ties decl (account_of decl (a - decl.sites) ds)
         (client_after decl (a - decl.sites) ds).client }
+{}
+
+/// As a client rises, its account is that of the records that it rose with,
+/// whatever it did before.
+#[tactic(auto, using(crate::proofs::Anew::begins_anew))]
+pub fn accounts_begin_anew()
+    ensures { (decl : Declaration) (client : ℕ) (ds : List Deed) (kept : List Record)
+        → account_of decl client (ds ++ Rises kept ∷ []) ≡ account_with client kept }
 {}
 
 /// A client's turn tells what the running command's row tells after its input,
