@@ -22,3 +22,4 @@ pub mod SiteReaches
 pub mod ActorFits
 pub mod Written
 pub mod LivesLaws
+pub mod ByTurns
