@@ -23,3 +23,4 @@ pub mod ActorFits
 pub mod Written
 pub mod LivesLaws
 pub mod ByTurns
+pub mod Answers

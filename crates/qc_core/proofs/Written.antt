@@ -209,7 +209,7 @@ pub record IsClientTurn (t : Turn) : Type 0 where
   pub fails : FailsAlone t.write t.failed_sends t.failed_told
   pub failed_sends : t.failed_sends ≡ []
 
-abbrev NoAnswer : Posting → Type 0
+abbrev pub NoAnswer : Posting → Type 0
 NoAnswer p = answer_in p.message ≡ None
 
 record IsAsking (t : Turn) : Type 0 where
