@@ -302,13 +302,13 @@ down_post t n is may = (done, ap (λ (end : Appended). deeds_as end n t) done �
 
 -- the input that is open
 
-record Opened (ds : List Deed) : Type 0 where
-  before : List Deed
-  given : Given
-  is : ds ≡ before ++ Takes given ∷ []
-  reach : MayReach (is_up before) given
+pub record Opened (ds : List Deed) : Type 0 where
+  pub before : List Deed
+  pub given : Given
+  pub is : ds ≡ before ++ Takes given ∷ []
+  pub reach : MayReach (is_up before) given
 
-opened : (decl : Declaration) (a : ℕ) (ds : List Deed) (b : Bool) (n : ℕ) → Lives decl a ds b n → b ≡ true → Opened ds
+pub opened : (decl : Declaration) (a : ℕ) (ds : List Deed) (b : Bool) (n : ℕ) → Lives decl a ds b n → b ≡ true → Opened ds
 opened decl a ds b n lives.starts is = absurd (let never : ⊥ = cc in never)
 opened decl a ds b n (lives.takes before g m life may comes) is = record { before = before; given = g; is = refl; reach = comes }
 opened decl a ds b n (lives.posts before turn m first life above lawful) is = absurd (let never : ⊥ = cc in never)
