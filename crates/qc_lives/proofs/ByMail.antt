@@ -1,5 +1,5 @@
 -- In each run with falls messages reach those whom they were sent to, and each actor goes by turns.
-use Rattle.std.proofs.Common.{◌≡◌, ℕ, ◌+◌, ◌<◌, ◌≤◌, Bool, true, false, List, [], ◌∷◌, ◌++◌, length, Option, Some, None, slice_get, refl, sym, ap, ◌∙◌, subst, arith}
+use Rattle.std.proofs.Common.{◌≡◌, ℕ, ◌+◌, ◌<◌, ◌≤◌, Bool, true, List, [], ◌∷◌, ◌++◌, length, Some, None, slice_get, refl, subst, arith}
 use Rattle.qc_core.specs.Conduct.{IsLawfulWithFalls}
 use Rattle.qc_core.proofs.Answers.{answers_rising, answers_taken}
 use Rattle.qc_core.proofs.ByTurns.{Opened, by_turns, opened}
@@ -9,19 +9,18 @@ use Rattle.qc_inbox.specs.Kept.{AreNumbered}
 use Rattle.qc_inbox.proofs.FallMail.{ready_sent, run_numbered}
 use Rattle.qc_inbox.proofs.Keeping.{same_mail}
 use Rattle.qc_laws.proofs.ByMail.{ready_lost}
-use Rattle.qc_laws.proofs.Commanded.{CallsAt, ready_called, uncommanded}
+use Rattle.qc_laws.proofs.Commanded.{ready_called, uncommanded}
 use Rattle.qc_laws.proofs.Delivered.{Delivered, posts_delivered, rises_delivered, step_delivered, takes_delivered}
 use Rattle.qc_laws.proofs.Places.{slice_get-within}
 use Rattle.qc_link.specs.Limits.{most_actors}
 use Rattle.qc_msg.specs.declared.record.Record.{Record}
 use Rattle.qc_msg.specs.declared.step.Control.{Control}
 use Rattle.qc_msg.specs.declared.step.Control.TheVariants as controls
-use Rattle.qc_msg.specs.declared.step.Fall.{Fall}
 use Rattle.qc_msg.specs.declared.step.Fall.TheVariants as causes
 use Rattle.qc_msg.specs.declared.step.Step.{Step}
 use Rattle.qc_msg.specs.declared.step.Step.TheVariants as steps
 use Rattle.qc_msg.specs.declared.turn.Turn.{Turn}
-use Rattle.qc_msg.specs.Deeds.{Deed, Rises, Takes, deeds, mail}
+use Rattle.qc_msg.specs.Deeds.{Deed, deeds, mail}
 use Rattle.qc_msg.specs.Steps.{Entry, by, marked, posted_as}
 use Rattle.qc_promise.specs.Mail.{IsMailed}
 use Rattle.qc_promise.specs.Turns.{AreByTurns}
