@@ -63,7 +63,7 @@ place_within (b ∷ bs) (suc a) t is = let further : a < length bs = place_withi
 deeds-fall : (a : ℕ) (h : List Entry) (cause : Fall) → deeds a [] (h ++ marked a (steps.Fell cause None) ∷ []) ≡ deeds a [] h ++ Falls cause None ∷ []
 deeds-fall a h cause = deeds-append a [] h (by a (fell cause None)) ∙ ap (λ (ds : List Deed). deeds a [] h ++ ds) (deeds-fell a (mail h) cause None)
 
-deeds-rise : (a : ℕ) (h : List Entry) (records : List Record) → deeds a [] (h ++ marked a (steps.Rose records) ∷ []) ≡ deeds a [] h ++ Rises records ∷ []
+pub deeds-rise : (a : ℕ) (h : List Entry) (records : List Record) → deeds a [] (h ++ marked a (steps.Rose records) ∷ []) ≡ deeds a [] h ++ Rises records ∷ []
 deeds-rise a h records = deeds-append a [] h (by a (steps.Rose records ∷ [])) ∙ ap (λ (ds : List Deed). deeds a [] h ++ ds) (deeds-rose a (mail h) records)
 
 up_of : (ds : List Deed) (u : Bool) → u ≡ not (is_down ds) → is_up ds ≡ u
@@ -142,7 +142,7 @@ module _ (decl : Declaration) (script : Script) where
     abbrev IsRun : List Entry → List Bool → Type 0
     IsRun h open_inputs = RunsWithFalls (IsLawfulWithFalls decl) fits decl script h open_inputs
 
-    run_long : (h : List Entry) (open_inputs : List Bool) → IsRun h open_inputs → length open_inputs ≡ actors decl
+    pub run_long : (h : List Entry) (open_inputs : List Bool) → IsRun h open_inputs → length open_inputs ≡ actors decl
     run_long h open_inputs begins = length-replicate (actors decl) false
     run_long h open_inputs (takes c given before older run free rdy) = length-slice_set before c true ∙ run_long older before run
     run_long h open_inputs (posts c turn before older run taken law) = length-slice_set before c false ∙ run_long older before run
@@ -183,7 +183,7 @@ module _ (decl : Declaration) (script : Script) where
     -- no input is open where a line is left
     closed : (h : List Entry) (open_inputs : List Bool) → IsRun h open_inputs → (line : Control) (lines : List Control) → controls_left script h ≡ line ∷ lines → (a : ℕ) (t : Bool) → slice_get open_inputs a ≡ Some t → t ≡ false
     closed h open_inputs run line lines left a false is = refl
-    closed h open_inputs run line lines left a true is = absurd (lines_close (IsLawfulWithFalls decl) fits decl script h open_inputs few (tells decl) run line lines left a is)
+    closed h open_inputs run line lines left a true is = absurd (lines_close (IsLawfulWithFalls decl) fits decl script h open_inputs few run line lines left a is)
 
     abbrev Old : List Entry → List Bool → Type 0
     Old older before = (a : ℕ) (t : Bool) → slice_get before a ≡ Some t → LivesIn decl a older t
@@ -241,7 +241,7 @@ module _ (decl : Declaration) (script : Script) where
             subst (λ (v : Bool). LivesIn decl c (older ++ by c (steps.Fell causes.Script None ∷ [])) v) (sym none)
             (lives_falls c causes.Script older
             (λ n life. lives.crashes (deeds c [] older) n life
-            (up_of (deeds c [] older) true (sym (crashes_up (IsLawfulWithFalls decl) fits decl script older before few (tells decl) run c lines left) ∙ up_in older before run c (low older before run c t here))))
+            (up_of (deeds c [] older) true (sym (crashes_up (IsLawfulWithFalls decl) fits decl script older before few run c lines left) ∙ up_in older before run c (low older before run c t here))))
             (subst (LivesIn decl c older) none r))
     run_lives h open_inputs (rises c records turn lines before older run left fit has law) a t is =
         by_line c a t older before (steps.Rose records ∷ posted_as turn.append (length (mail older)) turn) is (run_lives older before run) own
@@ -253,7 +253,7 @@ module _ (decl : Declaration) (script : Script) where
         own here r =
             subst (λ (v : Bool). LivesIn decl c (older ++ by c (steps.Rose records ∷ posted_as turn.append (length (mail older)) turn)) v) (sym none)
             (lives_rises c records turn older
-            (up_of (deeds c [] older) false (sym (restarts_down (IsLawfulWithFalls decl) fits decl script older before few (tells decl) run c lines left) ∙ up_in older before run c (low older before run c t here)))
+            (up_of (deeds c [] older) false (sym (restarts_down (IsLawfulWithFalls decl) fits decl script older before few run c lines left) ∙ up_in older before run c (low older before run c t here)))
             law (subst (LivesIn decl c older) none r))
     run_lives h open_inputs (damaged c offset lines before older run left) a t is =
         lives_on a t older (older ++ marked c (steps.Damaged offset) ∷ []) (deeds-silent a c older (steps.Damaged offset) (damage_silent offset))
@@ -269,6 +269,6 @@ module _ (decl : Declaration) (script : Script) where
             subst (λ (v : Bool). LivesIn decl c (older ++ by c (steps.Fell cause None ∷ [])) v) (sym none)
             (lives_falls c cause older
             (λ n life. lives.unopened (deeds c [] older) cause n life
-            (up_of (deeds c [] older) false (sym (restarts_down (IsLawfulWithFalls decl) fits decl script older before few (tells decl) run c lines left) ∙ up_in older before run c (low older before run c t here)))
+            (up_of (deeds c [] older) false (sym (restarts_down (IsLawfulWithFalls decl) fits decl script older before few run c lines left) ∙ up_in older before run c (low older before run c t here)))
             (by_disk cause disk))
             (subst (LivesIn decl c older) none r))
