@@ -1,0 +1,9 @@
+pub mod OneEpoch
+pub mod Free
+pub mod Asked
+pub mod Growing
+pub mod Stood
+pub mod Posting
+pub mod Rising
+pub mod RunsStand
+pub mod Reaching
