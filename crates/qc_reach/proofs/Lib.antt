@@ -7,3 +7,6 @@ pub mod Posting
 pub mod Rising
 pub mod RunsStand
 pub mod Reaching
+pub mod Written
+pub mod Sorted
+pub mod RunLaws
