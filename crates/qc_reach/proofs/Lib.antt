@@ -1,3 +1,4 @@
+pub mod Says
 pub mod OneEpoch
 pub mod Free
 pub mod Asked

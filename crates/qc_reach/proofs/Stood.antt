@@ -21,7 +21,8 @@ use Rattle.qc_net.proofs.Nets.{place}
 use Rattle.qc_laws.proofs.Places.{slice_get-more}
 use Rattle.qc_atomic.proofs.Stood.{apart}
 use Rattle.qc_reach.specs.Reached.{HasTaken, TakesInputs, actor_in}
-use Rattle.qc_reach.proofs.OneEpoch.{IsMailOfOneEpoch, IsOfOneEpoch}
+use Rattle.qc_reach.proofs.OneEpoch.{IsMailOfOneEpoch}
+use Rattle.qc_reach.proofs.Says.{IsOfOneEpoch}
 
 still_sent : (a : ℕ) (ms more : List Envelope) (g : Given) → WasSentTo a ms g → WasSentTo a (ms ++ more) g
 still_sent a ms more (given.Called command) sent = tt
