@@ -41,7 +41,7 @@ STATES = [*NAMES, "aa"]
 TEXTS = ["%s:%s" % (NAMES[event // 2], NAMES[event % 2]) for event in range(EVENTS)]
 START = "a a -"
 
-# The event that alone covers, in the lists but `own`.
+# The event that alone covers, in lists where one set does.
 LAST = EVENTS - 1
 
 
@@ -53,13 +53,14 @@ def looked_last(events):
 
 
 # A list is a step, from a state past 0 and an event to a state past 0, and groups:
-# view, log, whether all of the sets are kept where a type is cut short, and the sets.
+# view, log, which of the sets are kept where a type is cut short, and the sets.
+ALL, FIRST, ENDS = "all", "the first", "the first, and the last of all"
 
 
 def two(_seed):
     """Two events each, in 1,024 groups of 32 by 32 states."""
     sets = [(LAST,), *((event, LAST) for event in range(LAST - 1))]
-    groups = [(view, log, False, sets) for view in range(1, 33) for log in range(1, 33)]
+    groups = [(view, log, FIRST, sets) for view in range(1, 33) for log in range(1, 33)]
     random.Random(0).shuffle(groups)
     return (lambda state, event: 1 + (state + 7 * event) % 32), groups
 
@@ -71,7 +72,7 @@ def drawn(seed):
         found = {(LAST,)}
         while len(found) < MOST_ALIKE:
             found.add((*sorted(chance.sample(range(LAST), 3)), LAST))
-        groups.append((0, log, False, sorted(found, key=len)))
+        groups.append((0, log, FIRST, sorted(found, key=len)))
     return (lambda state, event: 1 + (state + event % 62) % 63), groups
 
 
@@ -79,7 +80,7 @@ def own(seed):
     """Four of 14 events each, in 63 groups of 1,001. Each set alone covers itself."""
     sets = list(itertools.combinations(range(50, 64), 4))
     random.Random(seed).shuffle(sets)
-    return (lambda state, event: 1 + (state + event % 62) % 63), [(0, log, False, sets) for log in range(1, 64)]
+    return (lambda state, event: 1 + (state + event % 62) % 63), [(0, log, FIRST, sets) for log in range(1, 64)]
 
 
 def ten(seed):
@@ -92,12 +93,75 @@ def ten(seed):
     asking = [(other, *seven, LAST) for seven in itertools.combinations(tens, 7) for other in range(apart)]
     chance.shuffle(asking)
     asking.sort(key=lambda events: not looked_last(events))
-    groups = [(0, 9, True, [()]), *((0, log, True, [(LAST,), *full]) for log in range(1, 9))]
-    groups += [(0, log, False, asking[:MOST_ALIKE]) for log in range(10, 64)]
+    groups = [(0, 9, ALL, [()]), *((0, log, ALL, [(LAST,), *full]) for log in range(1, 9))]
+    groups += [(0, log, FIRST, asking[:MOST_ALIKE]) for log in range(10, 64)]
     return (lambda state, event: 9 if state < 9 else 0 if state == 9 else 1 + (state + event) % 8), groups
 
 
-LISTS = {"two": two, "drawn": drawn, "own": own, "ten": ten}
+def on(state, event):
+    """The next state, which is another one of 63: an event leads each to one of its own."""
+    return 1 + (state + event % 62) % 63
+
+
+def pairs(seed):
+    """Two of 46 events each, in 63 groups of 1,024. Each set alone covers itself."""
+    sets = list(itertools.combinations(range(18, 64), 2))[:MOST_ALIKE]
+    random.Random(seed).shuffle(sets)
+    return on, [(0, log, FIRST, sets) for log in range(1, 64)]
+
+
+def six(seed):
+    """Six of 13 events each, in 63 groups of 1,024. Each set alone covers itself."""
+    sets = list(itertools.combinations(range(51, 64), 6))
+    random.Random(seed).shuffle(sets)
+    return on, [(0, log, FIRST, sets[:MOST_ALIKE]) for log in range(1, 64)]
+
+
+def last(seed):
+    """Three events each, in 63 groups of 1,024, of which the last set alone covers."""
+    chance, groups = random.Random(seed), []
+    for log in range(1, 64):
+        sets = [(*pair, LAST) for pair in itertools.combinations(range(LAST), 2)]
+        chance.shuffle(sets)
+        groups.append((0, log, ENDS, [*sets[:MOST_ALIKE - 1], (LAST,)]))
+    return on, groups
+
+
+def ones(seed):
+    """One event each, 64 sets in each of 799 groups. All is looked up in 14 groups
+    more, of 1,024 sets, of which the last 64 have one event each."""
+    chance, full, single = random.Random(seed), [], [(event,) for event in range(EVENTS)]
+    for view in range(1, 15):
+        sets = list(itertools.combinations(range(EVENTS), 2))
+        chance.shuffle(sets)
+        full.append((view, 1, ALL, [*sets[:MOST_ALIKE - EVENTS - 1], *single, () if view == 1 else sets[-1]]))
+    asking = [(view, log, FIRST, single) for view in range(2, 15) for log in range(2, 64)]
+    return (lambda _state, _event: 1), [*full, *asking[:799]]
+
+
+def some(count, events, seed):
+    """Two of so many events each, in as many groups of so many sets as there may be."""
+    side = int((65_535 / count) ** 0.5)
+    sets = list(itertools.combinations(range(EVENTS - events, EVENTS), 2))[:count]
+    random.Random(seed).shuffle(sets)
+    groups = [(view, log, FIRST, sets) for log in range(1, 65) for view in range(1, side + 1)]
+    return (lambda state, event: 1 + (state + 7 * event) % side), groups[: 65_535 // count]
+
+
+def few(seed):
+    """The most sets of a group that are looked at one by one."""
+    return some(96, 15, seed)
+
+
+def more(seed):
+    """One set more, so that they stand in a block."""
+    return some(97, 15, seed)
+
+
+LISTS = {
+    "two": two, "drawn": drawn, "own": own, "ten": ten, "pairs": pairs, "six": six, "last": last, "ones": ones,
+    "few": few, "more": more,
+}
 
 
 def texts(key, items):
@@ -113,11 +177,18 @@ def rows(step):
             yield "%s %s %s %s" % (STATES[state], NAMES[event // 2], NAMES[event % 2], STATES[to])
 
 
+def cut(sets, kept, most):
+    """The sets of a group, at most so many where it may be cut short."""
+    if kept == ALL or len(sets) <= most:
+        return sets
+    return sets[:most] if kept == FIRST else [*sets[: most - 1], sets[-1]]
+
+
 def triples(groups, most):
     """The triples, at most so many of a group that may be cut short."""
     yield START
-    for view, log, is_whole, sets in groups:
-        for events in sets if is_whole else sets[:most]:
+    for view, log, kept, sets in groups:
+        for events in cut(sets, kept, most):
             yield "%s %s %s" % (STATES[view], STATES[log], ",".join(TEXTS[e] for e in events) or "-")
 
 

@@ -34,7 +34,7 @@ EDITS = [
     # a client's records
     ("a client rises with clock 0", CLIENTS, "clock = max k.clock commit.stamp.clock", "clock = k.clock"),
     ("a client rises in its first life", CLIENTS, "      life = k.life;\n", "      life = first_life;\n"),
-    ("a client rises without its commits", CLIENTS, "      commits = k.commits;\n", "      commits = [];\n"),
+    ("a client rises without its commits", CLIENTS, "commits = k.commits;", "commits = [];"),
     ("a client that rose knows epoch 0", CLIENTS, "      epoch = first_epoch;\n      transaction",
      "      epoch = 0;\n      transaction"),
     # a site's

@@ -7,10 +7,10 @@ MODEL is the folder of the model, as for the tool in whose folder this one
 stands. This one writes crates/tests_due: laws that all is due in each history
 of crates/tests_histories; histories for the rows of the table of replies that
 those don't have (`later.py`, and one of too many operations); and wrong
-histories (`wrong_reads.py`, `wrong_commits.py`, `wrong_sites.py`), each with a
-law that refuses it. It writes specs/, proofs/ and src/ there, but not
-proofs/Owed.antt, Places.antt, Sites.antt, SitePlaces.antt and src/lib.rt;
-`rt fmt` then finds nothing to lay out.
+histories (`wrong_reads.py`, `wrong_asks.py`, `wrong_commits.py`,
+`wrong_sites.py`), each with a law that refuses it. It writes specs/, proofs/
+and src/ there, but not proofs/Owed.antt, Places.antt, Sites.antt,
+SitePlaces.antt and src/lib.rt; `rt fmt` then finds nothing to lay out.
 """
 
 import os
@@ -18,12 +18,13 @@ import sys
 
 sys.dont_write_bytecode = True
 import later
+import wrong_asks
 import wrong_commits
 import wrong_reads
 import wrong_sites
 from editing import Edited
 from modules import IMPORTS, filled, imported, variants, words_of
-from refusing import last_post, lemma_module, reply_at
+from refusing import FIRST_CLIENT, last_post, lemma_module, reply_at
 from runs import GROUP, WORKED, low
 from spelling import step as spelled_step
 
@@ -87,6 +88,8 @@ DUE = "Rattle.qc_promise.specs.Due.{Due}"
 REPLIES = "Rattle.qc_promise.specs.Replies.{AreRepliesDue}"
 SITES = "Rattle.qc_promise.specs.SiteDue.{AreDue}"
 DEEDS = "Rattle.qc_msg.specs.Deeds.{deeds}"
+# the first client of `@three`, and what it does
+FIRST = "0 (deeds 3 [] %s)"
 
 
 # Right histories.
@@ -101,13 +104,15 @@ def declared(name, source):
 
 
 def statement(name, source):
-    """That all is due in a history; in one of a row to come, that its replies are."""
-    return ("AreRepliesDue %s [] %s" if source == "LaterRows" else "Due %s %s") % declared(name, source)
+    """That all is due in a history; in one of a row to come, that its first client's deeds are."""
+    decl, history = declared(name, source)
+    return "AreRepliesDue %s %s" % (decl, FIRST % history) if source == "LaterRows" else "Due %s %s" % (decl, history)
 
 
 def lemma(name, source):
     decl, history = declared(name, source)
-    replies = "due_where_shown %s [] %s refl" % (decl, history)
+    replies = ("due_where_shown %s %s refl" % (decl, FIRST % history) if source == "LaterRows" else
+               "all_due_where_shown %s %s %s.clients refl" % (decl, history, decl))
     sites = "sites_due_where_posted %s %s %s.sites refl" % (decl, history, decl)
     value = replies if source == "LaterRows" else "record {\n  replies = %s;\n  sites = %s;\n}" % (replies, sites)
     return "\npub %s_due : %s\n%s_due = %s\n" % (name, statement(name, source), name, value)
@@ -118,7 +123,8 @@ def right(lemmas, doc, name, histories):
     body = "".join(lemma(n, s) for n, s in histories)
     used = words_of(body)
     words = [path for path in (
-        "Rattle.std.proofs.Common.{[], refl}", THREE, DUE, REPLIES, "Rattle.tests_due.proofs.Owed.{due_where_shown}",
+        "Rattle.std.proofs.Common.{%srefl}" % ("[], " if "[]" in used else ""), THREE, DEEDS, DUE, REPLIES,
+        "Rattle.tests_due.proofs.Owed.{all_due_where_shown}", "Rattle.tests_due.proofs.Owed.{due_where_shown}",
         "Rattle.tests_due.proofs.Sites.{sites_due_where_posted}") if set(words_of(path.split(".")[-1])) & used]
     write("proofs/%s.antt" % lemmas, "-- %s\n%s%s" % (doc, uses(words, histories), body))
     answers("right", name, lemmas, [n for n, _ in histories], "due")
@@ -150,7 +156,7 @@ def make_right(run, parts):
                        "all_is_due_in_%d_to_%d" % span, group))
     laws = "".join(right(*group) for group in groups)
     write("src/right.rt", "//! Right histories, in which all is due.\n\nghost use Rattle.std.specs.Prelude.{[]};\n"
-          + uses([THREE, DUE, REPLIES], worked + random + others, "ghost ") + laws)
+          + uses([THREE, DEEDS, DUE, REPLIES], worked + random + others, "ghost ") + laws)
     return ["LaterRows", "LongTransaction"], [group[0] for group in groups]
 
 
@@ -171,7 +177,9 @@ def make_wrong(run, kinds, source, head, words):
             named.append((name, wrong_is, history))
             if source == "wrong":
                 lemmas += reply_at(said, name, history, place, *rest[1:])
-                clauses.append((name, "AreRepliesDue three [] %s → ⊥" % said))
+                actor = history[place][0]
+                clauses.append((name, "AreRepliesDue three %d (deeds %d [] %s) → ⊥" % (
+                    actor - FIRST_CLIENT, actor, said)))
             else:
                 lemmas += last_post(said, name, history, rest[0], *rest[2:])
                 clauses.append((name, "AreDue three [] (deeds %d [] %s) → ⊥" % (rest[0], said)))
@@ -199,8 +207,9 @@ def main(words):
         return r.still.history
 
     specs, lemmas = make_right(run, parts)
-    wrong_files = make_wrong(run, wrong_reads.cases(*parts) + wrong_commits.cases(*parts), "wrong",
-                             "Wrong histories of clients, each refused.", [THREE, REPLIES])
+    wrong_clients = wrong_reads.cases(*parts) + wrong_asks.cases(*parts) + wrong_commits.cases(*parts)
+    wrong_files = make_wrong(run, wrong_clients, "wrong",
+                             "Wrong histories of clients, each refused.", [THREE, DEEDS, REPLIES])
     wrong_files += make_wrong(run, wrong_sites.cases(*parts), "wrong_sites", "Wrong histories of sites, each refused.",
                               [THREE, DEEDS, SITES])
     write("specs/Lib.antt", "".join("pub mod %s\n" % m for m in specs + wrong_files))

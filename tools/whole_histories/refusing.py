@@ -17,6 +17,9 @@ IMPORTS = (
     ("Rattle.tests_due.proofs.SitePlaces",
      ("clock_granted", "count_records", "count_sends", "first_answer", "holder_told", "lines_granted", "own_promised", "site_due_at")),
 )
+# the first client of `@three` as an actor, and the steps that are deeds of their actors
+FIRST_CLIENT = 3
+DEEDS = ("Called", "Got", "Lost", "Wrote", "Sent", "Told", "Fell", "Rose")
 NEVER = "let never : ⊥ = cc in never"
 # by what two replies, or two records, are told apart where their constructors are the same
 PARTS = {"client": "client_named", "number": "number_begun", "stamp": "clock_told", "commit": "count_written"}
@@ -31,23 +34,32 @@ def lemma_module(head, body, file, name):
     return out + variants(used) + "use Rattle.tests_due.specs.%s as %s\n" % (file, name) + body
 
 
+def deeds_before(history, place):
+    """How many deeds the actor of a step did before it."""
+    return sum(a == history[place][0] and kind(x) in DEEDS for a, x in history[:place])
+
+
 def reply_at(said, name, history, place, part, due):
-    """The step at a place is a client's reply, or its commit record."""
+    """The step at a place is a client's reply, or its commit record, or an input where a reply is untold."""
     x = history[place][1]
     told = "(Some %s)" % (term("replies.Committed", stamp(x.record.stamp)) if kind(x) == "Wrote" else
-                          "replies.Unknown" if kind(x.reply) == "Unknown" else spelled_reply(x.reply))
+                          "replies.Unknown" if kind(x.reply) == "Unknown" else
+                          spelled_reply(x.reply)) if part != "untold" else "None"
     commit = kind(x) == "Wrote" and "(Some (record { stamp = %s; tx = %s; ops = %s }))" % (
         stamp(x.record.stamp), tx(x.record.tx), listed(map(operation, x.record.ops)))
     left, right, field = {"record": ("None", due, 1), "commit": (due, commit, 1), "once": (commit, due, 2)}.get(
         part, (due, told, 0))
+    actor = history[place][0]
+    deeds = "%d (deeds %d [] %s)" % (actor - FIRST_CLIENT, actor, said)
     never = NEVER
     if part in PARTS:
         never = "let same : ◌≡◌ {A = ℕ} (%s %s) (%s %s) = ap %s e in %s" % (
             PARTS[part], left, PARTS[part], right, PARTS[part], never)
     return (
         "\n%s_differs : ◌≡◌ {A = Option %s} %s %s → ⊥\n%s_differs e = %s\n"
-        "\npub %s_refused : AreRepliesDue three [] %s → ⊥\n%s_refused all = %s_differs (due_at %d three [] %s all).%d\n"
-        % (name, "Commit" if field else "Reply", left, right, name, never, name, said, name, name, place, said, field))
+        "\npub %s_refused : AreRepliesDue three %s → ⊥\n%s_refused all = %s_differs (due_at %d three %s all).%d\n"
+        % (name, "Commit" if field else "Reply", left, right, name, never, name, deeds, name, name,
+           deeds_before(history, place), deeds, field))
 
 
 def last_post(said, name, history, site, part, due, posted):

@@ -107,11 +107,6 @@ def cases(step, msg, record, reply):
         h.put(k + 1, 3, h.step(k))
         return k + 1
 
-    def told_by_a_site(h):
-        k = h.told("Response")
-        h.steps[k][0] = 0
-        return k
-
     # Appends.
 
     def new_line_left_out(h):
@@ -199,7 +194,6 @@ def cases(step, msg, record, reply):
              "due", "(Some replies.Doomed)"),
             ("too_long_at_one", "TooLong is told of the first operation.", READ, too_long_at_one, "due", RESPONSE_0),
             ("told_twice", "One command gets two replies.", READ, told_twice, "due", NOTHING),
-            ("told_by_a_site", "A site tells the reply.", READ, told_by_a_site, "due", NOTHING),
             ("begins_twice", "A transaction begins though one is begun.", READ, begins_twice, "due",
              "(Some (replies.Already (tx 0 1)))"),
             ("begins_at_two", "The first transaction is number 2.", READ, begins_at_two, "number",

@@ -129,8 +129,8 @@ module _ (decl : Declaration) where
   one_open d (Writes w) q untaken among = inl (written_open d w q among, tt)
   one_open d (Sends n to m) q untaken among = elim (sent_open d n to m q among) [ inl old ↦ inl (old, tt) | inr new ↦ inr new ]
   one_open d (Tells reply) q untaken among = absurd among
-  one_open d (Falls cause pending) q untaken among = inl (among, tt)
-  one_open d (Rises records) q untaken among = inl (among, tt)
+  one_open d (Falls cause pending) q untaken among = absurd among
+  one_open d (Rises kept) q untaken among = absurd among
 
   came : (ds : List Deed) (d : Account) (q : ClientRequest) → q.taken ≡ None → In q (fold (account_at decl) d ds).requests → (In q d.requests × Every (IsNotFor q.number) ds) ⊎ IsAwaited ds q
   came [] d q untaken among = inl (among, tt)

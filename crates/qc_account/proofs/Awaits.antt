@@ -29,7 +29,7 @@ use Rattle.qc_plan.specs.Round.{all_noted, has_granted, refusal, settled, verdic
 use Rattle.qc_plan.specs.Weights.{weight}
 use Rattle.qc_promise.specs.Account.{Account, ClientRequest, Current, is_append, is_read}
 use Rattle.qc_promise.specs.Rounds.{answer_of, asked_by, resp_of, round_of, weights_of}
-use Rattle.qc_promise.specs.Rows.{answer_row, append_row, due, read_row}
+use Rattle.qc_promise.specs.Rows.{answer_row, append_row, running_row, read_row}
 use Rattle.qc_account.specs.Calls.{call_of, calls_in}
 use Rattle.qc_account.specs.Goes.{Holds}
 use Rattle.qc_account.specs.Told.{front_of}
@@ -90,12 +90,12 @@ granted_met decl d t half need all enough =
     (le-leb need (weight (has_granted (round_of decl d t half need).asked) (weights_of decl t.epoch)) enough)
 
 granted_absent : (decl : Declaration) (d : Account) (t : Current) (object inv : ℕ) → IsDo d t object inv → Every IsGranted d.requests → IsEnough decl d t is_read (read_need_of decl t.epoch object inv)
-    → answer_of decl t object inv ≡ None → due decl d [] ≡ Some replies.Absent
+    → answer_of decl t object inv ≡ None → running_row decl d false ≡ Some replies.Absent
 granted_absent decl d t object inv r all enough none =
     do_row_is decl d t object inv r ∙ ap (read_row decl d t object inv) (granted_met decl d t is_read (read_need_of decl t.epoch object inv) all enough) ∙ ap (answer_row decl d t object) none
 
 granted_answered : (decl : Declaration) (d : Account) (t : Current) (object inv event : ℕ) → IsDo d t object inv → Every IsGranted d.requests → IsEnough decl d t is_read (read_need_of decl t.epoch object inv)
-    → answer_of decl t object inv ≡ Some event → IsEnough decl d t is_append (append_need_of decl t.epoch object event) → due decl d [] ≡ Some (replies.Response (resp_of decl object event))
+    → answer_of decl t object inv ≡ Some event → IsEnough decl d t is_append (append_need_of decl t.epoch object event) → running_row decl d false ≡ Some (replies.Response (resp_of decl object event))
 granted_answered decl d t object inv event r all enough some appended =
     do_row_is decl d t object inv r ∙ ap (read_row decl d t object inv) (granted_met decl d t is_read (read_need_of decl t.epoch object inv) all enough) ∙ ap (answer_row decl d t object) some
     ∙ ap (append_row decl object event) (granted_met decl d t is_append (append_need_of decl t.epoch object event) all appended)
@@ -106,7 +106,7 @@ module _ (decl : Declaration) (a : ℕ) (client : is_client decl a ≡ true) (ds
   pub clients_wait : NoneRuns (account_of decl a client ds).command ⊎ IsWaiting (account_of decl a client ds)
   clients_wait = tied_waits decl (account_of decl a client ds) (move_of decl a client ds).client (clients_hold decl a client ds n acts) (clients_tied decl a client ds n acts)
 
-  pub clients_owe_nothing : due decl (account_of decl a client ds) [] ≡ None
+  pub clients_owe_nothing : running_row decl (account_of decl a client ds) false ≡ None
   clients_owe_nothing = tied_none decl (account_of decl a client ds) (move_of decl a client ds).client (clients_hold decl a client ds n acts) (clients_tied decl a client ds n acts)
 
 -- so a `do` that everybody grants is told its answer

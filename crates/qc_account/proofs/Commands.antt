@@ -26,7 +26,7 @@ use Rattle.qc_promise.specs.Account.{Account, ClientRequest, new_account}
 use Rattle.qc_promise.specs.Accounting.{account_at, account_heard, account_sent, account_written, counted, counted_for, granted, is_open, promised, taken_for, told_by}
 use Rattle.qc_promise.specs.Asked.{is_asked_for}
 use Rattle.qc_site.specs.Conduct.{site_after}
-use Rattle.qc_account.specs.Goes.{MayGive}
+use Rattle.qc_promise.specs.Replies.{IsFreeFor}
 use Rattle.qc_laws.proofs.Up.{AreUp, IsUp}
 
 granted_command : (d : Account) (site life clock : ℕ) (log : List Line) (w : Want) → (granted d site life clock log w).command ≡ d.command
@@ -108,7 +108,7 @@ runs_on decl (x ∷ ds) d up = ap (λ (b : Bool). fold runs_at b ds) (runs_step 
 pub running : (decl : Declaration) (client : ℕ) (ds : List Deed) → AreUp ds → is_running ds ≡ is_some (fold (account_at decl) (new_account client) ds).command
 running decl client ds up = runs_on decl ds (new_account client) up
 
-pub may_give : (decl : Declaration) (client : ℕ) (ds : List Deed) → AreUp ds → (g : Given) → MayTake ds g → MayGive (fold (account_at decl) (new_account client) ds) g
+pub may_give : (decl : Declaration) (client : ℕ) (ds : List Deed) → AreUp ds → (g : Given) → MayTake ds g → IsFreeFor (fold (account_at decl) (new_account client) ds) g
 may_give decl client ds up (given.Called command) may = by (fold (account_at decl) (new_account client) ds).command (sym (running decl client ds up) ∙ may)
   where
     by : (o : Option Command) → is_some o ≡ false → o ≡ None

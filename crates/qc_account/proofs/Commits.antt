@@ -37,7 +37,7 @@ use Rattle.qc_promise.specs.Account.{Account, ClientRequest, Current, is_prepare
 use Rattle.qc_promise.specs.Accounting.{account_told}
 use Rattle.qc_promise.specs.Asked.{command_asks, is_this}
 use Rattle.qc_promise.specs.Rounds.{are_votes_in, first_against, participants}
-use Rattle.qc_promise.specs.Rows.{due, vote_row}
+use Rattle.qc_promise.specs.Rows.{running_row, vote_row}
 use Rattle.qc_account.specs.Calls.{AreApart, ballot_of, calls_in}
 use Rattle.qc_account.specs.Goes.{Goes}
 use Rattle.qc_account.specs.Told.{begun_of, front_of, transaction_of}
@@ -87,17 +87,17 @@ module _ (decl : Declaration) (number : ℕ) (d : Account) (t : Current) (asked 
     desk = record { client = refl; clock = (let same : n ≡ n = refl in omega arith); epoch = (let sum : max epoch desk_epoch ≡ d.known = known in omega arith); voting = refl };
   })
 
-  gives_up_go : (f : Desk) (qs : List ClientRequest) (voting : Option Voting) (why : Why) → due decl (commit_at d t qs) [] ≡ Some (replies.Aborted why)
+  gives_up_go : (f : Desk) (qs : List ClientRequest) (voting : Option Voting) (why : Why) → running_row decl (commit_at d t qs) false ≡ Some (replies.Aborted why)
       → Goes decl number (commit_at d t qs) (by_desk (record { front = front; desk = f }) (desks.gives_up (desk voting) b why))
   gives_up_go f qs voting why is =
-      ends_goes decl number (commit_at d t qs) b outcomes.Aborted (replies.Aborted why) (record { front = ended front d.clock desk_epoch; desk = desk None }) (is, refl)
+      ends_goes decl number (commit_at d t qs) b outcomes.Aborted (replies.Aborted why) (record { front = ended front d.clock desk_epoch; desk = desk None }) (is, refl, refl)
       (end_ties d.clock commits (omega arith))
 
-  pub decides_go : (f : Desk) (qs : List ClientRequest) (voting : Option Voting) → due decl (commit_at d t qs) [] ≡ Some (replies.Committed next)
+  pub decides_go : (f : Desk) (qs : List ClientRequest) (voting : Option Voting) → running_row decl (commit_at d t qs) false ≡ Some (replies.Committed next)
       → Goes decl number (commit_at d t qs) (by_desk (record { front = front; desk = f }) (desks.decides (desk voting) b))
   decides_go f qs voting is = record {
     tells = sym is;
-    due = ((is, refl, refl), decided_due decl number b (outcomes.Committed next) wrote number asked (Tells (replies.Committed next) ∷ []) ((is, refl), tt));
+    due = ((is, refl, refl), decided_due decl number b (outcomes.Committed next) wrote number asked (Tells (replies.Committed next) ∷ []) ((is, refl, refl), tt));
     ties =
         subst (λ (e : Account). Ties decl e (fold (client_does decl) move (sends_of number (decisions b (outcomes.Committed next)) ++ Tells (replies.Committed next) ∷ [])).client)
         (sym (decided_account decl number b (outcomes.Committed next) wrote number asked (Tells (replies.Committed next) ∷ [])))
@@ -114,11 +114,11 @@ module _ (decl : Declaration) (number : ℕ) (d : Account) (t : Current) (asked 
   -- the votes, as they stand
 
   votes_row : (qs : List ClientRequest) → Every (IsPrepare t) qs → sites_in qs ≡ participants decl d t → list_all (λ (q : ClientRequest). is_some q.taken) qs ≡ true
-      → due decl (commit_at d t qs) [] ≡ vote_row (commit_at d t qs) [] (first_against qs)
+      → running_row decl (commit_at d t qs) false ≡ vote_row (commit_at d t qs) false (first_against qs)
   votes_row qs all sites taken =
-      ap (λ (z : Bool). cond z (Some (replies.Aborted causes.Doomed)) (cond (are_votes_in decl (commit_at d t qs) t) (vote_row (commit_at d t qs) [] (first_against (filter (λ (q : ClientRequest). is_prepare q.want) qs))) None)) live
-      ∙ ap (λ (z : Bool). cond z (vote_row (commit_at d t qs) [] (first_against (filter (λ (q : ClientRequest). is_prepare q.want) qs))) None) in_are
-      ∙ ap (λ (hs : List ClientRequest). vote_row (commit_at d t qs) [] (first_against hs)) (all_prepare t qs all)
+      ap (λ (z : Bool). cond z (Some (replies.Aborted causes.Doomed)) (cond (are_votes_in decl (commit_at d t qs) t) (vote_row (commit_at d t qs) false (first_against (filter (λ (q : ClientRequest). is_prepare q.want) qs))) None)) live
+      ∙ ap (λ (z : Bool). cond z (vote_row (commit_at d t qs) false (first_against (filter (λ (q : ClientRequest). is_prepare q.want) qs))) None) in_are
+      ∙ ap (λ (hs : List ClientRequest). vote_row (commit_at d t qs) false (first_against hs)) (all_prepare t qs all)
     where
       same_length : length (participants decl d t) ≡ length (filter (λ (q : ClientRequest). is_prepare q.want) qs)
       same_length = ap (λ (v : List ℕ). length v) (sym sites) ∙ length-map qs (λ (q : ClientRequest). q.site) ∙ ap (λ (hs : List ClientRequest). length hs) (sym (all_prepare t qs all))
@@ -132,10 +132,10 @@ module _ (decl : Declaration) (number : ℕ) (d : Account) (t : Current) (asked 
   last_false true = refl
   last_false false = refl
 
-  pub votes_out : (qs : List ClientRequest) → Every (IsPrepare t) qs → list_all (λ (q : ClientRequest). is_some q.taken) qs ≡ false → due decl (commit_at d t qs) [] ≡ None
+  pub votes_out : (qs : List ClientRequest) → Every (IsPrepare t) qs → list_all (λ (q : ClientRequest). is_some q.taken) qs ≡ false → running_row decl (commit_at d t qs) false ≡ None
   votes_out qs all open_still =
-      ap (λ (z : Bool). cond z (Some (replies.Aborted causes.Doomed)) (cond (are_votes_in decl (commit_at d t qs) t) (vote_row (commit_at d t qs) [] (first_against (filter (λ (q : ClientRequest). is_prepare q.want) qs))) None)) live
-      ∙ ap (λ (z : Bool). cond z (vote_row (commit_at d t qs) [] (first_against (filter (λ (q : ClientRequest). is_prepare q.want) qs))) None) out
+      ap (λ (z : Bool). cond z (Some (replies.Aborted causes.Doomed)) (cond (are_votes_in decl (commit_at d t qs) t) (vote_row (commit_at d t qs) false (first_against (filter (λ (q : ClientRequest). is_prepare q.want) qs))) None)) live
+      ∙ ap (λ (z : Bool). cond z (vote_row (commit_at d t qs) false (first_against (filter (λ (q : ClientRequest). is_prepare q.want) qs))) None) out
     where
       out : are_votes_in decl (commit_at d t qs) t ≡ false
       out =
@@ -169,8 +169,8 @@ module _ (decl : Declaration) (number : ℕ) (d : Account) (t : Current) (asked 
     where
       out : list_all (λ (q : ClientRequest). is_some q.taken) qs ≡ true → (o : Option Why) → first_against qs ≡ o
           → Goes decl number (commit_at d t qs) (by_desk (record { front = front; desk = f }) (desks.counted_out (desk voting) b o))
-      out taken (Some why) is = gives_up_go f qs voting why (votes_row qs all sites taken ∙ ap (vote_row (commit_at d t qs) []) is)
-      out taken None is = decides_go f qs voting (votes_row qs all sites taken ∙ ap (vote_row (commit_at d t qs) []) is)
+      out taken (Some why) is = gives_up_go f qs voting why (votes_row qs all sites taken ∙ ap (vote_row (commit_at d t qs) false) is)
+      out taken None is = decides_go f qs voting (votes_row qs all sites taken ∙ ap (vote_row (commit_at d t qs) false) is)
 
       by : (z : Bool) → list_all (λ (q : ClientRequest). is_some q.taken) qs ≡ z
           → Goes decl number (commit_at d t qs) (by_desk (record { front = front; desk = f }) (desks.counts (desk voting) b (calls_in qs) (map (ballot_of b) qs)))
@@ -208,8 +208,8 @@ module _ (decl : Declaration) (number : ℕ) (d : Account) (t : Current) (asked 
   pub votes_start : (f : Desk) → (length (participants decl d t) == 0) ≡ false → Goes decl number (commit_at d t [])
       (by_desk (record { front = front; desk = f }) (desk_moved (desk (Some (record { begun = b; calls = []; ballots = blank (participants decl d t) }))) (sending (map (ballots.prepares b) (participants decl d t)))))
   votes_start f some = record {
-    tells = sym (ap (λ (z : Bool). cond z (Some (replies.Aborted causes.Doomed)) (cond ((length (participants decl d t) == 0) && true) (vote_row (commit_at d t []) [] None) None)) live
-        ∙ ap (λ (z : Bool). cond (z && true) (vote_row (commit_at d t []) [] None) None) some);
+    tells = sym (ap (λ (z : Bool). cond z (Some (replies.Aborted causes.Doomed)) (cond ((length (participants decl d t) == 0) && true) (vote_row (commit_at d t []) false None) None)) live
+        ∙ ap (λ (z : Bool). cond (z && true) (vote_row (commit_at d t []) false None) None) some);
     due = a.due;
     ties = a.ties;
   }

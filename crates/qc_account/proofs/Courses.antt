@@ -14,13 +14,15 @@ use Rattle.qc_msg.specs.Deeds.{Deed, Takes, turn_deeds}
 use Rattle.qc_msg.specs.Turns.{quiet}
 use Rattle.qc_promise.specs.Account.{Account, new_account}
 use Rattle.qc_promise.specs.Accounting.{account_at, account_taken}
-use Rattle.qc_promise.specs.Rows.{due}
+use Rattle.qc_promise.specs.Replies.{IsInputDue}
+use Rattle.qc_promise.specs.Rows.{running_row}
 use Rattle.qc_account.specs.DeedsDue.{AreDeedsDue}
 use Rattle.qc_account.specs.Goes.{Goes, Holds}
 use Rattle.qc_account.specs.Ties.{Ties, rests}
 use Rattle.qc_account.proofs.Asks.{due_more}
 use Rattle.qc_account.proofs.Commands.{lawful_turn, may_give}
 use Rattle.qc_account.proofs.Fits.{takes_fit}
+use Rattle.qc_account.proofs.Nothing.{tied_none}
 use Rattle.qc_account.proofs.Step.{takes_go}
 use Rattle.qc_laws.proofs.Up.{AreUp, acts_up}
 
@@ -68,11 +70,14 @@ module _ (decl : Declaration) (a : ℕ) (client : is_client decl a ≡ true) whe
   account_take : (ds : List Deed) (g : Given) → account_of (ds ++ Takes g ∷ []) ≡ account_taken (account_of ds) g
   account_take ds g = fold-append (account_at decl) (new_account (a - decl.sites)) ds (Takes g ∷ [])
 
+  input_due : (ds : List Deed) (g : Given) → IsAtRest ds → AreUp ds → MayTake ds g → IsInputDue (account_of ds) (running_row decl (account_of ds) false) g
+  input_due ds g r up may = (tied_none decl (account_of ds) (move_of ds).client r.holds r.ties, may_give decl (a - decl.sites) ds up g may)
+
   at_turn : (ds : List Deed) (g : Given) (first : ℕ) → IsAtRest ds → AreUp ds → MayTake ds g
       → IsAtRest ((ds ++ Takes g ∷ []) ++ turn_deeds first (client_takes decl (move_of ds).client g).turn)
   at_turn ds g first r up may = record {
     due = due_more decl (new_account (a - decl.sites)) (ds ++ Takes g ∷ []) (turn_deeds first move.turn)
-        (due_more decl (new_account (a - decl.sites)) ds (Takes g ∷ []) r.due (tt, tt))
+        (due_more decl (new_account (a - decl.sites)) ds (Takes g ∷ []) r.due (input_due ds g r up may, tt))
         (subst (λ (d : Account). AreDeedsDue decl d (turn_deeds first move.turn)) (sym (account_take ds g)) goes.due);
     ties = subst (λ (d : Account). Ties decl d (move_of ((ds ++ Takes g ∷ []) ++ turn_deeds first move.turn)).client)
         (sym (fold-append (account_at decl) (new_account (a - decl.sites)) (ds ++ Takes g ∷ []) (turn_deeds first move.turn) ∙ ap (λ (d : Account). fold (account_at decl) d (turn_deeds first move.turn)) (account_take ds g)))
@@ -109,7 +114,7 @@ module _ (decl : Declaration) (a : ℕ) (client : is_client decl a ≡ true) whe
     where
       by : (z : Bool) → IsAt ds z → AreDeedsDue decl (new_account (a - decl.sites)) ds
       by false at = at.due
-      by true at = subst (AreDeedsDue decl (new_account (a - decl.sites))) (sym at.is) (due_more decl (new_account (a - decl.sites)) at.before (Takes at.given ∷ []) at.rest.due (tt, tt))
+      by true at = subst (AreDeedsDue decl (new_account (a - decl.sites))) (sym at.is) (due_more decl (new_account (a - decl.sites)) at.before (Takes at.given ∷ []) at.rest.due (input_due at.before at.given at.rest at.up at.may, tt))
 
   pub clients_tied : (ds : List Deed) (n : ℕ) → Acts decl a ds false n → Ties decl (account_of ds) (move_of ds).client
   clients_tied ds n acts = (client_acts ds false n acts).ties
@@ -117,9 +122,9 @@ module _ (decl : Declaration) (a : ℕ) (client : is_client decl a ≡ true) whe
   pub clients_hold : (ds : List Deed) (n : ℕ) → Acts decl a ds false n → Holds decl (move_of ds).client
   clients_hold ds n acts = (client_acts ds false n acts).holds
 
-  pub turns_tell : (ds : List Deed) (n : ℕ) (turn : Turn) → Acts decl a ds true n → IsLawful decl a ds turn → turn.told ≡ due decl (account_of ds) []
+  pub turns_tell : (ds : List Deed) (n : ℕ) (turn : Turn) → Acts decl a ds true n → IsLawful decl a ds turn → turn.told ≡ running_row decl (account_of ds) false
   turns_tell ds n turn acts law =
       let at : IsAtInput ds = client_acts ds true n acts in
       ap (λ (t : Turn). t.told) (lawful_turn decl a ds turn client law ∙ ap (λ (v : List Deed). (move_of v).turn) at.is ∙ ap (λ (m : ClientMove). m.turn) (after_take at.before at.given))
       ∙ (takes_go decl 0 (account_of at.before) (move_of at.before).client at.rest.holds at.given (may_give decl (a - decl.sites) at.before at.up at.given at.may) at.rest.ties).tells
-      ∙ sym (ap (λ (v : List Deed). due decl (account_of v) []) at.is ∙ ap (λ (d : Account). due decl d []) (account_take at.before at.given))
+      ∙ sym (ap (λ (v : List Deed). running_row decl (account_of v) false) at.is ∙ ap (λ (d : Account). running_row decl d false) (account_take at.before at.given))

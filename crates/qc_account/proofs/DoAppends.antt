@@ -1,7 +1,8 @@
 -- A `do` that appends: whatever its round comes to is due.
-use Rattle.std.proofs.Common.{◌≡◌, ℕ, ◌+◌, ◌==◌, ◌&&◌, ◌||◌, not, nat_le, Bool, true, false, cond, List, [], ◌∷◌, ◌++◌, length, map, filter, drop, Option, Some, None, refl, sym, ap, ◌∙◌, subst, eq-eqb}
+use Rattle.std.proofs.Common.{◌≡◌, ℕ, ◌+◌, ◌==◌, ◌&&◌, ◌||◌, not, nat_le, Bool, true, false, cond, List, [], ◌∷◌, ◌++◌, length, map, filter, Option, Some, None, refl, sym, ap, ◌∙◌, subst, eq-eqb}
 use Rattle.std.specs.Prelude.{fold}
 use Rattle.std.specs.List.{AllByRecursion as Every}
+use Rattle.std.specs.Option.{option_map_or}
 use Rattle.std.specs.Ordering.{is_eq}
 use Rattle.std.specs.Cmp.Lexicographic.{pointwise}
 use Rattle.std.proofs.lemmas.Cmp.{tied_itself}
@@ -16,7 +17,7 @@ use Rattle.qc_entry.specs.declared.line.OwnLine.{OwnLine}
 use Rattle.qc_entry.proofs.Orders.{line_order}
 use Rattle.qc_plan.specs.declared.standing.Verdict.{Verdict}
 use Rattle.qc_plan.specs.declared.standing.Verdict.TheVariants as verdicts
-use Rattle.qc_plan.specs.Round.{RoundState, asking_all, first, verdict, wanted}
+use Rattle.qc_plan.specs.Round.{RoundState, asking_all, next_site, verdict, wanted}
 use Rattle.qc_view.specs.declared.view.View.{View}
 use Rattle.qc_commit.specs.declared.desk.Desk.{Desk}
 use Rattle.qc_front.specs.declared.doing.Doing.{Doing}
@@ -25,9 +26,8 @@ use Rattle.qc_front.specs.declared.front.Front.{Front}
 use Rattle.qc_front.specs.declared.transaction.Transaction.{Transaction}
 use Rattle.qc_front.specs.Answering.{with_event}
 use Rattle.qc_front.specs.Appending.{append_want}
-use Rattle.qc_front.specs.Holds.{IsPrefix, RecordsHold}
+use Rattle.qc_front.specs.Holds.{RecordsHold}
 use Rattle.qc_front.specs.Rounds as fronts
-use Rattle.qc_front.proofs.Awaited.{wanted_is}
 use Rattle.qc_client.specs.declared.client.Client.{Client}
 use Rattle.qc_client.specs.Client.{by_front}
 use Rattle.qc_msg.specs.declared.call.Call.{Call}
@@ -44,11 +44,12 @@ use Rattle.qc_promise.specs.Account.{Account, ClientRequest, Current, is_append,
 use Rattle.qc_promise.specs.Accounting.{doomed_if, with_response}
 use Rattle.qc_promise.specs.Asked.{are_reads_met, carries, command_asks, is_met, is_next_voter, is_this, own_appended, same_line, same_own}
 use Rattle.qc_promise.specs.Rounds.{answer_of, asked_by, resp_of}
-use Rattle.qc_promise.specs.Rows.{answer_row, append_row, due, read_row}
+use Rattle.qc_promise.specs.Rows.{answer_row, append_row, running_row, read_row}
 use Rattle.qc_account.specs.Calls.{calls_in}
 use Rattle.qc_account.specs.Goes.{Goes}
 use Rattle.qc_account.specs.Told.{IsOpenIn, front_of, transaction_of}
 use Rattle.qc_account.specs.Ties.{IsIdleDesk, Ties, appends}
+use Rattle.qc_account.proofs.Nexts.{first_wanted}
 use Rattle.qc_account.proofs.Halves.{clash_asked, closed_asked, round_asked, round_at, round_from, round_one}
 use Rattle.qc_account.proofs.Asks.{asking}
 use Rattle.qc_account.proofs.Requests.{calls_more, calls_new, every_new, request_at, requests_from}
@@ -67,28 +68,23 @@ pub record Runs (decl : Declaration) (d : Account) (desk : Desk) (t : Current) (
   pub logs : LogsAre (view_of t) views
   pub desk_is : IsIdleDesk d desk
 
--- the sites that a half asks next
-pub record IsNext (decl : Declaration) (d : Account) (t : Current) (half : Want → Bool) (qs : List ClientRequest) (ss : List ℕ) : Type 0 where
-  pub more : List ℕ
-  pub is : (round_at decl d t half 0 qs).rest ≡ ss ++ more
+-- the sites that a half asks next: those that its round wants
 
-pub next_one : (decl : Declaration) (d : Account) (t : Current) (half : Want → Bool) (want : Want) → half want ≡ true → (qs : List ClientRequest) (n site : ℕ) (ss : List ℕ) → IsNext decl d t half qs (site ∷ ss)
-    → IsNext decl d t half (qs ++ request_at n t want site ∷ []) ss
-next_one decl d t half want is qs n site ss next = record {
-  more = next.more;
-  is = ap (λ (r : RoundState). r.rest) (round_one decl d t half 0 qs n want site is) ∙ ap (λ (v : List ℕ). drop 1 v) next.is;
-}
+abbrev pub IsNext : Declaration → Account → Current → (Want → Bool) → ℕ → List ClientRequest → List ℕ → Type 0
+IsNext decl d t half need qs ss = wanted (round_at decl d t half need qs) ≡ ss
 
-pub next_voter : (decl : Declaration) (d : Account) (t : Current) (half : Want → Bool) (qs : List ClientRequest) (site : ℕ) (ss : List ℕ) → IsNext decl d t half qs (site ∷ ss)
-    → is_this site (first (round_at decl d t half 0 qs).rest) ≡ true
-next_voter decl d t half qs site ss next = ap (λ (v : List ℕ). is_this site (first v)) next.is ∙ eq-eqb site site refl
+pub next_one : (decl : Declaration) (d : Account) (t : Current) (half : Want → Bool) (need : ℕ) (want : Want) → half want ≡ true → (qs : List ClientRequest) (n site : ℕ) (ss : List ℕ) → IsNext decl d t half need qs (site ∷ ss)
+    → IsNext decl d t half need (qs ++ request_at n t want site ∷ []) ss
+next_one decl d t half need want is qs n site ss next =
+    ap (λ (r : RoundState). wanted r) (round_one decl d t half need qs n want site is) ∙ (first_wanted (round_at decl d t half need qs) site ss next).1
 
-pub wants_next : (decl : Declaration) (d : Account) (t : Current) (half : Want → Bool) (need : ℕ) (qs : List ClientRequest) → IsNext decl d t half qs (wanted (round_at decl d t half need qs))
-wants_next decl d t half need qs = let p : IsPrefix (wanted (round_at decl d t half need qs)) (round_at decl d t half need qs).rest = wanted_is (round_at decl d t half need qs) in record { more = p.more; is = sym p.is }
+pub next_voter : (decl : Declaration) (d : Account) (t : Current) (half : Want → Bool) (need : ℕ) (qs : List ClientRequest) (site : ℕ) (ss : List ℕ) → IsNext decl d t half need qs (site ∷ ss)
+    → is_this site (next_site (round_at decl d t half need qs)) ≡ true
+next_voter decl d t half need qs site ss next = ap (λ (o : Option ℕ). is_this site o) (first_wanted (round_at decl d t half need qs) site ss next).0 ∙ eq-eqb site site refl
 
 -- the row of a `do` that nothing refuses at once
 pub due_do : (decl : Declaration) (d : Account) (desk : Desk) (t : Current) (views : List View) (object inv : ℕ) (qs : List ClientRequest) → Runs decl d desk t views
-    → due decl (run d t object inv qs) [] ≡ read_row decl (run d t object inv qs) t object inv (verdict (round_at decl d t is_read (read_need_of decl t.epoch object inv) qs))
+    → running_row decl (run d t object inv qs) false ≡ read_row decl (run d t object inv qs) t object inv (verdict (round_at decl d t is_read (read_need_of decl t.epoch object inv) qs))
 due_do decl d desk t views object inv qs k =
     ap (λ (b : Bool). cond b (Some replies.Doomed) (cond (nat_le most_transaction_operations (length t.ops)) (Some replies.TooLong) row)) k.live
     ∙ ap (λ (b : Bool). cond b (Some replies.TooLong) row) k.room
@@ -140,7 +136,7 @@ module _ (decl : Declaration) (number : ℕ) (d : Account) (desk : Desk) (t : Cu
   want_is : append_want decl x object event ≡ want
   want_is = ap (λ (v : List Line). Append object v (own_appended decl t object event)) (view_same decl t asked views object inv event k.records k.logs chosen)
 
-  pub row_is : (qs : List ClientRequest) → verdict (read_round qs) ≡ verdicts.Met → due decl (run d t object inv qs) [] ≡ append_row decl object event (verdict (round qs))
+  pub row_is : (qs : List ClientRequest) → verdict (read_round qs) ≡ verdicts.Met → running_row decl (run d t object inv qs) false ≡ append_row decl object event (verdict (round qs))
   row_is qs met =
       due_do decl d desk t views object inv qs k
       ∙ ap (λ (v : Verdict). read_row decl (run d t object inv qs) t object inv v) met
@@ -167,7 +163,7 @@ module _ (decl : Declaration) (number : ℕ) (d : Account) (desk : Desk) (t : Cu
   -- further sites are asked
 
   abbrev P : List ClientRequest → List ℕ → Type 0
-  P qs ss = (verdict (read_round qs) ≡ verdicts.Met) × IsNext decl d t is_append qs ss
+  P qs ss = (verdict (read_round qs) ≡ verdicts.Met) × IsNext decl d t is_append (append_need_of decl t.epoch object event) qs ss
 
   same_reads : (qs new : List ClientRequest) → filter (λ (q : ClientRequest). is_read q.want) new ≡ [] → filter (λ (q : ClientRequest). is_read q.want) (qs ++ new) ≡ filter (λ (q : ClientRequest). is_read q.want) qs
   same_reads qs new none = filter-append (λ (q : ClientRequest). is_read q.want) qs new ∙ ap (λ (v : List ClientRequest). filter (λ (q : ClientRequest). is_read q.want) qs ++ v) none ∙ append-nil (filter (λ (q : ClientRequest). is_read q.want) qs)
@@ -175,16 +171,20 @@ module _ (decl : Declaration) (number : ℕ) (d : Account) (desk : Desk) (t : Cu
   still_met : (qs new : List ClientRequest) → filter (λ (q : ClientRequest). is_read q.want) new ≡ [] → verdict (read_round qs) ≡ verdicts.Met → verdict (read_round (qs ++ new)) ≡ verdicts.Met
   still_met qs new none met = ap (λ (hs : List ClientRequest). verdict (round_from decl d t is_read (read_need_of decl t.epoch object inv) hs)) (same_reads qs new none) ∙ met
 
-  step : (n site : ℕ) (ss : List ℕ) (qs : List ClientRequest) → (verdict (read_round qs) ≡ verdicts.Met) × IsNext decl d t is_append qs (site ∷ ss)
+  -- with the need of the event that answers
+  abbrev voter_and_met : Option ℕ → List ClientRequest → ℕ → Bool
+  voter_and_met o qs site = is_next_voter decl (run d t object inv qs) t is_append (option_map_or (append_need_of decl t.epoch object) o 0) site && are_reads_met decl (run d t object inv qs) t object inv
+
+  step : (n site : ℕ) (ss : List ℕ) (qs : List ClientRequest) → (verdict (read_round qs) ≡ verdicts.Met) × IsNext decl d t is_append (append_need_of decl t.epoch object event) qs (site ∷ ss)
       → (command_asks decl (run d t object inv qs) t site want (Some (commands.Do object inv)) ≡ true)
-      × ((verdict (read_round (qs ++ request_at n t want site ∷ [])) ≡ verdicts.Met) × IsNext decl d t is_append (qs ++ request_at n t want site ∷ []) ss)
+      × ((verdict (read_round (qs ++ request_at n t want site ∷ [])) ≡ verdicts.Met) × IsNext decl d t is_append (append_need_of decl t.epoch object event) (qs ++ request_at n t want site ∷ []) ss)
   step n site ss qs p = (
-    ap (λ (b : Bool). (b && carries decl t object (view_of t object) (own_appended decl t object event) (answer_of decl t object inv)) && (is_next_voter decl (run d t object inv qs) t is_append site && are_reads_met decl (run d t object inv qs) t object inv)) (eq-eqb object object refl)
-        ∙ ap (λ (o : Option ℕ). carries decl t object (view_of t object) (own_appended decl t object event) o && (is_next_voter decl (run d t object inv qs) t is_append site && are_reads_met decl (run d t object inv qs) t object inv)) chosen
-        ∙ ap (λ (b : Bool). b && (is_next_voter decl (run d t object inv qs) t is_append site && are_reads_met decl (run d t object inv qs) t object inv)) (carried decl t object event)
-        ∙ ap (λ (b : Bool). b && are_reads_met decl (run d t object inv qs) t object inv) (next_voter decl d t is_append qs site ss p.1)
+    ap (λ (b : Bool). (b && carries decl t object (view_of t object) (own_appended decl t object event) (answer_of decl t object inv)) && voter_and_met (answer_of decl t object inv) qs site) (eq-eqb object object refl)
+        ∙ ap (λ (o : Option ℕ). carries decl t object (view_of t object) (own_appended decl t object event) o && voter_and_met o qs site) chosen
+        ∙ ap (λ (b : Bool). b && voter_and_met (Some event) qs site) (carried decl t object event)
+        ∙ ap (λ (b : Bool). b && are_reads_met decl (run d t object inv qs) t object inv) (next_voter decl d t is_append (append_need_of decl t.epoch object event) qs site ss p.1)
         ∙ ap is_met p.0,
-    (still_met qs (request_at n t want site ∷ []) refl p.0, next_one decl d t is_append want refl qs n site ss p.1),
+    (still_met qs (request_at n t want site ∷ []) refl p.0, next_one decl d t is_append (append_need_of decl t.epoch object event) want refl qs n site ss p.1),
   )
 
   waits : (qs : List ClientRequest) (f : Front) (tr : Option Transaction) (doing : Doing) → verdict (read_round qs) ≡ verdicts.Met → verdict (round qs) ≡ verdicts.Waiting → Every (IsOpenIn is_append) qs
@@ -219,7 +219,7 @@ module _ (decl : Declaration) (number : ℕ) (d : Account) (desk : Desk) (t : Cu
       a = asks_go decl number (record d { command = Some (commands.Do object inv); written = None }) t want P step
           (λ (cs : List Call). client_at d desk (Some (transaction_of t (fold with_site asked (wanted (round qs))) views)) (Appending object inv event cs (asking_all (round qs) (wanted (round qs)))))
           (sending (map (asking t want) (wanted (round qs)))) (λ calls n site. refl) (wanted (round qs)) qs (calls_in qs)
-          (met, wants_next decl d t is_append need qs) tie
+          (met, refl) tie
 
   -- it ends
 
@@ -228,7 +228,7 @@ module _ (decl : Declaration) (number : ℕ) (d : Account) (desk : Desk) (t : Cu
   responds qs f tr doing met is =
       tells_goes decl number (run d t object inv qs) (replies.Response (resp_of decl object event))
       (client_at d desk (Some (with_event x object inv event (resp_of decl object event))) Idle)
-      (row_is qs met ∙ ap (append_row decl object event) is, refl)
+      (row_is qs met ∙ ap (append_row decl object event) is, refl, refl)
       (subst (λ (o : Option ℕ). Ties decl (rested d (Some (with_response decl t object inv o))) (client_at d desk (Some (with_event x object inv event (resp_of decl object event))) Idle)) (sym chosen)
       (rest_ties decl d desk (with_response decl t object inv (Some event)) (with_event x object inv event (resp_of decl object event)) k.desk_is (event_begun decl t asked views object inv event k.logs)))
 
@@ -249,13 +249,13 @@ module _ (decl : Declaration) (number : ℕ) (d : Account) (desk : Desk) (t : Cu
       by verdicts.Met is = responds qs f tr doing met is
       by (verdicts.Closed epoch site) is =
           tells_goes decl number (run d t object inv qs) (replies.Closed epoch site) (client_at d desk (Some (fronts.doomed x)) Idle)
-          (row_is qs met ∙ ap (append_row decl object event) is, refl)
+          (row_is qs met ∙ ap (append_row decl object event) is, refl, refl)
           (dooms_tie (not (length (filter (λ (q : ClientRequest). is_append q.want) qs) == 0)) (asked_some qs (closed_asked (round qs) epoch site is)))
       by (verdicts.Clash tx site) is =
           tells_goes decl number (run d t object inv qs) (replies.Conflict tx site) (client_at d desk (Some (fronts.doomed x)) Idle)
-          (row_is qs met ∙ ap (append_row decl object event) is, refl)
+          (row_is qs met ∙ ap (append_row decl object event) is, refl, refl)
           (dooms_tie (not (length (filter (λ (q : ClientRequest). is_append q.want) qs) == 0)) (asked_some qs (clash_asked (round qs) tx site is)))
       by (verdicts.Short got short) is =
           tells_goes decl number (run d t object inv qs) (replies.Quorum halves.Append got short) (client_at d desk (Some (fronts.doomed x)) Idle)
-          (row_is qs met ∙ ap (append_row decl object event) is, refl)
+          (row_is qs met ∙ ap (append_row decl object event) is, refl, refl)
           (dooms_tie true refl)

@@ -40,7 +40,7 @@ use Rattle.qc_account.specs.Calls.{call_of, calls_in}
 use Rattle.qc_account.specs.Goes.{Goes}
 use Rattle.qc_account.specs.Told.{IsOpenIn, front_of, transaction_of}
 use Rattle.qc_account.specs.Ties.{Ties, reads}
-use Rattle.qc_account.proofs.DoAppends.{IsNext, Runs, appends_go, due_do, next_one, next_voter, run, wants_next}
+use Rattle.qc_account.proofs.DoAppends.{IsNext, Runs, appends_go, due_do, next_one, next_voter, run}
 use Rattle.qc_account.proofs.Asks.{asking}
 use Rattle.qc_account.proofs.Halves.{round_asked, round_at, round_from}
 use Rattle.qc_account.proofs.Requests.{calls_half, calls_more, calls_new, every_new, request_at, requests_from}
@@ -117,17 +117,17 @@ module _ (decl : Declaration) (number : ℕ) (d : Account) (desk : Desk) (t : Cu
   -- further sites are asked
 
   abbrev P : List ClientRequest → List ℕ → Type 0
-  P qs ss = (filter (λ (q : ClientRequest). is_append q.want) qs ≡ []) × IsNext decl d t is_read qs ss
+  P qs ss = (filter (λ (q : ClientRequest). is_append q.want) qs ≡ []) × IsNext decl d t is_read (read_need_of decl t.epoch object inv) qs ss
 
-  step : (n site : ℕ) (ss : List ℕ) (qs : List ClientRequest) → (filter (λ (q : ClientRequest). is_append q.want) qs ≡ []) × IsNext decl d t is_read qs (site ∷ ss)
+  step : (n site : ℕ) (ss : List ℕ) (qs : List ClientRequest) → (filter (λ (q : ClientRequest). is_append q.want) qs ≡ []) × IsNext decl d t is_read (read_need_of decl t.epoch object inv) qs (site ∷ ss)
       → (command_asks decl (run d t object inv qs) t site want (Some (commands.Do object inv)) ≡ true)
-      × ((filter (λ (q : ClientRequest). is_append q.want) (qs ++ request_at n t want site ∷ []) ≡ []) × IsNext decl d t is_read (qs ++ request_at n t want site ∷ []) ss)
+      × ((filter (λ (q : ClientRequest). is_append q.want) (qs ++ request_at n t want site ∷ []) ≡ []) × IsNext decl d t is_read (read_need_of decl t.epoch object inv) (qs ++ request_at n t want site ∷ []) ss)
   step n site ss qs p = (
-    ap (λ (b : Bool). (b && (inv == inv)) && (is_next_voter decl (run d t object inv qs) t is_read site && (length (requests_for is_append (run d t object inv qs)) == 0))) (eq-eqb object object refl)
-        ∙ ap (λ (b : Bool). b && (is_next_voter decl (run d t object inv qs) t is_read site && (length (requests_for is_append (run d t object inv qs)) == 0))) (eq-eqb inv inv refl)
-        ∙ ap (λ (b : Bool). b && (length (requests_for is_append (run d t object inv qs)) == 0)) (next_voter decl d t is_read qs site ss p.1)
+    ap (λ (b : Bool). (b && (inv == inv)) && (is_next_voter decl (run d t object inv qs) t is_read (read_need_of decl t.epoch object inv) site && (length (requests_for is_append (run d t object inv qs)) == 0))) (eq-eqb object object refl)
+        ∙ ap (λ (b : Bool). b && (is_next_voter decl (run d t object inv qs) t is_read (read_need_of decl t.epoch object inv) site && (length (requests_for is_append (run d t object inv qs)) == 0))) (eq-eqb inv inv refl)
+        ∙ ap (λ (b : Bool). b && (length (requests_for is_append (run d t object inv qs)) == 0)) (next_voter decl d t is_read (read_need_of decl t.epoch object inv) qs site ss p.1)
         ∙ ap (λ (hs : List ClientRequest). length hs == 0) p.0,
-    (filter-append (λ (q : ClientRequest). is_append q.want) qs (request_at n t want site ∷ []) ∙ ap (λ (hs : List ClientRequest). hs ++ []) p.0, next_one decl d t is_read want refl qs n site ss p.1),
+    (filter-append (λ (q : ClientRequest). is_append q.want) qs (request_at n t want site ∷ []) ∙ ap (λ (hs : List ClientRequest). hs ++ []) p.0, next_one decl d t is_read (read_need_of decl t.epoch object inv) want refl qs n site ss p.1),
   )
 
   waits : (qs : List ClientRequest) (f : Front) (tr : Option Transaction) (doing : Doing) → verdict (round qs) ≡ verdicts.Waiting → Every (IsRead object inv) qs
@@ -153,7 +153,7 @@ module _ (decl : Declaration) (number : ℕ) (d : Account) (desk : Desk) (t : Cu
       a = asks_go decl number (record d { command = Some (commands.Do object inv); written = None }) t want P step
           (λ (cs : List Call). client_at d desk (Some (transaction_of t (fold with_site asked (wanted (round qs))) views)) (Reading object inv cs (asking_all (round qs) (wanted (round qs)))))
           (sending (map (asking t want) (wanted (round qs)))) (λ calls n site. refl) (wanted (round qs)) qs (calls_in qs)
-          (none_append object inv qs all, wants_next decl d t is_read need qs) tie
+          (none_append object inv qs all, refl) tie
 
   -- the Reads are met
 
@@ -161,7 +161,7 @@ module _ (decl : Declaration) (number : ℕ) (d : Account) (desk : Desk) (t : Cu
       → Goes decl number (run d t object inv qs) (by_front (record { front = f; desk = desk }) (fronts.absents (front_of d tr doing) x object inv))
   absents qs f tr doing met none =
       tells_goes decl number (run d t object inv qs) replies.Absent (client_at d desk (Some (with_op x (op_of object inv None))) Idle)
-      (due_do decl d desk t views object inv qs k ∙ ap (read_row decl (run d t object inv qs) t object inv) met ∙ ap (answer_row decl (run d t object inv qs) t object) none, refl)
+      (due_do decl d desk t views object inv qs k ∙ ap (read_row decl (run d t object inv qs) t object inv) met ∙ ap (answer_row decl (run d t object inv qs) t object) none, refl, refl)
       (rest_ties decl d desk (with_absent t object inv) (with_op x (op_of object inv None)) k.desk_is (record { is = refl; logs = k.logs }))
 
   starts : (qs : List ClientRequest) (f : Front) (tr : Option Transaction) (doing : Doing) (event : ℕ) → Every (IsRead object inv) qs → verdict (round qs) ≡ verdicts.Met → answer_of decl t object inv ≡ Some event
@@ -202,13 +202,13 @@ module _ (decl : Declaration) (number : ℕ) (d : Account) (desk : Desk) (t : Cu
           (sym (answer_same decl t asked views object inv k.records k.logs)) (answers_go qs f tr doing all is (answer_of decl t object inv) refl)
       by (verdicts.Closed epoch site) is =
           tells_goes decl number (run d t object inv qs) (replies.Closed epoch site) (client_at d desk (Some x) Idle)
-          (due_do decl d desk t views object inv qs k ∙ ap (read_row decl (run d t object inv qs) t object inv) is, refl)
+          (due_do decl d desk t views object inv qs k ∙ ap (read_row decl (run d t object inv qs) t object inv) is, refl, refl)
           (kept_tie (not (length (filter (λ (q : ClientRequest). is_append q.want) qs) == 0)) (none_asked qs all))
       by (verdicts.Clash tx site) is =
           tells_goes decl number (run d t object inv qs) (replies.Conflict tx site) (client_at d desk (Some x) Idle)
-          (due_do decl d desk t views object inv qs k ∙ ap (read_row decl (run d t object inv qs) t object inv) is, refl)
+          (due_do decl d desk t views object inv qs k ∙ ap (read_row decl (run d t object inv qs) t object inv) is, refl, refl)
           (kept_tie (not (length (filter (λ (q : ClientRequest). is_append q.want) qs) == 0)) (none_asked qs all))
       by (verdicts.Short got short) is =
           tells_goes decl number (run d t object inv qs) (replies.Quorum halves.Read got short) (client_at d desk (Some x) Idle)
-          (due_do decl d desk t views object inv qs k ∙ ap (read_row decl (run d t object inv qs) t object inv) is, refl)
+          (due_do decl d desk t views object inv qs k ∙ ap (read_row decl (run d t object inv qs) t object inv) is, refl, refl)
           (rest_ties decl d desk t x k.desk_is (record { is = refl; logs = k.logs }))

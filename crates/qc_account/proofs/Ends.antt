@@ -2,7 +2,6 @@
 use Rattle.std.proofs.Common.{◌≡◌, ◌≤◌, ℕ, zero, suc, ◌+◌, ◌==◌, ◌&&◌, nat_le, Bool, true, false, cond, List, [], length, map, max, replicate, Option, Some, None, refl, sym, ap, ◌∙◌, subst, arith}
 use Rattle.std.specs.Prelude.{slice_get}
 use Rattle.qc_stamp.specs.declared.stamp.TxId.{TxId}
-use Rattle.qc_stamp.specs.Lives.{first_life}
 use Rattle.qc_decl.specs.declared.declaration.Declaration.{Declaration}
 use Rattle.qc_decl.specs.Limits.{most_transaction_operations}
 use Rattle.qc_decl.specs.Lookup.{read_need_of}
@@ -32,7 +31,7 @@ use Rattle.qc_msg.specs.Turns.{quiet, sending, telling}
 use Rattle.qc_plan.specs.Round.{verdict}
 use Rattle.qc_promise.specs.Account.{Account, Current, is_read, new_current, view_of}
 use Rattle.qc_promise.specs.Rounds.{participants}
-use Rattle.qc_promise.specs.Rows.{due, read_row, vote_row}
+use Rattle.qc_promise.specs.Rows.{running_row, read_row, vote_row}
 use Rattle.qc_account.specs.Goes.{Goes}
 use Rattle.qc_account.specs.Told.{begun_of, transaction_of}
 use Rattle.qc_account.specs.Ties.{IsIdleDesk, Ties, rests}
@@ -61,16 +60,16 @@ module _ (decl : Declaration) (number : ℕ) (d : Account) (desk : Desk) (k : Is
   pub begins_go : Goes decl number (called_at d None commands.Begin) (clients.called decl free commands.Begin)
   begins_go =
       tells_goes decl number (called_at d None commands.Begin) (replies.Began next)
-      (client_at (record d { count = d.count + 1 }) desk (Some (fresh decl next d.known)) Idle) (refl, refl)
+      (client_at (record d { count = d.count + 1 }) desk (Some (fresh decl next d.known)) Idle) (refl, refl, refl)
       (rest_ties decl (record d { count = d.count + 1 }) desk (new_current next d.known) (fresh decl next d.known)
       (record { client = k.client; clock = k.clock; epoch = k.epoch; voting = k.voting })
       (record { is = refl; logs = λ object v at. ap (λ (w : View). w.log) (get_replicate (length decl.objects) object empty_view v at) }))
     where
       next : TxId
-      next = record { client = d.client; life = first_life; number = d.count + 1 }
+      next = record { client = d.client; life = d.life; number = d.count + 1 }
 
-  none_go : (command : Command) → due decl (called_at d None command) [] ≡ Some replies.NoTransaction → Goes decl number (called_at d None command) (by_front free (front_moved free.front (telling replies.NoTransaction)))
-  none_go command is = tells_goes decl number (called_at d None command) replies.NoTransaction free (is, refl) (none_ties decl d desk k)
+  none_go : (command : Command) → running_row decl (called_at d None command) false ≡ Some replies.NoTransaction → Goes decl number (called_at d None command) (by_front free (front_moved free.front (telling replies.NoTransaction)))
+  none_go command is = tells_goes decl number (called_at d None command) replies.NoTransaction free (is, refl, refl) (none_ties decl d desk k)
 
   pub without_go : (command : Command) → Goes decl number (called_at d None command) (clients.called decl free command)
   without_go commands.Begin = begins_go
@@ -102,7 +101,7 @@ module _ (decl : Declaration) (number : ℕ) (d : Account) (desk : Desk) (k : Is
     same_go command reply = rest_ties decl d desk t x k (record { is = refl; logs = logs })
 
     already_go : Goes decl number (called_at d (Some t) commands.Begin) (clients.called decl idle commands.Begin)
-    already_go = tells_goes decl number (called_at d (Some t) commands.Begin) (replies.Already t.tx) idle (refl, refl) (same_go commands.Begin (replies.Already t.tx))
+    already_go = tells_goes decl number (called_at d (Some t) commands.Begin) (replies.Already t.tx) idle (refl, refl, refl) (same_go commands.Begin (replies.Already t.tx))
 
     performs_go : (object inv : ℕ) → Goes decl number (called_at d (Some t) (commands.Do object inv)) (by_front idle (performs decl idle.front (Some x) object inv))
     performs_go object inv = by t.doomed refl (nat_le most_transaction_operations (length t.ops)) refl
@@ -111,16 +110,17 @@ module _ (decl : Declaration) (number : ℕ) (d : Account) (desk : Desk) (k : Is
             → Goes decl number (called_at d (Some t) (commands.Do object inv)) (by_front idle (cond z (front_moved idle.front (telling replies.Doomed))
             (cond w (front_moved idle.front (telling replies.TooLong)) (reads decl idle.front x object inv [] (round_for decl idle.front x (read_need_of decl t.epoch object inv))))))
         by true is w is_w = tells_goes decl number (called_at d (Some t) (commands.Do object inv)) replies.Doomed idle
-            (ap (λ (z : Bool). cond z (Some replies.Doomed) (cond (nat_le most_transaction_operations (length t.ops)) (Some replies.TooLong) (first_row object inv))) is, refl) (same_go (commands.Do object inv) replies.Doomed)
+            (ap (λ (z : Bool). cond z (Some replies.Doomed) (cond (nat_le most_transaction_operations (length t.ops)) (Some replies.TooLong) (first_row object inv))) is, refl, refl) (same_go (commands.Do object inv) replies.Doomed)
         by false is true is_w = tells_goes decl number (called_at d (Some t) (commands.Do object inv)) replies.TooLong idle (
           ap (λ (z : Bool). cond z (Some replies.Doomed) (cond (nat_le most_transaction_operations (length t.ops)) (Some replies.TooLong) (first_row object inv))) is
               ∙ ap (λ (w : Bool). cond w (Some replies.TooLong) (first_row object inv)) is_w,
+          refl,
           refl,
         ) (same_go (commands.Do object inv) replies.TooLong)
         by false is false is_w = reads_go decl number d desk t asked views object inv (record { live = is; room = is_w; records = records; logs = logs; desk_is = k }) [] idle.front (Some x) Idle tt
 
     aborts_go : Goes decl number (called_at d (Some t) commands.Abort) (clients.called decl idle commands.Abort)
-    aborts_go = ends_goes decl number (called_at d (Some t) commands.Abort) (begun_of t asked) outcomes.Aborted replies.Dropped free (refl, refl) (none_ties decl d desk k)
+    aborts_go = ends_goes decl number (called_at d (Some t) commands.Abort) (begun_of t asked) outcomes.Aborted replies.Dropped free (refl, refl, refl) (none_ties decl d desk k)
 
     -- a commit
 
@@ -140,8 +140,8 @@ module _ (decl : Declaration) (number : ℕ) (d : Account) (desk : Desk) (k : Is
             (desk_moved (voting_desk d desk.epoch desk.commits (Some (record { begun = begun_of t asked; calls = []; ballots = blank (participants decl d t) }))) (sending (map (prepares (begun_of t asked)) (participants decl d t))))))
         ready live true none =
             decides_go decl number d t asked views d.clock d.known desk.epoch desk.commits live logs (let same : d.clock ≡ d.clock = refl in omega arith) (let low : desk.epoch ≤ d.known = k.epoch in omega arith) desk [] None
-            (ap (λ (z : Bool). cond z (Some (replies.Aborted causes.Doomed)) (cond ((length (participants decl d t) == 0) && true) (vote_row (called_at d (Some t) commands.Commit) [] None) None)) live
-            ∙ ap (λ (z : Bool). cond (z && true) (vote_row (called_at d (Some t) commands.Commit) [] None) None) none)
+            (ap (λ (z : Bool). cond z (Some (replies.Aborted causes.Doomed)) (cond ((length (participants decl d t) == 0) && true) (vote_row (called_at d (Some t) commands.Commit) false None) None)) live
+            ∙ ap (λ (z : Bool). cond (z && true) (vote_row (called_at d (Some t) commands.Commit) false None) None) none)
         ready live false some =
             votes_start decl number d t asked views d.clock d.known desk.epoch desk.commits live logs (let same : d.clock ≡ d.clock = refl in omega arith) (let low : desk.epoch ≤ d.known = k.epoch in omega arith) desk some
 
@@ -159,7 +159,7 @@ module _ (decl : Declaration) (number : ℕ) (d : Account) (desk : Desk) (k : Is
         by true is =
             subst (λ (z : Bool). Goes decl number (called_at d (Some t) commands.Commit) (by_front idle (cond z (gives_up idle.front x (replies.Aborted causes.Doomed)) (front_moved idle.front quiet)))) (sym is)
             (ends_goes decl number (called_at d (Some t) commands.Commit) (begun_of t asked) outcomes.Aborted (replies.Aborted causes.Doomed) free
-            (ap (λ (z : Bool). cond z (Some (replies.Aborted causes.Doomed)) (cond ((length (participants decl d t) == 0) && true) (vote_row (called_at d (Some t) commands.Commit) [] None) None)) is, refl) (none_ties decl d desk k))
+            (ap (λ (z : Bool). cond z (Some (replies.Aborted causes.Doomed)) (cond ((length (participants decl d t) == 0) && true) (vote_row (called_at d (Some t) commands.Commit) false None) None)) is, refl, refl) (none_ties decl d desk k))
         by false is = subst (λ (m : DeskMove). Goes decl number (called_at d (Some t) commands.Commit) (by_desk idle m)) same (ready is (length (participants decl d t) == 0) refl)
 
     pub within_go : (command : Command) → Goes decl number (called_at d (Some t) command) (clients.called decl idle command)

@@ -19,11 +19,8 @@ use Rattle.qc_promise.specs.Accounting.{is_open, taken_for}
 use Rattle.qc_promise.specs.Rounds.{asked_by, round_of, standing_of, weights_of}
 use Rattle.qc_account.specs.Calls.{AreApart}
 use Rattle.qc_account.specs.Told.{IsOpenIn}
+use Rattle.qc_account.proofs.Nexts.{asking_one}
 use Rattle.qc_account.proofs.Requests.{calls_half, find_half, first_set, half_taken, length_taken, numbers_open, request_at, requests_from, set_taken, sites_in}
-
--- a round's one site more
-abbrev asking_one : RoundState → ℕ → RoundState
-asking_one r site = record r { asked = r.asked ++ record { site = site; standing = None } ∷ []; rest = drop 1 r.rest }
 
 drop_suc : {A : Type 0} (n : ℕ) (ys : List A) → drop (suc n) ys ≡ drop 1 (drop n ys)
 drop_suc zero ys = refl

@@ -1,4 +1,5 @@
 pub mod Requests
+pub mod Nexts
 pub mod Halves
 pub mod Asks
 pub mod Views
@@ -15,11 +16,15 @@ pub mod Nothing
 pub mod Step
 pub mod Commands
 pub mod Courses
-pub mod Said
 pub mod Mute
-pub mod Lifts
+pub mod StaysUp
+pub mod Anew
+pub mod Unwritten
+pub mod Dues
 pub mod Awaits
 pub mod Awaited
+pub mod Epochs
+pub mod Declaring
 pub mod Whole
 pub mod Ended
 pub mod Declared

@@ -29,14 +29,11 @@ use Rattle.qc_msg.specs.declared.turn.Posting.{Posting}
 use Rattle.qc_msg.specs.declared.turn.Turn.{Turn}
 use Rattle.qc_msg.specs.Deeds.{Deed, Takes, Writes, Sends, Tells, Falls, Rises, sends_of, tells_of, turn_deeds, writes_of}
 use Rattle.qc_msg.specs.Turns.{quiet}
-use Rattle.qc_promise.specs.Account.{Account}
-use Rattle.qc_promise.specs.Accounting.{account_at}
 use Rattle.qc_site.specs.Conduct.{passed, site_at, site_does, site_takes}
 use Rattle.qc_site.specs.Promise.{finishes, is_prepared, joins, prepare_length, prepared_of, prepares, promise_of, promised, votes}
 use Rattle.qc_decl.specs.Limits.{most_record_bytes}
 use Rattle.qc_site.specs.Requests.{appends_by, fault_of, grants, names_declared, reads_by, relation_at, requested}
 use Rattle.qc_site.specs.Site.{SiteMove, SiteState, answers, moved, new_site}
-use Rattle.qc_account.proofs.Said.{AreSaidDue}
 
 abbrev pub NoCommit : Record → Type 0
 NoCommit records.Life = Unit {0}
@@ -154,20 +151,3 @@ sites_mute decl a site ds b n (takes older g m acts may) = every-append IsMuteDe
 sites_mute decl a site ds b n (posts older turn m first acts low law) =
     every-append IsMuteDeed older (turn_deeds first turn) (sites_mute decl a site older true m acts)
     (turn_mute first turn (subst IsMute (sym (lawful_site decl a site older turn law)) (does_mute decl older (moved (new_site a) quiet) mute_quiet)))
-
--- and nothing is said
-
-pub mute_due : (decl : Declaration) (ds : List Deed) (d : Account) → Every IsMuteDeed ds → AreSaidDue decl d ds
-mute_due decl [] d all = tt
-mute_due decl (Takes g ∷ ds) d all = (tt, mute_due decl ds (account_at decl d (Takes g)) all.1)
-mute_due decl (Writes records.Life ∷ ds) d all = (tt, mute_due decl ds d all.1)
-mute_due decl (Writes (records.Prepare prepared) ∷ ds) d all = (tt, mute_due decl ds d all.1)
-mute_due decl (Writes (records.Done tx clock) ∷ ds) d all = (tt, mute_due decl ds d all.1)
-mute_due decl (Writes (records.Close epoch) ∷ ds) d all = (tt, mute_due decl ds d all.1)
-mute_due decl (Writes (records.Install epoch clock lines) ∷ ds) d all = (tt, mute_due decl ds d all.1)
-mute_due decl (Writes (records.Commit commit) ∷ ds) d all = absurd all.0
-mute_due decl (Writes (records.Decide epoch clock lines) ∷ ds) d all = (tt, mute_due decl ds d all.1)
-mute_due decl (Sends n to m ∷ ds) d all = (tt, mute_due decl ds (account_at decl d (Sends n to m)) all.1)
-mute_due decl (Tells r ∷ ds) d all = absurd all.0
-mute_due decl (Falls cause pending ∷ ds) d all = absurd all.0
-mute_due decl (Rises records ∷ ds) d all = absurd all.0

@@ -33,7 +33,8 @@ use Rattle.qc_promise.specs.Account.{Account, ClientRequest, Current, is_append,
 use Rattle.qc_promise.specs.Accounting.{account_taken, counted, counted_for, is_open}
 use Rattle.qc_promise.specs.Rounds.{asked_by, round_of}
 use Rattle.qc_account.specs.Calls.{AreApart, ballot_of, calls_in}
-use Rattle.qc_account.specs.Goes.{Goes, Holds, MayGive}
+use Rattle.qc_account.specs.Goes.{Goes, Holds}
+use Rattle.qc_promise.specs.Replies.{IsFreeFor}
 use Rattle.qc_account.specs.Told.{AreBegun, front_of, transaction_of}
 use Rattle.qc_account.specs.Ties.{Appends, Reads, Rests, Ties, Votes, appends, reads, rests, votes}
 use Rattle.qc_account.proofs.Commits.{commit_at, voting_desk, voting_front}
@@ -237,7 +238,7 @@ module _ (decl : Declaration) (number : ℕ) (d : Account) (c : Client) (h : Hol
   heard_go from n (messages.Close epoch) ties = still_goes decl number d c (tied_none decl d c h ties) ties
   heard_go from n (messages.Install epoch clock log) ties = still_goes decl number d c (tied_none decl d c h ties) ties
 
-  pub takes_go : (g : Given) → MayGive d g → Ties decl d c → Goes decl number (account_taken d g) (client_takes decl c g)
+  pub takes_go : (g : Given) → IsFreeFor d g → Ties decl d c → Goes decl number (account_taken d g) (client_takes decl c g)
   takes_go (given.Called command) may ties = commands_go command may ties
   takes_go (given.Got envelope) may ties = heard_go envelope.from envelope.number envelope.message ties
   takes_go (given.Lost n) may ties = answers_go n None ties

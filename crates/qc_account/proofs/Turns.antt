@@ -1,5 +1,5 @@
 -- Turns that tell a reply, that send decisions before it, or that ask sites.
-use Rattle.std.proofs.Common.{◌≡◌, ◌≤◌, ℕ, ◌+◌, ◌||◌, Bool, true, List, [], ◌∷◌, ◌++◌, map, Option, Some, None, refl, sym, ap, ◌∙◌, subst, arith, append_assoc}
+use Rattle.std.proofs.Common.{false, ◌≡◌, ◌≤◌, ℕ, ◌+◌, ◌||◌, Bool, true, List, [], ◌∷◌, ◌++◌, map, Option, Some, None, refl, sym, ap, ◌∙◌, subst, arith, append_assoc}
 use Rattle.std.specs.Prelude.{fold}
 use Rattle.std.proofs.lemmas.List.{append-nil}
 use Rattle.qc_decl.specs.declared.declaration.Declaration.{Declaration}
@@ -25,7 +25,7 @@ use Rattle.qc_msg.specs.Turns.{ending, quiet, telling}
 use Rattle.qc_promise.specs.Account.{Account, ClientRequest, Current, view_of}
 use Rattle.qc_promise.specs.Accounting.{account_at, account_told, doomed_if}
 use Rattle.qc_promise.specs.Replies.{IsReplyDue}
-use Rattle.qc_promise.specs.Rows.{due}
+use Rattle.qc_promise.specs.Rows.{running_row}
 use Rattle.qc_promise.specs.Asked.{command_asks}
 use Rattle.qc_account.specs.DeedsDue.{AreDeedsDue}
 use Rattle.qc_account.specs.Goes.{Goes}
@@ -77,11 +77,11 @@ doomed_begun t asked views b e logs is = record { is = λ i. transaction_of (rec
 
 module _ (decl : Declaration) (number : ℕ) where
   -- nothing is done
-  pub still_goes : (d : Account) (c : Client) → due decl d [] ≡ None → Ties decl d c → Goes decl number d (moved c quiet)
+  pub still_goes : (d : Account) (c : Client) → running_row decl d false ≡ None → Ties decl d c → Goes decl number d (moved c quiet)
   still_goes d c none ties = record { tells = sym none; due = tt; ties = ties }
 
   -- a reply alone
-  pub tells_goes : (d : Account) (reply : Reply) (c : Client) → IsReplyDue decl d [] reply → Ties decl (account_told decl d reply) c → Goes decl number d (moved c (telling reply))
+  pub tells_goes : (d : Account) (reply : Reply) (c : Client) → IsReplyDue d (running_row decl d false) [] reply → Ties decl (account_told decl d reply) c → Goes decl number d (moved c (telling reply))
   tells_goes d reply c is ties = record { tells = sym is.0; due = (is, tt); ties = ties }
 
   -- decisions are nothing to the account and to the client
@@ -102,7 +102,7 @@ module _ (decl : Declaration) (number : ℕ) where
   decided_client b o move k (s ∷ sites) ys = decided_client b o move (k + 1) sites ys
 
   -- a reply after decisions
-  pub ends_goes : (d : Account) (b : Begun) (o : Outcome) (reply : Reply) (c : Client) → IsReplyDue decl d [] reply → Ties decl (account_told decl d reply) c → Goes decl number d (moved c (ending (decisions b o) reply))
+  pub ends_goes : (d : Account) (b : Begun) (o : Outcome) (reply : Reply) (c : Client) → IsReplyDue d (running_row decl d false) [] reply → Ties decl (account_told decl d reply) c → Goes decl number d (moved c (ending (decisions b o) reply))
   ends_goes d b o reply c is ties = record {
     tells = sym is.0;
     due = decided_due b o d number b.asked (Tells reply ∷ []) (is, tt);

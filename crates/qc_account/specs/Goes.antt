@@ -1,17 +1,15 @@
--- A move of a client: all that its turn records, asks and tells is due, it tells just what is due, and the tie holds
--- after it.
-use Rattle.std.specs.Prelude.{◌≡◌, ℕ, [], fold, None}
+-- A move of a client: all that its turn records, asks and tells is by the rows, it tells just what the running command's
+-- row tells, and the tie holds after it.
+use Rattle.std.specs.Prelude.{◌≡◌, ℕ, false, fold}
 use Rattle.qc_client.specs.declared.client.Client.{Client}
 use Rattle.qc_client.specs.Client.{ClientMove}
 use Rattle.qc_client.specs.Conduct.{client_does}
 use Rattle.qc_decl.specs.declared.declaration.Declaration.{Declaration}
 use Rattle.qc_front.specs.Holds.{FrontHolds, IsNumbered}
-use Rattle.qc_msg.specs.declared.step.Given.{Given}
-use Rattle.qc_msg.specs.declared.step.Given.TheVariants as given
 use Rattle.qc_msg.specs.Deeds.{turn_deeds}
 use Rattle.qc_promise.specs.Account.{Account}
 use Rattle.qc_promise.specs.Accounting.{account_at}
-use Rattle.qc_promise.specs.Rows.{due}
+use Rattle.qc_promise.specs.Rows.{running_row}
 use Rattle.qc_account.specs.DeedsDue.{AreDeedsDue}
 use Rattle.qc_account.specs.Ties.{Ties}
 
@@ -20,15 +18,9 @@ pub record Holds (decl : Declaration) (c : Client) : Type 0 where
   pub front : FrontHolds decl c.front
   pub numbered : IsNumbered c.front.doing
 
--- a command comes only where none runs
-abbrev pub MayGive : Account → Given → Type 0
-MayGive d (given.Called command) = d.command ≡ None
-MayGive d (given.Got envelope) = Unit {0}
-MayGive d (given.Lost number) = Unit {0}
-
 -- the account after the input being d, and the messages of the turn numbered from this number on
 pub record Goes (decl : Declaration) (number : ℕ) (d : Account) (move : ClientMove) : Type 0 where
-  pub tells : move.turn.told ≡ due decl d []
+  pub tells : move.turn.told ≡ running_row decl d false
   pub due : AreDeedsDue decl d (turn_deeds number move.turn)
   pub ties : Ties decl (fold (account_at decl) d (turn_deeds number move.turn))
       (fold (client_does decl) move (turn_deeds number move.turn)).client

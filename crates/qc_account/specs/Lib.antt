@@ -2,5 +2,6 @@ pub mod Calls
 pub mod Told
 pub mod Ties
 pub mod DeedsDue
+pub mod Declares
 pub mod Goes
 pub mod Waits

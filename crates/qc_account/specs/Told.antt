@@ -1,6 +1,5 @@
 -- The client's front end and its begun transaction, as the account of its deeds tells them.
 use Rattle.std.specs.Prelude.{◌≡◌, ℕ, Bool, true, List, slice_get, is_none, Option, Some, None}
-use Rattle.qc_stamp.specs.Lives.{first_life}
 use Rattle.qc_view.specs.declared.view.View.{View}
 use Rattle.qc_msg.specs.declared.begun.Begun.{Begun}
 use Rattle.qc_msg.specs.declared.message.Want.{Want}
@@ -34,7 +33,7 @@ abbrev pub front_of : Account → Option Transaction → Doing → Front
 front_of d transaction doing =
     record {
       client = d.client;
-      life = first_life;
+      life = d.life;
       count = d.count;
       clock = record { value = d.clock };
       epoch = d.known;

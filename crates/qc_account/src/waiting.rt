@@ -13,20 +13,19 @@ ghost use Rattle.qc_list.specs.Members.{In};
 ghost use Rattle.qc_msg.specs.Deeds.{Deed};
 ghost use Rattle.qc_msg.specs.declared.reply.Reply.TheVariants as replies;
 ghost use Rattle.qc_msg.specs.declared.turn.Turn.{Turn};
-ghost use Rattle.qc_promise.specs.Account.{ClientRequest, Current, is_append, new_account};
-ghost use Rattle.qc_promise.specs.Accounting.{account_at};
+ghost use Rattle.qc_promise.specs.Account.{ClientRequest, Current, is_append};
+ghost use Rattle.qc_promise.specs.Accounting.{account_of};
 ghost use Rattle.qc_promise.specs.Rounds.{answer_of, resp_of};
 ghost use Rattle.qc_promise.specs.Rows.{due};
 
 /// Where a client has no open input, its running command waits for an open
 /// request: so every command ends once each request is answered or lost. Only
 /// the command to move an epoch, which nobody asks a client, never ends.
-#[tactic(auto, using(crate::proofs::Awaits::clients_wait))]
 pub fn commands_wait_for_requests()
     ensures { (decl : Declaration) (a : ℕ) → is_client decl a ≡ true → (ds : List Deed) (n : ℕ)
         → Acts decl a ds false n
-        → NoneRuns (fold (account_at decl) (new_account (a - decl.sites)) ds).command
-        ⊎ IsWaiting (fold (account_at decl) (new_account (a - decl.sites)) ds) }
+        → NoneRuns (account_of decl (a - decl.sites) ds).command
+        ⊎ IsWaiting (account_of decl (a - decl.sites) ds) }
 {}
 
 /// An open request was sent, and neither an answer to it nor its loss was taken
@@ -34,7 +33,7 @@ pub fn commands_wait_for_requests()
 #[tactic(auto, using(crate::proofs::Awaited::open_awaited))]
 pub fn open_requests_were_sent()
     ensures { (decl : Declaration) (client : ℕ) (ds : List Deed) (q : ClientRequest)
-        → In q (fold (account_at decl) (new_account client) ds).requests → q.taken ≡ None → IsAwaited ds q }
+        → In q (account_of decl client ds).requests → q.taken ≡ None → IsAwaited ds q }
 {}
 
 /// Where a client has no open input nothing is due: whatever was due has been
@@ -42,7 +41,7 @@ pub fn open_requests_were_sent()
 pub fn what_is_due_is_told()
     ensures { (decl : Declaration) (a : ℕ) → is_client decl a ≡ true → (ds : List Deed) (n : ℕ)
         → Acts decl a ds false n
-        → due decl (fold (account_at decl) (new_account (a - decl.sites)) ds) [] ≡ None }
+        → due decl (account_of decl (a - decl.sites) ds) false ≡ None }
 {}
 
 /// A `do` whose requests are all granted, by sites that weigh what it needs, is
@@ -51,13 +50,13 @@ pub fn what_is_due_is_told()
 pub fn granted_dos_are_answered()
     ensures absent { (decl : Declaration) (a : ℕ) → is_client decl a ≡ true → (ds : List Deed) (n : ℕ) (turn : Turn)
         → Acts decl a ds true n → IsLawful decl a ds turn → (t : Current) (object inv : ℕ)
-        → IsGrantedDo decl (fold (account_at decl) (new_account (a - decl.sites)) ds) t object inv
+        → IsGrantedDo decl (account_of decl (a - decl.sites) ds) t object inv
         → answer_of decl t object inv ≡ None → turn.told ≡ Some replies.Absent }
     ensures response { (decl : Declaration) (a : ℕ) → is_client decl a ≡ true → (ds : List Deed) (n : ℕ) (turn : Turn)
         → Acts decl a ds true n → IsLawful decl a ds turn → (t : Current) (object inv event : ℕ)
-        → IsGrantedDo decl (fold (account_at decl) (new_account (a - decl.sites)) ds) t object inv
+        → IsGrantedDo decl (account_of decl (a - decl.sites) ds) t object inv
         → answer_of decl t object inv ≡ Some event
-        → IsEnough decl (fold (account_at decl) (new_account (a - decl.sites)) ds) t is_append
+        → IsEnough decl (account_of decl (a - decl.sites) ds) t is_append
         (append_need_of decl t.epoch object event)
         → turn.told ≡ Some (replies.Response (resp_of decl object event)) }
 {}

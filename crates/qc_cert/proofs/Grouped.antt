@@ -1,5 +1,5 @@
 -- Groups have what a search for a covering triple looks at.
-use Rattle.std.proofs.Common.{◌≡◌, ℕ, suc, ◌<◌, ◌≤◌, ◌⊎◌, Bool, true, false, cond, List, [], ◌∷◌, All, length, get_or, set, refl, sym, ap, ◌∙◌, inl, inr, suc-le-suc, zero-lt-suc, arith}
+use Rattle.std.proofs.Common.{◌≡◌, ℕ, zero, suc, ◌<◌, ◌≤◌, ◌⊎◌, Bool, true, false, cond, List, [], ◌∷◌, ◌++◌, All, length, get_or, set, refl, sym, ap, ◌∙◌, inl, inr, suc-le-suc, zero-lt-suc, arith}
 use Rattle.std.specs.Prelude.{◌==◌, ◌&&◌, ◌||◌}
 use Rattle.std.specs.List.{list_any}
 use Rattle.std.proofs.lemmas.Bool.{eqb-true, eqb-false, eq-eqb, ne_eqb}
@@ -95,3 +95,25 @@ group_more new old t ts group out more =
     ap (λ b. b || any_within (outs_at ts group) out) more
     ∙ sym (or_deep old (any_within (outs_at (t ∷ []) group) out) (any_within (outs_at ts group) out))
     ∙ ap (λ b. old || b) (sym (first_at t ts group out))
+
+-- a group more that covers nothing
+pub empty_more : (groups : List (List (List ℕ))) (new : List (List ℕ)) → ((place out : ℕ) → parts_within (get_or groups place []) out ≡ false) → ((out : ℕ) → parts_within new out ≡ false)
+    → (place out : ℕ) → parts_within (get_or (groups ++ new ∷ []) place []) out ≡ false
+empty_more [] new none it zero out = it out
+empty_more [] new none it (suc place) out = refl
+empty_more (g ∷ groups) new none it zero out = none zero out
+empty_more (g ∷ groups) new none it (suc place) out = empty_more groups new (λ p o. none (suc p) o) it place out
+
+-- a group that covers what it covered
+pub group_kept : (groups : List (List (List ℕ))) (at : ℕ) (new : List (List ℕ)) → at < length groups → ((out : ℕ) → parts_within new out ≡ parts_within (get_or groups at []) out)
+    → (place out : ℕ) → parts_within (get_or (set groups at new) place []) out ≡ parts_within (get_or groups place []) out
+group_kept groups at new within same place out = by (at == place) refl
+  where
+    by : (b : Bool) → (at == place) ≡ b → parts_within (get_or (set groups at new) place []) out ≡ parts_within (get_or groups place []) out
+    by true e =
+        let is : at ≡ place = eqb-true at place e in
+        ap (λ k. parts_within (get_or (set groups at new) k []) out) (sym is)
+        ∙ ap (λ g. parts_within g out) (get_or-set_same groups at new [] within)
+        ∙ same out
+        ∙ ap (λ k. parts_within (get_or groups k []) out) is
+    by false e = ap (λ g. parts_within g out) (get_or-set_other groups at place new [] (λ (is : place ≡ at). eqb-false at place e (sym is)))

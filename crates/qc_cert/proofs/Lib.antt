@@ -4,5 +4,6 @@ pub mod Faultless
 pub mod Grouped
 pub mod Repeats
 pub mod Shared
+pub mod Tables
 pub mod Told
 pub mod Walk

@@ -8,7 +8,7 @@ use Rattle.std.proofs.lemmas.List.{get_or_default, get_or_past, get_or-set_same,
 use Rattle.std.proofs.lemmas.List.Elements.{All-push}
 use Rattle.std.proofs.lemmas.List.Folds.{list_any-append, list_any_at, list_any_none}
 use Rattle.std.proofs.lemmas.Nat.Bits.{bit_at-lt, bit_at-zero, bit_at_above, bit_at_and, bit_at_not, bit_at_clear_same, bit_at_clear_other, bit_at-trailing_zeros}
-use Rattle.qc_cert.specs.Groups.{AreParted, any_within, parts_within, parts_of}
+use Rattle.qc_cert.specs.Groups.{AreParted, any_within, parts_within, sets_of}
 use Rattle.qc_cert.proofs.Computed.{within_true}
 use Rattle.qc_table.specs.Sets.{has, is_within}
 
@@ -152,17 +152,14 @@ none_past rest small past k = false_from_ne_true (has rest k) (λ (here : has re
 pub lowest_has : (set : ℕ) → 0 < set → set < 2 ^ 64 → (trailing_zeros w64 set < 64) × (has set (trailing_zeros w64 set) ≡ true)
 lowest_has set some small = let low = bit_at-trailing_zeros w64 set some small in (low.0, eq-eqb (bit_at set (trailing_zeros w64 set)) 1 low.1)
 
--- ---- a set more
+-- ---- parts of a group
 pub or_none : (b : Bool) → (b || false) ≡ b
 or_none true = refl
 or_none false = refl
 
-or_later : (a b c : Bool) → ((a || c) || b) ≡ ((a || b) || c)
-or_later true b c = refl
-or_later false true true = refl
-or_later false true false = refl
-or_later false false true = refl
-or_later false false false = refl
+pub or_true : (b : Bool) → (b || true) ≡ true
+or_true true = refl
+or_true false = refl
 
 pub or_deep : (a b c : Bool) → (a || (b || c)) ≡ ((a || b) || c)
 or_deep true b c = refl
@@ -171,36 +168,44 @@ or_deep false b c = refl
 pub any_more : (sets : List ℕ) (s out : ℕ) → any_within (sets ++ s ∷ []) out ≡ (any_within sets out || is_within s out)
 any_more sets s out = list_any-append (λ o. is_within o out) sets (s ∷ []) ∙ ap (λ b. any_within sets out || b) (or_none (is_within s out))
 
+-- one part more
+pub part_more : (parts : List (List ℕ)) (sets : List ℕ) (out : ℕ) → parts_within (parts ++ sets ∷ []) out ≡ (parts_within parts out || any_within sets out)
+part_more parts sets out = list_any-append (λ sets. any_within sets out) parts (sets ∷ []) ∙ ap (λ b. parts_within parts out || b) (or_none (any_within sets out))
+
+-- a set more in the rest of a group
+pub set_added : (blocks : List (List ℕ)) (rest : List ℕ) (s out : ℕ)
+    → parts_within (sets_of blocks (rest ++ s ∷ [])) out ≡ (parts_within (sets_of blocks rest) out || is_within s out)
+set_added blocks rest s out =
+    part_more blocks (rest ++ s ∷ []) out
+    ∙ ap (λ b. parts_within blocks out || b) (any_more rest s out)
+    ∙ or_deep (parts_within blocks out) (any_within rest out) (is_within s out)
+    ∙ ap (λ b. b || is_within s out) (sym (part_more blocks rest out))
+
+-- a block of the rest, where none is left
+pub rest_closed : (old new : List (List ℕ)) (rest left : List ℕ) (out : ℕ) → left ≡ [] → parts_within new out ≡ (parts_within old out || any_within rest out)
+    → parts_within (sets_of new left) out ≡ parts_within (sets_of old rest) out
+rest_closed old new rest left out none closed =
+    part_more new left out
+    ∙ ap (λ sets. parts_within new out || any_within sets out) none
+    ∙ or_none (parts_within new out)
+    ∙ closed
+    ∙ sym (part_more old rest out)
+
 -- a part without sets covers nothing more
-pub part_more : (parts : List (List ℕ)) (out : ℕ) → parts_within (parts ++ [] ∷ []) out ≡ parts_within parts out
-part_more parts out = list_any-append (λ sets. any_within sets out) parts ([] ∷ []) ∙ or_none (parts_within parts out)
+pub part_none : (parts : List (List ℕ)) (out : ℕ) → parts_within (parts ++ [] ∷ []) out ≡ parts_within parts out
+part_none parts out = part_more parts [] out ∙ or_none (parts_within parts out)
+
+or_later : (a b c : Bool) → ((a || c) || b) ≡ ((a || b) || c)
+or_later true b c = refl
+or_later false true true = refl
+or_later false true false = refl
+or_later false false true = refl
+or_later false false false = refl
 
 -- a set that was added to one of the parts
-pub set_added : (parts : List (List ℕ)) (place s out : ℕ) → place < length parts
+pub part_grown : (parts : List (List ℕ)) (place s out : ℕ) → place < length parts
     → parts_within (put parts place (get_or parts place [] ++ s ∷ [])) out ≡ (parts_within parts out || is_within s out)
-set_added [] place s out l = absurd (omega (arith, l))
-set_added (sets ∷ parts) zero s out l = ap (λ b. b || parts_within parts out) (any_more sets s out) ∙ or_later (any_within sets out) (parts_within parts out) (is_within s out)
-set_added (sets ∷ parts) (suc place) s out l =
-    ap (λ b. any_within sets out || b) (set_added parts place s out (omega (arith, l))) ∙ or_deep (any_within sets out) (parts_within parts out) (is_within s out)
-
--- ---- the empty set
-pub empty_within : (out : ℕ) → is_within 0 out ≡ true
-empty_within out = refl
-
--- parts with the empty set cover each set
-pub empty_covers : (parts : List (List ℕ)) (out : ℕ) → parts_within (parts_of true parts) out ≡ true
-empty_covers parts out = ap (λ b. (b || false) || parts_within parts out) (empty_within out)
-
-or_true : (b : Bool) → (b || true) ≡ true
-or_true true = refl
-or_true false = refl
-
-pub empty_added : (has_empty : Bool) (parts : List (List ℕ)) (out : ℕ)
-    → parts_within (parts_of true parts) out ≡ (parts_within (parts_of has_empty parts) out || is_within 0 out)
-empty_added has_empty parts out = empty_covers parts out ∙ sym (ap (λ b. parts_within (parts_of has_empty parts) out || b) (empty_within out) ∙ or_true (parts_within (parts_of has_empty parts) out))
-
--- what is added to the other parts
-pub others_added : (has_empty : Bool) (old new : List (List ℕ)) (s out : ℕ) → parts_within new out ≡ (parts_within old out || is_within s out)
-    → parts_within (parts_of has_empty new) out ≡ (parts_within (parts_of has_empty old) out || is_within s out)
-others_added true old new s out more = empty_covers new out ∙ sym (ap (λ b. b || is_within s out) (empty_covers old out))
-others_added false old new s out more = more
+part_grown [] place s out l = absurd (omega (arith, l))
+part_grown (sets ∷ parts) zero s out l = ap (λ b. b || parts_within parts out) (any_more sets s out) ∙ or_later (any_within sets out) (parts_within parts out) (is_within s out)
+part_grown (sets ∷ parts) (suc place) s out l =
+    ap (λ b. any_within sets out || b) (part_grown parts place s out (omega (arith, l))) ∙ or_deep (any_within sets out) (parts_within parts out) (is_within s out)

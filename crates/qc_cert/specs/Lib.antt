@@ -5,4 +5,5 @@ pub mod Groups
 pub mod Inductive
 pub mod Limits
 pub mod Prepared
+pub mod Tables
 pub mod Views

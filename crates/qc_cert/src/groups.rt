@@ -1,6 +1,6 @@
 //! A list of triples, each once in the group of its two states.
 
-ghost use Rattle.std.specs.Prelude.{◌≡◌, ℕ, ◌*◌, ◌<◌, ◌≤◌, ◌||◌, [], ◌∷◌, All, IfOk, OnOk, length, slice_index_or};
+ghost use Rattle.std.specs.Prelude.{◌≡◌, ℕ, ◌*◌, ◌<◌, ◌≤◌, ◌||◌, [], ◌∷◌, All, IfOk, OnOk, false, length, slice_index_or};
 ghost use Rattle.qc_cert.specs.Faults.{is_covered};
 ghost use Rattle.qc_cert.specs.Firsts.{firsts, marked};
 ghost use Rattle.qc_cert.specs.Groups.{AreStates, any_within, outs_at, parts_within, place_of};
@@ -8,6 +8,7 @@ ghost use Rattle.qc_cert.specs.declared.triple.Triple.{Triple};
 ghost use Rattle.qc_table.specs.Sets.{is_within};
 ghost use Rattle.qc_table.specs.Limits.{most_states};
 
+use crate::blocks::{self, Block};
 use crate::firsts::firsts;
 use crate::parts::{self, Part};
 use crate::triple::Triple;
@@ -19,36 +20,50 @@ use std::marker::Model;
 /// How many groups there are: one for each two states.
 const GROUPS: usize = MOST_STATES * MOST_STATES;
 
-/// The sets of events that the triples with the same two states leave out.
-/// Each but the empty one stands in the part of one of its events. So a search
-/// looks only at parts of the events that it has. Contracts see a group as its
-/// parts, of which the empty set is one, where it is among them.
+/// How many sets stay without a table of bits.
+const FEW: usize = 96;
+
+/// How many sets a walk of parts looks at, where there is a table.
+const WALK: usize = 128;
+
+/// The sets of events that the triples with the same two states leave out: in
+/// blocks, which have tables of bits, and the rest. All but the empty one stand
+/// once more in parts, each in that of one of its events: where the parts of a
+/// set's events are short, they are walked. Contracts see the blocks and the
+/// rest.
 #[derive(Drop)]
 struct Group {
     /// Whether the empty set is among them, which is within each set.
     has_empty: bool,
+    /// Whether the parts have all others. They do, unless memory ran out.
+    is_whole: bool,
     parts: Vec<Part>,
+    blocks: Vec<Block>,
+    rest: Vec<u64>,
 }
 
 impl Model for Group {
     ghost use Rattle.std.specs.Prelude.{List, ℕ};
-    ghost use Rattle.qc_cert.specs.Groups.{AreParted, parts_of};
+    ghost use Rattle.qc_cert.specs.Groups.{IsGroup, sets_of};
 
     ghost Value = { List (List ℕ) };
 
-    ghost view = { λ g. parts_of g.has_empty g.parts.items };
+    ghost view = { λ g. sets_of g.blocks.items g.rest.items };
 
-    ghost invariant = { λ g. AreParted g.parts.items };
+    ghost invariant = { λ g. IsGroup g.has_empty g.is_whole g.parts.items g.blocks.items g.rest.items };
 }
 
 impl Group {
     /// No triple.
     fn new(alloc: Global) -> Group
-        ensures { result ≡ [] }
+        ensures { (out : ℕ) → parts_within result out ≡ false }
     {
         Group {
             has_empty: false,
+            is_whole: true,
             parts: Vec::new(alloc),
+            blocks: Vec::new(alloc),
+            rest: Vec::new(alloc),
         }
     }
 
@@ -58,17 +73,70 @@ impl Group {
             → parts_within self.new other ≡ (parts_within self.old other || is_within out other)) }
     {
         if out == 0 {
-            self.has_empty = true;
-            return Ok(());
+            self.push_empty(alloc)
+        } else {
+            self.push_some(alloc, out)
         }
-        parts::add(&mut self.parts, alloc, out)
+    }
+
+    /// Adds the empty set.
+    fn push_empty(&mut self, alloc: Global) -> Result<(), OutOfMemory>
+        ensures { OnOk result ((other : ℕ)
+            → parts_within self.new other ≡ (parts_within self.old other || is_within 0 other)) }
+    {
+        let was_whole = self.is_whole;
+        self.is_whole = false;
+        self.has_empty = false;
+        blocks::add(alloc, &mut self.blocks, &mut self.rest, 0)?;
+        self.has_empty = true;
+        self.is_whole = was_whole;
+        Ok(())
+    }
+
+    /// Adds another set.
+    fn push_some(&mut self, alloc: Global, out: u64) -> Result<(), OutOfMemory>
+        requires { 0 < out }
+        ensures { OnOk result ((other : ℕ)
+            → parts_within self.new other ≡ (parts_within self.old other || is_within out other)) }
+    {
+        let was_whole = self.is_whole;
+        let had_empty = self.has_empty;
+        self.is_whole = false;
+        self.has_empty = false;
+        blocks::add(alloc, &mut self.blocks, &mut self.rest, out)?;
+        parts::add(&mut self.parts, alloc, out)?;
+        self.has_empty = had_empty;
+        self.is_whole = was_whole;
+        Ok(())
+    }
+
+    /// Makes a block of the rest, unless it has few sets.
+    fn close(&mut self, alloc: Global) -> Result<(), OutOfMemory>
+        ensures { OnOk result ((out : ℕ) → parts_within self.new out ≡ parts_within self.old out) }
+    {
+        if self.rest.len() > FEW {
+            let was_whole = self.is_whole;
+            let had_empty = self.has_empty;
+            self.is_whole = false;
+            self.has_empty = false;
+            blocks::close(alloc, &mut self.blocks, &mut self.rest)?;
+            self.has_empty = had_empty;
+            self.is_whole = was_whole;
+        }
+        Ok(())
     }
 
     /// Whether a triple of the group leaves out none but these events.
     fn covers(&self, out: u64) -> bool
         ensures { result ≡ parts_within self.now out }
     {
-        self.has_empty || parts::covers(&self.parts, out)
+        if self.has_empty {
+            true
+        } else if self.is_whole && parts::looks(&self.parts, out) <= WALK {
+            parts::covers(&self.parts, out)
+        } else {
+            blocks::covers(&self.blocks, out) || blocks::any_within(&self.rest, out)
+        }
     }
 }
 
@@ -103,6 +171,7 @@ impl<'a> Grouped<'a> {
         let firsts = firsts(alloc, list)?;
         let mut groups = empty_groups(alloc)?;
         add_triples(alloc, &mut groups, list, &firsts)?;
+        close_groups(alloc, &mut groups)?;
         Ok(Grouped {
             list,
             firsts,
@@ -149,7 +218,8 @@ fn place(view: u8, log: u8) -> usize
 /// The groups of no triple.
 fn empty_groups(alloc: Global) -> Result<Vec<Group>, OutOfMemory>
     ensures all { IfOk result (λ v. length v.items ≡ most_states * most_states) }
-    ensures empty { IfOk result (λ v. (place : ℕ) → slice_index_or v.items place [] ≡ []) }
+    ensures empty { IfOk result (λ v. (place out : ℕ)
+        → parts_within (slice_index_or v.items place []) out ≡ false) }
 {
     let mut groups = Vec::new(alloc);
     'groups: for _group in 0..GROUPS {
@@ -166,7 +236,7 @@ fn add_triples(
     marks: &[bool],
 ) -> Result<(), OutOfMemory>
     requires all { length groups.old ≡ most_states * most_states }
-    requires empty { (place : ℕ) → slice_index_or groups.old place [] ≡ [] }
+    requires empty { (place out : ℕ) → parts_within (slice_index_or groups.old place []) out ≡ false }
     requires states { All AreStates list.now }
     requires marks { length marks.now ≡ length list.now }
     ensures all { length groups.new ≡ most_states * most_states }
@@ -191,4 +261,17 @@ fn add_triple(alloc: Global, groups: &mut [Group], triple: &Triple) -> Result<()
         || any_within (outs_at (triple.now ∷ []) place) out)) }
 {
     groups[place(triple.view, triple.log)].push(alloc, triple.out)
+}
+
+/// Makes a block of the rest of each group that hasn't few sets.
+fn close_groups(alloc: Global, groups: &mut [Group]) -> Result<(), OutOfMemory>
+    requires all { length groups.old ≡ most_states * most_states }
+    ensures all { length groups.new ≡ most_states * most_states }
+    ensures same { OnOk result ((place out : ℕ) → parts_within (slice_index_or groups.new place []) out
+        ≡ parts_within (slice_index_or groups.old place []) out) }
+{
+    'groups: for place in 0..GROUPS {
+        groups[place].close(alloc)?;
+    }
+    Ok(())
 }

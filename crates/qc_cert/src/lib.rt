@@ -13,6 +13,7 @@
 //! rest on exactness.
 #![tactic(auto)]
 
+mod blocks;
 mod fault;
 mod firsts;
 mod groups;

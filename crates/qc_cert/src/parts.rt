@@ -12,6 +12,9 @@ use qc_table::MOST_EVENTS;
 use std::alloc::Global;
 use std::marker::Model;
 
+/// What a part costs beside its sets, counted in sets.
+const PART: usize = 8;
+
 /// Sets of events.
 #[derive(Drop)]
 pub(crate) struct Part {
@@ -159,4 +162,22 @@ fn covers_among(parts: &[Part], events: u64, out: u64) -> bool
         rest &= !(1 << event);
     }
     false
+}
+
+/// How many sets the parts of a set's events have, and some more for each part,
+/// which is what a walk of them costs.
+pub(crate) fn looks(parts: &[Part], out: u64) -> usize {
+    let mut looks = 0usize;
+    let mut rest = out;
+    'turns: for _turn in 0..MOST_EVENTS {
+        if rest == 0 {
+            return looks;
+        }
+        let event = rest.trailing_zeros();
+        looks = looks
+            .saturating_add(len_at(parts, event as usize))
+            .saturating_add(PART);
+        rest &= !(1 << event);
+    }
+    looks
 }

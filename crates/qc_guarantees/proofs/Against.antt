@@ -27,7 +27,7 @@ use Rattle.qc_decl.specs.Limits.{most_transaction_operations}
 use Rattle.qc_promise.specs.Account.{Account, ClientRequest, Current, is_append, is_prepare, is_read, requests_for}
 use Rattle.qc_promise.specs.Accounting.{account_heard, counted, counted_for, is_open, taken_for}
 use Rattle.qc_promise.specs.Rounds.{against, answer_of, are_votes_in, first_against, round_of}
-use Rattle.qc_promise.specs.Rows.{answer_row, append_row, commit_row, do_row, due, read_row, row_of, vote_row}
+use Rattle.qc_promise.specs.Rows.{answer_row, append_row, commit_row, do_row, running_row, read_row, row_of, vote_row}
 use Rattle.qc_guarantees.specs.Votes.{IsOpenVote}
 use Rattle.qc_guarantees.proofs.Accounts.{after_taken, open_number, open_untaken, told_requests}
 use Rattle.qc_guarantees.proofs.SiteMoves.{Forgets}
@@ -162,10 +162,10 @@ module _ (decl : Declaration) where
   abbrev pub IsForgottenVote : Account → ℕ → Type 0
   IsForgottenVote d site = (q : ClientRequest) × (x : Answer) × IsVote d q x × Forgets x
 
-  commit_why : (d : Account) (t : Current) (site : ℕ) → why_of (commit_row decl d [] t) ≡ Some (causes.Forgot site) → IsForgottenVote d site
+  commit_why : (d : Account) (t : Current) (site : ℕ) → why_of (commit_row decl d false t) ≡ Some (causes.Forgot site) → IsForgottenVote d site
   commit_why d t site is = by t.doomed (are_votes_in decl d t) (first_against (requests_for is_prepare d)) refl is
     where
-      by : (x y : Bool) (o : Option Why) → first_against (requests_for is_prepare d) ≡ o → why_of (if x then Some (replies.Aborted causes.Doomed) else (if y then vote_row d [] o else None)) ≡ Some (causes.Forgot site)
+      by : (x y : Bool) (o : Option Why) → first_against (requests_for is_prepare d) ≡ o → why_of (if x then Some (replies.Aborted causes.Doomed) else (if y then vote_row d false o else None)) ≡ Some (causes.Forgot site)
           → (q : ClientRequest) × (x : Answer) × IsVote d q x × Forgets x
       by true y o first is = absurd (let e : causes.Doomed ≡ causes.Forgot site = cc in let never : ⊥ = cc in never)
       by false false o first is = absurd (let never : ⊥ = cc in never)
@@ -175,10 +175,10 @@ module _ (decl : Declaration) where
           let a : (x : Answer) × (r.0.taken ≡ Some (Some x)) × Forgets x = against_forgets r.0 r.0.taken site (r.2 ∙ is) in
           (r.0, a.0, (In-unfiltered (λ (q : ClientRequest). is_prepare q.want) r.0 d.requests r.1, is_prepared_want r.0.want (In-passes (λ (q : ClientRequest). is_prepare q.want) r.0 d.requests r.1), a.1), a.2)
 
-  pub due_why : (d : Account) (site : ℕ) → due decl d [] ≡ Some (replies.Aborted (causes.Forgot site)) → IsForgottenVote d site
+  pub due_why : (d : Account) (site : ℕ) → running_row decl d false ≡ Some (replies.Aborted (causes.Forgot site)) → IsForgottenVote d site
   due_why d site is = by d.command d.current (ap why_of is)
     where
-      by : (c : Option Command) (t : Option Current) → why_of (option_and_then (row_of decl d [] t) c) ≡ Some (causes.Forgot site) → IsForgottenVote d site
+      by : (c : Option Command) (t : Option Current) → why_of (option_and_then (row_of decl d false t) c) ≡ Some (causes.Forgot site) → IsForgottenVote d site
       by None t is = none_some None (causes.Forgot site) refl is
       by (Some commands.Begin) None is = none_some None (causes.Forgot site) refl is
       by (Some (commands.Do object inv)) None is = none_some None (causes.Forgot site) refl is

@@ -21,12 +21,13 @@ use Rattle.qc_msg.specs.declared.reply.Reply.{Reply}
 use Rattle.qc_msg.specs.declared.reply.Reply.TheVariants as replies
 use Rattle.qc_msg.specs.declared.step.Command.{Command}
 use Rattle.qc_msg.specs.declared.step.Command.TheVariants as commands
+use Rattle.qc_msg.specs.declared.step.Given.{Given}
 use Rattle.qc_msg.specs.declared.step.Given.TheVariants as given
 use Rattle.qc_msg.specs.Deeds.{Deed, Takes, Writes, Sends, Tells, Falls, Rises}
 use Rattle.qc_promise.specs.Account.{Account, ClientRequest, new_account}
-use Rattle.qc_promise.specs.Accounting.{account_at, account_heard, account_sent, account_told_in, account_written, counted, counted_for, found_absent, granted, is_open, promised, responded, short_of, taken_for, told_by}
+use Rattle.qc_promise.specs.Accounting.{account_at, account_taken, account_heard, account_sent, account_told_in, account_written, counted, counted_for, found_absent, granted, is_open, promised, responded, short_of, taken_for, told_by}
 use Rattle.qc_promise.specs.Asked.{is_asked_for}
-use Rattle.qc_promise.specs.Rows.{due}
+use Rattle.qc_promise.specs.Rows.{running_row}
 use Rattle.qc_account.specs.DeedsDue.{AreDeedsDue, IsDeedDue}
 use Rattle.qc_core.specs.Conduct.{IsLawful}
 use Rattle.qc_decl.specs.Actors.{actors, is_client}
@@ -131,7 +132,7 @@ module _ (decl : Declaration) where
   short_clock d halves.Append = same_clock d
   short_clock d halves.Close = same_clock d
 
-  reply_clock : (d : Account) (reply : Reply) → due decl d [] ≡ Some reply → d.clock ≤ (account_told_in decl d reply).clock
+  reply_clock : (d : Account) (reply : Reply) → running_row decl d false ≡ Some reply → d.clock ≤ (account_told_in decl d reply).clock
   reply_clock d replies.Down is = same_clock d
   reply_clock d (replies.Already tx) is = same_clock d
   reply_clock d (replies.Began tx) is = same_clock d
@@ -152,15 +153,18 @@ module _ (decl : Declaration) where
   reply_clock d replies.Fault is = same_clock d
   reply_clock d (replies.Moved closed installed) is = same_clock d
 
+  pub take_clock : (d : Account) (g : Given) → d.clock ≤ (account_taken d g).clock
+  take_clock d (given.Called command) = same_clock d
+  take_clock d (given.Got e) = heard_clock d e.message
+  take_clock d (given.Lost n) = counted_clock d n None
+
   deed_clock : (d : Account) (x : Deed) → IsDeedDue decl d x → d.clock ≤ (account_at decl d x).clock
-  deed_clock d (Takes (given.Called command)) is = same_clock d
-  deed_clock d (Takes (given.Got e)) is = heard_clock d e.message
-  deed_clock d (Takes (given.Lost n)) is = counted_clock d n None
+  deed_clock d (Takes g) is = take_clock d g
   deed_clock d (Writes w) is = written_clock d w
   deed_clock d (Sends n to m) is = sent_clock d n to m
   deed_clock d (Tells reply) is = reply_clock d reply is.0
-  deed_clock d (Falls cause pending) is = same_clock d
-  deed_clock d (Rises records) is = same_clock d
+  deed_clock d (Falls cause pending) is = absurd is
+  deed_clock d (Rises kept) is = absurd is
 
   pub clock_rises : (ds : List Deed) (d : Account) → AreDeedsDue decl d ds → d.clock ≤ (fold (account_at decl) d ds).clock
   clock_rises [] d is = same_clock d

@@ -1,5 +1,5 @@
 -- A commit that is due has the stamp that comes next.
-use Rattle.std.proofs.Common.{◌≡◌, ℕ, nat_le, Bool, true, false, if◌then◌else◌, [], length, Option, Some, None, refl, sym, ap}
+use Rattle.std.proofs.Common.{◌≡◌, ℕ, nat_le, Bool, true, false, if◌then◌else◌, length, Option, Some, None, refl, sym, ap}
 use Rattle.std.specs.Prelude.{option_and_then}
 use Rattle.qc_stamp.specs.declared.stamp.Stamp.{Stamp}
 use Rattle.qc_decl.specs.Limits.{most_transaction_operations}
@@ -16,7 +16,7 @@ use Rattle.qc_plan.specs.declared.standing.Verdict.TheVariants as verdicts
 use Rattle.qc_plan.specs.Round.{verdict}
 use Rattle.qc_promise.specs.Account.{Account, Current, is_append, is_prepare, is_read, requests_for}
 use Rattle.qc_promise.specs.Rounds.{answer_of, are_votes_in, first_against, round_of}
-use Rattle.qc_promise.specs.Rows.{answer_row, append_row, commit_row, do_row, due, next_stamp, read_row, row_of, vote_row}
+use Rattle.qc_promise.specs.Rows.{answer_row, append_row, commit_row, do_row, running_row, next_stamp, read_row, row_of, vote_row}
 
 abbrev stamp_in : Reply → Option Stamp
 stamp_in replies.Down = None
@@ -73,19 +73,19 @@ module _ (decl : Declaration) where
       by false true = refl
       by false false = read_stamp d t object inv (verdict (round_of decl d t is_read (read_need_of decl t.epoch object inv)))
 
-  commit_stamp : (d : Account) (t : Current) (stamp : Stamp) → stamp_of (commit_row decl d [] t) ≡ Some stamp → stamp ≡ next_stamp d
+  commit_stamp : (d : Account) (t : Current) (stamp : Stamp) → stamp_of (commit_row decl d false t) ≡ Some stamp → stamp ≡ next_stamp d
   commit_stamp d t stamp is = by t.doomed (are_votes_in decl d t) (first_against (requests_for is_prepare d)) is
     where
-      by : (x y : Bool) (o : Option Why) → stamp_of (if x then Some (replies.Aborted causes.Doomed) else (if y then vote_row d [] o else None)) ≡ Some stamp → stamp ≡ next_stamp d
+      by : (x y : Bool) (o : Option Why) → stamp_of (if x then Some (replies.Aborted causes.Doomed) else (if y then vote_row d false o else None)) ≡ Some stamp → stamp ≡ next_stamp d
       by true y o is = none_some None stamp refl is
       by false false o is = none_some None stamp refl is
       by false true None is = let same : next_stamp d ≡ stamp = cc in sym same
       by false true (Some why) is = none_some None stamp refl is
 
-  pub due_stamp : (d : Account) (stamp : Stamp) → due decl d [] ≡ Some (replies.Committed stamp) → stamp ≡ next_stamp d
+  pub due_stamp : (d : Account) (stamp : Stamp) → running_row decl d false ≡ Some (replies.Committed stamp) → stamp ≡ next_stamp d
   due_stamp d stamp is = by d.command d.current (ap stamp_of is)
     where
-      by : (c : Option Command) (t : Option Current) → stamp_of (option_and_then (row_of decl d [] t) c) ≡ Some stamp → stamp ≡ next_stamp d
+      by : (c : Option Command) (t : Option Current) → stamp_of (option_and_then (row_of decl d false t) c) ≡ Some stamp → stamp ≡ next_stamp d
       by None t is = none_some None stamp refl is
       by (Some commands.Begin) None is = none_some None stamp refl is
       by (Some (commands.Do object inv)) None is = none_some None stamp refl is

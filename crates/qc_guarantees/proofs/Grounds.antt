@@ -66,7 +66,7 @@ take_grounds ds d (given.Got e) k = by e.message refl
 -- a record
 
 written_grounds : (ds : List Deed) (d : Account) (w : Record) → HasGrounds ds d → HasGrounds (ds ++ Writes w ∷ []) (account_written d w)
-written_grounds ds d records.Life k = same_grounds ds (Writes records.Life) d d refl refl refl k
+written_grounds ds d records.Life k = same_grounds ds (Writes records.Life) d (record d { life = d.life + 1 }) refl refl refl k
 written_grounds ds d (records.Prepare prepared) k = same_grounds ds (Writes (records.Prepare prepared)) d d refl refl refl k
 written_grounds ds d (records.Done tx clock) k = same_grounds ds (Writes (records.Done tx clock)) d d refl refl refl k
 written_grounds ds d (records.Close epoch) k = same_grounds ds (Writes (records.Close epoch)) d d refl refl refl k
@@ -204,8 +204,18 @@ module _ (decl : Declaration) where
   one_more ds d (Writes w) k = written_grounds ds d w k
   one_more ds d (Sends n to m) k = sent_grounds ds d n to m k
   one_more ds d (Tells reply) k = told_grounds ds d reply k
-  one_more ds d (Falls cause pending) k = same_grounds ds (Falls cause pending) d d refl refl refl k
-  one_more ds d (Rises records) k = same_grounds ds (Rises records) d d refl refl refl k
+  one_more ds d (Falls cause pending) k = record {
+    sent = λ q never. absurd never;
+    taken = λ q answer never is. absurd never;
+    granted = λ t site is has. absurd (let never : ⊥ = cc in never);
+    called = λ c is. absurd (let never : ⊥ = cc in never);
+  }
+  one_more ds d (Rises kept) k = record {
+    sent = λ q never. absurd never;
+    taken = λ q answer never is. absurd never;
+    granted = λ t site is has. absurd (let never : ⊥ = cc in never);
+    called = λ c is. absurd (let never : ⊥ = cc in never);
+  }
 
   all_more : (ds more : List Deed) (d : Account) → HasGrounds ds d → HasGrounds (ds ++ more) (fold (account_at decl) d more)
   all_more ds [] d k = subst (λ (v : List Deed). HasGrounds v d) (sym (append-nil ds)) k

@@ -30,7 +30,7 @@ use Rattle.qc_promise.specs.Account.{Account, ClientRequest, Current, is_prepare
 use Rattle.qc_promise.specs.Accounting.{account_at, account_heard, account_sent, account_taken, account_written, counted, counted_for, granted, is_open, promised, taken_for, told_by}
 use Rattle.qc_promise.specs.Asked.{is_asked_for}
 use Rattle.qc_promise.specs.Rounds.{are_votes_in, first_against, participants}
-use Rattle.qc_promise.specs.Rows.{commit_row, due, row_of, vote_row}
+use Rattle.qc_promise.specs.Rows.{commit_row, running_row, row_of, vote_row}
 use Rattle.qc_promise.specs.Rows as rows
 use Rattle.qc_account.specs.DeedsDue.{AreDeedsDue}
 use Rattle.qc_account.specs.Ties.{IsPrepare, Votes}
@@ -103,11 +103,11 @@ module _ (decl : Declaration) where
   and_none true y is = is
   and_none false y is = refl
 
-  none_due : (d : Account) (t : Current) (q : ClientRequest) → d.command ≡ Some commands.Commit → d.current ≡ Some t → t.doomed ≡ false → IsOpenVote d q → due decl d [] ≡ None
+  none_due : (d : Account) (t : Current) (q : ClientRequest) → d.command ≡ Some commands.Commit → d.current ≡ Some t → t.doomed ≡ false → IsOpenVote d q → running_row decl d false ≡ None
   none_due d t q command current live k =
-      ap (option_and_then (row_of decl d [] d.current)) command
-      ∙ ap (λ (o : Option Current). row_of decl d [] o commands.Commit) current
-      ∙ row t.doomed (are_votes_in decl d t) (Some (replies.Aborted causes.Doomed)) (vote_row d [] (first_against (requests_for is_prepare d))) live waits
+      ap (option_and_then (row_of decl d false d.current)) command
+      ∙ ap (λ (o : Option Current). row_of decl d false o commands.Commit) current
+      ∙ row t.doomed (are_votes_in decl d t) (Some (replies.Aborted causes.Doomed)) (vote_row d false (first_against (requests_for is_prepare d))) live waits
     where
       waits : are_votes_in decl d t ≡ false
       waits = and_none (length (participants decl d t) == length (requests_for is_prepare d)) (list_all (λ (p : ClientRequest). is_some p.taken) (requests_for is_prepare d))
@@ -169,7 +169,7 @@ module _ (decl : Declaration) where
     tie : Votes decl (account_of decl a client at.before) (client_after decl (a - decl.sites) at.before).client
     tie = voting_tie decl (account_of decl a client at.before) (client_after decl (a - decl.sites) at.before).client q vote_before at.rest.ties
 
-    nothing_due : due decl (account_of decl a client ds) [] ≡ None
+    nothing_due : running_row decl (account_of decl a client ds) false ≡ None
     nothing_due =
         let same : IsAsBefore (account_of decl a client at.before) (account_taken (account_of decl a client at.before) at.given) = taken_same (account_of decl a client at.before) at.given q taken_among
         (λ p among. (every-In (IsPrepare tie.t) p (account_of decl a client at.before).requests tie.prepares among).want) in
@@ -190,8 +190,8 @@ module _ (decl : Declaration) where
           by (Some (records.Close epoch)) due = refl
           by (Some (records.Install epoch clock lines)) due = refl
           by (Some (records.Commit commit)) due = absurd (
-              let some : rows.due decl (account_of decl a client ds) [] ≡ Some (replies.Committed commit.stamp) = (due_at decl ds (Writes (records.Commit commit)) (sends_of first turn.sends ++ tells_of turn.told) (new_account (a - decl.sites)) due).0 in
-              let none : rows.due decl (account_of decl a client ds) [] ≡ None = nothing_due in
+              let some : rows.running_row decl (account_of decl a client ds) false ≡ Some (replies.Committed commit.stamp) = (due_at decl ds (Writes (records.Commit commit)) (sends_of first turn.sends ++ tells_of turn.told) (new_account (a - decl.sites)) due).0 in
+              let none : rows.running_row decl (account_of decl a client ds) false ≡ None = nothing_due in
               let never : ⊥ = cc in never)
           by (Some (records.Decide epoch clock lines)) due = refl
 

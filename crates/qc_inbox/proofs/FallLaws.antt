@@ -21,6 +21,7 @@ use Rattle.qc_script.specs.declared.script.Script.{Script}
 use Rattle.qc_inbox.specs.Downs.{IsCommand, IsEmptied, TellsWhereDown, is_down}
 use Rattle.qc_inbox.proofs.Apart.{one_controls}
 use Rattle.qc_inbox.proofs.FallRuns.{run_stands}
+use Rattle.qc_inbox.proofs.Lined.{Lined, run_lined}
 use Rattle.qc_inbox.proofs.Standing.{ClosedWhile, IsSettled, Stands}
 
 -- between lines
@@ -46,21 +47,23 @@ flipped true is = refl
 flipped false is = absurd (let never : ⊥ = cc in never)
 
 module _ (lawful : ℕ → List Deed → Turn → Type 0) (fits : ℕ → List Record → Type 0) (decl : Declaration) (script : Script) (h : List Entry) (open_inputs : List Bool)
+    (few : actors decl ≤ most_actors) (run : RunsWithFalls lawful fits decl script h open_inputs) where
+  lined : Lined open_inputs (inbox script 0 h)
+  lined = run_lined lawful fits decl script few h open_inputs run
+
+  pub lines_close : (line : Control) (lines : List Control) → controls_left script h ≡ line ∷ lines → (a : ℕ) → slice_get open_inputs a ≡ Some true → ⊥
+  lines_close line lines left = subst (λ (cs : List Control). ClosedWhile cs open_inputs) left lined.closed
+
+  pub crashes_up : (a : ℕ) (lines : List Control) → controls_left script h ≡ controls.Crash a ∷ lines → is_up (inbox script 0 h).up a ≡ true
+  crashes_up a lines left = flipped (is_up (inbox script 0 h).up a) (subst (λ (cs : List Control). IsSettled (inbox script 0 h).up cs) left lined.settled)
+
+  pub restarts_down : (a : ℕ) (lines : List Control) → controls_left script h ≡ controls.Restart a ∷ lines → is_up (inbox script 0 h).up a ≡ false
+  restarts_down a lines left = subst (λ (cs : List Control). IsSettled (inbox script 0 h).up cs) left lined.settled
+
+module _ (lawful : ℕ → List Deed → Turn → Type 0) (fits : ℕ → List Record → Type 0) (decl : Declaration) (script : Script) (h : List Entry) (open_inputs : List Bool)
     (few : actors decl ≤ most_actors) (tells : TellsWhereDown lawful) (run : RunsWithFalls lawful fits decl script h open_inputs) where
   stands : (b : ℕ) → b < most_actors → Stands b h open_inputs (inbox script b h)
   stands b low = run_stands lawful fits decl script few tells b low h open_inputs run
-
-  first : Stands 0 h open_inputs (inbox script 0 h)
-  first = stands 0 (omega arith)
-
-  pub lines_close : (line : Control) (lines : List Control) → controls_left script h ≡ line ∷ lines → (a : ℕ) → slice_get open_inputs a ≡ Some true → ⊥
-  lines_close line lines left = subst (λ (cs : List Control). ClosedWhile cs open_inputs) left first.closed
-
-  pub crashes_up : (a : ℕ) (lines : List Control) → controls_left script h ≡ controls.Crash a ∷ lines → is_up (inbox script 0 h).up a ≡ true
-  crashes_up a lines left = flipped (is_up (inbox script 0 h).up a) (subst (λ (cs : List Control). IsSettled (inbox script 0 h).up cs) left first.settled)
-
-  pub restarts_down : (a : ℕ) (lines : List Control) → controls_left script h ≡ controls.Restart a ∷ lines → is_up (inbox script 0 h).up a ≡ false
-  restarts_down a lines left = subst (λ (cs : List Control). IsSettled (inbox script 0 h).up cs) left first.settled
 
   pub up_by_deeds : (a b : ℕ) → a < most_actors → b < most_actors → is_up (inbox script b h).up a ≡ not (is_down (deeds a [] h))
   up_by_deeds a b within low = (stands b low).tied a within

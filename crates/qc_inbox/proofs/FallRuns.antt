@@ -25,22 +25,13 @@ use Rattle.qc_script.proofs.AllUp.{is_up-everybody}
 use Rattle.qc_inbox.specs.Downs.{TellsWhereDown}
 use Rattle.qc_inbox.proofs.Apart.{one_controls}
 use Rattle.qc_inbox.proofs.Emptied.{after}
-use Rattle.qc_inbox.proofs.Falling.{act_stands, between_none, line_falls, none_open, place_within, post_stands, restarted, rise_stands, set_long, take_stands}
+use Rattle.qc_inbox.proofs.Falling.{act_stands, line_falls, none_open, post_stands, restarted, rise_stands, take_stands}
+use Rattle.qc_inbox.proofs.Inputs.{between_none}
+use Rattle.qc_inbox.proofs.Lined.{actor_within}
 use Rattle.qc_inbox.proofs.Standing.{Stands, begins_phase, fell_by_line, none_left}
 use Rattle.qc_inbox.proofs.Downs.{tied_silent}
 
 module _ (lawful : ℕ → List Deed → Turn → Type 0) (fits : ℕ → List Record → Type 0) (decl : Declaration) (script : Script) (few : actors decl ≤ most_actors) (tells : TellsWhereDown lawful) where
-  pub run_long : (h : List Entry) (inputs : List Bool) → RunsWithFalls lawful fits decl script h inputs → length inputs ≡ actors decl
-  run_long h inputs begins = length-replicate (actors decl) false
-  run_long h inputs (takes a g before older run free rdy) = set_long before a true ∙ run_long older before run
-  run_long h inputs (posts a turn before older run taken law) = set_long before a false ∙ run_long older before run
-  run_long h inputs (phase before older run none left quiet more) = run_long older before run
-  run_long h inputs (control line lines step before older run left is) = run_long older before run
-  run_long h inputs (falls a lines before older run left) = run_long older before run
-  run_long h inputs (rises a records turn lines before older run left fit has law) = run_long older before run
-  run_long h inputs (damaged a offset lines before older run left) = run_long older before run
-  run_long h inputs (unopened a cause lines before older run left disk) = run_long older before run
-
   module _ (b : ℕ) (low : b < most_actors) where
     goes_on : (h k : List Entry) (inputs : List Bool) → Stands b (h ++ k) inputs (after script b (inbox script b h) k) → Stands b (h ++ k) inputs (inbox script b (h ++ k))
     goes_on h k inputs s = subst (Stands b (h ++ k) inputs) (sym (fold-append (λ (i : Inbox) (e : Entry). inbox_at script b i e.actor e.step) empty_inbox h k)) s
@@ -79,12 +70,12 @@ module _ (lawful : ℕ → List Deed → Turn → Type 0) (fits : ℕ → List R
     run_stands h inputs begins = at_first
     run_stands h inputs (takes a g before older run free rdy) =
         let s : Stands b older before (inbox script b older) = run_stands older before run in
-        let within : a < most_actors = (let place : a < length before = place_within before a false free in let long : length before ≡ actors decl = run_long older before run in omega arith) in
+        let within : a < most_actors = actor_within lawful fits decl script few older before run a false free in
         goes_on older (marked a (step_of g) ∷ []) (slice_set before a true)
         (take_stands script b low older before s a g (slice_set before a true) (one_controls script older b a low within ∙ between_none (inbox script a older).controls _ g rdy))
     run_stands h inputs (posts a turn before older run taken law) =
         let s : Stands b older before (inbox script b older) = run_stands older before run in
-        let within : a < most_actors = (let place : a < length before = place_within before a true taken in let long : length before ≡ actors decl = run_long older before run in omega arith) in
+        let within : a < most_actors = actor_within lawful fits decl script few older before run a true taken in
         goes_on older (by a (posted_as turn.append (length (mail older)) turn)) (slice_set before a false)
         (post_stands script b low older before s lawful tells a (length (mail older)) turn (slice_set before a false) within (none_left (inbox script b older).controls before a s.closed taken) law)
     run_stands h inputs (phase before older run none left quiet more) =

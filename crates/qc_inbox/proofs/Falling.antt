@@ -1,6 +1,6 @@
 -- Each event of a run with falls keeps what stands in the inbox of an actor.
-use Rattle.std.proofs.Common.{◌≡◌, ℕ, zero, suc, ◌<◌, ◌==◌, Bool, true, false, not, if◌then◌else◌, List, [], ◌∷◌, ◌++◌, length, Option, Some, None, refl, ap, sym, subst, ◌∙◌, arith, eqb-true}
-use Rattle.std.specs.Prelude.{drop, set, slice_get, slice_set}
+use Rattle.std.proofs.Common.{◌≡◌, ℕ, ◌<◌, ◌==◌, Bool, true, false, not, if◌then◌else◌, List, [], ◌∷◌, ◌++◌, length, Option, Some, None, refl, ap, sym, subst, ◌∙◌, arith, eqb-true}
+use Rattle.std.specs.Prelude.{drop, set}
 use Rattle.std.proofs.lemmas.List.{length-set}
 use Rattle.qc_link.specs.Limits.{most_actors}
 use Rattle.qc_msg.specs.declared.record.Record.{Record}
@@ -18,7 +18,7 @@ use Rattle.qc_msg.specs.declared.turn.Turn.{Turn}
 use Rattle.qc_msg.specs.Deeds.{Deed, deed_at, deeds, mail}
 use Rattle.qc_msg.specs.Steps.{Entry, HasRecord, MayEnd, by, marked, posted_as, sents, step_of, told, wrote}
 use Rattle.qc_script.specs.Inbox.{Inbox, actor_fell, command_called, control_acted, copy_taken, inbox, inbox_at, is_up, loss_taken}
-use Rattle.qc_script.specs.Ready.{after_controls, controls_left}
+use Rattle.qc_script.specs.Ready.{controls_left}
 use Rattle.qc_script.specs.declared.script.Script.{Script}
 use Rattle.qc_inbox.specs.Downs.{IsEmptied, TellsWhereDown, is_down}
 use Rattle.qc_inbox.proofs.Acting.{input_keeps}
@@ -28,22 +28,6 @@ use Rattle.qc_inbox.proofs.Downs as downs
 use Rattle.qc_inbox.proofs.Emptied.{Passes, acted_up, after, told_controls, told_emptied, told_up}
 use Rattle.qc_inbox.proofs.Sent.{Keeps}
 use Rattle.qc_inbox.proofs.Standing.{Breaks, ClosedWhile, Goes, IsSettled, NoneOpen, Stands, acts, failed_breaks, falls_by_line, falls_in_post, fell_by_line, fell_in_post, stopped_breaks, tail_goes, wrote_where_down, wrote_where_up}
-
--- inputs
-
-pub set_long : (bs : List Bool) (a : ℕ) (v : Bool) → length (slice_set bs a v) ≡ length bs
-set_long [] a v = refl
-set_long (b ∷ bs) zero v = refl
-set_long (b ∷ bs) (suc a) v = ap suc (set_long bs a v)
-
-pub place_within : (bs : List Bool) (a : ℕ) (v : Bool) → slice_get bs a ≡ Some v → a < length bs
-place_within [] a v is = absurd (let never : ⊥ = cc in never)
-place_within (b ∷ bs) zero v is = omega arith
-place_within (b ∷ bs) (suc a) v is = let rest : a < length bs = place_within bs a v is in omega arith
-
-pub between_none : (lines : List Control) (other : Option Given) (g : Given) → after_controls lines other ≡ Some g → lines ≡ []
-between_none [] other g is = refl
-between_none (line ∷ lines) other g is = absurd (let never : ⊥ = cc in never)
 
 -- the actor's own input
 

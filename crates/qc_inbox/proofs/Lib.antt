@@ -15,6 +15,8 @@ pub mod Ranking
 mod Emptied
 mod Downs
 mod Standing
+mod Inputs
+mod Lined
 mod Falling
 mod FallRuns
 pub mod Owned

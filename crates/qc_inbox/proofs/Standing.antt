@@ -62,13 +62,13 @@ none_left (line ∷ lines) inputs a closed is = absurd (closed a is)
 -- a line has acted, or a phase began
 
 module _ (b : ℕ) where
-  opened_up : (i : Inbox) → (opened b i).up ≡ i.up
+  pub opened_up : (i : Inbox) → (opened b i).up ≡ i.up
   opened_up i = (opened_keeps b (acting i.up i.controls) (record i { controls = acting i.up i.controls })).up
 
-  opened_controls : (i : Inbox) → (opened b i).controls ≡ acting i.up i.controls
+  pub opened_controls : (i : Inbox) → (opened b i).controls ≡ acting i.up i.controls
   opened_controls i = (opened_keeps b (acting i.up i.controls) (record i { controls = acting i.up i.controls })).controls
 
-  opened_settled : (i : Inbox) → IsSettled (opened b i).up (opened b i).controls
+  pub opened_settled : (i : Inbox) → IsSettled (opened b i).up (opened b i).controls
   opened_settled i =
       subst (λ (up : List Bool). IsSettled up (opened b i).controls) (sym (opened_up i))
       (subst (λ (lines : List Control). IsSettled i.up lines) (sym (opened_controls i)) (settles i.up i.controls))

@@ -1,4 +1,5 @@
--- What is kept of the inboxes is what the history gives. It knows no falls: everybody is up, and the script leaves it so.
+-- What is kept of the inboxes is what the history gives. It knows no falls: everybody is up, and the script leaves it
+-- so.
 use Rattle.std.specs.Prelude.{◌*◌, ◌≡◌, ℕ, ◌<◌, List, Some, length, map, slice_get}
 use Rattle.std.specs.List.{AllByRecursion as Every}
 use Rattle.qc_msg.specs.declared.message.Envelope.{Envelope}

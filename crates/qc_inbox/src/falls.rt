@@ -1,6 +1,6 @@
 //! Laws of inboxes in runs with falls, each the contract of a function with
-//! nothing to do. Of the conduct they ask that only a record can fail to be
-//! written, and that an actor that is down only tells replies.
+//! nothing to do. Those of who is down ask of the conduct that only a record can
+//! fail to be written, and that an actor that is down only tells replies.
 
 ghost use Rattle.std.specs.Prelude.{◌≡◌, ℕ, ◌<◌, ◌≤◌, Bool, true, false, not, List, [], ◌∷◌, Some, None, slice_get};
 ghost use Rattle.std.specs.List.{AllByRecursion as Every};
@@ -27,7 +27,7 @@ use qc_script::ConductWithFalls;
 #[tactic(auto, using(crate::proofs::FallLaws::lines_close))]
 pub fn no_input_is_open_while_a_line_is_left<C: ConductWithFalls>()
     ensures { (decl : Declaration) (script : Script) (h : List Entry) (open_inputs : List Bool)
-        → actors decl ≤ most_actors → TellsWhereDown C.lawful
+        → actors decl ≤ most_actors
         → RunsWithFalls C.lawful C.fits decl script h open_inputs
         → (line : Control) (lines : List Control) → controls_left script h ≡ line ∷ lines
         → (a : ℕ) → slice_get open_inputs a ≡ Some true → ⊥ }
@@ -45,12 +45,12 @@ pub fn nothing_is_ready_while_a_line_is_left()
 #[tactic(auto, using(crate::proofs::FallLaws::crashes_up, crate::proofs::FallLaws::restarts_down))]
 pub fn next_lines_have_something_to_do<C: ConductWithFalls>()
     ensures crash { (decl : Declaration) (script : Script) (h : List Entry) (open_inputs : List Bool)
-        → actors decl ≤ most_actors → TellsWhereDown C.lawful
+        → actors decl ≤ most_actors
         → RunsWithFalls C.lawful C.fits decl script h open_inputs
         → (a : ℕ) (lines : List Control) → controls_left script h ≡ Crash a ∷ lines
         → is_up (inbox script 0 h).up a ≡ true }
     ensures restart { (decl : Declaration) (script : Script) (h : List Entry) (open_inputs : List Bool)
-        → actors decl ≤ most_actors → TellsWhereDown C.lawful
+        → actors decl ≤ most_actors
         → RunsWithFalls C.lawful C.fits decl script h open_inputs
         → (a : ℕ) (lines : List Control) → controls_left script h ≡ Restart a ∷ lines
         → is_up (inbox script 0 h).up a ≡ false }

@@ -1,5 +1,5 @@
 -- A transaction that begins has the number that comes next.
-use Rattle.std.proofs.Common.{◌≡◌, ℕ, ◌+◌, nat_le, Bool, true, false, if◌then◌else◌, [], length, Option, Some, None, refl, sym, ap}
+use Rattle.std.proofs.Common.{◌≡◌, ℕ, ◌+◌, nat_le, Bool, true, false, if◌then◌else◌, length, Option, Some, None, refl, sym, ap}
 use Rattle.std.specs.Prelude.{option_and_then}
 use Rattle.qc_stamp.specs.declared.stamp.TxId.{TxId}
 use Rattle.qc_decl.specs.Limits.{most_transaction_operations}
@@ -16,7 +16,7 @@ use Rattle.qc_plan.specs.declared.standing.Verdict.TheVariants as verdicts
 use Rattle.qc_plan.specs.Round.{verdict}
 use Rattle.qc_promise.specs.Account.{Account, Current, is_append, is_prepare, is_read, requests_for}
 use Rattle.qc_promise.specs.Rounds.{answer_of, are_votes_in, first_against, round_of}
-use Rattle.qc_promise.specs.Rows.{answer_row, append_row, commit_row, do_row, due, read_row, row_of, vote_row}
+use Rattle.qc_promise.specs.Rows.{answer_row, append_row, commit_row, do_row, running_row, read_row, row_of, vote_row}
 
 abbrev number_in : Reply → Option ℕ
 number_in replies.Down = None
@@ -73,19 +73,19 @@ module _ (decl : Declaration) where
       by false true = refl
       by false false = read_number d t object inv (verdict (round_of decl d t is_read (read_need_of decl t.epoch object inv)))
 
-  commit_number : (d : Account) (t : Current) → number_of (commit_row decl d [] t) ≡ None
+  commit_number : (d : Account) (t : Current) → number_of (commit_row decl d false t) ≡ None
   commit_number d t = by t.doomed (are_votes_in decl d t) (first_against (requests_for is_prepare d))
     where
-      by : (x y : Bool) (o : Option Why) → number_of (if x then Some (replies.Aborted causes.Doomed) else (if y then vote_row d [] o else None)) ≡ None
+      by : (x y : Bool) (o : Option Why) → number_of (if x then Some (replies.Aborted causes.Doomed) else (if y then vote_row d false o else None)) ≡ None
       by true y o = refl
       by false false o = refl
       by false true None = refl
       by false true (Some why) = refl
 
-  pub due_number : (d : Account) (tx : TxId) → due decl d [] ≡ Some (replies.Began tx) → tx.number ≡ d.count + 1
+  pub due_number : (d : Account) (tx : TxId) → running_row decl d false ≡ Some (replies.Began tx) → tx.number ≡ d.count + 1
   due_number d tx is = by d.command d.current (ap number_of is)
     where
-      by : (c : Option Command) (t : Option Current) → number_of (option_and_then (row_of decl d [] t) c) ≡ Some tx.number → tx.number ≡ d.count + 1
+      by : (c : Option Command) (t : Option Current) → number_of (option_and_then (row_of decl d false t) c) ≡ Some tx.number → tx.number ≡ d.count + 1
       by None t is = none_some None tx.number refl is
       by (Some commands.Begin) None is = let same : d.count + 1 ≡ tx.number = cc in sym same
       by (Some (commands.Do object inv)) None is = none_some None tx.number refl is
@@ -94,6 +94,6 @@ module _ (decl : Declaration) where
       by (Some (commands.Epoch number)) None is = none_some None tx.number refl is
       by (Some commands.Begin) (Some t) is = none_some None tx.number refl is
       by (Some (commands.Do object inv)) (Some t) is = none_some (number_of (do_row decl d t object inv)) tx.number (do_number d t object inv) is
-      by (Some commands.Commit) (Some t) is = none_some (number_of (commit_row decl d [] t)) tx.number (commit_number d t) is
+      by (Some commands.Commit) (Some t) is = none_some (number_of (commit_row decl d false t)) tx.number (commit_number d t) is
       by (Some commands.Abort) (Some t) is = none_some None tx.number refl is
       by (Some (commands.Epoch number)) (Some t) is = none_some None tx.number refl is

@@ -1,5 +1,5 @@
 -- A Response that is due answers a `do` by the event that its view chooses, and Absent one for which it chooses none.
-use Rattle.std.proofs.Common.{◌≡◌, ℕ, nat_le, Bool, true, false, if◌then◌else◌, [], length, Option, Some, None, refl, ap}
+use Rattle.std.proofs.Common.{◌≡◌, ℕ, nat_le, Bool, true, false, if◌then◌else◌, length, Option, Some, None, refl, ap}
 use Rattle.std.specs.Prelude.{option_and_then}
 use Rattle.qc_decl.specs.Limits.{most_transaction_operations}
 use Rattle.qc_decl.specs.Lookup.{append_need_of, read_need_of}
@@ -16,7 +16,7 @@ use Rattle.qc_plan.specs.Round.{verdict}
 use Rattle.qc_promise.specs.Account.{Account, Current, is_append, is_prepare, is_read, requests_for}
 use Rattle.qc_promise.specs.Rounds.{answer_of, are_votes_in, first_against, resp_of, round_of}
 use Rattle.qc_order.specs.Ordered.{IsAnsweredFrom}
-use Rattle.qc_promise.specs.Rows.{answer_row, append_row, commit_row, do_row, due, read_row, row_of, vote_row}
+use Rattle.qc_promise.specs.Rows.{answer_row, append_row, commit_row, do_row, running_row, read_row, row_of, vote_row}
 
 -- the reply to a `do` that records: its response, or none
 abbrev recorded_in : Reply → Option (Option ℕ)
@@ -86,10 +86,10 @@ module _ (decl : Declaration) where
       by false true e = none_some None r refl e
       by false false e = read_recorded d t object inv (verdict (round_of decl d t is_read (read_need_of decl t.epoch object inv))) r e
 
-  commit_recorded : (d : Account) (t : Current) → recorded_by (commit_row decl d [] t) ≡ None
+  commit_recorded : (d : Account) (t : Current) → recorded_by (commit_row decl d false t) ≡ None
   commit_recorded d t = by t.doomed (are_votes_in decl d t) (first_against (requests_for is_prepare d))
     where
-      by : (x y : Bool) (o : Option Why) → recorded_by (if x then Some (replies.Aborted causes.Doomed) else (if y then vote_row d [] o else None)) ≡ None
+      by : (x y : Bool) (o : Option Why) → recorded_by (if x then Some (replies.Aborted causes.Doomed) else (if y then vote_row d false o else None)) ≡ None
       by true y o = refl
       by false false o = refl
       by false true None = refl
@@ -104,10 +104,10 @@ module _ (decl : Declaration) where
     pub current : d.current ≡ Some t
     pub chose : IsAnsweredFrom decl object (answer_of decl t object inv) r
 
-  due_recorded : (d : Account) (r : Option ℕ) → recorded_by (due decl d []) ≡ Some r → IsAnswered d r
+  due_recorded : (d : Account) (r : Option ℕ) → recorded_by (running_row decl d false) ≡ Some r → IsAnswered d r
   due_recorded d r is = by d.command d.current refl refl is
     where
-      by : (c : Option Command) (o : Option Current) → d.command ≡ c → d.current ≡ o → recorded_by (option_and_then (row_of decl d [] o) c) ≡ Some r → IsAnswered d r
+      by : (c : Option Command) (o : Option Current) → d.command ≡ c → d.current ≡ o → recorded_by (option_and_then (row_of decl d false o) c) ≡ Some r → IsAnswered d r
       by None o dc dt is = none_some None r refl is
       by (Some commands.Begin) None dc dt is = none_some None r refl is
       by (Some (commands.Do object inv)) None dc dt is = none_some None r refl is
@@ -116,12 +116,12 @@ module _ (decl : Declaration) where
       by (Some (commands.Epoch number)) None dc dt is = none_some None r refl is
       by (Some commands.Begin) (Some t) dc dt is = none_some None r refl is
       by (Some (commands.Do object inv)) (Some t) dc dt is = record { t = t; object = object; inv = inv; command = dc; current = dt; chose = do_recorded d t object inv r is }
-      by (Some commands.Commit) (Some t) dc dt is = none_some (recorded_by (commit_row decl d [] t)) r (commit_recorded d t) is
+      by (Some commands.Commit) (Some t) dc dt is = none_some (recorded_by (commit_row decl d false t)) r (commit_recorded d t) is
       by (Some commands.Abort) (Some t) dc dt is = none_some None r refl is
       by (Some (commands.Epoch number)) (Some t) dc dt is = none_some None r refl is
 
-  pub due_response : (d : Account) (resp : ℕ) → due decl d [] ≡ Some (replies.Response resp) → IsAnswered d (Some resp)
+  pub due_response : (d : Account) (resp : ℕ) → running_row decl d false ≡ Some (replies.Response resp) → IsAnswered d (Some resp)
   due_response d resp is = due_recorded d (Some resp) (ap recorded_by is)
 
-  pub due_absent : (d : Account) → due decl d [] ≡ Some replies.Absent → IsAnswered d None
+  pub due_absent : (d : Account) → running_row decl d false ≡ Some replies.Absent → IsAnswered d None
   due_absent d is = due_recorded d None (ap recorded_by is)

@@ -1,6 +1,6 @@
 -- Of a client that has begun a transaction, with an open input or without: the machine's transaction is live, has the same operations, and
 -- what its counted grants showed stands in the account's view; the account's clock has passed the machine's.
-use Rattle.std.proofs.Common.{◌≡◌, ◌⊎◌, ◌≤◌, ℕ, Bool, true, false, List, [], ◌∷◌, inl, inr, map, Option, Some, None, slice_get, refl, sym, ap, ◌∙◌, subst, arith}
+use Rattle.std.proofs.Common.{◌≡◌, ◌⊎◌, ◌≤◌, ℕ, Bool, true, false, List, [], inl, inr, map, Option, Some, None, slice_get, refl, sym, ap, ◌∙◌, subst, arith}
 use Rattle.qc_stamp.specs.declared.stamp.Stamp.{Stamp}
 use Rattle.qc_stamp.specs.declared.stamp.TxId.{TxId}
 use Rattle.qc_list.specs.Members.{In}
@@ -9,7 +9,7 @@ use Rattle.qc_core.specs.Conduct.{IsLawful}
 use Rattle.qc_decl.specs.declared.declaration.Declaration.{Declaration}
 use Rattle.qc_decl.specs.Accepted.{IsAccepted}
 use Rattle.qc_decl.specs.Actors.{is_client}
-use Rattle.qc_msg.specs.Deeds.{Takes, deeds}
+use Rattle.qc_msg.specs.Deeds.{deeds}
 use Rattle.qc_msg.specs.Steps.{Entry}
 use Rattle.qc_commit.specs.declared.desk.Voting.{Voting}
 use Rattle.qc_front.specs.declared.transaction.Transaction.{Transaction}
@@ -31,7 +31,7 @@ use Rattle.qc_net.specs.Clients.{BegunMirrors, ClientMirrors, RunningMirrors, Tr
 use Rattle.qc_net.specs.Mirrors.{Refines}
 use Rattle.qc_net.proofs.Refining.{refines}
 use Rattle.qc_atomic.proofs.Calm.{all_up, is_reached}
-use Rattle.qc_guarantees.proofs.ClockLaw.{clock_rises}
+use Rattle.qc_guarantees.proofs.ClockLaw.{take_clock}
 use Rattle.qc_order.proofs.Begun.{IsKept, WasBegun, logged, taken_kept, tied_kept}
 use Rattle.qc_atomic.proofs.Stood.{OpenClient, Stood}
 use Rattle.qc_atomic.proofs.RunsStand.{runs_stand}
@@ -80,7 +80,7 @@ module _ (decl : Declaration) (script : Script) (accepted : IsAccepted decl) (so
         tied = o.tied;
         begun = taken_kept o.was o.given t (subst (λ (d : Account). d.current ≡ Some t) o.now_is is);
         rises = (
-            let rises : o.was.clock ≤ (account_taken o.was o.given).clock = clock_rises decl (Takes o.given ∷ []) o.was (tt, tt) in
+            let rises : o.was.clock ≤ (account_taken o.was o.given).clock = take_clock decl o.was o.given in
             let now : (account decl a h).clock ≡ (account_taken o.was o.given).clock = ap (λ (d : Account). d.clock) o.now_is in
             omega arith
             );

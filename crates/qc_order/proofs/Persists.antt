@@ -174,8 +174,8 @@ module _ (decl : Declaration) where
   deed_step d (Writes w) is = written_step d w
   deed_step d (Sends n to m) is = sent_step d n to m
   deed_step d (Tells reply) is = reply_step d reply is
-  deed_step d (Falls cause pending) is = stays d
-  deed_step d (Rises records) is = stays d
+  deed_step d (Falls cause pending) is = absurd is
+  deed_step d (Rises kept) is = absurd is
 
 -- the begun transaction's number is at most the count
 

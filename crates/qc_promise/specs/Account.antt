@@ -1,5 +1,7 @@
 -- What has happened at a client so far, as far as its replies are due to it.
-use Rattle.std.specs.Prelude.{ℕ, ◌==◌, Bool, true, false, List, [], filter, fold, Option, None}
+use Rattle.std.specs.Prelude.{ℕ, ◌+◌, ◌==◌, max, Bool, true, false, cond, List, [], filter, fold, Option, None}
+use Rattle.std.specs.Option.{option_map_or}
+use Rattle.qc_stamp.specs.Lives.{first_life}
 use Rattle.qc_stamp.specs.declared.stamp.TxId.{TxId}
 use Rattle.qc_entry.specs.declared.line.Line.{Line}
 use Rattle.qc_entry.specs.declared.line.Op.{Op}
@@ -10,8 +12,11 @@ use Rattle.qc_msg.specs.declared.begun.LifeAt.{LifeAt}
 use Rattle.qc_msg.specs.declared.message.Answer.{Answer}
 use Rattle.qc_msg.specs.declared.message.Want.{Want}
 use Rattle.qc_msg.specs.declared.message.Want.TheVariants.{Read, Append, Prepare}
+use Rattle.qc_msg.specs.declared.record.Record.{Record}
 use Rattle.qc_msg.specs.declared.step.Command.{Command}
 use Rattle.qc_msg.specs.Begun.{first_epoch}
+use Rattle.qc_msg.specs.Counts.{commit_of}
+use Rattle.qc_msg.specs.Readings.{is_life}
 
 -- a request of the running command
 pub record ClientRequest : Type 0 where
@@ -43,31 +48,49 @@ pub record Current : Type 0 where
 
 pub record Account : Type 0 where
   pub client : ℕ
+  -- whether it is up; its life: the first one, and one more for each record of a rise
+  pub up : Bool
+  pub life : ℕ
   -- the command that was called and has no reply yet; since it was called, its requests in asked order, and the commit
   -- record that was written
   pub command : Option Command
   pub requests : List ClientRequest
   pub written : Option Commit
-  -- how many transactions began
+  -- how many transactions began in this life
   pub count : ℕ
-  -- the greatest clock of the answers that counted and of the stamps
+  -- the greatest clock of the answers that counted in this life and of the stamps
   pub clock : ℕ
-  -- the greatest epoch that a counted Closed told, or the first one
+  -- the greatest epoch that a counted Closed told in this life, or the first one
   pub known : ℕ
   pub current : Option Current
 
-abbrev pub new_account : ℕ → Account
-new_account client =
+-- what a client's records keep: how often it rose, and its stamps
+
+abbrev pub life_with : ℕ → Record → ℕ
+life_with before r = cond (is_life r) (before + 1) before
+
+abbrev pub clock_with : ℕ → Record → ℕ
+clock_with before r = option_map_or (λ (c : Commit). max before c.stamp.clock) (commit_of r) before
+
+-- the account of a client that rose with these records, before the record of this rise
+abbrev pub account_with : ℕ → List Record → Account
+account_with client kept =
     record {
       client = client;
+      up = true;
+      life = fold life_with first_life kept;
       command = None;
       requests = [];
       written = None;
       count = 0;
-      clock = 0;
+      clock = fold clock_with 0 kept;
       known = first_epoch;
       current = None;
     }
+
+-- a new client has no records
+abbrev pub new_account : ℕ → Account
+new_account client = account_with client []
 
 abbrev pub new_current : TxId → ℕ → Current
 new_current tx epoch =

@@ -1,5 +1,5 @@
 -- The account of a client's deeds.
-use Rattle.std.specs.Prelude.{ℕ, ◌+◌, ◌-◌, ◌==◌, ◌&&◌, ◌||◌, not, max, if◌then◌else◌, Bool, true, List, [], ◌∷◌, ◌++◌}
+use Rattle.std.specs.Prelude.{ℕ, ◌+◌, ◌-◌, ◌==◌, ◌&&◌, ◌||◌, not, max, if◌then◌else◌, Bool, true, false, List, [], ◌∷◌, ◌++◌}
 use Rattle.std.specs.Prelude.{fold, length, map, is_none, Option, Some, None, option_map}
 use Rattle.std.specs.List.{find}
 use Rattle.qc_stamp.specs.declared.stamp.TxId.{TxId}
@@ -24,7 +24,8 @@ use Rattle.qc_msg.specs.declared.step.Given.TheVariants as given
 use Rattle.qc_msg.specs.Begun.{with_life}
 use Rattle.qc_msg.specs.Deeds.{Deed, Takes, Writes, Sends, Tells, Falls, Rises, deeds}
 use Rattle.qc_msg.specs.Steps.{Entry}
-use Rattle.qc_promise.specs.Account.{Account, Current, ClientRequest, is_append, new_account, new_current, requests_for}
+use Rattle.qc_promise.specs.Account.{Account, Current, ClientRequest, account_with, is_append, new_account}
+use Rattle.qc_promise.specs.Account.{new_current, requests_for}
 use Rattle.qc_promise.specs.Asked.{is_asked_for}
 use Rattle.qc_promise.specs.Rounds.{answer_of, next_own, resp_of}
 
@@ -100,10 +101,10 @@ account_taken d (given.Called command) = record d { command = Some command; requ
 account_taken d (given.Got envelope) = account_heard d envelope.message
 account_taken d (given.Lost number) = counted d number None
 
--- a commit record
+-- a record: a commit, or that of its rise
 
 abbrev pub account_written : Account → Record → Account
-account_written d records.Life = d
+account_written d records.Life = record d { life = d.life + 1 }
 account_written d (records.Prepare prepared) = d
 account_written d (records.Done tx clock) = d
 account_written d (records.Close epoch) = d
@@ -206,15 +207,23 @@ account_told_in decl d (replies.Moved closed installed) = d
 abbrev pub account_told : Declaration → Account → Reply → Account
 account_told decl d reply = record (account_told_in decl d reply) { command = None; requests = []; written = None }
 
--- one deed more
+-- a fall ends what it was doing
+abbrev pub account_fallen : Account → Account
+account_fallen d = record d { up = false; command = None; requests = []; written = None; current = None }
+
+-- one deed more; as it rises, the account begins anew with its records
 abbrev pub account_at : Declaration → Account → Deed → Account
 account_at decl d (Takes given) = account_taken d given
 account_at decl d (Writes written) = account_written d written
 account_at decl d (Sends number to message) = account_sent decl d number to message
 account_at decl d (Tells reply) = account_told decl d reply
-account_at decl d (Falls cause pending) = d
-account_at decl d (Rises records) = d
+account_at decl d (Falls cause pending) = account_fallen d
+account_at decl d (Rises kept) = account_with d.client kept
 
--- the account of an actor's deeds in a history; a client's number is its actor's without the sites
+-- the account of a client's deeds; in a history, by its actor, whose number without the sites is the client's
+
+abbrev pub account_of : Declaration → ℕ → List Deed → Account
+account_of decl client ds = fold (account_at decl) (new_account client) ds
+
 abbrev pub account : Declaration → ℕ → List Entry → Account
-account decl a h = fold (account_at decl) (new_account (a - decl.sites)) (deeds a [] h)
+account decl a h = account_of decl (a - decl.sites) (deeds a [] h)

@@ -9,7 +9,7 @@ use Rattle.qc_stamp.specs.Order.{same_tx}
 use Rattle.qc_entry.specs.declared.line.Line.{Line}
 use Rattle.qc_entry.specs.declared.line.OwnLine.{OwnLine}
 use Rattle.qc_entry.specs.Line.{line_cmp}
-use Rattle.qc_plan.specs.Round.{first, verdict}
+use Rattle.qc_plan.specs.Round.{next_site, verdict}
 use Rattle.qc_plan.specs.declared.standing.Verdict.{Verdict}
 use Rattle.qc_plan.specs.declared.standing.Verdict.TheVariants as verdicts
 use Rattle.qc_decl.specs.Lookup.{append_need_of, read_need_of}
@@ -22,13 +22,14 @@ use Rattle.qc_msg.specs.Begun.{life_of}
 use Rattle.qc_promise.specs.Account.{Account, Current, is_append, is_prepare, is_read, requests_for, view_of}
 use Rattle.qc_promise.specs.Rounds.{answer_of, next_own, participants, round_of}
 
--- whether a site is the next one in the client's order that a half asks, or that is asked for its promise
+-- whether a site is the next one in the client's order that a half asks, while it wants one; or that is asked for its
+-- promise
 
 abbrev pub is_this : ℕ → Option ℕ → Bool
 is_this site next = option_map_or (λ s. s == site) next false
 
-abbrev pub is_next_voter : Declaration → Account → Current → (Want → Bool) → ℕ → Bool
-is_next_voter decl d t half site = is_this site (first (round_of decl d t half 0).rest)
+abbrev pub is_next_voter : Declaration → Account → Current → (Want → Bool) → ℕ → ℕ → Bool
+is_next_voter decl d t half need site = is_this site (next_site (round_of decl d t half need))
 
 abbrev pub is_next_participant : Declaration → Account → Current → ℕ → Bool
 is_next_participant decl d t site =
@@ -67,15 +68,20 @@ carries decl t object view own None = false
 carries decl t object view own (Some event) =
     pointwise same_line view (view_of t object) && pointwise same_own own (own_appended decl t object event)
 
+-- the weight that the event that answers has to have to append
+abbrev pub append_need : Declaration → Current → ℕ → ℕ → ℕ
+append_need decl t object inv = option_map_or (append_need_of decl t.epoch object) (answer_of decl t object inv) 0
+
 -- whether a `do` of this invocation asks this of this site: Reads of the invocation; once they are met, Appends
 
 abbrev pub do_asks : Declaration → Account → Current → ℕ → ℕ → ℕ → Want → Bool
 do_asks decl d t object inv site (Read o i) =
     ((o == object) && (i == inv))
-    && (is_next_voter decl d t is_read site && (length (requests_for is_append d) == 0))
+    && (is_next_voter decl d t is_read (read_need_of decl t.epoch object inv) site
+    && (length (requests_for is_append d) == 0))
 do_asks decl d t object inv site (Append o view own) =
     ((o == object) && carries decl t object view own (answer_of decl t object inv))
-    && (is_next_voter decl d t is_append site && are_reads_met decl d t object inv)
+    && (is_next_voter decl d t is_append (append_need decl t object inv) site && are_reads_met decl d t object inv)
 do_asks decl d t object inv site Prepare = false
 
 -- whether a commit does: for the promises of the participants

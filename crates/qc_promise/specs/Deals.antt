@@ -1,4 +1,4 @@
--- What a client was told in a transaction, from its begin to its end.
+-- What a client was told in a transaction, from its begin to its end: the reply that ends it, or the client's fall.
 use Rattle.std.specs.Prelude.{ℕ, Bool, false, if◌then◌else◌, List, [], ◌∷◌, ◌++◌, Option, Some, None, fold}
 use Rattle.qc_decl.specs.Actors.{client_actor}
 use Rattle.qc_decl.specs.declared.declaration.Declaration.{Declaration}
@@ -74,14 +74,14 @@ deal_taken d (given.Called command) = record d { asked = Some command }
 deal_taken d (given.Got envelope) = d
 deal_taken d (given.Lost number) = d
 
--- one deed more
+-- one deed more; a fall ends the transaction, and no reply does
 abbrev pub deal : TxId → Dealing → Deed → Dealing
 deal tx d (Takes given) = deal_taken d given
 deal tx d (Writes written) = d
 deal tx d (Sends number to message) = d
 deal tx d (Tells reply) = deal_told tx d reply
-deal tx d (Falls cause pending) = d
-deal tx d (Rises records) = d
+deal tx d (Falls cause pending) = record d { begun = None }
+deal tx d (Rises kept) = d
 
 abbrev pub no_dealing : Dealing
 no_dealing = record { asked = None; begun = None; ops = []; ends = [] }

@@ -1,74 +1,67 @@
--- Each reply that a client tells is due, and so is each commit record that it writes: what has happened at the client,
--- and what stands behind it in the same post, show it.
-use Rattle.std.specs.Prelude.{◌≡◌, ℕ, ◌==◌, ◌&&◌, if◌then◌else◌, Bool, true, false, List, [], ◌∷◌, ◌++◌, Some, None}
+-- Each reply that a client tells is due, and so is each record that it writes and what it does as it rises: what has
+-- happened at the client, and what stands behind it in the same post, show it.
+use Rattle.std.specs.Prelude.{◌≡◌, ℕ, false, List, [], ◌∷◌, Option, Some, None, is_some}
 use Rattle.qc_decl.specs.declared.declaration.Declaration.{Declaration}
 use Rattle.qc_msg.specs.declared.record.Record.{Record}
 use Rattle.qc_msg.specs.declared.record.Record.TheVariants as records
 use Rattle.qc_msg.specs.declared.reply.Reply.{Reply}
 use Rattle.qc_msg.specs.declared.reply.Reply.TheVariants as replies
-use Rattle.qc_msg.specs.declared.step.Step.{Step}
-use Rattle.qc_msg.specs.declared.step.Step.TheVariants as steps
-use Rattle.qc_msg.specs.Steps.{Entry}
-use Rattle.qc_promise.specs.Account.{Account}
-use Rattle.qc_promise.specs.Accounting.{account}
-use Rattle.qc_promise.specs.Rows.{commit_of, due, record_with}
+use Rattle.qc_msg.specs.declared.step.Given.{Given}
+use Rattle.qc_msg.specs.declared.step.Given.TheVariants as given
+use Rattle.qc_msg.specs.Deeds.{Deed, Takes, Writes, Sends, Tells, Falls, Rises}
+use Rattle.qc_promise.specs.Account.{Account, new_account}
+use Rattle.qc_promise.specs.Accounting.{account_at}
+use Rattle.qc_promise.specs.Posts.{IsPostOf, TurnDue, pending_next}
+use Rattle.qc_promise.specs.Rows.{commit_of, due, pending_with, record_with}
 
--- the steps of an entry's own post that stand behind it: those of the same actor up to its next input
+-- What is due of a deed, the row of the running command being this one.
 
-abbrev pub is_posted : Step → Bool
-is_posted (steps.Phase k) = false
-is_posted (steps.Cut a b) = false
-is_posted (steps.Heal a b) = false
-is_posted (steps.Armed actor kind at) = false
-is_posted (steps.Called command) = false
-is_posted (steps.Got n) = false
-is_posted (steps.Lost n) = false
-is_posted (steps.Wrote written) = true
-is_posted (steps.Sent n to message) = true
-is_posted (steps.Told reply) = true
-is_posted (steps.Fell cause pending) = true
-is_posted (steps.Rose records) = false
-is_posted (steps.Damaged offset) = false
+-- A command is called once the one before has its reply; and no input is taken while a reply is due that isn't told
 
-abbrev pub rest_of_post : ℕ → List Entry → List Step
-rest_of_post a [] = []
-rest_of_post a (e ∷ h) = if (e.actor == a) && is_posted e.step then e.step ∷ rest_of_post a h else []
+abbrev pub IsFreeFor : Account → Given → Type 0
+IsFreeFor d (given.Called command) = d.command ≡ None
+IsFreeFor d (given.Got envelope) = Unit {0}
+IsFreeFor d (given.Lost number) = Unit {0}
 
--- it is the reply of its row, with its record where it has one
-abbrev pub IsReplyDue : Declaration → Account → List Step → Reply → Type 0
-IsReplyDue decl d rest reply = (due decl d rest ≡ Some reply) × (d.written ≡ record_with d reply)
+abbrev pub IsInputDue : Account → Option Reply → Given → Type 0
+IsInputDue d row given = (row ≡ None) × IsFreeFor d given
 
--- a commit record is written once, with all that was told, where the commit is due with its stamp; no client writes
--- another record yet
-abbrev pub IsRecordDue : Declaration → Account → List Step → Record → Type 0
-IsRecordDue decl d rest records.Life = Unit {0}
-IsRecordDue decl d rest (records.Prepare prepared) = Unit {0}
-IsRecordDue decl d rest (records.Done tx clock) = Unit {0}
-IsRecordDue decl d rest (records.Close epoch) = Unit {0}
-IsRecordDue decl d rest (records.Install epoch clock lines) = Unit {0}
-IsRecordDue decl d rest (records.Commit commit) =
-    (due decl d rest ≡ Some (replies.Committed commit.stamp))
+-- a commit record is written once, with all that was told, where the row is Committed with its stamp; the record of a
+-- rise is written as it rises; a client writes no others
+abbrev pub IsRecordDue : Account → Option Reply → Record → Type 0
+IsRecordDue d row records.Life = Unit {0}
+IsRecordDue d row (records.Prepare prepared) = ⊥
+IsRecordDue d row (records.Done tx clock) = ⊥
+IsRecordDue d row (records.Close epoch) = ⊥
+IsRecordDue d row (records.Install epoch clock lines) = ⊥
+IsRecordDue d row (records.Commit commit) =
+    (row ≡ Some (replies.Committed commit.stamp))
     × (commit_of d commit.stamp ≡ Some commit)
     × (d.written ≡ None)
-IsRecordDue decl d rest (records.Decide epoch clock lines) = Unit {0}
+IsRecordDue d row (records.Decide epoch clock lines) = ⊥
 
-abbrev pub IsStepDue : Declaration → List Entry → ℕ → List Step → Step → Type 0
-IsStepDue decl before a rest (steps.Phase k) = Unit {0}
-IsStepDue decl before a rest (steps.Cut x y) = Unit {0}
-IsStepDue decl before a rest (steps.Heal x y) = Unit {0}
-IsStepDue decl before a rest (steps.Armed actor kind at) = Unit {0}
-IsStepDue decl before a rest (steps.Called command) = Unit {0}
-IsStepDue decl before a rest (steps.Got n) = Unit {0}
-IsStepDue decl before a rest (steps.Lost n) = Unit {0}
-IsStepDue decl before a rest (steps.Wrote written) = IsRecordDue decl (account decl a before) rest written
-IsStepDue decl before a rest (steps.Sent n to message) = Unit {0}
-IsStepDue decl before a rest (steps.Told reply) = IsReplyDue decl (account decl a before) rest reply
-IsStepDue decl before a rest (steps.Fell cause pending) = Unit {0}
-IsStepDue decl before a rest (steps.Rose records) = Unit {0}
-IsStepDue decl before a rest (steps.Damaged offset) = Unit {0}
+-- a reply is that of the row, with its record where it has one: written before it, or pending at the fall behind it
+abbrev pub IsReplyDue : Account → Option Reply → List Deed → Reply → Type 0
+IsReplyDue d row after reply =
+    (row ≡ Some reply) × (d.written ≡ record_with d reply) × (pending_next after ≡ pending_with d reply)
 
--- each reply and each commit record of a history is due, these entries standing before it
-abbrev pub AreRepliesDue : Declaration → List Entry → List Entry → Type 0
-AreRepliesDue decl before [] = Unit {0}
-AreRepliesDue decl before (e ∷ h) =
-    IsStepDue decl before e.actor (rest_of_post e.actor h) e.step × AreRepliesDue decl (before ++ e ∷ []) h
+-- as it rises a client writes so, and does nothing more
+abbrev pub rising_turn : TurnDue
+rising_turn = record { write = Some records.Life; sends = []; failed_sends = [] }
+
+-- a deed, this being the account of those before it, and these the deeds behind it
+abbrev pub IsDeedDue : Declaration → Account → Deed → List Deed → Type 0
+IsDeedDue decl d (Takes given) after = IsInputDue d (due decl d false) given
+IsDeedDue decl d (Writes written) after = IsRecordDue d (due decl d false) written
+IsDeedDue decl d (Sends number to message) after = Unit {0}
+IsDeedDue decl d (Tells reply) after = IsReplyDue d (due decl d (is_some (pending_next after))) after reply
+IsDeedDue decl d (Falls cause pending) after = Unit {0}
+IsDeedDue decl d (Rises kept) after = IsPostOf rising_turn after
+
+abbrev pub AreDeedsDue : Declaration → Account → List Deed → Type 0
+AreDeedsDue decl d [] = Unit {0}
+AreDeedsDue decl d (deed ∷ after) = IsDeedDue decl d deed after × AreDeedsDue decl (account_at decl d deed) after
+
+-- each deed of a client is due
+abbrev pub AreRepliesDue : Declaration → ℕ → List Deed → Type 0
+AreRepliesDue decl client ds = AreDeedsDue decl (new_account client) ds

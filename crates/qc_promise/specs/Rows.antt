@@ -1,17 +1,17 @@
 -- The reply that is due to a command: that of the first row that applies, in the order of the table of replies. A row
--- that speaks of requests waits until each is answered or lost.
-use Rattle.std.specs.Prelude.{ℕ, ◌+◌, nat_le, if◌then◌else◌, Bool, true, false, List, length, Option, Some, None}
+-- that speaks of requests waits until each is answered or lost; none is there of what isn't declared.
+use Rattle.std.specs.Prelude.{ℕ, ◌+◌, ◌&&◌, nat_le, if◌then◌else◌, Bool, true, length, Option, Some, None, is_some}
 use Rattle.std.specs.Prelude.{option_and_then, option_map}
-use Rattle.std.specs.List.{list_any}
 use Rattle.qc_stamp.specs.declared.stamp.Stamp.{Stamp}
-use Rattle.qc_stamp.specs.Lives.{first_life}
 use Rattle.qc_entry.specs.declared.record.Commit.{Commit}
 use Rattle.qc_plan.specs.declared.standing.Verdict.{Verdict}
 use Rattle.qc_plan.specs.declared.standing.Verdict.TheVariants as verdicts
 use Rattle.qc_plan.specs.Round.{verdict}
 use Rattle.qc_decl.specs.Limits.{most_transaction_operations}
-use Rattle.qc_decl.specs.Lookup.{append_need_of, read_need_of}
+use Rattle.qc_decl.specs.Lookup.{append_need_of, plan_in, read_need_of, table_at}
 use Rattle.qc_decl.specs.declared.declaration.Declaration.{Declaration}
+use Rattle.qc_msg.specs.declared.record.Record.{Record}
+use Rattle.qc_msg.specs.declared.record.Record.TheVariants as records
 use Rattle.qc_msg.specs.declared.reply.Half.TheVariants as halves
 use Rattle.qc_msg.specs.declared.reply.Reply.{Reply}
 use Rattle.qc_msg.specs.declared.reply.Reply.TheVariants as replies
@@ -19,10 +19,6 @@ use Rattle.qc_msg.specs.declared.reply.Why.{Why}
 use Rattle.qc_msg.specs.declared.reply.Why.TheVariants as causes
 use Rattle.qc_msg.specs.declared.step.Command.{Command}
 use Rattle.qc_msg.specs.declared.step.Command.TheVariants as commands
-use Rattle.qc_msg.specs.declared.step.Fall.{Fall}
-use Rattle.qc_msg.specs.declared.step.Fall.TheVariants as falls
-use Rattle.qc_msg.specs.declared.step.Step.{Step}
-use Rattle.qc_msg.specs.declared.step.Step.TheVariants as steps
 use Rattle.qc_promise.specs.Account.{Account, Current, is_append, is_prepare, is_read, requests_for}
 use Rattle.qc_promise.specs.Rounds.{answer_of, are_votes_in, first_against, resp_of, round_of}
 
@@ -53,67 +49,72 @@ do_row decl d t object inv =
     else (if nat_le most_transaction_operations (length t.ops) then Some replies.TooLong
     else read_row decl d t object inv (verdict (round_of decl d t is_read (read_need_of decl t.epoch object inv))))
 
--- a commit: its record is written, or the client falls in the post that would have written it
-
-abbrev pub is_of_a_disk : Fall → Bool
-is_of_a_disk falls.Script = false
-is_of_a_disk falls.Stop = true
-is_of_a_disk falls.Disk = true
-
-abbrev pub falls_at : Step → Bool
-falls_at (steps.Phase k) = false
-falls_at (steps.Cut a b) = false
-falls_at (steps.Heal a b) = false
-falls_at (steps.Armed actor kind at) = false
-falls_at (steps.Called command) = false
-falls_at (steps.Got n) = false
-falls_at (steps.Lost n) = false
-falls_at (steps.Wrote written) = false
-falls_at (steps.Sent n to message) = false
-falls_at (steps.Told reply) = false
-falls_at (steps.Fell cause pending) = is_of_a_disk cause
-falls_at (steps.Rose records) = false
-falls_at (steps.Damaged offset) = false
+-- a commit: its record is written, or the client's disk falls as it writes it
 
 -- the stamp is above all that the client has learned of (Lamport 1978)
 abbrev pub next_stamp : Account → Stamp
 next_stamp d = record { clock = d.clock + 1; client = d.client }
 
-abbrev pub vote_row : Account → List Step → Option Why → Option Reply
-vote_row d rest (Some why) = Some (replies.Aborted why)
-vote_row d rest None = Some (if list_any falls_at rest then replies.Unknown else replies.Committed (next_stamp d))
+abbrev pub vote_row : Account → Bool → Option Why → Option Reply
+vote_row d unwritten (Some why) = Some (replies.Aborted why)
+vote_row d unwritten None = Some (if unwritten then replies.Unknown else replies.Committed (next_stamp d))
 
-abbrev pub commit_row : Declaration → Account → List Step → Current → Option Reply
-commit_row decl d rest t =
+abbrev pub commit_row : Declaration → Account → Bool → Current → Option Reply
+commit_row decl d unwritten t =
     if t.doomed then Some (replies.Aborted causes.Doomed)
-    else (if are_votes_in decl d t then vote_row d rest (first_against (requests_for is_prepare d)) else None)
+    else (if are_votes_in decl d t then vote_row d unwritten (first_against (requests_for is_prepare d)) else None)
 
 -- each command, with a transaction begun or none. Nobody moves an epoch yet
 
 abbrev pub row_without : Account → Command → Option Reply
 row_without d commands.Begin =
-    Some (replies.Began (record { client = d.client; life = first_life; number = d.count + 1 }))
+    Some (replies.Began (record { client = d.client; life = d.life; number = d.count + 1 }))
 row_without d (commands.Do object inv) = Some replies.NoTransaction
 row_without d commands.Commit = Some replies.NoTransaction
 row_without d commands.Abort = Some replies.NoTransaction
 row_without d (commands.Epoch number) = None
 
-abbrev pub row_within : Declaration → Account → List Step → Current → Command → Option Reply
-row_within decl d rest t commands.Begin = Some (replies.Already t.tx)
-row_within decl d rest t (commands.Do object inv) = do_row decl d t object inv
-row_within decl d rest t commands.Commit = commit_row decl d rest t
-row_within decl d rest t commands.Abort = Some replies.Dropped
-row_within decl d rest t (commands.Epoch number) = None
+abbrev pub row_within : Declaration → Account → Bool → Current → Command → Option Reply
+row_within decl d unwritten t commands.Begin = Some (replies.Already t.tx)
+row_within decl d unwritten t (commands.Do object inv) = do_row decl d t object inv
+row_within decl d unwritten t commands.Commit = commit_row decl d unwritten t
+row_within decl d unwritten t commands.Abort = Some replies.Dropped
+row_within decl d unwritten t (commands.Epoch number) = None
 
-abbrev pub row_of : Declaration → Account → List Step → Option Current → Command → Option Reply
-row_of decl d rest None command = row_without d command
-row_of decl d rest (Some t) command = row_within decl d rest t command
+abbrev pub row_of : Declaration → Account → Bool → Option Current → Command → Option Reply
+row_of decl d unwritten None command = row_without d command
+row_of decl d unwritten (Some t) command = row_within decl d unwritten t command
 
--- the reply that is due to the running command, if any, before the rest of a post
-abbrev pub due : Declaration → Account → List Step → Option Reply
-due decl d rest = option_and_then (row_of decl d rest d.current) d.command
+-- the row of the running command, if one runs, where the record of its post isn't written, or is
+abbrev pub running_row : Declaration → Account → Bool → Option Reply
+running_row decl d unwritten = option_and_then (row_of decl d unwritten d.current) d.command
 
--- the commit record that goes with a reply: all that the client was told of the transaction, under this stamp
+-- whether what a command speaks of is declared: a `do` within a transaction, of its object's type and its epoch's plan
+
+abbrev pub is_declared_within : Declaration → Current → Command → Bool
+is_declared_within decl t commands.Begin = true
+is_declared_within decl t (commands.Do object inv) = is_some (plan_in decl t.epoch) && is_some (table_at decl object)
+is_declared_within decl t commands.Commit = true
+is_declared_within decl t commands.Abort = true
+is_declared_within decl t (commands.Epoch number) = true
+
+abbrev pub is_declared_for : Declaration → Option Current → Command → Bool
+is_declared_for decl None command = true
+is_declared_for decl (Some t) command = is_declared_within decl t command
+
+-- the reply that is due to a command: that of its row, where what it speaks of is declared; of one that is down, that it
+-- is down
+abbrev pub reply_to : Declaration → Account → Bool → Command → Option Reply
+reply_to decl d unwritten command =
+    if d.up
+    then (if is_declared_for decl d.current command then row_of decl d unwritten d.current command else None)
+    else Some replies.Down
+
+-- the reply that is due, if one is
+abbrev pub due : Declaration → Account → Bool → Option Reply
+due decl d unwritten = option_and_then (reply_to decl d unwritten) d.command
+
+-- the commit record that is written before a reply: all that the client was told of the transaction, under this stamp
 
 abbrev pub commit_of : Account → Stamp → Option Commit
 commit_of d stamp = option_map (λ (t : Current). record { stamp = stamp; tx = t.tx; ops = t.ops }) d.current
@@ -138,3 +139,29 @@ record_with d (replies.Order current) = None
 record_with d (replies.InDoubt tx site) = None
 record_with d replies.Fault = None
 record_with d (replies.Moved closed installed) = None
+
+-- the record that was being written at the fall behind a reply: the one that would have been written
+
+abbrev pub next_commit : Account → Option Record
+next_commit d = option_map records.Commit (commit_of d (next_stamp d))
+
+abbrev pub pending_with : Account → Reply → Option Record
+pending_with d replies.Down = None
+pending_with d (replies.Already tx) = None
+pending_with d (replies.Began tx) = None
+pending_with d replies.NoTransaction = None
+pending_with d replies.Doomed = None
+pending_with d replies.TooLong = None
+pending_with d (replies.Closed epoch site) = None
+pending_with d (replies.Conflict tx site) = None
+pending_with d (replies.Quorum half got need) = None
+pending_with d replies.Absent = None
+pending_with d (replies.Response resp) = None
+pending_with d (replies.Aborted why) = None
+pending_with d replies.Unknown = next_commit d
+pending_with d (replies.Committed stamp) = None
+pending_with d replies.Dropped = None
+pending_with d (replies.Order current) = None
+pending_with d (replies.InDoubt tx site) = None
+pending_with d replies.Fault = None
+pending_with d (replies.Moved closed installed) = None

@@ -25,9 +25,11 @@ pub record Sight : Type 0 where
   pub begun : Option TxId
   -- its requests that nothing was taken for yet
   pub waiting : List ℕ
-  -- the transactions with a line in a grant that counted, and those it was told that they committed
-  pub known : List TxId
-  -- those of them that it knew as the one transaction began, and those with a line in a grant that counted since, until
+  -- the transactions with a line in a grant that counted in its present life; those it was told that they committed, in
+  -- any life
+  pub shown : List TxId
+  pub committed : List TxId
+  -- those of both that it knew as the one transaction began, and those with a line in a grant that counted since, until
   -- that one ended
   pub seen : List TxId
 
@@ -35,7 +37,7 @@ pub record Sight : Type 0 where
 abbrev pub sees : TxId → Sight → List Line → Sight
 sees tx s lines =
     let txs : List TxId = map (λ (l : Line). l.tx) lines in
-    record s { known = s.known ++ txs; seen = if is_begun tx s.begun then s.seen ++ txs else s.seen }
+    record s { shown = s.shown ++ txs; seen = if is_begun tx s.begun then s.seen ++ txs else s.seen }
 
 -- the first thing that is taken for a request counts
 
@@ -91,7 +93,7 @@ abbrev pub sight_told : TxId → Sight → Reply → Sight
 sight_told tx s replies.Down = s
 sight_told tx s (replies.Already other) = s
 sight_told tx s (replies.Began other) =
-    record s { begun = Some other; seen = if same_tx other tx then s.known else s.seen }
+    record s { begun = Some other; seen = if same_tx other tx then s.shown ++ s.committed else s.seen }
 sight_told tx s replies.NoTransaction = s
 sight_told tx s replies.Doomed = s
 sight_told tx s replies.TooLong = s
@@ -102,29 +104,29 @@ sight_told tx s replies.Absent = s
 sight_told tx s (replies.Response resp) = s
 sight_told tx s (replies.Aborted why) = over s
 sight_told tx s replies.Unknown = over s
-sight_told tx s (replies.Committed stamp) = over (record s { known = s.known ++ option_to_list s.begun })
+sight_told tx s (replies.Committed stamp) = over (record s { committed = s.committed ++ option_to_list s.begun })
 sight_told tx s replies.Dropped = over s
 sight_told tx s (replies.Order current) = s
 sight_told tx s (replies.InDoubt holder site) = s
 sight_told tx s replies.Fault = s
 sight_told tx s (replies.Moved closed installed) = s
 
--- one deed more
+-- one deed more. A fall ends the transaction, and no answer counts that comes later; a rise begins with nothing shown
 abbrev pub sight : TxId → Sight → Deed → Sight
 sight tx s (Takes given) = sight_taken tx s given
 sight tx s (Writes written) = s
 sight tx s (Sends number to message) = sight_sent s number message
 sight tx s (Tells reply) = sight_told tx s reply
-sight tx s (Falls cause pending) = s
-sight tx s (Rises records) = s
+sight tx s (Falls cause pending) = record s { begun = None; waiting = [] }
+sight tx s (Rises kept) = record s { shown = [] }
 
 abbrev pub no_sight : Sight
-no_sight = record { begun = None; waiting = []; known = []; seen = [] }
+no_sight = record { begun = None; waiting = []; shown = []; committed = []; seen = [] }
 
 abbrev pub seen_in : List Deed → TxId → List TxId
 seen_in ds tx = (fold (sight tx) no_sight ds).seen
 
--- the transactions that a transaction's client had seen: before it began, by counted grants and by replies, and by
--- counted grants until it ended
+-- the transactions that a transaction's client had seen: before it began, by counted grants of its life and by replies in
+-- any life, and by counted grants until it ended
 abbrev pub seen : Declaration → List Entry → TxId → List TxId
 seen decl h tx = seen_in (deeds (client_actor decl tx.client) [] h) tx

@@ -1,6 +1,7 @@
 -- How far a transaction is, as its client's deeds show (presumed abort: without a commit record it is given up), and
 -- which deeds are right for it.
 use Rattle.std.specs.Prelude.{◌≡◌, ◌⊎◌, true, if◌then◌else◌, List, [], ◌∷◌, fold}
+use Rattle.std.specs.List.{AllByRecursion as Every}
 use Rattle.qc_msg.specs.Deeds.{Deed, Sends, Takes, Tells, Falls, Rises, Writes}
 use Rattle.qc_msg.specs.declared.message.Message.{Message}
 use Rattle.qc_msg.specs.declared.message.Message.TheVariants as messages
@@ -74,19 +75,25 @@ status_told tx s (replies.InDoubt holder site) = s
 status_told tx s replies.Fault = s
 status_told tx s (replies.Moved closed installed) = s
 
+-- a fall decides nothing, since a record may be pending; the rise does: it committed where the records have it, and else
+-- it is given up
+abbrev pub status_risen : TxId → Status → List Record → Status
+status_risen tx s kept = fold (status_written tx) (given_up s) kept
+
 abbrev pub status_at : TxId → Status → Deed → Status
 status_at tx s (Takes given) = s
 status_at tx s (Writes written) = status_written tx s written
 status_at tx s (Sends number to message) = status_sent tx s message
 status_at tx s (Tells reply) = status_told tx s reply
 status_at tx s (Falls cause pending) = s
-status_at tx s (Rises records) = s
+status_at tx s (Rises kept) = status_risen tx s kept
 
 -- the status of a transaction after these deeds of its client
 abbrev pub status : List Deed → TxId → Status
 status ds tx = fold (status_at tx) Unborn ds
 
--- A deed is right for a transaction that is so far. Only an unborn one begins, only a begun one gets a record. Sites
+-- A deed is right for a transaction that is so far. Only an unborn one begins, only a begun one gets a record, and only
+-- that of a begun or committed one rises. Sites
 -- are told that it committed, with its stamp, only once it has; that it is given up only of one that was begun and has
 -- no record; that it is active only while it is
 
@@ -98,6 +105,19 @@ IsRightRecord tx s (records.Close epoch) = Unit {0}
 IsRightRecord tx s (records.Install epoch clock lines) = Unit {0}
 IsRightRecord tx s (records.Commit c) = same_tx c.tx tx ≡ true → s ≡ Begun
 IsRightRecord tx s (records.Decide epoch clock lines) = Unit {0}
+
+-- a record that a rise gives
+abbrev pub IsRightKept : TxId → Status → Record → Type 0
+IsRightKept tx s records.Life = Unit {0}
+IsRightKept tx s (records.Prepare prepared) = Unit {0}
+IsRightKept tx s (records.Done other clock) = Unit {0}
+IsRightKept tx s (records.Close epoch) = Unit {0}
+IsRightKept tx s (records.Install epoch clock lines) = Unit {0}
+IsRightKept tx s (records.Commit c) = same_tx c.tx tx ≡ true → (s ≡ Begun) ⊎ (s ≡ Committed c.stamp)
+IsRightKept tx s (records.Decide epoch clock lines) = Unit {0}
+
+abbrev pub AreRightKept : TxId → Status → List Record → Type 0
+AreRightKept tx s kept = Every (IsRightKept tx s) kept
 
 abbrev pub IsRightVerdict : Status → Outcome → Type 0
 IsRightVerdict s (outcomes.Committed stamp) = s ≡ Committed stamp
@@ -140,7 +160,7 @@ IsRight tx s (Writes written) = IsRightRecord tx s written
 IsRight tx s (Sends number to message) = IsRightMessage tx s message
 IsRight tx s (Tells reply) = IsRightReply tx s reply
 IsRight tx s (Falls cause pending) = Unit {0}
-IsRight tx s (Rises records) = Unit {0}
+IsRight tx s (Rises kept) = AreRightKept tx s kept
 
 -- each deed is right for a transaction of its actor, as far as that is then
 abbrev pub AreRightFrom : TxId → Status → List Deed → Type 0

@@ -1,5 +1,5 @@
 -- What clients were told of their transactions' ends, and in them, agrees with the commit records.
-use Rattle.std.specs.Prelude.{◌≡◌, ◌≢◌, ℕ, ◌<◌, List}
+use Rattle.std.specs.Prelude.{◌≡◌, ◌≢◌, ◌⊎◌, ℕ, ◌<◌, List}
 use Rattle.qc_decl.specs.declared.declaration.Declaration.{Declaration}
 use Rattle.qc_entry.specs.declared.record.Commit.{Commit}
 use Rattle.qc_list.specs.Members.{In}
@@ -8,7 +8,7 @@ use Rattle.qc_msg.specs.declared.message.Message.{Message}
 use Rattle.qc_msg.specs.declared.message.Message.TheVariants as messages
 use Rattle.qc_msg.specs.declared.message.Outcome.{Outcome}
 use Rattle.qc_msg.specs.declared.message.Outcome.TheVariants as outcomes
-use Rattle.qc_msg.specs.declared.reply.Reply.TheVariants.{Aborted, Committed, Dropped}
+use Rattle.qc_msg.specs.declared.reply.Reply.TheVariants.{Aborted, Committed, Dropped, Unknown}
 use Rattle.qc_msg.specs.declared.reply.Why.{Why}
 use Rattle.qc_stamp.specs.declared.stamp.Stamp.{Stamp}
 use Rattle.qc_stamp.specs.declared.stamp.TxId.{TxId}
@@ -22,7 +22,7 @@ pub record HasCommit (commits : List Commit) (tx : TxId) (stamp : Stamp) : Type 
   pub stamped : commit.stamp ≡ stamp
 
 -- Committed is told with a record's stamp; Aborted and Dropped only of a transaction without one; and of each record
--- its client was told
+-- its client was told, or that nobody knows: it fell as it wrote the record, which rose with it
 pub record AreTold (decl : Declaration) (commits : List Commit) (h : List Entry) : Type 0 where
   pub committed : (client : ℕ) (tx : TxId) (stamp : Stamp) → client < decl.clients
       → In (Committed stamp) (endings decl h client tx) → HasCommit commits tx stamp
@@ -30,7 +30,8 @@ pub record AreTold (decl : Declaration) (commits : List Commit) (h : List Entry)
       → In (Aborted why) (endings decl h client tx) → In c commits → c.tx ≢ tx
   pub dropped : (client : ℕ) (tx : TxId) (c : Commit) → client < decl.clients
       → In Dropped (endings decl h client tx) → In c commits → c.tx ≢ tx
-  pub each : (c : Commit) → In c commits → In (Committed c.stamp) (endings decl h c.tx.client c.tx)
+  pub each : (c : Commit) → In c commits
+      → (In (Committed c.stamp) (endings decl h c.tx.client c.tx)) ⊎ (In Unknown (endings decl h c.tx.client c.tx))
 
 -- a record has just the operations that its client was told, from its begin to its end
 abbrev pub AreDealt : Declaration → List Commit → List Entry → Type 0

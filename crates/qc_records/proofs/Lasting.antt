@@ -14,7 +14,7 @@ use Rattle.qc_msg.specs.declared.record.Record.TheVariants as records
 use Rattle.qc_msg.specs.declared.reply.Reply.{Reply}
 use Rattle.qc_msg.specs.declared.reply.Reply.TheVariants as replies
 use Rattle.qc_msg.specs.Deeds.{Deed, Takes, Writes, Sends, Tells, Falls, Rises}
-use Rattle.qc_promise.specs.Status.{AreRightFrom, IsRight, IsRightVerdict, Status, given_up, status_at}
+use Rattle.qc_promise.specs.Status.{AreRightFrom, AreRightKept, IsRight, IsRightKept, IsRightVerdict, Status, given_up, status_at, status_risen, status_written}
 use Rattle.qc_promise.specs.Status.{Unborn, Begun, Committed, Dead}
 
 -- a transaction that was begun is never unborn again
@@ -71,6 +71,10 @@ module _ (tx : TxId) where
   born_told s replies.Fault born = born
   born_told s (replies.Moved closed installed) born = born
 
+  born_kept : (s : Status) (kept : List Record) → s ≢ Unborn → fold (status_written tx) s kept ≢ Unborn
+  born_kept s [] born = born
+  born_kept s (w ∷ kept) born = born_kept (status_written tx s w) kept (born_written s w born)
+
   pub born_on : (s : Status) (ds : List Deed) → s ≢ Unborn → fold (status_at tx) s ds ≢ Unborn
   born_on s [] born = born
   born_on s (Takes g ∷ ds) born = born_on s ds born
@@ -78,7 +82,7 @@ module _ (tx : TxId) where
   born_on s (Sends n to m ∷ ds) born = born_on (status_at tx s (Sends n to m)) ds (born_sent s n to m born)
   born_on s (Tells r ∷ ds) born = born_on (status_at tx s (Tells r)) ds (born_told s r born)
   born_on s (Falls cause pending ∷ ds) born = born_on s ds born
-  born_on s (Rises records ∷ ds) born = born_on s ds born
+  born_on s (Rises kept ∷ ds) born = born_on (status_risen tx s kept) ds (born_kept (given_up s) kept (still_born s born))
 
   -- where deeds are right, one that has ended stays so
 
@@ -145,13 +149,27 @@ module _ (tx : TxId) where
   ended_told s replies.Fault ends right = refl
   ended_told s (replies.Moved closed installed) ends right = refl
 
+  -- a record that rises, of one that has ended, is the record of it
+  ended_risen : (s : Status) (w : Record) → HasEnd s → IsRightKept tx s w → status_written tx s w ≡ s
+  ended_risen s records.Life ends right = refl
+  ended_risen s (records.Prepare prepared) ends right = refl
+  ended_risen s (records.Done other clock) ends right = refl
+  ended_risen s (records.Close epoch) ends right = refl
+  ended_risen s (records.Install epoch clock lines) ends right = refl
+  ended_risen s (records.Commit c) ends right = by_test s (Committed c.stamp) (same_tx c.tx tx) (λ same. elim (right same) [ inl live ↦ absurd (not_live s ends live) | inr is ↦ sym is ])
+  ended_risen s (records.Decide epoch clock lines) ends right = refl
+
+  ended_kept : (s : Status) (kept : List Record) → HasEnd s → AreRightKept tx s kept → fold (status_written tx) s kept ≡ s
+  ended_kept s [] ends right = refl
+  ended_kept s (w ∷ kept) ends right = ap (λ (v : Status). fold (status_written tx) v kept) (ended_risen s w ends right.0) ∙ ended_kept s kept ends right.1
+
   ended_one : (s : Status) (d : Deed) → HasEnd s → IsRight tx s d → status_at tx s d ≡ s
   ended_one s (Takes g) ends right = refl
   ended_one s (Writes w) ends right = ended_written s w ends right
   ended_one s (Sends n to m) ends right = ended_sent s n to m ends
   ended_one s (Tells r) ends right = ended_told s r ends right
   ended_one s (Falls cause pending) ends right = refl
-  ended_one s (Rises records) ends right = refl
+  ended_one s (Rises kept) ends right = ap (λ (v : Status). fold (status_written tx) v kept) (stays_ended s ends) ∙ ended_kept s kept ends right
 
   pub ended_on : (s : Status) (ds : List Deed) → HasEnd s → AreRightFrom tx s ds → fold (status_at tx) s ds ≡ s
   ended_on s [] ends right = refl

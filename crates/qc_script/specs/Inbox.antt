@@ -263,7 +263,8 @@ abbrev pub fell_by : ℕ → Inbox → ℕ → Fall → Inbox
 fell_by a i r cause =
     if is_by_line (is_up i.up r) cause then control_acted a (actor_fell a i r) else actor_fell a i r
 
--- an actor that rises is up once it has written the record of its rise; the control line that restarts it has acted then
+-- an actor that rises is up once it has written the record of its rise; the control line that restarts it has acted
+-- then
 abbrev pub wrote_record : ℕ → Inbox → ℕ → Inbox
 wrote_record a i r = if is_up i.up r then i else control_acted a (record i { up = set i.up r true })
 

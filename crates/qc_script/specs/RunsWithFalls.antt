@@ -23,9 +23,9 @@ IsByDisk causes.Script = ⊥
 IsByDisk causes.Stop = Unit {0}
 IsByDisk causes.Disk = Unit {0}
 
--- A conduct says which turns are lawful for an actor after its deeds, the last of which is the input that it took, or its
--- rise; what became of a turn's record is part of the turn. `fits` says with which records an actor may rise. A history
--- is a run where it is made of these events; each actor has an open input or none, by actor:
+-- A conduct says which turns are lawful for an actor after its deeds, the last of which is the input that it took, or
+-- its rise; what became of a turn's record is part of the turn. `fits` says with which records an actor may rise. A
+-- history is a run where it is made of these events; each actor has an open input or none, by actor:
 -- an actor without an open input takes what is ready next for it; an actor with one posts a lawful turn; where no input
 -- is open, every control line has acted and nothing is ready for anybody, the next phase of the script begins; and the
 -- first control line of a phase that hasn't acted does. That line cuts, heals or arms, which is a step of the

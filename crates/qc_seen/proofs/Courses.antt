@@ -30,7 +30,7 @@ use Rattle.qc_core.specs.Conduct.{IsLawful}
 use Rattle.qc_front.specs.Requests.{is_request}
 use Rattle.qc_promise.specs.Account.{Account, ClientRequest, new_account}
 use Rattle.qc_promise.specs.Accounting.{account_at, account_sent, account_taken, counted}
-use Rattle.qc_promise.specs.Rows.{due}
+use Rattle.qc_promise.specs.Rows.{running_row}
 use Rattle.qc_promise.specs.Seen.{Sight, no_sight, sight, sight_sent, sight_taken}
 use Rattle.qc_promise.specs.Status.{AreRightFrom, Status, status_at}
 use Rattle.qc_promise.specs.Status as statuses
@@ -143,7 +143,8 @@ module _ (decl : Declaration) (a : ℕ) (client : is_client decl a ≡ true) (co
   first_at = record {
     begun = refl;
     waiting = λ n among. absurd among;
-    known = λ t among. absurd among;
+    shown = λ t among. absurd among;
+    committed = λ t among. absurd among;
     seen = λ is t among. absurd among;
     before = λ r among. absurd among;
     ended = λ r among. absurd among;
@@ -196,7 +197,7 @@ module _ (decl : Declaration) (a : ℕ) (client : is_client decl a ≡ true) (co
     taken_at g may f = more_deeds ds (Takes g ∷ []) (take g may f)
 
     -- and where a reply is due then, nothing is waited for
-    replied_free : (g : Given) (reply : Reply) → due decl (account_of (ds ++ Takes g ∷ [])) [] ≡ Some reply → IsAt (ds ++ Takes g ∷ []) → IsFree (fold (sight tx) no_sight (ds ++ Takes g ∷ []))
+    replied_free : (g : Given) (reply : Reply) → running_row decl (account_of (ds ++ Takes g ∷ [])) false ≡ Some reply → IsAt (ds ++ Takes g ∷ []) → IsFree (fold (sight tx) no_sight (ds ++ Takes g ∷ []))
     replied_free g reply is_due here m among =
         let o : IsOpen m (account_of (ds ++ Takes g ∷ [])).requests = here.waiting m among in
         none_open decl (account_of (ds ++ Takes g ∷ [])) reply is_due
@@ -232,11 +233,11 @@ module _ (decl : Declaration) (a : ℕ) (client : is_client decl a ≡ true) (co
       (free turn.told (turns_tell decl a client ds m turn acts law))
       (subst IsAlone (sym (turn_is t.before t.given turn (subst (λ (xs : List Deed). IsLawful decl a xs turn) t.is law))) (replies_alone decl (client_after decl (a - decl.sites) t.before).client t.given)))
     where
-      free : (o : Option Reply) → o ≡ due decl (account_of ds) [] → is_some o ≡ true → IsFree (fold (sight tx) no_sight ds)
+      free : (o : Option Reply) → o ≡ running_row decl (account_of ds) false → is_some o ≡ true → IsFree (fold (sight tx) no_sight ds)
       free None is some = absurd (let never : ⊥ = cc in never)
       free (Some reply) is some =
           subst (λ (xs : List Deed). IsFree (fold (sight tx) no_sight xs)) (sym t.is)
-          (replied_free t.before t.number t.acts t.rest t.given reply (subst (λ (xs : List Deed). due decl (account_of xs) [] ≡ Some reply) t.is (sym is)) (subst IsAt t.is t.here))
+          (replied_free t.before t.number t.acts t.rest t.given reply (subst (λ (xs : List Deed). running_row decl (account_of xs) false ≡ Some reply) t.is (sym is)) (subst IsAt t.is t.here))
 
   now : (ds : List Deed) (b : Bool) (n : ℕ) → Acts decl a ds b n → AreFounded commits ds → AreRightFrom tx statuses.Unborn ds → IsNow ds b
   now ds b n starts f right = first_at

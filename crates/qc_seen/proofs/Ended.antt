@@ -22,7 +22,7 @@ use Rattle.qc_plan.specs.Round.{RoundState, all_noted, start, verdict}
 use Rattle.qc_promise.specs.Account.{Account, ClientRequest, Current, is_append, is_prepare, is_read, requests_for}
 use Rattle.qc_promise.specs.Accounting.{counted, counted_for, is_open, taken_for, told_by}
 use Rattle.qc_promise.specs.Rounds.{answer_of, are_votes_in, asked_by, first_against, participants, round_of, standing_of, weights_of}
-use Rattle.qc_promise.specs.Rows.{answer_row, append_row, due, read_row, row_of, vote_row}
+use Rattle.qc_promise.specs.Rows.{answer_row, append_row, running_row, read_row, row_of, vote_row}
 use Rattle.qc_entry.specs.declared.line.Op.{Op}
 use Rattle.qc_client.specs.declared.client.Client.{Client}
 use Rattle.qc_account.specs.Ties.{IsDo, IsPrepare, Ties, appends, reads, rests, votes}
@@ -218,7 +218,7 @@ module _ (decl : Declaration) (n : ℕ) (answer : Option Answer) (d : Account) w
 in_half : (half : Want → Bool) (qs : List ClientRequest) (q : ClientRequest) → In q qs → half q.want ≡ true → In q (filter (λ (x : ClientRequest). half x.want) qs)
 in_half half qs q among is = In-filter (λ (x : ClientRequest). half x.want) q qs among is
 
-module _ (decl : Declaration) (d : Account) (reply : Reply) (is_due : due decl d [] ≡ Some reply) where
+module _ (decl : Declaration) (d : Account) (reply : Reply) (is_due : running_row decl d false ≡ Some reply) where
   reads_done : DoesRead d → NoneOpen d.requests
   reads_done r = by (all_noted round.asked) refl
     where
@@ -228,7 +228,7 @@ module _ (decl : Declaration) (d : Account) (reply : Reply) (is_due : due decl d
       by : (b : Bool) → all_noted (map asked_by (requests_for is_read d)) ≡ b → NoneOpen d.requests
       by true noted q among is = noted_none (requests_for is_read d) noted q (in_half is_read d.requests q among (every-In (λ (x : ClientRequest). is_read x.want ≡ true) q d.requests r.all among)) is
       by false waits q among is =
-          let none : due decl d [] ≡ None = do_row_is decl d r.t r.object r.inv r.runs ∙ ap (read_row decl d r.t r.object r.inv) (waiting_verdict (round_of decl d r.t is_read (read_need_of decl r.t.epoch r.object r.inv)) waits) in
+          let none : running_row decl d false ≡ None = do_row_is decl d r.t r.object r.inv r.runs ∙ ap (read_row decl d r.t r.object r.inv) (waiting_verdict (round_of decl d r.t is_read (read_need_of decl r.t.epoch r.object r.inv)) waits) in
           let never : ⊥ = cc in never
 
   appends_done : DoesAppend decl d → NoneOpen d.requests
@@ -237,7 +237,7 @@ module _ (decl : Declaration) (d : Account) (reply : Reply) (is_due : due decl d
       by : (b : Bool) → all_noted (map asked_by (requests_for is_append d)) ≡ b → NoneOpen d.requests
       by true noted q among is = noted_none (requests_for is_append d) noted q (in_half is_append d.requests q among (every-In (IsOpenIn is_append) q d.requests r.all among (untaken_is q is))) is
       by false waits q among is =
-          let none : due decl d [] ≡ None =
+          let none : running_row decl d false ≡ None =
           do_row_is decl d r.t r.object r.inv r.runs ∙ ap (read_row decl d r.t r.object r.inv) r.met ∙ ap (answer_row decl d r.t r.object) r.chosen
           ∙ ap (append_row decl r.object r.event) (waiting_verdict (round_of decl d r.t is_append (append_need_of decl r.t.epoch r.object r.event)) waits) in
           let never : ⊥ = cc in never
@@ -249,17 +249,17 @@ module _ (decl : Declaration) (d : Account) (reply : Reply) (is_due : due decl d
       last_false true = refl
       last_false false = refl
 
-      row : due decl d [] ≡ cond (are_votes_in decl d r.t) (vote_row d [] (first_against (requests_for is_prepare d))) None
+      row : running_row decl d false ≡ cond (are_votes_in decl d r.t) (vote_row d false (first_against (requests_for is_prepare d))) None
       row =
-          ap (λ (o : Option Command). option_and_then (row_of decl d [] d.current) o) r.command
-          ∙ ap (λ (o : Option Current). row_of decl d [] o commands.Commit) r.current
-          ∙ ap (λ (b : Bool). cond b (Some (replies.Aborted causes.Doomed)) (cond (are_votes_in decl d r.t) (vote_row d [] (first_against (requests_for is_prepare d))) None)) r.live
+          ap (λ (o : Option Command). option_and_then (row_of decl d false d.current) o) r.command
+          ∙ ap (λ (o : Option Current). row_of decl d false o commands.Commit) r.current
+          ∙ ap (λ (b : Bool). cond b (Some (replies.Aborted causes.Doomed)) (cond (are_votes_in decl d r.t) (vote_row d false (first_against (requests_for is_prepare d))) None)) r.live
 
       by : (b : Bool) → list_all (λ (q : ClientRequest). is_some q.taken) (requests_for is_prepare d) ≡ b → NoneOpen d.requests
       by true in_are q among is = taken_none (requests_for is_prepare d) in_are q (in_half is_prepare d.requests q among (every-In (λ (x : ClientRequest). is_prepare x.want ≡ true) q d.requests r.all among)) is
       by false waits q among is =
           let out : are_votes_in decl d r.t ≡ false = ap (λ (b : Bool). (length (participants decl d r.t) == length (requests_for is_prepare d)) && b) waits ∙ last_false (length (participants decl d r.t) == length (requests_for is_prepare d)) in
-          let none : due decl d [] ≡ None = row ∙ ap (λ (b : Bool). cond b (vote_row d [] (first_against (requests_for is_prepare d))) None) out in
+          let none : running_row decl d false ≡ None = row ∙ ap (λ (b : Bool). cond b (vote_row d false (first_against (requests_for is_prepare d))) None) out in
           let never : ⊥ = cc in never
 
   pub none_open : Goes decl d → NoneOpen d.requests

@@ -57,7 +57,8 @@ pub record Sees (commits : List Commit) (tx : TxId) (d : Account) (s : Sight) (w
     : Type 0 where
   pub begun : s.begun ≡ name_of d.current
   pub waiting : (n : ℕ) → In n s.waiting → IsOpen n d.requests
-  pub known : (t : TxId) → In t s.known → IsUpTo commits t d.clock
+  pub shown : (t : TxId) → In t s.shown → IsUpTo commits t d.clock
+  pub committed : (t : TxId) → In t s.committed → IsUpTo commits t d.clock
   pub seen : is_begun tx s.begun ≡ true → (t : TxId) → In t s.seen → IsUpTo commits t d.clock
   pub before : (r : Commit) → In r wrote → r.tx ≡ tx → (t : TxId) → In t s.seen → t ≢ tx → HasBefore commits t r.stamp
   pub ended : (r : Commit) → In r wrote → r.tx ≡ tx → HasCommitted st

@@ -24,6 +24,7 @@ use Rattle.qc_promise.specs.Accounting.{account_sent, account_written, counted}
 use Rattle.qc_promise.specs.Atomic.{HasBefore}
 use Rattle.qc_promise.specs.Deals.{is_begun}
 use Rattle.qc_promise.specs.Replies.{IsRecordDue}
+use Rattle.qc_promise.specs.Rows.{running_row}
 use Rattle.qc_promise.specs.Seen.{Sight, answered, granted, sees, sight_sent, waits}
 use Rattle.qc_promise.specs.Status.{Status, given_up, status_sent, status_written}
 use Rattle.qc_promise.specs.Status as statuses
@@ -70,7 +71,8 @@ module _ (commits : List Commit) (tx : TxId) (d : Account) (s : Sight) (wrote : 
     skipped others = record {
       begun = w.begun ∙ sym c.named;
       waiting = λ m among. c.others m (others m among) (w.waiting m among);
-      known = λ t among. up t (w.known t among);
+      shown = λ t among. up t (w.shown t among);
+      committed = λ t among. up t (w.committed t among);
       seen = λ is t among. up t (w.seen is t among);
       before = w.before;
       ended = w.ended;
@@ -82,7 +84,8 @@ module _ (commits : List Commit) (tx : TxId) (d : Account) (s : Sight) (wrote : 
     lost_sees = record {
       begun = w.begun ∙ sym c.named;
       waiting = λ m among. c.others m (other_number n m s.waiting among) (w.waiting m (In-unfiltered (λ (k : ℕ). not (k == n)) m s.waiting among));
-      known = λ t among. up t (w.known t among);
+      shown = λ t among. up t (w.shown t among);
+      committed = λ t among. up t (w.committed t among);
       seen = λ is t among. up t (w.seen is t among);
       before = w.before;
       ended = w.ended;
@@ -95,7 +98,8 @@ module _ (commits : List Commit) (tx : TxId) (d : Account) (s : Sight) (wrote : 
     shown unwritten lines new = record {
       begun = w.begun ∙ sym c.named;
       waiting = λ m among. c.others m (other_number n m s.waiting among) (w.waiting m (In-unfiltered (λ (k : ℕ). not (k == n)) m s.waiting among));
-      known = λ t among. either t s.known (w.known t) (in_split t s.known (map (λ (l : Line). l.tx) lines) among);
+      shown = λ t among. either t s.shown (w.shown t) (in_split t s.shown (map (λ (l : Line). l.tx) lines) among);
+      committed = λ t among. up t (w.committed t among);
       seen = λ is t among. either t s.seen (w.seen is t) (in_split t s.seen (map (λ (l : Line). l.tx) lines) (subst (λ (b : Bool). In t (cond b (s.seen ++ map (λ (l : Line). l.tx) lines) s.seen)) is among));
       before = λ r among its. on_seen r among its (is_begun tx s.begun) refl;
       ended = w.ended;
@@ -147,7 +151,8 @@ module _ (commits : List Commit) (tx : TxId) (d : Account) (s : Sight) (wrote : 
   called_sees command free unwritten = record {
     begun = w.begun;
     waiting = λ n among. absurd (free n among);
-    known = w.known;
+    shown = w.shown;
+    committed = w.committed;
     seen = w.seen;
     before = w.before;
     ended = w.ended;
@@ -176,7 +181,8 @@ module _ (commits : List Commit) (tx : TxId) (d : Account) (s : Sight) (wrote : 
   unasked_sees message = record {
     begun = w.begun;
     waiting = w.waiting;
-    known = w.known;
+    shown = w.shown;
+    committed = w.committed;
     seen = w.seen;
     before = w.before;
     ended = λ r among its. sent_status st message (w.ended r among its);
@@ -193,7 +199,8 @@ module _ (commits : List Commit) (tx : TxId) (d : Account) (s : Sight) (wrote : 
           | inl old ↦ (let o : IsOpen n d.requests = w.waiting n old in record { request = o.request; among = In-first o.request d.requests (new ∷ []) o.among; number = o.number; untaken = o.untaken })
           | inr same ↦ record { request = new; among = In-last new d.requests; number = sym same; untaken = refl }
         ];
-        known = w.known;
+        shown = w.shown;
+        committed = w.committed;
         seen = w.seen;
         before = w.before;
         ended = w.ended;
@@ -216,11 +223,12 @@ module _ (commits : List Commit) (tx : TxId) (d : Account) (s : Sight) (wrote : 
   named_by stamp c None is = absurd (let never : ⊥ = cc in never)
   named_by stamp c (Some t) is = (let same : record { stamp = stamp; tx = t.tx; ops = t.ops } ≡ c = cc in ap (λ (x : Commit). Some x.tx) same)
 
-  commit_sees : (decl : Declaration) (c : Commit) → In c commits → IsRecordDue decl d [] (records.Commit c) → Sees commits tx (record d { written = Some c }) s (c ∷ wrote) (cond (same_tx c.tx tx) (statuses.Committed c.stamp) st)
+  commit_sees : (decl : Declaration) (c : Commit) → In c commits → IsRecordDue d (running_row decl d false) (records.Commit c) → Sees commits tx (record d { written = Some c }) s (c ∷ wrote) (cond (same_tx c.tx tx) (statuses.Committed c.stamp) st)
   commit_sees decl c there due_is = record {
     begun = w.begun;
     waiting = w.waiting;
-    known = w.known;
+    shown = w.shown;
+    committed = w.committed;
     seen = w.seen;
     before = before_one;
     ended = ended_one;
@@ -252,8 +260,18 @@ module _ (commits : List Commit) (tx : TxId) (d : Account) (s : Sight) (wrote : 
       stands_one r (inl same) its is = ap (λ (x : Commit). Some x) (sym same)
       stands_one r (inr old) its is = absurd (let wrote_it : d.written ≡ Some r = w.stands r old its is in let none : d.written ≡ None = due_is.2 in let never : ⊥ = cc in never)
 
-  pub wrote_sees : (decl : Declaration) (written : Record) → ((c : Commit) → written ≡ records.Commit c → In c commits) → IsRecordDue decl d [] written → Sees commits tx (account_written d written) s (cons_option (commit_in written) wrote) (status_written tx st written)
-  wrote_sees decl records.Life there is = w
+  pub wrote_sees : (decl : Declaration) (written : Record) → ((c : Commit) → written ≡ records.Commit c → In c commits) → IsRecordDue d (running_row decl d false) written → Sees commits tx (account_written d written) s (cons_option (commit_in written) wrote) (status_written tx st written)
+  wrote_sees decl records.Life there is = record {
+    begun = w.begun;
+    waiting = w.waiting;
+    shown = w.shown;
+    committed = w.committed;
+    seen = w.seen;
+    before = w.before;
+    ended = w.ended;
+    stands = w.stands;
+    listed = w.listed;
+  }
   wrote_sees decl (records.Prepare prepared) there is = w
   wrote_sees decl (records.Done other clock) there is = w
   wrote_sees decl (records.Close epoch) there is = w

@@ -1,5 +1,5 @@
 -- A Committed that is due names the stamp above the clock.
-use Rattle.std.proofs.Common.{◌≡◌, ℕ, nat_le, Bool, true, false, cond, [], length, Option, Some, None}
+use Rattle.std.proofs.Common.{◌≡◌, ℕ, nat_le, Bool, true, false, cond, length, Option, Some, None}
 use Rattle.std.specs.Prelude.{option_and_then}
 use Rattle.qc_stamp.specs.declared.stamp.Stamp.{Stamp}
 use Rattle.qc_decl.specs.Limits.{most_transaction_operations}
@@ -16,7 +16,7 @@ use Rattle.qc_plan.specs.declared.standing.Verdict.TheVariants as verdicts
 use Rattle.qc_plan.specs.Round.{verdict}
 use Rattle.qc_promise.specs.Account.{Account, Current, is_append, is_prepare, is_read, requests_for}
 use Rattle.qc_promise.specs.Rounds.{answer_of, are_votes_in, first_against, round_of}
-use Rattle.qc_promise.specs.Rows.{answer_row, append_row, due, next_stamp, read_row, row_of, vote_row}
+use Rattle.qc_promise.specs.Rows.{answer_row, append_row, running_row, next_stamp, read_row, row_of, vote_row}
 
 module _ (decl : Declaration) (d : Account) where
   -- a reply that commits has this stamp
@@ -47,16 +47,16 @@ module _ (decl : Declaration) (d : Account) where
   do_fits t object inv false true stamp is = absurd (let never : ⊥ = cc in never)
   do_fits t object inv false false stamp is = read_fits t object inv (verdict (round_of decl d t is_read (read_need_of decl t.epoch object inv))) stamp is
 
-  vote_fits : (o : Option Why) → Fits (vote_row d [] o)
+  vote_fits : (o : Option Why) → Fits (vote_row d false o)
   vote_fits (Some why) stamp is = absurd (let never : ⊥ = cc in never)
   vote_fits None stamp is = let same : replies.Committed (next_stamp d) ≡ replies.Committed stamp = cc in let back : next_stamp d ≡ stamp = cc in cc
 
-  commit_fits : (dead votes : Bool) → Fits (cond dead (Some (replies.Aborted causes.Doomed)) (cond votes (vote_row d [] (first_against (requests_for is_prepare d))) None))
+  commit_fits : (dead votes : Bool) → Fits (cond dead (Some (replies.Aborted causes.Doomed)) (cond votes (vote_row d false (first_against (requests_for is_prepare d))) None))
   commit_fits true votes stamp is = absurd (let never : ⊥ = cc in never)
   commit_fits false true stamp is = vote_fits (first_against (requests_for is_prepare d)) stamp is
   commit_fits false false stamp is = absurd (let never : ⊥ = cc in never)
 
-  row_fits : (o : Option Current) (command : Command) → Fits (row_of decl d [] o command)
+  row_fits : (o : Option Current) (command : Command) → Fits (row_of decl d false o command)
   row_fits None commands.Begin stamp is = absurd (let never : ⊥ = cc in never)
   row_fits None (commands.Do object inv) stamp is = absurd (let never : ⊥ = cc in never)
   row_fits None commands.Commit stamp is = absurd (let never : ⊥ = cc in never)
@@ -68,9 +68,9 @@ module _ (decl : Declaration) (d : Account) where
   row_fits (Some t) commands.Abort stamp is = absurd (let never : ⊥ = cc in never)
   row_fits (Some t) (commands.Epoch number) stamp is = absurd (let never : ⊥ = cc in never)
 
-  due_fits : (o : Option Command) → Fits (option_and_then (row_of decl d [] d.current) o)
+  due_fits : (o : Option Command) → Fits (option_and_then (row_of decl d false d.current) o)
   due_fits None stamp is = absurd (let never : ⊥ = cc in never)
   due_fits (Some command) stamp is = row_fits d.current command stamp is
 
-  pub due_stamp : (stamp : Stamp) → due decl d [] ≡ Some (replies.Committed stamp) → stamp ≡ next_stamp d
+  pub due_stamp : (stamp : Stamp) → running_row decl d false ≡ Some (replies.Committed stamp) → stamp ≡ next_stamp d
   due_stamp = due_fits d.command

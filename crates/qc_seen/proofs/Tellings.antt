@@ -18,7 +18,7 @@ use Rattle.qc_promise.specs.Atomic.{HasBefore}
 use Rattle.qc_promise.specs.Deals.{is_begun}
 use Rattle.qc_promise.specs.Replies.{IsReplyDue}
 use Rattle.qc_promise.specs.Rounds.{answer_of}
-use Rattle.qc_promise.specs.Rows.{commit_of}
+use Rattle.qc_promise.specs.Rows.{commit_of, running_row}
 use Rattle.qc_promise.specs.Seen.{Sight, sight_told}
 use Rattle.qc_promise.specs.Status.{IsRightReply, Status, given_up, status_told}
 use Rattle.qc_promise.specs.Status as statuses
@@ -82,7 +82,8 @@ module _ (decl : Declaration) (commits : List Commit) (tx : TxId) (d : Account) 
   goes_on e l unwritten = record {
     begun = w.begun ∙ sym l.named;
     waiting = λ n among. absurd (free n among);
-    known = λ t among. subst (IsUpTo commits t) (sym l.clock) (w.known t among);
+    shown = λ t among. subst (IsUpTo commits t) (sym l.clock) (w.shown t among);
+    committed = λ t among. subst (IsUpTo commits t) (sym l.clock) (w.committed t among);
     seen = λ is t among. subst (IsUpTo commits t) (sym l.clock) (w.seen is t among);
     before = w.before;
     ended = w.ended;
@@ -96,7 +97,8 @@ module _ (decl : Declaration) (commits : List Commit) (tx : TxId) (d : Account) 
   ends x keeps = record {
     begun = refl;
     waiting = λ n among. absurd (free n among);
-    known = w.known;
+    shown = w.shown;
+    committed = w.committed;
     seen = λ is. absurd (let never : ⊥ = cc in never);
     before = w.before;
     ended = λ r among its. keeps (w.ended r among its);
@@ -106,23 +108,28 @@ module _ (decl : Declaration) (commits : List Commit) (tx : TxId) (d : Account) 
 
   -- one begins, which has no record
 
-  begins : (other : TxId) (known : ℕ) (count : ℕ) (t : Current) → t.tx ≡ other → (same_tx other tx ≡ true → st ≡ statuses.Unborn)
-      → Sees commits tx (done (record d { count = count; current = Some t })) (record s { begun = Some other; seen = cond (same_tx other tx) s.known s.seen }) wrote (cond (same_tx other tx) statuses.Begun st)
-  begins other known count t named right = record {
+  begins : (other : TxId) (count : ℕ) (t : Current) → t.tx ≡ other → (same_tx other tx ≡ true → st ≡ statuses.Unborn)
+      → Sees commits tx (done (record d { count = count; current = Some t })) (record s { begun = Some other; seen = cond (same_tx other tx) (s.shown ++ s.committed) s.seen }) wrote (cond (same_tx other tx) statuses.Begun st)
+  begins other count t named right = record {
     begun = ap (λ (x : TxId). Some x) (sym named);
     waiting = λ n among. absurd (free n among);
-    known = w.known;
-    seen = λ is x among. w.known x (subst (λ (b : Bool). In x (cond b s.known s.seen)) is among);
+    shown = w.shown;
+    committed = w.committed;
+    seen = λ is x among. known x (in_split x s.shown s.committed (subst (λ (b : Bool). In x (cond b (s.shown ++ s.committed) s.seen)) is among));
     before = λ r among its. before_one r among its (same_tx other tx) refl;
     ended = λ r among its. ended_one r among its (same_tx other tx) refl;
     stands = λ r among its is. absurd (unborn r among its is);
     listed = λ r is. absurd (let never : ⊥ = cc in never);
   }
     where
+      known : (x : TxId) → In x s.shown ⊎ In x s.committed → IsUpTo commits x d.clock
+      known x (inl by_grant) = w.shown x by_grant
+      known x (inr by_reply) = w.committed x by_reply
+
       unborn : (r : Commit) → In r wrote → r.tx ≡ tx → same_tx other tx ≡ true → ⊥
       unborn r among its is = subst HasCommitted (right is) (w.ended r among its)
 
-      before_one : (r : Commit) → In r wrote → r.tx ≡ tx → (b : Bool) → same_tx other tx ≡ b → (x : TxId) → In x (cond b s.known s.seen) → x ≢ tx → HasBefore commits x r.stamp
+      before_one : (r : Commit) → In r wrote → r.tx ≡ tx → (b : Bool) → same_tx other tx ≡ b → (x : TxId) → In x (cond b (s.shown ++ s.committed) s.seen) → x ≢ tx → HasBefore commits x r.stamp
       before_one r among its true is x in_seen differs = absurd (unborn r among its is)
       before_one r among its false is x in_seen differs = w.before r among its x in_seen differs
 
@@ -143,11 +150,12 @@ module _ (decl : Declaration) (commits : List Commit) (tx : TxId) (d : Account) 
   committed_is stamp (Some t) is x (inr never) = absurd never
 
   commits_one : (stamp : Stamp) → d.clock ≤ stamp.clock → d.written ≡ commit_of d stamp
-      → Sees commits tx (done (record d { current = None; clock = stamp.clock })) (record s { begun = None; known = s.known ++ option_to_list s.begun }) wrote st
+      → Sees commits tx (done (record d { current = None; clock = stamp.clock })) (record s { begun = None; committed = s.committed ++ option_to_list s.begun }) wrote st
   commits_one stamp more is = record {
     begun = refl;
     waiting = λ n among. absurd (free n among);
-    known = λ t among. known_one t (in_split t s.known (option_to_list s.begun) among);
+    shown = λ t among. higher commits t d.clock stamp.clock more (w.shown t among);
+    committed = λ t among. known_one t (in_split t s.committed (option_to_list s.begun) among);
     seen = λ is. absurd (let never : ⊥ = cc in never);
     before = w.before;
     ended = w.ended;
@@ -155,14 +163,14 @@ module _ (decl : Declaration) (commits : List Commit) (tx : TxId) (d : Account) 
     listed = λ r is. absurd (let never : ⊥ = cc in never);
   }
     where
-      known_one : (t : TxId) → In t s.known ⊎ In t (option_to_list s.begun) → IsUpTo commits t stamp.clock
-      known_one t (inl old) = higher commits t d.clock stamp.clock more (w.known t old)
+      known_one : (t : TxId) → In t s.committed ⊎ In t (option_to_list s.begun) → IsUpTo commits t stamp.clock
+      known_one t (inl old) = higher commits t d.clock stamp.clock more (w.committed t old)
       known_one t (inr new) = committed_is stamp d.current is t (subst (λ (o : Option TxId). In t (option_to_list o)) w.begun new)
 
-  pub told_sees : (reply : Reply) → IsReplyDue decl d [] reply → IsRightReply tx st reply → Sees commits tx (account_told decl d reply) (sight_told tx s reply) wrote (status_told tx st reply)
+  pub told_sees : (reply : Reply) → IsReplyDue d (running_row decl d false) [] reply → IsRightReply tx st reply → Sees commits tx (account_told decl d reply) (sight_told tx s reply) wrote (status_told tx st reply)
   told_sees replies.Down due right = goes_on d (as_it_is d) due.1
   told_sees (replies.Already other) due right = goes_on d (as_it_is d) due.1
-  told_sees (replies.Began other) due right = begins other d.known (d.count + 1) _ refl right
+  told_sees (replies.Began other) due right = begins other (d.count + 1) _ refl right
   told_sees replies.NoTransaction due right = goes_on d (as_it_is d) due.1
   told_sees replies.Doomed due right = goes_on d (as_it_is d) due.1
   told_sees replies.TooLong due right = goes_on d (as_it_is d) due.1

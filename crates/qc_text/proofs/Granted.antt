@@ -1,55 +1,59 @@
 -- Grants, one deed on, and the views that join by them.
-use Rattle.std.proofs.Common.{◌≡◌, ℕ, ◌+◌, ◌<◌, ◌||◌, Bool, true, false, List, [], ◌∷◌, length, get_or, map, drop, sym, ap, refl, ◌∙◌, cond}
+use Rattle.std.proofs.Common.{◌≡◌, ℕ, ◌+◌, ◌<◌, ◌||◌, Bool, true, false, List, [], ◌∷◌, Option, Some, None, length, get_or, map, drop, sym, ap, refl, ◌∙◌, cond}
+use Rattle.std.specs.Option.{option_map_or}
 use Rattle.qc_entry.specs.declared.line.Line.{Line}
 use Rattle.qc_entry.specs.Log.{union}
 use Rattle.qc_entry.proofs.Union.{union-nil}
-use Rattle.qc_msg.specs.declared.message.Message.{Message}
-use Rattle.qc_msg.specs.declared.message.Message.TheVariants as messages
+use Rattle.qc_msg.specs.declared.message.Envelope.{Envelope}
+use Rattle.qc_msg.specs.declared.step.Fall.TheVariants as causes
+use Rattle.qc_msg.specs.Readings.{Requested, request_in}
 use Rattle.qc_msg.specs.Deeds.{Deed, Takes, Writes, Sends, Tells, Falls, Rises}
 use Rattle.qc_promise.specs.SiteHeld.{is_granted}
-use Rattle.qc_promise.specs.SiteLogs.{view_by}
+use Rattle.qc_promise.specs.SiteLogs.{view_by, view_in}
 use Rattle.qc_text.specs.Deeds.{deed_of}
-use Rattle.qc_text.specs.Holders.{is_take, sends_grant}
+use Rattle.qc_text.specs.Holders.{ends_post, sends_grant}
 use Rattle.qc_text.specs.Views.{view_asked}
 use Rattle.qc_text.specs.declared.deeds.Deed.{Deed as Found}
 use Rattle.qc_text.proofs.Found.{found_rest}
 
 -- grants
 
-granted_taken : (number : ℕ) (d : Deed) (ds : List Deed) → is_take d ≡ true → is_granted number (d ∷ ds) ≡ false
+granted_taken : (number : ℕ) (d : Deed) (ds : List Deed) → ends_post d ≡ true → is_granted number (d ∷ ds) ≡ false
 granted_taken number (Takes given) ds t = refl
 granted_taken number (Writes written) ds t = absurd (let never : ⊥ = cc in never)
 granted_taken number (Sends n to message) ds t = absurd (let never : ⊥ = cc in never)
 granted_taken number (Tells reply) ds t = absurd (let never : ⊥ = cc in never)
-granted_taken number (Falls cause pending) ds t = absurd (let never : ⊥ = cc in never)
-granted_taken number (Rises records) ds t = absurd (let never : ⊥ = cc in never)
+granted_taken number (Falls causes.Script pending) ds t = refl
+granted_taken number (Falls causes.Stop pending) ds t = refl
+granted_taken number (Falls causes.Disk pending) ds t = refl
+granted_taken number (Rises records) ds t = refl
 
-granted_other : (number : ℕ) (d : Deed) (ds : List Deed) → is_take d ≡ false → is_granted number (d ∷ ds) ≡ (sends_grant number d || is_granted number ds)
+granted_other : (number : ℕ) (d : Deed) (ds : List Deed) → ends_post d ≡ false → is_granted number (d ∷ ds) ≡ (sends_grant number d || is_granted number ds)
 granted_other number (Takes given) ds t = absurd (let never : ⊥ = cc in never)
 granted_other number (Writes written) ds t = refl
 granted_other number (Sends n to message) ds t = refl
 granted_other number (Tells reply) ds t = refl
-granted_other number (Falls cause pending) ds t = refl
-granted_other number (Rises records) ds t = refl
+granted_other number (Falls cause pending) ds t = absurd (let never : ⊥ = cc in never)
+granted_other number (Rises records) ds t = absurd (let never : ⊥ = cc in never)
 
-pub not_granted : (number : ℕ) (xs : List Found) (i : ℕ) (x d : Found) (all : Bool) → i < length xs → x ≡ get_or xs i d → is_take (deed_of x) ≡ true
+pub not_granted : (number : ℕ) (xs : List Found) (i : ℕ) (x d : Found) (all : Bool) → i < length xs → x ≡ get_or xs i d → ends_post (deed_of x) ≡ true
     → is_granted number (map deed_of (drop i xs)) ≡ all → false ≡ all
 not_granted number xs i x d all l e t known =
     sym (granted_taken number (deed_of x) (map deed_of (drop (i + 1) xs)) t) ∙ ap (is_granted number) (sym (found_rest xs i x d l e)) ∙ known
 
-granted_by : (b : Bool) (number : ℕ) (xs : List Found) (i : ℕ) (x d : Found) (all : Bool) → i < length xs → x ≡ get_or xs i d → is_take (deed_of x) ≡ false
+granted_by : (b : Bool) (number : ℕ) (xs : List Found) (i : ℕ) (x d : Found) (all : Bool) → i < length xs → x ≡ get_or xs i d → ends_post (deed_of x) ≡ false
     → sends_grant number (deed_of x) ≡ b
     → is_granted number (map deed_of (drop i xs)) ≡ all → (b || is_granted number (map deed_of (drop (i + 1) xs))) ≡ all
 granted_by b number xs i x d all l e t g known =
     ap (λ (v : Bool). v || is_granted number (map deed_of (drop (i + 1) xs))) (sym g)
     ∙ sym (granted_other number (deed_of x) (map deed_of (drop (i + 1) xs)) t) ∙ ap (is_granted number) (sym (found_rest xs i x d l e)) ∙ known
 
-pub granted_now : (number : ℕ) (xs : List Found) (i : ℕ) (x d : Found) (all : Bool) → i < length xs → x ≡ get_or xs i d → is_take (deed_of x) ≡ false
+pub granted_now : (number : ℕ) (xs : List Found) (i : ℕ) (x d : Found) (all : Bool) → i < length xs → x ≡ get_or xs i d → ends_post (deed_of x) ≡ false
     → sends_grant number (deed_of x) ≡ true
     → is_granted number (map deed_of (drop i xs)) ≡ all → true ≡ all
 granted_now number xs i x d all l e t g known = granted_by true number xs i x d all l e t g known
 
-pub granted_later : (number : ℕ) (xs : List Found) (i : ℕ) (x d : Found) (all : Bool) → i < length xs → x ≡ get_or xs i d → is_take (deed_of x) ≡ false
+pub granted_later : (number : ℕ) (xs : List Found) (i : ℕ) (x d : Found) (all : Bool) → i < length xs → x ≡ get_or xs i d → ends_post (deed_of x) ≡ false
     → sends_grant number (deed_of x) ≡ false
     → is_granted number (map deed_of (drop i xs)) ≡ all → is_granted number (map deed_of (drop (i + 1) xs)) ≡ all
 granted_later number xs i x d all l e t g known = granted_by false number xs i x d all l e t g known
@@ -63,31 +67,29 @@ view_asked_of : (b : Bool) → cond b none none ≡ none
 view_asked_of true = refl
 view_asked_of false = refl
 
-view_cond : (number : ℕ) (m : Message) (after : List Deed) → view_by number m after ≡ cond (is_granted number after) (view_asked m) []
-view_cond number (messages.Request tx epoch life want) after = refl
-view_cond number (messages.Answer to answer) after = sym (view_asked_of (is_granted number after))
-view_cond number (messages.Decision tx verdict) after = sym (view_asked_of (is_granted number after))
-view_cond number (messages.Inquiry tx) after = sym (view_asked_of (is_granted number after))
-view_cond number (messages.Ask tx) after = sym (view_asked_of (is_granted number after))
-view_cond number (messages.Close epoch) after = sym (view_asked_of (is_granted number after))
-view_cond number (messages.Install epoch clock log) after = sym (view_asked_of (is_granted number after))
+view_cond : (e : Envelope) (after : List Deed) → view_by after e ≡ cond (is_granted e.number after) (view_asked e.message) []
+view_cond e after = by (request_in e.message)
+  where
+    by : (o : Option Requested) → option_map_or (λ (q : Requested). cond (is_granted e.number after) (view_in q.want) []) o [] ≡ cond (is_granted e.number after) (option_map_or (λ (q : Requested). view_in q.want) o []) []
+    by None = sym (view_asked_of (is_granted e.number after))
+    by (Some q) = refl
 
-pub joins : (number : ℕ) (m : Message) (after : List Deed) (lines view : List Line) → view_asked m ≡ view → is_granted number after ≡ true
-    → union lines view ≡ union lines (view_by number m after)
-joins number m after lines view v g =
+pub joins : (e : Envelope) (after : List Deed) (lines view : List Line) → view_asked e.message ≡ view → is_granted e.number after ≡ true
+    → union lines view ≡ union lines (view_by after e)
+joins e after lines view v g =
     ap (λ (l : List Line). union lines l) (sym v)
-    ∙ ap (λ (b : Bool). union lines (cond b (view_asked m) [])) (sym g)
-    ∙ ap (λ (l : List Line). union lines l) (sym (view_cond number m after))
+    ∙ ap (λ (b : Bool). union lines (cond b (view_asked e.message) [])) (sym g)
+    ∙ ap (λ (l : List Line). union lines l) (sym (view_cond e after))
 
-pub joins_nothing : (number : ℕ) (m : Message) (after : List Deed) (lines : List Line) → is_granted number after ≡ false → lines ≡ union lines (view_by number m after)
-joins_nothing number m after lines g =
+pub joins_nothing : (e : Envelope) (after : List Deed) (lines : List Line) → is_granted e.number after ≡ false → lines ≡ union lines (view_by after e)
+joins_nothing e after lines g =
     sym (union-nil lines)
-    ∙ ap (λ (b : Bool). union lines (cond b (view_asked m) [])) (sym g)
-    ∙ ap (λ (l : List Line). union lines l) (sym (view_cond number m after))
+    ∙ ap (λ (b : Bool). union lines (cond b (view_asked e.message) [])) (sym g)
+    ∙ ap (λ (l : List Line). union lines l) (sym (view_cond e after))
 
-pub joins_no_view : (number : ℕ) (m : Message) (after : List Deed) (lines : List Line) → view_asked m ≡ [] → lines ≡ union lines (view_by number m after)
-joins_no_view number m after lines v =
+pub joins_no_view : (e : Envelope) (after : List Deed) (lines : List Line) → view_asked e.message ≡ [] → lines ≡ union lines (view_by after e)
+joins_no_view e after lines v =
     sym (union-nil lines)
-    ∙ ap (λ (l : List Line). union lines l) (sym (view_asked_of (is_granted number after)))
-    ∙ ap (λ (l : List Line). union lines (cond (is_granted number after) l [])) (sym v)
-    ∙ ap (λ (l : List Line). union lines l) (sym (view_cond number m after))
+    ∙ ap (λ (l : List Line). union lines l) (sym (view_asked_of (is_granted e.number after)))
+    ∙ ap (λ (l : List Line). union lines (cond (is_granted e.number after) l [])) (sym v)
+    ∙ ap (λ (l : List Line). union lines l) (sym (view_cond e after))

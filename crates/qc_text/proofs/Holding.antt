@@ -1,12 +1,13 @@
 -- The transactions that hold something, walked forward, are those that a site's deeds show.
 use Rattle.std.proofs.Common.{◌≡◌, ℕ, ◌==◌, ◌&&◌, ◌||◌, not, Bool, true, false, cond, List, [], ◌∷◌, ◌++◌, length, map, refl, sym, ap, ◌∙◌, subst, append_assoc}
 use Rattle.std.specs.Prelude.{filter, fold}
-use Rattle.std.proofs.lemmas.List.{append-nil, length-map}
+use Rattle.std.proofs.lemmas.List.{append-nil, length-map, map-append}
 use Rattle.std.proofs.lemmas.List.Elements.{filter-append}
 use Rattle.std.proofs.lemmas.List.Sums.{fold-append}
 use Rattle.qc_stamp.specs.declared.stamp.TxId.{TxId}
 use Rattle.qc_stamp.specs.Order.{same_tx}
 use Rattle.qc_stamp.proofs.Orders.{other_tx_sym, same_tx_is, same_tx_itself}
+use Rattle.qc_entry.specs.declared.record.Prepared.{Prepared}
 use Rattle.qc_lock.specs.declared.held.Held.{Held}
 use Rattle.qc_lock.specs.Held.{held_of, with_entry, with_locks, with_owns}
 use Rattle.qc_msg.specs.declared.message.Message.{Message}
@@ -15,11 +16,17 @@ use Rattle.qc_msg.specs.declared.message.Outcome.{Outcome}
 use Rattle.qc_msg.specs.declared.message.Outcome.TheVariants.{Committed, Aborted, Active}
 use Rattle.qc_msg.specs.declared.message.Want.{Want}
 use Rattle.qc_msg.specs.declared.message.Want.TheVariants.{Read, Append, Prepare}
+use Rattle.qc_msg.specs.declared.record.Record.{Record}
+use Rattle.qc_msg.specs.declared.record.Record.TheVariants as records
 use Rattle.qc_msg.specs.declared.step.Given.TheVariants as given
 use Rattle.qc_msg.specs.Deeds.{Deed, Takes, Writes, Sends, Tells, Falls, Rises}
 use Rattle.qc_promise.specs.SiteEnds.{is_ended, is_final}
-use Rattle.qc_promise.specs.SiteHeld.{Grant, held_shown, holding, is_granted, standing}
-use Rattle.qc_text.specs.Holders.{holders_from, is_holding, is_holder, with_holder, without_holder}
+use Rattle.qc_promise.specs.Lifetimes.{Lifetime}
+use Rattle.qc_promise.specs.SiteHeld.{Grant, held_since_rise, holding, is_granted, standing, with_promise}
+use Rattle.qc_promise.specs.SitePromises.{promises_of}
+use Rattle.qc_promise.proofs.Promises.{either_way, other_promises, promises_by_record, promises_with}
+use Rattle.qc_text.specs.Holders.{holders_from, holders_with, is_holding, is_holder, names_some, with_holder, without_holder}
+use Rattle.qc_text.specs.Lifetimes.{held_in}
 
 -- grants held, by transaction alone
 
@@ -210,10 +217,81 @@ walks (Writes written ∷ ds) gs = walks ds gs
 walks (Sends number to message ∷ ds) gs = walks ds gs
 walks (Tells reply ∷ ds) gs = walks ds gs
 walks (Falls cause pending ∷ ds) gs = walks ds gs
-walks (Rises records ∷ ds) gs = walks ds gs
+walks (Rises kept ∷ ds) gs = walks ds gs
 
--- as many as hold something by what the deeds show
-pub holders_counted : (ds : List Deed) → length (holders_from [] ds) ≡ length (held_shown ds)
-holders_counted ds =
-    ap length (walks ds [] ∙ sym (all_named [] (standing ds)))
-    ∙ length-map (held_shown ds) name
+-- promises of the records of a rise, as if they had been granted
+
+abbrev as_grant : Prepared → Grant
+as_grant p = record { tx = p.tx; want = cond (names_some p) (Read 0 0) Prepare }
+
+held_some : (b : Bool) → is_holding (cond b (Read 0 0) Prepare) ≡ b
+held_some true = refl
+held_some false = refl
+
+promise_named : (held : List Held) (p : Prepared) → map name (with_promise held p) ≡ hold_tx (map name held) (as_grant p)
+promise_named held p =
+    append_named held (record { tx = p.tx; locks = with_locks (held_of held p.tx).locks p.locks; own = with_owns (held_of held p.tx).own p.own }) ((length p.locks == 0) && (length p.own == 0))
+    ∙ ap (λ (b : Bool). cond b (with_holder (map name held) p.tx) (map name held)) (sym (held_some (names_some p)))
+
+promises_named : (held : List Held) (ps : List Prepared) → map name (fold with_promise held ps) ≡ fold hold_tx (map name held) (map as_grant ps)
+promises_named held [] = refl
+promises_named held (p ∷ ps) = promises_named (with_promise held p) ps ∙ ap (λ (v : List TxId). fold hold_tx v (map as_grant ps)) (promise_named held p)
+
+-- those of others, and those that aren't ended
+
+others_granted : (tx : TxId) (ps : List Prepared) → filter (is_other tx) (map as_grant ps) ≡ map as_grant (other_promises ps tx)
+others_granted tx [] = refl
+others_granted tx (p ∷ ps) =
+    ap (λ (b : Bool). cond (not b) (as_grant p ∷ filter (is_other tx) (map as_grant ps)) (filter (is_other tx) (map as_grant ps))) (either_way tx p.tx)
+    ∙ by (same_tx p.tx tx) (others_granted tx ps)
+  where
+    by : (b : Bool) → filter (is_other tx) (map as_grant ps) ≡ map as_grant (other_promises ps tx)
+        → cond (not b) (as_grant p ∷ filter (is_other tx) (map as_grant ps)) (filter (is_other tx) (map as_grant ps)) ≡ map as_grant (cond (not b) (p ∷ other_promises ps tx) (other_promises ps tx))
+    by true rest = rest
+    by false rest = ap (λ (v : List Grant). as_grant p ∷ v) rest
+
+stay_granted : (ds : List Deed) (ps : List Prepared) → filter (stays ds) (map as_grant ps) ≡ map as_grant (filter (λ (p : Prepared). not (is_ended p.tx ds)) ps)
+stay_granted ds [] = refl
+stay_granted ds (p ∷ ps) = by (is_ended p.tx ds) (stay_granted ds ps)
+  where
+    by : (b : Bool) → filter (stays ds) (map as_grant ps) ≡ map as_grant (filter (λ (q : Prepared). not (is_ended q.tx ds)) ps)
+        → cond (not b) (as_grant p ∷ filter (stays ds) (map as_grant ps)) (filter (stays ds) (map as_grant ps))
+        ≡ map as_grant (cond (not b) (p ∷ filter (λ (q : Prepared). not (is_ended q.tx ds)) ps) (filter (λ (q : Prepared). not (is_ended q.tx ds)) ps))
+    by true rest = rest
+    by false rest = ap (λ (v : List Grant). as_grant p ∷ v) rest
+
+-- a record more
+
+abbrev granted_by : List Prepared → List TxId
+granted_by ps = fold hold_tx [] (map as_grant ps)
+
+without_promises : (ps : List Prepared) (tx : TxId) → without_holder (granted_by ps) tx ≡ granted_by (other_promises ps tx)
+without_promises ps tx = dropped tx [] (map as_grant ps) ∙ ap (fold hold_tx []) (others_granted tx ps)
+
+record_more : (ps : List Prepared) (r : Record) → holders_with (granted_by ps) r ≡ granted_by (promises_with ps r)
+record_more ps records.Life = refl
+record_more ps (records.Prepare p) =
+    ap (λ (v : List TxId). cond (names_some p) (with_holder v p.tx) v) (without_promises ps p.tx)
+    ∙ ap (λ (b : Bool). cond b (with_holder (granted_by (other_promises ps p.tx)) p.tx) (granted_by (other_promises ps p.tx))) (sym (held_some (names_some p)))
+    ∙ sym (fold-append hold_tx [] (map as_grant (other_promises ps p.tx)) (as_grant p ∷ []))
+    ∙ ap (fold hold_tx []) (sym (map-append as_grant (other_promises ps p.tx) (p ∷ [])))
+record_more ps (records.Done tx clock) = without_promises ps tx
+record_more ps (records.Close epoch) = refl
+record_more ps (records.Install epoch clock lines) = refl
+record_more ps (records.Commit commit) = refl
+record_more ps (records.Decide epoch clock lines) = refl
+
+records_walked : (ps : List Prepared) (rs : List Record) → fold holders_with (granted_by ps) rs ≡ granted_by (fold promises_with ps rs)
+records_walked ps [] = refl
+records_walked ps (r ∷ rs) = ap (λ (v : List TxId). fold holders_with v rs) (record_more ps r) ∙ records_walked (promises_with ps r) rs
+
+-- as many as hold something in the present life
+pub holders_counted : (l : Lifetime) → length (holders_from (fold holders_with [] l.kept) l.since) ≡ length (held_in l)
+holders_counted l =
+    ap (λ (v : List TxId). length (holders_from v l.since)) (records_walked [] l.kept ∙ ap granted_by (sym (promises_by_record l.kept)))
+    ∙ ap length (walks l.since (map as_grant (promises_of l.kept))
+    ∙ fold-append hold_tx [] (filter (stays l.since) (map as_grant (promises_of l.kept))) (standing l.since)
+    ∙ ap (λ (v : List Grant). fold hold_tx (fold hold_tx [] v) (standing l.since)) (stay_granted l.since (promises_of l.kept))
+    ∙ ap (λ (v : List TxId). fold hold_tx v (standing l.since)) (sym (promises_named [] (filter (λ (p : Prepared). not (is_ended p.tx l.since)) (promises_of l.kept))))
+    ∙ sym (all_named (held_since_rise l.since (promises_of l.kept)) (standing l.since)))
+    ∙ length-map (held_in l) name

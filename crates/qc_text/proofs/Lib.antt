@@ -8,6 +8,7 @@ pub mod Found
 pub mod Alike
 pub mod Granted
 pub mod Recorded
+pub mod Risen
 pub mod Walked
 pub mod Holding
 pub mod SetOf

@@ -5,25 +5,28 @@ use Rattle.std.specs.List.{list_any}
 use Rattle.std.specs.BTreeMap.{is_at}
 use Rattle.qc_stamp.specs.Order.{same_tx, tx_cmp}
 use Rattle.qc_stamp.specs.declared.stamp.TxId.{TxId}
+use Rattle.qc_entry.specs.declared.record.Prepared.{Prepared}
 use Rattle.qc_msg.specs.declared.message.Message.{Message}
 use Rattle.qc_msg.specs.declared.message.Message.TheVariants as messages
 use Rattle.qc_msg.specs.declared.message.Want.{Want}
 use Rattle.qc_msg.specs.declared.message.Want.TheVariants.{Read, Append, Prepare}
+use Rattle.qc_msg.specs.declared.record.Record.{Record}
+use Rattle.qc_msg.specs.declared.record.Record.TheVariants as records
 use Rattle.qc_msg.specs.declared.step.Given.{Given}
 use Rattle.qc_msg.specs.declared.step.Given.TheVariants as given
 use Rattle.qc_msg.specs.Deeds.{Deed, Takes, Writes, Sends, Tells, Falls, Rises}
 use Rattle.qc_promise.specs.SiteEnds.{is_final}
 use Rattle.qc_promise.specs.SiteHeld.{grants, is_granted}
 
--- whether a deed takes an input, and whether it sends the grant of the request of this number
+-- whether a post ends before or with a deed, and whether this sends the grant of the request of this number
 
-abbrev pub is_take : Deed → Bool
-is_take (Takes given) = true
-is_take (Writes written) = false
-is_take (Sends number to message) = false
-is_take (Tells reply) = false
-is_take (Falls cause pending) = false
-is_take (Rises records) = false
+abbrev pub ends_post : Deed → Bool
+ends_post (Takes given) = true
+ends_post (Writes written) = false
+ends_post (Sends number to message) = false
+ends_post (Tells reply) = false
+ends_post (Falls cause pending) = true
+ends_post (Rises records) = true
 
 abbrev pub sends_grant : ℕ → Deed → Bool
 sends_grant number (Takes given) = false
@@ -47,6 +50,23 @@ with_holder txs tx = if is_holder txs tx then txs else txs ++ tx ∷ []
 
 abbrev pub without_holder : List TxId → TxId → List TxId
 without_holder txs tx = filter (λ t. not (same_tx t tx)) txs
+
+-- a record more: what a promise names is held, until a later record redeems it
+
+abbrev pub names_some : Prepared → Bool
+names_some p = not ((length p.locks == 0) && (length p.own == 0))
+
+abbrev pub holders_with : List TxId → Record → List TxId
+holders_with txs records.Life = txs
+holders_with txs (records.Prepare prepared) =
+    if names_some prepared
+    then with_holder (without_holder txs prepared.tx) prepared.tx
+    else without_holder txs prepared.tx
+holders_with txs (records.Done tx clock) = without_holder txs tx
+holders_with txs (records.Close epoch) = txs
+holders_with txs (records.Install epoch clock lines) = []
+holders_with txs (records.Commit commit) = txs
+holders_with txs (records.Decide epoch clock lines) = txs
 
 -- each transaction is there once
 abbrev pub AreOnce : List TxId → Type 0

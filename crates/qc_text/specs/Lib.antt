@@ -8,6 +8,7 @@ pub mod Keys
 pub mod Log
 pub mod States
 pub mod Deeds
+pub mod Lifetimes
 pub mod Records
 pub mod Prepares
 pub mod Views

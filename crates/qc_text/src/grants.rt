@@ -1,26 +1,30 @@
 //! Which requests a site granted, and which transactions hold something by
 //! them.
 
-ghost use Rattle.std.specs.Prelude.{◌≡◌, List, OnOk, IfOk, length, map};
+ghost use Rattle.std.specs.Prelude.{◌≡◌, [], List, OnOk, IfOk, fold, length, map};
 ghost use Rattle.qc_stamp.specs.declared.stamp.TxId.{TxId};
 ghost use Rattle.qc_promise.specs.SiteEnds.{is_final};
-ghost use Rattle.qc_promise.specs.SiteHeld.{held_shown, is_granted};
+ghost use Rattle.qc_promise.specs.SiteHeld.{is_granted};
 ghost use Rattle.qc_text.specs.Deeds.{deed_of};
-ghost use Rattle.qc_text.specs.Holders.{IsSetOf, holders_at, holders_by, is_holding, is_take, sends_grant};
+ghost use Rattle.qc_text.specs.Holders.{IsSetOf, ends_post, holders_at, holders_by, holders_with, is_holding};
+ghost use Rattle.qc_text.specs.Holders.{names_some, sends_grant};
+ghost use Rattle.qc_text.specs.Lifetimes.{held_in, present};
 
 use crate::deeds::{Deed, Letter};
 use crate::holders::Holders;
+use crate::lifetimes::Lifetime;
+use qc_entry::Prepared;
 use qc_list::OutOfMemory;
-use qc_msg::{Answer, Message, Outcome, Want};
+use qc_msg::{Answer, Message, Outcome, Record, Want};
 use std::alloc::Global;
 
-/// Whether the request of this number is granted: one of the messages that are
-/// sent before the next input is taken grants it.
+/// Whether the request of this number is granted: one of the messages of its
+/// post grants it.
 pub(crate) fn is_granted(after: &[Deed<'_>], number: u32) -> bool
     ensures { result ≡ is_granted number (map deed_of after.now) }
 {
     'deeds: for deed in after {
-        if takes(deed) {
+        if ends_post(deed) {
             return false;
         }
         if grants(deed, number) {
@@ -30,14 +34,13 @@ pub(crate) fn is_granted(after: &[Deed<'_>], number: u32) -> bool
     false
 }
 
-/// Whether a deed takes an input.
-fn takes(deed: &Deed<'_>) -> bool
-    ensures { result ≡ is_take (deed_of deed.now) }
+/// Whether a post ends before a deed, or with it.
+fn ends_post(deed: &Deed<'_>) -> bool
+    ensures { result ≡ ends_post (deed_of deed.now) }
 {
     match deed {
-        Deed::Called(_) | Deed::Got(_) | Deed::Lost(_) => true,
-        Deed::Wrote(_) | Deed::Sent { .. } | Deed::Told(_) | Deed::Fell { .. } | Deed::Rose(_) =>
-            false,
+        Deed::Called(_) | Deed::Got(_) | Deed::Lost(_) | Deed::Fell { .. } | Deed::Rose(_) => true,
+        Deed::Wrote(_) | Deed::Sent { .. } | Deed::Told(_) => false,
     }
 }
 
@@ -57,15 +60,58 @@ fn grants(deed: &Deed<'_>, number: u32) -> bool
     }
 }
 
-/// How many transactions hold something at a site after its deeds.
-pub(crate) fn count_holders(alloc: Global, deeds: &[Deed<'_>]) -> Result<u64, OutOfMemory>
-    ensures { IfOk result (λ n. n ≡ length (held_shown (map deed_of deeds.now))) }
+/// How many transactions hold something at a site in its present life.
+pub(crate) fn count_holders(alloc: Global, current: &Lifetime<'_>) -> Result<u64, OutOfMemory>
+    ensures { IfOk result (λ n. n ≡ length (held_in (present current.now))) }
 {
-    let mut holders = Holders::new(alloc);
-    'deeds: for place in 0..deeds.len() {
-        take_deed(&mut holders, &deeds[place], &deeds[place + 1..])?;
+    let mut holders = holders_kept(alloc, current.kept)?;
+    'deeds: for place in 0..current.since.len() {
+        take_deed(
+            &mut holders,
+            &current.since[place],
+            &current.since[place + 1..],
+        )?;
     }
     Ok(holders.count())
+}
+
+/// The transactions whose promises stand among the records of a rise, and name
+/// something.
+fn holders_kept(alloc: Global, kept: &[Record]) -> Result<Holders, OutOfMemory>
+    ensures { IfOk result (λ holders. IsSetOf (fold holders_with [] kept.now) holders) }
+{
+    let mut holders = Holders::new(alloc);
+    'records: for written in kept {
+        take_record(&mut holders, written)?;
+    }
+    Ok(holders)
+}
+
+/// Takes a record of a rise: a promise holds what it names until a later record
+/// redeems it.
+fn take_record(holders: &mut Holders, written: &Record) -> Result<(), OutOfMemory>
+    ensures { OnOk result ((txs : List TxId) → IsSetOf txs holders.old
+        → IsSetOf (holders_with txs written.now) holders.new) }
+{
+    match written {
+        Record::Prepare(prepared) => {
+            holders.remove(prepared.tx);
+            if names_some(prepared) {
+                holders.add(prepared.tx)?;
+            }
+        }
+        Record::Done { tx, .. } => holders.remove(*tx),
+        Record::Install { .. } => holders.clear(),
+        Record::Life | Record::Close { .. } | Record::Commit(_) | Record::Decide { .. } => {}
+    }
+    Ok(())
+}
+
+/// Whether a promise names something to be held.
+fn names_some(prepared: &Prepared) -> bool
+    ensures { result ≡ names_some prepared.now }
+{
+    !(prepared.locks.items().is_empty() && prepared.own.items().is_empty())
 }
 
 /// Takes a deed, with those after it.

@@ -53,6 +53,13 @@ impl Holders {
         let _was_there = self.txs.remove(&tx);
     }
 
+    /// Drops all.
+    pub(crate) fn clear(&mut self)
+        ensures { IsSetOf [] self.new }
+    {
+        self.txs.clear();
+    }
+
     /// How many there are.
     pub(crate) fn count(&self) -> u64
         ensures { (txs : List TxId) → IsSetOf txs self.now → result ≡ length txs }

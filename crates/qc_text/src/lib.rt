@@ -24,6 +24,7 @@ mod deeds;
 mod grants;
 mod holders;
 mod laws;
+mod lifetimes;
 mod lines;
 mod log;
 mod names;

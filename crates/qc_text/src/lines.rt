@@ -1,15 +1,17 @@
-//! The lines that a site's deeds show.
+//! The lines that a site's records and deeds show.
 
 ghost use Rattle.std.specs.Prelude.{◌≡◌, [], List, OnOk, IfOk, MatchOption, map};
 ghost use Rattle.qc_entry.specs.Log.{union};
-ghost use Rattle.qc_msg.specs.Deeds.{Deed as SiteDeed};
-ghost use Rattle.qc_promise.specs.SiteLogs.{done_lines, joining, lines_done, lines_of, log_shown, view_by};
-ghost use Rattle.qc_text.specs.Deeds.{deed_of};
+ghost use Rattle.qc_msg.specs.declared.record.Record.{Record as Written};
+ghost use Rattle.qc_promise.specs.SiteLogs.{done_lines, joining, lines_done, lines_of, recorded_from, view_by, with_given, with_written};
+ghost use Rattle.qc_text.specs.Deeds.{deed_of, envelope_in};
+ghost use Rattle.qc_text.specs.Lifetimes.{log_in, present};
 ghost use Rattle.qc_text.specs.Prepares.{AreLast};
 ghost use Rattle.qc_text.specs.Views.{view_asked};
 
 use crate::deeds::{Deed, Letter};
 use crate::grants::is_granted;
+use crate::lifetimes::Lifetime;
 use crate::prepares::Prepares;
 use qc_entry::{Line, Log, OwnLine};
 use qc_list::OutOfMemory;
@@ -17,22 +19,75 @@ use qc_msg::{Message, Record, Want};
 use qc_stamp::{Stamp, TxId};
 use std::alloc::Global;
 
-/// The log that a site's deeds show.
-pub(crate) fn log_of(alloc: Global, deeds: &[Deed<'_>]) -> Result<Log, OutOfMemory>
-    ensures { IfOk result (λ log. log ≡ log_shown (map deed_of deeds.now)) }
+/// The log of a site in its present life.
+pub(crate) fn log_of(alloc: Global, current: &Lifetime<'_>) -> Result<Log, OutOfMemory>
+    ensures { IfOk result (λ log. log ≡ log_in (present current.now)) }
 {
     let mut log = Log::new(alloc)?;
     let mut prepares = Prepares::new(alloc);
-    'deeds: for place in 0..deeds.len() {
-        let (deed, after) = (&deeds[place], &deeds[place + 1..]);
+    give_all(alloc, &mut log, &mut prepares, current.kept)?;
+    'deeds: for place in 0..current.since.len() {
+        let (deed, after) = (&current.since[place], &current.since[place + 1..]);
         join(alloc, &mut log, &prepares, deed, after)?;
-        prepares.take(deed)?;
+        take_written(&mut prepares, deed)?;
     }
     Ok(log)
 }
 
-/// Adds the lines that a deed gives the log, among those before it, of which
-/// the last Prepares are known, and those after it.
+/// Adds the lines that the records of a rise give, and takes their Prepares.
+fn give_all<'a>(
+    alloc: Global,
+    log: &mut Log,
+    prepares: &mut Prepares<'a>,
+    kept: &'a [Record],
+) -> Result<(), OutOfMemory>
+    requires { AreLast prepares.old [] }
+    ensures given { OnOk result (log.new ≡ recorded_from log.old [] kept.now) }
+    ensures last { OnOk result (AreLast prepares.new kept.now) }
+{
+    'records: for written in kept {
+        give(alloc, log, prepares, written)?;
+        prepares.take(written)?;
+    }
+    Ok(())
+}
+
+/// Adds the lines that a record gives; those of an Install take the place of
+/// all before.
+#[tactic(auto, using(crate::proofs::Recorded::union_none))]
+fn give(
+    alloc: Global,
+    log: &mut Log,
+    prepares: &Prepares<'_>,
+    written: &Record,
+) -> Result<(), OutOfMemory>
+    ensures { OnOk result ((before : List Written) → AreLast prepares.now before
+        → log.new ≡ with_given log.old before written.now) }
+{
+    match written {
+        Record::Prepare(prepared) => log.merge(&prepared.lines),
+        Record::Done { tx, clock } => join_done(alloc, log, prepares, *tx, *clock),
+        Record::Install { lines, .. } => {
+            *log = lines.copy()?;
+            Ok(())
+        }
+        Record::Life | Record::Close { .. } | Record::Commit(_) | Record::Decide { .. } => Ok(()),
+    }
+}
+
+/// Takes the record that a deed writes, if it writes one.
+fn take_written<'a>(prepares: &mut Prepares<'a>, deed: &Deed<'a>) -> Result<(), OutOfMemory>
+    ensures { OnOk result ((before : List Written) → AreLast prepares.old before
+        → AreLast prepares.new (with_written before (deed_of deed.now))) }
+{
+    match deed {
+        Deed::Wrote(written) => prepares.take(written),
+        _ => Ok(()),
+    }
+}
+
+/// Adds the lines that a deed gives the log, after records of which the last
+/// Prepares are known, and among the deeds after it.
 #[tactic(auto, using(crate::proofs::Recorded::union_none))]
 fn join(
     alloc: Global,
@@ -41,7 +96,7 @@ fn join(
     deed: &Deed<'_>,
     after: &[Deed<'_>],
 ) -> Result<(), OutOfMemory>
-    ensures { OnOk result ((before : List SiteDeed) → AreLast prepares.now before
+    ensures { OnOk result ((before : List Written) → AreLast prepares.now before
         → log.new ≡ union log.old (joining before (deed_of deed.now) (map deed_of after.now))) }
 {
     match deed {
@@ -59,7 +114,7 @@ fn join(
 /// Adds the view of an Append, where it is granted.
 fn join_view(log: &mut Log, letter: &Letter<'_>, after: &[Deed<'_>]) -> Result<(), OutOfMemory>
     ensures { OnOk result (log.new
-        ≡ union log.old (view_by letter.now.number letter.now.message.now (map deed_of after.now))) }
+        ≡ union log.old (view_by (map deed_of after.now) (envelope_in letter.now))) }
 {
     if let Some(view) = view_asked(letter.message) {
         if is_granted(after, letter.number) {
@@ -90,7 +145,7 @@ fn join_written(
     prepares: &Prepares<'_>,
     written: &Record,
 ) -> Result<(), OutOfMemory>
-    ensures { OnOk result ((before : List SiteDeed) → AreLast prepares.now before
+    ensures { OnOk result ((before : List Written) → AreLast prepares.now before
         → log.new ≡ union log.old (lines_done before written.now)) }
 {
     match written {
@@ -113,8 +168,8 @@ fn join_done(
     tx: TxId,
     clock: u64,
 ) -> Result<(), OutOfMemory>
-    ensures { OnOk result ((before : List SiteDeed) → AreLast prepares.now before
-        → log.new ≡ union log.old (done_lines before tx clock)) }
+    ensures { OnOk result ((before : List Written) → AreLast prepares.now before
+        → log.new ≡ union log.old (done_lines before (record { tx = tx; clock = clock }))) }
 {
     if let Some(prepared) = prepares.of(tx) {
         let stamp = Stamp {

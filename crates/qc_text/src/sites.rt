@@ -6,6 +6,7 @@ ghost use Rattle.qc_text.specs.Sites.{down_after, down_by, is_down, shown_text, 
 
 use crate::deeds::{Deed, deeds_of};
 use crate::grants::count_holders;
+use crate::lifetimes::lifetime_of;
 use crate::lines::log_of;
 use crate::page::{Page, Piece};
 use crate::records::{epoch_of, life_of};
@@ -96,13 +97,14 @@ fn down_after(down: bool, step: &Step) -> bool
 fn put_shown(page: &mut Page, alloc: Global, deeds: &[Deed<'_>]) -> Result<(), OutOfMemory>
     ensures { OnOk result (page.new ≡ page.old ++ shown_text (map deed_of deeds.now)) }
 {
-    let log = log_of(alloc, deeds)?;
-    let held = count_holders(alloc, deeds)?;
+    let current = lifetime_of(deeds);
+    let log = log_of(alloc, &current)?;
+    let held = count_holders(alloc, &current)?;
     page.put_all(&[
         Piece::Words(" life "),
-        Piece::Number(life_of(deeds)),
+        Piece::Number(life_of(&current)),
         Piece::Words(" epoch "),
-        Piece::Number(epoch_of(deeds) as u64),
+        Piece::Number(epoch_of(&current) as u64),
         Piece::Words(" lines "),
         Piece::Number(log.lines().len() as u64),
         Piece::Words(" held "),

@@ -29,7 +29,7 @@ module _ (decl : Declaration) (script : Script) (ready : IsRunnable decl script)
   run_atomic = is_atomic decl script h run.0 ready.accepted ready.declared run.1
 
   pub run_due : Due decl h
-  run_due = all_is_due decl script h run.0 run.1
+  run_due = all_is_due decl script h run.0 run.1 ready.accepted (asks_declared decl script ready.accepted ready.declared)
 
   pub run_known : AreStatesKnown decl h
   run_known = (replay_copies decl (committed decl h)).1 run_atomic.one_copy

@@ -98,7 +98,7 @@ busy_taken d running (given.Got e) b = record { command = ap is_some (heard_comm
 busy_taken d running (given.Lost n) b = record { command = ap is_some (counted_command d n None) ∙ b.command; requests = λ q among. let f : IsFrom d q = counted_from d n None q among in b.requests f.old f.among }
 
 busy_written : (d : Account) (running : Bool) (w : Record) → IsBusy d running → IsBusy (account_written d w) running
-busy_written d running records.Life b = b
+busy_written d running records.Life b = record { command = b.command; requests = b.requests }
 busy_written d running (records.Prepare prepared) b = b
 busy_written d running (records.Done tx clock) b = b
 busy_written d running (records.Close epoch) b = b

@@ -32,7 +32,7 @@ use Rattle.qc_laws.proofs.Acted.{run_acts}
 use Rattle.qc_promise.specs.Account.{Account, ClientRequest, Current, is_prepare, requests_for}
 use Rattle.qc_promise.specs.Accounting.{account}
 use Rattle.qc_promise.specs.Rounds.{against, are_votes_in, first_against}
-use Rattle.qc_promise.specs.Rows.{commit_row, due, next_stamp, row_of, vote_row}
+use Rattle.qc_promise.specs.Rows.{commit_row, running_row, next_stamp, row_of, vote_row}
 use Rattle.qc_account.proofs.Courses.{turns_tell}
 use Rattle.qc_account.proofs.Declared.{asks_declared}
 use Rattle.qc_guarantees.proofs.Counted.{counted_remembered}
@@ -72,7 +72,7 @@ nobody_against : (qs : List ClientRequest) → ((q : ClientRequest) → In q qs 
 nobody_against [] all = refl
 nobody_against (q ∷ qs) all = ap (λ (o : Option Why). option_or o (first_against qs)) (all q (inl refl)) ∙ nobody_against qs (λ p among. all p (inr among))
 
-committed_row : (d : Account) (r : Reply) (votes : Bool) (o : Option Why) → o ≡ None → cond votes (vote_row d [] o) None ≡ Some r → IsCommitted r
+committed_row : (d : Account) (r : Reply) (votes : Bool) (o : Option Why) → o ≡ None → cond votes (vote_row d false o) None ≡ Some r → IsCommitted r
 committed_row d r false o free is = absurd (let never : ⊥ = cc in never)
 committed_row d r true None free is = subst IsCommitted (let same : replies.Committed (next_stamp d) ≡ r = cc in same) tt
 committed_row d r true (Some why) free is = absurd (let never : ⊥ = cc in never)
@@ -90,7 +90,7 @@ module _ (decl : Declaration) (script : Script) (accepted : IsAccepted decl) (as
       acts : ActsIn decl b older true
       acts = run_acts decl script older before run b true is_opened
 
-      due_now : due decl (account decl b older) [] ≡ Some r
+      due_now : running_row decl (account decl b older) false ≡ Some r
       due_now = sym (turns_tell decl b named (deeds b [] older) acts.above turn acts.acts lawful) ∙ told
 
       free : first_against (requests_for is_prepare (account decl b older)) ≡ None
@@ -106,9 +106,9 @@ module _ (decl : Declaration) (script : Script) (accepted : IsAccepted decl) (as
       at (Some t) current (Some commands.Begin) command = tt
       at (Some t) current (Some (commands.Do object inv)) command = tt
       at (Some t) current (Some commands.Commit) command = λ live.
-          let row : commit_row decl (account decl b older) [] t ≡ Some r = (λ i. option_and_then (row_of decl (account decl b older) [] (sym current i)) (sym command i)) ∙ due_now in
-          let voted : cond (are_votes_in decl (account decl b older) t) (vote_row (account decl b older) [] (first_against (requests_for is_prepare (account decl b older)))) None ≡ Some r =
-          ap (λ (x : Bool). cond x (Some (replies.Aborted causes.Doomed)) (cond (are_votes_in decl (account decl b older) t) (vote_row (account decl b older) [] (first_against (requests_for is_prepare (account decl b older)))) None)) (sym live) ∙ row in
+          let row : commit_row decl (account decl b older) false t ≡ Some r = (λ i. option_and_then (row_of decl (account decl b older) false (sym current i)) (sym command i)) ∙ due_now in
+          let voted : cond (are_votes_in decl (account decl b older) t) (vote_row (account decl b older) false (first_against (requests_for is_prepare (account decl b older)))) None ≡ Some r =
+          ap (λ (x : Bool). cond x (Some (replies.Aborted causes.Doomed)) (cond (are_votes_in decl (account decl b older) t) (vote_row (account decl b older) false (first_against (requests_for is_prepare (account decl b older)))) None)) (sym live) ∙ row in
           committed_row (account decl b older) r (are_votes_in decl (account decl b older) t) (first_against (requests_for is_prepare (account decl b older))) free voted
       at (Some t) current (Some commands.Abort) command = tt
       at (Some t) current (Some (commands.Epoch number)) command = tt

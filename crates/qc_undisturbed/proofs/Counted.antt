@@ -36,8 +36,8 @@ use Rattle.qc_laws.proofs.Acted.{deeds-silent}
 use Rattle.qc_laws.proofs.Arrivals.{what_is_ready_was_sent}
 use Rattle.qc_laws.proofs.Covered.{ready_loss}
 use Rattle.qc_laws.proofs.Numbered.{AreNumbered, control_silent, phase_silent, run_numbered}
-use Rattle.qc_promise.specs.Account.{Account, ClientRequest, Current, new_account}
-use Rattle.qc_promise.specs.Accounting.{account, account_at, account_heard, account_sent, account_taken, account_written, counted, counted_for, is_open, taken_for}
+use Rattle.qc_promise.specs.Account.{Account, account_with, ClientRequest, Current, new_account}
+use Rattle.qc_promise.specs.Accounting.{account, account_at, account_fallen, account_heard, account_sent, account_taken, account_written, counted, counted_for, is_open, taken_for}
 use Rattle.qc_promise.specs.Asked.{is_asked_for}
 use Rattle.qc_records.proofs.Bounding.{turn-posts}
 use Rattle.qc_records.proofs.ClientsWithin.{IsPost}
@@ -121,8 +121,8 @@ lost_from decl d (Takes (given.Lost n) ∷ ds) all none = absurd all.0
 lost_from decl d (Writes w ∷ ds) all none = lost_from decl (account_written d w) ds all.1 (written_lost d w none)
 lost_from decl d (Sends n to m ∷ ds) all none = lost_from decl (account_sent decl d n to m) ds all.1 (sent_lost decl d n to m none)
 lost_from decl d (Tells r ∷ ds) all none = lost_from decl (account_at decl d (Tells r)) ds all.1 (λ q never is. never)
-lost_from decl d (Falls cause pending ∷ ds) all none = lost_from decl d ds all.1 none
-lost_from decl d (Rises records ∷ ds) all none = lost_from decl d ds all.1 none
+lost_from decl d (Falls cause pending ∷ ds) all none = lost_from decl (account_fallen d) ds all.1 (λ q never is. never)
+lost_from decl d (Rises kept ∷ ds) all none = lost_from decl (account_with d.client kept) ds all.1 (λ q never is. never)
 
 post_lost : (ds : List Deed) → Every IsPost ds → Every IsNoLoss ds
 post_lost [] all = tt

@@ -25,7 +25,7 @@ use Rattle.qc_laws.specs.Turns.{ActsIn}
 use Rattle.qc_laws.proofs.Acted.{others_do_nothing, run_acts}
 use Rattle.qc_promise.specs.Account.{Current, new_account}
 use Rattle.qc_promise.specs.Accounting.{account, account_at}
-use Rattle.qc_promise.specs.Rows.{do_row, due, row_of}
+use Rattle.qc_promise.specs.Rows.{do_row, running_row, row_of}
 use Rattle.qc_account.proofs.Courses.{turns_tell}
 use Rattle.qc_undisturbed.specs.Elsewhere.{IsOpenElsewhere, begun_by, name_of}
 use Rattle.qc_undisturbed.specs.Succeeds.{DoOf, DoSucceeds, DosSucceed, EachReply, IsDone, OfRunning}
@@ -129,7 +129,7 @@ module _ (decl : Declaration) (script : Script) (accepted : IsAccepted decl) (as
       acts : ActsIn decl b older true
       acts = run_acts decl script older before run b true is_opened
 
-      due_now : due decl (account decl b older) [] ≡ Some r
+      due_now : running_row decl (account decl b older) false ≡ Some r
       due_now = sym (turns_tell decl b named (deeds b [] older) acts.above turn acts.acts lawful) ∙ told
 
       at : (o : Option Current) → (account decl b older).current ≡ o → (c : Option Command) → (account decl b older).command ≡ c → OfRunning (DoOf decl (older ++ by b (posted (length (mail older)) (untold turn))) b r) o c
@@ -138,7 +138,7 @@ module _ (decl : Declaration) (script : Script) (accepted : IsAccepted decl) (as
       at (Some t) current (Some commands.Begin) command = tt
       at (Some t) current (Some (commands.Do object inv)) command = λ live room.
           let row : do_row decl (account decl b older) t object inv ≡ Some r =
-          (λ i. option_and_then (row_of decl (account decl b older) [] (sym current i)) (sym command i)) ∙ due_now in
+          (λ i. option_and_then (row_of decl (account decl b older) false (sym current i)) (sym command i)) ∙ due_now in
           let busy : IsBusy (account decl b older) (is_running (deeds b [] older)) = is_busy decl (b - decl.sites) (deeds b [] older) (run_up (IsLawful decl) decl script older before run b) in
           done older before run b named turn (sym busy.command ∙ ap (λ (c : Option Command). is_some c) command) r (row_good decl script accepted asks calm older before run b named is_opened t current object inv r live room row)
       at (Some t) current (Some commands.Commit) command = tt

@@ -27,8 +27,8 @@ use Rattle.qc_msg.specs.declared.step.Given.{Given}
 use Rattle.qc_msg.specs.declared.step.Given.TheVariants as given
 use Rattle.qc_msg.specs.Begun.{first_epoch, has_granted, life_of, with_life}
 use Rattle.qc_msg.specs.Deeds.{Deed, Takes, Writes, Sends, Tells, Falls, Rises}
-use Rattle.qc_promise.specs.Account.{Account, ClientRequest, Current, is_append, new_account, requests_for}
-use Rattle.qc_promise.specs.Accounting.{account_at, account_heard, account_sent, account_taken, account_told, account_told_in, account_written, counted, counted_for, doomed_if, found_absent, granted, is_open, lived, promised, refused, responded, short_of, taken_for, told_by, with_absent, with_current, with_read, with_response}
+use Rattle.qc_promise.specs.Account.{Account, account_with, ClientRequest, Current, is_append, new_account, requests_for}
+use Rattle.qc_promise.specs.Accounting.{account_at, account_fallen, account_heard, account_sent, account_taken, account_told, account_told_in, account_written, counted, counted_for, doomed_if, found_absent, granted, is_open, lived, promised, refused, responded, short_of, taken_for, told_by, with_absent, with_current, with_read, with_response}
 use Rattle.qc_promise.specs.Asked.{command_asks, is_asked_for, is_of}
 use Rattle.qc_promise.specs.Rounds.{answer_of}
 use Rattle.qc_account.specs.DeedsDue.{AreDeedsDue, IsSendDue}
@@ -123,7 +123,7 @@ taken_first d (given.Lost number) first f = counted_first d number None tt f
 -- what is written, sent and told
 
 written_first : (d : Account) (w : Record) → IsFirstAccount d → IsFirstAccount (account_written d w)
-written_first d records.Life f = f
+written_first d records.Life f = record { known = f.known; current = f.current }
 written_first d (records.Prepare prepared) f = f
 written_first d (records.Done tx clock) f = f
 written_first d (records.Close epoch) f = f
@@ -269,8 +269,8 @@ deeds_first decl d (Takes g ∷ ds) f due all = (tt, deeds_first decl (account_t
 deeds_first decl d (Writes w ∷ ds) f due all = (tt, deeds_first decl (account_written d w) ds (written_first d w f) due.1 all.1)
 deeds_first decl d (Sends n to m ∷ ds) f due all = (sent_is decl d to m f due.0, deeds_first decl (account_sent decl d n to m) ds (sent_first decl d n to m f) due.1 all.1)
 deeds_first decl d (Tells r ∷ ds) f due all = (tt, deeds_first decl (account_told decl d r) ds (reply_first decl d r f) due.1 all.1)
-deeds_first decl d (Falls cause pending ∷ ds) f due all = (tt, deeds_first decl d ds f due.1 all.1)
-deeds_first decl d (Rises records ∷ ds) f due all = (tt, deeds_first decl d ds f due.1 all.1)
+deeds_first decl d (Falls cause pending ∷ ds) f due all = absurd due.0
+deeds_first decl d (Rises kept ∷ ds) f due all = absurd due.0
 
 pub account_first : (decl : Declaration) (d : Account) (ds : List Deed) → IsFirstAccount d → Every TakesFirst ds → IsFirstAccount (fold (account_at decl) d ds)
 account_first decl d [] f all = f
@@ -278,8 +278,8 @@ account_first decl d (Takes g ∷ ds) f all = account_first decl (account_taken 
 account_first decl d (Writes w ∷ ds) f all = account_first decl (account_written d w) ds (written_first d w f) all.1
 account_first decl d (Sends n to m ∷ ds) f all = account_first decl (account_sent decl d n to m) ds (sent_first decl d n to m f) all.1
 account_first decl d (Tells r ∷ ds) f all = account_first decl (account_told decl d r) ds (reply_first decl d r f) all.1
-account_first decl d (Falls cause pending ∷ ds) f all = account_first decl d ds f all.1
-account_first decl d (Rises records ∷ ds) f all = account_first decl d ds f all.1
+account_first decl d (Falls cause pending ∷ ds) f all = account_first decl (account_fallen d) ds (record { known = f.known; current = tt }) all.1
+account_first decl d (Rises kept ∷ ds) f all = account_first decl (account_with d.client kept) ds (record { known = refl; current = tt }) all.1
 
 pub new_first : (client : ℕ) → IsFirstAccount (new_account client)
 new_first client = record { known = refl; current = tt }

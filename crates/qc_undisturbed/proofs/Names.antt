@@ -96,7 +96,7 @@ pub stays_on : (d e f : Account) → Stays d e → Stays e f → Stays d f
 stays_on d e f first second = record { current = second.current ∙ first.current; command = second.command ∙ first.command }
 
 written_stays : (d : Account) (w : Record) → Stays d (account_written d w)
-written_stays d records.Life = stayed d
+written_stays d records.Life = record { current = refl; command = refl }
 written_stays d (records.Prepare prepared) = stayed d
 written_stays d (records.Done tx clock) = stayed d
 written_stays d (records.Close epoch) = stayed d

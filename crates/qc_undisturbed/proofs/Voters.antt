@@ -9,7 +9,8 @@ use Rattle.qc_stamp.specs.declared.stamp.TxId.{TxId}
 use Rattle.qc_entry.specs.declared.line.Line.{Line}
 use Rattle.qc_decl.specs.Actors.{first_site}
 use Rattle.qc_decl.specs.declared.declaration.Declaration.{Declaration}
-use Rattle.qc_plan.specs.Round.{cyclic, first, weighing}
+use Rattle.qc_decl.specs.Lookup.{read_need_of}
+use Rattle.qc_plan.specs.Round.{cyclic, first, may_ask, weighing}
 use Rattle.qc_msg.specs.declared.message.Answer.{Answer}
 use Rattle.qc_msg.specs.declared.message.Answer.TheVariants as answers
 use Rattle.qc_msg.specs.declared.message.Message.{Message}
@@ -25,8 +26,8 @@ use Rattle.qc_msg.specs.declared.step.Given.TheVariants as given
 use Rattle.qc_msg.specs.Deeds.{Deed, Takes, Writes, Sends, Tells, Falls, Rises}
 use Rattle.qc_promise.specs.Account.{Account, ClientRequest, Current, is_append, is_read, new_account, requests_for}
 use Rattle.qc_promise.specs.Accounting.{account_at, account_heard, account_sent, account_taken, account_written, counted, counted_for, granted, is_open, lived, promised, taken_for, told_by, with_current, with_read}
-use Rattle.qc_promise.specs.Asked.{are_reads_met, carries, command_asks, commit_asks, do_asks, is_asked_for, is_next_voter, is_of, is_this}
-use Rattle.qc_promise.specs.Rounds.{answer_of, asked_by, weights_of}
+use Rattle.qc_promise.specs.Asked.{append_need, are_reads_met, carries, command_asks, commit_asks, do_asks, is_asked_for, is_next_voter, is_of, is_this}
+use Rattle.qc_promise.specs.Rounds.{answer_of, asked_by, round_of, weights_of}
 use Rattle.qc_account.specs.DeedsDue.{AreDeedsDue, IsSendDue}
 use Rattle.qc_guarantees.proofs.Accounts.{told_requests}
 
@@ -159,26 +160,39 @@ pub data IsHalf : (Want → Bool) → Type 0 where
   of_reads : IsHalf is_read
   of_appends : IsHalf is_append
 
+-- the first of the sites that a half hasn't asked
+abbrev is_left_first : Declaration → Account → Current → (Want → Bool) → ℕ → Bool
+is_left_first decl d t half site = is_this site (first (round_of decl d t half 0).rest)
+
 module _ (decl : Declaration) where
-  do_next : (half : Want → Bool) → IsHalf half → (d : Account) (t : Current) (object inv site : ℕ) (want : Want) → half want ≡ true → do_asks decl d t object inv site want ≡ true → is_next_voter decl d t half site ≡ true
+  left_first : (d : Account) (t : Current) (half : Want → Bool) (need site : ℕ) → is_next_voter decl d t half need site ≡ true → is_left_first decl d t half site ≡ true
+  left_first d t half need site is = by (may_ask (round_of decl d t half need)) is
+    where
+      by : (b : Bool) → is_this site (cond b (first (round_of decl d t half need).rest) None) ≡ true → is_left_first decl d t half site ≡ true
+      by true next = next
+      by false next = absurd (let never : ⊥ = cc in never)
+
+  do_next : (half : Want → Bool) → IsHalf half → (d : Account) (t : Current) (object inv site : ℕ) (want : Want) → half want ≡ true → do_asks decl d t object inv site want ≡ true → is_left_first decl d t half site ≡ true
   do_next half of_reads d t object inv site (Read o i) its is =
-      first_of_two (is_next_voter decl d t is_read site) (length (requests_for is_append d) == 0)
-      (second_of_two ((o == object) && (i == inv)) (is_next_voter decl d t is_read site && (length (requests_for is_append d) == 0)) is)
+      left_first d t is_read (read_need_of decl t.epoch object inv) site
+      (first_of_two (is_next_voter decl d t is_read (read_need_of decl t.epoch object inv) site) (length (requests_for is_append d) == 0)
+      (second_of_two ((o == object) && (i == inv)) (is_next_voter decl d t is_read (read_need_of decl t.epoch object inv) site && (length (requests_for is_append d) == 0)) is))
   do_next half of_reads d t object inv site (Append o view own) its is = absurd (let never : ⊥ = cc in never)
   do_next half of_reads d t object inv site Prepare its is = absurd (let never : ⊥ = cc in never)
   do_next half of_appends d t object inv site (Read o i) its is = absurd (let never : ⊥ = cc in never)
   do_next half of_appends d t object inv site (Append o view own) its is =
-      first_of_two (is_next_voter decl d t is_append site) (are_reads_met decl d t object inv)
-      (second_of_two ((o == object) && carries decl t object view own (answer_of decl t object inv)) (is_next_voter decl d t is_append site && are_reads_met decl d t object inv) is)
+      left_first d t is_append (append_need decl t object inv) site
+      (first_of_two (is_next_voter decl d t is_append (append_need decl t object inv) site) (are_reads_met decl d t object inv)
+      (second_of_two ((o == object) && carries decl t object view own (answer_of decl t object inv)) (is_next_voter decl d t is_append (append_need decl t object inv) site && are_reads_met decl d t object inv) is))
   do_next half of_appends d t object inv site Prepare its is = absurd (let never : ⊥ = cc in never)
 
-  command_next : (half : Want → Bool) → IsHalf half → (d : Account) (t : Current) (site : ℕ) (want : Want) (o : Option Command) → half want ≡ true → command_asks decl d t site want o ≡ true → is_next_voter decl d t half site ≡ true
+  command_next : (half : Want → Bool) → IsHalf half → (d : Account) (t : Current) (site : ℕ) (want : Want) (o : Option Command) → half want ≡ true → command_asks decl d t site want o ≡ true → is_left_first decl d t half site ≡ true
   command_next half is_half d t site want None its is = absurd (let never : ⊥ = cc in never)
   command_next half is_half d t site want (Some commands.Begin) its is = absurd (let never : ⊥ = cc in never)
   command_next half is_half d t site want (Some (commands.Do object inv)) its is = do_next half is_half d t object inv site want its is
   command_next half is_half d t site want (Some commands.Commit) its is = none half is_half want its is
     where
-      none : (half : Want → Bool) → IsHalf half → (want : Want) → half want ≡ true → commit_asks decl d t site want ≡ true → is_next_voter decl d t half site ≡ true
+      none : (half : Want → Bool) → IsHalf half → (want : Want) → half want ≡ true → commit_asks decl d t site want ≡ true → is_left_first decl d t half site ≡ true
       none half of_reads (Read o i) its now = absurd (let never : ⊥ = cc in never)
       none half of_reads (Append o view own) its now = absurd (let never : ⊥ = cc in never)
       none half of_reads Prepare its now = absurd (let never : ⊥ = cc in never)
@@ -199,12 +213,12 @@ module _ (decl : Declaration) where
           ≡ filter (λ (q : ClientRequest). half q.want) d.requests ++ cond (half want) (record { number = n; site = to; life = life; want = want; taken = None } ∷ []) []
       split = filter-append (λ (q : ClientRequest). half q.want) d.requests (record { number = n; site = to; life = life; want = want; taken = None } ∷ [])
 
-      next : half want ≡ true → (t : Current) → d.current ≡ Some t → is_next_voter decl d t half to ≡ true
+      next : half want ≡ true → (t : Current) → d.current ≡ Some t → is_left_first decl d t half to ≡ true
       next its t current =
           let now : option_map_or (λ (t : Current). is_of t to tx epoch life && command_asks decl d t to want d.command) (Some t) false ≡ true = ap (λ (o : Option Current). option_map_or (λ (t : Current). is_of t to tx epoch life && command_asks decl d t to want d.command) o false) (sym current) ∙ due in
           command_next half is_half d t to want d.command its (second_of_two (is_of t to tx epoch life) (command_asks decl d t to want d.command) now)
 
-      voter : (t : Current) → d.current ≡ Some t → t.epoch ≡ e → is_next_voter decl d t half to ≡ true → is_this to (first (drop (count_in half d.requests) (order decl d.client e))) ≡ true
+      voter : (t : Current) → d.current ≡ Some t → t.epoch ≡ e → is_left_first decl d t half to ≡ true → is_this to (first (drop (count_in half d.requests) (order decl d.client e))) ≡ true
       voter t current at voted =
           (λ i. is_this to (first (drop (sym (length-map (filter (λ (q : ClientRequest). half q.want) d.requests) asked_by) i) (order decl d.client (sym at i))))) ∙ voted
 
@@ -247,8 +261,8 @@ module _ (decl : Declaration) where
   order_from half is_half d (Writes w ∷ ds) due old = order_from half is_half (account_written d w) ds due.1 (written_order decl half d w old)
   order_from half is_half d (Sends n to m ∷ ds) due old = order_from half is_half (account_sent decl d n to m) ds due.1 (sent_order half is_half d n to m due.0 old)
   order_from half is_half d (Tells r ∷ ds) due old = order_from half is_half (account_at decl d (Tells r)) ds due.1 (λ e is. refl)
-  order_from half is_half d (Falls cause pending ∷ ds) due old = order_from half is_half d ds due.1 old
-  order_from half is_half d (Rises records ∷ ds) due old = order_from half is_half d ds due.1 old
+  order_from half is_half d (Falls cause pending ∷ ds) due old = absurd due.0
+  order_from half is_half d (Rises kept ∷ ds) due old = absurd due.0
 
   pub in_order : (half : Want → Bool) → IsHalf half → (client : ℕ) (ds : List Deed) → AreDeedsDue decl (new_account client) ds → IsInOrder decl half (fold (account_at decl) (new_account client) ds)
   in_order half is_half client ds due = order_from half is_half (new_account client) ds due (λ e is. refl)

@@ -1,39 +1,41 @@
 -- Rows that those histories and the random ones don't have: their replies are due.
 use Rattle.std.proofs.Common.{[], refl}
 use Rattle.qc_decl.specs.One.{three}
+use Rattle.qc_msg.specs.Deeds.{deeds}
 use Rattle.qc_promise.specs.Due.{Due}
 use Rattle.qc_promise.specs.Replies.{AreRepliesDue}
+use Rattle.tests_due.proofs.Owed.{all_due_where_shown}
 use Rattle.tests_due.proofs.Owed.{due_where_shown}
 use Rattle.tests_due.proofs.Sites.{sites_due_where_posted}
 use Rattle.tests_due.specs.LaterRows as later_rows
 use Rattle.tests_due.specs.LongTransaction as long_transaction
 
-pub closed_reading_due : AreRepliesDue three [] later_rows.closed_reading
-closed_reading_due = due_where_shown three [] later_rows.closed_reading refl
+pub closed_reading_due : AreRepliesDue three 0 (deeds 3 [] later_rows.closed_reading)
+closed_reading_due = due_where_shown three 0 (deeds 3 [] later_rows.closed_reading) refl
 
-pub closed_appending_due : AreRepliesDue three [] later_rows.closed_appending
-closed_appending_due = due_where_shown three [] later_rows.closed_appending refl
+pub closed_appending_due : AreRepliesDue three 0 (deeds 3 [] later_rows.closed_appending)
+closed_appending_due = due_where_shown three 0 (deeds 3 [] later_rows.closed_appending) refl
 
-pub closed_vote_due : AreRepliesDue three [] later_rows.closed_vote
-closed_vote_due = due_where_shown three [] later_rows.closed_vote refl
+pub closed_vote_due : AreRepliesDue three 0 (deeds 3 [] later_rows.closed_vote)
+closed_vote_due = due_where_shown three 0 (deeds 3 [] later_rows.closed_vote) refl
 
-pub restarted_due : AreRepliesDue three [] later_rows.restarted
-restarted_due = due_where_shown three [] later_rows.restarted refl
+pub restarted_due : AreRepliesDue three 0 (deeds 3 [] later_rows.restarted)
+restarted_due = due_where_shown three 0 (deeds 3 [] later_rows.restarted) refl
 
-pub fault_due : AreRepliesDue three [] later_rows.fault
-fault_due = due_where_shown three [] later_rows.fault refl
+pub fault_due : AreRepliesDue three 0 (deeds 3 [] later_rows.fault)
+fault_due = due_where_shown three 0 (deeds 3 [] later_rows.fault) refl
 
-pub forgotten_due : AreRepliesDue three [] later_rows.forgotten
-forgotten_due = due_where_shown three [] later_rows.forgotten refl
+pub forgotten_due : AreRepliesDue three 0 (deeds 3 [] later_rows.forgotten)
+forgotten_due = due_where_shown three 0 (deeds 3 [] later_rows.forgotten) refl
 
-pub left_behind_due : AreRepliesDue three [] later_rows.left_behind
-left_behind_due = due_where_shown three [] later_rows.left_behind refl
+pub left_behind_due : AreRepliesDue three 0 (deeds 3 [] later_rows.left_behind)
+left_behind_due = due_where_shown three 0 (deeds 3 [] later_rows.left_behind) refl
 
-pub unknown_due : AreRepliesDue three [] later_rows.unknown
-unknown_due = due_where_shown three [] later_rows.unknown refl
+pub unknown_due : AreRepliesDue three 0 (deeds 3 [] later_rows.unknown)
+unknown_due = due_where_shown three 0 (deeds 3 [] later_rows.unknown) refl
 
 pub too_long_due : Due three long_transaction.too_long
 too_long_due = record {
-  replies = due_where_shown three [] long_transaction.too_long refl;
+  replies = all_due_where_shown three long_transaction.too_long three.clients refl;
   sites = sites_due_where_posted three long_transaction.too_long three.sites refl;
 }

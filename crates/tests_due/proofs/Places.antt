@@ -1,22 +1,30 @@
--- What is due at one place of a history, and parts by which replies and records are told apart.
-use Rattle.std.proofs.Common.{ℕ, zero, suc, List, [], ◌∷◌, ◌++◌, length, Option, Some, None}
+-- What is due of one deed of a client, and parts by which replies and records are told apart.
+use Rattle.std.proofs.Common.{ℕ, zero, suc, List, [], ◌∷◌, length, Option, Some, None}
 use Rattle.qc_decl.specs.declared.declaration.Declaration.{Declaration}
 use Rattle.qc_entry.specs.declared.record.Commit.{Commit}
 use Rattle.qc_msg.specs.declared.reply.Reply.{Reply}
 use Rattle.qc_msg.specs.declared.reply.Reply.TheVariants as replies
-use Rattle.qc_msg.specs.Steps.{Entry}
-use Rattle.qc_promise.specs.Replies.{AreRepliesDue, IsStepDue, rest_of_post}
+use Rattle.qc_msg.specs.Deeds.{Deed}
+use Rattle.qc_promise.specs.Account.{Account, new_account}
+use Rattle.qc_promise.specs.Accounting.{account_at}
+use Rattle.qc_promise.specs.Replies.{AreDeedsDue, AreRepliesDue, IsDeedDue}
 
--- what is due of the step at this place
-abbrev pub DueAt : ℕ → Declaration → List Entry → List Entry → Type 0
-DueAt k decl before [] = Unit {0}
-DueAt zero decl before (e ∷ h) = IsStepDue decl before e.actor (rest_of_post e.actor h) e.step
-DueAt (suc k) decl before (e ∷ h) = DueAt k decl (before ++ e ∷ []) h
+-- what is due of the deed at this place
+abbrev DeedAt : ℕ → Declaration → Account → List Deed → Type 0
+DeedAt k decl d [] = Unit {0}
+DeedAt zero decl d (x ∷ after) = IsDeedDue decl d x after
+DeedAt (suc k) decl d (x ∷ after) = DeedAt k decl (account_at decl d x) after
 
-pub due_at : (k : ℕ) (decl : Declaration) (before h : List Entry) → AreRepliesDue decl before h → DueAt k decl before h
-due_at k decl before [] all = tt
-due_at zero decl before (e ∷ h) all = all.0
-due_at (suc k) decl before (e ∷ h) all = due_at k decl (before ++ e ∷ []) h all.1
+deed_at : (k : ℕ) (decl : Declaration) (d : Account) (ds : List Deed) → AreDeedsDue decl d ds → DeedAt k decl d ds
+deed_at k decl d [] all = tt
+deed_at zero decl d (x ∷ after) all = all.0
+deed_at (suc k) decl d (x ∷ after) all = deed_at k decl (account_at decl d x) after all.1
+
+abbrev pub DueAt : ℕ → Declaration → ℕ → List Deed → Type 0
+DueAt k decl client ds = DeedAt k decl (new_account client) ds
+
+pub due_at : (k : ℕ) (decl : Declaration) (client : ℕ) (ds : List Deed) → AreRepliesDue decl client ds → DueAt k decl client ds
+due_at k decl client ds all = deed_at k decl (new_account client) ds all
 
 abbrev pub client_named : Option Reply → ℕ
 client_named (Some (replies.Conflict tx site)) = tx.client

@@ -99,16 +99,6 @@ told_twice =
     marked 1 (Sent 3 3 (messages.Answer 1 (answers.Granted 1 0 []))) ∷ marked 3 (Got 2) ∷ marked 3 (Got 3) ∷
     marked 3 (Told (replies.Response 0)) ∷ marked 3 (Told (replies.Response 0)) ∷ []
 
--- A site tells the reply.
-abbrev pub told_by_a_site : List Entry
-told_by_a_site =
-    marked 7 (Phase 1) ∷ marked 3 (Called commands.Begin) ∷ marked 3 (Told (replies.Began (tx 0 1))) ∷
-    marked 3 (Called (commands.Do 0 0)) ∷ marked 3 (Sent 0 0 (messages.Request (tx 0 1) 1 0 (wants.Read 0 0))) ∷
-    marked 3 (Sent 1 1 (messages.Request (tx 0 1) 1 0 (wants.Read 0 0))) ∷ marked 0 (Got 0) ∷
-    marked 0 (Sent 2 3 (messages.Answer 0 (answers.Granted 1 0 []))) ∷ marked 1 (Got 1) ∷
-    marked 1 (Sent 3 3 (messages.Answer 1 (answers.Granted 1 0 []))) ∷ marked 3 (Got 2) ∷ marked 3 (Got 3) ∷
-    marked 0 (Told (replies.Response 0)) ∷ []
-
 -- A transaction begins though one is begun.
 abbrev pub begins_twice : List Entry
 begins_twice =

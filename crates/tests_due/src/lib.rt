@@ -18,7 +18,7 @@ pub use right::{
     all_is_due_in_worked_histories, replies_of_other_rows_are_due,
 };
 pub use wrong::{
-    wrong_appends_are_refused, wrong_reads_are_refused, wrong_records_are_refused,
-    wrong_replies_are_refused, wrong_votes_are_refused,
+    wrong_appends_are_refused, wrong_asks_are_refused, wrong_reads_are_refused,
+    wrong_records_are_refused, wrong_replies_are_refused, wrong_votes_are_refused,
 };
 pub use wrong_sites::{wrong_posts_are_refused, wrong_refusals_are_refused};

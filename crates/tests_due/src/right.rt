@@ -2,6 +2,7 @@
 
 ghost use Rattle.std.specs.Prelude.{[]};
 ghost use Rattle.qc_decl.specs.One.{three};
+ghost use Rattle.qc_msg.specs.Deeds.{deeds};
 ghost use Rattle.qc_promise.specs.Due.{Due};
 ghost use Rattle.qc_promise.specs.Replies.{AreRepliesDue};
 ghost use Rattle.tests_histories.specs.ReadAfterWrite as read_after_write;
@@ -67,14 +68,14 @@ pub fn all_is_due_in_worked_histories()
 
 /// Rows that those histories and the random ones don't have: their replies are due.
 pub fn replies_of_other_rows_are_due()
-    ensures closed_reading { AreRepliesDue three [] later_rows.closed_reading }
-    ensures closed_appending { AreRepliesDue three [] later_rows.closed_appending }
-    ensures closed_vote { AreRepliesDue three [] later_rows.closed_vote }
-    ensures restarted { AreRepliesDue three [] later_rows.restarted }
-    ensures fault { AreRepliesDue three [] later_rows.fault }
-    ensures forgotten { AreRepliesDue three [] later_rows.forgotten }
-    ensures left_behind { AreRepliesDue three [] later_rows.left_behind }
-    ensures unknown { AreRepliesDue three [] later_rows.unknown }
+    ensures closed_reading { AreRepliesDue three 0 (deeds 3 [] later_rows.closed_reading) }
+    ensures closed_appending { AreRepliesDue three 0 (deeds 3 [] later_rows.closed_appending) }
+    ensures closed_vote { AreRepliesDue three 0 (deeds 3 [] later_rows.closed_vote) }
+    ensures restarted { AreRepliesDue three 0 (deeds 3 [] later_rows.restarted) }
+    ensures fault { AreRepliesDue three 0 (deeds 3 [] later_rows.fault) }
+    ensures forgotten { AreRepliesDue three 0 (deeds 3 [] later_rows.forgotten) }
+    ensures left_behind { AreRepliesDue three 0 (deeds 3 [] later_rows.left_behind) }
+    ensures unknown { AreRepliesDue three 0 (deeds 3 [] later_rows.unknown) }
     ensures too_long { Due three long_transaction.too_long }
 {}
 

@@ -1,9 +1,11 @@
 use Rattle.std.proofs.Common.{◌≡◌, List, [], drop, map}
+use Rattle.std.specs.Prelude.{fold}
 use Rattle.qc_stamp.specs.declared.stamp.TxId.{TxId}
 use Rattle.qc_text.specs.Deeds.{deed_of}
-use Rattle.qc_text.specs.Holders.{IsSetOf, holders_from}
+use Rattle.qc_text.specs.Holders.{IsSetOf, holders_from, holders_with}
 use Rattle.qc_text.proofs.grants.count_holders.Given as goal
 
 abbrev pub invariant-deeds : goal.invariant-deeds
 invariant-deeds l =
-    (txs : List TxId) × IsSetOf txs l.holders × (holders_from txs (map deed_of (drop l.place l.deeds)) ≡ holders_from [] (map deed_of l.deeds))
+    (txs : List TxId) × IsSetOf txs l.holders
+    × (holders_from txs (map deed_of (drop l.place l.current.since.now)) ≡ holders_from (fold holders_with [] l.current.kept.now) (map deed_of l.current.since.now))

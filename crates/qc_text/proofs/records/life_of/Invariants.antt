@@ -1,11 +1,14 @@
-use Rattle.std.proofs.Common.{◌≡◌, ◌≤◌, ◌+◌, drop, map}
+use Rattle.std.proofs.Common.{◌≡◌, ◌≤◌, ◌+◌, drop, length, map}
 use Rattle.std.specs.Prelude.{fold}
-use Rattle.qc_promise.specs.SiteRecords.{life_by, life_shown, records_in}
+use Rattle.std.specs.List.{filter_map}
+use Rattle.qc_msg.specs.Readings.{written_in}
+use Rattle.qc_promise.specs.SiteRecords.{life_by}
 use Rattle.qc_text.specs.Deeds.{deed_of}
+use Rattle.qc_text.specs.Lifetimes.{life_in, present}
 use Rattle.qc_text.proofs.records.life_of.Given as goal
 
 abbrev pub invariant-deeds : goal.invariant-deeds
 invariant-deeds l = record {
-  shown : fold life_by l.life (records_in (map deed_of (drop l.deed-index l.deeds))) ≡ life_shown (map deed_of l.deeds);
-  few : l.life ≤ l.deed-index + 1;
+  shown : fold life_by l.life (filter_map written_in (map deed_of (drop l.deed-index l.current.since.now))) ≡ life_in (present l.current);
+  few : l.life ≤ length l.current.kept.now + l.deed-index + 1;
 }

@@ -10,7 +10,6 @@ returns c = record {
   goes_on_though_doomed = lemmas.goes_on_though_doomed_refused;
   too_long_at_one = lemmas.too_long_at_one_refused;
   told_twice = lemmas.told_twice_refused;
-  told_by_a_site = lemmas.told_by_a_site_refused;
   begins_twice = lemmas.begins_twice_refused;
   begins_at_two = lemmas.begins_at_two_refused;
   drops_nothing = lemmas.drops_nothing_refused;
