@@ -183,7 +183,7 @@ module _ (decl : Declaration) (script : Script) where
     -- no input is open where a line is left
     closed : (h : List Entry) (open_inputs : List Bool) → IsRun h open_inputs → (line : Control) (lines : List Control) → controls_left script h ≡ line ∷ lines → (a : ℕ) (t : Bool) → slice_get open_inputs a ≡ Some t → t ≡ false
     closed h open_inputs run line lines left a false is = refl
-    closed h open_inputs run line lines left a true is = absurd (lines_close (IsLawfulWithFalls decl) fits decl script h open_inputs few (tells decl) run line lines left a is)
+    closed h open_inputs run line lines left a true is = absurd (lines_close (IsLawfulWithFalls decl) fits decl script h open_inputs few run line lines left a is)
 
     abbrev Old : List Entry → List Bool → Type 0
     Old older before = (a : ℕ) (t : Bool) → slice_get before a ≡ Some t → LivesIn decl a older t
@@ -241,7 +241,7 @@ module _ (decl : Declaration) (script : Script) where
             subst (λ (v : Bool). LivesIn decl c (older ++ by c (steps.Fell causes.Script None ∷ [])) v) (sym none)
             (lives_falls c causes.Script older
             (λ n life. lives.crashes (deeds c [] older) n life
-            (up_of (deeds c [] older) true (sym (crashes_up (IsLawfulWithFalls decl) fits decl script older before few (tells decl) run c lines left) ∙ up_in older before run c (low older before run c t here))))
+            (up_of (deeds c [] older) true (sym (crashes_up (IsLawfulWithFalls decl) fits decl script older before few run c lines left) ∙ up_in older before run c (low older before run c t here))))
             (subst (LivesIn decl c older) none r))
     run_lives h open_inputs (rises c records turn lines before older run left fit has law) a t is =
         by_line c a t older before (steps.Rose records ∷ posted_as turn.append (length (mail older)) turn) is (run_lives older before run) own
@@ -253,7 +253,7 @@ module _ (decl : Declaration) (script : Script) where
         own here r =
             subst (λ (v : Bool). LivesIn decl c (older ++ by c (steps.Rose records ∷ posted_as turn.append (length (mail older)) turn)) v) (sym none)
             (lives_rises c records turn older
-            (up_of (deeds c [] older) false (sym (restarts_down (IsLawfulWithFalls decl) fits decl script older before few (tells decl) run c lines left) ∙ up_in older before run c (low older before run c t here)))
+            (up_of (deeds c [] older) false (sym (restarts_down (IsLawfulWithFalls decl) fits decl script older before few run c lines left) ∙ up_in older before run c (low older before run c t here)))
             law (subst (LivesIn decl c older) none r))
     run_lives h open_inputs (damaged c offset lines before older run left) a t is =
         lives_on a t older (older ++ marked c (steps.Damaged offset) ∷ []) (deeds-silent a c older (steps.Damaged offset) (damage_silent offset))
@@ -269,6 +269,6 @@ module _ (decl : Declaration) (script : Script) where
             subst (λ (v : Bool). LivesIn decl c (older ++ by c (steps.Fell cause None ∷ [])) v) (sym none)
             (lives_falls c cause older
             (λ n life. lives.unopened (deeds c [] older) cause n life
-            (up_of (deeds c [] older) false (sym (restarts_down (IsLawfulWithFalls decl) fits decl script older before few (tells decl) run c lines left) ∙ up_in older before run c (low older before run c t here)))
+            (up_of (deeds c [] older) false (sym (restarts_down (IsLawfulWithFalls decl) fits decl script older before few run c lines left) ∙ up_in older before run c (low older before run c t here)))
             (by_disk cause disk))
             (subst (LivesIn decl c older) none r))

@@ -188,7 +188,7 @@ module _ (decl : Declaration) (script : Script) (fits : ℕ → List Record → 
     stands_fallen a lines left = by (is_site decl a) (is_client decl a) refl refl
       where
         up : (is : TakesInputs decl a) → is_up (deeds a [] h) ≡ true
-        up is = sym (up_in a is) ∙ crashes_up (IsLawfulWithFalls decl) fits decl script h inputs few (tells decl) run a lines left
+        up is = sym (up_in a is) ∙ crashes_up (IsLawfulWithFalls decl) fits decl script h inputs few run a lines left
 
         to_net : (is : TakesInputs decl a) → Reaches decl (after_fall old.net a None []) → Stood decl (fallen a causes.Script) inputs
         to_net is reached =
@@ -213,7 +213,7 @@ module _ (decl : Declaration) (script : Script) (fits : ℕ → List Record → 
         here : TakesInputs decl a → Stands decl old.net a (fallen a cause) (slice_get inputs a)
         here is =
             let s : Stands decl old.net a h (slice_get inputs a) = old.actors a is in
-            let down : is_up (deeds a [] h) ≡ false = sym (up_in a is) ∙ restarts_down (IsLawfulWithFalls decl) fits decl script h inputs few (tells decl) run a lines left in
+            let down : is_up (deeds a [] h) ≡ false = sym (up_in a is) ∙ restarts_down (IsLawfulWithFalls decl) fits decl script h inputs few run a lines left in
             fell_stands a cause old.net (slice_get inputs a) (s.up ∙ down) s.records s.pending
 
     -- it rises
@@ -221,7 +221,7 @@ module _ (decl : Declaration) (script : Script) (fits : ℕ → List Record → 
     pub stands_risen : (a : ℕ) (records : List Record) (turn : Turn) (lines : List Control) → controls_left script h ≡ controls.Restart a ∷ lines → IsLawfulWithFalls decl a (deeds a [] (h ++ marked a (steps.Rose records) ∷ [])) turn
         → IsGivenBack (journal_of (own a h)) records → Stood decl (h ++ by a (steps.Rose records ∷ posted_as turn.append (length (mail h)) turn)) inputs
     stands_risen a records turn lines left law back =
-        rise.rises decl h inputs old a records turn law back down (lines_close (IsLawfulWithFalls decl) fits decl script h inputs few (tells decl) run (controls.Restart a) lines left a)
+        rise.rises decl h inputs old a records turn law back down (lines_close (IsLawfulWithFalls decl) fits decl script h inputs few run (controls.Restart a) lines left a)
       where
         takes_inputs : TakesInputs decl a
         takes_inputs = by (is_site decl a) (is_client decl a) refl refl
@@ -232,7 +232,7 @@ module _ (decl : Declaration) (script : Script) (fits : ℕ → List Record → 
             by false false none no_client = absurd (post.no_turn decl a (deeds a [] (h ++ marked a (steps.Rose records) ∷ [])) turn law none no_client)
 
         down : is_up (deeds a [] h) ≡ false
-        down = sym (up_in a takes_inputs) ∙ restarts_down (IsLawfulWithFalls decl) fits decl script h inputs few (tells decl) run a lines left
+        down = sym (up_in a takes_inputs) ∙ restarts_down (IsLawfulWithFalls decl) fits decl script h inputs few run a lines left
 
   none_open : (a : ℕ) → slice_get (replicate (actors decl) false) a ≡ Some true → ⊥
   none_open a is = let no : true ≡ false = replicate_at (actors decl) a false true is in true_false no
