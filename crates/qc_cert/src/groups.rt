@@ -24,7 +24,7 @@ const GROUPS: usize = MOST_STATES * MOST_STATES;
 const FEW: usize = 96;
 
 /// How many sets a walk of parts looks at, where there is a table.
-const WALK: usize = 128;
+const WALK: usize = 256;
 
 /// The sets of events that the triples with the same two states leave out: in
 /// blocks, which have tables of bits, and the rest. All but the empty one stand
