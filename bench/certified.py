@@ -105,6 +105,12 @@ def on(state, event):
     return 1 + (state + event % 62) % 63
 
 
+def tens(seed):
+    """The same, but what covers all comes last in each of the eight groups."""
+    step, groups = ten(seed)
+    return step, [(view, log, kept, [*sets[1:], sets[0]]) for view, log, kept, sets in groups]
+
+
 def pairs(seed):
     """Two of 46 events each, in 63 groups of 1,024. Each set alone covers itself."""
     sets = list(itertools.combinations(range(18, 64), 2))[:MOST_ALIKE]
@@ -151,6 +157,11 @@ def fours(seed):
     return ended(itertools.combinations(range(3, 63, 3), 3), seed)
 
 
+def walks(seed):
+    """Four of 24 events each, likewise: the parts of five events are just short enough for a walk."""
+    return ended(itertools.combinations(range(17, 63, 2), 3), seed)
+
+
 def sevens(seed):
     """Seven of 14 events each, likewise."""
     return ended(itertools.combinations(range(2, 54, 4), 6), seed)
@@ -188,8 +199,8 @@ def more(seed):
 
 
 LISTS = {
-    "two": two, "drawn": drawn, "own": own, "ten": ten, "pairs": pairs, "three": three, "six": six, "last": last,
-    "fours": fours, "sevens": sevens, "ones": ones, "few": few, "more": more,
+    "two": two, "drawn": drawn, "own": own, "ten": ten, "tens": tens, "pairs": pairs, "three": three, "six": six,
+    "last": last, "fours": fours, "walks": walks, "sevens": sevens, "ones": ones, "few": few, "more": more,
 }
 
 
