@@ -7,3 +7,7 @@ pub mod WrongVotes
 pub mod WrongRecords
 pub mod WrongRefusals
 pub mod WrongPosts
+pub mod Orders
+pub mod WrongTurns
+pub mod WrongFalls
+pub mod WrongMail
