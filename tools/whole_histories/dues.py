@@ -10,7 +10,9 @@ those don't have (`later.py`, and one of too many operations); and wrong
 histories (`wrong_reads.py`, `wrong_asks.py`, `wrong_commits.py`,
 `wrong_sites.py`), each with a law that refuses it. It writes specs/, proofs/
 and src/ there, but not proofs/Owed.antt, Places.antt, Sites.antt,
-SitePlaces.antt and src/lib.rt; `rt fmt` then finds nothing to lay out.
+SitePlaces.antt and src/lib.rt, nor what is of turns and mail (`BY_HAND`,
+proofs/Orders.antt, src/turns_and_mail.rt); `rt fmt` then finds nothing to lay
+out.
 """
 
 import os
@@ -30,6 +32,8 @@ from spelling import step as spelled_step
 
 CRATE = os.path.join(os.path.dirname(os.path.abspath(__file__)), "..", "..", "crates", "tests_due")
 TOO_LONG = "phase|c0 begin|" + "c0 do x W1|" * 17 + "c0 abort"
+# modules of specs/ and proofs/ that are written by hand
+BY_HAND = (["Orders", "WrongTurns", "WrongFalls", "WrongMail"], ["RightOrders", "WrongTurns", "WrongFalls", "WrongMail"])
 # how many random histories the other crate has
 RANDOM = 40
 
@@ -83,6 +87,7 @@ def uses(words, sources, ghost=""):
     return "".join("%suse %s%s\n" % (ghost, path, ";" if ghost else "") for path in paths)
 
 
+ACTORS = "Rattle.qc_decl.specs.Actors.{actors}"
 THREE = "Rattle.qc_decl.specs.One.{three}"
 DUE = "Rattle.qc_promise.specs.Due.{Due}"
 REPLIES = "Rattle.qc_promise.specs.Replies.{AreRepliesDue}"
@@ -114,7 +119,10 @@ def lemma(name, source):
     replies = ("due_where_shown %s %s refl" % (decl, FIRST % history) if source == "LaterRows" else
                "all_due_where_shown %s %s %s.clients refl" % (decl, history, decl))
     sites = "sites_due_where_posted %s %s %s.sites refl" % (decl, history, decl)
-    value = replies if source == "LaterRows" else "record {\n  replies = %s;\n  sites = %s;\n}" % (replies, sites)
+    turns = "by_turns_where_placed %s %s (actors %s) refl" % (decl, history, decl)
+    mail = "mailed_where_shown [] %s refl" % history
+    fields = ("turns", turns), ("mail", mail), ("replies", replies), ("sites", sites)
+    value = replies if source == "LaterRows" else "record {\n%s}" % "".join("  %s = %s;\n" % f for f in fields)
     return "\npub %s_due : %s\n%s_due = %s\n" % (name, statement(name, source), name, value)
 
 
@@ -124,6 +132,7 @@ def right(lemmas, doc, name, histories):
     used = words_of(body)
     words = [path for path in (
         "Rattle.std.proofs.Common.{%srefl}" % ("[], " if "[]" in body else ""), THREE, DEEDS, DUE, REPLIES,
+        ACTORS, "Rattle.tests_due.proofs.Orders.{by_turns_where_placed, mailed_where_shown}",
         "Rattle.tests_due.proofs.Owed.{all_due_where_shown}", "Rattle.tests_due.proofs.Owed.{due_where_shown}",
         "Rattle.tests_due.proofs.Sites.{sites_due_where_posted}") if set(words_of(path.split(".")[-1])) & used]
     write("proofs/%s.antt" % lemmas, "-- %s\n%s%s" % (doc, uses(words, histories), body))
@@ -212,9 +221,9 @@ def main(words):
                              "Wrong histories of clients, each refused.", [THREE, DEEDS, REPLIES])
     wrong_files += make_wrong(run, wrong_sites.cases(*parts), "wrong_sites", "Wrong histories of sites, each refused.",
                               [THREE, DEEDS, SITES])
-    write("specs/Lib.antt", "".join("pub mod %s\n" % m for m in specs + wrong_files))
+    write("specs/Lib.antt", "".join("pub mod %s\n" % m for m in specs + wrong_files + BY_HAND[0]))
     write("proofs/Lib.antt", "".join(
-        "pub mod %s\n" % m for m in ["Owed", "Places", "Sites", "SitePlaces"] + lemmas + wrong_files))
+        "pub mod %s\n" % m for m in ["Orders", "Owed", "Places", "Sites", "SitePlaces"] + lemmas + wrong_files + BY_HAND[1]))
 
 
 if __name__ == "__main__":

@@ -1,3 +1,4 @@
+pub mod Orders
 pub mod Owed
 pub mod Places
 pub mod Sites
@@ -16,3 +17,7 @@ pub mod WrongVotes
 pub mod WrongRecords
 pub mod WrongRefusals
 pub mod WrongPosts
+pub mod RightOrders
+pub mod WrongTurns
+pub mod WrongFalls
+pub mod WrongMail

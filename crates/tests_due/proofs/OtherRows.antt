@@ -2,8 +2,10 @@
 use Rattle.std.proofs.Common.{[], refl}
 use Rattle.qc_decl.specs.One.{three}
 use Rattle.qc_msg.specs.Deeds.{deeds}
+use Rattle.qc_decl.specs.Actors.{actors}
 use Rattle.qc_promise.specs.Due.{Due}
 use Rattle.qc_promise.specs.Replies.{AreRepliesDue}
+use Rattle.tests_due.proofs.Orders.{by_turns_where_placed, mailed_where_shown}
 use Rattle.tests_due.proofs.Owed.{all_due_where_shown}
 use Rattle.tests_due.proofs.Owed.{due_where_shown}
 use Rattle.tests_due.proofs.Sites.{sites_due_where_posted}
@@ -36,6 +38,8 @@ unknown_due = due_where_shown three 0 (deeds 3 [] later_rows.unknown) refl
 
 pub too_long_due : Due three long_transaction.too_long
 too_long_due = record {
+  turns = by_turns_where_placed three long_transaction.too_long (actors three) refl;
+  mail = mailed_where_shown [] long_transaction.too_long refl;
   replies = all_due_where_shown three long_transaction.too_long three.clients refl;
   sites = sites_due_where_posted three long_transaction.too_long three.sites refl;
 }

@@ -1,7 +1,9 @@
 -- All is due in the worked histories.
-use Rattle.std.proofs.Common.{refl}
+use Rattle.std.proofs.Common.{[], refl}
 use Rattle.qc_decl.specs.One.{three}
+use Rattle.qc_decl.specs.Actors.{actors}
 use Rattle.qc_promise.specs.Due.{Due}
+use Rattle.tests_due.proofs.Orders.{by_turns_where_placed, mailed_where_shown}
 use Rattle.tests_due.proofs.Owed.{all_due_where_shown}
 use Rattle.tests_due.proofs.Sites.{sites_due_where_posted}
 use Rattle.tests_histories.specs.ReadAfterWrite as read_after_write
@@ -14,42 +16,56 @@ use Rattle.tests_histories.specs.DoomedWrite as doomed_write
 
 pub read_after_write_due : Due three read_after_write.history
 read_after_write_due = record {
+  turns = by_turns_where_placed three read_after_write.history (actors three) refl;
+  mail = mailed_where_shown [] read_after_write.history refl;
   replies = all_due_where_shown three read_after_write.history three.clients refl;
   sites = sites_due_where_posted three read_after_write.history three.sites refl;
 }
 
 pub read_before_commit_due : Due three read_before_commit.history
 read_before_commit_due = record {
+  turns = by_turns_where_placed three read_before_commit.history (actors three) refl;
+  mail = mailed_where_shown [] read_before_commit.history refl;
   replies = all_due_where_shown three read_before_commit.history three.clients refl;
   sites = sites_due_where_posted three read_before_commit.history three.sites refl;
 }
 
 pub blind_writes_due : Due three blind_writes.history
 blind_writes_due = record {
+  turns = by_turns_where_placed three blind_writes.history (actors three) refl;
+  mail = mailed_where_shown [] blind_writes.history refl;
   replies = all_due_where_shown three blind_writes.history three.clients refl;
   sites = sites_due_where_posted three blind_writes.history three.sites refl;
 }
 
 pub cut_off_due : Due three cut_off.history
 cut_off_due = record {
+  turns = by_turns_where_placed three cut_off.history (actors three) refl;
+  mail = mailed_where_shown [] cut_off.history refl;
   replies = all_due_where_shown three cut_off.history three.clients refl;
   sites = sites_due_where_posted three cut_off.history three.sites refl;
 }
 
 pub late_copy_due : Due three late_copy.history
 late_copy_due = record {
+  turns = by_turns_where_placed three late_copy.history (actors three) refl;
+  mail = mailed_where_shown [] late_copy.history refl;
   replies = all_due_where_shown three late_copy.history three.clients refl;
   sites = sites_due_where_posted three late_copy.history three.sites refl;
 }
 
 pub every_message_twice_due : Due three every_message_twice.history
 every_message_twice_due = record {
+  turns = by_turns_where_placed three every_message_twice.history (actors three) refl;
+  mail = mailed_where_shown [] every_message_twice.history refl;
   replies = all_due_where_shown three every_message_twice.history three.clients refl;
   sites = sites_due_where_posted three every_message_twice.history three.sites refl;
 }
 
 pub doomed_write_due : Due three doomed_write.history
 doomed_write_due = record {
+  turns = by_turns_where_placed three doomed_write.history (actors three) refl;
+  mail = mailed_where_shown [] doomed_write.history refl;
   replies = all_due_where_shown three doomed_write.history three.clients refl;
   sites = sites_due_where_posted three doomed_write.history three.sites refl;
 }

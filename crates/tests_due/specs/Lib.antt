@@ -8,3 +8,7 @@ pub mod WrongVotes
 pub mod WrongRecords
 pub mod WrongRefusals
 pub mod WrongPosts
+pub mod Orders
+pub mod WrongTurns
+pub mod WrongFalls
+pub mod WrongMail

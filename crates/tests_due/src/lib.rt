@@ -4,18 +4,23 @@
 //! Here all is due in each right history, and each wrong history is refused: a
 //! client's last reply, or commit record, isn't due there, or what a site posts
 //! for its last input isn't. `tools/whole_histories/dues.py` wrote these
-//! histories.
+//! histories. Those of `turns_and_mail` are short and written by hand: in each wrong one
+//! an actor doesn't go by turns, or a message doesn't reach its receiver.
 //!
 //! There is no code here, and nothing stands on this crate.
 #![tactic(auto)]
 
 mod right;
+mod turns_and_mail;
 mod wrong;
 mod wrong_sites;
 
 pub use right::{
     all_is_due_in_1_to_10, all_is_due_in_11_to_20, all_is_due_in_21_to_30, all_is_due_in_31_to_40,
     all_is_due_in_worked_histories, replies_of_other_rows_are_due,
+};
+pub use turns_and_mail::{
+    right_orders_are_met, wrong_falls_are_refused, wrong_mail_is_refused, wrong_turns_are_refused,
 };
 pub use wrong::{
     wrong_appends_are_refused, wrong_asks_are_refused, wrong_reads_are_refused,
