@@ -123,7 +123,7 @@ def right(lemmas, doc, name, histories):
     body = "".join(lemma(n, s) for n, s in histories)
     used = words_of(body)
     words = [path for path in (
-        "Rattle.std.proofs.Common.{%srefl}" % ("[], " if "[]" in used else ""), THREE, DEEDS, DUE, REPLIES,
+        "Rattle.std.proofs.Common.{%srefl}" % ("[], " if "[]" in body else ""), THREE, DEEDS, DUE, REPLIES,
         "Rattle.tests_due.proofs.Owed.{all_due_where_shown}", "Rattle.tests_due.proofs.Owed.{due_where_shown}",
         "Rattle.tests_due.proofs.Sites.{sites_due_where_posted}") if set(words_of(path.split(".")[-1])) & used]
     write("proofs/%s.antt" % lemmas, "-- %s\n%s%s" % (doc, uses(words, histories), body))

@@ -6,6 +6,7 @@ use Rattle.qc_decl.specs.Accepted.{IsAccepted}
 use Rattle.qc_decl.specs.Actors.{actors, client_actor, is_client}
 use Rattle.qc_decl.specs.declared.declaration.Declaration.{Declaration}
 use Rattle.qc_laws.proofs.Acted.{has_entry, run_acts}
+use Rattle.qc_laws.proofs.ByMail.{run_by_turns, run_mailed}
 use Rattle.qc_laws.proofs.Served.{run_due}
 use Rattle.qc_laws.proofs.Up.{acts_up}
 use Rattle.qc_laws.specs.Asked.{AsksDeclared}
@@ -81,4 +82,9 @@ module _ (decl : Declaration) (script : Script) (h : List Entry) (open_inputs : 
             (deeds_due decl (client_actor decl client) is (deeds (client_actor decl client) [] h) place.0 acts.above acts.acts (run_declares decl accepted script asks h open_inputs run (client_actor decl client)))
 
     pub all_is_due : Due decl h
-    all_is_due = record { replies = replies_due; sites = λ site within. run_due decl script h open_inputs run site within }
+    all_is_due = record {
+      turns = run_by_turns decl script h open_inputs run;
+      mail = run_mailed decl script h open_inputs run;
+      replies = replies_due;
+      sites = λ site within. run_due decl script h open_inputs run site within;
+    }

@@ -28,8 +28,9 @@ pub fn replies_are_due()
         → AreRepliesDue decl client (deeds (client_actor decl client) [] h) }
 {}
 
-/// So all that is promised of a history is due in every such run: what clients
-/// tell and write, and what sites post.
+/// So all that is promised of a history is due in every such run: actors act by
+/// turns, messages reach their receivers, what clients tell and write is due, and
+/// what sites post.
 #[tactic(auto, using(crate::proofs::Whole::all_is_due))]
 pub fn runs_are_due()
     ensures { (decl : Declaration) (script : Script) (h : List Entry) (open_inputs : List Bool)

@@ -25,3 +25,5 @@ pub mod ActorFits
 pub mod Written
 pub mod LivesLaws
 pub mod SiteLives
+pub mod ByTurns
+pub mod Answers

@@ -101,7 +101,7 @@ up decl a ds is never =
 
 -- who never falls
 
-steady_from : (u : Bool) (ds : List Deed) → AreSteady ds → fold up_at u ds ≡ u
+pub steady_from : (u : Bool) (ds : List Deed) → AreSteady ds → fold up_at u ds ≡ u
 steady_from u [] steady = refl
 steady_from u (Takes g ∷ ds) steady = steady_from u ds steady.1
 steady_from u (Writes written ∷ ds) steady = steady_from u ds steady.1

@@ -10,6 +10,7 @@ use Rattle.qc_msg.specs.declared.step.Given.{Given}
 use Rattle.qc_msg.specs.declared.step.Given.TheVariants as given
 use Rattle.qc_msg.specs.declared.turn.Turn.{Turn}
 use Rattle.qc_msg.specs.Deeds.{Deed, Takes, Writes, Sends, Tells, Falls, Rises, deeds_as}
+use Rattle.qc_msg.specs.Readings.{command_in}
 use Rattle.qc_msg.specs.Steps.{sends_as}
 use Rattle.qc_core.specs.Acts.{MayTake}
 use Rattle.qc_core.specs.Conduct.{IsLawfulWithFalls}
@@ -84,3 +85,16 @@ IsSteady (Rises records) = ⊥
 
 abbrev pub AreSteady : List Deed → Type 0
 AreSteady ds = Every IsSteady ds
+
+-- deeds among which no command comes
+
+abbrev pub IsUncommanded : Deed → Type 0
+IsUncommanded (Takes given) = command_in given ≡ None
+IsUncommanded (Writes written) = Unit {0}
+IsUncommanded (Sends number to message) = Unit {0}
+IsUncommanded (Tells reply) = Unit {0}
+IsUncommanded (Falls cause pending) = Unit {0}
+IsUncommanded (Rises records) = Unit {0}
+
+abbrev pub AreUncommanded : List Deed → Type 0
+AreUncommanded ds = Every IsUncommanded ds

@@ -14,7 +14,8 @@
 //!    the fold over them (`actors_are_folds`).
 //! 4. After a fall an actor has no state, and after a rise it is what its
 //!    records give (`actors_fall_and_rise`, `who_is_down_has_no_state`); who
-//!    never falls lives as it acts (`who_never_falls_lives_as_it_acts`).
+//!    never falls lives as it acts (`who_never_falls_lives_as_it_acts`);
+//!    and who lives goes by turns (`who_lives_goes_by_turns`).
 #![tactic(auto)]
 
 mod actor;
@@ -29,5 +30,5 @@ pub use laws::{
 };
 pub use lives::{
     actors_fall_and_rise, journals_are_those_of_steps, who_is_down_has_no_state,
-    who_is_up_has_no_pending_record, who_never_falls_lives_as_it_acts,
+    who_is_up_has_no_pending_record, who_lives_goes_by_turns, who_never_falls_lives_as_it_acts,
 };

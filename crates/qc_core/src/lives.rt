@@ -7,7 +7,9 @@ ghost use Rattle.qc_core.specs.Actors.{actor_after, actor_rises, moved};
 ghost use Rattle.qc_core.specs.Acts.{Acts};
 ghost use Rattle.qc_core.specs.Conduct.{IsLawful, IsLawfulWithFalls, turn_after, turn_with_falls};
 ghost use Rattle.qc_core.specs.Journals.{journal_after};
-ghost use Rattle.qc_core.specs.Lives.{AreSteady, Lives, is_up};
+ghost use Rattle.qc_core.specs.Lives.{AreSteady, AreUncommanded, Lives, is_up};
+ghost use Rattle.qc_decl.specs.Actors.{is_site};
+ghost use Rattle.qc_promise.specs.Turns.{AreByTurns};
 ghost use Rattle.qc_decl.specs.declared.declaration.Declaration.{Declaration};
 ghost use Rattle.qc_msg.specs.Deeds.{Deed, Falls, Rises, deeds, own};
 ghost use Rattle.qc_msg.specs.Steps.{Entry};
@@ -64,4 +66,14 @@ pub fn who_is_up_has_no_pending_record()
 #[tactic(auto, using(crate::proofs::LivesLaws::journal))]
 pub fn journals_are_those_of_steps()
     ensures { (a : ℕ) (h : List Entry) → journal_after (deeds a [] h) ≡ journal_of (own a h) }
+{}
+
+/// Who lives goes by turns: it posts for each input and as it rises, its record
+/// first, and while it is down it only tells so; where no command comes to it,
+/// if it is a site.
+#[tactic(auto, using(crate::proofs::ByTurns::by_turns))]
+pub fn who_lives_goes_by_turns()
+    ensures { (decl : Declaration) (a : ℕ) (ds : List Deed) (open_input : Bool) (n : ℕ)
+        → Lives decl a ds open_input n → (is_site decl a ≡ true → AreUncommanded ds)
+        → AreByTurns (is_site decl a) ds }
 {}

@@ -9,6 +9,9 @@ pub mod Up
 pub mod FirstLives
 pub mod Running
 pub mod Acted
+pub mod Commanded
+pub mod Delivered
+pub mod ByMail
 pub mod Served
 pub mod Waiting
 pub mod Replying

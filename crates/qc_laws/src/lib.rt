@@ -3,10 +3,11 @@
 //!
 //! 1. Messages are numbered from 0 in the order in which they were sent
 //!    (`messages_are_numbered_in_order`), and what is ready for an actor was sent
-//!    to it before (`what_is_ready_was_sent`).
+//!    to it before (`what_is_ready_was_sent`). So all mail reaches those whom it
+//!    was sent to (`messages_reach_their_receivers`).
 //! 2. Each actor takes and posts by turns, and a command comes only where none
-//!    runs (`actors_take_and_post_by_turns`); nobody else does anything
-//!    (`others_do_nothing`).
+//!    runs (`actors_take_and_post_by_turns`); so its deeds are by turns
+//!    (`actors_go_by_turns`). Nobody else does anything (`others_do_nothing`).
 //! 3. A Decision Committed names a stamp of its transaction's own client
 //!    (`decisions_name_stamps_of_their_clients`). So sites serve (`sites_serve`),
 //!    all that one is its own steps show (`sites_are_what_their_steps_show`), and
@@ -35,8 +36,8 @@ pub use commands::{
     replies_answer_commands,
 };
 pub use order::{
-    actors_take_and_post_by_turns, messages_are_numbered_in_order, others_do_nothing,
-    what_is_ready_was_sent,
+    actors_go_by_turns, actors_take_and_post_by_turns, messages_are_numbered_in_order,
+    messages_reach_their_receivers, others_do_nothing, what_is_ready_was_sent,
 };
 pub use requests::{
     no_request_is_open_at_the_end, open_requests_are_awaited,

@@ -1,14 +1,16 @@
 //! Laws of messages and turns, each the contract of a function with nothing to
 //! do.
 
-ghost use Rattle.std.specs.Prelude.{◌≡◌, ◌≤◌, ℕ, Bool, List, [], Some, slice_get};
+ghost use Rattle.std.specs.Prelude.{◌≡◌, ◌<◌, ◌≤◌, ℕ, Bool, List, [], Some, slice_get};
 ghost use Rattle.qc_core.specs.Conduct.{IsLawful};
-ghost use Rattle.qc_decl.specs.Actors.{actors};
+ghost use Rattle.qc_decl.specs.Actors.{actors, is_site};
 ghost use Rattle.qc_decl.specs.declared.declaration.Declaration.{Declaration};
 ghost use Rattle.qc_msg.specs.Deeds.{WasSentTo, deeds, mail};
 ghost use Rattle.qc_msg.specs.Steps.{Entry};
 ghost use Rattle.qc_msg.specs.declared.message.Envelope.{Envelope};
 ghost use Rattle.qc_msg.specs.declared.step.Given.{Given};
+ghost use Rattle.qc_promise.specs.Mail.{IsMailed};
+ghost use Rattle.qc_promise.specs.Turns.{AreByTurns};
 ghost use Rattle.qc_script.specs.Ready.{ready};
 ghost use Rattle.qc_script.specs.Runs.{Runs};
 ghost use Rattle.qc_script.specs.declared.script.Script.{Script};
@@ -48,4 +50,22 @@ pub fn others_do_nothing()
     ensures { (decl : Declaration) (script : Script) (h : List Entry) (open_inputs : List Bool)
         → Runs (IsLawful decl) decl script h open_inputs
         → (a : ℕ) → actors decl ≤ a → deeds a [] h ≡ [] }
+{}
+
+/// Each actor goes by turns: it posts for each input, its record first; no
+/// command comes to a site.
+#[tactic(auto, using(crate::proofs::ByMail::run_by_turns))]
+pub fn actors_go_by_turns()
+    ensures { (decl : Declaration) (script : Script) (h : List Entry) (open_inputs : List Bool)
+        → Runs (IsLawful decl) decl script h open_inputs
+        → (a : ℕ) → a < actors decl → AreByTurns (is_site decl a) (deeds a [] h) }
+{}
+
+/// Messages reach those whom they were sent to: each has its number and is
+/// taken by its receiver, an answer comes from who was asked to who asked, and
+/// an actor loses requests of its own.
+#[tactic(auto, using(crate::proofs::ByMail::run_mailed))]
+pub fn messages_reach_their_receivers()
+    ensures { (decl : Declaration) (script : Script) (h : List Entry) (open_inputs : List Bool)
+        → Runs (IsLawful decl) decl script h open_inputs → IsMailed [] h }
 {}

@@ -1,3 +1,4 @@
 pub mod Downs
 pub mod Commands
 pub mod Lived
+pub mod ByMail

@@ -63,7 +63,7 @@ place_within (b ∷ bs) (suc a) t is = let further : a < length bs = place_withi
 deeds-fall : (a : ℕ) (h : List Entry) (cause : Fall) → deeds a [] (h ++ marked a (steps.Fell cause None) ∷ []) ≡ deeds a [] h ++ Falls cause None ∷ []
 deeds-fall a h cause = deeds-append a [] h (by a (fell cause None)) ∙ ap (λ (ds : List Deed). deeds a [] h ++ ds) (deeds-fell a (mail h) cause None)
 
-deeds-rise : (a : ℕ) (h : List Entry) (records : List Record) → deeds a [] (h ++ marked a (steps.Rose records) ∷ []) ≡ deeds a [] h ++ Rises records ∷ []
+pub deeds-rise : (a : ℕ) (h : List Entry) (records : List Record) → deeds a [] (h ++ marked a (steps.Rose records) ∷ []) ≡ deeds a [] h ++ Rises records ∷ []
 deeds-rise a h records = deeds-append a [] h (by a (steps.Rose records ∷ [])) ∙ ap (λ (ds : List Deed). deeds a [] h ++ ds) (deeds-rose a (mail h) records)
 
 up_of : (ds : List Deed) (u : Bool) → u ≡ not (is_down ds) → is_up ds ≡ u
@@ -142,7 +142,7 @@ module _ (decl : Declaration) (script : Script) where
     abbrev IsRun : List Entry → List Bool → Type 0
     IsRun h open_inputs = RunsWithFalls (IsLawfulWithFalls decl) fits decl script h open_inputs
 
-    run_long : (h : List Entry) (open_inputs : List Bool) → IsRun h open_inputs → length open_inputs ≡ actors decl
+    pub run_long : (h : List Entry) (open_inputs : List Bool) → IsRun h open_inputs → length open_inputs ≡ actors decl
     run_long h open_inputs begins = length-replicate (actors decl) false
     run_long h open_inputs (takes c given before older run free rdy) = length-slice_set before c true ∙ run_long older before run
     run_long h open_inputs (posts c turn before older run taken law) = length-slice_set before c false ∙ run_long older before run

@@ -1,13 +1,18 @@
--- All that is due in a history: what each of its clients tells and writes, and what each of its sites posts.
+-- All that is due in a history: each actor acts by turns, messages reach those whom they were sent to, each deed of a
+-- client is due, and so is all that a site posts.
 use Rattle.std.specs.Prelude.{ℕ, ◌<◌, List, []}
-use Rattle.qc_decl.specs.Actors.{client_actor}
+use Rattle.qc_decl.specs.Actors.{actors, client_actor, is_site}
 use Rattle.qc_decl.specs.declared.declaration.Declaration.{Declaration}
 use Rattle.qc_msg.specs.Deeds.{deeds}
 use Rattle.qc_msg.specs.Steps.{Entry}
+use Rattle.qc_promise.specs.Mail.{IsMailed}
 use Rattle.qc_promise.specs.Replies.{AreRepliesDue}
 use Rattle.qc_promise.specs.SiteDue.{AreDue}
+use Rattle.qc_promise.specs.Turns.{AreByTurns}
 
 pub record Due (decl : Declaration) (h : List Entry) : Type 0 where
+  pub turns : (a : ℕ) → a < actors decl → AreByTurns (is_site decl a) (deeds a [] h)
+  pub mail : IsMailed [] h
   pub replies : (client : ℕ) → client < decl.clients
       → AreRepliesDue decl client (deeds (client_actor decl client) [] h)
   pub sites : (site : ℕ) → site < decl.sites → AreDue decl [] (deeds site [] h)

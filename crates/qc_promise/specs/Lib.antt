@@ -21,4 +21,6 @@ pub mod Asked
 pub mod Accounting
 pub mod Rows
 pub mod Replies
+pub mod Turns
+pub mod Mail
 pub mod Due
