@@ -79,6 +79,15 @@ module _ (fits : ℕ → List Record → Type 0) (decl : Declaration) (script : 
 
   -- the commit records that stand
 
+  pub listed : (commits : List CommitRecord) × AreStanding decl h commits
+  listed = (
+    r.net.written,
+    record {
+      each = λ c among. (let is : IsOfClient decl r.net.records c = agree.each c among in record { actor = is.actor; client = is.client; listed = subst (In (records.Commit c)) (r.records_are is.actor (inr is.client)) is.listed });
+      all = λ c is. agree.all c (record { actor = is.actor; client = is.client; listed = subst (In (records.Commit c)) (sym (r.records_are is.actor (inr is.client))) is.listed });
+    },
+  )
+
   module _ (commits : List CommitRecord) (standing : AreStanding decl h commits) where
     of_net : (c : CommitRecord) → In c commits → In c r.net.written
     of_net c among =

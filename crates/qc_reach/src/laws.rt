@@ -52,9 +52,14 @@ pub fn runs_with_falls_reach_nets<C: ConductWithFalls>()
         → (r : IsReachedWithFalls decl h open_inputs) × Refines decl r.net }
 {}
 
-/// The commit records that stand after such a run are one copy's, in the order
-/// of their stamps; no two of them have one stamp, or one transaction.
+/// The commit records that stand after such a run can be listed, and are one
+/// copy's, in the order of their stamps; no two of them have one stamp, or one
+/// transaction.
 pub fn records_that_stand_are_one_copy<C: ConductWithFalls>()
+    ensures listed { (decl : Declaration) (script : Script) (h : List Entry) (open_inputs : List Bool)
+        → IsAccepted decl → IsScriptFor decl script
+        → RunsWithFalls (IsLawfulWithFalls decl) C.fits decl script h open_inputs → Kept h
+        → (commits : List Commit) × AreStanding decl h commits }
     ensures one_copy { (decl : Declaration) (script : Script) (h : List Entry) (open_inputs : List Bool)
         (commits : List Commit) → IsAccepted decl → IsScriptFor decl script
         → RunsWithFalls (IsLawfulWithFalls decl) C.fits decl script h open_inputs → Kept h
