@@ -6,11 +6,11 @@ use Rattle.qc_core.specs.declared.actor.Actor.{Actor}
 use Rattle.qc_core.specs.declared.actor.Actor.TheVariants as actor
 use Rattle.qc_core.specs.Actors.{ActorMove, actor_after, actor_does, actor_rises, actor_sends, actor_takes, by_client, by_site}
 use Rattle.qc_core.specs.Acts.{MayTake, is_running, runs_given}
-use Rattle.qc_core.specs.Conduct.{IsLawfulWithFalls, with_record}
+use Rattle.qc_core.specs.Conduct.{with_record}
 use Rattle.qc_core.specs.Lives.{Lives}
 use Rattle.qc_core.specs.Lives as lives
 use Rattle.qc_decl.specs.declared.declaration.Declaration.{Declaration}
-use Rattle.qc_decl.specs.Actors.{is_client, is_site}
+use Rattle.qc_decl.specs.Actors.{is_site}
 use Rattle.qc_msg.specs.declared.record.Record.{Record}
 use Rattle.qc_msg.specs.declared.reply.Reply.{Reply}
 use Rattle.qc_msg.specs.declared.step.Command.{Command}
@@ -31,24 +31,13 @@ use Rattle.qc_client.specs.Inputs.{IsFree}
 use Rattle.qc_front.specs.Going.{is_idle}
 use Rattle.qc_front.specs.declared.doing.Doing.{Doing}
 use Rattle.qc_front.specs.declared.doing.Doing.TheVariants.{Idle, Reading, Appending}
+use Rattle.qc_lives.proofs.Downs.{due}
 use Rattle.qc_laws.specs.Calls.{is_waiting}
 use Rattle.qc_laws.proofs.Replying.{running_more, running_turn}
 use Rattle.qc_laws.proofs.Waiting.{IsNoCall, called_ends, epoch_rests, round_none, sent_waits, takes_ends, takes_rests, votes_none}
 use Rattle.qc_recover.specs.Clients.{client_rises}
 use Rattle.qc_recover.specs.Sites.{site_rises}
 use Rattle.qc_site.specs.Site.{new_site}
-
--- a lawful turn is that of the actor, but for what became of its record
-pub due : (decl : Declaration) (a : ℕ) (ds : List Deed) (turn : Turn) → IsLawfulWithFalls decl a ds turn → (actor_after decl a ds).turn ≡ with_record turn
-due decl a ds turn lawful = by (is_site decl a) (is_client decl a) lawful.called_for
-  where
-    here : Some (actor_after decl a ds).turn ≡ Some (with_record turn) → (actor_after decl a ds).turn ≡ with_record turn
-    here is = cc
-
-    by : (x y : Bool) → cond x (Some (actor_after decl a ds).turn) (cond y (Some (actor_after decl a ds).turn) None) ≡ Some (with_record turn) → (actor_after decl a ds).turn ≡ with_record turn
-    by true y is = here is
-    by false true is = here is
-    by false false is = absurd (let no : ⊥ = cc in no)
 
 -- whether an actor waits for votes, or for what its running `do` asked
 

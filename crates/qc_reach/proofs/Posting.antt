@@ -15,7 +15,7 @@ use Rattle.qc_client.specs.Client.{ClientMove}
 use Rattle.qc_client.specs.Conduct.{client_takes}
 use Rattle.qc_epoch.specs.SiteRows.{takes}
 use Rattle.qc_inbox.specs.Downs.{is_down}
-use Rattle.qc_lives.proofs.Downs.{tells, up_is}
+use Rattle.qc_lives.proofs.Downs.{due, tells, up_is}
 use Rattle.qc_msg.specs.declared.message.Envelope.{Envelope}
 use Rattle.qc_msg.specs.declared.record.Record.{Record}
 use Rattle.qc_msg.specs.declared.turn.Appended.{Appended}
@@ -33,7 +33,6 @@ use Rattle.qc_protocol.proofs.Names.{put_here}
 use Rattle.qc_site.specs.Site.{SiteMove}
 use Rattle.qc_atomic.proofs.Stood.{may_come, not_now, false_true, slot_other}
 use Rattle.qc_reach.specs.Reached.{HasTaken, TakesInputs, actor_in}
-use Rattle.qc_reach.proofs.Free.{due}
 use Rattle.qc_reach.proofs.Growing.{actor_posted, all_sent, ended_journal, ended_up, journal_posted, up_posted}
 use Rattle.qc_reach.proofs.OneEpoch.{IsMailOfOneEpoch, takes_so, turn_one}
 use Rattle.qc_reach.proofs.Stood.{Leaves, Stands, Stood, in_client, in_site, itself, moves}

@@ -24,6 +24,7 @@ use Rattle.qc_msg.specs.declared.turn.Turn.{Turn}
 use Rattle.qc_msg.specs.Deeds.{Deed, Rises, deeds, deeds_as, envelopes, mail, own}
 use Rattle.qc_msg.specs.Steps.{Entry, by, marked, posted_as, sends_as}
 use Rattle.qc_msg.proofs.Growth.{deeds-append, deeds-other, deeds-posted_as, deeds-rose, mail-append, mail-posted_as}
+use Rattle.qc_lives.proofs.Downs.{due}
 use Rattle.qc_net.specs.Net.{Net, Reaches, after_client_rise, after_site_rise, after_vain_rise}
 use Rattle.qc_net.specs.Net as nets
 use Rattle.qc_net.proofs.Machine.{put_other}
@@ -32,7 +33,6 @@ use Rattle.qc_protocol.proofs.Names.{put_here}
 use Rattle.qc_recover.specs.Clients.{client_rises}
 use Rattle.qc_recover.specs.Sites.{site_rises}
 use Rattle.qc_site.specs.Site.{SiteState}
-use Rattle.qc_reach.proofs.Free.{due}
 use Rattle.qc_reach.proofs.Growing.{actor_posted, all_sent, ended_journal, ended_up}
 use Rattle.qc_reach.proofs.OneEpoch.{IsMailOfOneEpoch, turn_one}
 use Rattle.qc_reach.proofs.Posting.{Shows, never_up, no_turn, turned}

@@ -22,7 +22,7 @@ use Rattle.qc_link.specs.Limits.{most_actors}
 use Rattle.qc_lives.specs.LivesIn.{LivesIn}
 use Rattle.qc_lives.proofs.Commands.{may_take}
 use Rattle.qc_lives.proofs.Downs.{tells, up_is}
-use Rattle.qc_lives.proofs.Lived.{run_lives}
+use Rattle.qc_lives.proofs.Lived.{deeds-fall, line_silent, run_lives}
 use Rattle.qc_msg.specs.declared.message.Envelope.{Envelope}
 use Rattle.qc_msg.specs.declared.record.Record.{Record}
 use Rattle.qc_msg.specs.declared.step.Control.{Control}
@@ -34,16 +34,16 @@ use Rattle.qc_msg.specs.declared.step.Given.TheVariants as given
 use Rattle.qc_msg.specs.declared.step.Step.{Step}
 use Rattle.qc_msg.specs.declared.step.Step.TheVariants as steps
 use Rattle.qc_msg.specs.declared.turn.Turn.{Turn}
-use Rattle.qc_msg.specs.Deeds.{Deed, Falls, Takes, WasSentTo, deeds, mail, own}
-use Rattle.qc_msg.specs.Steps.{Entry, by, fell, marked, posted_as, step_of}
-use Rattle.qc_msg.proofs.Growth.{deeds-append, deeds-fell, deeds-other, deeds-taken, mail-append, mail-taken}
+use Rattle.qc_msg.specs.Deeds.{Falls, Takes, WasSentTo, deeds, mail, own}
+use Rattle.qc_msg.specs.Steps.{Entry, by, marked, posted_as, step_of}
+use Rattle.qc_msg.proofs.Growth.{deeds-other, deeds-taken, mail-append, mail-taken}
 use Rattle.qc_net.specs.Net.{MayCommand, Net, Reaches, after_fall, first_net}
 use Rattle.qc_net.specs.Net as nets
 use Rattle.qc_promise.specs.Kept.{IsGivenBack, Journal, Kept, journal_of, no_journal}
 use Rattle.qc_protocol.proofs.Names.{put_here}
 use Rattle.qc_script.specs.Inbox.{inbox}
 use Rattle.qc_script.specs.Inbox as boxes
-use Rattle.qc_script.specs.Ready.{controller_step, controls_left, phase_of, ready}
+use Rattle.qc_script.specs.Ready.{controls_left, phase_of, ready}
 use Rattle.qc_script.specs.RunsWithFalls.{RunsWithFalls, begins, takes, posts, phase, control, falls, rises, damaged, unopened}
 use Rattle.qc_script.specs.Sound.{IsScriptFor}
 use Rattle.qc_script.specs.declared.script.Script.{Script}
@@ -61,17 +61,6 @@ use Rattle.qc_reach.proofs.Stood.{Leaves, Stands, Stood, in_client, itself, move
 -- the records of a shorter history are kept too
 pub kept_of_first : (h k : List Entry) → Kept (h ++ k) → Kept h
 kept_of_first h k kept before later e is = kept before (later ++ k) e (sym (append_assoc before (e ∷ later) k) ∙ ap (λ (x : List Entry). x ++ k) is)
-
-line_silent : (line : Control) (step : Step) → controller_step line ≡ Some step → IsSilent step
-line_silent (controls.Phase k) step is = absurd (let never : ⊥ = cc in never)
-line_silent (controls.Cut a b) step is = subst IsSilent (let same : steps.Cut a b ≡ step = cc in same) (record { sends = λ a. refl; deeds = λ ms. refl })
-line_silent (controls.Heal a b) step is = subst IsSilent (let same : steps.Heal a b ≡ step = cc in same) (record { sends = λ a. refl; deeds = λ ms. refl })
-line_silent (controls.Armed actor kind at) step is = subst IsSilent (let same : steps.Armed actor kind at ≡ step = cc in same) (record { sends = λ a. refl; deeds = λ ms. refl })
-line_silent (controls.Crash a) step is = absurd (let never : ⊥ = cc in never)
-line_silent (controls.Restart a) step is = absurd (let never : ⊥ = cc in never)
-
-deeds_fall : (a : ℕ) (h : List Entry) (cause : Fall) → deeds a [] (h ++ marked a (steps.Fell cause None) ∷ []) ≡ deeds a [] h ++ Falls cause None ∷ []
-deeds_fall a h cause = deeds-append a [] h (by a (fell cause None)) ∙ ap (λ (ds : List Deed). deeds a [] h ++ ds) (deeds-fell a (mail h) cause None)
 
 mail_fall : (a : ℕ) (h : List Entry) (cause : Fall) → mail (h ++ marked a (steps.Fell cause None) ∷ []) ≡ mail h ++ []
 mail_fall a h cause = mail-append h (marked a (steps.Fell cause None) ∷ [])
@@ -165,10 +154,10 @@ module _ (decl : Declaration) (script : Script) (fits : ℕ → List Record → 
         up_by_deeds (IsLawfulWithFalls decl) fits decl script h inputs few (tells decl) run a 0 (let f = few in omega arith) (omega arith) ∙ sym (up_is (deeds a [] h))
 
     fell_up : (a : ℕ) (cause : Fall) → is_up (deeds a [] (fallen a cause)) ≡ false
-    fell_up a cause = ap is_up (deeds_fall a h cause) ∙ fold-append up_at true (deeds a [] h) (Falls cause None ∷ [])
+    fell_up a cause = ap is_up (deeds-fall a h cause) ∙ fold-append up_at true (deeds a [] h) (Falls cause None ∷ [])
 
     fell_journal : (a : ℕ) (cause : Fall) → journal_after (deeds a [] (fallen a cause)) ≡ journal_after (deeds a [] h)
-    fell_journal a cause = ap journal_after (deeds_fall a h cause) ∙ fold-append journal_at no_journal (deeds a [] h) (Falls cause None ∷ [])
+    fell_journal a cause = ap journal_after (deeds-fall a h cause) ∙ fold-append journal_at no_journal (deeds a [] h) (Falls cause None ∷ [])
 
     fell_stands : (a : ℕ) (cause : Fall) (next : Net) (slot : Option Bool) → next.up a ≡ false → next.records a ≡ (journal_after (deeds a [] h)).records → next.pending a ≡ (journal_after (deeds a [] h)).pending → Stands decl next a (fallen a cause) slot
     fell_stands a cause next slot up records pending = record {
