@@ -37,7 +37,7 @@ use Rattle.qc_lives.proofs.Downs.{tells, up_is}
 
 -- steps that are nobody's deeds
 
-line_silent : (line : Control) (step : Step) → controller_step line ≡ Some step → IsSilent step
+pub line_silent : (line : Control) (step : Step) → controller_step line ≡ Some step → IsSilent step
 line_silent (controls.Phase k) step is = absurd (let never : ⊥ = cc in never)
 line_silent (controls.Cut a b) step is = subst IsSilent (let same : steps.Cut a b ≡ step = cc in same) (record { sends = λ a. refl; deeds = λ ms. refl })
 line_silent (controls.Heal a b) step is = subst IsSilent (let same : steps.Heal a b ≡ step = cc in same) (record { sends = λ a. refl; deeds = λ ms. refl })
