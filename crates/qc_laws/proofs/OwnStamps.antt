@@ -45,20 +45,20 @@ use Rattle.qc_laws.proofs.OwnFronts as own_fronts
 abbrev pub AreStamped : List Posting → Type 0
 AreStamped ps = Every (λ (p : Posting). IsStamped p.message) ps
 
--- a client's own records and transactions
+-- a client's records, which name stamps of their transactions' own clients, and its own transactions
 
-abbrev IsOwnCommit : ℕ → Commit → Type 0
-IsOwnCommit k r = (r.stamp.client ≡ k) × (r.tx.client ≡ k)
+abbrev pub IsOwnCommit : Commit → Type 0
+IsOwnCommit r = r.stamp.client ≡ r.tx.client
 
-record Own (k : ℕ) (c : Client) : Type 0 where
-  front : OwnFront k c.front
-  desk : c.desk.client ≡ k
-  commits : Every (IsOwnCommit k) c.desk.commits
-  hand : (tx : TxId) → tx_of c.desk.voting ≡ Some tx → tx.client ≡ k
+pub record Own (k : ℕ) (c : Client) : Type 0 where
+  pub front : OwnFront k c.front
+  pub desk : c.desk.client ≡ k
+  pub commits : Every IsOwnCommit c.desk.commits
+  pub hand : (tx : TxId) → tx_of c.desk.voting ≡ Some tx → tx.client ≡ k
 
-record OwnMove (k : ℕ) (m : ClientMove) : Type 0 where
-  own : Own k m.client
-  sends : AreStamped m.turn.sends
+pub record OwnMove (k : ℕ) (m : ClientMove) : Type 0 where
+  pub own : Own k m.client
+  pub sends : AreStamped m.turn.sends
 
 pub by_two : {A : Type 0} (P : A → Type 0) (t : Bool) (x y : A) → P x → P y → P (if t then x else y)
 by_two P true x y here there = here
@@ -79,7 +79,7 @@ front_takes decl k c number answer own = front_own k c (fronts.takes decl c.fron
 
 -- the desk moves
 
-desk_front : (k : ℕ) (c : Client) (d : Desk) (t : Bool) → Own k c → d.client ≡ k → Every (IsOwnCommit k) d.commits → ((tx : TxId) → tx_of d.voting ≡ Some tx → tx.client ≡ k)
+desk_front : (k : ℕ) (c : Client) (d : Desk) (t : Bool) → Own k c → d.client ≡ k → Every IsOwnCommit d.commits → ((tx : TxId) → tx_of d.voting ≡ Some tx → tx.client ≡ k)
     → Own k (record { front = if t then ended c.front d.clock.value d.epoch else c.front; desk = d })
 desk_front k c d true own is commits hand = record { front = record { client = own.front.client; begun = tt }; desk = is; commits = commits; hand = hand }
 desk_front k c d false own is commits hand = record { front = own.front; desk = is; commits = commits; hand = hand }
@@ -105,18 +105,18 @@ no_hand k d none tx is = absurd (let gone : tx_of d.voting ≡ None = ap tx_of n
 
 desk_own : (k : ℕ) (c : Client) (hand : Option TxId) (m : DeskMove) → Own k c → ((tx : TxId) → hand ≡ Some tx → tx.client ≡ k) → IsMove c.desk hand m → OwnMove k (by_desk c m)
 desk_own k c hand m own held (inl w) = record {
-  own = desk_front k c m.desk (is_some m.turn.told) own (w.client ∙ own.desk) (subst (Every (IsOwnCommit k)) (sym w.commits) own.commits) (λ tx is. held tx (sym w.voting ∙ is));
+  own = desk_front k c m.desk (is_some m.turn.told) own (w.client ∙ own.desk) (subst (Every IsOwnCommit) (sym w.commits) own.commits) (λ tx is. held tx (sym w.voting ∙ is));
   sends = every-weaker (λ (p : Posting). IsPrepare p.message) (λ (p : Posting). IsStamped p.message) (λ p is. prepare_stamped p.message is) m.turn.sends w.sends;
 }
 desk_own k c hand m own held (inr (inl r)) =
     let stamp_is : r.stamp.client ≡ k = r.stamped ∙ own.desk in
     let tx_is : r.begun.tx.client ≡ k = held r.begun.tx r.handed in
     record {
-      own = desk_front k c m.desk (is_some m.turn.told) own (r.client ∙ own.desk) (subst (Every (IsOwnCommit k)) (sym r.commits) (every-append (IsOwnCommit k) c.desk.commits (commit_of r.stamp r.begun ∷ []) own.commits ((stamp_is, tx_is), tt))) (no_hand k m.desk r.voting);
+      own = desk_front k c m.desk (is_some m.turn.told) own (r.client ∙ own.desk) (subst (Every IsOwnCommit) (sym r.commits) (every-append IsOwnCommit c.desk.commits (commit_of r.stamp r.begun ∷ []) own.commits (stamp_is ∙ sym tx_is, tt))) (no_hand k m.desk r.voting);
       sends = subst (λ (t : Turn). AreStamped t.sends) (sym r.turn) (decisions_stamped r.begun (Committed r.stamp) (stamp_is ∙ sym tx_is));
     }
 desk_own k c hand m own held (inr (inr a)) = record {
-  own = desk_front k c m.desk (is_some m.turn.told) own (a.client ∙ own.desk) (subst (Every (IsOwnCommit k)) (sym a.commits) own.commits) (no_hand k m.desk a.voting);
+  own = desk_front k c m.desk (is_some m.turn.told) own (a.client ∙ own.desk) (subst (Every IsOwnCommit) (sym a.commits) own.commits) (no_hand k m.desk a.voting);
   sends = subst (λ (t : Turn). AreStamped t.sends) (sym a.turn) (decisions_stamped a.begun Aborted tt);
 }
 
@@ -129,21 +129,21 @@ both_true false y is = absurd (let never : ⊥ = cc in never)
 same_client : (x y : TxId) → same_tx x y ≡ true → x.client ≡ y.client
 same_client x y same = eqb-true x.client y.client (both_true (x.client == y.client) ((x.life == y.life) && (x.number == y.number)) same)
 
-known_own : (k : ℕ) (tx : TxId) (stamp : Stamp) (rs : List Commit) → Every (IsOwnCommit k) rs → known_by (record_of rs tx) ≡ knowns.Committed stamp → stamp.client ≡ tx.client
-known_own k tx stamp [] own is = absurd (let never : ⊥ = cc in never)
-known_own k tx stamp (r ∷ rs) own is = by (same_tx r.tx tx) refl (known_own k tx stamp rs own.1) is
+known_own : (tx : TxId) (stamp : Stamp) (rs : List Commit) → Every IsOwnCommit rs → known_by (record_of rs tx) ≡ knowns.Committed stamp → stamp.client ≡ tx.client
+known_own tx stamp [] own is = absurd (let never : ⊥ = cc in never)
+known_own tx stamp (r ∷ rs) own is = by (same_tx r.tx tx) refl (known_own tx stamp rs own.1) is
   where
     by : (t : Bool) → same_tx r.tx tx ≡ t → (known_by (record_of rs tx) ≡ knowns.Committed stamp → stamp.client ≡ tx.client) → known_by (if t then Some r else record_of rs tx) ≡ knowns.Committed stamp → stamp.client ≡ tx.client
     by true same later told =
         let it : r.stamp ≡ stamp = cc in
-        ap (λ (s : Stamp). s.client) (sym it) ∙ (own.0.0 ∙ (sym own.0.1 ∙ same_client r.tx tx same))
+        ap (λ (s : Stamp). s.client) (sym it) ∙ (own.0 ∙ same_client r.tx tx same)
     by false same later told = later told
 
 outcome_own : (k : ℕ) (c : Client) (tx : TxId) → Own k c → IsOwnStamp tx (outcome_of c tx)
 outcome_own k c tx own = by (known c.desk tx) (is_begun tx c.front.transaction) refl
   where
     by : (o : Known) (t : Bool) → known c.desk tx ≡ o → IsOwnStamp tx (outcome_by o t)
-    by (knowns.Committed stamp) t is = known_own k tx stamp c.desk.commits own.commits is
+    by (knowns.Committed stamp) t is = known_own tx stamp c.desk.commits own.commits is
     by knowns.Uncommitted true is = tt
     by knowns.Uncommitted false is = tt
 
@@ -179,7 +179,7 @@ heard_own decl k c from number (messages.Ask tx) own = record { own = own; sends
 heard_own decl k c from number (messages.Close epoch) own = record { own = own; sends = tt }
 heard_own decl k c from number (messages.Install epoch clock log) own = record { own = own; sends = tt }
 
-takes_own : (decl : Declaration) (k : ℕ) (c : Client) (g : Given) → Own k c → OwnMove k (client_takes decl c g)
+pub takes_own : (decl : Declaration) (k : ℕ) (c : Client) (g : Given) → Own k c → OwnMove k (client_takes decl c g)
 takes_own decl k c (given.Called command) own = called_own decl k c command own
 takes_own decl k c (given.Got envelope) own = heard_own decl k c envelope.from envelope.number envelope.message own
 takes_own decl k c (given.Lost number) own = answered_own decl k c number None own
@@ -193,7 +193,7 @@ prepared_own k c number site own = by c.desk.voting refl
     by None is = own
     by (Some v) is = record { front = own.front; desk = own.desk; commits = own.commits; hand = λ tx same. own.hand tx (ap tx_of is ∙ same) }
 
-sent_own : (k : ℕ) (c : Client) (number to : ℕ) (m : Message) → Own k c → Own k (sent_one c number to m)
+pub sent_own : (k : ℕ) (c : Client) (number to : ℕ) (m : Message) → Own k c → Own k (sent_one c number to m)
 sent_own k c number to (messages.Request tx epoch life want) own = by want
   where
     by : (w : Want) → Own k (requested c number to w)

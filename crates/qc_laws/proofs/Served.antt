@@ -59,7 +59,7 @@ module _ (decl : Declaration) where
   deed_cut before (Falls cause pending) xs ys g due = tt
   deed_cut before (Rises records) xs ys g due = post_cut (rising_turn decl (before ++ Rises records ∷ [])) xs ys g due
 
-  due_cut : (before xs ys : List Deed) (g : Given) → AreDue decl before (xs ++ Takes g ∷ ys) → AreDue decl before (xs ++ Takes g ∷ [])
+  pub due_cut : (before xs ys : List Deed) (g : Given) → AreDue decl before (xs ++ Takes g ∷ ys) → AreDue decl before (xs ++ Takes g ∷ [])
   due_cut before [] ys g due = (tt, tt)
   due_cut before (d ∷ xs) ys g due = (deed_cut before d xs ys g due.0, due_cut (before ++ d ∷ []) xs ys g due.1)
 

@@ -1,1 +1,2 @@
 pub mod LivesIn
+pub mod OwnRises

@@ -1,5 +1,5 @@
-//! Laws of every run with falls: each actor lives,
-//! by turns, and messages reach their receivers.
+//! Laws of every run with falls: each actor lives, by turns, messages reach their
+//! receivers, and sites are what their steps show.
 //!
 //! No run of the program has a fall yet; these laws are of histories alone.
 //!
@@ -11,11 +11,23 @@
 //! 3. So its deeds are by turns (`actors_go_by_turns_with_falls`), and messages
 //!    reach those whom they were sent to
 //!    (`messages_reach_their_receivers_with_falls`).
+//! 4. Where clients rise with commit records that name stamps of their own, each
+//!    Decision Committed does
+//!    (`decisions_name_stamps_of_their_clients_with_falls`); so sites take what
+//!    sites take (`sites_take_site_inputs_with_falls`), they serve
+//!    (`sites_serve_with_falls`), they are what their steps show
+//!    (`sites_are_what_their_steps_show_with_falls`), and what they post is due
+//!    (`what_sites_post_is_due_with_falls`).
 #![tactic(auto)]
 
 mod laws;
+mod sites;
 
 pub use laws::{
     actors_go_by_turns_with_falls, actors_live_in_runs_with_falls,
     messages_reach_their_receivers_with_falls, who_is_down_only_tells,
+};
+pub use sites::{
+    decisions_name_stamps_of_their_clients_with_falls, sites_are_what_their_steps_show_with_falls,
+    sites_serve_with_falls, sites_take_site_inputs_with_falls, what_sites_post_is_due_with_falls,
 };

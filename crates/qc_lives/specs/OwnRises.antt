@@ -1,0 +1,30 @@
+-- What clients are given as they rise: commit records that name stamps of their transactions' own clients.
+use Rattle.std.specs.Prelude.{◌≡◌, ℕ, true, List, []}
+use Rattle.std.specs.List.{AllByRecursion as Every}
+use Rattle.qc_decl.specs.declared.declaration.Declaration.{Declaration}
+use Rattle.qc_decl.specs.Actors.{is_client}
+use Rattle.qc_msg.specs.declared.record.Record.{Record}
+use Rattle.qc_msg.specs.declared.record.Record.TheVariants.{Life, Prepare, Done, Close, Install, Commit, Decide}
+use Rattle.qc_msg.specs.Deeds.{Deed, Takes, Writes, Sends, Tells, Falls, Rises, deeds}
+use Rattle.qc_msg.specs.Steps.{Entry}
+
+abbrev pub IsOwnRecord : Record → Type 0
+IsOwnRecord Life = Unit {0}
+IsOwnRecord (Prepare prepared) = Unit {0}
+IsOwnRecord (Done tx clock) = Unit {0}
+IsOwnRecord (Close epoch) = Unit {0}
+IsOwnRecord (Install epoch clock lines) = Unit {0}
+IsOwnRecord (Commit commit) = commit.stamp.client ≡ commit.tx.client
+IsOwnRecord (Decide epoch clock lines) = Unit {0}
+
+abbrev pub GivesOwn : Deed → Type 0
+GivesOwn (Takes given) = Unit {0}
+GivesOwn (Writes written) = Unit {0}
+GivesOwn (Sends number to message) = Unit {0}
+GivesOwn (Tells reply) = Unit {0}
+GivesOwn (Falls cause pending) = Unit {0}
+GivesOwn (Rises records) = Every IsOwnRecord records
+
+-- each client rises with such records alone
+abbrev pub RiseWithOwn : Declaration → List Entry → Type 0
+RiseWithOwn decl h = (a : ℕ) → is_client decl a ≡ true → Every GivesOwn (deeds a [] h)
