@@ -27,7 +27,7 @@ use Rattle.qc_promise.specs.Accounting.{account_at, account_heard, account_sent,
 use Rattle.qc_promise.specs.Asked.{is_asked_for}
 use Rattle.qc_site.specs.Conduct.{site_after}
 use Rattle.qc_promise.specs.Replies.{IsFreeFor}
-use Rattle.qc_laws.proofs.Up.{AreUp, IsUp}
+use Rattle.qc_laws.proofs.Up.{AreUp}
 
 granted_command : (d : Account) (site life clock : ℕ) (log : List Line) (w : Want) → (granted d site life clock log w).command ≡ d.command
 granted_command d site life clock log (Read object inv) = refl
@@ -91,31 +91,35 @@ sent_command decl d n to (messages.Ask tx) = refl
 sent_command decl d n to (messages.Close epoch) = refl
 sent_command decl d n to (messages.Install epoch clock log) = refl
 
-runs_step : (decl : Declaration) (d : Account) (deed : Deed) → IsUp deed → runs_at (is_some d.command) deed ≡ is_some (account_at decl d deed).command
-runs_step decl d (Takes (given.Called command)) up = refl
-runs_step decl d (Takes (given.Got envelope)) up = ap is_some (sym (heard_command d envelope.message))
-runs_step decl d (Takes (given.Lost n)) up = ap is_some (sym (counted_command d n None))
-runs_step decl d (Writes w) up = ap is_some (sym (written_command d w))
-runs_step decl d (Sends n to m) up = ap is_some (sym (sent_command decl d n to m))
-runs_step decl d (Tells reply) up = refl
-runs_step decl d (Falls cause pending) up = absurd up
-runs_step decl d (Rises records) up = absurd up
+runs_step : (decl : Declaration) (d : Account) (deed : Deed) → runs_at (is_some d.command) deed ≡ is_some (account_at decl d deed).command
+runs_step decl d (Takes (given.Called command)) = refl
+runs_step decl d (Takes (given.Got envelope)) = ap is_some (sym (heard_command d envelope.message))
+runs_step decl d (Takes (given.Lost n)) = ap is_some (sym (counted_command d n None))
+runs_step decl d (Writes w) = ap is_some (sym (written_command d w))
+runs_step decl d (Sends n to m) = ap is_some (sym (sent_command decl d n to m))
+runs_step decl d (Tells reply) = refl
+runs_step decl d (Falls cause pending) = refl
+runs_step decl d (Rises records) = refl
 
-runs_on : (decl : Declaration) (ds : List Deed) (d : Account) → AreUp ds → fold runs_at (is_some d.command) ds ≡ is_some (fold (account_at decl) d ds).command
-runs_on decl [] d up = refl
-runs_on decl (x ∷ ds) d up = ap (λ (b : Bool). fold runs_at b ds) (runs_step decl d x up.0) ∙ runs_on decl ds (account_at decl d x) up.1
+runs_on : (decl : Declaration) (ds : List Deed) (d : Account) → fold runs_at (is_some d.command) ds ≡ is_some (fold (account_at decl) d ds).command
+runs_on decl [] d = refl
+runs_on decl (x ∷ ds) d = ap (λ (b : Bool). fold runs_at b ds) (runs_step decl d x) ∙ runs_on decl ds (account_at decl d x)
 
-pub running : (decl : Declaration) (client : ℕ) (ds : List Deed) → AreUp ds → is_running ds ≡ is_some (fold (account_at decl) (new_account client) ds).command
-running decl client ds up = runs_on decl ds (new_account client) up
+pub running : (decl : Declaration) (client : ℕ) (ds : List Deed) → is_running ds ≡ is_some (fold (account_at decl) (new_account client) ds).command
+running decl client ds = runs_on decl ds (new_account client)
 
-pub may_give : (decl : Declaration) (client : ℕ) (ds : List Deed) → AreUp ds → (g : Given) → MayTake ds g → IsFreeFor (fold (account_at decl) (new_account client) ds) g
-may_give decl client ds up (given.Called command) may = by (fold (account_at decl) (new_account client) ds).command (sym (running decl client ds up) ∙ may)
+-- through falls and rises too
+pub free_for : (decl : Declaration) (client : ℕ) (ds : List Deed) (g : Given) → MayTake ds g → IsFreeFor (fold (account_at decl) (new_account client) ds) g
+free_for decl client ds (given.Called command) may = by (fold (account_at decl) (new_account client) ds).command (sym (running decl client ds) ∙ may)
   where
     by : (o : Option Command) → is_some o ≡ false → o ≡ None
     by None is = refl
     by (Some c) is = absurd (let never : ⊥ = cc in never)
-may_give decl client ds up (given.Got envelope) may = tt
-may_give decl client ds up (given.Lost n) may = tt
+free_for decl client ds (given.Got envelope) may = tt
+free_for decl client ds (given.Lost n) may = tt
+
+pub may_give : (decl : Declaration) (client : ℕ) (ds : List Deed) → AreUp ds → (g : Given) → MayTake ds g → IsFreeFor (fold (account_at decl) (new_account client) ds) g
+may_give decl client ds up g may = free_for decl client ds g may
 
 -- a client's lawful turn is its conduct's
 

@@ -3,6 +3,7 @@ use Rattle.std.proofs.Common.{◌≡◌, ◌⊎◌, ◌<◌, ◌≤◌, ℕ, ◌
 use Rattle.std.specs.Prelude.{fold, option_and_then, option_map}
 use Rattle.std.specs.List.{find, AllByRecursion as Every}
 use Rattle.std.proofs.lemmas.Bool.{cases_lt}
+use Rattle.std.proofs.lemmas.List.{append-nil}
 use Rattle.qc_decl.specs.declared.declaration.Declaration.{Declaration}
 use Rattle.qc_entry.specs.declared.line.Line.{Line}
 use Rattle.qc_msg.specs.declared.message.Answer.{Answer}
@@ -64,14 +65,17 @@ module _ (decl : Declaration) (d : Account) (w : IsWithin decl d) where
   is_declared (Some t) plan commands.Abort table = refl
   is_declared (Some t) plan (commands.Epoch number) table = refl
 
-  pub due_is : due decl d false ≡ running_row decl d false
-  due_is = by d.command w.command
+  pub due_as : (unwritten : Bool) → due decl d unwritten ≡ running_row decl d unwritten
+  due_as unwritten = by d.command w.command
     where
-      by : (o : Option Command) → HasTable decl o → option_and_then (reply_to decl d false) o ≡ option_and_then (row_of decl d false d.current) o
+      by : (o : Option Command) → HasTable decl o → option_and_then (reply_to decl d unwritten) o ≡ option_and_then (row_of decl d unwritten d.current) o
       by None table = refl
       by (Some c) table =
-          ap (λ (b : Bool). cond b (cond (is_declared_for decl d.current c) (row_of decl d false d.current c) None) (Some replies.Down)) w.up
-          ∙ ap (λ (b : Bool). cond b (row_of decl d false d.current c) None) (is_declared d.current w.current c table)
+          ap (λ (b : Bool). cond b (cond (is_declared_for decl d.current c) (row_of decl d unwritten d.current c) None) (Some replies.Down)) w.up
+          ∙ ap (λ (b : Bool). cond b (row_of decl d unwritten d.current c) None) (is_declared d.current w.current c table)
+
+  pub due_is : due decl d false ≡ running_row decl d false
+  due_is = due_as false
 
 -- where there is no row nothing is due
 
@@ -248,30 +252,33 @@ module _ (decl : Declaration) where
   within_all [] d up all w = w
   within_all (x ∷ ds) d up all w = within_all ds (account_at decl d x) up.1 all.1 (within_at d x up.0 all.0 w)
 
-  -- so what is by the rows is due
+  -- so what is by the rows is due, whatever comes behind it with no record pending
 
-  none_pending : (after : List Deed) → AreUp after → pending_next after ≡ None
-  none_pending [] up = refl
-  none_pending (Takes g ∷ after) up = refl
-  none_pending (Writes r ∷ after) up = refl
-  none_pending (Sends number to m ∷ after) up = refl
-  none_pending (Tells reply ∷ after) up = refl
-  none_pending (Falls cause pending ∷ after) up = absurd up.0
-  none_pending (Rises kept ∷ after) up = absurd up.0
+  none_pending : (after ys : List Deed) → AreUp after → pending_next ys ≡ None → pending_next (after ++ ys) ≡ None
+  none_pending [] ys up none = none
+  none_pending (Takes g ∷ after) ys up none = refl
+  none_pending (Writes r ∷ after) ys up none = refl
+  none_pending (Sends number to m ∷ after) ys up none = refl
+  none_pending (Tells reply ∷ after) ys up none = refl
+  none_pending (Falls cause pending ∷ after) ys up none = absurd up.0
+  none_pending (Rises kept ∷ after) ys up none = absurd up.0
 
-  deed_due : (d : Account) (x : Deed) (after : List Deed) → AreUp (x ∷ after) → IsWithin decl d → IsDeedDue decl d x → promise.IsDeedDue decl d x after
-  deed_due d (Takes g) after up w is = subst (λ (row : Option Reply). IsInputDue d row g) (sym (due_is decl d w)) is
-  deed_due d (Writes r) after up w is = subst (λ (row : Option Reply). IsRecordDue d row r) (sym (due_is decl d w)) is
-  deed_due d (Sends number to m) after up w is = tt
-  deed_due d (Tells reply) after up w is =
-      let none : pending_next after ≡ None = none_pending after up.1 in
-      (ap (λ (o : Option Record). due decl d (is_some o)) none ∙ due_is decl d w ∙ is.0, is.1, none ∙ is.2)
-  deed_due d (Falls cause pending) after up w is = absurd up.0
-  deed_due d (Rises kept) after up w is = absurd up.0
+  deed_due : (d : Account) (x : Deed) (after : List Deed) → IsUp x → pending_next after ≡ None → IsWithin decl d → IsDeedDue decl d x → promise.IsDeedDue decl d x after
+  deed_due d (Takes g) after up none w is = subst (λ (row : Option Reply). IsInputDue d row g) (sym (due_is decl d w)) is
+  deed_due d (Writes r) after up none w is = subst (λ (row : Option Reply). IsRecordDue d row r) (sym (due_is decl d w)) is
+  deed_due d (Sends number to m) after up none w is = tt
+  deed_due d (Tells reply) after up none w is = (ap (λ (o : Option Record). due decl d (is_some o)) none ∙ due_is decl d w ∙ is.0, is.1, none ∙ is.2)
+  deed_due d (Falls cause pending) after up none w is = absurd up
+  deed_due d (Rises kept) after up none w is = absurd up
+
+  pub due_then : (ds ys : List Deed) (d : Account) → AreUp ds → Every (IsDeclaredDeed decl) ds → pending_next ys ≡ None → IsWithin decl d → AreDeedsDue decl d ds
+      → promise.AreDeedsDue decl (fold (account_at decl) d ds) ys → promise.AreDeedsDue decl d (ds ++ ys)
+  due_then [] ys d up all none w is behind = behind
+  due_then (x ∷ ds) ys d up all none w is behind =
+      (deed_due d x (ds ++ ys) up.0 (none_pending ds ys up.1 none) w is.0, due_then ds ys (account_at decl d x) up.1 all.1 none (within_at d x up.0 all.0 w) is.1 behind)
 
   pub all_due : (ds : List Deed) (d : Account) → AreUp ds → Every (IsDeclaredDeed decl) ds → IsWithin decl d → AreDeedsDue decl d ds → promise.AreDeedsDue decl d ds
-  all_due [] d up all w is = tt
-  all_due (x ∷ ds) d up all w is = (deed_due d x ds up w is.0, all_due ds (account_at decl d x) up.1 all.1 (within_at d x up.0 all.0 w) is.1)
+  all_due ds d up all w is = subst (λ (v : List Deed). promise.AreDeedsDue decl d v) (append-nil ds) (due_then ds [] d up all refl w is tt)
 
   pub within_first : (client : ℕ) (ds : List Deed) → Declares decl ds → IsWithin decl (new_account client)
   within_first client ds are = record { up = refl; known = are.first; current = tt; command = tt }

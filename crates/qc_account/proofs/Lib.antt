@@ -20,6 +20,11 @@ pub mod Mute
 pub mod StaysUp
 pub mod Anew
 pub mod Unwritten
+pub mod Writing
+pub mod Rising
+pub mod Standing
+pub mod Happenings
+pub mod Lifelong
 pub mod Dues
 pub mod Awaits
 pub mod Awaited

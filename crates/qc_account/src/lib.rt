@@ -1,6 +1,6 @@
 //! The account of a client's deeds is the client, and so all that a client
 //! records, asks and tells is due: laws alone, there is no code here. They are of
-//! one life: nobody falls in a run yet.
+//! one life, but for 9.
 //!
 //! 1. Where a client has no open input, the account of its deeds tells it
 //!    (`accounts_are_their_clients`). It begins anew as the client rises, with its
@@ -30,10 +30,13 @@
 //! 8. What the laws of 7 want of a script, each has that is read for an accepted
 //!    declaration (`read_scripts_ask_what_is_declared`), since it names what is
 //!    declared (`scripts_ask_what_is_declared`).
+//! 9. What is due of a client stays so through its falls and rises, whatever the
+//!    records that it rises with (`lives_of_clients_are_due`).
 #![tactic(auto)]
 
 mod clients;
 mod endings;
+mod lives;
 mod runs;
 mod scripts;
 mod waiting;
@@ -46,6 +49,7 @@ pub use clients::{
 pub use endings::{
     clients_wait_only_for_requests, commands_end, each_call_has_its_reply, runs_are_whole,
 };
+pub use lives::lives_of_clients_are_due;
 pub use runs::{commands_of_runs_wait, replies_are_due, runs_are_due};
 pub use scripts::{read_scripts_ask_what_is_declared, scripts_ask_what_is_declared};
 pub use waiting::{
