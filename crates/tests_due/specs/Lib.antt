@@ -9,5 +9,5 @@ pub mod WrongRefusals
 pub mod WrongPosts
 pub mod Orders
 pub mod WrongTurns
-pub mod WrongFalls
+pub mod WrongTurnsThroughFalls
 pub mod WrongMail
