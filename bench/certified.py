@@ -2,7 +2,7 @@
 """Measures how declarations of nearly 4 MiB with the dearest certificates that
 were found are accepted, from the text on, beside the plain walk of certificate_walk.rs.
 
-usage: bench/certified.py [RUNS [FOLDER]]
+usage: bench/certified.py [RUNS [FOLDER [PROGRAM..]]]
 
 Makes a program of declaration_read.rt.in on a copy of the crates in a temporary
 folder, proves and builds it with rt, and runs it on each text in turn RUNS times,
@@ -10,8 +10,9 @@ folder, proves and builds it with rt, and runs it on each text in turn RUNS time
 triple, so that no certificate is walked. What is between is the time of
 certificates. All are seconds of the processor. The plain walk over one type of the
 drawn list tells how fast the machine was meanwhile. The texts stay in FOLDER, where
-it is given, for `quorum check`. Ends with status 1 where a text takes more than
-MOST_SECONDS, or isn't accepted.
+it is given, for `quorum check`, and so does the program, as `reader`. With programs
+that were so made nothing is built, and all are run in turn. Ends with status 1 where
+a text takes the last program more than MOST_SECONDS, or isn't accepted.
 
 Each type has 64 states and 64 events, each legal in each state but in the first
 leading on to another one, and depends on nothing. So an event is looked up twice at
@@ -21,6 +22,7 @@ each triple, left out and taken.
 import itertools
 import os
 import random
+import shutil
 import statistics
 import sys
 import tempfile
@@ -33,7 +35,7 @@ USES = ("qc_cert", "qc_accept", "toml")
 MOST_BYTES = 4_194_304
 MOST_TYPES = 8
 MOST_ALIKE = 1024
-MOST_SECONDS = 4.0
+MOST_SECONDS = 2.0
 EVENTS = 64
 
 NAMES = "abcdefghijklmnopqrstuvwxyzABCDEFGHIJKLMNOPQRSTUVWXYZ0123456789_"
@@ -41,7 +43,7 @@ STATES = [*NAMES, "aa"]
 TEXTS = ["%s:%s" % (NAMES[event // 2], NAMES[event % 2]) for event in range(EVENTS)]
 START = "a a -"
 
-# The event that alone covers, in the lists but `own`.
+# The event that alone covers, in lists where one set does.
 LAST = EVENTS - 1
 
 
@@ -53,13 +55,14 @@ def looked_last(events):
 
 
 # A list is a step, from a state past 0 and an event to a state past 0, and groups:
-# view, log, whether all of the sets are kept where a type is cut short, and the sets.
+# view, log, which of the sets are kept where a type is cut short, and the sets.
+ALL, FIRST, ENDS = "all", "the first", "the first, and the last of all"
 
 
 def two(_seed):
     """Two events each, in 1,024 groups of 32 by 32 states."""
     sets = [(LAST,), *((event, LAST) for event in range(LAST - 1))]
-    groups = [(view, log, False, sets) for view in range(1, 33) for log in range(1, 33)]
+    groups = [(view, log, FIRST, sets) for view in range(1, 33) for log in range(1, 33)]
     random.Random(0).shuffle(groups)
     return (lambda state, event: 1 + (state + 7 * event) % 32), groups
 
@@ -71,7 +74,7 @@ def drawn(seed):
         found = {(LAST,)}
         while len(found) < MOST_ALIKE:
             found.add((*sorted(chance.sample(range(LAST), 3)), LAST))
-        groups.append((0, log, False, sorted(found, key=len)))
+        groups.append((0, log, FIRST, sorted(found, key=len)))
     return (lambda state, event: 1 + (state + event % 62) % 63), groups
 
 
@@ -79,7 +82,7 @@ def own(seed):
     """Four of 14 events each, in 63 groups of 1,001. Each set alone covers itself."""
     sets = list(itertools.combinations(range(50, 64), 4))
     random.Random(seed).shuffle(sets)
-    return (lambda state, event: 1 + (state + event % 62) % 63), [(0, log, False, sets) for log in range(1, 64)]
+    return (lambda state, event: 1 + (state + event % 62) % 63), [(0, log, FIRST, sets) for log in range(1, 64)]
 
 
 def ten(seed):
@@ -92,12 +95,113 @@ def ten(seed):
     asking = [(other, *seven, LAST) for seven in itertools.combinations(tens, 7) for other in range(apart)]
     chance.shuffle(asking)
     asking.sort(key=lambda events: not looked_last(events))
-    groups = [(0, 9, True, [()]), *((0, log, True, [(LAST,), *full]) for log in range(1, 9))]
-    groups += [(0, log, False, asking[:MOST_ALIKE]) for log in range(10, 64)]
+    groups = [(0, 9, ALL, [()]), *((0, log, ALL, [(LAST,), *full]) for log in range(1, 9))]
+    groups += [(0, log, FIRST, asking[:MOST_ALIKE]) for log in range(10, 64)]
     return (lambda state, event: 9 if state < 9 else 0 if state == 9 else 1 + (state + event) % 8), groups
 
 
-LISTS = {"two": two, "drawn": drawn, "own": own, "ten": ten}
+def on(state, event):
+    """The next state, which is another one of 63: an event leads each to one of its own."""
+    return 1 + (state + event % 62) % 63
+
+
+def tens(seed):
+    """The same, but what covers all comes last in each of the eight groups."""
+    step, groups = ten(seed)
+    return step, [(view, log, kept, [*sets[1:], sets[0]]) for view, log, kept, sets in groups]
+
+
+def pairs(seed):
+    """Two of 46 events each, in 63 groups of 1,024. Each set alone covers itself."""
+    sets = list(itertools.combinations(range(18, 64), 2))[:MOST_ALIKE]
+    random.Random(seed).shuffle(sets)
+    return on, [(0, log, FIRST, sets) for log in range(1, 64)]
+
+
+def three(seed):
+    """Three of 20 events each, in 63 groups of 1,024. Each set alone covers itself."""
+    sets = list(itertools.combinations(range(6, 64, 3), 3))
+    random.Random(seed).shuffle(sets)
+    return on, [(0, log, FIRST, sets[:MOST_ALIKE]) for log in range(1, 64)]
+
+
+def six(seed):
+    """Six of 13 events each, in 63 groups of 1,024. Each set alone covers itself."""
+    sets = list(itertools.combinations(range(51, 64), 6))
+    random.Random(seed).shuffle(sets)
+    return on, [(0, log, FIRST, sets[:MOST_ALIKE]) for log in range(1, 64)]
+
+
+def last(seed):
+    """Three events each, in 63 groups of 1,024, of which the last set alone covers."""
+    chance, groups = random.Random(seed), []
+    for log in range(1, 64):
+        sets = [(*pair, LAST) for pair in itertools.combinations(range(LAST), 2)]
+        chance.shuffle(sets)
+        groups.append((0, log, ENDS, [*sets[:MOST_ALIKE - 1], (LAST,)]))
+    return on, groups
+
+
+def ended(events, seed):
+    """Such events and the last one, in 63 groups of 1,024, of which the last set alone covers."""
+    chance, groups = random.Random(seed), []
+    sets = [(*some, LAST) for some in events]
+    for log in range(1, 64):
+        chance.shuffle(sets)
+        groups.append((0, log, ENDS, [*sets[:MOST_ALIKE - 1], (LAST,)]))
+    return on, groups
+
+
+def fours(seed):
+    """Four of 21 events each, in 63 groups of 1,024, of which the last set alone covers."""
+    return ended(itertools.combinations(range(3, 63, 3), 3), seed)
+
+
+def walks(seed):
+    """Four of 24 events each, likewise: the parts of five events are just short enough for a walk."""
+    return ended(itertools.combinations(range(17, 63, 2), 3), seed)
+
+
+def sevens(seed):
+    """Seven of 14 events each, likewise."""
+    return ended(itertools.combinations(range(2, 54, 4), 6), seed)
+
+
+def ones(seed):
+    """One event each, 64 sets in each of 799 groups. All is looked up in 14 groups
+    more, of 1,024 sets, of which the last 64 have one event each."""
+    chance, full, single = random.Random(seed), [], [(event,) for event in range(EVENTS)]
+    for view in range(1, 15):
+        sets = list(itertools.combinations(range(EVENTS), 2))
+        chance.shuffle(sets)
+        full.append((view, 1, ALL, [*sets[:MOST_ALIKE - EVENTS - 1], *single, () if view == 1 else sets[-1]]))
+    asking = [(view, log, FIRST, single) for view in range(2, 15) for log in range(2, 64)]
+    return (lambda _state, _event: 1), [*full, *asking[:799]]
+
+
+def some(count, events, seed):
+    """Two of so many events each, in as many groups of so many sets as there may be."""
+    side = int((65_535 / count) ** 0.5)
+    sets = list(itertools.combinations(range(EVENTS - events, EVENTS), 2))[:count]
+    random.Random(seed).shuffle(sets)
+    groups = [(view, log, FIRST, sets) for log in range(1, 65) for view in range(1, side + 1)]
+    return (lambda state, event: 1 + (state + 7 * event) % side), groups[: 65_535 // count]
+
+
+def few(seed):
+    """Two of 15 events each, 96 sets in each group: the most that get no table."""
+    return some(96, 15, seed)
+
+
+def more(seed):
+    """The same with one set more, so that each group has a table."""
+    return some(97, 15, seed)
+
+
+LISTS = {
+    "two": two, "drawn": drawn, "own": own, "ten": ten, "tens": tens, "pairs": pairs, "three": three, "six": six,
+    "last": last, "fours": fours, "walks": walks, "sevens": sevens, "ones": ones, "few": few, "more": more,
+}
 
 
 def texts(key, items):
@@ -113,11 +217,18 @@ def rows(step):
             yield "%s %s %s %s" % (STATES[state], NAMES[event // 2], NAMES[event % 2], STATES[to])
 
 
+def cut(sets, kept, most):
+    """The sets of a group, at most so many where it may be cut short."""
+    if kept == ALL or len(sets) <= most:
+        return sets
+    return sets[:most] if kept == FIRST else [*sets[: most - 1], sets[-1]]
+
+
 def triples(groups, most):
     """The triples, at most so many of a group that may be cut short."""
     yield START
-    for view, log, is_whole, sets in groups:
-        for events in sets if is_whole else sets[:most]:
+    for view, log, kept, sets in groups:
+        for events in cut(sets, kept, most):
             yield "%s %s %s" % (STATES[view], STATES[log], ",".join(TEXTS[e] for e in events) or "-")
 
 
@@ -165,22 +276,26 @@ def write(folder, name):
 
 def main():
     runs = int(sys.argv[1]) if len(sys.argv) > 1 else 3
-    with tempfile.TemporaryDirectory() as folder:
-        program = programs.build(folder, "reader", "declaration_read.rt.in", USES)
-        walk = programs.plain(folder, "certificate_walk.rs")
-        calls = {"walk": [walk, "drawn"]}
+    with tempfile.TemporaryDirectory() as room:
+        folder, readers = sys.argv[2] if len(sys.argv) > 2 else room, sys.argv[3:]
+        if not readers:
+            readers = [os.path.join(folder, "reader")]
+            shutil.copy(programs.build(room, "reader", "declaration_read.rt.in", USES), readers[0])
+        calls = {"walk": [programs.plain(room, "certificate_walk.rs"), "drawn"]}
         for name in LISTS:
-            whole, unstarted = write(sys.argv[2] if len(sys.argv) > 2 else folder, name)
-            calls[name] = [program, "accept", whole]
-            calls[name + " read"] = [program, "accept", unstarted]
+            whole, unstarted = write(folder, name)
+            for number, reader in enumerate(readers):
+                calls[name, number] = [reader, "accept", whole]
+            calls[name] = [readers[-1], "accept", unstarted]
         seen = programs.in_turn(calls, runs)
     found = {case: statistics.median(run[0] for run in seen[case]) for case in seen}
-    good = True
+    good, numbers = True, range(len(readers))
     for name in LISTS:
-        told = seen[name][0][2] + seen[name + " read"][0][2]
-        good = good and found[name] <= MOST_SECONDS and "accepted" in told and "no start" in told
-        print("%-6s accepted in %.2f s, at most %.1f; its reading %.2f s" % (
-            name, found[name], MOST_SECONDS, found[name + " read"]))
+        told = [seen[name, number][0][2] for number in numbers]
+        good = good and found[name, numbers[-1]] <= MOST_SECONDS and "no start" in seen[name][0][2]
+        good = good and all("accepted" in it for it in told)
+        print("%-6s accepted in %s s, at most %.1f; its reading %.2f s" % (
+            name, ", ".join("%.2f" % found[name, number] for number in numbers), MOST_SECONDS, found[name]))
     print("the plain walk over one type of the drawn list %.2f s" % found["walk"])
     sys.exit(0 if good else 1)
 

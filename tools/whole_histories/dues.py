@@ -7,11 +7,12 @@ MODEL is the folder of the model, as for the tool in whose folder this one
 stands. This one writes crates/tests_due: laws that all is due in each history
 of crates/tests_histories; histories for the rows of the table of replies that
 those don't have (`later.py`, and one of too many operations); and wrong
-histories (`wrong_reads.py`, `wrong_commits.py`, `wrong_sites.py`), each with a
-law that refuses it. It writes specs/, proofs/ and src/ there, but not
-proofs/Owed.antt, Places.antt, Sites.antt, SitePlaces.antt and src/lib.rt, nor
-what is of turns and mail (`WRONG_BY_HAND`, proofs/Orders.antt, src/turns_and_mail.rt);
-`rt fmt` then finds nothing to lay out.
+histories (`wrong_reads.py`, `wrong_asks.py`, `wrong_commits.py`,
+`wrong_sites.py`), each with a law that refuses it. It writes specs/, proofs/
+and src/ there, but not proofs/Owed.antt, Places.antt, Sites.antt,
+SitePlaces.antt and src/lib.rt, nor what is of turns and mail
+(`WRONG_BY_HAND`, proofs/Orders.antt, src/turns_and_mail.rt); `rt fmt` then
+finds nothing to lay out.
 """
 
 import os
@@ -19,6 +20,7 @@ import sys
 
 sys.dont_write_bytecode = True
 import later
+import wrong_asks
 import wrong_commits
 import wrong_reads
 import wrong_sites
@@ -129,7 +131,7 @@ def right(lemmas, doc, name, histories):
     body = "".join(lemma(n, s) for n, s in histories)
     used = words_of(body)
     words = [path for path in (
-        "Rattle.std.proofs.Common.{[], refl}", THREE, DEEDS, DUE, REPLIES,
+        "Rattle.std.proofs.Common.{%srefl}" % ("[], " if "[]" in body else ""), THREE, DEEDS, DUE, REPLIES,
         ACTORS, "Rattle.tests_due.proofs.Orders.{by_turns_where_placed, mailed_where_shown}",
         "Rattle.tests_due.proofs.Owed.{all_due_where_shown}", "Rattle.tests_due.proofs.Owed.{due_where_shown}",
         "Rattle.tests_due.proofs.Sites.{sites_due_where_posted}") if set(words_of(path.split(".")[-1])) & used]
@@ -185,7 +187,8 @@ def make_wrong(run, kinds, source, head, words):
             if source == "wrong":
                 lemmas += reply_at(said, name, history, place, *rest[1:])
                 actor = history[place][0]
-                clauses.append((name, "AreRepliesDue three %d (deeds %d [] %s) → ⊥" % (actor - FIRST_CLIENT, actor, said)))
+                clauses.append((name, "AreRepliesDue three %d (deeds %d [] %s) → ⊥" % (
+                    actor - FIRST_CLIENT, actor, said)))
             else:
                 lemmas += last_post(said, name, history, rest[0], *rest[2:])
                 clauses.append((name, "AreDue three [] (deeds %d [] %s) → ⊥" % (rest[0], said)))
@@ -213,7 +216,8 @@ def main(words):
         return r.still.history
 
     specs, lemmas = make_right(run, parts)
-    wrong_files = make_wrong(run, wrong_reads.cases(*parts) + wrong_commits.cases(*parts), "wrong",
+    wrong_clients = wrong_reads.cases(*parts) + wrong_asks.cases(*parts) + wrong_commits.cases(*parts)
+    wrong_files = make_wrong(run, wrong_clients, "wrong",
                              "Wrong histories of clients, each refused.", [THREE, DEEDS, REPLIES])
     wrong_files += make_wrong(run, wrong_sites.cases(*parts), "wrong_sites", "Wrong histories of sites, each refused.",
                               [THREE, DEEDS, SITES])

@@ -40,10 +40,11 @@ def deeds_before(history, place):
 
 
 def reply_at(said, name, history, place, part, due):
-    """The step at a place is a client's reply, or its commit record."""
+    """The step at a place is a client's reply, or its commit record, or an input where a reply is untold."""
     x = history[place][1]
     told = "(Some %s)" % (term("replies.Committed", stamp(x.record.stamp)) if kind(x) == "Wrote" else
-                          "replies.Unknown" if kind(x.reply) == "Unknown" else spelled_reply(x.reply))
+                          "replies.Unknown" if kind(x.reply) == "Unknown" else
+                          spelled_reply(x.reply)) if part != "untold" else "None"
     commit = kind(x) == "Wrote" and "(Some (record { stamp = %s; tx = %s; ops = %s }))" % (
         stamp(x.record.stamp), tx(x.record.tx), listed(map(operation, x.record.ops)))
     left, right, field = {"record": ("None", due, 1), "commit": (due, commit, 1), "once": (commit, due, 2)}.get(

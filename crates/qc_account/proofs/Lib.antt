@@ -18,6 +18,8 @@ pub mod Commands
 pub mod Courses
 pub mod Mute
 pub mod StaysUp
+pub mod Anew
+pub mod Unwritten
 pub mod Dues
 pub mod Awaits
 pub mod Awaited

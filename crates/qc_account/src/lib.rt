@@ -3,7 +3,8 @@
 //! one life: nobody falls in a run yet.
 //!
 //! 1. Where a client has no open input, the account of its deeds tells it
-//!    (`accounts_are_their_clients`).
+//!    (`accounts_are_their_clients`). It begins anew as the client rises, with its
+//!    records (`accounts_begin_anew`).
 //! 2. One input keeps that, and all that its turn records, asks and tells is by
 //!    the rows of its command (`inputs_are_answered_as_is_due`).
 //! 3. So all deeds of a client are by those rows (`deeds_of_clients_are_by_rows`).
@@ -15,7 +16,8 @@
 //! 5. A turn tells just what is due after its input (`turns_tell_what_is_due`,
 //!    `turns_tell_their_rows`), and nothing that is due is left untold
 //!    (`what_is_due_is_told`): so a `do` that everybody grants is answered
-//!    (`granted_dos_are_answered`).
+//!    (`granted_dos_are_answered`). Where a commit record that is due isn't
+//!    written, Unknown is the row (`unwritten_commits_are_unknown`).
 //! 6. A running command waits for an open request (`commands_wait_for_requests`),
 //!    and nothing was taken for that since it was sent
 //!    (`open_requests_were_sent`). So it is in every run
@@ -37,8 +39,9 @@ mod scripts;
 mod waiting;
 
 pub use clients::{
-    accounts_are_their_clients, deeds_of_clients_are_by_rows, deeds_of_clients_are_due,
-    inputs_are_answered_as_is_due, turns_tell_their_rows, turns_tell_what_is_due,
+    accounts_are_their_clients, accounts_begin_anew, deeds_of_clients_are_by_rows,
+    deeds_of_clients_are_due, inputs_are_answered_as_is_due, turns_tell_their_rows,
+    turns_tell_what_is_due, unwritten_commits_are_unknown,
 };
 pub use endings::{
     clients_wait_only_for_requests, commands_end, each_call_has_its_reply, runs_are_whole,

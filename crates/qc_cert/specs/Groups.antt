@@ -1,11 +1,12 @@
 -- The triples of a list by their two states.
-use Rattle.std.specs.Prelude.{◌≡◌, ℕ, Bool, ◌+◌, ◌*◌, ◌<◌, ◌==◌, All, List, [], ◌∷◌, ◌++◌, length, if◌then◌else◌}
-use Rattle.std.specs.Prelude.{slice_index_or}
+use Rattle.std.specs.Prelude.{◌≡◌, ℕ, Bool, ◌+◌, ◌*◌, ◌^◌, ◌<◌, ◌≤◌, ◌==◌, ◌||◌, All, List, [], ◌∷◌, ◌++◌, length}
+use Rattle.std.specs.Prelude.{true, slice_index_or, if◌then◌else◌}
 use Rattle.std.specs.List.{list_any}
 use Rattle.qc_cert.specs.Firsts.{firsts, distinct}
 use Rattle.qc_cert.specs.declared.triple.Triple.{Triple}
 use Rattle.qc_table.specs.Limits.{most_states}
-use Rattle.qc_table.specs.Sets.{is_within}
+use Rattle.qc_cert.specs.Tables.{most_sets}
+use Rattle.qc_table.specs.Sets.{has, is_within}
 
 -- both states are below the most states
 abbrev pub AreStates : Triple → Type 0
@@ -28,9 +29,22 @@ any_within sets out = list_any (λ s. is_within s out) sets
 abbrev pub parts_within : List (List ℕ) → ℕ → Bool
 parts_within parts out = list_any (λ sets. any_within sets out) parts
 
--- the parts of a group: blocks, and the rest of its sets
-abbrev pub parts_of : List (List ℕ) → List ℕ → List (List ℕ)
-parts_of blocks rest = blocks ++ rest ∷ []
+-- each set of a part, of which there is one for each event, has that event
+abbrev pub AreParted : List (List ℕ) → Type 0
+AreParted parts = (event : ℕ) → All (λ s. has s event ≡ true) (slice_index_or parts event [])
+
+-- the sets of a group: blocks, and the rest
+abbrev pub sets_of : List (List ℕ) → List ℕ → List (List ℕ)
+sets_of blocks rest = blocks ++ rest ∷ []
+
+-- The sets of a group stand once more in parts, but the empty one, if nothing went wrong.
+pub record IsGroup (has_empty is_whole : Bool) (parts blocks : List (List ℕ)) (rest : List ℕ) : Type 0 where
+  pub parted : AreParted parts
+  pub few : length rest ≤ most_sets
+  pub small : All (λ s. s < 2 ^ 64) rest
+  pub empty : has_empty ≡ true → (out : ℕ) → parts_within (sets_of blocks rest) out ≡ true
+  pub same : is_whole ≡ true
+      → (out : ℕ) → parts_within (sets_of blocks rest) out ≡ (has_empty || parts_within parts out)
 
 -- groups of a list's triples, each once, and marks of those that stand nowhere before
 pub record IsGrouped (list : List Triple) (marks : List Bool) (groups : List (List (List ℕ))) : Type 0 where

@@ -2,10 +2,10 @@
 //! has pieces whether one of up to 256 sets is within it, whatever they are.
 
 ghost use Rattle.std.specs.Prelude.{◌≡◌, ℕ, ◌^◌, ◌<◌, ◌≤◌, ◌||◌, [], All, IfOk, OnOk, bit_and, length};
-ghost use Rattle.qc_cert.specs.Groups.{any_within, parts_within};
+ghost use Rattle.qc_cert.specs.Groups.{any_within, parts_within, sets_of};
 ghost use Rattle.qc_cert.specs.Tables.{AreLeft, AreRows, IsLeft, IsRow, IsWord, keeps, most_sets, piece};
 ghost use Rattle.qc_table.specs.Limits.{most_events};
-ghost use Rattle.qc_table.specs.Sets.{with_member};
+ghost use Rattle.qc_table.specs.Sets.{is_within, with_member};
 
 use qc_list::OutOfMemory;
 use std::alloc::Global;
@@ -95,6 +95,27 @@ impl Block {
     }
 }
 
+/// Adds a set to the rest, of which a block is made first where it is full.
+pub(crate) fn add(
+    alloc: Global,
+    blocks: &mut Vec<Block>,
+    rest: &mut Vec<u64>,
+    set: u64,
+) -> Result<(), OutOfMemory>
+    requires few { length rest.old.items ≤ most_sets }
+    requires small { All (λ set. set < 2 ^ 64) rest.old.items }
+    ensures few { length rest.new.items ≤ most_sets }
+    ensures small { All (λ set. set < 2 ^ 64) rest.new.items }
+    ensures added { OnOk result ((out : ℕ) → parts_within (sets_of blocks.new.items rest.new.items) out
+        ≡ (parts_within (sets_of blocks.old.items rest.old.items) out || is_within set out)) }
+{
+    if rest.len() >= MOST_SETS {
+        close(alloc, blocks, rest)?;
+    }
+    rest.push(set)?;
+    Ok(())
+}
+
 /// Makes a block of sets, of which none are left.
 pub(crate) fn close(
     alloc: Global,
@@ -104,8 +125,8 @@ pub(crate) fn close(
     requires few { length rest.old.items ≤ most_sets }
     requires small { All (λ set. set < 2 ^ 64) rest.old.items }
     ensures none { rest.new.items ≡ [] }
-    ensures closed { OnOk result ((out : ℕ) → parts_within blocks.new.items out
-        ≡ (parts_within blocks.old.items out || any_within rest.old.items out)) }
+    ensures closed { OnOk result ((out : ℕ) → parts_within (sets_of blocks.new.items rest.new.items) out
+        ≡ parts_within (sets_of blocks.old.items rest.old.items) out) }
 {
     let sets = mem::replace(rest, Vec::new(alloc));
     let block = Block::new(alloc, sets)?;

@@ -8,8 +8,9 @@ ghost use Rattle.qc_cert.specs.declared.triple.Triple.{Triple};
 ghost use Rattle.qc_table.specs.Sets.{is_within};
 ghost use Rattle.qc_table.specs.Limits.{most_states};
 
-use crate::blocks::{self, Block, MOST_SETS};
+use crate::blocks::{self, Block};
 use crate::firsts::firsts;
+use crate::parts::{self, Part};
 use crate::triple::Triple;
 use qc_list::OutOfMemory;
 use qc_table::MOST_STATES;
@@ -19,27 +20,37 @@ use std::marker::Model;
 /// How many groups there are: one for each two states.
 const GROUPS: usize = MOST_STATES * MOST_STATES;
 
-/// How many sets of a group are looked at one by one. More stand in blocks.
+/// How many sets stay without a table of bits.
 const FEW: usize = 96;
 
+/// How many sets a walk of parts looks at, where there is a table.
+const WALK: usize = 256;
+
 /// The sets of events that the triples with the same two states leave out: in
-/// blocks, and the rest. Contracts see a group as these parts.
+/// blocks, which have tables of bits, and the rest. All but the empty one stand
+/// once more in parts, each in that of one of its events: where the parts of a
+/// set's events are short, they are walked. Contracts see the blocks and the
+/// rest.
 #[derive(Drop)]
 struct Group {
+    /// Whether the empty set is among them, which is within each set.
+    has_empty: bool,
+    /// Whether the parts have all others. They do, unless memory ran out.
+    is_whole: bool,
+    parts: Vec<Part>,
     blocks: Vec<Block>,
     rest: Vec<u64>,
 }
 
 impl Model for Group {
-    ghost use Rattle.std.specs.Prelude.{List, ℕ, All, length, ◌<◌, ◌≤◌, ◌^◌};
-    ghost use Rattle.qc_cert.specs.Groups.{parts_of};
-    ghost use Rattle.qc_cert.specs.Tables.{most_sets};
+    ghost use Rattle.std.specs.Prelude.{List, ℕ};
+    ghost use Rattle.qc_cert.specs.Groups.{IsGroup, sets_of};
 
     ghost Value = { List (List ℕ) };
 
-    ghost view = { λ g. parts_of g.blocks.items g.rest.items };
+    ghost view = { λ g. sets_of g.blocks.items g.rest.items };
 
-    ghost invariant = { λ g. (length g.rest.items ≤ most_sets) × All (λ set. set < 2 ^ 64) g.rest.items };
+    ghost invariant = { λ g. IsGroup g.has_empty g.is_whole g.parts.items g.blocks.items g.rest.items };
 }
 
 impl Group {
@@ -48,6 +59,9 @@ impl Group {
         ensures { (out : ℕ) → parts_within result out ≡ false }
     {
         Group {
+            has_empty: false,
+            is_whole: true,
+            parts: Vec::new(alloc),
             blocks: Vec::new(alloc),
             rest: Vec::new(alloc),
         }
@@ -58,10 +72,41 @@ impl Group {
         ensures { OnOk result ((other : ℕ)
             → parts_within self.new other ≡ (parts_within self.old other || is_within out other)) }
     {
-        if self.rest.len() >= MOST_SETS {
-            blocks::close(alloc, &mut self.blocks, &mut self.rest)?;
+        if out == 0 {
+            self.push_empty(alloc)
+        } else {
+            self.push_some(alloc, out)
         }
-        self.rest.push(out)?;
+    }
+
+    /// Adds the empty set.
+    fn push_empty(&mut self, alloc: Global) -> Result<(), OutOfMemory>
+        ensures { OnOk result ((other : ℕ)
+            → parts_within self.new other ≡ (parts_within self.old other || is_within 0 other)) }
+    {
+        let was_whole = self.is_whole;
+        self.is_whole = false;
+        self.has_empty = false;
+        blocks::add(alloc, &mut self.blocks, &mut self.rest, 0)?;
+        self.has_empty = true;
+        self.is_whole = was_whole;
+        Ok(())
+    }
+
+    /// Adds another set.
+    fn push_some(&mut self, alloc: Global, out: u64) -> Result<(), OutOfMemory>
+        requires { 0 < out }
+        ensures { OnOk result ((other : ℕ)
+            → parts_within self.new other ≡ (parts_within self.old other || is_within out other)) }
+    {
+        let was_whole = self.is_whole;
+        let had_empty = self.has_empty;
+        self.is_whole = false;
+        self.has_empty = false;
+        blocks::add(alloc, &mut self.blocks, &mut self.rest, out)?;
+        parts::add(&mut self.parts, alloc, out)?;
+        self.has_empty = had_empty;
+        self.is_whole = was_whole;
         Ok(())
     }
 
@@ -70,7 +115,13 @@ impl Group {
         ensures { OnOk result ((out : ℕ) → parts_within self.new out ≡ parts_within self.old out) }
     {
         if self.rest.len() > FEW {
+            let was_whole = self.is_whole;
+            let had_empty = self.has_empty;
+            self.is_whole = false;
+            self.has_empty = false;
             blocks::close(alloc, &mut self.blocks, &mut self.rest)?;
+            self.has_empty = had_empty;
+            self.is_whole = was_whole;
         }
         Ok(())
     }
@@ -79,7 +130,13 @@ impl Group {
     fn covers(&self, out: u64) -> bool
         ensures { result ≡ parts_within self.now out }
     {
-        blocks::covers(&self.blocks, out) || blocks::any_within(&self.rest, out)
+        if self.has_empty {
+            true
+        } else if self.is_whole && parts::looks(&self.parts, out) <= WALK {
+            parts::covers(&self.parts, out)
+        } else {
+            blocks::covers(&self.blocks, out) || blocks::any_within(&self.rest, out)
+        }
     }
 }
 

@@ -19,6 +19,7 @@ mod firsts;
 mod groups;
 mod laws;
 mod limits;
+mod parts;
 mod prepared;
 mod rules;
 mod triple;

@@ -8,6 +8,8 @@ pub mod SitePrepares
 pub mod SiteDecisions
 pub mod SiteMoves
 pub mod SiteDues
+pub mod SiteKept
+pub mod SiteRises
 pub mod SiteLaws
 pub mod Steady
 pub mod ActorLaws
@@ -22,5 +24,6 @@ pub mod SiteReaches
 pub mod ActorFits
 pub mod Written
 pub mod LivesLaws
+pub mod SiteLives
 pub mod ByTurns
 pub mod Answers

@@ -1,62 +1,127 @@
--- A site by its conduct is what its deeds show, and all that it posts is due.
-use Rattle.std.proofs.Common.{◌≡◌, ℕ, ◌+◌, List, [], ◌∷◌, ◌++◌, Option, Some, None, refl, sym, ap, ◌∙◌, subst, append_assoc}
+-- A site by its conduct, through falls and rises, is what its deeds show; and all that it posts is due.
+use Rattle.std.proofs.Common.{◌≡◌, ℕ, ◌+◌, ◌<◌, ◌-◌, Bool, true, false, cond, List, [], ◌∷◌, ◌++◌, Option, Some, None, refl, sym, ap, ◌∙◌, subst, append_assoc}
 use Rattle.std.specs.Prelude.{fold}
+use Rattle.std.proofs.lemmas.Bool.{lt-ltb}
 use Rattle.std.proofs.lemmas.List.{append-nil}
 use Rattle.std.proofs.lemmas.List.Sums.{fold-append}
+use Rattle.qc_client.specs.Client.{new_client}
 use Rattle.qc_decl.specs.declared.declaration.Declaration.{Declaration}
+use Rattle.qc_decl.specs.Actors.{is_client, is_site}
 use Rattle.qc_msg.specs.declared.record.Record.{Record}
+use Rattle.qc_msg.specs.declared.record.Record.TheVariants as journals
 use Rattle.qc_msg.specs.declared.reply.Reply.{Reply}
+use Rattle.qc_msg.specs.declared.step.Fall.{Fall}
+use Rattle.qc_msg.specs.declared.step.Fall.TheVariants as causes
 use Rattle.qc_msg.specs.declared.step.Given.{Given}
+use Rattle.qc_msg.specs.declared.turn.Appended.{Appended}
+use Rattle.qc_msg.specs.declared.turn.Appended.TheVariants.{Done, Failed, Stopped}
 use Rattle.qc_msg.specs.declared.turn.Posting.{Posting}
 use Rattle.qc_msg.specs.declared.turn.Turn.{Turn}
-use Rattle.qc_msg.specs.Deeds.{Deed, Takes, Writes, Sends, Tells, Falls, Rises, turn_deeds, writes_of}
-use Rattle.qc_msg.specs.Turns.{quiet}
-use Rattle.qc_promise.specs.Posts.{IsPostOf}
+use Rattle.qc_msg.specs.Deeds.{Deed, Takes, Writes, Sends, Tells, Falls, Rises, deeds_as, sends_of, tells_of, turn_deeds, writes_of}
+use Rattle.qc_promise.specs.Posts.{Act, IsPostOf, Sent, TurnDue, Told, Wrote, posted_next}
 use Rattle.qc_promise.specs.SiteDue.{AreDue, IsDueAt, rising_turn, turn_due}
 use Rattle.qc_promise.proofs.Posts.{post_more}
-use Rattle.qc_site.specs.Conduct.{site_after, site_does, site_takes}
-use Rattle.qc_site.specs.Site.{SiteMove, SiteState, moved, new_site}
-use Rattle.qc_core.specs.Sites.{IsShown, Serves, serves, starts}
-use Rattle.qc_core.proofs.SiteDues.{turns_are_due, written_post}
+use Rattle.qc_recover.specs.Clients.{client_rises}
+use Rattle.qc_recover.specs.Sites.{site_rises}
+use Rattle.qc_site.specs.Conduct.{site_takes}
+use Rattle.qc_site.specs.Site.{SiteMove, SiteState, new_site}
+use Rattle.qc_core.specs.declared.actor.Actor.{Actor}
+use Rattle.qc_core.specs.declared.actor.Actor.TheVariants.{Site, Client}
+use Rattle.qc_core.specs.Actors.{ActorMove, actor_after, actor_does, actor_takes, by_client, by_site, moved}
+use Rattle.qc_core.specs.Conduct.{IsLawfulWithFalls, with_record}
+use Rattle.qc_core.specs.Sites.{IsShown, Serves, crashes, rises, serves, starts, stays_up, unopened}
+use Rattle.qc_core.proofs.SiteDues.{Does, IsFit, post_fits, turns_are_due}
 use Rattle.qc_core.proofs.SiteMoves.{steps}
 use Rattle.qc_core.proofs.SitePosts.{talk}
+use Rattle.qc_core.proofs.SiteRises.{risen_shown, rising_does}
 use Rattle.qc_core.proofs.SiteShown.{shown}
 
-module _ (decl : Declaration) (site : ℕ) where
+-- only a turn whose record is written leaves its site up
+was_written : (end : Appended) → stays_up end ≡ true → end ≡ Done
+was_written Done is = refl
+was_written Failed is = absurd (let never : ⊥ = cc in never)
+was_written Stopped is = absurd (let never : ⊥ = cc in never)
+
+module _ (decl : Declaration) (site : ℕ) (is : is_site decl site ≡ true) where
   -- a turn's deeds change nothing at the site
 
-  talk_still : (move : SiteMove) (n : ℕ) (ps : List Posting) (told : Option Reply) → fold (site_does decl) move (talk n ps told) ≡ move
-  talk_still move n [] None = refl
-  talk_still move n [] (Some r) = refl
-  talk_still move n (p ∷ ps) told = talk_still move (n + 1) ps told
+  talk_still : (s : SiteState) (turn : Turn) (n : ℕ) (ps : List Posting) (told : Option Reply) → fold (actor_does decl site) (moved (Site s) turn) (talk n ps told) ≡ moved (Site s) turn
+  talk_still s turn n [] None = refl
+  talk_still s turn n [] (Some r) = refl
+  talk_still s turn n (p ∷ ps) told = talk_still s turn (n + 1) ps told
 
-  turn_still : (move : SiteMove) (n : ℕ) (turn : Turn) → fold (site_does decl) move (turn_deeds n turn) ≡ move
-  turn_still move n turn = by turn.write
+  turn_still : (s : SiteState) (last : Turn) (n : ℕ) (turn : Turn) → fold (actor_does decl site) (moved (Site s) last) (turn_deeds n turn) ≡ moved (Site s) last
+  turn_still s last n turn = by turn.write
     where
-      by : (w : Option Record) → fold (site_does decl) move (writes_of w ++ talk n turn.sends turn.told) ≡ move
-      by None = talk_still move n turn.sends turn.told
-      by (Some w) = talk_still move n turn.sends turn.told
+      by : (w : Option Record) → fold (actor_does decl site) (moved (Site s) last) (writes_of w ++ talk n turn.sends turn.told) ≡ moved (Site s) last
+      by None = talk_still s last n turn.sends turn.told
+      by (Some w) = talk_still s last n turn.sends turn.told
 
-  after_take : (ds : List Deed) (g : Given) → (site_after decl site ds).site ≡ shown site ds → site_after decl site (ds ++ Takes g ∷ []) ≡ site_takes decl (shown site ds) g
-  after_take ds g is = fold-append (site_does decl) (moved (new_site site) quiet) ds (Takes g ∷ []) ∙ ap (λ (s : SiteState). site_takes decl s g) is
+  -- it takes an input, and it rises
 
-  after_turn : (ds : List Deed) (g : Given) (n : ℕ) (turn : Turn) → (site_after decl site ds).site ≡ shown site ds → site_after decl site (ds ++ Takes g ∷ turn_deeds n turn) ≡ site_takes decl (shown site ds) g
-  after_turn ds g n turn is =
-      fold-append (site_does decl) (moved (new_site site) quiet) ds (Takes g ∷ turn_deeds n turn)
-      ∙ turn_still (site_takes decl (site_after decl site ds).site g) n turn
-      ∙ ap (λ (s : SiteState). site_takes decl s g) is
+  took : (ds : List Deed) (g : Given) → (actor_after decl site ds).actor ≡ Site (shown site ds) → actor_after decl site (ds ++ Takes g ∷ []) ≡ by_site (site_takes decl (shown site ds) g)
+  took ds g at = fold-append (actor_does decl site) _ ds (Takes g ∷ []) ∙ ap (λ (v : Actor). actor_takes decl v g) at
 
-  pub is_shown : (ds : List Deed) → Serves decl site ds → (site_after decl site ds).site ≡ shown site ds
-  is_shown ds starts = refl
-  is_shown ds (serves before g n served ok) =
-      let old : (site_after decl site before).site ≡ shown site before = is_shown before served in
-      ap (λ (move : SiteMove). move.site) (after_turn before g n (site_after decl site (before ++ Takes g ∷ [])).turn old)
-      ∙ steps decl site before n g ok
-      ∙ ap (λ (move : SiteMove). shown site (before ++ Takes g ∷ turn_deeds n move.turn)) (sym (after_take before g old))
+  rose : (ds : List Deed) (rs : List Record) → actor_after decl site (ds ++ Rises rs ∷ []) ≡ by_site (site_rises decl site rs)
+  rose ds rs =
+      fold-append (actor_does decl site) _ ds (Rises rs ∷ [])
+      ∙ ap (λ (b : Bool). cond b (by_site (site_rises decl site rs)) (by_client (client_rises (site - decl.sites) rs))) is
 
-  -- what is posted for each input, the last one too
+  -- the turn that is lawful then, and what the site is once that is posted
 
-  abbrev IsServed : List Deed → Deed → List Deed → Type 0
+  called : (ds : List Deed) (turn : Turn) (move : SiteMove) → actor_after decl site ds ≡ by_site move → IsLawfulWithFalls decl site ds turn → move.turn ≡ with_record turn
+  called ds turn move at lawful =
+      let here : Some (actor_after decl site ds).turn ≡ Some (with_record turn) = sym (ap (λ (b : Bool). cond b (Some (actor_after decl site ds).turn) (cond (is_client decl site) (Some (actor_after decl site ds).turn) None)) is) ∙ lawful.called_for in
+      let same : (actor_after decl site ds).turn ≡ with_record turn = cc in
+      sym (ap (λ (m : ActorMove). m.turn) at) ∙ same
+
+  after : (ds : List Deed) (d : Deed) (n : ℕ) (turn : Turn) (move : SiteMove) → actor_after decl site (ds ++ d ∷ []) ≡ by_site move → (actor_after decl site (ds ++ d ∷ turn_deeds n turn)).actor ≡ Site move.site
+  after ds d n turn move at =
+      ap (λ (v : List Deed). (actor_after decl site v).actor) (sym (append_assoc ds (d ∷ []) (turn_deeds n turn)))
+      ∙ ap (λ (m : ActorMove). m.actor) (fold-append (actor_does decl site) _ (ds ++ d ∷ []) (turn_deeds n turn)
+      ∙ ap (λ (m : ActorMove). fold (actor_does decl site) m (turn_deeds n turn)) at
+      ∙ turn_still move.site move.turn n turn)
+
+  life_written : (rs : List Record) (turn : Turn) → (site_rises decl site rs).turn ≡ with_record turn → turn.write ≡ Some journals.Life
+  life_written rs turn same = sym (ap (λ (t : Turn). t.write) same)
+
+  -- while a site is up, it is what its deeds show
+
+  abbrev IsAsShown : List Deed → Type 0
+  IsAsShown ds = (actor_after decl site ds).actor ≡ Site (shown site ds)
+
+  pub is_shown : (ds : List Deed) (up : Bool) → Serves decl site ds up → up ≡ true → IsAsShown ds
+  is_shown ds up starts on = ap (λ (b : Bool). cond b (Site (new_site site)) (Client (new_client (site - decl.sites)))) is
+  is_shown ds up (serves before g turn n served ok lawful) on = from (is_shown before true served refl)
+    where
+      by : (end : Appended) → end ≡ Done → IsAsShown (before ++ Takes g ∷ turn_deeds n turn) → IsAsShown (before ++ Takes g ∷ deeds_as end n turn)
+      by Done done here = here
+      by Failed done here = absurd (let never : ⊥ = cc in never)
+      by Stopped done here = absurd (let never : ⊥ = cc in never)
+
+      from : IsAsShown before → IsAsShown (before ++ Takes g ∷ deeds_as turn.append n turn)
+      from old =
+          let same : (site_takes decl (shown site before) g).turn ≡ with_record turn = called (before ++ Takes g ∷ []) turn (site_takes decl (shown site before) g) (took before g old) lawful in
+          by turn.append (was_written turn.append on)
+          (after before (Takes g) n turn (site_takes decl (shown site before) g) (took before g old)
+          ∙ ap Site (steps decl site before n g ok ∙ ap (λ (t : Turn). shown site (before ++ Takes g ∷ turn_deeds n t)) same))
+  is_shown ds up (crashes before served) on = absurd (let never : ⊥ = cc in never)
+  is_shown ds up (rises before rs turn n served lawful) on = by turn.append (was_written turn.append on)
+    where
+      same : (site_rises decl site rs).turn ≡ with_record turn
+      same = called (before ++ Rises rs ∷ []) turn (site_rises decl site rs) (rose before rs) lawful
+
+      by : (end : Appended) → end ≡ Done → IsAsShown (before ++ Rises rs ∷ deeds_as end n turn)
+      by Done done =
+          after before (Rises rs) n turn (site_rises decl site rs) (rose before rs)
+          ∙ ap Site (sym (risen_shown site before rs n turn (life_written rs turn same)))
+      by Failed done = absurd (let never : ⊥ = cc in never)
+      by Stopped done = absurd (let never : ⊥ = cc in never)
+  is_shown ds up (unopened before cause served) on = absurd (let never : ⊥ = cc in never)
+
+  -- what is posted for each input and each rise, the last one too
+
+  abbrev pub IsServed : List Deed → Deed → List Deed → Type 0
   IsServed before (Takes g) after = IsPostOf (turn_due decl (before ++ Takes g ∷ []) g) after
   IsServed before (Writes w) after = Unit {0}
   IsServed before (Sends n to m) after = Unit {0}
@@ -64,66 +129,170 @@ module _ (decl : Declaration) (site : ℕ) where
   IsServed before (Falls cause pending) after = Unit {0}
   IsServed before (Rises records) after = IsPostOf (rising_turn decl (before ++ Rises records ∷ [])) after
 
-  abbrev AreServed : List Deed → List Deed → Type 0
+  abbrev pub AreServed : List Deed → List Deed → Type 0
   AreServed before [] = Unit {0}
   AreServed before (d ∷ after) = IsServed before d after × AreServed (before ++ d ∷ []) after
 
-  served_more : (before : List Deed) (d : Deed) (xs : List Deed) (g : Given) (ps : List Deed) → IsServed before d xs → IsServed before d (xs ++ Takes g ∷ ps)
-  served_more before (Takes given) xs g ps is = post_more (turn_due decl (before ++ Takes given ∷ []) given) xs (Takes g ∷ ps) refl is
-  served_more before (Writes w) xs g ps is = tt
-  served_more before (Sends n to m) xs g ps is = tt
-  served_more before (Tells r) xs g ps is = tt
-  served_more before (Falls cause pending) xs g ps is = tt
-  served_more before (Rises records) xs g ps is = post_more (rising_turn decl (before ++ Rises records ∷ [])) xs (Takes g ∷ ps) refl is
+  -- deeds that begin behind the post before
 
-  all_more : (before xs : List Deed) (g : Given) (ps : List Deed) → AreServed before xs → AreServed (before ++ xs) (Takes g ∷ ps) → AreServed before (xs ++ Takes g ∷ ps)
-  all_more before [] g ps old new = subst (λ (v : List Deed). AreServed v (Takes g ∷ ps)) (append-nil before) new
-  all_more before (d ∷ xs) g ps old new = (
-    served_more before d xs g ps old.0,
-    all_more (before ++ d ∷ []) xs g ps old.1 (subst (λ (v : List Deed). AreServed v (Takes g ∷ ps)) (sym (append_assoc before (d ∷ []) xs)) new),
+  served_more : (before : List Deed) (d : Deed) (xs ys : List Deed) → posted_next ys ≡ [] → IsServed before d xs → IsServed before d (xs ++ ys)
+  served_more before (Takes given) xs ys ends fits = post_more (turn_due decl (before ++ Takes given ∷ []) given) xs ys ends fits
+  served_more before (Writes w) xs ys ends fits = tt
+  served_more before (Sends n to m) xs ys ends fits = tt
+  served_more before (Tells r) xs ys ends fits = tt
+  served_more before (Falls cause pending) xs ys ends fits = tt
+  served_more before (Rises records) xs ys ends fits = post_more (rising_turn decl (before ++ Rises records ∷ [])) xs ys ends fits
+
+  all_more : (before xs ys : List Deed) → posted_next ys ≡ [] → AreServed before xs → AreServed (before ++ xs) ys → AreServed before (xs ++ ys)
+  all_more before [] ys ends old new = subst (λ (v : List Deed). AreServed v ys) (append-nil before) new
+  all_more before (d ∷ xs) ys ends old new = (
+    served_more before d xs ys ends old.0,
+    all_more (before ++ d ∷ []) xs ys ends old.1 (subst (λ (v : List Deed). AreServed v ys) (sym (append_assoc before (d ∷ []) xs)) new),
   )
 
-  talk_served : (before : List Deed) (n : ℕ) (ps : List Posting) (told : Option Reply) → AreServed before (talk n ps told)
-  talk_served before n [] None = tt
-  talk_served before n [] (Some r) = (tt, tt)
-  talk_served before n (p ∷ ps) told = (tt, talk_served (before ++ Sends n p.to p.message ∷ []) (n + 1) ps told)
+  -- deeds behind a fall: who is down did nothing since it fell
 
-  turn_served : (before : List Deed) (n : ℕ) (turn : Turn) → AreServed before (turn_deeds n turn)
-  turn_served before n turn = by turn.write
+  abbrev pub IsFall : Deed → Type 0
+  IsFall (Takes g) = ⊥
+  IsFall (Writes w) = ⊥
+  IsFall (Sends n to m) = ⊥
+  IsFall (Tells r) = ⊥
+  IsFall (Falls cause pending) = Unit {0}
+  IsFall (Rises records) = ⊥
+
+  abbrev pub EndByFall : List Deed → Type 0
+  EndByFall [] = ⊥
+  EndByFall (d ∷ []) = IsFall d
+  EndByFall (d ∷ e ∷ ds) = EndByFall (e ∷ ds)
+
+  fallen_posted : (xs ys : List Deed) → EndByFall xs → posted_next (xs ++ ys) ≡ posted_next xs
+  fallen_posted [] ys fell = absurd fell
+  fallen_posted (Takes g ∷ xs) ys fell = refl
+  fallen_posted (Falls causes.Script pending ∷ xs) ys fell = refl
+  fallen_posted (Falls causes.Stop pending ∷ xs) ys fell = refl
+  fallen_posted (Falls causes.Disk pending ∷ xs) ys fell = refl
+  fallen_posted (Rises records ∷ xs) ys fell = refl
+  fallen_posted (Writes w ∷ []) ys fell = absurd fell
+  fallen_posted (Sends n to m ∷ []) ys fell = absurd fell
+  fallen_posted (Tells r ∷ []) ys fell = absurd fell
+  fallen_posted (Writes w ∷ e ∷ xs) ys fell = ap (λ (v : List Act). Wrote w ∷ v) (fallen_posted (e ∷ xs) ys fell)
+  fallen_posted (Sends n to m ∷ e ∷ xs) ys fell = ap (λ (v : List Act). Sent (record { to = to; message = m }) ∷ v) (fallen_posted (e ∷ xs) ys fell)
+  fallen_posted (Tells r ∷ e ∷ xs) ys fell = ap (λ (v : List Act). Told r ∷ v) (fallen_posted (e ∷ xs) ys fell)
+
+  fits_behind : (t : TurnDue) (xs ys : List Deed) → EndByFall xs → IsPostOf t xs → IsPostOf t (xs ++ ys)
+  fits_behind t xs ys fell fits = subst (IsFit t) (sym (fallen_posted xs ys fell)) fits
+
+  served_behind : (before : List Deed) (d : Deed) (xs ys : List Deed) → EndByFall (d ∷ xs) → IsServed before d xs → IsServed before d (xs ++ ys)
+  served_behind before (Takes g) [] ys fell fits = absurd fell
+  served_behind before (Takes g) (x ∷ xs) ys fell fits = fits_behind (turn_due decl (before ++ Takes g ∷ []) g) (x ∷ xs) ys fell fits
+  served_behind before (Writes w) xs ys fell fits = tt
+  served_behind before (Sends n to m) xs ys fell fits = tt
+  served_behind before (Tells r) xs ys fell fits = tt
+  served_behind before (Falls cause pending) xs ys fell fits = tt
+  served_behind before (Rises records) [] ys fell fits = absurd fell
+  served_behind before (Rises records) (x ∷ xs) ys fell fits = fits_behind (rising_turn decl (before ++ Rises records ∷ [])) (x ∷ xs) ys fell fits
+
+  all_behind : (before xs : List Deed) (cause : Fall) (pending : Option Record) → EndByFall xs → AreServed before xs → AreServed before (xs ++ Falls cause pending ∷ [])
+  all_behind before [] cause pending fell old = absurd fell
+  all_behind before (d ∷ []) cause pending fell old = (served_behind before d [] (Falls cause pending ∷ []) fell old.0, (tt, tt))
+  all_behind before (d ∷ e ∷ xs) cause pending fell old = (
+    served_behind before d (e ∷ xs) (Falls cause pending ∷ []) fell old.0,
+    all_behind (before ++ d ∷ []) (e ∷ xs) cause pending fell old.1,
+  )
+
+  -- the deeds of a post take nothing, and nobody rises in them
+
+  sends_served : (before : List Deed) (n : ℕ) (ps : List Posting) (xs : List Deed) → ((v : List Deed) → AreServed v xs) → AreServed before (sends_of n ps ++ xs)
+  sends_served before n [] xs rest = rest before
+  sends_served before n (p ∷ ps) xs rest = (tt, sends_served (before ++ Sends n p.to p.message ∷ []) (n + 1) ps xs rest)
+
+  tells_served : (before : List Deed) (told : Option Reply) (xs : List Deed) → ((v : List Deed) → AreServed v xs) → AreServed before (tells_of told ++ xs)
+  tells_served before None xs rest = rest before
+  tells_served before (Some r) xs rest = (tt, rest (before ++ Tells r ∷ []))
+
+  told_served : (before : List Deed) (told : Option Reply) → AreServed before (tells_of told)
+  told_served before None = tt
+  told_served before (Some r) = (tt, tt)
+
+  post_served : (before : List Deed) (end : Appended) (n : ℕ) (turn : Turn) → AreServed before (deeds_as end n turn)
+  post_served before Done n turn = by turn.write
     where
       by : (w : Option Record) → AreServed before (writes_of w ++ talk n turn.sends turn.told)
-      by None = talk_served before n turn.sends turn.told
-      by (Some w) = (tt, talk_served (before ++ Writes w ∷ []) n turn.sends turn.told)
+      by None = sends_served before n turn.sends (tells_of turn.told) (λ v. told_served v turn.told)
+      by (Some w) = (tt, sends_served (before ++ Writes w ∷ []) n turn.sends (tells_of turn.told) (λ v. told_served v turn.told))
+  post_served before Failed n turn = sends_served before n turn.failed_sends (tells_of turn.failed_told ++ Falls causes.Disk turn.write ∷ []) (λ v. tells_served v turn.failed_told (Falls causes.Disk turn.write ∷ []) (λ u. (tt, tt)))
+  post_served before Stopped n turn = tells_served before turn.failed_told (Falls causes.Stop turn.write ∷ []) (λ v. (tt, tt))
 
-  pub are_served : (ds : List Deed) → Serves decl site ds → AreServed [] ds
-  are_served ds starts = tt
-  are_served ds (serves before g n served ok) =
-      let old : (site_after decl site before).site ≡ shown site before = is_shown before served in
-      all_more [] before g (turn_deeds n (site_after decl site (before ++ Takes g ∷ [])).turn) (are_served before served) (
-        subst (λ (move : SiteMove). IsPostOf (turn_due decl (before ++ Takes g ∷ []) g) (turn_deeds n move.turn)) (sym (after_take before g old))
-            (written_post n (site_takes decl (shown site before) g).turn (turn_due decl (before ++ Takes g ∷ []) g) (turns_are_due decl site before g)),
-        turn_served (before ++ Takes g ∷ []) n (site_after decl site (before ++ Takes g ∷ [])).turn,
+  -- where a turn leaves its site down, its deeds end by a fall
+
+  ended_more : (xs ys : List Deed) → EndByFall ys → EndByFall (xs ++ ys)
+  ended_more [] ys fell = fell
+  ended_more (x ∷ []) [] fell = absurd fell
+  ended_more (x ∷ []) (y ∷ ys) fell = fell
+  ended_more (x ∷ e ∷ xs) ys fell = ended_more (e ∷ xs) ys fell
+
+  post_ended : (end : Appended) → stays_up end ≡ false → (n : ℕ) (turn : Turn) → EndByFall (deeds_as end n turn)
+  post_ended Done off n turn = absurd (let never : ⊥ = cc in never)
+  post_ended Failed off n turn = ended_more (sends_of n turn.failed_sends) (tells_of turn.failed_told ++ Falls causes.Disk turn.write ∷ []) (ended_more (tells_of turn.failed_told) (Falls causes.Disk turn.write ∷ []) tt)
+  post_ended Stopped off n turn = ended_more (tells_of turn.failed_told) (Falls causes.Stop turn.write ∷ []) tt
+
+  -- a site that is down has done nothing, or fell last
+  down_ended : (ds : List Deed) (up : Bool) → Serves decl site ds up → up ≡ false → EndByFall ds
+  down_ended ds up starts off = absurd (let never : ⊥ = cc in never)
+  down_ended ds up (serves before g turn n served ok lawful) off = ended_more before (Takes g ∷ deeds_as turn.append n turn) (ended_more (Takes g ∷ []) (deeds_as turn.append n turn) (post_ended turn.append off n turn))
+  down_ended ds up (crashes before served) off = ended_more before (Falls causes.Script None ∷ []) tt
+  down_ended ds up (rises before rs turn n served lawful) off = ended_more before (Rises rs ∷ deeds_as turn.append n turn) (ended_more (Rises rs ∷ []) (deeds_as turn.append n turn) (post_ended turn.append off n turn))
+  down_ended ds up (unopened before cause served) off = ended_more before (Falls cause None ∷ []) tt
+
+  -- the turn that was posted is the one that is due
+
+  due_turn : (turn : Turn) (due : TurnDue) (move : SiteMove) → move.turn ≡ with_record turn → Does move.turn due → Does turn due
+  due_turn turn due move same does =
+      let mine : Does (with_record turn) due = subst (λ (t : Turn). Does t due) same does in
+      record { same = mine.same; untold = mine.untold; failed_untold = mine.failed_untold }
+
+  pub are_served : (ds : List Deed) (up : Bool) → Serves decl site ds up → AreServed [] ds
+  are_served ds up starts = tt
+  are_served ds up (serves before g turn n served ok lawful) =
+      all_more [] before (Takes g ∷ deeds_as turn.append n turn) refl (are_served before true served) (
+        post_fits turn.append n turn (turn_due decl (before ++ Takes g ∷ []) g)
+            (due_turn turn (turn_due decl (before ++ Takes g ∷ []) g) (site_takes decl (shown site before) g)
+            (called (before ++ Takes g ∷ []) turn (site_takes decl (shown site before) g) (took before g (is_shown before true served refl)) lawful)
+            (turns_are_due decl site before g)) lawful.may_end,
+        post_served (before ++ Takes g ∷ []) turn.append n turn,
       )
+  are_served ds up (crashes before served) = all_more [] before (Falls causes.Script None ∷ []) refl (are_served before true served) (tt, tt)
+  are_served ds up (rises before rs turn n served lawful) =
+      all_more [] before (Rises rs ∷ deeds_as turn.append n turn) refl (are_served before false served) (
+        post_fits turn.append n turn (rising_turn decl (before ++ Rises rs ∷ []))
+            (due_turn turn (rising_turn decl (before ++ Rises rs ∷ [])) (site_rises decl site rs)
+            (called (before ++ Rises rs ∷ []) turn (site_rises decl site rs) (rose before rs) lawful)
+            (rising_does decl site before rs)) lawful.may_end,
+        post_served (before ++ Rises rs ∷ []) turn.append n turn,
+      )
+  are_served ds up (unopened before cause served) = all_behind [] before cause None (down_ended before false served refl) (are_served before false served)
 
   -- so all is due
 
   due_of : (before : List Deed) (d : Deed) (after : List Deed) → IsServed before d after → IsDueAt decl before d after
-  due_of before (Takes g) [] is = tt
-  due_of before (Takes g) (d ∷ after) is = is
-  due_of before (Writes w) after is = tt
-  due_of before (Sends n to m) after is = tt
-  due_of before (Tells r) after is = tt
-  due_of before (Falls cause pending) after is = tt
-  due_of before (Rises records) after is = is
+  due_of before (Takes g) [] fits = tt
+  due_of before (Takes g) (d ∷ after) fits = fits
+  due_of before (Writes w) after fits = tt
+  due_of before (Sends n to m) after fits = tt
+  due_of before (Tells r) after fits = tt
+  due_of before (Falls cause pending) after fits = tt
+  due_of before (Rises records) after fits = fits
 
-  all_due : (before ds : List Deed) → AreServed before ds → AreDue decl before ds
-  all_due before [] is = tt
-  all_due before (d ∷ after) is = (due_of before d after is.0, all_due (before ++ d ∷ []) after is.1)
+  pub all_due : (before ds : List Deed) → AreServed before ds → AreDue decl before ds
+  all_due before [] fits = tt
+  all_due before (d ∷ after) fits = (due_of before d after fits.0, all_due (before ++ d ∷ []) after fits.1)
 
-  pub are_due : (ds : List Deed) → Serves decl site ds → AreDue decl [] ds
-  are_due ds served = all_due [] ds (are_served ds served)
+pub are_due : (decl : Declaration) (site : ℕ) (ds : List Deed) (up : Bool) → site < decl.sites → Serves decl site ds up → AreDue decl [] ds
+are_due decl site ds up below served = let is : is_site decl site ≡ true = lt-ltb site decl.sites below in all_due decl site is [] ds (are_served decl site is ds up served)
 
-  pub shows : (ds : List Deed) → Serves decl site ds → IsShown ds (site_after decl site ds).site
-  shows ds served =
-      subst (λ (s : SiteState). IsShown ds s) (sym (is_shown ds served))
-      (record { life = refl; epoch = refl; closed_for = refl; log = refl; recorded = refl; held = refl; prepared = refl; clock = refl })
+pub shows : (decl : Declaration) (site : ℕ) (ds : List Deed) → site < decl.sites → Serves decl site ds true → (s : SiteState) × ((actor_after decl site ds).actor ≡ Site s) × IsShown ds s
+shows decl site ds below served = (
+  shown site ds,
+  is_shown decl site (lt-ltb site decl.sites below) ds true served refl,
+  record { life = refl; epoch = refl; closed_for = refl; log = refl; recorded = refl; held = refl; prepared = refl; clock = refl },
+)

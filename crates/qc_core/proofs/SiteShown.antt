@@ -1,7 +1,7 @@
 -- The state that a site's deeds show, whole, and what it becomes as the site takes one more input and posts a turn.
 use Rattle.std.proofs.Common.{◌≡◌, ℕ, ◌||◌, max, not, Bool, true, false, cond, List, [], ◌∷◌, ◌++◌, Option, Some, None, refl, sym, ap, ◌∙◌, append_assoc}
 use Rattle.std.specs.Prelude.{filter, fold, option_to_list}
-use Rattle.std.specs.List.{flat_map}
+use Rattle.std.specs.List.{filter_map, flat_map}
 use Rattle.std.specs.Option.{option_map_or}
 use Rattle.std.proofs.lemmas.Grind.{flat_map-append}
 use Rattle.std.proofs.lemmas.List.{append-nil}
@@ -17,7 +17,7 @@ use Rattle.qc_msg.specs.declared.step.Given.{Given}
 use Rattle.qc_msg.specs.declared.turn.Turn.{Turn}
 use Rattle.qc_msg.specs.Begun.{first_epoch}
 use Rattle.qc_msg.specs.Deeds.{Deed, Takes, turn_deeds}
-use Rattle.qc_msg.specs.Readings.{heard_in}
+use Rattle.qc_msg.specs.Readings.{heard_in, written_in}
 use Rattle.qc_stamp.specs.Lives.{first_life}
 use Rattle.qc_promise.specs.Lifetimes.{Lifetime, lifetime, records_in}
 use Rattle.qc_promise.specs.SiteClocks.{clock_shown, clocks_at, clocks_in_record}
@@ -44,6 +44,32 @@ same_state a b number life epoch closed_for log recorded held prepared clock =
     ∙ ap (λ v. record b { prepared = v; clock = a.clock }) prepared
     ∙ ap (λ v. record b { clock = v }) clock
 
+abbrev pub hold : List Held → Grant → List Held
+hold held g = holding held g.tx g.want
+
+-- the promises of the records of a rise whose transactions didn't end since: they hold what they name
+
+abbrev pub remains : List Deed → Prepared → Bool
+remains since p = not (is_ended p.tx since)
+
+abbrev pub rose : Lifetime → List Prepared
+rose l = filter (remains l.since) (promises_of l.kept)
+
+-- the state of a life
+abbrev pub shown_in : ℕ → Lifetime → SiteState
+shown_in site l =
+    record {
+      number = site;
+      life = fold life_by first_life (l.kept ++ filter_map written_in l.since);
+      epoch = fold epoch_by first_epoch (l.kept ++ filter_map written_in l.since);
+      closed_for = fold closed_by None (l.kept ++ filter_map written_in l.since);
+      log = log_from (recorded_by l.kept) l.kept l.since;
+      recorded = recorded_by (l.kept ++ filter_map written_in l.since);
+      held = fold hold (fold with_promise [] (rose l)) (standing l.since);
+      prepared = left_of l.since (promises_of l.kept) ++ promises_since l.since;
+      clock = fold max 0 (flat_map clocks_in_record l.kept ++ flat_map clocks_at l.since);
+    }
+
 -- the state that deeds show
 abbrev pub shown : ℕ → List Deed → SiteState
 shown site ds =
@@ -58,17 +84,6 @@ shown site ds =
       prepared = prepared_shown ds;
       clock = clock_shown ds;
     }
-
-abbrev pub hold : List Held → Grant → List Held
-hold held g = holding held g.tx g.want
-
--- the promises of the records of a rise whose transactions didn't end since: they hold what they name
-
-abbrev pub remains : List Deed → Prepared → Bool
-remains since p = not (is_ended p.tx since)
-
-abbrev pub rose : Lifetime → List Prepared
-rose l = filter (remains l.since) (promises_of l.kept)
 
 -- what an input brings: a view, a request that stands, clocks
 

@@ -1,6 +1,6 @@
--- A site by its conduct: it takes an input and posts the turn that this calls for, again and again. And what is
--- promised of it: all that it is, its own steps show.
-use Rattle.std.specs.Prelude.{◌≡◌, ℕ, List, [], ◌∷◌, ◌++◌}
+-- A site by its conduct: it takes an input and posts the turn that this calls for, again and again; it falls, and rises
+-- from its records. And what is promised of it: all that it is, its own steps show.
+use Rattle.std.specs.Prelude.{◌≡◌, ℕ, Bool, true, false, List, [], ◌∷◌, ◌++◌, None}
 use Rattle.qc_stamp.specs.declared.stamp.TxId.{TxId}
 use Rattle.qc_decl.specs.declared.declaration.Declaration.{Declaration}
 use Rattle.qc_msg.specs.declared.message.Message.{Message}
@@ -9,14 +9,20 @@ use Rattle.qc_msg.specs.declared.message.Outcome.{Outcome}
 use Rattle.qc_msg.specs.declared.message.Outcome.TheVariants.{Committed, Aborted, Active}
 use Rattle.qc_msg.specs.declared.step.Given.{Given}
 use Rattle.qc_msg.specs.declared.step.Given.TheVariants as given
-use Rattle.qc_msg.specs.Deeds.{Deed, Takes, turn_deeds}
+use Rattle.qc_msg.specs.declared.record.Record.{Record}
+use Rattle.qc_msg.specs.declared.step.Fall.{Fall}
+use Rattle.qc_msg.specs.declared.step.Fall.TheVariants.{Script}
+use Rattle.qc_msg.specs.declared.turn.Appended.{Appended}
+use Rattle.qc_msg.specs.declared.turn.Appended.TheVariants.{Done, Failed, Stopped}
+use Rattle.qc_msg.specs.declared.turn.Turn.{Turn}
+use Rattle.qc_msg.specs.Deeds.{Deed, Takes, Writes, Sends, Tells, Falls, Rises, deeds_as}
 use Rattle.qc_promise.specs.SiteClocks.{clock_shown}
 use Rattle.qc_promise.specs.SiteHeld.{held_shown}
 use Rattle.qc_promise.specs.SiteLogs.{log_shown, recorded_shown}
 use Rattle.qc_promise.specs.SitePromises.{prepared_shown}
 use Rattle.qc_promise.specs.SiteRecords.{closed_shown, epoch_shown, life_shown}
-use Rattle.qc_site.specs.Conduct.{site_after}
 use Rattle.qc_site.specs.Site.{SiteState}
+use Rattle.qc_core.specs.Conduct.{IsLawfulWithFalls}
 
 -- a Decision Committed names a stamp of the transaction's own client: a site's record tells the stamp's clock alone
 
@@ -39,13 +45,47 @@ IsInput (given.Called command) = Unit {0}
 IsInput (given.Got envelope) = IsStamped envelope.message
 IsInput (given.Lost number) = Unit {0}
 
--- the deeds of a site that takes inputs, and posts its turn after each, its messages numbered from any number
-pub data Serves (decl : Declaration) (site : ℕ) : List Deed → Type 0 where
-  starts : Serves decl site []
-  serves : (ds : List Deed) (given : Given) (first : ℕ)
-      → Serves decl site ds
+-- what a site takes in a run: messages, and that a request is lost; nobody commands it
+
+abbrev pub IsSiteInput : Given → Type 0
+IsSiteInput (given.Called command) = ⊥
+IsSiteInput (given.Got envelope) = IsStamped envelope.message
+IsSiteInput (given.Lost number) = Unit {0}
+
+abbrev pub IsSiteDeed : Deed → Type 0
+IsSiteDeed (Takes given) = IsSiteInput given
+IsSiteDeed (Writes written) = Unit {0}
+IsSiteDeed (Sends number to message) = Unit {0}
+IsSiteDeed (Tells reply) = Unit {0}
+IsSiteDeed (Falls cause pending) = Unit {0}
+IsSiteDeed (Rises records) = Unit {0}
+
+-- it stays up where the record of its turn is written, or there is none
+abbrev pub stays_up : Appended → Bool
+stays_up Done = true
+stays_up Failed = false
+stays_up Stopped = false
+
+-- The deeds of a site, and whether it is up. While it is up it takes inputs, and posts its turn after each, its messages
+-- numbered from any number; where the turn's record isn't written it falls. It falls by a line of the script, too. It rises
+-- with whatever records it is given, and posts its rising turn; or its journal isn't opened, which is one more fall.
+pub data Serves (decl : Declaration) (site : ℕ) : List Deed → Bool → Type 0 where
+  starts : Serves decl site [] true
+  serves : (ds : List Deed) (given : Given) (turn : Turn) (first : ℕ)
+      → Serves decl site ds true
       → IsInput given
-      → Serves decl site (ds ++ Takes given ∷ turn_deeds first (site_after decl site (ds ++ Takes given ∷ [])).turn)
+      → IsLawfulWithFalls decl site (ds ++ Takes given ∷ []) turn
+      → Serves decl site (ds ++ Takes given ∷ deeds_as turn.append first turn) (stays_up turn.append)
+  crashes : (ds : List Deed)
+      → Serves decl site ds true
+      → Serves decl site (ds ++ Falls Script None ∷ []) false
+  rises : (ds : List Deed) (records : List Record) (turn : Turn) (first : ℕ)
+      → Serves decl site ds false
+      → IsLawfulWithFalls decl site (ds ++ Rises records ∷ []) turn
+      → Serves decl site (ds ++ Rises records ∷ deeds_as turn.append first turn) (stays_up turn.append)
+  unopened : (ds : List Deed) (cause : Fall)
+      → Serves decl site ds false
+      → Serves decl site (ds ++ Falls cause None ∷ []) false
 
 -- a site is what its deeds show
 pub record IsShown (ds : List Deed) (s : SiteState) : Type 0 where

@@ -1,14 +1,16 @@
 //! Laws of the conduct, each the contract of a function with nothing to do.
 
-ghost use Rattle.std.specs.Prelude.{◌≡◌, ℕ, ◌^◌, ◌<◌, ◌≤◌, false, List, [], ◌∷◌, ◌++◌, Some};
+ghost use Rattle.std.specs.Prelude.{◌≡◌, ℕ, ◌^◌, ◌<◌, ◌≤◌, Bool, true, false, List, [], ◌∷◌, ◌++◌, Some};
 ghost use Rattle.std.specs.List.{AllByRecursion as Every};
 ghost use Rattle.qc_core.specs.declared.actor.Actor.{Actor};
+ghost use Rattle.qc_core.specs.declared.actor.Actor.TheVariants as actor;
 ghost use Rattle.qc_core.specs.Actors.{ActorFits, ActorWithin, AsksFew, IsFrom, IsFromActor, IsShort};
 ghost use Rattle.qc_core.specs.Actors.{actor_after, actor_hears, actor_sent, actor_takes};
 ghost use Rattle.qc_core.specs.Acts.{Acts, MayTake};
 ghost use Rattle.qc_core.specs.Conduct.{turn_after};
 ghost use Rattle.qc_core.specs.Lives.{AreSteady};
-ghost use Rattle.qc_core.specs.Sites.{IsShown, Serves};
+ghost use Rattle.qc_core.specs.Lives.{Lives, is_up};
+ghost use Rattle.qc_core.specs.Sites.{IsShown, IsSiteDeed, Serves};
 ghost use Rattle.qc_decl.specs.Accepted.{IsAccepted};
 ghost use Rattle.qc_decl.specs.Actors.{actors};
 ghost use Rattle.qc_decl.specs.Limits.{most_sites};
@@ -18,21 +20,32 @@ ghost use Rattle.qc_msg.specs.declared.message.Envelope.{Envelope};
 ghost use Rattle.qc_msg.specs.declared.step.Given.{Given};
 ghost use Rattle.qc_msg.specs.declared.step.Given.TheVariants as given;
 ghost use Rattle.qc_promise.specs.SiteDue.{AreDue};
-ghost use Rattle.qc_site.specs.Conduct.{site_after};
+ghost use Rattle.qc_site.specs.Site.{SiteState};
 
-/// All that a site is, its own steps show: life, epoch, log, the lines that its
-/// records give, what is held there and promised, and its clock.
+/// All that a site is while it is up, its own steps show: life, epoch, log, the
+/// lines that its records give, what is held there and promised, and its clock.
+/// So it is after any falls and rises, whatever records they gave.
 #[tactic(auto, using(crate::proofs::SiteLaws::shows))]
 pub fn sites_are_read_off_their_steps()
-    ensures { (decl : Declaration) (site : ℕ) (ds : List Deed) → Serves decl site ds
-        → IsShown ds (site_after decl site ds).site }
+    ensures { (decl : Declaration) (site : ℕ) (ds : List Deed) → site < decl.sites → Serves decl site ds true
+        → (s : SiteState) × ((actor_after decl site ds).actor ≡ actor.Site s) × IsShown ds s }
 {}
 
-/// What a site sends for each input is due, and so is what it writes: its own
-/// steps up to then show it.
+/// What a site posts for each input and each rise is due: what it writes, what
+/// it sends, and that it falls where its record isn't written. Its own steps up
+/// to then show it.
 #[tactic(auto, using(crate::proofs::SiteLaws::are_due))]
 pub fn answers_of_sites_are_due()
-    ensures { (decl : Declaration) (site : ℕ) (ds : List Deed) → Serves decl site ds → AreDue decl [] ds }
+    ensures { (decl : Declaration) (site : ℕ) (ds : List Deed) (up : Bool) → site < decl.sites
+        → Serves decl site ds up → AreDue decl [] ds }
+{}
+
+/// A site that lives by its conduct, and is commanded by nobody, serves: it is up
+/// as it takes what it takes.
+#[tactic(auto, using(crate::proofs::SiteLives::serves_as_lives))]
+pub fn sites_that_live_serve()
+    ensures { (decl : Declaration) (site : ℕ) (ds : List Deed) (n : ℕ) → Lives decl site ds false n
+        → Every IsSiteDeed ds → Serves decl site ds (is_up ds) }
 {}
 
 /// An actor is a fold over its deeds: an input moves it, and it stays where it

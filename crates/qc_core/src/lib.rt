@@ -6,8 +6,9 @@
 //!
 //! 1. All that a site is, its own steps show
 //!    (`sites_are_read_off_their_steps`).
-//! 2. What a site sends and writes for each input is due
-//!    (`answers_of_sites_are_due`).
+//! 2. What a site posts for each input and each rise is due
+//!    (`answers_of_sites_are_due`); so a site that lives serves
+//!    (`sites_that_live_serve`).
 //! 3. An actor's turn is the one that its deeds call for
 //!    (`turns_are_those_of_actors`), and each call of `Actor` is one step of
 //!    the fold over them (`actors_are_folds`).
@@ -24,7 +25,8 @@ mod lives;
 pub use actor::Actor;
 pub use laws::{
     actors_are_folds, actors_fit, answers_of_sites_are_due, requests_are_numbered_at_once,
-    sites_are_read_off_their_steps, turns_are_short, turns_are_those_of_actors,
+    sites_are_read_off_their_steps, sites_that_live_serve, turns_are_short,
+    turns_are_those_of_actors,
 };
 pub use lives::{
     actors_fall_and_rise, journals_are_those_of_steps, who_is_down_has_no_state,

@@ -1,18 +1,27 @@
 -- In each run a site serves: it is what its steps show, and all that it posts is due.
 use Rattle.std.proofs.Common.{◌≡◌, ℕ, ◌+◌, ◌-◌, ◌<◌, Bool, true, false, if◌then◌else◌, List, [], ◌∷◌, ◌++◌, Some, None, slice_get, refl, sym, ap, ◌∙◌, subst, arith, append_assoc}
 use Rattle.std.specs.List.{AllByRecursion as Every}
-use Rattle.std.proofs.lemmas.Bool.{lt-ltb}
+use Rattle.std.proofs.lemmas.Bool.{lt-ltb, ltb-true}
 use Rattle.qc_core.proofs.SiteLaws.{are_due, shows}
 use Rattle.qc_core.specs.Acts.{Acts, starts, takes, posts}
-use Rattle.qc_core.specs.Conduct.{IsLawful}
-use Rattle.qc_core.specs.Sites.{IsInput, IsShown, Serves}
+use Rattle.qc_core.proofs.ActorLaws.{at_site}
+use Rattle.qc_core.proofs.LivesLaws.{lawful_still, written}
+use Rattle.qc_core.proofs.Steady.{acts_steady}
+use Rattle.qc_core.specs.declared.actor.Actor.TheVariants.{Site}
+use Rattle.qc_core.specs.Actors.{ActorMove, actor_after}
+use Rattle.qc_core.specs.Conduct.{IsLawful, IsLawfulWithFalls}
+use Rattle.qc_core.specs.Lives.{AreSteady}
+use Rattle.qc_msg.specs.declared.turn.Appended.{Appended}
+use Rattle.qc_msg.specs.declared.turn.Appended.TheVariants.{Done}
+use Rattle.qc_site.specs.Site.{SiteState}
+use Rattle.qc_core.specs.Sites.{IsInput, IsShown, Serves, stays_up}
 use Rattle.qc_core.specs.Sites as serving
 use Rattle.qc_decl.specs.declared.declaration.Declaration.{Declaration}
 use Rattle.qc_decl.specs.Actors.{actors, is_client, is_site}
 use Rattle.qc_client.specs.Conduct.{client_after}
 use Rattle.qc_msg.specs.declared.step.Given.{Given}
 use Rattle.qc_msg.specs.declared.turn.Turn.{Turn}
-use Rattle.qc_msg.specs.Deeds.{Deed, Takes, Writes, Sends, Tells, Falls, Rises, deeds, turn_deeds}
+use Rattle.qc_msg.specs.Deeds.{Deed, Takes, Writes, Sends, Tells, Falls, Rises, deeds, deeds_as, turn_deeds}
 use Rattle.qc_msg.specs.Steps.{Entry}
 use Rattle.qc_promise.specs.Posts.{IsPostOf, TurnDue}
 use Rattle.qc_promise.specs.SiteDue.{AreDue, IsDueAt, IsDueOrOpen, rising_turn, turn_due}
@@ -60,11 +69,11 @@ module _ (decl : Declaration) where
       pub before : List Deed
       pub taken : Given
       pub is : ds ≡ before ++ Takes taken ∷ []
-      pub served : Serves decl a before
+      pub served : Serves decl a before true
       pub input : IsInput taken
 
     abbrev pub ServesAt : List Deed → Bool → Type 0
-    ServesAt ds false = Serves decl a ds
+    ServesAt ds false = Serves decl a ds true
     ServesAt ds true = IsServing ds
 
     pub lawful_site : is_site decl a ≡ true → (ds : List Deed) (turn : Turn) → IsLawful decl a ds turn → turn ≡ (site_after decl a ds).turn
@@ -74,32 +83,36 @@ module _ (decl : Declaration) where
         by true same is = let it : turn ≡ (site_after decl a ds).turn = cc in it
         by false same is = absurd (let never : ⊥ = cc in never)
 
-    post_serves : is_site decl a ≡ true → (ds : List Deed) (turn : Turn) (first : ℕ) → IsLawful decl a ds turn → IsServing ds → Serves decl a (ds ++ turn_deeds first turn)
-    post_serves site ds turn first law s =
-        subst (Serves decl a) (sym (whole turn (lawful_site site ds turn law) ds s.is)) (serving.serves s.before s.taken first s.served s.input)
-      where
-        whole : (t : Turn) → t ≡ (site_after decl a ds).turn → (k : List Deed) → k ≡ s.before ++ Takes s.taken ∷ [] → k ++ turn_deeds first t ≡ s.before ++ Takes s.taken ∷ turn_deeds first (site_after decl a (s.before ++ Takes s.taken ∷ [])).turn
-        whole t t_is k k_is =
-            ap (λ (v : Turn). k ++ turn_deeds first v) (t_is ∙ ap (λ (v : List Deed). (site_after decl a v).turn) s.is)
-            ∙ ap (λ (v : List Deed). v ++ turn_deeds first (site_after decl a (s.before ++ Takes s.taken ∷ [])).turn) k_is
-            ∙ append_assoc s.before (Takes s.taken ∷ []) (turn_deeds first (site_after decl a (s.before ++ Takes s.taken ∷ [])).turn)
+    post_serves : (ds : List Deed) (turn : Turn) (first : ℕ) → AreSteady ds → IsLawful decl a ds turn → IsServing ds → Serves decl a (ds ++ turn_deeds first turn) true
+    post_serves ds turn first steady law s =
+        let done : turn.append ≡ Done = written decl a ds turn steady law in
+        let lawful : IsLawfulWithFalls decl a (s.before ++ Takes s.taken ∷ []) turn = subst (λ (v : List Deed). IsLawfulWithFalls decl a v turn) s.is (lawful_still decl a ds turn steady law) in
+        subst (λ (v : List Deed). Serves decl a v true)
+        (sym (ap (λ (v : List Deed). v ++ turn_deeds first turn) s.is ∙ append_assoc s.before (Takes s.taken ∷ []) (turn_deeds first turn)))
+        (subst (λ (end : Appended). Serves decl a (s.before ++ Takes s.taken ∷ deeds_as end first turn) (stays_up end)) done (serving.serves s.before s.taken turn first s.served s.input lawful))
 
     pub acts_serve : is_site decl a ≡ true → (ds : List Deed) (t : Bool) (n : ℕ) → Acts decl a ds t n → AreInputs ds → ServesAt ds t
     acts_serve site ds t n starts inputs = serving.starts
     acts_serve site ds t n (takes older taken m acts may) inputs =
         record { before = older; taken = taken; is = refl; served = acts_serve site older false m acts (first_part IsInputDeed older (Takes taken ∷ []) inputs); input = (second_part IsInputDeed older (Takes taken ∷ []) inputs).0 }
     acts_serve site ds t n (posts older turn m first acts low law) inputs =
-        post_serves site older turn first law (acts_serve site older true m acts (first_part IsInputDeed older (turn_deeds first turn) inputs))
+        post_serves older turn first (acts_steady decl a older true m acts) law (acts_serve site older true m acts (first_part IsInputDeed older (turn_deeds first turn) inputs))
 
-    serving_due : (ds : List Deed) → IsServing ds → AreDue decl [] ds
-    serving_due ds s =
+    -- whatever it posts for its open input, what it posted before is due
+
+    its_turn : is_site decl a ≡ true → (ds : List Deed) → IsLawful decl a ds (site_after decl a ds).turn
+    its_turn site ds = ap (λ (b : Bool). if b then Some (site_after decl a ds).turn else (if is_client decl a then Some (client_after decl (a - decl.sites) ds).turn else None)) site
+
+    serving_due : is_site decl a ≡ true → (ds : List Deed) → AreSteady ds → IsServing ds → AreDue decl [] ds
+    serving_due site ds steady s =
         subst (AreDue decl []) (sym s.is)
-        (due_cut [] s.before (turn_deeds 0 (site_after decl a (s.before ++ Takes s.taken ∷ [])).turn) s.taken
-        (are_due decl a (s.before ++ Takes s.taken ∷ turn_deeds 0 (site_after decl a (s.before ++ Takes s.taken ∷ [])).turn) (serving.serves s.before s.taken 0 s.served s.input)))
+        (due_cut [] s.before (turn_deeds 0 (site_after decl a ds).turn) s.taken
+        (subst (AreDue decl []) (ap (λ (v : List Deed). v ++ turn_deeds 0 (site_after decl a ds).turn) s.is ∙ append_assoc s.before (Takes s.taken ∷ []) (turn_deeds 0 (site_after decl a ds).turn))
+        (are_due decl a (ds ++ turn_deeds 0 (site_after decl a ds).turn) true (ltb-true a decl.sites site) (post_serves ds (site_after decl a ds).turn 0 steady (its_turn site ds) s))))
 
-    serves_due : (ds : List Deed) (t : Bool) → ServesAt ds t → AreDue decl [] ds
-    serves_due ds false served = are_due decl a ds served
-    serves_due ds true s = serving_due ds s
+    serves_due : is_site decl a ≡ true → (ds : List Deed) → AreSteady ds → (t : Bool) → ServesAt ds t → AreDue decl [] ds
+    serves_due site ds steady false served = are_due decl a ds true (ltb-true a decl.sites site) served
+    serves_due site ds steady true s = serving_due site ds steady s
 
 -- in each run
 
@@ -112,14 +125,23 @@ module _ (decl : Declaration) (script : Script) (h : List Entry) (open_inputs : 
       let r : ActsIn decl site h t = run_acts decl script h open_inputs run site t is in
       acts_serve decl site a_site (deeds site [] h) t r.above r.acts (deeds_inputs site [] h tt (run_stamped decl script h open_inputs run))
 
-  pub run_serves : slice_get open_inputs site ≡ Some false → Serves decl site (deeds site [] h)
+  pub run_serves : slice_get open_inputs site ≡ Some false → Serves decl site (deeds site [] h) true
   run_serves free = serves_at false free
 
+  steady : (t : Bool) → slice_get open_inputs site ≡ Some t → AreSteady (deeds site [] h)
+  steady t is =
+      let r : ActsIn decl site h t = run_acts decl script h open_inputs run site t is in
+      acts_steady decl site (deeds site [] h) t r.above r.acts
+
   pub run_shown : slice_get open_inputs site ≡ Some false → IsShown (deeds site [] h) (site_after decl site (deeds site [] h)).site
-  run_shown free = shows decl site (deeds site [] h) (run_serves free)
+  run_shown free =
+      let it : (s : SiteState) × ((actor_after decl site (deeds site [] h)).actor ≡ Site s) × IsShown (deeds site [] h) s = shows decl site (deeds site [] h) within (run_serves free) in
+      let at : Site (site_after decl site (deeds site [] h)).site ≡ Site it.0 = sym (ap (λ (m : ActorMove). m.actor) (at_site decl site (deeds site [] h) (steady false free) a_site)) ∙ it.1 in
+      let same : it.0 ≡ (site_after decl site (deeds site [] h)).site = cc in
+      subst (IsShown (deeds site [] h)) same it.2
 
   pub run_due : AreDue decl [] (deeds site [] h)
   run_due = by (has_entry (IsLawful decl) decl script h open_inputs run site (let all : decl.sites + decl.clients ≡ actors decl = refl in omega arith))
     where
       by : (t : Bool) × (slice_get open_inputs site ≡ Some t) → AreDue decl [] (deeds site [] h)
-      by place = serves_due decl site (deeds site [] h) place.0 (serves_at place.0 place.1)
+      by place = serves_due decl site a_site (deeds site [] h) (steady place.0 place.1) place.0 (serves_at place.0 place.1)

@@ -1,6 +1,6 @@
 //! Laws of sites, each the contract of a function with nothing to do.
 
-ghost use Rattle.std.specs.Prelude.{◌≡◌, ◌<◌, ℕ, Bool, List, [], Some, false, slice_get};
+ghost use Rattle.std.specs.Prelude.{◌≡◌, ◌<◌, ℕ, Bool, List, [], Some, true, false, slice_get};
 ghost use Rattle.std.specs.List.{AllByRecursion as Every};
 ghost use Rattle.qc_core.specs.Conduct.{IsLawful};
 ghost use Rattle.qc_core.specs.Sites.{IsShown, IsStamped, Serves};
@@ -22,12 +22,12 @@ pub fn decisions_name_stamps_of_their_clients()
 {}
 
 /// A site without an open input has taken inputs and posted its turn after
-/// each.
+/// each, and it is up.
 #[tactic(auto, using(crate::proofs::Served::run_serves))]
 pub fn sites_serve()
     ensures { (decl : Declaration) (script : Script) (h : List Entry) (open_inputs : List Bool)
         → Runs (IsLawful decl) decl script h open_inputs → (site : ℕ) → site < decl.sites
-        → slice_get open_inputs site ≡ Some false → Serves decl site (deeds site [] h) }
+        → slice_get open_inputs site ≡ Some false → Serves decl site (deeds site [] h) true }
 {}
 
 /// All that such a site is, its own steps show.

@@ -69,7 +69,7 @@ silent_down decl a ds down = silent_from decl a false _ ds (λ is. absurd (let n
 
 -- a lawful turn is that of the actor, but for what became of its record
 
-due : (decl : Declaration) (a : ℕ) (ds : List Deed) (turn : Turn) → IsLawfulWithFalls decl a ds turn → (actor_after decl a ds).turn ≡ with_record turn
+pub due : (decl : Declaration) (a : ℕ) (ds : List Deed) (turn : Turn) → IsLawfulWithFalls decl a ds turn → (actor_after decl a ds).turn ≡ with_record turn
 due decl a ds turn lawful = by (is_site decl a) (is_client decl a) lawful.called_for
   where
     here : Some (actor_after decl a ds).turn ≡ Some (with_record turn) → (actor_after decl a ds).turn ≡ with_record turn

@@ -37,7 +37,7 @@ use Rattle.qc_lives.proofs.Downs.{tells, up_is}
 
 -- steps that are nobody's deeds
 
-line_silent : (line : Control) (step : Step) → controller_step line ≡ Some step → IsSilent step
+pub line_silent : (line : Control) (step : Step) → controller_step line ≡ Some step → IsSilent step
 line_silent (controls.Phase k) step is = absurd (let never : ⊥ = cc in never)
 line_silent (controls.Cut a b) step is = subst IsSilent (let same : steps.Cut a b ≡ step = cc in same) (record { sends = λ a. refl; deeds = λ ms. refl })
 line_silent (controls.Heal a b) step is = subst IsSilent (let same : steps.Heal a b ≡ step = cc in same) (record { sends = λ a. refl; deeds = λ ms. refl })
@@ -60,7 +60,7 @@ place_within (b ∷ bs) (suc a) t is = let further : a < length bs = place_withi
 
 -- an actor's fall, and its rise
 
-deeds-fall : (a : ℕ) (h : List Entry) (cause : Fall) → deeds a [] (h ++ marked a (steps.Fell cause None) ∷ []) ≡ deeds a [] h ++ Falls cause None ∷ []
+pub deeds-fall : (a : ℕ) (h : List Entry) (cause : Fall) → deeds a [] (h ++ marked a (steps.Fell cause None) ∷ []) ≡ deeds a [] h ++ Falls cause None ∷ []
 deeds-fall a h cause = deeds-append a [] h (by a (fell cause None)) ∙ ap (λ (ds : List Deed). deeds a [] h ++ ds) (deeds-fell a (mail h) cause None)
 
 pub deeds-rise : (a : ℕ) (h : List Entry) (records : List Record) → deeds a [] (h ++ marked a (steps.Rose records) ∷ []) ≡ deeds a [] h ++ Rises records ∷ []

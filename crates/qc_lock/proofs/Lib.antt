@@ -2,6 +2,7 @@ pub mod Conflicts
 pub mod Entries
 pub mod Holding
 pub mod Indexing
+pub mod Lowest
 pub mod Numbering
 pub mod Numbers
 pub mod Ones

@@ -10,7 +10,7 @@ use crate::places::{Places, holder_beside};
 use qc_entry::OwnLine;
 use qc_list::OutOfMemory;
 use qc_stamp::TxId;
-use qc_table::{Pair, Relation};
+use qc_table::{MOST_EVENTS, Pair, Relation};
 use std::cmp::Ordering;
 
 /// Who is in the way. Clashes are ordered by holder, invocation, event.
@@ -83,7 +83,8 @@ fn clash_at(
     Some(Clash { holder, inv, event })
 }
 
-/// The smallest clash of a read with own lines, by their places.
+/// The smallest clash of a read with own lines, by their places. Looked up are
+/// only the events on which its invocation depends.
 pub(crate) fn read_clash(
     lines: &Places,
     relation: &Relation,
@@ -91,14 +92,18 @@ pub(crate) fn read_clash(
     object: u8,
     inv: u8,
 ) -> Option<Clash>
-    requires { AreSmall lines.now }
     ensures { IsSmallest (IsReadPlaced relation.now lines.now tx object inv) result }
 {
     let mut best = None;
-    'events: for number in 0..256u16 {
-        let event = number as u8;
+    let mut rest = relation.depended(inv);
+    'turns: for _turn in 0..MOST_EVENTS {
+        if rest == 0 {
+            return best;
+        }
+        let event = rest.trailing_zeros() as u8;
         let clash = clash_at(lines, relation, tx, object, event, Pair { inv, event });
         best = smaller_of(best, clash);
+        rest &= !(1 << event);
     }
     best
 }

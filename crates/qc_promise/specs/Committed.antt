@@ -1,20 +1,39 @@
--- The committed transactions of a history: one committed where its client wrote so (presumed abort).
-use Rattle.std.specs.Prelude.{if◌then◌else◌, List, Option, None}
-use Rattle.std.specs.List.{filter_map}
+-- The committed transactions of a history: one committed where its client wrote so, or rose with a record that says so
+-- (presumed abort).
+use Rattle.std.specs.Prelude.{if◌then◌else◌, List, [], option_to_list}
+use Rattle.std.specs.List.{filter_map, flat_map}
 use Rattle.qc_decl.specs.Actors.{is_client}
 use Rattle.qc_decl.specs.declared.declaration.Declaration.{Declaration}
 use Rattle.qc_entry.specs.declared.record.Commit.{Commit}
-use Rattle.qc_msg.specs.Counts.{commit_in}
+use Rattle.qc_msg.specs.declared.step.Step.{Step}
+use Rattle.qc_msg.specs.declared.step.Step.TheVariants as steps
+use Rattle.qc_msg.specs.Counts.{commit_of}
 use Rattle.qc_msg.specs.Steps.{Entry}
 use Rattle.qc_onecopy.specs.Committed.{sorted}
 
--- the commit record that a client's step wrote
-abbrev pub commit_by : Declaration → Entry → Option Commit
-commit_by decl e = if is_client decl e.actor then commit_in e.step else None
+-- the commit records that a step writes, or that a rise gives
+abbrev pub commits_in : Step → List Commit
+commits_in (steps.Phase k) = []
+commits_in (steps.Cut a b) = []
+commits_in (steps.Heal a b) = []
+commits_in (steps.Armed actor kind at) = []
+commits_in (steps.Called command) = []
+commits_in (steps.Got n) = []
+commits_in (steps.Lost n) = []
+commits_in (steps.Wrote written) = option_to_list (commit_of written)
+commits_in (steps.Sent n to message) = []
+commits_in (steps.Told reply) = []
+commits_in (steps.Fell cause pending) = []
+commits_in (steps.Rose kept) = filter_map commit_of kept
+commits_in (steps.Damaged offset) = []
 
--- the commit records that clients wrote, in the order of their writing
+-- those of clients
+abbrev pub commits_by : Declaration → Entry → List Commit
+commits_by decl e = if is_client decl e.actor then commits_in e.step else []
+
+-- all of them, one that was written and rose more than once, in the order of their steps
 abbrev pub records : Declaration → List Entry → List Commit
-records decl h = filter_map (commit_by decl) h
+records decl h = flat_map (commits_by decl) h
 
 -- the distinct ones, in the order of their stamps
 abbrev pub committed : Declaration → List Entry → List Commit

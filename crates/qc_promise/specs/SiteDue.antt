@@ -1,7 +1,7 @@
 -- What a site is to write and to send for what it takes, and as it rises, by what its own steps show: the first row that
 -- applies.
 use Rattle.std.specs.Prelude.{ℕ, ◌==◌, ◌&&◌, nat_lt, nat_le, Bool, true, false, not, if◌then◌else◌, is_some}
-use Rattle.std.specs.Prelude.{List, [], ◌∷◌, ◌++◌, map, fold, Option, Some, None, option_map, unwrap_or}
+use Rattle.std.specs.Prelude.{List, [], ◌∷◌, ◌++◌, map, fold, Option, Some, None, option_map}
 use Rattle.std.specs.Option.{option_map_or, option_or}
 use Rattle.qc_list.specs.Order.{inserted}
 use Rattle.qc_stamp.specs.declared.stamp.TxId.{TxId}
@@ -98,10 +98,6 @@ abbrev pub grant_due : List Deed → Want → Answer
 grant_due ds (Read object inv) = answers.Granted (life_shown ds) (clock_shown ds) (of_object (log_shown ds) object)
 grant_due ds (Append object view own) = answers.Granted (life_shown ds) (clock_shown ds) []
 grant_due ds Prepare = answers.Yes (clock_shown ds)
-
--- the answer that a request is due; the deeds end with its take
-abbrev pub answer_due : Declaration → List Deed → TxId → ℕ → ℕ → Want → Answer
-answer_due decl ds tx epoch life want = unwrap_or (refusal_due decl ds tx epoch life want) (grant_due ds want)
 
 -- the client of a transaction is asked how it stands
 abbrev pub inquiry : Declaration → TxId → Posting

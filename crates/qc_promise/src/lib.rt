@@ -1,12 +1,14 @@
 //! What is promised of a history: definitions alone, for a reader to judge.
 //! That every run keeps them is proved in the crates above.
 //!
-//! A site is read off its own steps. What it is after its deeds (`qc_msg`), each
-//! part as a sentence over them: its life and its epoch (`SiteRecords`), what
+//! A site is read off its own steps, in its present life: the records that its
+//! last rise gave, and its deeds (`qc_msg`) since (`Lifetimes`). What it is, each
+//! part as a sentence over these: its life and its epoch (`SiteRecords`), what
 //! transactions hold there (`SiteHeld`), what it has promised (`SitePromises`),
 //! the lines that it knows and those that its records give (`SiteLogs`), its
-//! clock (`SiteClocks`). By these, what it is to send and to write for each
-//! input: which refusal, which grant, which record (`SiteDue`).
+//! clock (`SiteClocks`). By these, its turn for each input and for a rise: which
+//! refusal, which grant, which record (`SiteDue`). What it posts is one of the
+//! posts of that turn: its record is written, fails or stops (`Posts`).
 //!
 //! A client's replies are due. What has happened at it so far is an account of
 //! its deeds (`Account`, `Accounting`): whether it is up, its life, the running

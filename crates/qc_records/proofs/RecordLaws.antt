@@ -25,6 +25,7 @@ use Rattle.qc_promise.specs.Told.{AreDealt, AreTold, HasCommit}
 use Rattle.qc_records.specs.Written.{written_in}
 use Rattle.qc_records.proofs.Dealing.{HasRecord, IsAbort}
 use Rattle.qc_records.proofs.InRuns.{IsKept, client_number, run_kept}
+use Rattle.qc_laws.proofs.Up.{run_up}
 use Rattle.qc_records.proofs.WrittenDeeds.{IsWritten, listed_written, written_listed}
 
 module _ (decl : Declaration) (script : Script) (h : List Entry) (open_inputs : List Bool) (accepted : IsAccepted decl) (run : Runs (IsLawful decl) decl script h open_inputs) where
@@ -42,7 +43,7 @@ module _ (decl : Declaration) (script : Script) (h : List Entry) (open_inputs : 
 
   owned : (c : Commit) → In c (records decl h) → IsOwn c
   owned c listed =
-      let w : IsWritten decl [] h c = listed_written decl [] h c listed in
+      let w : IsWritten decl [] h c = listed_written decl [] h c (λ a. run_up (IsLawful decl) decl script h open_inputs run a) listed in
       let member : (tx : TxId) → In c (kept w.actor w.named tx).client.desk.commits = λ tx. subst (In c) (sym (kept w.actor w.named tx).written) w.wrote in
       let mine : c.tx.client ≡ w.actor - decl.sites = ((kept w.actor w.named c.tx).keeps.book.past c (member c.tx)).0 ∙ (kept w.actor w.named c.tx).keeps.own in
       let back : decl.sites + (w.actor - decl.sites) ≡ w.actor = client_number decl w.actor w.named in

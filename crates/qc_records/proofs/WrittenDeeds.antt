@@ -27,7 +27,8 @@ use Rattle.qc_commit.specs.Conduct as desks
 use Rattle.qc_client.specs.declared.client.Client.{Client}
 use Rattle.qc_client.specs.Client.{ClientMove}
 use Rattle.qc_client.specs.Conduct.{client_does, sent_one}
-use Rattle.qc_promise.specs.Committed.{commit_by, records}
+use Rattle.qc_promise.specs.Committed.{commits_by, commits_in, records}
+use Rattle.qc_laws.proofs.Up.{AreUp, first_up, rest_up}
 use Rattle.qc_records.specs.Written.{written_by, written_in}
 use Rattle.qc_records.proofs.ClientsWithin.{IsPost}
 use Rattle.qc_records.proofs.DealtClients.{commits_of}
@@ -38,7 +39,7 @@ written-append xs ys = filter_map-append written_by xs ys
 pub written-more : (ds : List Deed) (g : Given) → written_in (ds ++ Takes g ∷ []) ≡ written_in ds
 written-more ds g = written-append ds (Takes g ∷ []) ∙ append-nil (written_in ds)
 
-cons_is : (o : Option Commit) (cs : List Commit) → cons_option o cs ≡ option_to_list o ++ cs
+pub cons_is : (o : Option Commit) (cs : List Commit) → cons_option o cs ≡ option_to_list o ++ cs
 cons_is None cs = refl
 cons_is (Some c) cs = refl
 
@@ -99,11 +100,6 @@ step_written ms (steps.Fell cause pending) = refl
 step_written ms (steps.Rose records) = refl
 step_written ms (steps.Damaged offset) = refl
 
-in_cons : (c : Commit) (o : Option Commit) (cs : List Commit) → In c (cons_option o cs) → In c (option_to_list o) ⊎ In c cs
-in_cons c None cs among = inr among
-in_cons c (Some d) cs (inl same) = inl (inl same)
-in_cons c (Some d) cs (inr later) = inr later
-
 in_either : (c : Commit) (xs ys : List Commit) → In c (xs ++ ys) → In c xs ⊎ In c ys
 in_either c [] ys among = inr among
 in_either c (x ∷ xs) ys (inl same) = inl (inl same)
@@ -127,20 +123,64 @@ own_step a ms e h =
     by true = step_written ms e.step
     by false = refl
 
-pub listed_written : (decl : Declaration) (ms : List Envelope) (h : List Entry) (c : Commit) → In c (records decl h) → IsWritten decl ms h c
-listed_written decl ms [] c among = absurd among
-listed_written decl ms (e ∷ h) c among = by (in_cons c (commit_by decl e) (records decl h) among) (listed_written decl (ms ++ option_to_list (envelope_of e)) h c) where
-  here : (t : Bool) → is_client decl e.actor ≡ t → In c (option_to_list (cond t (commit_in e.step) None)) → IsWritten decl ms (e ∷ h) c
+-- where nobody rises, a step has the commit record that it writes
+
+abbrev pub AllUp : List Envelope → List Entry → Type 0
+AllUp ms h = (a : ℕ) → AreUp (deeds a ms h)
+
+pub rest_all_up : (ms : List Envelope) (e : Entry) (h : List Entry) → AllUp ms (e ∷ h) → AllUp (ms ++ option_to_list (envelope_of e)) h
+rest_all_up ms e h up a = rest_up (cond (e.actor == a) (deed_at ms e.step) []) (deeds a (ms ++ option_to_list (envelope_of e)) h) (up a)
+
+step_commits : (ms : List Envelope) (step : Step) → AreUp (deed_at ms step) → commits_in step ≡ option_to_list (commit_in step)
+step_commits ms (steps.Phase k) up = refl
+step_commits ms (steps.Cut x y) up = refl
+step_commits ms (steps.Heal x y) up = refl
+step_commits ms (steps.Armed actor kind at) up = refl
+step_commits ms (steps.Called command) up = refl
+step_commits ms (steps.Got n) up = refl
+step_commits ms (steps.Lost n) up = refl
+step_commits ms (steps.Wrote written) up = refl
+step_commits ms (steps.Sent n to message) up = refl
+step_commits ms (steps.Told reply) up = refl
+step_commits ms (steps.Fell cause pending) up = refl
+step_commits ms (steps.Rose kept) up = absurd up.0
+step_commits ms (steps.Damaged offset) up = refl
+
+pub entry_commits : (ms : List Envelope) (e : Entry) (h : List Entry) → AllUp ms (e ∷ h) → commits_in e.step ≡ option_to_list (commit_in e.step)
+entry_commits ms e h up =
+    step_commits ms e.step (subst (λ (t : Bool). AreUp (cond t (deed_at ms e.step) [])) (eq-eqb e.actor e.actor refl)
+    (first_up (cond (e.actor == e.actor) (deed_at ms e.step) []) (deeds e.actor (ms ++ option_to_list (envelope_of e)) h) (up e.actor)))
+
+-- in any case it is among its commit records
+among_commits : (c : Commit) (step : Step) → In c (option_to_list (commit_in step)) → In c (commits_in step)
+among_commits c (steps.Phase k) among = among
+among_commits c (steps.Cut x y) among = among
+among_commits c (steps.Heal x y) among = among
+among_commits c (steps.Armed actor kind at) among = among
+among_commits c (steps.Called command) among = among
+among_commits c (steps.Got n) among = among
+among_commits c (steps.Lost n) among = among
+among_commits c (steps.Wrote written) among = among
+among_commits c (steps.Sent n to message) among = among
+among_commits c (steps.Told reply) among = among
+among_commits c (steps.Fell cause pending) among = among
+among_commits c (steps.Rose kept) among = absurd among
+among_commits c (steps.Damaged offset) among = among
+
+pub listed_written : (decl : Declaration) (ms : List Envelope) (h : List Entry) (c : Commit) → AllUp ms h → In c (records decl h) → IsWritten decl ms h c
+listed_written decl ms [] c up among = absurd among
+listed_written decl ms (e ∷ h) c up among = by (in_either c (commits_by decl e) (records decl h) among) (listed_written decl (ms ++ option_to_list (envelope_of e)) h c (rest_all_up ms e h up)) where
+  here : (t : Bool) → is_client decl e.actor ≡ t → In c (cond t (commits_in e.step) []) → IsWritten decl ms (e ∷ h) c
   here true is own = record {
     actor = e.actor;
     named = is;
     wrote = subst (In c) (sym (own_step e.actor ms e h))
         (In-first c (cond (e.actor == e.actor) (option_to_list (commit_in e.step)) []) (written_in (deeds e.actor (ms ++ option_to_list (envelope_of e)) h))
-        (subst (λ (t : Bool). In c (cond t (option_to_list (commit_in e.step)) [])) (sym (eq-eqb e.actor e.actor refl)) own));
+        (subst (λ (t : Bool). In c (cond t (option_to_list (commit_in e.step)) [])) (sym (eq-eqb e.actor e.actor refl)) (subst (In c) (entry_commits ms e h up) own)));
   }
   here false is never = absurd never
 
-  by : In c (option_to_list (commit_by decl e)) ⊎ In c (records decl h) → (In c (records decl h) → IsWritten decl (ms ++ option_to_list (envelope_of e)) h c) → IsWritten decl ms (e ∷ h) c
+  by : In c (commits_by decl e) ⊎ In c (records decl h) → (In c (records decl h) → IsWritten decl (ms ++ option_to_list (envelope_of e)) h c) → IsWritten decl ms (e ∷ h) c
   by (inl first) rest = here (is_client decl e.actor) refl first
   by (inr later) rest =
       let r : IsWritten decl (ms ++ option_to_list (envelope_of e)) h c = rest later in
@@ -156,16 +196,13 @@ written_listed decl ms (e ∷ h) c a named among =
     by (in_either c (cond (e.actor == a) (option_to_list (commit_in e.step)) []) (written_in (deeds a (ms ++ option_to_list (envelope_of e)) h)) (subst (In c) (own_step a ms e h) among))
     (written_listed decl (ms ++ option_to_list (envelope_of e)) h c a named)
   where
-    whole : records decl (e ∷ h) ≡ option_to_list (commit_by decl e) ++ records decl h
-    whole = cons_is (commit_by decl e) (records decl h)
-
-    here : (t : Bool) → (e.actor == a) ≡ t → In c (cond t (option_to_list (commit_in e.step)) []) → In c (option_to_list (commit_by decl e))
+    here : (t : Bool) → (e.actor == a) ≡ t → In c (cond t (option_to_list (commit_in e.step)) []) → In c (commits_by decl e)
     here true same own =
         let is : is_client decl e.actor ≡ true = ap (is_client decl) (eqb-true e.actor a same) ∙ named in
-        subst (λ (t : Bool). In c (option_to_list (cond t (commit_in e.step) None))) (sym is) own
+        subst (λ (t : Bool). In c (cond t (commits_in e.step) [])) (sym is) (among_commits c e.step own)
     here false other never = absurd never
 
     by : In c (cond (e.actor == a) (option_to_list (commit_in e.step)) []) ⊎ In c (written_in (deeds a (ms ++ option_to_list (envelope_of e)) h))
         → (In c (written_in (deeds a (ms ++ option_to_list (envelope_of e)) h)) → In c (records decl h)) → In c (records decl (e ∷ h))
-    by (inl first) rest = subst (In c) (sym whole) (In-first c (option_to_list (commit_by decl e)) (records decl h) (here (e.actor == a) refl first))
-    by (inr later) rest = subst (In c) (sym whole) (In-second c (option_to_list (commit_by decl e)) (records decl h) (rest later))
+    by (inl first) rest = In-first c (commits_by decl e) (records decl h) (here (e.actor == a) refl first)
+    by (inr later) rest = In-second c (commits_by decl e) (records decl h) (rest later)

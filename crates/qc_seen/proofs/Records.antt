@@ -1,6 +1,5 @@
 -- Only clients write commit records.
 use Rattle.std.proofs.Common.{◌≡◌, ◌≤◌, ◌<◌, ℕ, ◌==◌, ◌&&◌, Bool, true, false, cond, List, [], ◌∷◌, ◌++◌, ◌⊎◌, inl, inr, Option, Some, None, option_to_list, slice_get, refl, sym, ap, ◌∙◌, subst, eq-eqb}
-use Rattle.std.specs.List.{cons_option}
 use Rattle.std.proofs.lemmas.Bool.{cases_lt, le-leb, lt-ltb}
 use Rattle.qc_list.specs.Members.{In}
 use Rattle.qc_list.proofs.Members.{In-first, In-second, every-In}
@@ -18,7 +17,9 @@ use Rattle.qc_msg.specs.declared.step.Step.TheVariants as steps
 use Rattle.qc_msg.specs.Counts.{commit_in, written}
 use Rattle.qc_msg.specs.Deeds.{Writes, deed_at, deeds, envelope_of}
 use Rattle.qc_msg.specs.Steps.{Entry}
-use Rattle.qc_promise.specs.Committed.{records}
+use Rattle.qc_promise.specs.Committed.{commits_in, records}
+use Rattle.qc_laws.proofs.Up.{run_up}
+use Rattle.qc_records.proofs.WrittenDeeds.{AllUp, cons_is, entry_commits, rest_all_up}
 use Rattle.qc_script.specs.Runs.{Runs}
 use Rattle.qc_script.specs.declared.script.Script.{Script}
 use Rattle.qc_account.proofs.Mute.{IsMuteDeed, sites_mute}
@@ -46,22 +47,23 @@ step_wrote ms (steps.Damaged offset) c is = absurd (let never : ⊥ = cc in neve
 abbrev pub NoneWrite : Declaration → List Envelope → List Entry → Type 0
 NoneWrite decl ms h = (a : ℕ) → is_client decl a ≡ false → (c : Commit) → In (Writes (records_of.Commit c)) (deeds a ms h) → ⊥
 
-clients_only : (decl : Declaration) (ms : List Envelope) (h : List Entry) → NoneWrite decl ms h → records decl h ≡ written h
-clients_only decl ms [] none = refl
-clients_only decl ms (x ∷ h) none =
-    ap (λ (o : Option Commit). cons_option o (records decl h)) (by (is_client decl x.actor) refl)
-    ∙ ap (λ (cs : List Commit). cons_option (commit_in x.step) cs)
-    (clients_only decl (ms ++ option_to_list (envelope_of x)) h (λ a other c among. none a other c (In-second (Writes (records_of.Commit c)) (cond (x.actor == a) (deed_at ms x.step) []) (deeds a (ms ++ option_to_list (envelope_of x)) h) among)))
+clients_only : (decl : Declaration) (ms : List Envelope) (h : List Entry) → AllUp ms h → NoneWrite decl ms h → records decl h ≡ written h
+clients_only decl ms [] up none = refl
+clients_only decl ms (x ∷ h) up none =
+    ap (λ (cs : List Commit). cs ++ records decl h) (by (is_client decl x.actor) refl)
+    ∙ ap (λ (cs : List Commit). option_to_list (commit_in x.step) ++ cs)
+    (clients_only decl (ms ++ option_to_list (envelope_of x)) h (rest_all_up ms x h up) (λ a other c among. none a other c (In-second (Writes (records_of.Commit c)) (cond (x.actor == a) (deed_at ms x.step) []) (deeds a (ms ++ option_to_list (envelope_of x)) h) among)))
+    ∙ sym (cons_is (commit_in x.step) (written h))
   where
-    nothing : is_client decl x.actor ≡ false → (o : Option Commit) → commit_in x.step ≡ o → None ≡ o
+    nothing : is_client decl x.actor ≡ false → (o : Option Commit) → commit_in x.step ≡ o → [] ≡ option_to_list o
     nothing other None is = refl
     nothing other (Some c) is =
         absurd (none x.actor other c
         (In-first (Writes (records_of.Commit c)) (cond (x.actor == x.actor) (deed_at ms x.step) []) (deeds x.actor (ms ++ option_to_list (envelope_of x)) h)
         (subst (λ (b : Bool). In (Writes (records_of.Commit c)) (cond b (deed_at ms x.step) [])) (sym (eq-eqb x.actor x.actor refl)) (step_wrote ms x.step c is))))
 
-    by : (b : Bool) → is_client decl x.actor ≡ b → cond b (commit_in x.step) None ≡ commit_in x.step
-    by true is = refl
+    by : (b : Bool) → is_client decl x.actor ≡ b → cond b (commits_in x.step) [] ≡ option_to_list (commit_in x.step)
+    by true is = entry_commits ms x h up
     by false is = nothing is (commit_in x.step) refl
 
 module _ (decl : Declaration) (script : Script) (h : List Entry) (open_inputs : List Bool) (run : Runs (IsLawful decl) decl script h open_inputs) where
@@ -82,4 +84,4 @@ module _ (decl : Declaration) (script : Script) (h : List Entry) (open_inputs : 
       by (inl within) (inr client) = let yes : is_client decl a ≡ true = λ i. (le-leb decl.sites a client i && lt-ltb a (actors decl) within i) in let never : ⊥ = cc in never
 
   pub records_are_clients : records decl h ≡ written h
-  records_are_clients = clients_only decl [] h none_write
+  records_are_clients = clients_only decl [] h (λ a. run_up (IsLawful decl) decl script h open_inputs run a) none_write

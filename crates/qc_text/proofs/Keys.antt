@@ -1,7 +1,9 @@
 -- Keys of commit records in their order, and one record more.
-use Rattle.std.proofs.Common.{◌≡◌, ℕ, ◌+◌, ◌<◌, List, [], ◌∷◌, Option, Some, None, length, get_or, map, take, sym, ap, refl, ◌∙◌, Ordering}
-use Rattle.std.specs.Prelude.{fold}
-use Rattle.std.specs.List.{cons_option, filter_map}
+use Rattle.std.proofs.Common.{◌≡◌, ℕ, ◌+◌, ◌<◌, ◌++◌, Bool, true, false, cond, List, [], ◌∷◌, Option, Some, None, length, get_or, map, take, sym, ap, refl, ◌∙◌, Ordering}
+use Rattle.std.specs.Prelude.{fold, option_to_list}
+use Rattle.std.specs.List.{cons_option, filter_map, flat_map}
+use Rattle.std.proofs.lemmas.Grind.{flat_map-append}
+use Rattle.std.proofs.lemmas.List.{append-nil}
 use Rattle.std.specs.declared.cmp.Ordering.TheVariants.{Less, Equal, Greater}
 use Rattle.std.specs.BTreeSet.{insert_key}
 use Rattle.std.proofs.lemmas.List.Sums.{fold-append}
@@ -11,7 +13,11 @@ use Rattle.qc_list.specs.Order.{by_order}
 use Rattle.qc_decl.specs.declared.declaration.Declaration.{Declaration}
 use Rattle.qc_msg.specs.Steps.{Entry}
 use Rattle.qc_onecopy.specs.Committed.{commit_cmp, with_commit}
-use Rattle.qc_promise.specs.Committed.{commit_by, committed}
+use Rattle.qc_promise.specs.Committed.{commits_by, commits_in, committed}
+use Rattle.qc_decl.specs.Actors.{is_client}
+use Rattle.qc_msg.specs.declared.record.Record.{Record}
+use Rattle.qc_msg.specs.declared.record.Record.TheVariants as records
+use Rattle.qc_msg.specs.Counts as counts
 use Rattle.qc_text.specs.declared.committed.CommitKey.{CommitKey}
 use Rattle.qc_text.specs.Keys.{commit_of}
 use Rattle.qc_text.proofs.More.{more}
@@ -33,29 +39,57 @@ pub key_added : (cmp : CommitKey → CommitKey → Ordering) → AreOrderedAlike
 key_added cmp alike k [] = refl
 key_added cmp alike k (x ∷ xs) = placed (commit_cmp (commit_of k) (commit_of x)) cmp k x xs (alike k x) (key_added cmp alike k xs)
 
+-- a step more
 pub committed_more : (decl : Declaration) (h : List Entry) (i : ℕ) (x d : Entry) → i < length h → x ≡ get_or h i d
-    → committed decl (take (i + 1) h) ≡ fold with_commit (committed decl (take i h)) (cons_option (commit_by decl x) [])
+    → committed decl (take (i + 1) h) ≡ fold with_commit (committed decl (take i h)) (commits_by decl x)
 committed_more decl h i x d l e =
     ap (committed decl) (more h i x d l e)
-    ∙ ap (fold with_commit []) (filter_map-append (commit_by decl) (take i h) (x ∷ []))
-    ∙ fold-append with_commit [] (filter_map (commit_by decl) (take i h)) (cons_option (commit_by decl x) [])
+    ∙ ap (fold with_commit []) (flat_map-append (commits_by decl) (take i h) (x ∷ []) ∙ ap (λ (cs : List Commit). flat_map (commits_by decl) (take i h) ++ cs) (append-nil (commits_by decl x)))
+    ∙ fold-append with_commit [] (flat_map (commits_by decl) (take i h)) (commits_by decl x)
 
--- a client wrote a commit record
-pub record_added : (decl : Declaration) (h : List Entry) (i : ℕ) (x d : Entry) (cmp : CommitKey → CommitKey → Ordering) (keys after : List CommitKey) (k : CommitKey) (c : Commit)
-    → AreOrderedAlike cmp → i < length h → x ≡ get_or h i d → after ≡ insert_key cmp keys k → commit_of k ≡ c → commit_by decl x ≡ Some c
-    → map commit_of keys ≡ committed decl (take i h) → map commit_of after ≡ committed decl (take (i + 1) h)
-record_added decl h i x d cmp keys after k c alike l e added key is known =
-    ap (map commit_of) added
-    ∙ key_added cmp alike k keys
-    ∙ ap (with_commit (map commit_of keys)) key
-    ∙ ap (λ (cs : List Commit). with_commit cs c) known
-    ∙ ap (λ (o : Option Commit). fold with_commit (committed decl (take i h)) (cons_option o [])) (sym is)
+-- a client's
+pub step_added : (decl : Declaration) (h : List Entry) (i : ℕ) (x d : Entry) (keys after : List CommitKey) → i < length h → x ≡ get_or h i d → is_client decl x.actor ≡ true
+    → map commit_of after ≡ fold with_commit (map commit_of keys) (commits_in x.step) → map commit_of keys ≡ committed decl (take i h) → map commit_of after ≡ committed decl (take (i + 1) h)
+step_added decl h i x d keys after l e client added known =
+    added
+    ∙ ap (λ (cs : List Commit). fold with_commit cs (commits_in x.step)) known
+    ∙ ap (λ (b : Bool). fold with_commit (committed decl (take i h)) (cond b (commits_in x.step) [])) (sym client)
     ∙ sym (committed_more decl h i x d l e)
 
--- another step
-pub nothing_added : (decl : Declaration) (h : List Entry) (i : ℕ) (x d : Entry) (keys : List CommitKey) → i < length h → x ≡ get_or h i d → commit_by decl x ≡ None
+-- another's
+pub nothing_added : (decl : Declaration) (h : List Entry) (i : ℕ) (x d : Entry) (keys : List CommitKey) → i < length h → x ≡ get_or h i d → is_client decl x.actor ≡ false
     → map commit_of keys ≡ committed decl (take i h) → map commit_of keys ≡ committed decl (take (i + 1) h)
-nothing_added decl h i x d keys l e is known =
+nothing_added decl h i x d keys l e other known =
     known
-    ∙ ap (λ (o : Option Commit). fold with_commit (committed decl (take i h)) (cons_option o [])) (sym is)
+    ∙ ap (λ (b : Bool). fold with_commit (committed decl (take i h)) (cond b (commits_in x.step) [])) (sym other)
     ∙ sym (committed_more decl h i x d l e)
+
+-- a record more of those that a rise gives
+pub record_more : (rs : List Record) (i : ℕ) (x d : Record) (cs : List Commit) → i < length rs → x ≡ get_or rs i d
+    → fold with_commit cs (filter_map counts.commit_of (take (i + 1) rs)) ≡ fold with_commit (fold with_commit cs (filter_map counts.commit_of (take i rs))) (option_to_list (counts.commit_of x))
+record_more rs i x d cs l e =
+    ap (λ (ys : List Record). fold with_commit cs (filter_map counts.commit_of ys)) (more rs i x d l e)
+    ∙ ap (fold with_commit cs) (filter_map-append counts.commit_of (take i rs) (x ∷ []))
+    ∙ fold-append with_commit cs (filter_map counts.commit_of (take i rs)) (cons_option (counts.commit_of x) [])
+    ∙ ap (fold with_commit (fold with_commit cs (filter_map counts.commit_of (take i rs)))) (one (counts.commit_of x))
+  where
+    one : (o : Option Commit) → cons_option o [] ≡ option_to_list o
+    one None = refl
+    one (Some c) = refl
+
+-- a commit record is added, and another one isn't
+
+pub commit_added : (cmp : CommitKey → CommitKey → Ordering) → AreOrderedAlike cmp → (keys after : List CommitKey) (k : CommitKey) (r : Record) (c : Commit) → after ≡ insert_key cmp keys k → commit_of k ≡ c → r ≡ records.Commit c
+    → map commit_of after ≡ fold with_commit (map commit_of keys) (option_to_list (counts.commit_of r))
+commit_added cmp alike keys after k r c added key is =
+    ap (map commit_of) added ∙ key_added cmp alike k keys ∙ ap (with_commit (map commit_of keys)) key
+    ∙ sym (ap (λ (x : Record). fold with_commit (map commit_of keys) (option_to_list (counts.commit_of x))) is)
+
+pub other_left : (keys : List CommitKey) (r : Record) → ((c : Commit) → r ≡ records.Commit c → ⊥) → map commit_of keys ≡ fold with_commit (map commit_of keys) (option_to_list (counts.commit_of r))
+other_left keys records.Life other = refl
+other_left keys (records.Prepare prepared) other = refl
+other_left keys (records.Done tx clock) other = refl
+other_left keys (records.Close epoch) other = refl
+other_left keys (records.Install epoch clock lines) other = refl
+other_left keys (records.Commit c) other = absurd (other c refl)
+other_left keys (records.Decide epoch clock lines) other = refl

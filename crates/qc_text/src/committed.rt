@@ -1,7 +1,10 @@
 //! The committed transactions of a history.
 
-ghost use Rattle.std.specs.Prelude.{◌≡◌, IfOk, MatchOption, None, Some, map};
-ghost use Rattle.qc_promise.specs.Committed.{commit_by, committed};
+ghost use Rattle.std.specs.Prelude.{◌≡◌, IfOk, fold, map, option_to_list};
+ghost use Rattle.std.specs.List.{filter_map};
+ghost use Rattle.qc_msg.specs.Counts as counts;
+ghost use Rattle.qc_onecopy.specs.Committed.{with_commit};
+ghost use Rattle.qc_promise.specs.Committed.{commits_in, committed};
 ghost use Rattle.qc_text.specs.Keys.{commit_of};
 
 use crate::parts::is_client;
@@ -22,7 +25,8 @@ struct CommitKey {
     ops: Vec<Op>,
 }
 
-/// The distinct commit records that clients wrote, in the log's order.
+/// The distinct commit records that clients wrote, or rose with, in the log's
+/// order.
 pub(crate) fn committed(
     alloc: Global,
     decl: &Declaration,
@@ -32,22 +36,58 @@ pub(crate) fn committed(
 {
     let mut keys = BTreeSet::new(alloc);
     'entries: for entry in entries {
-        if let Some(commit) = commit_by(decl, entry) {
-            let _is_new = keys.insert(key_of(alloc, commit)?)?;
+        if is_client(decl, entry.actor) {
+            keys = with_step(alloc, keys, &entry.step)?;
         }
     }
     commits_of(alloc, keys)
 }
 
-/// The commit record that a client's step wrote.
-fn commit_by<'a>(decl: &Declaration, entry: &'a Entry) -> Option<&'a Commit>
-    ensures { MatchOption result (commit_by decl.now entry.now ≡ None)
-        (λ c. commit_by decl.now entry.now ≡ Some c.now) }
+/// With the commit records that a step writes, or that a rise gives.
+fn with_step(
+    alloc: Global,
+    keys: BTreeSet<CommitKey>,
+    step: &Step,
+) -> Result<BTreeSet<CommitKey>, OutOfMemory>
+    ensures { IfOk result (λ k. map commit_of k.keys ≡ fold with_commit (map commit_of keys.keys) (commits_in step.now)) }
 {
-    match &entry.step {
-        Step::Wrote(Record::Commit(commit)) if is_client(decl, entry.actor) => Some(commit),
-        _ => None,
+    match step {
+        Step::Wrote(record) => with_record(alloc, keys, record),
+        Step::Rose(kept) => with_records(alloc, keys, kept.items()),
+        _ => Ok(keys),
     }
+}
+
+/// With the commit records among these.
+fn with_records(
+    alloc: Global,
+    keys: BTreeSet<CommitKey>,
+    records: &[Record],
+) -> Result<BTreeSet<CommitKey>, OutOfMemory>
+    ensures { IfOk result (λ k. map commit_of k.keys
+        ≡ fold with_commit (map commit_of keys.keys) (filter_map counts.commit_of records.now)) }
+{
+    let mut all = keys;
+    'records: for record in records {
+        all = with_record(alloc, all, record)?;
+    }
+    Ok(all)
+}
+
+/// With this record, if it is a commit record.
+fn with_record(
+    alloc: Global,
+    keys: BTreeSet<CommitKey>,
+    kept: &Record,
+) -> Result<BTreeSet<CommitKey>, OutOfMemory>
+    ensures { IfOk result (λ k. map commit_of k.keys
+        ≡ fold with_commit (map commit_of keys.keys) (option_to_list (counts.commit_of kept.now))) }
+{
+    let mut all = keys;
+    if let Record::Commit(commit) = kept {
+        let _is_new = all.insert(key_of(alloc, commit)?)?;
+    }
+    Ok(all)
 }
 
 /// A commit record's place in the order.

@@ -169,7 +169,7 @@ fn check_row(
 }
 
 /// The client does what the rows say, one after another.
-fn check_rows(
+pub(crate) fn check_rows(
     rt: &impl Abort,
     alloc: Global,
     decl: &Declaration,

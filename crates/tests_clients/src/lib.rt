@@ -1,8 +1,8 @@
 //! Tests of clients: what a client does for each command, answer, lost request
-//! and Inquiry, over three sites.
+//! and Inquiry, over three sites; and the client that rises from records.
 //!
-//! They call what `qc_client` offers to all, and through it what `qc_front` and
-//! `qc_commit` do. They stand in a crate of their own, so that those aren't
+//! They call what `qc_client` offers to all, through it what `qc_front` and
+//! `qc_commit` do, and `client_of` of `qc_recover`. They stand in a crate of their own, so that those aren't
 //! proved once more with them. Their values come from the rules of a client in
 //! docs/PROTOCOL.md.
 //!
@@ -23,6 +23,10 @@ mod commits;
 mod declared;
 #[cfg(test)]
 mod refusals;
+#[cfg(test)]
+mod risen;
+#[cfg(test)]
+mod rises;
 #[cfg(test)]
 mod rounds;
 #[cfg(test)]

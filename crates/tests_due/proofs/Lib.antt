@@ -12,6 +12,7 @@ pub mod Random31To40
 pub mod WrongReads
 pub mod WrongReplies
 pub mod WrongAppends
+pub mod WrongAsks
 pub mod WrongVotes
 pub mod WrongRecords
 pub mod WrongRefusals

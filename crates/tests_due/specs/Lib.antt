@@ -3,6 +3,7 @@ pub mod LongTransaction
 pub mod WrongReads
 pub mod WrongReplies
 pub mod WrongAppends
+pub mod WrongAsks
 pub mod WrongVotes
 pub mod WrongRecords
 pub mod WrongRefusals

@@ -25,7 +25,7 @@ pub use turns_and_mail::{
     wrong_turns_through_falls_are_refused,
 };
 pub use wrong::{
-    wrong_appends_are_refused, wrong_reads_are_refused, wrong_records_are_refused,
-    wrong_replies_are_refused, wrong_votes_are_refused,
+    wrong_appends_are_refused, wrong_asks_are_refused, wrong_reads_are_refused,
+    wrong_records_are_refused, wrong_replies_are_refused, wrong_votes_are_refused,
 };
 pub use wrong_sites::{wrong_posts_are_refused, wrong_refusals_are_refused};

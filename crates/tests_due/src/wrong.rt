@@ -7,6 +7,7 @@ ghost use Rattle.qc_promise.specs.Replies.{AreRepliesDue};
 ghost use Rattle.tests_due.specs.WrongReads as wrong_reads;
 ghost use Rattle.tests_due.specs.WrongReplies as wrong_replies;
 ghost use Rattle.tests_due.specs.WrongAppends as wrong_appends;
+ghost use Rattle.tests_due.specs.WrongAsks as wrong_asks;
 ghost use Rattle.tests_due.specs.WrongVotes as wrong_votes;
 ghost use Rattle.tests_due.specs.WrongRecords as wrong_records;
 
@@ -49,6 +50,18 @@ pub fn wrong_appends_are_refused()
     ensures earlier_line_left_out { AreRepliesDue three 0 (deeds 3 [] wrong_appends.earlier_line_left_out) → ⊥ }
     ensures view_left_out { AreRepliesDue three 1 (deeds 4 [] wrong_appends.view_left_out) → ⊥ }
     ensures one_append_granted { AreRepliesDue three 0 (deeds 3 [] wrong_appends.one_append_granted) → ⊥ }
+{}
+
+/// These aren't due: requests that no round wants, replies of what isn't declared, and untold replies.
+pub fn wrong_asks_are_refused()
+    ensures conflict_of_a_site_too_many { AreRepliesDue three 0 (deeds 3 [] wrong_asks.conflict_of_a_site_too_many) → ⊥ }
+    ensures closed_by_a_site_too_many { AreRepliesDue three 0 (deeds 3 [] wrong_asks.closed_by_a_site_too_many) → ⊥ }
+    ensures out_of_order { AreRepliesDue three 0 (deeds 3 [] wrong_asks.out_of_order) → ⊥ }
+    ensures waits_for_a_site_too_many { AreRepliesDue three 0 (deeds 3 [] wrong_asks.waits_for_a_site_too_many) → ⊥ }
+    ensures begin_untold { AreRepliesDue three 0 (deeds 3 [] wrong_asks.begin_untold) → ⊥ }
+    ensures refusal_untold { AreRepliesDue three 1 (deeds 4 [] wrong_asks.refusal_untold) → ⊥ }
+    ensures response_without_a_plan { AreRepliesDue three 0 (deeds 3 [] wrong_asks.response_without_a_plan) → ⊥ }
+    ensures absent_without_a_table { AreRepliesDue three 0 (deeds 3 [] wrong_asks.absent_without_a_table) → ⊥ }
 {}
 
 /// These aren't due: commits without their votes.

@@ -28,7 +28,11 @@ pub fn script_of(alloc: Global, bytes: &[u8], decl: &Declaration) -> Result<Scri
 pub fn is_steady(script: &Script) -> bool
     ensures { result ≡ is_steady script.now }
 {
-    script.phases.items().iter().all(|phase| is_steady_phase(phase))
+    script
+        .phases
+        .items()
+        .iter()
+        .all(|phase| is_steady_phase(phase))
 }
 
 /// Whether a phase does.

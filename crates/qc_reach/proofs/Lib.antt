@@ -1,0 +1,13 @@
+pub mod Says
+pub mod OneEpoch
+pub mod Free
+pub mod Asked
+pub mod Growing
+pub mod Stood
+pub mod Posting
+pub mod Rising
+pub mod RunsStand
+pub mod Reaching
+pub mod Written
+pub mod Sorted
+pub mod RunLaws

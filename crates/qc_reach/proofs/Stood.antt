@@ -1,0 +1,106 @@
+-- A net stands for a history with falls where it has the history's mail, and each site and client is up, and has on its
+-- disk, what its deeds say; one that is up is as its deeds give it, or as it was before the input that is open.
+use Rattle.std.proofs.Common.{◌≡◌, ◌≢◌, ℕ, ◌==◌, Bool, true, false, cond, List, [], ◌++◌, Option, Some, None, slice_get, inl, inr, refl, sym, ap, ◌∙◌, subst}
+use Rattle.qc_list.proofs.Members.{every-append}
+use Rattle.qc_core.specs.declared.actor.Actor.{Actor}
+use Rattle.qc_core.specs.declared.actor.Actor.TheVariants as actor
+use Rattle.qc_core.specs.Actors.{actor_after, actor_takes}
+use Rattle.qc_core.specs.Journals.{journal_after}
+use Rattle.qc_core.specs.Lives.{is_up}
+use Rattle.qc_decl.specs.declared.declaration.Declaration.{Declaration}
+use Rattle.qc_decl.specs.Actors.{is_client, is_site}
+use Rattle.qc_client.specs.declared.client.Client.{Client}
+use Rattle.qc_msg.specs.declared.message.Envelope.{Envelope}
+use Rattle.qc_msg.specs.declared.step.Given.{Given}
+use Rattle.qc_msg.specs.declared.step.Given.TheVariants as given
+use Rattle.qc_msg.specs.Deeds.{Deed, WasSentTo, deeds, mail}
+use Rattle.qc_msg.specs.Steps.{Entry}
+use Rattle.qc_net.specs.Net.{MayCommand, Net, Reaches}
+use Rattle.qc_net.proofs.Kepts.{no_client}
+use Rattle.qc_net.proofs.Nets.{place}
+use Rattle.qc_laws.proofs.Places.{slice_get-more}
+use Rattle.qc_atomic.proofs.Stood.{apart}
+use Rattle.qc_reach.specs.Reached.{HasTaken, TakesInputs, actor_in}
+use Rattle.qc_reach.proofs.OneEpoch.{IsMailOfOneEpoch}
+use Rattle.qc_reach.proofs.Says.{IsOfOneEpoch}
+
+still_sent : (a : ℕ) (ms more : List Envelope) (g : Given) → WasSentTo a ms g → WasSentTo a (ms ++ more) g
+still_sent a ms more (given.Called command) sent = tt
+still_sent a ms more (given.Got envelope) sent = (slice_get-more ms more envelope.number envelope sent.0, sent.1)
+still_sent a ms more (given.Lost number) sent = tt
+
+module _ (decl : Declaration) where
+  pub record Stands (net : Net) (a : ℕ) (h : List Entry) (open_input : Option Bool) : Type 0 where
+    pub up : net.up a ≡ is_up (deeds a [] h)
+    pub records : net.records a ≡ (journal_after (deeds a [] h)).records
+    pub pending : net.pending a ≡ (journal_after (deeds a [] h)).pending
+    pub clear : is_up (deeds a [] h) ≡ true → (journal_after (deeds a [] h)).pending ≡ None
+    pub closed : is_up (deeds a [] h) ≡ true → open_input ≡ Some false → (actor_after decl a (deeds a [] h)).actor ≡ actor_in decl net a
+    pub opened : is_up (deeds a [] h) ≡ true → open_input ≡ Some true → HasTaken decl net a h
+
+  pub record Stood (h : List Entry) (open_inputs : List Bool) : Type 0 where
+    pub net : Net
+    pub reached : Reaches decl net
+    pub mail_is : net.mail ≡ mail h
+    pub one : IsMailOfOneEpoch (mail h)
+    pub actors : (a : ℕ) → TakesInputs decl a → Stands net a h (slice_get open_inputs a)
+
+  -- an actor that the next net leaves as it was
+
+  pub record Leaves (net next : Net) (b : ℕ) : Type 0 where
+    pub up : next.up b ≡ net.up b
+    pub records : next.records b ≡ net.records b
+    pub pending : next.pending b ≡ net.pending b
+    pub sites : next.sites b ≡ net.sites b
+    pub clients : next.clients b ≡ net.clients b
+
+  pub itself : (net : Net) (b : ℕ) → Leaves net net b
+  itself net b = record { up = refl; records = refl; pending = refl; sites = refl; clients = refl }
+
+  same_actor : (net next : Net) (b : ℕ) → Leaves net next b → actor_in decl net b ≡ actor_in decl next b
+  same_actor net next b leaves = sym (λ i. cond (is_site decl b) (actor.Site (leaves.sites i)) (actor.Client (leaves.clients i)))
+
+  pub stays : (net next : Net) (b : ℕ) (h k : List Entry) (more : List Envelope) (o p : Option Bool) → Leaves net next b → deeds b [] k ≡ deeds b [] h → mail k ≡ mail h ++ more → p ≡ o → Stands net b h o → Stands next b k p
+  stays net next b h k more o p leaves same grows slot s = record {
+    up = leaves.up ∙ s.up ∙ ap is_up (sym same);
+    records = leaves.records ∙ s.records ∙ ap (λ (ds : List Deed). (journal_after ds).records) (sym same);
+    pending = leaves.pending ∙ s.pending ∙ ap (λ (ds : List Deed). (journal_after ds).pending) (sym same);
+    clear = λ up. ap (λ (ds : List Deed). (journal_after ds).pending) same ∙ s.clear (sym (ap is_up same) ∙ up);
+    closed = λ up is. ap (λ (ds : List Deed). (actor_after decl b ds).actor) same ∙ s.closed (sym (ap is_up same) ∙ up) (sym slot ∙ is) ∙ same_actor net next b leaves;
+    opened = λ up is. (let x : HasTaken decl net b h = s.opened (sym (ap is_up same) ∙ up) (sym slot ∙ is) in record {
+      given = x.given;
+      sent = subst (λ (ms : List Envelope). WasSentTo b ms x.given) (sym grows) (still_sent b (mail h) more x.given x.sent);
+      may = λ client. subst (λ (c : Client). MayCommand decl c x.given) (sym leaves.clients) (x.may client);
+      is = ap (actor_after decl b) same ∙ x.is ∙ ap (λ (v : Actor). actor_takes decl v x.given) (same_actor net next b leaves);
+    });
+  }
+
+  -- one actor moves, and all others stay
+  pub moves : (h k : List Entry) (inputs later : List Bool) (old : Stood h inputs) (a : ℕ) (next : Net) (more : List Envelope) → Reaches decl next → next.mail ≡ mail k → mail k ≡ mail h ++ more → IsMailOfOneEpoch more
+      → ((b : ℕ) → b ≢ a → Leaves old.net next b) → ((b : ℕ) → (a == b) ≡ false → deeds b [] k ≡ deeds b [] h) → ((b : ℕ) → (a == b) ≡ false → slice_get later b ≡ slice_get inputs b)
+      → (TakesInputs decl a → Stands next a k (slice_get later a)) → Stood k later
+  moves h k inputs later old a next more reached mail_is grows one leaves same slots here = record {
+    net = next;
+    reached = reached;
+    mail_is = mail_is;
+    one = subst IsMailOfOneEpoch (sym grows) (every-append (λ (e : Envelope). IsOfOneEpoch e.message) (mail h) more old.one one);
+    actors = λ b is. elim (place b a) [
+      | inl at ↦ subst (λ (n : ℕ). Stands next n k (slice_get later n)) (sym at) (here (subst (TakesInputs decl) at is))
+      | inr other ↦ (let differs : (a == b) ≡ false = apart a b (λ at. other (sym at)) in stays old.net next b h k more (slice_get inputs b) (slice_get later b) (leaves b other) (same b differs) grows (slots b differs) (old.actors b is))
+    ];
+  }
+
+  -- what an actor of the net is
+
+  pub in_site : (net : Net) (a : ℕ) → is_site decl a ≡ true → actor_in decl net a ≡ actor.Site (net.sites a)
+  in_site net a site = ap (λ (b : Bool). cond b (actor.Site (net.sites a)) (actor.Client (net.clients a))) site
+
+  pub not_site : (a : ℕ) → is_client decl a ≡ true → is_site decl a ≡ false
+  not_site a client = at (is_site decl a) refl
+    where
+      at : (t : Bool) → is_site decl a ≡ t → t ≡ false
+      at true site = absurd (no_client decl a site client)
+      at false none = refl
+
+  pub in_client : (net : Net) (a : ℕ) → is_client decl a ≡ true → actor_in decl net a ≡ actor.Client (net.clients a)
+  in_client net a client = ap (λ (b : Bool). cond b (actor.Site (net.sites a)) (actor.Client (net.clients a))) (not_site a client)

@@ -1,0 +1,21 @@
+use Rattle.tests_client_falls.proofs.RightLives as lemmas
+use Rattle.tests_client_falls.proofs.right.right_lives_are_right.Goals as goal
+
+pub returns : goal.returns
+returns c = record {
+  begins_2_1_after_its_rise = lemmas.begins_2_1_after_its_rise_right;
+  its_next_stamp_is_above_those_of_its_records = lemmas.its_next_stamp_is_above_those_of_its_records_right;
+  counts_answers_to_what_it_asked_since = lemmas.counts_answers_to_what_it_asked_since_right;
+  answers_committed_of_a_record_that_rose = lemmas.answers_committed_of_a_record_that_rose_right;
+  answers_aborted_of_a_record_that_did_not_rise = lemmas.answers_aborted_of_a_record_that_did_not_rise_right;
+  answers_committed_of_the_pending_record_that_rose = lemmas.answers_committed_of_the_pending_record_that_rose_right;
+  is_told_down_while_it_is_down = lemmas.is_told_down_while_it_is_down_right;
+  a_begin_that_was_told_down_does_not_count = lemmas.a_begin_that_was_told_down_does_not_count_right;
+  is_told_unknown_and_falls_as_it_writes = lemmas.is_told_unknown_and_falls_as_it_writes_right;
+  a_record_that_was_pending_rises_it_committed = lemmas.a_record_that_was_pending_rises_it_committed_right;
+  it_rises_twice_it_committed_once = lemmas.it_rises_twice_it_committed_once_right;
+  it_does_not_rise_it_did_not_commit = lemmas.it_does_not_rise_it_did_not_commit_right;
+  the_pending_record_stays_pending_while_the_journal_is_not_opened = lemmas.the_pending_record_stays_pending_while_the_journal_is_not_opened_right;
+  what_was_shown_in_a_former_life_is_not_seen = lemmas.what_was_shown_in_a_former_life_is_not_seen_right;
+  a_reader_sees_what_rose = lemmas.a_reader_sees_what_rose_right;
+}
