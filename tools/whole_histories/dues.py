@@ -10,9 +10,9 @@ those don't have (`later.py`, and one of too many operations); and wrong
 histories (`wrong_reads.py`, `wrong_asks.py`, `wrong_commits.py`,
 `wrong_sites.py`), each with a law that refuses it. It writes specs/, proofs/
 and src/ there, but not proofs/Owed.antt, Places.antt, Sites.antt,
-SitePlaces.antt and src/lib.rt, nor what is of turns and mail (`BY_HAND`,
-proofs/Orders.antt, src/turns_and_mail.rt); `rt fmt` then finds nothing to lay
-out.
+SitePlaces.antt and src/lib.rt, nor what is of turns and mail
+(`WRONG_BY_HAND`, proofs/Orders.antt, src/turns_and_mail.rt); `rt fmt` then
+finds nothing to lay out.
 """
 
 import os
@@ -33,7 +33,7 @@ from spelling import step as spelled_step
 CRATE = os.path.join(os.path.dirname(os.path.abspath(__file__)), "..", "..", "crates", "tests_due")
 TOO_LONG = "phase|c0 begin|" + "c0 do x W1|" * 17 + "c0 abort"
 # modules of specs/ and proofs/ that are written by hand
-BY_HAND = (["Orders", "WrongTurns", "WrongFalls", "WrongMail"], ["RightOrders", "WrongTurns", "WrongFalls", "WrongMail"])
+WRONG_BY_HAND = ["WrongTurns", "WrongTurnsThroughFalls", "WrongMail"]
 # how many random histories the other crate has
 RANDOM = 40
 
@@ -221,9 +221,10 @@ def main(words):
                              "Wrong histories of clients, each refused.", [THREE, DEEDS, REPLIES])
     wrong_files += make_wrong(run, wrong_sites.cases(*parts), "wrong_sites", "Wrong histories of sites, each refused.",
                               [THREE, DEEDS, SITES])
-    write("specs/Lib.antt", "".join("pub mod %s\n" % m for m in specs + wrong_files + BY_HAND[0]))
+    write("specs/Lib.antt", "".join("pub mod %s\n" % m for m in specs + wrong_files + ["Orders"] + WRONG_BY_HAND))
     write("proofs/Lib.antt", "".join(
-        "pub mod %s\n" % m for m in ["Orders", "Owed", "Places", "Sites", "SitePlaces"] + lemmas + wrong_files + BY_HAND[1]))
+        "pub mod %s\n" % m for m in ["Orders", "Owed", "Places", "Sites", "SitePlaces"] + lemmas + wrong_files
+        + ["RightOrders"] + WRONG_BY_HAND))
 
 
 if __name__ == "__main__":

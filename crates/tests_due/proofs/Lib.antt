@@ -19,5 +19,5 @@ pub mod WrongRefusals
 pub mod WrongPosts
 pub mod RightOrders
 pub mod WrongTurns
-pub mod WrongFalls
+pub mod WrongTurnsThroughFalls
 pub mod WrongMail

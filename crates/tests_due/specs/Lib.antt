@@ -10,5 +10,5 @@ pub mod WrongRefusals
 pub mod WrongPosts
 pub mod Orders
 pub mod WrongTurns
-pub mod WrongFalls
+pub mod WrongTurnsThroughFalls
 pub mod WrongMail

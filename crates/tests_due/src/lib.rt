@@ -4,8 +4,9 @@
 //! Here all is due in each right history, and each wrong history is refused: a
 //! client's last reply, or commit record, isn't due there, or what a site posts
 //! for its last input isn't. `tools/whole_histories/dues.py` wrote these
-//! histories. Those of `turns_and_mail` are short and written by hand: in each wrong one
-//! an actor doesn't go by turns, or a message doesn't reach its receiver.
+//! histories. Those of `turns_and_mail` are short and written by hand: in each
+//! wrong one an actor doesn't go by turns, or a message doesn't reach its
+//! receiver.
 //!
 //! There is no code here, and nothing stands on this crate.
 #![tactic(auto)]
@@ -20,7 +21,8 @@ pub use right::{
     all_is_due_in_worked_histories, replies_of_other_rows_are_due,
 };
 pub use turns_and_mail::{
-    right_orders_are_met, wrong_falls_are_refused, wrong_mail_is_refused, wrong_turns_are_refused,
+    right_orders_are_met, wrong_mail_is_refused, wrong_turns_are_refused,
+    wrong_turns_through_falls_are_refused,
 };
 pub use wrong::{
     wrong_appends_are_refused, wrong_asks_are_refused, wrong_reads_are_refused,

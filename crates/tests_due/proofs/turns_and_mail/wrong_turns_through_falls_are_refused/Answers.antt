@@ -1,5 +1,5 @@
-use Rattle.tests_due.proofs.WrongFalls as lemmas
-use Rattle.tests_due.proofs.turns_and_mail.wrong_falls_are_refused.Goals as goal
+use Rattle.tests_due.proofs.WrongTurnsThroughFalls as lemmas
+use Rattle.tests_due.proofs.turns_and_mail.wrong_turns_through_falls_are_refused.Goals as goal
 
 pub returns : goal.returns
 returns c = record {
