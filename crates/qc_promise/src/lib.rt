@@ -18,8 +18,11 @@
 //! row of a table that applies (`Rows`). `Replies` says of a client's deeds that
 //! each is due: each reply, with the record that was written before it or was
 //! pending at the fall behind it (`Posts`), each record, what it does as it rises,
-//! and that no input is taken while a reply is due that isn't told. `Due` is that
-//! of all clients, and what sites post.
+//! and that no input is taken while a reply is due that isn't told.
+//!
+//! Every actor goes by turns: which deed leads from which of eight places to
+//! which (`Turns`). Messages reach those whom they were sent to (`Mail`). `Due`
+//! is these, what all clients are owed, and what sites post.
 //!
 //! What committed is one copy's. The commit records of a history (`Committed`),
 //! what clients were told of their transactions (`Deals`, `Told`), what they had
