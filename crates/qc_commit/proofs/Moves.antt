@@ -44,9 +44,10 @@ IsPrepare (messages.Ask tx) = ⊥
 IsPrepare (messages.Close epoch) = ⊥
 IsPrepare (messages.Install epoch clock log) = ⊥
 
--- nothing is told, and the transaction stays in hand
+-- nothing is told or written, and the transaction stays in hand
 pub record Waits (desk : Desk) (hand : Option TxId) (m : DeskMove) : Type 0 where
   pub told : m.turn.told ≡ None
+  pub write : m.turn.write ≡ None
   pub sends : Every (λ (p : Posting). IsPrepare p.message) m.turn.sends
   pub commits : m.desk.commits ≡ desk.commits
   pub clock : desk.clock.value ≤ m.desk.clock.value
@@ -81,7 +82,7 @@ abbrev pub IsMove : Desk → Option TxId → DeskMove → Type 0
 IsMove desk hand m = Waits desk hand m ⊎ (Commits desk hand m ⊎ Aborts desk hand m)
 
 stands : (desk : Desk) → IsMove desk (tx_of desk.voting) (moved desk quiet)
-stands desk = inl (record { told = refl; sends = tt; commits = refl; clock = omega arith; client = refl; voting = refl })
+stands desk = inl (record { told = refl; write = refl; sends = tt; commits = refl; clock = omega arith; client = refl; voting = refl })
 
 -- a desk that has learned more decides
 decides-moves : (desk learned : Desk) (b : Begun) (hand : Option TxId) → desk.clock.value ≤ learned.clock.value → learned.client ≡ desk.client → learned.commits ≡ desk.commits → hand ≡ Some b.tx
@@ -120,6 +121,7 @@ counts-moves desk answer b calls ballots hand handed = by (are_cast ballots) whe
   by true = counted-moves desk answer b hand (first_against ballots) handed
   by false = inl (record {
     told = refl;
+    write = refl;
     sends = tt;
     commits = learned-commits desk answer;
     clock = learned-above desk answer;
@@ -148,4 +150,4 @@ prepare-moves decl desk b clock = by (length (participants decl desk.client b) =
 
   by : (t : Bool) → IsMove desk (Some b.tx) (cond t (decides (passed desk clock) b) (moved (record (passed desk clock) { voting = Some (record { begun = b; calls = []; ballots = blank (participants decl desk.client b) }) }) (sending (map (prepares b) (participants decl desk.client b)))))
   by true = decides-moves desk (passed desk clock) b (Some b.tx) above refl refl refl
-  by false = inl (record { told = refl; sends = asked b (participants decl desk.client b); commits = refl; clock = above; client = refl; voting = refl })
+  by false = inl (record { told = refl; write = refl; sends = asked b (participants decl desk.client b); commits = refl; clock = above; client = refl; voting = refl })

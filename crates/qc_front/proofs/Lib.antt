@@ -16,3 +16,4 @@ pub mod Fitting
 pub mod Drafts
 pub mod Learning
 pub mod Moves
+pub mod Unwritten

@@ -16,6 +16,8 @@ use Rattle.qc_msg.specs.declared.message.Outcome.{Outcome}
 use Rattle.qc_msg.specs.declared.message.Outcome.TheVariants.{Committed, Aborted}
 use Rattle.qc_msg.specs.declared.message.Want.{Want}
 use Rattle.qc_msg.specs.declared.message.Want.TheVariants.{Read, Append, Prepare}
+use Rattle.qc_msg.specs.declared.record.Record.{Record}
+use Rattle.qc_msg.specs.declared.record.Record.TheVariants as records
 use Rattle.qc_msg.specs.declared.step.Command.{Command}
 use Rattle.qc_msg.specs.declared.step.Command.TheVariants as commands
 use Rattle.qc_msg.specs.declared.step.Given.{Given}
@@ -35,6 +37,7 @@ use Rattle.qc_commit.specs.Desk.{DeskMove, known, known_by, record_of}
 use Rattle.qc_commit.proofs.Moves.{IsMove, IsPrepare, prepare-moves, tx_of, vote-moves}
 use Rattle.qc_front.specs.declared.transaction.Transaction.{Transaction}
 use Rattle.qc_front.specs.Conduct as fronts
+use Rattle.qc_front.proofs.Unwritten as calm
 use Rattle.qc_front.specs.Front.{FrontMove, ended}
 use Rattle.qc_client.specs.declared.client.Client.{Client}
 use Rattle.qc_client.specs.Client.{ClientMove, by_desk, by_front, is_begun, moved, new_client, outcome_by, outcome_of}
@@ -50,6 +53,13 @@ AreStamped ps = Every (λ (p : Posting). IsStamped p.message) ps
 abbrev pub IsOwnCommit : Commit → Type 0
 IsOwnCommit r = r.stamp.client ≡ r.tx.client
 
+-- what is written is such a record
+abbrev pub IsOwnWrite : Option Record → Type 0
+IsOwnWrite w = (c : Commit) → w ≡ Some (records.Commit c) → IsOwnCommit c
+
+pub unwritten : (w : Option Record) → w ≡ None → IsOwnWrite w
+unwritten w none c is = absurd (let never : ⊥ = cc in never)
+
 pub record Own (k : ℕ) (c : Client) : Type 0 where
   pub front : OwnFront k c.front
   pub desk : c.desk.client ≡ k
@@ -59,23 +69,25 @@ pub record Own (k : ℕ) (c : Client) : Type 0 where
 pub record OwnMove (k : ℕ) (m : ClientMove) : Type 0 where
   pub own : Own k m.client
   pub sends : AreStamped m.turn.sends
+  pub writes : IsOwnWrite m.turn.write
 
 pub by_two : {A : Type 0} (P : A → Type 0) (t : Bool) (x y : A) → P x → P y → P (if t then x else y)
 by_two P true x y here there = here
 by_two P false x y here there = there
 
 -- the front end moves
-front_own : (k : ℕ) (c : Client) (m : FrontMove) → Own k c → OwnFront k m.front → AreStamped m.turn.sends → OwnMove k (by_front c m)
-front_own k c m own front sends = record {
+front_own : (k : ℕ) (c : Client) (m : FrontMove) → Own k c → OwnFront k m.front → AreStamped m.turn.sends → m.turn.write ≡ None → OwnMove k (by_front c m)
+front_own k c m own front sends none = record {
   own = record { front = front; desk = own.desk; commits = own.commits; hand = own.hand };
   sends = sends;
+  writes = unwritten m.turn.write none;
 }
 
 front_called : (decl : Declaration) (k : ℕ) (c : Client) (command : Command) → Own k c → OwnMove k (by_front c (fronts.called decl c.front command))
-front_called decl k c command own = front_own k c (fronts.called decl c.front command) own (own_fronts.called_own decl k c.front command own.front) (own_fronts.called_stamped decl c.front command)
+front_called decl k c command own = front_own k c (fronts.called decl c.front command) own (own_fronts.called_own decl k c.front command own.front) (own_fronts.called_stamped decl c.front command) (calm.front_called decl c.front command).write
 
 front_takes : (decl : Declaration) (k : ℕ) (c : Client) (number : ℕ) (answer : Option Answer) → Own k c → OwnMove k (by_front c (fronts.takes decl c.front number answer))
-front_takes decl k c number answer own = front_own k c (fronts.takes decl c.front number answer) own (own_fronts.takes_own decl k c.front number answer own.front) (own_fronts.takes_stamped decl c.front number answer)
+front_takes decl k c number answer own = front_own k c (fronts.takes decl c.front number answer) own (own_fronts.takes_own decl k c.front number answer own.front) (own_fronts.takes_stamped decl c.front number answer) (calm.front_takes decl c.front number answer).write
 
 -- the desk moves
 
@@ -107,6 +119,7 @@ desk_own : (k : ℕ) (c : Client) (hand : Option TxId) (m : DeskMove) → Own k 
 desk_own k c hand m own held (inl w) = record {
   own = desk_front k c m.desk (is_some m.turn.told) own (w.client ∙ own.desk) (subst (Every IsOwnCommit) (sym w.commits) own.commits) (λ tx is. held tx (sym w.voting ∙ is));
   sends = every-weaker (λ (p : Posting). IsPrepare p.message) (λ (p : Posting). IsStamped p.message) (λ p is. prepare_stamped p.message is) m.turn.sends w.sends;
+  writes = unwritten m.turn.write w.write;
 }
 desk_own k c hand m own held (inr (inl r)) =
     let stamp_is : r.stamp.client ≡ k = r.stamped ∙ own.desk in
@@ -114,10 +127,12 @@ desk_own k c hand m own held (inr (inl r)) =
     record {
       own = desk_front k c m.desk (is_some m.turn.told) own (r.client ∙ own.desk) (subst (Every IsOwnCommit) (sym r.commits) (every-append IsOwnCommit c.desk.commits (commit_of r.stamp r.begun ∷ []) own.commits (stamp_is ∙ sym tx_is, tt))) (no_hand k m.desk r.voting);
       sends = subst (λ (t : Turn). AreStamped t.sends) (sym r.turn) (decisions_stamped r.begun (Committed r.stamp) (stamp_is ∙ sym tx_is));
+      writes = subst (λ (t : Turn). IsOwnWrite t.write) (sym r.turn) (λ c is. (let same : commit_of r.stamp r.begun ≡ c = cc in subst IsOwnCommit same (stamp_is ∙ sym tx_is)));
     }
 desk_own k c hand m own held (inr (inr a)) = record {
   own = desk_front k c m.desk (is_some m.turn.told) own (a.client ∙ own.desk) (subst (Every IsOwnCommit) (sym a.commits) own.commits) (no_hand k m.desk a.voting);
   sends = subst (λ (t : Turn). AreStamped t.sends) (sym a.turn) (decisions_stamped a.begun Aborted tt);
+  writes = subst (λ (t : Turn). IsOwnWrite t.write) (sym a.turn) (unwritten None refl);
 }
 
 -- a transaction is told by a record of it
@@ -171,13 +186,13 @@ answered_own decl k c number answer own = by c.desk.voting
     by (Some v) = desk_own k c (tx_of c.desk.voting) (desks.vote c.desk number answer) own own.hand (vote-moves c.desk number answer)
 
 heard_own : (decl : Declaration) (k : ℕ) (c : Client) (from number : ℕ) (m : Message) → Own k c → OwnMove k (heard decl c from number m)
-heard_own decl k c from number (messages.Request tx epoch life want) own = record { own = own; sends = tt }
+heard_own decl k c from number (messages.Request tx epoch life want) own = record { own = own; sends = tt; writes = unwritten None refl }
 heard_own decl k c from number (messages.Answer to answer) own = answered_own decl k c to (Some answer) own
-heard_own decl k c from number (messages.Decision tx verdict) own = record { own = own; sends = tt }
-heard_own decl k c from number (messages.Inquiry tx) own = record { own = own; sends = (outcome_own k c tx own, tt) }
-heard_own decl k c from number (messages.Ask tx) own = record { own = own; sends = (tt, tt) }
-heard_own decl k c from number (messages.Close epoch) own = record { own = own; sends = tt }
-heard_own decl k c from number (messages.Install epoch clock log) own = record { own = own; sends = tt }
+heard_own decl k c from number (messages.Decision tx verdict) own = record { own = own; sends = tt; writes = unwritten None refl }
+heard_own decl k c from number (messages.Inquiry tx) own = record { own = own; sends = (outcome_own k c tx own, tt); writes = unwritten None refl }
+heard_own decl k c from number (messages.Ask tx) own = record { own = own; sends = (tt, tt); writes = unwritten None refl }
+heard_own decl k c from number (messages.Close epoch) own = record { own = own; sends = tt; writes = unwritten None refl }
+heard_own decl k c from number (messages.Install epoch clock log) own = record { own = own; sends = tt; writes = unwritten None refl }
 
 pub takes_own : (decl : Declaration) (k : ℕ) (c : Client) (g : Given) → Own k c → OwnMove k (client_takes decl c g)
 takes_own decl k c (given.Called command) own = called_own decl k c command own
@@ -210,7 +225,7 @@ sent_own k c number to (messages.Install epoch clock log) own = own
 does_own : (decl : Declaration) (k : ℕ) (m : ClientMove) (d : Deed) → OwnMove k m → OwnMove k (client_does decl m d)
 does_own decl k m (Takes g) own = takes_own decl k m.client g own.own
 does_own decl k m (Writes written) own = own
-does_own decl k m (Sends number to message) own = record { own = sent_own k m.client number to message own.own; sends = own.sends }
+does_own decl k m (Sends number to message) own = record { own = sent_own k m.client number to message own.own; sends = own.sends; writes = own.writes }
 does_own decl k m (Tells reply) own = own
 does_own decl k m (Falls cause pending) own = own
 does_own decl k m (Rises records) own = own
@@ -225,4 +240,5 @@ client_stamped decl k ds =
     (folded_own decl k ds (moved (new_client k) quiet) (record {
       own = record { front = record { client = refl; begun = tt }; desk = refl; commits = tt; hand = λ tx none. absurd (let never : ⊥ = cc in never) };
       sends = tt;
+      writes = unwritten None refl;
     })).sends

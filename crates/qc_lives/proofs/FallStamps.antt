@@ -28,7 +28,7 @@ use Rattle.qc_recover.specs.Clients.{Kept, client_of, client_rises, keeps, nothi
 use Rattle.qc_recover.specs.Sites.{in_order, inquiry, kept_by as site_kept, site_rises}
 use Rattle.qc_entry.specs.declared.record.Prepared.{Prepared}
 use Rattle.qc_site.specs.Site.{new_site}
-use Rattle.qc_laws.proofs.OwnStamps.{AreStamped, IsOwnCommit, Own, OwnMove, sent_own, takes_own}
+use Rattle.qc_laws.proofs.OwnStamps.{AreStamped, IsOwnCommit, IsOwnWrite, Own, OwnMove, sent_own, takes_own, unwritten}
 use Rattle.qc_laws.proofs.Stamped.{IsAnswering, takes_answer}
 use Rattle.qc_lives.specs.OwnRises.{GivesOwn, IsOwnRecord}
 
@@ -66,20 +66,21 @@ pub record StampedMove (k : ℕ) (m : ActorMove) : Type 0 where
   own : OwnActor k m.actor
   pub sends : AreStamped m.turn.sends
   pub failed : AreStamped m.turn.failed_sends
+  pub writes : IsOwnWrite m.turn.write
 
 none_stamped : (ps : List Posting) → ps ≡ [] → AreStamped ps
 none_stamped ps none = subst AreStamped (sym none) tt
 
 down_stamped : (k : ℕ) (g : Given) → StampedMove k (moved actor.Down (down_takes g))
-down_stamped k (given.Called command) = record { own = tt; sends = tt; failed = tt }
-down_stamped k (given.Got e) = record { own = tt; sends = tt; failed = tt }
-down_stamped k (given.Lost number) = record { own = tt; sends = tt; failed = tt }
+down_stamped k (given.Called command) = record { own = tt; sends = tt; failed = tt; writes = unwritten None refl }
+down_stamped k (given.Got e) = record { own = tt; sends = tt; failed = tt; writes = unwritten None refl }
+down_stamped k (given.Lost number) = record { own = tt; sends = tt; failed = tt; writes = unwritten None refl }
 
 takes_stamped : (decl : Declaration) (k : ℕ) (v : Actor) (g : Given) → OwnActor k v → StampedMove k (actor_takes decl v g)
-takes_stamped decl k (actor.Site s) g own = let m : IsAnswering _ = takes_answer decl s g in record { own = tt; sends = m.sends; failed = m.failed }
+takes_stamped decl k (actor.Site s) g own = let m : IsAnswering _ = takes_answer decl s g in record { own = tt; sends = m.sends; failed = m.failed; writes = m.writes }
 takes_stamped decl k (actor.Client c) g own =
     let m : OwnMove k _ = takes_own decl k c g own in
-    record { own = m.own; sends = m.sends; failed = none_stamped _ (client_written decl c g).failed_sends }
+    record { own = m.own; sends = m.sends; failed = none_stamped _ (client_written decl c g).failed_sends; writes = m.writes }
 takes_stamped decl k actor.Down g own = down_stamped k g
 
 sends_own : (k : ℕ) (v : Actor) (number to : ℕ) (m : Message) → OwnActor k v → OwnActor k (actor_sends v number to m)
@@ -95,8 +96,8 @@ rises_stamped : (decl : Declaration) (a : ℕ) (rs : List Record) → (is_site d
 rises_stamped decl a rs all = by (is_site decl a) all
   where
     by : (t : Bool) → (t ≡ false → Every IsOwnRecord rs) → StampedMove (a - decl.sites) (if t then by_site (site_rises decl a rs) else by_client (client_rises (a - decl.sites) rs))
-    by true all = record { own = tt; sends = inquiries_stamped decl (in_order (map (λ (p : Prepared). p.tx) (site_kept rs).promises)); failed = tt }
-    by false all = record { own = risen_own (a - decl.sites) (rs ++ records.Life ∷ []) (every-append IsOwnRecord rs (records.Life ∷ []) (all refl) (tt, tt)); sends = tt; failed = tt }
+    by true all = record { own = tt; sends = inquiries_stamped decl (in_order (map (λ (p : Prepared). p.tx) (site_kept rs).promises)); failed = tt; writes = λ c is. absurd (let never : ⊥ = cc in never) }
+    by false all = record { own = risen_own (a - decl.sites) (rs ++ records.Life ∷ []) (every-append IsOwnRecord rs (records.Life ∷ []) (all refl) (tt, tt)); sends = tt; failed = tt; writes = λ c is. absurd (let never : ⊥ = cc in never) }
 
 module _ (decl : Declaration) (a : ℕ) where
   abbrev IsGiven : List Deed → Type 0
@@ -105,9 +106,9 @@ module _ (decl : Declaration) (a : ℕ) where
   does_stamped : (m : ActorMove) (d : Deed) → (is_site decl a ≡ false → GivesOwn d) → StampedMove (a - decl.sites) m → StampedMove (a - decl.sites) (actor_does decl a m d)
   does_stamped m (Takes g) gives is = takes_stamped decl (a - decl.sites) m.actor g is.own
   does_stamped m (Writes written) gives is = is
-  does_stamped m (Sends number to message) gives is = record { own = sends_own (a - decl.sites) m.actor number to message is.own; sends = is.sends; failed = is.failed }
+  does_stamped m (Sends number to message) gives is = record { own = sends_own (a - decl.sites) m.actor number to message is.own; sends = is.sends; failed = is.failed; writes = is.writes }
   does_stamped m (Tells reply) gives is = is
-  does_stamped m (Falls cause pending) gives is = record { own = tt; sends = tt; failed = tt }
+  does_stamped m (Falls cause pending) gives is = record { own = tt; sends = tt; failed = tt; writes = unwritten None refl }
   does_stamped m (Rises records) gives is = rises_stamped decl a records gives
 
   folded_stamped : (ds : List Deed) (m : ActorMove) → IsGiven ds → StampedMove (a - decl.sites) m → StampedMove (a - decl.sites) (fold (actor_does decl a) m ds)
@@ -115,7 +116,7 @@ module _ (decl : Declaration) (a : ℕ) where
   folded_stamped (d ∷ ds) m gives is = folded_stamped ds (actor_does decl a m d) (λ none. (gives none).1) (does_stamped m d (λ none. (gives none).0) is)
 
   first_stamped : StampedMove (a - decl.sites) (moved (new_actor decl a) quiet)
-  first_stamped = record { own = by (is_site decl a); sends = tt; failed = tt }
+  first_stamped = record { own = by (is_site decl a); sends = tt; failed = tt; writes = unwritten None refl }
     where
       by : (t : Bool) → OwnActor (a - decl.sites) (if t then actor.Site (new_site a) else actor.Client (new_client (a - decl.sites)))
       by true = tt
@@ -129,16 +130,24 @@ module _ (decl : Declaration) (a : ℕ) where
   as_stamped Failed t sends failed = failed
   as_stamped Stopped t sends failed = tt
 
-  -- what a lawful turn sends, whatever became of its record, is stamped
-  pub lawful_stamped : (ds : List Deed) (turn : Turn) → IsLawfulWithFalls decl a ds turn → (is_client decl a ≡ true → Every GivesOwn ds) → AreStamped (sends_as turn.append turn)
-  lawful_stamped ds turn law gives = by (is_site decl a) (is_client decl a) refl refl law.called_for
+  -- a lawful turn is the one that its actor's deeds call for
+  lawful_move : (ds : List Deed) (turn : Turn) → IsLawfulWithFalls decl a ds turn → (is_client decl a ≡ true → Every GivesOwn ds) → StampedMove (a - decl.sites) (actor_after decl a ds) × ((actor_after decl a ds).turn ≡ with_record turn)
+  lawful_move ds turn law gives = by (is_site decl a) (is_client decl a) refl refl law.called_for
     where
-      of : IsGiven ds → (actor_after decl a ds).turn ≡ with_record turn → AreStamped (sends_as turn.append turn)
-      of given same =
-          let m : StampedMove (a - decl.sites) (actor_after decl a ds) = after_stamped ds given in
-          as_stamped turn.append turn (subst (λ (t : Turn). AreStamped t.sends) same m.sends) (subst (λ (t : Turn). AreStamped t.failed_sends) same m.failed)
-
-      by : (s c : Bool) → is_site decl a ≡ s → is_client decl a ≡ c → (if s then Some (actor_after decl a ds).turn else (if c then Some (actor_after decl a ds).turn else None)) ≡ Some (with_record turn) → AreStamped (sends_as turn.append turn)
-      by true c site client is = of (λ none. absurd (let never : ⊥ = cc in never)) (let same : (actor_after decl a ds).turn ≡ with_record turn = cc in same)
-      by false true site client is = of (λ none. gives client) (let same : (actor_after decl a ds).turn ≡ with_record turn = cc in same)
+      by : (s c : Bool) → is_site decl a ≡ s → is_client decl a ≡ c → (if s then Some (actor_after decl a ds).turn else (if c then Some (actor_after decl a ds).turn else None)) ≡ Some (with_record turn)
+          → StampedMove (a - decl.sites) (actor_after decl a ds) × ((actor_after decl a ds).turn ≡ with_record turn)
+      by true c site client is = (after_stamped ds (λ none. absurd (let never : ⊥ = cc in never)), (let same : (actor_after decl a ds).turn ≡ with_record turn = cc in same))
+      by false true site client is = (after_stamped ds (λ none. gives client), (let same : (actor_after decl a ds).turn ≡ with_record turn = cc in same))
       by false false site client is = absurd (let never : ⊥ = cc in never)
+
+  -- so what it sends, whatever became of its record, is stamped, and so is what it writes
+
+  pub lawful_stamped : (ds : List Deed) (turn : Turn) → IsLawfulWithFalls decl a ds turn → (is_client decl a ≡ true → Every GivesOwn ds) → AreStamped (sends_as turn.append turn)
+  lawful_stamped ds turn law gives =
+      let m : StampedMove (a - decl.sites) (actor_after decl a ds) × ((actor_after decl a ds).turn ≡ with_record turn) = lawful_move ds turn law gives in
+      as_stamped turn.append turn (subst (λ (t : Turn). AreStamped t.sends) m.1 m.0.sends) (subst (λ (t : Turn). AreStamped t.failed_sends) m.1 m.0.failed)
+
+  pub lawful_writes : (ds : List Deed) (turn : Turn) → IsLawfulWithFalls decl a ds turn → (is_client decl a ≡ true → Every GivesOwn ds) → IsOwnWrite turn.write
+  lawful_writes ds turn law gives =
+      let m : StampedMove (a - decl.sites) (actor_after decl a ds) × ((actor_after decl a ds).turn ≡ with_record turn) = lawful_move ds turn law gives in
+      subst (λ (t : Turn). IsOwnWrite t.write) m.1 m.0.writes

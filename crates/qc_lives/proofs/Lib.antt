@@ -4,3 +4,4 @@ pub mod Lived
 pub mod ByMail
 pub mod FallStamps
 pub mod FallServed
+pub mod FallKept

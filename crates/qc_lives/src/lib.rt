@@ -17,7 +17,8 @@
 //!    sites take (`sites_take_site_inputs_with_falls`), they serve
 //!    (`sites_serve_with_falls`), they are what their steps show
 //!    (`sites_are_what_their_steps_show_with_falls`), and what they post is due
-//!    (`what_sites_post_is_due_with_falls`).
+//!    (`what_sites_post_is_due_with_falls`). So clients do where records are kept
+//!    (`clients_rise_with_own_stamps_where_records_are_kept`).
 #![tactic(auto)]
 
 mod laws;
@@ -28,6 +29,7 @@ pub use laws::{
     messages_reach_their_receivers_with_falls, who_is_down_only_tells,
 };
 pub use sites::{
+    clients_rise_with_own_stamps_where_records_are_kept,
     decisions_name_stamps_of_their_clients_with_falls, sites_are_what_their_steps_show_with_falls,
     sites_serve_with_falls, sites_take_site_inputs_with_falls, what_sites_post_is_due_with_falls,
 };

@@ -15,12 +15,22 @@ ghost use Rattle.qc_lives.specs.OwnRises.{RiseWithOwn};
 ghost use Rattle.qc_msg.specs.Deeds.{deeds, mail};
 ghost use Rattle.qc_msg.specs.Steps.{Entry};
 ghost use Rattle.qc_msg.specs.declared.message.Envelope.{Envelope};
+ghost use Rattle.qc_promise.specs.Kept.{Kept};
 ghost use Rattle.qc_promise.specs.SiteDue.{AreDue};
 ghost use Rattle.qc_script.specs.RunsWithFalls.{RunsWithFalls};
 ghost use Rattle.qc_script.specs.declared.script.Script.{Script};
 ghost use Rattle.qc_site.specs.Site.{SiteState};
 
 use qc_script::ConductWithFalls;
+
+/// Where records are kept, clients rise with commit records that name stamps of
+/// their transactions' own clients: they write no others.
+#[tactic(auto, using(crate::proofs::FallKept::kept_rises))]
+pub fn clients_rise_with_own_stamps_where_records_are_kept<C: ConductWithFalls>()
+    ensures { (decl : Declaration) (script : Script) → actors decl ≤ most_actors
+        → (h : List Entry) (open_inputs : List Bool)
+        → RunsWithFalls (IsLawfulWithFalls decl) C.fits decl script h open_inputs → Kept h → RiseWithOwn decl h }
+{}
 
 /// Each Decision Committed names a stamp of its transaction's own client, where
 /// clients rise with commit records that do.

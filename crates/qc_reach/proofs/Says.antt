@@ -47,7 +47,7 @@ use Rattle.qc_client.specs.Client.{by_desk, by_front}
 use Rattle.qc_client.specs.Conduct.{answered, answered_by, called, client_takes, commits, heard}
 use Rattle.qc_laws.proofs.OwnFronts.{every_of}
 use Rattle.qc_laws.proofs.OwnStamps.{by_two}
-use Rattle.qc_net.proofs.Unwritten.{IsCalm, front_called, front_takes}
+use Rattle.qc_front.proofs.Unwritten.{IsCalm, front_called, front_takes}
 use Rattle.qc_site.specs.Conduct.{passed, site_at, site_takes}
 use Rattle.qc_site.specs.Promise.{finishes, is_prepared, joins, prepare_length, prepared_of, prepares, promise_of, promises}
 use Rattle.qc_site.specs.Requests.{appends_by, fault_of, grants, names_declared, reads_by, relation_at, requested}
