@@ -5,8 +5,10 @@
 //!
 //! 1. In every run with falls each deed of a client is due, where what comes to it
 //!    is declared (`clients_of_runs_with_falls_are_due`).
+//! 2. That is so where the script asks for what is declared and no record that
+//!    rises closes an epoch or installs one (`replies_are_due_with_falls`).
 #![tactic(auto)]
 
 mod laws;
 
-pub use laws::clients_of_runs_with_falls_are_due;
+pub use laws::{clients_of_runs_with_falls_are_due, replies_are_due_with_falls};
