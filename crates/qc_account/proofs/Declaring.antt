@@ -29,7 +29,7 @@ use Rattle.qc_account.specs.Declares.{ArePlanned, Declares, IsDeclaredCommand, I
 
 -- what an actor takes is of the mail
 
-abbrev TakesFirst : Deed → Type 0
+abbrev pub TakesFirst : Deed → Type 0
 TakesFirst (Takes (given.Called command)) = Unit {0}
 TakesFirst (Takes (given.Got e)) = TellsFirst e.message
 TakesFirst (Takes (given.Lost number)) = Unit {0}
@@ -70,7 +70,7 @@ rest_all : {A : Type 0} (P : A → Type 0) (o : Option A) (xs : List A) → Ever
 rest_all P None xs all = all
 rest_all P (Some x) xs all = all.1
 
-deeds_first : (a : ℕ) (ms : List Envelope) (h : List Entry) → IsMailFirst ms → IsMailFirst (mail h) → Every TakesFirst (deeds a ms h)
+pub deeds_first : (a : ℕ) (ms : List Envelope) (h : List Entry) → IsMailFirst ms → IsMailFirst (mail h) → Every TakesFirst (deeds a ms h)
 deeds_first a ms [] first all = tt
 deeds_first a ms (e ∷ h) first all =
     both_all TakesFirst (cond (e.actor == a) (deed_at ms e.step) []) (deeds a (ms ++ option_to_list (envelope_of e)) h)
@@ -80,7 +80,7 @@ deeds_first a ms (e ∷ h) first all =
     (rest_all (λ (x : Envelope). TellsFirst x.message) (envelope_of e) (mail h) all))
 
 module _ (decl : Declaration) (accepted : IsAccepted decl) where
-  first_planned : IsPlanned decl first_epoch
+  pub first_planned : IsPlanned decl first_epoch
   first_planned = let p : (plan : Plan) × (slice_get decl.plans 0 ≡ Some plan) = slice_get-within decl.plans 0 accepted.has_epoch in ap (λ (o : Option Plan). is_some o) p.1
 
   told_planned : (o : Option ℕ) → AreFirst o → ArePlanned decl o
@@ -116,7 +116,7 @@ module _ (decl : Declaration) (accepted : IsAccepted decl) where
   deed_declared a (Falls cause pending) is first = tt
   deed_declared a (Rises kept) is first = tt
 
-  all_declared : (a : ℕ) (ds : List Deed) → Every (IsAskableDeed decl a) ds → Every TakesFirst ds → Every (IsDeclaredDeed decl) ds
+  pub all_declared : (a : ℕ) (ds : List Deed) → Every (IsAskableDeed decl a) ds → Every TakesFirst ds → Every (IsDeclaredDeed decl) ds
   all_declared a [] asks first = tt
   all_declared a (x ∷ ds) asks first = (deed_declared a x asks.0 first.0, all_declared a ds asks.1 first.1)
 

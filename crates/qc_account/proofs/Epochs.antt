@@ -223,7 +223,7 @@ heard_first decl c from number (messages.Ask tx) = (tt, tt)
 heard_first decl c from number (messages.Close epoch) = tt
 heard_first decl c from number (messages.Install epoch clock log) = tt
 
-client_takes_first : (decl : Declaration) (c : Client) (g : Given) → TellFirst (client_takes decl c g).turn.sends
+pub client_takes_first : (decl : Declaration) (c : Client) (g : Given) → TellFirst (client_takes decl c g).turn.sends
 client_takes_first decl c (given.Called command) = called_first decl c command
 client_takes_first decl c (given.Got e) = heard_first decl c e.from e.number e.message
 client_takes_first decl c (given.Lost number) = answered_first decl c number None
@@ -253,7 +253,7 @@ lawful_first decl a ds turn law = at (is_site decl a) (is_client decl a) law
 abbrev pub IsMailFirst : List Envelope → Type 0
 IsMailFirst ms = Every (λ (e : Envelope). TellsFirst e.message) ms
 
-envelopes_first : (a n : ℕ) (ps : List Posting) → TellFirst ps → IsMailFirst (envelopes a n ps)
+pub envelopes_first : (a n : ℕ) (ps : List Posting) → TellFirst ps → IsMailFirst (envelopes a n ps)
 envelopes_first a n [] are = tt
 envelopes_first a n (p ∷ ps) are = (are.0, envelopes_first a (n + 1) ps are.1)
 

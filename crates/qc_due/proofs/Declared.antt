@@ -1,0 +1,32 @@
+-- In a run with falls what comes to a client is declared, where nobody rises in another epoch than the first.
+use Rattle.std.proofs.Common.{◌≤◌, ◌<◌, ℕ, Bool, List, []}
+use Rattle.qc_core.specs.Conduct.{IsLawfulWithFalls}
+use Rattle.qc_decl.specs.Accepted.{IsAccepted}
+use Rattle.qc_decl.specs.Actors.{actors, client_actor}
+use Rattle.qc_decl.specs.declared.declaration.Declaration.{Declaration}
+use Rattle.qc_laws.specs.Asked.{AsksDeclared}
+use Rattle.qc_link.specs.Limits.{most_actors}
+use Rattle.qc_msg.specs.declared.record.Record.{Record}
+use Rattle.qc_msg.specs.Deeds.{deeds}
+use Rattle.qc_msg.specs.Steps.{Entry}
+use Rattle.qc_promise.specs.Replies.{AreRepliesDue}
+use Rattle.qc_script.specs.RunsWithFalls.{RunsWithFalls}
+use Rattle.qc_script.specs.declared.script.Script.{Script}
+use Rattle.qc_account.specs.Declares.{Declares}
+use Rattle.qc_account.proofs.Declaring.{all_declared, deeds_first, first_planned}
+use Rattle.qc_due.specs.Risen.{AllRiseInFirst}
+use Rattle.qc_due.proofs.Clients.{clients_due}
+use Rattle.qc_due.proofs.Commanded.{run_askable}
+use Rattle.qc_due.proofs.FirstMail.{run_first}
+
+module _ (decl : Declaration) (script : Script) (fits : ℕ → List Record → Type 0) (accepted : IsAccepted decl) (asks : AsksDeclared decl script) (h : List Entry) (open_inputs : List Bool)
+    (run : RunsWithFalls (IsLawfulWithFalls decl) fits decl script h open_inputs) (all : AllRiseInFirst h) where
+  pub run_declares : (a : ℕ) → Declares decl (deeds a [] h)
+  run_declares a = record {
+    first = first_planned decl accepted;
+    deeds = all_declared decl accepted a (deeds a [] h) (run_askable (IsLawfulWithFalls decl) fits decl script asks h open_inputs run a)
+        (deeds_first a [] h tt (run_first decl script fits h open_inputs run all));
+  }
+
+  pub replies_due : actors decl ≤ most_actors → (client : ℕ) → client < decl.clients → AreRepliesDue decl client (deeds (client_actor decl client) [] h)
+  replies_due few client within = clients_due decl script fits few h open_inputs run client within (run_declares (client_actor decl client))

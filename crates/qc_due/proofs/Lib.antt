@@ -1,0 +1,5 @@
+pub mod SiteAnswers
+pub mod FirstMail
+pub mod Commanded
+pub mod Clients
+pub mod Declared

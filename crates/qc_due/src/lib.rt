@@ -1,0 +1,14 @@
+//! What is due of clients in every run with falls: laws alone, there is no code
+//! here.
+//!
+//! No run of the program has a fall yet; these laws are of histories alone.
+//!
+//! 1. In every run with falls each deed of a client is due, where what comes to it
+//!    is declared (`clients_of_runs_with_falls_are_due`).
+//! 2. That is so where the script asks for what is declared and no record that
+//!    rises closes an epoch or installs one (`replies_are_due_with_falls`).
+#![tactic(auto)]
+
+mod laws;
+
+pub use laws::{clients_of_runs_with_falls_are_due, replies_are_due_with_falls};
