@@ -3,3 +3,4 @@ pub mod FirstMail
 pub mod Commanded
 pub mod Clients
 pub mod Declared
+pub mod AllDue

@@ -9,8 +9,10 @@ ghost use Rattle.qc_decl.specs.declared.declaration.Declaration.{Declaration};
 ghost use Rattle.qc_due.specs.Risen.{AllRiseInFirst};
 ghost use Rattle.qc_laws.specs.Asked.{AsksDeclared};
 ghost use Rattle.qc_link.specs.Limits.{most_actors};
+ghost use Rattle.qc_lives.specs.OwnRises.{RiseWithOwn};
 ghost use Rattle.qc_msg.specs.Deeds.{deeds};
 ghost use Rattle.qc_msg.specs.Steps.{Entry};
+ghost use Rattle.qc_promise.specs.Due.{Due};
 ghost use Rattle.qc_promise.specs.Replies.{AreRepliesDue};
 ghost use Rattle.qc_script.specs.RunsWithFalls.{RunsWithFalls};
 ghost use Rattle.qc_script.specs.declared.script.Script.{Script};
@@ -40,4 +42,16 @@ pub fn replies_are_due_with_falls<C: ConductWithFalls>()
         → actors decl ≤ most_actors
         → (client : ℕ) → client < decl.clients
         → AreRepliesDue decl client (deeds (client_actor decl client) [] h) }
+{}
+
+/// All is due in every run with falls: actors go by turns, messages reach their
+/// receivers, and each deed of a client and each post of a site is due; where
+/// what rises is of the first epoch, and clients rise with commit records that
+/// name stamps of their transactions' own clients.
+#[tactic(auto, using(crate::proofs::AllDue::runs_due))]
+pub fn runs_with_falls_are_due<C: ConductWithFalls>()
+    ensures { (decl : Declaration) (script : Script) → IsAccepted decl → AsksDeclared decl script
+        → actors decl ≤ most_actors → (h : List Entry) (open_inputs : List Bool)
+        → RunsWithFalls (IsLawfulWithFalls decl) C.fits decl script h open_inputs → AllRiseInFirst h
+        → RiseWithOwn decl h → Due decl h }
 {}

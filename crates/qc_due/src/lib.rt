@@ -1,5 +1,4 @@
-//! What is due of clients in every run with falls: laws alone, there is no code
-//! here.
+//! What is due in every run with falls: laws alone, there is no code here.
 //!
 //! No run of the program has a fall yet; these laws are of histories alone.
 //!
@@ -7,8 +6,13 @@
 //!    is declared (`clients_of_runs_with_falls_are_due`).
 //! 2. That is so where the script asks for what is declared and no record that
 //!    rises closes an epoch or installs one (`replies_are_due_with_falls`).
+//! 3. Then all is due in the run, by turns, by mail, of clients and of sites, where
+//!    the commit records that rise name stamps of their own clients
+//!    (`runs_with_falls_are_due`).
 #![tactic(auto)]
 
 mod laws;
 
-pub use laws::{clients_of_runs_with_falls_are_due, replies_are_due_with_falls};
+pub use laws::{
+    clients_of_runs_with_falls_are_due, replies_are_due_with_falls, runs_with_falls_are_due,
+};
