@@ -9,5 +9,6 @@ pub mod Rising
 pub mod RunsStand
 pub mod Reaching
 pub mod Written
+pub mod Committing
 pub mod Sorted
 pub mod RunLaws

@@ -30,6 +30,8 @@ use Rattle.qc_net.proofs.VotesKept.{votes_stand}
 use Rattle.qc_onecopy.specs.Committed.{AreApart, sorted}
 use Rattle.qc_onecopy.specs.Logged.{IsClosedLog, IsLogged}
 use Rattle.qc_onecopy.specs.OneCopy.{OneCopy}
+use Rattle.qc_onecopy.proofs.Committed.{sorts}
+use Rattle.qc_promise.specs.Committed.{committed, records as written_in}
 use Rattle.qc_promise.specs.Kept.{Kept}
 use Rattle.qc_script.specs.RunsWithFalls.{RunsWithFalls}
 use Rattle.qc_script.specs.Sound.{IsScriptFor}
@@ -39,6 +41,7 @@ use Rattle.qc_stamp.specs.declared.stamp.TxId.{TxId}
 use Rattle.qc_atomic.proofs.Closed as closed_logs
 use Rattle.qc_reach.specs.Reached.{IsReachedWithFalls}
 use Rattle.qc_reach.specs.Standing.{AreStanding, IsOfClient, IsPromiseRecorded, records_of}
+use Rattle.qc_reach.proofs.Committing.{standing}
 use Rattle.qc_reach.proofs.Reaching.{net_of}
 use Rattle.qc_reach.proofs.Sorted.{apart_too, sorted_alike}
 use Rattle.qc_reach.proofs.Stood.{in_site}
@@ -143,3 +146,14 @@ module _ (fits : ℕ → List Record → Type 0) (decl : Declaration) (script : 
 
     pub decisions_agree : (e : Envelope) (tx : TxId) (verdict : Outcome) → In e (mail h) → e.message ≡ Decision tx verdict → IsTrueVerdict commits tx verdict
     decisions_agree e tx verdict sent is = verdict_too tx verdict (nets.decisions_agree decl accepted r.net r.reached e tx verdict (subst (In e) (sym r.mail_is) sent) is)
+
+  -- those that clients wrote or rose with
+
+  pub committed_apart : AreApart (committed decl h)
+  committed_apart = apart_too (written_in decl h) (committed decl h) (λ c. ((sorts (written_in decl h) there.stamps).1 c).0) there
+    where
+      there : AreApart (written_in decl h)
+      there = apart (written_in decl h) (standing decl h kept)
+
+  pub committed_one_copy : OneCopy decl (committed decl h)
+  committed_one_copy = one_copy (written_in decl h) (standing decl h kept)

@@ -35,7 +35,7 @@ use Rattle.qc_reach.specs.Standing.{IsOfClient}
 abbrev commits_of : List Record → List CommitRecord
 commits_of rs = filter_map commit_of rs
 
-is_among : (c : CommitRecord) (rs : List Record) → In c (commits_of rs) → In (records.Commit c) rs
+pub is_among : (c : CommitRecord) (rs : List Record) → In c (commits_of rs) → In (records.Commit c) rs
 is_among c [] among = among
 is_among c (records.Life ∷ rs) among = inr (is_among c rs among)
 is_among c (records.Prepare p ∷ rs) among = inr (is_among c rs among)
@@ -48,7 +48,7 @@ is_among c (records.Decide epoch clock lines ∷ rs) among = inr (is_among c rs 
 same_commit : (c d : CommitRecord) → records.Commit c ≡ records.Commit d → c ≡ d
 same_commit c d is = let same : c ≡ d = cc in same
 
-among_is : (c : CommitRecord) (rs : List Record) → In (records.Commit c) rs → In c (commits_of rs)
+pub among_is : (c : CommitRecord) (rs : List Record) → In (records.Commit c) rs → In c (commits_of rs)
 among_is c [] among = among
 among_is c (records.Life ∷ rs) (inl never) = let no : ⊥ = cc in absurd no
 among_is c (records.Life ∷ rs) (inr later) = among_is c rs later
@@ -65,7 +65,7 @@ among_is c (records.Commit d ∷ rs) (inr later) = inr (among_is c rs later)
 among_is c (records.Decide epoch clock lines ∷ rs) (inl never) = let no : ⊥ = cc in absurd no
 among_is c (records.Decide epoch clock lines ∷ rs) (inr later) = among_is c rs later
 
-alone : (o : Option CommitRecord) → option_to_list o ≡ cons_option o []
+pub alone : (o : Option CommitRecord) → option_to_list o ≡ cons_option o []
 alone None = refl
 alone (Some c) = refl
 

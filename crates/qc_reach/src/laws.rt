@@ -25,6 +25,7 @@ ghost use Rattle.qc_net.specs.Mirrors.{Refines};
 ghost use Rattle.qc_onecopy.specs.Committed.{AreApart, sorted};
 ghost use Rattle.qc_onecopy.specs.Logged.{IsClosedLog, IsLogged};
 ghost use Rattle.qc_onecopy.specs.OneCopy.{OneCopy};
+ghost use Rattle.qc_promise.specs.Committed.{committed, records};
 ghost use Rattle.qc_promise.specs.Kept.{Kept};
 ghost use Rattle.qc_reach.specs.Reached.{IsReachedWithFalls};
 ghost use Rattle.qc_reach.specs.Standing.{AreStanding, IsPromiseRecorded};
@@ -121,4 +122,23 @@ pub fn logs_and_views_are_closed_through_falls<C: ConductWithFalls>()
         → RunsWithFalls (IsLawfulWithFalls decl) C.fits decl script h open_inputs → Kept h
         → AreStanding decl h commits → In e (mail h) → e.message ≡ Request tx epoch life (Append object view own)
         → IsClosedLog decl commits view }
+{}
+
+/// The commit records that clients wrote or rose with are, where records are
+/// kept, just those that stand.
+pub fn committed_records_stand()
+    ensures { (decl : Declaration) (h : List Entry) → Kept h → AreStanding decl h (records decl h) }
+{}
+
+/// The committed transactions of such a run are one copy's, each once and at a
+/// stamp of its own: with the very list of what the program promises of a run.
+pub fn committed_records_are_one_copy_through_falls<C: ConductWithFalls>()
+    ensures apart { (decl : Declaration) (script : Script) (h : List Entry) (open_inputs : List Bool)
+        → IsAccepted decl → IsScriptFor decl script
+        → RunsWithFalls (IsLawfulWithFalls decl) C.fits decl script h open_inputs → Kept h
+        → AreApart (committed decl h) }
+    ensures one_copy { (decl : Declaration) (script : Script) (h : List Entry) (open_inputs : List Bool)
+        → IsAccepted decl → IsScriptFor decl script
+        → RunsWithFalls (IsLawfulWithFalls decl) C.fits decl script h open_inputs → Kept h
+        → OneCopy decl (committed decl h) }
 {}
