@@ -1,5 +1,5 @@
 -- So what every net keeps, every run with falls keeps whose records are kept.
-use Rattle.std.proofs.Common.{◌≡◌, ℕ, Bool, true, false, List, [], Some, slice_get, inl, inr, sym, ◌∙◌, subst}
+use Rattle.std.proofs.Common.{◌≡◌, ℕ, Bool, true, false, List, [], Some, slice_get, inl, inr, refl, sym, ◌∙◌, subst}
 use Rattle.qc_core.specs.declared.actor.Actor.TheVariants as actor
 use Rattle.qc_core.specs.Actors.{actor_after}
 use Rattle.qc_core.specs.Conduct.{IsLawfulWithFalls}
@@ -13,6 +13,8 @@ use Rattle.qc_entry.specs.declared.record.Commit.{Commit as CommitRecord}
 use Rattle.qc_list.specs.Members.{In}
 use Rattle.qc_msg.specs.declared.message.Answer.TheVariants.{Yes}
 use Rattle.qc_msg.specs.declared.message.Envelope.{Envelope}
+use Rattle.qc_msg.specs.declared.message.Message.{Message}
+use Rattle.qc_msg.specs.declared.message.Message.TheVariants as messages
 use Rattle.qc_msg.specs.declared.message.Message.TheVariants.{Answer, Decision, Request}
 use Rattle.qc_msg.specs.declared.message.Outcome.{Outcome}
 use Rattle.qc_msg.specs.declared.message.Outcome.TheVariants as outcomes
@@ -33,6 +35,7 @@ use Rattle.qc_onecopy.specs.OneCopy.{OneCopy}
 use Rattle.qc_onecopy.proofs.Committed.{sorts}
 use Rattle.qc_promise.specs.Committed.{committed, records as written_in}
 use Rattle.qc_promise.specs.Kept.{Kept}
+use Rattle.qc_promise.specs.Told.{DecisionAgrees}
 use Rattle.qc_script.specs.RunsWithFalls.{RunsWithFalls}
 use Rattle.qc_script.specs.Sound.{IsScriptFor}
 use Rattle.qc_script.specs.declared.script.Script.{Script}
@@ -157,3 +160,20 @@ module _ (fits : ℕ → List Record → Type 0) (decl : Declaration) (script : 
 
   pub committed_one_copy : OneCopy decl (committed decl h)
   committed_one_copy = one_copy (written_in decl h) (standing decl h kept)
+
+  -- a Decision agrees with the committed transactions
+  agrees : (m : Message) → ((tx : TxId) (verdict : Outcome) → m ≡ Decision tx verdict → IsTrueVerdict (written_in decl h) tx verdict) → DecisionAgrees (committed decl h) m
+  agrees (messages.Request tx epoch life want) true_one = tt
+  agrees (messages.Answer to answer) true_one = tt
+  agrees (messages.Decision tx (outcomes.Committed stamp)) true_one =
+      let is : IsTrueVerdict (written_in decl h) tx (outcomes.Committed stamp) = true_one tx (outcomes.Committed stamp) refl in
+      record { commit = is.0; listed = ((sorts (written_in decl h) (apart (written_in decl h) (standing decl h kept)).stamps).1 is.0).1 is.1; named = is.2; stamped = is.3 }
+  agrees (messages.Decision tx outcomes.Aborted) true_one = λ c among. true_one tx outcomes.Aborted refl c (((sorts (written_in decl h) (apart (written_in decl h) (standing decl h kept)).stamps).1 c).0 among)
+  agrees (messages.Decision tx outcomes.Active) true_one = tt
+  agrees (messages.Inquiry tx) true_one = tt
+  agrees (messages.Ask tx) true_one = tt
+  agrees (messages.Close epoch) true_one = tt
+  agrees (messages.Install epoch clock log) true_one = tt
+
+  pub decisions_committed : (e : Envelope) → In e (mail h) → DecisionAgrees (committed decl h) e.message
+  decisions_committed e sent = agrees e.message (λ tx verdict is. decisions_agree (written_in decl h) (standing decl h kept) e tx verdict sent is)

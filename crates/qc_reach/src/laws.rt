@@ -27,6 +27,7 @@ ghost use Rattle.qc_onecopy.specs.Logged.{IsClosedLog, IsLogged};
 ghost use Rattle.qc_onecopy.specs.OneCopy.{OneCopy};
 ghost use Rattle.qc_promise.specs.Committed.{committed, records};
 ghost use Rattle.qc_promise.specs.Kept.{Kept};
+ghost use Rattle.qc_promise.specs.Told.{DecisionAgrees};
 ghost use Rattle.qc_reach.specs.Reached.{IsReachedWithFalls};
 ghost use Rattle.qc_reach.specs.Standing.{AreStanding, IsPromiseRecorded};
 ghost use Rattle.qc_script.specs.RunsWithFalls.{RunsWithFalls};
@@ -141,4 +142,13 @@ pub fn committed_records_are_one_copy_through_falls<C: ConductWithFalls>()
         → IsAccepted decl → IsScriptFor decl script
         → RunsWithFalls (IsLawfulWithFalls decl) C.fits decl script h open_inputs → Kept h
         → OneCopy decl (committed decl h) }
+{}
+
+/// Each Decision that anybody is sent in such a run agrees with its committed
+/// transactions.
+pub fn decisions_agree_with_committed_through_falls<C: ConductWithFalls>()
+    ensures { (decl : Declaration) (script : Script) (h : List Entry) (open_inputs : List Bool) (e : Envelope)
+        → IsAccepted decl → IsScriptFor decl script
+        → RunsWithFalls (IsLawfulWithFalls decl) C.fits decl script h open_inputs → Kept h
+        → In e (mail h) → DecisionAgrees (committed decl h) e.message }
 {}

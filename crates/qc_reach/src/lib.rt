@@ -19,14 +19,15 @@
 //!    (`logs_and_views_are_closed_through_falls`).
 //! 3. The commit records that clients wrote or rose with are just those that
 //!    stand (`committed_records_stand`), so those of the promise are one copy's
-//!    and apart (`committed_records_are_one_copy_through_falls`).
+//!    and apart (`committed_records_are_one_copy_through_falls`), and Decisions
+//!    agree with them (`decisions_agree_with_committed_through_falls`).
 #![tactic(auto)]
 
 mod laws;
 
 pub use laws::{
     committed_records_are_one_copy_through_falls, committed_records_stand,
-    decisions_tell_records_that_stand, lines_are_operations_of_records_that_stand,
-    logs_and_views_are_closed_through_falls, records_that_stand_are_one_copy,
-    runs_with_falls_reach_nets, votes_of_runs_stand_on_records,
+    decisions_agree_with_committed_through_falls, decisions_tell_records_that_stand,
+    lines_are_operations_of_records_that_stand, logs_and_views_are_closed_through_falls,
+    records_that_stand_are_one_copy, runs_with_falls_reach_nets, votes_of_runs_stand_on_records,
 };
