@@ -1,8 +1,10 @@
--- In a run with falls nobody tells of another epoch than the first, where nobody rises in another.
-use Rattle.std.proofs.Common.{◌≡◌, ℕ, ◌+◌, ◌-◌, ◌==◌, Bool, true, false, cond, List, [], ◌∷◌, ◌++◌, length, Option, Some, None, slice_get, refl, sym, subst, append_assoc}
+-- In a run with falls nobody tells of another epoch than the first, nor writes a record of another, where nobody rises in
+-- another.
+use Rattle.std.proofs.Common.{◌≡◌, ℕ, ◌+◌, ◌-◌, ◌==◌, Bool, true, false, cond, List, [], ◌∷◌, ◌++◌, length, Option, Some, None, slice_get, inl, inr, refl, sym, subst, append_assoc}
 use Rattle.std.specs.Prelude.{fold, option_to_list}
 use Rattle.std.specs.List.{AllByRecursion as Every}
 use Rattle.qc_client.specs.Client.{new_client}
+use Rattle.qc_client.specs.Conduct.{client_takes}
 use Rattle.qc_core.specs.declared.actor.Actor.{Actor}
 use Rattle.qc_core.specs.declared.actor.Actor.TheVariants as actor
 use Rattle.qc_core.specs.Actors.{ActorMove, actor_does, actor_rises, actor_sends, actor_takes, by_client, by_site, moved, new_actor}
@@ -37,6 +39,7 @@ use Rattle.qc_script.specs.RunsWithFalls.{RunsWithFalls, begins, takes, posts, p
 use Rattle.qc_script.specs.declared.script.Script.{Script}
 use Rattle.qc_site.specs.Site.{new_site}
 use Rattle.qc_account.proofs.Epochs.{IsMailFirst, TellFirst, TellsFirst, client_takes_first, envelopes_first}
+use Rattle.qc_account.proofs.Writing.{IsClientTurn, takes_turn}
 use Rattle.qc_due.specs.Risen.{AllRiseInFirst, IsOfFirst, RisesInFirst}
 use Rattle.qc_due.proofs.SiteAnswers.{IsInFirst, TurnFirst, rises_first, rising_first, stays_first, takes_first}
 
@@ -51,7 +54,7 @@ record MoveFirst (m : ActorMove) : Type 0 where
   state : ActorFirst m.actor
   turn : TurnFirst m.turn
 
-abbrev RisesOfFirst : Deed → Type 0
+abbrev pub RisesOfFirst : Deed → Type 0
 RisesOfFirst (Takes given) = Unit {0}
 RisesOfFirst (Writes written) = Unit {0}
 RisesOfFirst (Sends number to message) = Unit {0}
@@ -60,15 +63,20 @@ RisesOfFirst (Falls cause pending) = Unit {0}
 RisesOfFirst (Rises kept) = Every IsOfFirst kept
 
 says_nothing : TurnFirst quiet
-says_nothing = record { sends = tt; failed_sends = tt }
+says_nothing = record { sends = tt; failed_sends = tt; writes = tt }
+
+-- a client writes commits alone
+client_writes : (t : Turn) → IsClientTurn t → Every IsOfFirst (option_to_list t.write)
+client_writes t (inl none) = subst (λ (w : Option Record). Every IsOfFirst (option_to_list w)) (sym none) tt
+client_writes t (inr one) = subst (λ (w : Option Record). Every IsOfFirst (option_to_list w)) (sym one.write) (tt, tt)
 
 actor_first : (decl : Declaration) (v : Actor) (g : Given) → ActorFirst v → MoveFirst (actor_takes decl v g)
 actor_first decl (actor.Site s) g first = record { state = stays_first decl s g first; turn = takes_first decl s g first }
 actor_first decl (actor.Client c) g first = record {
   state = tt;
-  turn = record { sends = client_takes_first decl c g; failed_sends = subst TellFirst (sym (client_written decl c g).failed_sends) tt };
+  turn = record { sends = client_takes_first decl c g; failed_sends = subst TellFirst (sym (client_written decl c g).failed_sends) tt; writes = client_writes (client_takes decl c g).turn (takes_turn decl c g) };
 }
-actor_first decl actor.Down (given.Called command) first = record { state = tt; turn = record { sends = tt; failed_sends = tt } }
+actor_first decl actor.Down (given.Called command) first = record { state = tt; turn = record { sends = tt; failed_sends = tt; writes = tt } }
 actor_first decl actor.Down (given.Got e) first = record { state = tt; turn = says_nothing }
 actor_first decl actor.Down (given.Lost number) first = record { state = tt; turn = says_nothing }
 
@@ -82,7 +90,7 @@ risen_first decl a kept all = at (is_site decl a)
   where
     at : (b : Bool) → MoveFirst (cond b (by_site (site_rises decl a kept)) (by_client (client_rises (a - decl.sites) kept)))
     at true = record { state = rises_first decl a kept all; turn = rising_first decl a kept }
-    at false = record { state = tt; turn = record { sends = tt; failed_sends = tt } }
+    at false = record { state = tt; turn = record { sends = tt; failed_sends = tt; writes = (tt, tt) } }
 
 does_first : (decl : Declaration) (a : ℕ) (ds : List Deed) (m : ActorMove) → Every RisesOfFirst ds → MoveFirst m → MoveFirst (fold (actor_does decl a) m ds)
 does_first decl a [] m all first = first
@@ -106,9 +114,14 @@ sent_as Done turn first = first.sends
 sent_as Failed turn first = first.failed_sends
 sent_as Stopped turn first = tt
 
+lawful_turn : (decl : Declaration) (a : ℕ) (ds : List Deed) (turn : Turn) → Every RisesOfFirst ds → IsLawfulWithFalls decl a ds turn → TurnFirst (with_record turn)
+lawful_turn decl a ds turn all law = subst TurnFirst (called_turn decl a ds turn law) (does_first decl a ds (moved (new_actor decl a) quiet) all (record { state = new_first decl a; turn = says_nothing })).turn
+
 lawful_first : (decl : Declaration) (a : ℕ) (ds : List Deed) (turn : Turn) → Every RisesOfFirst ds → IsLawfulWithFalls decl a ds turn → TellFirst (sends_as turn.append turn)
-lawful_first decl a ds turn all law =
-    sent_as turn.append turn (subst TurnFirst (called_turn decl a ds turn law) (does_first decl a ds (moved (new_actor decl a) quiet) all (record { state = new_first decl a; turn = says_nothing })).turn)
+lawful_first decl a ds turn all law = sent_as turn.append turn (lawful_turn decl a ds turn all law)
+
+pub lawful_writes : (decl : Declaration) (a : ℕ) (ds : List Deed) (turn : Turn) → Every RisesOfFirst ds → IsLawfulWithFalls decl a ds turn → Every IsOfFirst (option_to_list turn.write)
+lawful_writes decl a ds turn all law = (lawful_turn decl a ds turn all law).writes
 
 -- the deeds of a history in which nobody rises in another epoch
 
@@ -135,7 +148,7 @@ mine_risen : (mine : Bool) (ms : List Envelope) (step : Step) → RisesInFirst s
 mine_risen true ms step is = step_risen ms step is
 mine_risen false ms step is = tt
 
-deeds_risen : (a : ℕ) (ms : List Envelope) (h : List Entry) → AllRiseInFirst h → Every RisesOfFirst (deeds a ms h)
+pub deeds_risen : (a : ℕ) (ms : List Envelope) (h : List Entry) → AllRiseInFirst h → Every RisesOfFirst (deeds a ms h)
 deeds_risen a ms [] all = tt
 deeds_risen a ms (e ∷ h) all =
     both_all RisesOfFirst (cond (e.actor == a) (deed_at ms e.step) []) (deeds a (ms ++ option_to_list (envelope_of e)) h) (mine_risen (e.actor == a) ms e.step all.0)

@@ -4,3 +4,4 @@ pub mod Commanded
 pub mod Clients
 pub mod Declared
 pub mod AllDue
+pub mod KeptFirst

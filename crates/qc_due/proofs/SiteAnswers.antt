@@ -1,6 +1,7 @@
--- A site in the first epoch tells of no other, whatever its life and whatever becomes of its record.
+-- A site in the first epoch tells of no other and writes no record of another, whatever its life and whatever becomes of
+-- its record.
 use Rattle.std.proofs.Common.{◌≡◌, ℕ, ◌==◌, nat_le, nat_lt, not, List, [], ◌∷◌, ◌++◌, map, Option, Some, None, refl, sym, ◌∙◌, subst}
-use Rattle.std.specs.Prelude.{fold}
+use Rattle.std.specs.Prelude.{fold, option_to_list}
 use Rattle.std.specs.List.{AllByRecursion as Every}
 use Rattle.std.proofs.lemmas.List.Sums.{fold-append}
 use Rattle.qc_stamp.specs.declared.stamp.Stamp.{Stamp}
@@ -42,6 +43,7 @@ use Rattle.qc_due.specs.Risen.{IsOfFirst}
 pub record TurnFirst (t : Turn) : Type 0 where
   pub sends : TellFirst t.sends
   pub failed_sends : TellFirst t.failed_sends
+  pub writes : Every IsOfFirst (option_to_list t.write)
 
 pub record IsInFirst (s : SiteState) : Type 0 where
   pub epoch_is : s.epoch ≡ first_epoch
@@ -61,20 +63,20 @@ abbrev Answers : SiteMove → Type 0
 Answers m = TurnFirst m.turn
 
 promises_first : (s : SiteState) (from number : ℕ) (p : Prepared) → Answers (promises s from number p)
-promises_first s from number p = by_two Answers (nat_le (prepare_length p) most_record_bytes) _ _ (record { sends = (tt, tt); failed_sends = (tt, tt) }) (record { sends = (tt, tt); failed_sends = tt })
+promises_first s from number p = by_two Answers (nat_le (prepare_length p) most_record_bytes) _ _ (record { sends = (tt, tt); failed_sends = (tt, tt); writes = (tt, tt) }) (record { sends = (tt, tt); failed_sends = tt; writes = tt })
 
 prepares_first : (s : SiteState) (from number : ℕ) (tx : TxId) → Answers (prepares s from number tx)
 prepares_first s from number tx =
-    by_two Answers (not (is_held s.held tx)) _ _ (record { sends = (tt, tt); failed_sends = tt })
-    (by_two Answers (is_prepared s.prepared tx) _ (promises s from number (promise_of s tx)) (record { sends = (tt, tt); failed_sends = tt }) (promises_first s from number (promise_of s tx)))
+    by_two Answers (not (is_held s.held tx)) _ _ (record { sends = (tt, tt); failed_sends = tt; writes = tt })
+    (by_two Answers (is_prepared s.prepared tx) _ (promises s from number (promise_of s tx)) (record { sends = (tt, tt); failed_sends = tt; writes = tt }) (promises_first s from number (promise_of s tx)))
 
 reads_first : (decl : Declaration) (s : SiteState) (from number : ℕ) (tx : TxId) (object inv : ℕ) (o : Option Conflict) → Answers (reads_by decl s from number tx object inv o)
-reads_first decl s from number tx object inv None = record { sends = (tt, tt); failed_sends = tt }
-reads_first decl s from number tx object inv (Some c) = record { sends = (tt, (tt, tt)); failed_sends = tt }
+reads_first decl s from number tx object inv None = record { sends = (tt, tt); failed_sends = tt; writes = tt }
+reads_first decl s from number tx object inv (Some c) = record { sends = (tt, (tt, tt)); failed_sends = tt; writes = tt }
 
 appends_first : (decl : Declaration) (s : SiteState) (from number : ℕ) (tx : TxId) (view : List Line) (own : List OwnLine) (o : Option Conflict) → Answers (appends_by decl s from number tx view own o)
-appends_first decl s from number tx view own None = record { sends = (tt, tt); failed_sends = tt }
-appends_first decl s from number tx view own (Some c) = record { sends = (tt, (tt, tt)); failed_sends = tt }
+appends_first decl s from number tx view own None = record { sends = (tt, tt); failed_sends = tt; writes = tt }
+appends_first decl s from number tx view own (Some c) = record { sends = (tt, (tt, tt)); failed_sends = tt; writes = tt }
 
 grants_first : (decl : Declaration) (s : SiteState) (from number : ℕ) (tx : TxId) (want : Want) → Answers (grants decl s from number tx want)
 grants_first decl s from number tx (Read object inv) = reads_first decl s from number tx object inv (read_clash (relation_at decl object) s.held tx object inv)
@@ -82,33 +84,33 @@ grants_first decl s from number tx (Append object view own) = appends_first decl
 grants_first decl s from number tx Prepare = prepares_first s from number tx
 
 requested_first : (decl : Declaration) (s : SiteState) (from number : ℕ) (tx : TxId) (want : Want) (o : Option Answer) → FaultFirst o → Answers (requested decl s from number tx want o)
-requested_first decl s from number tx want (Some refusal) first = record { sends = (first, tt); failed_sends = tt }
+requested_first decl s from number tx want (Some refusal) first = record { sends = (first, tt); failed_sends = tt; writes = tt }
 requested_first decl s from number tx want None first = grants_first decl s from number tx want
 
 joins_first : (s : SiteState) (tx : TxId) (stamp : Stamp) (o : Option Prepared) → Answers (joins s tx stamp o)
-joins_first s tx stamp None = record { sends = tt; failed_sends = tt }
-joins_first s tx stamp (Some p) = record { sends = tt; failed_sends = tt }
+joins_first s tx stamp None = record { sends = tt; failed_sends = tt; writes = tt }
+joins_first s tx stamp (Some p) = record { sends = tt; failed_sends = tt; writes = (tt, tt) }
 
 decision_first : (s : SiteState) (tx : TxId) (v : Outcome) → Answers (finishes s tx v)
 decision_first s tx (Committed stamp) = joins_first s tx stamp (prepared_of s.prepared tx)
-decision_first s tx Aborted = record { sends = tt; failed_sends = tt }
-decision_first s tx Active = record { sends = tt; failed_sends = tt }
+decision_first s tx Aborted = record { sends = tt; failed_sends = tt; writes = tt }
+decision_first s tx Active = record { sends = tt; failed_sends = tt; writes = tt }
 
 site_first : (decl : Declaration) (s : SiteState) (from number : ℕ) (m : Message) → IsInFirst s → Answers (site_at decl s from number m)
 site_first decl s from number (messages.Request tx epoch life want) first =
     by_two Answers (names_declared decl tx want) (requested decl s from number tx want (fault_of s epoch life)) (moved s quiet)
-    (requested_first decl s from number tx want (fault_of s epoch life) (fault_first s epoch life first)) (record { sends = tt; failed_sends = tt })
-site_first decl s from number (messages.Answer to answer) first = record { sends = tt; failed_sends = tt }
+    (requested_first decl s from number tx want (fault_of s epoch life) (fault_first s epoch life first)) (record { sends = tt; failed_sends = tt; writes = tt })
+site_first decl s from number (messages.Answer to answer) first = record { sends = tt; failed_sends = tt; writes = tt }
 site_first decl s from number (messages.Decision tx verdict) first = decision_first s tx verdict
-site_first decl s from number (messages.Inquiry tx) first = record { sends = tt; failed_sends = tt }
-site_first decl s from number (messages.Ask tx) first = record { sends = tt; failed_sends = tt }
-site_first decl s from number (messages.Close epoch) first = record { sends = tt; failed_sends = tt }
-site_first decl s from number (messages.Install epoch clock log) first = record { sends = tt; failed_sends = tt }
+site_first decl s from number (messages.Inquiry tx) first = record { sends = tt; failed_sends = tt; writes = tt }
+site_first decl s from number (messages.Ask tx) first = record { sends = tt; failed_sends = tt; writes = tt }
+site_first decl s from number (messages.Close epoch) first = record { sends = tt; failed_sends = tt; writes = tt }
+site_first decl s from number (messages.Install epoch clock log) first = record { sends = tt; failed_sends = tt; writes = tt }
 
 pub takes_first : (decl : Declaration) (s : SiteState) (g : Given) → IsInFirst s → TurnFirst (site_takes decl s g).turn
-takes_first decl s (given.Called command) first = record { sends = tt; failed_sends = tt }
+takes_first decl s (given.Called command) first = record { sends = tt; failed_sends = tt; writes = tt }
 takes_first decl s (given.Got e) first = site_first decl (passed s e.message) e.from e.number e.message (record { epoch_is = first.epoch_is; is_open = first.is_open })
-takes_first decl s (given.Lost number) first = record { sends = tt; failed_sends = tt }
+takes_first decl s (given.Lost number) first = record { sends = tt; failed_sends = tt; writes = tt }
 
 -- it stays in it
 
@@ -150,4 +152,4 @@ rises_first decl number rs all =
     record { epoch_is = whole.epoch_is; is_open = whole.is_open }
 
 pub rising_first : (decl : Declaration) (number : ℕ) (rs : List Record) → TurnFirst (site_rises decl number rs).turn
-rising_first decl number rs = record { sends = inquiries_first decl _; failed_sends = tt }
+rising_first decl number rs = record { sends = inquiries_first decl _; failed_sends = tt; writes = (tt, tt) }

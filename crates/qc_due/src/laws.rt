@@ -13,6 +13,7 @@ ghost use Rattle.qc_lives.specs.OwnRises.{RiseWithOwn};
 ghost use Rattle.qc_msg.specs.Deeds.{deeds};
 ghost use Rattle.qc_msg.specs.Steps.{Entry};
 ghost use Rattle.qc_promise.specs.Due.{Due};
+ghost use Rattle.qc_promise.specs.Kept.{Kept};
 ghost use Rattle.qc_promise.specs.Replies.{AreRepliesDue};
 ghost use Rattle.qc_script.specs.RunsWithFalls.{RunsWithFalls};
 ghost use Rattle.qc_script.specs.declared.script.Script.{Script};
@@ -54,4 +55,21 @@ pub fn runs_with_falls_are_due<C: ConductWithFalls>()
         → actors decl ≤ most_actors → (h : List Entry) (open_inputs : List Bool)
         → RunsWithFalls (IsLawfulWithFalls decl) C.fits decl script h open_inputs → AllRiseInFirst h
         → RiseWithOwn decl h → Due decl h }
+{}
+
+/// Where records are kept, what rises is of the first epoch: no actor writes a
+/// record that closes an epoch or installs one.
+#[tactic(auto, using(crate::proofs::KeptFirst::kept_first))]
+pub fn what_rises_is_of_the_first_epoch_where_records_are_kept<C: ConductWithFalls>()
+    ensures { (decl : Declaration) (script : Script) → (h : List Entry) (open_inputs : List Bool)
+        → RunsWithFalls (IsLawfulWithFalls decl) C.fits decl script h open_inputs → Kept h
+        → AllRiseInFirst h }
+{}
+
+/// So all is due in every run with falls in which records are kept.
+#[tactic(auto, using(crate::proofs::KeptFirst::kept_due))]
+pub fn runs_with_falls_are_due_where_records_are_kept<C: ConductWithFalls>()
+    ensures { (decl : Declaration) (script : Script) → IsAccepted decl → AsksDeclared decl script
+        → actors decl ≤ most_actors → (h : List Entry) (open_inputs : List Bool)
+        → RunsWithFalls (IsLawfulWithFalls decl) C.fits decl script h open_inputs → Kept h → Due decl h }
 {}
