@@ -1,0 +1,18 @@
+//! Right deeds through falls: laws alone, there is no code here.
+//!
+//! No run of the program has a fall yet; these laws are of histories alone.
+//!
+//! 1. Where records are kept, each rise gives back what its actor's journal holds
+//!    (`rises_give_back_journals_where_records_are_kept`).
+//! 2. There what rises of a transaction is right, if the record that was being
+//!    written is: what had been written shows that its transaction committed
+//!    (`what_was_written_rises_rightly`,
+//!    `what_was_written_rises_rightly_where_records_are_kept`).
+#![tactic(auto)]
+
+mod laws;
+
+pub use laws::{
+    rises_give_back_journals_where_records_are_kept, what_was_written_rises_rightly,
+    what_was_written_rises_rightly_where_records_are_kept,
+};
