@@ -20,7 +20,7 @@ use Rattle.qc_verdicts.specs.Pending.{AreRightButWritten, IsRightButWritten}
 module _ (tx : TxId) where
   -- a record shows how its transaction stands
 
-  abbrev IsShown : Status → Record → Type 0
+  abbrev pub IsShown : Status → Record → Type 0
   IsShown s records.Life = Unit {0}
   IsShown s (records.Prepare prepared) = Unit {0}
   IsShown s (records.Done other clock) = Unit {0}
@@ -115,11 +115,13 @@ module _ (tx : TxId) where
   goes s j (Rises rs) shown (inl same) right = subst (λ (x : List Record). Goes s j (Rises x)) (sym same) (without_pending s j shown)
   goes s j (Rises rs) shown (inr more) right = subst (λ (x : List Record). Goes s j (Rises x)) (sym more) (with_pending s j shown right)
 
-  all_right : (s : Status) (j : Journal) (ds : List Deed) → Every (IsShown s) j.records → AreGivenBack j ds → AreRightButWritten tx s j ds → AreRightFrom tx s ds
-  all_right s j [] shown back right = tt
+  pub all_right : (s : Status) (j : Journal) (ds : List Deed) → Every (IsShown s) j.records → AreGivenBack j ds → AreRightButWritten tx s j ds
+      → AreRightFrom tx s ds × Every (IsShown (fold (status_at tx) s ds)) (fold journal_at j ds).records
+  all_right s j [] shown back right = (tt, shown)
   all_right s j (d ∷ ds) shown back right =
       let one : Goes s j d = goes s j d shown back.0 right.0 in
-      (one.0, all_right (status_at tx s d) (journal_at j d) ds one.1 back.1 right.1)
+      let rest : AreRightFrom tx (status_at tx s d) ds × Every (IsShown (fold (status_at tx) (status_at tx s d) ds)) (fold journal_at (journal_at j d) ds).records = all_right (status_at tx s d) (journal_at j d) ds one.1 back.1 right.1 in
+      ((one.0, rest.0), rest.1)
 
 pub written_right : (tx : TxId) (ds : List Deed) → AreGivenBack no_journal ds → AreRightButWritten tx Unborn no_journal ds → AreRight tx ds
-written_right tx ds back right = all_right tx Unborn no_journal ds tt back right
+written_right tx ds back right = (all_right tx Unborn no_journal ds tt back right).0
