@@ -1,4 +1,5 @@
--- What comes to a client speaks of what is declared: a `do` of an object with a type, an answer of an epoch with a plan.
+-- What comes to a client speaks of what is declared: a `do` of an object with a type, an answer of an epoch with a
+-- plan.
 use Rattle.std.specs.Prelude.{◌≡◌, ℕ, true, List, Option, Some, None, is_some, option_and_then}
 use Rattle.std.specs.List.{AllByRecursion as Every}
 use Rattle.qc_decl.specs.Lookup.{plan_in, table_at}

@@ -1,5 +1,5 @@
--- What a client's deeds follow from, by the rows alone: each reply and each record is that of the running command's row,
--- no input comes where one has a reply, and each request is one that the command asks for.
+-- What a client's deeds follow from, by the rows alone: each reply and each record is that of the running command's
+-- row, no input comes where one has a reply, and each request is one that the command asks for.
 use Rattle.std.specs.Prelude.{◌≡◌, ℕ, true, false, List, [], ◌∷◌}
 use Rattle.qc_decl.specs.declared.declaration.Declaration.{Declaration}
 use Rattle.qc_msg.specs.declared.message.Message.{Message}

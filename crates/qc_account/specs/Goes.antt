@@ -1,5 +1,5 @@
--- A move of a client: all that its turn records, asks and tells is by the rows, it tells just what the running command's
--- row tells, and the tie holds after it.
+-- A move of a client: all that its turn records, asks and tells is by the rows, it tells just what the running
+-- command's row tells, and the tie holds after it.
 use Rattle.std.specs.Prelude.{◌≡◌, ℕ, false, fold}
 use Rattle.qc_client.specs.declared.client.Client.{Client}
 use Rattle.qc_client.specs.Client.{ClientMove}

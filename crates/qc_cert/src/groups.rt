@@ -1,6 +1,7 @@
 //! A list of triples, each once in the group of its two states.
 
-ghost use Rattle.std.specs.Prelude.{◌≡◌, ℕ, ◌*◌, ◌<◌, ◌≤◌, ◌||◌, [], ◌∷◌, All, IfOk, OnOk, false, length, slice_index_or};
+ghost use Rattle.std.specs.Prelude.{◌≡◌, ℕ, ◌*◌, ◌<◌, ◌≤◌, ◌||◌, [], ◌∷◌, All, IfOk, OnOk, false, length};
+ghost use Rattle.std.specs.Prelude.{slice_index_or};
 ghost use Rattle.qc_cert.specs.Faults.{is_covered};
 ghost use Rattle.qc_cert.specs.Firsts.{firsts, marked};
 ghost use Rattle.qc_cert.specs.Groups.{AreStates, any_within, outs_at, parts_within, place_of};

@@ -1,5 +1,5 @@
--- An actor's state: a site's, or a client's, or none while it is down. What it becomes and does for each input and as it
--- rises, and over all its deeds.
+-- An actor's state: a site's, or a client's, or none while it is down. What it becomes and does for each input and as
+-- it rises, and over all its deeds.
 use Rattle.std.specs.Prelude.{ℕ, ◌-◌, ◌<◌, ◌≤◌, if◌then◌else◌, List, fold, length}
 use Rattle.std.specs.List.{AllByRecursion as Every}
 use Rattle.qc_decl.specs.declared.declaration.Declaration.{Declaration}
@@ -82,8 +82,8 @@ actor_sent (Site s) first = Site s
 actor_sent (Client c) first = Client (clients.sent c first)
 actor_sent Down first = Down
 
--- an actor over its deeds. After an input, or a rise, it is what it becomes where the turn's record is written: where it
--- isn't, a fall follows at once, so that nobody sees it
+-- an actor over its deeds. After an input, or a rise, it is what it becomes where the turn's record is written: where
+-- it isn't, a fall follows at once, so that nobody sees it
 
 abbrev pub actor_does : Declaration → ℕ → ActorMove → Deed → ActorMove
 actor_does decl a move (Takes given) = actor_takes decl move.actor given

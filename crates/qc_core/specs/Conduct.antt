@@ -1,5 +1,5 @@
--- Which turn an actor's last input or rise calls for, after its deeds: a site's, or a client's; nobody else takes inputs
--- yet.
+-- Which turn an actor's last input or rise calls for, after its deeds: a site's, or a client's; nobody else takes
+-- inputs yet.
 use Rattle.std.specs.Prelude.{◌≡◌, ℕ, ◌-◌, if◌then◌else◌, List, Option, Some, None}
 use Rattle.qc_decl.specs.declared.declaration.Declaration.{Declaration}
 use Rattle.qc_decl.specs.Actors.{is_site, is_client}

@@ -1,5 +1,5 @@
--- What one actor does through its falls and rises: it takes inputs and posts the turns that they call for, it falls, and
--- it rises and posts its rising turn.
+-- What one actor does through its falls and rises: it takes inputs and posts the turns that they call for, it falls,
+-- and it rises and posts its rising turn.
 use Rattle.std.specs.Prelude.{◌≡◌, ◌≤◌, ℕ, ◌+◌, Bool, true, false, List, [], ◌∷◌, ◌++◌, None, fold, length}
 use Rattle.std.specs.List.{AllByRecursion as Every}
 use Rattle.qc_decl.specs.declared.declaration.Declaration.{Declaration}
@@ -40,10 +40,10 @@ IsByDisk Script = ⊥
 IsByDisk Stop = Unit {0}
 IsByDisk Disk = Unit {0}
 
--- The deeds of an actor through falls and rises, whether it has an open input, and a number above those of its messages.
--- In a turn whose record isn't written it falls (`deeds_as`); by a line of the script only where no input is open. A
--- rise may fail before anything is read: the journal isn't opened, and that is one more fall. Which records a rise gives
--- isn't said here: `Journals` says what disks are trusted with.
+-- The deeds of an actor through falls and rises, whether it has an open input, and a number above those of its
+-- messages. In a turn whose record isn't written it falls (`deeds_as`); by a line of the script only where no input is
+-- open. A rise may fail before anything is read: the journal isn't opened, and that is one more fall. Which records a
+-- rise gives isn't said here: `Journals` says what disks are trusted with.
 pub data Lives (decl : Declaration) (a : ℕ) : List Deed → Bool → ℕ → Type 0 where
   starts : Lives decl a [] false 0
   takes : (ds : List Deed) (given : Given) (n : ℕ)

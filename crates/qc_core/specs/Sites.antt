@@ -66,9 +66,10 @@ stays_up Done = true
 stays_up Failed = false
 stays_up Stopped = false
 
--- The deeds of a site, and whether it is up. While it is up it takes inputs, and posts its turn after each, its messages
--- numbered from any number; where the turn's record isn't written it falls. It falls by a line of the script, too. It rises
--- with whatever records it is given, and posts its rising turn; or its journal isn't opened, which is one more fall.
+-- The deeds of a site, and whether it is up. While it is up it takes inputs, and posts its turn after each, its
+-- messages numbered from any number; where the turn's record isn't written it falls. It falls by a line of the script,
+-- too. It rises with whatever records it is given, and posts its rising turn; or its journal isn't opened, which is one
+-- more fall.
 pub data Serves (decl : Declaration) (site : ℕ) : List Deed → Bool → Type 0 where
   starts : Serves decl site [] true
   serves : (ds : List Deed) (given : Given) (turn : Turn) (first : ℕ)

@@ -1,4 +1,5 @@
--- A history in which nobody rises in another epoch than the first: no record that rises closes an epoch or installs one.
+-- A history in which nobody rises in another epoch than the first: no record that rises closes an epoch or installs
+-- one.
 use Rattle.std.specs.Prelude.{List}
 use Rattle.std.specs.List.{AllByRecursion as Every}
 use Rattle.qc_msg.specs.declared.record.Record.{Record}

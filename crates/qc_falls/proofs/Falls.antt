@@ -7,7 +7,7 @@ use Rattle.qc_outside.specs.declared.disk.ArmKind.{ArmKind}
 use Rattle.qc_outside.specs.declared.disk.ArmKind.TheVariants.{Fail, Stop}
 use Rattle.qc_promise.specs.Spent.{Arm, Spent, Tally, no_tally, tally, tally_with}
 use Rattle.std.specs.List.{AllByRecursion as Every}
-use Rattle.qc_falls.specs.Disks.{arms, arms_other, crashes, fails, rises, rises_with_one, stops, stops_rising, writes}
+use Rattle.qc_falls.specs.Disks.{arms, arms_other, crashes, damaged, fails, rises, rises_with_one, stops, stops_rising, writes}
 
 -- more falls than were counted
 
@@ -46,6 +46,12 @@ early_in_second s = let few : 1 ≤ 0 = s.falls in omega arith
 
 pub early_in_opening : Spent (arms Stop 3 ∷ crashes ∷ stops_rising ∷ []) 0 → ⊥
 early_in_opening s = let few : 1 ≤ 0 = s.falls in omega arith
+
+pub early_after_reading : Spent (arms Stop 6 ∷ crashes ∷ rises_with_one ∷ stops ∷ []) 0 → ⊥
+early_after_reading s = let few : 1 ≤ 0 = s.falls in omega arith
+
+pub early_after_damage : Spent (arms Stop 4 ∷ crashes ∷ damaged ∷ stops_rising ∷ []) 0 → ⊥
+early_after_damage s = let few : 1 ≤ 0 = s.falls in omega arith
 
 -- an arm of the site, with the calls since, and one that waits past its call
 abbrev waiting : ArmKind → ℕ → ℕ → ℕ → Arm
@@ -95,6 +101,9 @@ armed = record { falls = omega arith; in_time = in_time (arms Stop 5 ∷ writes 
 
 pub armed_over_crash : Spent (arms Stop 6 ∷ crashes ∷ rises ∷ writes ∷ stops ∷ []) 0
 armed_over_crash = record { falls = omega arith; in_time = in_time (arms Stop 6 ∷ crashes ∷ rises ∷ writes ∷ stops ∷ []) (tt, ((omega arith, tt), ((omega arith, tt), ((omega arith, tt), ((omega arith, tt), tt))))) }
+
+pub armed_over_reading : Spent (arms Stop 5 ∷ crashes ∷ rises_with_one ∷ stops ∷ []) 0
+armed_over_reading = record { falls = omega arith; in_time = in_time (arms Stop 5 ∷ crashes ∷ rises_with_one ∷ stops ∷ []) (tt, ((omega arith, tt), ((omega arith, tt), ((omega arith, tt), tt)))) }
 
 pub armed_in_opening : Spent (arms Stop 2 ∷ crashes ∷ stops_rising ∷ rises ∷ []) 0
 armed_in_opening = record { falls = omega arith; in_time = in_time (arms Stop 2 ∷ crashes ∷ stops_rising ∷ rises ∷ []) (tt, ((omega arith, tt), ((omega arith, tt), (tt, tt)))) }

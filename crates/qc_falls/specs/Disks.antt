@@ -4,7 +4,7 @@ use Rattle.std.specs.Prelude.{ℕ, [], ◌∷◌, Some, None}
 use Rattle.qc_msg.specs.declared.record.Record.{Record}
 use Rattle.qc_msg.specs.declared.record.Record.TheVariants.{Close}
 use Rattle.qc_msg.specs.declared.step.Fall.TheVariants as causes
-use Rattle.qc_msg.specs.declared.step.Step.TheVariants.{Armed, Fell, Rose, Wrote}
+use Rattle.qc_msg.specs.declared.step.Step.TheVariants.{Armed, Damaged, Fell, Rose, Wrote}
 use Rattle.qc_msg.specs.Steps.{Entry, marked}
 use Rattle.qc_outside.specs.declared.disk.ArmKind.{ArmKind}
 
@@ -41,3 +41,7 @@ rises = marked 0 (Rose [])
 
 abbrev pub rises_with_one : Entry
 rises_with_one = marked 0 (Rose (one ∷ []))
+
+-- its journal can't be read
+abbrev pub damaged : Entry
+damaged = marked 0 (Damaged 0)

@@ -2,12 +2,13 @@
 //! refused, and right ones: the contracts of functions with nothing to do.
 //!
 //! A record takes four calls of the disk; opening a journal takes one, and of an
-//! empty one two. The site writes while it stops or fails, unless it is rising.
+//! empty one maybe two. The site writes while it stops or fails, unless it is
+//! rising.
 
 ghost use Rattle.std.specs.Prelude.{ℕ, [], ◌∷◌};
 ghost use Rattle.qc_outside.specs.declared.disk.ArmKind.TheVariants.{Fail, Stop};
 ghost use Rattle.qc_promise.specs.Spent.{Spent};
-ghost use Rattle.qc_falls.specs.Disks.{arms, arms_other, crashes, fails, rises, rises_with_one, stops};
+ghost use Rattle.qc_falls.specs.Disks.{arms, arms_other, crashes, damaged, fails, rises, rises_with_one, stops};
 ghost use Rattle.qc_falls.specs.Disks.{stops_rising, writes};
 
 /// Where the disk counted no fault, it falls only where a fault of that kind is
@@ -40,6 +41,10 @@ pub fn falls_that_come_early_are_refused()
     ensures second { Spent (arms Stop 9 ∷ writes ∷ stops ∷ []) 0 → ⊥ }
     // It is armed for the third, and stops as its journal is opened.
     ensures opening { Spent (arms Stop 3 ∷ crashes ∷ stops_rising ∷ []) 0 → ⊥ }
+    // It is armed for the sixth, and stops in the record after the opening of a journal with one: five calls at most.
+    ensures reading { Spent (arms Stop 6 ∷ crashes ∷ rises_with_one ∷ stops ∷ []) 0 → ⊥ }
+    // It is armed for the fourth, and stops in the opening after that of a damaged journal: three at most.
+    ensures damage { Spent (arms Stop 4 ∷ crashes ∷ damaged ∷ stops_rising ∷ []) 0 → ⊥ }
 {}
 
 /// However many faults the disk counted, what is armed acts in its call.
@@ -62,6 +67,8 @@ pub fn accounted_falls_are_taken()
     ensures armed { Spent (arms Stop 5 ∷ writes ∷ stops ∷ rises_with_one ∷ writes ∷ []) 0 }
     // The arm outlasts a crash: an opening and a record come before its call.
     ensures crash { Spent (arms Stop 6 ∷ crashes ∷ rises ∷ writes ∷ stops ∷ []) 0 }
+    // So it does after an opening of a journal with a record: in the last call of a record.
+    ensures reading { Spent (arms Stop 5 ∷ crashes ∷ rises_with_one ∷ stops ∷ []) 0 }
     // It stops as its journal is opened.
     ensures opening { Spent (arms Stop 2 ∷ crashes ∷ stops_rising ∷ rises ∷ []) 0 }
     // A later arm takes the place of an earlier one, whose call then passes.

@@ -5,8 +5,8 @@ use Rattle.qc_decl.specs.declared.declaration.Declaration.{Declaration}
 use Rattle.qc_msg.specs.Deeds.{deeds, mail}
 use Rattle.qc_msg.specs.Steps.{Entry}
 
--- the actor's deeds are a life, with an open input after them or none; the numbers of its messages are below one that is
--- at most the number of all messages
+-- the actor's deeds are a life, with an open input after them or none; the numbers of its messages are below one that
+-- is at most the number of all messages
 pub record LivesIn (decl : Declaration) (a : ℕ) (h : List Entry) (is_open : Bool) : Type 0 where
   pub above : ℕ
   pub lives : Lives decl a (deeds a [] h) is_open above

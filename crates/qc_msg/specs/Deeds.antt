@@ -47,8 +47,8 @@ envelopes from n [] = []
 envelopes from n (p ∷ ps) =
     record { number = n; from = from; to = p.to; message = p.message } ∷ envelopes from (n + 1) ps
 
--- what an actor does: it takes an input, a message in full; it writes a record; it sends a message; it tells a reply; it
--- falls, with the record that was being written, if one was; it rises with the records that its journal gave
+-- what an actor does: it takes an input, a message in full; it writes a record; it sends a message; it tells a reply;
+-- it falls, with the record that was being written, if one was; it rises with the records that its journal gave
 pub data Deed : Type 0 where
   Takes : (given : Given) → Deed
   Writes : (written : Record) → Deed

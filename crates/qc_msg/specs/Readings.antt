@@ -1,4 +1,5 @@
--- What deeds and what they hold have to say, each kind read once: a definition that asks for one kind is a line by these.
+-- What deeds and what they hold have to say, each kind read once: a definition that asks for one kind is a line by
+-- these.
 use Rattle.std.specs.Prelude.{ℕ, Bool, true, false, List, Option, Some, None, option_and_then}
 use Rattle.qc_stamp.specs.declared.stamp.TxId.{TxId}
 use Rattle.qc_entry.specs.declared.line.Line.{Line}
@@ -107,7 +108,8 @@ closed_in (answers.Shut clock log prepared) = None
 closed_in answers.Installed = None
 closed_in (answers.Answered verdict) = None
 
--- of a record: a rise, a promise, that a promised transaction committed, a closed and an installed epoch (a commit: Counts)
+-- of a record: a rise, a promise, that a promised transaction committed, a closed and an installed epoch (a commit:
+-- Counts)
 
 abbrev pub is_life : Record → Bool
 is_life journals.Life = true

@@ -51,8 +51,8 @@ abbrev pub posted : ℕ → Turn → List Step
 posted n turn = wrote turn.write ++ (sents n turn.sends ++ told turn.told)
 
 -- the steps of a post, by what became of the turn's record. Where the disk fails the actor says that the record isn't
--- written, and falls; where it stops, nothing is sent any more. The record that wasn't written may be there when the actor
--- rises: it is pending
+-- written, and falls; where it stops, nothing is sent any more. The record that wasn't written may be there when the
+-- actor rises: it is pending
 
 abbrev pub fell : Fall → Option Record → List Step
 fell cause pending = Fell cause pending ∷ []

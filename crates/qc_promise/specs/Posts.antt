@@ -75,7 +75,8 @@ quiet_turn = record { write = None; sends = []; failed_sends = [] }
 abbrev pub sending : List Posting → TurnDue
 sending sends = record { write = None; sends = sends; failed_sends = [] }
 
--- its post: the record before all that is sent; where it failed or stopped, the fall last. Only a turn with a record falls
+-- its post: the record before all that is sent; where it failed or stopped, the fall last. Only a turn with a record
+-- falls
 
 abbrev pub ends_with : TurnDue → Record → Option Fall → List Act
 ends_with t written None = Wrote written ∷ map Sent t.sends

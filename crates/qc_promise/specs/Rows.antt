@@ -102,8 +102,8 @@ abbrev pub is_declared_for : Declaration → Option Current → Command → Bool
 is_declared_for decl None command = true
 is_declared_for decl (Some t) command = is_declared_within decl t command
 
--- the reply that is due to a command: that of its row, where what it speaks of is declared; of one that is down, that it
--- is down
+-- the reply that is due to a command: that of its row, where what it speaks of is declared; of one that is down, that
+-- it is down
 abbrev pub reply_to : Declaration → Account → Bool → Command → Option Reply
 reply_to decl d unwritten command =
     if d.up

@@ -126,7 +126,7 @@ no_sight = record { begun = None; waiting = []; shown = []; committed = []; seen
 abbrev pub seen_in : List Deed → TxId → List TxId
 seen_in ds tx = (fold (sight tx) no_sight ds).seen
 
--- the transactions that a transaction's client had seen: before it began, by counted grants of its life and by replies in
--- any life, and by counted grants until it ended
+-- the transactions that a transaction's client had seen: before it began, by counted grants of its life and by replies
+-- in any life, and by counted grants until it ended
 abbrev pub seen : Declaration → List Entry → TxId → List TxId
 seen decl h tx = seen_in (deeds (client_actor decl tx.client) [] h) tx

@@ -1,5 +1,5 @@
--- A site's clock: the greatest of the lines and Decisions that it took in its present life, whatever became of them, and
--- of what stood in the records that it rose with (Lamport 1978).
+-- A site's clock: the greatest of the lines and Decisions that it took in its present life, whatever became of them,
+-- and of what stood in the records that it rose with (Lamport 1978).
 use Rattle.std.specs.Prelude.{ℕ, max, List, [], ◌∷◌, ◌++◌, fold, map}
 use Rattle.std.specs.List.{flat_map}
 use Rattle.std.specs.Option.{option_map_or}

@@ -1,7 +1,7 @@
--- What a site is to write and to send for what it takes, and as it rises, by what its own steps show: the first row that
--- applies.
+-- What a site is to write and to send for what it takes, and as it rises, by what its own steps show: the first row
+-- that applies.
 use Rattle.std.specs.Prelude.{ℕ, ◌==◌, ◌&&◌, nat_lt, nat_le, Bool, true, false, not, if◌then◌else◌, is_some}
-use Rattle.std.specs.Prelude.{List, [], ◌∷◌, ◌++◌, map, fold, Option, Some, None, option_map}
+use Rattle.std.specs.Prelude.{List, [], ◌∷◌, ◌++◌, map, take, fold, Option, Some, None, option_map}
 use Rattle.std.specs.Option.{option_map_or, option_or}
 use Rattle.qc_list.specs.Order.{inserted}
 use Rattle.qc_stamp.specs.declared.stamp.TxId.{TxId}
@@ -163,7 +163,9 @@ request_turn decl ds e q =
 
 abbrev pub done_turn : List Deed → TxId → Outcome → TurnDue
 done_turn ds tx (Committed stamp) =
-    if is_promised ds tx then record { write = Some (records.Done tx stamp.clock); sends = []; failed_sends = [] } else quiet_turn
+    if is_promised ds tx
+    then record { write = Some (records.Done tx stamp.clock); sends = []; failed_sends = [] }
+    else quiet_turn
 done_turn ds tx Aborted = quiet_turn
 done_turn ds tx Active = quiet_turn
 
@@ -175,7 +177,8 @@ heard_turn decl ds e =
 abbrev pub turn_due : Declaration → List Deed → Given → TurnDue
 turn_due decl ds given = option_map_or (heard_turn decl ds) (heard_in given) quiet_turn
 
--- that of a rise: it writes so, and then asks the clients of the transactions that it has promised, in their order
+-- that of a rise: it writes so, and then asks the clients of the transactions that it has promised, in their order, of
+-- no more than the first 65,536
 
 abbrev pub in_order : List TxId → List TxId
 in_order txs = fold (inserted tx_cmp) [] txs
@@ -184,7 +187,7 @@ abbrev pub rising_turn : Declaration → List Deed → TurnDue
 rising_turn decl ds =
     record {
       write = Some records.Life;
-      sends = map (inquiry decl) (in_order (map (λ (p : Prepared). p.tx) (prepared_shown ds)));
+      sends = map (inquiry decl) (take 65536 (in_order (map (λ (p : Prepared). p.tx) (prepared_shown ds))));
       failed_sends = [];
     }
 

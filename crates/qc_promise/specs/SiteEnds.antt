@@ -26,8 +26,8 @@ is_final Active = false
 abbrev pub is_ended : TxId → List Deed → Bool
 is_ended tx ds = list_any (is_decision is_final tx) ds
 
--- a promise of a transaction is over as a Decision Aborted on it is taken, as its Done is written, as another promise of
--- it takes its place, and as an epoch is installed
+-- a promise of a transaction is over as a Decision Aborted on it is taken, as its Done is written, as another promise
+-- of it takes its place, and as an epoch is installed
 
 abbrev pub is_aborted : Outcome → Bool
 is_aborted (Committed stamp) = false

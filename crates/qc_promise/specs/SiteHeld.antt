@@ -1,5 +1,5 @@
--- What unfinished transactions hold at a site: what stood in the promises that it rose with, and what stands in a request
--- that was granted in its present life, where no Decision ended the transaction since (Herlihy 1986).
+-- What unfinished transactions hold at a site: what stood in the promises that it rose with, and what stands in a
+-- request that was granted in its present life, where no Decision ended the transaction since (Herlihy 1986).
 use Rattle.std.specs.Prelude.{ℕ, ◌==◌, ◌&&◌, not, Bool, false, cond, List, [], ◌∷◌, ◌++◌, filter, fold, is_some}
 use Rattle.std.specs.List.{list_any}
 use Rattle.std.specs.Option.{option_map_or}
@@ -22,7 +22,8 @@ use Rattle.qc_promise.specs.SitePromises.{promises_of}
 -- a Read or an Append is granted where what is posted next answers its number by Granted
 
 abbrev pub grants : ℕ → Message → Bool
-grants number m = option_map_or (λ (a : Answered). (a.to == number) && is_some (granted_in a.answer)) (answer_in m) false
+grants number m =
+    option_map_or (λ (a : Answered). (a.to == number) && is_some (granted_in a.answer)) (answer_in m) false
 
 abbrev pub is_granted : ℕ → List Deed → Bool
 is_granted number after = list_any (λ (p : Posting). grants number p.message) (sent_next after)
@@ -47,8 +48,8 @@ abbrev pub standing : List Deed → List Grant
 standing [] = []
 standing (d ∷ ds) = option_map_or (standing_by ds) (got_in d) [] ++ standing ds
 
--- a Read's transaction holds its lock, an Append's its own lines, in place of those of it with their numbers; a promised
--- one all that its promise names
+-- a Read's transaction holds its lock, an Append's its own lines, in place of those of it with their numbers; a
+-- promised one all that its promise names
 
 abbrev pub holding : List Held → TxId → Want → List Held
 holding held tx (Read object inv) = with_held held tx (record { object = object; inv = inv } ∷ []) []

@@ -1,5 +1,5 @@
--- What a site has promised to keep: each Prepare that it wrote and that isn't over (presumed abort). It rises with those
--- that stand in its records, one that a Decision Aborted had ended too: nothing was written then.
+-- What a site has promised to keep: each Prepare that it wrote and that isn't over (presumed abort). It rises with
+-- those that stand in its records, one that a Decision Aborted had ended too: nothing was written then.
 use Rattle.std.specs.Prelude.{cond, Bool, List, [], ◌∷◌, ◌++◌, is_some, Option, option_and_then}
 use Rattle.std.specs.List.{find, list_any}
 use Rattle.std.specs.Option.{option_map_or}

@@ -75,8 +75,8 @@ status_told tx s (replies.InDoubt holder site) = s
 status_told tx s replies.Fault = s
 status_told tx s (replies.Moved closed installed) = s
 
--- a fall decides nothing, since a record may be pending; the rise does: it committed where the records have it, and else
--- it is given up
+-- a fall decides nothing, since a record may be pending; the rise does: it committed where the records have it, and
+-- else it is given up
 abbrev pub status_risen : TxId → Status → List Record → Status
 status_risen tx s kept = fold (status_written tx) (given_up s) kept
 

@@ -1,5 +1,5 @@
--- By turns: an actor takes an input, or rises, and posts for it, its record first; while it is down it is called and tells
--- that it is down. What one place of this order leads to, deed by deed.
+-- By turns: an actor takes an input, or rises, and posts for it, its record first; while it is down it is called and
+-- tells that it is down. What one place of this order leads to, deed by deed.
 use Rattle.std.specs.Prelude.{◌≡◌, ◌&&◌, Bool, true, false, List, fold, cond}
 use Rattle.std.specs.Prelude.{Option, Some, None, is_some, option_and_then}
 use Rattle.qc_msg.specs.declared.record.Record.{Record}
@@ -116,9 +116,9 @@ tells_at Failing saying = None
 tells_at Fallen saying = None
 tells_at Called saying = told_down saying
 
--- a fall by a line of the script has no record pending, and one that is down doesn't fall so; a disk falls as it writes:
--- a site's once it sent what it sends then, and nothing where the disk stopped; another's once it told so; and with
--- nothing pending where the journal of one that is down isn't opened
+-- a fall by a line of the script has no record pending, and one that is down doesn't fall so; a disk falls as it
+-- writes: a site's once it sent what it sends then, and nothing where the disk stopped; another's once it told so; and
+-- with nothing pending where the journal of one that is down isn't opened
 
 abbrev pub crashes_at : Place → Option Record → Option Place
 crashes_at place (Some written) = None

@@ -1,7 +1,8 @@
 //! Laws of the sites and clients that rise, each the contract of a function with
 //! nothing to do. They hold for any records.
 
-ghost use Rattle.std.specs.Prelude.{◌≡◌, ◌≤◌, ◌<◌, ◌⊎◌, ◌↔◌, ◌+◌, ◌^◌, ℕ, max, true, false, List, [], ◌∷◌, ◌++◌, Some, None};
+ghost use Rattle.std.specs.Prelude.{◌≡◌, ◌≤◌, ◌<◌, ◌⊎◌, ◌↔◌, ◌+◌, ◌^◌, ℕ, max, true, false, List, [], ◌∷◌, ◌++◌};
+ghost use Rattle.std.specs.Prelude.{Some, None};
 ghost use Rattle.std.specs.Prelude.{count_by};
 ghost use Rattle.qc_client.specs.Client.{new_client, outcome_of};
 ghost use Rattle.qc_client.specs.Fits.{ClientFits};
@@ -82,7 +83,8 @@ pub fn last_prepares_are_promises()
     ensures done { (number : ℕ) (rs : List Record) (tx : TxId) (clock : ℕ)
         → prepared_of (site_of number (rs ++ Done tx clock ∷ [])).prepared tx ≡ None }
     ensures beside_prepared { (number : ℕ) (rs : List Record) (p : Prepared) (tx : TxId) → same_tx p.tx tx ≡ false
-        → prepared_of (site_of number (rs ++ Prepare p ∷ [])).prepared tx ≡ prepared_of (site_of number rs).prepared tx }
+        → prepared_of (site_of number (rs ++ Prepare p ∷ [])).prepared tx
+        ≡ prepared_of (site_of number rs).prepared tx }
     ensures beside_done { (number : ℕ) (rs : List Record) (tx other : TxId) (clock : ℕ) → same_tx tx other ≡ false
         → prepared_of (site_of number (rs ++ Done tx clock ∷ [])).prepared other
         ≡ prepared_of (site_of number rs).prepared other }

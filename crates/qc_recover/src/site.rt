@@ -94,15 +94,23 @@ fn held_by(alloc: Global, promises: &Promises) -> Result<Locks, OutOfMemory>
     Ok(held)
 }
 
+/// At most so many questions go out at a rise.
+const MOST_INQUIRIES: u32 = 65_536;
+
 /// The questions to the clients of the promised transactions, in the order of
-/// these.
+/// these, and of the first so many alone.
 fn inquiries(alloc: Global, decl: &Declaration, promises: &Promises) -> Result<Sends, OutOfMemory>
     requires sites { decl.now.sites ≤ most_sites }
     requires clients { AllByRecursion (λ (p : Prepared). p.tx.client < most_clients) promises.now }
     ensures { IfOk result (λ sends. sends ≡ inquiries decl.now promises.now) }
 {
     let mut sends = List::new(alloc);
+    let mut left = MOST_INQUIRIES;
     'transactions: for tx in promises.transactions() {
+        if left == 0 {
+            break;
+        }
+        left -= 1;
         sends.push(Posting {
             to: decl.client_actor(tx.client),
             message: Message::Inquiry { tx: *tx },

@@ -49,7 +49,8 @@ fn with_step(
     keys: BTreeSet<CommitKey>,
     step: &Step,
 ) -> Result<BTreeSet<CommitKey>, OutOfMemory>
-    ensures { IfOk result (λ k. map commit_of k.keys ≡ fold with_commit (map commit_of keys.keys) (commits_in step.now)) }
+    ensures { IfOk result (λ k. map commit_of k.keys
+        ≡ fold with_commit (map commit_of keys.keys) (commits_in step.now)) }
 {
     match step {
         Step::Wrote(record) => with_record(alloc, keys, record),

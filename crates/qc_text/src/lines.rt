@@ -3,7 +3,8 @@
 ghost use Rattle.std.specs.Prelude.{◌≡◌, [], List, OnOk, IfOk, MatchOption, map};
 ghost use Rattle.qc_entry.specs.Log.{union};
 ghost use Rattle.qc_msg.specs.declared.record.Record.{Record as Written};
-ghost use Rattle.qc_promise.specs.SiteLogs.{done_lines, joining, lines_done, lines_of, recorded_from, view_by, with_given, with_written};
+ghost use Rattle.qc_promise.specs.SiteLogs.{done_lines, joining, lines_done, lines_of, recorded_from, view_by};
+ghost use Rattle.qc_promise.specs.SiteLogs.{with_given, with_written};
 ghost use Rattle.qc_text.specs.Deeds.{deed_of, envelope_in};
 ghost use Rattle.qc_text.specs.Lifetimes.{log_in, present};
 ghost use Rattle.qc_text.specs.Prepares.{AreLast};

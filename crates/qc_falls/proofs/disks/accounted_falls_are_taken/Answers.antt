@@ -1,4 +1,4 @@
-use Rattle.qc_falls.proofs.Falls.{another_waits, armed, armed_anew, armed_for_both, armed_in_opening, armed_over_crash, counted}
+use Rattle.qc_falls.proofs.Falls.{another_waits, armed, armed_anew, armed_for_both, armed_in_opening, armed_over_crash, armed_over_reading, counted}
 use Rattle.qc_falls.proofs.disks.accounted_falls_are_taken.Goals as goal
 
 pub returns-clause-armed : goal.returns-clause-armed
@@ -6,6 +6,9 @@ returns-clause-armed c = armed
 
 pub returns-clause-crash : goal.returns-clause-crash
 returns-clause-crash c = armed_over_crash
+
+pub returns-clause-reading : goal.returns-clause-reading
+returns-clause-reading c = armed_over_reading
 
 pub returns-clause-opening : goal.returns-clause-opening
 returns-clause-opening c = armed_in_opening

@@ -1,4 +1,4 @@
-use Rattle.qc_falls.proofs.Falls.{early_in_opening, early_in_record, early_in_second}
+use Rattle.qc_falls.proofs.Falls.{early_after_damage, early_after_reading, early_in_opening, early_in_record, early_in_second}
 use Rattle.qc_falls.proofs.disks.falls_that_come_early_are_refused.Goals as goal
 
 pub returns-clause-in_record : goal.returns-clause-in_record
@@ -9,3 +9,9 @@ returns-clause-second c = early_in_second
 
 pub returns-clause-opening : goal.returns-clause-opening
 returns-clause-opening c = early_in_opening
+
+pub returns-clause-reading : goal.returns-clause-reading
+returns-clause-reading c = early_after_reading
+
+pub returns-clause-damage : goal.returns-clause-damage
+returns-clause-damage c = early_after_damage
