@@ -14,7 +14,7 @@ use Rattle.qc_msg.specs.declared.turn.Turn.{Turn}
 use Rattle.qc_msg.specs.Deeds.{Deed, Takes, Rises}
 use Rattle.qc_msg.specs.Steps.{sends_as}
 use Rattle.qc_recover.specs.Clients.{client_rises}
-use Rattle.qc_recover.specs.Sites.{in_order, inquiries, inquiry, kept_by, rising, site_rises}
+use Rattle.qc_recover.specs.Sites.{in_order, inquiries, inquiry, kept_by, most_inquiries, rising, site_rises}
 use Rattle.qc_stamp.specs.declared.stamp.TxId.{TxId}
 use Rattle.qc_entry.specs.declared.record.Prepared.{Prepared}
 use Rattle.qc_core.specs.declared.actor.Actor.{Actor}
@@ -67,7 +67,8 @@ rises_answer : (decl : Declaration) (a : ℕ) (rs : List Record) → Answering N
 rises_answer decl a rs = by (is_site decl a)
   where
     by : (x : Bool) → Answering NoAnswer (cond x (by_site (site_rises decl a rs)) (by_client (client_rises (a - decl.sites) rs))).turn
-    by true = record { sends = inquiries_ask decl (in_order (map (λ (p : Prepared). p.tx) (kept_by rs).promises)); failed_sends = tt }
+    by true =
+        record { sends = inquiries_ask decl (take most_inquiries (in_order (map (λ (p : Prepared). p.tx) (kept_by rs).promises))); failed_sends = tt }
     by false = record { sends = tt; failed_sends = tt }
 
 pub answers_rising : (decl : Declaration) (a : ℕ) (before : List Deed) (rs : List Record) (turn : Turn) → IsLawfulWithFalls decl a (before ++ Rises rs ∷ []) turn → Every NoAnswer (sends_as turn.append turn)

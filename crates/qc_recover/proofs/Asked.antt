@@ -1,5 +1,5 @@
 -- The promised transactions in their order.
-use Rattle.std.proofs.Common.{◌≡◌, ◌⊎◌, ◌↔◌, inl, inr, Bool, true, false, cond, Some, List, [], ◌∷◌, fold, map, refl, sym, ◌∙◌, ap, subst}
+use Rattle.std.proofs.Common.{◌≡◌, ◌⊎◌, ◌↔◌, ◌-◌, ℕ, inl, inr, Bool, true, false, cond, Some, List, [], ◌∷◌, ◌++◌, fold, map, take, refl, sym, ◌∙◌, ap, subst, arith, append_assoc, zero, suc}
 use Rattle.std.specs.List.{AllByRecursion as Every}
 use Rattle.std.specs.List.Sorted.{IsStrictlySortedBy}
 use Rattle.std.specs.Ordering.{eq_by_cmp, is_eq}
@@ -13,6 +13,7 @@ use Rattle.qc_list.specs.Order.{Ascends, IsBelowAll, inserted}
 use Rattle.qc_list.proofs.Members.{every-from_In}
 use Rattle.qc_list.proofs.Order.{ascends-inserted}
 use Rattle.qc_lock.proofs.Numbers.{tx_same}
+use Rattle.qc_msg.specs.declared.turn.Posting.{Posting}
 use Rattle.qc_site.specs.Promise.{is_prepared, prepared_of}
 use Rattle.qc_stamp.specs.declared.stamp.TxId.{TxId}
 use Rattle.qc_stamp.specs.Order.{same_tx, tx_cmp}
@@ -129,3 +130,12 @@ pub each_key : (P : TxId → Type 0) (keys : List TxId) (ps : List Prepared)
     → Every (λ (p : Prepared). P p.tx) ps → Every P keys
 each_key P keys ps just every =
     every-from_In P keys (λ tx member. of_promise P ps tx every (prepared_In ps tx (sym (just tx) ∙ In_member keys tx member)))
+
+-- one more is asked, of as many as may still be
+pub asked_more : (q : TxId → Posting) (sends : List Posting) (left : ℕ) (tx : TxId) (rest txs : List TxId)
+    → (left ≡ 0 → ⊥) → txs ≡ tx ∷ rest
+    → (sends ++ q tx ∷ []) ++ map q (take (left - 1) rest) ≡ sends ++ map q (take left txs)
+asked_more q sends zero tx rest txs some are = absurd (some refl)
+asked_more q sends (suc n) tx rest txs some are =
+    let less : suc n - 1 ≡ n = omega arith in
+    rw (less, are) (append_assoc sends (q tx ∷ []) (map q (take n rest)))
