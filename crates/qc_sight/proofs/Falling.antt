@@ -1,6 +1,6 @@
 -- A client falls, is told Down, and rises with the records that its journal gives back: it stands in what it has seen as
 -- before, with nothing shown.
-use Rattle.std.proofs.Common.{◌≡◌, ◌≤◌, ◌⊎◌, ℕ, ◌+◌, max, Bool, true, false, cond, List, [], ◌∷◌, ◌++◌, inl, inr, fold, Option, Some, None, option_to_list, refl, sym, ap, ◌∙◌, subst, arith}
+use Rattle.std.proofs.Common.{◌≡◌, ◌≤◌, ◌⊎◌, ℕ, ◌+◌, max, Bool, true, false, List, [], ◌∷◌, ◌++◌, inl, inr, fold, Option, Some, None, option_to_list, refl, sym, ap, ◌∙◌, subst, arith}
 use Rattle.std.specs.Option.{option_map_or}
 use Rattle.std.proofs.lemmas.List.Sums.{fold-append}
 use Rattle.qc_stamp.specs.declared.stamp.TxId.{TxId}
@@ -17,7 +17,7 @@ use Rattle.qc_msg.specs.declared.step.Fall.{Fall}
 use Rattle.qc_msg.specs.declared.step.Given.TheVariants as given
 use Rattle.qc_msg.specs.Counts.{commit_of}
 use Rattle.qc_msg.specs.Deeds.{Falls, Rises, Takes, Tells, Writes}
-use Rattle.qc_promise.specs.Account.{Account, account_with, clock_with, life_with}
+use Rattle.qc_promise.specs.Account.{Account, clock_with, life_with}
 use Rattle.qc_promise.specs.Accounting.{account_at, account_fallen}
 use Rattle.qc_promise.specs.Deals.{is_begun}
 use Rattle.qc_promise.specs.Kept.{IsGivenBack, Journal}

@@ -1,12 +1,13 @@
 -- Over all of a client's deeds, through its falls and rises, it stands so in what it has seen.
-use Rattle.std.proofs.Common.{◌≡◌, ℕ, ◌-◌, Bool, true, false, List, [], ◌∷◌, ◌++◌, fold, refl, sym, ◌∙◌, subst}
+use Rattle.std.proofs.Common.{◌≡◌, ℕ, Bool, true, false, List, [], ◌∷◌, ◌++◌, inl, inr, refl, sym, ap, ◌∙◌, subst}
 use Rattle.std.specs.List.{AllByRecursion as Every}
+use Rattle.std.proofs.lemmas.List.Sums.{fold-append}
 use Rattle.qc_stamp.specs.declared.stamp.TxId.{TxId}
 use Rattle.qc_list.specs.Members.{In}
 use Rattle.qc_list.proofs.Members.{In-second}
 use Rattle.qc_core.specs.Acts.{MayTake}
 use Rattle.qc_core.specs.Conduct.{IsLawfulWithFalls}
-use Rattle.qc_core.specs.Journals.{journal_after}
+use Rattle.qc_core.specs.Journals.{journal_after, journal_at}
 use Rattle.qc_core.specs.Lives.{Lives, MayReach, is_up}
 use Rattle.qc_core.specs.Lives as lives
 use Rattle.qc_decl.specs.declared.declaration.Declaration.{Declaration}
@@ -17,16 +18,14 @@ use Rattle.qc_msg.specs.declared.record.Record.TheVariants as records
 use Rattle.qc_msg.specs.declared.step.Given.{Given}
 use Rattle.qc_msg.specs.declared.turn.Turn.{Turn}
 use Rattle.qc_msg.specs.Begun.{first_epoch}
-use Rattle.qc_msg.specs.Deeds.{Deed, Falls, Rises, Takes, Writes, deeds_as}
-use Rattle.qc_promise.specs.Account.{new_account}
-use Rattle.qc_promise.specs.Kept.{IsGivenBack, no_journal}
-use Rattle.qc_promise.specs.Seen.{no_sight, sight}
+use Rattle.qc_msg.specs.Deeds.{Deed, Rises, Takes, Writes, deeds_as}
+use Rattle.qc_promise.specs.Kept.{Journal, no_journal}
 use Rattle.qc_account.specs.Declares.{IsDeclaredDeed, IsPlanned}
 use Rattle.qc_account.proofs.Lifelong.{client_lives}
 use Rattle.qc_account.proofs.Standing.{IsAtRest, Stands as StandsThere}
 use Rattle.qc_sight.proofs.Founding.{IsFounded, first_founded}
-use Rattle.qc_sight.proofs.Making.{back_second, made_at}
-use Rattle.qc_sight.proofs.Standing.{Stands, up_not}
+use Rattle.qc_sight.proofs.Making.{back_second}
+use Rattle.qc_sight.proofs.Standing.{up_not}
 use Rattle.qc_sight.proofs.Turning.{AtRest, StandsAt, after, called, fallen, rose, taken, told_so, turned}
 
 first_all : (P : Deed → Type 0) (xs ys : List Deed) → Every P (xs ++ ys) → Every P xs

@@ -1,5 +1,5 @@
 -- In every run with falls whose records are kept each record comes after all that its client had seen.
-use Rattle.std.proofs.Common.{◌≡◌, ◌≤◌, ◌<◌, ℕ, ◌+◌, ◌-◌, ◌&&◌, nat_le, nat_lt, Bool, true, false, List, [], length, Some, slice_get, inl, refl, sym, ap, ◌∙◌, subst, arith}
+use Rattle.std.proofs.Common.{◌≡◌, ◌≤◌, ◌<◌, ℕ, ◌-◌, ◌&&◌, nat_le, nat_lt, Bool, true, false, List, [], length, Some, slice_get, inl, refl, sym, ap, ◌∙◌, subst, arith}
 use Rattle.std.proofs.lemmas.Bool.{leb-true, ltb-true}
 use Rattle.qc_stamp.specs.declared.stamp.Stamp.{Stamp}
 use Rattle.qc_stamp.specs.declared.stamp.TxId.{TxId}
@@ -109,7 +109,7 @@ module _ (fits : ℕ → List Record → Type 0) (decl : Declaration) (script : 
   line_up : (a : ℕ) (e : Envelope) → In (Takes (given.Got e)) (deeds a [] h) → (to life clock : ℕ) (log : List Line) → e.message ≡ Answer to (Granted life clock log) → (l : Line) → In l log → IsUpTo (committed decl h) l.tx clock
   line_up a e among to life clock log is l in_log =
       let k : IsLogged decl (records decl h) l =
-          reached.message_lines fits decl script h open_inputs accepted sound run kept (records decl h) stand e l (took_sent a [] h e among) (subst (λ (m : Message). In l (lines_in m)) (sym is) in_log) in
+      reached.message_lines fits decl script h open_inputs accepted sound run kept (records decl h) stand e l (took_sent a [] h e among) (subst (λ (m : Message). In l (lines_in m)) (sym is) in_log) in
       let low : l.stamp.clock ≤ clock = lines_passed decl accepted net.net net.reached e (in_net a e among) to life clock log is l in_log in
       let same : l.stamp.clock ≡ k.commit.stamp.clock = ap (λ (s : Stamp). s.clock) k.stamped in
       record { commit = k.commit; listed = listed k.commit k.listed; named = sym k.named; low = omega arith }
@@ -120,7 +120,7 @@ module _ (fits : ℕ → List Record → Type 0) (decl : Declaration) (script : 
       let r : Refines decl net.net = refines decl accepted net.net net.reached in
       let g : IsGrantTo decl (state r.acts) net.net.mail e.from to life clock log = granted decl net.net r e (in_net a e among) to life clock log is in
       let there : slice_get net.net.mail to ≡ Some (record { number = to; from = a; to = site; message = Request tx epoch at want }) =
-          r.agrees.numbered (record { number = to; from = a; to = site; message = Request tx epoch at want }) (subst (In (record { number = to; from = a; to = site; message = Request tx epoch at want })) (sym net.mail_is) (sent_mailed a [] h to site (Request tx epoch at want) sent)) in
+      r.agrees.numbered (record { number = to; from = a; to = site; message = Request tx epoch at want }) (subst (In (record { number = to; from = a; to = site; message = Request tx epoch at want })) (sym net.mail_is) (sent_mailed a [] h to site (Request tx epoch at want) sent)) in
       let both : Some g.request.0 ≡ Some (record { number = to; from = a; to = site; message = Request tx epoch at want }) = sym g.request.1 ∙ there in
       let message : Request g.tx g.epoch g.named g.want ≡ Request tx epoch at want = sym g.request.3 ∙ (let same : g.request.0.message ≡ Request tx epoch at want = cc in same) in
       let wants : g.want ≡ want = cc in

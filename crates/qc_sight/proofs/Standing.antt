@@ -1,6 +1,6 @@
 -- How a client stands in what it has seen, through its falls and rises: its sight agrees with the account of its deeds,
 -- and with what its journal has.
-use Rattle.std.proofs.Common.{◌≡◌, ℕ, Bool, true, false, cond, List, [], ◌∷◌, ◌++◌, inl, inr, fold, Option, Some, None, refl, sym, ap, ◌∙◌, subst}
+use Rattle.std.proofs.Common.{◌≡◌, ℕ, Bool, true, false, cond, List, [], ◌∷◌, ◌++◌, fold, Some, None, refl, sym, ap, ◌∙◌, subst}
 use Rattle.std.proofs.lemmas.List.Sums.{fold-append}
 use Rattle.qc_stamp.specs.Lives.{first_life}
 use Rattle.qc_stamp.specs.declared.stamp.TxId.{TxId}
@@ -14,8 +14,8 @@ use Rattle.qc_msg.specs.declared.record.Record.TheVariants as records
 use Rattle.qc_msg.specs.declared.step.Given.{Given}
 use Rattle.qc_msg.specs.declared.step.Given.TheVariants as given
 use Rattle.qc_msg.specs.Deeds.{Deed, Rises}
-use Rattle.qc_promise.specs.Account.{Account, account_with, life_with, new_account}
-use Rattle.qc_promise.specs.Accounting.{account_at, account_of, account_sent, account_taken, counted}
+use Rattle.qc_promise.specs.Account.{Account, life_with, new_account}
+use Rattle.qc_promise.specs.Accounting.{account_at, account_of, account_sent, account_taken}
 use Rattle.qc_promise.specs.Asked.{is_asked_for}
 use Rattle.qc_promise.specs.Deals.{is_begun}
 use Rattle.qc_promise.specs.Kept.{Journal}

@@ -1,5 +1,5 @@
 -- What each event of a client leaves: an input with its turn, a fall, a rise. It stands in what it has seen as before.
-use Rattle.std.proofs.Common.{◌≡◌, ℕ, ◌-◌, Bool, true, false, cond, List, [], ◌∷◌, ◌++◌, inl, inr, fold, Option, Some, None, refl, sym, ap, ◌∙◌, subst, append_assoc}
+use Rattle.std.proofs.Common.{◌≡◌, ℕ, ◌-◌, Bool, true, false, cond, List, [], ◌∷◌, ◌++◌, inl, inr, fold, Option, Some, None, sym, ap, ◌∙◌, subst, append_assoc}
 use Rattle.std.specs.Prelude.{is_some}
 use Rattle.std.proofs.lemmas.List.Sums.{fold-append}
 use Rattle.qc_stamp.specs.declared.stamp.TxId.{TxId}
@@ -7,7 +7,7 @@ use Rattle.qc_list.specs.Members.{In}
 use Rattle.qc_core.specs.declared.actor.Actor.{Actor}
 use Rattle.qc_core.specs.Actors.{ActorMove, actor_after, actor_takes, by_client, by_site}
 use Rattle.qc_core.specs.Acts.{MayTake}
-use Rattle.qc_core.specs.Conduct.{IsLawfulWithFalls, with_record}
+use Rattle.qc_core.specs.Conduct.{IsLawfulWithFalls}
 use Rattle.qc_core.specs.Journals.{journal_after, journal_at}
 use Rattle.qc_core.specs.Lives.{MayReach, is_up}
 use Rattle.qc_core.proofs.Steady.{turn_steady}
@@ -67,7 +67,7 @@ module _ (decl : Declaration) (a : ℕ) (client : is_client decl a ≡ true) (co
     pub is : is_up ds ≡ up
     pub stands : StandsAt up ds
 
-  after : (up : Bool) (ds more : List Deed) → AfterAt up ds more → StandsAt up (ds ++ more)
+  pub after : (up : Bool) (ds more : List Deed) → AfterAt up ds more → StandsAt up (ds ++ more)
   after up ds more w =
       subst (λ (d : Account). Stands decl commits tx (a - decl.sites) up d (fold (sight tx) no_sight (ds ++ more)) (fold made_at [] (ds ++ more)) (journal_after (ds ++ more))) (sym (fold-append (account_at decl) (new_account (a - decl.sites)) ds more))
       (subst (λ (s : Sight). Stands decl commits tx (a - decl.sites) up (fold (account_at decl) (account_is decl a ds) more) s (fold made_at [] (ds ++ more)) (journal_after (ds ++ more))) (sym (fold-append (sight tx) no_sight ds more))
@@ -89,7 +89,7 @@ module _ (decl : Declaration) (a : ℕ) (client : is_client decl a ≡ true) (co
     abbrev move : ClientMove
     move = client_takes decl t.state g
 
-    taken : Stands decl commits tx (a - decl.sites) true account seen (fold made_at [] ds) (journal_after ds)
+    pub taken : Stands decl commits tx (a - decl.sites) true account seen (fold made_at [] ds) (journal_after ds)
     taken = record {
       sees = taking.take decl (a - decl.sites) commits tx ds t.state (fold (sight tx) no_sight ds) (fold made_at [] ds) done t.ties w.sees g (free_for decl (a - decl.sites) ds g may) f;
       keeps = taken_keeps decl tx (a - decl.sites) (account_is decl a ds) (fold (sight tx) no_sight ds) (fold made_at [] ds) (journal_after ds) w.keeps g (account_more decl (a - decl.sites) (account_is decl a ds) w.keeps.account (Takes g));

@@ -1,6 +1,6 @@
 -- Histories with falls whose records don't follow what their clients had seen, and such as do: a client falls and rises
 -- with its records, and a transaction of its second life commits at a clock.
-use Rattle.std.specs.Prelude.{ℕ, List, [], ◌∷◌, Option, Some, None}
+use Rattle.std.specs.Prelude.{ℕ, List, [], ◌∷◌, Some, None}
 use Rattle.qc_msg.specs.declared.message.Message.TheVariants.{Request}
 use Rattle.qc_msg.specs.declared.message.Want.TheVariants.{Read}
 use Rattle.qc_msg.specs.declared.record.Record.{Record}

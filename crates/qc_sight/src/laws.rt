@@ -20,7 +20,6 @@ use qc_script::ConductWithFalls;
 /// life of then, or that the client was told committed, in any life, before it
 /// began or until it ended, has a record with a smaller stamp. So it is too of
 /// one whose record was being written as its client fell, where it stands.
-#[tactic(auto, using(crate::proofs::SightLaw::after_seen))]
 pub fn records_follow_what_was_seen_through_falls<C: ConductWithFalls>()
     ensures { (decl : Declaration) (script : Script) (h : List Entry) (open_inputs : List Bool)
         → IsAccepted decl → IsScriptFor decl script

@@ -1,0 +1,11 @@
+use Rattle.qc_sight.proofs.WrongOnes.{below_line, below_pending, below_told}
+use Rattle.qc_sight.proofs.wrong.wrong_orders_through_falls_are_refused.Goals as goal
+
+pub returns-clause-below_told : goal.returns-clause-below_told
+returns-clause-below_told c = below_told
+
+pub returns-clause-below_line : goal.returns-clause-below_line
+returns-clause-below_line c = below_line
+
+pub returns-clause-below_pending : goal.returns-clause-below_pending
+returns-clause-below_pending c = below_pending
