@@ -78,9 +78,9 @@ module _ (decl : Declaration) (commits : List Commit) (tx : TxId) (client : ℕ)
   nothing w is = let gone : is_begun tx None ≡ true = ap (is_begun tx) (sym (unbegun w)) ∙ is in let never : ⊥ = cc in never
 
   -- it falls, and no commit record is pending that wasn't before
-  fallen : (up : Bool) → Stands decl commits tx client up d s made j → (pending : Option Record) → ((c : Commit) → pending ≡ Some (records.Commit c) → j.pending ≡ Some (records.Commit c)) → IsAccount decl client (account_fallen d)
+  falls_with : (up : Bool) → Stands decl commits tx client up d s made j → (pending : Option Record) → ((c : Commit) → pending ≡ Some (records.Commit c) → j.pending ≡ Some (records.Commit c)) → IsAccount decl client (account_fallen d)
       → Stands decl commits tx client false (account_fallen d) (record s { begun = None; waiting = [] }) made (record j { pending = pending })
-  fallen up w pending before account = record {
+  falls_with up w pending before account = record {
     sees = record {
       begun = refl;
       waiting = λ n among. absurd among;
@@ -110,11 +110,11 @@ module _ (decl : Declaration) (commits : List Commit) (tx : TxId) (client : ℕ)
 
   -- by a line of the script, or once more
   pub falls : (up : Bool) → Stands decl commits tx client up d s made j → (cause : Fall) → AfterAll decl commits tx client false d s made j (Falls cause None ∷ [])
-  falls up w cause = fallen up w j.pending (λ c is. is) (account_more decl client d w.keeps.account (Falls cause None))
+  falls up w cause = falls_with up w j.pending (λ c is. is) (account_more decl client d w.keeps.account (Falls cause None))
 
   -- as it writes the record of its rise
   pub falls_rising : Stands decl commits tx client false d s made j → (cause : Fall) → AfterAll decl commits tx client false d s made j (Falls cause (Some records.Life) ∷ [])
-  falls_rising w cause = fallen false w (Some records.Life) (λ c is. absurd (let never : ⊥ = cc in never)) (account_more decl client d w.keeps.account (Falls cause (Some records.Life)))
+  falls_rising w cause = falls_with false w (Some records.Life) (λ c is. absurd (let never : ⊥ = cc in never)) (account_more decl client d w.keeps.account (Falls cause (Some records.Life)))
 
   -- an account of one that is down, with nothing begun
   quiet_on : Stands decl commits tx client false d s made j → (e : Account) → IsAccount decl client e → e.life ≡ d.life → e.count ≡ d.count → e.clock ≡ d.clock → e.current ≡ None → e.requests ≡ [] → e.written ≡ None
@@ -148,11 +148,11 @@ module _ (decl : Declaration) (commits : List Commit) (tx : TxId) (client : ℕ)
 
   -- while it is down a command comes, and it is told so
 
-  pub called_down : Stands decl commits tx client false d s made j → (command : Command) → AfterAll decl commits tx client false d s made j (Takes (given.Called command) ∷ [])
-  called_down w command = quiet_on w (account_at decl d (Takes (given.Called command))) (account_more decl client d w.keeps.account (Takes (given.Called command))) refl refl refl (w.keeps.quiet refl).0 refl refl
+  pub calls_down : Stands decl commits tx client false d s made j → (command : Command) → AfterAll decl commits tx client false d s made j (Takes (given.Called command) ∷ [])
+  calls_down w command = quiet_on w (account_at decl d (Takes (given.Called command))) (account_more decl client d w.keeps.account (Takes (given.Called command))) refl refl refl (w.keeps.quiet refl).0 refl refl
 
-  pub told_down : Stands decl commits tx client false d s made j → AfterAll decl commits tx client false d s made j (Tells replies.Down ∷ [])
-  told_down w = quiet_on w (account_at decl d (Tells replies.Down)) (account_more decl client d w.keeps.account (Tells replies.Down)) refl refl refl (w.keeps.quiet refl).0 refl refl
+  pub tells_down : Stands decl commits tx client false d s made j → AfterAll decl commits tx client false d s made j (Tells replies.Down ∷ [])
+  tells_down w = quiet_on w (account_at decl d (Tells replies.Down)) (account_more decl client d w.keeps.account (Tells replies.Down)) refl refl refl (w.keeps.quiet refl).0 refl refl
 
   -- it rises, and what it was told that it committed is among its records
   pub rises : Stands decl commits tx client false d s made j → (kept : List Record) → IsGivenBack j kept → ((c : Commit) → In (records.Commit c) kept → In c commits)

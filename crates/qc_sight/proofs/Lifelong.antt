@@ -26,7 +26,7 @@ use Rattle.qc_account.proofs.Standing.{IsAtRest, Stands as StandsThere}
 use Rattle.qc_sight.proofs.Founding.{IsFounded, first_founded}
 use Rattle.qc_sight.proofs.Making.{back_second}
 use Rattle.qc_sight.proofs.Standing.{up_not}
-use Rattle.qc_sight.proofs.Turning.{AtRest, StandsAt, after, called, fallen, rose, taken, told_so, turned}
+use Rattle.qc_sight.proofs.Turning.{AtRest, StandsAt, after, call_stands, fall_stands, rise_stands, take_stands, down_turn_stands, turn_stands}
 
 first_all : (P : Deed → Type 0) (xs ys : List Deed) → Every P (xs ++ ys) → Every P xs
 first_all P [] ys all = tt
@@ -95,14 +95,14 @@ module _ (decl : Declaration) (a : ℕ) (client : is_client decl a ≡ true) (pl
     where
       by : (up : Bool) → is_up before ≡ up → MayReach up g → IsAs up before → Rests ((before ++ Takes g ∷ []) ++ deeds_as turn.append first turn)
       by true is reaches s =
-          turned decl a client commits tx before s.0 is s.1 g may (first_founded commits (before ++ Takes g ∷ []) (deeds_as turn.append first turn) f).grants turn first law
+          turn_stands decl a client commits tx before s.0 is s.1 g may (first_founded commits (before ++ Takes g ∷ []) (deeds_as turn.append first turn) f).grants turn first law
           (λ c among. f.grants.wrote c (In-second (Writes (records.Commit c)) (before ++ Takes g ∷ []) (deeds_as turn.append first turn) among))
-      by false is reaches s = told_so decl a client commits tx before s.0 is s.1 g reaches turn first law
+      by false is reaches s = down_turn_stands decl a client commits tx before s.0 is s.1 g reaches turn first law
 
   rise_rests : (before : List Deed) (kept : List Record) → is_up before ≡ false → Rests before → (turn : Turn) (first : ℕ) → IsLawfulWithFalls decl a (before ++ Rises kept ∷ []) turn
       → IsFounded commits (before ++ Rises kept ∷ []) → Rests ((before ++ Rises kept ∷ []) ++ deeds_as turn.append first turn)
   rise_rests before kept down w turn first law f =
-      rose decl a client commits tx before (subst (λ (b : Bool). StandsAt decl a client commits tx b before) (sym w.is ∙ down) w.stands) kept
+      rise_stands decl a client commits tx before (subst (λ (b : Bool). StandsAt decl a client commits tx b before) (sym w.is ∙ down) w.stands) kept
       (back_second no_journal before (Rises kept ∷ []) f.back).0
       (λ c among. f.kept c (subst (λ (rs : List Record). In (records.Commit c) rs) (sym (risen_records before kept)) among))
       turn first law
@@ -135,7 +135,7 @@ module _ (decl : Declaration) (a : ℕ) (client : is_client decl a ≡ true) (pl
           (subst (λ (v : List Deed). IsFounded commits (v ++ deeds_as turn.append first turn)) at.is f))
   goes ds b n (lives.crashes older m life up) all f =
       let w : Rests older = goes older false m life (first_all (IsDeclaredDeed decl) older _ all) (first_founded commits older _ f) in
-      fallen decl a client commits tx w.up older w.stands _
+      fall_stands decl a client commits tx w.up older w.stands _
   goes ds b n (lives.rises older kept turn m first life down low law) all f =
       rise_rests older kept down
       (goes older false m life (first_all (IsDeclaredDeed decl) older (Rises kept ∷ []) (first_all (IsDeclaredDeed decl) (older ++ Rises kept ∷ []) (deeds_as turn.append first turn) all))
@@ -143,7 +143,7 @@ module _ (decl : Declaration) (a : ℕ) (client : is_client decl a ≡ true) (pl
       turn first law (first_founded commits (older ++ Rises kept ∷ []) (deeds_as turn.append first turn) f)
   goes ds b n (lives.unopened older cause m life down by_disk) all f =
       let w : Rests older = goes older false m life (first_all (IsDeclaredDeed decl) older _ all) (first_founded commits older _ f) in
-      fallen decl a client commits tx w.up older w.stands cause
+      fall_stands decl a client commits tx w.up older w.stands cause
 
   -- so it stands, whether it has an open input or not
 
@@ -158,9 +158,9 @@ module _ (decl : Declaration) (a : ℕ) (client : is_client decl a ≡ true) (pl
       opened at true is reach s = record {
         up = true;
         stands = after decl a client commits tx true at.before (Takes at.given ∷ [])
-            (taken decl a client commits tx at.before s.0 is s.1 at.given at.may (subst (IsFounded commits) at.is f).grants);
+            (take_stands decl a client commits tx at.before s.0 is s.1 at.given at.may (subst (IsFounded commits) at.is f).grants);
       }
-      opened at false is reach s = record { up = false; stands = after decl a client commits tx false at.before (Takes at.given ∷ []) (called decl a client commits tx at.before s.0 is s.1 at.given reach) }
+      opened at false is reach s = record { up = false; stands = after decl a client commits tx false at.before (Takes at.given ∷ []) (call_stands decl a client commits tx at.before s.0 is s.1 at.given reach) }
 
       by : (x : Bool) → IsNow ds x → StandsNow ds
       by true at = subst StandsNow (sym at.is) (opened at (is_up at.before) refl at.reach (both at.before at.there at.rest))

@@ -1,5 +1,5 @@
 -- In every run with falls whose records are kept each record comes after all that its client had seen.
-use Rattle.std.proofs.Common.{◌≡◌, ◌≤◌, ◌<◌, ℕ, ◌-◌, ◌&&◌, nat_le, nat_lt, Bool, true, false, List, [], length, Some, slice_get, inl, refl, sym, ap, ◌∙◌, subst, arith}
+use Rattle.std.proofs.Common.{◌≡◌, ◌≤◌, ◌<◌, ℕ, ◌-◌, nat_le, nat_lt, Bool, true, false, List, [], fold, length, Some, slice_get, inl, refl, sym, ap, ◌∙◌, subst, arith}
 use Rattle.std.proofs.lemmas.Bool.{leb-true, ltb-true}
 use Rattle.qc_stamp.specs.declared.stamp.Stamp.{Stamp}
 use Rattle.qc_stamp.specs.declared.stamp.TxId.{TxId}
@@ -16,6 +16,7 @@ use Rattle.qc_laws.proofs.Places.{slice_get-within}
 use Rattle.qc_link.specs.Limits.{most_actors}
 use Rattle.qc_lives.specs.LivesIn.{LivesIn}
 use Rattle.qc_lives.proofs.Lived.{run_lives, run_long}
+use Rattle.qc_lock.proofs.Entries.{and_first, and_second}
 use Rattle.qc_msg.specs.declared.message.Answer.TheVariants.{Granted}
 use Rattle.qc_msg.specs.declared.message.Envelope.{Envelope}
 use Rattle.qc_msg.specs.declared.message.Message.{Message}
@@ -57,7 +58,7 @@ use Rattle.qc_seen.proofs.Seeing.{IsUpTo}
 use Rattle.qc_verdicts.proofs.KeptBack.{kept_given_back}
 use Rattle.qc_sight.proofs.Founding.{IsFounded}
 use Rattle.qc_sight.proofs.Lifelong.{StandsNow, client_stands}
-use Rattle.qc_sight.proofs.Making.{wrote_stays}
+use Rattle.qc_sight.proofs.Making.{made_at, wrote_stays}
 use Rattle.qc_sight.proofs.Naming.{IsNamed}
 
 -- a client's number, by its actor
@@ -66,17 +67,9 @@ named_client : (client : ℕ) (up : Bool) (life count : ℕ) (tx : TxId) → IsN
 named_client client true life count tx is = is.0
 named_client client false life count tx is = is.0
 
-first_true : (x y : Bool) → (x && y) ≡ true → x ≡ true
-first_true true y is = refl
-first_true false y is = absurd (let never : ⊥ = cc in never)
-
-second_true : (x y : Bool) → (x && y) ≡ true → y ≡ true
-second_true true y is = is
-second_true false y is = absurd (let never : ⊥ = cc in never)
-
 number_of : (decl : Declaration) (a number : ℕ) → is_client decl a ≡ true → number ≡ a - decl.sites → client_actor decl number ≡ a
 number_of decl a number client is =
-    let low : decl.sites ≤ a = leb-true decl.sites a (first_true (nat_le decl.sites a) (nat_lt a (actors decl)) client) in
+    let low : decl.sites ≤ a = leb-true decl.sites a (and_first (nat_le decl.sites a) (nat_lt a (actors decl)) client) in
     omega arith
 
 module _ (fits : ℕ → List Record → Type 0) (decl : Declaration) (script : Script) (h : List Entry) (open_inputs : List Bool) (accepted : IsAccepted decl) (sound : IsScriptFor decl script)
@@ -144,16 +137,30 @@ module _ (fits : ℕ → List Record → Type 0) (decl : Declaration) (script : 
 
   stands : (a : ℕ) (client : is_client decl a ≡ true) (tx : TxId) → StandsNow decl a client (declares a).first (committed decl h) tx (deeds a [] h)
   stands a client tx =
-      let low : a < actors decl = ltb-true a (actors decl) (second_true (nat_le decl.sites a) (nat_lt a (actors decl)) client) in
+      let low : a < actors decl = ltb-true a (actors decl) (and_second (nat_le decl.sites a) (nat_lt a (actors decl)) client) in
       let long : length open_inputs ≡ actors decl = run_long decl script fits few h open_inputs run in
       let place : (t : Bool) × (slice_get open_inputs a ≡ Some t) = slice_get-within open_inputs a (omega arith) in
       let lived : LivesIn decl a h place.0 = run_lives decl script fits few h open_inputs run a place.0 place.1 in
       client_stands decl a client (declares a).first (committed decl h) tx (deeds a [] h) place.0 lived.above lived.lives (declares a).deeds (founded a client)
 
+  -- a record in a client's journal is among those that it made, and of a transaction of its own
+
+  record IsMade (a : ℕ) (client : is_client decl a ≡ true) (c : Commit) : Type 0 where
+    now : StandsNow decl a client (declares a).first (committed decl h) c.tx (deeds a [] h)
+    listed : In c (fold made_at [] (deeds a [] h))
+    own : client_actor decl c.tx.client ≡ a
+
+  is_made : (a : ℕ) (client : is_client decl a ≡ true) (c : Commit) → In (journals.Commit c) (records_of h a) → IsMade a client c
+  is_made a client c among =
+      let w : StandsNow decl a client (declares a).first (committed decl h) c.tx (deeds a [] h) = stands a client c.tx in
+      let made : In c (fold made_at [] (deeds a [] h)) = w.stands.keeps.known c (inl (subst (λ (j : Journal). In (journals.Commit c) j.records) (sym (journal a h)) among)) in
+      record { now = w; listed = made; own = number_of decl a c.tx.client client (named_client (a - decl.sites) w.up _ _ c.tx (w.stands.keeps.named c made refl)) }
+
+  pub own_records : (a : ℕ) (c : Commit) → is_client decl a ≡ true → In (journals.Commit c) (records_of h a) → client_actor decl c.tx.client ≡ a
+  own_records a c client among = (is_made a client c among).own
+
   pub after_seen : IsAfterSeen decl (committed decl h) h
   after_seen c tx among in_seen other =
       let is : IsOfClient decl (records_of h) c = stand.each c (((sorts (records decl h) apart.stamps).1 c).0 among) in
-      let w : StandsNow decl is.actor is.client (declares is.actor).first (committed decl h) c.tx (deeds is.actor [] h) = stands is.actor is.client c.tx in
-      let made = w.stands.keeps.known c (inl (subst (λ (j : Journal). In (journals.Commit c) j.records) (sym (journal is.actor h)) is.listed)) in
-      let own : client_actor decl c.tx.client ≡ is.actor = number_of decl is.actor c.tx.client is.client (named_client (is.actor - decl.sites) w.up _ _ c.tx (w.stands.keeps.named c made refl)) in
-      w.stands.sees.before c made refl tx (subst (λ (a : ℕ). In tx (seen_in (deeds a [] h) c.tx)) own in_seen) other
+      let m : IsMade is.actor is.client c = is_made is.actor is.client c is.listed in
+      m.now.stands.sees.before c m.listed refl tx (subst (λ (a : ℕ). In tx (seen_in (deeds a [] h) c.tx)) m.own in_seen) other

@@ -50,7 +50,7 @@ use Rattle.qc_seen.proofs.Alone.{replies_alone}
 use Rattle.qc_seen.proofs.Founded.{AreFounded}
 use Rattle.qc_seen.proofs.Taking as taking
 use Rattle.qc_seen.proofs.Taking.{IsFree}
-use Rattle.qc_sight.proofs.Falling.{called_down, falls, falls_rising, lives, rises, told_down}
+use Rattle.qc_sight.proofs.Falling.{calls_down, falls, falls_rising, lives, rises, tells_down}
 use Rattle.qc_sight.proofs.Making.{made_at}
 use Rattle.qc_sight.proofs.Posting.{AfterAll, fails, posts}
 use Rattle.qc_sight.proofs.Standing.{Stands, account_more, done, taken_keeps}
@@ -89,8 +89,8 @@ module _ (decl : Declaration) (a : ℕ) (client : is_client decl a ≡ true) (co
     abbrev move : ClientMove
     move = client_takes decl t.state g
 
-    pub taken : Stands decl commits tx (a - decl.sites) true account seen (fold made_at [] ds) (journal_after ds)
-    taken = record {
+    pub take_stands : Stands decl commits tx (a - decl.sites) true account seen (fold made_at [] ds) (journal_after ds)
+    take_stands = record {
       sees = taking.take decl (a - decl.sites) commits tx ds t.state (fold (sight tx) no_sight ds) (fold made_at [] ds) done t.ties w.sees g (free_for decl (a - decl.sites) ds g may) f;
       keeps = taken_keeps decl tx (a - decl.sites) (account_is decl a ds) (fold (sight tx) no_sight ds) (fold made_at [] ds) (journal_after ds) w.keeps g (account_more decl (a - decl.sites) (account_is decl a ds) w.keeps.account (Takes g));
     }
@@ -103,85 +103,85 @@ module _ (decl : Declaration) (a : ℕ) (client : is_client decl a ≡ true) (co
       where
         by : (o : Option Reply) → o ≡ running_row decl account false → is_some o ≡ true → IsFree seen
         by None is some = absurd (let never : ⊥ = cc in never)
-        by (Some reply) is some = taking.replied_free decl (a - decl.sites) commits tx ds t.state (fold (sight tx) no_sight ds) (fold made_at [] ds) done t.ties w.sees g reply (sym is) seen taken.sees
+        by (Some reply) is some = taking.replied_free decl (a - decl.sites) commits tx ds t.state (fold (sight tx) no_sight ds) (fold made_at [] ds) done t.ties w.sees g reply (sym is) seen take_stands.sees
 
-    written : (first : ℕ) → ((c : Commit) → In (Writes (records.Commit c)) (turn_deeds first move.turn) → In c commits) → AtRest ((ds ++ Takes g ∷ []) ++ turn_deeds first move.turn)
-    written first there =
+    written_stands : (first : ℕ) → ((c : Commit) → In (Writes (records.Commit c)) (turn_deeds first move.turn) → In c commits) → AtRest ((ds ++ Takes g ∷ []) ++ turn_deeds first move.turn)
+    written_stands first there =
         event true ds (Takes g) (turn_deeds first move.turn)
-        (posts decl commits tx (a - decl.sites) first move.turn account seen (fold made_at [] ds) (journal_after ds) taken (goes first).due (takes_turn decl t.state g) there free (replies_alone decl t.state g))
+        (posts decl commits tx (a - decl.sites) first move.turn account seen (fold made_at [] ds) (journal_after ds) take_stands (goes first).due (takes_turn decl t.state g) there free (replies_alone decl t.state g))
         (up_more decl a ds (Takes g ∷ turn_deeds first move.turn) ∙ steady_up (is_up ds) (turn_deeds first move.turn) (turn_steady first move.turn) ∙ up)
 
     record_due : (c : IsCommitTurn move.turn) → IsRecordDue account (running_row decl account false) (records.Commit c.commit)
     record_due c = (subst (λ (o : Option Record). AreDeedsDue decl account (writes_of o ++ (sends_of 0 move.turn.sends ++ tells_of move.turn.told))) c.write (goes 0).due).0
 
-    unwritten : (cause : Fall) (c : IsCommitTurn move.turn) → AtRest ((ds ++ Takes g ∷ []) ++ Tells replies.Unknown ∷ Falls cause (Some (records.Commit c.commit)) ∷ [])
-    unwritten cause c =
+    unwritten_stands : (cause : Fall) (c : IsCommitTurn move.turn) → AtRest ((ds ++ Takes g ∷ []) ++ Tells replies.Unknown ∷ Falls cause (Some (records.Commit c.commit)) ∷ [])
+    unwritten_stands cause c =
         event false ds (Takes g) (Tells replies.Unknown ∷ Falls cause (Some (records.Commit c.commit)) ∷ [])
-        (fails decl commits tx (a - decl.sites) account seen (fold made_at [] ds) (journal_after ds) taken c.commit (record_due c) cause)
+        (fails decl commits tx (a - decl.sites) account seen (fold made_at [] ds) (journal_after ds) take_stands c.commit (record_due c) cause)
         (up_more decl a ds (Takes g ∷ Tells replies.Unknown ∷ Falls cause (Some (records.Commit c.commit)) ∷ []))
 
-    posted : (end : Appended) (first : ℕ) → MayEnd move.turn.write end → ((c : Commit) → In (Writes (records.Commit c)) (deeds_as end first move.turn) → In c commits) → AtRest ((ds ++ Takes g ∷ []) ++ deeds_as end first move.turn)
-    posted Done first ends there = written first there
-    posted Failed first ends there = by (takes_turn decl t.state g)
+    turn_as : (end : Appended) (first : ℕ) → MayEnd move.turn.write end → ((c : Commit) → In (Writes (records.Commit c)) (deeds_as end first move.turn) → In c commits) → AtRest ((ds ++ Takes g ∷ []) ++ deeds_as end first move.turn)
+    turn_as Done first ends there = written_stands first there
+    turn_as Failed first ends there = by (takes_turn decl t.state g)
       where
         by : IsClientTurn move.turn → AtRest ((ds ++ Takes g ∷ []) ++ deeds_as Failed first move.turn)
         by (inl none) = absurd (subst (λ (o : Option Record). MayEnd o Failed) none ends)
         by (inr c) =
             subst (λ (v : List Deed). AtRest ((ds ++ Takes g ∷ []) ++ v))
             (λ i. sends_of first (sym c.failed_sends i) ++ (tells_of (sym c.failed_told i) ++ Falls causes.Disk (sym c.write i) ∷ []))
-            (unwritten causes.Disk c)
-    posted Stopped first ends there = by (takes_turn decl t.state g)
+            (unwritten_stands causes.Disk c)
+    turn_as Stopped first ends there = by (takes_turn decl t.state g)
       where
         by : IsClientTurn move.turn → AtRest ((ds ++ Takes g ∷ []) ++ deeds_as Stopped first move.turn)
         by (inl none) = absurd (subst (λ (o : Option Record). MayEnd o Stopped) none ends)
         by (inr c) =
             subst (λ (v : List Deed). AtRest ((ds ++ Takes g ∷ []) ++ v))
             (λ i. tells_of (sym c.failed_told i) ++ Falls causes.Stop (sym c.write i) ∷ [])
-            (unwritten causes.Stop c)
+            (unwritten_stands causes.Stop c)
 
     takes_to : actor_after decl a (ds ++ Takes g ∷ []) ≡ by_client move
     takes_to = actor_more decl a ds (Takes g ∷ []) ∙ ap (λ (v : Actor). actor_takes decl v g) t.actor
 
-    pub turned : (turn : Turn) (first : ℕ) → IsLawfulWithFalls decl a (ds ++ Takes g ∷ []) turn → ((c : Commit) → In (Writes (records.Commit c)) (deeds_as turn.append first turn) → In c commits)
+    pub turn_stands : (turn : Turn) (first : ℕ) → IsLawfulWithFalls decl a (ds ++ Takes g ∷ []) turn → ((c : Commit) → In (Writes (records.Commit c)) (deeds_as turn.append first turn) → In c commits)
         → AtRest ((ds ++ Takes g ∷ []) ++ deeds_as turn.append first turn)
-    turned turn first law there =
+    turn_stands turn first law there =
         subst (λ (v : List Deed). AtRest ((ds ++ Takes g ∷ []) ++ v)) (as_record turn.append first turn)
         (subst (λ (x : Turn). MayEnd x.write turn.append → ((c : Commit) → In (Writes (records.Commit c)) (deeds_as turn.append first x) → In c commits) → AtRest ((ds ++ Takes g ∷ []) ++ deeds_as turn.append first x))
         (sym (ap (λ (m : ActorMove). m.turn) takes_to) ∙ turn_is decl a client (ds ++ Takes g ∷ []) turn law)
-        (posted turn.append first) law.may_end
+        (turn_as turn.append first) law.may_end
         (subst (λ (v : List Deed). (c : Commit) → In (Writes (records.Commit c)) v → In c commits) (sym (as_record turn.append first turn)) there))
 
   -- a command of a client that is down, and the turn that tells it so
 
   module _ (ds : List Deed) (t : IsFallen decl a ds) (down : is_up ds ≡ false) (w : StandsAt false ds) where
-    pub called : (g : Given) → MayReach false g → AfterAt false ds (Takes g ∷ [])
-    called (given.Called command) reach = called_down decl commits tx (a - decl.sites) (account_is decl a ds) (fold (sight tx) no_sight ds) (fold made_at [] ds) (journal_after ds) w command
-    called (given.Got envelope) reach = absurd (let never : ⊥ = cc in never)
-    called (given.Lost number) reach = absurd (let never : ⊥ = cc in never)
+    pub call_stands : (g : Given) → MayReach false g → AfterAt false ds (Takes g ∷ [])
+    call_stands (given.Called command) reach = calls_down decl commits tx (a - decl.sites) (account_is decl a ds) (fold (sight tx) no_sight ds) (fold made_at [] ds) (journal_after ds) w command
+    call_stands (given.Got envelope) reach = absurd (let never : ⊥ = cc in never)
+    call_stands (given.Lost number) reach = absurd (let never : ⊥ = cc in never)
 
-    told : (command : Command) (end : Appended) (first : ℕ) → MayEnd None end → AtRest ((ds ++ Takes (given.Called command) ∷ []) ++ deeds_as end first (telling replies.Down))
-    told command Done first ends =
+    down_turn_as : (command : Command) (end : Appended) (first : ℕ) → MayEnd None end → AtRest ((ds ++ Takes (given.Called command) ∷ []) ++ deeds_as end first (telling replies.Down))
+    down_turn_as command Done first ends =
         event false ds (Takes (given.Called command)) (Tells replies.Down ∷ [])
-        (told_down decl commits tx (a - decl.sites) (account_taken (account_is decl a ds) (given.Called command)) (fold (sight tx) no_sight ds) (fold made_at [] ds) (journal_after ds) (called (given.Called command) tt))
+        (tells_down decl commits tx (a - decl.sites) (account_taken (account_is decl a ds) (given.Called command)) (fold (sight tx) no_sight ds) (fold made_at [] ds) (journal_after ds) (call_stands (given.Called command) tt))
         (up_more decl a ds (Takes (given.Called command) ∷ Tells replies.Down ∷ []) ∙ down)
-    told command Failed first ends = absurd ends
-    told command Stopped first ends = absurd ends
+    down_turn_as command Failed first ends = absurd ends
+    down_turn_as command Stopped first ends = absurd ends
 
     down_takes : (command : Command) → (actor_after decl a (ds ++ Takes (given.Called command) ∷ [])).turn ≡ telling replies.Down
     down_takes command = ap (λ (m : ActorMove). m.turn) (actor_more decl a ds (Takes (given.Called command) ∷ []) ∙ ap (λ (v : Actor). actor_takes decl v (given.Called command)) t.actor)
 
-    pub told_so : (g : Given) → MayReach false g → (turn : Turn) (first : ℕ) → IsLawfulWithFalls decl a (ds ++ Takes g ∷ []) turn → AtRest ((ds ++ Takes g ∷ []) ++ deeds_as turn.append first turn)
-    told_so (given.Called command) reach turn first law =
+    pub down_turn_stands : (g : Given) → MayReach false g → (turn : Turn) (first : ℕ) → IsLawfulWithFalls decl a (ds ++ Takes g ∷ []) turn → AtRest ((ds ++ Takes g ∷ []) ++ deeds_as turn.append first turn)
+    down_turn_stands (given.Called command) reach turn first law =
         subst (λ (v : List Deed). AtRest ((ds ++ Takes (given.Called command) ∷ []) ++ v)) (as_record turn.append first turn)
         (subst (λ (x : Turn). MayEnd x.write turn.append → AtRest ((ds ++ Takes (given.Called command) ∷ []) ++ deeds_as turn.append first x))
         (sym (down_takes command) ∙ turn_is decl a client (ds ++ Takes (given.Called command) ∷ []) turn law)
-        (told command turn.append first) law.may_end)
-    told_so (given.Got envelope) reach turn first law = absurd (let never : ⊥ = cc in never)
-    told_so (given.Lost number) reach turn first law = absurd (let never : ⊥ = cc in never)
+        (down_turn_as command turn.append first) law.may_end)
+    down_turn_stands (given.Got envelope) reach turn first law = absurd (let never : ⊥ = cc in never)
+    down_turn_stands (given.Lost number) reach turn first law = absurd (let never : ⊥ = cc in never)
 
   -- a fall by a line of the script, or one more of who is down
-  pub fallen : (up : Bool) (ds : List Deed) → StandsAt up ds → (cause : Fall) → AtRest (ds ++ Falls cause None ∷ [])
-  fallen up ds w cause = record {
+  pub fall_stands : (up : Bool) (ds : List Deed) → StandsAt up ds → (cause : Fall) → AtRest (ds ++ Falls cause None ∷ [])
+  fall_stands up ds w cause = record {
     up = false;
     is = up_more decl a ds (Falls cause None ∷ []);
     stands = after false ds (Falls cause None ∷ []) (falls decl commits tx (a - decl.sites) (account_is decl a ds) (fold (sight tx) no_sight ds) (fold made_at [] ds) (journal_after ds) up w cause);
@@ -190,28 +190,28 @@ module _ (decl : Declaration) (a : ℕ) (client : is_client decl a ≡ true) (co
   -- a rise, and the turn that writes its record
 
   module _ (ds : List Deed) (w : StandsAt false ds) (kept : List Record) (back : IsGivenBack (journal_after ds) kept) (there : (c : Commit) → In (records.Commit c) kept → In c commits) where
-    risen : AfterAt false ds (Rises kept ∷ [])
-    risen = rises decl commits tx (a - decl.sites) (account_is decl a ds) (fold (sight tx) no_sight ds) (fold made_at [] ds) (journal_after ds) w kept back there
+    rise_after : AfterAt false ds (Rises kept ∷ [])
+    rise_after = rises decl commits tx (a - decl.sites) (account_is decl a ds) (fold (sight tx) no_sight ds) (fold made_at [] ds) (journal_after ds) w kept back there
 
     in_vain : (cause : Fall) → AtRest ((ds ++ Rises kept ∷ []) ++ Falls cause (Some records.Life) ∷ [])
     in_vain cause =
         event false ds (Rises kept) (Falls cause (Some records.Life) ∷ [])
-        (falls_rising decl commits tx (a - decl.sites) (account_at decl (account_is decl a ds) (Rises kept)) (sight tx (fold (sight tx) no_sight ds) (Rises kept)) (fold made_at [] ds) (journal_at (journal_after ds) (Rises kept)) risen cause)
+        (falls_rising decl commits tx (a - decl.sites) (account_at decl (account_is decl a ds) (Rises kept)) (sight tx (fold (sight tx) no_sight ds) (Rises kept)) (fold made_at [] ds) (journal_at (journal_after ds) (Rises kept)) rise_after cause)
         (up_more decl a ds (Rises kept ∷ Falls cause (Some records.Life) ∷ []))
 
-    risen_as : (end : Appended) (first : ℕ) → AtRest ((ds ++ Rises kept ∷ []) ++ deeds_as end first (rising []))
-    risen_as Done first =
+    rise_as : (end : Appended) (first : ℕ) → AtRest ((ds ++ Rises kept ∷ []) ++ deeds_as end first (rising []))
+    rise_as Done first =
         event true ds (Rises kept) (Writes records.Life ∷ [])
-        (lives decl commits tx (a - decl.sites) (account_at decl (account_is decl a ds) (Rises kept)) (sight tx (fold (sight tx) no_sight ds) (Rises kept)) (fold made_at [] ds) (journal_at (journal_after ds) (Rises kept)) risen)
+        (lives decl commits tx (a - decl.sites) (account_at decl (account_is decl a ds) (Rises kept)) (sight tx (fold (sight tx) no_sight ds) (Rises kept)) (fold made_at [] ds) (journal_at (journal_after ds) (Rises kept)) rise_after)
         (up_more decl a ds (Rises kept ∷ Writes records.Life ∷ []))
-    risen_as Failed first = in_vain causes.Disk
-    risen_as Stopped first = in_vain causes.Stop
+    rise_as Failed first = in_vain causes.Disk
+    rise_as Stopped first = in_vain causes.Stop
 
     rises_to : actor_after decl a (ds ++ Rises kept ∷ []) ≡ by_client (client_rises (a - decl.sites) kept)
     rises_to = actor_more decl a ds (Rises kept ∷ []) ∙ ap (λ (b : Bool). cond b (by_site (site_rises decl a kept)) (by_client (client_rises (a - decl.sites) kept))) (no_site decl a client)
 
-    pub rose : (turn : Turn) (first : ℕ) → IsLawfulWithFalls decl a (ds ++ Rises kept ∷ []) turn → AtRest ((ds ++ Rises kept ∷ []) ++ deeds_as turn.append first turn)
-    rose turn first law =
+    pub rise_stands : (turn : Turn) (first : ℕ) → IsLawfulWithFalls decl a (ds ++ Rises kept ∷ []) turn → AtRest ((ds ++ Rises kept ∷ []) ++ deeds_as turn.append first turn)
+    rise_stands turn first law =
         subst (λ (v : List Deed). AtRest ((ds ++ Rises kept ∷ []) ++ v)) (as_record turn.append first turn)
         (subst (λ (x : Turn). AtRest ((ds ++ Rises kept ∷ []) ++ deeds_as turn.append first x))
-        (sym (ap (λ (m : ActorMove). m.turn) rises_to) ∙ turn_is decl a client (ds ++ Rises kept ∷ []) turn law) (risen_as turn.append first))
+        (sym (ap (λ (m : ActorMove). m.turn) rises_to) ∙ turn_is decl a client (ds ++ Rises kept ∷ []) turn law) (rise_as turn.append first))

@@ -49,8 +49,8 @@ shown_anew clock =
     ∷ writes anew clock ∷ is_told clock ∷ []
 
 -- a grant showed that line, and the record was being written as the client fell: it rises with it
-abbrev pub pending : ℕ → List Entry
-pending clock =
+abbrev pub record_pending : ℕ → List Entry
+record_pending clock =
     they_commit ∷ begins first ∷ asks ∷ is_granted ∷ hears ∷ marked 1 (Told Unknown)
     ∷ falls_unwritten (first_record clock) ∷ rises (first_record clock ∷ []) ∷ lives ∷ []
 
@@ -65,3 +65,8 @@ abbrev pub asked_before : List Entry
 asked_before =
     they_commit ∷ begins first ∷ asks ∷ is_granted ∷ falls ∷ rises [] ∷ lives ∷ begins anew ∷ hears
     ∷ writes anew 4 ∷ is_told 4 ∷ []
+
+-- the second client rises with a record of the first one's transaction
+abbrev pub rises_with_others : List Entry
+rises_with_others =
+    marked 2 (Fell Script None) ∷ marked 2 (Rose (first_record 5 ∷ [])) ∷ marked 2 (Wrote records.Life) ∷ []

@@ -1,4 +1,4 @@
-use Rattle.qc_sight.proofs.WrongOnes.{below_line, below_pending, below_told}
+use Rattle.qc_sight.proofs.WrongOnes.{below_line, below_pending, below_told, of_another}
 use Rattle.qc_sight.proofs.wrong.wrong_orders_through_falls_are_refused.Goals as goal
 
 pub returns-clause-below_told : goal.returns-clause-below_told
@@ -9,3 +9,6 @@ returns-clause-below_line c = below_line
 
 pub returns-clause-below_pending : goal.returns-clause-below_pending
 returns-clause-below_pending c = below_pending
+
+pub returns-clause-of_another : goal.returns-clause-of_another
+returns-clause-of_another c = of_another
