@@ -76,7 +76,7 @@ module _ (decl : Declaration) (d : Account) where
       by false true = vote_says u (first_against (requests_for is_prepare d))
       by false false = tt
 
-  row_says : (u : Bool) (o : Option Current) (command : Command) → d.current ≡ o → SaysIn decl d command (row_of decl d u o command)
+  pub row_says : (u : Bool) (o : Option Current) (command : Command) → d.current ≡ o → SaysIn decl d command (row_of decl d u o command)
   row_says u None commands.Begin is = refl
   row_says u None (commands.Do object inv) is = no_current (commands.Do object inv) is
   row_says u None commands.Commit is = no_current commands.Commit is

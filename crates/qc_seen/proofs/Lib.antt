@@ -6,6 +6,7 @@ pub mod Tellings
 pub mod Ended
 pub mod Alone
 pub mod Founded
+pub mod Taking
 pub mod Courses
 pub mod Heard
 pub mod Written

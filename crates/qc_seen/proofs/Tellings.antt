@@ -68,6 +68,14 @@ responded_leaves decl d (Some commands.Commit) = as_it_is d
 responded_leaves decl d (Some commands.Abort) = as_it_is d
 responded_leaves decl d (Some (commands.Epoch number)) = as_it_is d
 
+-- a transaction begins that wasn't begun
+
+abbrev pub BeginsNew : TxId → Status → Reply → Type 0
+BeginsNew tx st reply = (other : TxId) → reply ≡ replies.Began other → same_tx other tx ≡ true → st ≡ statuses.Unborn
+
+pub begins_new : (tx : TxId) (st : Status) (reply : Reply) → IsRightReply tx st reply → BeginsNew tx st reply
+begins_new tx st reply right other is = subst (IsRightReply tx st) is right
+
 module _ (decl : Declaration) (commits : List Commit) (tx : TxId) (d : Account) (s : Sight) (wrote : List Commit) (st : Status)
     (w : Sees commits tx d s wrote st) (free : (n : ℕ) → In n s.waiting → ⊥) where
   abbrev done : Account → Account
@@ -167,10 +175,10 @@ module _ (decl : Declaration) (commits : List Commit) (tx : TxId) (d : Account) 
       known_one t (inl old) = higher commits t d.clock stamp.clock more (w.committed t old)
       known_one t (inr new) = committed_is stamp d.current is t (subst (λ (o : Option TxId). In t (option_to_list o)) w.begun new)
 
-  pub told_sees : (reply : Reply) → IsReplyDue d (running_row decl d false) [] reply → IsRightReply tx st reply → Sees commits tx (account_told decl d reply) (sight_told tx s reply) wrote (status_told tx st reply)
+  pub told_sees : (reply : Reply) → IsReplyDue d (running_row decl d false) [] reply → BeginsNew tx st reply → Sees commits tx (account_told decl d reply) (sight_told tx s reply) wrote (status_told tx st reply)
   told_sees replies.Down due right = goes_on d (as_it_is d) due.1
   told_sees (replies.Already other) due right = goes_on d (as_it_is d) due.1
-  told_sees (replies.Began other) due right = begins other (d.count + 1) _ refl right
+  told_sees (replies.Began other) due right = begins other (d.count + 1) _ refl (right other refl)
   told_sees replies.NoTransaction due right = goes_on d (as_it_is d) due.1
   told_sees replies.Doomed due right = goes_on d (as_it_is d) due.1
   told_sees replies.TooLong due right = goes_on d (as_it_is d) due.1

@@ -1,0 +1,11 @@
+pub mod Making
+pub mod Naming
+pub mod Standing
+pub mod Telling
+pub mod Posting
+pub mod Falling
+pub mod Founding
+pub mod Turning
+pub mod Lifelong
+pub mod SightLaw
+pub mod WrongOnes
