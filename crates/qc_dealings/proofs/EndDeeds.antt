@@ -1,17 +1,14 @@
 -- Over all of a client's deeds: how its transactions ended agrees with the records of its journal.
-use Rattle.std.proofs.Common.{◌≡◌, ◌≢◌, ◌⊎◌, inl, inr, ℕ, ◌+◌, ◌≤◌, Bool, true, false, fold, List, [], ◌∷◌, ◌++◌, Option, Some, None, is_some, option_map, option_to_list, refl, sym, ap, ◌∙◌, subst}
+use Rattle.std.proofs.Common.{◌≡◌, ◌⊎◌, inl, inr, ℕ, Bool, true, false, fold, List, [], ◌∷◌, ◌++◌, Option, Some, None, is_some, option_to_list, refl, sym, ap, ◌∙◌, subst}
 use Rattle.qc_list.specs.Members.{In}
 use Rattle.qc_list.proofs.Members.{In-first, In-last}
 use Rattle.qc_decl.specs.declared.declaration.Declaration.{Declaration}
 use Rattle.qc_entry.specs.declared.record.Commit.{Commit as CommitRecord}
 use Rattle.qc_core.specs.Journals.{journal_after, journal_at}
-use Rattle.qc_msg.specs.declared.message.Message.{Message}
 use Rattle.qc_msg.specs.declared.record.Record.{Record}
 use Rattle.qc_msg.specs.declared.record.Record.TheVariants.{Life, Prepare, Done, Close, Install, Commit, Decide}
 use Rattle.qc_msg.specs.declared.reply.Reply.{Reply}
 use Rattle.qc_msg.specs.declared.reply.Reply.TheVariants as replies
-use Rattle.qc_msg.specs.declared.reply.Why.{Why}
-use Rattle.qc_msg.specs.declared.step.Command.{Command}
 use Rattle.qc_msg.specs.declared.step.Fall.{Fall}
 use Rattle.qc_msg.specs.declared.step.Given.{Given}
 use Rattle.qc_msg.specs.declared.step.Given.TheVariants as given
@@ -19,20 +16,19 @@ use Rattle.qc_msg.specs.Deeds.{Deed, Takes, Writes, Sends, Tells, Falls, Rises}
 use Rattle.qc_msg.specs.Readings.{is_life}
 use Rattle.qc_stamp.specs.Lives.{first_life}
 use Rattle.qc_stamp.specs.declared.stamp.Stamp.{Stamp}
-use Rattle.qc_stamp.specs.declared.stamp.TxId.{TxId}
 use Rattle.qc_promise.specs.Account.{Account, life_with, new_account}
 use Rattle.qc_promise.specs.Accounting.{account_at}
 use Rattle.qc_promise.specs.Deals.{Dealing, deal, dealing_in, no_dealing}
 use Rattle.qc_promise.specs.Kept.{IsGivenBack, Journal, no_journal}
 use Rattle.qc_promise.specs.Posts.{pending_next}
 use Rattle.qc_promise.specs.Replies.{AreDeedsDue, AreRepliesDue, IsDeedDue, IsRecordDue}
-use Rattle.qc_promise.specs.Rows.{commit_of, due}
+use Rattle.qc_promise.specs.Rows.{due}
 use Rattle.qc_promise.specs.Turns.{AreByTurns, Place, Idle, goes, goes_on, saying_of}
 use Rattle.qc_dealings.specs.Back.{AreBack, IsBackAt}
 use Rattle.qc_dealings.specs.Ends.{AreCommitsTold, HasRecord, IsDeedTold, IsToldOf, TellsNext}
-use Rattle.qc_dealings.proofs.Ended.{Awaited, Closed, Ended, closed_life, closed_off, closed_rise, ended_as, goes_on as moves_on}
+use Rattle.qc_dealings.proofs.EndTies.{AwaitsReply, IsOver, closed_life, closed_off, closed_rise, ended_as, goes_on as moves_on}
 use Rattle.qc_dealings.proofs.EndReplies.{Ending, ends_on, recorded_begun}
-use Rattle.qc_dealings.proofs.Gists.{Gist, counted_same, finished, gist, heard_same, sent_same, with_call}
+use Rattle.qc_dealings.proofs.Gists.{counted_same, finished, gist, heard_same, sent_same, with_call}
 use Rattle.qc_dealings.proofs.Steps.{none_some}
 use Rattle.qc_dealings.proofs.Turning.{CameTo, FellTo, RoseTo, ToldTo, WroteTo, comes, falls, is_failing, is_off, rises, sends, tells, writes}
 use Rattle.qc_dealings.proofs.Carrying.{Known, Ongoing, commit_or, fallen_known, known_still, lives_up, risen_known, written_known}
@@ -47,7 +43,7 @@ module _ (decl : Declaration) (c : CommitRecord) where
   takes_end p q d x j (given.Called command) after place s =
       moves_on c (is_off p) (is_off q) (gist d) (with_call (gist d) command) x (record x { asked = Some command }) j.records j.records (Known decl c p j (Takes (given.Called command) ∷ after)) (Known decl c q j after) ⊥ (TellsNext after)
       refl (λ w. w.next) (λ l. inl (known_still decl c p q j (Takes (given.Called command) ∷ after) after place.1 l))
-      (λ z. (let k : Closed c (is_off q) (gist d) = closed_off c (is_off p) (is_off q) (gist d) (inl place.0) z in record { past = k.past; gone = k.gone }))
+      (λ z. (let k : IsOver c (is_off q) (gist d) = closed_off c (is_off p) (is_off q) (gist d) (inl place.0) z in record { past = k.past; gone = k.gone }))
       (λ e is. absurd (none_some e None refl is)) (λ e among. among) s
   takes_end p q d x j (given.Got envelope) after place s =
       ended_as c (is_off p) (is_off q) (gist d) (gist (account_at decl d (Takes (given.Got envelope)))) x j.records (Known decl c p j (Takes (given.Got envelope) ∷ after)) (Known decl c q j after) ⊥ (TellsNext after)
@@ -72,7 +68,7 @@ module _ (decl : Declaration) (c : CommitRecord) where
   life_ends p q d x j after place s =
       moves_on c (is_off p) (is_off q) (gist d) (gist (account_at decl d (Writes Life))) x x j.records (journal_at j (Writes Life)).records (Known decl c p j (Writes Life ∷ after)) (Known decl c q (journal_at j (Writes Life)) after) ⊥ (TellsNext after)
       refl (λ w. w.next) (λ l. inl (old (written_known decl c p q j Life (Writes Life ∷ after) after place.1.0 l)))
-      (λ z. subst (λ (b : Bool). Closed c b (gist (account_at decl d (Writes Life)))) (sym place.0) (closed_life c (gist d) (subst (λ (b : Bool). Closed c b (gist d)) place.1.1 z)))
+      (λ z. subst (λ (b : Bool). IsOver c b (gist (account_at decl d (Writes Life)))) (sym place.0) (closed_life c (gist d) (subst (λ (b : Bool). IsOver c b (gist d)) place.1.1 z)))
       (λ e is. In-first (Commit e) j.records (Life ∷ []) (s.written e is)) (λ e among. In-first (Commit e) j.records (Life ∷ []) among) s
     where
       old : Known decl c p j (Writes Life ∷ after) ⊎ (Commit c ≡ Life) → Known decl c p j (Writes Life ∷ after)
@@ -89,11 +85,11 @@ module _ (decl : Declaration) (c : CommitRecord) where
   commit_ends p q d x j commit after place its next ongoing s =
       moves_on c (is_off p) (is_off q) (gist d) (gist (account_at decl d (Writes (Commit commit)))) x x j.records (journal_at j (Writes (Commit commit))).records (Known decl c p j (Writes (Commit commit) ∷ after)) (Known decl c q (journal_at j (Writes (Commit commit))) after) ⊥ (TellsNext after)
       refl (λ w. w.next) (λ l. now (written_known decl c p q j (Commit commit) (Writes (Commit commit) ∷ after) after place.1.0 l))
-      (λ z. (let k : Closed c (is_off q) (gist d) = closed_off c (is_off p) (is_off q) (gist d) (inl (place.0 ∙ sym place.1.1)) z in record { past = k.past; gone = k.gone }))
+      (λ z. (let k : IsOver c (is_off q) (gist d) = closed_off c (is_off p) (is_off q) (gist d) (inl (place.0 ∙ sym place.1.1)) z in record { past = k.past; gone = k.gone }))
       (λ e is. subst (λ (r : Record). In r (j.records ++ Commit commit ∷ [])) (ap record_in is) (In-last (Commit commit) j.records))
       (λ e among. In-first (Commit e) j.records (Commit commit ∷ []) among) s
     where
-      now : Known decl c p j (Writes (Commit commit) ∷ after) ⊎ (Commit c ≡ Commit commit) → Known decl c p j (Writes (Commit commit) ∷ after) ⊎ Awaited c (gist (account_at decl d (Writes (Commit commit)))) x (TellsNext after)
+      now : Known decl c p j (Writes (Commit commit) ∷ after) ⊎ (Commit c ≡ Commit commit) → Known decl c p j (Writes (Commit commit) ∷ after) ⊎ AwaitsReply c (gist (account_at decl d (Writes (Commit commit)))) x (TellsNext after)
       now (inl old) = inl old
       now (inr new) =
           let is : commit ≡ c = sym (ap (commit_or decl c) new) in
@@ -117,7 +113,7 @@ module _ (decl : Declaration) (c : CommitRecord) where
   fall_ends p q d x j cause pending after place s =
       moves_on c (is_off p) (is_off q) (gist d) (finished (gist d)) x (record x { begun = None }) j.records j.records (Known decl c p j (Falls cause pending ∷ after)) (Known decl c q (journal_at j (Falls cause pending)) after) ⊥ (TellsNext after)
       refl (λ w. w.next) (λ l. inl (fallen_known decl c p q j cause pending after place l))
-      (λ z. (let k : Closed c (is_off q) (gist d) = closed_off c (is_off p) (is_off q) (gist d) (inr place.0) z in record { past = k.past; gone = λ o is named. none_some o None refl is }))
+      (λ z. (let k : IsOver c (is_off q) (gist d) = closed_off c (is_off p) (is_off q) (gist d) (inr place.0) z in record { past = k.past; gone = λ o is named. none_some o None refl is }))
       (λ e is. absurd (none_some e None refl is)) (λ e among. among) s
 
   stays_in : (r : Record) (j : Journal) (kept : List Record) → IsGivenBack j kept → In r j.records → In r kept
@@ -129,8 +125,8 @@ module _ (decl : Declaration) (c : CommitRecord) where
   rise_ends p q d x j kept after place back ongoing s =
       moves_on c (is_off p) (is_off q) (gist d) (gist (account_at decl d (Rises kept))) x x j.records kept (Known decl c p j (Rises kept ∷ after)) (Known decl c q (journal_at j (Rises kept)) after) ⊥ (TellsNext after)
       refl (λ w. w.next) (λ l. inl (risen_known decl c p q j kept after place back l))
-      (λ z. subst (λ (b : Bool). Closed c b (gist (account_at decl d (Rises kept)))) (sym place.1.0)
-      (closed_rise c (gist d) (fold life_with first_life kept) (lives_up decl c d x p j kept (Rises kept ∷ after) back ongoing) (subst (λ (b : Bool). Closed c b (gist d)) place.0 z)))
+      (λ z. subst (λ (b : Bool). IsOver c b (gist (account_at decl d (Rises kept)))) (sym place.1.0)
+      (closed_rise c (gist d) (fold life_with first_life kept) (lives_up decl c d x p j kept (Rises kept ∷ after) back ongoing) (subst (λ (b : Bool). IsOver c b (gist d)) place.0 z)))
       (λ e is. absurd (none_some e None refl is)) (λ e among. stays_in (Commit e) j kept back among) s
 
   -- any deed
@@ -151,7 +147,7 @@ module _ (decl : Declaration) (c : CommitRecord) where
 
   -- all of them
 
-  pub record Final (client : ℕ) (ds : List Deed) : Type 0 where
+  pub record EndsWell (client : ℕ) (ds : List Deed) : Type 0 where
     pub place : Place
     pub account : Account
     pub its : account.client ≡ client
@@ -160,7 +156,7 @@ module _ (decl : Declaration) (c : CommitRecord) where
 
   module _ (client : ℕ) (whole : List Deed) where
     all : (p : Place) (d : Account) (x : Dealing) (j : Journal) (ds : List Deed) → fold (deal c.tx) x ds ≡ dealing_in whole c.tx → fold journal_at j ds ≡ journal_after whole → is_some (fold (goes_on false) (Some p) ds) ≡ true
-        → AreDeedsDue decl d ds → AreBack j ds → AreCommitsTold ds → d.client ≡ client → Ongoing decl c p d x j ds → Ending decl c p d x j ds → Final client whole
+        → AreDeedsDue decl d ds → AreBack j ds → AreCommitsTold ds → d.client ≡ client → Ongoing decl c p d x j ds → Ending decl c p d x j ds → EndsWell client whole
     all p d x j [] dealt journal turns its back told own s e = record {
       place = p;
       account = d;
@@ -172,7 +168,7 @@ module _ (decl : Declaration) (c : CommitRecord) where
         next (goes false p deed) refl turns (λ q place more. all q (account_at decl d deed) (deal c.tx x deed) (journal_at j deed) ds dealt journal more its.1 back.1 told.1 (same_client decl d deed ∙ own)
         (one decl c p q d x j deed ds place its.0 back.0 s) (deed_ends p q d x j deed ds place its.0 back.0 told.0 s e))
       where
-        next : (o : Option Place) → goes false p deed ≡ o → is_some (fold (goes_on false) o ds) ≡ true → ((q : Place) → goes false p deed ≡ Some q → is_some (fold (goes_on false) (Some q) ds) ≡ true → Final client whole) → Final client whole
+        next : (o : Option Place) → goes false p deed ≡ o → is_some (fold (goes_on false) o ds) ≡ true → ((q : Place) → goes false p deed ≡ Some q → is_some (fold (goes_on false) (Some q) ds) ≡ true → EndsWell client whole) → EndsWell client whole
         next None place more go = absurd (stuck decl c ds more)
         next (Some q) place more go = go q place more
 
@@ -190,13 +186,13 @@ module _ (decl : Declaration) (c : CommitRecord) where
       nothing (inr (inl at)) = none_some (Commit c) None refl at
       nothing (inr (inr at)) = let never : false ≡ true = at.0 in cc
 
-  pub final : (client : ℕ) (ds : List Deed) → AreByTurns false ds → AreRepliesDue decl client ds → AreBack no_journal ds → AreCommitsTold ds → Final client ds
+  pub final : (client : ℕ) (ds : List Deed) → AreByTurns false ds → AreRepliesDue decl client ds → AreBack no_journal ds → AreCommitsTold ds → EndsWell client ds
   final client ds turns its back told = all client ds Idle (new_account client) no_dealing no_journal ds refl refl turns its back told refl (new decl c client ds) (first_ending client ds)
 
   -- what a client was told that the record's transaction ended with
 
   module _ (client : ℕ) (ds : List Deed) (turns : AreByTurns false ds) (its : AreRepliesDue decl client ds) (back : AreBack no_journal ds) (told : AreCommitsTold ds) where
-    f : Final client ds
+    f : EndsWell client ds
     f = final client ds turns its back told
 
     pub told_committed : (stamp : Stamp) → In (replies.Committed stamp) (dealing_in ds c.tx).ends → HasRecord (journal_after ds).records c.tx stamp
@@ -211,7 +207,7 @@ module _ (decl : Declaration) (c : CommitRecord) where
     pub recorded_told : In (Commit c) (journal_after ds).records → IsToldOf c (dealing_in ds c.tx).ends
     recorded_told among = by (f.ending.known (inl among))
       where
-        by : IsToldOf c (dealing_in ds c.tx).ends ⊎ Awaited c (gist f.account) (dealing_in ds c.tx) ⊥ → IsToldOf c (dealing_in ds c.tx).ends
+        by : IsToldOf c (dealing_in ds c.tx).ends ⊎ AwaitsReply c (gist f.account) (dealing_in ds c.tx) ⊥ → IsToldOf c (dealing_in ds c.tx).ends
         by (inl is) = is
         by (inr waits) = absurd waits.next
 

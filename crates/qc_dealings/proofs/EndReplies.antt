@@ -1,6 +1,5 @@
 -- A reply that is due keeps what holds of a transaction's end, and ends it as its record says.
 use Rattle.std.proofs.Common.{◌≡◌, ◌⊎◌, inl, inr, ℕ, ◌+◌, Bool, true, false, List, [], ◌∷◌, ◌++◌, Option, Some, None, option_map, refl, sym, ap, ◌∙◌, subst}
-use Rattle.qc_list.specs.Members.{In}
 use Rattle.qc_decl.specs.declared.declaration.Declaration.{Declaration}
 use Rattle.qc_entry.specs.declared.line.Op.{Op}
 use Rattle.qc_entry.specs.declared.record.Commit.{Commit as CommitRecord}
@@ -24,7 +23,7 @@ use Rattle.qc_promise.specs.Rows.{commit_of, due, next_commit, next_stamp, pendi
 use Rattle.qc_promise.specs.Turns.{Place, saying_of}
 use Rattle.qc_dealings.specs.Ends.{HasRecord, IsToldOf, TellsNext}
 use Rattle.qc_dealings.specs.Says.{Finds, Responds, Says}
-use Rattle.qc_dealings.proofs.Ended.{Awaited, Closed, Ended, IsGoing, closed_begin, finishes, goes_on, going_one, told_of}
+use Rattle.qc_dealings.proofs.EndTies.{AwaitsReply, IsOver, EndTie, IsGoing, closed_begin, finishes, goes_on, going_one, told_of}
 use Rattle.qc_dealings.proofs.Gists.{Gist, Going, finished, gist, going, refused_same, replied, short_same}
 use Rattle.qc_dealings.proofs.Steps.{Base, none_some, some_is}
 use Rattle.qc_dealings.proofs.Turning.{IsSaid, is_off}
@@ -43,7 +42,7 @@ same_begun stamp c (Some t) row = ap (λ (e : CommitRecord). Some e.tx) (some_is
 
 module _ (decl : Declaration) (c : CommitRecord) where
   abbrev pub Ending : Place → Account → Dealing → Journal → List Deed → Type 0
-  Ending p d x j after = Ended c (is_off p) (gist d) x j.records (Known decl c p j after) (TellsNext after)
+  Ending p d x j after = EndTie c (is_off p) (gist d) x j.records (Known decl c p j after) (TellsNext after)
 
   -- the record of the account is the begun transaction's
   pub recorded_begun : (off : Bool) (d : Account) (x : Dealing) (stamp : Stamp) → Base c.tx c.ops off (gist d) x → commit_of d stamp ≡ Some c → x.begun ≡ Some c.tx
@@ -60,43 +59,43 @@ module _ (decl : Declaration) (c : CommitRecord) where
     There = Known decl c q j after
 
     abbrev Before : Reply → Type 0
-    Before reply = Ended c (is_off p) (gist d) x j.records (Here reply) (Unit {0})
+    Before reply = EndTie c (is_off p) (gist d) x j.records (Here reply) (Unit {0})
 
     -- the place after it, and no record that waits for its reply
-    placed : (k : Gist) (y : Dealing) → Ended c (is_off p) k y j.records There (TellsNext after) → Ended c (is_off q) k y j.records There (TellsNext after)
-    placed k y s = subst (λ (b : Bool). Ended c b k y j.records There (TellsNext after)) (sym same_off) s
+    placed : (k : Gist) (y : Dealing) → EndTie c (is_off p) k y j.records There (TellsNext after) → EndTie c (is_off q) k y j.records There (TellsNext after)
+    placed k y s = subst (λ (b : Bool). EndTie c b k y j.records There (TellsNext after)) (sym same_off) s
 
-    unawaited : d.written ≡ None → Awaited c (gist d) x (Unit {0}) → ⊥
+    unawaited : d.written ≡ None → AwaitsReply c (gist d) x (Unit {0}) → ⊥
     unawaited none w = none_some c d.written none w.written
 
     module _ (reply : Reply) (s : Before reply) (none : pending_next after ≡ None) (unwritten : d.written ≡ None) where
       -- one that ends nothing
-      stays : (k : Gist) (y : Dealing) → y.ends ≡ x.ends → (Closed c (is_off p) (gist d) → Closed c (is_off p) (replied k)) → Ended c (is_off q) (replied k) y j.records There (TellsNext after)
+      stays : (k : Gist) (y : Dealing) → y.ends ≡ x.ends → (IsOver c (is_off p) (gist d) → IsOver c (is_off p) (replied k)) → EndTie c (is_off q) (replied k) y j.records There (TellsNext after)
       stays k y same closes =
           placed (replied k) y
           (goes_on c (is_off p) (is_off p) (gist d) (replied k) x y j.records j.records (Here reply) There (Unit {0}) (TellsNext after) same (unawaited unwritten)
           (λ l. inl (still decl c p q d x j after same_off reply none l)) closes (λ e is. absurd (none_some e None refl is)) (λ e among. among) s)
 
-      silent : (k : Gist) → k ≡ gist d → Ended c (is_off q) (replied k) x j.records There (TellsNext after)
-      silent k is = stays k x refl (λ z. subst (λ (g : Gist). Closed c (is_off p) (replied g)) (sym is) (record { past = z.past; gone = z.gone }))
+      silent : (k : Gist) → k ≡ gist d → EndTie c (is_off q) (replied k) x j.records There (TellsNext after)
+      silent k is = stays k x refl (λ z. subst (λ (g : Gist). IsOver c (is_off p) (replied g)) (sym is) (record { past = z.past; gone = z.gone }))
 
-      added : (k : Gist) (t : Current) (ops : List Op) (resp : Option ℕ) → d.current ≡ Some t → k ≡ record (gist d) { begun = Some (record { tx = t.tx; ops = ops }) } → Ended c (is_off q) (replied k) (dealt c.tx x resp) j.records There (TellsNext after)
-      added k t ops resp current is = stays k (dealt c.tx x resp) refl (λ z. subst (λ (g : Gist). Closed c (is_off p) (replied g)) (sym is)
+      added : (k : Gist) (t : Current) (ops : List Op) (resp : Option ℕ) → d.current ≡ Some t → k ≡ record (gist d) { begun = Some (record { tx = t.tx; ops = ops }) } → EndTie c (is_off q) (replied k) (dealt c.tx x resp) j.records There (TellsNext after)
+      added k t ops resp current is = stays k (dealt c.tx x resp) refl (λ z. subst (λ (g : Gist). IsOver c (is_off p) (replied g)) (sym is)
           (record { past = z.past; gone = λ o some named. z.gone (going t) (ap (option_map going) current) (ap (λ (e : Going). e.tx) (some_is (record { tx = t.tx; ops = ops }) o some) ∙ named) }))
 
       -- one that gives the transaction up
-      gives_up : Base c.tx c.ops (is_off p) (gist d) x → ((stamp : Stamp) → replies.Committed stamp ≡ reply → ⊥) → Ended c (is_off q) (finished (gist d)) (ended c.tx x reply) j.records There (TellsNext after)
+      gives_up : Base c.tx c.ops (is_off p) (gist d) x → ((stamp : Stamp) → replies.Committed stamp ≡ reply → ⊥) → EndTie c (is_off q) (finished (gist d)) (ended c.tx x reply) j.records There (TellsNext after)
       gives_up base not =
           placed (finished (gist d)) (ended c.tx x reply)
           (finishes c (is_off p) (gist d) x j.records (Here reply) There (Unit {0}) (TellsNext after) reply base s
           (λ l. inl (told_of c (gist d) x (Unit {0}) (unawaited unwritten) (s.known (still decl c p q d x j after same_off reply none l)))) (λ stamp is its. absurd (not stamp is)))
 
     began : (tx : TxId) → is_off p ≡ false → pending_next after ≡ None → d.written ≡ None → tx ≡ record { client = d.client; life = d.life; number = d.count + 1 } → Before (replies.Began tx)
-        → Ended c (is_off q) (gist (account_told decl d (replies.Began tx))) (deal_told c.tx x (replies.Began tx)) j.records There (TellsNext after)
+        → EndTie c (is_off q) (gist (account_told decl d (replies.Began tx))) (deal_told c.tx x (replies.Began tx)) j.records There (TellsNext after)
     began tx up none unwritten is s =
         stays (replies.Began tx) s none unwritten (gist (account_told decl d (replies.Began tx))) (deal_told c.tx x (replies.Began tx)) refl
-        (λ z. subst (λ (b : Bool). Closed c b (gist (account_told decl d (replies.Began tx)))) (sym up)
-        (closed_begin c (gist d) tx (ap (λ (t : TxId). t.life) is) (ap (λ (t : TxId). t.number) is) (subst (λ (b : Bool). Closed c b (gist d)) up z)))
+        (λ z. subst (λ (b : Bool). IsOver c b (gist (account_told decl d (replies.Began tx)))) (sym up)
+        (closed_begin c (gist d) tx (ap (λ (t : TxId). t.life) is) (ap (λ (t : TxId). t.number) is) (subst (λ (b : Bool). IsOver c b (gist d)) up z)))
 
     -- Committed, as its record is written
 
@@ -104,13 +103,13 @@ module _ (decl : Declaration) (c : CommitRecord) where
     same_reply stamp other is = let same : stamp ≡ other = cc in same
 
     commits : (stamp : Stamp) → pending_next after ≡ None → d.written ≡ commit_of d stamp → Base c.tx c.ops (is_off p) (gist d) x → Before (replies.Committed stamp)
-        → Ended c (is_off q) (finished (gist d)) (deal_told c.tx x (replies.Committed stamp)) j.records There (TellsNext after)
+        → EndTie c (is_off q) (finished (gist d)) (deal_told c.tx x (replies.Committed stamp)) j.records There (TellsNext after)
     commits stamp none wrote base s =
         placed (finished (gist d)) (ended c.tx x (replies.Committed stamp))
         (finishes c (is_off p) (gist d) x j.records (Here (replies.Committed stamp)) There (Unit {0}) (TellsNext after) (replies.Committed stamp) base s
         (λ l. tells (s.known (still decl c p q d x j after same_off (replies.Committed stamp) none l))) (λ other same its. has other same (going_one c (is_off p) (gist d) x base its)))
       where
-        tells : IsToldOf c x.ends ⊎ Awaited c (gist d) x (Unit {0}) → IsToldOf c x.ends ⊎ ((is_begun c.tx x.begun ≡ true) × IsToldOf c (replies.Committed stamp ∷ []))
+        tells : IsToldOf c x.ends ⊎ AwaitsReply c (gist d) x (Unit {0}) → IsToldOf c x.ends ⊎ ((is_begun c.tx x.begun ≡ true) × IsToldOf c (replies.Committed stamp ∷ []))
         tells (inl told) = inl told
         tells (inr w) = inr (is_its x w.begun, inl (inl (ap (λ (v : Stamp). replies.Committed v) (sym (same_stamp stamp c d.current (sym wrote ∙ w.written))))))
 
@@ -128,7 +127,7 @@ module _ (decl : Declaration) (c : CommitRecord) where
     -- Unknown, where its record may be pending
 
     unknown : pending_next after ≡ next_commit d → d.written ≡ None → Base c.tx c.ops (is_off p) (gist d) x → Before replies.Unknown
-        → Ended c (is_off q) (finished (gist d)) (deal_told c.tx x replies.Unknown) j.records There (TellsNext after)
+        → EndTie c (is_off q) (finished (gist d)) (deal_told c.tx x replies.Unknown) j.records There (TellsNext after)
     unknown pending unwritten base s =
         placed (finished (gist d)) (ended c.tx x replies.Unknown)
         (finishes c (is_off p) (gist d) x j.records (Here replies.Unknown) There (Unit {0}) (TellsNext after) replies.Unknown base s tells (λ stamp is its. absurd (let never : ⊥ = cc in never)))
@@ -137,7 +136,7 @@ module _ (decl : Declaration) (c : CommitRecord) where
         written None is = absurd (none_some (Commit c) None refl is)
         written (Some e) is = ap (λ (r : Record). Some (commit_or decl c r)) (some_is (Commit e) (Commit c) is)
 
-        old : IsToldOf c x.ends ⊎ Awaited c (gist d) x (Unit {0}) → IsToldOf c x.ends ⊎ ((is_begun c.tx x.begun ≡ true) × IsToldOf c (replies.Unknown ∷ []))
+        old : IsToldOf c x.ends ⊎ AwaitsReply c (gist d) x (Unit {0}) → IsToldOf c x.ends ⊎ ((is_begun c.tx x.begun ≡ true) × IsToldOf c (replies.Unknown ∷ []))
         old known = inl (told_of c (gist d) x (Unit {0}) (unawaited unwritten) known)
 
         tells : There → IsToldOf c x.ends ⊎ ((is_begun c.tx x.begun ≡ true) × IsToldOf c (replies.Unknown ∷ []))
@@ -146,7 +145,7 @@ module _ (decl : Declaration) (c : CommitRecord) where
         tells (inr (inr at)) = inr (is_its x (recorded_begun (is_off p) d x (next_stamp d) base (written (commit_of d (next_stamp d)) (sym pending ∙ at.1))), inr (inl refl))
 
     ends_so : (reply : Reply) → IsSaid (is_off p) (saying_of reply) → d.written ≡ record_with d reply → pending_next after ≡ pending_with d reply → (command : Command) × ((d.command ≡ Some command) × Says decl d command reply)
-        → Base c.tx c.ops (is_off p) (gist d) x → Before reply → Ended c (is_off q) (gist (account_told decl d reply)) (deal_told c.tx x reply) j.records There (TellsNext after)
+        → Base c.tx c.ops (is_off p) (gist d) x → Before reply → EndTie c (is_off q) (gist (account_told decl d reply)) (deal_told c.tx x reply) j.records There (TellsNext after)
     ends_so replies.Down place wrote none run base s = silent replies.Down s none wrote (gist d) refl
     ends_so (replies.Already tx) place wrote none run base s = silent (replies.Already tx) s none wrote (gist d) refl
     ends_so (replies.Began tx) place wrote none run base s = began tx (neither_up decl c p q d x j after same_off (is_off p) place) none wrote run.1.1 s

@@ -6,7 +6,7 @@ pub mod Carrying
 pub mod Telling
 pub mod Deeds
 pub mod Owners
-pub mod Ended
+pub mod EndTies
 pub mod EndReplies
 pub mod EndDeeds
 pub mod EndLaws

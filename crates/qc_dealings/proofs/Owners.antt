@@ -1,5 +1,5 @@
 -- The account of a client stays that client's.
-use Rattle.std.proofs.Common.{◌≡◌, ℕ, List, Option, Some, None, refl, ap}
+use Rattle.std.proofs.Common.{◌≡◌, Option, Some, None, refl, ap}
 use Rattle.qc_decl.specs.declared.declaration.Declaration.{Declaration}
 use Rattle.qc_msg.specs.declared.record.Record.{Record}
 use Rattle.qc_msg.specs.declared.record.Record.TheVariants.{Life, Prepare, Done, Close, Install, Commit, Decide}

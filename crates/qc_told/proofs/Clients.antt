@@ -1,12 +1,11 @@
 -- What each client of a run with falls has done: by turns, due, given back, and told.
-use Rattle.std.proofs.Common.{◌≡◌, ◌<◌, ◌≤◌, ℕ, ◌+◌, ◌-◌, ◌&&◌, nat_le, nat_lt, Bool, true, false, List, [], ◌∷◌, length, Some, slice_get, refl, sym, ap, ◌∙◌, subst, le-leb, lt-ltb, arith}
+use Rattle.std.proofs.Common.{◌≡◌, ◌<◌, ◌≤◌, ℕ, ◌+◌, ◌-◌, ◌&&◌, nat_le, nat_lt, Bool, true, false, List, [], ◌∷◌, Some, slice_get, refl, sym, subst, le-leb, lt-ltb, arith}
 use Rattle.std.proofs.lemmas.Bool.{leb-true, ltb-true}
 use Rattle.qc_account.specs.Declares.{Declares}
 use Rattle.qc_account.proofs.Commands.{no_site}
 use Rattle.qc_account.proofs.Declared.{asks_declared}
 use Rattle.qc_core.specs.Conduct.{IsLawfulWithFalls}
-use Rattle.qc_core.specs.Journals.{journal_after, journal_at}
-use Rattle.qc_core.proofs.LivesLaws.{journal}
+use Rattle.qc_core.specs.Journals.{journal_at}
 use Rattle.qc_dealings.specs.Back.{AreBack}
 use Rattle.qc_dealings.specs.Ends.{AreCommitsTold}
 use Rattle.qc_decl.specs.Accepted.{IsAccepted}

@@ -1,12 +1,13 @@
 -- What clients were told through falls: wrong ends and wrong records are refused, right ones are taken.
-use Rattle.std.proofs.Common.{◌≡◌, ◌≢◌, ◌⊎◌, ◌<◌, inl, inr, ℕ, Bool, true, false, cond, List, [], ◌∷◌, Option, Some, None, refl, sym, ap, ◌∙◌, subst, arith}
+use Rattle.std.proofs.Common.{◌≡◌, ◌⊎◌, ◌<◌, inl, inr, ℕ, Bool, true, false, cond, List, [], ◌∷◌, Option, Some, None, refl, sym, ap, subst, arith}
 use Rattle.qc_entry.specs.declared.line.Op.{Op}
 use Rattle.qc_entry.specs.declared.record.Commit.{Commit as CommitRecord}
 use Rattle.qc_list.specs.Members.{In}
+use Rattle.qc_dealings.specs.Ends.{AreCommitsTold}
+use Rattle.qc_msg.specs.Deeds.{deeds}
 use Rattle.qc_msg.specs.Steps.{Entry}
 use Rattle.qc_msg.specs.declared.reply.Reply.{Reply}
 use Rattle.qc_msg.specs.declared.reply.Reply.TheVariants as replies
-use Rattle.qc_msg.specs.declared.reply.Why.{Why}
 use Rattle.qc_msg.specs.declared.reply.Why.TheVariants as causes
 use Rattle.qc_promise.specs.Committed.{committed}
 use Rattle.qc_promise.specs.Deals.{deals, endings}
@@ -50,6 +51,9 @@ neither (inr never) = never
 
 pub untold : Tells (crashed (mine ∷ [])) → ⊥
 untold t = neither (t.each (its (read_it ∷ [])) (inl refl))
+
+pub post_ends : AreCommitsTold (deeds 1 [] cut_off) → ⊥
+post_ends told = told.1.1.1.1.1.0
 
 pub unsaid : Tells cut_off → ⊥
 unsaid t = neither (t.each (its (read_it ∷ [])) (inl refl))
@@ -137,6 +141,9 @@ told_committed = record {
   dropped = λ n t c below among listed. absurd (let is : replies.Dropped ≡ replies.Committed first = (kept_so n t replies.Dropped below among).1 in let no : ⊥ = cc in no);
   each = λ c listed. inl (of_one (λ (c : CommitRecord). In (replies.Committed c.stamp) (endings decl kept c.tx.client c.tx)) (inl refl) c listed);
 }
+
+pub post_tells : AreCommitsTold (deeds 1 [] kept)
+post_tells = (tt, (tt, (tt, (tt, (tt, (tt, (tt, (tt, (tt, (tt, tt))))))))))
 
 -- it is told nothing of the end
 

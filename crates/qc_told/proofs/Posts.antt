@@ -3,10 +3,9 @@ use Rattle.std.proofs.Common.{◌≡◌, ℕ, ◌+◌, ◌-◌, Bool, true, fals
 use Rattle.std.specs.List.{AllByRecursion as Every}
 use Rattle.qc_core.specs.declared.actor.Actor.{Actor}
 use Rattle.qc_core.specs.Actors.{ActorMove, actor_after, actor_takes, by_client, by_site, down_takes}
-use Rattle.qc_core.specs.Conduct.{IsLawfulWithFalls, with_record}
+use Rattle.qc_core.specs.Conduct.{IsLawfulWithFalls}
 use Rattle.qc_core.specs.Lives.{Lives}
 use Rattle.qc_core.specs.Lives as lives
-use Rattle.qc_client.specs.Client.{ClientMove}
 use Rattle.qc_client.specs.Conduct.{client_takes}
 use Rattle.qc_decl.specs.Actors.{is_client}
 use Rattle.qc_decl.specs.declared.declaration.Declaration.{Declaration}
@@ -14,7 +13,6 @@ use Rattle.qc_entry.specs.declared.record.Commit.{Commit as CommitRecord}
 use Rattle.qc_msg.specs.declared.record.Record.{Record}
 use Rattle.qc_msg.specs.declared.record.Record.TheVariants.{Life, Prepare, Done, Close, Install, Commit, Decide}
 use Rattle.qc_msg.specs.declared.reply.Reply.{Reply}
-use Rattle.qc_msg.specs.declared.reply.Reply.TheVariants as replies
 use Rattle.qc_msg.specs.declared.step.Fall.{Fall}
 use Rattle.qc_msg.specs.declared.step.Given.{Given}
 use Rattle.qc_msg.specs.declared.step.Given.TheVariants as given
@@ -25,7 +23,6 @@ use Rattle.qc_msg.specs.declared.turn.Turn.{Turn}
 use Rattle.qc_msg.specs.Begun.{first_epoch}
 use Rattle.qc_msg.specs.Deeds.{Deed, Takes, Writes, Sends, Tells, Falls, Rises, deeds_as, sends_of, tells_of, turn_deeds, writes_of}
 use Rattle.qc_promise.specs.Accounting.{account_taken}
-use Rattle.qc_promise.specs.Rows.{running_row}
 use Rattle.qc_recover.specs.Clients.{client_rises}
 use Rattle.qc_recover.specs.Sites.{site_rises}
 use Rattle.qc_account.specs.Declares.{IsDeclaredDeed, IsPlanned}
@@ -33,7 +30,7 @@ use Rattle.qc_account.specs.DeedsDue as rows
 use Rattle.qc_account.specs.Goes.{Goes}
 use Rattle.qc_account.proofs.Commands.{free_for, no_site}
 use Rattle.qc_account.proofs.Lifelong.{client_lives}
-use Rattle.qc_account.proofs.Standing.{IsAtInput, IsFallen, IsTied, Stands, account_is, actor_more, turn_is}
+use Rattle.qc_account.proofs.Standing.{IsAtInput, IsTied, Stands, account_is, actor_more, turn_is}
 use Rattle.qc_account.proofs.Step.{takes_go}
 use Rattle.qc_dealings.specs.Ends.{AreCommitsTold, IsRecordTold, TellsNext}
 

@@ -1,5 +1,5 @@
 -- What clients were told agrees with the records, in every run with falls whose records are kept.
-use Rattle.std.proofs.Common.{◌≡◌, ◌≢◌, ◌↔◌, ◌⊎◌, ◌<◌, ℕ, ◌-◌, Bool, true, List, [], sym, ap, ◌∙◌, subst}
+use Rattle.std.proofs.Common.{◌≡◌, ◌≢◌, ◌↔◌, ◌⊎◌, ◌<◌, ℕ, ◌-◌, Bool, List, [], sym, ap, ◌∙◌, subst}
 use Rattle.qc_core.specs.Conduct.{IsLawfulWithFalls}
 use Rattle.qc_core.specs.Journals.{journal_after}
 use Rattle.qc_core.proofs.LivesLaws.{journal}
@@ -7,7 +7,7 @@ use Rattle.qc_dealings.specs.Ends.{AreCommitsTold, HasRecord}
 use Rattle.qc_dealings.proofs.Deeds.{deeds_deal}
 use Rattle.qc_dealings.proofs.EndLaws.{ends_aborted, ends_committed, ends_dropped, ends_own, records_own, records_told}
 use Rattle.qc_decl.specs.Accepted.{IsAccepted}
-use Rattle.qc_decl.specs.Actors.{client_actor, is_client}
+use Rattle.qc_decl.specs.Actors.{client_actor}
 use Rattle.qc_decl.specs.declared.declaration.Declaration.{Declaration}
 use Rattle.qc_entry.specs.declared.record.Commit.{Commit as CommitRecord}
 use Rattle.qc_list.specs.Members.{In}
@@ -18,7 +18,6 @@ use Rattle.qc_msg.specs.declared.reply.Reply.TheVariants as replies
 use Rattle.qc_msg.specs.declared.reply.Why.{Why}
 use Rattle.qc_msg.specs.Deeds.{Deed, deeds}
 use Rattle.qc_msg.specs.Steps.{Entry}
-use Rattle.qc_onecopy.specs.Committed.{AreApart}
 use Rattle.qc_onecopy.proofs.Committed.{sorts}
 use Rattle.qc_promise.specs.Committed.{committed, records}
 use Rattle.qc_promise.specs.Deals.{endings}

@@ -2,6 +2,8 @@
 //! right ones: the contracts of functions with nothing to do.
 
 ghost use Rattle.std.specs.Prelude.{[], ◌∷◌};
+ghost use Rattle.qc_dealings.specs.Ends.{AreCommitsTold};
+ghost use Rattle.qc_msg.specs.Deeds.{deeds};
 ghost use Rattle.qc_msg.specs.declared.reply.Reply.TheVariants as replies;
 ghost use Rattle.qc_msg.specs.declared.reply.Why.TheVariants as causes;
 ghost use Rattle.qc_told.specs.Falling.{Deals, Tells, crashed, cut_off, fallen, first, kept, mine};
@@ -15,6 +17,8 @@ pub fn wrong_ends_through_falls_are_refused()
     // It is told that it committed, and rises without the record; or with one of another stamp.
     ensures lost { Tells (fallen (replies.Committed first) []) → ⊥ }
     ensures other_stamp { Tells (fallen (replies.Committed second) (mine ∷ [])) → ⊥ }
+    // Its post that writes the record ends without a reply.
+    ensures post { AreCommitsTold (deeds 1 [] cut_off) → ⊥ }
     // It is told nothing, and rises with a record; with one that it wrote, or never did.
     ensures unsaid { Tells cut_off → ⊥ }
     ensures untold { Tells (crashed (mine ∷ [])) → ⊥ }
@@ -35,7 +39,8 @@ pub fn right_ends_through_falls_are_taken()
     ensures told_unknown { Tells (fallen replies.Unknown (mine ∷ [])) }
     ensures dealt_unknown { Deals (fallen replies.Unknown (mine ∷ [])) }
     ensures none_rose { Tells (fallen replies.Unknown []) }
-    // It is told that it committed, and falls and rises later.
+    // It is told that it committed, in the post that writes so, and falls and rises later.
+    ensures post { AreCommitsTold (deeds 1 [] kept) }
     ensures told_committed { Tells kept }
     ensures dealt_committed { Deals kept }
     // It falls in the transaction, and rises without a record.

@@ -1,4 +1,4 @@
-use Rattle.qc_told.proofs.Falling.{dealt_committed, dealt_unknown, none_rose, read_later, told_committed, told_nothing, told_unknown}
+use Rattle.qc_told.proofs.Falling.{dealt_committed, dealt_unknown, none_rose, post_tells, read_later, told_committed, told_nothing, told_unknown}
 use Rattle.qc_told.proofs.wrong.right_ends_through_falls_are_taken.Goals as goal
 
 pub returns-clause-told_unknown : goal.returns-clause-told_unknown
@@ -21,3 +21,6 @@ returns-clause-told_nothing g = told_nothing
 
 pub returns-clause-read_later : goal.returns-clause-read_later
 returns-clause-read_later g = read_later
+
+pub returns-clause-post : goal.returns-clause-post
+returns-clause-post g = post_tells

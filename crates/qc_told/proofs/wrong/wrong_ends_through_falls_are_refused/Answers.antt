@@ -1,4 +1,4 @@
-use Rattle.qc_told.proofs.Falling.{aborted, dropped, lost, other_stamp, unsaid, untold}
+use Rattle.qc_told.proofs.Falling.{aborted, dropped, lost, other_stamp, post_ends, unsaid, untold}
 use Rattle.qc_told.proofs.wrong.wrong_ends_through_falls_are_refused.Goals as goal
 
 pub returns-clause-aborted : goal.returns-clause-aborted
@@ -18,3 +18,6 @@ returns-clause-untold g = untold
 
 pub returns-clause-unsaid : goal.returns-clause-unsaid
 returns-clause-unsaid g = unsaid
+
+pub returns-clause-post : goal.returns-clause-post
+returns-clause-post g = post_ends

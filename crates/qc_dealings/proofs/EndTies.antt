@@ -3,7 +3,6 @@ use Rattle.std.proofs.Common.{◌≡◌, ◌≢◌, ◌⊎◌, inl, inr, ℕ, �
 use Rattle.std.proofs.lemmas.List.{append-nil}
 use Rattle.qc_list.specs.Members.{In}
 use Rattle.qc_list.proofs.Members.{In-first, In-more, In-second}
-use Rattle.qc_stamp.specs.Order.{same_tx}
 use Rattle.qc_stamp.proofs.Orders.{same_tx_is}
 use Rattle.qc_stamp.specs.declared.stamp.Stamp.{Stamp}
 use Rattle.qc_stamp.specs.declared.stamp.TxId.{TxId}
@@ -34,64 +33,64 @@ pub record IsGoing (g : Gist) (tx : TxId) : Type 0 where
 
 module _ (c : CommitRecord) where
   -- the transaction isn't begun, and never will be again
-  pub record Closed (off : Bool) (g : Gist) : Type 0 where
+  pub record IsOver (off : Bool) (g : Gist) : Type 0 where
     pub past : IsPast c.tx c.ops off g
     pub gone : (o : Going) → g.begun ≡ Some o → o.tx ≢ c.tx
 
   -- its record is written, and a reply comes next
-  pub record Awaited (g : Gist) (x : Dealing) (A : Type 0) : Type 0 where
+  pub record AwaitsReply (g : Gist) (x : Dealing) (A : Type 0) : Type 0 where
     pub written : g.written ≡ Some c
     pub begun : x.begun ≡ Some c.tx
     pub next : A
 
-  pub record Ended (off : Bool) (g : Gist) (x : Dealing) (rs : List Record) (K A : Type 0) : Type 0 where
-    pub closed : (r : Reply) → In r x.ends → Closed off g
+  pub record EndTie (off : Bool) (g : Gist) (x : Dealing) (rs : List Record) (K A : Type 0) : Type 0 where
+    pub closed : (r : Reply) → In r x.ends → IsOver off g
     pub single : (r s : Reply) → In r x.ends → In s x.ends → r ≡ s
-    pub known : K → IsToldOf c x.ends ⊎ Awaited g x A
+    pub known : K → IsToldOf c x.ends ⊎ AwaitsReply g x A
     pub written : (e : CommitRecord) → g.written ≡ Some e → In (Commit e) rs
     pub committed : (stamp : Stamp) → In (replies.Committed stamp) x.ends → HasRecord rs c.tx stamp
 
   -- it stays closed
 
-  pub closed_off : (off next : Bool) (g : Gist) → (next ≡ off) ⊎ (next ≡ true) → Closed off g → Closed next g
+  pub closed_off : (off next : Bool) (g : Gist) → (next ≡ off) ⊎ (next ≡ true) → IsOver off g → IsOver next g
   closed_off off next g how z = record { past = off_past c.tx c.ops off next g how z.past; gone = z.gone }
 
-  pub closed_begin : (g : Gist) (other : TxId) → other.life ≡ g.life → other.number ≡ g.count + 1 → Closed false g → Closed false (begun_with c.tx c.ops g other)
+  pub closed_begin : (g : Gist) (other : TxId) → other.life ≡ g.life → other.number ≡ g.count + 1 → IsOver false g → IsOver false (begun_with c.tx c.ops g other)
   closed_begin g other life number z = record {
     past = next_past c.tx c.ops g other z.past;
     gone = λ o is named. not_new c.tx c.ops g other life number (ap (λ (e : Going). e.tx) (some_is (record { tx = other; ops = [] }) o is) ∙ named) z.past;
   }
 
-  pub closed_life : (g : Gist) → Closed true g → Closed false (record g { life = g.life + 1 })
+  pub closed_life : (g : Gist) → IsOver true g → IsOver false (record g { life = g.life + 1 })
   closed_life g z = record { past = past_life c.tx c.ops g z.past; gone = z.gone }
 
-  pub closed_rise : (g : Gist) (life : ℕ) → g.life ≤ life → Closed true g → Closed true (risen_with c.tx c.ops g life)
+  pub closed_rise : (g : Gist) (life : ℕ) → g.life ≤ life → IsOver true g → IsOver true (risen_with c.tx c.ops g life)
   closed_rise g life up z = record { past = past_risen c.tx c.ops g life up z.past; gone = λ o is named. none_some o None refl is }
 
   -- where nothing is awaited it was told
   module _ (g : Gist) (x : Dealing) (A : Type 0) where
-    pub told_of : (Awaited g x A → ⊥) → IsToldOf c x.ends ⊎ Awaited g x A → IsToldOf c x.ends
+    pub told_of : (AwaitsReply g x A → ⊥) → IsToldOf c x.ends ⊎ AwaitsReply g x A → IsToldOf c x.ends
     told_of never (inl told) = told
     told_of never (inr waits) = absurd (never waits)
 
-    waits_on : (B : Type 0) → (A → B) → IsToldOf c x.ends ⊎ Awaited g x A → IsToldOf c x.ends ⊎ Awaited g x B
+    waits_on : (B : Type 0) → (A → B) → IsToldOf c x.ends ⊎ AwaitsReply g x A → IsToldOf c x.ends ⊎ AwaitsReply g x B
     waits_on B on (inl told) = inl told
     waits_on B on (inr w) = inr (record { written = w.written; begun = w.begun; next = on w.next })
 
   -- the moves
 
-  pub ended_as : (off next : Bool) (g k : Gist) (x : Dealing) (rs : List Record) (K L A B : Type 0) → next ≡ off → k ≡ g → (L → K) → (A → B) → Ended off g x rs K A → Ended next k x rs L B
+  pub ended_as : (off next : Bool) (g k : Gist) (x : Dealing) (rs : List Record) (K L A B : Type 0) → next ≡ off → k ≡ g → (L → K) → (A → B) → EndTie off g x rs K A → EndTie next k x rs L B
   ended_as off next g k x rs K L A B is same known on s =
-      subst (λ (b : Bool). Ended b k x rs L B) (sym is)
-      (subst (λ (e : Gist). Ended off e x rs L B) (sym same)
+      subst (λ (b : Bool). EndTie b k x rs L B) (sym is)
+      (subst (λ (e : Gist). EndTie off e x rs L B) (sym same)
       (record { closed = s.closed; single = s.single; known = λ l. waits_on g x A B on (s.known (known l)); written = s.written; committed = s.committed }))
 
   recorded_in : (rs ts : List Record) (stamp : Stamp) → ((e : CommitRecord) → In (Commit e) rs → In (Commit e) ts) → HasRecord rs c.tx stamp → HasRecord ts c.tx stamp
   recorded_in rs ts stamp keeps h = record { commit = h.commit; listed = keeps h.commit h.listed; named = h.named; stamped = h.stamped }
 
   -- nothing ends the transaction
-  pub goes_on : (off next : Bool) (g k : Gist) (x y : Dealing) (rs ts : List Record) (K L A B : Type 0) → y.ends ≡ x.ends → (Awaited g x A → ⊥) → (L → K ⊎ Awaited k y B) → (Closed off g → Closed next k)
-      → ((e : CommitRecord) → k.written ≡ Some e → In (Commit e) ts) → ((e : CommitRecord) → In (Commit e) rs → In (Commit e) ts) → Ended off g x rs K A → Ended next k y ts L B
+  pub goes_on : (off next : Bool) (g k : Gist) (x y : Dealing) (rs ts : List Record) (K L A B : Type 0) → y.ends ≡ x.ends → (AwaitsReply g x A → ⊥) → (L → K ⊎ AwaitsReply k y B) → (IsOver off g → IsOver next k)
+      → ((e : CommitRecord) → k.written ≡ Some e → In (Commit e) ts) → ((e : CommitRecord) → In (Commit e) rs → In (Commit e) ts) → EndTie off g x rs K A → EndTie next k y ts L B
   goes_on off next g k x y rs ts K L A B same never known closes writes keeps s = record {
     closed = λ r among. closes (s.closed r (subst (In r) same among));
     single = λ r q first second. s.single r q (subst (In r) same first) (subst (In q) same second);
@@ -100,7 +99,7 @@ module _ (c : CommitRecord) where
     committed = λ stamp among. recorded_in rs ts stamp keeps (s.committed stamp (subst (In (replies.Committed stamp)) same among));
   }
     where
-      by : K ⊎ Awaited k y B → IsToldOf c y.ends ⊎ Awaited k y B
+      by : K ⊎ AwaitsReply k y B → IsToldOf c y.ends ⊎ AwaitsReply k y B
       by (inl old) = inl (subst (IsToldOf c) (sym same) (told_of g x A never (s.known old)))
       by (inr new) = inr new
 
@@ -113,7 +112,7 @@ module _ (c : CommitRecord) where
       by None none begun = absurd (true_false false begun refl)
       by (Some o) some begun = record { going = o; is = some; named = same_tx_is o.tx c.tx begun }
 
-  module _ (off : Bool) (g : Gist) (x : Dealing) (rs : List Record) (K L A B : Type 0) (reply : Reply) (base : Base c.tx c.ops off g x) (s : Ended off g x rs K A) where
+  module _ (off : Bool) (g : Gist) (x : Dealing) (rs : List Record) (K L A B : Type 0) (reply : Reply) (base : Base c.tx c.ops off g x) (s : EndTie off g x rs K A) where
     abbrev its : Bool
     its = is_begun c.tx x.begun
 
@@ -126,7 +125,7 @@ module _ (c : CommitRecord) where
     last : (r : Reply) → In r (ended c.tx x reply).ends → Last r
     last r among = last_in x.ends its reply r among
 
-    closes : (r : Reply) → Last r → Closed off (finished g)
+    closes : (r : Reply) → Last r → IsOver off (finished g)
     closes r (inl old) = record { past = (s.closed r old).past; gone = λ o is named. none_some o None refl is }
     closes r (inr new) = let o : IsGoing g c.tx = going_one off g x base new.0 in record { past = (base.told o.going o.is o.named).1; gone = λ e is named. none_some e None refl is }
 
@@ -144,7 +143,7 @@ module _ (c : CommitRecord) where
     told_last is (inl one) = inl (subst (λ (b : Bool). In (replies.Committed c.stamp) (x.ends ++ cond b (reply ∷ []) [])) (sym is) (In-second (replies.Committed c.stamp) x.ends (reply ∷ []) one))
     told_last is (inr one) = inr (subst (λ (b : Bool). In replies.Unknown (x.ends ++ cond b (reply ∷ []) [])) (sym is) (In-second replies.Unknown x.ends (reply ∷ []) one))
 
-    pub finishes : (L → IsToldOf c x.ends ⊎ ((its ≡ true) × IsToldOf c (reply ∷ []))) → ((stamp : Stamp) → replies.Committed stamp ≡ reply → its ≡ true → HasRecord rs c.tx stamp) → Ended off (finished g) (ended c.tx x reply) rs L B
+    pub finishes : (L → IsToldOf c x.ends ⊎ ((its ≡ true) × IsToldOf c (reply ∷ []))) → ((stamp : Stamp) → replies.Committed stamp ≡ reply → its ≡ true → HasRecord rs c.tx stamp) → EndTie off (finished g) (ended c.tx x reply) rs L B
     finishes tells new = record {
       closed = λ r among. closes r (last r among);
       single = λ r q one two. singles r q (last r one) (last q two);
