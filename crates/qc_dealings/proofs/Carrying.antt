@@ -29,7 +29,7 @@ use Rattle.qc_promise.specs.Replies.{IsInputDue, IsRecordDue}
 use Rattle.qc_promise.specs.Rows.{commit_of, due, reply_to}
 use Rattle.qc_promise.specs.Turns.{Place}
 use Rattle.qc_dealings.specs.Says.{Says, SaysIn}
-use Rattle.qc_dealings.proofs.Gists.{Gist, gist, going, counted_same, heard_same, sent_same}
+use Rattle.qc_dealings.proofs.Gists.{Gist, gist, going, counted_same, finished, heard_same, sent_same, with_call}
 use Rattle.qc_dealings.proofs.Rows.{reply_says}
 use Rattle.qc_dealings.proofs.Steps.{Base, Both, IsPast, Settled, both_as, called, ends, lives_on, none_some, risen, some_is, true_false}
 use Rattle.qc_dealings.proofs.Turning.{FellTo, RoseTo, is_failing, is_off}
@@ -61,7 +61,7 @@ module _ (decl : Declaration) (c : CommitRecord) where
     pub life : d.life ≡ fold life_with first_life j.records
 
   -- where no record is new
-  known_still : (p q : Place) (j : Journal) (before after : List Deed) → is_failing q ≡ false → Known q j after → Known p j before
+  pub known_still : (p q : Place) (j : Journal) (before after : List Deed) → is_failing q ≡ false → Known q j after → Known p j before
   known_still p q j before after not (inl at) = inl at
   known_still p q j before after not (inr (inl at)) = inr (inl at)
   known_still p q j before after not (inr (inr at)) = absurd (true_false (is_failing q) at.0 not)
@@ -71,7 +71,7 @@ module _ (decl : Declaration) (c : CommitRecord) where
   pub takes : (p q : Place) (d : Account) (x : Dealing) (j : Journal) (g : Given) (after : List Deed) → (is_off q ≡ is_off p) × (is_failing q ≡ false) → IsInputDue d (due decl d false) g
       → Ongoing p d x j (Takes g ∷ after) → Ongoing q (account_at decl d (Takes g)) (deal c.tx x (Takes g)) j after
   takes p q d x j (given.Called command) after place input s = record {
-    both = both_as c.tx c.ops (is_off p) (is_off q) (record (gist d) { command = Some command }) (record (gist d) { command = Some command }) (record x { asked = Some command }) (Known p j (Takes (given.Called command) ∷ after)) (Known q j after) place.0 refl
+    both = both_as c.tx c.ops (is_off p) (is_off q) (with_call (gist d) command) (with_call (gist d) command) (record x { asked = Some command }) (Known p j (Takes (given.Called command) ∷ after)) (Known q j after) place.0 refl
         (known_still p q j (Takes (given.Called command) ∷ after) after place.1) (called c.tx c.ops (is_off p) (gist d) x (Known p j (Takes (given.Called command) ∷ after)) command input.1 s.both);
     life = s.life;
   }
@@ -88,7 +88,7 @@ module _ (decl : Declaration) (c : CommitRecord) where
 
   -- a record is written
 
-  written_known : (p q : Place) (j : Journal) (r : Record) (before after : List Deed) → is_failing q ≡ false → Known q (journal_at j (Writes r)) after → Known p j before ⊎ (Commit c ≡ r)
+  pub written_known : (p q : Place) (j : Journal) (r : Record) (before after : List Deed) → is_failing q ≡ false → Known q (journal_at j (Writes r)) after → Known p j before ⊎ (Commit c ≡ r)
   written_known p q j r before after not (inl at) = by (In-more (Commit c) r j.records at)
     where
       by : In (Commit c) j.records ⊎ (Commit c ≡ r) → Known p j before ⊎ (Commit c ≡ r)
@@ -150,15 +150,21 @@ module _ (decl : Declaration) (c : CommitRecord) where
       off_is : is_off q ≡ is_off p
       off_is = place.0 ∙ sym place.1.1
 
-      base : Base c.tx c.ops (is_off q) (gist d) x
-      base = subst (λ (b : Bool). Base c.tx c.ops b (gist d) x) (sym off_is) s.both.base
+      old : Base c.tx c.ops (is_off q) (gist d) x
+      old = subst (λ (b : Bool). Base c.tx c.ops b (gist d) x) (sym off_is) s.both.base
 
-      known : Known p j (Writes (Commit commit) ∷ after) ⊎ (Commit c ≡ Commit commit) → Settled c.tx c.ops (is_off q) (gist d) x
-      known (inl k) = subst (λ (b : Bool). Settled c.tx c.ops b (gist d) x) (sym off_is) (s.both.known k)
+      base : Base c.tx c.ops (is_off q) (gist (account_at decl d (Writes (Commit commit)))) x
+      base = record { asked = old.asked; begun = old.begun; down = old.down; told = old.told; fresh = old.fresh }
+
+      settled : Settled c.tx c.ops (is_off q) (gist d) x → Settled c.tx c.ops (is_off q) (gist (account_at decl d (Writes (Commit commit)))) x
+      settled t = record { same = t.same; past = t.past; quiet = t.quiet }
+
+      known : Known p j (Writes (Commit commit) ∷ after) ⊎ (Commit c ≡ Commit commit) → Settled c.tx c.ops (is_off q) (gist (account_at decl d (Writes (Commit commit)))) x
+      known (inl k) = settled (subst (λ (b : Bool). Settled c.tx c.ops b (gist d) x) (sym off_is) (s.both.known k))
       known (inr new) =
           let is : commit ≡ c = sym (ap commit_or new) in
           let row : commit_of d commit.stamp ≡ Some c = its.1 ∙ ap (λ (e : CommitRecord). Some e) is in
-          let at : (c.ops ≡ x.ops) × IsPast c.tx c.ops (is_off q) (gist d) = recorded (is_off q) d x commit.stamp d.current refl base row in
+          let at : (c.ops ≡ x.ops) × IsPast c.tx c.ops (is_off q) (gist d) = recorded (is_off q) d x commit.stamp d.current refl old row in
           let run : (command : Command) × ((d.command ≡ Some command) × (command ≡ commands.Commit)) = said decl d false (replies.Committed commit.stamp) its.0 in
           record { same = at.0; past = at.1; quiet = λ o begun named. run.1.0 ∙ ap (λ (e : Command). Some e) run.1.1 }
 
@@ -182,23 +188,24 @@ module _ (decl : Declaration) (c : CommitRecord) where
   }
 
   -- a fall
-  pub fell : (p q : Place) (d : Account) (x : Dealing) (j : Journal) (cause : Fall) (pending : Option Record) (after : List Deed) → FellTo p cause pending (Some q)
-      → Ongoing p d x j (Falls cause pending ∷ after) → Ongoing q (account_at decl d (Falls cause pending)) (deal c.tx x (Falls cause pending)) (journal_at j (Falls cause pending)) after
-  fell p q d x j cause pending after place s = record {
-    both = subst (λ (b : Bool). Both c.tx c.ops b (record (gist d) { command = None; begun = None }) (record x { begun = None }) (Known q (journal_at j (Falls cause pending)) after)) (sym place.0)
-        (both_as c.tx c.ops true true (record (gist d) { command = None; begun = None }) (record (gist d) { command = None; begun = None }) (record x { begun = None }) (Known p j (Falls cause pending ∷ after)) (Known q (journal_at j (Falls cause pending)) after) refl refl
-        old (ends c.tx c.ops (is_off p) true (gist d) x x.ends (Known p j (Falls cause pending ∷ after)) (inr refl) s.both));
-    life = s.life;
-  }
+
+  pub fallen_known : (p q : Place) (j : Journal) (cause : Fall) (pending : Option Record) (after : List Deed) → FellTo p cause pending (Some q) → Known q (journal_at j (Falls cause pending)) after → Known p j (Falls cause pending ∷ after)
+  fallen_known p q j cause pending after place (inl at) = inl at
+  fallen_known p q j cause pending after place (inr (inl at)) = held pending refl at
     where
       held : (o : Option Record) → pending ≡ o → pending_with j.pending o ≡ Some (Commit c) → Known p j (Falls cause pending ∷ after)
       held None is at = inr (inl at)
       held (Some r) is at = inr (inr (place.1.1 c after (is ∙ at)))
+  fallen_known p q j cause pending after place (inr (inr at)) = absurd (true_false (is_failing q) at.0 place.1.0)
 
-      old : Known q (journal_at j (Falls cause pending)) after → Known p j (Falls cause pending ∷ after)
-      old (inl at) = inl at
-      old (inr (inl at)) = held pending refl at
-      old (inr (inr at)) = absurd (true_false (is_failing q) at.0 place.1.0)
+  pub fell : (p q : Place) (d : Account) (x : Dealing) (j : Journal) (cause : Fall) (pending : Option Record) (after : List Deed) → FellTo p cause pending (Some q)
+      → Ongoing p d x j (Falls cause pending ∷ after) → Ongoing q (account_at decl d (Falls cause pending)) (deal c.tx x (Falls cause pending)) (journal_at j (Falls cause pending)) after
+  fell p q d x j cause pending after place s = record {
+    both = subst (λ (b : Bool). Both c.tx c.ops b (finished (gist d)) (record x { begun = None }) (Known q (journal_at j (Falls cause pending)) after)) (sym place.0)
+        (both_as c.tx c.ops true true (finished (gist d)) (finished (gist d)) (record x { begun = None }) (Known p j (Falls cause pending ∷ after)) (Known q (journal_at j (Falls cause pending)) after) refl refl
+        (fallen_known p q j cause pending after place) (ends c.tx c.ops (is_off p) true (gist d) x x.ends (Known p j (Falls cause pending ∷ after)) (inr refl) s.both));
+    life = s.life;
+  }
 
   -- a rise
   in_either : (xs ys : List Record) → In (Commit c) (xs ++ ys) → In (Commit c) xs ⊎ In (Commit c) ys
@@ -231,16 +238,20 @@ module _ (decl : Declaration) (c : CommitRecord) where
       subst (λ (n : ℕ). fold life_with first_life j.records ≤ n) (sym (ap (fold life_with first_life) more ∙ fold-append life_with first_life j.records (option_to_list j.pending)))
       (life_up (fold life_with first_life j.records) (option_to_list j.pending))
 
+  pub risen_known : (p q : Place) (j : Journal) (kept : List Record) (after : List Deed) → RoseTo (is_off p) (Some q) → IsGivenBack j kept → Known q (journal_at j (Rises kept)) after → Known p j (Rises kept ∷ after)
+  risen_known p q j kept after place back (inl at) = back_known p j kept (Rises kept ∷ after) back at
+  risen_known p q j kept after place back (inr (inl at)) = absurd (none_some (Commit c) None refl at)
+  risen_known p q j kept after place back (inr (inr at)) = absurd (true_false (is_failing q) at.0 place.1.1)
+
+  -- the life that it rises with is no less
+  pub lives_up : (d : Account) (x : Dealing) (p : Place) (j : Journal) (kept : List Record) (before : List Deed) → IsGivenBack j kept → Ongoing p d x j before → d.life ≤ fold life_with first_life kept
+  lives_up d x p j kept before back s = subst (λ (n : ℕ). n ≤ fold life_with first_life kept) (sym s.life) (back_up j kept back)
+
   pub rose : (p q : Place) (d : Account) (x : Dealing) (j : Journal) (kept : List Record) (after : List Deed) → RoseTo (is_off p) (Some q) → IsGivenBack j kept
       → Ongoing p d x j (Rises kept ∷ after) → Ongoing q (account_at decl d (Rises kept)) x (journal_at j (Rises kept)) after
   rose p q d x j kept after place back s = record {
-    both = both_as c.tx c.ops true (is_off q) (gist (account_at decl d (Rises kept))) (gist (account_at decl d (Rises kept))) x (Known p j (Rises kept ∷ after)) (Known q (journal_at j (Rises kept)) after) place.1.0 refl old
-        (risen c.tx c.ops (gist d) x (Known p j (Rises kept ∷ after)) (fold life_with first_life kept) (subst (λ (n : ℕ). n ≤ fold life_with first_life kept) (sym s.life) (back_up j kept back))
+    both = both_as c.tx c.ops true (is_off q) (gist (account_at decl d (Rises kept))) (gist (account_at decl d (Rises kept))) x (Known p j (Rises kept ∷ after)) (Known q (journal_at j (Rises kept)) after) place.1.0 refl (risen_known p q j kept after place back)
+        (risen c.tx c.ops (gist d) x (Known p j (Rises kept ∷ after)) (fold life_with first_life kept) (lives_up d x p j kept (Rises kept ∷ after) back s)
         (subst (λ (b : Bool). Both c.tx c.ops b (gist d) x (Known p j (Rises kept ∷ after))) place.0 s.both));
     life = refl;
   }
-    where
-      old : Known q (journal_at j (Rises kept)) after → Known p j (Rises kept ∷ after)
-      old (inl at) = back_known p j kept (Rises kept ∷ after) back at
-      old (inr (inl at)) = absurd (none_some (Commit c) None refl at)
-      old (inr (inr at)) = absurd (true_false (is_failing q) at.0 place.1.1)

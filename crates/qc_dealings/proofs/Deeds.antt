@@ -21,7 +21,7 @@ use Rattle.qc_dealings.proofs.Telling.{tells_on}
 use Rattle.qc_msg.specs.Readings.{is_life}
 
 module _ (decl : Declaration) (c : CommitRecord) where
-  one : (p q : Place) (d : Account) (x : Dealing) (j : Journal) (deed : Deed) (after : List Deed) → goes false p deed ≡ Some q → IsDeedDue decl d deed after → IsBackAt j deed
+  pub one : (p q : Place) (d : Account) (x : Dealing) (j : Journal) (deed : Deed) (after : List Deed) → goes false p deed ≡ Some q → IsDeedDue decl d deed after → IsBackAt j deed
       → Ongoing decl c p d x j (deed ∷ after) → Ongoing decl c q (account_at decl d deed) (deal c.tx x deed) (journal_at j deed) after
   one p q d x j (Takes given) after place its back s = takes decl c p q d x j given after (subst (CameTo (is_off p)) place (comes p given)) its s
   one p q d x j (Writes written) after place its back s = wrote decl c p q d x j written after (subst (WroteTo (is_life written) (is_off p)) place (writes p written)) its s
@@ -32,7 +32,7 @@ module _ (decl : Declaration) (c : CommitRecord) where
   one p q d x j (Falls cause pending) after place its back s = fell decl c p q d x j cause pending after (subst (FellTo p cause pending) place (falls p cause pending)) s
   one p q d x j (Rises kept) after place its back s = rose decl c p q d x j kept after (subst (RoseTo (is_off p)) place (rises p)) back s
 
-  stuck : (ds : List Deed) → is_some (fold (goes_on false) None ds) ≡ true → ⊥
+  pub stuck : (ds : List Deed) → is_some (fold (goes_on false) None ds) ≡ true → ⊥
   stuck [] is = cc
   stuck (d ∷ ds) is = stuck ds is
 
@@ -47,7 +47,7 @@ module _ (decl : Declaration) (c : CommitRecord) where
       next None place more go = absurd (stuck ds more)
       next (Some q) place more go = go q place more
 
-  new : (client : ℕ) (ds : List Deed) → Ongoing decl c Idle (new_account client) no_dealing no_journal ds
+  pub new : (client : ℕ) (ds : List Deed) → Ongoing decl c Idle (new_account client) no_dealing no_journal ds
   new client ds = record {
     both = record {
       base = record {

@@ -4,6 +4,7 @@ use Rattle.std.specs.List.{find}
 use Rattle.qc_stamp.specs.declared.stamp.TxId.{TxId}
 use Rattle.qc_entry.specs.declared.line.Op.{Op}
 use Rattle.qc_entry.specs.declared.line.Line.{Line}
+use Rattle.qc_entry.specs.declared.record.Commit.{Commit}
 use Rattle.qc_decl.specs.declared.declaration.Declaration.{Declaration}
 use Rattle.qc_msg.specs.declared.message.Answer.{Answer}
 use Rattle.qc_msg.specs.declared.message.Answer.TheVariants as answers
@@ -26,13 +27,26 @@ abbrev pub going : Current → Going
 going t = record { tx = t.tx; ops = t.ops }
 
 pub record Gist : Type 0 where
+  pub client : ℕ
   pub life : ℕ
   pub count : ℕ
   pub command : Option Command
+  pub written : Option Commit
   pub begun : Option Going
 
 abbrev pub gist : Account → Gist
-gist d = record { life = d.life; count = d.count; command = d.command; begun = option_map going d.current }
+gist d = record { client = d.client; life = d.life; count = d.count; command = d.command; written = d.written; begun = option_map going d.current }
+
+-- a command is called, its reply is told, and the transaction ends
+
+abbrev pub with_call : Gist → Command → Gist
+with_call g command = record g { command = Some command; written = None }
+
+abbrev pub replied : Gist → Gist
+replied g = record g { command = None; written = None }
+
+abbrev pub finished : Gist → Gist
+finished g = record g { command = None; written = None; begun = None }
 
 pub with_same : (d : Account) (change : Current → Current) → ((t : Current) → going (change t) ≡ going t) → gist (with_current d change) ≡ gist d
 with_same d change same = by d.current

@@ -5,3 +5,8 @@ pub mod Steps
 pub mod Carrying
 pub mod Telling
 pub mod Deeds
+pub mod Owners
+pub mod EndTies
+pub mod EndReplies
+pub mod EndDeeds
+pub mod EndLaws

@@ -9,7 +9,7 @@ use Rattle.qc_msg.specs.declared.reply.Reply.{Reply}
 use Rattle.qc_msg.specs.declared.step.Command.{Command}
 use Rattle.qc_msg.specs.declared.step.Command.TheVariants as commands
 use Rattle.qc_promise.specs.Deals.{Dealing, dealt, is_begun, operation}
-use Rattle.qc_dealings.proofs.Gists.{Gist, Going}
+use Rattle.qc_dealings.proofs.Gists.{Gist, Going, finished, replied, with_call}
 
 -- nothing is something
 
@@ -35,8 +35,12 @@ pub true_false : (b : Bool) → b ≡ true → b ≡ false → ⊥
 true_false b there gone = subst IsTrue (sym there ∙ gone) tt
 
 module _ (tx : TxId) (ops : List Op) where
+  abbrev pub IsBehind : Bool → Gist → Type 0
+  IsBehind off g = (tx.life < g.life) ⊎ (((tx.life ≡ g.life) × (tx.number ≤ g.count)) ⊎ ((tx.life ≤ g.life) × (off ≡ true)))
+
+  -- the transaction is its client's, and no later one has its name
   abbrev pub IsPast : Bool → Gist → Type 0
-  IsPast off g = (tx.life < g.life) ⊎ (((tx.life ≡ g.life) × (tx.number ≤ g.count)) ⊎ ((tx.life ≤ g.life) × (off ≡ true)))
+  IsPast off g = (tx.client ≡ g.client) × IsBehind off g
 
   pub record Base (off : Bool) (g : Gist) (x : Dealing) : Type 0 where
     pub asked : (command : Command) → g.command ≡ Some command → x.asked ≡ Some command
@@ -59,7 +63,7 @@ module _ (tx : TxId) (ops : List Op) where
       subst (λ (b : Bool). Both b k x L) (sym is) (subst (λ (e : Gist). Both off e x L) (sym same) (record { base = s.base; known = λ l. s.known (known l) }))
 
   -- a command is called where none runs
-  pub called : (off : Bool) (g : Gist) (x : Dealing) (K : Type 0) (command : Command) → g.command ≡ None → Both off g x K → Both off (record g { command = Some command }) (record x { asked = Some command }) K
+  pub called : (off : Bool) (g : Gist) (x : Dealing) (K : Type 0) (command : Command) → g.command ≡ None → Both off g x K → Both off (with_call g command) (record x { asked = Some command }) K
   called off g x K command none s = record {
     base = record { asked = λ other is. is; begun = s.base.begun; down = s.base.down; told = s.base.told; fresh = s.base.fresh };
     known = λ k. (let t : Settled off g x = s.known k in record {
@@ -70,7 +74,7 @@ module _ (tx : TxId) (ops : List Op) where
   }
 
   -- a reply that changes nothing
-  pub answered : (off : Bool) (g : Gist) (x : Dealing) (K : Type 0) → ((o : Going) → g.begun ≡ Some o → g.command ≡ Some commands.Commit → ⊥) → Both off g x K → Both off (record g { command = None }) x K
+  pub answered : (off : Bool) (g : Gist) (x : Dealing) (K : Type 0) → ((o : Going) → g.begun ≡ Some o → g.command ≡ Some commands.Commit → ⊥) → Both off g x K → Both off (replied g) x K
   answered off g x K never s = record {
     base = record { asked = λ command is. absurd (none_some command None refl is); begun = s.base.begun; down = s.base.down; told = s.base.told; fresh = s.base.fresh };
     known = λ k. (let t : Settled off g x = s.known k in record { same = t.same; past = t.past; quiet = λ o is named. absurd (never o is (t.quiet o is named)) });
@@ -78,17 +82,20 @@ module _ (tx : TxId) (ops : List Op) where
 
   -- the transaction ends, by a reply or by a fall
 
-  off_past : (off next : Bool) (g : Gist) → (next ≡ off) ⊎ (next ≡ true) → IsPast off g → IsPast next g
-  off_past off next g how (inl before) = inl before
-  off_past off next g how (inr (inl at)) = inr (inl at)
-  off_past off next g (inl same) (inr (inr at)) = inr (inr (at.0, same ∙ at.1))
-  off_past off next g (inr is) (inr (inr at)) = inr (inr (at.0, is))
+  off_behind : (off next : Bool) (g : Gist) → (next ≡ off) ⊎ (next ≡ true) → IsBehind off g → IsBehind next g
+  off_behind off next g how (inl before) = inl before
+  off_behind off next g how (inr (inl at)) = inr (inl at)
+  off_behind off next g (inl same) (inr (inr at)) = inr (inr (at.0, same ∙ at.1))
+  off_behind off next g (inr is) (inr (inr at)) = inr (inr (at.0, is))
+
+  pub off_past : (off next : Bool) (g : Gist) → (next ≡ off) ⊎ (next ≡ true) → IsPast off g → IsPast next g
+  off_past off next g how past = (past.0, off_behind off next g how past.1)
 
   off_fresh : (off next : Bool) (g : Gist) (x : Dealing) → (next ≡ off) ⊎ (next ≡ true) → IsPast off g ⊎ (x.ops ≡ []) → IsPast next g ⊎ (x.ops ≡ [])
   off_fresh off next g x how (inl past) = inl (off_past off next g how past)
   off_fresh off next g x how (inr none) = inr none
 
-  pub ends : (off next : Bool) (g : Gist) (x : Dealing) (es : List Reply) (K : Type 0) → (next ≡ off) ⊎ (next ≡ true) → Both off g x K → Both next (record g { command = None; begun = None }) (record x { begun = None; ends = es }) K
+  pub ends : (off next : Bool) (g : Gist) (x : Dealing) (es : List Reply) (K : Type 0) → (next ≡ off) ⊎ (next ≡ true) → Both off g x K → Both next (finished g) (record x { begun = None; ends = es }) K
   ends off next g x es K how s = record {
     base = record {
       asked = λ command is. absurd (none_some command None refl is);
@@ -102,19 +109,28 @@ module _ (tx : TxId) (ops : List Op) where
 
   -- a transaction begins, which is a new one
 
-  not_new : (g : Gist) (other : TxId) → other.life ≡ g.life → other.number ≡ g.count + 1 → other ≡ tx → IsPast false g → ⊥
-  not_new g other life number named (inl before) = let same : other.life ≡ tx.life = ap (λ (t : TxId). t.life) named in omega arith
-  not_new g other life number named (inr (inl at)) = let low : tx.number ≤ g.count = at.1 in let same : other.number ≡ tx.number = ap (λ (t : TxId). t.number) named in omega arith
-  not_new g other life number named (inr (inr at)) = true_false false at.1 refl
+  abbrev pub begun_with : Gist → TxId → Gist
+  begun_with g other = record g { count = g.count + 1; command = None; written = None; begun = Some (record { tx = other; ops = [] }) }
 
-  next_past : (g : Gist) (begun : Option Going) → IsPast false g → IsPast false (record { life = g.life; count = g.count + 1; command = None; begun = begun })
-  next_past g begun (inl before) = inl before
-  next_past g begun (inr (inl at)) = let low : tx.number ≤ g.count = at.1 in inr (inl (at.0, omega arith))
-  next_past g begun (inr (inr at)) = inr (inr at)
+  not_behind : (g : Gist) (other : TxId) → other.life ≡ g.life → other.number ≡ g.count + 1 → other ≡ tx → IsBehind false g → ⊥
+  not_behind g other life number named (inl before) = let same : other.life ≡ tx.life = ap (λ (t : TxId). t.life) named in omega arith
+  not_behind g other life number named (inr (inl at)) = let low : tx.number ≤ g.count = at.1 in let same : other.number ≡ tx.number = ap (λ (t : TxId). t.number) named in omega arith
+  not_behind g other life number named (inr (inr at)) = true_false false at.1 refl
 
-  pub begins : (g : Gist) (x : Dealing) (K : Type 0) (other : TxId) → other.life ≡ g.life → other.number ≡ g.count + 1 → Both false g x K
-      → Both false (record { life = g.life; count = g.count + 1; command = None; begun = Some (record { tx = other; ops = [] }) }) (record x { begun = Some other }) K
-  begins g x K other life number s = record {
+  pub not_new : (g : Gist) (other : TxId) → other.life ≡ g.life → other.number ≡ g.count + 1 → other ≡ tx → IsPast false g → ⊥
+  not_new g other life number named past = not_behind g other life number named past.1
+
+  next_behind : (g : Gist) (other : TxId) → IsBehind false g → IsBehind false (begun_with g other)
+  next_behind g other (inl before) = inl before
+  next_behind g other (inr (inl at)) = let low : tx.number ≤ g.count = at.1 in inr (inl (at.0, omega arith))
+  next_behind g other (inr (inr at)) = inr (inr at)
+
+  pub next_past : (g : Gist) (other : TxId) → IsPast false g → IsPast false (begun_with g other)
+  next_past g other past = (past.0, next_behind g other past.1)
+
+  pub begins : (g : Gist) (x : Dealing) (K : Type 0) (other : TxId) → other.client ≡ g.client → other.life ≡ g.life → other.number ≡ g.count + 1 → Both false g x K
+      → Both false (begun_with g other) (record x { begun = Some other }) K
+  begins g x K other client life number s = record {
     base = record {
       asked = λ command is. absurd (none_some command None refl is);
       begun = refl;
@@ -124,20 +140,23 @@ module _ (tx : TxId) (ops : List Op) where
     };
     known = λ k. (let t : Settled false g x = s.known k in record {
       same = t.same;
-      past = next_past g (Some (record { tx = other; ops = [] })) t.past;
+      past = next_past g other t.past;
       quiet = λ o is named. absurd (not_new g other life number (ap (λ (e : Going). e.tx) (some_is (record { tx = other; ops = [] }) o is) ∙ named) t.past);
     });
   }
     where
-      next : Gist
-      next = record { life = g.life; count = g.count + 1; command = None; begun = Some (record { tx = other; ops = [] }) }
+      named_past : other ≡ tx → IsPast false (begun_with g other)
+      named_past named = (
+        sym (ap (λ (t : TxId). t.client) named) ∙ client,
+        inr (inl (sym (ap (λ (t : TxId). t.life) named) ∙ life, (let same : other.number ≡ tx.number = ap (λ (t : TxId). t.number) named in omega arith))),
+      )
 
-      new : (o : Going) → record { tx = other; ops = [] } ≡ o → other ≡ tx → IsPast false g ⊎ (x.ops ≡ []) → (x.ops ≡ o.ops) × IsPast false next
+      new : (o : Going) → record { tx = other; ops = [] } ≡ o → other ≡ tx → IsPast false g ⊎ (x.ops ≡ []) → (x.ops ≡ o.ops) × IsPast false (begun_with g other)
       new o at named (inl past) = absurd (not_new g other life number named past)
-      new o at named (inr none) = (none ∙ ap (λ (e : Going). e.ops) at, inr (inl (sym (ap (λ (t : TxId). t.life) named) ∙ life, (let same : other.number ≡ tx.number = ap (λ (t : TxId). t.number) named in omega arith))))
+      new o at named (inr none) = (none ∙ ap (λ (e : Going). e.ops) at, named_past named)
 
-      fresh : IsPast false g ⊎ (x.ops ≡ []) → IsPast false next ⊎ (x.ops ≡ [])
-      fresh (inl past) = inl (next_past g (Some (record { tx = other; ops = [] })) past)
+      fresh : IsPast false g ⊎ (x.ops ≡ []) → IsPast false (begun_with g other) ⊎ (x.ops ≡ [])
+      fresh (inl past) = inl (next_past g other past)
       fresh (inr none) = inr none
 
   -- an operation is told
@@ -147,7 +166,7 @@ module _ (tx : TxId) (ops : List Op) where
     begun_is = ap (is_begun tx) (s.base.begun ∙ ap (λ (b : Option Going). option_map (λ (e : Going). e.tx) b) is)
 
     abbrev after : List Op → Gist
-    after os = record { life = g.life; count = g.count; command = None; begun = Some (record { tx = o.tx; ops = os }) }
+    after os = record g { command = None; written = None; begun = Some (record { tx = o.tx; ops = os }) }
 
     told_one : same_tx o.tx tx ≡ true → dealt tx x resp ≡ record x { ops = x.ops ++ more }
     told_one same =
@@ -206,6 +225,14 @@ module _ (tx : TxId) (ops : List Op) where
 
   -- the record of a rise is written
 
+  older : (g : Gist) → IsBehind true g → IsBehind false (record g { life = g.life + 1 })
+  older g (inl before) = inl (omega arith)
+  older g (inr (inl at)) = let is : tx.life ≡ g.life = at.0 in inl (omega arith)
+  older g (inr (inr at)) = let low : tx.life ≤ g.life = at.0 in inl (omega arith)
+
+  pub past_life : (g : Gist) → IsPast true g → IsPast false (record g { life = g.life + 1 })
+  past_life g past = (past.0, older g past.1)
+
   pub lives_on : (g : Gist) (x : Dealing) (K : Type 0) → Both true g x K → Both false (record g { life = g.life + 1 }) x K
   lives_on g x K s = record {
     base = record {
@@ -215,21 +242,27 @@ module _ (tx : TxId) (ops : List Op) where
       told = λ o is named. absurd (none_some o g.begun (s.base.down refl) is);
       fresh = fresh s.base.fresh;
     };
-    known = λ k. (let t : Settled true g x = s.known k in record { same = t.same; past = older t.past; quiet = t.quiet });
+    known = λ k. (let t : Settled true g x = s.known k in record { same = t.same; past = past_life g t.past; quiet = t.quiet });
   }
     where
-      older : IsPast true g → IsPast false (record g { life = g.life + 1 })
-      older (inl before) = inl (omega arith)
-      older (inr (inl at)) = let is : tx.life ≡ g.life = at.0 in inl (omega arith)
-      older (inr (inr at)) = let low : tx.life ≤ g.life = at.0 in inl (omega arith)
-
       fresh : IsPast true g ⊎ (x.ops ≡ []) → IsPast false (record g { life = g.life + 1 }) ⊎ (x.ops ≡ [])
-      fresh (inl past) = inl (older past)
+      fresh (inl past) = inl (past_life g past)
       fresh (inr none) = inr none
 
   -- a rise
 
-  pub risen : (g : Gist) (x : Dealing) (K : Type 0) (life : ℕ) → g.life ≤ life → Both true g x K → Both true (record { life = life; count = 0; command = None; begun = None }) x K
+  abbrev pub risen_with : Gist → ℕ → Gist
+  risen_with g life = record { client = g.client; life = life; count = 0; command = None; written = None; begun = None }
+
+  grown : (g : Gist) (life : ℕ) → g.life ≤ life → IsBehind true g → IsBehind true (risen_with g life)
+  grown g life up (inl before) = inr (inr (omega arith, refl))
+  grown g life up (inr (inl at)) = let is : tx.life ≡ g.life = at.0 in inr (inr (omega arith, refl))
+  grown g life up (inr (inr at)) = let low : tx.life ≤ g.life = at.0 in inr (inr (omega arith, refl))
+
+  pub past_risen : (g : Gist) (life : ℕ) → g.life ≤ life → IsPast true g → IsPast true (risen_with g life)
+  past_risen g life up past = (past.0, grown g life up past.1)
+
+  pub risen : (g : Gist) (x : Dealing) (K : Type 0) (life : ℕ) → g.life ≤ life → Both true g x K → Both true (risen_with g life) x K
   risen g x K life up s = record {
     base = record {
       asked = λ command is. absurd (none_some command None refl is);
@@ -238,14 +271,9 @@ module _ (tx : TxId) (ops : List Op) where
       told = λ o is named. absurd (none_some o None refl is);
       fresh = fresh s.base.fresh;
     };
-    known = λ k. (let t : Settled true g x = s.known k in record { same = t.same; past = older t.past; quiet = λ o is named. absurd (none_some o None refl is) });
+    known = λ k. (let t : Settled true g x = s.known k in record { same = t.same; past = past_risen g life up t.past; quiet = λ o is named. absurd (none_some o None refl is) });
   }
     where
-      older : IsPast true g → IsPast true (record { life = life; count = 0; command = None; begun = None })
-      older (inl before) = inr (inr (omega arith, refl))
-      older (inr (inl at)) = let is : tx.life ≡ g.life = at.0 in inr (inr (omega arith, refl))
-      older (inr (inr at)) = let low : tx.life ≤ g.life = at.0 in inr (inr (omega arith, refl))
-
-      fresh : IsPast true g ⊎ (x.ops ≡ []) → IsPast true (record { life = life; count = 0; command = None; begun = None }) ⊎ (x.ops ≡ [])
-      fresh (inl past) = inl (older past)
+      fresh : IsPast true g ⊎ (x.ops ≡ []) → IsPast true (risen_with g life) ⊎ (x.ops ≡ [])
+      fresh (inl past) = inl (past_risen g life up past)
       fresh (inr none) = inr none

@@ -20,7 +20,7 @@ use Rattle.qc_promise.specs.Rounds.{answer_of, resp_of}
 use Rattle.qc_promise.specs.Rows.{due, next_commit, next_stamp, commit_of, pending_with}
 use Rattle.qc_promise.specs.Turns.{Place, saying_of}
 use Rattle.qc_dealings.specs.Says.{Finds, IsNoCommit, Responds, Says}
-use Rattle.qc_dealings.proofs.Gists.{Gist, Going, gist, going, refused_same, short_same}
+use Rattle.qc_dealings.proofs.Gists.{Gist, Going, finished, gist, going, refused_same, replied, short_same}
 use Rattle.qc_dealings.proofs.Steps.{Base, Both, IsPast, Settled, adds, answered, begins, both_as, ends, none_some, some_is}
 use Rattle.qc_dealings.proofs.Turning.{IsSaid, is_off}
 use Rattle.qc_dealings.proofs.Carrying.{commit_or, Known, Ongoing, recorded, said}
@@ -34,7 +34,7 @@ IsCommitCommand commands.Commit = Unit {0}
 IsCommitCommand commands.Abort = ⊥
 IsCommitCommand (commands.Epoch number) = ⊥
 
-some_current : (o : Option Current) (e : Going) → option_map going o ≡ Some e → (t : Current) × (o ≡ Some t)
+pub some_current : (o : Option Current) (e : Going) → option_map going o ≡ Some e → (t : Current) × (o ≡ Some t)
 some_current None e is = absurd (none_some e None refl is)
 some_current (Some t) e is = (t, refl)
 
@@ -48,13 +48,13 @@ do_not d object inv is commits = subst IsCommitCommand (sym (some_is (commands.D
 
 -- an operation in the account
 
-absent_gist : (d : Account) (t : Current) (object inv : ℕ) → d.command ≡ Some (commands.Do object inv) → d.current ≡ Some t
+pub absent_gist : (d : Account) (t : Current) (object inv : ℕ) → d.command ≡ Some (commands.Do object inv) → d.current ≡ Some t
     → gist (found_absent d d.command) ≡ record (gist d) { begun = Some (record { tx = t.tx; ops = t.ops ++ record { object = object; inv = inv; resp = None } ∷ [] }) }
 absent_gist d t object inv command is =
     ap (λ (m : Option Command). gist (found_absent d m)) command
     ∙ ap (λ (o : Option Current). record (gist d) { begun = option_map going (option_map (λ (t : Current). with_absent t object inv) o) }) is
 
-response_gist : (decl : Declaration) (d : Account) (t : Current) (object inv event : ℕ) → d.command ≡ Some (commands.Do object inv) → d.current ≡ Some t → answer_of decl t object inv ≡ Some event
+pub response_gist : (decl : Declaration) (d : Account) (t : Current) (object inv event : ℕ) → d.command ≡ Some (commands.Do object inv) → d.current ≡ Some t → answer_of decl t object inv ≡ Some event
     → gist (responded decl d d.command) ≡ record (gist d) { begun = Some (record { tx = t.tx; ops = t.ops ++ record { object = object; inv = inv; resp = Some (resp_of decl object event) } ∷ [] }) }
 response_gist decl d t object inv event command is answer =
     ap (λ (m : Option Command). gist (responded decl d m)) command
@@ -102,28 +102,28 @@ life_told decl d (replies.Moved closed installed) = refl
 
 module _ (decl : Declaration) (c : CommitRecord) (p q : Place) (d : Account) (x : Dealing) (j : Journal) (after : List Deed) (same_off : is_off q ≡ is_off p) where
   -- no record is pending
-  still : (reply : Reply) → pending_next after ≡ None → Known decl c q j after → Known decl c p j (Tells reply ∷ after)
+  pub still : (reply : Reply) → pending_next after ≡ None → Known decl c q j after → Known decl c p j (Tells reply ∷ after)
   still reply none (inl at) = inl at
   still reply none (inr (inl at)) = inr (inl at)
   still reply none (inr (inr at)) = absurd (none_some (Commit c) (pending_next after) none at.1)
 
   module _ (reply : Reply) (s : Both c.tx c.ops (is_off p) (gist d) x (Known decl c p j (Tells reply ∷ after))) where
     silent : (k : Gist) → k ≡ gist d → pending_next after ≡ None → ((o : Going) → (gist d).begun ≡ Some o → (gist d).command ≡ Some commands.Commit → ⊥)
-        → Both c.tx c.ops (is_off q) (record k { command = None }) x (Known decl c q j after)
+        → Both c.tx c.ops (is_off q) (replied k) x (Known decl c q j after)
     silent k is none not =
-        both_as c.tx c.ops (is_off p) (is_off q) (record (gist d) { command = None }) (record k { command = None }) x (Known decl c p j (Tells reply ∷ after)) (Known decl c q j after) same_off (ap (λ (g : Gist). record g { command = None }) is) (still reply none)
+        both_as c.tx c.ops (is_off p) (is_off q) (replied (gist d)) (replied k) x (Known decl c p j (Tells reply ∷ after)) (Known decl c q j after) same_off (ap replied is) (still reply none)
         (answered c.tx c.ops (is_off p) (gist d) x (Known decl c p j (Tells reply ∷ after)) not s)
 
-    ended : (es : List Reply) → pending_next after ≡ None → Both c.tx c.ops (is_off q) (record (gist d) { command = None; begun = None }) (record x { begun = None; ends = es }) (Known decl c q j after)
+    ended : (es : List Reply) → pending_next after ≡ None → Both c.tx c.ops (is_off q) (finished (gist d)) (record x { begun = None; ends = es }) (Known decl c q j after)
     ended es none =
-        both_as c.tx c.ops (is_off p) (is_off q) (record (gist d) { command = None; begun = None }) (record (gist d) { command = None; begun = None }) (record x { begun = None; ends = es }) (Known decl c p j (Tells reply ∷ after)) (Known decl c q j after) same_off refl (still reply none)
+        both_as c.tx c.ops (is_off p) (is_off q) (finished (gist d)) (finished (gist d)) (record x { begun = None; ends = es }) (Known decl c p j (Tells reply ∷ after)) (Known decl c q j after) same_off refl (still reply none)
         (ends c.tx c.ops (is_off p) (is_off p) (gist d) x es (Known decl c p j (Tells reply ∷ after)) (inl refl) s)
 
     added : (k : Gist) (t : Current) (object inv : ℕ) (resp : Option ℕ) → d.command ≡ Some (commands.Do object inv) → d.current ≡ Some t
         → k ≡ record (gist d) { begun = Some (record { tx = t.tx; ops = t.ops ++ record { object = object; inv = inv; resp = resp } ∷ [] }) } → pending_next after ≡ None
-        → Both c.tx c.ops (is_off q) (record k { command = None }) (dealt c.tx x resp) (Known decl c q j after)
+        → Both c.tx c.ops (is_off q) (replied k) (dealt c.tx x resp) (Known decl c q j after)
     added k t object inv resp command current is none =
-        both_as c.tx c.ops (is_off p) (is_off q) (record (gist d) { command = None; begun = Some (record { tx = t.tx; ops = t.ops ++ record { object = object; inv = inv; resp = resp } ∷ [] }) }) (record k { command = None }) (dealt c.tx x resp) (Known decl c p j (Tells reply ∷ after)) (Known decl c q j after) same_off (ap (λ (g : Gist). record g { command = None }) is) (still reply none)
+        both_as c.tx c.ops (is_off p) (is_off q) (record (gist d) { command = None; written = None; begun = Some (record { tx = t.tx; ops = t.ops ++ record { object = object; inv = inv; resp = resp } ∷ [] }) }) (replied k) (dealt c.tx x resp) (Known decl c p j (Tells reply ∷ after)) (Known decl c q j after) same_off (ap replied is) (still reply none)
         (adds c.tx c.ops (is_off p) (gist d) x (Known decl c p j (Tells reply ∷ after)) (going t) resp (record { object = object; inv = inv; resp = resp } ∷ []) (ap (option_map going) current) operation_is (do_not d object inv command) s)
       where
         operation_is : operation x.asked resp ≡ record { object = object; inv = inv; resp = resp } ∷ []
@@ -131,11 +131,11 @@ module _ (decl : Declaration) (c : CommitRecord) (p q : Place) (d : Account) (x 
 
   -- the record that was pending is known from then on
   unknown : pending_next after ≡ next_commit d → Both c.tx c.ops (is_off p) (gist d) x (Known decl c p j (Tells replies.Unknown ∷ after))
-      → Both c.tx c.ops (is_off q) (record (gist d) { command = None; begun = None }) (deal_told c.tx x replies.Unknown) (Known decl c q j after)
+      → Both c.tx c.ops (is_off q) (finished (gist d)) (deal_told c.tx x replies.Unknown) (Known decl c q j after)
   unknown pending s = record { base = over.base; known = known }
     where
-      over : Both c.tx c.ops (is_off q) (record (gist d) { command = None; begun = None }) (deal_told c.tx x replies.Unknown) (Known decl c p j (Tells replies.Unknown ∷ after))
-      over = subst (λ (b : Bool). Both c.tx c.ops b (record (gist d) { command = None; begun = None }) (deal_told c.tx x replies.Unknown) (Known decl c p j (Tells replies.Unknown ∷ after))) (sym same_off)
+      over : Both c.tx c.ops (is_off q) (finished (gist d)) (deal_told c.tx x replies.Unknown) (Known decl c p j (Tells replies.Unknown ∷ after))
+      over = subst (λ (b : Bool). Both c.tx c.ops b (finished (gist d)) (deal_told c.tx x replies.Unknown) (Known decl c p j (Tells replies.Unknown ∷ after))) (sym same_off)
           (ends c.tx c.ops (is_off p) (is_off p) (gist d) x (deal_told c.tx x replies.Unknown).ends (Known decl c p j (Tells replies.Unknown ∷ after)) (inl refl) s)
 
       written : (o : Option CommitRecord) → option_map Commit o ≡ Some (Commit c) → o ≡ Some c
@@ -145,7 +145,7 @@ module _ (decl : Declaration) (c : CommitRecord) (p q : Place) (d : Account) (x 
       base : Base c.tx c.ops (is_off q) (gist d) x
       base = subst (λ (b : Bool). Base c.tx c.ops b (gist d) x) (sym same_off) s.base
 
-      known : Known decl c q j after → Settled c.tx c.ops (is_off q) (record (gist d) { command = None; begun = None }) (deal_told c.tx x replies.Unknown)
+      known : Known decl c q j after → Settled c.tx c.ops (is_off q) (finished (gist d)) (deal_told c.tx x replies.Unknown)
       known (inl at) = over.known (inl at)
       known (inr (inl at)) = over.known (inr (inl at))
       known (inr (inr at)) =
@@ -156,10 +156,10 @@ module _ (decl : Declaration) (c : CommitRecord) (p q : Place) (d : Account) (x 
       → Both c.tx c.ops (is_off q) (gist (account_told decl d (replies.Began tx))) (deal_told c.tx x (replies.Began tx)) (Known decl c q j after)
   began tx up none is s =
       both_as c.tx c.ops false (is_off q) (gist (account_told decl d (replies.Began tx))) (gist (account_told decl d (replies.Began tx))) (deal_told c.tx x (replies.Began tx)) (Known decl c p j (Tells (replies.Began tx) ∷ after)) (Known decl c q j after) (same_off ∙ up) refl (still (replies.Began tx) none)
-      (begins c.tx c.ops (gist d) x (Known decl c p j (Tells (replies.Began tx) ∷ after)) tx (ap (λ (t : TxId). t.life) is) (ap (λ (t : TxId). t.number) is)
+      (begins c.tx c.ops (gist d) x (Known decl c p j (Tells (replies.Began tx) ∷ after)) tx (ap (λ (t : TxId). t.client) is) (ap (λ (t : TxId). t.life) is) (ap (λ (t : TxId). t.number) is)
       (subst (λ (b : Bool). Both c.tx c.ops b (gist d) x (Known decl c p j (Tells (replies.Began tx) ∷ after))) up s))
 
-  neither_up : (off : Bool) → IsSaid off (saying_of replies.NoTransaction) → off ≡ false
+  pub neither_up : (off : Bool) → IsSaid off (saying_of replies.NoTransaction) → off ≡ false
   neither_up true never = absurd never
   neither_up false up = refl
 

@@ -1,0 +1,4 @@
+pub mod Posts
+pub mod Clients
+pub mod RunLaws
+pub mod Falling
