@@ -10,7 +10,7 @@ ghost use Rattle.qc_entry.specs.declared.record.Commit.{Commit};
 ghost use Rattle.qc_list.specs.Members.{In};
 ghost use Rattle.qc_msg.specs.declared.record.Record.TheVariants as journals;
 ghost use Rattle.qc_msg.specs.Steps.{Entry};
-ghost use Rattle.qc_promise.specs.Atomic.{IsAfterSeen};
+ghost use Rattle.qc_promise.specs.Atomic.{Atomic, IsAfterSeen};
 ghost use Rattle.qc_promise.specs.Committed.{committed};
 ghost use Rattle.qc_promise.specs.Kept.{Kept};
 ghost use Rattle.qc_reach.specs.Standing.{records_of};
@@ -39,4 +39,15 @@ pub fn records_follow_what_was_seen_through_falls<C: ConductWithFalls>()
         → IsAccepted decl → IsScriptFor decl script
         → RunsWithFalls (IsLawfulWithFalls decl) C.fits decl script h open_inputs → Kept h
         → IsAfterSeen decl (committed decl h) h }
+{}
+
+/// So every run with falls in which records are kept is atomic: its committed
+/// transactions, each at a stamp of its own, are those of one copy of each
+/// object, have just the replies that their clients got, come after all that
+/// these had seen, and their clients know of them (Herlihy 1986, Weihl 1989).
+pub fn runs_with_falls_are_atomic_where_records_are_kept<C: ConductWithFalls>()
+    ensures { (decl : Declaration) (script : Script) (h : List Entry) (open_inputs : List Bool)
+        → IsAccepted decl → IsScriptFor decl script
+        → RunsWithFalls (IsLawfulWithFalls decl) C.fits decl script h open_inputs → Kept h
+        → Atomic decl h }
 {}
