@@ -1,6 +1,6 @@
 -- Each Decision Committed names a stamp of its transaction's own client, through falls too, where clients rise with
 -- records that do.
-use Rattle.std.proofs.Common.{◌≡◌, ℕ, ◌-◌, Bool, true, false, if◌then◌else◌, List, [], ◌∷◌, ◌++◌, fold, map, Some, None, refl, sym, subst}
+use Rattle.std.proofs.Common.{◌≡◌, ℕ, ◌-◌, Bool, true, false, if◌then◌else◌, List, [], ◌∷◌, ◌++◌, fold, map, take, Some, None, refl, sym, subst}
 use Rattle.std.specs.List.{AllByRecursion as Every}
 use Rattle.qc_list.proofs.Members.{every-append, every-filter}
 use Rattle.qc_core.specs.declared.actor.Actor.{Actor}
@@ -25,7 +25,7 @@ use Rattle.qc_msg.specs.Deeds.{Deed, Takes, Writes, Sends, Tells, Falls, Rises}
 use Rattle.qc_msg.specs.Steps.{sends_as}
 use Rattle.qc_msg.specs.Turns.{quiet}
 use Rattle.qc_recover.specs.Clients.{Kept, client_of, client_rises, keeps, nothing_kept}
-use Rattle.qc_recover.specs.Sites.{in_order, inquiry, kept_by as site_kept, site_rises}
+use Rattle.qc_recover.specs.Sites.{in_order, inquiry, kept_by as site_kept, most_inquiries, site_rises}
 use Rattle.qc_entry.specs.declared.record.Prepared.{Prepared}
 use Rattle.qc_site.specs.Site.{new_site}
 use Rattle.qc_laws.proofs.OwnStamps.{AreStamped, IsOwnCommit, IsOwnWrite, Own, OwnMove, sent_own, takes_own, unwritten}
@@ -96,7 +96,7 @@ rises_stamped : (decl : Declaration) (a : ℕ) (rs : List Record) → (is_site d
 rises_stamped decl a rs all = by (is_site decl a) all
   where
     by : (t : Bool) → (t ≡ false → Every IsOwnRecord rs) → StampedMove (a - decl.sites) (if t then by_site (site_rises decl a rs) else by_client (client_rises (a - decl.sites) rs))
-    by true all = record { own = tt; sends = inquiries_stamped decl (in_order (map (λ (p : Prepared). p.tx) (site_kept rs).promises)); failed = tt; writes = λ c is. absurd (let never : ⊥ = cc in never) }
+    by true all = record { own = tt; sends = inquiries_stamped decl (take most_inquiries (in_order (map (λ (p : Prepared). p.tx) (site_kept rs).promises))); failed = tt; writes = λ c is. absurd (let never : ⊥ = cc in never) }
     by false all = record { own = risen_own (a - decl.sites) (rs ++ records.Life ∷ []) (every-append IsOwnRecord rs (records.Life ∷ []) (all refl) (tt, tt)); sends = tt; failed = tt; writes = λ c is. absurd (let never : ⊥ = cc in never) }
 
 module _ (decl : Declaration) (a : ℕ) where
