@@ -1,0 +1,16 @@
+pub mod Putting
+pub mod SiteWrites
+pub mod ClientWrites
+pub mod RisenWithin
+pub mod ActorsWithin
+pub mod Histories
+pub mod FrontCounts
+pub mod Counted
+pub mod FewRecords
+pub mod Needs
+pub mod Standing
+pub mod Fitted
+pub mod Senders
+pub mod RisingTurns
+pub mod FailedSends
+pub mod Calling
