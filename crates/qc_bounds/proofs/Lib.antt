@@ -14,3 +14,4 @@ pub mod Senders
 pub mod RisingTurns
 pub mod FailedSends
 pub mod Calling
+pub mod Rising

@@ -7,8 +7,18 @@
 //!    A client has begun at most as many transactions, and an actor's life is at
 //!    most two more than the records that it rose with
 //!    (`counts_and_lives_are_bounded_with_falls`).
+//! 2. Where what rises fits its actor (`what_rises_fits`), and below the limit of
+//!    steps, each actor's calls may be made (`calls_may_be_made_with_falls`), and
+//!    its turns are short (`turns_are_short_with_falls`); so may the calls of a rise
+//!    (`records_that_fit_may_rise`), whose turn is at most as long as its records
+//!    are many (`rising_turns_are_short`).
 #![tactic(auto)]
 
 mod bounds;
+mod calls;
 
 pub use bounds::{clocks_are_bounded_with_falls, counts_and_lives_are_bounded_with_falls};
+pub use calls::{
+    calls_may_be_made_with_falls, records_that_fit_may_rise, rising_turns_are_short,
+    turns_are_short_with_falls, what_rises_fits,
+};
