@@ -15,3 +15,7 @@ pub mod RisingTurns
 pub mod FailedSends
 pub mod Calling
 pub mod Rising
+pub mod Named
+pub mod EventsNamed
+pub mod SitesNamed
+pub mod FrontsNamed
