@@ -19,3 +19,5 @@ pub mod Named
 pub mod EventsNamed
 pub mod SitesNamed
 pub mod FrontsNamed
+pub mod ClientsNamed
+pub mod RisenNamed

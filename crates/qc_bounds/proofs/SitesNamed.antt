@@ -104,7 +104,7 @@ module _ (decl : Declaration) where
       by true rest = (here, all.1)
       by false rest = (all.0, rest)
 
-  held_named : (held : List Held) (tx : TxId) (locks : List ReadLock) (own : List OwnLine) → Every HeldNamed held → tx.client < decl.clients → LocksNamed decl locks → OwnsNamed decl own → Every HeldNamed (with_held held tx locks own)
+  pub held_named : (held : List Held) (tx : TxId) (locks : List ReadLock) (own : List OwnLine) → Every HeldNamed held → tx.client < decl.clients → LocksNamed decl locks → OwnsNamed decl own → Every HeldNamed (with_held held tx locks own)
   held_named held tx locks own all low here mine = by ((length locks == 0) && (length own == 0))
     where
       entry : Held
@@ -133,11 +133,11 @@ module _ (decl : Declaration) where
   lines_named stamp tx own low mine = stamped_named stamp tx [] own low mine tt
 
   -- the promise that is found is of the transaction's client
-  record FoundNamed (tx : TxId) (p : Prepared) : Type 0 where
-    client : tx.client < decl.clients
-    own : OwnsNamed decl p.own
+  pub record FoundNamed (tx : TxId) (p : Prepared) : Type 0 where
+    pub client : tx.client < decl.clients
+    pub own : OwnsNamed decl p.own
 
-  found_named : (ps : List Prepared) (tx : TxId) (p : Prepared) → Every PromiseNamed ps → prepared_of ps tx ≡ Some p → FoundNamed tx p
+  pub found_named : (ps : List Prepared) (tx : TxId) (p : Prepared) → Every PromiseNamed ps → prepared_of ps tx ≡ Some p → FoundNamed tx p
   found_named [] tx p all is = absurd (let never : ⊥ = cc in never)
   found_named (q ∷ qs) tx p all is = by (same_tx q.tx tx) refl is (found_named qs tx p all.1)
     where
