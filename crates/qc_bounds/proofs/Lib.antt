@@ -21,3 +21,5 @@ pub mod SitesNamed
 pub mod FrontsNamed
 pub mod ClientsNamed
 pub mod RisenNamed
+pub mod AskedNamed
+pub mod HistoriesNamed
