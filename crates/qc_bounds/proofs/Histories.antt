@@ -175,7 +175,7 @@ module _ (decl : Declaration) (script : Script) (fits : ℕ → List Record → 
       later_on older (by c (posted_as turn.append (length (mail older)) turn))
       (posted decl c (length (mail older)) (b + length older) older turn law
       (run_held older before run (rises_part b older (by c (posted_as turn.append (length (mail older)) turn)) rising)))
-  run_held h open_inputs (phase before older run none done quiet further) rising =
+  run_held h open_inputs (phase before older run none done calm further) rising =
       later_on older (marked (controller decl) (steps.Phase (phase_of older + 1)) ∷ [])
       (still decl (controller decl) (b + length older) older (steps.Phase (phase_of older + 1)) (phase_silent (phase_of older + 1)) (tt, tt)
       (run_held older before run (rises_part b older (marked (controller decl) (steps.Phase (phase_of older + 1)) ∷ []) rising)))

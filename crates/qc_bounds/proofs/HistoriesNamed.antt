@@ -240,7 +240,7 @@ module _ (decl : Declaration) where
         taken accepted c older g sent (given_named decl accepted script sound c older (mail older) g old.messages sent rdy) old
     run_named h open_inputs (posts c turn before older run open_input law) kept =
         posted c (length (mail older)) older turn law (run_named older before run (kept_part older (by c (posted_as turn.append (length (mail older)) turn)) kept))
-    run_named h open_inputs (phase before older run none done quiet further) kept =
+    run_named h open_inputs (phase before older run none done calm further) kept =
         still (controller decl) older (steps.Phase (phase_of older + 1)) (phase_silent (phase_of older + 1)) (tt, tt)
         (run_named older before run (kept_part older (marked (controller decl) (steps.Phase (phase_of older + 1)) ∷ []) kept))
     run_named h open_inputs (control line lines step before older run left is) kept =

@@ -23,3 +23,4 @@ pub mod ClientsNamed
 pub mod RisenNamed
 pub mod AskedNamed
 pub mod HistoriesNamed
+pub mod RecordsFit

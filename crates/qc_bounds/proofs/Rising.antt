@@ -87,7 +87,7 @@ module _ (decl : Declaration) where
     run_rises_fit h open_inputs (takes a g before older run free rdy) = more older _ (run_rises_fit older before run) (input_rise a g)
     run_rises_fit h open_inputs (posts a turn before older run taken law) =
         more older (by a (posted_as turn.append (length (mail older)) turn)) (run_rises_fit older before run) (post_rise a (length (mail older)) turn.append turn)
-    run_rises_fit h open_inputs (phase before older run none done quiet further) = more older _ (run_rises_fit older before run) (tt, tt)
+    run_rises_fit h open_inputs (phase before older run none done calm further) = more older _ (run_rises_fit older before run) (tt, tt)
     run_rises_fit h open_inputs (control line lines step before older run left is) = more older _ (run_rises_fit older before run) (line_rise (controller decl) line step is)
     run_rises_fit h open_inputs (falls a lines before older run left) = more older _ (run_rises_fit older before run) (tt, tt)
     run_rises_fit h open_inputs (rises a rs turn lines before older run left fit has law) =

@@ -69,7 +69,7 @@ module _ (decl : Declaration) (script : Script) (fits : ℕ → List Record → 
   run_from h open_inputs (posts a turn before older run taken law) =
       subst (AreFrom (actors decl)) (sym (mail-append older (by a (posted_as turn.append (length (mail older)) turn))))
       (posted a (length (mail older)) older turn (lawful_actor decl a (deeds a [] older) turn law) (run_from older before run))
-  run_from h open_inputs (phase before older run none done quiet more) =
+  run_from h open_inputs (phase before older run none done calm more) =
       still older (marked (controller decl) (steps.Phase (phase_of older + 1))) refl (run_from older before run)
   run_from h open_inputs (control line lines step before older run left is) =
       subst (AreFrom (actors decl)) (sym (mail-silent older (controller decl) step (line_silent line step is))) (run_from older before run)

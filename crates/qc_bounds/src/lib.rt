@@ -12,13 +12,21 @@
 //!    its turns are short (`turns_are_short_with_falls`); so may the calls of a rise
 //!    (`records_that_fit_may_rise`), whose turn is at most as long as its records
 //!    are many (`rising_turns_are_short`).
+//! 3. Where records are kept, each record of a journal fits its actor
+//!    (`journals_fit_their_actors`), the record of a lawful turn where it would be
+//!    written (`records_of_lawful_turns_fit`), and what rises
+//!    (`what_rises_fits_where_records_are_kept`).
 #![tactic(auto)]
 
 mod bounds;
 mod calls;
+mod records;
 
 pub use bounds::{clocks_are_bounded_with_falls, counts_and_lives_are_bounded_with_falls};
 pub use calls::{
     calls_may_be_made_with_falls, records_that_fit_may_rise, rising_turns_are_short,
     turns_are_short_with_falls, what_rises_fits,
+};
+pub use records::{
+    journals_fit_their_actors, records_of_lawful_turns_fit, what_rises_fits_where_records_are_kept,
 };
