@@ -1,6 +1,6 @@
 -- What an actor becomes, sends and writes for one input stays within a bound that what it takes keeps to, and one more;
 -- and what its post leaves is within the bound.
-use Rattle.std.proofs.Common.{◌≡◌, ℕ, ◌+◌, ◌-◌, ◌≤◌, Bool, true, false, cond, List, [], ◌∷◌, ◌++◌, fold, Option, Some, None, arith}
+use Rattle.std.proofs.Common.{ℕ, ◌+◌, ◌-◌, ◌≤◌, Bool, true, false, cond, List, [], ◌∷◌, ◌++◌, fold, Option, Some, None, arith}
 use Rattle.std.specs.Prelude.{option_to_list}
 use Rattle.std.specs.List.{AllByRecursion as Every}
 use Rattle.qc_list.proofs.Members.{every-append, every-weaker}
@@ -29,7 +29,7 @@ use Rattle.qc_site.specs.Site.{new_site}
 use Rattle.qc_records.specs.Within.{ClientMoveWithin, GivenWithin, SiteMoveWithin}
 use Rattle.qc_records.proofs.ClientsWithin.{all_posts-within, client-le, client_takes_within}
 use Rattle.qc_records.proofs.Greater.{lines-le, sends-le}
-use Rattle.qc_records.proofs.SitesWithin.{site-le, site_move-le, site_takes_within}
+use Rattle.qc_records.proofs.SitesWithin.{site-le, site_takes_within}
 use Rattle.qc_bounds.specs.Within.{AreWithin, MoveWithin, RecordWithin, StateWithin, TurnWithin}
 use Rattle.qc_bounds.proofs.ClientWrites.{client_writes_within}
 use Rattle.qc_bounds.proofs.SiteWrites.{WritesWithin, site_writes_within}

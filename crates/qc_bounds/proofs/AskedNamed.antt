@@ -1,5 +1,5 @@
 -- In each run of a script that is read for its declaration, what an actor takes names declared things, where all mail does.
-use Rattle.std.proofs.Common.{◌≡◌, ℕ, ◌==◌, Bool, true, false, cond, List, [], ◌∷◌, filter, map, Option, Some, None, slice_get, refl}
+use Rattle.std.proofs.Common.{◌≡◌, ℕ, ◌==◌, Bool, true, false, cond, List, [], ◌∷◌, filter, map, Some}
 use Rattle.std.specs.List.{AllByRecursion as Every}
 use Rattle.qc_list.proofs.Members.{every-at}
 use Rattle.qc_decl.specs.Accepted.{IsAccepted}
@@ -15,7 +15,6 @@ use Rattle.qc_script.specs.Inbox.{commands_for, empty_inbox, inbox}
 use Rattle.qc_script.specs.Ready.{ready}
 use Rattle.qc_script.specs.Sound.{IsCommandFor, IsPhaseFor, IsScriptFor}
 use Rattle.qc_script.specs.declared.script.CommandLine.{CommandLine}
-use Rattle.qc_script.specs.declared.script.PhaseLines.{PhaseLines}
 use Rattle.qc_script.specs.declared.script.Script.{Script}
 use Rattle.qc_bounds.proofs.EventsNamed.{command_named}
 use Rattle.qc_bounds.proofs.Named.{CommandNamed, GivenNamed, MailNamed, MessageNamed}

@@ -1,31 +1,29 @@
 -- In each run with falls whose rises fit, below the limit of steps, all that an actor's calls ask holds.
-use Rattle.std.proofs.Common.{◌≡◌, ℕ, ◌+◌, ◌-◌, ◌^◌, ◌<◌, ◌≤◌, Bool, true, false, cond, List, [], ◌∷◌, ◌++◌, length, Option, Some, None, slice_get, refl, sym, ap, ◌∙◌, subst, arith}
+use Rattle.std.proofs.Common.{◌≡◌, ℕ, ◌+◌, ◌-◌, ◌^◌, ◌<◌, ◌≤◌, Bool, true, false, List, [], length, Option, Some, None, slice_get, refl, sym, ap, ◌∙◌, subst, arith}
 use Rattle.std.specs.List.{AllByRecursion as Every}
 use Rattle.qc_list.specs.Members.{In}
-use Rattle.qc_list.proofs.Members.{every-In, every-append, every-at, every-weaker}
+use Rattle.qc_list.proofs.Members.{every-In, every-weaker}
 use Rattle.qc_client.specs.declared.client.Client.{Client}
 use Rattle.qc_client.specs.Conduct.{client_takes, sent, sent_by}
-use Rattle.qc_client.specs.Fits.{ClientFits, promise_in}
+use Rattle.qc_client.specs.Fits.{promise_in}
 use Rattle.qc_commit.specs.declared.desk.Voting.{Voting}
 use Rattle.qc_commit.specs.Conduct as desks
 use Rattle.qc_commit.specs.Fits as votes
 use Rattle.qc_core.specs.declared.actor.Actor.{Actor}
 use Rattle.qc_core.specs.declared.actor.Actor.TheVariants as actors_of
-use Rattle.qc_core.specs.Actors.{ActorFits, ActorMove, AsksFew, IsFrom, IsShort, actor_after, actor_takes, down_takes}
+use Rattle.qc_core.specs.Actors.{ActorFits, ActorMove, AsksFew, IsFrom, IsShort, actor_after, actor_takes}
 use Rattle.qc_core.specs.Acts.{MayTake, is_running}
 use Rattle.qc_core.specs.Conduct.{IsLawfulWithFalls, with_record}
-use Rattle.qc_core.specs.Lives.{Lives}
 use Rattle.qc_core.proofs.ByTurns.{after_takes, called_turn}
 use Rattle.qc_core.proofs.ClientLands.{lands}
 use Rattle.qc_core.proofs.ClientReaches.{client_reach, quiet_short}
 use Rattle.qc_core.proofs.ClientStands.{Lands, Stands}
-use Rattle.qc_core.proofs.LivesLaws.{rises as after_rises}
 use Rattle.qc_core.proofs.SiteReaches.{site_reach}
 use Rattle.qc_decl.specs.Accepted.{IsAccepted}
 use Rattle.qc_decl.specs.Actors.{actors}
 use Rattle.qc_decl.specs.Limits.{most_steps}
 use Rattle.qc_decl.specs.declared.declaration.Declaration.{Declaration}
-use Rattle.qc_fit.specs.Numbers.{greatest_clock, most_records}
+use Rattle.qc_fit.specs.Numbers.{greatest_clock}
 use Rattle.qc_front.specs.declared.doing.Doing.{Doing}
 use Rattle.qc_front.specs.declared.doing.Doing.TheVariants.{Idle, Reading, Appending}
 use Rattle.qc_front.specs.Conduct as fronts
@@ -40,9 +38,8 @@ use Rattle.qc_msg.specs.declared.message.Message.TheVariants as messages
 use Rattle.qc_msg.specs.declared.record.Record.{Record}
 use Rattle.qc_msg.specs.declared.step.Given.{Given}
 use Rattle.qc_msg.specs.declared.step.Given.TheVariants as given
-use Rattle.qc_msg.specs.declared.turn.Posting.{Posting}
 use Rattle.qc_msg.specs.declared.turn.Turn.{Turn}
-use Rattle.qc_msg.specs.Deeds.{Deed, Rises, Takes, deeds, mail}
+use Rattle.qc_msg.specs.Deeds.{Deed, deeds, mail}
 use Rattle.qc_msg.specs.Steps.{Entry}
 use Rattle.qc_msg.proofs.Growth.{length-mail}
 use Rattle.qc_records.specs.Within.{MessageWithin}
@@ -58,7 +55,7 @@ use Rattle.qc_bounds.proofs.FailedSends.{failed_short}
 use Rattle.qc_bounds.proofs.Fitted.{rise_clients, rise_within}
 use Rattle.qc_bounds.proofs.Needs.{run_bounded}
 use Rattle.qc_bounds.proofs.Senders.{AreFrom, deeds_sound, run_from}
-use Rattle.qc_bounds.proofs.Standing.{ClientReady, IsOpen, IsReady, Known, known}
+use Rattle.qc_bounds.proofs.Standing.{IsOpen, IsReady, Known, known}
 
 -- few sites are asked, before the numbers of a turn's messages are known as after
 
@@ -140,7 +137,7 @@ module _ (decl : Declaration) (script : Script) (fits : ℕ → List Record → 
       sound : Every IsSound (deeds a [] h)
       sound = deeds_sound a [] h tt low_mail (rise_clients decl h accepted fit)
 
-      known_at : (t : Bool) → slice_get open_inputs a ≡ Some t → Known decl accepted a (deeds a [] h) t
+      pub known_at : (t : Bool) → slice_get open_inputs a ≡ Some t → Known decl accepted a (deeds a [] h) t
       known_at t is =
           let few : actors decl ≤ most_actors = (let sites : decl.sites ≤ 16 = accepted.sites in let clients : decl.clients ≤ 16 = accepted.clients in omega arith) in
           let lived : LivesIn decl a h t = run_lives decl script fits few h open_inputs run a t is in

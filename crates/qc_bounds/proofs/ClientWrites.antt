@@ -1,12 +1,11 @@
 -- What a client writes is a commit record that it keeps, so its clock stays within a bound of those that it keeps; where
 -- it isn't written it sends nothing.
-use Rattle.std.proofs.Common.{◌≡◌, ◌⊎◌, ℕ, ◌≤◌, Bool, true, false, cond, List, [], ◌∷◌, ◌++◌, Option, Some, None, inl, inr, refl, sym, ap, subst}
+use Rattle.std.proofs.Common.{◌≡◌, ◌⊎◌, ℕ, ◌≤◌, Bool, true, false, cond, Option, Some, None, inl, inr, refl, sym, ap, subst}
 use Rattle.std.specs.Prelude.{option_to_list}
-use Rattle.std.specs.List.{AllByRecursion as Every}
 use Rattle.qc_list.specs.Members.{In}
 use Rattle.qc_list.proofs.Members.{In-last, every-In}
 use Rattle.qc_client.specs.declared.client.Client.{Client}
-use Rattle.qc_client.specs.Client.{ClientMove, by_desk, by_front, moved}
+use Rattle.qc_client.specs.Client.{ClientMove, by_desk, by_front}
 use Rattle.qc_client.specs.Conduct.{answered, answered_by, called, client_takes, commits, heard}
 use Rattle.qc_commit.specs.declared.desk.Voting.{Voting}
 use Rattle.qc_commit.specs.Conduct as desks
@@ -27,7 +26,6 @@ use Rattle.qc_msg.specs.declared.step.Command.{Command}
 use Rattle.qc_msg.specs.declared.step.Command.TheVariants as commands
 use Rattle.qc_msg.specs.declared.step.Given.{Given}
 use Rattle.qc_msg.specs.declared.step.Given.TheVariants as given
-use Rattle.qc_msg.specs.declared.turn.Posting.{Posting}
 use Rattle.qc_msg.specs.declared.turn.Turn.{Turn}
 use Rattle.qc_stamp.specs.declared.stamp.TxId.{TxId}
 use Rattle.qc_records.specs.Within.{ClientWithin, SendsWithin}
@@ -113,6 +111,8 @@ module _ (decl : Declaration) (c : Client) where
     by : WritesCommit (client_takes decl c g).turn.write → AreWithin bound (option_to_list (client_takes decl c g).turn.write)
     by (inl none) = subst (λ (o : Option Record). AreWithin bound (option_to_list o)) (sym none) tt
     by (inr one) =
-        subst (λ (o : Option Record). AreWithin bound (option_to_list o)) (sym one.1)
-        (every-In (λ (k : Commit). k.stamp.clock ≤ bound) one.0 (client_takes decl c g).client.desk.commits w.desk.commits
-        ((takes_writes g).kept one.0 one.1), tt)
+        subst (λ (o : Option Record). AreWithin bound (option_to_list o)) (sym one.1) (
+          every-In (λ (k : Commit). k.stamp.clock ≤ bound) one.0 (client_takes decl c g).client.desk.commits w.desk.commits
+              ((takes_writes g).kept one.0 one.1),
+          tt,
+        )

@@ -1,11 +1,11 @@
 -- What an accepted declaration's scripts ask, and the event that answers it, is declared; and the first epoch has a plan.
-use Rattle.std.proofs.Common.{◌≡◌, ℕ, ◌<◌, ◌-◌, true, List, length, Option, Some, None, slice_get, refl, sym, ap, ◌∙◌, subst, arith}
-use Rattle.std.specs.Prelude.{IsSome, is_some, option_and_then, option_map, unwrap_or}
+use Rattle.std.proofs.Common.{◌≡◌, ℕ, ◌<◌, List, length, Option, Some, None, slice_get, refl, sym, ap, ◌∙◌, subst, arith}
+use Rattle.std.specs.Prelude.{option_and_then, option_map, unwrap_or}
 use Rattle.std.specs.Str.{bytes_eq}
 use Rattle.std.proofs.lemmas.List.Quantifiers.{position-Some}
 use Rattle.qc_decl.specs.Accepted.{HasNames, IsAccepted}
 use Rattle.qc_decl.specs.Lookup.{table_at}
-use Rattle.qc_decl.specs.Named.{inv_named, names_of, object_named, place_of}
+use Rattle.qc_decl.specs.Named.{inv_named, place_of}
 use Rattle.qc_decl.specs.declared.declaration.Declaration.{Declaration}
 use Rattle.qc_decl.specs.declared.declaration.KindNames.{KindNames}
 use Rattle.qc_fit.specs.Said.{HasEvent, HasInvocation, HasPlan, HasResponse}
@@ -15,10 +15,9 @@ use Rattle.qc_laws.proofs.Places.{slice_get-within}
 use Rattle.qc_msg.specs.declared.step.Command.{Command}
 use Rattle.qc_msg.specs.declared.step.Command.TheVariants.{Begin, Do, Commit, Abort, Epoch}
 use Rattle.qc_msg.specs.Begun.{first_epoch}
-use Rattle.qc_plan.specs.declared.plan.Plan.{Plan}
 use Rattle.qc_script.specs.Sound.{IsAskedFor, IsInv, IsObject}
-use Rattle.qc_table.specs.Rules.{Rules, event, events_of}
-use Rattle.qc_table.specs.Run.{IsLowest, first_of, next_in}
+use Rattle.qc_table.specs.Rules.{Rules, events_of}
+use Rattle.qc_table.specs.Run.{IsLowest, first_of}
 use Rattle.qc_table.specs.Sound.{IsSound}
 use Rattle.qc_table.specs.declared.kind.Kind.{Kind}
 use Rattle.qc_table.specs.declared.row.Event.{Event}

@@ -1,5 +1,5 @@
 -- A front end whose transaction names declared things goes on so, and sends such messages.
-use Rattle.std.proofs.Common.{◌≡◌, ℕ, zero, suc, ◌+◌, ◌==◌, ◌&&◌, nat_le, nat_lt, Bool, true, false, cond, List, [], ◌∷◌, ◌++◌, length, replicate, Option, Some, None, option_map, refl, sym, subst}
+use Rattle.std.proofs.Common.{◌≡◌, ℕ, zero, suc, nat_le, Bool, true, false, cond, List, [], ◌∷◌, ◌++◌, length, replicate, Option, Some, None, option_map, refl, sym, subst}
 use Rattle.std.specs.Prelude.{slice_get, slice_set}
 use Rattle.std.specs.List.{AllByRecursion as Every}
 use Rattle.std.specs.Option.{option_map_or}
@@ -9,7 +9,6 @@ use Rattle.qc_decl.specs.Limits.{most_transaction_operations}
 use Rattle.qc_decl.specs.Lookup.{append_need_of, read_need_of}
 use Rattle.qc_decl.specs.declared.declaration.Declaration.{Declaration}
 use Rattle.qc_entry.specs.declared.line.Line.{Line}
-use Rattle.qc_entry.specs.declared.line.Op.{Op}
 use Rattle.qc_entry.specs.declared.line.OwnLine.{OwnLine}
 use Rattle.qc_entry.proofs.Union.{every-union}
 use Rattle.qc_fit.specs.Said.{HasEvent, HasInvocation, IsOpDeclared}

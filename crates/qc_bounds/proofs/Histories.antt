@@ -1,10 +1,8 @@
 -- In each run with falls every clock is at most a bound on what rises, and one more for each step.
-use Rattle.std.proofs.Common.{◌≡◌, ℕ, ◌+◌, ◌≤◌, ◌==◌, Bool, true, false, List, [], ◌∷◌, ◌++◌, length, Some, None, refl, sym, ap, ◌∙◌, subst, arith, eqb-true, append_assoc, length-append}
-use Rattle.std.specs.Prelude.{option_to_list}
-use Rattle.std.specs.List.{AllByRecursion as Every}
+use Rattle.std.proofs.Common.{◌≡◌, ℕ, ◌+◌, ◌≤◌, ◌==◌, Bool, true, false, List, [], ◌∷◌, ◌++◌, length, None, refl, sym, ap, ◌∙◌, subst, arith, eqb-true, append_assoc, length-append}
 use Rattle.std.proofs.lemmas.List.Sums.{fold-append}
 use Rattle.qc_list.proofs.Members.{every-append, every-weaker}
-use Rattle.qc_core.specs.Actors.{ActorMove, actor_after, actor_does, actor_rises, actor_takes}
+use Rattle.qc_core.specs.Actors.{actor_after, actor_does}
 use Rattle.qc_core.specs.Conduct.{IsLawfulWithFalls, with_record}
 use Rattle.qc_core.proofs.ByTurns.{after_takes, called_turn}
 use Rattle.qc_core.proofs.LivesLaws.{falls as after_falls, rises as after_rises}
@@ -26,7 +24,7 @@ use Rattle.qc_msg.specs.declared.turn.Appended.{Appended}
 use Rattle.qc_msg.specs.declared.turn.Appended.TheVariants.{Done, Failed, Stopped}
 use Rattle.qc_msg.specs.declared.turn.Posting.{Posting}
 use Rattle.qc_msg.specs.declared.turn.Turn.{Turn}
-use Rattle.qc_msg.specs.Deeds.{Deed, Rises, WasSentTo, deeds, deeds_as, envelopes, mail}
+use Rattle.qc_msg.specs.Deeds.{Deed, WasSentTo, deeds, deeds_as, envelopes, mail}
 use Rattle.qc_msg.specs.Steps.{Entry, by, marked, posted_as, sends_as, step_of}
 use Rattle.qc_msg.proofs.Growth.{deeds-other, deeds-posted_as, deeds-taken, mail-append, mail-posted_as, mail-taken}
 use Rattle.qc_promise.specs.Kept.{Kept}
@@ -39,7 +37,7 @@ use Rattle.qc_records.proofs.Greater.{mail_le}
 use Rattle.qc_bounds.specs.Records.{AllRisen, records_at}
 use Rattle.qc_bounds.specs.Within.{AreWithin, MoveWithin, PutWithin, RecordWithin, RiseWithin, TurnWithin}
 use Rattle.qc_bounds.proofs.ActorsWithin.{deeds_post, down_within, move_le, new_within, posts_within, records_le, takes_within}
-use Rattle.qc_bounds.proofs.Putting.{back_has, input_puts, kept_part, line_puts, post_puts, puts_both, risen_all}
+use Rattle.qc_bounds.proofs.Putting.{back_has, input_puts, line_puts, post_puts, puts_both, risen_all}
 use Rattle.qc_bounds.proofs.RisenWithin.{rises_within}
 
 -- the clocks of a history

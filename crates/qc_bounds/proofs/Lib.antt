@@ -24,3 +24,5 @@ pub mod RisenNamed
 pub mod AskedNamed
 pub mod HistoriesNamed
 pub mod RecordsFit
+pub mod AtOnce
+pub mod Needed

@@ -1,6 +1,6 @@
 -- What names only declared things: clients, objects, invocations, responses and events; in lines, locks, operations,
 -- messages and records.
-use Rattle.std.proofs.Common.{◌≡◌, ℕ, ◌<◌, ◌≤◌, List, Option, Some, None}
+use Rattle.std.proofs.Common.{◌≡◌, ℕ, ◌<◌, List, Option, Some, None}
 use Rattle.std.specs.List.{AllByRecursion as Every}
 use Rattle.qc_decl.specs.Actors.{actors, client_actor}
 use Rattle.qc_decl.specs.declared.declaration.Declaration.{Declaration}

@@ -1,6 +1,6 @@
 -- The records that a history puts into journals: those of a post; those that a journal has; and those that rise, where
 -- records are kept.
-use Rattle.std.proofs.Common.{◌≡◌, ◌⊎◌, ℕ, ◌+◌, ◌==◌, eqb-true, Bool, true, false, cond, List, [], ◌∷◌, ◌++◌, filter, map, Option, Some, None, inl, inr, refl, sym, ap, ◌∙◌, subst, append_assoc}
+use Rattle.std.proofs.Common.{◌≡◌, ℕ, ◌+◌, ◌==◌, eqb-true, Bool, true, false, cond, List, [], ◌∷◌, ◌++◌, filter, map, Option, Some, None, inl, inr, refl, sym, ap, ◌∙◌, subst, append_assoc}
 use Rattle.std.specs.Prelude.{fold, option_to_list}
 use Rattle.std.specs.List.{AllByRecursion as Every}
 use Rattle.qc_list.proofs.Members.{every-append}
@@ -21,7 +21,7 @@ use Rattle.qc_msg.specs.Deeds.{own}
 use Rattle.qc_msg.specs.Steps.{Entry, by, fell, marked, posted_as, sents, step_of, told, wrote}
 use Rattle.qc_promise.specs.Kept.{IsGivenBack, Journal, Kept, journal_of, journal_with, no_journal, pending_with}
 use Rattle.qc_script.specs.Ready.{controller_step}
-use Rattle.qc_bounds.specs.Records.{AllPut, AllRisen, records_at, risen_at}
+use Rattle.qc_bounds.specs.Records.{AllPut, AllRisen, records_at}
 
 module _ (P : ℕ → Record → Type 0) where
   -- a post puts its turn's record there, or leaves it pending

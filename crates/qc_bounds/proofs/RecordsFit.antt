@@ -1,8 +1,7 @@
 -- In each run with falls whose records are kept, below the limit of steps, each record fits its actor at its place.
-use Rattle.std.proofs.Common.{◌≡◌, ◌⊎◌, ℕ, ◌+◌, ◌<◌, ◌≤◌, Bool, true, List, [], ◌∷◌, ◌++◌, length, Option, Some, None, refl, sym, ap, ◌∙◌, subst, arith}
+use Rattle.std.proofs.Common.{◌≡◌, ℕ, ◌+◌, ◌<◌, ◌≤◌, Bool, List, [], ◌∷◌, length, Option, Some, None, sym, ap, subst, arith}
 use Rattle.std.specs.Prelude.{option_to_list}
 use Rattle.std.specs.List.{AllByRecursion as Every}
-use Rattle.qc_core.specs.Actors.{actor_after}
 use Rattle.qc_core.specs.Conduct.{IsLawfulWithFalls, with_record}
 use Rattle.qc_core.specs.Journals.{journal_after}
 use Rattle.qc_core.proofs.ByTurns.{called_turn}
@@ -12,7 +11,6 @@ use Rattle.qc_decl.specs.Actors.{actors}
 use Rattle.qc_decl.specs.Limits.{most_steps}
 use Rattle.qc_decl.specs.declared.declaration.Declaration.{Declaration}
 use Rattle.qc_entry.specs.declared.line.Line.{Line}
-use Rattle.qc_fit.specs.Fits.{fits as record_fits}
 use Rattle.qc_fit.specs.Numbers.{greatest_clock, most_records}
 use Rattle.qc_fit.specs.Said.{HasPlan, IsFit, IsLineDeclared}
 use Rattle.qc_fit.proofs.Words.{as_said}
@@ -33,9 +31,9 @@ use Rattle.qc_bounds.specs.Fitting.{AllFit, AllRiseFit, JournalFits}
 use Rattle.qc_bounds.specs.Records.{AllPut, records_at, risen_at}
 use Rattle.qc_bounds.specs.Within.{AreWithin, RecordWithin, TurnWithin}
 use Rattle.qc_bounds.proofs.EventsNamed.{first_planned}
-use Rattle.qc_bounds.proofs.FewRecords.{HasFew, kept_journals_few, kept_rise_few}
+use Rattle.qc_bounds.proofs.FewRecords.{kept_journals_few, kept_rise_few}
 use Rattle.qc_bounds.proofs.HistoriesNamed.{AllNamed, TurnNamed, run_named, turn_named}
-use Rattle.qc_bounds.proofs.Named.{AreNamed, LineNamed, LinesNamed, RecordNamed}
+use Rattle.qc_bounds.proofs.Named.{AreNamed, LinesNamed, RecordNamed}
 use Rattle.qc_bounds.proofs.Needs.{kept_bounded}
 use Rattle.qc_bounds.proofs.Putting.{JournalHas, own_journal_has}
 use Rattle.qc_bounds.proofs.Senders.{lawful_actor}
@@ -53,7 +51,13 @@ module _ (decl : Declaration) (accepted : IsAccepted decl) (a bound : ℕ) (low 
   said_fit before records.Life few named within = record {
     few = few;
     writer = (let here : a < actors decl = named in omega arith);
-    clients = tt; epochs = tt; clocks = tt; locks = tt; owns = tt; lines = tt; ops = tt;
+    clients = tt;
+    epochs = tt;
+    clocks = tt;
+    locks = tt;
+    owns = tt;
+    lines = tt;
+    ops = tt;
   }
   said_fit before (records.Prepare p) few named within = record {
     few = few;
@@ -72,7 +76,10 @@ module _ (decl : Declaration) (accepted : IsAccepted decl) (a bound : ℕ) (low 
     clients = (named.1, tt);
     epochs = tt;
     clocks = ((let here : clock ≤ bound = within in omega (arith, here, low)), tt);
-    locks = tt; owns = tt; lines = tt; ops = tt;
+    locks = tt;
+    owns = tt;
+    lines = tt;
+    ops = tt;
   }
   said_fit before (records.Close epoch) few named within = absurd named
   said_fit before (records.Install epoch clock lines) few named within = absurd named
@@ -82,16 +89,19 @@ module _ (decl : Declaration) (accepted : IsAccepted decl) (a bound : ℕ) (low 
     clients = (named.1, tt);
     epochs = tt;
     clocks = ((let here : c.stamp.clock ≤ bound = within in omega (arith, here, low)), tt);
-    locks = tt; owns = tt; lines = tt;
+    locks = tt;
+    owns = tt;
+    lines = tt;
     ops = named.2;
   }
   said_fit before (records.Decide epoch clock lines) few named within = absurd named
 
   pub records_fit : (before : ℕ) (rs : List Record) → before + length rs ≤ most_records → AreNamed decl a rs → AreWithin bound rs → AllFit decl a before rs
   records_fit before [] few named within = tt
-  records_fit before (r ∷ rs) few named within =
-      ((as_said decl a before r).1 (said_fit before r (let here : before < most_records = omega arith in here) named.0 within.0),
-      records_fit (before + 1) rs (omega arith) named.1 within.1)
+  records_fit before (r ∷ rs) few named within = (
+    (as_said decl a before r).1 (said_fit before r (let here : before < most_records = omega arith in here) named.0 within.0),
+    records_fit (before + 1) rs (omega arith) named.1 within.1,
+  )
 
 -- what is put there is what rises, too
 
@@ -113,10 +123,11 @@ risen_puts P (steps.Damaged offset) puts = tt
 module _ (decl : Declaration) (accepted : IsAccepted decl) (bound : ℕ) (low : bound ≤ greatest_clock) (most : ℕ) (few : most ≤ most_records) where
   rises_fit : (h : List Entry) → AllPut (RecordNamed decl) h → AllPut (λ a. RecordWithin bound) h → Every (λ (e : Entry). length (risen_at e.step) ≤ most) h → AllRiseFit decl h
   rises_fit [] named within short = tt
-  rises_fit (e ∷ h) named within short =
-      (records_fit decl accepted e.actor bound low 0 (risen_at e.step) (let here : length (risen_at e.step) ≤ most = short.0 in omega (arith, here, few))
-      (risen_puts (RecordNamed decl e.actor) e.step named.0) (risen_puts (RecordWithin bound) e.step within.0),
-      rises_fit h named.1 within.1 short.1)
+  rises_fit (e ∷ h) named within short = (
+    records_fit decl accepted e.actor bound low 0 (risen_at e.step) (let here : length (risen_at e.step) ≤ most = short.0 in omega (arith, here, few))
+        (risen_puts (RecordNamed decl e.actor) e.step named.0) (risen_puts (RecordWithin bound) e.step within.0),
+    rises_fit h named.1 within.1 short.1,
+  )
 
 module _ (decl : Declaration) (script : Script) (fits : ℕ → List Record → Type 0) (h : List Entry) (open_inputs : List Bool) (accepted : IsAccepted decl) (sound : IsScriptFor decl script)
     (run : RunsWithFalls (IsLawfulWithFalls decl) fits decl script h open_inputs) (kept : Kept h) (short : length h < most_steps) where

@@ -1,11 +1,10 @@
 -- A site, and a client, that rises by records which name declared things knows, holds and has promised such, and sends
 -- such messages.
-use Rattle.std.proofs.Common.{◌≡◌, ℕ, ◌<◌, ◌-◌, ◌&&◌, ◌==◌, not, Bool, true, false, cond, List, [], ◌∷◌, ◌++◌, fold, length, map, Option, Some, None, refl, sym, subst}
+use Rattle.std.proofs.Common.{◌≡◌, ℕ, ◌<◌, not, List, [], ◌∷◌, fold, map, Option, Some, None, refl}
 use Rattle.std.specs.List.{AllByRecursion as Every}
 use Rattle.std.specs.Option.{option_map_or}
 use Rattle.qc_list.proofs.Members.{every-append, every-filter}
 use Rattle.qc_decl.specs.declared.declaration.Declaration.{Declaration}
-use Rattle.qc_entry.specs.declared.line.Line.{Line}
 use Rattle.qc_entry.specs.declared.record.Prepared.{Prepared}
 use Rattle.qc_entry.proofs.Union.{every-union}
 use Rattle.qc_lock.specs.declared.held.Held.{Held}
@@ -13,9 +12,8 @@ use Rattle.qc_msg.specs.declared.record.Record.{Record}
 use Rattle.qc_msg.specs.declared.record.Record.TheVariants as records
 use Rattle.qc_msg.specs.Begun.{first_epoch}
 use Rattle.qc_recover.specs.Clients.{client_of}
-use Rattle.qc_recover.specs.Sites.{Kept, done_lines, done_stamp, held_by, holds, in_order, inquiries, inquiry, keeps, kept_by, nothing_kept, site_of, with_promise}
+use Rattle.qc_recover.specs.Sites.{Kept, done_lines, done_stamp, holds, inquiry, keeps, kept_by, nothing_kept, site_of, with_promise}
 use Rattle.qc_site.specs.Promise.{lines_of, prepared_of, without_prepared}
-use Rattle.qc_site.specs.Site.{SiteState}
 use Rattle.qc_stamp.specs.Order.{same_tx}
 use Rattle.qc_stamp.specs.declared.stamp.TxId.{TxId}
 use Rattle.qc_bounds.proofs.ClientsNamed.{ClientNamed}

@@ -1,5 +1,5 @@
 -- What a site and a client are by records within a bound, and what they do as they rise, is within it.
-use Rattle.std.proofs.Common.{◌≡◌, ℕ, ◌-◌, ◌≤◌, max, not, Bool, true, false, cond, List, [], ◌∷◌, ◌++◌, fold, map, Option, Some, None, arith}
+use Rattle.std.proofs.Common.{ℕ, ◌-◌, ◌≤◌, max, not, Bool, true, false, cond, List, [], ◌∷◌, ◌++◌, fold, map, Option, Some, None, arith}
 use Rattle.std.specs.List.{AllByRecursion as Every}
 use Rattle.std.specs.Option.{option_map_or}
 use Rattle.qc_list.proofs.Members.{every-append, every-filter}
@@ -20,7 +20,7 @@ use Rattle.qc_site.specs.Promise.{lines_of, prepared_of, stamped, with_stamped}
 use Rattle.qc_stamp.specs.Order.{same_tx}
 use Rattle.qc_stamp.specs.declared.stamp.Stamp.{Stamp}
 use Rattle.qc_stamp.specs.declared.stamp.TxId.{TxId}
-use Rattle.qc_records.specs.Within.{ClientWithin, LinesWithin, SendsWithin, SiteWithin}
+use Rattle.qc_records.specs.Within.{LinesWithin, SendsWithin}
 use Rattle.qc_bounds.specs.Within.{AreWithin, MoveWithin, RecordWithin}
 
 module _ (bound : ℕ) where

@@ -1,5 +1,5 @@
 -- What rises fits, where the conduct lets only records that fit rise; and what the calls of a rise ask holds of such.
-use Rattle.std.proofs.Common.{◌≡◌, ℕ, ◌+◌, ◌-◌, ◌^◌, ◌<◌, ◌≤◌, Bool, true, List, [], ◌∷◌, ◌++◌, length, Option, Some, None, inl, inr, refl, sym, ap, ◌∙◌, subst, arith}
+use Rattle.std.proofs.Common.{◌≡◌, ℕ, ◌+◌, ◌-◌, ◌^◌, ◌<◌, ◌≤◌, Bool, List, [], ◌∷◌, ◌++◌, length, Option, Some, None, sym, ap, ◌∙◌, subst, arith}
 use Rattle.std.specs.List.{AllByRecursion as Every}
 use Rattle.qc_list.specs.Members.{In}
 use Rattle.qc_list.proofs.Members.{every-In, every-append}
@@ -12,7 +12,6 @@ use Rattle.qc_decl.specs.Actors.{controller}
 use Rattle.qc_decl.specs.Limits.{most_clients, most_steps}
 use Rattle.qc_decl.specs.declared.declaration.Declaration.{Declaration}
 use Rattle.qc_entry.specs.declared.record.Prepared.{Prepared}
-use Rattle.qc_fit.specs.Fits.{fits as record_fits}
 use Rattle.qc_fit.specs.Numbers.{most_records}
 use Rattle.qc_fit.specs.Said.{IsFit}
 use Rattle.qc_fit.proofs.Words.{as_said}
@@ -29,7 +28,7 @@ use Rattle.qc_msg.specs.declared.turn.Appended.{Appended}
 use Rattle.qc_msg.specs.declared.turn.Appended.TheVariants.{Done, Failed, Stopped}
 use Rattle.qc_msg.specs.declared.turn.Posting.{Posting}
 use Rattle.qc_msg.specs.declared.turn.Turn.{Turn}
-use Rattle.qc_msg.specs.Deeds.{Deed, Rises, deeds, mail}
+use Rattle.qc_msg.specs.Deeds.{Deed, Rises, mail}
 use Rattle.qc_msg.specs.Steps.{Entry, by, fell, marked, posted_as, sents, step_of, told, wrote}
 use Rattle.qc_msg.proofs.Growth.{length-mail}
 use Rattle.qc_script.specs.Ready.{controller_step}

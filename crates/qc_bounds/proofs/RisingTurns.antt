@@ -1,11 +1,9 @@
 -- A rising turn asks about at most as many transactions as it has records, and asks clients; an actor that rises asks few.
-use Rattle.std.proofs.Common.{◌≡◌, ◌⊎◌, ℕ, Ordering, Less, Equal, Greater, ◌+◌, ◌-◌, ◌<◌, ◌≤◌, not, Bool, true, false, cond, List, [], ◌∷◌, ◌++◌, filter, fold, length, map, inl, inr, refl, ap, ◌∙◌, subst, arith, length-append}
+use Rattle.std.proofs.Common.{◌≡◌, ℕ, Ordering, Less, Equal, Greater, ◌+◌, ◌-◌, ◌<◌, ◌≤◌, not, Bool, true, false, cond, List, [], ◌∷◌, filter, fold, length, map, refl, arith, length-append}
 use Rattle.std.specs.List.{AllByRecursion as Every}
 use Rattle.std.proofs.lemmas.List.{length-map}
-use Rattle.std.proofs.lemmas.List.Sums.{fold-append}
-use Rattle.qc_list.specs.Members.{In}
 use Rattle.qc_list.specs.Order.{by_order, inserted}
-use Rattle.qc_list.proofs.Members.{In-more, every-In, every-from_In}
+use Rattle.qc_list.proofs.Members.{every-In, every-from_In}
 use Rattle.qc_core.specs.Actors.{AsksFew, actor_rises, by_client, by_site}
 use Rattle.qc_decl.specs.Actors.{actors, is_site}
 use Rattle.qc_decl.specs.declared.declaration.Declaration.{Declaration}

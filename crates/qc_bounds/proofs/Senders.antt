@@ -1,5 +1,5 @@
 -- In each run with falls messages come from actors, and so does what an actor takes.
-use Rattle.std.proofs.Common.{◌≡◌, ℕ, zero, suc, ◌+◌, ◌<◌, ◌≤◌, ◌==◌, nat_lt, Bool, true, false, cond, List, [], ◌∷◌, ◌++◌, length, Option, Some, None, slice_get, refl, sym, ap, ◌∙◌, subst, arith}
+use Rattle.std.proofs.Common.{◌≡◌, ℕ, zero, suc, ◌+◌, ◌<◌, ◌==◌, Bool, true, false, cond, List, [], ◌∷◌, ◌++◌, length, Option, Some, None, slice_get, refl, sym, subst, arith}
 use Rattle.std.specs.Prelude.{option_to_list}
 use Rattle.std.specs.List.{AllByRecursion as Every}
 use Rattle.std.proofs.lemmas.Bool.{ltb-true}
@@ -9,9 +9,9 @@ use Rattle.qc_core.specs.Conduct.{IsLawfulWithFalls, with_record}
 use Rattle.qc_decl.specs.Actors.{actors, controller, is_client, is_site}
 use Rattle.qc_decl.specs.declared.declaration.Declaration.{Declaration}
 use Rattle.qc_inbox.proofs.Keeping.{same_mail}
-use Rattle.qc_laws.proofs.Numbered.{mail-silent, phase_silent}
+use Rattle.qc_laws.proofs.Numbered.{mail-silent}
 use Rattle.qc_link.specs.Limits.{most_actors}
-use Rattle.qc_lives.proofs.Lived.{line_silent, run_long}
+use Rattle.qc_lives.proofs.Lived.{line_silent}
 use Rattle.qc_msg.specs.declared.message.Envelope.{Envelope}
 use Rattle.qc_msg.specs.declared.record.Record.{Record}
 use Rattle.qc_msg.specs.declared.step.Fall.TheVariants as causes
@@ -20,7 +20,7 @@ use Rattle.qc_msg.specs.declared.step.Step.TheVariants as steps
 use Rattle.qc_msg.specs.declared.turn.Posting.{Posting}
 use Rattle.qc_msg.specs.declared.turn.Turn.{Turn}
 use Rattle.qc_msg.specs.Deeds.{Deed, deed_at, deeds, envelope_of, envelopes, heard, mail}
-use Rattle.qc_msg.specs.Steps.{Entry, by, marked, posted_as, sends_as, step_of}
+use Rattle.qc_msg.specs.Steps.{Entry, by, marked, posted_as, sends_as}
 use Rattle.qc_msg.proofs.Growth.{mail-append, mail-posted_as, mail-taken}
 use Rattle.qc_records.proofs.InRuns.{client_low}
 use Rattle.qc_script.specs.Ready.{phase_of}

@@ -1,5 +1,5 @@
 -- What a site writes, and what it sends where that isn't written, stays within a bound that what it takes keeps to.
-use Rattle.std.proofs.Common.{ℕ, ◌≤◌, ◌==◌, not, List, [], Option, Some, None}
+use Rattle.std.proofs.Common.{ℕ, ◌≤◌, not}
 use Rattle.std.specs.Prelude.{option_to_list}
 use Rattle.qc_list.proofs.Members.{every-filter}
 use Rattle.qc_decl.specs.declared.declaration.Declaration.{Declaration}

@@ -1,13 +1,11 @@
 -- A site that knows, holds and has promised what names declared things goes on so, sends such messages and writes such
 -- records; and it rises so by such records.
-use Rattle.std.proofs.Common.{◌≡◌, ℕ, ◌<◌, ◌≤◌, ◌==◌, ◌&&◌, nat_lt, not, Bool, true, false, cond, List, [], ◌∷◌, ◌++◌, filter, fold, length, map, Option, Some, None, Ordering, Less, Equal, Greater, refl, sym, ap, ◌∙◌, subst, arith, eqb-true}
+use Rattle.std.proofs.Common.{◌≡◌, ℕ, ◌<◌, ◌==◌, ◌&&◌, nat_lt, not, Bool, true, false, cond, List, [], ◌∷◌, fold, length, Option, Some, None, Ordering, Less, Equal, Greater, refl, subst, eqb-true}
 use Rattle.std.specs.Prelude.{option_to_list, unwrap_or}
-use Rattle.std.specs.List.{AllByRecursion as Every, find}
-use Rattle.std.specs.Option.{option_map_or}
+use Rattle.std.specs.List.{AllByRecursion as Every}
 use Rattle.std.proofs.lemmas.Bool.{ltb-true}
 use Rattle.qc_list.specs.Order.{by_order, inserted}
 use Rattle.qc_list.proofs.Members.{every-append, every-filter}
-use Rattle.qc_decl.specs.Limits.{most_record_bytes}
 use Rattle.qc_decl.specs.declared.declaration.Declaration.{Declaration}
 use Rattle.qc_entry.specs.Log.{has_line}
 use Rattle.qc_entry.specs.declared.line.Line.{Line}
@@ -18,7 +16,7 @@ use Rattle.qc_entry.proofs.Union.{every-union}
 use Rattle.qc_fit.specs.Said.{HasEvent, HasInvocation}
 use Rattle.qc_lock.specs.declared.clash.Clash.{Clash as Conflict}
 use Rattle.qc_lock.specs.declared.held.Held.{Held}
-use Rattle.qc_lock.specs.Held.{entry_of, held_of, lock_cmp, own_cmp, with_entry, with_held, with_locks, with_owns, without_held}
+use Rattle.qc_lock.specs.Held.{entry_of, held_of, lock_cmp, own_cmp, with_entry, with_held, with_locks, with_owns}
 use Rattle.qc_msg.specs.declared.message.Answer.{Answer}
 use Rattle.qc_msg.specs.declared.message.Answer.TheVariants as says
 use Rattle.qc_msg.specs.declared.message.Message.{Message}
@@ -27,21 +25,18 @@ use Rattle.qc_msg.specs.declared.message.Outcome.{Outcome}
 use Rattle.qc_msg.specs.declared.message.Outcome.TheVariants.{Committed, Aborted, Active}
 use Rattle.qc_msg.specs.declared.message.Want.{Want}
 use Rattle.qc_msg.specs.declared.message.Want.TheVariants.{Append, Prepare, Read}
-use Rattle.qc_msg.specs.declared.record.Record.{Record}
-use Rattle.qc_msg.specs.declared.record.Record.TheVariants as records
 use Rattle.qc_msg.specs.declared.step.Given.{Given}
 use Rattle.qc_msg.specs.declared.step.Given.TheVariants as given
 use Rattle.qc_msg.specs.Begun.{first_epoch}
 use Rattle.qc_msg.specs.Turns.{quiet}
 use Rattle.qc_site.specs.Conduct.{passed, site_at, site_takes}
-use Rattle.qc_site.specs.Promise.{finishes, joins, lines_of, prepared_of, prepares, promise_of, promises, stamped, with_stamped}
+use Rattle.qc_site.specs.Promise.{finishes, lines_of, prepared_of, promise_of, stamped, with_stamped}
 use Rattle.qc_site.specs.Requests.{clashing, fault_of, grants, names_declared, names_object, requested}
 use Rattle.qc_site.specs.Site.{SiteMove, SiteState, answers, moved}
 use Rattle.qc_site.proofs.Cases.{append_cases, choose, fault_is, join_cases, prepare_cases, read_cases}
 use Rattle.qc_stamp.specs.declared.stamp.Stamp.{Stamp}
 use Rattle.qc_stamp.specs.declared.stamp.TxId.{TxId}
 use Rattle.qc_stamp.specs.Order.{same_tx}
-use Rattle.qc_bounds.specs.Records.{AllPut}
 use Rattle.qc_bounds.proofs.Named.{AnswerNamed, AreNamed, GivenNamed, LineNamed, LinesNamed, LocksNamed, MessageNamed, OwnsNamed, SendsNamed, WantNamed}
 
 -- what is put among items in order

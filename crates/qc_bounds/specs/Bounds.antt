@@ -1,5 +1,5 @@
 -- Bounds of a history with falls: on all clocks, on the number of messages, on counts and lives.
-use Rattle.std.specs.Prelude.{ℕ, ◌+◌, ◌≤◌, [], List, length}
+use Rattle.std.specs.Prelude.{ℕ, ◌≤◌, [], List, length}
 use Rattle.std.specs.List.{AllByRecursion as Every}
 use Rattle.qc_core.specs.declared.actor.Actor.{Actor}
 use Rattle.qc_core.specs.declared.actor.Actor.TheVariants.{Site, Client, Down}

@@ -1,14 +1,17 @@
 //! Bounds on clocks, counts and lives in every run with falls, each law the
 //! contract of a function with nothing to do.
 
-ghost use Rattle.std.specs.Prelude.{◌+◌, ℕ, Bool, List, [], length};
+ghost use Rattle.std.specs.Prelude.{◌≡◌, ◌≤◌, ◌+◌, ℕ, Bool, false, List, [], ◌∷◌, ◌++◌, length};
 ghost use Rattle.qc_bounds.specs.Bounds.{CountsWithin, IsBoundedWithFalls, LivesWithin, RiseWithFew};
-ghost use Rattle.qc_bounds.specs.Within.{RiseWithin};
+ghost use Rattle.qc_bounds.specs.Within.{MoveWithin, RiseWithin};
 ghost use Rattle.qc_core.specs.Actors.{actor_after};
 ghost use Rattle.qc_core.specs.Conduct.{IsLawfulWithFalls};
+ghost use Rattle.qc_decl.specs.Actors.{is_site};
 ghost use Rattle.qc_decl.specs.declared.declaration.Declaration.{Declaration};
-ghost use Rattle.qc_msg.specs.Deeds.{deeds};
+ghost use Rattle.qc_entry.specs.declared.record.Commit.{Commit as CommitRecord};
+ghost use Rattle.qc_msg.specs.Deeds.{Deed, Rises, deeds};
 ghost use Rattle.qc_msg.specs.Steps.{Entry};
+ghost use Rattle.qc_msg.specs.declared.record.Record.TheVariants.{Commit};
 ghost use Rattle.qc_promise.specs.Kept.{Kept};
 ghost use Rattle.qc_script.specs.RunsWithFalls.{RunsWithFalls};
 ghost use Rattle.qc_script.specs.declared.script.Script.{Script};
@@ -28,6 +31,15 @@ pub fn clocks_are_bounded_with_falls<C: ConductWithFalls>()
     ensures kept { (decl : Declaration) (script : Script) (h : List Entry) (open_inputs : List Bool)
         → RunsWithFalls (IsLawfulWithFalls decl) C.fits decl script h open_inputs → Kept h
         → IsBoundedWithFalls decl (length h) h }
+{}
+
+/// That what rises is within the bound is needed: a client that rises with a
+/// commit record is within no lesser bound than its clock.
+#[tactic(auto, using(crate::proofs::Needed::risen_clock))]
+pub fn bounds_are_on_what_rises()
+    ensures { (decl : Declaration) (a : ℕ) (ds : List Deed) (c : CommitRecord) (bound : ℕ)
+        → is_site decl a ≡ false
+        → MoveWithin bound (actor_after decl a (ds ++ Rises (Commit c ∷ []) ∷ [])) → c.stamp.clock ≤ bound }
 {}
 
 /// A client has begun at most as many transactions as there are steps: they

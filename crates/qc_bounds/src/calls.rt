@@ -8,7 +8,7 @@ ghost use Rattle.qc_bounds.specs.Calls.{IsFailedShort, IsRisingShort};
 ghost use Rattle.qc_bounds.specs.Fitting.{AllFit, AllRiseFit};
 ghost use Rattle.qc_bounds.specs.Within.{RiseWithin};
 ghost use Rattle.qc_client.specs.Fits.{promise_in};
-ghost use Rattle.qc_core.specs.Actors.{ActorFits, AsksFew, IsShort, actor_after};
+ghost use Rattle.qc_core.specs.Actors.{ActorFits, AsksFew, IsShort, actor_after, actor_sent};
 ghost use Rattle.qc_core.specs.Conduct.{IsLawfulWithFalls};
 ghost use Rattle.qc_decl.specs.Accepted.{IsAccepted};
 ghost use Rattle.qc_decl.specs.Limits.{most_clients, most_steps};
@@ -16,7 +16,7 @@ ghost use Rattle.qc_decl.specs.declared.declaration.Declaration.{Declaration};
 ghost use Rattle.qc_entry.specs.declared.record.Prepared.{Prepared};
 ghost use Rattle.qc_fit.specs.Numbers.{greatest_clock, most_records};
 ghost use Rattle.qc_list.specs.Members.{In};
-ghost use Rattle.qc_msg.specs.Deeds.{Deed, Rises, deeds, mail};
+ghost use Rattle.qc_msg.specs.Deeds.{Deed, Rises, deeds, mail, turn_deeds};
 ghost use Rattle.qc_msg.specs.Steps.{Entry};
 ghost use Rattle.qc_msg.specs.declared.message.Envelope.{Envelope};
 ghost use Rattle.qc_msg.specs.declared.record.Record.{Record};
@@ -97,4 +97,21 @@ pub fn rising_turns_are_short()
         → AsksFew (actor_after decl a (ds ++ Rises records ∷ [])).actor }
     ensures numbers { (decl : Declaration) (a : ℕ) (h : List Entry) (records : List Record)
         → length h < most_steps → AllFit decl a 0 records → length (mail h) + length records < 2 ^ 32 }
+{}
+
+/// After a turn whose record is written, for an input or a rise, one call with
+/// the number of its first message gives what its messages give one after
+/// another.
+#[tactic(auto, using(crate::proofs::AtOnce::run_sent, crate::proofs::AtOnce::risen_sent))]
+pub fn requests_are_numbered_at_once_with_falls<C: ConductWithFalls>()
+    ensures input { (decl : Declaration) (script : Script) (h : List Entry) (open_inputs : List Bool)
+        → RunsWithFalls (IsLawfulWithFalls decl) C.fits decl script h open_inputs → IsAccepted decl
+        → AllRiseFit decl h → (a : ℕ) (turn : Turn) (first : ℕ) → slice_get open_inputs a ≡ Some true
+        → IsLawfulWithFalls decl a (deeds a [] h) turn
+        → (actor_after decl a (deeds a [] h ++ turn_deeds first turn)).actor
+        ≡ actor_sent (actor_after decl a (deeds a [] h)).actor first }
+    ensures rise { (decl : Declaration) (a : ℕ) (ds : List Deed) (records : List Record) (turn : Turn) (first : ℕ)
+        → IsLawfulWithFalls decl a (ds ++ Rises records ∷ []) turn
+        → (actor_after decl a ((ds ++ Rises records ∷ []) ++ turn_deeds first turn)).actor
+        ≡ actor_sent (actor_after decl a (ds ++ Rises records ∷ [])).actor first }
 {}
