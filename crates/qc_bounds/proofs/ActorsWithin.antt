@@ -1,6 +1,7 @@
 -- What an actor becomes, sends and writes for one input stays within a bound that what it takes keeps to, and one more;
 -- and what its post leaves is within the bound.
-use Rattle.std.proofs.Common.{ℕ, ◌+◌, ◌-◌, ◌≤◌, Bool, true, false, cond, List, [], ◌∷◌, ◌++◌, fold, Option, Some, None, arith}
+use Rattle.std.proofs.Common.{ℕ, ◌+◌, ◌-◌, ◌≤◌, Bool, true, false, cond, List, [], ◌∷◌, ◌++◌, fold, Option, Some, None}
+use Rattle.std.proofs.Common.{arith}
 use Rattle.std.specs.Prelude.{option_to_list}
 use Rattle.std.specs.List.{AllByRecursion as Every}
 use Rattle.qc_list.proofs.Members.{every-append, every-weaker}
@@ -100,7 +101,8 @@ module _ (bound : ℕ) (decl : Declaration) where
       (record { state = m.site; turn = record { sends = m.sends; failed_sends = t.failed_sends; write = t.write } })
   takes_within (Client c) g w here =
       let m : ClientMoveWithin (bound + 1) (client_takes decl c g) = client_takes_within bound decl c w g here in
-      let t : WritesWithin (bound + 1) (client_takes decl c g).turn = client_writes_within decl c (bound + 1) g m.client in
+      let t : WritesWithin (bound + 1) (client_takes decl c g).turn =
+      client_writes_within decl c (bound + 1) g m.client in
       record {
         state = m.client;
         turn = record { sends = m.sends; failed_sends = t.failed_sends; write = t.write };
@@ -133,13 +135,17 @@ writes_post (Some written) = (tt, tt)
 pub deeds_post : (end : Appended) (n : ℕ) (turn : Turn) → Every IsOfPost (deeds_as end n turn)
 deeds_post Done n turn =
     every-append IsOfPost (writes_of turn.write) (sends_of n turn.sends ++ tells_of turn.told) (writes_post turn.write)
-    (every-append IsOfPost (sends_of n turn.sends) (tells_of turn.told) (sends_post n turn.sends) (tells_post turn.told))
+    (every-append IsOfPost (sends_of n turn.sends) (tells_of turn.told) (sends_post n turn.sends)
+    (tells_post turn.told))
 deeds_post Failed n turn =
-    every-append IsOfPost (sends_of n turn.failed_sends) (tells_of turn.failed_told ++ Falls causes.Disk turn.write ∷ [])
+    every-append IsOfPost (sends_of n turn.failed_sends)
+    (tells_of turn.failed_told ++ Falls causes.Disk turn.write ∷ [])
     (sends_post n turn.failed_sends)
-    (every-append IsOfPost (tells_of turn.failed_told) (Falls causes.Disk turn.write ∷ []) (tells_post turn.failed_told) (tt, tt))
+    (every-append IsOfPost (tells_of turn.failed_told) (Falls causes.Disk turn.write ∷ []) (tells_post turn.failed_told)
+    (tt, tt))
 deeds_post Stopped n turn =
-    every-append IsOfPost (tells_of turn.failed_told) (Falls causes.Stop turn.write ∷ []) (tells_post turn.failed_told) (tt, tt)
+    every-append IsOfPost (tells_of turn.failed_told) (Falls causes.Stop turn.write ∷ []) (tells_post turn.failed_told)
+    (tt, tt)
 
 module _ (bound : ℕ) (decl : Declaration) (a : ℕ) where
   sends_within : (v : Actor) (number to : ℕ) (message : Message) → StateWithin bound v

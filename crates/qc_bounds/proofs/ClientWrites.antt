@@ -1,6 +1,7 @@
 -- What a client writes is a commit record that it keeps, so its clock stays within a bound of those that it keeps; where
 -- it isn't written it sends nothing.
-use Rattle.std.proofs.Common.{◌≡◌, ◌⊎◌, ℕ, ◌≤◌, Bool, true, false, cond, Option, Some, None, inl, inr, refl, sym, ap, subst}
+use Rattle.std.proofs.Common.{◌≡◌, ◌⊎◌, ℕ, ◌≤◌, Bool, true, false, cond, Option, Some, None, inl, inr, refl, sym, ap}
+use Rattle.std.proofs.Common.{subst}
 use Rattle.std.specs.Prelude.{option_to_list}
 use Rattle.qc_list.specs.Members.{In}
 use Rattle.qc_list.proofs.Members.{In-last, every-In}
@@ -51,10 +52,14 @@ desk_writes : (c : Client) (hand : Option TxId) (m : DeskMove) → IsMove c.desk
 desk_writes c hand m (inl w) = none_writes (by_desk c m) w.write
 desk_writes c hand m (inr (inl r)) = record {
   commit = inr (desks.commit_of r.stamp r.begun, ap (λ (t : Turn). t.write) r.turn);
-  kept = λ k is. (let written : m.turn.write ≡ Some (records.Commit (desks.commit_of r.stamp r.begun)) = ap (λ (t : Turn). t.write) r.turn in
+  kept =
+      λ k is.
+      (let written : m.turn.write ≡ Some (records.Commit (desks.commit_of r.stamp r.begun)) = ap
+      (λ (t : Turn). t.write) r.turn in
       let same : desks.commit_of r.stamp r.begun ≡ k = cc in
       subst (λ (v : Commit). In v m.desk.commits) same
-      (subst (In (desks.commit_of r.stamp r.begun)) (sym r.commits) (In-last (desks.commit_of r.stamp r.begun) c.desk.commits)));
+      (subst (In (desks.commit_of r.stamp r.begun)) (sym r.commits)
+      (In-last (desks.commit_of r.stamp r.begun) c.desk.commits)));
 }
 desk_writes c hand m (inr (inr a)) = none_writes (by_desk c m) (ap (λ (t : Turn). t.write) a.turn)
 
@@ -85,7 +90,8 @@ module _ (decl : Declaration) (c : Client) where
     where
       by : (o : Option Voting) → KeepsWrites (answered_by decl c o number answer)
       by None = none_writes _ (front_takes decl c.front number answer).write
-      by (Some v) = desk_writes c (tx_of c.desk.voting) (desks.vote c.desk number answer) (vote-moves c.desk number answer)
+      by (Some v) =
+          desk_writes c (tx_of c.desk.voting) (desks.vote c.desk number answer) (vote-moves c.desk number answer)
 
   heard_writes : (from number : ℕ) (message : Message) → KeepsWrites (heard decl c from number message)
   heard_writes from number (messages.Request tx epoch life want) = none_writes _ refl
@@ -108,11 +114,13 @@ module _ (decl : Declaration) (c : Client) where
     failed_sends = subst (SendsWithin bound) (sym (client_written decl c g).failed_sends) tt;
     write = by (takes_writes g).commit;
   } where
-    by : WritesCommit (client_takes decl c g).turn.write → AreWithin bound (option_to_list (client_takes decl c g).turn.write)
+    by : WritesCommit (client_takes decl c g).turn.write
+        → AreWithin bound (option_to_list (client_takes decl c g).turn.write)
     by (inl none) = subst (λ (o : Option Record). AreWithin bound (option_to_list o)) (sym none) tt
     by (inr one) =
         subst (λ (o : Option Record). AreWithin bound (option_to_list o)) (sym one.1) (
-          every-In (λ (k : Commit). k.stamp.clock ≤ bound) one.0 (client_takes decl c g).client.desk.commits w.desk.commits
+          every-In (λ (k : Commit). k.stamp.clock ≤ bound) one.0
+              (client_takes decl c g).client.desk.commits w.desk.commits
               ((takes_writes g).kept one.0 one.1),
           tt,
         )

@@ -1,6 +1,7 @@
 -- A client whose transaction is its own and names declared things goes on so, sends such messages, and writes commit
 -- records of its own with such operations.
-use Rattle.std.proofs.Common.{◌≡◌, ◌⊎◌, ℕ, ◌==◌, Bool, true, false, cond, List, [], ◌∷◌, length, map, Option, Some, None, is_some, inl, inr, refl}
+use Rattle.std.proofs.Common.{◌≡◌, ◌⊎◌, ℕ, ◌==◌, Bool, true, false, cond, List, [], ◌∷◌, length, map, Option, Some}
+use Rattle.std.proofs.Common.{None, is_some, inl, inr, refl}
 use Rattle.qc_client.specs.declared.client.Client.{Client}
 use Rattle.qc_client.specs.Client.{ClientMove, by_desk, by_front, moved}
 use Rattle.qc_client.specs.Conduct.{answered, answered_by, called, client_takes, commits, heard, requested, sent_one}
@@ -79,7 +80,8 @@ module _ (decl : Declaration) (k : ℕ) where
   decisions_named : (b : Begun) (v : Outcome) → SendsNamed decl (decisions b v)
   decisions_named b v = over b.asked
     where
-      over : (asked : List ℕ) → SendsNamed decl (map (λ (site : ℕ). record { to = site; message = messages.Decision b.tx v }) asked)
+      over : (asked : List ℕ)
+          → SendsNamed decl (map (λ (site : ℕ). record { to = site; message = messages.Decision b.tx v }) asked)
       over [] = tt
       over (site ∷ asked) = (tt, over asked)
 
@@ -98,19 +100,26 @@ module _ (decl : Declaration) (k : ℕ) where
   out_named desk b (Some why) its = record { voting = tt; sends = decisions_named b Aborted; write = inl refl }
   out_named desk b None its = decides_named desk b its
 
-  counts_named : (desk : Desk) (b : Begun) (calls : List Call) (ballots : List Ballot) → OwnBegun b → DeskMoveNamed (desks.counts desk b calls ballots)
+  counts_named : (desk : Desk) (b : Begun) (calls : List Call) (ballots : List Ballot) → OwnBegun b
+      → DeskMoveNamed (desks.counts desk b calls ballots)
   counts_named desk b calls ballots its = by (are_cast ballots)
     where
-      by : (t : Bool) → DeskMoveNamed (cond t (desks.counted_out desk b (first_against ballots)) (desk_moved (desks.with_voting desk (Some (record { begun = b; calls = calls; ballots = ballots }))) quiet))
+      by : (t : Bool)
+          → DeskMoveNamed
+          (cond t (desks.counted_out desk b (first_against ballots))
+          (desk_moved (desks.with_voting desk (Some (record { begun = b; calls = calls; ballots = ballots }))) quiet))
       by true = out_named desk b (first_against ballots) its
       by false = record { voting = its; sends = tt; write = inl refl }
 
-  vote_named : (desk : Desk) (number : ℕ) (answer : Option Answer) → VotingNamed desk.voting → DeskMoveNamed (desks.vote desk number answer)
+  vote_named : (desk : Desk) (number : ℕ) (answer : Option Answer) → VotingNamed desk.voting
+      → DeskMoveNamed (desks.vote desk number answer)
   vote_named desk number answer its = by desk.voting its
     where
       at : (v : Voting) (o : Option ℕ) → OwnBegun v.begun → DeskMoveNamed (desks.votes_at desk v number answer o)
       at v None here = record { voting = its; sends = tt; write = inl refl }
-      at v (Some site) here = counts_named (desks.learns desk answer) v.begun (without_call v.calls number) (cast v.ballots site (vote_of v.begun site answer)) here
+      at v (Some site) here =
+          counts_named (desks.learns desk answer) v.begun (without_call v.calls number)
+          (cast v.ballots site (vote_of v.begun site answer)) here
 
       by : (o : Option Voting) → VotingNamed o → DeskMoveNamed (desks.votes_in desk o number answer)
       by None here = record { voting = its; sends = tt; write = inl refl }
@@ -120,7 +129,11 @@ module _ (decl : Declaration) (k : ℕ) where
   prepare_named desk b clock its = by (length (participants decl desk.client b) == 0)
     where
       by : (t : Bool) → DeskMoveNamed (cond t (desks.decides (desks.passed desk clock) b)
-          (desk_moved (desks.with_voting (desks.passed desk clock) (Some (record { begun = b; calls = []; ballots = blank (participants decl desk.client b) }))) (sending (map (prepares b) (participants decl desk.client b)))))
+          (desk_moved (desks.with_voting (desks.passed desk clock) (Some (record {
+            begun = b;
+            calls = [];
+            ballots = blank (participants decl desk.client b);
+          }))) (sending (map (prepares b) (participants decl desk.client b)))))
       by true = decides_named (desks.passed desk clock) b its
       by false = record { voting = its; sends = prepares_named b (participants decl desk.client b); write = inl refl }
 
@@ -129,33 +142,64 @@ module _ (decl : Declaration) (k : ℕ) where
   desk_moves : (c : Client) (m : DeskMove) → ClientNamed c → DeskMoveNamed m → ClientMoveNamed (by_desk c m)
   desk_moves c m w goes = by m.turn.told
     where
-      by : (told : Option Reply) → ClientMoveNamed (moved (record { front = cond (is_some told) (ended c.front m.desk.clock.value m.desk.epoch) c.front; desk = m.desk }) m.turn)
-      by None = record { client = record { own = w.own; front = w.front; voting = goes.voting }; sends = goes.sends; write = goes.write }
+      by : (told : Option Reply)
+          → ClientMoveNamed
+          (moved
+          (record {
+            front = cond (is_some told)
+                (ended c.front m.desk.clock.value m.desk.epoch) c.front;
+            desk = m.desk;
+          }) m.turn)
+      by None =
+          record {
+            client = record { own = w.own; front = w.front; voting = goes.voting };
+            sends = goes.sends;
+            write = goes.write;
+          }
       by (Some reply) = record {
-        client = record { own = record { client = w.own.client; begun = tt }; front = record { begun = tt; doing = tt }; voting = goes.voting };
+        client =
+            record {
+              own = record { client = w.own.client; begun = tt };
+              front = record { begun = tt; doing = tt };
+              voting = goes.voting;
+            };
         sends = goes.sends;
         write = goes.write;
       }
 
-  front_moves : (c : Client) (m : FrontMove) → ClientNamed c → OwnFront k m.front → FrontMoveNamed decl m → m.turn.write ≡ None → ClientMoveNamed (by_front c m)
-  front_moves c m w own goes none = record { client = record { own = own; front = goes.front; voting = w.voting }; sends = goes.sends; write = inl none }
+  front_moves : (c : Client) (m : FrontMove) → ClientNamed c → OwnFront k m.front → FrontMoveNamed decl m
+      → m.turn.write ≡ None → ClientMoveNamed (by_front c m)
+  front_moves c m w own goes none =
+      record {
+        client = record { own = own; front = goes.front; voting = w.voting };
+        sends = goes.sends;
+        write = inl none;
+      }
 
   module _ (accepted : IsAccepted decl) (c : Client) (w : ClientNamed c) where
     silent : ClientMoveNamed (moved c quiet)
     silent = record { client = w; sends = tt; write = inl refl }
 
-    fronted : (command : Command) → CommandNamed decl command → ClientMoveNamed (by_front c (fronts.called decl c.front command))
+    fronted : (command : Command) → CommandNamed decl command
+        → ClientMoveNamed (by_front c (fronts.called decl c.front command))
     fronted command here =
-        front_moves c (fronts.called decl c.front command) w (own_fronts.called_own decl k c.front command w.own) (called_named decl accepted c.front command w.front here)
+        front_moves c (fronts.called decl c.front command) w (own_fronts.called_own decl k c.front command w.own)
+        (called_named decl accepted c.front command w.front here)
         (front_called decl c.front command).write
 
-    commits_named : (o : Option Transaction) → BegunNamed decl o → IsOwnTransaction k o → ClientMoveNamed (commits decl c o)
+    commits_named : (o : Option Transaction) → BegunNamed decl o → IsOwnTransaction k o
+        → ClientMoveNamed (commits decl c o)
     commits_named None its own = fronted commands.Commit tt
     commits_named (Some t) its own = by t.begun.doomed
       where
-        by : (dead : Bool) → ClientMoveNamed (cond dead (by_front c (fronts.called decl c.front commands.Commit)) (by_desk c (desks.prepare decl c.desk t.begun c.front.clock.value)))
+        by : (dead : Bool)
+            → ClientMoveNamed
+            (cond dead (by_front c (fronts.called decl c.front commands.Commit))
+            (by_desk c (desks.prepare decl c.desk t.begun c.front.clock.value)))
         by true = fronted commands.Commit tt
-        by false = desk_moves c (desks.prepare decl c.desk t.begun c.front.clock.value) w (prepare_named c.desk t.begun c.front.clock.value (record { ops = its.ops; client = own }))
+        by false =
+            desk_moves c (desks.prepare decl c.desk t.begun c.front.clock.value) w
+            (prepare_named c.desk t.begun c.front.clock.value (record { ops = its.ops; client = own }))
 
     calls_named : (command : Command) → CommandNamed decl command → ClientMoveNamed (called decl c command)
     calls_named commands.Begin here = fronted commands.Begin tt
@@ -164,16 +208,20 @@ module _ (decl : Declaration) (k : ℕ) where
     calls_named commands.Abort here = fronted commands.Abort tt
     calls_named (commands.Epoch number) here = fronted (commands.Epoch number) tt
 
-    answers_named : (number : ℕ) (answer : Option Answer) → CameNamed decl answer → ClientMoveNamed (answered decl c number answer)
+    answers_named : (number : ℕ) (answer : Option Answer) → CameNamed decl answer
+        → ClientMoveNamed (answered decl c number answer)
     answers_named number answer here = by c.desk.voting
       where
         by : (o : Option Voting) → ClientMoveNamed (answered_by decl c o number answer)
         by None =
-            front_moves c (fronts.takes decl c.front number answer) w (own_fronts.takes_own decl k c.front number answer w.own) (takes_named decl accepted c.front number answer w.front here)
+            front_moves c (fronts.takes decl c.front number answer) w
+            (own_fronts.takes_own decl k c.front number answer w.own)
+            (takes_named decl accepted c.front number answer w.front here)
             (front_takes decl c.front number answer).write
         by (Some v) = desk_moves c (desks.vote c.desk number answer) w (vote_named c.desk number answer w.voting)
 
-    heard_named : (from number : ℕ) (message : Message) → MessageNamed decl message → ClientMoveNamed (heard decl c from number message)
+    heard_named : (from number : ℕ) (message : Message) → MessageNamed decl message
+        → ClientMoveNamed (heard decl c from number message)
     heard_named from number (messages.Request tx epoch life want) here = silent
     heard_named from number (messages.Answer to answer) here = answers_named to (Some answer) here
     heard_named from number (messages.Decision tx verdict) here = silent
@@ -190,7 +238,8 @@ module _ (decl : Declaration) (k : ℕ) where
 
   -- the numbers of its messages
 
-  requested_doing : (front : Front) (number to : ℕ) → FrontNamed decl front → FrontNamed decl (fronts.requested front number to)
+  requested_doing : (front : Front) (number to : ℕ) → FrontNamed decl front
+      → FrontNamed decl (fronts.requested front number to)
   requested_doing front number to w = record { begun = w.begun; doing = by front.doing w.doing }
     where
       by : (d : Doing) → DoingNamed decl d → DoingNamed decl (fronts.requested_in d number to)
@@ -198,16 +247,28 @@ module _ (decl : Declaration) (k : ℕ) where
       by (Reading object inv calls round) here = here
       by (Appending object inv event calls round) here = here
 
-  requested_named : (c : Client) (number to : ℕ) (want : Want) → ClientNamed c → ClientNamed (requested c number to want)
-  requested_named c number to (Read object inv) w = record { own = record { client = w.own.client; begun = w.own.begun }; front = requested_doing c.front number to w.front; voting = w.voting }
-  requested_named c number to (Append object view own) w = record { own = record { client = w.own.client; begun = w.own.begun }; front = requested_doing c.front number to w.front; voting = w.voting }
+  requested_named : (c : Client) (number to : ℕ) (want : Want) → ClientNamed c
+      → ClientNamed (requested c number to want)
+  requested_named c number to (Read object inv) w =
+      record {
+        own = record { client = w.own.client; begun = w.own.begun };
+        front = requested_doing c.front number to w.front;
+        voting = w.voting;
+      }
+  requested_named c number to (Append object view own) w =
+      record {
+        own = record { client = w.own.client; begun = w.own.begun };
+        front = requested_doing c.front number to w.front;
+        voting = w.voting;
+      }
   requested_named c number to Prepare w = record { own = w.own; front = w.front; voting = by c.desk.voting w.voting }
     where
       by : (o : Option Voting) → VotingNamed o → VotingNamed (desks.prepared_in c.desk o number to).voting
       by None here = w.voting
       by (Some v) here = here
 
-  pub sent_named : (c : Client) (number to : ℕ) (message : Message) → ClientNamed c → ClientNamed (sent_one c number to message)
+  pub sent_named : (c : Client) (number to : ℕ) (message : Message) → ClientNamed c
+      → ClientNamed (sent_one c number to message)
   sent_named c number to (messages.Request tx epoch life want) w = requested_named c number to want w
   sent_named c number to (messages.Answer asked answer) w = w
   sent_named c number to (messages.Decision tx verdict) w = w

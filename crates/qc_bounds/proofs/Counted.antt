@@ -1,6 +1,7 @@
 -- A client's count of transactions grows by at most one with each input, and begins anew at a rise; and an actor keeps its
 -- life until it rises, which has at most two more than the records that it rises with.
-use Rattle.std.proofs.Common.{◌≡◌, ℕ, ◌+◌, ◌-◌, ◌≤◌, ◌==◌, Bool, true, false, cond, List, [], ◌∷◌, ◌++◌, fold, length, Option, Some, None, is_some, refl, arith, length-append}
+use Rattle.std.proofs.Common.{◌≡◌, ℕ, ◌+◌, ◌-◌, ◌≤◌, ◌==◌, Bool, true, false, cond, List, [], ◌∷◌, ◌++◌, fold, length}
+use Rattle.std.proofs.Common.{Option, Some, None, is_some, refl, arith, length-append}
 use Rattle.std.specs.Prelude.{option_to_list, slice_get}
 use Rattle.std.specs.List.{AllByRecursion as Every}
 use Rattle.qc_list.proofs.Members.{every-append}
@@ -12,7 +13,8 @@ use Rattle.qc_commit.specs.Conduct as desks
 use Rattle.qc_commit.specs.Desk.{DeskMove}
 use Rattle.qc_core.specs.declared.actor.Actor.{Actor}
 use Rattle.qc_core.specs.declared.actor.Actor.TheVariants as actors
-use Rattle.qc_core.specs.Actors.{ActorMove, actor_after, actor_does, actor_rises, actor_sends, actor_takes, by_client, by_site, moved, new_actor}
+use Rattle.qc_core.specs.Actors.{ActorMove, actor_after, actor_does, actor_rises, actor_sends, actor_takes, by_client}
+use Rattle.qc_core.specs.Actors.{by_site, moved, new_actor}
 use Rattle.qc_decl.specs.Actors.{is_site}
 use Rattle.qc_decl.specs.declared.declaration.Declaration.{Declaration}
 use Rattle.qc_front.specs.declared.transaction.Transaction.{Transaction}
@@ -34,7 +36,8 @@ use Rattle.qc_msg.specs.declared.step.Given.{Given}
 use Rattle.qc_msg.specs.declared.step.Given.TheVariants as given
 use Rattle.qc_msg.specs.declared.step.Step.{Step}
 use Rattle.qc_msg.specs.declared.step.Step.TheVariants as steps
-use Rattle.qc_msg.specs.Deeds.{Deed, Takes, Writes, Sends, Tells, Falls, Rises, deed_at, deeds, envelope_of, heard as heard_deeds}
+use Rattle.qc_msg.specs.Deeds.{Deed, Takes, Writes, Sends, Tells, Falls, Rises, deed_at, deeds, envelope_of}
+use Rattle.qc_msg.specs.Deeds.{heard as heard_deeds}
 use Rattle.qc_msg.specs.Steps.{Entry}
 use Rattle.qc_msg.specs.Turns.{quiet}
 use Rattle.qc_recover.specs.Clients.{client_rises, nothing_kept as no_client}
@@ -59,13 +62,16 @@ stays c = record { count = omega arith; life = refl }
 desk_steps : (c : Client) (m : DeskMove) → Steps c (by_desk c m).client
 desk_steps c m = by m.turn.told
   where
-    by : (told : Option Reply) → Steps c (record { front = cond (is_some told) (ended c.front m.desk.clock.value m.desk.epoch) c.front; desk = m.desk })
+    by : (told : Option Reply)
+        → Steps c
+        (record { front = cond (is_some told) (ended c.front m.desk.clock.value m.desk.epoch) c.front; desk = m.desk })
     by None = record { count = omega arith; life = refl }
     by (Some reply) = record { count = omega arith; life = refl }
 
 module _ (decl : Declaration) (c : Client) where
   fronted : (command : Command) → Steps c (by_front c (fronts.called decl c.front command)).client
-  fronted command = record { count = called_count decl c.front command; life = (front_called decl c.front command).life }
+  fronted command =
+      record { count = called_count decl c.front command; life = (front_called decl c.front command).life }
 
   commit_steps : (o : Option Transaction) → Steps c (commits decl c o).client
   commit_steps None = fronted commands.Commit
@@ -88,7 +94,9 @@ module _ (decl : Declaration) (c : Client) where
     where
       by : (o : Option Voting) → Steps c (answered_by decl c o number answer).client
       by None = record {
-        count = (let same : (fronts.takes decl c.front number answer).front.count ≡ c.front.count = takes_count decl c.front number answer in omega arith);
+        count =
+            (let same : (fronts.takes decl c.front number answer).front.count
+            ≡ c.front.count = takes_count decl c.front number answer in omega arith);
         life = (front_takes decl c.front number answer).life;
       }
       by (Some v) = desk_steps c (desks.vote c.desk number answer)
@@ -146,32 +154,40 @@ module _ (decl : Declaration) (a : ℕ) where
   counts_take : (n : ℕ) (v : Actor) (g : Given) → CountsWithin n v → CountsWithin (n + 1) (actor_takes decl v g).actor
   counts_take n (actors.Site s) g w = tt
   counts_take n (actors.Client c) g w =
-      (let before : c.front.count ≤ n = w in let step : (client_takes decl c g).client.front.count ≤ c.front.count + 1 = (takes_steps decl c g).count in omega arith)
+      (let before : c.front.count ≤ n = w in let step : (client_takes decl c g).client.front.count ≤ c.front.count + 1 =
+      (takes_steps decl c g).count in omega arith)
   counts_take n actors.Down g w = tt
 
-  counts_send : (n : ℕ) (v : Actor) (number to : ℕ) (message : Message) → CountsWithin n v → CountsWithin n (actor_sends v number to message)
+  counts_send : (n : ℕ) (v : Actor) (number to : ℕ) (message : Message) → CountsWithin n v
+      → CountsWithin n (actor_sends v number to message)
   counts_send n (actors.Site s) number to message w = tt
   counts_send n (actors.Client c) number to message w =
-      (let before : c.front.count ≤ n = w in let same : (sent_one c number to message).front.count ≡ c.front.count = (sent_same c number to message).count in omega arith)
+      (let before : c.front.count ≤ n = w in let same : (sent_one c number to message).front.count ≡ c.front.count =
+      (sent_same c number to message).count in omega arith)
   counts_send n actors.Down number to message w = tt
 
   counts_rise : (n : ℕ) (rs : List Record) → CountsWithin n (actor_rises decl a rs).actor
   counts_rise n rs = by (is_site decl a)
     where
-      by : (b : Bool) → CountsWithin n (cond b (by_site (site_rises decl a rs)) (by_client (client_rises (a - decl.sites) rs))).actor
+      by : (b : Bool)
+          → CountsWithin n
+          (cond b (by_site (site_rises decl a rs)) (by_client (client_rises (a - decl.sites) rs))).actor
       by true = tt
       by false = omega arith
 
-  counts_fold : (n : ℕ) (m : ActorMove) (ds : List Deed) → CountsWithin n m.actor → CountsWithin (n + length ds) (fold (actor_does decl a) m ds).actor
+  counts_fold : (n : ℕ) (m : ActorMove) (ds : List Deed) → CountsWithin n m.actor
+      → CountsWithin (n + length ds) (fold (actor_does decl a) m ds).actor
   counts_fold n m [] w = counts_more n (n + 0) m.actor (omega arith) w
   counts_fold n m (d ∷ ds) w =
-      counts_more (n + 1 + length ds) (n + length (d ∷ ds)) (fold (actor_does decl a) (actor_does decl a m d) ds).actor (omega arith)
+      counts_more (n + 1 + length ds) (n + length (d ∷ ds)) (fold (actor_does decl a) (actor_does decl a m d) ds).actor
+      (omega arith)
       (counts_fold (n + 1) (actor_does decl a m d) ds (by d))
     where
       by : (d : Deed) → CountsWithin (n + 1) (actor_does decl a m d).actor
       by (Takes g) = counts_take n m.actor g w
       by (Writes written) = counts_more n (n + 1) m.actor (omega arith) w
-      by (Sends number to message) = counts_send (n + 1) m.actor number to message (counts_more n (n + 1) m.actor (omega arith) w)
+      by (Sends number to message) =
+          counts_send (n + 1) m.actor number to message (counts_more n (n + 1) m.actor (omega arith) w)
       by (Tells reply) = counts_more n (n + 1) m.actor (omega arith) w
       by (Falls cause pending) = tt
       by (Rises rs) = counts_rise (n + 1) rs
@@ -197,15 +213,19 @@ module _ (decl : Declaration) (a : ℕ) where
 
   lives_take : (n : ℕ) (v : Actor) (g : Given) → LivesWithin n v → LivesWithin n (actor_takes decl v g).actor
   lives_take n (actors.Site s) g w =
-      (let before : s.life ≤ n = w in let same : (site_takes decl s g).site.life ≡ s.life = site_life s g in omega arith)
+      (let before : s.life ≤ n = w in let same : (site_takes decl s g).site.life
+      ≡ s.life = site_life s g in omega arith)
   lives_take n (actors.Client c) g w =
-      (let before : c.front.life ≤ n = w in let same : (client_takes decl c g).client.front.life ≡ c.front.life = (takes_steps decl c g).life in omega arith)
+      (let before : c.front.life ≤ n = w in let same : (client_takes decl c g).client.front.life ≡ c.front.life =
+      (takes_steps decl c g).life in omega arith)
   lives_take n actors.Down g w = tt
 
-  lives_send : (n : ℕ) (v : Actor) (number to : ℕ) (message : Message) → LivesWithin n v → LivesWithin n (actor_sends v number to message)
+  lives_send : (n : ℕ) (v : Actor) (number to : ℕ) (message : Message) → LivesWithin n v
+      → LivesWithin n (actor_sends v number to message)
   lives_send n (actors.Site s) number to message w = w
   lives_send n (actors.Client c) number to message w =
-      (let before : c.front.life ≤ n = w in let same : (sent_one c number to message).front.life ≡ c.front.life = (sent_same c number to message).life in omega arith)
+      (let before : c.front.life ≤ n = w in let same : (sent_one c number to message).front.life ≡ c.front.life =
+      (sent_same c number to message).life in omega arith)
   lives_send n actors.Down number to message w = tt
 
   pub lives_rise : (n : ℕ) (rs : List Record) → length rs ≤ n → LivesWithin (n + 2) (actor_rises decl a rs).actor
@@ -214,15 +234,26 @@ module _ (decl : Declaration) (a : ℕ) where
       long : length (rs ++ records.Life ∷ []) ≡ length rs + 1
       long = length-append rs (records.Life ∷ [])
 
-      by : (b : Bool) → LivesWithin (n + 2) (cond b (by_site (site_rises decl a rs)) (by_client (client_rises (a - decl.sites) rs))).actor
-      by true = (let life : (site_rises decl a rs).site.life ≤ 1 + length (rs ++ records.Life ∷ []) = site_lives no_site (rs ++ records.Life ∷ []) in omega (arith, life, long, few))
-      by false = (let life : (client_rises (a - decl.sites) rs).client.front.life ≤ 1 + length (rs ++ records.Life ∷ []) = client_lives no_client (rs ++ records.Life ∷ []) in omega (arith, life, long, few))
+      by : (b : Bool)
+          → LivesWithin (n + 2)
+          (cond b (by_site (site_rises decl a rs)) (by_client (client_rises (a - decl.sites) rs))).actor
+      by true =
+          (let life : (site_rises decl a rs).site.life ≤ 1 + length (rs ++ records.Life ∷ []) = site_lives no_site
+          (rs ++ records.Life ∷ []) in omega (arith, life, long, few))
+      by false =
+          (let life : (client_rises (a - decl.sites) rs).client.front.life ≤ 1 + length
+          (rs ++ records.Life ∷ []) = client_lives no_client (rs ++ records.Life ∷ []) in omega
+          (arith, life, long, few))
 
-  lives_fold : (n : ℕ) (m : ActorMove) (ds : List Deed) → Every (RisesFew n) ds → LivesWithin (n + 2) m.actor → LivesWithin (n + 2) (fold (actor_does decl a) m ds).actor
+  lives_fold : (n : ℕ) (m : ActorMove) (ds : List Deed) → Every (RisesFew n) ds → LivesWithin (n + 2) m.actor
+      → LivesWithin (n + 2) (fold (actor_does decl a) m ds).actor
   lives_fold n m [] few w = w
-  lives_fold n m (Takes g ∷ ds) few w = lives_fold n (actor_takes decl m.actor g) ds few.1 (lives_take (n + 2) m.actor g w)
+  lives_fold n m (Takes g ∷ ds) few w =
+      lives_fold n (actor_takes decl m.actor g) ds few.1 (lives_take (n + 2) m.actor g w)
   lives_fold n m (Writes written ∷ ds) few w = lives_fold n m ds few.1 w
-  lives_fold n m (Sends number to message ∷ ds) few w = lives_fold n (record m { actor = actor_sends m.actor number to message }) ds few.1 (lives_send (n + 2) m.actor number to message w)
+  lives_fold n m (Sends number to message ∷ ds) few w =
+      lives_fold n (record m { actor = actor_sends m.actor number to message }) ds few.1
+      (lives_send (n + 2) m.actor number to message w)
   lives_fold n m (Tells reply ∷ ds) few w = lives_fold n m ds few.1 w
   lives_fold n m (Falls cause pending ∷ ds) few w = lives_fold n (moved actors.Down quiet) ds few.1 tt
   lives_fold n m (Rises rs ∷ ds) few w = lives_fold n (actor_rises decl a rs) ds few.1 (lives_rise n rs few.0)
@@ -230,7 +261,8 @@ module _ (decl : Declaration) (a : ℕ) where
   new_lives : (n : ℕ) → LivesWithin (n + 2) (new_actor decl a)
   new_lives n = by (is_site decl a)
     where
-      by : (b : Bool) → LivesWithin (n + 2) (cond b (actors.Site (new_site a)) (actors.Client (new_client (a - decl.sites))))
+      by : (b : Bool)
+          → LivesWithin (n + 2) (cond b (actors.Site (new_site a)) (actors.Client (new_client (a - decl.sites))))
       by true = omega arith
       by false = omega arith
 
@@ -263,14 +295,18 @@ pub deeds_few : (a : ℕ) (ms : List Envelope) (h : List Entry) → length (deed
 deeds_few a ms [] = omega arith
 deeds_few a ms (e ∷ h) =
     let one : length (cond (e.actor == a) (deed_at ms e.step) []) ≤ 1 = mine_few (e.actor == a) ms e.step in
-    let more : length (deeds a (ms ++ option_to_list (envelope_of e)) h) ≤ length h = deeds_few a (ms ++ option_to_list (envelope_of e)) h in
-    let both : length (cond (e.actor == a) (deed_at ms e.step) [] ++ deeds a (ms ++ option_to_list (envelope_of e)) h) ≡ length (cond (e.actor == a) (deed_at ms e.step) []) + length (deeds a (ms ++ option_to_list (envelope_of e)) h) =
+    let more : length (deeds a (ms ++ option_to_list (envelope_of e)) h) ≤ length h =
+    deeds_few a (ms ++ option_to_list (envelope_of e)) h in
+    let both : length (cond (e.actor == a) (deed_at ms e.step) [] ++ deeds a (ms ++ option_to_list (envelope_of e)) h)
+    ≡ length (cond (e.actor == a) (deed_at ms e.step) []) + length (deeds a (ms ++ option_to_list (envelope_of e)) h) =
     length-append (cond (e.actor == a) (deed_at ms e.step) []) (deeds a (ms ++ option_to_list (envelope_of e)) h) in
     omega arith
 
-pub history_counts : (decl : Declaration) (a : ℕ) (h : List Entry) → CountsWithin (length h) (actor_after decl a (deeds a [] h)).actor
+pub history_counts : (decl : Declaration) (a : ℕ) (h : List Entry)
+    → CountsWithin (length h) (actor_after decl a (deeds a [] h)).actor
 history_counts decl a h =
-    counts_more decl a (0 + length (deeds a [] h)) (length h) (actor_after decl a (deeds a [] h)).actor (let few : length (deeds a [] h) ≤ length h = deeds_few a [] h in omega arith)
+    counts_more decl a (0 + length (deeds a [] h)) (length h) (actor_after decl a (deeds a [] h)).actor
+    (let few : length (deeds a [] h) ≤ length h = deeds_few a [] h in omega arith)
     (counts_fold decl a 0 (moved (new_actor decl a) quiet) (deeds a [] h) (new_counts decl a))
 
 -- and what rises in it
@@ -279,7 +315,8 @@ heard_rises : (n : ℕ) (o : Option Envelope) → Every (RisesFew n) (heard_deed
 heard_rises n None = tt
 heard_rises n (Some e) = (tt, tt)
 
-step_rises : (n : ℕ) (ms : List Envelope) (step : Step) → length (risen_at step) ≤ n → Every (RisesFew n) (deed_at ms step)
+step_rises : (n : ℕ) (ms : List Envelope) (step : Step) → length (risen_at step) ≤ n
+    → Every (RisesFew n) (deed_at ms step)
 step_rises n ms (steps.Phase k) few = tt
 step_rises n ms (steps.Cut x y) few = tt
 step_rises n ms (steps.Heal x y) few = tt
@@ -294,16 +331,19 @@ step_rises n ms (steps.Fell cause pending) few = (tt, tt)
 step_rises n ms (steps.Rose rs) few = (few, tt)
 step_rises n ms (steps.Damaged offset) few = tt
 
-mine_rises : (n : ℕ) (mine : Bool) (ms : List Envelope) (step : Step) → length (risen_at step) ≤ n → Every (RisesFew n) (cond mine (deed_at ms step) [])
+mine_rises : (n : ℕ) (mine : Bool) (ms : List Envelope) (step : Step) → length (risen_at step) ≤ n
+    → Every (RisesFew n) (cond mine (deed_at ms step) [])
 mine_rises n true ms step few = step_rises n ms step few
 mine_rises n false ms step few = tt
 
 deeds_rise : (n a : ℕ) (ms : List Envelope) (h : List Entry) → RiseWithFew n h → Every (RisesFew n) (deeds a ms h)
 deeds_rise n a ms [] few = tt
 deeds_rise n a ms (e ∷ h) few =
-    every-append (RisesFew n) (cond (e.actor == a) (deed_at ms e.step) []) (deeds a (ms ++ option_to_list (envelope_of e)) h)
+    every-append (RisesFew n) (cond (e.actor == a) (deed_at ms e.step) [])
+    (deeds a (ms ++ option_to_list (envelope_of e)) h)
     (mine_rises n (e.actor == a) ms e.step few.0) (deeds_rise n a (ms ++ option_to_list (envelope_of e)) h few.1)
 
-pub history_lives : (n : ℕ) (decl : Declaration) (a : ℕ) (h : List Entry) → RiseWithFew n h → LivesWithin (n + 2) (actor_after decl a (deeds a [] h)).actor
+pub history_lives : (n : ℕ) (decl : Declaration) (a : ℕ) (h : List Entry) → RiseWithFew n h
+    → LivesWithin (n + 2) (actor_after decl a (deeds a [] h)).actor
 history_lives n decl a h few =
     lives_fold decl a n (moved (new_actor decl a) quiet) (deeds a [] h) (deeds_rise n a [] h few) (new_lives decl a n)

@@ -1,5 +1,6 @@
 -- What an accepted declaration's scripts ask, and the event that answers it, is declared; and the first epoch has a plan.
-use Rattle.std.proofs.Common.{◌≡◌, ℕ, ◌<◌, List, length, Option, Some, None, slice_get, refl, sym, ap, ◌∙◌, subst, arith}
+use Rattle.std.proofs.Common.{◌≡◌, ℕ, ◌<◌, List, length, Option, Some, None, slice_get, refl, sym, ap, ◌∙◌, subst}
+use Rattle.std.proofs.Common.{arith}
 use Rattle.std.specs.Prelude.{option_and_then, option_map, unwrap_or}
 use Rattle.std.specs.Str.{bytes_eq}
 use Rattle.std.proofs.lemmas.List.Quantifiers.{position-Some}
@@ -45,7 +46,8 @@ module _ (decl : Declaration) (accepted : IsAccepted decl) where
   has_table : (object : ℕ) (rules : Rules) → table_at decl object ≡ Some rules → HasTable object rules
   has_table object rules is = by (slice_get decl.objects object) refl is
     where
-      at : (number : ℕ) (k : Option Kind) → slice_get decl.objects object ≡ Some number → slice_get decl.kinds number ≡ k
+      at : (number : ℕ) (k : Option Kind) → slice_get decl.objects object ≡ Some number
+          → slice_get decl.kinds number ≡ k
           → option_map (λ (k : Kind). k.table) k ≡ Some rules → HasTable object rules
       at number None numbered typed found = absurd (let never : ⊥ = cc in never)
       at number (Some kind) numbered typed found = record {
@@ -57,7 +59,8 @@ module _ (decl : Declaration) (accepted : IsAccepted decl) where
       }
 
       by : (o : Option ℕ) → slice_get decl.objects object ≡ o
-          → option_and_then (λ (n : ℕ). option_map (λ (k : Kind). k.table) (slice_get decl.kinds n)) o ≡ Some rules → HasTable object rules
+          → option_and_then (λ (n : ℕ). option_map (λ (k : Kind). k.table) (slice_get decl.kinds n)) o ≡ Some rules
+          → HasTable object rules
       by None numbered found = absurd (let never : ⊥ = cc in never)
       by (Some number) numbered found = at number (slice_get decl.kinds number) numbered refl found
 
@@ -68,17 +71,24 @@ module _ (decl : Declaration) (accepted : IsAccepted decl) where
 
   -- what a command asks
 
-  pub table_is : (object number : ℕ) (kind : Kind) → slice_get decl.objects object ≡ Some number → slice_get decl.kinds number ≡ Some kind → table_at decl object ≡ Some kind.table
+  pub table_is : (object number : ℕ) (kind : Kind) → slice_get decl.objects object ≡ Some number
+      → slice_get decl.kinds number ≡ Some kind → table_at decl object ≡ Some kind.table
   table_is object number kind numbered typed =
       ap (option_and_then (λ (n : ℕ). option_map (λ (k : Kind). k.table) (slice_get decl.kinds n))) numbered
       ∙ ap (option_map (λ (k : Kind). k.table)) typed
 
-  inv_below : (object number inv : ℕ) (kind : Kind) (name : List ℕ) → slice_get decl.objects object ≡ Some number → slice_get decl.kinds number ≡ Some kind
+  inv_below : (object number inv : ℕ) (kind : Kind) (name : List ℕ) → slice_get decl.objects object ≡ Some number
+      → slice_get decl.kinds number ≡ Some kind
       → inv_named decl object name ≡ Some inv → inv < kind.table.invs
   inv_below object number inv kind name numbered typed is =
-      by (slice_get decl.kind_names number) refl (sym (ap (λ (o : Option ℕ). option_and_then (λ (names : KindNames). place_of names.invs name) (option_and_then (slice_get decl.kind_names) o)) numbered) ∙ is)
+      by (slice_get decl.kind_names number) refl
+      (sym
+      (ap
+      (λ (o : Option ℕ). option_and_then (λ (names : KindNames). place_of names.invs name)
+      (option_and_then (slice_get decl.kind_names) o)) numbered) ∙ is)
     where
-      by : (o : Option KindNames) → slice_get decl.kind_names number ≡ o → option_and_then (λ (names : KindNames). place_of names.invs name) o ≡ Some inv → inv < kind.table.invs
+      by : (o : Option KindNames) → slice_get decl.kind_names number ≡ o
+          → option_and_then (λ (names : KindNames). place_of names.invs name) o ≡ Some inv → inv < kind.table.invs
       by None named found = absurd (let never : ⊥ = cc in never)
       by (Some names) named found =
           let low : inv < length names.invs = (position-Some (bytes_eq name) names.invs inv name found).0 in
@@ -88,10 +98,13 @@ module _ (decl : Declaration) (accepted : IsAccepted decl) where
 
   asked_named : (object inv : ℕ) → IsObject decl object → IsInv decl object inv → HasInvocation decl object inv
   asked_named object inv named asked =
-      let low : object < length decl.object_names = (position-Some (bytes_eq named.0) decl.object_names object named.0 named.1).0 in
+      let low : object < length decl.object_names =
+      (position-Some (bytes_eq named.0) decl.object_names object named.0 named.1).0 in
       let many : length decl.object_names ≡ length decl.objects = accepted.object_names.count in
-      let number : (number : ℕ) × (slice_get decl.objects object ≡ Some number) = slice_get-within decl.objects object (omega arith) in
-      let kind : (kind : Kind) × (slice_get decl.kinds number.0 ≡ Some kind) = slice_get-within decl.kinds number.0 (accepted.typed object number.0 number.1) in
+      let number : (number : ℕ) × (slice_get decl.objects object ≡ Some number) =
+      slice_get-within decl.objects object (omega arith) in
+      let kind : (kind : Kind) × (slice_get decl.kinds number.0 ≡ Some kind) =
+      slice_get-within decl.kinds number.0 (accepted.typed object number.0 number.1) in
       record {
         table = kind.0.table;
         declared = table_is object number.0 kind.0 number.1 kind.1;
@@ -107,12 +120,17 @@ module _ (decl : Declaration) (accepted : IsAccepted decl) where
 
   -- the event that answers it
 
-  first_named : (object : ℕ) (rules : Rules) (state inv number : ℕ) → table_at decl object ≡ Some rules → first_of rules.rows state inv ≡ Some number → EventNamed decl object number
+  first_named : (object : ℕ) (rules : Rules) (state inv number : ℕ) → table_at decl object ≡ Some rules
+      → first_of rules.rows state inv ≡ Some number → EventNamed decl object number
   first_named object rules state inv number is first =
       let low : IsLowest rules.rows state inv number = first_lowest rules.rows state inv number first in
-      let within : (inv < rules.invs) × (low.resp < rules.resps) = allowed_within rules state inv low.resp (sound_table object rules is) low.legal in
+      let within : (inv < rules.invs) × (low.resp < rules.resps) =
+      allowed_within rules state inv low.resp (sound_table object rules is) low.legal in
       let resp : resp_of decl object number ≡ low.resp =
-      ap (λ (o : Option Rules). unwrap_or (option_and_then (λ (r : Rules). option_map (λ (e : Event). e.resp) (slice_get (events_of r.rows) number)) o) 0) is
+      ap
+      (λ (o : Option Rules). unwrap_or
+      (option_and_then
+      (λ (r : Rules). option_map (λ (e : Event). e.resp) (slice_get (events_of r.rows) number)) o) 0) is
       ∙ ap (λ (o : Option Event). unwrap_or (option_map (λ (e : Event). e.resp) o) 0) low.numbered in
       let below : low.resp < rules.resps = within.1 in
       record {
@@ -120,19 +138,26 @@ module _ (decl : Declaration) (accepted : IsAccepted decl) where
         resp_is = record { table = rules; declared = is; below = omega arith };
       }
 
-  pub answer_named : (t : Transaction) (object inv number : ℕ) → answer_of decl t object inv ≡ Some number → EventNamed decl object number
+  pub answer_named : (t : Transaction) (object inv number : ℕ) → answer_of decl t object inv ≡ Some number
+      → EventNamed decl object number
   answer_named t object inv number is = by (table_at decl object) refl is
     where
-      states : (rules : Rules) (o : Option ℕ) → table_at decl object ≡ Some rules → option_and_then (λ (state : ℕ). first_of rules.rows state inv) o ≡ Some number → EventNamed decl object number
+      states : (rules : Rules) (o : Option ℕ) → table_at decl object ≡ Some rules
+          → option_and_then (λ (state : ℕ). first_of rules.rows state inv) o ≡ Some number
+          → EventNamed decl object number
       states rules None table found = absurd (let never : ⊥ = cc in never)
       states rules (Some state) table found = first_named object rules state inv number table found
 
-      views : (rules : Rules) (o : Option View) → table_at decl object ≡ Some rules → option_and_then (λ (v : View). answer_in rules v inv) o ≡ Some number → EventNamed decl object number
+      views : (rules : Rules) (o : Option View) → table_at decl object ≡ Some rules
+          → option_and_then (λ (v : View). answer_in rules v inv) o ≡ Some number → EventNamed decl object number
       views rules None table found = absurd (let never : ⊥ = cc in never)
       views rules (Some v) table found = states rules (state_in rules v) table found
 
       by : (o : Option Rules) → table_at decl object ≡ o
-          → option_and_then (λ (rules : Rules). option_and_then (λ (v : View). answer_in rules v inv) (slice_get t.views object)) o ≡ Some number → EventNamed decl object number
+          → option_and_then
+          (λ (rules : Rules). option_and_then (λ (v : View). answer_in rules v inv) (slice_get t.views object)) o
+          ≡ Some number
+          → EventNamed decl object number
       by None table found = absurd (let never : ⊥ = cc in never)
       by (Some rules) table found = views rules (slice_get t.views object) table found
 

@@ -67,7 +67,9 @@ pub failed_short : (decl : Declaration) (v : Actor) (g : Given) → IsFrom g →
 failed_short decl (Site s) g from = site_short decl s g from
 failed_short decl (Client c) g from = record {
   few = subst (λ (ps : List Posting). length ps ≤ 1) (sym (client_written decl c g).failed_sends) (omega arith);
-  receivers = subst (λ (ps : List Posting). Every (λ (p : Posting). p.to < most_actors) ps) (sym (client_written decl c g).failed_sends) tt;
+  receivers =
+      subst (λ (ps : List Posting). Every (λ (p : Posting). p.to < most_actors) ps)
+      (sym (client_written decl c g).failed_sends) tt;
 }
 failed_short decl Down (given.Called command) from = record { few = omega arith; receivers = tt }
 failed_short decl Down (given.Got e) from = record { few = omega arith; receivers = tt }

@@ -1,5 +1,6 @@
 -- A front end counts one transaction more as it begins one, and else none.
-use Rattle.std.proofs.Common.{◌≡◌, ℕ, ◌+◌, ◌≤◌, nat_le, Bool, true, false, cond, List, [], length, Option, Some, None, refl, ◌∙◌, arith}
+use Rattle.std.proofs.Common.{◌≡◌, ℕ, ◌+◌, ◌≤◌, nat_le, Bool, true, false, cond, List, [], length, Option, Some, None}
+use Rattle.std.proofs.Common.{refl, ◌∙◌, arith}
 use Rattle.qc_decl.specs.declared.declaration.Declaration.{Declaration}
 use Rattle.qc_decl.specs.Limits.{most_transaction_operations}
 use Rattle.qc_decl.specs.Lookup.{append_need_of, read_need_of}
@@ -52,7 +53,8 @@ module _ (decl : Declaration) (front : Front) where
   append_count t object inv event calls r (verdicts.Clash tx site) = refl
   append_count t object inv event calls r (verdicts.Short got need) = refl
 
-  answered_count : (t : Transaction) (object inv : ℕ) (event : Option ℕ) → Counts (answered decl front t object inv event)
+  answered_count : (t : Transaction) (object inv : ℕ) (event : Option ℕ)
+      → Counts (answered decl front t object inv event)
   answered_count t object inv None = refl
   answered_count t object inv (Some event) =
       append_count t object inv event [] (round_for decl front t (append_need_of decl t.begun.epoch object event))
@@ -73,7 +75,10 @@ module _ (decl : Declaration) (front : Front) where
       round : RoundState
       round = round_for decl front t (read_need_of decl t.begun.epoch object inv)
 
-      by : (doomed long : Bool) → Counts (cond doomed (moved front (telling replies.Doomed)) (cond long (moved front (telling replies.TooLong)) (reads decl front t object inv [] round)))
+      by : (doomed long : Bool)
+          → Counts
+          (cond doomed (moved front (telling replies.Doomed))
+          (cond long (moved front (telling replies.TooLong)) (reads decl front t object inv [] round)))
       by true long = refl
       by false true = refl
       by false false = read_count t object inv [] round (verdict round)
@@ -97,11 +102,14 @@ module _ (decl : Declaration) (front : Front) where
   pub called_count : (command : Command) → (called decl front command).front.count ≤ front.count + 1
   called_count commands.Begin = begins_count front.transaction
   called_count (commands.Do object inv) =
-      (let same : (performs decl front front.transaction object inv).front.count ≡ front.count = performs_count front.transaction object inv in omega arith)
+      (let same : (performs decl front front.transaction object inv).front.count
+      ≡ front.count = performs_count front.transaction object inv in omega arith)
   called_count commands.Commit =
-      (let same : (commits front front.transaction).front.count ≡ front.count = commits_count front.transaction in omega arith)
+      (let same : (commits front front.transaction).front.count
+      ≡ front.count = commits_count front.transaction in omega arith)
   called_count commands.Abort =
-      (let same : (aborts front front.transaction).front.count ≡ front.count = aborts_count front.transaction in omega arith)
+      (let same : (aborts front front.transaction).front.count
+      ≡ front.count = aborts_count front.transaction in omega arith)
   called_count (commands.Epoch number) = omega arith
 
 -- what is taken for a request
@@ -127,7 +135,8 @@ module _ (decl : Declaration) (front : Front) (number : ℕ) (answer : Option An
       → (takes_in decl front doing t number answer).front.count ≡ front.count
   takes_in_count doing None = refl
   takes_in_count Idle (Some t) = refl
-  takes_in_count (Reading object inv calls round) (Some t) = reading_count t object inv calls round (site_called calls number)
+  takes_in_count (Reading object inv calls round) (Some t) =
+      reading_count t object inv calls round (site_called calls number)
   takes_in_count (Appending object inv event calls round) (Some t) =
       appending_count t object inv event calls round (site_called calls number)
 

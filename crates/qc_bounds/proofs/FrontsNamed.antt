@@ -1,5 +1,6 @@
 -- A front end whose transaction names declared things goes on so, and sends such messages.
-use Rattle.std.proofs.Common.{◌≡◌, ℕ, zero, suc, nat_le, Bool, true, false, cond, List, [], ◌∷◌, ◌++◌, length, replicate, Option, Some, None, option_map, refl, sym, subst}
+use Rattle.std.proofs.Common.{◌≡◌, ℕ, zero, suc, nat_le, Bool, true, false, cond, List, [], ◌∷◌, ◌++◌, length}
+use Rattle.std.proofs.Common.{replicate, Option, Some, None, option_map, refl, sym, subst}
 use Rattle.std.specs.Prelude.{slice_get, slice_set}
 use Rattle.std.specs.List.{AllByRecursion as Every}
 use Rattle.std.specs.Option.{option_map_or}
@@ -43,7 +44,8 @@ use Rattle.qc_plan.specs.declared.standing.Verdict.TheVariants as verdicts
 use Rattle.qc_view.specs.View.{empty_view, with_log, with_own}
 use Rattle.qc_view.specs.declared.view.View.{View}
 use Rattle.qc_bounds.proofs.EventsNamed.{EventNamed, answer_named}
-use Rattle.qc_bounds.proofs.Named.{CameNamed, CommandNamed, LineNamed, LinesNamed, MessageNamed, OpsNamed, OwnsNamed, SendsNamed, WantNamed}
+use Rattle.qc_bounds.proofs.Named.{CameNamed, CommandNamed, LineNamed, LinesNamed, MessageNamed, OpsNamed, OwnsNamed}
+use Rattle.qc_bounds.proofs.Named.{SendsNamed, WantNamed}
 
 every-set : {A : Type 0} (P : A → Type 0) (xs : List A) (i : ℕ) (y : A) → P y → Every P xs → Every P (slice_set xs i y)
 every-set P [] i y here all = tt
@@ -82,11 +84,18 @@ module _ (decl : Declaration) where
   ViewNamed None = Unit {0}
   ViewNamed (Some v) = LinesNamed decl v.log
 
-  view_named : (t : Transaction) (object : ℕ) (o : Option View) → TransactionNamed t → ViewNamed o → TransactionNamed (with_view t object o)
+  view_named : (t : Transaction) (object : ℕ) (o : Option View) → TransactionNamed t → ViewNamed o
+      → TransactionNamed (with_view t object o)
   view_named t object None w here = w
-  view_named t object (Some v) w here = record { views = every-set (λ (v : View). LinesNamed decl v.log) t.views object v here w.views; own = w.own; ops = w.ops }
+  view_named t object (Some v) w here =
+      record {
+        views = every-set (λ (v : View). LinesNamed decl v.log) t.views object v here w.views;
+        own = w.own;
+        ops = w.ops;
+      }
 
-  old_named : (views : List View) (object : ℕ) (o : Option View) → slice_get views object ≡ o → ViewsNamed views → ViewNamed o
+  old_named : (views : List View) (object : ℕ) (o : Option View) → slice_get views object ≡ o → ViewsNamed views
+      → ViewNamed o
   old_named views object None is w = tt
   old_named views object (Some v) is w = every-at (λ (v : View). LinesNamed decl v.log) views object v w is
 
@@ -94,31 +103,48 @@ module _ (decl : Declaration) where
   owned None event here = tt
   owned (Some v) event here = here
 
-  logged : (o : Option View) (log : List Line) → ViewNamed o → LinesNamed decl log → ViewNamed (option_map (λ (v : View). with_log v log) o)
+  logged : (o : Option View) (log : List Line) → ViewNamed o → LinesNamed decl log
+      → ViewNamed (option_map (λ (v : View). with_log v log) o)
   logged None log here lines = tt
   logged (Some v) log here lines = every-union (LineNamed decl) v.log log here lines
 
-  event_named : (t : Transaction) (object inv event : ℕ) → TransactionNamed t → HasInvocation decl object inv → EventNamed decl object event
+  event_named : (t : Transaction) (object inv event : ℕ) → TransactionNamed t → HasInvocation decl object inv
+      → EventNamed decl object event
       → TransactionNamed (with_event t object inv event (resp_of decl object event))
   event_named t object inv event w asked here =
       let mine : TransactionNamed (record t { own = t.own ++ next_own t object event ∷ [] }) =
-      record { views = w.views; own = every-append (λ (o : OwnLine). HasEvent decl o.object o.event) t.own (next_own t object event ∷ []) w.own (here.event_is, tt); ops = w.ops } in
-      let viewed : TransactionNamed (with_view (record t { own = t.own ++ next_own t object event ∷ [] }) object (option_map (λ (v : View). with_own v event) (slice_get t.views object))) =
-      view_named (record t { own = t.own ++ next_own t object event ∷ [] }) object (option_map (λ (v : View). with_own v event) (slice_get t.views object)) mine
+      record {
+        views = w.views;
+        own = every-append (λ (o : OwnLine). HasEvent decl o.object o.event) t.own
+            (next_own t object event ∷ []) w.own (here.event_is, tt);
+        ops = w.ops;
+      } in
+      let viewed : TransactionNamed
+      (with_view (record t { own = t.own ++ next_own t object event ∷ [] }) object
+      (option_map (λ (v : View). with_own v event) (slice_get t.views object))) =
+      view_named (record t { own = t.own ++ next_own t object event ∷ [] }) object
+      (option_map (λ (v : View). with_own v event) (slice_get t.views object)) mine
       (owned (slice_get t.views object) event (old_named t.views object (slice_get t.views object) refl w.views)) in
       record {
         views = viewed.views;
         own = viewed.own;
-        ops = every-append (IsOpDeclared decl) _ (op_of object inv (Some (resp_of decl object event)) ∷ []) viewed.ops (record { inv = asked; resp = here.resp_is }, tt);
+        ops =
+            every-append (IsOpDeclared decl) _ (op_of object inv (Some (resp_of decl object event)) ∷ []) viewed.ops
+            (record { inv = asked; resp = here.resp_is }, tt);
       }
 
-  absent_named : (t : Transaction) (object inv : ℕ) → TransactionNamed t → HasInvocation decl object inv → OpsNamed decl (t.begun.ops ++ op_of object inv None ∷ [])
-  absent_named t object inv w asked = every-append (IsOpDeclared decl) t.begun.ops (op_of object inv None ∷ []) w.ops (record { inv = asked; resp = tt }, tt)
+  absent_named : (t : Transaction) (object inv : ℕ) → TransactionNamed t → HasInvocation decl object inv
+      → OpsNamed decl (t.begun.ops ++ op_of object inv None ∷ [])
+  absent_named t object inv w asked =
+      every-append (IsOpDeclared decl) t.begun.ops (op_of object inv None ∷ []) w.ops
+      (record { inv = asked; resp = tt }, tt)
 
-  read_named : (t : Transaction) (site object : ℕ) (answer : Option Answer) → TransactionNamed t → CameNamed decl answer → TransactionNamed (read_with t site object answer)
+  read_named : (t : Transaction) (site object : ℕ) (answer : Option Answer) → TransactionNamed t → CameNamed decl answer
+      → TransactionNamed (read_with t site object answer)
   read_named t site object None w here = w
   read_named t site object (Some (answers.Granted life clock log)) w here =
-      view_named (lived t site life) object (option_map (λ (v : View). with_log v log) (slice_get t.views object)) (record { views = w.views; own = w.own; ops = w.ops })
+      view_named (lived t site life) object (option_map (λ (v : View). with_log v log) (slice_get t.views object))
+      (record { views = w.views; own = w.own; ops = w.ops })
       (logged (slice_get t.views object) log (old_named t.views object (slice_get t.views object) refl w.views) here)
   read_named t site object (Some (answers.Clash holder inv event)) w here = w
   read_named t site object (Some (answers.Closed epoch)) w here = w
@@ -131,7 +157,8 @@ module _ (decl : Declaration) where
   read_named t site object (Some answers.Installed) w here = w
   read_named t site object (Some (answers.Answered verdict)) w here = w
 
-  appended_named : (t : Transaction) (site : ℕ) (answer : Option Answer) → TransactionNamed t → TransactionNamed (appended_with t site answer)
+  appended_named : (t : Transaction) (site : ℕ) (answer : Option Answer) → TransactionNamed t
+      → TransactionNamed (appended_with t site answer)
   appended_named t site None w = w
   appended_named t site (Some (answers.Granted life clock log)) w = record { views = w.views; own = w.own; ops = w.ops }
   appended_named t site (Some (answers.Clash holder inv event)) w = w
@@ -149,35 +176,58 @@ module _ (decl : Declaration) where
     abbrev Goes : FrontMove → Type 0
     Goes m = FrontNamed m.front
 
-    append_goes : (t : Transaction) (object inv event : ℕ) (calls : List Call) (r : RoundState) (v : Verdict) → TransactionNamed t → HasInvocation decl object inv → EventNamed decl object event
+    append_goes : (t : Transaction) (object inv event : ℕ) (calls : List Call) (r : RoundState) (v : Verdict)
+        → TransactionNamed t → HasInvocation decl object inv → EventNamed decl object event
         → Goes (append_by decl front t object inv event calls r v)
-    append_goes t object inv event calls r verdicts.Waiting its asked here = record { begun = record { views = its.views; own = its.own; ops = its.ops }; doing = (asked, here) }
-    append_goes t object inv event calls r verdicts.Met its asked here = record { begun = event_named t object inv event its asked here; doing = tt }
-    append_goes t object inv event calls r (verdicts.Closed epoch site) its asked here = record { begun = record { views = its.views; own = its.own; ops = its.ops }; doing = tt }
-    append_goes t object inv event calls r (verdicts.Clash tx site) its asked here = record { begun = record { views = its.views; own = its.own; ops = its.ops }; doing = tt }
-    append_goes t object inv event calls r (verdicts.Short got need) its asked here = record { begun = record { views = its.views; own = its.own; ops = its.ops }; doing = tt }
+    append_goes t object inv event calls r verdicts.Waiting its asked here =
+        record { begun = record { views = its.views; own = its.own; ops = its.ops }; doing = (asked, here) }
+    append_goes t object inv event calls r verdicts.Met its asked here =
+        record { begun = event_named t object inv event its asked here; doing = tt }
+    append_goes t object inv event calls r (verdicts.Closed epoch site) its asked here =
+        record { begun = record { views = its.views; own = its.own; ops = its.ops }; doing = tt }
+    append_goes t object inv event calls r (verdicts.Clash tx site) its asked here =
+        record { begun = record { views = its.views; own = its.own; ops = its.ops }; doing = tt }
+    append_goes t object inv event calls r (verdicts.Short got need) its asked here =
+        record { begun = record { views = its.views; own = its.own; ops = its.ops }; doing = tt }
 
-    answered_goes : (t : Transaction) (object inv : ℕ) (o : Option ℕ) → answer_of decl t object inv ≡ o → TransactionNamed t → HasInvocation decl object inv → Goes (answered decl front t object inv o)
-    answered_goes t object inv None is its asked = record { begun = record { views = its.views; own = its.own; ops = absent_named t object inv its asked }; doing = tt }
+    answered_goes : (t : Transaction) (object inv : ℕ) (o : Option ℕ) → answer_of decl t object inv ≡ o
+        → TransactionNamed t → HasInvocation decl object inv → Goes (answered decl front t object inv o)
+    answered_goes t object inv None is its asked =
+        record {
+          begun = record { views = its.views; own = its.own; ops = absent_named t object inv its asked };
+          doing = tt;
+        }
     answered_goes t object inv (Some event) is its asked =
-        append_goes t object inv event [] (round_for decl front t (append_need_of decl t.begun.epoch object event)) (verdict (round_for decl front t (append_need_of decl t.begun.epoch object event))) its asked
+        append_goes t object inv event [] (round_for decl front t (append_need_of decl t.begun.epoch object event))
+        (verdict (round_for decl front t (append_need_of decl t.begun.epoch object event))) its asked
         (answer_named decl accepted t object inv event is)
 
-    read_goes : (t : Transaction) (object inv : ℕ) (calls : List Call) (r : RoundState) (v : Verdict) → TransactionNamed t → HasInvocation decl object inv → Goes (read_by decl front t object inv calls r v)
-    read_goes t object inv calls r verdicts.Waiting its asked = record { begun = record { views = its.views; own = its.own; ops = its.ops }; doing = asked }
-    read_goes t object inv calls r verdicts.Met its asked = answered_goes t object inv (answer_of decl t object inv) refl its asked
+    read_goes : (t : Transaction) (object inv : ℕ) (calls : List Call) (r : RoundState) (v : Verdict)
+        → TransactionNamed t → HasInvocation decl object inv → Goes (read_by decl front t object inv calls r v)
+    read_goes t object inv calls r verdicts.Waiting its asked =
+        record { begun = record { views = its.views; own = its.own; ops = its.ops }; doing = asked }
+    read_goes t object inv calls r verdicts.Met its asked =
+        answered_goes t object inv (answer_of decl t object inv) refl its asked
     read_goes t object inv calls r (verdicts.Closed epoch site) its asked = record { begun = its; doing = tt }
     read_goes t object inv calls r (verdicts.Clash tx site) its asked = record { begun = its; doing = tt }
     read_goes t object inv calls r (verdicts.Short got need) its asked = record { begun = its; doing = tt }
 
-    performs_goes : (t : Option Transaction) (object inv : ℕ) → BegunNamed t → HasInvocation decl object inv → Goes (performs decl front t object inv)
+    performs_goes : (t : Option Transaction) (object inv : ℕ) → BegunNamed t → HasInvocation decl object inv
+        → Goes (performs decl front t object inv)
     performs_goes None object inv its asked = w
-    performs_goes (Some t) object inv its asked = by t.begun.doomed (nat_le most_transaction_operations (length t.begun.ops))
+    performs_goes (Some t) object inv its asked =
+        by t.begun.doomed (nat_le most_transaction_operations (length t.begun.ops))
       where
-        by : (doomed long : Bool) → Goes (cond doomed (moved front (telling replies.Doomed)) (cond long (moved front (telling replies.TooLong)) (reads decl front t object inv [] (round_for decl front t (read_need_of decl t.begun.epoch object inv)))))
+        by : (doomed long : Bool)
+            → Goes
+            (cond doomed (moved front (telling replies.Doomed))
+            (cond long (moved front (telling replies.TooLong))
+            (reads decl front t object inv [] (round_for decl front t (read_need_of decl t.begun.epoch object inv)))))
         by true long = w
         by false true = w
-        by false false = read_goes t object inv [] (round_for decl front t (read_need_of decl t.begun.epoch object inv)) (verdict (round_for decl front t (read_need_of decl t.begun.epoch object inv))) its asked
+        by false false =
+            read_goes t object inv [] (round_for decl front t (read_need_of decl t.begun.epoch object inv))
+            (verdict (round_for decl front t (read_need_of decl t.begun.epoch object inv))) its asked
 
     commits_goes : (t : Option Transaction) → Goes (commits front t)
     commits_goes None = w
@@ -192,7 +242,8 @@ module _ (decl : Declaration) where
     aborts_goes (Some t) = record { begun = tt; doing = tt }
 
     begins_goes : (t : Option Transaction) → Goes (begins decl front t)
-    begins_goes None = record { begun = record { views = no_lines (length decl.objects); own = tt; ops = tt }; doing = w.doing }
+    begins_goes None =
+        record { begun = record { views = no_lines (length decl.objects); own = tt; ops = tt }; doing = w.doing }
     begins_goes (Some t) = w
 
     called_goes : (command : Command) → CommandNamed decl command → Goes (called decl front command)
@@ -218,48 +269,65 @@ module _ (decl : Declaration) where
   learned_named front (Some answers.Installed) w = w
   learned_named front (Some (answers.Answered verdict)) w = w
 
-  takes_goes : (accepted : IsAccepted decl) (front : Front) (doing : Doing) (t : Option Transaction) (number : ℕ) (answer : Option Answer) → FrontNamed front → BegunNamed t → DoingNamed doing → CameNamed decl answer
+  takes_goes : (accepted : IsAccepted decl) (front : Front) (doing : Doing) (t : Option Transaction) (number : ℕ)
+      (answer : Option Answer)
+      → FrontNamed front → BegunNamed t → DoingNamed doing → CameNamed decl answer
       → FrontNamed (takes_in decl front doing t number answer).front
   takes_goes accepted front doing None number answer w its does here = w
   takes_goes accepted front Idle (Some t) number answer w its does here = w
-  takes_goes accepted front (Reading object inv calls round) (Some t) number answer w its does here = by (site_called calls number)
+  takes_goes accepted front (Reading object inv calls round) (Some t) number answer w its does here =
+      by (site_called calls number)
     where
       by : (o : Option ℕ) → FrontNamed (reading_takes decl front t object inv calls round number answer o).front
       by None = w
       by (Some site) =
-          read_goes accepted (learns front answer) (learned_named front answer w) (read_with t site object answer) object inv (without_call calls number) (note round site (standing_of answer)) (verdict (note round site (standing_of answer)))
+          read_goes accepted (learns front answer) (learned_named front answer w)
+          (read_with t site object answer) object inv (without_call calls number) (note round site (standing_of answer))
+          (verdict (note round site (standing_of answer)))
           (read_named t site object answer its here) does
-  takes_goes accepted front (Appending object inv event calls round) (Some t) number answer w its does here = by (site_called calls number)
+  takes_goes accepted front (Appending object inv event calls round) (Some t) number answer w its does here =
+      by (site_called calls number)
     where
       by : (o : Option ℕ) → FrontNamed (appending_takes decl front t object inv event calls round number answer o).front
       by None = w
       by (Some site) =
-          append_goes accepted (learns front answer) (learned_named front answer w) (appended_with t site answer) object inv event (without_call calls number) (note round site (standing_of answer)) (verdict (note round site (standing_of answer)))
+          append_goes accepted (learns front answer) (learned_named front answer w)
+          (appended_with t site answer) object inv event (without_call calls number)
+          (note round site (standing_of answer)) (verdict (note round site (standing_of answer)))
           (appended_named t site answer its) does.0 does.1
 
   -- what is sent
 
   log_named : (t : Transaction) (object : ℕ) → TransactionNamed t → LinesNamed decl (view_log t object)
-  log_named t object w = by (slice_get t.views object) (old_named t.views object (slice_get t.views object) refl w.views)
+  log_named t object w =
+      by (slice_get t.views object) (old_named t.views object (slice_get t.views object) refl w.views)
     where
       by : (o : Option View) → ViewNamed o → LinesNamed decl (option_map_or (λ (v : View). v.log) o [])
       by None here = tt
       by (Some v) here = here
 
-  owns_named : (t : Transaction) (object event : ℕ) → TransactionNamed t → EventNamed decl object event → OwnsNamed decl (own_appended decl t object event)
+  owns_named : (t : Transaction) (object event : ℕ) → TransactionNamed t → EventNamed decl object event
+      → OwnsNamed decl (own_appended decl t object event)
   owns_named t object event w here =
       every-append (λ (o : OwnLine). HasEvent decl o.object o.event) _ (next_own t object event ∷ [])
-      (every-filter (λ (o : OwnLine). HasEvent decl o.object o.event) (weighs decl t.begun.epoch object) t.own w.own) (here.event_is, tt)
+      (every-filter (λ (o : OwnLine). HasEvent decl o.object o.event) (weighs decl t.begun.epoch object) t.own w.own)
+      (here.event_is, tt)
 
-  for_named : (t : Transaction) (doing : Doing) (want : Want) → TransactionNamed t → DoingNamed doing → IsFor decl t doing want → WantNamed decl want
+  for_named : (t : Transaction) (doing : Doing) (want : Want) → TransactionNamed t → DoingNamed doing
+      → IsFor decl t doing want → WantNamed decl want
   for_named t Idle want w does never = absurd never
   for_named t (Reading object inv calls round) want w does is = subst (WantNamed decl) (sym is) does
-  for_named t (Appending object inv event calls round) want w does is = subst (WantNamed decl) (sym is) (log_named t object w, owns_named t object event w does.1)
+  for_named t (Appending object inv event calls round) want w does is =
+      subst (WantNamed decl) (sym is) (log_named t object w, owns_named t object event w does.1)
 
-  sent_named : (before : Front) (move : FrontMove) → FrontNamed move.front → AreSent decl before move → SendsNamed decl move.turn.sends
-  sent_named before move w sent = every-from_In (λ (p : Posting). MessageNamed decl p.message) move.turn.sends (λ p among. one p.to p.message (sent p among))
+  sent_named : (before : Front) (move : FrontMove) → FrontNamed move.front → AreSent decl before move
+      → SendsNamed decl move.turn.sends
+  sent_named before move w sent =
+      every-from_In (λ (p : Posting). MessageNamed decl p.message) move.turn.sends
+      (λ p among. one p.to p.message (sent p among))
     where
-      asks : (want : Want) (t : Transaction) → move.front.transaction ≡ Some t → IsFor decl t move.front.doing want → WantNamed decl want
+      asks : (want : Want) (t : Transaction) → move.front.transaction ≡ Some t → IsFor decl t move.front.doing want
+          → WantNamed decl want
       asks want t begun is = for_named t move.front.doing want (subst BegunNamed begun w.begun) w.doing is
 
       one : (to : ℕ) (message : Message) → IsSent decl before move.front to message → MessageNamed decl message
@@ -275,12 +343,23 @@ module _ (decl : Declaration) where
     pub front : FrontNamed m.front
     pub sends : SendsNamed decl m.turn.sends
 
-  pub called_named : (accepted : IsAccepted decl) (front : Front) (command : Command) → FrontNamed front → CommandNamed decl command → FrontMoveNamed (called decl front command)
+  pub called_named : (accepted : IsAccepted decl) (front : Front) (command : Command) → FrontNamed front
+      → CommandNamed decl command → FrontMoveNamed (called decl front command)
   called_named accepted front command w here =
       let next : FrontNamed (called decl front command).front = called_goes accepted front w command here in
-      record { front = next; sends = sent_named front (called decl front command) next (called_sent decl front command) }
+      record {
+        front = next;
+        sends = sent_named front (called decl front command) next
+            (called_sent decl front command);
+      }
 
-  pub takes_named : (accepted : IsAccepted decl) (front : Front) (number : ℕ) (answer : Option Answer) → FrontNamed front → CameNamed decl answer → FrontMoveNamed (takes decl front number answer)
+  pub takes_named : (accepted : IsAccepted decl) (front : Front) (number : ℕ) (answer : Option Answer)
+      → FrontNamed front → CameNamed decl answer → FrontMoveNamed (takes decl front number answer)
   takes_named accepted front number answer w here =
-      let next : FrontNamed (takes decl front number answer).front = takes_goes accepted front front.doing front.transaction number answer w w.begun w.doing here in
-      record { front = next; sends = sent_named front (takes decl front number answer) next (takes_sent decl front number answer) }
+      let next : FrontNamed (takes decl front number answer).front =
+      takes_goes accepted front front.doing front.transaction number answer w w.begun w.doing here in
+      record {
+        front = next;
+        sends = sent_named front (takes decl front number answer) next
+            (takes_sent decl front number answer);
+      }

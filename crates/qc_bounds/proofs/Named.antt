@@ -98,7 +98,9 @@ module _ (decl : Declaration) where
   -- the records of an actor: of sites and clients, in the first epoch
   abbrev pub RecordNamed : ℕ → Record → Type 0
   RecordNamed a records.Life = a < actors decl
-  RecordNamed a (records.Prepare p) = (a < decl.sites) × (p.tx.client < decl.clients) × (p.epoch ≡ first_epoch) × LocksNamed p.locks × OwnsNamed p.own × LinesNamed p.lines
+  RecordNamed a (records.Prepare p) =
+      (a < decl.sites) × (p.tx.client < decl.clients) × (p.epoch ≡ first_epoch) × LocksNamed p.locks × OwnsNamed p.own
+      × LinesNamed p.lines
   RecordNamed a (records.Done tx clock) = (a < decl.sites) × (tx.client < decl.clients)
   RecordNamed a (records.Close epoch) = ⊥
   RecordNamed a (records.Install epoch clock lines) = ⊥

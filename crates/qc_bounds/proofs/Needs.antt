@@ -27,7 +27,10 @@ module _ (decl : Declaration) (script : Script) (fits : ℕ → List Record → 
   run_bounded b all = bounded_by b (rises_within_bound b h all)
 
   pub kept_bounded : Kept h → IsBoundedWithFalls decl (length h) h
-  kept_bounded kept = subst (λ (n : ℕ). IsBoundedWithFalls decl n h) (let same : 0 + length h ≡ length h = omega arith in same) (bounded_by 0 (kept_rises_within h kept))
+  kept_bounded kept =
+      subst (λ (n : ℕ). IsBoundedWithFalls decl n h) (let same : 0 + length h ≡ length h = omega arith in same)
+      (bounded_by 0 (kept_rises_within h kept))
 
-pub kept_lives : (decl : Declaration) (h : List Entry) (a : ℕ) → Kept h → LivesWithin (length h + 2) (actor_after decl a (deeds a [] h)).actor
+pub kept_lives : (decl : Declaration) (h : List Entry) (a : ℕ) → Kept h
+    → LivesWithin (length h + 2) (actor_after decl a (deeds a [] h)).actor
 kept_lives decl h a kept = history_lives (length h) decl a h (kept_rise_few h kept)

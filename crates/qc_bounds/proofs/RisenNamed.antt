@@ -12,13 +12,15 @@ use Rattle.qc_msg.specs.declared.record.Record.{Record}
 use Rattle.qc_msg.specs.declared.record.Record.TheVariants as records
 use Rattle.qc_msg.specs.Begun.{first_epoch}
 use Rattle.qc_recover.specs.Clients.{client_of}
-use Rattle.qc_recover.specs.Sites.{Kept, done_lines, done_stamp, holds, inquiry, keeps, kept_by, nothing_kept, site_of, with_promise}
+use Rattle.qc_recover.specs.Sites.{Kept, done_lines, done_stamp, holds, inquiry, keeps, kept_by, nothing_kept, site_of}
+use Rattle.qc_recover.specs.Sites.{with_promise}
 use Rattle.qc_site.specs.Promise.{lines_of, prepared_of, without_prepared}
 use Rattle.qc_stamp.specs.Order.{same_tx}
 use Rattle.qc_stamp.specs.declared.stamp.TxId.{TxId}
 use Rattle.qc_bounds.proofs.ClientsNamed.{ClientNamed}
 use Rattle.qc_bounds.proofs.Named.{AreNamed, LineNamed, LinesNamed, LocksNamed, OwnsNamed, RecordNamed, SendsNamed}
-use Rattle.qc_bounds.proofs.SitesNamed.{FoundNamed, HeldNamed, PromiseNamed, SiteNamed, found_named, held_named, lines_named}
+use Rattle.qc_bounds.proofs.SitesNamed.{FoundNamed, HeldNamed, PromiseNamed, SiteNamed, found_named, held_named}
+use Rattle.qc_bounds.proofs.SitesNamed.{lines_named}
 
 module _ (decl : Declaration) where
   -- a promise with its locks
@@ -33,27 +35,38 @@ module _ (decl : Declaration) where
     prepares : Every (PromiseNamed decl) k.prepares
     promises : Every PromiseKept k.promises
 
-  with_named : (P : Prepared → Type 0) (ps : List Prepared) (p : Prepared) → Every P ps → P p → Every P (with_promise ps p)
-  with_named P ps p all here = every-append P (without_prepared ps p.tx) (p ∷ []) (every-filter P (λ (q : Prepared). not (same_tx q.tx p.tx)) ps all) (here, tt)
+  with_named : (P : Prepared → Type 0) (ps : List Prepared) (p : Prepared) → Every P ps → P p
+      → Every P (with_promise ps p)
+  with_named P ps p all here =
+      every-append P (without_prepared ps p.tx) (p ∷ [])
+      (every-filter P (λ (q : Prepared). not (same_tx q.tx p.tx)) ps all) (here, tt)
 
-  done_named : (prepares : List Prepared) (tx : TxId) (clock : ℕ) → Every (PromiseNamed decl) prepares → LinesNamed decl (done_lines prepares tx clock)
+  done_named : (prepares : List Prepared) (tx : TxId) (clock : ℕ) → Every (PromiseNamed decl) prepares
+      → LinesNamed decl (done_lines prepares tx clock)
   done_named prepares tx clock all = by (prepared_of prepares tx) refl
     where
-      by : (o : Option Prepared) → prepared_of prepares tx ≡ o → LinesNamed decl (option_map_or (λ (p : Prepared). lines_of (done_stamp tx clock) tx p.own) o [])
+      by : (o : Option Prepared) → prepared_of prepares tx ≡ o
+          → LinesNamed decl (option_map_or (λ (p : Prepared). lines_of (done_stamp tx clock) tx p.own) o [])
       by None is = tt
-      by (Some p) is = (let found : FoundNamed decl tx p = found_named decl prepares tx p all is in lines_named decl (done_stamp tx clock) tx p.own found.client found.own)
+      by (Some p) is =
+          (let found : FoundNamed decl tx p = found_named decl prepares tx p all is in lines_named decl
+          (done_stamp tx clock) tx p.own found.client found.own)
 
   keeps_named : (a : ℕ) (k : Kept) (r : Record) → RecordNamed decl a r → KeptNamed k → KeptNamed (keeps k r)
-  keeps_named a k records.Life here w = record { epoch = w.epoch; lines = w.lines; prepares = w.prepares; promises = w.promises }
+  keeps_named a k records.Life here w =
+      record { epoch = w.epoch; lines = w.lines; prepares = w.prepares; promises = w.promises }
   keeps_named a k (records.Prepare p) here w = record {
     epoch = w.epoch;
     lines = every-union (LineNamed decl) k.lines p.lines w.lines here.5;
     prepares = with_named (PromiseNamed decl) k.prepares p w.prepares (record { client = here.1; own = here.4 });
-    promises = with_named PromiseKept k.promises p w.promises (record { client = here.1; locks = here.3; own = here.4 });
+    promises =
+        with_named PromiseKept k.promises p w.promises (record { client = here.1; locks = here.3; own = here.4 });
   }
   keeps_named a k (records.Done tx clock) here w = record {
     epoch = w.epoch;
-    lines = every-union (LineNamed decl) k.lines (done_lines k.prepares tx clock) w.lines (done_named k.prepares tx clock w.prepares);
+    lines =
+        every-union (LineNamed decl) k.lines (done_lines k.prepares tx clock) w.lines
+        (done_named k.prepares tx clock w.prepares);
     prepares = w.prepares;
     promises = every-filter PromiseKept (λ (q : Prepared). not (same_tx q.tx tx)) k.promises w.promises;
   }
@@ -66,9 +79,12 @@ module _ (decl : Declaration) where
   kept_named a [] k all w = w
   kept_named a (r ∷ rs) k all w = kept_named a rs (keeps k r) all.1 (keeps_named a k r all.0 w)
 
-  all_held : (held : List Held) (ps : List Prepared) → Every (HeldNamed decl) held → Every PromiseKept ps → Every (HeldNamed decl) (fold holds held ps)
+  all_held : (held : List Held) (ps : List Prepared) → Every (HeldNamed decl) held → Every PromiseKept ps
+      → Every (HeldNamed decl) (fold holds held ps)
   all_held held [] named all = named
-  all_held held (p ∷ ps) named all = all_held (holds held p) ps (held_named decl held p.tx p.locks p.own named all.0.client all.0.locks all.0.own) all.1
+  all_held held (p ∷ ps) named all =
+      all_held (holds held p) ps
+      (held_named decl held p.tx p.locks p.own named all.0.client all.0.locks all.0.own) all.1
 
   promised : (ps : List Prepared) → Every PromiseKept ps → Every (PromiseNamed decl) ps
   promised [] all = tt
@@ -76,12 +92,20 @@ module _ (decl : Declaration) where
 
   pub site_risen_named : (a : ℕ) (rs : List Record) → AreNamed decl a rs → SiteNamed decl (site_of a rs)
   site_risen_named a rs all =
-      let k : KeptNamed (kept_by rs) = kept_named a rs nothing_kept all (record { epoch = refl; lines = tt; prepares = tt; promises = tt }) in
-      record { epoch = k.epoch; log = k.lines; held = all_held [] (kept_by rs).promises tt k.promises; prepared = promised (kept_by rs).promises k.promises }
+      let k : KeptNamed (kept_by rs) =
+      kept_named a rs nothing_kept all (record { epoch = refl; lines = tt; prepares = tt; promises = tt }) in
+      record {
+        epoch = k.epoch;
+        log = k.lines;
+        held = all_held []
+            (kept_by rs).promises tt k.promises;
+        prepared = promised (kept_by rs).promises k.promises;
+      }
 
   pub inquiries_named : (txs : List TxId) → SendsNamed decl (map (inquiry decl) txs)
   inquiries_named [] = tt
   inquiries_named (tx ∷ txs) = (tt, inquiries_named txs)
 
   pub client_risen_named : (k : ℕ) (rs : List Record) → ClientNamed decl k (client_of k rs)
-  client_risen_named k rs = record { own = record { client = refl; begun = tt }; front = record { begun = tt; doing = tt }; voting = tt }
+  client_risen_named k rs =
+      record { own = record { client = refl; begun = tt }; front = record { begun = tt; doing = tt }; voting = tt }

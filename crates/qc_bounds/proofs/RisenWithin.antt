@@ -1,5 +1,6 @@
 -- What a site and a client are by records within a bound, and what they do as they rise, is within it.
-use Rattle.std.proofs.Common.{ℕ, ◌-◌, ◌≤◌, max, not, Bool, true, false, cond, List, [], ◌∷◌, ◌++◌, fold, map, Option, Some, None, arith}
+use Rattle.std.proofs.Common.{ℕ, ◌-◌, ◌≤◌, max, not, Bool, true, false, cond, List, [], ◌∷◌, ◌++◌, fold, map, Option}
+use Rattle.std.proofs.Common.{Some, None, arith}
 use Rattle.std.specs.List.{AllByRecursion as Every}
 use Rattle.std.specs.Option.{option_map_or}
 use Rattle.qc_list.proofs.Members.{every-append, every-filter}
@@ -14,7 +15,8 @@ use Rattle.qc_entry.proofs.Union.{every-union}
 use Rattle.qc_msg.specs.declared.record.Record.{Record}
 use Rattle.qc_msg.specs.declared.record.Record.TheVariants as records
 use Rattle.qc_recover.specs.Clients as by_client_records
-use Rattle.qc_recover.specs.Sites.{Kept, done_lines, done_stamp, in_order, inquiry, keeps, kept_by, nothing_kept, site_rises}
+use Rattle.qc_recover.specs.Sites.{Kept, done_lines, done_stamp, in_order, inquiry, keeps, kept_by, nothing_kept}
+use Rattle.qc_recover.specs.Sites.{site_rises}
 use Rattle.qc_site.specs.Conduct.{latest}
 use Rattle.qc_site.specs.Promise.{lines_of, prepared_of, stamped, with_stamped}
 use Rattle.qc_stamp.specs.Order.{same_tx}
@@ -95,7 +97,8 @@ module _ (bound : ℕ) where
     clock = (let c : k.clock ≤ bound = w.clock in let d : commit.stamp.clock ≤ bound = here in omega arith);
     commits =
         every-append (λ (c : Commit). c.stamp.clock ≤ bound) _ (commit ∷ [])
-        (every-filter (λ (c : Commit). c.stamp.clock ≤ bound) (λ (c : Commit). not (same_tx c.tx commit.tx)) k.commits w.commits)
+        (every-filter (λ (c : Commit). c.stamp.clock ≤ bound)
+        (λ (c : Commit). not (same_tx c.tx commit.tx)) k.commits w.commits)
         (here, tt);
   }
   client_keeps k (records.Decide epoch clock lines) here w = w
@@ -129,7 +132,9 @@ module _ (bound : ℕ) where
       → MoveWithin bound (actor_rises decl a rs)
   rises_within decl a rs all = by (is_site decl a)
     where
-      by : (b : Bool) → MoveWithin bound (cond b (by_site (site_rises decl a rs)) (by_client (by_client_records.client_rises (a - decl.sites) rs)))
+      by : (b : Bool)
+          → MoveWithin bound
+          (cond b (by_site (site_rises decl a rs)) (by_client (by_client_records.client_rises (a - decl.sites) rs)))
       by true =
           let w : KeptWithin (kept_by (rs ++ records.Life ∷ [])) = site_within a rs all in
           record {

@@ -43,8 +43,11 @@ module _ (bound : ℕ) (decl : Declaration) (s : SiteState) (from number : ℕ) 
       (λ held stands. record { failed_sends = tt; write = tt })
       (λ held made. record {
         failed_sends = (tt, tt);
-        write =
-            (every-filter (λ (l : Line). l.stamp.clock ≤ bound) (λ (l : Line). not (has_line s.recorded l)) s.log log, tt);
+        write = (
+          every-filter (λ (l : Line). l.stamp.clock ≤ bound)
+              (λ (l : Line). not (has_line s.recorded l)) s.log log,
+          tt,
+        );
       })
 
   finished : (tx : TxId) (verdict : Outcome) → OutcomeWithin bound verdict → Writes (finishes s tx verdict)

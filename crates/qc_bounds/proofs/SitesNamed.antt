@@ -1,6 +1,7 @@
 -- A site that knows, holds and has promised what names declared things goes on so, sends such messages and writes such
 -- records; and it rises so by such records.
-use Rattle.std.proofs.Common.{◌≡◌, ℕ, ◌<◌, ◌==◌, ◌&&◌, nat_lt, not, Bool, true, false, cond, List, [], ◌∷◌, fold, length, Option, Some, None, Ordering, Less, Equal, Greater, refl, subst, eqb-true}
+use Rattle.std.proofs.Common.{◌≡◌, ℕ, ◌<◌, ◌==◌, ◌&&◌, nat_lt, not, Bool, true, false, cond, List, [], ◌∷◌, fold}
+use Rattle.std.proofs.Common.{length, Option, Some, None, Ordering, Less, Equal, Greater, refl, subst, eqb-true}
 use Rattle.std.specs.Prelude.{option_to_list, unwrap_or}
 use Rattle.std.specs.List.{AllByRecursion as Every}
 use Rattle.std.proofs.lemmas.Bool.{ltb-true}
@@ -37,25 +38,31 @@ use Rattle.qc_site.proofs.Cases.{append_cases, choose, fault_is, join_cases, pre
 use Rattle.qc_stamp.specs.declared.stamp.Stamp.{Stamp}
 use Rattle.qc_stamp.specs.declared.stamp.TxId.{TxId}
 use Rattle.qc_stamp.specs.Order.{same_tx}
-use Rattle.qc_bounds.proofs.Named.{AnswerNamed, AreNamed, GivenNamed, LineNamed, LinesNamed, LocksNamed, MessageNamed, OwnsNamed, SendsNamed, WantNamed}
+use Rattle.qc_bounds.proofs.Named.{AnswerNamed, AreNamed, GivenNamed, LineNamed, LinesNamed, LocksNamed, MessageNamed}
+use Rattle.qc_bounds.proofs.Named.{OwnsNamed, SendsNamed, WantNamed}
 
 -- what is put among items in order
 
-pub every-inserted : {A : Type 0} (P : A → Type 0) (cmp : A → A → Ordering) (xs : List A) (x : A) → Every P xs → P x → Every P (inserted cmp xs x)
+pub every-inserted : {A : Type 0} (P : A → Type 0) (cmp : A → A → Ordering) (xs : List A) (x : A) → Every P xs → P x
+    → Every P (inserted cmp xs x)
 every-inserted P cmp [] x all here = (here, tt)
 every-inserted P cmp (y ∷ ys) x all here = by (cmp x y) (every-inserted P cmp ys x all.1 here)
   where
-    by : (o : Ordering) → Every P (inserted cmp ys x) → Every P (by_order o (x ∷ y ∷ ys) (x ∷ ys) (y ∷ inserted cmp ys x))
+    by : (o : Ordering) → Every P (inserted cmp ys x)
+        → Every P (by_order o (x ∷ y ∷ ys) (x ∷ ys) (y ∷ inserted cmp ys x))
     by Less rest = (here, all)
     by Equal rest = (here, all.1)
     by Greater rest = (all.0, rest)
 
-every-all_inserted : {A : Type 0} (P : A → Type 0) (cmp : A → A → Ordering) (xs others : List A) → Every P xs → Every P others → Every P (fold (inserted cmp) xs others)
+every-all_inserted : {A : Type 0} (P : A → Type 0) (cmp : A → A → Ordering) (xs others : List A) → Every P xs
+    → Every P others → Every P (fold (inserted cmp) xs others)
 every-all_inserted P cmp xs [] all more = all
-every-all_inserted P cmp xs (y ∷ ys) all more = every-all_inserted P cmp (inserted cmp xs y) ys (every-inserted P cmp xs y all more.0) more.1
+every-all_inserted P cmp xs (y ∷ ys) all more =
+    every-all_inserted P cmp (inserted cmp xs y) ys (every-inserted P cmp xs y all more.0) more.1
 
 pub same_client : (x y : TxId) → same_tx x y ≡ true → x.client ≡ y.client
-same_client x y same = eqb-true x.client y.client (first (x.client == y.client) ((x.life == y.life) && (x.number == y.number)) same)
+same_client x y same =
+    eqb-true x.client y.client (first (x.client == y.client) ((x.life == y.life) && (x.number == y.number)) same)
   where
     first : (s t : Bool) → (s && t) ≡ true → s ≡ true
     first true t is = refl
@@ -87,7 +94,8 @@ module _ (decl : Declaration) where
   has_named [] tx all = record { locks = tt; own = tt }
   has_named (h ∷ hs) tx all = by (same_tx h.tx tx) (has_named hs tx all.1)
     where
-      by : (t : Bool) → HasNamed (held_of hs tx) → HasNamed (unwrap_or (cond t (Some h) (entry_of hs tx)) (record { tx = tx; locks = []; own = [] }))
+      by : (t : Bool) → HasNamed (held_of hs tx)
+          → HasNamed (unwrap_or (cond t (Some h) (entry_of hs tx)) (record { tx = tx; locks = []; own = [] }))
       by true rest = record { locks = all.0.locks; own = all.0.own }
       by false rest = rest
 
@@ -99,17 +107,28 @@ module _ (decl : Declaration) where
       by true rest = (here, all.1)
       by false rest = (all.0, rest)
 
-  pub held_named : (held : List Held) (tx : TxId) (locks : List ReadLock) (own : List OwnLine) → Every HeldNamed held → tx.client < decl.clients → LocksNamed decl locks → OwnsNamed decl own → Every HeldNamed (with_held held tx locks own)
+  pub held_named : (held : List Held) (tx : TxId) (locks : List ReadLock) (own : List OwnLine) → Every HeldNamed held
+      → tx.client < decl.clients → LocksNamed decl locks → OwnsNamed decl own
+      → Every HeldNamed (with_held held tx locks own)
   held_named held tx locks own all low here mine = by ((length locks == 0) && (length own == 0))
     where
       entry : Held
-      entry = record { tx = tx; locks = with_locks (held_of held tx).locks locks; own = with_owns (held_of held tx).own own }
+      entry =
+          record {
+            tx = tx;
+            locks = with_locks (held_of held tx).locks locks;
+            own = with_owns (held_of held tx).own own;
+          }
 
       named : HeldNamed entry
       named = record {
         client = low;
-        locks = every-all_inserted (λ (l : ReadLock). HasInvocation decl l.object l.inv) lock_cmp (held_of held tx).locks locks (has_named held tx all).locks here;
-        own = every-all_inserted (λ (o : OwnLine). HasEvent decl o.object o.event) own_cmp (held_of held tx).own own (has_named held tx all).own mine;
+        locks =
+            every-all_inserted (λ (l : ReadLock). HasInvocation decl l.object l.inv) lock_cmp
+            (held_of held tx).locks locks (has_named held tx all).locks here;
+        own =
+            every-all_inserted (λ (o : OwnLine). HasEvent decl o.object o.event) own_cmp (held_of held tx).own own
+            (has_named held tx all).own mine;
       }
 
       by : (t : Bool) → Every HeldNamed (cond t held (with_entry held entry))
@@ -118,13 +137,15 @@ module _ (decl : Declaration) where
 
   -- a promise becomes lines
 
-  stamped_named : (stamp : Stamp) (tx : TxId) (lines : List Line) (own : List OwnLine) → tx.client < decl.clients → OwnsNamed decl own → LinesNamed decl lines → LinesNamed decl (fold (with_stamped stamp tx) lines own)
+  stamped_named : (stamp : Stamp) (tx : TxId) (lines : List Line) (own : List OwnLine) → tx.client < decl.clients
+      → OwnsNamed decl own → LinesNamed decl lines → LinesNamed decl (fold (with_stamped stamp tx) lines own)
   stamped_named stamp tx lines [] low mine named = named
   stamped_named stamp tx lines (o ∷ os) low mine named =
       stamped_named stamp tx (with_stamped stamp tx lines o) os low mine.1
       (every-union (LineNamed decl) lines (stamped stamp tx o ∷ []) named (record { client = low; event = mine.0 }, tt))
 
-  pub lines_named : (stamp : Stamp) (tx : TxId) (own : List OwnLine) → tx.client < decl.clients → OwnsNamed decl own → LinesNamed decl (lines_of stamp tx own)
+  pub lines_named : (stamp : Stamp) (tx : TxId) (own : List OwnLine) → tx.client < decl.clients → OwnsNamed decl own
+      → LinesNamed decl (lines_of stamp tx own)
   lines_named stamp tx own low mine = stamped_named stamp tx [] own low mine tt
 
   -- the promise that is found is of the transaction's client
@@ -132,17 +153,23 @@ module _ (decl : Declaration) where
     pub client : tx.client < decl.clients
     pub own : OwnsNamed decl p.own
 
-  pub found_named : (ps : List Prepared) (tx : TxId) (p : Prepared) → Every PromiseNamed ps → prepared_of ps tx ≡ Some p → FoundNamed tx p
+  pub found_named : (ps : List Prepared) (tx : TxId) (p : Prepared) → Every PromiseNamed ps → prepared_of ps tx ≡ Some p
+      → FoundNamed tx p
   found_named [] tx p all is = absurd (let never : ⊥ = cc in never)
   found_named (q ∷ qs) tx p all is = by (same_tx q.tx tx) refl is (found_named qs tx p all.1)
     where
-      by : (t : Bool) → same_tx q.tx tx ≡ t → cond t (Some q) (prepared_of qs tx) ≡ Some p → (prepared_of qs tx ≡ Some p → FoundNamed tx p) → FoundNamed tx p
+      by : (t : Bool) → same_tx q.tx tx ≡ t → cond t (Some q) (prepared_of qs tx) ≡ Some p
+          → (prepared_of qs tx ≡ Some p → FoundNamed tx p) → FoundNamed tx p
       by true same found rest =
           let it : q ≡ p = cc in
           let first : PromiseNamed q = all.0 in
           let low : q.tx.client < decl.clients = first.client in
           let client : q.tx.client ≡ tx.client = same_client q.tx tx same in
-          record { client = subst (λ (n : ℕ). n < decl.clients) client low; own = subst (λ (x : Prepared). OwnsNamed decl x.own) it first.own }
+          record {
+            client = subst (λ (n : ℕ). n < decl.clients) client low;
+            own = subst
+                (λ (x : Prepared). OwnsNamed decl x.own) it first.own;
+          }
       by false same found rest = rest found
 
   -- a move
@@ -166,11 +193,18 @@ module _ (decl : Declaration) where
     clashed : (c : Conflict) → Moves (moved s (clashing decl from number c))
     clashed c = record { site = w; sends = (tt, (tt, tt)); failed_sends = tt; write = tt }
 
-    granted : (tx : TxId) (want : Want) → tx.client < decl.clients → WantNamed decl want → Moves (grants decl s from number tx want)
+    granted : (tx : TxId) (want : Want) → tx.client < decl.clients → WantNamed decl want
+        → Moves (grants decl s from number tx want)
     granted tx (Read object inv) low here =
         read_cases Moves decl s from number tx object inv
         (λ free. record {
-          site = record { epoch = w.epoch; log = w.log; held = held_named s.held tx (record { object = object; inv = inv } ∷ []) [] w.held low (here, tt) tt; prepared = w.prepared };
+          site =
+              record {
+                epoch = w.epoch;
+                log = w.log;
+                held = held_named s.held tx (record { object = object; inv = inv } ∷ []) [] w.held low (here, tt) tt;
+                prepared = w.prepared;
+              };
           sends = (every-filter (LineNamed decl) (λ (l : Line). l.object == object) s.log w.log, tt);
           failed_sends = tt;
           write = tt;
@@ -179,7 +213,13 @@ module _ (decl : Declaration) where
     granted tx (Append object view own) low here =
         append_cases Moves decl s from number tx object view own
         (λ free. record {
-          site = record { epoch = w.epoch; log = every-union (LineNamed decl) s.log view w.log here.0; held = held_named s.held tx [] own w.held low tt here.1; prepared = w.prepared };
+          site =
+              record {
+                epoch = w.epoch;
+                log = every-union (LineNamed decl) s.log view w.log here.0;
+                held = held_named s.held tx [] own w.held low tt here.1;
+                prepared = w.prepared;
+              };
           sends = (tt, tt);
           failed_sends = tt;
           write = tt;
@@ -189,10 +229,29 @@ module _ (decl : Declaration) where
         prepare_cases Moves s from number tx (answered says.Stale tt) (λ held stands. answered (says.Yes s.clock) tt)
         (λ held made. (let has : HasNamed (held_of s.held tx) = has_named s.held tx w.held in
         record {
-          site = record { epoch = w.epoch; log = w.log; held = w.held; prepared = every-append PromiseNamed s.prepared (promise_of s tx ∷ []) w.prepared (record { client = low; own = has.own }, tt) };
+          site =
+              record {
+                epoch = w.epoch;
+                log = w.log;
+                held = w.held;
+                prepared =
+                    every-append PromiseNamed s.prepared (promise_of s tx ∷ []) w.prepared
+                    (record { client = low; own = has.own }, tt);
+              };
           sends = (tt, tt);
           failed_sends = (tt, tt);
-          write = ((is_site, low, w.epoch, has.locks, has.own, every-filter (LineNamed decl) (λ (l : Line). not (has_line s.recorded l)) s.log w.log), tt);
+          write = (
+            (
+              is_site,
+              low,
+              w.epoch,
+              has.locks,
+              has.own,
+              every-filter (LineNamed decl)
+                  (λ (l : Line). not (has_line s.recorded l)) s.log w.log,
+            ),
+            tt,
+          );
         }))
 
     both_first : (x y : Bool) → (x && y) ≡ true → x ≡ true
@@ -217,7 +276,9 @@ module _ (decl : Declaration) where
         record {
           site = record {
             epoch = w.epoch;
-            log = every-union (LineNamed decl) s.log (lines_of stamp tx p.own) w.log (lines_named stamp tx p.own found.client found.own);
+            log =
+                every-union (LineNamed decl) s.log (lines_of stamp tx p.own) w.log
+                (lines_named stamp tx p.own found.client found.own);
             held = every-filter HeldNamed (λ (h : Held). not (same_tx h.tx tx)) s.held w.held;
             prepared = every-filter PromiseNamed (λ (q : Prepared). not (same_tx q.tx tx)) s.prepared w.prepared;
           };
@@ -238,13 +299,17 @@ module _ (decl : Declaration) where
     }
     finished tx Active = silent
 
-    requested_named : (tx : TxId) (epoch life : ℕ) (want : Want) → WantNamed decl want → Moves (site_at decl s from number (messages.Request tx epoch life want))
+    requested_named : (tx : TxId) (epoch life : ℕ) (want : Want) → WantNamed decl want
+        → Moves (site_at decl s from number (messages.Request tx epoch life want))
     requested_named tx epoch life want here =
-        choose Moves (names_declared decl tx want) (requested decl s from number tx want (fault_of s epoch life)) (moved s quiet)
-        (λ is. by (fault_of s epoch life) refl (ltb-true tx.client decl.clients (both_first (nat_lt tx.client decl.clients) (names_object decl want) is)))
+        choose Moves (names_declared decl tx want) (requested decl s from number tx want (fault_of s epoch life))
+        (moved s quiet)
+        (λ is. by (fault_of s epoch life) refl
+        (ltb-true tx.client decl.clients (both_first (nat_lt tx.client decl.clients) (names_object decl want) is)))
         (λ is. silent)
       where
-        by : (o : Option Answer) → fault_of s epoch life ≡ o → tx.client < decl.clients → Moves (requested decl s from number tx want o)
+        by : (o : Option Answer) → fault_of s epoch life ≡ o → tx.client < decl.clients
+            → Moves (requested decl s from number tx want o)
         by (Some fault) is low = answered fault (fault_is (AnswerNamed decl) s epoch life tt (λ other. tt) tt fault is)
         by None is low = granted tx want low here
 
@@ -258,8 +323,14 @@ module _ (decl : Declaration) where
     at_named (messages.Install epoch clock log) here = silent
 
   -- one input
-  pub site_takes_named : (a : ℕ) → a < decl.sites → (s : SiteState) (g : Given) → SiteNamed s → GivenNamed decl g → SiteMoveNamed a (site_takes decl s g)
+  pub site_takes_named : (a : ℕ) → a < decl.sites → (s : SiteState) (g : Given) → SiteNamed s → GivenNamed decl g
+      → SiteMoveNamed a (site_takes decl s g)
   site_takes_named a low s (given.Called command) w here = silent a low s 0 0 w
   site_takes_named a low s (given.Got e) w here =
-      at_named a low (passed s e.message) e.from e.number (record { epoch = w.epoch; log = w.log; held = w.held; prepared = w.prepared }) e.message here
+      at_named a low (passed s e.message) e.from e.number (record {
+        epoch = w.epoch;
+        log = w.log;
+        held = w.held;
+        prepared = w.prepared;
+      }) e.message here
   site_takes_named a low s (given.Lost number) w here = silent a low s 0 0 w
