@@ -1,4 +1,4 @@
--- In each run of a script that is read for its declaration, what an actor takes names declared things, where all mail does.
+-- In each run of a script that is read for its declaration, what an actor takes names declared things, where mail does.
 use Rattle.std.proofs.Common.{◌≡◌, ℕ, ◌==◌, Bool, true, false, cond, List, [], ◌∷◌, filter, map, Some}
 use Rattle.std.specs.List.{AllByRecursion as Every}
 use Rattle.qc_list.proofs.Members.{every-at}

@@ -30,7 +30,8 @@ use Rattle.qc_script.specs.declared.script.Script.{Script}
 use Rattle.qc_site.specs.Conduct.{site_takes}
 use Rattle.qc_bounds.specs.Fitting.{AllRiseFit}
 use Rattle.qc_bounds.proofs.Calling.{known_at}
-use Rattle.qc_bounds.proofs.Standing.{IsOpen, IsReady, client_turn, down_turn, site_turn}
+use Rattle.qc_bounds.proofs.Standing.{IsOpen, IsReady}
+use Rattle.qc_bounds.proofs.TurnsPosted.{client_turn, down_turn, site_turn}
 
 module _ (decl : Declaration) (a : ℕ) where
   -- an input

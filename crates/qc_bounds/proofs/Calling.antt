@@ -154,7 +154,8 @@ module _ (decl : Declaration) (script : Script) (fits : ℕ → List Record → 
       pub known_at : (t : Bool) → slice_get open_inputs a ≡ Some t → Known decl accepted a (deeds a [] h) t
       known_at t is =
           let few : actors decl ≤ most_actors =
-          (let sites : decl.sites ≤ 16 = accepted.sites in let clients : decl.clients ≤ 16 = accepted.clients in omega arith) in
+          (let sites : decl.sites ≤ 16 = accepted.sites in
+          let clients : decl.clients ≤ 16 = accepted.clients in omega arith) in
           let lived : LivesIn decl a h t = run_lives decl script fits few h open_inputs run a t is in
           known decl accepted a (deeds a [] h) t lived.above lived.lives sound
 

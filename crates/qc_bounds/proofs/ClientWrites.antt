@@ -1,5 +1,5 @@
--- What a client writes is a commit record that it keeps, so its clock stays within a bound of those that it keeps; where
--- it isn't written it sends nothing.
+-- What a client writes is a commit record that it keeps, so its clock stays within a bound of those; where it isn't
+-- written it sends nothing.
 use Rattle.std.proofs.Common.{◌≡◌, ◌⊎◌, ℕ, ◌≤◌, Bool, true, false, cond, Option, Some, None, inl, inr, refl, sym, ap}
 use Rattle.std.proofs.Common.{subst}
 use Rattle.std.specs.Prelude.{option_to_list}

@@ -1,4 +1,4 @@
--- What an accepted declaration's scripts ask, and the event that answers it, is declared; and the first epoch has a plan.
+-- What an accepted declaration's scripts ask, and the event that answers it, is declared; the first epoch has a plan.
 use Rattle.std.proofs.Common.{◌≡◌, ℕ, ◌<◌, List, length, Option, Some, None, slice_get, refl, sym, ap, ◌∙◌, subst}
 use Rattle.std.proofs.Common.{arith}
 use Rattle.std.specs.Prelude.{option_and_then, option_map, unwrap_or}

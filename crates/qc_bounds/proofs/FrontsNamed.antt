@@ -1,26 +1,20 @@
 -- A front end whose transaction names declared things goes on so, and sends such messages.
-use Rattle.std.proofs.Common.{◌≡◌, ℕ, zero, suc, nat_le, Bool, true, false, cond, List, [], ◌∷◌, ◌++◌, length}
-use Rattle.std.proofs.Common.{replicate, Option, Some, None, option_map, refl, sym, subst}
-use Rattle.std.specs.Prelude.{slice_get, slice_set}
-use Rattle.std.specs.List.{AllByRecursion as Every}
-use Rattle.std.specs.Option.{option_map_or}
-use Rattle.qc_list.proofs.Members.{every-append, every-at, every-filter, every-from_In}
+use Rattle.std.proofs.Common.{◌≡◌, ℕ, nat_le, Bool, true, false, cond, List, [], length}
+use Rattle.std.proofs.Common.{Option, Some, None, refl, sym, subst}
+use Rattle.qc_list.proofs.Members.{every-from_In}
 use Rattle.qc_decl.specs.Accepted.{IsAccepted}
 use Rattle.qc_decl.specs.Limits.{most_transaction_operations}
 use Rattle.qc_decl.specs.Lookup.{append_need_of, read_need_of}
 use Rattle.qc_decl.specs.declared.declaration.Declaration.{Declaration}
-use Rattle.qc_entry.specs.declared.line.Line.{Line}
-use Rattle.qc_entry.specs.declared.line.OwnLine.{OwnLine}
-use Rattle.qc_entry.proofs.Union.{every-union}
-use Rattle.qc_fit.specs.Said.{HasEvent, HasInvocation, IsOpDeclared}
+use Rattle.qc_fit.specs.Said.{HasInvocation}
 use Rattle.qc_front.specs.declared.doing.Doing.{Doing}
 use Rattle.qc_front.specs.declared.doing.Doing.TheVariants.{Idle, Reading, Appending}
 use Rattle.qc_front.specs.declared.front.Front.{Front}
 use Rattle.qc_front.specs.declared.transaction.Transaction.{Transaction}
-use Rattle.qc_front.specs.Answering.{answer_of, next_own, op_of, resp_of, view_log, with_event, with_view}
-use Rattle.qc_front.specs.Appending.{own_appended, round_for, weighs}
+use Rattle.qc_front.specs.Answering.{answer_of}
+use Rattle.qc_front.specs.Appending.{round_for}
 use Rattle.qc_front.specs.Conduct.{appending_takes, called, commits, reading_takes, takes, takes_in}
-use Rattle.qc_front.specs.Counting.{appended_with, learns, lived, read_with, standing_of}
+use Rattle.qc_front.specs.Counting.{appended_with, learns, read_with, standing_of}
 use Rattle.qc_front.specs.Front.{FrontMove, aborts, begins, gives_up, moved}
 use Rattle.qc_front.specs.Requests.{AreSent, IsFor, IsSent}
 use Rattle.qc_front.specs.Rounds.{answered, append_by, performs, read_by, reads}
@@ -41,148 +35,33 @@ use Rattle.qc_msg.specs.Turns.{quiet, telling}
 use Rattle.qc_plan.specs.Round.{RoundState, note, verdict}
 use Rattle.qc_plan.specs.declared.standing.Verdict.{Verdict}
 use Rattle.qc_plan.specs.declared.standing.Verdict.TheVariants as verdicts
-use Rattle.qc_view.specs.View.{empty_view, with_log, with_own}
-use Rattle.qc_view.specs.declared.view.View.{View}
 use Rattle.qc_bounds.proofs.EventsNamed.{EventNamed, answer_named}
-use Rattle.qc_bounds.proofs.Named.{CameNamed, CommandNamed, LineNamed, LinesNamed, MessageNamed, OpsNamed, OwnsNamed}
+use Rattle.qc_bounds.proofs.Named.{CameNamed, CommandNamed, MessageNamed}
 use Rattle.qc_bounds.proofs.Named.{SendsNamed, WantNamed}
-
-every-set : {A : Type 0} (P : A → Type 0) (xs : List A) (i : ℕ) (y : A) → P y → Every P xs → Every P (slice_set xs i y)
-every-set P [] i y here all = tt
-every-set P (x ∷ xs) zero y here all = (here, all.1)
-every-set P (x ∷ xs) (suc i) y here all = (all.0, every-set P xs i y here all.1)
+use Rattle.qc_bounds.proofs.TransactionsNamed.{BegunNamed, TransactionNamed, absent_named, appended_named, event_named}
+use Rattle.qc_bounds.proofs.TransactionsNamed.{log_named, no_lines, owns_named, read_named}
 
 module _ (decl : Declaration) where
-  abbrev pub ViewsNamed : List View → Type 0
-  ViewsNamed views = Every (λ (v : View). LinesNamed decl v.log) views
-
-  pub record TransactionNamed (t : Transaction) : Type 0 where
-    pub views : ViewsNamed t.views
-    pub own : OwnsNamed decl t.own
-    pub ops : OpsNamed decl t.begun.ops
-
-  abbrev pub BegunNamed : Option Transaction → Type 0
-  BegunNamed None = Unit {0}
-  BegunNamed (Some t) = TransactionNamed t
-
   abbrev pub DoingNamed : Doing → Type 0
   DoingNamed Idle = Unit {0}
   DoingNamed (Reading object inv calls round) = HasInvocation decl object inv
   DoingNamed (Appending object inv event calls round) = HasInvocation decl object inv × EventNamed decl object event
 
   pub record FrontNamed (front : Front) : Type 0 where
-    pub begun : BegunNamed front.transaction
+    pub begun : BegunNamed decl front.transaction
     pub doing : DoingNamed front.doing
-
-  no_lines : (n : ℕ) → ViewsNamed (replicate n empty_view)
-  no_lines zero = tt
-  no_lines (suc n) = (tt, no_lines n)
-
-  -- another view of an object
-
-  abbrev ViewNamed : Option View → Type 0
-  ViewNamed None = Unit {0}
-  ViewNamed (Some v) = LinesNamed decl v.log
-
-  view_named : (t : Transaction) (object : ℕ) (o : Option View) → TransactionNamed t → ViewNamed o
-      → TransactionNamed (with_view t object o)
-  view_named t object None w here = w
-  view_named t object (Some v) w here =
-      record {
-        views = every-set (λ (v : View). LinesNamed decl v.log) t.views object v here w.views;
-        own = w.own;
-        ops = w.ops;
-      }
-
-  old_named : (views : List View) (object : ℕ) (o : Option View) → slice_get views object ≡ o → ViewsNamed views
-      → ViewNamed o
-  old_named views object None is w = tt
-  old_named views object (Some v) is w = every-at (λ (v : View). LinesNamed decl v.log) views object v w is
-
-  owned : (o : Option View) (event : ℕ) → ViewNamed o → ViewNamed (option_map (λ (v : View). with_own v event) o)
-  owned None event here = tt
-  owned (Some v) event here = here
-
-  logged : (o : Option View) (log : List Line) → ViewNamed o → LinesNamed decl log
-      → ViewNamed (option_map (λ (v : View). with_log v log) o)
-  logged None log here lines = tt
-  logged (Some v) log here lines = every-union (LineNamed decl) v.log log here lines
-
-  event_named : (t : Transaction) (object inv event : ℕ) → TransactionNamed t → HasInvocation decl object inv
-      → EventNamed decl object event
-      → TransactionNamed (with_event t object inv event (resp_of decl object event))
-  event_named t object inv event w asked here =
-      let mine : TransactionNamed (record t { own = t.own ++ next_own t object event ∷ [] }) =
-      record {
-        views = w.views;
-        own = every-append (λ (o : OwnLine). HasEvent decl o.object o.event) t.own
-            (next_own t object event ∷ []) w.own (here.event_is, tt);
-        ops = w.ops;
-      } in
-      let viewed : TransactionNamed
-      (with_view (record t { own = t.own ++ next_own t object event ∷ [] }) object
-      (option_map (λ (v : View). with_own v event) (slice_get t.views object))) =
-      view_named (record t { own = t.own ++ next_own t object event ∷ [] }) object
-      (option_map (λ (v : View). with_own v event) (slice_get t.views object)) mine
-      (owned (slice_get t.views object) event (old_named t.views object (slice_get t.views object) refl w.views)) in
-      record {
-        views = viewed.views;
-        own = viewed.own;
-        ops =
-            every-append (IsOpDeclared decl) _ (op_of object inv (Some (resp_of decl object event)) ∷ []) viewed.ops
-            (record { inv = asked; resp = here.resp_is }, tt);
-      }
-
-  absent_named : (t : Transaction) (object inv : ℕ) → TransactionNamed t → HasInvocation decl object inv
-      → OpsNamed decl (t.begun.ops ++ op_of object inv None ∷ [])
-  absent_named t object inv w asked =
-      every-append (IsOpDeclared decl) t.begun.ops (op_of object inv None ∷ []) w.ops
-      (record { inv = asked; resp = tt }, tt)
-
-  read_named : (t : Transaction) (site object : ℕ) (answer : Option Answer) → TransactionNamed t → CameNamed decl answer
-      → TransactionNamed (read_with t site object answer)
-  read_named t site object None w here = w
-  read_named t site object (Some (answers.Granted life clock log)) w here =
-      view_named (lived t site life) object (option_map (λ (v : View). with_log v log) (slice_get t.views object))
-      (record { views = w.views; own = w.own; ops = w.ops })
-      (logged (slice_get t.views object) log (old_named t.views object (slice_get t.views object) refl w.views) here)
-  read_named t site object (Some (answers.Clash holder inv event)) w here = w
-  read_named t site object (Some (answers.Closed epoch)) w here = w
-  read_named t site object (Some (answers.Behind epoch)) w here = w
-  read_named t site object (Some (answers.Restarted life)) w here = w
-  read_named t site object (Some answers.Stale) w here = w
-  read_named t site object (Some answers.Fault) w here = w
-  read_named t site object (Some (answers.Yes clock)) w here = w
-  read_named t site object (Some (answers.Shut clock log prepared)) w here = w
-  read_named t site object (Some answers.Installed) w here = w
-  read_named t site object (Some (answers.Answered verdict)) w here = w
-
-  appended_named : (t : Transaction) (site : ℕ) (answer : Option Answer) → TransactionNamed t
-      → TransactionNamed (appended_with t site answer)
-  appended_named t site None w = w
-  appended_named t site (Some (answers.Granted life clock log)) w = record { views = w.views; own = w.own; ops = w.ops }
-  appended_named t site (Some (answers.Clash holder inv event)) w = w
-  appended_named t site (Some (answers.Closed epoch)) w = w
-  appended_named t site (Some (answers.Behind epoch)) w = w
-  appended_named t site (Some (answers.Restarted life)) w = w
-  appended_named t site (Some answers.Stale) w = w
-  appended_named t site (Some answers.Fault) w = w
-  appended_named t site (Some (answers.Yes clock)) w = w
-  appended_named t site (Some (answers.Shut clock log prepared)) w = w
-  appended_named t site (Some answers.Installed) w = w
-  appended_named t site (Some (answers.Answered verdict)) w = w
 
   module _ (accepted : IsAccepted decl) (front : Front) (w : FrontNamed front) where
     abbrev Goes : FrontMove → Type 0
     Goes m = FrontNamed m.front
 
     append_goes : (t : Transaction) (object inv event : ℕ) (calls : List Call) (r : RoundState) (v : Verdict)
-        → TransactionNamed t → HasInvocation decl object inv → EventNamed decl object event
+        → TransactionNamed decl t → HasInvocation decl object inv → EventNamed decl object event
         → Goes (append_by decl front t object inv event calls r v)
     append_goes t object inv event calls r verdicts.Waiting its asked here =
         record { begun = record { views = its.views; own = its.own; ops = its.ops }; doing = (asked, here) }
     append_goes t object inv event calls r verdicts.Met its asked here =
-        record { begun = event_named t object inv event its asked here; doing = tt }
+        record { begun = event_named decl t object inv event its asked here; doing = tt }
     append_goes t object inv event calls r (verdicts.Closed epoch site) its asked here =
         record { begun = record { views = its.views; own = its.own; ops = its.ops }; doing = tt }
     append_goes t object inv event calls r (verdicts.Clash tx site) its asked here =
@@ -191,10 +70,10 @@ module _ (decl : Declaration) where
         record { begun = record { views = its.views; own = its.own; ops = its.ops }; doing = tt }
 
     answered_goes : (t : Transaction) (object inv : ℕ) (o : Option ℕ) → answer_of decl t object inv ≡ o
-        → TransactionNamed t → HasInvocation decl object inv → Goes (answered decl front t object inv o)
+        → TransactionNamed decl t → HasInvocation decl object inv → Goes (answered decl front t object inv o)
     answered_goes t object inv None is its asked =
         record {
-          begun = record { views = its.views; own = its.own; ops = absent_named t object inv its asked };
+          begun = record { views = its.views; own = its.own; ops = absent_named decl t object inv its asked };
           doing = tt;
         }
     answered_goes t object inv (Some event) is its asked =
@@ -203,7 +82,7 @@ module _ (decl : Declaration) where
         (answer_named decl accepted t object inv event is)
 
     read_goes : (t : Transaction) (object inv : ℕ) (calls : List Call) (r : RoundState) (v : Verdict)
-        → TransactionNamed t → HasInvocation decl object inv → Goes (read_by decl front t object inv calls r v)
+        → TransactionNamed decl t → HasInvocation decl object inv → Goes (read_by decl front t object inv calls r v)
     read_goes t object inv calls r verdicts.Waiting its asked =
         record { begun = record { views = its.views; own = its.own; ops = its.ops }; doing = asked }
     read_goes t object inv calls r verdicts.Met its asked =
@@ -212,7 +91,7 @@ module _ (decl : Declaration) where
     read_goes t object inv calls r (verdicts.Clash tx site) its asked = record { begun = its; doing = tt }
     read_goes t object inv calls r (verdicts.Short got need) its asked = record { begun = its; doing = tt }
 
-    performs_goes : (t : Option Transaction) (object inv : ℕ) → BegunNamed t → HasInvocation decl object inv
+    performs_goes : (t : Option Transaction) (object inv : ℕ) → BegunNamed decl t → HasInvocation decl object inv
         → Goes (performs decl front t object inv)
     performs_goes None object inv its asked = w
     performs_goes (Some t) object inv its asked =
@@ -243,7 +122,7 @@ module _ (decl : Declaration) where
 
     begins_goes : (t : Option Transaction) → Goes (begins decl front t)
     begins_goes None =
-        record { begun = record { views = no_lines (length decl.objects); own = tt; ops = tt }; doing = w.doing }
+        record { begun = record { views = no_lines decl (length decl.objects); own = tt; ops = tt }; doing = w.doing }
     begins_goes (Some t) = w
 
     called_goes : (command : Command) → CommandNamed decl command → Goes (called decl front command)
@@ -271,7 +150,7 @@ module _ (decl : Declaration) where
 
   takes_goes : (accepted : IsAccepted decl) (front : Front) (doing : Doing) (t : Option Transaction) (number : ℕ)
       (answer : Option Answer)
-      → FrontNamed front → BegunNamed t → DoingNamed doing → CameNamed decl answer
+      → FrontNamed front → BegunNamed decl t → DoingNamed doing → CameNamed decl answer
       → FrontNamed (takes_in decl front doing t number answer).front
   takes_goes accepted front doing None number answer w its does here = w
   takes_goes accepted front Idle (Some t) number answer w its does here = w
@@ -284,7 +163,7 @@ module _ (decl : Declaration) where
           read_goes accepted (learns front answer) (learned_named front answer w)
           (read_with t site object answer) object inv (without_call calls number) (note round site (standing_of answer))
           (verdict (note round site (standing_of answer)))
-          (read_named t site object answer its here) does
+          (read_named decl t site object answer its here) does
   takes_goes accepted front (Appending object inv event calls round) (Some t) number answer w its does here =
       by (site_called calls number)
     where
@@ -294,31 +173,16 @@ module _ (decl : Declaration) where
           append_goes accepted (learns front answer) (learned_named front answer w)
           (appended_with t site answer) object inv event (without_call calls number)
           (note round site (standing_of answer)) (verdict (note round site (standing_of answer)))
-          (appended_named t site answer its) does.0 does.1
+          (appended_named decl t site answer its) does.0 does.1
 
   -- what is sent
 
-  log_named : (t : Transaction) (object : ℕ) → TransactionNamed t → LinesNamed decl (view_log t object)
-  log_named t object w =
-      by (slice_get t.views object) (old_named t.views object (slice_get t.views object) refl w.views)
-    where
-      by : (o : Option View) → ViewNamed o → LinesNamed decl (option_map_or (λ (v : View). v.log) o [])
-      by None here = tt
-      by (Some v) here = here
-
-  owns_named : (t : Transaction) (object event : ℕ) → TransactionNamed t → EventNamed decl object event
-      → OwnsNamed decl (own_appended decl t object event)
-  owns_named t object event w here =
-      every-append (λ (o : OwnLine). HasEvent decl o.object o.event) _ (next_own t object event ∷ [])
-      (every-filter (λ (o : OwnLine). HasEvent decl o.object o.event) (weighs decl t.begun.epoch object) t.own w.own)
-      (here.event_is, tt)
-
-  for_named : (t : Transaction) (doing : Doing) (want : Want) → TransactionNamed t → DoingNamed doing
+  for_named : (t : Transaction) (doing : Doing) (want : Want) → TransactionNamed decl t → DoingNamed doing
       → IsFor decl t doing want → WantNamed decl want
   for_named t Idle want w does never = absurd never
   for_named t (Reading object inv calls round) want w does is = subst (WantNamed decl) (sym is) does
   for_named t (Appending object inv event calls round) want w does is =
-      subst (WantNamed decl) (sym is) (log_named t object w, owns_named t object event w does.1)
+      subst (WantNamed decl) (sym is) (log_named decl t object w, owns_named decl t object event w does.1)
 
   sent_named : (before : Front) (move : FrontMove) → FrontNamed move.front → AreSent decl before move
       → SendsNamed decl move.turn.sends
@@ -328,7 +192,7 @@ module _ (decl : Declaration) where
     where
       asks : (want : Want) (t : Transaction) → move.front.transaction ≡ Some t → IsFor decl t move.front.doing want
           → WantNamed decl want
-      asks want t begun is = for_named t move.front.doing want (subst BegunNamed begun w.begun) w.doing is
+      asks want t begun is = for_named t move.front.doing want (subst (BegunNamed decl) begun w.begun) w.doing is
 
       one : (to : ℕ) (message : Message) → IsSent decl before move.front to message → MessageNamed decl message
       one to (messages.Request tx epoch life want) is = asks want is.t is.begun is.wants

@@ -1,216 +1,64 @@
 -- In each run with falls whose records are kept, all that is said, held and written names declared things.
-use Rattle.std.proofs.Common.{◌≡◌, ℕ, ◌+◌, ◌-◌, ◌<◌, ◌≤◌, ◌==◌, nat_lt, Bool, true, false, cond, List, [], ◌∷◌, ◌++◌}
-use Rattle.std.proofs.Common.{fold, length, map, Option, None, inl, inr, refl, sym, ap, ◌∙◌, subst, arith, eqb-true}
+use Rattle.std.proofs.Common.{◌≡◌, ℕ, ◌+◌, ◌==◌, Bool, true, false, List, [], ◌∷◌, ◌++◌}
+use Rattle.std.proofs.Common.{length, None, refl, sym, ap, ◌∙◌, subst, eqb-true}
 use Rattle.std.proofs.Common.{append_assoc}
-use Rattle.std.specs.Prelude.{option_to_list}
-use Rattle.std.specs.List.{AllByRecursion as Every}
-use Rattle.std.proofs.lemmas.Bool.{ltb-true}
-use Rattle.std.proofs.lemmas.Bool.Decides.{nat_tests}
 use Rattle.std.proofs.lemmas.List.Sums.{fold-append}
 use Rattle.qc_list.proofs.Members.{every-append}
-use Rattle.qc_client.specs.Client.{new_client}
-use Rattle.qc_client.specs.Conduct.{client_takes}
-use Rattle.qc_core.specs.declared.actor.Actor.{Actor}
-use Rattle.qc_core.specs.declared.actor.Actor.TheVariants.{Site, Client, Down}
-use Rattle.qc_core.specs.Actors.{ActorMove, actor_after, actor_does, actor_rises, actor_sends, actor_takes, by_client}
-use Rattle.qc_core.specs.Actors.{by_site, down_takes, moved, new_actor}
+use Rattle.qc_core.specs.Actors.{actor_after, actor_does}
 use Rattle.qc_core.specs.Conduct.{IsLawfulWithFalls, with_record}
 use Rattle.qc_core.proofs.ByTurns.{after_takes, called_turn}
 use Rattle.qc_core.proofs.LivesLaws.{falls as after_falls, rises as after_rises}
-use Rattle.qc_core.proofs.Written.{client_written}
 use Rattle.qc_decl.specs.Accepted.{IsAccepted}
-use Rattle.qc_decl.specs.Actors.{actors, client_actor, controller, is_site}
+use Rattle.qc_decl.specs.Actors.{controller}
 use Rattle.qc_decl.specs.declared.declaration.Declaration.{Declaration}
-use Rattle.qc_entry.specs.declared.record.Prepared.{Prepared}
 use Rattle.qc_inbox.proofs.FallMail.{ready_sent}
 use Rattle.qc_inbox.proofs.Keeping.{same_mail}
 use Rattle.qc_laws.proofs.Acted.{deeds-silent}
 use Rattle.qc_laws.proofs.Numbered.{IsSilent, mail-silent, phase_silent}
 use Rattle.qc_lives.proofs.Lived.{deeds-fall, deeds-rise, line_silent}
 use Rattle.qc_msg.specs.declared.message.Envelope.{Envelope}
-use Rattle.qc_msg.specs.declared.message.Message.{Message}
 use Rattle.qc_msg.specs.declared.record.Record.{Record}
-use Rattle.qc_msg.specs.declared.record.Record.TheVariants as records
 use Rattle.qc_msg.specs.declared.step.Fall.{Fall}
 use Rattle.qc_msg.specs.declared.step.Fall.TheVariants as causes
 use Rattle.qc_msg.specs.declared.step.Given.{Given}
-use Rattle.qc_msg.specs.declared.step.Given.TheVariants as given
 use Rattle.qc_msg.specs.declared.step.Step.{Step}
 use Rattle.qc_msg.specs.declared.step.Step.TheVariants as steps
 use Rattle.qc_msg.specs.declared.turn.Appended.{Appended}
 use Rattle.qc_msg.specs.declared.turn.Appended.TheVariants.{Done, Failed, Stopped}
 use Rattle.qc_msg.specs.declared.turn.Posting.{Posting}
 use Rattle.qc_msg.specs.declared.turn.Turn.{Turn}
-use Rattle.qc_msg.specs.Deeds.{Deed, Takes, Writes, Sends, Tells, Falls, Rises, WasSentTo, deeds, deeds_as, envelopes}
+use Rattle.qc_msg.specs.Deeds.{Deed, WasSentTo, deeds, deeds_as, envelopes}
 use Rattle.qc_msg.specs.Deeds.{mail}
 use Rattle.qc_msg.specs.Steps.{Entry, by, marked, posted_as, sends_as, step_of}
-use Rattle.qc_msg.specs.Turns.{quiet}
 use Rattle.qc_msg.proofs.Growth.{deeds-other, deeds-posted_as, deeds-taken, mail-append, mail-posted_as, mail-taken}
 use Rattle.qc_promise.specs.Kept.{Kept}
-use Rattle.qc_recover.specs.Clients.{client_rises}
-use Rattle.qc_recover.specs.Sites.{in_order, kept_by, site_rises}
 use Rattle.qc_script.specs.Ready.{phase_of}
 use Rattle.qc_script.specs.RunsWithFalls.{RunsWithFalls, begins, takes, posts, phase, control, falls, rises, damaged}
 use Rattle.qc_script.specs.RunsWithFalls.{unopened}
 use Rattle.qc_script.specs.Sound.{IsScriptFor}
 use Rattle.qc_script.specs.declared.script.Script.{Script}
-use Rattle.qc_site.specs.Conduct.{site_takes}
-use Rattle.qc_site.specs.Site.{new_site}
 use Rattle.qc_bounds.specs.Records.{AllPut}
-use Rattle.qc_bounds.proofs.ActorsWithin.{IsOfPost, deeds_post}
+use Rattle.qc_bounds.proofs.ActorsWithin.{deeds_post}
 use Rattle.qc_bounds.proofs.AskedNamed.{given_named}
-use Rattle.qc_bounds.proofs.ClientsNamed.{ClientMoveNamed, ClientNamed, WriteNamed, client_takes_named, sent_named}
 use Rattle.qc_bounds.proofs.Named.{AreNamed, GivenNamed, MailNamed, MessageNamed, RecordNamed, SendsNamed}
 use Rattle.qc_bounds.proofs.Putting.{back_has, input_puts, kept_part, line_puts, post_puts, puts_both}
-use Rattle.qc_bounds.proofs.RisenNamed.{client_risen_named, inquiries_named, site_risen_named}
 use Rattle.qc_bounds.proofs.Senders.{lawful_actor}
-use Rattle.qc_bounds.proofs.SitesNamed.{SiteMoveNamed, SiteNamed, site_takes_named}
+use Rattle.qc_bounds.proofs.ActorsNamed.{MoveNamed, TurnNamed, down_named, new_named, posts_named, rises_named}
+use Rattle.qc_bounds.proofs.ActorsNamed.{takes_named}
 
 module _ (decl : Declaration) where
-  abbrev pub StateNamed : ℕ → Actor → Type 0
-  StateNamed a (Site s) = (a < decl.sites) × SiteNamed decl s
-  StateNamed a (Client c) = (decl.sites ≤ a) × ClientNamed decl (a - decl.sites) c
-  StateNamed a Down = Unit {0}
-
-  pub record TurnNamed (a : ℕ) (turn : Turn) : Type 0 where
-    pub sends : SendsNamed decl turn.sends
-    pub failed_sends : SendsNamed decl turn.failed_sends
-    pub write : a < actors decl → AreNamed decl a (option_to_list turn.write)
-
-  pub record MoveNamed (a : ℕ) (m : ActorMove) : Type 0 where
-    pub state : StateNamed a m.actor
-    pub turn : TurnNamed a m.turn
-
-  quiet_named : (a : ℕ) → TurnNamed a quiet
-  quiet_named a = record { sends = tt; failed_sends = tt; write = λ low. tt }
-
-  down_named : (a : ℕ) → MoveNamed a (moved Down quiet)
-  down_named a = record { state = tt; turn = quiet_named a }
-
-  site_low : (a : ℕ) → is_site decl a ≡ true → a < decl.sites
-  site_low a is = ltb-true a decl.sites is
-
-  client_high : (a n : ℕ) → nat_lt a n ≡ false → n ≤ a
-  client_high a n is = grind (arith, nat_tests)
-
-  new_named : (a : ℕ) → MoveNamed a (moved (new_actor decl a) quiet)
-  new_named a = record { state = by (is_site decl a) refl; turn = quiet_named a }
-    where
-      by : (b : Bool) → is_site decl a ≡ b
-          → StateNamed a (cond b (Site (new_site a)) (Client (new_client (a - decl.sites))))
-      by true is = (site_low a is, record { epoch = refl; log = tt; held = tt; prepared = tt })
-      by false is = (
-        client_high a decl.sites is,
-        record {
-          own = record { client = refl; begun = tt };
-          front = record { begun = tt; doing = tt };
-          voting = tt;
-        },
-      )
-
-  -- one input
-
-  down_taken : (a : ℕ) (g : Given) → TurnNamed a (down_takes g)
-  down_taken a (given.Called command) = record { sends = tt; failed_sends = tt; write = λ low. tt }
-  down_taken a (given.Got e) = quiet_named a
-  down_taken a (given.Lost number) = quiet_named a
-
-  client_writes : (a : ℕ) (w : Option Record) → decl.sites ≤ a → a < actors decl → WriteNamed decl (a - decl.sites) w
-      → AreNamed decl a (option_to_list w)
-  client_writes a w high low (inl none) =
-      subst (λ (o : Option Record). AreNamed decl a (option_to_list o)) (sym none) tt
-  client_writes a w high low (inr one) =
-      let client : one.0.tx.client ≡ a - decl.sites = one.2 in
-      subst (λ (o : Option Record). AreNamed decl a (option_to_list o)) (sym one.1) (
-        (
-          (let same : a ≡ client_actor decl one.0.tx.client = omega arith in same),
-          (let below : one.0.tx.client < decl.clients = omega arith in below),
-          one.3,
-        ),
-        tt,
-      )
-
-  takes_named : (accepted : IsAccepted decl) (a : ℕ) (v : Actor) (g : Given) → StateNamed a v → GivenNamed decl g
-      → MoveNamed a (actor_takes decl v g)
-  takes_named accepted a (Site s) g w here =
-      let m : SiteMoveNamed decl a (site_takes decl s g) = site_takes_named decl a w.0 s g w.1 here in
-      record {
-        state =
-            (w.0, m.site);
-        turn = record { sends = m.sends; failed_sends = m.failed_sends; write = λ low. m.write };
-      }
-  takes_named accepted a (Client c) g w here =
-      let m : ClientMoveNamed decl (a - decl.sites) (client_takes decl c g) =
-      client_takes_named decl (a - decl.sites) accepted c w.1 g here in
-      record {
-        state = (w.0, m.client);
-        turn = record {
-          sends = m.sends;
-          failed_sends = subst (SendsNamed decl) (sym (client_written decl c g).failed_sends) tt;
-          write = λ low. client_writes a (client_takes decl c g).turn.write w.0 low m.write;
-        };
-      }
-  takes_named accepted a Down g w here = record { state = tt; turn = down_taken a g }
-
-  -- a post
-
-  sends_named : (a : ℕ) (v : Actor) (number to : ℕ) (message : Message) → StateNamed a v
-      → StateNamed a (actor_sends v number to message)
-  sends_named a (Site s) number to message w = w
-  sends_named a (Client c) number to message w = (w.0, sent_named decl (a - decl.sites) c number to message w.1)
-  sends_named a Down number to message w = w
-
-  posts_named : (a : ℕ) (m : ActorMove) (ds : List Deed) → Every IsOfPost ds → MoveNamed a m
-      → MoveNamed a (fold (actor_does decl a) m ds)
-  posts_named a m [] all w = w
-  posts_named a m (Takes g ∷ ds) all w = absurd all.0
-  posts_named a m (Writes written ∷ ds) all w = posts_named a m ds all.1 w
-  posts_named a m (Sends number to message ∷ ds) all w =
-      posts_named a (record m { actor = actor_sends m.actor number to message }) ds all.1
-      (record { state = sends_named a m.actor number to message w.state; turn = w.turn })
-  posts_named a m (Tells reply ∷ ds) all w = posts_named a m ds all.1 w
-  posts_named a m (Falls cause pending ∷ ds) all w = posts_named a (moved Down quiet) ds all.1 (down_named a)
-  posts_named a m (Rises rs ∷ ds) all w = absurd all.0
-
-  -- a rise
-
-  rises_named : (a : ℕ) (rs : List Record) → AreNamed decl a rs → MoveNamed a (actor_rises decl a rs)
-  rises_named a rs all = by (is_site decl a) refl
-    where
-      by : (b : Bool) → is_site decl a ≡ b
-          → MoveNamed a (cond b (by_site (site_rises decl a rs)) (by_client (client_rises (a - decl.sites) rs)))
-      by true is =
-          let low : a < decl.sites = site_low a is in
-          record {
-            state = (
-              low,
-              site_risen_named decl a (rs ++ records.Life ∷ [])
-                  (every-append (RecordNamed decl a) rs (records.Life ∷ []) all
-                  ((let life : a < actors decl = omega arith in life), tt)),
-            );
-            turn = record {
-              sends = inquiries_named decl (in_order (map (λ (p : Prepared). p.tx) (kept_by rs).promises));
-              failed_sends = tt;
-              write = λ low. (low, tt);
-            };
-          }
-      by false is = record {
-        state = (client_high a decl.sites is, client_risen_named decl (a - decl.sites) (rs ++ records.Life ∷ []));
-        turn = record { sends = tt; failed_sends = tt; write = λ low. (low, tt) };
-      }
-
   -- a history
 
   pub record AllNamed (h : List Entry) : Type 0 where
     pub messages : MailNamed decl (mail h)
-    pub actors_are : (a : ℕ) → MoveNamed a (actor_after decl a (deeds a [] h))
+    pub actors_are : (a : ℕ) → MoveNamed decl a (actor_after decl a (deeds a [] h))
     pub puts : AllPut (RecordNamed decl) h
 
   envelopes_named : (from n : ℕ) (ps : List Posting) → SendsNamed decl ps → MailNamed decl (envelopes from n ps)
   envelopes_named from n [] all = tt
   envelopes_named from n (p ∷ ps) all = (all.0, envelopes_named from (n + 1) ps all.1)
 
-  as_named : (a : ℕ) (end : Appended) (turn : Turn) → TurnNamed a (with_record turn)
+  as_named : (a : ℕ) (end : Appended) (turn : Turn) → TurnNamed decl a (with_record turn)
       → SendsNamed decl (sends_as end turn)
   as_named a Done turn w = w.sends
   as_named a Failed turn w = w.failed_sends
@@ -218,44 +66,44 @@ module _ (decl : Declaration) where
 
   -- one actor goes on
   grows : (c : ℕ) (h : List Entry) (xs : List Step) → AllNamed h → MailNamed decl (mail (h ++ by c xs))
-      → MoveNamed c (actor_after decl c (deeds c [] (h ++ by c xs)))
+      → MoveNamed decl c (actor_after decl c (deeds c [] (h ++ by c xs)))
       → AllPut (RecordNamed decl) (by c xs) → AllNamed (h ++ by c xs)
   grows c h xs named messages own puts = record {
     messages = messages;
     actors_are = λ a. at a (c == a) refl;
     puts = puts_both (RecordNamed decl) h (by c xs) named.puts puts;
   } where
-    at : (a : ℕ) (t : Bool) → (c == a) ≡ t → MoveNamed a (actor_after decl a (deeds a [] (h ++ by c xs)))
+    at : (a : ℕ) (t : Bool) → (c == a) ≡ t → MoveNamed decl a (actor_after decl a (deeds a [] (h ++ by c xs)))
     at a true same =
-        subst (λ (k : ℕ). MoveNamed k (actor_after decl k (deeds k [] (h ++ by c xs)))) (eqb-true c a same) own
+        subst (λ (k : ℕ). MoveNamed decl k (actor_after decl k (deeds k [] (h ++ by c xs)))) (eqb-true c a same) own
     at a false other =
-        subst (λ (ds : List Deed). MoveNamed a (actor_after decl a ds)) (sym (deeds-other c a [] h xs other))
+        subst (λ (ds : List Deed). MoveNamed decl a (actor_after decl a ds)) (sym (deeds-other c a [] h xs other))
         (named.actors_are a)
 
   still : (c : ℕ) (h : List Entry) (step : Step) → IsSilent step → AllPut (RecordNamed decl) (by c (step ∷ []))
       → AllNamed h → AllNamed (h ++ by c (step ∷ []))
   still c h step silent puts named =
       grows c h (step ∷ []) named (subst (MailNamed decl) (sym (mail-silent h c step silent)) named.messages)
-      (subst (λ (ds : List Deed). MoveNamed c (actor_after decl c ds)) (sym (deeds-silent c c h step silent))
+      (subst (λ (ds : List Deed). MoveNamed decl c (actor_after decl c ds)) (sym (deeds-silent c c h step silent))
       (named.actors_are c)) puts
 
   taken : (accepted : IsAccepted decl) (c : ℕ) (h : List Entry) (g : Given) → WasSentTo c (mail h) g → GivenNamed decl g
       → AllNamed h → AllNamed (h ++ by c (step_of g ∷ []))
   taken accepted c h g sent here named =
       grows c h (step_of g ∷ []) named (subst (MailNamed decl) (sym (mail-taken h c g)) named.messages)
-      (subst (MoveNamed c)
+      (subst (MoveNamed decl c)
       (sym (ap (actor_after decl c) (deeds-taken c h g sent) ∙ after_takes decl c (deeds c [] h) g))
-      (takes_named accepted c (actor_after decl c (deeds c [] h)).actor g (named.actors_are c).state here))
+      (takes_named decl accepted c (actor_after decl c (deeds c [] h)).actor g (named.actors_are c).state here))
       (input_puts (RecordNamed decl) c g)
 
   pub turn_named : (c : ℕ) (ds : List Deed) (turn : Turn) → IsLawfulWithFalls decl c ds turn
-      → MoveNamed c (actor_after decl c ds) → TurnNamed c (with_record turn)
-  turn_named c ds turn law named = subst (TurnNamed c) (called_turn decl c ds turn law) named.turn
+      → MoveNamed decl c (actor_after decl c ds) → TurnNamed decl c (with_record turn)
+  turn_named c ds turn law named = subst (TurnNamed decl c) (called_turn decl c ds turn law) named.turn
 
   posted : (c n : ℕ) (h : List Entry) (turn : Turn) → IsLawfulWithFalls decl c (deeds c [] h) turn → AllNamed h
       → AllNamed (h ++ by c (posted_as turn.append n turn))
   posted c n h turn law named =
-      let its : TurnNamed c (with_record turn) = turn_named c (deeds c [] h) turn law (named.actors_are c) in
+      let its : TurnNamed decl c (with_record turn) = turn_named c (deeds c [] h) turn law (named.actors_are c) in
       grows c h (posted_as turn.append n turn) named
       (subst (MailNamed decl)
       (sym
@@ -264,11 +112,12 @@ module _ (decl : Declaration) where
       (every-append (λ (e : Envelope). MessageNamed decl e.message) (mail h)
       (envelopes c n (sends_as turn.append turn)) named.messages
       (envelopes_named c n (sends_as turn.append turn) (as_named c turn.append turn its))))
-      (subst (MoveNamed c)
+      (subst (MoveNamed decl c)
       (sym
       (ap (actor_after decl c) (deeds-posted_as turn.append c n h turn) ∙ fold-append (actor_does decl c) _
       (deeds c [] h) (deeds_as turn.append n turn)))
-      (posts_named c (actor_after decl c (deeds c [] h)) (deeds_as turn.append n turn) (deeds_post turn.append n turn)
+      (posts_named decl c (actor_after decl c (deeds c [] h)) (deeds_as turn.append n turn)
+      (deeds_post turn.append n turn)
       (named.actors_are c)))
       (post_puts (RecordNamed decl) c n turn.append turn (its.write (lawful_actor decl c (deeds c [] h) turn law)))
 
@@ -276,17 +125,18 @@ module _ (decl : Declaration) where
   fallen c h cause named =
       grows c h (steps.Fell cause None ∷ []) named
       (subst (MailNamed decl) (sym (same_mail h (marked c (steps.Fell cause None)) refl)) named.messages)
-      (subst (MoveNamed c)
+      (subst (MoveNamed decl c)
       (sym (ap (actor_after decl c) (deeds-fall c h cause) ∙ after_falls decl c (deeds c [] h) cause None))
-      (down_named c)) (tt, tt)
+      (down_named decl c)) (tt, tt)
 
   risen : (c : ℕ) (h : List Entry) (rs : List Record) → AreNamed decl c rs → AllNamed h
       → AllNamed (h ++ by c (steps.Rose rs ∷ []))
   risen c h rs all named =
       grows c h (steps.Rose rs ∷ []) named
       (subst (MailNamed decl) (sym (same_mail h (marked c (steps.Rose rs)) refl)) named.messages)
-      (subst (MoveNamed c) (sym (ap (actor_after decl c) (deeds-rise c h rs) ∙ after_rises decl c (deeds c [] h) rs))
-      (rises_named c rs all)) (all, tt)
+      (subst (MoveNamed decl c)
+      (sym (ap (actor_after decl c) (deeds-rise c h rs) ∙ after_rises decl c (deeds c [] h) rs))
+      (rises_named decl c rs all)) (all, tt)
 
   module _ (accepted : IsAccepted decl) (script : Script) (sound : IsScriptFor decl script)
       (fits : ℕ → List Record → Type 0) where
@@ -294,7 +144,7 @@ module _ (decl : Declaration) where
     IsRun h open_inputs = RunsWithFalls (IsLawfulWithFalls decl) fits decl script h open_inputs
 
     pub run_named : (h : List Entry) (open_inputs : List Bool) → IsRun h open_inputs → Kept h → AllNamed h
-    run_named h open_inputs begins kept = record { messages = tt; actors_are = new_named; puts = tt }
+    run_named h open_inputs begins kept = record { messages = tt; actors_are = new_named decl; puts = tt }
     run_named h open_inputs (takes c g before older run free rdy) kept =
         let old : AllNamed older = run_named older before run (kept_part older (marked c (step_of g) ∷ []) kept) in
         let sent : WasSentTo c (mail older) g =

@@ -5,9 +5,11 @@ pub mod RisenWithin
 pub mod ActorsWithin
 pub mod Histories
 pub mod FrontCounts
+pub mod ClientCounts
 pub mod Counted
 pub mod FewRecords
 pub mod Needs
+pub mod TurnsPosted
 pub mod Standing
 pub mod Fitted
 pub mod Senders
@@ -17,11 +19,14 @@ pub mod Calling
 pub mod Rising
 pub mod Named
 pub mod EventsNamed
+pub mod HeldNamed
 pub mod SitesNamed
+pub mod TransactionsNamed
 pub mod FrontsNamed
 pub mod ClientsNamed
 pub mod RisenNamed
 pub mod AskedNamed
+pub mod ActorsNamed
 pub mod HistoriesNamed
 pub mod RecordsFit
 pub mod AtOnce

@@ -33,7 +33,8 @@ use Rattle.qc_bounds.specs.Records.{AllPut, records_at, risen_at}
 use Rattle.qc_bounds.specs.Within.{AreWithin, RecordWithin, TurnWithin}
 use Rattle.qc_bounds.proofs.EventsNamed.{first_planned}
 use Rattle.qc_bounds.proofs.FewRecords.{kept_journals_few, kept_rise_few}
-use Rattle.qc_bounds.proofs.HistoriesNamed.{AllNamed, TurnNamed, run_named, turn_named}
+use Rattle.qc_bounds.proofs.ActorsNamed.{TurnNamed}
+use Rattle.qc_bounds.proofs.HistoriesNamed.{AllNamed, run_named, turn_named}
 use Rattle.qc_bounds.proofs.Named.{AreNamed, LinesNamed, RecordNamed}
 use Rattle.qc_bounds.proofs.Needs.{kept_bounded}
 use Rattle.qc_bounds.proofs.Putting.{JournalHas, own_journal_has}

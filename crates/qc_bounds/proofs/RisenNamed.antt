@@ -19,8 +19,10 @@ use Rattle.qc_stamp.specs.Order.{same_tx}
 use Rattle.qc_stamp.specs.declared.stamp.TxId.{TxId}
 use Rattle.qc_bounds.proofs.ClientsNamed.{ClientNamed}
 use Rattle.qc_bounds.proofs.Named.{AreNamed, LineNamed, LinesNamed, LocksNamed, OwnsNamed, RecordNamed, SendsNamed}
-use Rattle.qc_bounds.proofs.SitesNamed.{FoundNamed, HeldNamed, PromiseNamed, SiteNamed, found_named, held_named}
-use Rattle.qc_bounds.proofs.SitesNamed.{lines_named}
+use Rattle.qc_bounds.proofs.HeldNamed.{FoundNamed, HeldNamed, PromiseNamed, found_named, held_named, lines_named}
+use Rattle.qc_bounds.proofs.SitesNamed.{SiteNamed}
+use Rattle.qc_bounds.proofs.HeldNamed.{FoundNamed, HeldNamed, PromiseNamed, found_named, held_named, lines_named}
+use Rattle.qc_bounds.proofs.SitesNamed.{SiteNamed}
 
 module _ (decl : Declaration) where
   -- a promise with its locks

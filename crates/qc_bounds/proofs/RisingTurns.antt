@@ -1,4 +1,4 @@
--- A rising turn asks about at most as many transactions as it has records, and asks clients; an actor that rises asks few.
+-- A rising turn asks about at most as many transactions as it has records, and asks clients; who rises asks few sites.
 use Rattle.std.proofs.Common.{◌≡◌, ℕ, Ordering, Less, Equal, Greater, ◌+◌, ◌-◌, ◌<◌, ◌≤◌, not, Bool, true, false, cond}
 use Rattle.std.proofs.Common.{List, [], ◌∷◌, filter, fold, length, map, refl, arith, length-append}
 use Rattle.std.specs.List.{AllByRecursion as Every}

@@ -1,5 +1,5 @@
--- The records of a step: those that it puts into its actor's journal or is given back, and those that it rises with; and
--- what holds of all such in a history, by actor.
+-- The records of a step: those that it puts into its actor's journal or is given back, and those that it rises with;
+-- and what holds of all such in a history, by actor.
 use Rattle.std.specs.Prelude.{ℕ, List, [], ◌∷◌, option_to_list}
 use Rattle.std.specs.List.{AllByRecursion as Every}
 use Rattle.qc_msg.specs.declared.record.Record.{Record}
