@@ -31,7 +31,7 @@ use Rattle.qc_site.specs.Conduct.{site_takes}
 use Rattle.qc_site.specs.Site.{new_site}
 use Rattle.qc_bounds.proofs.ActorsWithin.{IsOfPost}
 use Rattle.qc_bounds.proofs.ClientsNamed.{ClientMoveNamed, ClientNamed, WriteNamed, client_takes_named, sent_named}
-use Rattle.qc_bounds.proofs.Named.{AreNamed, GivenNamed, RecordNamed, SendsNamed}
+use Rattle.qc_bounds.proofs.Names.{AreNamed, GivenNamed, RecordNamed, SendsNamed}
 use Rattle.qc_bounds.proofs.RisenNamed.{client_risen_named, inquiries_named, site_risen_named}
 use Rattle.qc_bounds.proofs.SitesNamed.{SiteMoveNamed, SiteNamed, site_takes_named}
 

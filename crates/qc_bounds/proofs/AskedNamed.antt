@@ -17,7 +17,7 @@ use Rattle.qc_script.specs.Sound.{IsCommandFor, IsPhaseFor, IsScriptFor}
 use Rattle.qc_script.specs.declared.script.CommandLine.{CommandLine}
 use Rattle.qc_script.specs.declared.script.Script.{Script}
 use Rattle.qc_bounds.proofs.EventsNamed.{command_named}
-use Rattle.qc_bounds.proofs.Named.{CommandNamed, GivenNamed, MailNamed, MessageNamed}
+use Rattle.qc_bounds.proofs.Names.{CommandNamed, GivenNamed, MailNamed, MessageNamed}
 
 module _ (decl : Declaration) (accepted : IsAccepted decl) where
   lines_named : (a : ℕ) (lines : List CommandLine) → Every (IsCommandFor decl) lines

@@ -51,9 +51,9 @@ use Rattle.qc_bounds.specs.Bounds.{CountsWithin, IsBoundedWithFalls}
 use Rattle.qc_bounds.specs.Calls.{IsFailedShort, IsSound}
 use Rattle.qc_bounds.specs.Fitting.{AllRiseFit}
 use Rattle.qc_bounds.specs.Within.{StateWithin}
-use Rattle.qc_bounds.proofs.Counted.{history_counts}
+use Rattle.qc_bounds.proofs.CountBounds.{history_counts}
 use Rattle.qc_bounds.proofs.FailedSends.{failed_short}
-use Rattle.qc_bounds.proofs.Fitted.{rise_clients, rise_within}
+use Rattle.qc_bounds.proofs.FitBounds.{rise_clients, rise_within}
 use Rattle.qc_bounds.proofs.Needs.{run_bounded}
 use Rattle.qc_bounds.proofs.Senders.{AreFrom, deeds_sound, run_from}
 use Rattle.qc_bounds.proofs.Standing.{IsOpen, IsReady, Known, known}

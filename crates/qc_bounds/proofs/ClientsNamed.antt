@@ -45,7 +45,7 @@ use Rattle.qc_msg.specs.Calls.{site_called, without_call}
 use Rattle.qc_msg.specs.Turns.{quiet, sending}
 use Rattle.qc_bounds.proofs.FrontsNamed.{DoingNamed, FrontMoveNamed, FrontNamed, called_named, takes_named}
 use Rattle.qc_bounds.proofs.TransactionsNamed.{BegunNamed}
-use Rattle.qc_bounds.proofs.Named.{CameNamed, CommandNamed, GivenNamed, MessageNamed, OpsNamed, SendsNamed}
+use Rattle.qc_bounds.proofs.Names.{CameNamed, CommandNamed, GivenNamed, MessageNamed, OpsNamed, SendsNamed}
 
 module _ (decl : Declaration) (k : ℕ) where
   -- a begun transaction of the client

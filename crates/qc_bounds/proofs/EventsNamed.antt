@@ -26,7 +26,7 @@ use Rattle.qc_table.proofs.Named.{allowed_within}
 use Rattle.qc_table.proofs.Numbered.{first_lowest, first_within}
 use Rattle.qc_view.specs.View.{answer_in, state_in}
 use Rattle.qc_view.specs.declared.view.View.{View}
-use Rattle.qc_bounds.proofs.Named.{CommandNamed}
+use Rattle.qc_bounds.proofs.Names.{CommandNamed}
 
 -- an event that is declared, with its response
 pub record EventNamed (decl : Declaration) (object event : ℕ) : Type 0 where

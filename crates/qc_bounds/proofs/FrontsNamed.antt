@@ -36,8 +36,8 @@ use Rattle.qc_plan.specs.Round.{RoundState, note, verdict}
 use Rattle.qc_plan.specs.declared.standing.Verdict.{Verdict}
 use Rattle.qc_plan.specs.declared.standing.Verdict.TheVariants as verdicts
 use Rattle.qc_bounds.proofs.EventsNamed.{EventNamed, answer_named}
-use Rattle.qc_bounds.proofs.Named.{CameNamed, CommandNamed, MessageNamed}
-use Rattle.qc_bounds.proofs.Named.{SendsNamed, WantNamed}
+use Rattle.qc_bounds.proofs.Names.{CameNamed, CommandNamed, MessageNamed}
+use Rattle.qc_bounds.proofs.Names.{SendsNamed, WantNamed}
 use Rattle.qc_bounds.proofs.TransactionsNamed.{BegunNamed, TransactionNamed, absent_named, appended_named, event_named}
 use Rattle.qc_bounds.proofs.TransactionsNamed.{log_named, no_lines, owns_named, read_named}
 

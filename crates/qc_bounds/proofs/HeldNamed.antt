@@ -17,8 +17,8 @@ use Rattle.qc_site.specs.Promise.{lines_of, prepared_of, stamped, with_stamped}
 use Rattle.qc_stamp.specs.declared.stamp.Stamp.{Stamp}
 use Rattle.qc_stamp.specs.declared.stamp.TxId.{TxId}
 use Rattle.qc_stamp.specs.Order.{same_tx}
-use Rattle.qc_bounds.proofs.Named.{LineNamed, LinesNamed, LocksNamed}
-use Rattle.qc_bounds.proofs.Named.{OwnsNamed}
+use Rattle.qc_bounds.proofs.Names.{LineNamed, LinesNamed, LocksNamed}
+use Rattle.qc_bounds.proofs.Names.{OwnsNamed}
 
 -- what is put among items in order
 

@@ -40,7 +40,7 @@ use Rattle.qc_script.specs.declared.script.Script.{Script}
 use Rattle.qc_bounds.specs.Records.{AllPut}
 use Rattle.qc_bounds.proofs.ActorsWithin.{deeds_post}
 use Rattle.qc_bounds.proofs.AskedNamed.{given_named}
-use Rattle.qc_bounds.proofs.Named.{AreNamed, GivenNamed, MailNamed, MessageNamed, RecordNamed, SendsNamed}
+use Rattle.qc_bounds.proofs.Names.{AreNamed, GivenNamed, MailNamed, MessageNamed, RecordNamed, SendsNamed}
 use Rattle.qc_bounds.proofs.Putting.{back_has, input_puts, kept_part, line_puts, post_puts, puts_both}
 use Rattle.qc_bounds.proofs.Senders.{lawful_actor}
 use Rattle.qc_bounds.proofs.ActorsNamed.{MoveNamed, TurnNamed, down_named, new_named, posts_named, rises_named}

@@ -6,18 +6,18 @@ pub mod ActorsWithin
 pub mod Histories
 pub mod FrontCounts
 pub mod ClientCounts
-pub mod Counted
+pub mod CountBounds
 pub mod FewRecords
 pub mod Needs
 pub mod TurnsPosted
 pub mod Standing
-pub mod Fitted
+pub mod FitBounds
 pub mod Senders
 pub mod RisingTurns
 pub mod FailedSends
 pub mod Calling
 pub mod Rising
-pub mod Named
+pub mod Names
 pub mod EventsNamed
 pub mod HeldNamed
 pub mod SitesNamed
@@ -30,4 +30,4 @@ pub mod ActorsNamed
 pub mod HistoriesNamed
 pub mod RecordsFit
 pub mod AtOnce
-pub mod Needed
+pub mod RisenClock

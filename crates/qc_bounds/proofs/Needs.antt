@@ -12,7 +12,7 @@ use Rattle.qc_script.specs.RunsWithFalls.{RunsWithFalls}
 use Rattle.qc_script.specs.declared.script.Script.{Script}
 use Rattle.qc_bounds.specs.Bounds.{IsBoundedWithFalls, LivesWithin}
 use Rattle.qc_bounds.specs.Within.{RiseWithin}
-use Rattle.qc_bounds.proofs.Counted.{history_lives}
+use Rattle.qc_bounds.proofs.CountBounds.{history_lives}
 use Rattle.qc_bounds.proofs.FewRecords.{kept_rise_few}
 use Rattle.qc_bounds.proofs.Histories.{Held, RisesBy, kept_rises_within, rises_within_bound, run_held}
 

@@ -35,7 +35,7 @@ use Rattle.qc_bounds.proofs.EventsNamed.{first_planned}
 use Rattle.qc_bounds.proofs.FewRecords.{kept_journals_few, kept_rise_few}
 use Rattle.qc_bounds.proofs.ActorsNamed.{TurnNamed}
 use Rattle.qc_bounds.proofs.HistoriesNamed.{AllNamed, run_named, turn_named}
-use Rattle.qc_bounds.proofs.Named.{AreNamed, LinesNamed, RecordNamed}
+use Rattle.qc_bounds.proofs.Names.{AreNamed, LinesNamed, RecordNamed}
 use Rattle.qc_bounds.proofs.Needs.{kept_bounded}
 use Rattle.qc_bounds.proofs.Putting.{JournalHas, own_journal_has}
 use Rattle.qc_bounds.proofs.Senders.{lawful_actor}

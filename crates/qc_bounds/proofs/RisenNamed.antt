@@ -18,7 +18,7 @@ use Rattle.qc_site.specs.Promise.{lines_of, prepared_of, without_prepared}
 use Rattle.qc_stamp.specs.Order.{same_tx}
 use Rattle.qc_stamp.specs.declared.stamp.TxId.{TxId}
 use Rattle.qc_bounds.proofs.ClientsNamed.{ClientNamed}
-use Rattle.qc_bounds.proofs.Named.{AreNamed, LineNamed, LinesNamed, LocksNamed, OwnsNamed, RecordNamed, SendsNamed}
+use Rattle.qc_bounds.proofs.Names.{AreNamed, LineNamed, LinesNamed, LocksNamed, OwnsNamed, RecordNamed, SendsNamed}
 use Rattle.qc_bounds.proofs.HeldNamed.{FoundNamed, HeldNamed, PromiseNamed, found_named, held_named, lines_named}
 use Rattle.qc_bounds.proofs.SitesNamed.{SiteNamed}
 use Rattle.qc_bounds.proofs.HeldNamed.{FoundNamed, HeldNamed, PromiseNamed, found_named, held_named, lines_named}

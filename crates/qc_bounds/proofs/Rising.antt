@@ -39,7 +39,7 @@ use Rattle.qc_script.specs.declared.script.Script.{Script}
 use Rattle.qc_bounds.specs.Calls.{IsOfClient, IsRisingShort, PromisesDeclared}
 use Rattle.qc_bounds.specs.Fitting.{AllFit, AllRiseFit}
 use Rattle.qc_bounds.specs.Records.{risen_at}
-use Rattle.qc_bounds.proofs.Fitted.{fit_clients, fit_few}
+use Rattle.qc_bounds.proofs.FitBounds.{fit_clients, fit_few}
 use Rattle.qc_bounds.proofs.RisingTurns.{rising_asks_few, rising_short}
 
 -- in a run only what the conduct lets rise does

@@ -33,8 +33,8 @@ use Rattle.qc_site.specs.Site.{SiteMove, SiteState, answers, moved}
 use Rattle.qc_site.proofs.Cases.{append_cases, choose, fault_is, join_cases, prepare_cases, read_cases}
 use Rattle.qc_stamp.specs.declared.stamp.TxId.{TxId}
 use Rattle.qc_stamp.specs.Order.{same_tx}
-use Rattle.qc_bounds.proofs.Named.{AnswerNamed, AreNamed, GivenNamed, LineNamed, LinesNamed, MessageNamed}
-use Rattle.qc_bounds.proofs.Named.{SendsNamed, WantNamed}
+use Rattle.qc_bounds.proofs.Names.{AnswerNamed, AreNamed, GivenNamed, LineNamed, LinesNamed, MessageNamed}
+use Rattle.qc_bounds.proofs.Names.{SendsNamed, WantNamed}
 use Rattle.qc_bounds.proofs.HeldNamed.{FoundNamed, HasNamed, HeldNamed, PromiseNamed, found_named, has_named}
 use Rattle.qc_bounds.proofs.HeldNamed.{held_named, lines_named}
 

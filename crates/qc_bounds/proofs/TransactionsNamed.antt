@@ -20,7 +20,7 @@ use Rattle.qc_plan.specs.Round.{verdict}
 use Rattle.qc_view.specs.View.{empty_view, with_log, with_own}
 use Rattle.qc_view.specs.declared.view.View.{View}
 use Rattle.qc_bounds.proofs.EventsNamed.{EventNamed}
-use Rattle.qc_bounds.proofs.Named.{CameNamed, LineNamed, LinesNamed, OpsNamed, OwnsNamed}
+use Rattle.qc_bounds.proofs.Names.{CameNamed, LineNamed, LinesNamed, OpsNamed, OwnsNamed}
 
 every-set : {A : Type 0} (P : A → Type 0) (xs : List A) (i : ℕ) (y : A) → P y → Every P xs → Every P (slice_set xs i y)
 every-set P [] i y here all = tt

@@ -35,7 +35,7 @@ pub fn clocks_are_bounded_with_falls<C: ConductWithFalls>()
 
 /// That what rises is within the bound is needed: a client that rises with a
 /// commit record is within no lesser bound than its clock.
-#[tactic(auto, using(crate::proofs::Needed::risen_clock))]
+#[tactic(auto, using(crate::proofs::RisenClock::risen_clock))]
 pub fn bounds_are_on_what_rises()
     ensures { (decl : Declaration) (a : ℕ) (ds : List Deed) (c : CommitRecord) (bound : ℕ)
         → is_site decl a ≡ false
@@ -46,7 +46,7 @@ pub fn bounds_are_on_what_rises()
 /// count anew from each rise. An actor's life is at most two more than the
 /// records of any rise, and, where records are kept, than the steps. So it is
 /// of every history.
-#[tactic(auto, using(crate::proofs::Counted::history_counts, crate::proofs::Counted::history_lives, crate::proofs::Needs::kept_lives))]
+#[tactic(auto, using(crate::proofs::CountBounds::history_counts, crate::proofs::CountBounds::history_lives, crate::proofs::Needs::kept_lives))]
 pub fn counts_and_lives_are_bounded_with_falls()
     ensures counts { (decl : Declaration) (a : ℕ) (h : List Entry)
         → CountsWithin (length h) (actor_after decl a (deeds a [] h)).actor }

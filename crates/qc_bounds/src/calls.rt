@@ -29,7 +29,7 @@ use qc_script::ConductWithFalls;
 
 /// Where a conduct lets only records rise that fit their actor, what rises in
 /// its runs fits; and what fits has clocks up to the greatest, and is few.
-#[tactic(auto, using(crate::proofs::Rising::run_rises_fit, crate::proofs::Fitted::rise_within, crate::proofs::Fitted::rise_few))]
+#[tactic(auto, using(crate::proofs::Rising::run_rises_fit, crate::proofs::FitBounds::rise_within, crate::proofs::FitBounds::rise_few))]
 pub fn what_rises_fits<C: ConductWithFalls>()
     ensures rises { (decl : Declaration) (script : Script)
         → ((a : ℕ) (records : List Record) → C.fits a records → AllFit decl a 0 records)
