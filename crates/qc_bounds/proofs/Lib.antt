@@ -31,3 +31,4 @@ pub mod HistoriesNamed
 pub mod RecordsFit
 pub mod AtOnce
 pub mod RisenClock
+pub mod Places

@@ -16,7 +16,8 @@
 //! 3. Where records are kept, each record of a journal fits its actor
 //!    (`journals_fit_their_actors`), the record of a lawful turn where it would be
 //!    written (`records_of_lawful_turns_fit`), and what rises
-//!    (`what_rises_fits_where_records_are_kept`).
+//!    (`what_rises_fits_where_records_are_kept`); each at its place
+//!    (`records_fit_at_their_places`).
 #![tactic(auto)]
 
 mod bounds;
@@ -33,5 +34,6 @@ pub use calls::{
     what_rises_fits,
 };
 pub use records::{
-    journals_fit_their_actors, records_of_lawful_turns_fit, what_rises_fits_where_records_are_kept,
+    journals_fit_their_actors, records_fit_at_their_places, records_of_lawful_turns_fit,
+    what_rises_fits_where_records_are_kept,
 };

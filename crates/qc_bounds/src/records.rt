@@ -1,15 +1,17 @@
 //! Records fit their actors in every run with falls whose records are kept: laws,
 //! each the contract of a function with nothing to do.
 
-ghost use Rattle.std.specs.Prelude.{◌<◌, ℕ, Bool, List, [], length, option_to_list};
+ghost use Rattle.std.specs.Prelude.{◌≡◌, ◌↔◌, ◌<◌, ℕ, Bool, true, List, [], Some, length, option_to_list, slice_get};
 ghost use Rattle.qc_bounds.specs.Fitting.{AllFit, AllRiseFit, JournalFits};
 ghost use Rattle.qc_core.specs.Conduct.{IsLawfulWithFalls};
 ghost use Rattle.qc_core.specs.Journals.{journal_after};
 ghost use Rattle.qc_decl.specs.Accepted.{IsAccepted};
 ghost use Rattle.qc_decl.specs.Limits.{most_steps};
 ghost use Rattle.qc_decl.specs.declared.declaration.Declaration.{Declaration};
+ghost use Rattle.qc_fit.specs.Fits.{fits};
 ghost use Rattle.qc_msg.specs.Deeds.{deeds};
 ghost use Rattle.qc_msg.specs.Steps.{Entry};
+ghost use Rattle.qc_msg.specs.declared.record.Record.{Record};
 ghost use Rattle.qc_msg.specs.declared.turn.Turn.{Turn};
 ghost use Rattle.qc_promise.specs.Kept.{Kept};
 ghost use Rattle.qc_script.specs.RunsWithFalls.{RunsWithFalls};
@@ -17,6 +19,14 @@ ghost use Rattle.qc_script.specs.Sound.{IsScriptFor};
 ghost use Rattle.qc_script.specs.declared.script.Script.{Script};
 
 use qc_script::ConductWithFalls;
+
+/// That all records of a journal fit is that each does, behind as many others as
+/// its place tells.
+#[tactic(auto, using(crate::proofs::Places::places))]
+pub fn records_fit_at_their_places()
+    ensures { (decl : Declaration) (a : ℕ) (records : List Record) → AllFit decl a 0 records
+        ↔ ((place : ℕ) (r : Record) → slice_get records place ≡ Some r → fits decl a place r ≡ true) }
+{}
 
 /// Below the limit of steps, where records are kept, each record of an actor's
 /// journal fits the actor at its place, and so does the one that was being
