@@ -3,10 +3,10 @@
 //! No run of the program has a fall yet; these laws are of histories alone.
 //!
 //! 1. Every clock is at most a bound on what rises and the number of steps; where
-//!    records are kept, at most the number of steps (`clocks_are_bounded_with_falls`,
-//!    `bounds_are_on_what_rises`). A client has begun at most as many transactions, and an actor's life is at
-//!    most two more than the records that it rose with
-//!    (`counts_and_lives_are_bounded_with_falls`).
+//!    records are kept, at most the number of steps
+//!    (`clocks_are_bounded_with_falls`, `bounds_are_on_what_rises`). A client has
+//!    begun at most as many transactions, and an actor's life is at most two more
+//!    than the records that it rose with (`counts_and_lives_are_bounded_with_falls`).
 //! 2. Where what rises fits its actor (`what_rises_fits`), and below the limit of
 //!    steps, each actor's calls may be made (`calls_may_be_made_with_falls`), and
 //!    its turns are short (`turns_are_short_with_falls`); so may the calls of a rise
