@@ -38,7 +38,7 @@ use Rattle.qc_script.specs.declared.script.Script.{Script}
 -- what is asked stands in an inbox: a step takes from it, and a phase adds what it asks
 
 module _ (P : Command → Type 0) where
-  abbrev Asks : Inbox → Type 0
+  abbrev pub Asks : Inbox → Type 0
   Asks i = Every P i.commands
 
   asks_if : (t : Bool) (i j : Inbox) → Asks i → Asks j → Asks (if t then i else j)
@@ -104,7 +104,7 @@ module _ (P : Command → Type 0) where
   asks_step script a new i b (steps.Rose kept) all = all
   asks_step script a new i b (steps.Damaged offset) all = asks_acted a i all
 
-  asks_all : (script : Script) (a : ℕ) → ((n : ℕ) (p : PhaseLines) → slice_get script.phases n ≡ Some p → Every P (commands_for a p.commands))
+  pub asks_all : (script : Script) (a : ℕ) → ((n : ℕ) (p : PhaseLines) → slice_get script.phases n ≡ Some p → Every P (commands_for a p.commands))
       → (h : List Entry) (i : Inbox) → Asks i → Asks (fold (λ (i : Inbox) (e : Entry). inbox_at script a i e.actor e.step) i h)
   asks_all script a new [] i all = all
   asks_all script a new (e ∷ h) i all = asks_all script a new h (inbox_at script a i e.actor e.step) (asks_step script a new i e.actor e.step all)
@@ -124,7 +124,7 @@ module _ (P : Command → Type 0) where
   next_copy [] other c is = is
   next_copy (e ∷ es) other c is = absurd (let never : ⊥ = cc in never)
 
-  ready_command : (decl : Declaration) (a : ℕ) (i : Inbox) (c : Command) → ready_in decl a i ≡ Some (given.Called c) → Asks i → P c
+  pub ready_command : (decl : Declaration) (a : ℕ) (i : Inbox) (c : Command) → ready_in decl a i ≡ Some (given.Called c) → Asks i → P c
   ready_command decl a i c is all = at i.controls is
     where
       at : (lines : List Control) → after_controls lines (first_copy i.copies (first_lost i.lost (command_in decl a i))) ≡ Some (given.Called c) → P c

@@ -1,0 +1,169 @@
+-- An actor that names declared things goes on so for each input, each post and each rise.
+use Rattle.std.proofs.Common.{◌≡◌, ℕ, ◌-◌, ◌<◌, ◌≤◌, nat_lt, Bool, true, false, cond, List, [], ◌∷◌, ◌++◌}
+use Rattle.std.proofs.Common.{fold, map, Option, inl, inr, refl, sym, subst, arith}
+use Rattle.std.specs.Prelude.{option_to_list}
+use Rattle.std.specs.List.{AllByRecursion as Every}
+use Rattle.std.proofs.lemmas.Bool.{ltb-true}
+use Rattle.std.proofs.lemmas.Bool.Decides.{nat_tests}
+use Rattle.qc_list.proofs.Members.{every-append}
+use Rattle.qc_client.specs.Client.{new_client}
+use Rattle.qc_client.specs.Conduct.{client_takes}
+use Rattle.qc_core.specs.declared.actor.Actor.{Actor}
+use Rattle.qc_core.specs.declared.actor.Actor.TheVariants.{Site, Client, Down}
+use Rattle.qc_core.specs.Actors.{ActorMove, actor_does, actor_rises, actor_sends, actor_takes, by_client}
+use Rattle.qc_core.specs.Actors.{by_site, down_takes, moved, new_actor}
+use Rattle.qc_core.proofs.Written.{client_written}
+use Rattle.qc_decl.specs.Accepted.{IsAccepted}
+use Rattle.qc_decl.specs.Actors.{actors, client_actor, is_site}
+use Rattle.qc_decl.specs.declared.declaration.Declaration.{Declaration}
+use Rattle.qc_entry.specs.declared.record.Prepared.{Prepared}
+use Rattle.qc_msg.specs.declared.message.Message.{Message}
+use Rattle.qc_msg.specs.declared.record.Record.{Record}
+use Rattle.qc_msg.specs.declared.record.Record.TheVariants as records
+use Rattle.qc_msg.specs.declared.step.Given.{Given}
+use Rattle.qc_msg.specs.declared.step.Given.TheVariants as given
+use Rattle.qc_msg.specs.declared.turn.Turn.{Turn}
+use Rattle.qc_msg.specs.Deeds.{Deed, Takes, Writes, Sends, Tells, Falls, Rises}
+use Rattle.qc_msg.specs.Turns.{quiet}
+use Rattle.qc_recover.specs.Clients.{client_rises}
+use Rattle.qc_recover.specs.Sites.{in_order, kept_by, site_rises}
+use Rattle.qc_site.specs.Conduct.{site_takes}
+use Rattle.qc_site.specs.Site.{new_site}
+use Rattle.qc_bounds.proofs.ActorsWithin.{IsOfPost}
+use Rattle.qc_bounds.proofs.ClientsNamed.{ClientMoveNamed, ClientNamed, WriteNamed, client_takes_named, sent_named}
+use Rattle.qc_bounds.proofs.Names.{AreNamed, GivenNamed, RecordNamed, SendsNamed}
+use Rattle.qc_bounds.proofs.RisenNamed.{client_risen_named, inquiries_named, site_risen_named}
+use Rattle.qc_bounds.proofs.SitesNamed.{SiteMoveNamed, SiteNamed, site_takes_named}
+
+module _ (decl : Declaration) where
+  abbrev pub StateNamed : ℕ → Actor → Type 0
+  StateNamed a (Site s) = (a < decl.sites) × SiteNamed decl s
+  StateNamed a (Client c) = (decl.sites ≤ a) × ClientNamed decl (a - decl.sites) c
+  StateNamed a Down = Unit {0}
+
+  pub record TurnNamed (a : ℕ) (turn : Turn) : Type 0 where
+    pub sends : SendsNamed decl turn.sends
+    pub failed_sends : SendsNamed decl turn.failed_sends
+    pub write : a < actors decl → AreNamed decl a (option_to_list turn.write)
+
+  pub record MoveNamed (a : ℕ) (m : ActorMove) : Type 0 where
+    pub state : StateNamed a m.actor
+    pub turn : TurnNamed a m.turn
+
+  quiet_named : (a : ℕ) → TurnNamed a quiet
+  quiet_named a = record { sends = tt; failed_sends = tt; write = λ low. tt }
+
+  pub down_named : (a : ℕ) → MoveNamed a (moved Down quiet)
+  down_named a = record { state = tt; turn = quiet_named a }
+
+  site_low : (a : ℕ) → is_site decl a ≡ true → a < decl.sites
+  site_low a is = ltb-true a decl.sites is
+
+  client_high : (a n : ℕ) → nat_lt a n ≡ false → n ≤ a
+  client_high a n is = grind (arith, nat_tests)
+
+  pub new_named : (a : ℕ) → MoveNamed a (moved (new_actor decl a) quiet)
+  new_named a = record { state = by (is_site decl a) refl; turn = quiet_named a }
+    where
+      by : (b : Bool) → is_site decl a ≡ b
+          → StateNamed a (cond b (Site (new_site a)) (Client (new_client (a - decl.sites))))
+      by true is = (site_low a is, record { epoch = refl; log = tt; held = tt; prepared = tt })
+      by false is = (
+        client_high a decl.sites is,
+        record {
+          own = record { client = refl; begun = tt };
+          front = record { begun = tt; doing = tt };
+          voting = tt;
+        },
+      )
+
+  -- one input
+
+  down_taken : (a : ℕ) (g : Given) → TurnNamed a (down_takes g)
+  down_taken a (given.Called command) = record { sends = tt; failed_sends = tt; write = λ low. tt }
+  down_taken a (given.Got e) = quiet_named a
+  down_taken a (given.Lost number) = quiet_named a
+
+  client_writes : (a : ℕ) (w : Option Record) → decl.sites ≤ a → a < actors decl → WriteNamed decl (a - decl.sites) w
+      → AreNamed decl a (option_to_list w)
+  client_writes a w high low (inl none) =
+      subst (λ (o : Option Record). AreNamed decl a (option_to_list o)) (sym none) tt
+  client_writes a w high low (inr one) =
+      let client : one.0.tx.client ≡ a - decl.sites = one.2 in
+      subst (λ (o : Option Record). AreNamed decl a (option_to_list o)) (sym one.1) (
+        (
+          (let same : a ≡ client_actor decl one.0.tx.client = omega arith in same),
+          (let below : one.0.tx.client < decl.clients = omega arith in below),
+          one.3,
+        ),
+        tt,
+      )
+
+  pub takes_named : (accepted : IsAccepted decl) (a : ℕ) (v : Actor) (g : Given) → StateNamed a v → GivenNamed decl g
+      → MoveNamed a (actor_takes decl v g)
+  takes_named accepted a (Site s) g w here =
+      let m : SiteMoveNamed decl a (site_takes decl s g) = site_takes_named decl a w.0 s g w.1 here in
+      record {
+        state =
+            (w.0, m.site);
+        turn = record { sends = m.sends; failed_sends = m.failed_sends; write = λ low. m.write };
+      }
+  takes_named accepted a (Client c) g w here =
+      let m : ClientMoveNamed decl (a - decl.sites) (client_takes decl c g) =
+      client_takes_named decl (a - decl.sites) accepted c w.1 g here in
+      record {
+        state = (w.0, m.client);
+        turn = record {
+          sends = m.sends;
+          failed_sends = subst (SendsNamed decl) (sym (client_written decl c g).failed_sends) tt;
+          write = λ low. client_writes a (client_takes decl c g).turn.write w.0 low m.write;
+        };
+      }
+  takes_named accepted a Down g w here = record { state = tt; turn = down_taken a g }
+
+  -- a post
+
+  sends_named : (a : ℕ) (v : Actor) (number to : ℕ) (message : Message) → StateNamed a v
+      → StateNamed a (actor_sends v number to message)
+  sends_named a (Site s) number to message w = w
+  sends_named a (Client c) number to message w = (w.0, sent_named decl (a - decl.sites) c number to message w.1)
+  sends_named a Down number to message w = w
+
+  pub posts_named : (a : ℕ) (m : ActorMove) (ds : List Deed) → Every IsOfPost ds → MoveNamed a m
+      → MoveNamed a (fold (actor_does decl a) m ds)
+  posts_named a m [] all w = w
+  posts_named a m (Takes g ∷ ds) all w = absurd all.0
+  posts_named a m (Writes written ∷ ds) all w = posts_named a m ds all.1 w
+  posts_named a m (Sends number to message ∷ ds) all w =
+      posts_named a (record m { actor = actor_sends m.actor number to message }) ds all.1
+      (record { state = sends_named a m.actor number to message w.state; turn = w.turn })
+  posts_named a m (Tells reply ∷ ds) all w = posts_named a m ds all.1 w
+  posts_named a m (Falls cause pending ∷ ds) all w = posts_named a (moved Down quiet) ds all.1 (down_named a)
+  posts_named a m (Rises rs ∷ ds) all w = absurd all.0
+
+  -- a rise
+
+  pub rises_named : (a : ℕ) (rs : List Record) → AreNamed decl a rs → MoveNamed a (actor_rises decl a rs)
+  rises_named a rs all = by (is_site decl a) refl
+    where
+      by : (b : Bool) → is_site decl a ≡ b
+          → MoveNamed a (cond b (by_site (site_rises decl a rs)) (by_client (client_rises (a - decl.sites) rs)))
+      by true is =
+          let low : a < decl.sites = site_low a is in
+          record {
+            state = (
+              low,
+              site_risen_named decl a (rs ++ records.Life ∷ [])
+                  (every-append (RecordNamed decl a) rs (records.Life ∷ []) all
+                  ((let life : a < actors decl = omega arith in life), tt)),
+            );
+            turn = record {
+              sends = inquiries_named decl (in_order (map (λ (p : Prepared). p.tx) (kept_by rs).promises));
+              failed_sends = tt;
+              write = λ low. (low, tt);
+            };
+          }
+      by false is = record {
+        state = (client_high a decl.sites is, client_risen_named decl (a - decl.sites) (rs ++ records.Life ∷ []));
+        turn = record { sends = tt; failed_sends = tt; write = λ low. (low, tt) };
+      }

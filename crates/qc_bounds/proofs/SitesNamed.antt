@@ -1,0 +1,210 @@
+-- A site that knows, holds and has promised what names declared things goes on so, sends such messages and writes such
+-- records.
+use Rattle.std.proofs.Common.{◌≡◌, ℕ, ◌<◌, ◌==◌, ◌&&◌, nat_lt, not, Bool, true, false, [], ◌∷◌}
+use Rattle.std.proofs.Common.{Option, Some, None, refl}
+use Rattle.std.specs.Prelude.{option_to_list}
+use Rattle.std.specs.List.{AllByRecursion as Every}
+use Rattle.std.proofs.lemmas.Bool.{ltb-true}
+use Rattle.qc_list.proofs.Members.{every-append, every-filter}
+use Rattle.qc_decl.specs.declared.declaration.Declaration.{Declaration}
+use Rattle.qc_entry.specs.Log.{has_line}
+use Rattle.qc_entry.specs.declared.line.Line.{Line}
+use Rattle.qc_entry.specs.declared.record.Prepared.{Prepared}
+use Rattle.qc_entry.proofs.Union.{every-union}
+use Rattle.qc_lock.specs.declared.clash.Clash.{Clash as Conflict}
+use Rattle.qc_lock.specs.declared.held.Held.{Held}
+use Rattle.qc_lock.specs.Held.{held_of}
+use Rattle.qc_msg.specs.declared.message.Answer.{Answer}
+use Rattle.qc_msg.specs.declared.message.Answer.TheVariants as says
+use Rattle.qc_msg.specs.declared.message.Message.{Message}
+use Rattle.qc_msg.specs.declared.message.Message.TheVariants as messages
+use Rattle.qc_msg.specs.declared.message.Outcome.{Outcome}
+use Rattle.qc_msg.specs.declared.message.Outcome.TheVariants.{Committed, Aborted, Active}
+use Rattle.qc_msg.specs.declared.message.Want.{Want}
+use Rattle.qc_msg.specs.declared.message.Want.TheVariants.{Append, Prepare, Read}
+use Rattle.qc_msg.specs.declared.step.Given.{Given}
+use Rattle.qc_msg.specs.declared.step.Given.TheVariants as given
+use Rattle.qc_msg.specs.Begun.{first_epoch}
+use Rattle.qc_msg.specs.Turns.{quiet}
+use Rattle.qc_site.specs.Conduct.{passed, site_at, site_takes}
+use Rattle.qc_site.specs.Promise.{finishes, lines_of, promise_of}
+use Rattle.qc_site.specs.Requests.{clashing, fault_of, grants, names_declared, names_object, requested}
+use Rattle.qc_site.specs.Site.{SiteMove, SiteState, answers, moved}
+use Rattle.qc_site.proofs.Cases.{append_cases, choose, fault_is, join_cases, prepare_cases, read_cases}
+use Rattle.qc_stamp.specs.declared.stamp.TxId.{TxId}
+use Rattle.qc_stamp.specs.Order.{same_tx}
+use Rattle.qc_bounds.proofs.Names.{AnswerNamed, AreNamed, GivenNamed, LineNamed, LinesNamed, MessageNamed}
+use Rattle.qc_bounds.proofs.Names.{SendsNamed, WantNamed}
+use Rattle.qc_bounds.proofs.HeldNamed.{FoundNamed, HasNamed, HeldNamed, PromiseNamed, found_named, has_named}
+use Rattle.qc_bounds.proofs.HeldNamed.{held_named, lines_named}
+
+module _ (decl : Declaration) where
+  pub record SiteNamed (s : SiteState) : Type 0 where
+    pub epoch : s.epoch ≡ first_epoch
+    pub log : LinesNamed decl s.log
+    pub held : Every (HeldNamed decl) s.held
+    pub prepared : Every (PromiseNamed decl) s.prepared
+
+  -- a move
+
+  pub record SiteMoveNamed (a : ℕ) (m : SiteMove) : Type 0 where
+    pub site : SiteNamed m.site
+    pub sends : SendsNamed decl m.turn.sends
+    pub failed_sends : SendsNamed decl m.turn.failed_sends
+    pub write : AreNamed decl a (option_to_list m.turn.write)
+
+  module _ (a : ℕ) (is_site : a < decl.sites) (s : SiteState) (from number : ℕ) (w : SiteNamed s) where
+    abbrev Moves : SiteMove → Type 0
+    Moves m = SiteMoveNamed a m
+
+    answered : (answer : Answer) → AnswerNamed decl answer → Moves (moved s (answers from number answer))
+    answered answer here = record { site = w; sends = (here, tt); failed_sends = tt; write = tt }
+
+    silent : Moves (moved s quiet)
+    silent = record { site = w; sends = tt; failed_sends = tt; write = tt }
+
+    clashed : (c : Conflict) → Moves (moved s (clashing decl from number c))
+    clashed c = record { site = w; sends = (tt, (tt, tt)); failed_sends = tt; write = tt }
+
+    granted : (tx : TxId) (want : Want) → tx.client < decl.clients → WantNamed decl want
+        → Moves (grants decl s from number tx want)
+    granted tx (Read object inv) low here =
+        read_cases Moves decl s from number tx object inv
+        (λ free. record {
+          site =
+              record {
+                epoch = w.epoch;
+                log = w.log;
+                held =
+                    held_named decl s.held tx (record { object = object; inv = inv } ∷ []) [] w.held low (here, tt) tt;
+                prepared = w.prepared;
+              };
+          sends = (every-filter (LineNamed decl) (λ (l : Line). l.object == object) s.log w.log, tt);
+          failed_sends = tt;
+          write = tt;
+        })
+        (λ c clash. clashed c)
+    granted tx (Append object view own) low here =
+        append_cases Moves decl s from number tx object view own
+        (λ free. record {
+          site =
+              record {
+                epoch = w.epoch;
+                log = every-union (LineNamed decl) s.log view w.log here.0;
+                held = held_named decl s.held tx [] own w.held low tt here.1;
+                prepared = w.prepared;
+              };
+          sends = (tt, tt);
+          failed_sends = tt;
+          write = tt;
+        })
+        (λ c clash. clashed c)
+    granted tx Prepare low here =
+        prepare_cases Moves s from number tx (answered says.Stale tt) (λ held stands. answered (says.Yes s.clock) tt)
+        (λ held made. (let has : HasNamed decl (held_of s.held tx) = has_named decl s.held tx w.held in
+        record {
+          site =
+              record {
+                epoch = w.epoch;
+                log = w.log;
+                held = w.held;
+                prepared =
+                    every-append (PromiseNamed decl) s.prepared (promise_of s tx ∷ []) w.prepared
+                    (record { client = low; own = has.own }, tt);
+              };
+          sends = (tt, tt);
+          failed_sends = (tt, tt);
+          write = (
+            (
+              is_site,
+              low,
+              w.epoch,
+              has.locks,
+              has.own,
+              every-filter (LineNamed decl)
+                  (λ (l : Line). not (has_line s.recorded l)) s.log w.log,
+            ),
+            tt,
+          );
+        }))
+
+    both_first : (x y : Bool) → (x && y) ≡ true → x ≡ true
+    both_first true y is = refl
+    both_first false y is = is
+
+    finished : (tx : TxId) (verdict : Outcome) → Moves (finishes s tx verdict)
+    finished tx (Committed stamp) =
+        join_cases Moves s tx stamp
+        (λ none. record {
+          site = record {
+            epoch = w.epoch;
+            log = w.log;
+            held = every-filter (HeldNamed decl) (λ (h : Held). not (same_tx h.tx tx)) s.held w.held;
+            prepared = every-filter (PromiseNamed decl) (λ (q : Prepared). not (same_tx q.tx tx)) s.prepared w.prepared;
+          };
+          sends = tt;
+          failed_sends = tt;
+          write = tt;
+        })
+        (λ p some. (let found : FoundNamed decl tx p = found_named decl s.prepared tx p w.prepared some in
+        record {
+          site = record {
+            epoch = w.epoch;
+            log =
+                every-union (LineNamed decl) s.log (lines_of stamp tx p.own) w.log
+                (lines_named decl stamp tx p.own found.client found.own);
+            held = every-filter (HeldNamed decl) (λ (h : Held). not (same_tx h.tx tx)) s.held w.held;
+            prepared = every-filter (PromiseNamed decl) (λ (q : Prepared). not (same_tx q.tx tx)) s.prepared w.prepared;
+          };
+          sends = tt;
+          failed_sends = tt;
+          write = ((is_site, found.client), tt);
+        }))
+    finished tx Aborted = record {
+      site = record {
+        epoch = w.epoch;
+        log = w.log;
+        held = every-filter (HeldNamed decl) (λ (h : Held). not (same_tx h.tx tx)) s.held w.held;
+        prepared = every-filter (PromiseNamed decl) (λ (q : Prepared). not (same_tx q.tx tx)) s.prepared w.prepared;
+      };
+      sends = tt;
+      failed_sends = tt;
+      write = tt;
+    }
+    finished tx Active = silent
+
+    requested_named : (tx : TxId) (epoch life : ℕ) (want : Want) → WantNamed decl want
+        → Moves (site_at decl s from number (messages.Request tx epoch life want))
+    requested_named tx epoch life want here =
+        choose Moves (names_declared decl tx want) (requested decl s from number tx want (fault_of s epoch life))
+        (moved s quiet)
+        (λ is. by (fault_of s epoch life) refl
+        (ltb-true tx.client decl.clients (both_first (nat_lt tx.client decl.clients) (names_object decl want) is)))
+        (λ is. silent)
+      where
+        by : (o : Option Answer) → fault_of s epoch life ≡ o → tx.client < decl.clients
+            → Moves (requested decl s from number tx want o)
+        by (Some fault) is low = answered fault (fault_is (AnswerNamed decl) s epoch life tt (λ other. tt) tt fault is)
+        by None is low = granted tx want low here
+
+    pub at_named : (message : Message) → MessageNamed decl message → Moves (site_at decl s from number message)
+    at_named (messages.Request tx epoch life want) here = requested_named tx epoch life want here
+    at_named (messages.Answer to answer) here = silent
+    at_named (messages.Decision tx verdict) here = finished tx verdict
+    at_named (messages.Inquiry tx) here = silent
+    at_named (messages.Ask tx) here = silent
+    at_named (messages.Close epoch) here = silent
+    at_named (messages.Install epoch clock log) here = silent
+
+  -- one input
+  pub site_takes_named : (a : ℕ) → a < decl.sites → (s : SiteState) (g : Given) → SiteNamed s → GivenNamed decl g
+      → SiteMoveNamed a (site_takes decl s g)
+  site_takes_named a low s (given.Called command) w here = silent a low s 0 0 w
+  site_takes_named a low s (given.Got e) w here =
+      at_named a low (passed s e.message) e.from e.number (record {
+        epoch = w.epoch;
+        log = w.log;
+        held = w.held;
+        prepared = w.prepared;
+      }) e.message here
+  site_takes_named a low s (given.Lost number) w here = silent a low s 0 0 w
