@@ -1,5 +1,5 @@
 -- So each message of a run with falls is of one epoch, and a site takes it by its rules of one epoch.
-use Rattle.std.proofs.Common.{◌≡◌, ℕ, ◌+◌, ◌-◌, Bool, true, false, cond, List, [], ◌∷◌, map, refl, subst}
+use Rattle.std.proofs.Common.{◌≡◌, ℕ, ◌+◌, ◌-◌, Bool, true, false, cond, List, [], ◌∷◌, map, take, refl, subst}
 use Rattle.std.specs.List.{AllByRecursion as Every, fold}
 use Rattle.qc_list.proofs.Members.{every-at}
 use Rattle.qc_core.specs.declared.actor.Actor.{Actor}
@@ -24,7 +24,7 @@ use Rattle.qc_msg.specs.Steps.{MayEnd, sends_as}
 use Rattle.qc_msg.specs.Turns.{quiet}
 use Rattle.qc_epoch.specs.SiteRows.{hears, takes}
 use Rattle.qc_recover.specs.Clients.{client_rises}
-use Rattle.qc_recover.specs.Sites.{in_order, inquiry, kept_by, site_rises}
+use Rattle.qc_recover.specs.Sites.{in_order, inquiry, kept_by, most_inquiries, site_rises}
 use Rattle.qc_site.specs.Conduct.{site_on, site_takes}
 use Rattle.qc_site.specs.Site.{SiteState}
 use Rattle.qc_reach.proofs.Says.{AreOfOneEpoch, IsOfOneEpoch, Says, client_says, site_says}
@@ -39,7 +39,7 @@ rise_says : (decl : Declaration) (a : ℕ) (rs : List Record) → Says (actor_ri
 rise_says decl a rs = by (is_site decl a)
   where
     by : (x : Bool) → Says (cond x (by_site (site_rises decl a rs)) (by_client (client_rises (a - decl.sites) rs))).turn
-    by true = record { sends = inquiries_one decl (in_order (map (λ (p : Prepared). p.tx) (kept_by rs).promises)); failed = λ w. tt }
+    by true = record { sends = inquiries_one decl (take most_inquiries (in_order (map (λ (p : Prepared). p.tx) (kept_by rs).promises))); failed = λ w. tt }
     by false = record { sends = tt; failed = λ w. tt }
 
 takes_all_say : (decl : Declaration) (v : Actor) (g : Given) → Says (actor_takes decl v g).turn
