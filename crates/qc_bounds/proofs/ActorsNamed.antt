@@ -1,6 +1,6 @@
 -- An actor that names declared things goes on so for each input, each post and each rise.
 use Rattle.std.proofs.Common.{◌≡◌, ℕ, ◌-◌, ◌<◌, ◌≤◌, nat_lt, Bool, true, false, cond, List, [], ◌∷◌, ◌++◌}
-use Rattle.std.proofs.Common.{fold, map, Option, inl, inr, refl, sym, subst, arith}
+use Rattle.std.proofs.Common.{fold, map, take, Option, inl, inr, refl, sym, subst, arith}
 use Rattle.std.specs.Prelude.{option_to_list}
 use Rattle.std.specs.List.{AllByRecursion as Every}
 use Rattle.std.proofs.lemmas.Bool.{ltb-true}
@@ -26,7 +26,7 @@ use Rattle.qc_msg.specs.declared.turn.Turn.{Turn}
 use Rattle.qc_msg.specs.Deeds.{Deed, Takes, Writes, Sends, Tells, Falls, Rises}
 use Rattle.qc_msg.specs.Turns.{quiet}
 use Rattle.qc_recover.specs.Clients.{client_rises}
-use Rattle.qc_recover.specs.Sites.{in_order, kept_by, site_rises}
+use Rattle.qc_recover.specs.Sites.{in_order, kept_by, most_inquiries, site_rises}
 use Rattle.qc_site.specs.Conduct.{site_takes}
 use Rattle.qc_site.specs.Site.{new_site}
 use Rattle.qc_bounds.proofs.ActorsWithin.{IsOfPost}
@@ -158,7 +158,7 @@ module _ (decl : Declaration) where
                   ((let life : a < actors decl = omega arith in life), tt)),
             );
             turn = record {
-              sends = inquiries_named decl (in_order (map (λ (p : Prepared). p.tx) (kept_by rs).promises));
+              sends = inquiries_named decl (take most_inquiries (in_order (map (λ (p : Prepared). p.tx) (kept_by rs).promises)));
               failed_sends = tt;
               write = λ low. (low, tt);
             };

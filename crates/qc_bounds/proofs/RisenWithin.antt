@@ -1,5 +1,5 @@
 -- What a site and a client are by records within a bound, and what they do as they rise, is within it.
-use Rattle.std.proofs.Common.{ℕ, ◌-◌, ◌≤◌, max, not, Bool, true, false, cond, List, [], ◌∷◌, ◌++◌, fold, map, Option}
+use Rattle.std.proofs.Common.{ℕ, ◌-◌, ◌≤◌, max, not, Bool, true, false, cond, List, [], ◌∷◌, ◌++◌, fold, map, take, Option}
 use Rattle.std.proofs.Common.{Some, None, arith}
 use Rattle.std.specs.List.{AllByRecursion as Every}
 use Rattle.std.specs.Option.{option_map_or}
@@ -15,7 +15,7 @@ use Rattle.qc_entry.proofs.Union.{every-union}
 use Rattle.qc_msg.specs.declared.record.Record.{Record}
 use Rattle.qc_msg.specs.declared.record.Record.TheVariants as records
 use Rattle.qc_recover.specs.Clients as by_client_records
-use Rattle.qc_recover.specs.Sites.{Kept, done_lines, done_stamp, in_order, inquiry, keeps, kept_by, nothing_kept}
+use Rattle.qc_recover.specs.Sites.{done_lines, done_stamp, in_order, inquiry, keeps, Kept, kept_by, most_inquiries, nothing_kept}
 use Rattle.qc_recover.specs.Sites.{site_rises}
 use Rattle.qc_site.specs.Conduct.{latest}
 use Rattle.qc_site.specs.Promise.{lines_of, prepared_of, stamped, with_stamped}
@@ -140,7 +140,7 @@ module _ (bound : ℕ) where
           record {
             state = record { clock = w.clock; log = w.lines };
             turn = record {
-              sends = inquiries_within decl (in_order (map (λ (p : Prepared). p.tx) (kept_by rs).promises));
+              sends = inquiries_within decl (take most_inquiries (in_order (map (λ (p : Prepared). p.tx) (kept_by rs).promises)));
               failed_sends = tt;
               write = (tt, tt);
             };

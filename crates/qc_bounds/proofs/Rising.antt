@@ -152,7 +152,12 @@ module _ (decl : Declaration) (a : ℕ) where
       ∙ called_turn decl a (ds ++ Rises rs ∷ []) turn law in
       let short : IsRisingShort decl rs (with_record turn) =
       subst (IsRisingShort decl rs) same (rising_short decl a rs (all_declared 0 rs fit)) in
-      record { few = short.few; receivers = short.receivers; failed_sends = short.failed_sends }
+      record {
+        few = short.few;
+        bounded = short.bounded;
+        receivers = short.receivers;
+        failed_sends = short.failed_sends;
+      }
 
   pub risen_asks_few : (ds : List Deed) (rs : List Record) → AsksFew (actor_after decl a (ds ++ Rises rs ∷ [])).actor
   risen_asks_few ds rs =

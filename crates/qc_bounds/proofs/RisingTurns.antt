@@ -1,6 +1,6 @@
 -- A rising turn asks about at most as many transactions as it has records, and asks clients; who rises asks few sites.
-use Rattle.std.proofs.Common.{◌≡◌, ℕ, Ordering, Less, Equal, Greater, ◌+◌, ◌-◌, ◌<◌, ◌≤◌, not, Bool, true, false, cond}
-use Rattle.std.proofs.Common.{List, [], ◌∷◌, filter, fold, length, map, refl, arith, length-append}
+use Rattle.std.proofs.Common.{◌≡◌, ℕ, zero, suc, Ordering, Less, Equal, Greater, ◌+◌, ◌-◌, ◌<◌, ◌≤◌, not, Bool, true, false, cond}
+use Rattle.std.proofs.Common.{List, [], ◌∷◌, filter, fold, length, map, take, refl, arith, length-append, sym, subst}
 use Rattle.std.specs.List.{AllByRecursion as Every}
 use Rattle.std.proofs.lemmas.List.{length-map}
 use Rattle.qc_list.specs.Order.{by_order, inserted}
@@ -13,8 +13,8 @@ use Rattle.qc_msg.specs.declared.record.Record.{Record}
 use Rattle.qc_msg.specs.declared.record.Record.TheVariants as records
 use Rattle.qc_msg.specs.declared.turn.Posting.{Posting}
 use Rattle.qc_recover.specs.Clients.{client_rises}
-use Rattle.qc_recover.specs.Sites.{Kept, in_order, inquiries, inquiry, keeps, kept_by, nothing_kept, site_rises}
-use Rattle.qc_recover.specs.Sites.{with_promise}
+use Rattle.qc_recover.specs.Sites.{Kept, in_order, inquiries, inquiry, keeps, kept_by, most_inquiries, nothing_kept}
+use Rattle.qc_recover.specs.Sites.{site_rises, with_promise}
 use Rattle.qc_recover.proofs.Asked.{In_order_is}
 use Rattle.qc_recover.proofs.Promised.{each_promise}
 use Rattle.qc_site.specs.Promise.{without_prepared}
@@ -78,12 +78,36 @@ ordered_more (t ∷ ts) txs =
     ordered_more ts (inserted tx_cmp txs t) in
     omega arith
 
+first_fewer : {A : Type 0} (n : ℕ) (xs : List A) → length (take n xs) ≤ length xs
+first_fewer zero xs = omega arith
+first_fewer (suc n) [] = omega arith
+first_fewer (suc n) (x ∷ xs) = let rest : length (take n xs) ≤ length xs = first_fewer n xs in omega arith
+
+first_few : {A : Type 0} (n : ℕ) (xs : List A) → length (take n xs) ≤ n
+first_few zero xs = omega arith
+first_few (suc n) [] = omega arith
+first_few (suc n) (x ∷ xs) = let rest : length (take n xs) ≤ n = first_few n xs in omega arith
+
+first_every : {A : Type 0} (P : A → Type 0) (n : ℕ) (xs : List A) → Every P xs → Every P (take n xs)
+first_every P zero xs all = tt
+first_every P (suc n) [] all = tt
+first_every P (suc n) (x ∷ xs) all = (all.0, first_every P n xs all.1)
+
 module _ (decl : Declaration) where
+  bounded_inquiries : (rs : List Record) → length (inquiries decl (kept_by rs).promises) ≤ most_inquiries
+  bounded_inquiries rs =
+      let txs : List TxId = in_order (map (λ (p : Prepared). p.tx) (kept_by rs).promises) in
+      subst (λ (n : ℕ). n ≤ most_inquiries) (sym (length-map (take most_inquiries txs) (inquiry decl)))
+      (first_few most_inquiries txs)
+
   few_inquiries : (rs : List Record) → length (inquiries decl (kept_by rs).promises) ≤ length rs
   few_inquiries rs =
       let txs : List TxId = map (λ (p : Prepared). p.tx) (kept_by rs).promises in
-      let sent : length (map (inquiry decl) (in_order txs)) ≡ length (in_order txs) =
-      length-map (in_order txs) (inquiry decl) in
+      let sent : length (map (inquiry decl) (take most_inquiries (in_order txs)))
+      ≡ length (take most_inquiries (in_order txs)) =
+      length-map (take most_inquiries (in_order txs)) (inquiry decl) in
+      let first : length (take most_inquiries (in_order txs)) ≤ length (in_order txs) =
+      first_fewer most_inquiries (in_order txs) in
       let few : length (in_order txs) ≤ 0 + length txs = ordered_more txs [] in
       let names : length txs ≡ length (kept_by rs).promises =
       length-map (kept_by rs).promises (λ (p : Prepared). p.tx) in
@@ -114,9 +138,10 @@ module _ (decl : Declaration) where
       let txs : List TxId = map (λ (p : Prepared). p.tx) (kept_by rs).promises in
       let low : Every (λ (tx : TxId). tx.client < decl.clients) txs =
       names_all (λ (tx : TxId). tx.client < decl.clients) (kept_by rs).promises (promised_client rs all) in
-      inquiries_low (in_order txs)
+      inquiries_low (take most_inquiries (in_order txs))
+      (first_every (λ (tx : TxId). tx.client < decl.clients) most_inquiries (in_order txs)
       (every-from_In (λ (tx : TxId). tx.client < decl.clients) (in_order txs)
-      (λ tx among. every-In (λ (tx : TxId). tx.client < decl.clients) tx txs low ((In_order_is tx txs).0 among)))
+      (λ tx among. every-In (λ (tx : TxId). tx.client < decl.clients) tx txs low ((In_order_is tx txs).0 among))))
 
   pub rising_short : (a : ℕ) (rs : List Record) → Every (PromisesDeclared decl) rs
       → IsRisingShort decl rs (actor_rises decl a rs).turn
@@ -125,8 +150,14 @@ module _ (decl : Declaration) where
       by : (b : Bool)
           → IsRisingShort decl rs
           (cond b (by_site (site_rises decl a rs)) (by_client (client_rises (a - decl.sites) rs))).turn
-      by true = record { few = few_inquiries rs; receivers = receivers rs all; failed_sends = refl }
-      by false = record { few = omega arith; receivers = tt; failed_sends = refl }
+      by true =
+          record {
+            few = few_inquiries rs;
+            bounded = bounded_inquiries rs;
+            receivers = receivers rs all;
+            failed_sends = refl;
+          }
+      by false = record { few = omega arith; bounded = omega arith; receivers = tt; failed_sends = refl }
 
   -- an actor that has risen numbers what it asked: nothing
   pub rising_asks_few : (a : ℕ) (rs : List Record) → AsksFew (actor_rises decl a rs).actor

@@ -11,6 +11,7 @@ use Rattle.qc_msg.specs.declared.record.Record.TheVariants as records
 use Rattle.qc_msg.specs.declared.turn.Posting.{Posting}
 use Rattle.qc_msg.specs.declared.turn.Turn.{Turn}
 use Rattle.qc_msg.specs.Deeds.{Deed, Takes, Writes, Sends, Tells, Falls, Rises}
+use Rattle.qc_recover.specs.Sites.{most_inquiries}
 
 -- what a record promises is of a client below the most
 abbrev pub IsOfClient : Record → Type 0
@@ -41,10 +42,11 @@ PromisesDeclared decl (records.Install epoch clock lines) = Unit {0}
 PromisesDeclared decl (records.Commit c) = Unit {0}
 PromisesDeclared decl (records.Decide epoch clock lines) = Unit {0}
 
--- a rising turn has at most as many messages as records rose, which go to actors; where its record isn't written it has
--- none
+-- a rising turn has at most as many messages as records rose, and no more than a fixed number, which go to actors; where
+-- its record isn't written it has none
 pub record IsRisingShort (decl : Declaration) (rs : List Record) (turn : Turn) : Type 0 where
   pub few : length turn.sends ≤ length rs
+  pub bounded : length turn.sends ≤ most_inquiries
   pub receivers : Every (λ (p : Posting). p.to < actors decl) turn.sends
   pub failed_sends : turn.failed_sends ≡ []
 

@@ -84,9 +84,9 @@ pub fn records_that_fit_may_rise()
         → AllFit decl a 0 records → In (Prepare p) records → p.tx.client < most_clients }
 {}
 
-/// A rising turn asks about each promise that its records give: it has at most
-/// as many messages as there are records, all to actors, and none where its
-/// record isn't written. Below the limit of steps there are numbers for them;
+/// A rising turn asks about the first promises that its records give: it has at
+/// most as many messages as there are records, and at most `most_inquiries`, all
+/// to actors, and none where its record isn't written. Below the limit of steps there are numbers for them;
 /// and of a command it has asked no site.
 #[tactic(auto, using(crate::proofs::Rising::risen_turn_short, crate::proofs::Rising::risen_asks_few, crate::proofs::Rising::risen_numbers))]
 pub fn rising_turns_are_short()
