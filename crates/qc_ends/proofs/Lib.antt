@@ -1,0 +1,9 @@
+pub mod Places
+pub mod Plain
+pub mod Calling
+pub mod Tied
+pub mod Proper
+pub mod Awaiting
+pub mod Covered
+pub mod Answering
+pub mod Somewhere
