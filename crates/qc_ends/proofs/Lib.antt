@@ -7,3 +7,5 @@ pub mod Awaiting
 pub mod Covered
 pub mod Answering
 pub mod Somewhere
+pub mod Reached
+pub mod Ends
