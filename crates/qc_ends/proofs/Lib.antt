@@ -9,3 +9,8 @@ pub mod Answering
 pub mod Somewhere
 pub mod Reached
 pub mod Ends
+pub mod Ordered
+pub mod Busy
+pub mod WholeLaw
+pub mod Waiting
+pub mod Refused
