@@ -1,5 +1,5 @@
 -- What a step does to the unanswered requests of an inbox, and to the copies of another, whoever is up.
-use Rattle.std.proofs.Common.{◌≡◌, ℕ, ◌+◌, ◌-◌, ◌==◌, ◌⊎◌, ◌&&◌, not, Bool, true, false, cond, if◌then◌else◌, inl, inr, List, [], ◌∷◌, ◌++◌, drop, Option, Some, None, slice_get, refl, sym, ap, ◌∙◌, subst}
+use Rattle.std.proofs.Common.{◌≡◌, ℕ, ◌+◌, ◌-◌, ◌==◌, ◌⊎◌, ◌&&◌, not, Bool, true, false, if◌then◌else◌, inl, inr, List, [], ◌∷◌, ◌++◌, slice_get, refl, sym, subst}
 use Rattle.std.specs.Prelude.{set}
 use Rattle.std.proofs.lemmas.Bool.{eq-eqb, eqb-true}
 use Rattle.qc_list.specs.Members.{In}
@@ -15,7 +15,7 @@ use Rattle.qc_msg.specs.declared.message.Message.TheVariants as messages
 use Rattle.qc_msg.specs.declared.step.Step.{Step}
 use Rattle.qc_msg.specs.declared.step.Step.TheVariants as steps
 use Rattle.qc_script.specs.declared.script.Script.{Script}
-use Rattle.qc_script.specs.Requests.{SentRequest, has_request, requests_to, requests_to_others, with_lost, with_number, without_request}
+use Rattle.qc_script.specs.Requests.{SentRequest, has_request, requests_to, requests_to_others, with_lost, with_number}
 use Rattle.qc_script.specs.Inbox.{Inbox, actor_fell, answers_by, comes, comes_at_once, comes_with, command_called, control_acted, copies_at_once, copy_taken, count_of, emptied, goes, goes_with, inbox_at, is_by_line, is_request, is_up, loss_taken, one_more, reply_told, request_answered, request_sent, with_copies}
 
 which : {A : Type 0} (P : A → Type 0) (t : Bool) (x y : A) → P x → P y → P (if t then x else y)

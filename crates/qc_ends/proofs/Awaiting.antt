@@ -5,7 +5,7 @@ use Rattle.std.specs.Option.{option_map_or}
 use Rattle.std.proofs.lemmas.Bool.{eqb-false, eqb-true}
 use Rattle.std.proofs.lemmas.List.{get_or-set_other}
 use Rattle.qc_list.specs.Members.{In}
-use Rattle.qc_list.proofs.Members.{In-filter, In-first, In-last, In-second}
+use Rattle.qc_list.proofs.Members.{In-filter, In-first, In-second}
 use Rattle.qc_laws.specs.Calls.{HasAnswer, IsAwaited}
 use Rattle.qc_laws.proofs.Awaiting.{at_once, number_added, number_stays}
 use Rattle.qc_link.specs.Cuts.{with_cut, without_cut}

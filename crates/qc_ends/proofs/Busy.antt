@@ -1,5 +1,5 @@
 -- The inbox of a client knows whether a command of it runs, where it falls and rises only while none does.
-use Rattle.std.proofs.Common.{◌≡◌, ℕ, ◌==◌, Bool, true, false, cond, if◌then◌else◌, List, [], ◌∷◌, ◌++◌, drop, Option, Some, None, option_to_list, slice_get, refl, sym, ap, ◌∙◌, subst}
+use Rattle.std.proofs.Common.{◌≡◌, ℕ, ◌==◌, Bool, true, false, cond, if◌then◌else◌, List, [], ◌∷◌, ◌++◌, drop, Option, Some, None, option_to_list, slice_get, refl, sym, ap, ◌∙◌}
 use Rattle.std.specs.Prelude.{fold, set}
 use Rattle.std.proofs.lemmas.List.Sums.{fold-append}
 use Rattle.qc_core.specs.Acts.{is_running, runs_at}

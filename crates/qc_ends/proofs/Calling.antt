@@ -7,7 +7,6 @@ use Rattle.std.proofs.lemmas.List.{append-nil}
 use Rattle.std.proofs.lemmas.List.Elements.{filter_map-append}
 use Rattle.qc_decl.specs.declared.declaration.Declaration.{Declaration}
 use Rattle.qc_decl.specs.Actors.{controller}
-use Rattle.qc_inbox.proofs.FallMail.{ready_sent}
 use Rattle.qc_laws.specs.Whole.{asked_in_all, asked_until, call_in, calls_of}
 use Rattle.qc_laws.proofs.Acted.{deeds-silent}
 use Rattle.qc_laws.proofs.Calling.{phase_taken}
@@ -23,7 +22,7 @@ use Rattle.qc_msg.specs.declared.turn.Turn.{Turn}
 use Rattle.qc_msg.specs.Deeds.{Deed, Takes, deeds, mail}
 use Rattle.qc_msg.specs.Steps.{Entry, by, marked, posted_as, step_of}
 use Rattle.qc_msg.proofs.Growth.{deeds-other, deeds-taken}
-use Rattle.qc_script.specs.Inbox.{Inbox, command_called, commands_for, inbox, inbox_at, phase_begun}
+use Rattle.qc_script.specs.Inbox.{Inbox, command_called, commands_for, inbox, phase_begun}
 use Rattle.qc_script.specs.Ready.{after_controls, command_in, first_command, first_copy, first_lost, phase_of, ready, ready_in, takes_commands}
 use Rattle.qc_script.specs.RunsWithFalls.{RunsWithFalls, begins, takes, posts, phase, control, falls, rises, damaged, unopened}
 use Rattle.qc_script.specs.declared.script.PhaseLines.{PhaseLines}

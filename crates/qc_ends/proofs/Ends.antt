@@ -1,19 +1,8 @@
 -- Where nothing is ready for anybody, no input is open and each control line has acted, no client waits for a request and
 -- none runs a command. So none does while a control line is left.
-use Rattle.std.proofs.Common.{◌≡◌, ℕ, zero, suc, ◌+◌, ◌-◌, ◌<◌, ◌≤◌, ◌==◌, ◌&&◌, if◌then◌else◌, ◌⊎◌, not, Bool, true, false, inl, inr, List, [], ◌∷◌, ◌++◌, length, map, filter, Option, Some, None, is_some, refl, sym, ap, ◌∙◌, subst, arith, slice_get}
-use Rattle.std.specs.Prelude.{is_none, replicate}
-use Rattle.std.specs.List.{AllByRecursion as Every}
+use Rattle.std.proofs.Common.{◌≡◌, ℕ, zero, suc, ◌+◌, ◌<◌, ◌≤◌, ◌==◌, if◌then◌else◌, ◌⊎◌, Bool, true, false, inl, inr, List, [], ◌∷◌, ◌++◌, length, Option, Some, None, refl, sym, ap, ◌∙◌, subst, arith, slice_get}
 use Rattle.qc_list.specs.Members.{In}
-use Rattle.qc_account.specs.Calls.{call_of}
-use Rattle.qc_account.specs.Calls as accounts
-use Rattle.qc_account.specs.Goes.{Holds}
-use Rattle.qc_account.specs.Ties.{NoneRuns, Ties, appends, reads, rests, votes}
-use Rattle.qc_account.specs.Told.{front_of}
-use Rattle.qc_account.specs.Waits.{IsWaiting}
-use Rattle.qc_account.proofs.Awaits.{tied_waits}
 use Rattle.qc_client.specs.declared.client.Client.{Client}
-use Rattle.qc_commit.specs.declared.desk.Desk.{Desk}
-use Rattle.qc_commit.specs.declared.desk.Voting.{Voting}
 use Rattle.qc_core.specs.declared.actor.Actor.TheVariants as actors
 use Rattle.qc_core.specs.Actors.{actor_after}
 use Rattle.qc_core.specs.Acts.{is_running}
@@ -22,72 +11,35 @@ use Rattle.qc_decl.specs.Accepted.{IsAccepted}
 use Rattle.qc_decl.specs.Actors.{controller, is_client}
 use Rattle.qc_decl.specs.Actors as numbers
 use Rattle.qc_decl.specs.declared.declaration.Declaration.{Declaration}
-use Rattle.qc_due.proofs.Commanded.{run_askable}
-use Rattle.qc_front.specs.declared.doing.Doing.{Doing}
 use Rattle.qc_inbox.proofs.FallLaws.{lines_close}
 use Rattle.qc_laws.specs.Asked.{AsksDeclared}
-use Rattle.qc_laws.specs.Calls.{IsAwaited, calls_by, is_waiting, open_calls, waits}
+use Rattle.qc_laws.specs.Calls.{IsAwaited, open_calls}
 use Rattle.qc_laws.specs.Waits.{IsAtReceiver, IsTaken}
 use Rattle.qc_laws.specs.Whole.{IsQuiet}
 use Rattle.qc_laws.proofs.Acted.{deeds-silent}
 use Rattle.qc_laws.proofs.Numbered.{phase_silent}
-use Rattle.qc_laws.proofs.Places.{replicate_at, replicate_within, slice_get-within}
+use Rattle.qc_laws.proofs.Places.{slice_get-within}
 use Rattle.qc_link.specs.Limits.{most_actors}
-use Rattle.qc_lives.specs.LivesIn.{LivesIn}
-use Rattle.qc_lives.proofs.Lived.{run_lives, run_long}
-use Rattle.qc_msg.specs.declared.call.Call.{Call}
-use Rattle.qc_msg.specs.declared.message.Answer.{Answer}
+use Rattle.qc_lives.proofs.Lived.{run_long}
 use Rattle.qc_msg.specs.declared.message.Envelope.{Envelope}
 use Rattle.qc_msg.specs.declared.record.Record.{Record}
-use Rattle.qc_msg.specs.declared.step.Command.TheVariants as commands
 use Rattle.qc_msg.specs.declared.step.Control.{Control}
 use Rattle.qc_msg.specs.declared.step.Given.{Given}
 use Rattle.qc_msg.specs.declared.step.Given.TheVariants as given
 use Rattle.qc_msg.specs.declared.step.Step.TheVariants as steps
-use Rattle.qc_msg.specs.Deeds.{Deed, deeds, mail}
+use Rattle.qc_msg.specs.Deeds.{deeds, mail}
 use Rattle.qc_msg.specs.Steps.{Entry, by, marked, posted_as, step_of}
-use Rattle.qc_promise.specs.Account.{Account, ClientRequest}
 use Rattle.qc_script.proofs.Inboxes.{InCommon, inboxes_have_in_common}
 use Rattle.qc_script.specs.Inbox.{Inbox, command_called, copy_taken, inbox, inbox_at, loss_taken}
 use Rattle.qc_script.specs.Ready.{after_controls, command_in, controls_left, first_copy, first_lost, phase_of, ready}
 use Rattle.qc_script.specs.RunsWithFalls.{RunsWithFalls, begins, takes, posts, phase, control, falls, rises, damaged, unopened}
 use Rattle.qc_script.specs.declared.script.Script.{Script}
-use Rattle.qc_ends.specs.Whole.{IsClosedWithFalls}
-use Rattle.qc_ends.proofs.Covered.{open_requests_awaited}
-use Rattle.qc_ends.proofs.Places.{client_within}
+use Rattle.qc_ends.proofs.Awaited.{open_requests_awaited}
+use Rattle.qc_ends.proofs.Places.{client_within, few_actors}
 use Rattle.qc_ends.proofs.Plain.{ArePlain, entries_idle, entries_left, inbox_then, line_plain, post_plain}
 use Rattle.qc_ends.proofs.Reached.{receiver_is_site, unanswered_at_site}
-use Rattle.qc_ends.proofs.Tied.{IsAt, IsAtRest, IsFallen, IsTied, Stands, client_lives, none_runs_down, rests_up}
-
--- a client that has no open request waits for nothing
-
-called : (q : ClientRequest) (qs : List ClientRequest) → In q qs → q.taken ≡ None → In (call_of q) (accounts.calls_in qs)
-called q [] member open_still = absurd member
-called q (p ∷ qs) member open_still = by p.taken refl member (λ later. called q qs later open_still)
-  where
-    by : (o : Option (Option Answer)) → p.taken ≡ o → In q (p ∷ qs) → (In q qs → In (call_of q) (accounts.calls_in qs))
-        → In (call_of q) (map call_of (if is_none o then p ∷ filter (λ (x : ClientRequest). is_none x.taken) qs else filter (λ (x : ClientRequest). is_none x.taken) qs))
-    by None is (inl same) more = inl (ap call_of same)
-    by None is (inr later) more = inr (more later)
-    by (Some o) is (inl same) more = absurd (let no : None ≡ Some o = sym open_still ∙ ap (λ (x : ClientRequest). x.taken) same ∙ is in let never : ⊥ = cc in never)
-    by (Some o) is (inr later) more = more later
-
-module _ (decl : Declaration) (d : Account) (c : Client) (h : Holds decl c) where
-  still_open : IsWaiting d → open_calls c ≡ accounts.calls_in d.requests → open_calls c ≡ [] → ⊥
-  still_open w same none = subst (In (call_of w.request)) (sym same ∙ none) (called w.request d.requests w.among w.open_still)
-
-  waiting_open : (ties : Ties decl d c) → (NoneRuns d.command → ⊥) → open_calls c ≡ accounts.calls_in d.requests → open_calls c ≡ [] → ⊥
-  waiting_open ties runs same none = by (tied_waits decl d c h ties)
-    where
-      by : NoneRuns d.command ⊎ IsWaiting d → ⊥
-      by (inl rest) = runs rest
-      by (inr w) = still_open w same none
-
-  pub tied_rests : Ties decl d c → open_calls c ≡ [] → is_waiting c ≡ false
-  tied_rests (rests r) none = (λ i. waits (r.desk.voting i) (r.front i).doing)
-  tied_rests (reads r) none = absurd (waiting_open (reads r) (λ none_runs. subst NoneRuns r.runs.command none_runs) (λ i. calls_by (r.desk.voting i) (r.front i).doing) none)
-  tied_rests (appends r) none = absurd (waiting_open (appends r) (λ none_runs. subst NoneRuns r.runs.command none_runs) (λ i. calls_by (r.desk.voting i) (r.front i).doing) none)
-  tied_rests (votes r) none = absurd (waiting_open (votes r) (λ none_runs. subst NoneRuns r.command none_runs) (ap (λ (desk : Desk). calls_by desk.voting c.front.doing) r.desk) none)
+use Rattle.qc_ends.proofs.Tied.{IsAtRest, Stands, none_runs_down}
+use Rattle.qc_ends.proofs.Resting.{free_rests, run_waits, tied_rests}
 
 no_copies : (es : List Envelope) (other : Option Given) → first_copy es other ≡ None → es ≡ []
 no_copies [] other is = refl
@@ -107,22 +59,12 @@ no_members : {X : Type 0} (xs : List X) → ((x : X) → In x xs → ⊥) → xs
 no_members [] none = refl
 no_members (x ∷ xs) none = absurd (none x (inl refl))
 
-module _ (decl : Declaration) (script : Script) (accepted : IsAccepted decl) (asks : AsksDeclared decl script) (fits : ℕ → List Record → Type 0) (few : numbers.actors decl ≤ most_actors) where
+module _ (decl : Declaration) (script : Script) (accepted : IsAccepted decl) (asks : AsksDeclared decl script) (fits : ℕ → List Record → Type 0) where
   abbrev IsRun : List Entry → List Bool → Type 0
   IsRun h open_inputs = RunsWithFalls (IsLawfulWithFalls decl) fits decl script h open_inputs
 
-  -- whoever has no open input rests
-  pub free_rests : (h : List Entry) (open_inputs : List Bool) → IsRun h open_inputs → (a : ℕ) (client : is_client decl a ≡ true) → slice_get open_inputs a ≡ Some false → IsAtRest decl a client (deeds a [] h)
-  free_rests h open_inputs run a client free =
-      let lived : LivesIn decl a h false = run_lives decl script fits few h open_inputs run a false free in
-      client_lives decl a client (deeds a [] h) false lived.above lived.lives
-
-  -- it waits while a command of it runs
-  pub run_waits : (h : List Entry) (open_inputs : List Bool) → IsRun h open_inputs → (a : ℕ) → is_client decl a ≡ true → slice_get open_inputs a ≡ Some false
-      → (c : Client) → (actor_after decl a (deeds a [] h)).actor ≡ actors.Client c → is_waiting c ≡ is_running (deeds a [] h)
-  run_waits h open_inputs run a client free c is =
-      let s : (s : IsTied decl a client (deeds a [] h)) × (s.state ≡ c) = rests_up decl a client (deeds a [] h) (free_rests h open_inputs run a client free) c is in
-      ap is_waiting (sym s.1) ∙ s.0.busy (run_askable (IsLawfulWithFalls decl) fits decl script asks h open_inputs run a)
+  few : numbers.actors decl ≤ most_actors
+  few = few_actors decl accepted
 
   module _ (h : List Entry) (open_inputs : List Bool) (run : IsRun h open_inputs) (closed : (a : ℕ) → slice_get open_inputs a ≡ Some true → ⊥) (quiet : IsQuiet decl script h) (done : controls_left script h ≡ []) where
     no_controls : (a : ℕ) → a < numbers.actors decl → (inbox script a h).controls ≡ []
@@ -154,7 +96,7 @@ module _ (decl : Declaration) (script : Script) (accepted : IsAccepted decl) (as
         where
           within : r.envelope.to < numbers.actors decl
           within =
-              let site : r.envelope.to < decl.sites = receiver_is_site decl script accepted asks fits few a client h open_inputs run r.envelope r.sent r.from r.request in
+              let site : r.envelope.to < decl.sites = receiver_is_site decl script accepted asks fits a client h open_inputs run r.envelope r.sent r.from r.request in
               let all : numbers.actors decl ≡ decl.sites + decl.clients = refl in
               omega arith
 
@@ -164,18 +106,18 @@ module _ (decl : Declaration) (script : Script) (accepted : IsAccepted decl) (as
 
       not_awaited : (n : ℕ) → IsAwaited n (inbox script a h) → ⊥
       not_awaited n (inl lost) = subst (In n) (losts_none a (client_within decl a client)) lost
-      not_awaited n (inr (inl open_still)) = nowhere n (unanswered_at_site decl script accepted asks fits few a client h open_inputs run n open_still)
+      not_awaited n (inr (inl open_still)) = nowhere n (unanswered_at_site decl script accepted asks fits a client h open_inputs run n open_still)
       not_awaited n (inr (inr has)) = subst (In has.envelope) (copies_none a (client_within decl a client)) has.member
 
       pub none_open : (c : Client) → (actor_after decl a (deeds a [] h)).actor ≡ actors.Client c → open_calls c ≡ []
       none_open c is = no_members (open_calls c) (λ q member. not_awaited q.number (open_requests_awaited decl script a fits few client h open_inputs run c is q member))
 
       pub none_runs : is_running (deeds a [] h) ≡ false
-      none_runs = by (free_rests h open_inputs run a client (free a (client_within decl a client)))
+      none_runs = by (free_rests decl script fits few h open_inputs run a client (free a (client_within decl a client)))
         where
           on : (up : Bool) → Stands decl a client up (deeds a [] h) → is_running (deeds a [] h) ≡ false
           on true s =
-              sym (run_waits h open_inputs run a client (free a (client_within decl a client)) s.state s.actor)
+              sym (run_waits decl script fits few asks h open_inputs run a client (free a (client_within decl a client)) s.state s.actor)
               ∙ tied_rests decl _ s.state s.holds s.ties (none_open s.state s.actor)
           on false s = none_runs_down decl a client (deeds a [] h) s
 

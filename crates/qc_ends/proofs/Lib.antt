@@ -1,12 +1,16 @@
 pub mod Places
 pub mod Plain
 pub mod Calling
+pub mod Telling
 pub mod Tied
+pub mod Resting
 pub mod Proper
 pub mod Awaiting
 pub mod Covered
+pub mod Awaited
 pub mod Answering
 pub mod Somewhere
+pub mod SiteTurns
 pub mod Reached
 pub mod Ends
 pub mod Ordered

@@ -1,12 +1,12 @@
 -- In each run with falls the commands and replies of a client are in order, and it falls and rises only where no command
 -- runs; so each command has its reply but the one that runs.
-use Rattle.std.proofs.Common.{◌≡◌, ℕ, ◌+◌, ◌<◌, ◌≤◌, ◌==◌, Bool, true, false, cond, List, [], ◌∷◌, ◌++◌, length, Option, Some, None, is_some, refl, sym, ap, ◌∙◌, subst, arith}
-use Rattle.std.specs.Prelude.{fold, option_to_list, slice_get}
+use Rattle.std.proofs.Common.{◌≡◌, ℕ, ◌+◌, ◌≤◌, ◌==◌, Bool, true, false, cond, List, [], ◌∷◌, ◌++◌, length, Option, Some, None, is_some, refl, sym, ap, ◌∙◌, subst, arith}
+use Rattle.std.specs.Prelude.{fold, slice_get}
 use Rattle.std.specs.List.{filter_map}
 use Rattle.std.proofs.lemmas.Bool.{eqb-true}
 use Rattle.std.proofs.lemmas.List.Sums.{fold-append}
 use Rattle.qc_core.specs.Acts.{MayTake, is_running, runs_at}
-use Rattle.qc_core.specs.Conduct.{IsLawfulWithFalls, with_record}
+use Rattle.qc_core.specs.Conduct.{IsLawfulWithFalls}
 use Rattle.qc_account.proofs.Happenings.{as_record}
 use Rattle.qc_decl.specs.Accepted.{IsAccepted}
 use Rattle.qc_decl.specs.Actors.{actors, controller, is_client}
@@ -33,16 +33,17 @@ use Rattle.qc_msg.specs.declared.turn.Appended.TheVariants.{Done, Failed, Stoppe
 use Rattle.qc_msg.specs.declared.turn.Posting.{Posting}
 use Rattle.qc_msg.specs.declared.turn.Turn.{Turn}
 use Rattle.qc_msg.specs.Deeds.{Deed, Takes, Writes, Sends, Tells, Falls, Rises, deeds, deeds_as, mail, sends_of, tells_of, writes_of}
-use Rattle.qc_msg.specs.Steps.{Entry, HasRecord, MayEnd, by, marked, posted_as, step_of}
+use Rattle.qc_msg.specs.Steps.{Entry, MayEnd, by, marked, posted_as, step_of}
 use Rattle.qc_msg.proofs.Growth.{deeds-other, deeds-posted_as, deeds-taken}
 use Rattle.qc_recover.specs.Sites.{rising}
-use Rattle.qc_script.specs.Ready.{controls_left, phase_of, ready}
+use Rattle.qc_script.specs.Ready.{phase_of, ready}
 use Rattle.qc_script.specs.RunsWithFalls.{RunsWithFalls, begins, takes, posts, phase, control, falls, rises, damaged, unopened}
 use Rattle.qc_script.specs.declared.script.Script.{Script}
 use Rattle.qc_ends.specs.Order.{AreInOrder, MayReach}
 use Rattle.qc_ends.proofs.Ends.{line_idle}
-use Rattle.qc_ends.proofs.Places.{apart_from_controller, rose_split}
-use Rattle.qc_ends.proofs.Tied.{IsAtInput, Replies, client_lives, rising_turn, turn_replies}
+use Rattle.qc_ends.proofs.Places.{apart_from_controller, few_actors, rose_split}
+use Rattle.qc_ends.proofs.Telling.{Replies}
+use Rattle.qc_ends.proofs.Tied.{IsAtInput, client_lives, rising_turn, turn_replies}
 
 -- deeds behind others
 
@@ -92,7 +93,10 @@ may_reach ds (given.Called command) may = may
 may_reach ds (given.Got envelope) may = tt
 may_reach ds (given.Lost number) may = tt
 
-module _ (decl : Declaration) (script : Script) (accepted : IsAccepted decl) (asks : AsksDeclared decl script) (fits : ℕ → List Record → Type 0) (few : actors decl ≤ most_actors) (a : ℕ) (client : is_client decl a ≡ true) where
+module _ (decl : Declaration) (script : Script) (accepted : IsAccepted decl) (asks : AsksDeclared decl script) (fits : ℕ → List Record → Type 0) (a : ℕ) (client : is_client decl a ≡ true) where
+  few : actors decl ≤ most_actors
+  few = few_actors decl accepted
+
   abbrev IsRun : List Entry → List Bool → Type 0
   IsRun h open_inputs = RunsWithFalls (IsLawfulWithFalls decl) fits decl script h open_inputs
 
@@ -155,16 +159,16 @@ module _ (decl : Declaration) (script : Script) (accepted : IsAccepted decl) (as
   run_ordered h open_inputs (control line lines step before older run left is) = others older (controller decl) (step ∷ []) (apart_from_controller decl a client) (run_ordered older before run)
   run_ordered h open_inputs (falls b lines before older run left) =
       either b older (steps.Fell causes.Script None ∷ []) (run_ordered older before run)
-      (λ is. own_falls older causes.Script (line_idle decl script accepted asks fits few older before run (controls.Crash b) lines left a client) (run_ordered older before run))
+      (λ is. own_falls older causes.Script (line_idle decl script accepted asks fits older before run (controls.Crash b) lines left a client) (run_ordered older before run))
   run_ordered h open_inputs (rises b kept turn lines before older run left fit has law) =
       either b older (steps.Rose kept ∷ posted_as turn.append (length (mail older)) turn) (run_ordered older before run)
-      (λ is. own_rises older kept turn (length (mail older)) (line_idle decl script accepted asks fits few older before run (controls.Restart b) lines left a client)
+      (λ is. own_rises older kept turn (length (mail older)) (line_idle decl script accepted asks fits older before run (controls.Restart b) lines left a client)
       (subst (λ (k : ℕ). IsLawfulWithFalls decl k (deeds k [] (older ++ marked k (steps.Rose kept) ∷ [])) turn) is law) (run_ordered older before run))
   run_ordered h open_inputs (damaged b offset lines before older run left) =
       same older (older ++ marked b (steps.Damaged offset) ∷ []) (deeds-silent a b older (steps.Damaged offset) (record { sends = λ x. refl; deeds = λ ms. refl })) (run_ordered older before run)
   run_ordered h open_inputs (unopened b cause lines before older run left disk) =
       either b older (steps.Fell cause None ∷ []) (run_ordered older before run)
-      (λ is. own_falls older cause (line_idle decl script accepted asks fits few older before run (controls.Restart b) lines left a client) (run_ordered older before run))
+      (λ is. own_falls older cause (line_idle decl script accepted asks fits older before run (controls.Restart b) lines left a client) (run_ordered older before run))
 
 -- so each command that was called has its reply, but for the one that runs
 
@@ -197,6 +201,6 @@ counted r (Rises records ∷ ds) are =
 pub all_counted : (ds : List Deed) → AreInOrder false ds → length (filter_map call_in ds) ≡ length (filter_map reply_in ds) + open_commands (is_running ds)
 all_counted ds are = let count : length (filter_map call_in ds) + 0 ≡ length (filter_map reply_in ds) + open_commands (is_running ds) = counted false ds are in omega arith
 
-pub run_replied : (decl : Declaration) (script : Script) → IsAccepted decl → AsksDeclared decl script → (fits : ℕ → List Record → Type 0) → actors decl ≤ most_actors → (h : List Entry) (open_inputs : List Bool)
+pub run_replied : (decl : Declaration) (script : Script) → IsAccepted decl → AsksDeclared decl script → (fits : ℕ → List Record → Type 0) → (h : List Entry) (open_inputs : List Bool)
     → RunsWithFalls (IsLawfulWithFalls decl) fits decl script h open_inputs → (a : ℕ) → is_client decl a ≡ true → length (calls_of a h) ≡ length (replies_of a h) + open_commands (is_running (deeds a [] h))
-run_replied decl script accepted asks fits few h open_inputs run a client = all_counted (deeds a [] h) (run_ordered decl script accepted asks fits few a client h open_inputs run)
+run_replied decl script accepted asks fits h open_inputs run a client = all_counted (deeds a [] h) (run_ordered decl script accepted asks fits a client h open_inputs run)

@@ -2,7 +2,9 @@
 use Rattle.std.proofs.Common.{◌≡◌, ℕ, ◌+◌, ◌<◌, ◌≤◌, ◌==◌, ◌&&◌, nat_le, nat_lt, Bool, true, false, List, [], ◌∷◌, ◌++◌, refl, sym, ap, ◌∙◌, arith, append_assoc, eqb-true}
 use Rattle.std.proofs.lemmas.Bool.{leb-true, ltb-true}
 use Rattle.qc_decl.specs.declared.declaration.Declaration.{Declaration}
+use Rattle.qc_decl.specs.Accepted.{IsAccepted}
 use Rattle.qc_decl.specs.Actors.{actors, controller, is_client}
+use Rattle.qc_link.specs.Limits.{most_actors}
 use Rattle.qc_lives.proofs.Lived.{deeds-rise}
 use Rattle.qc_msg.specs.declared.record.Record.{Record}
 use Rattle.qc_msg.specs.declared.step.Step.TheVariants as steps
@@ -22,6 +24,12 @@ client_within decl a client = ltb-true a (actors decl) (both_true (nat_le decl.s
 
 pub client_past : (decl : Declaration) (a : ℕ) → is_client decl a ≡ true → decl.sites ≤ a
 client_past decl a client = leb-true decl.sites a (both_true (nat_le decl.sites a) (nat_lt a (actors decl)) client).0
+
+pub few_actors : (decl : Declaration) → IsAccepted decl → actors decl ≤ most_actors
+few_actors decl accepted =
+    let sites : decl.sites ≤ 16 = accepted.sites in
+    let clients : decl.clients ≤ 16 = accepted.clients in
+    omega arith
 
 pub apart : (x y : ℕ) → (x ≡ y → ⊥) → (x == y) ≡ false
 apart x y differs = at (x == y) refl

@@ -1,5 +1,5 @@
 -- Steps that call nothing and begin no phase, as those of posts, lines, falls and rises are: what they leave as it is.
-use Rattle.std.proofs.Common.{◌≡◌, ℕ, ◌+◌, ◌-◌, ◌==◌, ◌&&◌, Bool, true, false, cond, if◌then◌else◌, List, [], ◌∷◌, ◌++◌, drop, Option, Some, None, slice_get, refl, sym, ap, ◌∙◌, subst, append_assoc}
+use Rattle.std.proofs.Common.{◌≡◌, ℕ, ◌+◌, ◌==◌, ◌&&◌, Bool, true, false, cond, if◌then◌else◌, List, [], ◌∷◌, ◌++◌, drop, Option, Some, None, slice_get, refl, sym, ap, ◌∙◌, subst, append_assoc}
 use Rattle.std.specs.Prelude.{fold, set}
 use Rattle.std.specs.List.{AllByRecursion as Every, filter_map}
 use Rattle.std.proofs.lemmas.List.{append-nil}
@@ -22,8 +22,8 @@ use Rattle.qc_msg.specs.declared.turn.Appended.{Appended}
 use Rattle.qc_msg.specs.declared.turn.Appended.TheVariants.{Done, Failed, Stopped}
 use Rattle.qc_msg.specs.declared.turn.Posting.{Posting}
 use Rattle.qc_msg.specs.declared.turn.Turn.{Turn}
-use Rattle.qc_msg.specs.Deeds.{Deed, deed_at, deeds, heard, mail}
-use Rattle.qc_msg.specs.Steps.{Entry, by, fell, marked, posted_as, sents, told, wrote}
+use Rattle.qc_msg.specs.Deeds.{deed_at, deeds, heard, mail}
+use Rattle.qc_msg.specs.Steps.{Entry, by, fell, posted_as, sents, told, wrote}
 use Rattle.qc_msg.proofs.Growth.{deeds-append}
 use Rattle.qc_script.specs.Inbox.{Inbox, acting, actor_fell, answers_by, comes, comes_at_once, control_acted, copy_taken, emptied, empty_inbox, goes, goes_with, inbox, inbox_at, is_by_line, is_request, is_up, loss_taken, opened, opened_by, reply_told, with_copies}
 use Rattle.qc_script.specs.Requests.{has_request, requests_to, requests_to_others, with_lost}

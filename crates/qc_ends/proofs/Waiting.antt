@@ -1,6 +1,6 @@
 -- In each run with falls the account of a client without an open input tells that its command waits, and that nothing is
 -- due.
-use Rattle.std.proofs.Common.{◌≡◌, ◌⊎◌, ℕ, ◌≤◌, ◌-◌, Bool, true, false, cond, List, [], length, Option, Some, None, inl, inr, refl, sym, ap, ◌∙◌, subst, slice_get}
+use Rattle.std.proofs.Common.{◌≡◌, ◌⊎◌, ℕ, ◌≤◌, Bool, true, false, List, [], Some, None, inl, sym, subst, slice_get}
 use Rattle.qc_account.specs.Declares.{Declares}
 use Rattle.qc_account.specs.Ties.{NoneRuns}
 use Rattle.qc_account.specs.Waits.{IsWaiting}
@@ -16,11 +16,9 @@ use Rattle.qc_link.specs.Limits.{most_actors}
 use Rattle.qc_lives.specs.LivesIn.{LivesIn}
 use Rattle.qc_lives.proofs.Lived.{run_lives}
 use Rattle.qc_msg.specs.declared.record.Record.{Record}
-use Rattle.qc_msg.specs.declared.step.Command.{Command}
 use Rattle.qc_msg.specs.declared.step.Given.TheVariants as given
-use Rattle.qc_msg.specs.Deeds.{Deed, deeds}
+use Rattle.qc_msg.specs.Deeds.{deeds}
 use Rattle.qc_msg.specs.Steps.{Entry}
-use Rattle.qc_promise.specs.Account.{Account}
 use Rattle.qc_promise.specs.Accounting.{account}
 use Rattle.qc_promise.specs.Rows.{due}
 use Rattle.qc_script.specs.RunsWithFalls.{RunsWithFalls}

@@ -1,5 +1,5 @@
 -- Where nothing is left to happen a run with falls is whole: each command is told its reply.
-use Rattle.std.proofs.Common.{◌≡◌, ℕ, ◌+◌, ◌<◌, ◌≤◌, ◌==◌, ◌&&◌, ◌||◌, not, Bool, true, false, cond, List, [], ◌∷◌, ◌++◌, length, Option, Some, None, is_some, refl, sym, ap, ◌∙◌, subst, arith}
+use Rattle.std.proofs.Common.{◌≡◌, ℕ, ◌+◌, ◌≤◌, ◌==◌, ◌&&◌, ◌||◌, not, Bool, true, false, cond, List, [], ◌∷◌, ◌++◌, length, Option, Some, None, is_some, refl, sym, ap, ◌∙◌, subst, arith}
 use Rattle.std.specs.Prelude.{fold, option_to_list, replicate, slice_get}
 use Rattle.std.specs.List.{filter_map}
 use Rattle.std.proofs.lemmas.List.{append-nil, take_all}
@@ -15,7 +15,6 @@ use Rattle.qc_laws.specs.Asked.{AsksDeclared}
 use Rattle.qc_laws.specs.Calls.{open_calls}
 use Rattle.qc_laws.specs.Whole.{IsQuiet, asked_by, asked_in_all, call_in, calls_of, replies_of}
 use Rattle.qc_laws.proofs.Places.{replicate_at}
-use Rattle.qc_link.specs.Limits.{most_actors}
 use Rattle.qc_msg.specs.declared.message.Envelope.{Envelope}
 use Rattle.qc_msg.specs.declared.record.Record.{Record}
 use Rattle.qc_msg.specs.declared.step.Command.{Command}
@@ -24,7 +23,6 @@ use Rattle.qc_msg.specs.Deeds.{Deed, Takes, Writes, Sends, Tells, Falls, Rises, 
 use Rattle.qc_msg.specs.Steps.{Entry}
 use Rattle.qc_script.specs.Inbox.{inbox}
 use Rattle.qc_script.specs.Ready.{command_in, controls_left, first_command, first_copy, first_lost, phase_of, takes_commands}
-use Rattle.qc_script.specs.RunsWithFalls.{RunsWithFalls}
 use Rattle.qc_script.specs.declared.script.PhaseLines.{PhaseLines}
 use Rattle.qc_script.specs.declared.script.Script.{Script}
 use Rattle.qc_ends.specs.Order.{AreInOrder}
@@ -59,19 +57,19 @@ no_commands true true (c ∷ commands) may free is = absurd (let never : ⊥ = c
 no_commands true false (c ∷ commands) may free is = absurd (let never : ⊥ = cc in never)
 no_commands false busy (c ∷ commands) may free is = absurd (let never : ⊥ = cc in never)
 
-module _ (decl : Declaration) (script : Script) (accepted : IsAccepted decl) (asks : AsksDeclared decl script) (fits : ℕ → List Record → Type 0) (few : actors decl ≤ most_actors) (h : List Entry) where
+module _ (decl : Declaration) (script : Script) (accepted : IsAccepted decl) (asks : AsksDeclared decl script) (fits : ℕ → List Record → Type 0) (h : List Entry) where
   none_open_now : (a : ℕ) → slice_get (replicate (actors decl) false) a ≡ Some true → ⊥
   none_open_now a is = let no : true ≡ false = replicate_at (actors decl) a false true is in let never : ⊥ = cc in never
 
   module _ (closed : IsClosedWithFalls fits decl script h) (quiet : IsQuiet decl script h) (done : controls_left script h ≡ []) where
     pub no_request_open : (a : ℕ) → is_client decl a ≡ true → (c : Client) → (actor_after decl a (deeds a [] h)).actor ≡ actor.Client c → open_calls c ≡ []
-    no_request_open a client = none_open decl script accepted asks fits few h (replicate (actors decl) false) closed none_open_now quiet done a client
+    no_request_open a client = none_open decl script accepted asks fits h (replicate (actors decl) false) closed none_open_now quiet done a client
 
     pub none_runs_now : (a : ℕ) → is_client decl a ≡ true → is_running (deeds a [] h) ≡ false
-    none_runs_now a client = none_runs decl script accepted asks fits few h (replicate (actors decl) false) closed none_open_now quiet done a client
+    none_runs_now a client = none_runs decl script accepted asks fits h (replicate (actors decl) false) closed none_open_now quiet done a client
 
     ordered : (a : ℕ) → is_client decl a ≡ true → AreInOrder false (deeds a [] h)
-    ordered a client = run_ordered decl script accepted asks fits few a client h (replicate (actors decl) false) closed
+    ordered a client = run_ordered decl script accepted asks fits a client h (replicate (actors decl) false) closed
 
     pub all_replied : (a : ℕ) → is_client decl a ≡ true → length (calls_of a h) ≡ length (replies_of a h)
     all_replied a client =
@@ -81,10 +79,10 @@ module _ (decl : Declaration) (script : Script) (accepted : IsAccepted decl) (as
     no_command : (a : ℕ) → is_client decl a ≡ true → command_in decl a (inbox script a h) ≡ None
     no_command a client =
         sym (ap (λ (es : List Envelope). first_copy es (first_lost (inbox script a h).lost (command_in decl a (inbox script a h))))
-        (copies_none decl script accepted asks fits few h (replicate (actors decl) false) closed none_open_now quiet done a (client_within decl a client))
+        (copies_none decl script accepted asks fits h (replicate (actors decl) false) closed none_open_now quiet done a (client_within decl a client))
         ∙ ap (λ (ns : List ℕ). first_lost ns (command_in decl a (inbox script a h)))
-        (losts_none decl script accepted asks fits few h (replicate (actors decl) false) closed none_open_now quiet done a (client_within decl a client)))
-        ∙ nothing_ready decl script accepted asks fits few h (replicate (actors decl) false) closed none_open_now quiet done a (client_within decl a client)
+        (losts_none decl script accepted asks fits h (replicate (actors decl) false) closed none_open_now quiet done a (client_within decl a client)))
+        ∙ nothing_ready decl script accepted asks fits h (replicate (actors decl) false) closed none_open_now quiet done a (client_within decl a client)
 
     none_left : (a : ℕ) → is_client decl a ≡ true → (inbox script a h).commands ≡ []
     none_left a client =

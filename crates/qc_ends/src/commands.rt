@@ -47,9 +47,9 @@ pub fn phases_are_the_scripts_with_falls<C: ConductWithFalls>()
 /// Of clients without an open input: one that is up waits for something just
 /// while a command of it runs, where the script asks clients to move no epoch;
 /// and of one that is down no command runs.
-#[tactic(auto, using(crate::proofs::Ends::run_waits, crate::proofs::Waiting::none_runs_while_down))]
+#[tactic(auto, using(crate::proofs::Resting::run_waits, crate::proofs::Waiting::none_runs_while_down))]
 pub fn clients_wait_while_commands_run_with_falls<C: ConductWithFalls>()
-    ensures up { (decl : Declaration) (script : Script) → IsAccepted decl → AsksDeclared decl script
+    ensures up { (decl : Declaration) (script : Script) → AsksDeclared decl script
         → actors decl ≤ most_actors → (h : List Entry) (open_inputs : List Bool)
         → RunsWithFalls (IsLawfulWithFalls decl) C.fits decl script h open_inputs
         → (a : ℕ) → is_client decl a ≡ true → slice_get open_inputs a ≡ Some false
@@ -67,7 +67,7 @@ pub fn clients_wait_while_commands_run_with_falls<C: ConductWithFalls>()
 #[tactic(auto, using(crate::proofs::Ends::line_idle))]
 pub fn no_command_runs_while_a_line_is_left<C: ConductWithFalls>()
     ensures { (decl : Declaration) (script : Script) → IsAccepted decl → AsksDeclared decl script
-        → actors decl ≤ most_actors → (h : List Entry) (open_inputs : List Bool)
+        → (h : List Entry) (open_inputs : List Bool)
         → RunsWithFalls (IsLawfulWithFalls decl) C.fits decl script h open_inputs
         → (line : Control) (lines : List Control) → controls_left script h ≡ line ∷ lines
         → (a : ℕ) → is_client decl a ≡ true → is_running (deeds a [] h) ≡ false }
@@ -80,7 +80,7 @@ pub fn no_command_runs_while_a_line_is_left<C: ConductWithFalls>()
 #[tactic(auto, using(crate::proofs::Ordered::run_ordered))]
 pub fn replies_answer_commands_with_falls<C: ConductWithFalls>()
     ensures { (decl : Declaration) (script : Script) → IsAccepted decl → AsksDeclared decl script
-        → actors decl ≤ most_actors → (h : List Entry) (open_inputs : List Bool)
+        → (h : List Entry) (open_inputs : List Bool)
         → RunsWithFalls (IsLawfulWithFalls decl) C.fits decl script h open_inputs
         → (a : ℕ) → is_client decl a ≡ true → AreInOrder false (deeds a [] h) }
 {}
@@ -90,7 +90,7 @@ pub fn replies_answer_commands_with_falls<C: ConductWithFalls>()
 #[tactic(auto, using(crate::proofs::Ordered::run_replied))]
 pub fn calls_are_replied_with_falls<C: ConductWithFalls>()
     ensures { (decl : Declaration) (script : Script) → IsAccepted decl → AsksDeclared decl script
-        → actors decl ≤ most_actors → (h : List Entry) (open_inputs : List Bool)
+        → (h : List Entry) (open_inputs : List Bool)
         → RunsWithFalls (IsLawfulWithFalls decl) C.fits decl script h open_inputs
         → (a : ℕ) → is_client decl a ≡ true
         → length (calls_of a h) ≡ length (replies_of a h) + cond (is_running (deeds a [] h)) 1 0 }

@@ -48,7 +48,7 @@ pub fn commands_of_runs_with_falls_wait<C: ConductWithFalls>()
 #[tactic(auto, using(crate::proofs::WholeLaw::none_runs_now))]
 pub fn commands_end_with_falls<C: ConductWithFalls>()
     ensures { (decl : Declaration) (script : Script) → IsAccepted decl → AsksDeclared decl script
-        → actors decl ≤ most_actors → (h : List Entry) → IsClosedWithFalls C.fits decl script h
+        → (h : List Entry) → IsClosedWithFalls C.fits decl script h
         → IsQuiet decl script h → controls_left script h ≡ []
         → (a : ℕ) → is_client decl a ≡ true → is_running (deeds a [] h) ≡ false }
 {}
@@ -57,7 +57,7 @@ pub fn commands_end_with_falls<C: ConductWithFalls>()
 #[tactic(auto, using(crate::proofs::WholeLaw::all_replied))]
 pub fn each_call_has_its_reply_with_falls<C: ConductWithFalls>()
     ensures { (decl : Declaration) (script : Script) → IsAccepted decl → AsksDeclared decl script
-        → actors decl ≤ most_actors → (h : List Entry) → IsClosedWithFalls C.fits decl script h
+        → (h : List Entry) → IsClosedWithFalls C.fits decl script h
         → IsQuiet decl script h → controls_left script h ≡ []
         → (a : ℕ) → is_client decl a ≡ true → length (calls_of a h) ≡ length (replies_of a h) }
 {}
@@ -68,7 +68,7 @@ pub fn each_call_has_its_reply_with_falls<C: ConductWithFalls>()
 #[tactic(auto, using(crate::proofs::WholeLaw::is_whole))]
 pub fn runs_with_falls_are_whole<C: ConductWithFalls>()
     ensures { (decl : Declaration) (script : Script) → IsAccepted decl → AsksDeclared decl script
-        → actors decl ≤ most_actors → (h : List Entry) → IsClosedWithFalls C.fits decl script h
+        → (h : List Entry) → IsClosedWithFalls C.fits decl script h
         → IsQuiet decl script h → controls_left script h ≡ []
         → length script.phases ≤ phase_of h → IsWholeWithFalls C.fits decl script h }
 {}

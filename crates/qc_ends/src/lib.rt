@@ -37,9 +37,9 @@ mod exchanges;
 mod requests;
 
 pub use commands::{
-    calls_are_asked_with_falls, calls_are_replied_with_falls, clients_wait_while_commands_run_with_falls,
-    no_command_runs_while_a_line_is_left, phases_are_the_scripts_with_falls,
-    replies_answer_commands_with_falls,
+    calls_are_asked_with_falls, calls_are_replied_with_falls,
+    clients_wait_while_commands_run_with_falls, no_command_runs_while_a_line_is_left,
+    phases_are_the_scripts_with_falls, replies_answer_commands_with_falls,
 };
 pub use endings::{
     commands_end_with_falls, commands_of_runs_with_falls_wait, each_call_has_its_reply_with_falls,
@@ -47,8 +47,8 @@ pub use endings::{
 };
 pub use exchanges::{
     answered_commands_were_called_in_order, commands_in_order_are_answered,
-    falls_before_a_reply_are_refused, falls_between_commands_are_taken, missing_replies_are_refused,
-    needless_replies_are_refused, other_calls_are_refused,
+    falls_before_a_reply_are_refused, falls_between_commands_are_taken,
+    missing_replies_are_refused, needless_replies_are_refused, other_calls_are_refused,
 };
 pub use requests::{
     no_request_is_open_at_the_end_with_falls, open_requests_are_awaited_with_falls,

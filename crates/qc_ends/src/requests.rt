@@ -30,7 +30,7 @@ use qc_script::ConductWithFalls;
 /// Each open request of a client that is up is awaited in its inbox: that it is
 /// lost isn't taken yet, also where the site that was asked fell since, or it is
 /// unanswered, or a copy of its answer is ready.
-#[tactic(auto, using(crate::proofs::Covered::open_requests_awaited))]
+#[tactic(auto, using(crate::proofs::Awaited::open_requests_awaited))]
 pub fn open_requests_are_awaited_with_falls<C: ConductWithFalls>()
     ensures { (decl : Declaration) (script : Script) → actors decl ≤ most_actors
         → (a : ℕ) → is_client decl a ≡ true → (h : List Entry) (open_inputs : List Bool)
@@ -46,7 +46,7 @@ pub fn open_requests_are_awaited_with_falls<C: ConductWithFalls>()
 #[tactic(auto, using(crate::proofs::Reached::unanswered_at_site))]
 pub fn unanswered_requests_are_at_their_sites_with_falls<C: ConductWithFalls>()
     ensures { (decl : Declaration) (script : Script) → IsAccepted decl → AsksDeclared decl script
-        → actors decl ≤ most_actors → (a : ℕ) → is_client decl a ≡ true
+        → (a : ℕ) → is_client decl a ≡ true
         → (h : List Entry) (open_inputs : List Bool)
         → RunsWithFalls (IsLawfulWithFalls decl) C.fits decl script h open_inputs
         → (n : ℕ) → In n (request_numbers (inbox script a h).unanswered) → IsAtReceiver script h open_inputs a n }
@@ -57,7 +57,7 @@ pub fn unanswered_requests_are_at_their_sites_with_falls<C: ConductWithFalls>()
 #[tactic(auto, using(crate::proofs::WholeLaw::no_request_open))]
 pub fn no_request_is_open_at_the_end_with_falls<C: ConductWithFalls>()
     ensures { (decl : Declaration) (script : Script) → IsAccepted decl → AsksDeclared decl script
-        → actors decl ≤ most_actors → (h : List Entry) → IsClosedWithFalls C.fits decl script h
+        → (h : List Entry) → IsClosedWithFalls C.fits decl script h
         → IsQuiet decl script h → controls_left script h ≡ []
         → (a : ℕ) → is_client decl a ≡ true
         → (c : Client) → (actor_after decl a (deeds a [] h)).actor ≡ actor.Client c → open_calls c ≡ [] }
