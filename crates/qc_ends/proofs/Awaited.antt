@@ -45,7 +45,7 @@ use Rattle.qc_script.specs.Ready.{phase_of, ready}
 use Rattle.qc_script.specs.RunsWithFalls.{RunsWithFalls, begins, takes, posts, phase, control, falls, rises, damaged, unopened}
 use Rattle.qc_ends.proofs.Places.{apart_from_controller, rose_split}
 use Rattle.qc_ends.proofs.Telling.{broken_down}
-use Rattle.qc_ends.proofs.Tied.{rises_to, rising_turn}
+use Rattle.qc_ends.proofs.Lifelong.{rises_to, rising_turn}
 use Rattle.qc_ends.proofs.Covered.{AreAwaited, Awaits, one_step, others_steps, own_take, own_turn, step_in}
 
 module _ (decl : Declaration) (script : Script) (a : ℕ) where

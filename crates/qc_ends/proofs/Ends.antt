@@ -38,7 +38,8 @@ use Rattle.qc_ends.proofs.Awaited.{open_requests_awaited}
 use Rattle.qc_ends.proofs.Places.{client_within, few_actors}
 use Rattle.qc_ends.proofs.Plain.{ArePlain, entries_idle, entries_left, inbox_then, line_plain, post_plain}
 use Rattle.qc_ends.proofs.Reached.{receiver_is_site, unanswered_at_site}
-use Rattle.qc_ends.proofs.Tied.{IsAtRest, Stands, none_runs_down}
+use Rattle.qc_ends.proofs.Lifelong.{none_runs_down}
+use Rattle.qc_ends.proofs.Tied.{IsAtRest, Stands}
 use Rattle.qc_ends.proofs.Resting.{free_rests, run_waits, tied_rests}
 
 no_copies : (es : List Envelope) (other : Option Given) → first_copy es other ≡ None → es ≡ []

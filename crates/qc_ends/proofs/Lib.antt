@@ -3,6 +3,7 @@ pub mod Plain
 pub mod Calling
 pub mod Telling
 pub mod Tied
+pub mod Lifelong
 pub mod Resting
 pub mod Proper
 pub mod Awaiting

@@ -39,11 +39,12 @@ use Rattle.qc_recover.specs.Sites.{rising}
 use Rattle.qc_script.specs.Ready.{phase_of, ready}
 use Rattle.qc_script.specs.RunsWithFalls.{RunsWithFalls, begins, takes, posts, phase, control, falls, rises, damaged, unopened}
 use Rattle.qc_script.specs.declared.script.Script.{Script}
-use Rattle.qc_ends.specs.Order.{AreInOrder, MayReach}
+use Rattle.qc_ends.specs.Order.{AreInOrder, MayBeGiven}
 use Rattle.qc_ends.proofs.Ends.{line_idle}
 use Rattle.qc_ends.proofs.Places.{apart_from_controller, few_actors, rose_split}
 use Rattle.qc_ends.proofs.Telling.{Replies}
-use Rattle.qc_ends.proofs.Tied.{IsAtInput, client_lives, rising_turn, turn_replies}
+use Rattle.qc_ends.proofs.Lifelong.{client_lives, rising_turn, turn_replies}
+use Rattle.qc_ends.proofs.Tied.{IsAtInput}
 
 -- deeds behind others
 
@@ -88,10 +89,10 @@ rising_ordered n Done = (tt, tt)
 rising_ordered n Failed = (refl, tt)
 rising_ordered n Stopped = (refl, tt)
 
-may_reach : (ds : List Deed) (g : Given) → MayTake ds g → MayReach (is_running ds) g
-may_reach ds (given.Called command) may = may
-may_reach ds (given.Got envelope) may = tt
-may_reach ds (given.Lost number) may = tt
+may_be_given : (ds : List Deed) (g : Given) → MayTake ds g → MayBeGiven (is_running ds) g
+may_be_given ds (given.Called command) may = may
+may_be_given ds (given.Got envelope) may = tt
+may_be_given ds (given.Lost number) may = tt
 
 module _ (decl : Declaration) (script : Script) (accepted : IsAccepted decl) (asks : AsksDeclared decl script) (fits : ℕ → List Record → Type 0) (a : ℕ) (client : is_client decl a ≡ true) where
   few : actors decl ≤ most_actors
@@ -151,7 +152,7 @@ module _ (decl : Declaration) (script : Script) (accepted : IsAccepted decl) (as
       either b older (step_of g ∷ []) (run_ordered older before run)
       (λ is. grown older (older ++ marked a (step_of g) ∷ []) (Takes g ∷ [])
       (subst (λ (k : ℕ). deeds k [] (older ++ marked k (step_of g) ∷ []) ≡ deeds k [] older ++ Takes g ∷ []) is (deeds-taken b older g (ready_sent (IsLawfulWithFalls decl) fits decl script older before run b g rdy)))
-      (run_ordered older before run) (may_reach (deeds a [] older) g (may_take decl script a older g (subst (λ (k : ℕ). ready decl script k older ≡ Some g) is rdy)), tt))
+      (run_ordered older before run) (may_be_given (deeds a [] older) g (may_take decl script a older g (subst (λ (k : ℕ). ready decl script k older ≡ Some g) is rdy)), tt))
   run_ordered h open_inputs (posts b turn before older run taken law) =
       either b older (posted_as turn.append (length (mail older)) turn) (run_ordered older before run)
       (λ is. own_posts older before turn run (subst (λ (k : ℕ). slice_get before k ≡ Some true) is taken) (subst (λ (k : ℕ). IsLawfulWithFalls decl k (deeds k [] older) turn) is law) (run_ordered older before run))

@@ -1,10 +1,10 @@
 -- What is answered was called in order, each command told its reply; and exchanges that miss something are refused.
-use Rattle.std.proofs.Common.{◌≡◌, ◌+◌, true, false, List, [], ◌∷◌, ◌++◌, Option, Some, None, is_some, length, refl, sym, ap, ◌∙◌, arith, length-append}
+use Rattle.std.proofs.Common.{◌≡◌, ◌+◌, Bool, true, false, List, [], ◌∷◌, ◌++◌, Option, Some, None, is_some, length, refl, sym, ap, ◌∙◌, arith, length-append}
 use Rattle.std.specs.Prelude.{fold, option_to_list}
 use Rattle.std.specs.List.{filter_map}
 use Rattle.std.proofs.lemmas.List.Sums.{fold-append}
 use Rattle.qc_core.specs.Acts.{is_running, runs_at}
-use Rattle.qc_laws.specs.Whole.{call_in}
+use Rattle.qc_laws.specs.Whole.{call_in, reply_in}
 use Rattle.qc_msg.specs.declared.record.Record.{Record}
 use Rattle.qc_msg.specs.declared.reply.Reply.{Reply}
 use Rattle.qc_msg.specs.declared.step.Command.{Command}
@@ -13,7 +13,7 @@ use Rattle.qc_msg.specs.declared.step.Given.TheVariants as given
 use Rattle.qc_msg.specs.Deeds.{Deed, Takes, Writes, Sends, Tells, Falls, Rises}
 use Rattle.qc_ends.specs.Order.{AreInOrder}
 use Rattle.qc_ends.specs.Whole.{AreAnswered, Exchange, exchanges, exchanges_from}
-use Rattle.qc_ends.proofs.Ordered.{order_second}
+use Rattle.qc_ends.proofs.Ordered.{all_counted, open_commands, order_second}
 use Rattle.qc_ends.proofs.WholeLaw.{answered_from}
 
 -- what answered exchanges come from
@@ -59,6 +59,13 @@ all_come asked ds is = let r : Comes None asked ds = comes None asked ds is in (
 
 pub all_answered : (ds : List Deed) → AreInOrder false ds → is_running ds ≡ false → AreAnswered (filter_map call_in ds) (exchanges ds)
 all_answered ds order idle = answered_from None ds order idle
+
+pub as_many : (asked : List Command) (ds : List Deed) → AreAnswered asked (exchanges ds) → length (filter_map reply_in ds) ≡ length asked
+as_many asked ds is =
+    let r : (filter_map call_in ds ≡ asked) × (AreInOrder false ds × (is_running ds ≡ false)) = all_come asked ds is in
+    let count : length (filter_map call_in ds) ≡ length (filter_map reply_in ds) + 0 = all_counted ds r.1.0 ∙ ap (λ (t : Bool). length (filter_map reply_in ds) + open_commands t) r.1.1 in
+    let same : length (filter_map call_in ds) ≡ length asked = ap length r.0 in
+    omega arith
 
 -- wrong ones
 

@@ -30,7 +30,8 @@ use Rattle.qc_msg.specs.Steps.{Entry}
 use Rattle.qc_promise.specs.Account.{Account, ClientRequest}
 use Rattle.qc_script.specs.RunsWithFalls.{RunsWithFalls}
 use Rattle.qc_script.specs.declared.script.Script.{Script}
-use Rattle.qc_ends.proofs.Tied.{IsAtRest, IsTied, client_lives, rests_up}
+use Rattle.qc_ends.proofs.Lifelong.{client_lives, rests_up}
+use Rattle.qc_ends.proofs.Tied.{IsAtRest, IsTied}
 
 -- a client that has no open request waits for nothing
 

@@ -23,7 +23,8 @@ use Rattle.qc_promise.specs.Accounting.{account}
 use Rattle.qc_promise.specs.Rows.{due}
 use Rattle.qc_script.specs.RunsWithFalls.{RunsWithFalls}
 use Rattle.qc_script.specs.declared.script.Script.{Script}
-use Rattle.qc_ends.proofs.Tied.{IsAtRest, Stands, client_lives, none_runs_down, rests_down}
+use Rattle.qc_ends.proofs.Lifelong.{client_lives, none_runs_down, rests_down}
+use Rattle.qc_ends.proofs.Tied.{IsAtRest, Stands}
 
 module _ (decl : Declaration) (script : Script) (fits : ℕ → List Record → Type 0) (few : actors decl ≤ most_actors) (h : List Entry) (open_inputs : List Bool)
     (run : RunsWithFalls (IsLawfulWithFalls decl) fits decl script h open_inputs) (a : ℕ) (client : is_client decl a ≡ true) (free : slice_get open_inputs a ≡ Some false) where

@@ -14,7 +14,7 @@ use Rattle.qc_script.specs.Ready.{controls_left, phase_of}
 use Rattle.qc_script.specs.RunsWithFalls.{RunsWithFalls}
 use Rattle.qc_script.specs.declared.script.Script.{Script}
 
--- a command with the reply that was told to it; a command that was told none, or a reply to none, misses the other
+-- a command with the reply that was told to it; a command that was told none misses it, and so does a reply to none
 pub record Exchange : Type 0 where
   pub command : Option Command
   pub reply : Option Reply

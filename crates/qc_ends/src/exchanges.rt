@@ -4,12 +4,12 @@
 //! Which reply is right for a command isn't said here: so two replies that are
 //! exchanged in place aren't refused. What is due says that, reply by reply.
 
-ghost use Rattle.std.specs.Prelude.{◌≡◌, ◌++◌, Bool, true, false, Option, None, List, [], ◌∷◌};
+ghost use Rattle.std.specs.Prelude.{◌≡◌, ◌++◌, true, false, Option, None, List, [], ◌∷◌, length};
 ghost use Rattle.std.specs.List.{filter_map};
 ghost use Rattle.qc_core.specs.Acts.{is_running};
 ghost use Rattle.qc_ends.specs.Order.{AreInOrder};
 ghost use Rattle.qc_ends.specs.Whole.{AreAnswered, exchanges};
-ghost use Rattle.qc_laws.specs.Whole.{call_in};
+ghost use Rattle.qc_laws.specs.Whole.{call_in, reply_in};
 ghost use Rattle.qc_msg.specs.Deeds.{Deed, Falls, Rises, Takes, Tells};
 ghost use Rattle.qc_msg.specs.declared.record.Record.{Record};
 ghost use Rattle.qc_msg.specs.declared.reply.Reply.{Reply};
@@ -26,7 +26,15 @@ pub fn answered_commands_were_called_in_order()
         → (filter_map call_in ds ≡ asked) × (AreInOrder false ds × (is_running ds ≡ false)) }
 {}
 
-/// And the other way round.
+/// So there are as many replies as commands.
+#[tactic(auto, using(crate::proofs::Refused::as_many))]
+pub fn answered_commands_have_a_reply_each()
+    ensures { (asked : List Command) (ds : List Deed) → AreAnswered asked (exchanges ds)
+        → length (filter_map reply_in ds) ≡ length asked }
+{}
+
+/// The other way round, commands in order of which none runs in the end are
+/// answered.
 #[tactic(auto, using(crate::proofs::Refused::all_answered))]
 pub fn commands_in_order_are_answered()
     ensures { (ds : List Deed) → AreInOrder false ds → is_running ds ≡ false

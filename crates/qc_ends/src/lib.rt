@@ -26,6 +26,7 @@
 //!    (`runs_with_falls_are_whole`): each command is told its reply. Answered
 //!    commands are just those that were called in order, each with its reply
 //!    (`answered_commands_were_called_in_order`,
+//!    `answered_commands_have_a_reply_each`,
 //!    `commands_in_order_are_answered`), and exchanges that miss something are
 //!    refused (`missing_replies_are_refused`, `needless_replies_are_refused`,
 //!    `falls_before_a_reply_are_refused`, `other_calls_are_refused`).
@@ -46,9 +47,10 @@ pub use endings::{
     runs_with_falls_are_whole,
 };
 pub use exchanges::{
-    answered_commands_were_called_in_order, commands_in_order_are_answered,
-    falls_before_a_reply_are_refused, falls_between_commands_are_taken,
-    missing_replies_are_refused, needless_replies_are_refused, other_calls_are_refused,
+    answered_commands_have_a_reply_each, answered_commands_were_called_in_order,
+    commands_in_order_are_answered, falls_before_a_reply_are_refused,
+    falls_between_commands_are_taken, missing_replies_are_refused, needless_replies_are_refused,
+    other_calls_are_refused,
 };
 pub use requests::{
     no_request_is_open_at_the_end_with_falls, open_requests_are_awaited_with_falls,
