@@ -19,3 +19,4 @@ pub mod Busy
 pub mod WholeLaw
 pub mod Waiting
 pub mod Refused
+pub mod Mute

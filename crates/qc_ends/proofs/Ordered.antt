@@ -13,7 +13,7 @@ use Rattle.qc_decl.specs.Actors.{actors, controller, is_client}
 use Rattle.qc_decl.specs.declared.declaration.Declaration.{Declaration}
 use Rattle.qc_inbox.proofs.FallMail.{ready_sent}
 use Rattle.qc_laws.specs.Asked.{AsksDeclared}
-use Rattle.qc_laws.specs.Whole.{call_in, calls_of, replies_of, reply_in}
+use Rattle.qc_laws.specs.Whole.{call_in, reply_in}
 use Rattle.qc_laws.proofs.Acted.{deeds-silent}
 use Rattle.qc_link.specs.Limits.{most_actors}
 use Rattle.qc_lives.specs.LivesIn.{LivesIn}
@@ -201,7 +201,3 @@ counted r (Rises records ∷ ds) are =
 
 pub all_counted : (ds : List Deed) → AreInOrder false ds → length (filter_map call_in ds) ≡ length (filter_map reply_in ds) + open_commands (is_running ds)
 all_counted ds are = let count : length (filter_map call_in ds) + 0 ≡ length (filter_map reply_in ds) + open_commands (is_running ds) = counted false ds are in omega arith
-
-pub run_replied : (decl : Declaration) (script : Script) → IsAccepted decl → AsksDeclared decl script → (fits : ℕ → List Record → Type 0) → (h : List Entry) (open_inputs : List Bool)
-    → RunsWithFalls (IsLawfulWithFalls decl) fits decl script h open_inputs → (a : ℕ) → is_client decl a ≡ true → length (calls_of a h) ≡ length (replies_of a h) + open_commands (is_running (deeds a [] h))
-run_replied decl script accepted asks fits h open_inputs run a client = all_counted (deeds a [] h) (run_ordered decl script accepted asks fits a client h open_inputs run)

@@ -141,8 +141,8 @@ module _ (decl : Declaration) (script : Script) (accepted : IsAccepted decl) (as
         place = spot s.place;
       }
         where
-          abbrev_copies : In s.envelope (inbox_at script s.envelope.to (inbox script s.envelope.to older) b (step_of g)).copies → In s.envelope (inbox script s.envelope.to (older ++ marked b (step_of g) ∷ [])).copies
-          abbrev_copies there = subst (λ (i : Inbox). In s.envelope i.copies) (sym (inbox_then script s.envelope.to older (marked b (step_of g)))) there
+          copied : In s.envelope (inbox_at script s.envelope.to (inbox script s.envelope.to older) b (step_of g)).copies → In s.envelope (inbox script s.envelope.to (older ++ marked b (step_of g) ∷ [])).copies
+          copied there = subst (λ (i : Inbox). In s.envelope i.copies) (sym (inbox_then script s.envelope.to older (marked b (step_of g)))) there
 
           here : b ≡ s.envelope.to → In s.envelope (inbox script s.envelope.to older).copies
               → In s.envelope (inbox script s.envelope.to (older ++ marked b (step_of g) ∷ [])).copies ⊎ IsTaken (older ++ marked b (step_of g) ∷ []) (slice_set before b true) s.envelope
@@ -155,7 +155,7 @@ module _ (decl : Declaration) (script : Script) (accepted : IsAccepted decl) (as
                 before = deeds b [] older;
                 last = subst (λ (k : ℕ). deeds k [] (older ++ marked b (step_of g) ∷ []) ≡ deeds b [] older ++ Takes (given.Got s.envelope) ∷ []) is (grown ∙ ap (λ (x : Given). deeds b [] older ++ Takes x ∷ []) it);
               })
-              by (inr still) = inl (abbrev_copies (subst (λ (k : ℕ). In s.envelope (inbox_at script k (inbox script k older) b (step_of g)).copies) is still))
+              by (inr still) = inl (copied (subst (λ (k : ℕ). In s.envelope (inbox_at script k (inbox script k older) b (step_of g)).copies) is still))
 
           spot : In s.envelope (inbox script s.envelope.to older).copies ⊎ IsTaken older before s.envelope
               → In s.envelope (inbox script s.envelope.to (older ++ marked b (step_of g) ∷ [])).copies ⊎ IsTaken (older ++ marked b (step_of g) ∷ []) (slice_set before b true) s.envelope
@@ -164,7 +164,7 @@ module _ (decl : Declaration) (script : Script) (accepted : IsAccepted decl) (as
               at : (t : Bool) → (s.envelope.to == b) ≡ t
                   → In s.envelope (inbox script s.envelope.to (older ++ marked b (step_of g) ∷ [])).copies ⊎ IsTaken (older ++ marked b (step_of g) ∷ []) (slice_set before b true) s.envelope
               at true mine = here (sym (eqb-true s.envelope.to b mine)) there
-              at false other = inl (abbrev_copies (copies_left script s.envelope.to (inbox script s.envelope.to older) b (step_of g) (input_spares s.envelope.to b g other) s.envelope there))
+              at false other = inl (copied (copies_left script s.envelope.to (inbox script s.envelope.to older) b (step_of g) (input_spares s.envelope.to b g other) s.envelope there))
           spot (inr t) =
               let differs : b ≡ s.envelope.to → ⊥ = λ is. (let one : slice_get before s.envelope.to ≡ Some false = subst (λ (k : ℕ). slice_get before k ≡ Some false) is free in let two : slice_get before s.envelope.to ≡ Some true = t.is_open in let never : ⊥ = cc in never) in
               inr (taken_stays older (marked b (step_of g) ∷ []) before (slice_set before b true) s.envelope (deeds-other b s.envelope.to [] older (step_of g ∷ []) (apart b s.envelope.to differs)) (slice_get-set_other before b s.envelope.to true differs) t)

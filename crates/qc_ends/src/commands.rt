@@ -1,7 +1,7 @@
 //! Laws of commands and replies in runs with falls, each the contract of a
 //! function with nothing to do.
 
-ghost use Rattle.std.specs.Prelude.{◌≡◌, ◌+◌, ◌≤◌, ◌++◌, ℕ, Bool, true, false, List, [], ◌∷◌, Some, cond, length};
+ghost use Rattle.std.specs.Prelude.{◌≡◌, ◌+◌, ◌<◌, ◌≤◌, ◌++◌, ℕ, Bool, true, false, List, [], ◌∷◌, Some, cond, length};
 ghost use Rattle.std.specs.Prelude.{slice_get};
 ghost use Rattle.qc_client.specs.declared.client.Client.{Client};
 ghost use Rattle.qc_core.specs.declared.actor.Actor.TheVariants as actor;
@@ -73,25 +73,25 @@ pub fn no_command_runs_while_a_line_is_left<C: ConductWithFalls>()
         → (a : ℕ) → is_client decl a ≡ true → is_running (deeds a [] h) ≡ false }
 {}
 
-/// A client calls a command only where none runs, and each reply that it tells
+/// An actor calls a command only where none runs, and each reply that it tells
 /// answers a command that was called and not yet answered: also where it is down,
 /// and where its record isn't written. It falls and rises only where no command
 /// runs, so a fall leaves none without its reply.
-#[tactic(auto, using(crate::proofs::Ordered::run_ordered))]
+#[tactic(auto, using(crate::proofs::Mute::actor_ordered))]
 pub fn replies_answer_commands_with_falls<C: ConductWithFalls>()
     ensures { (decl : Declaration) (script : Script) → IsAccepted decl → AsksDeclared decl script
         → (h : List Entry) (open_inputs : List Bool)
         → RunsWithFalls (IsLawfulWithFalls decl) C.fits decl script h open_inputs
-        → (a : ℕ) → is_client decl a ≡ true → AreInOrder false (deeds a [] h) }
+        → (a : ℕ) → a < actors decl → AreInOrder false (deeds a [] h) }
 {}
 
-/// So a client told one reply to each command that it called, but for the one
+/// So an actor told one reply to each command that it called, but for the one
 /// that runs.
-#[tactic(auto, using(crate::proofs::Ordered::run_replied))]
+#[tactic(auto, using(crate::proofs::Mute::actor_replied))]
 pub fn calls_are_replied_with_falls<C: ConductWithFalls>()
     ensures { (decl : Declaration) (script : Script) → IsAccepted decl → AsksDeclared decl script
         → (h : List Entry) (open_inputs : List Bool)
         → RunsWithFalls (IsLawfulWithFalls decl) C.fits decl script h open_inputs
-        → (a : ℕ) → is_client decl a ≡ true
+        → (a : ℕ) → a < actors decl
         → length (calls_of a h) ≡ length (replies_of a h) + cond (is_running (deeds a [] h)) 1 0 }
 {}
