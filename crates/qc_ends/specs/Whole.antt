@@ -26,8 +26,8 @@ abbrev pub without_reply : Option Command → List Exchange
 without_reply None = []
 without_reply (Some command) = record { command = Some command; reply = None } ∷ []
 
--- An actor's exchanges, while this command runs, if one does: a reply is that of the command that runs. The next command
--- ends the running one, and so do a fall and a rise.
+-- An actor's exchanges, while this command runs, if one does: a reply is that of the command that runs. The next one ends
+-- it, and so do a fall and a rise.
 
 abbrev pub exchanges_from : Option Command → List Deed → List Exchange
 exchanges_from running [] = without_reply running
@@ -64,8 +64,8 @@ pub record IsWholeWithFalls (fits : ℕ → List Record → Type 0) (decl : Decl
   -- every phase began, and each of their control lines acted
   pub phases : phase_of h ≡ length script.phases
   pub controls : controls_left script h ≡ []
-  -- each client called just the commands that the script asks it, in their order, and was told a reply to each, before
-  -- the next one and before it fell; and it told nothing beside
+  -- each client called just the commands that the script asks it, in their order, and told a reply to each, before the
+  -- next one and before it fell; and it told nothing beside
   pub replies : (a : ℕ) → is_client decl a ≡ true → AreAnswered (asked_by a script) (exchanges (deeds a [] h))
   -- nothing is ready for any actor
   pub quiet : IsQuiet decl script h
