@@ -63,8 +63,8 @@ pub fn each_call_has_its_reply_with_falls<C: ConductWithFalls>()
 {}
 
 /// And such a run of which no phase is left is whole: each client called just the
-/// script's commands in their order, each told its reply before the next one
-/// and before any fall, and nothing was told beside.
+/// script's commands in their order, and told a reply to each before the next one
+/// and before any fall, and nothing beside.
 #[tactic(auto, using(crate::proofs::WholeLaw::is_whole))]
 pub fn runs_with_falls_are_whole<C: ConductWithFalls>()
     ensures { (decl : Declaration) (script : Script) → IsAccepted decl → AsksDeclared decl script

@@ -10,7 +10,6 @@ ghost use Rattle.tests_falls.specs.UnknownCommit as unknown_commit;
 ghost use Rattle.tests_falls.specs.WorkedScripts as scripts;
 
 /// In the worked histories each command is answered, of each client.
-#[tactic(auto, using(crate::proofs::WorkedEnds::restarted_site_answered, crate::proofs::WorkedEnds::unknown_commit_answered, crate::proofs::WorkedEnds::lost_decisions_answered, crate::proofs::WorkedEnds::faulty_promise_answered, crate::proofs::WorkedEnds::second_lives_answered, crate::proofs::WorkedEnds::kept_promise_answered))]
 pub fn worked_falls_are_answered()
     ensures restarted_site { IsAnswered scripts.restarted_site restarted_site.history 3 }
     ensures unknown_commit { IsAnswered scripts.unknown_commit unknown_commit.history 3
