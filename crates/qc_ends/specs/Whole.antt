@@ -26,8 +26,8 @@ abbrev pub without_reply : Option Command → List Exchange
 without_reply None = []
 without_reply (Some command) = record { command = Some command; reply = None } ∷ []
 
--- An actor's exchanges, while this command runs, if one does: a reply is the running command's. The next command ends it,
--- and so do a fall and a rise.
+-- An actor's exchanges, while this command runs, if one does: a reply is the running command's, which the next command
+-- ends, and so do a fall and a rise.
 
 abbrev pub exchanges_from : Option Command → List Deed → List Exchange
 exchanges_from running [] = without_reply running
