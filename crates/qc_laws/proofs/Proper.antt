@@ -111,13 +111,13 @@ run_askable decl script a h open_inputs asks run =
 
 -- a client
 
-record Sound (decl : Declaration) (k : ℕ) (c : Client) : Type 0 where
-  front : OwnFront k c.front
-  sited : IsSited decl c.front.doing
+pub record Sound (decl : Declaration) (k : ℕ) (c : Client) : Type 0 where
+  pub front : OwnFront k c.front
+  pub sited : IsSited decl c.front.doing
 
-record SoundMove (decl : Declaration) (k : ℕ) (m : ClientMove) : Type 0 where
-  sound : Sound decl k m.client
-  sends : AreProper decl m.turn.sends
+pub record SoundMove (decl : Declaration) (k : ℕ) (m : ClientMove) : Type 0 where
+  pub sound : Sound decl k m.client
+  pub sends : AreProper decl m.turn.sends
 
 module _ (decl : Declaration) (accepted : IsAccepted decl) (a k : ℕ) (within : k < decl.clients) where
   front_sound : (c : Client) (m : FrontMove) → OwnFront k m.front → IsGood decl m → SoundMove decl k (by_front c m)
@@ -198,7 +198,7 @@ module _ (decl : Declaration) (accepted : IsAccepted decl) (a k : ℕ) (within :
   heard_sound c from number (messages.Close epoch) s = record { sound = s; sends = tt }
   heard_sound c from number (messages.Install epoch clock log) s = record { sound = s; sends = tt }
 
-  takes_sound : (c : Client) (g : Given) → IsAskableGiven decl a g → Sound decl k c → SoundMove decl k (client_takes decl c g)
+  pub takes_sound : (c : Client) (g : Given) → IsAskableGiven decl a g → Sound decl k c → SoundMove decl k (client_takes decl c g)
   takes_sound c (given.Called command) is s = called_sound c command is s
   takes_sound c (given.Got envelope) is s = heard_sound c envelope.from envelope.number envelope.message s
   takes_sound c (given.Lost number) is s = answered_sound c number None s
@@ -208,7 +208,7 @@ module _ (decl : Declaration) (accepted : IsAccepted decl) (a k : ℕ) (within :
   asked_sited (Reading object inv calls round) number site is = is
   asked_sited (Appending object inv event calls round) number site is = is
 
-  sent_sound : (c : Client) (number to : ℕ) (m : Message) → Sound decl k c → Sound decl k (sent_one c number to m)
+  pub sent_sound : (c : Client) (number to : ℕ) (m : Message) → Sound decl k c → Sound decl k (sent_one c number to m)
   sent_sound c number to (messages.Request tx epoch life want) s = at want
     where
       at : (w : Want) → Sound decl k (requested c number to w)

@@ -1,0 +1,10 @@
+-- What a script asks a client is answered in a history.
+use Rattle.std.specs.Prelude.{ℕ, List, []}
+use Rattle.qc_ends.specs.Whole.{AreAnswered, exchanges}
+use Rattle.qc_laws.specs.Whole.{asked_by}
+use Rattle.qc_msg.specs.Deeds.{deeds}
+use Rattle.qc_msg.specs.Steps.{Entry}
+use Rattle.qc_script.specs.declared.script.Script.{Script}
+
+abbrev pub IsAnswered : Script → List Entry → ℕ → Type 0
+IsAnswered script h a = AreAnswered (asked_by a script) (exchanges (deeds a [] h))
