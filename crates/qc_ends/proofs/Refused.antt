@@ -12,7 +12,7 @@ use Rattle.qc_msg.specs.declared.step.Fall.{Fall}
 use Rattle.qc_msg.specs.declared.step.Given.TheVariants as given
 use Rattle.qc_msg.specs.Deeds.{Deed, Takes, Writes, Sends, Tells, Falls, Rises}
 use Rattle.qc_ends.specs.Order.{AreInOrder}
-use Rattle.qc_ends.specs.Whole.{AreAnswered, Exchange, exchanges, exchanges_from}
+use Rattle.qc_laws.specs.Exchanges.{AreAnswered, Exchange, exchanges, exchanges_from}
 use Rattle.qc_ends.proofs.Ordered.{all_counted, open_commands, order_second}
 use Rattle.qc_ends.proofs.WholeLaw.{answered_from}
 

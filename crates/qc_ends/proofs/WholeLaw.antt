@@ -26,7 +26,8 @@ use Rattle.qc_script.specs.Ready.{command_in, controls_left, first_command, firs
 use Rattle.qc_script.specs.declared.script.PhaseLines.{PhaseLines}
 use Rattle.qc_script.specs.declared.script.Script.{Script}
 use Rattle.qc_ends.specs.Order.{AreInOrder}
-use Rattle.qc_ends.specs.Whole.{AreAnswered, IsClosedWithFalls, IsWholeWithFalls, exchanges, exchanges_from}
+use Rattle.qc_laws.specs.Exchanges.{AreAnswered, exchanges, exchanges_from}
+use Rattle.qc_ends.specs.Whole.{IsClosedWithFalls, IsWholeWithFalls}
 use Rattle.qc_ends.proofs.Busy.{busy_runs}
 use Rattle.qc_ends.proofs.Calling.{run_asked, run_phases}
 use Rattle.qc_ends.proofs.Ends.{copies_none, losts_none, none_open, none_runs, nothing_ready}

@@ -8,7 +8,7 @@ ghost use Rattle.std.specs.Prelude.{◌≡◌, ◌++◌, true, false, Option, No
 ghost use Rattle.std.specs.List.{filter_map};
 ghost use Rattle.qc_core.specs.Acts.{is_running};
 ghost use Rattle.qc_ends.specs.Order.{AreInOrder};
-ghost use Rattle.qc_ends.specs.Whole.{AreAnswered, exchanges};
+ghost use Rattle.qc_laws.specs.Exchanges.{AreAnswered, exchanges};
 ghost use Rattle.qc_laws.specs.Whole.{call_in, reply_in};
 ghost use Rattle.qc_msg.specs.Deeds.{Deed, Falls, Rises, Takes, Tells};
 ghost use Rattle.qc_msg.specs.declared.record.Record.{Record};

@@ -31,3 +31,4 @@ pub mod Reached
 pub mod Ends
 pub mod Busy
 pub mod WholeLaw
+mod Exchanging

@@ -1,5 +1,5 @@
 -- Where nothing is left to happen and no command runs, the run is whole.
-use Rattle.std.proofs.Common.{◌≡◌, ℕ, ◌+◌, ◌<◌, ◌≤◌, ◌==◌, ◌&&◌, ◌||◌, not, nat_le, nat_lt, Bool, true, false, cond, List, [], ◌∷◌, ◌++◌, length, None, refl, sym, ap, ◌∙◌, arith}
+use Rattle.std.proofs.Common.{◌≡◌, ℕ, ◌+◌, ◌<◌, ◌≤◌, ◌==◌, ◌&&◌, ◌||◌, not, nat_le, nat_lt, Bool, true, false, cond, List, [], ◌∷◌, ◌++◌, length, None, refl, sym, subst, ap, ◌∙◌, arith}
 use Rattle.std.specs.Prelude.{replicate}
 use Rattle.std.proofs.lemmas.Bool.{ltb-true}
 use Rattle.std.proofs.lemmas.List.{append-nil, take_all}
@@ -17,11 +17,12 @@ use Rattle.qc_script.specs.declared.script.Script.{Script}
 use Rattle.qc_script.specs.Inbox.{inbox}
 use Rattle.qc_script.specs.Ready.{command_in, controls_left, first_command, first_copy, first_lost, phase_of, takes_commands}
 use Rattle.qc_laws.specs.Asked.{AsksDeclared}
-use Rattle.qc_laws.specs.Whole.{IsClosed, IsQuiet, IsWhole, asked_by, asked_in_all, calls_of, replies_of}
+use Rattle.qc_laws.specs.Exchanges.{AreAnswered, exchanges}
+use Rattle.qc_laws.specs.Whole.{IsClosed, IsQuiet, IsWhole, asked_by, asked_in_all, calls_of}
 use Rattle.qc_laws.proofs.Calling.{run_asked, run_phases}
 use Rattle.qc_laws.proofs.Ends.{copies_none, losts_none, nothing_ready}
-use Rattle.qc_laws.proofs.Ordered.{run_replied}
-use Rattle.qc_laws.proofs.Replying.{open_commands}
+use Rattle.qc_laws.proofs.Exchanging.{answered}
+use Rattle.qc_laws.proofs.Ordered.{run_ordered}
 use Rattle.qc_laws.proofs.Running.{busy_is_running}
 use Rattle.qc_laws.proofs.Up.{run_up}
 
@@ -55,18 +56,16 @@ module _ (decl : Declaration) (script : Script) (accepted : IsAccepted decl) (as
       sym (append-nil (calls_of a h)) ∙ ap (λ (v : List Command). calls_of a h ++ v) (sym (none_left a client)) ∙ run_asked decl script a h (replicate (actors decl) false) closed
       ∙ ap (λ (v : List PhaseLines). asked_in_all a v) (take_all (phase_of h) script.phases all)
 
-  replies_whole : length script.phases ≤ phase_of h → (a : ℕ) → is_client decl a ≡ true → length (replies_of a h) ≡ length (asked_by a script)
+  replies_whole : length script.phases ≤ phase_of h → (a : ℕ) → is_client decl a ≡ true → AreAnswered (asked_by a script) (exchanges (deeds a [] h))
   replies_whole all a client =
-      let count : length (calls_of a h) ≡ length (replies_of a h) + 0 = run_replied decl script h (replicate (actors decl) false) closed a ∙ ap (λ (t : Bool). length (replies_of a h) + open_commands t) (idle a client) in
-      let same : length (calls_of a h) ≡ length (asked_by a script) = ap length (calls_whole all a client) in
-      omega arith
+      subst (λ (cs : List Command). AreAnswered cs (exchanges (deeds a [] h))) (calls_whole all a client)
+      (answered (deeds a [] h) (run_ordered decl script h (replicate (actors decl) false) closed a) (run_up (IsLawful decl) decl script h (replicate (actors decl) false) closed a) (idle a client))
 
   pub is_whole : length script.phases ≤ phase_of h → IsWhole decl script h
   is_whole all = record {
     closed = closed;
     phases = (let most : phase_of h ≤ length script.phases = run_phases (IsLawful decl) decl script h (replicate (actors decl) false) closed in omega arith);
     controls = done;
-    calls = calls_whole all;
     replies = replies_whole all;
     quiet = quiet;
   }

@@ -4,3 +4,4 @@ pub mod Whole
 pub mod Calls
 pub mod Asked
 pub mod Waits
+pub mod Exchanges

@@ -15,6 +15,7 @@ use Rattle.qc_script.specs.Ready.{controls_left, phase_of, ready}
 use Rattle.qc_script.specs.Runs.{Runs}
 use Rattle.qc_script.specs.declared.script.PhaseLines.{PhaseLines}
 use Rattle.qc_script.specs.declared.script.Script.{Script}
+use Rattle.qc_laws.specs.Exchanges.{AreAnswered, exchanges}
 
 -- the commands that an actor called, in order
 
@@ -74,9 +75,8 @@ pub record IsWhole (decl : Declaration) (script : Script) (h : List Entry) : Typ
   -- every phase began, and each of their control lines acted
   pub phases : phase_of h ≡ length script.phases
   pub controls : controls_left script h ≡ []
-  -- each client called just the commands that the script asks it, in their order
-  pub calls : (a : ℕ) → is_client decl a ≡ true → calls_of a h ≡ asked_by a script
-  -- and told one reply to each
-  pub replies : (a : ℕ) → is_client decl a ≡ true → length (replies_of a h) ≡ length (asked_by a script)
+  -- each client called just the commands that the script asks it, in their order, and told a reply to each before the
+  -- next one; and it told nothing beside
+  pub replies : (a : ℕ) → is_client decl a ≡ true → AreAnswered (asked_by a script) (exchanges (deeds a [] h))
   -- nothing is ready for any actor
   pub quiet : IsQuiet decl script h

@@ -1,6 +1,6 @@
 -- What a script asks a client is answered in a history.
 use Rattle.std.specs.Prelude.{ℕ, List, []}
-use Rattle.qc_ends.specs.Whole.{AreAnswered, exchanges}
+use Rattle.qc_laws.specs.Exchanges.{AreAnswered, exchanges}
 use Rattle.qc_laws.specs.Whole.{asked_by}
 use Rattle.qc_msg.specs.Deeds.{deeds}
 use Rattle.qc_msg.specs.Steps.{Entry}
