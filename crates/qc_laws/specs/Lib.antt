@@ -5,3 +5,4 @@ pub mod Calls
 pub mod Asked
 pub mod Waits
 pub mod Exchanges
+pub mod Calm

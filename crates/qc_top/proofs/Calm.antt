@@ -21,7 +21,7 @@ use Rattle.qc_promise.specs.Spent.{Arm, Spent, Tally, no_tally, tally, tally_wit
 use Rattle.qc_script.specs.Ready.{step_of_control}
 use Rattle.qc_script.specs.Runs.{Runs, begins, takes, posts, phase, control}
 use Rattle.qc_script.specs.declared.script.Script.{Script}
-use Rattle.qc_top.specs.Calm.{AreCalm, IsCalm}
+use Rattle.qc_laws.specs.Calm.{AreCalm, IsCalm}
 
 abbrev EntryIsCalm : Entry → Type 0
 EntryIsCalm e = IsCalm e.step

@@ -16,7 +16,7 @@ use Rattle.qc_top.proofs.Right.{work_is}
 use Rattle.qc_fabric.specs.Limits.{IsBelow}
 use Rattle.qc_top.proofs.Calm.{runs_calm}
 use Rattle.qc_top.proofs.Runs.{run_atomic, run_due, run_known}
-use Rattle.qc_top.specs.Calm.{AreCalm}
+use Rattle.qc_laws.specs.Calm.{AreCalm}
 use Rattle.qc_top.specs.Top.{AreStatesKnown, IsFullCause, IsRan, IsRight, IsRunnable, IsTold, Leaves, LeavesAsked, LeavesNothing, LeavesRun, LeavesWords, OnPrinted, PrintsBetween}
 use Rattle.qc_top.specs.Words.{AskedOf, asked}
 use Rattle.qc_top.specs.Work.{Caused, Gives, IsRefusal, work_of}

@@ -3,5 +3,4 @@ pub mod Answers
 pub mod Unbuilt
 pub mod Work
 pub mod Source
-pub mod Calm
 pub mod Top

@@ -12,7 +12,7 @@ ghost use Rattle.qc_promise.specs.Spent.{Spent};
 ghost use Rattle.qc_script.specs.Runs.{Runs};
 ghost use Rattle.qc_script.specs.Sound.{IsScriptFor};
 ghost use Rattle.qc_script.specs.declared.script.Script.{Script};
-ghost use Rattle.qc_top.specs.Calm.{AreCalm};
+ghost use Rattle.qc_laws.specs.Calm.{AreCalm};
 ghost use Rattle.qc_top.specs.Unbuilt.{is_unbuilt};
 ghost use Rattle.qc_top.specs.Words.{AreFew, AskedOf, asked};
 

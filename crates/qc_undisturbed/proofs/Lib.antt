@@ -27,3 +27,4 @@ pub mod GoodRows
 pub mod Dos
 pub mod Commits
 pub mod WrongOnes
+mod Calming

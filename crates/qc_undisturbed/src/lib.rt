@@ -24,14 +24,18 @@
 //!    (`undisturbed_scripts_are_told_apart`).
 //! 9. Wrong histories are refused (`wrong_refusals_are_refused`,
 //!    `wrong_endings_are_refused`).
+//! 10. All this is said of runs without falls; a run with falls in which nobody
+//!    falls is one (`runs_in_which_nobody_falls_are_runs`).
 #![tactic(auto)]
 
+mod falls;
 mod messages;
 mod rest;
 mod scripts;
 mod success;
 mod wrong;
 
+pub use falls::runs_in_which_nobody_falls_are_runs;
 pub use messages::{
     answers_fit_their_requests, lives_and_epochs_are_the_first, no_request_is_lost,
 };

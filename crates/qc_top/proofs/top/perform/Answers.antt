@@ -4,7 +4,7 @@ use Rattle.qc_report.specs.declared.cause.Cause.{Cause}
 use Rattle.qc_top.proofs.Blame.{blames}
 use Rattle.qc_top.proofs.Calm.{calm_kept, calm_spent}
 use Rattle.qc_top.proofs.Ends.{leaves_calm, leaves_refused, refused_full}
-use Rattle.qc_top.specs.Calm.{AreCalm}
+use Rattle.qc_laws.specs.Calm.{AreCalm}
 use Rattle.qc_top.proofs.Runs.{begun_below}
 use Rattle.qc_top.proofs.Right.{work_is}
 use Rattle.qc_top.specs.Top.{IsFullCause, Leaves}

@@ -1,0 +1,107 @@
+-- A run with falls in which nobody falls or rises, and nothing is armed, is a run.
+use Rattle.std.proofs.Common.{◌≡◌, ℕ, ◌<◌, Bool, true, List, [], ◌∷◌, ◌++◌, Option, Some, None, length, refl, sym, ap, ◌∙◌, subst}
+use Rattle.std.specs.List.{AllByRecursion as Every}
+use Rattle.qc_core.specs.Conduct.{IsLawful, IsLawfulWithFalls, with_record}
+use Rattle.qc_core.specs.Lives.{AreSteady}
+use Rattle.qc_core.proofs.LivesLaws.{same_turn}
+use Rattle.qc_decl.specs.Actors.{controller}
+use Rattle.qc_decl.specs.declared.declaration.Declaration.{Declaration}
+use Rattle.qc_laws.specs.Calm.{AreCalm, IsCalm}
+use Rattle.qc_laws.proofs.Up.{AreUp, run_up}
+use Rattle.qc_msg.specs.declared.record.Record.{Record}
+use Rattle.qc_msg.specs.declared.step.Control.{Control}
+use Rattle.qc_msg.specs.declared.step.Control.TheVariants as controls
+use Rattle.qc_msg.specs.declared.step.Fall.TheVariants as causes
+use Rattle.qc_msg.specs.declared.step.Step.{Step}
+use Rattle.qc_msg.specs.declared.step.Step.TheVariants as steps
+use Rattle.qc_msg.specs.declared.turn.Appended.{Appended}
+use Rattle.qc_msg.specs.declared.turn.Appended.TheVariants.{Done, Failed, Stopped}
+use Rattle.qc_msg.specs.declared.turn.Turn.{Turn}
+use Rattle.qc_msg.specs.Deeds.{Deed, Takes, Writes, Sends, Tells, Falls, Rises, deeds, mail}
+use Rattle.qc_msg.specs.Steps.{Entry, by, marked, posted, posted_as, sents, step_of, told}
+use Rattle.qc_script.specs.Ready.{controller_step, controls_left, step_of_control}
+use Rattle.qc_script.specs.Runs.{Runs}
+use Rattle.qc_script.specs.Runs as runs
+use Rattle.qc_script.specs.RunsWithFalls.{RunsWithFalls}
+use Rattle.qc_script.specs.RunsWithFalls as falling
+use Rattle.qc_script.specs.declared.script.Script.{Script}
+
+-- parts of a calm history
+
+abbrev IsCalmEntry : Entry → Type 0
+IsCalmEntry e = IsCalm e.step
+
+first_calm : (xs ys : List Entry) → AreCalm (xs ++ ys) → AreCalm xs
+first_calm [] ys calm = tt
+first_calm (x ∷ xs) ys calm = (calm.0, first_calm xs ys calm.1)
+
+rest_calm : (xs ys : List Entry) → AreCalm (xs ++ ys) → AreCalm ys
+rest_calm [] ys calm = calm
+rest_calm (x ∷ xs) ys calm = rest_calm xs ys calm.1
+
+-- an actor's steps of which one isn't calm
+
+abbrev HasFall : ℕ → List Step → Type 0
+HasFall a steps = AreCalm (by a steps) → ⊥
+
+behind : (a : ℕ) (xs ys : List Step) → HasFall a ys → HasFall a (xs ++ ys)
+behind a [] ys falls calm = falls calm
+behind a (x ∷ xs) ys falls calm = behind a xs ys falls calm.1
+
+post_written : (end : Appended) (a n : ℕ) (turn : Turn) → AreCalm (by a (posted_as end n turn)) → end ≡ Done
+post_written Done a n turn calm = refl
+post_written Failed a n turn calm =
+    absurd (behind a (sents n turn.failed_sends) (told turn.failed_told ++ steps.Fell causes.Disk turn.write ∷ [])
+    (behind a (told turn.failed_told) (steps.Fell causes.Disk turn.write ∷ []) (λ c. c.0)) calm)
+post_written Stopped a n turn calm =
+    absurd (behind a (told turn.failed_told) (steps.Fell causes.Stop turn.write ∷ []) (λ c. c.0) calm)
+
+-- who never falls has steady deeds
+up_steady : (ds : List Deed) → AreUp ds → AreSteady ds
+up_steady [] up = tt
+up_steady (Takes given ∷ ds) up = (tt, up_steady ds up.1)
+up_steady (Writes written ∷ ds) up = (tt, up_steady ds up.1)
+up_steady (Sends number to message ∷ ds) up = (tt, up_steady ds up.1)
+up_steady (Tells reply ∷ ds) up = (tt, up_steady ds up.1)
+up_steady (Falls cause pending ∷ ds) up = absurd up.0
+up_steady (Rises records ∷ ds) up = absurd up.0
+
+lawful_alone : (decl : Declaration) (a : ℕ) (ds : List Deed) (turn : Turn) → AreSteady ds → turn.append ≡ Done → IsLawfulWithFalls decl a ds turn → IsLawful decl a ds turn
+lawful_alone decl a ds turn steady done law =
+    sym (same_turn decl a ds steady) ∙ law.called_for ∙ ap (λ (x : Appended). Some (record turn { append = x })) (sym done)
+
+calm_control : (line : Control) (step : Step) → IsCalm step → controller_step line ≡ Some step → step_of_control line ≡ Some step
+calm_control (controls.Phase k) step calm is = is
+calm_control (controls.Cut a b) step calm is = is
+calm_control (controls.Heal a b) step calm is = is
+calm_control (controls.Armed actor kind at) step calm is =
+    absurd (subst IsCalm (let same : step ≡ steps.Armed actor kind at = cc in same) calm)
+calm_control (controls.Crash a) step calm is = is
+calm_control (controls.Restart a) step calm is = is
+
+module _ (fits : ℕ → List Record → Type 0) (decl : Declaration) (script : Script) where
+  pub calm_runs : (h : List Entry) (open_inputs : List Bool) → RunsWithFalls (IsLawfulWithFalls decl) fits decl script h open_inputs
+      → AreCalm h → Runs (IsLawful decl) decl script h open_inputs
+  calm_runs h open_inputs falling.begins calm = runs.begins
+  calm_runs h open_inputs (falling.takes a given before older run free ready) calm =
+      runs.takes a given before older (calm_runs older before run (first_calm older (marked a (step_of given) ∷ []) calm)) free ready
+  calm_runs h open_inputs (falling.posts a turn before older run taken law) calm =
+      let n : ℕ = length (mail older) in
+      let so_far : Runs (IsLawful decl) decl script older before = calm_runs older before run (first_calm older (by a (posted_as turn.append (length (mail older)) turn)) calm) in
+      let done : turn.append ≡ Done = post_written turn.append a (length (mail older)) turn (rest_calm older (by a (posted_as turn.append (length (mail older)) turn)) calm) in
+      subst (λ (end : Appended). Runs (IsLawful decl) decl script (older ++ by a (posted_as end (length (mail older)) turn)) open_inputs) (sym done)
+      (runs.posts a turn before older so_far taken
+      (lawful_alone decl a (deeds a [] older) turn (up_steady (deeds a [] older) (run_up (IsLawful decl) decl script older before so_far a)) done law))
+  calm_runs h open_inputs (falling.phase before older run none acted quiet more) calm =
+      runs.phase before older (calm_runs older before run (first_calm older _ calm)) none acted quiet more
+  calm_runs h open_inputs (falling.control line lines step before older run left is_step) calm =
+      runs.control line lines step before older (calm_runs older before run (first_calm older (marked (controller decl) step ∷ []) calm)) left
+      (calm_control line step (rest_calm older (marked (controller decl) step ∷ []) calm).0 is_step)
+  calm_runs h open_inputs (falling.falls a lines before older run left) calm =
+      absurd (rest_calm older (marked a (steps.Fell causes.Script None) ∷ []) calm).0
+  calm_runs h open_inputs (falling.rises a records turn lines before older run left fit has law) calm =
+      absurd (rest_calm older (by a (steps.Rose records ∷ posted_as turn.append (length (mail older)) turn)) calm).0
+  calm_runs h open_inputs (falling.damaged a offset lines before older run left) calm =
+      absurd (rest_calm older (marked a (steps.Damaged offset) ∷ []) calm).0
+  calm_runs h open_inputs (falling.unopened a cause lines before older run left disk) calm =
+      absurd (rest_calm older (marked a (steps.Fell cause None) ∷ []) calm).0
