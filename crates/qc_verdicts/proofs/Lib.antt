@@ -5,3 +5,5 @@ pub mod Unborn
 pub mod Standing
 pub mod Posting
 pub mod Lifelong
+pub mod Falling
+pub mod Courses
