@@ -7,3 +7,5 @@ pub mod Posting
 pub mod Lifelong
 pub mod Falling
 pub mod Courses
+pub mod SitesAsk
+pub mod Asking
