@@ -9,3 +9,5 @@ pub mod Falling
 pub mod Courses
 pub mod SitesAsk
 pub mod Asking
+pub mod Putting
+pub mod Questions
