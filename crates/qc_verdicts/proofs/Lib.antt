@@ -11,3 +11,5 @@ pub mod SitesAsk
 pub mod Asking
 pub mod Putting
 pub mod Questions
+pub mod Sent
+pub mod VerdictLaw

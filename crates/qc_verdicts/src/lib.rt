@@ -11,8 +11,10 @@
 #![tactic(auto)]
 
 mod laws;
+mod runs;
 
 pub use laws::{
     rises_give_back_journals_where_records_are_kept, what_was_written_rises_rightly,
     what_was_written_rises_rightly_where_records_are_kept,
 };
+pub use runs::transactions_move_on_through_falls;

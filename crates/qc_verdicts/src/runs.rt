@@ -1,0 +1,32 @@
+//! Laws of runs with falls whose records are kept, each the contract of a function
+//! with nothing to do.
+
+ghost use Rattle.std.specs.Prelude.{◌≡◌, ℕ, Bool, true, List, []};
+ghost use Rattle.qc_core.specs.Conduct.{IsLawfulWithFalls};
+ghost use Rattle.qc_decl.specs.Accepted.{IsAccepted};
+ghost use Rattle.qc_decl.specs.Actors.{is_client};
+ghost use Rattle.qc_decl.specs.declared.declaration.Declaration.{Declaration};
+ghost use Rattle.qc_msg.specs.Deeds.{deeds};
+ghost use Rattle.qc_msg.specs.Steps.{Entry};
+ghost use Rattle.qc_promise.specs.Kept.{Kept};
+ghost use Rattle.qc_promise.specs.Status.{AreRight};
+ghost use Rattle.qc_script.specs.RunsWithFalls.{RunsWithFalls};
+ghost use Rattle.qc_script.specs.Sound.{IsScriptFor};
+ghost use Rattle.qc_script.specs.declared.script.Script.{Script};
+ghost use Rattle.qc_stamp.specs.declared.stamp.TxId.{TxId};
+
+use qc_script::ConductWithFalls;
+
+/// A transaction begins once, under a name that no other had in any life.
+/// Requests are sent for it, and its record is written, only while it is begun.
+/// Sites are told that it committed, with its stamp, only once it has its record;
+/// that it aborted only while it is begun, or once it is given up, and has no
+/// record; that it is active only while it is begun. As its client rises it is
+/// committed where the records have it, and else given up; and no record of it
+/// rises that wasn't written, or wasn't being written, while it was begun.
+pub fn transactions_move_on_through_falls<C: ConductWithFalls>()
+    ensures { (decl : Declaration) (script : Script) (h : List Entry) (open_inputs : List Bool)
+        → IsAccepted decl → IsScriptFor decl script
+        → RunsWithFalls (IsLawfulWithFalls decl) C.fits decl script h open_inputs → Kept h
+        → (a : ℕ) → is_client decl a ≡ true → (tx : TxId) → AreRight tx (deeds a [] h) }
+{}
