@@ -1,10 +1,10 @@
 -- What each event of a client's life leaves it as, as its transactions' statuses say: a turn whose record isn't written, a
 -- fall, a command while it is down, a rise.
-use Rattle.std.proofs.Common.{◌≡◌, ℕ, ◌-◌, Bool, true, false, cond, List, [], ◌∷◌, ◌++◌, fold, inl, inr, Option, Some, None, option_to_list, refl, sym, ap, ◌∙◌, subst, append_assoc}
+use Rattle.std.proofs.Common.{◌≡◌, ℕ, ◌-◌, Bool, true, false, List, [], ◌∷◌, ◌++◌, fold, inl, inr, Option, Some, None, option_to_list, refl, sym, ap, ◌∙◌, subst, append_assoc}
 use Rattle.std.specs.List.{AllByRecursion as Every}
 use Rattle.qc_core.specs.declared.actor.Actor.{Actor}
 use Rattle.qc_core.specs.declared.actor.Actor.TheVariants as actors
-use Rattle.qc_core.specs.Actors.{ActorMove, actor_after, actor_does, by_client, by_site}
+use Rattle.qc_core.specs.Actors.{ActorMove, actor_after, actor_does}
 use Rattle.qc_core.specs.Journals.{journal_after, journal_at}
 use Rattle.qc_core.specs.Lives.{is_up}
 use Rattle.qc_core.proofs.ActorLaws.{at_client}
@@ -35,13 +35,14 @@ use Rattle.qc_records.proofs.RightTurns.{TurnRight}
 use Rattle.qc_records.proofs.StatusActs.{input_right, page_of}
 use Rattle.qc_records.proofs.Statuses.{new_status}
 use Rattle.qc_recover.specs.Clients.{client_rises}
-use Rattle.qc_recover.specs.Sites.{rising, site_rises}
+use Rattle.qc_recover.specs.Sites.{rising}
 use Rattle.qc_stamp.specs.declared.stamp.TxId.{TxId}
 use Rattle.qc_stamp.specs.Lives.{first_life}
 use Rattle.qc_account.proofs.Commands.{no_site}
 use Rattle.qc_account.proofs.Standing.{IsAtRest, IsTied, actor_more, up_more}
 use Rattle.qc_account.proofs.Writing.{IsClientTurn, IsCommitTurn, takes_turn}
 use Rattle.qc_verdicts.specs.GivenBack.{AreGivenBack}
+use Rattle.qc_verdicts.proofs.Courses.{rises_to}
 use Rattle.qc_verdicts.proofs.KeptBack.{back_first, back_second}
 use Rattle.qc_verdicts.proofs.Lifelong.{HereWith, Rests, in_hand, posted_rests, rests_more, same_client, up_here}
 use Rattle.qc_verdicts.proofs.Rises.{Goes, IsShown, all_right, goes}
@@ -57,10 +58,6 @@ module _ (decl : Declaration) (a : ℕ) (client : is_client decl a ≡ true) (tx
   down_here : (b : Bool) (s : Status) (j : Journal) (x : Actor) → HereWith decl a client tx b s j x → b ≡ false → Down tx s j number
   down_here true s j x here same = absurd (let never : ⊥ = cc in never)
   down_here false s j x here same = here
-
-  -- what it becomes as it rises
-  pub rises_to : (ds : List Deed) (kept : List Record) → actor_after decl a (ds ++ Rises kept ∷ []) ≡ by_client (client_rises number kept)
-  rises_to ds kept = actor_more decl a ds (Rises kept ∷ []) ∙ ap (λ (b : Bool). cond b (by_site (site_rises decl a kept)) (by_client (client_rises number kept))) (no_site decl a client)
 
   -- it has done nothing
 
@@ -168,7 +165,7 @@ module _ (decl : Declaration) (a : ℕ) (client : is_client decl a ≡ true) (tx
             subst IsResting (sym (append_assoc ds (Rises kept ∷ []) (Writes records.Life ∷ [])))
             (rests_more decl a client tx ds more true rs (fallen.pending, (tt, tt)) (up_more decl a ds more)
             (λ c is. subst (λ (x : Client). Up tx (status_risen tx (status ds tx) kept) (record { records = kept ++ records.Life ∷ []; pending = None }) number (page_of x))
-            (same_client (client_rises number kept).client c (sym (ap (λ (m : ActorMove). m.actor) (actor_more decl a ds more ∙ ap (λ (m : ActorMove). actor_does decl a m (Writes records.Life)) (sym (actor_more decl a ds (Rises kept ∷ [])) ∙ rises_to ds kept))) ∙ is))
+            (same_client (client_rises number kept).client c (sym (ap (λ (m : ActorMove). m.actor) (actor_more decl a ds more ∙ ap (λ (m : ActorMove). actor_does decl a m (Writes records.Life)) (sym (actor_more decl a ds (Rises kept ∷ [])) ∙ rises_to decl a client ds kept))) ∙ is))
             (risen_up tx (status_risen tx (status ds tx) kept) kept number risen
             (every-append (IsShown tx (status_risen tx (status ds tx) kept)) kept (records.Life ∷ []) rises.1 (tt, tt)))))
 

@@ -5,8 +5,9 @@ pub mod Unborn
 pub mod Standing
 pub mod Posting
 pub mod Lifelong
-pub mod Falling
 pub mod Courses
+pub mod Falling
+pub mod Rightly
 pub mod SitesAsk
 pub mod Asking
 pub mod Putting

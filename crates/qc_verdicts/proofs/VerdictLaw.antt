@@ -57,7 +57,7 @@ use Rattle.qc_due.proofs.Declared.{run_declares}
 use Rattle.qc_due.proofs.KeptFirst.{kept_first}
 use Rattle.qc_reach.specs.Reached.{IsReachedWithFalls}
 use Rattle.qc_reach.proofs.Reaching.{net_of}
-use Rattle.qc_verdicts.proofs.Courses.{course_right}
+use Rattle.qc_verdicts.proofs.Rightly.{course_right}
 use Rattle.qc_verdicts.proofs.KeptBack.{kept_given_back}
 use Rattle.qc_verdicts.proofs.Putting.{part_kept}
 use Rattle.qc_verdicts.proofs.Questions.{Asked, IsRequested, run_asked}
@@ -102,7 +102,7 @@ module _ (decl : Declaration) (script : Script) (fits : ℕ → List Record → 
         let long : length open_inputs ≡ actors decl = run_long decl script fits few h open_inputs run in
         let place : (t : Bool) × (slice_get open_inputs a ≡ Some t) = slice_get-within open_inputs a (omega arith) in
         let lived : LivesIn decl a h place.0 = run_lives decl script fits few h open_inputs run a place.0 place.1 in
-        course_right decl a client (declares a).first tx (deeds a [] h) place.0 lived.above lived.lives (declares a).deeds (kept_given_back h kept a) (known a client tx)
+        course_right decl a client tx (declares a).first (deeds a [] h) place.0 lived.above lived.lives (declares a).deeds (kept_given_back h kept a) (known a client tx)
 
     -- one that was asked for was begun
     asked_born : (a : ℕ) → is_client decl a ≡ true → (tx : TxId) → a ≡ client_actor decl tx.client → IsRequested (mail h) tx → status (deeds a [] h) tx ≢ Unborn
