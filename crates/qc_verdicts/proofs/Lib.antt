@@ -14,3 +14,6 @@ pub mod Putting
 pub mod Questions
 pub mod Sent
 pub mod VerdictLaw
+pub mod Clocks
+pub mod RisingStamps
+pub mod Stamped

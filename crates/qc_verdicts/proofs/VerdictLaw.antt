@@ -1,8 +1,12 @@
--- In every run with falls whose records are kept each deed of a client is right for each transaction.
-use Rattle.std.proofs.Common.{◌≡◌, ◌≢◌, ◌≤◌, ◌<◌, ℕ, ◌+◌, ◌==◌, nat_le, nat_lt, Bool, true, false, List, [], ◌∷◌, ◌++◌, length, Option, Some, None, slice_get, refl, sym, ap, ◌∙◌, subst, arith, append_assoc, eqb-true}
-use Rattle.std.specs.List.{AllByRecursion as Every}
+-- In every run with falls whose records are kept each deed of a client is right for each transaction, and the stamps of its
+-- records rise.
+use Rattle.std.proofs.Common.{◌≡◌, ◌≢◌, ◌≤◌, ◌<◌, ℕ, ◌+◌, ◌==◌, nat_le, nat_lt, Bool, true, false, List, [], ◌∷◌, ◌++◌, length, option_to_list, Option, Some, None, slice_get, refl, sym, ap, ◌∙◌, subst, arith, append_assoc, eqb-true}
+use Rattle.std.specs.List.{AllByRecursion as Every, AllPairs, filter_map}
 use Rattle.std.proofs.lemmas.Bool.{ltb-true}
 use Rattle.qc_core.specs.Conduct.{IsLawfulWithFalls}
+use Rattle.qc_core.specs.Journals.{journal_after}
+use Rattle.qc_entry.specs.declared.record.Commit.{Commit}
+use Rattle.qc_msg.specs.Counts.{commit_of}
 use Rattle.qc_decl.specs.Accepted.{IsAccepted}
 use Rattle.qc_decl.specs.Actors.{actors, client_actor, controller, is_client}
 use Rattle.qc_decl.specs.declared.declaration.Declaration.{Declaration}
@@ -36,7 +40,7 @@ use Rattle.qc_msg.proofs.Growth.{deeds-other, deeds-posted_as, deeds-taken}
 use Rattle.qc_net.specs.Messages.{Backed}
 use Rattle.qc_net.specs.Mirrors.{Refines}
 use Rattle.qc_net.proofs.Refining.{refines}
-use Rattle.qc_promise.specs.Kept.{Kept}
+use Rattle.qc_promise.specs.Kept.{Journal, Kept}
 use Rattle.qc_promise.specs.Status.{AreRight, Status, status, status_at}
 use Rattle.qc_promise.specs.Status.{Unborn}
 use Rattle.qc_protocol.specs.Acts.{state}
@@ -61,7 +65,9 @@ use Rattle.qc_verdicts.proofs.Rightly.{course_right}
 use Rattle.qc_verdicts.proofs.KeptBack.{kept_given_back}
 use Rattle.qc_verdicts.proofs.Putting.{part_kept}
 use Rattle.qc_verdicts.proofs.Questions.{Asked, IsRequested, run_asked}
+use Rattle.qc_verdicts.proofs.RisingStamps.{Rise, commits_more, commits_of, rise_first, rise_pairs}
 use Rattle.qc_verdicts.proofs.Sent.{mail_deed}
+use Rattle.qc_verdicts.proofs.Stamped.{WithPending, course_rises}
 
 -- a post takes nothing, whatever becomes of its record
 
@@ -92,17 +98,26 @@ module _ (decl : Declaration) (script : Script) (fits : ℕ → List Record → 
   abbrev AreKnown : List Entry → Type 0
   AreKnown h = (a : ℕ) → is_client decl a ≡ true → (tx : TxId) → KnownFrom tx Unborn (deeds a [] h)
 
-  module _ (h : List Entry) (open_inputs : List Bool) (run : IsRun h open_inputs) (kept : Kept h) (known : AreKnown h) where
-    declares : (a : ℕ) → Declares decl (deeds a [] h)
-    declares a = run_declares decl script fits accepted (asks_declared decl script accepted sound) h open_inputs run (kept_first decl script fits h open_inputs run kept) a
+  declares : (h : List Entry) (open_inputs : List Bool) → IsRun h open_inputs → Kept h → (a : ℕ) → Declares decl (deeds a [] h)
+  declares h open_inputs run kept a = run_declares decl script fits accepted (asks_declared decl script accepted sound) h open_inputs run (kept_first decl script fits h open_inputs run kept) a
 
+  record Lived (h : List Entry) (open_inputs : List Bool) (a : ℕ) : Type 0 where
+    is_open : Bool
+    in_run : LivesIn decl a h is_open
+
+  lived : (h : List Entry) (open_inputs : List Bool) → IsRun h open_inputs → (a : ℕ) → is_client decl a ≡ true → Lived h open_inputs a
+  lived h open_inputs run a client =
+      let low : a < actors decl = ltb-true a (actors decl) (and_second (nat_le decl.sites a) (nat_lt a (actors decl)) client) in
+      let long : length open_inputs ≡ actors decl = run_long decl script fits few h open_inputs run in
+      let place : (t : Bool) × (slice_get open_inputs a ≡ Some t) = slice_get-within open_inputs a (omega arith) in
+      record { is_open = place.0; in_run = run_lives decl script fits few h open_inputs run a place.0 place.1 }
+
+  module _ (h : List Entry) (open_inputs : List Bool) (run : IsRun h open_inputs) (kept : Kept h) (known : AreKnown h) where
     all_right : (a : ℕ) → is_client decl a ≡ true → (tx : TxId) → AreRight tx (deeds a [] h)
     all_right a client tx =
-        let low : a < actors decl = ltb-true a (actors decl) (and_second (nat_le decl.sites a) (nat_lt a (actors decl)) client) in
-        let long : length open_inputs ≡ actors decl = run_long decl script fits few h open_inputs run in
-        let place : (t : Bool) × (slice_get open_inputs a ≡ Some t) = slice_get-within open_inputs a (omega arith) in
-        let lived : LivesIn decl a h place.0 = run_lives decl script fits few h open_inputs run a place.0 place.1 in
-        course_right decl a client tx (declares a).first (deeds a [] h) place.0 lived.above lived.lives (declares a).deeds (kept_given_back h kept a) (known a client tx)
+        let l : Lived h open_inputs a = lived h open_inputs run a client in
+        let d : Declares decl (deeds a [] h) = declares h open_inputs run kept a in
+        course_right decl a client tx d.first (deeds a [] h) l.is_open l.in_run.above l.in_run.lives d.deeds (kept_given_back h kept a) (known a client tx)
 
     -- one that was asked for was begun
     asked_born : (a : ℕ) → is_client decl a ≡ true → (tx : TxId) → a ≡ client_actor decl tx.client → IsRequested (mail h) tx → status (deeds a [] h) tx ≢ Unborn
@@ -184,3 +199,21 @@ module _ (decl : Declaration) (script : Script) (fits : ℕ → List Record → 
 
   pub moves_on : (h : List Entry) (open_inputs : List Bool) → IsRun h open_inputs → Kept h → (a : ℕ) → is_client decl a ≡ true → (tx : TxId) → AreRight tx (deeds a [] h)
   moves_on h open_inputs run kept a client tx = all_right h open_inputs run kept (all_known h open_inputs run kept) a client tx
+
+  -- and the stamps of its records rise
+
+  journal_rises : (h : List Entry) (open_inputs : List Bool) → IsRun h open_inputs → Kept h → (a : ℕ) → is_client decl a ≡ true → WithPending (journal_after (deeds a [] h))
+  journal_rises h open_inputs run kept a client =
+      let l : Lived h open_inputs a = lived h open_inputs run a client in
+      let d : Declares decl (deeds a [] h) = declares h open_inputs run kept a in
+      course_rises decl a client d.first (deeds a [] h) l.is_open l.in_run.above l.in_run.lives d.deeds (kept_given_back h kept a)
+
+  pub pending_rise : (h : List Entry) (open_inputs : List Bool) → IsRun h open_inputs → Kept h → (a : ℕ) → is_client decl a ≡ true
+      → AllPairs (λ (c d : Commit). c.stamp.clock < d.stamp.clock) (filter_map commit_of ((journal_after (deeds a [] h)).records ++ option_to_list (journal_after (deeds a [] h)).pending))
+  pending_rise h open_inputs run kept a client = rise_pairs _ (journal_rises h open_inputs run kept a client)
+
+  pub records_rise : (h : List Entry) (open_inputs : List Bool) → IsRun h open_inputs → Kept h → (a : ℕ) → is_client decl a ≡ true
+      → AllPairs (λ (c d : Commit). c.stamp.clock < d.stamp.clock) (filter_map commit_of (journal_after (deeds a [] h)).records)
+  records_rise h open_inputs run kept a client =
+      let j : Journal = journal_after (deeds a [] h) in
+      rise_pairs (commits_of j.records) (rise_first (commits_of j.records) (commits_of (option_to_list j.pending)) (subst Rise (commits_more j.records (option_to_list j.pending)) (journal_rises h open_inputs run kept a client)))

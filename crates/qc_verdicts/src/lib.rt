@@ -17,4 +17,4 @@ pub use laws::{
     rises_give_back_journals_where_records_are_kept, what_was_written_rises_rightly,
     what_was_written_rises_rightly_where_records_are_kept,
 };
-pub use runs::transactions_move_on_through_falls;
+pub use runs::{stamps_rise_through_falls, transactions_move_on_through_falls};

@@ -1,11 +1,15 @@
 //! Laws of runs with falls whose records are kept, each the contract of a function
 //! with nothing to do.
 
-ghost use Rattle.std.specs.Prelude.{◌≡◌, ℕ, Bool, true, List, []};
+ghost use Rattle.std.specs.List.{AllPairs, filter_map};
+ghost use Rattle.std.specs.Prelude.{◌≡◌, ◌<◌, ◌++◌, ℕ, Bool, true, List, [], option_to_list};
 ghost use Rattle.qc_core.specs.Conduct.{IsLawfulWithFalls};
+ghost use Rattle.qc_core.specs.Journals.{journal_after};
 ghost use Rattle.qc_decl.specs.Accepted.{IsAccepted};
 ghost use Rattle.qc_decl.specs.Actors.{is_client};
 ghost use Rattle.qc_decl.specs.declared.declaration.Declaration.{Declaration};
+ghost use Rattle.qc_entry.specs.declared.record.Commit.{Commit};
+ghost use Rattle.qc_msg.specs.Counts.{commit_of};
 ghost use Rattle.qc_msg.specs.Deeds.{deeds};
 ghost use Rattle.qc_msg.specs.Steps.{Entry};
 ghost use Rattle.qc_promise.specs.Kept.{Kept};
@@ -29,4 +33,22 @@ pub fn transactions_move_on_through_falls<C: ConductWithFalls>()
         → IsAccepted decl → IsScriptFor decl script
         → RunsWithFalls (IsLawfulWithFalls decl) C.fits decl script h open_inputs → Kept h
         → (a : ℕ) → is_client decl a ≡ true → (tx : TxId) → AreRight tx (deeds a [] h) }
+{}
+
+/// The stamps of the commit records in a client's journal rise, over all its
+/// lives; and the record that was being written as it fell is above them all.
+pub fn stamps_rise_through_falls<C: ConductWithFalls>()
+    ensures written { (decl : Declaration) (script : Script) (h : List Entry) (open_inputs : List Bool)
+        → IsAccepted decl → IsScriptFor decl script
+        → RunsWithFalls (IsLawfulWithFalls decl) C.fits decl script h open_inputs → Kept h
+        → (a : ℕ) → is_client decl a ≡ true
+        → AllPairs (λ (c d : Commit). c.stamp.clock < d.stamp.clock)
+            (filter_map commit_of (journal_after (deeds a [] h)).records) }
+    ensures pending { (decl : Declaration) (script : Script) (h : List Entry) (open_inputs : List Bool)
+        → IsAccepted decl → IsScriptFor decl script
+        → RunsWithFalls (IsLawfulWithFalls decl) C.fits decl script h open_inputs → Kept h
+        → (a : ℕ) → is_client decl a ≡ true
+        → AllPairs (λ (c d : Commit). c.stamp.clock < d.stamp.clock)
+            (filter_map commit_of ((journal_after (deeds a [] h)).records
+                ++ option_to_list (journal_after (deeds a [] h)).pending)) }
 {}
