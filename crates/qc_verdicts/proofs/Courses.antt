@@ -64,7 +64,7 @@ module _ (decl : Declaration) (a : ℕ) (client : is_client decl a ≡ true) (pl
     pub before : List Deed
     pub given : Given
     pub is : ds ≡ before ++ Takes given ∷ []
-    there : IsAtRest decl a before
+    pub there : IsAtRest decl a before
     pub rest : Keeps before
     may : MayTake before given
     reach : MayReach (is_up before) given

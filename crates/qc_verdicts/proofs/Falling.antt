@@ -55,7 +55,7 @@ module _ (decl : Declaration) (a : ℕ) (client : is_client decl a ≡ true) (tx
   abbrev number : ℕ
   number = a - decl.sites
 
-  down_here : (b : Bool) (s : Status) (j : Journal) (x : Actor) → HereWith decl a client tx b s j x → b ≡ false → Down tx s j number
+  pub down_here : (b : Bool) (s : Status) (j : Journal) (x : Actor) → HereWith decl a client tx b s j x → b ≡ false → Down tx s j number
   down_here true s j x here same = absurd (let never : ⊥ = cc in never)
   down_here false s j x here same = here
 

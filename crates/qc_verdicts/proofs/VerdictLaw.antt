@@ -1,8 +1,8 @@
 -- In every run with falls whose records are kept each deed of a client is right for each transaction, and the stamps of its
 -- records rise.
-use Rattle.std.proofs.Common.{◌≡◌, ◌≢◌, ◌≤◌, ◌<◌, ℕ, ◌+◌, ◌==◌, nat_le, nat_lt, Bool, true, false, List, [], ◌∷◌, ◌++◌, length, option_to_list, Option, Some, None, slice_get, refl, sym, ap, ◌∙◌, subst, arith, append_assoc, eqb-true}
+use Rattle.std.proofs.Common.{◌≡◌, ◌↔◌, ◌-◌, ◌≢◌, ◌≤◌, ◌<◌, ℕ, ◌+◌, ◌==◌, nat_le, nat_lt, Bool, true, false, List, [], ◌∷◌, ◌++◌, length, option_to_list, Option, Some, None, slice_get, refl, sym, ap, ◌∙◌, subst, arith, append_assoc, eqb-true}
 use Rattle.std.specs.List.{AllByRecursion as Every, AllPairs, filter_map}
-use Rattle.std.proofs.lemmas.Bool.{ltb-true}
+use Rattle.std.proofs.lemmas.Bool.{leb-true, ltb-true}
 use Rattle.qc_core.specs.Conduct.{IsLawfulWithFalls}
 use Rattle.qc_core.specs.Journals.{journal_after}
 use Rattle.qc_entry.specs.declared.record.Commit.{Commit}
@@ -19,7 +19,7 @@ use Rattle.qc_list.specs.Members.{In}
 use Rattle.qc_list.proofs.Members.{every-append, every-at}
 use Rattle.qc_lives.specs.LivesIn.{LivesIn}
 use Rattle.qc_lives.proofs.Lived.{deeds-fall, deeds-rise, line_silent, run_lives, run_long}
-use Rattle.qc_lock.proofs.Entries.{and_second}
+use Rattle.qc_lock.proofs.Entries.{and_first, and_second}
 use Rattle.qc_msg.specs.declared.message.Envelope.{Envelope}
 use Rattle.qc_msg.specs.declared.message.Message.{Message}
 use Rattle.qc_msg.specs.declared.message.Message.TheVariants as messages
@@ -42,26 +42,28 @@ use Rattle.qc_net.specs.Mirrors.{Refines}
 use Rattle.qc_net.proofs.Refining.{refines}
 use Rattle.qc_promise.specs.Kept.{Journal, Kept}
 use Rattle.qc_promise.specs.Status.{AreRight, Status, status, status_at}
-use Rattle.qc_promise.specs.Status.{Unborn}
+use Rattle.qc_promise.specs.Status.{Unborn, Committed}
 use Rattle.qc_protocol.specs.Acts.{state}
 use Rattle.qc_records.proofs.Bounding.{turn-posts}
 use Rattle.qc_records.proofs.ClientsWithin.{IsPost}
-use Rattle.qc_records.proofs.KnownDeeds.{IsKnown, IsKnownIn, KnownFrom, known-append, known-posts}
+use Rattle.qc_records.proofs.KnownDeeds.{IsKnown, IsKnownIn, KnownFrom, known-append, known-posts, known-second}
 use Rattle.qc_records.proofs.Lasting.{request_born}
 use Rattle.qc_records.proofs.SitesAsk.{Tells}
 use Rattle.qc_script.specs.Ready.{phase_of}
 use Rattle.qc_script.specs.RunsWithFalls.{RunsWithFalls, begins, takes, posts, phase, control, falls, rises, damaged, unopened}
 use Rattle.qc_script.specs.Sound.{IsScriptFor}
 use Rattle.qc_script.specs.declared.script.Script.{Script}
+use Rattle.qc_stamp.specs.declared.stamp.Stamp.{Stamp}
 use Rattle.qc_stamp.specs.declared.stamp.TxId.{TxId}
-use Rattle.qc_stamp.proofs.Orders.{same_tx_is}
+use Rattle.qc_stamp.proofs.Orders.{same_tx_is, same_tx_itself}
 use Rattle.qc_account.specs.Declares.{Declares}
 use Rattle.qc_account.proofs.Declared.{asks_declared}
 use Rattle.qc_due.proofs.Declared.{run_declares}
 use Rattle.qc_due.proofs.KeptFirst.{kept_first}
 use Rattle.qc_reach.specs.Reached.{IsReachedWithFalls}
 use Rattle.qc_reach.proofs.Reaching.{net_of}
-use Rattle.qc_verdicts.proofs.Rightly.{course_right}
+use Rattle.qc_verdicts.proofs.Rightly.{Shows, course_shows}
+use Rattle.qc_verdicts.specs.Recorded.{IsRecorded}
 use Rattle.qc_verdicts.proofs.KeptBack.{kept_given_back}
 use Rattle.qc_verdicts.proofs.Putting.{part_kept}
 use Rattle.qc_verdicts.proofs.Questions.{Asked, IsRequested, run_asked}
@@ -113,11 +115,11 @@ module _ (decl : Declaration) (script : Script) (fits : ℕ → List Record → 
       record { is_open = place.0; in_run = run_lives decl script fits few h open_inputs run a place.0 place.1 }
 
   module _ (h : List Entry) (open_inputs : List Bool) (run : IsRun h open_inputs) (kept : Kept h) (known : AreKnown h) where
-    all_right : (a : ℕ) → is_client decl a ≡ true → (tx : TxId) → AreRight tx (deeds a [] h)
-    all_right a client tx =
+    shows : (a : ℕ) (client : is_client decl a ≡ true) (tx : TxId) → Shows decl a client tx (deeds a [] h)
+    shows a client tx =
         let l : Lived h open_inputs a = lived h open_inputs run a client in
         let d : Declares decl (deeds a [] h) = declares h open_inputs run kept a in
-        course_right decl a client tx d.first (deeds a [] h) l.is_open l.in_run.above l.in_run.lives d.deeds (kept_given_back h kept a) (known a client tx)
+        course_shows decl a client tx d.first (deeds a [] h) l.is_open l.in_run.above l.in_run.lives d.deeds (kept_given_back h kept a) (known a client tx)
 
     -- one that was asked for was begun
     asked_born : (a : ℕ) → is_client decl a ≡ true → (tx : TxId) → a ≡ client_actor decl tx.client → IsRequested (mail h) tx → status (deeds a [] h) tx ≢ Unborn
@@ -128,7 +130,7 @@ module _ (decl : Declaration) (script : Script) (fits : ℕ → List Record → 
         subst (Backed decl (state m.acts) net.net.mail r.request.from r.request.to) r.is (m.agrees.mail r.request (subst (In r.request) (sym net.mail_is) r.sent)) in
         let from : r.request.from ≡ a = backed.0 ∙ sym its in
         let sent : In (Sends r.request.number r.request.to r.request.message) (deeds a [] h) = subst (λ (b : ℕ). In (Sends r.request.number r.request.to r.request.message) (deeds b [] h)) from (mail_deed [] h r.request r.sent) in
-        request_born tx Unborn (deeds a [] h) r.request.number r.request.to r.epoch r.life r.want (all_right a client tx) (subst (λ (x : Message). In (Sends r.request.number r.request.to x) (deeds a [] h)) r.is sent)
+        request_born tx Unborn (deeds a [] h) r.request.number r.request.to r.epoch r.life r.want (shows a client tx).right (subst (λ (x : Message). In (Sends r.request.number r.request.to x) (deeds a [] h)) r.is sent)
 
     -- so what it takes next is so too
 
@@ -197,8 +199,30 @@ module _ (decl : Declaration) (script : Script) (fits : ℕ → List Record → 
   all_known h open_inputs (unopened b cause lines before older run left disk) kept a client tx =
       by_actor b a tx older (steps.Fell cause None ∷ []) (Falls cause None ∷ []) (deeds-fall b older cause) (all_known older before run (part_kept older _ kept) a client tx) (λ same. tt)
 
+  -- each deed is right
+
+  all_shows : (h : List Entry) (open_inputs : List Bool) → IsRun h open_inputs → Kept h → (a : ℕ) (client : is_client decl a ≡ true) (tx : TxId) → Shows decl a client tx (deeds a [] h)
+  all_shows h open_inputs run kept = shows h open_inputs run kept (all_known h open_inputs run kept)
+
   pub moves_on : (h : List Entry) (open_inputs : List Bool) → IsRun h open_inputs → Kept h → (a : ℕ) → is_client decl a ≡ true → (tx : TxId) → AreRight tx (deeds a [] h)
-  moves_on h open_inputs run kept a client tx = all_right h open_inputs run kept (all_known h open_inputs run kept) a client tx
+  moves_on h open_inputs run kept a client tx = (all_shows h open_inputs run kept a client tx).right
+
+  pub recorded : (h : List Entry) (open_inputs : List Bool) → IsRun h open_inputs → Kept h → (a : ℕ) → is_client decl a ≡ true → (tx : TxId) (stamp : Stamp)
+      → (status (deeds a [] h) tx ≡ Committed stamp) ↔ IsRecorded tx stamp (journal_after (deeds a [] h)).records
+  recorded h open_inputs run kept a client tx stamp = let w : Shows decl a client tx (deeds a [] h) = all_shows h open_inputs run kept a client tx in (w.recorded stamp, w.told stamp)
+
+  pub own_names : (h : List Entry) (open_inputs : List Bool) → IsRun h open_inputs → Kept h → (a : ℕ) → is_client decl a ≡ true → (tx : TxId) → status (deeds a [] h) tx ≢ Unborn → client_actor decl tx.client ≡ a
+  own_names h open_inputs run kept a client tx born =
+      let mine : tx.client ≡ a - decl.sites = (all_shows h open_inputs run kept a client tx).own born in
+      let low : decl.sites ≤ a = leb-true decl.sites a (and_first (nat_le decl.sites a) (nat_lt a (actors decl)) client) in
+      omega arith
+
+  -- a client is asked about begun transactions alone
+  pub asked_begun : (h : List Entry) (open_inputs : List Bool) → IsRun h open_inputs → Kept h → (a : ℕ) → is_client decl a ≡ true → (before later : List Deed) (e : Envelope) (tx : TxId)
+      → before ++ Takes (given.Got e) ∷ later ≡ deeds a [] h → e.message ≡ messages.Inquiry tx → status before tx ≢ Unborn
+  asked_begun h open_inputs run kept a client before later e tx is asks =
+      let known : KnownFrom tx Unborn (before ++ Takes (given.Got e) ∷ later) = subst (KnownFrom tx Unborn) (sym is) (all_known h open_inputs run kept a client tx) in
+      subst (IsKnownIn tx (status before tx)) asks (known-second tx Unborn before (Takes (given.Got e) ∷ later) known).0 (same_tx_itself tx)
 
   -- and the stamps of its records rise
 

@@ -1,2 +1,4 @@
 pub mod GivenBack
 pub mod Pending
+pub mod Recorded
+pub mod Wrong

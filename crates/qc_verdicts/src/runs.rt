@@ -2,22 +2,28 @@
 //! with nothing to do.
 
 ghost use Rattle.std.specs.List.{AllPairs, filter_map};
-ghost use Rattle.std.specs.Prelude.{◌≡◌, ◌<◌, ◌++◌, ℕ, Bool, true, List, [], option_to_list};
+ghost use Rattle.std.specs.Prelude.{◌≡◌, ◌≢◌, ◌<◌, ◌↔◌, ◌∷◌, ◌++◌, ℕ, Bool, true, List, [], option_to_list};
 ghost use Rattle.qc_core.specs.Conduct.{IsLawfulWithFalls};
 ghost use Rattle.qc_core.specs.Journals.{journal_after};
 ghost use Rattle.qc_decl.specs.Accepted.{IsAccepted};
-ghost use Rattle.qc_decl.specs.Actors.{is_client};
+ghost use Rattle.qc_decl.specs.Actors.{client_actor, is_client};
 ghost use Rattle.qc_decl.specs.declared.declaration.Declaration.{Declaration};
 ghost use Rattle.qc_entry.specs.declared.record.Commit.{Commit};
 ghost use Rattle.qc_msg.specs.Counts.{commit_of};
-ghost use Rattle.qc_msg.specs.Deeds.{deeds};
+ghost use Rattle.qc_msg.specs.Deeds.{Deed, Takes, deeds};
 ghost use Rattle.qc_msg.specs.Steps.{Entry};
+ghost use Rattle.qc_msg.specs.declared.message.Envelope.{Envelope};
+ghost use Rattle.qc_msg.specs.declared.message.Message.TheVariants.{Inquiry};
+ghost use Rattle.qc_msg.specs.declared.step.Given.TheVariants.{Got};
 ghost use Rattle.qc_promise.specs.Kept.{Kept};
-ghost use Rattle.qc_promise.specs.Status.{AreRight};
+ghost use Rattle.qc_promise.specs.Status.{AreRight, status};
+ghost use Rattle.qc_promise.specs.Status.{Committed, Unborn};
 ghost use Rattle.qc_script.specs.RunsWithFalls.{RunsWithFalls};
 ghost use Rattle.qc_script.specs.Sound.{IsScriptFor};
 ghost use Rattle.qc_script.specs.declared.script.Script.{Script};
+ghost use Rattle.qc_stamp.specs.declared.stamp.Stamp.{Stamp};
 ghost use Rattle.qc_stamp.specs.declared.stamp.TxId.{TxId};
+ghost use Rattle.qc_verdicts.specs.Recorded.{IsRecorded};
 
 use qc_script::ConductWithFalls;
 
@@ -51,4 +57,36 @@ pub fn stamps_rise_through_falls<C: ConductWithFalls>()
         → AllPairs (λ (c d : Commit). c.stamp.clock < d.stamp.clock)
             (filter_map commit_of ((journal_after (deeds a [] h)).records
                 ++ option_to_list (journal_after (deeds a [] h)).pending)) }
+{}
+
+/// A transaction is committed, with a stamp, just where its client's journal has
+/// its commit record, of that stamp: what its client says of it, its disk bears
+/// out, whatever fell.
+pub fn transactions_are_committed_by_their_records_through_falls<C: ConductWithFalls>()
+    ensures { (decl : Declaration) (script : Script) (h : List Entry) (open_inputs : List Bool)
+        → IsAccepted decl → IsScriptFor decl script
+        → RunsWithFalls (IsLawfulWithFalls decl) C.fits decl script h open_inputs → Kept h
+        → (a : ℕ) → is_client decl a ≡ true → (tx : TxId) (stamp : Stamp)
+        → (status (deeds a [] h) tx ≡ Committed stamp)
+            ↔ IsRecorded tx stamp (journal_after (deeds a [] h)).records }
+{}
+
+/// A client begins no transaction of another client.
+pub fn clients_begin_their_own_through_falls<C: ConductWithFalls>()
+    ensures { (decl : Declaration) (script : Script) (h : List Entry) (open_inputs : List Bool)
+        → IsAccepted decl → IsScriptFor decl script
+        → RunsWithFalls (IsLawfulWithFalls decl) C.fits decl script h open_inputs → Kept h
+        → (a : ℕ) → is_client decl a ≡ true → (tx : TxId)
+        → status (deeds a [] h) tx ≢ Unborn → client_actor decl tx.client ≡ a }
+{}
+
+/// A client is asked how a transaction stands only once it began it: so it
+/// answers nobody Aborted of one that may begin yet.
+pub fn clients_are_asked_about_begun_ones_through_falls<C: ConductWithFalls>()
+    ensures { (decl : Declaration) (script : Script) (h : List Entry) (open_inputs : List Bool)
+        → IsAccepted decl → IsScriptFor decl script
+        → RunsWithFalls (IsLawfulWithFalls decl) C.fits decl script h open_inputs → Kept h
+        → (a : ℕ) → is_client decl a ≡ true → (before later : List Deed) (e : Envelope) (tx : TxId)
+        → before ++ Takes (Got e) ∷ later ≡ deeds a [] h → e.message ≡ Inquiry tx
+        → status before tx ≢ Unborn }
 {}
