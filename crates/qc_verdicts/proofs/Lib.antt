@@ -17,3 +17,4 @@ pub mod VerdictLaw
 pub mod Clocks
 pub mod RisingStamps
 pub mod Stamped
+pub mod WrongOnes

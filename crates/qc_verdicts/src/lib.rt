@@ -12,6 +12,7 @@
 
 mod laws;
 mod runs;
+mod wrong;
 
 pub use laws::{
     rises_give_back_journals_where_records_are_kept, what_was_written_rises_rightly,
@@ -21,4 +22,8 @@ pub use runs::{
     clients_are_asked_about_begun_ones_through_falls, clients_begin_their_own_through_falls,
     stamps_rise_through_falls, transactions_are_committed_by_their_records_through_falls,
     transactions_move_on_through_falls,
+};
+pub use wrong::{
+    right_courses_through_falls_are_taken, wrong_courses_through_falls_are_refused,
+    wrong_records_through_falls_are_refused, wrong_verdicts_through_falls_are_refused,
 };
