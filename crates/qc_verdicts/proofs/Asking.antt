@@ -1,6 +1,6 @@
 -- An actor through its deeds: where what it takes tells of such transactions alone, and what it rises with promises for
 -- these, it asks about no others, and promises for no others.
-use Rattle.std.proofs.Common.{◌≡◌, ℕ, ◌-◌, Bool, true, false, cond, List, [], ◌∷◌, fold, inl, inr, Option, Some, None, option_to_list, sym, subst}
+use Rattle.std.proofs.Common.{ℕ, ◌-◌, Bool, true, false, cond, List, [], ◌∷◌, fold, inl, inr, Option, option_to_list, sym, subst}
 use Rattle.std.specs.List.{AllByRecursion as Every}
 use Rattle.qc_client.specs.Client.{new_client}
 use Rattle.qc_client.specs.Conduct.{client_takes}
@@ -33,7 +33,7 @@ use Rattle.qc_records.proofs.SitesAsk.{GivenTells, HeldFor}
 use Rattle.qc_site.specs.Site.{new_site}
 use Rattle.qc_stamp.specs.declared.stamp.TxId.{TxId}
 use Rattle.qc_account.proofs.Writing.{IsClientTurn, takes_turn}
-use Rattle.qc_verdicts.proofs.Changes.{Changes, input_changes}
+use Rattle.qc_verdicts.proofs.Changes.{input_changes}
 use Rattle.qc_verdicts.proofs.SitesAsk.{AreAbout, IsAbout, PreparedFor, PromisesFor, SiteAsks, TurnAsks, rises_ask, takes_ask}
 
 module _ (decl : Declaration) (B : TxId → Type 0) where

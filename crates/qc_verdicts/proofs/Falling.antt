@@ -1,11 +1,10 @@
 -- What each event of a client's life leaves it as, as its transactions' statuses say: a turn whose record isn't written, a
 -- fall, a command while it is down, a rise.
-use Rattle.std.proofs.Common.{◌≡◌, ℕ, ◌-◌, Bool, true, false, List, [], ◌∷◌, ◌++◌, fold, inl, inr, Option, Some, None, option_to_list, refl, sym, ap, ◌∙◌, subst, append_assoc}
+use Rattle.std.proofs.Common.{◌≡◌, ℕ, ◌-◌, Bool, true, false, List, [], ◌∷◌, ◌++◌, inl, inr, Option, Some, None, option_to_list, refl, sym, ap, ◌∙◌, subst, append_assoc}
 use Rattle.std.specs.List.{AllByRecursion as Every}
 use Rattle.qc_core.specs.declared.actor.Actor.{Actor}
-use Rattle.qc_core.specs.declared.actor.Actor.TheVariants as actors
 use Rattle.qc_core.specs.Actors.{ActorMove, actor_after, actor_does}
-use Rattle.qc_core.specs.Journals.{journal_after, journal_at}
+use Rattle.qc_core.specs.Journals.{journal_after}
 use Rattle.qc_core.specs.Lives.{is_up}
 use Rattle.qc_core.proofs.ActorLaws.{at_client}
 use Rattle.qc_client.specs.declared.client.Client.{Client}
@@ -28,7 +27,7 @@ use Rattle.qc_msg.specs.declared.turn.Turn.{Turn}
 use Rattle.qc_msg.specs.Deeds.{Deed, Takes, Writes, Tells, Falls, Rises, deeds_as, sends_of, tells_of, turn_deeds, writes_of}
 use Rattle.qc_msg.specs.Steps.{MayEnd}
 use Rattle.qc_promise.specs.Kept.{IsGivenBack, Journal, no_journal}
-use Rattle.qc_promise.specs.Status.{AreRightFrom, AreRightKept, IsRightRecord, Status, status, status_at, status_risen}
+use Rattle.qc_promise.specs.Status.{AreRightFrom, IsRightRecord, Status, status, status_risen}
 use Rattle.qc_promise.specs.Status.{Unborn}
 use Rattle.qc_records.proofs.KnownDeeds.{IsKnown}
 use Rattle.qc_records.proofs.RightTurns.{TurnRight}

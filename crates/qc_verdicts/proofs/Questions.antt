@@ -1,10 +1,9 @@
 -- In each run with falls whose records are kept a question about a transaction comes only after a request for it.
-use Rattle.std.proofs.Common.{◌≡◌, ℕ, ◌+◌, ◌==◌, Bool, true, false, cond, List, [], ◌∷◌, ◌++◌, length, Option, Some, None, option_to_list, slice_get, inl, inr, refl, sym, ap, ◌∙◌, subst, append_assoc}
+use Rattle.std.proofs.Common.{◌≡◌, ℕ, ◌+◌, ◌==◌, Bool, true, false, cond, List, [], ◌∷◌, ◌++◌, length, Option, Some, None, option_to_list, slice_get, refl, sym, subst, append_assoc}
 use Rattle.std.specs.List.{AllByRecursion as Every, cons_option}
 use Rattle.qc_core.specs.Conduct.{IsLawfulWithFalls, with_record}
 use Rattle.qc_decl.specs.Actors.{controller}
 use Rattle.qc_decl.specs.declared.declaration.Declaration.{Declaration}
-use Rattle.qc_inbox.proofs.FallMail.{ready_sent}
 use Rattle.qc_list.specs.Members.{In}
 use Rattle.qc_list.proofs.Members.{In-first, In-second, every-In, every-append, every-at, every-from_In, every-weaker}
 use Rattle.qc_msg.specs.declared.message.Envelope.{Envelope}
@@ -22,7 +21,7 @@ use Rattle.qc_msg.specs.declared.step.Step.{Step}
 use Rattle.qc_msg.specs.declared.step.Step.TheVariants as steps
 use Rattle.qc_msg.specs.declared.turn.Posting.{Posting}
 use Rattle.qc_msg.specs.declared.turn.Turn.{Turn}
-use Rattle.qc_msg.specs.Deeds.{Deed, deed_at, deeds, envelope_of, envelopes, heard, mail}
+use Rattle.qc_msg.specs.Deeds.{deed_at, deeds, envelope_of, envelopes, heard, mail}
 use Rattle.qc_msg.specs.Steps.{Entry, by, marked, posted_as, sends_as, step_of}
 use Rattle.qc_msg.proofs.Growth.{mail-append, mail-posted_as}
 use Rattle.qc_promise.specs.Kept.{Kept}

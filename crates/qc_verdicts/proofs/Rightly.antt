@@ -12,7 +12,6 @@ use Rattle.qc_decl.specs.declared.declaration.Declaration.{Declaration}
 use Rattle.qc_msg.specs.declared.step.Given.{Given}
 use Rattle.qc_msg.specs.declared.step.Given.TheVariants as given
 use Rattle.qc_msg.specs.declared.step.Fall.TheVariants as causes
-use Rattle.qc_msg.specs.declared.turn.Turn.{Turn}
 use Rattle.qc_msg.specs.declared.reply.Reply.TheVariants as replies
 use Rattle.qc_msg.specs.Begun.{first_epoch}
 use Rattle.qc_msg.specs.Deeds.{Deed, Takes, Tells, Falls, Rises, deeds_as}
@@ -33,7 +32,7 @@ use Rattle.qc_account.proofs.Standing.{IsAt, IsAtRest, Stands}
 use Rattle.qc_account.specs.Declares.{IsDeclaredDeed, IsPlanned}
 use Rattle.qc_verdicts.specs.GivenBack.{AreGivenBack}
 use Rattle.qc_verdicts.specs.Recorded.{IsRecorded}
-use Rattle.qc_verdicts.proofs.Courses.{AtInput, IsNow, Lasts, course}
+use Rattle.qc_verdicts.proofs.Courses.{IsNow, Lasts, course}
 use Rattle.qc_verdicts.proofs.Falling.{called_rests, crashed_rests, down_here, new_rests, risen_rests, turn_rests, unopened_rests}
 use Rattle.qc_verdicts.proofs.KeptBack.{back_first}
 use Rattle.qc_verdicts.proofs.Lifelong.{Rests, up_here}

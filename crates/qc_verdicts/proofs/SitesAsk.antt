@@ -1,5 +1,5 @@
 -- A site promises only for transactions that it was asked for, and asks clients only about these, as it rises too.
-use Rattle.std.proofs.Common.{◌≡◌, ℕ, not, Bool, true, false, List, [], ◌∷◌, ◌++◌, fold, filter, map, Option, Some, None, option_to_list, refl}
+use Rattle.std.proofs.Common.{◌≡◌, ℕ, not, List, [], ◌∷◌, ◌++◌, fold, map, option_to_list, refl}
 use Rattle.std.specs.List.{AllByRecursion as Every}
 use Rattle.std.specs.declared.cmp.Ordering.{Ordering}
 use Rattle.std.specs.declared.cmp.Ordering.TheVariants.{Equal, Greater, Less}
@@ -25,11 +25,11 @@ use Rattle.qc_msg.specs.declared.step.Given.TheVariants as given
 use Rattle.qc_msg.specs.declared.turn.Posting.{Posting}
 use Rattle.qc_msg.specs.declared.turn.Turn.{Turn}
 use Rattle.qc_msg.specs.Turns.{quiet}
-use Rattle.qc_recover.specs.Sites.{Kept, held_by, holds, in_order, inquiries, inquiry, keeps, kept_by, nothing_kept, site_rises}
+use Rattle.qc_recover.specs.Sites.{Kept, holds, in_order, inquiry, keeps, kept_by, nothing_kept, site_rises}
 use Rattle.qc_records.proofs.SitesAsk.{Asks, GivenTells, HeldFor, SiteTells, Tells, held-more, site_asks}
 use Rattle.qc_site.specs.Conduct.{passed, site_at, site_takes}
 use Rattle.qc_site.specs.Promise.{promise_of, without_prepared}
-use Rattle.qc_site.specs.Requests.{clashing, grants}
+use Rattle.qc_site.specs.Requests.{grants}
 use Rattle.qc_site.specs.Site.{SiteMove, SiteState, answers, moved}
 use Rattle.qc_site.proofs.Cases.{append_cases, join_cases, prepare_cases, read_cases, request_cases}
 

@@ -1,6 +1,6 @@
 -- Over all of a client's deeds, through its falls and rises, the stamps of its commit records rise, and its clock has passed
 -- them.
-use Rattle.std.proofs.Common.{◌≡◌, ◌≤◌, ◌<◌, ◌⊎◌, ℕ, ◌-◌, Bool, true, false, List, [], ◌∷◌, ◌++◌, fold, inl, inr, Option, Some, None, option_to_list, refl, sym, ap, ◌∙◌, subst, append_assoc, arith}
+use Rattle.std.proofs.Common.{◌≡◌, ◌<◌, ℕ, ◌-◌, Bool, true, false, List, [], ◌∷◌, ◌++◌, fold, inl, inr, Option, Some, None, option_to_list, refl, sym, ap, ◌∙◌, subst, append_assoc, arith}
 use Rattle.std.specs.List.{AllByRecursion as Every}
 use Rattle.std.proofs.lemmas.List.{append-nil}
 use Rattle.std.proofs.lemmas.List.Sums.{fold-append}
@@ -9,10 +9,9 @@ use Rattle.qc_core.specs.declared.actor.Actor.TheVariants as actors
 use Rattle.qc_core.specs.Actors.{ActorMove, actor_after, actor_does, actor_takes}
 use Rattle.qc_core.specs.Journals.{journal_after, journal_at}
 use Rattle.qc_core.specs.Lives.{Lives, is_up}
-use Rattle.qc_core.proofs.ActorLaws.{at_client}
 use Rattle.qc_core.proofs.Steady.{turn_steady}
 use Rattle.qc_client.specs.declared.client.Client.{Client}
-use Rattle.qc_client.specs.Client.{ClientMove, new_client}
+use Rattle.qc_client.specs.Client.{ClientMove}
 use Rattle.qc_client.specs.Conduct.{client_does, client_takes}
 use Rattle.qc_decl.specs.Actors.{is_client}
 use Rattle.qc_decl.specs.declared.declaration.Declaration.{Declaration}
@@ -28,20 +27,18 @@ use Rattle.qc_msg.specs.declared.step.Given.{Given}
 use Rattle.qc_msg.specs.declared.step.Given.TheVariants as given
 use Rattle.qc_msg.specs.declared.turn.Appended.{Appended}
 use Rattle.qc_msg.specs.declared.turn.Appended.TheVariants.{Done, Failed, Stopped}
-use Rattle.qc_msg.specs.declared.turn.Turn.{Turn}
 use Rattle.qc_msg.specs.Begun.{first_epoch}
 use Rattle.qc_msg.specs.Deeds.{Deed, Takes, Writes, Tells, Falls, Rises, deeds_as, sends_of, tells_of, turn_deeds, writes_of}
 use Rattle.qc_msg.specs.Steps.{MayEnd}
 use Rattle.qc_promise.specs.Kept.{IsGivenBack, Journal, no_journal}
 use Rattle.qc_records.proofs.Bounding.{turn-posts}
-use Rattle.qc_recover.specs.Clients.{client_rises, kept_by, nothing_kept}
+use Rattle.qc_recover.specs.Clients.{client_rises, nothing_kept}
 use Rattle.qc_recover.specs.Sites.{rising}
 use Rattle.qc_account.specs.Declares.{IsDeclaredDeed, IsPlanned}
-use Rattle.qc_account.proofs.Commands.{no_site}
 use Rattle.qc_account.proofs.Standing.{IsAtRest, IsTied, actor_more, steady_client, steady_up, up_more}
 use Rattle.qc_account.proofs.Writing.{IsClientTurn, IsCommitTurn, takes_turn}
 use Rattle.qc_verdicts.specs.GivenBack.{AreGivenBack}
-use Rattle.qc_verdicts.proofs.Clocks.{Stamps, StampsNone, StampsOne, clock_posts, takes_stamps}
+use Rattle.qc_verdicts.proofs.Clocks.{Stamps, clock_posts, takes_stamps}
 use Rattle.qc_verdicts.proofs.Courses.{IsNow, Lasts, course, rises_to}
 use Rattle.qc_verdicts.proofs.KeptBack.{back_first, back_second}
 use Rattle.qc_verdicts.proofs.Lifelong.{same_client}

@@ -41,7 +41,7 @@ use Rattle.qc_net.specs.Messages.{Backed}
 use Rattle.qc_net.specs.Mirrors.{Refines}
 use Rattle.qc_net.proofs.Refining.{refines}
 use Rattle.qc_promise.specs.Kept.{Journal, Kept}
-use Rattle.qc_promise.specs.Status.{AreRight, Status, status, status_at}
+use Rattle.qc_promise.specs.Status.{AreRight, status}
 use Rattle.qc_promise.specs.Status.{Unborn, Committed}
 use Rattle.qc_protocol.specs.Acts.{state}
 use Rattle.qc_records.proofs.Bounding.{turn-posts}

@@ -1,5 +1,5 @@
 -- Each wrong course through falls is refused, and the right ones are taken.
-use Rattle.std.proofs.Common.{◌≡◌, ◌≢◌, ◌<◌, ◌↔◌, ◌⊎◌, ℕ, inl, inr, List, [], ◌∷◌, ◌++◌, option_to_list, refl, ap, arith}
+use Rattle.std.proofs.Common.{◌≡◌, ◌≢◌, ◌<◌, ◌↔◌, ◌⊎◌, inl, inr, List, [], ◌∷◌, ◌++◌, option_to_list, refl, ap, arith}
 use Rattle.std.specs.List.{AllPairs, filter_map}
 use Rattle.qc_core.specs.Journals.{journal_after}
 use Rattle.qc_decl.specs.Actors.{client_actor}

@@ -1,5 +1,5 @@
 -- Deeds of one transaction's client through falls, of which wrong courses and right ones are made.
-use Rattle.std.specs.Prelude.{List, [], ◌∷◌, Some, None}
+use Rattle.std.specs.Prelude.{List, [], Some, None}
 use Rattle.qc_msg.specs.declared.message.Envelope.{Envelope}
 use Rattle.qc_msg.specs.declared.message.Message.TheVariants.{Inquiry}
 use Rattle.qc_msg.specs.declared.record.Record.{Record}
@@ -8,7 +8,7 @@ use Rattle.qc_msg.specs.declared.reply.Reply.TheVariants as replies
 use Rattle.qc_msg.specs.declared.step.Fall.TheVariants.{Disk, Script}
 use Rattle.qc_msg.specs.declared.step.Given.TheVariants.{Got}
 use Rattle.qc_msg.specs.Deeds.{Deed, Falls, Rises, Takes, Tells, Writes}
-use Rattle.qc_records.specs.Wrong.{commit, first, second, tx}
+use Rattle.qc_records.specs.Wrong.{commit, tx}
 use Rattle.qc_stamp.specs.declared.stamp.Stamp.{Stamp}
 use Rattle.qc_stamp.specs.declared.stamp.TxId.{TxId}
 

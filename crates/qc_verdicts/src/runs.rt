@@ -49,14 +49,14 @@ pub fn stamps_rise_through_falls<C: ConductWithFalls>()
         → RunsWithFalls (IsLawfulWithFalls decl) C.fits decl script h open_inputs → Kept h
         → (a : ℕ) → is_client decl a ≡ true
         → AllPairs (λ (c d : Commit). c.stamp.clock < d.stamp.clock)
-            (filter_map commit_of (journal_after (deeds a [] h)).records) }
+        (filter_map commit_of (journal_after (deeds a [] h)).records) }
     ensures pending { (decl : Declaration) (script : Script) (h : List Entry) (open_inputs : List Bool)
         → IsAccepted decl → IsScriptFor decl script
         → RunsWithFalls (IsLawfulWithFalls decl) C.fits decl script h open_inputs → Kept h
         → (a : ℕ) → is_client decl a ≡ true
         → AllPairs (λ (c d : Commit). c.stamp.clock < d.stamp.clock)
-            (filter_map commit_of ((journal_after (deeds a [] h)).records
-                ++ option_to_list (journal_after (deeds a [] h)).pending)) }
+        (filter_map commit_of ((journal_after (deeds a [] h)).records
+        ++ option_to_list (journal_after (deeds a [] h)).pending)) }
 {}
 
 /// A transaction is committed, with a stamp, just where its client's journal has
@@ -68,7 +68,7 @@ pub fn transactions_are_committed_by_their_records_through_falls<C: ConductWithF
         → RunsWithFalls (IsLawfulWithFalls decl) C.fits decl script h open_inputs → Kept h
         → (a : ℕ) → is_client decl a ≡ true → (tx : TxId) (stamp : Stamp)
         → (status (deeds a [] h) tx ≡ Committed stamp)
-            ↔ IsRecorded tx stamp (journal_after (deeds a [] h)).records }
+        ↔ IsRecorded tx stamp (journal_after (deeds a [] h)).records }
 {}
 
 /// A client begins no transaction of another client.

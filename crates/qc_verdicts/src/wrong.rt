@@ -63,7 +63,7 @@ pub fn wrong_records_through_falls_are_refused()
         (filter_map commit_of (journal_after (committed second ∷ committed first ∷ [])).records) → ⊥ }
     ensures pending_below { AllPairs (λ (c d : Commit). c.stamp.clock < d.stamp.clock)
         (filter_map commit_of ((journal_after (committed second ∷ falls_writing first ∷ [])).records
-            ++ option_to_list (journal_after (committed second ∷ falls_writing first ∷ [])).pending)) → ⊥ }
+        ++ option_to_list (journal_after (committed second ∷ falls_writing first ∷ [])).pending)) → ⊥ }
     ensures lost { ((status (begun ∷ committed first ∷ crashes ∷ rises [] ∷ []) tx ≡ so_far.Committed first)
         ↔ IsRecorded tx first (journal_after (begun ∷ committed first ∷ crashes ∷ rises [] ∷ [])).records) → ⊥ }
     ensures of_another { (status (begun ∷ []) tx ≢ so_far.Unborn → client_actor three tx.client ≡ client_actor three 1) → ⊥ }
