@@ -1,4 +1,4 @@
--- A client's turn writes a commit record above its desk's clock, which passes it, or none, and the clock stands or goes on.
+-- A client's turn writes a commit record above its desk's clock, which passes it, or none, and the clock doesn't fall.
 use Rattle.std.proofs.Common.{◌≡◌, ◌≤◌, ◌<◌, ◌⊎◌, ℕ, inl, inr, Bool, true, false, cond, List, [], ◌∷◌, fold, Option, Some, None, refl, ap, ◌∙◌, arith}
 use Rattle.std.specs.List.{AllByRecursion as Every}
 use Rattle.qc_client.specs.declared.client.Client.{Client}

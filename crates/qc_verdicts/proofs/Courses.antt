@@ -46,8 +46,8 @@ pub rises_to : (decl : Declaration) (a : ℕ) → is_client decl a ≡ true → 
 rises_to decl a client ds kept =
     actor_more decl a ds (Rises kept ∷ []) ∙ ap (λ (b : Bool). cond b (by_site (site_rises decl a kept)) (by_client (client_rises (a - decl.sites) kept))) (no_site decl a client)
 
--- What a client's life keeps through each event: at first, over a turn as far as it got, a command while it is down, a crash,
--- a rise, and where its journal isn't opened.
+-- What a client's life keeps through each event: at first, over a turn as far as it got, a command while it is down, a
+-- crash, a rise, and where its journal isn't opened.
 pub record Lasts (decl : Declaration) (a : ℕ) (Keeps : List Deed → Type 0) : Type 0 where
   pub new : Keeps []
   pub turn : (ds : List Deed) (r : IsAtRest decl a ds) → r.up ≡ true → (t : IsTied decl a ds) (g : Given) (end : Appended) (first : ℕ) → MayEnd (client_takes decl t.state g).turn.write end

@@ -1,5 +1,5 @@
--- The records that steps put into journals: where these are kept, and all that are written or were being written are such,
--- so are all that rise.
+-- The records that steps put into journals: where these are kept, and all that are written or were being written are
+-- such, so are all that rise.
 use Rattle.std.proofs.Common.{ℕ, ◌+◌, ◌==◌, inl, inr, Bool, true, false, cond, List, [], ◌∷◌, ◌++◌, filter, fold, map, Option, Some, None, option_to_list, sym, subst, append_assoc, ap, ◌∙◌}
 use Rattle.std.specs.List.{AllByRecursion as Every}
 use Rattle.qc_list.proofs.Members.{every-append, every-weaker}

@@ -73,7 +73,7 @@ module _ (decl : Declaration) where
   put_later ms more (records.Commit commit) here = tt
   put_later ms more (records.Decide epoch clock lines) here = tt
 
-  -- messages more: their questions are of transactions that were requested before, and their requests stand for themselves
+  -- messages more: their questions are of transactions requested before, and their requests stand for themselves
 
   sent_tells : (ms more : List Envelope) (e : Envelope) → In e more → IsAbout decl (IsRequested ms) e.to e.message → IsMailOf (ms ++ more) e
   sent_tells ms more e among about = by e.message refl about

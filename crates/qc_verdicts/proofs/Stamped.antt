@@ -1,5 +1,5 @@
--- Over all of a client's deeds, through its falls and rises, the stamps of its commit records rise, and its clock has passed
--- them.
+-- Over all of a client's deeds, through its falls and rises, the stamps of its commit records rise, and its clock has
+-- passed them.
 use Rattle.std.proofs.Common.{◌≡◌, ◌<◌, ℕ, ◌-◌, Bool, true, false, List, [], ◌∷◌, ◌++◌, fold, inl, inr, Option, Some, None, option_to_list, refl, sym, ap, ◌∙◌, subst, append_assoc, arith}
 use Rattle.std.specs.List.{AllByRecursion as Every}
 use Rattle.std.proofs.lemmas.List.{append-nil}

@@ -1,8 +1,9 @@
--- In every run with falls whose records are kept each deed of a client is right for each transaction, and the stamps of its
--- records rise.
-use Rattle.std.proofs.Common.{◌≡◌, ◌↔◌, ◌-◌, ◌≢◌, ◌≤◌, ◌<◌, ℕ, ◌+◌, ◌==◌, nat_le, nat_lt, Bool, true, false, List, [], ◌∷◌, ◌++◌, length, option_to_list, Option, Some, None, slice_get, refl, sym, ap, ◌∙◌, subst, arith, append_assoc, eqb-true}
+-- In every run with falls whose records are kept each deed of a client is right for each transaction, and the stamps of
+-- its records rise.
+use Rattle.std.proofs.Common.{◌≡◌, ◌↔◌, ◌-◌, ◌≢◌, ◌≤◌, ◌<◌, ℕ, ◌+◌, ◌==◌, nat_le, nat_lt, Bool, true, false, List, [], ◌∷◌, ◌++◌, fold, length, option_to_list, Option, Some, None, slice_get, refl, sym, ap, ◌∙◌, subst, arith, append_assoc, eqb-true}
 use Rattle.std.specs.List.{AllByRecursion as Every, AllPairs, filter_map}
 use Rattle.std.proofs.lemmas.Bool.{leb-true, ltb-true}
+use Rattle.std.proofs.lemmas.List.Sums.{fold-append}
 use Rattle.qc_core.specs.Conduct.{IsLawfulWithFalls}
 use Rattle.qc_core.specs.Journals.{journal_after}
 use Rattle.qc_entry.specs.declared.record.Commit.{Commit}
@@ -41,13 +42,13 @@ use Rattle.qc_net.specs.Messages.{Backed}
 use Rattle.qc_net.specs.Mirrors.{Refines}
 use Rattle.qc_net.proofs.Refining.{refines}
 use Rattle.qc_promise.specs.Kept.{Journal, Kept}
-use Rattle.qc_promise.specs.Status.{AreRight, status}
-use Rattle.qc_promise.specs.Status.{Unborn, Committed}
+use Rattle.qc_promise.specs.Status.{AreRight, AreRightFrom, HasEnded, Status, status, status_at}
+use Rattle.qc_promise.specs.Status.{Unborn, Begun, Committed, Dead}
 use Rattle.qc_protocol.specs.Acts.{state}
 use Rattle.qc_records.proofs.Bounding.{turn-posts}
 use Rattle.qc_records.proofs.ClientsWithin.{IsPost}
 use Rattle.qc_records.proofs.KnownDeeds.{IsKnown, IsKnownIn, KnownFrom, known-append, known-posts, known-second}
-use Rattle.qc_records.proofs.Lasting.{request_born}
+use Rattle.qc_records.proofs.Lasting.{HasEnd, ended_on, request_born}
 use Rattle.qc_records.proofs.SitesAsk.{Tells}
 use Rattle.qc_script.specs.Ready.{phase_of}
 use Rattle.qc_script.specs.RunsWithFalls.{RunsWithFalls, begins, takes, posts, phase, control, falls, rises, damaged, unopened}
@@ -70,6 +71,10 @@ use Rattle.qc_verdicts.proofs.Questions.{Asked, IsRequested, run_asked}
 use Rattle.qc_verdicts.proofs.RisingStamps.{Rise, commits_more, commits_of, rise_first, rise_pairs}
 use Rattle.qc_verdicts.proofs.Sent.{mail_deed}
 use Rattle.qc_verdicts.proofs.Stamped.{WithPending, course_rises}
+
+right_second : (tx : TxId) (s : Status) (xs ys : List Deed) → AreRightFrom tx s (xs ++ ys) → AreRightFrom tx (fold (status_at tx) s xs) ys
+right_second tx s [] ys right = right
+right_second tx s (x ∷ xs) ys right = right_second tx (status_at tx s x) xs ys right.1
 
 -- a post takes nothing, whatever becomes of its record
 
@@ -216,6 +221,21 @@ module _ (decl : Declaration) (script : Script) (fits : ℕ → List Record → 
       let mine : tx.client ≡ a - decl.sites = (all_shows h open_inputs run kept a client tx).own born in
       let low : decl.sites ≤ a = leb-true decl.sites a (and_first (nat_le decl.sites a) (nat_lt a (actors decl)) client) in
       omega arith
+
+  -- what has ended stays so
+
+  as_end : (tx : TxId) (s : Status) → HasEnded s → HasEnd tx s
+  as_end tx Unborn never = never
+  as_end tx Begun never = never
+  as_end tx (Committed stamp) ends = tt
+  as_end tx Dead ends = tt
+
+  pub stays_ended : (h : List Entry) (open_inputs : List Bool) → IsRun h open_inputs → Kept h → (a : ℕ) → is_client decl a ≡ true → (tx : TxId) (before later : List Deed)
+      → before ++ later ≡ deeds a [] h → HasEnded (status before tx) → status (deeds a [] h) tx ≡ status before tx
+  stays_ended h open_inputs run kept a client tx before later is ended =
+      let right : AreRight tx (before ++ later) = subst (AreRight tx) (sym is) (moves_on h open_inputs run kept a client tx) in
+      subst (λ (ds : List Deed). status ds tx ≡ status before tx) is
+      (fold-append (status_at tx) Unborn before later ∙ ended_on tx (status before tx) later (as_end tx (status before tx) ended) (right_second tx Unborn before later right))
 
   -- a client is asked about begun transactions alone
   pub asked_begun : (h : List Entry) (open_inputs : List Bool) → IsRun h open_inputs → Kept h → (a : ℕ) → is_client decl a ≡ true → (before later : List Deed) (e : Envelope) (tx : TxId)

@@ -10,8 +10,9 @@ use Rattle.qc_msg.specs.declared.message.Message.TheVariants.{Inquiry}
 use Rattle.qc_msg.specs.declared.message.Outcome.TheVariants as outcomes
 use Rattle.qc_msg.specs.declared.step.Given.TheVariants.{Got}
 use Rattle.qc_msg.specs.Counts.{commit_of}
-use Rattle.qc_msg.specs.Deeds.{Deed, Takes}
-use Rattle.qc_promise.specs.Status.{AreRight, Status, status}
+use Rattle.qc_msg.specs.declared.reply.Reply.TheVariants as replies
+use Rattle.qc_msg.specs.Deeds.{Deed, Takes, Tells}
+use Rattle.qc_promise.specs.Status.{AreRight, HasEnded, Status, status}
 use Rattle.qc_promise.specs.Status.{Unborn, Begun, Committed, Dead}
 use Rattle.qc_records.specs.Wrong.{asks, begun, commit, committed, first, says, second, tx}
 use Rattle.qc_stamp.specs.declared.stamp.Stamp.{Stamp}
@@ -92,6 +93,9 @@ lost w = (w.0 refl).listed
 
 pub of_another : (status (begun ∷ []) tx ≢ Unborn → client_actor three tx.client ≡ client_actor three 1) → ⊥
 of_another w = let same : client_actor three tx.client ≡ client_actor three 1 = w (λ e. let no : ⊥ = cc in no) in omega arith
+
+pub turned : (HasEnded (status (begun ∷ Tells replies.Dropped ∷ []) tx) → status (begun ∷ Tells replies.Dropped ∷ committed first ∷ []) tx ≡ status (begun ∷ Tells replies.Dropped ∷ []) tx) → ⊥
+turned w = let e : Committed first ≡ Dead = w tt in let no : ⊥ = cc in no
 
 pub asked_too_early : ((before later : List Deed) (e : Envelope) (t : TxId) → before ++ Takes (Got e) ∷ later ≡ is_asked ∷ begun ∷ [] → e.message ≡ Inquiry t → status before t ≢ Unborn) → ⊥
 asked_too_early w = w [] (begun ∷ []) asked tx refl refl refl

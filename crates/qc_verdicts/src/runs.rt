@@ -16,7 +16,7 @@ ghost use Rattle.qc_msg.specs.declared.message.Envelope.{Envelope};
 ghost use Rattle.qc_msg.specs.declared.message.Message.TheVariants.{Inquiry};
 ghost use Rattle.qc_msg.specs.declared.step.Given.TheVariants.{Got};
 ghost use Rattle.qc_promise.specs.Kept.{Kept};
-ghost use Rattle.qc_promise.specs.Status.{AreRight, status};
+ghost use Rattle.qc_promise.specs.Status.{AreRight, HasEnded, status};
 ghost use Rattle.qc_promise.specs.Status.{Committed, Unborn};
 ghost use Rattle.qc_script.specs.RunsWithFalls.{RunsWithFalls};
 ghost use Rattle.qc_script.specs.Sound.{IsScriptFor};
@@ -57,6 +57,18 @@ pub fn stamps_rise_through_falls<C: ConductWithFalls>()
         → AllPairs (λ (c d : Commit). c.stamp.clock < d.stamp.clock)
         (filter_map commit_of ((journal_after (deeds a [] h)).records
         ++ option_to_list (journal_after (deeds a [] h)).pending)) }
+{}
+
+/// What has ended stays so: a transaction that committed stays committed, with
+/// its stamp, and one that was given up never commits, whatever falls and rises
+/// come after. So what its client said of it stays true.
+pub fn ended_transactions_stay_so_through_falls<C: ConductWithFalls>()
+    ensures { (decl : Declaration) (script : Script) (h : List Entry) (open_inputs : List Bool)
+        → IsAccepted decl → IsScriptFor decl script
+        → RunsWithFalls (IsLawfulWithFalls decl) C.fits decl script h open_inputs → Kept h
+        → (a : ℕ) → is_client decl a ≡ true → (tx : TxId) (before later : List Deed)
+        → before ++ later ≡ deeds a [] h → HasEnded (status before tx)
+        → status (deeds a [] h) tx ≡ status before tx }
 {}
 
 /// A transaction is committed, with a stamp, just where its client's journal has

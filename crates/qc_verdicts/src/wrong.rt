@@ -8,12 +8,13 @@ ghost use Rattle.qc_decl.specs.Actors.{client_actor};
 ghost use Rattle.qc_decl.specs.One.{three};
 ghost use Rattle.qc_entry.specs.declared.record.Commit.{Commit};
 ghost use Rattle.qc_msg.specs.Counts.{commit_of};
-ghost use Rattle.qc_msg.specs.Deeds.{Deed, Takes};
+ghost use Rattle.qc_msg.specs.Deeds.{Deed, Takes, Tells};
 ghost use Rattle.qc_msg.specs.declared.message.Envelope.{Envelope};
 ghost use Rattle.qc_msg.specs.declared.message.Message.TheVariants.{Inquiry};
 ghost use Rattle.qc_msg.specs.declared.message.Outcome.TheVariants.{Aborted, Active, Committed};
+ghost use Rattle.qc_msg.specs.declared.reply.Reply.TheVariants.{Dropped};
 ghost use Rattle.qc_msg.specs.declared.step.Given.TheVariants.{Got};
-ghost use Rattle.qc_promise.specs.Status.{AreRight, status};
+ghost use Rattle.qc_promise.specs.Status.{AreRight, HasEnded, status};
 ghost use Rattle.qc_promise.specs.Status as so_far;
 ghost use Rattle.qc_records.specs.Wrong.{asks, begun, committed, first, says, second, tx};
 ghost use Rattle.qc_stamp.specs.declared.stamp.TxId.{TxId};
@@ -56,8 +57,8 @@ pub fn wrong_verdicts_through_falls_are_refused()
 
 /// A client's stamps don't fall, nor is the record that is being written below
 /// those before; no committed transaction is without its record, as where one
-/// was lost; none begins at another client, and none is asked about before it
-/// begins.
+/// was lost; none that ended turns; none begins at another client, and none is
+/// asked about before it begins.
 pub fn wrong_records_through_falls_are_refused()
     ensures stamps_fall { AllPairs (λ (c d : Commit). c.stamp.clock < d.stamp.clock)
         (filter_map commit_of (journal_after (committed second ∷ committed first ∷ [])).records) → ⊥ }
@@ -66,7 +67,10 @@ pub fn wrong_records_through_falls_are_refused()
         ++ option_to_list (journal_after (committed second ∷ falls_writing first ∷ [])).pending)) → ⊥ }
     ensures lost { ((status (begun ∷ committed first ∷ crashes ∷ rises [] ∷ []) tx ≡ so_far.Committed first)
         ↔ IsRecorded tx first (journal_after (begun ∷ committed first ∷ crashes ∷ rises [] ∷ [])).records) → ⊥ }
-    ensures of_another { (status (begun ∷ []) tx ≢ so_far.Unborn → client_actor three tx.client ≡ client_actor three 1) → ⊥ }
+    ensures of_another { (status (begun ∷ []) tx ≢ so_far.Unborn
+        → client_actor three tx.client ≡ client_actor three 1) → ⊥ }
+    ensures turned { (HasEnded (status (begun ∷ Tells Dropped ∷ []) tx)
+        → status (begun ∷ Tells Dropped ∷ committed first ∷ []) tx ≡ status (begun ∷ Tells Dropped ∷ []) tx) → ⊥ }
     ensures asked_too_early { ((before later : List Deed) (e : Envelope) (t : TxId)
         → before ++ Takes (Got e) ∷ later ≡ is_asked ∷ begun ∷ [] → e.message ≡ Inquiry t
         → status before t ≢ so_far.Unborn) → ⊥ }
@@ -86,6 +90,7 @@ pub fn right_courses_through_falls_are_taken()
     ensures rises_in_vain { AreRight tx (begun ∷ falls_writing first ∷ rises (recorded first ∷ []) ∷ falls_rising
         ∷ rises (recorded first ∷ []) ∷ lives ∷ says (Committed first) ∷ []) }
     ensures begins_anew { AreRight anew (begun ∷ crashes ∷ rises [] ∷ lives ∷ begins_anew ∷ []) }
-    ensures recorded { (status (begun ∷ falls_writing first ∷ rises (recorded first ∷ []) ∷ []) tx ≡ so_far.Committed first)
+    ensures recorded { (status (begun ∷ falls_writing first ∷ rises (recorded first ∷ []) ∷ []) tx
+        ≡ so_far.Committed first)
         ↔ IsRecorded tx first (journal_after (begun ∷ falls_writing first ∷ rises (recorded first ∷ []) ∷ [])).records }
 {}

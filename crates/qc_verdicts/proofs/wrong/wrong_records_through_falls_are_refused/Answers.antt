@@ -1,4 +1,4 @@
-use Rattle.qc_verdicts.proofs.WrongOnes.{asked_too_early, lost, of_another, pending_below, stamps_fall}
+use Rattle.qc_verdicts.proofs.WrongOnes.{asked_too_early, lost, of_another, pending_below, stamps_fall, turned}
 use Rattle.qc_verdicts.proofs.wrong.wrong_records_through_falls_are_refused.Goals as goal
 
 pub returns-clause-stamps_fall : goal.returns-clause-stamps_fall
@@ -15,3 +15,6 @@ returns-clause-of_another c = of_another
 
 pub returns-clause-asked_too_early : goal.returns-clause-asked_too_early
 returns-clause-asked_too_early c = asked_too_early
+
+pub returns-clause-turned : goal.returns-clause-turned
+returns-clause-turned c = turned
