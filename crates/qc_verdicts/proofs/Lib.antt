@@ -17,4 +17,5 @@ pub mod VerdictLaw
 pub mod Clocks
 pub mod RisingStamps
 pub mod Stamped
+pub mod Agreeing
 pub mod WrongOnes

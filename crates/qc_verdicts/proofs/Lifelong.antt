@@ -1,4 +1,4 @@
--- All that a client does through its falls and rises is right for a transaction, where its questions are of begun ones.
+-- Where a client stands without an open input, as its transactions' statuses say, and over a turn whose record is written.
 use Rattle.std.proofs.Common.{◌≡◌, ℕ, ◌-◌, Bool, true, false, List, ◌∷◌, ◌++◌, fold, Option, sym, ap, ◌∙◌, subst}
 use Rattle.std.proofs.lemmas.List.Sums.{fold-append}
 use Rattle.qc_core.specs.declared.actor.Actor.{Actor}

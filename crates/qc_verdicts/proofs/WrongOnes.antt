@@ -1,12 +1,16 @@
 -- Each wrong course through falls is refused, and the right ones are taken.
-use Rattle.std.proofs.Common.{◌≡◌, ◌≢◌, ◌<◌, ◌↔◌, ◌⊎◌, inl, inr, List, [], ◌∷◌, ◌++◌, option_to_list, refl, ap, arith}
+use Rattle.std.proofs.Common.{◌≡◌, ◌≢◌, ◌<◌, ◌↔◌, ◌⊎◌, inl, inr, List, [], ◌∷◌, ◌++◌, option_to_list, refl, ap, arith, true, sym, ◌∙◌, ℕ}
 use Rattle.std.specs.List.{AllPairs, filter_map}
 use Rattle.qc_core.specs.Journals.{journal_after}
 use Rattle.qc_decl.specs.Actors.{client_actor}
 use Rattle.qc_decl.specs.One.{three}
 use Rattle.qc_entry.specs.declared.record.Commit.{Commit}
 use Rattle.qc_msg.specs.declared.message.Envelope.{Envelope}
-use Rattle.qc_msg.specs.declared.message.Message.TheVariants.{Inquiry}
+use Rattle.qc_list.specs.Members.{In}
+use Rattle.qc_msg.specs.declared.message.Message.TheVariants.{Decision, Inquiry}
+use Rattle.qc_msg.specs.declared.message.Outcome.{Outcome}
+use Rattle.qc_promise.specs.SiteEnds.{is_final}
+use Rattle.qc_verdicts.specs.Agreement.{AgreeOnVerdicts}
 use Rattle.qc_msg.specs.declared.message.Outcome.TheVariants as outcomes
 use Rattle.qc_msg.specs.declared.step.Given.TheVariants.{Got}
 use Rattle.qc_msg.specs.Counts.{commit_of}
@@ -18,7 +22,7 @@ use Rattle.qc_records.specs.Wrong.{asks, begun, commit, committed, first, says, 
 use Rattle.qc_stamp.specs.declared.stamp.Stamp.{Stamp}
 use Rattle.qc_stamp.specs.declared.stamp.TxId.{TxId}
 use Rattle.qc_verdicts.specs.Recorded.{IsRecorded}
-use Rattle.qc_verdicts.specs.Wrong.{anew, asked, begins_anew, crashes, falls_rising, falls_writing, is_asked, lives, recorded, rises}
+use Rattle.qc_verdicts.specs.Wrong.{anew, asked, begins_anew, crashes, falls_rising, falls_writing, is_asked, lives, recorded, rises, told}
 
 -- courses
 
@@ -71,6 +75,18 @@ written_rose w = neither (Committed first) (λ e. let no : ⊥ = cc in no) (λ e
 pub unborn : AreRight tx (crashes ∷ rises [] ∷ lives ∷ says outcomes.Aborted ∷ []) → ⊥
 unborn w = neither Unborn (λ e. let no : ⊥ = cc in no) (λ e. let no : ⊥ = cc in no) (w.1.1.1.0 refl)
 
+-- what two sites are told
+
+pub differ : AgreeOnVerdicts (told 0 (outcomes.Committed first) ∷ told 1 outcomes.Aborted ∷ []) → ⊥
+differ w = let e : outcomes.Committed first ≡ outcomes.Aborted = w (told 0 (outcomes.Committed first)) (told 1 outcomes.Aborted) tx (outcomes.Committed first) outcomes.Aborted (inl refl) (inr (inl refl)) refl refl refl refl in let no : ⊥ = cc in no
+
+pub stamps_differ : AgreeOnVerdicts (told 0 (outcomes.Committed first) ∷ told 1 (outcomes.Committed second) ∷ []) → ⊥
+stamps_differ w =
+    let e : outcomes.Committed first ≡ outcomes.Committed second = w (told 0 (outcomes.Committed first)) (told 1 (outcomes.Committed second)) tx (outcomes.Committed first) (outcomes.Committed second) (inl refl) (inr (inl refl)) refl refl refl refl in
+    let s : first ≡ second = cc in
+    let n : first.clock ≡ second.clock = ap (λ (v : Stamp). v.clock) s in
+    omega arith
+
 pub active : AreRight tx (begun ∷ crashes ∷ rises [] ∷ lives ∷ says outcomes.Active ∷ []) → ⊥
 active w = let e : Dead ≡ Begun = w.1.1.1.1.0 refl in let no : ⊥ = cc in no
 
@@ -116,6 +132,22 @@ right_lost = (λ same. refl, (tt, (tt, (tt, (λ same. inr refl, tt)))))
 
 pub right_in_vain : AreRight tx (begun ∷ falls_writing first ∷ rises (recorded first ∷ []) ∷ falls_rising ∷ rises (recorded first ∷ []) ∷ lives ∷ says (outcomes.Committed first) ∷ [])
 right_in_vain = (λ same. refl, (tt, ((λ same. inl refl, tt), (tt, ((λ same. inr refl, tt), (tt, (λ same. refl, tt)))))))
+
+not_final : (v : Outcome) → v ≡ outcomes.Active → is_final v ≡ true → ⊥
+not_final v is ends = let no : ⊥ = cc in no
+
+says_first : (site : ℕ) (e : Envelope) (t : TxId) (v : Outcome) → e ≡ told site (outcomes.Committed first) → e.message ≡ Decision t v → v ≡ outcomes.Committed first
+says_first site e t v is says = let both : Decision t v ≡ Decision tx (outcomes.Committed first) = sym says ∙ ap (λ (d : Envelope). d.message) is in let same : v ≡ outcomes.Committed first = cc in same
+
+all_first : (e : Envelope) (t : TxId) (v : Outcome) → In e (told 0 (outcomes.Committed first) ∷ told 1 outcomes.Active ∷ told 1 (outcomes.Committed first) ∷ []) → e.message ≡ Decision t v → is_final v ≡ true → v ≡ outcomes.Committed first
+all_first e t v (inl is) says ends = says_first 0 e t v is says
+all_first e t v (inr (inl is)) says ends =
+    absurd (let both : Decision t v ≡ Decision tx outcomes.Active = sym says ∙ ap (λ (d : Envelope). d.message) is in let same : v ≡ outcomes.Active = cc in not_final v same ends)
+all_first e t v (inr (inr (inl is))) says ends = says_first 1 e t v is says
+all_first e t v (inr (inr (inr never))) says ends = absurd never
+
+pub right_agreed : AgreeOnVerdicts (told 0 (outcomes.Committed first) ∷ told 1 outcomes.Active ∷ told 1 (outcomes.Committed first) ∷ [])
+right_agreed e f t v w first_in second_in says too ends final = all_first e t v first_in says ends ∙ sym (all_first f t w second_in too final)
 
 pub right_anew : AreRight anew (begun ∷ crashes ∷ rises [] ∷ lives ∷ begins_anew ∷ [])
 right_anew = (λ same. refl, (tt, (tt, (tt, (λ same. refl, tt)))))

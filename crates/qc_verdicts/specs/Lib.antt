@@ -1,3 +1,4 @@
+pub mod Agreement
 pub mod GivenBack
 pub mod Pending
 pub mod Recorded

@@ -1,7 +1,8 @@
 -- Deeds of one transaction's client through falls, of which wrong courses and right ones are made.
-use Rattle.std.specs.Prelude.{List, [], Some, None}
+use Rattle.std.specs.Prelude.{ℕ, List, [], Some, None}
 use Rattle.qc_msg.specs.declared.message.Envelope.{Envelope}
-use Rattle.qc_msg.specs.declared.message.Message.TheVariants.{Inquiry}
+use Rattle.qc_msg.specs.declared.message.Message.TheVariants.{Decision, Inquiry}
+use Rattle.qc_msg.specs.declared.message.Outcome.{Outcome}
 use Rattle.qc_msg.specs.declared.record.Record.{Record}
 use Rattle.qc_msg.specs.declared.record.Record.TheVariants as records
 use Rattle.qc_msg.specs.declared.reply.Reply.TheVariants as replies
@@ -40,6 +41,10 @@ anew = record { client = 0; life = 2; number = 1 }
 
 abbrev pub begins_anew : Deed
 begins_anew = Tells (replies.Began anew)
+
+-- a site is told this verdict
+abbrev pub told : ℕ → Outcome → Envelope
+told site verdict = record { number = 0; from = 1; to = site; message = Decision tx verdict }
 
 -- it is asked how the transaction stands
 abbrev pub asked : Envelope

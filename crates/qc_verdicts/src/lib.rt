@@ -14,7 +14,8 @@
 //!    asked for, written and called active only while it is begun, called
 //!    committed only by its record, and aborted only without one
 //!    (`transactions_move_on_through_falls`); and what has ended stays so
-//!    (`ended_transactions_stay_so_through_falls`).
+//!    (`ended_transactions_stay_so_through_falls`). No two final verdicts on it
+//!    that sites are told differ (`sites_are_told_one_verdict_through_falls`).
 //! 4. There a transaction is committed just where its client's journal has its
 //!    record (`transactions_are_committed_by_their_records_through_falls`), clients
 //!    begin no transactions of others (`clients_begin_their_own_through_falls`),
@@ -39,8 +40,9 @@ pub use laws::{
 };
 pub use runs::{
     clients_are_asked_about_begun_ones_through_falls, clients_begin_their_own_through_falls,
-    ended_transactions_stay_so_through_falls, stamps_rise_through_falls,
-    transactions_are_committed_by_their_records_through_falls, transactions_move_on_through_falls,
+    ended_transactions_stay_so_through_falls, sites_are_told_one_verdict_through_falls,
+    stamps_rise_through_falls, transactions_are_committed_by_their_records_through_falls,
+    transactions_move_on_through_falls,
 };
 pub use wrong::{
     right_courses_through_falls_are_taken, wrong_courses_through_falls_are_refused,

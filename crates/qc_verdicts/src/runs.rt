@@ -10,7 +10,7 @@ ghost use Rattle.qc_decl.specs.Actors.{client_actor, is_client};
 ghost use Rattle.qc_decl.specs.declared.declaration.Declaration.{Declaration};
 ghost use Rattle.qc_entry.specs.declared.record.Commit.{Commit};
 ghost use Rattle.qc_msg.specs.Counts.{commit_of};
-ghost use Rattle.qc_msg.specs.Deeds.{Deed, Takes, deeds};
+ghost use Rattle.qc_msg.specs.Deeds.{Deed, Takes, deeds, mail};
 ghost use Rattle.qc_msg.specs.Steps.{Entry};
 ghost use Rattle.qc_msg.specs.declared.message.Envelope.{Envelope};
 ghost use Rattle.qc_msg.specs.declared.message.Message.TheVariants.{Inquiry};
@@ -23,6 +23,7 @@ ghost use Rattle.qc_script.specs.Sound.{IsScriptFor};
 ghost use Rattle.qc_script.specs.declared.script.Script.{Script};
 ghost use Rattle.qc_stamp.specs.declared.stamp.Stamp.{Stamp};
 ghost use Rattle.qc_stamp.specs.declared.stamp.TxId.{TxId};
+ghost use Rattle.qc_verdicts.specs.Agreement.{AgreeOnVerdicts};
 ghost use Rattle.qc_verdicts.specs.Recorded.{IsRecorded};
 
 use qc_script::ConductWithFalls;
@@ -69,6 +70,16 @@ pub fn ended_transactions_stay_so_through_falls<C: ConductWithFalls>()
         → (a : ℕ) → is_client decl a ≡ true → (tx : TxId) (before later : List Deed)
         → before ++ later ≡ deeds a [] h → HasEnded (status before tx)
         → status (deeds a [] h) tx ≡ status before tx }
+{}
+
+/// No two sites are told differently how a transaction ended, nor is one: each
+/// final verdict on it that anybody is sent is the same, with the same stamp,
+/// whatever fell between.
+pub fn sites_are_told_one_verdict_through_falls<C: ConductWithFalls>()
+    ensures { (decl : Declaration) (script : Script) (h : List Entry) (open_inputs : List Bool)
+        → IsAccepted decl → IsScriptFor decl script
+        → RunsWithFalls (IsLawfulWithFalls decl) C.fits decl script h open_inputs → Kept h
+        → AgreeOnVerdicts (mail h) }
 {}
 
 /// A transaction is committed, with a stamp, just where its client's journal has

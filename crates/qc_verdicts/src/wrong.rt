@@ -18,9 +18,10 @@ ghost use Rattle.qc_promise.specs.Status.{AreRight, HasEnded, status};
 ghost use Rattle.qc_promise.specs.Status as so_far;
 ghost use Rattle.qc_records.specs.Wrong.{asks, begun, committed, first, says, second, tx};
 ghost use Rattle.qc_stamp.specs.declared.stamp.TxId.{TxId};
+ghost use Rattle.qc_verdicts.specs.Agreement.{AgreeOnVerdicts};
 ghost use Rattle.qc_verdicts.specs.Recorded.{IsRecorded};
 ghost use Rattle.qc_verdicts.specs.Wrong.{anew, begins_anew, crashes, falls_rising, falls_writing, is_asked, lives};
-ghost use Rattle.qc_verdicts.specs.Wrong.{recorded, rises};
+ghost use Rattle.qc_verdicts.specs.Wrong.{recorded, rises, told};
 
 /// A transaction that its client's fall ended doesn't begin again, asks nothing
 /// more and gets no record in a later life; nor does one begin again that
@@ -41,7 +42,7 @@ pub fn wrong_courses_through_falls_are_refused()
 /// After a rise Committed isn't said without the record, nor with another stamp
 /// than the record's; Aborted not where the record rose, be it that it had been
 /// written or was being written, nor of a transaction that never began; Active
-/// of none that had begun before.
+/// of none that had begun before. And no two sites are told differently.
 pub fn wrong_verdicts_through_falls_are_refused()
     ensures no_record { AreRight tx
         (begun ∷ falls_writing first ∷ rises [] ∷ lives ∷ says (Committed first) ∷ []) → ⊥ }
@@ -52,6 +53,8 @@ pub fn wrong_verdicts_through_falls_are_refused()
     ensures written_rose { AreRight tx
         (begun ∷ committed first ∷ crashes ∷ rises (recorded first ∷ []) ∷ lives ∷ says Aborted ∷ []) → ⊥ }
     ensures unborn { AreRight tx (crashes ∷ rises [] ∷ lives ∷ says Aborted ∷ []) → ⊥ }
+    ensures differ { AgreeOnVerdicts (told 0 (Committed first) ∷ told 1 Aborted ∷ []) → ⊥ }
+    ensures stamps_differ { AgreeOnVerdicts (told 0 (Committed first) ∷ told 1 (Committed second) ∷ []) → ⊥ }
     ensures active { AreRight tx (begun ∷ crashes ∷ rises [] ∷ lives ∷ says Active ∷ []) → ⊥ }
 {}
 
@@ -89,6 +92,7 @@ pub fn right_courses_through_falls_are_taken()
     ensures pending_lost { AreRight tx (begun ∷ falls_writing first ∷ rises [] ∷ lives ∷ says Aborted ∷ []) }
     ensures rises_in_vain { AreRight tx (begun ∷ falls_writing first ∷ rises (recorded first ∷ []) ∷ falls_rising
         ∷ rises (recorded first ∷ []) ∷ lives ∷ says (Committed first) ∷ []) }
+    ensures agreed { AgreeOnVerdicts (told 0 (Committed first) ∷ told 1 Active ∷ told 1 (Committed first) ∷ []) }
     ensures begins_anew { AreRight anew (begun ∷ crashes ∷ rises [] ∷ lives ∷ begins_anew ∷ []) }
     ensures recorded { (status (begun ∷ falls_writing first ∷ rises (recorded first ∷ []) ∷ []) tx
         ≡ so_far.Committed first)

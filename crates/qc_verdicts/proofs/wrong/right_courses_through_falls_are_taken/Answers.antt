@@ -1,4 +1,4 @@
-use Rattle.qc_verdicts.proofs.WrongOnes.{right_anew, right_given_up, right_in_vain, right_lost, right_pending, right_recorded, right_written}
+use Rattle.qc_verdicts.proofs.WrongOnes.{right_agreed, right_anew, right_given_up, right_in_vain, right_lost, right_pending, right_recorded, right_written}
 use Rattle.qc_verdicts.proofs.wrong.right_courses_through_falls_are_taken.Goals as goal
 
 pub returns-clause-given_up : goal.returns-clause-given_up
@@ -21,3 +21,6 @@ returns-clause-begins_anew c = right_anew
 
 pub returns-clause-recorded : goal.returns-clause-recorded
 returns-clause-recorded c = right_recorded
+
+pub returns-clause-agreed : goal.returns-clause-agreed
+returns-clause-agreed c = right_agreed

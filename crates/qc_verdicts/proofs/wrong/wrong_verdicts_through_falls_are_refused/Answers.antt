@@ -1,4 +1,4 @@
-use Rattle.qc_verdicts.proofs.WrongOnes.{active, no_record, other_stamp, pending_rose, unborn, written_rose}
+use Rattle.qc_verdicts.proofs.WrongOnes.{active, differ, no_record, other_stamp, pending_rose, stamps_differ, unborn, written_rose}
 use Rattle.qc_verdicts.proofs.wrong.wrong_verdicts_through_falls_are_refused.Goals as goal
 
 pub returns-clause-no_record : goal.returns-clause-no_record
@@ -18,3 +18,9 @@ returns-clause-unborn c = unborn
 
 pub returns-clause-active : goal.returns-clause-active
 returns-clause-active c = active
+
+pub returns-clause-differ : goal.returns-clause-differ
+returns-clause-differ c = differ
+
+pub returns-clause-stamps_differ : goal.returns-clause-stamps_differ
+returns-clause-stamps_differ c = stamps_differ
