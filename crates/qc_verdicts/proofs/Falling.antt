@@ -1,5 +1,5 @@
--- What each event of a client's life leaves it as, as its transactions' statuses say: a turn whose record isn't written,
--- a fall, a command while it is down, a rise.
+-- What each event of a client's life leaves it as, as its transactions' statuses say: a turn whose record isn't
+-- written, a fall, a command while it is down, a rise.
 use Rattle.std.proofs.Common.{◌≡◌, ℕ, ◌-◌, Bool, true, false, List, [], ◌∷◌, ◌++◌, inl, inr, Option, Some, None, option_to_list, refl, sym, ap, ◌∙◌, subst, append_assoc}
 use Rattle.std.specs.List.{AllByRecursion as Every}
 use Rattle.qc_core.specs.declared.actor.Actor.{Actor}

@@ -1,4 +1,5 @@
--- Where a client stands without an open input, as its transactions' statuses say, and over a turn whose record is written.
+-- Where a client stands without an open input, as its transactions' statuses say, and over a turn whose record is
+-- written.
 use Rattle.std.proofs.Common.{◌≡◌, ℕ, ◌-◌, Bool, true, false, List, ◌∷◌, ◌++◌, fold, Option, sym, ap, ◌∙◌, subst}
 use Rattle.std.proofs.lemmas.List.Sums.{fold-append}
 use Rattle.qc_core.specs.declared.actor.Actor.{Actor}

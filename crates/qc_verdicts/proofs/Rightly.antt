@@ -1,5 +1,5 @@
--- Over all of a client's deeds, through its falls and rises, each is right for each transaction, where its questions are
--- of begun ones; and a transaction is committed just where its journal has its record.
+-- Over all of a client's deeds, through its falls and rises, each is right for each transaction, where its questions
+-- are of begun ones; and a transaction is committed just where its journal has its record.
 use Rattle.std.proofs.Common.{◌≡◌, ◌≢◌, ℕ, ◌-◌, Bool, true, false, List, [], ◌∷◌, ◌++◌, None, refl, sym, ap, ◌∙◌, subst}
 use Rattle.std.specs.List.{AllByRecursion as Every}
 use Rattle.std.proofs.lemmas.List.Sums.{fold-append}
