@@ -15,7 +15,7 @@ use Rattle.qc_msg.specs.declared.turn.Posting.{Posting}
 use Rattle.qc_recover.specs.Clients.{client_rises}
 use Rattle.qc_recover.specs.Sites.{Kept, in_order, inquiries, inquiry, keeps, kept_by, most_inquiries, nothing_kept}
 use Rattle.qc_recover.specs.Sites.{site_rises, with_promise}
-use Rattle.qc_recover.proofs.Asked.{In_order_is}
+use Rattle.qc_recover.proofs.Asked.{In_order_is, first_every}
 use Rattle.qc_recover.proofs.Promised.{each_promise}
 use Rattle.qc_site.specs.Promise.{without_prepared}
 use Rattle.qc_stamp.specs.Order.{same_tx, tx_cmp}
@@ -87,11 +87,6 @@ first_few : {A : Type 0} (n : ℕ) (xs : List A) → length (take n xs) ≤ n
 first_few zero xs = omega arith
 first_few (suc n) [] = omega arith
 first_few (suc n) (x ∷ xs) = let rest : length (take n xs) ≤ n = first_few n xs in omega arith
-
-first_every : {A : Type 0} (P : A → Type 0) (n : ℕ) (xs : List A) → Every P xs → Every P (take n xs)
-first_every P zero xs all = tt
-first_every P (suc n) [] all = tt
-first_every P (suc n) (x ∷ xs) all = (all.0, first_every P n xs all.1)
 
 module _ (decl : Declaration) where
   bounded_inquiries : (rs : List Record) → length (inquiries decl (kept_by rs).promises) ≤ most_inquiries

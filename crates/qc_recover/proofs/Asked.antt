@@ -139,3 +139,9 @@ asked_more q sends zero tx rest txs some are = absurd (some refl)
 asked_more q sends (suc n) tx rest txs some are =
     let less : suc n - 1 ≡ n = omega arith in
     rw (less, are) (append_assoc sends (q tx ∷ []) (map q (take n rest)))
+
+-- what holds of all holds of the first
+pub first_every : {A : Type 0} (P : A → Type 0) (n : ℕ) (xs : List A) → Every P xs → Every P (take n xs)
+first_every P zero xs all = tt
+first_every P (suc n) [] all = tt
+first_every P (suc n) (x ∷ xs) all = (all.0, first_every P n xs all.1)

@@ -18,7 +18,6 @@ use Rattle.qc_msg.specs.declared.step.Given.TheVariants as given
 use Rattle.qc_msg.specs.declared.turn.Turn.{Turn}
 use Rattle.qc_msg.specs.Deeds.{Deed, Takes, Writes, Sends, Tells, Falls, Rises}
 use Rattle.std.specs.List.{AllByRecursion as Every}
-use Rattle.std.specs.Prelude.{fold}
 use Rattle.qc_records.proofs.ClientsWithin.{IsPost}
 use Rattle.qc_commit.specs.declared.desk.Voting.{Voting}
 use Rattle.qc_commit.specs.Conduct as desks
@@ -32,7 +31,14 @@ use Rattle.qc_client.specs.Client.{ClientMove, by_desk, by_front, moved}
 use Rattle.qc_client.specs.Conduct.{answered, answered_by, called, client_does, client_takes, commits, heard, sent_one}
 use Rattle.qc_records.proofs.Dealing.{IsAbort}
 use Rattle.qc_records.proofs.HandMoves.{IsHandMove, prepare-it, vote-it}
-use Rattle.qc_records.proofs.FrontKinds.{FrontKind, ToldNeutral, called-kind, takes-kind}
+use Rattle.qc_records.proofs.FrontKinds.{FrontKind, IsRequestFor, ToldNeutral, called-kind, takes-kind}
+use Rattle.qc_records.proofs.RightTurns.{IsNoInquiry, NoInquiries}
+use Rattle.qc_list.proofs.Members.{every-weaker}
+use Rattle.qc_msg.specs.declared.message.Outcome.{Outcome}
+use Rattle.qc_msg.specs.declared.message.Outcome.TheVariants as outcomes
+use Rattle.qc_msg.specs.declared.turn.Posting.{Posting}
+use Rattle.qc_msg.specs.Begun.{decisions}
+use Rattle.std.specs.Prelude.{fold, map}
 use Rattle.qc_records.proofs.StatusActs.{page_of}
 use Rattle.qc_records.proofs.Statuses.{Page}
 
@@ -50,6 +56,29 @@ pub record Changes (p q : Page) (turn : Turn) : Type 0 where
   pub life : q.life ≡ p.life
   pub written : WritesNone p q turn ⊎ WritesOne p q turn
   pub begins : (x : TxId) → turn.told ≡ Some (replies.Began x) → x.life ≡ p.life
+  pub asks : NoInquiries turn.sends
+
+-- a client's requests and verdicts ask nobody how a transaction stands
+
+request_asks : (name : Option TxId) (m : Message) → IsRequestFor name m → IsNoInquiry m
+request_asks name (messages.Request other epoch life want) is = tt
+request_asks name (messages.Answer to answer) never = absurd never
+request_asks name (messages.Decision other verdict) never = absurd never
+request_asks name (messages.Inquiry other) never = absurd never
+request_asks name (messages.Ask other) never = absurd never
+request_asks name (messages.Close epoch) never = absurd never
+request_asks name (messages.Install epoch clock log) never = absurd never
+
+requests_ask : (name : Option TxId) (ps : List Posting) → Every (λ (p : Posting). IsRequestFor name p.message) ps → NoInquiries ps
+requests_ask name ps all = every-weaker (λ (p : Posting). IsRequestFor name p.message) (λ (p : Posting). IsNoInquiry p.message) (λ p. request_asks name p.message) ps all
+
+verdicts_ask : (b : BegunTransaction) (v : Outcome) → NoInquiries (decisions b v)
+verdicts_ask b v = over b.asked where
+  over : (sites : List ℕ) → NoInquiries (map (λ (site : ℕ). record { to = site; message = messages.Decision b.tx v }) sites)
+  over [] = tt
+  over (site ∷ sites) = (tt, over sites)
+
+-- none begins by a reply that ends one or none
 
 neutral_begins : (name : Option TxId) (o : Option Reply) (x : TxId) → ToldNeutral name o → o ≡ Some (replies.Began x) → ⊥
 neutral_begins name o x told is = subst (ToldNeutral name) is told
@@ -61,8 +90,9 @@ module _ (decl : Declaration) (c : Client) where
   abbrev To : ClientMove → Type 0
   To m = Changes (page_of c) (page_of m.client) m.turn
 
-  still : (turn : Turn) → turn.write ≡ None → turn.told ≡ None → To (moved c turn)
-  still turn unwritten untold = record {
+  still : (turn : Turn) → turn.write ≡ None → turn.told ≡ None → NoInquiries turn.sends → To (moved c turn)
+  still turn unwritten untold asks = record {
+    asks = asks;
     client = refl;
     life = refl;
     written = inl (record { write = unwritten; commits = refl });
@@ -75,6 +105,7 @@ module _ (decl : Declaration) (c : Client) where
     life = g.counts.life;
     written = inl (record { write = g.write; commits = refl });
     begins = λ x is. absurd (neutral_begins _ m.turn.told x g.told is);
+    asks = requests_ask _ m.turn.sends g.sends;
   }
   front_to m (inr (inl b)) = record {
     client = b.client;
@@ -82,12 +113,14 @@ module _ (decl : Declaration) (c : Client) where
     written = inl (record { write = ap (λ (t : Turn). t.write) b.turn; commits = refl });
     begins = λ x is. (let same : Some (replies.Began (next_tx c.front)) ≡ Some (replies.Began x) = sym (ap (λ (t : Turn). t.told) b.turn) ∙ is in
         let one : next_tx c.front ≡ x = cc in sym (ap (λ (t : TxId). t.life) one));
+    asks = subst NoInquiries (sym (ap (λ (t : Turn). t.sends) b.turn)) tt;
   }
   front_to m (inr (inr g)) = record {
     client = g.counts.client;
     life = g.counts.life;
     written = inl (record { write = g.write; commits = refl });
     begins = λ x is. absurd (abort_begins g.reply x g.aborts (sym g.told ∙ is));
+    asks = subst NoInquiries (sym g.sends) (verdicts_ask g.begun outcomes.Aborted);
   }
 
   desk_to : (b : BegunTransaction) (m : DeskMove) → IsHandMove c.desk b m → To (by_desk c m)
@@ -96,17 +129,20 @@ module _ (decl : Declaration) (c : Client) where
     life = refl;
     written = inl (record { write = v.write; commits = v.commits });
     begins = λ x is. absurd (let no : None ≡ Some (replies.Began x) = sym v.told ∙ is in let never : ⊥ = cc in never);
+    asks = requests_ask (Some b.tx) m.turn.sends v.sends;
   })
   desk_to b m (inr (inl r)) = subst (λ (o : Option Reply). Changes (page_of c) (page_of (record { front = cond (is_some o) (ended c.front m.desk.clock.value m.desk.epoch) c.front; desk = m.desk })) m.turn) (sym (ap (λ (t : Turn). t.told) r.turn)) (record {
     client = refl;
     life = refl;
     written = inr (record { commit = commit_of r.stamp b; write = ap (λ (t : Turn). t.write) r.turn; commits = r.commits });
+    asks = subst NoInquiries (sym (ap (λ (t : Turn). t.sends) r.turn)) (verdicts_ask b (outcomes.Committed r.stamp));
     begins = λ x is. absurd (let no : Some (replies.Committed r.stamp) ≡ Some (replies.Began x) = sym (ap (λ (t : Turn). t.told) r.turn) ∙ is in let never : ⊥ = cc in never);
   })
   desk_to b m (inr (inr a)) = subst (λ (o : Option Reply). Changes (page_of c) (page_of (record { front = cond (is_some o) (ended c.front m.desk.clock.value m.desk.epoch) c.front; desk = m.desk })) m.turn) (sym (ap (λ (t : Turn). t.told) a.turn)) (record {
     client = refl;
     life = refl;
     written = inl (record { write = ap (λ (t : Turn). t.write) a.turn; commits = a.commits });
+    asks = subst NoInquiries (sym (ap (λ (t : Turn). t.sends) a.turn)) (verdicts_ask b outcomes.Aborted);
     begins = λ x is. absurd (let no : Some (replies.Aborted a.why) ≡ Some (replies.Began x) = sym (ap (λ (t : Turn). t.told) a.turn) ∙ is in let never : ⊥ = cc in never);
   })
 
@@ -134,13 +170,13 @@ module _ (decl : Declaration) (c : Client) where
     by (Some v) is = desk_to v.begun (desks.vote c.desk number answer) (vote-it c.desk v number answer is)
 
   hears : (from number : ℕ) (message : Message) → To (heard decl c from number message)
-  hears from number (messages.Request other epoch life want) = still (heard decl c from number (messages.Request other epoch life want)).turn refl refl
+  hears from number (messages.Request other epoch life want) = still (heard decl c from number (messages.Request other epoch life want)).turn refl refl tt
   hears from number (messages.Answer to answer) = comes to (Some answer)
-  hears from number (messages.Decision other verdict) = still (heard decl c from number (messages.Decision other verdict)).turn refl refl
-  hears from number (messages.Inquiry other) = still (heard decl c from number (messages.Inquiry other)).turn refl refl
-  hears from number (messages.Ask other) = still (heard decl c from number (messages.Ask other)).turn refl refl
-  hears from number (messages.Close epoch) = still (heard decl c from number (messages.Close epoch)).turn refl refl
-  hears from number (messages.Install epoch clock log) = still (heard decl c from number (messages.Install epoch clock log)).turn refl refl
+  hears from number (messages.Decision other verdict) = still (heard decl c from number (messages.Decision other verdict)).turn refl refl tt
+  hears from number (messages.Inquiry other) = still (heard decl c from number (messages.Inquiry other)).turn refl refl (tt, tt)
+  hears from number (messages.Ask other) = still (heard decl c from number (messages.Ask other)).turn refl refl (tt, tt)
+  hears from number (messages.Close epoch) = still (heard decl c from number (messages.Close epoch)).turn refl refl tt
+  hears from number (messages.Install epoch clock log) = still (heard decl c from number (messages.Install epoch clock log)).turn refl refl tt
 
   pub input_changes : (g : Given) → Changes (page_of c) (page_of (client_takes decl c g).client) (client_takes decl c g).turn
   input_changes (given.Called command) = calls command

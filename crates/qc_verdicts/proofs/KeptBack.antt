@@ -3,6 +3,7 @@ use Rattle.std.proofs.Common.{◌≡◌, ℕ, ◌==◌, Bool, true, false, cond,
 use Rattle.std.proofs.lemmas.List.{map-append}
 use Rattle.std.proofs.lemmas.List.Elements.{filter-append}
 use Rattle.std.proofs.lemmas.List.Sums.{fold-append}
+use Rattle.qc_core.specs.Journals.{journal_at}
 use Rattle.qc_msg.specs.declared.message.Envelope.{Envelope}
 use Rattle.qc_msg.specs.declared.step.Step.{Step}
 use Rattle.qc_msg.specs.declared.step.Step.TheVariants as steps
@@ -66,3 +67,13 @@ kept_given_back h kept a = kept_back a [] [] h h refl kept
 
 pub kept_right : (h : List Entry) → Kept h → (a : ℕ) (tx : TxId) → AreRightButWritten tx Unborn no_journal (deeds a [] h) → AreRight tx (deeds a [] h)
 kept_right h kept a tx right = written_right tx (deeds a [] h) (kept_given_back h kept a) right
+
+-- so it is of what comes first, and of what comes after
+
+pub back_first : (j : Journal) (xs ys : List Deed) → AreGivenBack j (xs ++ ys) → AreGivenBack j xs
+back_first j [] ys back = tt
+back_first j (x ∷ xs) ys back = (back.0, back_first (journal_at j x) xs ys back.1)
+
+pub back_second : (j : Journal) (xs ys : List Deed) → AreGivenBack j (xs ++ ys) → AreGivenBack (fold journal_at j xs) ys
+back_second j [] ys back = back
+back_second j (x ∷ xs) ys back = back_second (journal_at j x) xs ys back.1

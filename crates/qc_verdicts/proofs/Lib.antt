@@ -5,3 +5,17 @@ pub mod Unborn
 pub mod Standing
 pub mod Posting
 pub mod Lifelong
+pub mod Courses
+pub mod Falling
+pub mod Rightly
+pub mod SitesAsk
+pub mod Asking
+pub mod Putting
+pub mod Questions
+pub mod Sent
+pub mod VerdictLaw
+pub mod Clocks
+pub mod RisingStamps
+pub mod Stamped
+pub mod Agreeing
+pub mod WrongOnes

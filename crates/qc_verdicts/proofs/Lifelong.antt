@@ -1,4 +1,5 @@
--- All that a client does through its falls and rises is right for a transaction, where its questions are of begun ones.
+-- Where a client stands without an open input, as its transactions' statuses say, and over a turn whose record is
+-- written.
 use Rattle.std.proofs.Common.{◌≡◌, ℕ, ◌-◌, Bool, true, false, List, ◌∷◌, ◌++◌, fold, Option, sym, ap, ◌∙◌, subst}
 use Rattle.std.proofs.lemmas.List.Sums.{fold-append}
 use Rattle.qc_core.specs.declared.actor.Actor.{Actor}
@@ -36,13 +37,13 @@ use Rattle.qc_verdicts.proofs.Posting.{but_append, but_steady, posts_up}
 use Rattle.qc_verdicts.proofs.Standing.{Down, Up}
 
 -- a tied client votes on its begun transaction alone
-in_hand : (decl : Declaration) (d : Account) (c : Client) → Ties decl d c → IsInHand c.desk.voting c.front.transaction
+pub in_hand : (decl : Declaration) (d : Account) (c : Client) → Ties decl d c → IsInHand c.desk.voting c.front.transaction
 in_hand decl d c (rests t) = subst (λ (o : Option Voting). IsInHand o c.front.transaction) (sym t.desk.voting) tt
 in_hand decl d c (reads t) = subst (λ (o : Option Voting). IsInHand o c.front.transaction) (sym t.desk.voting) tt
 in_hand decl d c (appends t) = subst (λ (o : Option Voting). IsInHand o c.front.transaction) (sym t.desk.voting) tt
 in_hand decl d c (votes t) = subst (λ (o : Option Voting). IsInHand o c.front.transaction) (sym (ap (λ (x : Desk). x.voting) t.desk)) (ap (λ (f : Front). begun_in f.transaction) t.front)
 
-same_client : (x y : Client) → actors.Client x ≡ actors.Client y → x ≡ y
+pub same_client : (x y : Client) → actors.Client x ≡ actors.Client y → x ≡ y
 same_client x y is = let same : x ≡ y = cc in same
 
 module _ (decl : Declaration) (a : ℕ) (client : is_client decl a ≡ true) (tx : TxId) where
@@ -62,7 +63,7 @@ module _ (decl : Declaration) (a : ℕ) (client : is_client decl a ≡ true) (tx
   journal_more : (ds more : List Deed) → journal_after (ds ++ more) ≡ fold journal_at (journal_after ds) more
   journal_more ds more = fold-append journal_at no_journal ds more
 
-  rests_more : (ds more : List Deed) (up : Bool) → Rests ds → AreRightButWritten tx (status ds tx) (journal_after ds) more → is_up (ds ++ more) ≡ up
+  pub rests_more : (ds more : List Deed) (up : Bool) → Rests ds → AreRightButWritten tx (status ds tx) (journal_after ds) more → is_up (ds ++ more) ≡ up
       → HereWith up (fold (status_at tx) (status ds tx) more) (fold journal_at (journal_after ds) more) (actor_after decl a (ds ++ more)).actor → Rests (ds ++ more)
   rests_more ds more up r but is here = record {
     up = up;
@@ -74,7 +75,7 @@ module _ (decl : Declaration) (a : ℕ) (client : is_client decl a ≡ true) (tx
 
   -- a turn for an input, its record written
 
-  up_here : (b : Bool) (s : Status) (j : Journal) (x : Actor) (c : Client) → HereWith b s j x → b ≡ true → x ≡ actors.Client c → Up tx s j (a - decl.sites) (page_of c)
+  pub up_here : (b : Bool) (s : Status) (j : Journal) (x : Actor) (c : Client) → HereWith b s j x → b ≡ true → x ≡ actors.Client c → Up tx s j (a - decl.sites) (page_of c)
   up_here true s j x c here same is = here c is
   up_here false s j x c here same is = absurd (let never : ⊥ = cc in never)
 

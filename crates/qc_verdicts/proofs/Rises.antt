@@ -75,7 +75,7 @@ module _ (tx : TxId) where
   later : (s : Status) (d : Deed) (rs : List Record) → IsRight tx s d → Every (IsShown s) rs → Every (IsShown (status_at tx s d)) rs
   later s d rs right shown = every-weaker (IsShown s) (IsShown (status_at tx s d)) (shown_on s d right) rs shown
 
-  abbrev Goes : Status → Journal → Deed → Type 0
+  abbrev pub Goes : Status → Journal → Deed → Type 0
   Goes s j d = IsRight tx s d × Every (IsShown (status_at tx s d)) (journal_at j d).records
 
   -- a rise
@@ -105,7 +105,7 @@ module _ (tx : TxId) where
 
   -- each deed
 
-  goes : (s : Status) (j : Journal) (d : Deed) → Every (IsShown s) j.records → IsGivenBackAt j d → IsRightButWritten tx s j d → Goes s j d
+  pub goes : (s : Status) (j : Journal) (d : Deed) → Every (IsShown s) j.records → IsGivenBackAt j d → IsRightButWritten tx s j d → Goes s j d
   goes s j (Takes given) shown back right = (tt, shown)
   goes s j (Writes written) shown back right =
       (right, every-append (IsShown (status_written tx s written)) j.records (written ∷ []) (later s (Writes written) j.records right shown) (written_shown s written, tt))

@@ -17,16 +17,10 @@ use Rattle.qc_stamp.specs.declared.stamp.Stamp.{Stamp}
 use Rattle.qc_stamp.specs.declared.stamp.TxId.{TxId}
 use Rattle.qc_stamp.specs.Order.{same_tx}
 use Rattle.qc_stamp.proofs.Orders.{same_tx_is, same_tx_itself}
+use Rattle.qc_verdicts.specs.Recorded.{IsRecorded}
 use Rattle.qc_verdicts.proofs.Rises.{IsShown}
 
--- a record of the transaction, with this stamp
-pub record IsListed (tx : TxId) (stamp : Stamp) (rs : List Record) : Type 0 where
-  pub commit : Commit
-  pub listed : In (records.Commit commit) rs
-  pub named : commit.tx ≡ tx
-  pub stamped : commit.stamp ≡ stamp
-
-pub listed_more : (tx : TxId) (stamp : Stamp) (xs ys : List Record) → IsListed tx stamp xs → IsListed tx stamp (xs ++ ys)
+pub listed_more : (tx : TxId) (stamp : Stamp) (xs ys : List Record) → IsRecorded tx stamp xs → IsRecorded tx stamp (xs ++ ys)
 listed_more tx stamp xs ys l = record { commit = l.commit; listed = In-first (records.Commit l.commit) xs ys l.listed; named = l.named; stamped = l.stamped }
 
 pub record Up (tx : TxId) (s : Status) (j : Journal) (k : ℕ) (p : Page) : Type 0 where
@@ -38,7 +32,7 @@ pub record Up (tx : TxId) (s : Status) (j : Journal) (k : ℕ) (p : Page) : Type
   pub none : j.pending ≡ None
 
 pub record Down (tx : TxId) (s : Status) (j : Journal) (k : ℕ) : Type 0 where
-  pub listed : (stamp : Stamp) → s ≡ Committed stamp → IsListed tx stamp j.records
+  pub listed : (stamp : Stamp) → s ≡ Committed stamp → IsRecorded tx stamp j.records
   pub pending : Every (IsRightRecord tx s) (option_to_list j.pending)
   pub later : tx.client ≡ k → (kept_by j.records).life < tx.life → s ≡ Unborn
   pub mine : s ≢ Unborn → tx.client ≡ k
@@ -76,7 +70,7 @@ module _ (tx : TxId) where
   record Rose (rs : List Record) (s : Status) : Type 0 where
     stamp : Stamp
     is : s ≡ Committed stamp
-    listed : IsListed tx stamp rs
+    listed : IsRecorded tx stamp rs
 
   rose : (s : Status) (rs : List Record) → (fold (status_written tx) s rs ≡ s) ⊎ Rose rs (fold (status_written tx) s rs)
   rose s [] = inl refl
@@ -120,13 +114,13 @@ module _ (tx : TxId) where
 
   -- it has risen with these records
   pub record Risen (s : Status) (rs : List Record) (k : ℕ) : Type 0 where
-    pub listed : (stamp : Stamp) → s ≡ Committed stamp → IsListed tx stamp rs
+    pub listed : (stamp : Stamp) → s ≡ Committed stamp → IsRecorded tx stamp rs
     pub live : s ≡ Begun → ⊥
     pub later : tx.client ≡ k → (kept_by rs).life < tx.life → s ≡ Unborn
     pub mine : s ≢ Unborn → tx.client ≡ k
 
   module _ (s : Status) (j : Journal) (k : ℕ) (d : Down tx s j k) (rs : List Record) (right : AreRightKept tx s rs) where
-    born_by : (stamp : Stamp) → IsListed tx stamp rs → s ≢ Unborn
+    born_by : (stamp : Stamp) → IsRecorded tx stamp rs → s ≢ Unborn
     born_by stamp l none =
         by (every-In (IsRightKept tx s) (records.Commit l.commit) rs right l.listed (subst (λ (t : TxId). same_tx l.commit.tx t ≡ true) l.named (same_tx_itself l.commit.tx)))
       where
@@ -134,7 +128,7 @@ module _ (tx : TxId) where
         by (inl is) = let never : ⊥ = cc in never
         by (inr is) = let never : ⊥ = cc in never
 
-    pub rises_from : ((stamp : Stamp) → IsListed tx stamp j.records → IsListed tx stamp rs) → (kept_by j.records).life ≤ (kept_by rs).life → Risen (status_risen tx s rs) rs k
+    pub rises_from : ((stamp : Stamp) → IsRecorded tx stamp j.records → IsRecorded tx stamp rs) → (kept_by j.records).life ≤ (kept_by rs).life → Risen (status_risen tx s rs) rs k
     rises_from more low = record {
       listed = λ stamp is. by_listed stamp is (rose (given_up s) rs);
       live = λ is. by_live is (rose (given_up s) rs);
@@ -144,9 +138,9 @@ module _ (tx : TxId) where
       Case : Type 0
       Case = (status_risen tx s rs ≡ given_up s) ⊎ Rose rs (status_risen tx s rs)
 
-      by_listed : (stamp : Stamp) → status_risen tx s rs ≡ Committed stamp → Case → IsListed tx stamp rs
+      by_listed : (stamp : Stamp) → status_risen tx s rs ≡ Committed stamp → Case → IsRecorded tx stamp rs
       by_listed stamp is (inl still) = more stamp (d.listed stamp (given_committed s stamp (sym still ∙ is)))
-      by_listed stamp is (inr r) = subst (λ (x : Stamp). IsListed tx x rs) (let e : Committed r.stamp ≡ Committed stamp = sym r.is ∙ is in let same : r.stamp ≡ stamp = cc in same) r.listed
+      by_listed stamp is (inr r) = subst (λ (x : Stamp). IsRecorded tx x rs) (let e : Committed r.stamp ≡ Committed stamp = sym r.is ∙ is in let same : r.stamp ≡ stamp = cc in same) r.listed
 
       by_live : status_risen tx s rs ≡ Begun → Case → ⊥
       by_live is (inl still) = given_begun s (sym still ∙ is)
@@ -162,9 +156,9 @@ module _ (tx : TxId) where
 
   pub rises_back : (s : Status) (j : Journal) (k : ℕ) → Down tx s j k → (rs : List Record) → IsGivenBack j rs → AreRightKept tx s rs → Risen (status_risen tx s rs) rs k
   rises_back s j k d rs (inl same) right =
-      rises_from s j k d rs right (λ stamp l. subst (IsListed tx stamp) (sym same) l) (subst (λ (xs : List Record). (kept_by j.records).life ≤ (kept_by xs).life) (sym same) (omega arith))
+      rises_from s j k d rs right (λ stamp l. subst (IsRecorded tx stamp) (sym same) l) (subst (λ (xs : List Record). (kept_by j.records).life ≤ (kept_by xs).life) (sym same) (omega arith))
   rises_back s j k d rs (inr both) right =
-      rises_from s j k d rs right (λ stamp l. subst (IsListed tx stamp) (sym both) (listed_more tx stamp j.records (option_to_list j.pending) l))
+      rises_from s j k d rs right (λ stamp l. subst (IsRecorded tx stamp) (sym both) (listed_more tx stamp j.records (option_to_list j.pending) l))
       (subst (λ (xs : List Record). (kept_by j.records).life ≤ (kept_by xs).life) (sym both) (lives_grow j.records (option_to_list j.pending)))
 
   -- and it falls again, its life unwritten
@@ -249,7 +243,7 @@ module _ (tx : TxId) where
     shows : (c : Commit) → In (records.Commit c) (whole rs) → c.tx ≡ tx → s ≡ Committed c.stamp
     shows c among its = every-In (IsShown tx s) (records.Commit c) (whole rs) shown among (subst (λ (t : TxId). same_tx c.tx t ≡ true) its (same_tx_itself c.tx))
 
-    by_committed : (stamp : Stamp) → s ≡ Committed stamp → IsListed tx stamp rs → HasRecord (kept_by (whole rs)).commits tx stamp
+    by_committed : (stamp : Stamp) → s ≡ Committed stamp → IsRecorded tx stamp rs → HasRecord (kept_by (whole rs)).commits tx stamp
     by_committed stamp is l =
         let one : HasOne (kept_by (whole rs)).commits = kept_has nothing_kept (whole rs) l.commit l.named (inl (In-first (records.Commit l.commit) rs (records.Life ∷ []) l.listed)) in
         let e : Committed one.commit.stamp ≡ Committed stamp = sym (shows one.commit (listed one.commit one.among) one.named) ∙ is in

@@ -1,2 +1,5 @@
+pub mod Agreement
 pub mod GivenBack
 pub mod Pending
+pub mod Recorded
+pub mod Wrong
