@@ -27,3 +27,4 @@ pub mod LivesLaws
 pub mod SiteLives
 pub mod ByTurns
 pub mod Answers
+pub mod KeptBack

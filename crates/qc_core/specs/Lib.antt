@@ -4,3 +4,4 @@ pub mod Acts
 pub mod Actors
 pub mod Lives
 pub mod Journals
+pub mod GivenBack

@@ -16,6 +16,11 @@
 //!    records give (`actors_fall_and_rise`, `who_is_down_has_no_state`); who
 //!    never falls lives as it acts (`who_never_falls_lives_as_it_acts`);
 //!    and who lives goes by turns (`who_lives_goes_by_turns`).
+//! 5. What an actor's deeds put into its journal is what its steps put there
+//!    (`journals_are_those_of_steps`); while it is up no record is pending
+//!    (`who_is_up_has_no_pending_record`); and where records are kept each rise
+//!    gives back what the journal holds
+//!    (`rises_give_back_journals_where_records_are_kept`).
 #![tactic(auto)]
 
 mod actor;
@@ -29,6 +34,7 @@ pub use laws::{
     turns_are_those_of_actors,
 };
 pub use lives::{
-    actors_fall_and_rise, journals_are_those_of_steps, who_is_down_has_no_state,
+    actors_fall_and_rise, journals_are_those_of_steps,
+    rises_give_back_journals_where_records_are_kept, who_is_down_has_no_state,
     who_is_up_has_no_pending_record, who_lives_goes_by_turns, who_never_falls_lives_as_it_acts,
 };

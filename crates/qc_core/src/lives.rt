@@ -6,6 +6,7 @@ ghost use Rattle.qc_core.specs.declared.actor.Actor.TheVariants as actor;
 ghost use Rattle.qc_core.specs.Actors.{actor_after, actor_rises, moved};
 ghost use Rattle.qc_core.specs.Acts.{Acts};
 ghost use Rattle.qc_core.specs.Conduct.{IsLawful, IsLawfulWithFalls, turn_after, turn_with_falls};
+ghost use Rattle.qc_core.specs.GivenBack.{AreGivenBack};
 ghost use Rattle.qc_core.specs.Journals.{journal_after};
 ghost use Rattle.qc_core.specs.Lives.{AreSteady, AreUncommanded, Lives, is_up};
 ghost use Rattle.qc_decl.specs.Actors.{is_site};
@@ -18,7 +19,7 @@ ghost use Rattle.qc_msg.specs.declared.record.Record.{Record};
 ghost use Rattle.qc_msg.specs.declared.step.Fall.{Fall};
 ghost use Rattle.qc_msg.specs.declared.turn.Appended.TheVariants.{Done};
 ghost use Rattle.qc_msg.specs.declared.turn.Turn.{Turn};
-ghost use Rattle.qc_promise.specs.Kept.{journal_of};
+ghost use Rattle.qc_promise.specs.Kept.{Kept, journal_of, no_journal};
 
 /// After a fall an actor is down, and after a rise it is what its records give,
 /// whatever it was before; its turn is then its rising turn.
@@ -76,4 +77,10 @@ pub fn who_lives_goes_by_turns()
     ensures { (decl : Declaration) (a : ℕ) (ds : List Deed) (open_input : Bool) (n : ℕ)
         → Lives decl a ds open_input n → (is_site decl a ≡ true → AreUncommanded ds)
         → AreByTurns (is_site decl a) ds }
+{}
+
+/// Where records are kept, each rise gives back what its actor's journal holds.
+#[tactic(auto, using(crate::proofs::KeptBack::kept_given_back))]
+pub fn rises_give_back_journals_where_records_are_kept()
+    ensures { (h : List Entry) → Kept h → (a : ℕ) → AreGivenBack no_journal (deeds a [] h) }
 {}

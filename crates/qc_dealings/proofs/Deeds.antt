@@ -13,7 +13,7 @@ use Rattle.qc_promise.specs.Kept.{Journal, no_journal}
 use Rattle.qc_promise.specs.Posts.{pending_next}
 use Rattle.qc_promise.specs.Replies.{AreDeedsDue, AreRepliesDue, IsDeedDue}
 use Rattle.qc_promise.specs.Turns.{AreByTurns, Place, Idle, goes, goes_on, saying_of}
-use Rattle.qc_dealings.specs.Back.{AreBack, IsBackAt}
+use Rattle.qc_core.specs.GivenBack.{AreGivenBack, IsGivenBackAt}
 use Rattle.qc_dealings.proofs.Steps.{none_some}
 use Rattle.qc_dealings.proofs.Turning.{CameTo, FellTo, RoseTo, ToldTo, WroteTo, comes, falls, is_off, rises, sends, tells, writes}
 use Rattle.qc_dealings.proofs.Carrying.{Known, Ongoing, fell, rose, sent, takes, wrote}
@@ -21,7 +21,7 @@ use Rattle.qc_dealings.proofs.Telling.{tells_on}
 use Rattle.qc_msg.specs.Readings.{is_life}
 
 module _ (decl : Declaration) (c : CommitRecord) where
-  pub one : (p q : Place) (d : Account) (x : Dealing) (j : Journal) (deed : Deed) (after : List Deed) → goes false p deed ≡ Some q → IsDeedDue decl d deed after → IsBackAt j deed
+  pub one : (p q : Place) (d : Account) (x : Dealing) (j : Journal) (deed : Deed) (after : List Deed) → goes false p deed ≡ Some q → IsDeedDue decl d deed after → IsGivenBackAt j deed
       → Ongoing decl c p d x j (deed ∷ after) → Ongoing decl c q (account_at decl d deed) (deal c.tx x deed) (journal_at j deed) after
   one p q d x j (Takes given) after place its back s = takes decl c p q d x j given after (subst (CameTo (is_off p)) place (comes p given)) its s
   one p q d x j (Writes written) after place its back s = wrote decl c p q d x j written after (subst (WroteTo (is_life written) (is_off p)) place (writes p written)) its s
@@ -36,7 +36,7 @@ module _ (decl : Declaration) (c : CommitRecord) where
   stuck [] is = cc
   stuck (d ∷ ds) is = stuck ds is
 
-  all : (p : Place) (d : Account) (x : Dealing) (j : Journal) (ds : List Deed) → is_some (fold (goes_on false) (Some p) ds) ≡ true → AreDeedsDue decl d ds → AreBack j ds → Ongoing decl c p d x j ds
+  all : (p : Place) (d : Account) (x : Dealing) (j : Journal) (ds : List Deed) → is_some (fold (goes_on false) (Some p) ds) ≡ true → AreDeedsDue decl d ds → AreGivenBack j ds → Ongoing decl c p d x j ds
       → In (Commit c) (fold journal_at j ds).records → c.ops ≡ (fold (deal c.tx) x ds).ops
   all p d x j [] turns its back s among = (s.both.known (inl among)).same
   all p d x j (deed ∷ ds) turns its back s among =
@@ -67,5 +67,5 @@ module _ (decl : Declaration) (c : CommitRecord) where
       nothing (inr (inl at)) = none_some (Commit c) None refl at
       nothing (inr (inr at)) = let never : false ≡ true = at.0 in cc
 
-  pub deeds_deal : (client : ℕ) (ds : List Deed) → AreByTurns false ds → AreRepliesDue decl client ds → AreBack no_journal ds → In (Commit c) (journal_after ds).records → c.ops ≡ (dealing_in ds c.tx).ops
+  pub deeds_deal : (client : ℕ) (ds : List Deed) → AreByTurns false ds → AreRepliesDue decl client ds → AreGivenBack no_journal ds → In (Commit c) (journal_after ds).records → c.ops ≡ (dealing_in ds c.tx).ops
   deeds_deal client ds turns its back among = all Idle (new_account client) no_dealing no_journal ds turns its back (new client ds) among

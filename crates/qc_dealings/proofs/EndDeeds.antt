@@ -24,7 +24,7 @@ use Rattle.qc_promise.specs.Posts.{pending_next}
 use Rattle.qc_promise.specs.Replies.{AreDeedsDue, AreRepliesDue, IsDeedDue, IsRecordDue}
 use Rattle.qc_promise.specs.Rows.{due}
 use Rattle.qc_promise.specs.Turns.{AreByTurns, Place, Idle, goes, goes_on, saying_of}
-use Rattle.qc_dealings.specs.Back.{AreBack, IsBackAt}
+use Rattle.qc_core.specs.GivenBack.{AreGivenBack, IsGivenBackAt}
 use Rattle.qc_dealings.specs.Ends.{AreCommitsTold, HasRecord, IsDeedTold, IsToldOf, TellsNext}
 use Rattle.qc_dealings.proofs.EndTies.{AwaitsReply, IsOver, closed_life, closed_off, closed_rise, ended_as, goes_on as moves_on}
 use Rattle.qc_dealings.proofs.EndReplies.{Ending, ends_on, recorded_begun}
@@ -131,7 +131,7 @@ module _ (decl : Declaration) (c : CommitRecord) where
 
   -- any deed
 
-  deed_ends : (p q : Place) (d : Account) (x : Dealing) (j : Journal) (deed : Deed) (after : List Deed) → goes false p deed ≡ Some q → IsDeedDue decl d deed after → IsBackAt j deed → IsDeedTold deed after
+  deed_ends : (p q : Place) (d : Account) (x : Dealing) (j : Journal) (deed : Deed) (after : List Deed) → goes false p deed ≡ Some q → IsDeedDue decl d deed after → IsGivenBackAt j deed → IsDeedTold deed after
       → Ongoing decl c p d x j (deed ∷ after) → Ending decl c p d x j (deed ∷ after) → Ending decl c q (account_at decl d deed) (deal c.tx x deed) (journal_at j deed) after
   deed_ends p q d x j (Takes given) after place its back next ongoing s = takes_end p q d x j given after (subst (CameTo (is_off p)) place (comes p given)) s
   deed_ends p q d x j (Writes written) after place its back next ongoing s = writes_end p q d x j written after (subst (WroteTo (is_life written) (is_off p)) place (writes p written)) its next ongoing s
@@ -156,7 +156,7 @@ module _ (decl : Declaration) (c : CommitRecord) where
 
   module _ (client : ℕ) (whole : List Deed) where
     all : (p : Place) (d : Account) (x : Dealing) (j : Journal) (ds : List Deed) → fold (deal c.tx) x ds ≡ dealing_in whole c.tx → fold journal_at j ds ≡ journal_after whole → is_some (fold (goes_on false) (Some p) ds) ≡ true
-        → AreDeedsDue decl d ds → AreBack j ds → AreCommitsTold ds → d.client ≡ client → Ongoing decl c p d x j ds → Ending decl c p d x j ds → EndsWell client whole
+        → AreDeedsDue decl d ds → AreGivenBack j ds → AreCommitsTold ds → d.client ≡ client → Ongoing decl c p d x j ds → Ending decl c p d x j ds → EndsWell client whole
     all p d x j [] dealt journal turns its back told own s e = record {
       place = p;
       account = d;
@@ -186,12 +186,12 @@ module _ (decl : Declaration) (c : CommitRecord) where
       nothing (inr (inl at)) = none_some (Commit c) None refl at
       nothing (inr (inr at)) = let never : false ≡ true = at.0 in cc
 
-  pub final : (client : ℕ) (ds : List Deed) → AreByTurns false ds → AreRepliesDue decl client ds → AreBack no_journal ds → AreCommitsTold ds → EndsWell client ds
+  pub final : (client : ℕ) (ds : List Deed) → AreByTurns false ds → AreRepliesDue decl client ds → AreGivenBack no_journal ds → AreCommitsTold ds → EndsWell client ds
   final client ds turns its back told = all client ds Idle (new_account client) no_dealing no_journal ds refl refl turns its back told refl (new decl c client ds) (first_ending client ds)
 
   -- what a client was told that the record's transaction ended with
 
-  module _ (client : ℕ) (ds : List Deed) (turns : AreByTurns false ds) (its : AreRepliesDue decl client ds) (back : AreBack no_journal ds) (told : AreCommitsTold ds) where
+  module _ (client : ℕ) (ds : List Deed) (turns : AreByTurns false ds) (its : AreRepliesDue decl client ds) (back : AreGivenBack no_journal ds) (told : AreCommitsTold ds) where
     f : EndsWell client ds
     f = final client ds turns its back told
 

@@ -15,7 +15,7 @@ use Rattle.qc_promise.specs.Deals.{dealing_in}
 use Rattle.qc_promise.specs.Kept.{no_journal}
 use Rattle.qc_promise.specs.Replies.{AreRepliesDue}
 use Rattle.qc_promise.specs.Turns.{AreByTurns}
-use Rattle.qc_dealings.specs.Back.{AreBack}
+use Rattle.qc_core.specs.GivenBack.{AreGivenBack}
 use Rattle.qc_dealings.specs.Ends.{AreCommitsTold, HasRecord, IsToldOf}
 use Rattle.qc_dealings.proofs.EndDeeds.{other_end, recorded_own, recorded_told, told_committed, told_own}
 
@@ -23,7 +23,7 @@ use Rattle.qc_dealings.proofs.EndDeeds.{other_end, recorded_own, recorded_told, 
 abbrev record_of : TxId → CommitRecord
 record_of tx = record { stamp = record { clock = 0; client = 0 }; tx = tx; ops = [] }
 
-module _ (decl : Declaration) (client : ℕ) (ds : List Deed) (turns : AreByTurns false ds) (its : AreRepliesDue decl client ds) (back : AreBack no_journal ds) (told : AreCommitsTold ds) where
+module _ (decl : Declaration) (client : ℕ) (ds : List Deed) (turns : AreByTurns false ds) (its : AreRepliesDue decl client ds) (back : AreGivenBack no_journal ds) (told : AreCommitsTold ds) where
   pub ends_own : (tx : TxId) (r : Reply) → In r (dealing_in ds tx).ends → tx.client ≡ client
   ends_own tx r among = told_own decl (record_of tx) client ds turns its back told r among
 

@@ -1,3 +1,2 @@
 pub mod Says
-pub mod Back
 pub mod Ends

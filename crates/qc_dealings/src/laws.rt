@@ -1,7 +1,7 @@
 //! Laws of a client's deeds, each the contract of a function with nothing to do.
 
 ghost use Rattle.qc_core.specs.Journals.{journal_after};
-ghost use Rattle.qc_dealings.specs.Back.{AreBack};
+ghost use Rattle.qc_core.specs.GivenBack.{AreGivenBack};
 ghost use Rattle.qc_dealings.specs.Ends.{AreCommitsTold, HasRecord, IsToldOf};
 ghost use Rattle.qc_decl.specs.declared.declaration.Declaration.{Declaration};
 ghost use Rattle.qc_entry.specs.declared.record.Commit.{Commit as CommitRecord};
@@ -25,7 +25,7 @@ ghost use Rattle.std.specs.Prelude.{◌≡◌, ◌≢◌, ℕ, false, List};
 #[tactic(auto, using(crate::proofs::Deeds::deeds_deal))]
 pub fn records_have_what_deeds_told()
     ensures { (decl : Declaration) (c : CommitRecord) (client : ℕ) (ds : List Deed)
-        → AreByTurns false ds → AreRepliesDue decl client ds → AreBack no_journal ds
+        → AreByTurns false ds → AreRepliesDue decl client ds → AreGivenBack no_journal ds
         → In (Commit c) (journal_after ds).records → c.ops ≡ (dealing_in ds c.tx).ops }
 {}
 
@@ -36,11 +36,11 @@ pub fn records_have_what_deeds_told()
 #[tactic(auto, using(crate::proofs::EndLaws::ends_committed, crate::proofs::EndLaws::records_told))]
 pub fn committed_ends_agree_with_records()
     ensures committed { (decl : Declaration) (client : ℕ) (ds : List Deed)
-        → AreByTurns false ds → AreRepliesDue decl client ds → AreBack no_journal ds → AreCommitsTold ds
+        → AreByTurns false ds → AreRepliesDue decl client ds → AreGivenBack no_journal ds → AreCommitsTold ds
         → (tx : TxId) (stamp : Stamp) → In (replies.Committed stamp) (dealing_in ds tx).ends
         → HasRecord (journal_after ds).records tx stamp }
     ensures each { (decl : Declaration) (client : ℕ) (ds : List Deed)
-        → AreByTurns false ds → AreRepliesDue decl client ds → AreBack no_journal ds → AreCommitsTold ds
+        → AreByTurns false ds → AreRepliesDue decl client ds → AreGivenBack no_journal ds → AreCommitsTold ds
         → (c : CommitRecord) → In (Commit c) (journal_after ds).records
         → IsToldOf c (dealing_in ds c.tx).ends }
 {}
@@ -49,11 +49,11 @@ pub fn committed_ends_agree_with_records()
 #[tactic(auto, using(crate::proofs::EndLaws::ends_aborted, crate::proofs::EndLaws::ends_dropped))]
 pub fn given_up_transactions_have_no_records()
     ensures aborted { (decl : Declaration) (client : ℕ) (ds : List Deed)
-        → AreByTurns false ds → AreRepliesDue decl client ds → AreBack no_journal ds → AreCommitsTold ds
+        → AreByTurns false ds → AreRepliesDue decl client ds → AreGivenBack no_journal ds → AreCommitsTold ds
         → (tx : TxId) (why : Why) (c : CommitRecord) → In (replies.Aborted why) (dealing_in ds tx).ends
         → In (Commit c) (journal_after ds).records → c.tx ≢ tx }
     ensures dropped { (decl : Declaration) (client : ℕ) (ds : List Deed)
-        → AreByTurns false ds → AreRepliesDue decl client ds → AreBack no_journal ds → AreCommitsTold ds
+        → AreByTurns false ds → AreRepliesDue decl client ds → AreGivenBack no_journal ds → AreCommitsTold ds
         → (tx : TxId) (c : CommitRecord) → In replies.Dropped (dealing_in ds tx).ends
         → In (Commit c) (journal_after ds).records → c.tx ≢ tx }
 {}
@@ -63,9 +63,9 @@ pub fn given_up_transactions_have_no_records()
 #[tactic(auto, using(crate::proofs::EndLaws::records_own, crate::proofs::EndLaws::ends_own))]
 pub fn records_and_ends_are_their_clients()
     ensures records { (decl : Declaration) (client : ℕ) (ds : List Deed)
-        → AreByTurns false ds → AreRepliesDue decl client ds → AreBack no_journal ds → AreCommitsTold ds
+        → AreByTurns false ds → AreRepliesDue decl client ds → AreGivenBack no_journal ds → AreCommitsTold ds
         → (c : CommitRecord) → In (Commit c) (journal_after ds).records → c.tx.client ≡ client }
     ensures ends { (decl : Declaration) (client : ℕ) (ds : List Deed)
-        → AreByTurns false ds → AreRepliesDue decl client ds → AreBack no_journal ds → AreCommitsTold ds
+        → AreByTurns false ds → AreRepliesDue decl client ds → AreGivenBack no_journal ds → AreCommitsTold ds
         → (tx : TxId) (r : Reply) → In r (dealing_in ds tx).ends → tx.client ≡ client }
 {}

@@ -8,6 +8,8 @@ use Rattle.std.proofs.lemmas.List.Elements.{filter-append}
 use Rattle.std.proofs.lemmas.List.Sums.{fold-append}
 use Rattle.qc_list.proofs.Members.{every-append, every-weaker}
 use Rattle.qc_core.specs.Conduct.{IsLawfulWithFalls}
+use Rattle.qc_core.specs.GivenBack.{AreGivenBack, IsGivenBackAt}
+use Rattle.qc_core.proofs.KeptBack.{back_first, back_second, kept_given_back}
 use Rattle.qc_core.specs.Journals.{journal_after, journal_at}
 use Rattle.qc_core.specs.Lives.{Lives}
 use Rattle.qc_core.specs.Lives as lives
@@ -36,76 +38,6 @@ use Rattle.qc_lives.specs.LivesIn.{LivesIn}
 use Rattle.qc_lives.specs.OwnRises.{GivesOwn, IsOwnRecord, RiseWithOwn}
 use Rattle.qc_lives.proofs.FallStamps.{lawful_writes}
 use Rattle.qc_lives.proofs.Lived.{run_lives, run_long}
-
--- each rise among these deeds gives back what its actor's journal has then
-
-abbrev IsBackAt : Journal → Deed → Type 0
-IsBackAt j (Takes given) = Unit {0}
-IsBackAt j (Writes written) = Unit {0}
-IsBackAt j (Sends number to message) = Unit {0}
-IsBackAt j (Tells reply) = Unit {0}
-IsBackAt j (Falls cause pending) = Unit {0}
-IsBackAt j (Rises records) = IsGivenBack j records
-
-abbrev AreBack : Journal → List Deed → Type 0
-AreBack j [] = Unit {0}
-AreBack j (d ∷ ds) = IsBackAt j d × AreBack (journal_at j d) ds
-
-back_first : (j : Journal) (xs ys : List Deed) → AreBack j (xs ++ ys) → AreBack j xs
-back_first j [] ys all = tt
-back_first j (x ∷ xs) ys all = (all.0, back_first (journal_at j x) xs ys all.1)
-
-back_second : (j : Journal) (xs ys : List Deed) → AreBack j (xs ++ ys) → AreBack (fold journal_at j xs) ys
-back_second j [] ys all = all
-back_second j (x ∷ xs) ys all = back_second (journal_at j x) xs ys all.1
-
--- so it is where records are kept
-
-step_back : (before : List Step) (ms : List Envelope) (step : Step) (later : List Deed) → IsKeptAt before step → AreBack (journal_with (journal_of before) step) later → AreBack (journal_of before) (deed_at ms step ++ later)
-step_back before ms (steps.Phase k) later kept back = back
-step_back before ms (steps.Cut x y) later kept back = back
-step_back before ms (steps.Heal x y) later kept back = back
-step_back before ms (steps.Armed x kind at) later kept back = back
-step_back before ms (steps.Called command) later kept back = (tt, back)
-step_back before ms (steps.Got n) later kept back = by (slice_get ms n)
-  where
-    by : (o : Option Envelope) → AreBack (journal_of before) (heard o ++ later)
-    by None = back
-    by (Some e) = (tt, back)
-step_back before ms (steps.Lost n) later kept back = (tt, back)
-step_back before ms (steps.Wrote written) later kept back = (tt, back)
-step_back before ms (steps.Sent n to message) later kept back = (tt, back)
-step_back before ms (steps.Told reply) later kept back = (tt, back)
-step_back before ms (steps.Fell cause pending) later kept back = (tt, back)
-step_back before ms (steps.Rose records) later kept back = (kept, back)
-step_back before ms (steps.Damaged offset) later kept back = absurd kept
-
-own_more : (a : ℕ) (h : List Entry) (e : Entry) → own a (h ++ e ∷ []) ≡ own a h ++ cond (e.actor == a) (e.step ∷ []) []
-own_more a h e =
-    ap (λ (es : List Entry). map (λ (k : Entry). k.step) es) (filter-append (λ (k : Entry). k.actor == a) h (e ∷ []))
-    ∙ map-append (λ (k : Entry). k.step) (filter (λ (k : Entry). k.actor == a) h) (filter (λ (k : Entry). k.actor == a) (e ∷ []))
-    ∙ ap (λ (xs : List Step). own a h ++ xs) (by (e.actor == a))
-  where
-    by : (t : Bool) → map (λ (k : Entry). k.step) (cond t (e ∷ []) []) ≡ cond t (e.step ∷ []) []
-    by true = refl
-    by false = refl
-
-journal_more : (a : ℕ) (h : List Entry) (e : Entry) → journal_of (own a (h ++ e ∷ [])) ≡ fold journal_with (journal_of (own a h)) (cond (e.actor == a) (e.step ∷ []) [])
-journal_more a h e = ap journal_of (own_more a h e) ∙ fold-append journal_with no_journal (own a h) (cond (e.actor == a) (e.step ∷ []) [])
-
-kept_back : (a : ℕ) (ms : List Envelope) (past rest h : List Entry) → past ++ rest ≡ h → Kept h → AreBack (journal_of (own a past)) (deeds a ms rest)
-kept_back a ms past [] h is kept = tt
-kept_back a ms past (e ∷ rest) h is kept =
-    by (e.actor == a) refl (subst (λ (j : Journal). AreBack j (deeds a (ms ++ option_to_list (envelope_of e)) rest)) (journal_more a past e) (kept_back a (ms ++ option_to_list (envelope_of e)) (past ++ e ∷ []) rest h (append_assoc past (e ∷ []) rest ∙ is) kept))
-  where
-    later : List Deed
-    later = deeds a (ms ++ option_to_list (envelope_of e)) rest
-
-    by : (t : Bool) → (e.actor == a) ≡ t → AreBack (fold journal_with (journal_of (own a past)) (cond (e.actor == a) (e.step ∷ []) [])) later → AreBack (journal_of (own a past)) (cond t (deed_at ms e.step) [] ++ later)
-    by true same back =
-        step_back (own a past) ms e.step later (subst (λ (k : ℕ). IsKeptAt (own k past) e.step) (eqb-true e.actor a same) (kept past rest e is))
-        (subst (λ (t : Bool). AreBack (fold journal_with (journal_of (own a past)) (cond t (e.step ∷ []) [])) later) same back)
-    by false other back = subst (λ (t : Bool). AreBack (fold journal_with (journal_of (own a past)) (cond t (e.step ∷ []) [])) later) other back
 
 -- deeds that put such records alone into a journal
 
@@ -193,7 +125,7 @@ module _ (decl : Declaration) (a : ℕ) where
       every-append PutsOwn ds (deeds_as turn.append first turn) puts
       (post_puts turn.append first turn (record_own turn.write (lawful_writes decl a ds turn law (λ client. every-weaker PutsOwn GivesOwn gives_own ds puts))))
 
-  life_puts : (ds : List Deed) (t : Bool) (n : ℕ) → Lives decl a ds t n → AreBack no_journal ds → Every PutsOwn ds
+  life_puts : (ds : List Deed) (t : Bool) (n : ℕ) → Lives decl a ds t n → AreGivenBack no_journal ds → Every PutsOwn ds
   life_puts ds t n lives.starts back = tt
   life_puts ds t n (lives.takes before g m life may comes) back =
       every-append PutsOwn before (Takes g ∷ []) (life_puts before false m life (back_first no_journal before (Takes g ∷ []) back)) (tt, tt)
@@ -202,7 +134,7 @@ module _ (decl : Declaration) (a : ℕ) where
   life_puts ds t n (lives.crashes before m life up) back =
       every-append PutsOwn before (Falls causes.Script None ∷ []) (life_puts before false m life (back_first no_journal before (Falls causes.Script None ∷ []) back)) (tt, tt)
   life_puts ds t n (lives.rises before rs turn m first life down above law) back =
-      let past : AreBack no_journal (before ++ Rises rs ∷ []) = back_first no_journal (before ++ Rises rs ∷ []) (deeds_as turn.append first turn) back in
+      let past : AreGivenBack no_journal (before ++ Rises rs ∷ []) = back_first no_journal (before ++ Rises rs ∷ []) (deeds_as turn.append first turn) back in
       let puts : Every PutsOwn before = life_puts before false m life (back_first no_journal before (Rises rs ∷ []) past) in
       more_puts (before ++ Rises rs ∷ []) turn first law
       (every-append PutsOwn before (Rises rs ∷ []) puts
@@ -222,4 +154,4 @@ module _ (decl : Declaration) (script : Script) (fits : ℕ → List Record → 
       let long : length open_inputs ≡ actors decl = run_long decl script fits few h open_inputs run in
       let place : (t : Bool) × (slice_get open_inputs a ≡ Some t) = slice_get-within open_inputs a (omega arith) in
       let lived : LivesIn decl a h place.0 = run_lives decl script fits few h open_inputs run a place.0 place.1 in
-      every-weaker PutsOwn GivesOwn gives_own (deeds a [] h) (life_puts decl a (deeds a [] h) place.0 lived.above lived.lives (kept_back a [] [] h h refl kept))
+      every-weaker PutsOwn GivesOwn gives_own (deeds a [] h) (life_puts decl a (deeds a [] h) place.0 lived.above lived.lives (kept_given_back h kept a))

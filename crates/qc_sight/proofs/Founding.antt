@@ -8,8 +8,9 @@ use Rattle.qc_msg.specs.declared.record.Record.TheVariants as records
 use Rattle.qc_msg.specs.Deeds.{Deed}
 use Rattle.qc_promise.specs.Kept.{Journal, no_journal}
 use Rattle.qc_seen.proofs.Founded.{AreFounded, founded-first}
-use Rattle.qc_verdicts.specs.GivenBack.{AreGivenBack}
-use Rattle.qc_sight.proofs.Making.{all_stay, back_first, back_second}
+use Rattle.qc_core.specs.GivenBack.{AreGivenBack}
+use Rattle.qc_core.proofs.KeptBack.{back_first, back_second}
+use Rattle.qc_sight.proofs.Making.{all_stay}
 
 -- grants that are founded, rises that give back its journal, whose commit records are among
 -- those of all clients

@@ -24,7 +24,7 @@ use Rattle.qc_account.specs.Declares.{IsDeclaredDeed, IsPlanned}
 use Rattle.qc_account.proofs.Lifelong.{client_lives}
 use Rattle.qc_account.proofs.Standing.{IsAtRest, Stands as StandsThere}
 use Rattle.qc_sight.proofs.Founding.{IsFounded, first_founded}
-use Rattle.qc_sight.proofs.Making.{back_second}
+use Rattle.qc_core.proofs.KeptBack.{back_second}
 use Rattle.qc_sight.proofs.Standing.{up_not}
 use Rattle.qc_sight.proofs.Turning.{AtRest, StandsAt, after, call_stands, fall_stands, rise_stands, take_stands, down_turn_stands, turn_stands}
 

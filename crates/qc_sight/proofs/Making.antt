@@ -11,7 +11,7 @@ use Rattle.qc_msg.specs.declared.record.Record.TheVariants as records
 use Rattle.qc_msg.specs.Counts.{commit_of}
 use Rattle.qc_msg.specs.Deeds.{Deed, Takes, Writes, Sends, Tells, Falls, Rises}
 use Rattle.qc_promise.specs.Kept.{IsGivenBack, Journal}
-use Rattle.qc_verdicts.specs.GivenBack.{AreGivenBack, IsGivenBackAt}
+use Rattle.qc_core.specs.GivenBack.{AreGivenBack, IsGivenBackAt}
 
 abbrev pub made_at : List Commit → Deed → List Commit
 made_at made (Takes given) = made
@@ -49,11 +49,3 @@ wrote_stays c j (d ∷ ds) back (inl same) =
     all_stay (records.Commit c) (journal_at j d) ds back.1
     (subst (λ (x : Deed). In (records.Commit c) (journal_at j x).records) same (In-last (records.Commit c) j.records))
 wrote_stays c j (d ∷ ds) back (inr later) = wrote_stays c (journal_at j d) ds back.1 later
-
-pub back_first : (j : Journal) (xs ys : List Deed) → AreGivenBack j (xs ++ ys) → AreGivenBack j xs
-back_first j [] ys all = tt
-back_first j (x ∷ xs) ys all = (all.0, back_first (journal_at j x) xs ys all.1)
-
-pub back_second : (j : Journal) (xs ys : List Deed) → AreGivenBack j (xs ++ ys) → AreGivenBack (fold journal_at j xs) ys
-back_second j [] ys all = all
-back_second j (x ∷ xs) ys all = back_second (journal_at j x) xs ys all.1

@@ -55,7 +55,7 @@ use Rattle.qc_reach.proofs.RunLaws as reached
 use Rattle.qc_seen.proofs.Grants.{granted, lines_passed, no_promise}
 use Rattle.qc_seen.proofs.Heard.{sent_mailed, took_sent}
 use Rattle.qc_seen.proofs.Seeing.{IsUpTo}
-use Rattle.qc_verdicts.proofs.KeptBack.{kept_given_back}
+use Rattle.qc_core.proofs.KeptBack.{kept_given_back}
 use Rattle.qc_sight.proofs.Founding.{IsFounded}
 use Rattle.qc_sight.proofs.Lifelong.{StandsNow, client_stands}
 use Rattle.qc_sight.proofs.Making.{made_at, wrote_stays}

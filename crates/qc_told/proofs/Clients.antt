@@ -6,7 +6,6 @@ use Rattle.qc_account.proofs.Commands.{no_site}
 use Rattle.qc_account.proofs.Declared.{asks_declared}
 use Rattle.qc_core.specs.Conduct.{IsLawfulWithFalls}
 use Rattle.qc_core.specs.Journals.{journal_at}
-use Rattle.qc_dealings.specs.Back.{AreBack}
 use Rattle.qc_dealings.specs.Ends.{AreCommitsTold}
 use Rattle.qc_decl.specs.Accepted.{IsAccepted}
 use Rattle.qc_decl.specs.Actors.{actors, client_actor, is_client}
@@ -28,19 +27,9 @@ use Rattle.qc_promise.specs.Turns.{AreByTurns}
 use Rattle.qc_script.specs.RunsWithFalls.{RunsWithFalls}
 use Rattle.qc_script.specs.Sound.{IsScriptFor}
 use Rattle.qc_script.specs.declared.script.Script.{Script}
-use Rattle.qc_verdicts.specs.GivenBack.{AreGivenBack}
-use Rattle.qc_verdicts.proofs.KeptBack.{kept_given_back}
+use Rattle.qc_core.specs.GivenBack.{AreGivenBack}
+use Rattle.qc_core.proofs.KeptBack.{kept_given_back}
 use Rattle.qc_told.proofs.Posts.{lives_told}
-
--- what rises is given back: two readings of one fact
-back_too : (j : Journal) (ds : List Deed) → AreGivenBack j ds → AreBack j ds
-back_too j [] back = tt
-back_too j (Takes g ∷ ds) back = (tt, back_too j ds back.1)
-back_too j (Writes written ∷ ds) back = (tt, back_too (journal_at j (Writes written)) ds back.1)
-back_too j (Sends number to message ∷ ds) back = (tt, back_too j ds back.1)
-back_too j (Tells reply ∷ ds) back = (tt, back_too j ds back.1)
-back_too j (Falls cause pending ∷ ds) back = (tt, back_too (journal_at j (Falls cause pending)) ds back.1)
-back_too j (Rises kept ∷ ds) back = (back.0, back_too (journal_at j (Rises kept)) ds back.1)
 
 -- the number of a client, and its actor
 
@@ -69,7 +58,7 @@ numbered decl a client =
 pub record AreDone (decl : Declaration) (client : ℕ) (ds : List Deed) : Type 0 where
   pub turns : AreByTurns false ds
   pub replies : AreRepliesDue decl client ds
-  pub back : AreBack no_journal ds
+  pub back : AreGivenBack no_journal ds
   pub told : AreCommitsTold ds
 
 module _ (fits : ℕ → List Record → Type 0) (decl : Declaration) (script : Script) (h : List Entry) (open_inputs : List Bool) (accepted : IsAccepted decl) (sound : IsScriptFor decl script)
@@ -105,6 +94,6 @@ module _ (fits : ℕ → List Record → Type 0) (decl : Declaration) (script : 
     all_done = record {
       turns = subst (λ (b : Bool). AreByTurns b its) (no_site decl (client_actor decl n) (client_is decl n low)) (due.turns (client_actor decl n) within);
       replies = due.replies n low;
-      back = back_too no_journal its (kept_given_back h kept (client_actor decl n));
+      back = kept_given_back h kept (client_actor decl n);
       told = commits_told;
     }

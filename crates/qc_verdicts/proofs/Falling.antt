@@ -40,9 +40,9 @@ use Rattle.qc_stamp.specs.Lives.{first_life}
 use Rattle.qc_account.proofs.Commands.{no_site}
 use Rattle.qc_account.proofs.Standing.{IsAtRest, IsTied, actor_more, up_more}
 use Rattle.qc_account.proofs.Writing.{IsClientTurn, IsCommitTurn, takes_turn}
-use Rattle.qc_verdicts.specs.GivenBack.{AreGivenBack}
+use Rattle.qc_core.specs.GivenBack.{AreGivenBack}
 use Rattle.qc_verdicts.proofs.Courses.{rises_to}
-use Rattle.qc_verdicts.proofs.KeptBack.{back_first, back_second}
+use Rattle.qc_core.proofs.KeptBack.{back_first, back_second}
 use Rattle.qc_verdicts.proofs.Lifelong.{HereWith, Rests, in_hand, posted_rests, rests_more, same_client, up_here}
 use Rattle.qc_verdicts.proofs.Rises.{Goes, IsShown, all_right, goes}
 use Rattle.qc_verdicts.proofs.Standing.{Down, Risen, Up, falls_again, rises_back, risen_up, up_down}

@@ -30,11 +30,11 @@ use Rattle.qc_stamp.proofs.Orders.{same_tx_itself}
 use Rattle.qc_account.proofs.Lifelong.{client_lives}
 use Rattle.qc_account.proofs.Standing.{IsAt, IsAtRest, Stands}
 use Rattle.qc_account.specs.Declares.{IsDeclaredDeed, IsPlanned}
-use Rattle.qc_verdicts.specs.GivenBack.{AreGivenBack}
+use Rattle.qc_core.specs.GivenBack.{AreGivenBack}
 use Rattle.qc_verdicts.specs.Recorded.{IsRecorded}
 use Rattle.qc_verdicts.proofs.Courses.{IsNow, Lasts, course}
 use Rattle.qc_verdicts.proofs.Falling.{called_rests, crashed_rests, down_here, new_rests, risen_rests, turn_rests, unopened_rests}
-use Rattle.qc_verdicts.proofs.KeptBack.{back_first}
+use Rattle.qc_core.proofs.KeptBack.{back_first}
 use Rattle.qc_verdicts.proofs.Lifelong.{Rests, up_here}
 use Rattle.qc_verdicts.proofs.Rises.{IsShown, all_right}
 use Rattle.qc_verdicts.proofs.Standing.{Down, up_down}

@@ -14,7 +14,7 @@ use Rattle.qc_records.proofs.Lasting.{HasEnd, ended_on}
 use Rattle.qc_stamp.specs.declared.stamp.Stamp.{Stamp}
 use Rattle.qc_stamp.specs.declared.stamp.TxId.{TxId}
 use Rattle.qc_stamp.specs.Order.{same_tx}
-use Rattle.qc_verdicts.specs.GivenBack.{AreGivenBack, IsGivenBackAt}
+use Rattle.qc_core.specs.GivenBack.{AreGivenBack, IsGivenBackAt}
 use Rattle.qc_verdicts.specs.Pending.{AreRightButWritten, IsRightButWritten}
 
 module _ (tx : TxId) where

@@ -187,7 +187,7 @@ module _ (decl : Declaration) (B : TxId → Type 0) where
         held = held_for [] (kept_by (rs ++ records.Life ∷ [])).promises tt whole;
         prepared = whole;
         turn = record {
-          sends = asked_about (take most_inquiries (in_order (map (λ (p : Prepared). p.tx) (kept_by rs).promises))) 
+          sends = asked_about (take most_inquiries (in_order (map (λ (p : Prepared). p.tx) (kept_by rs).promises)))
               (first_every B most_inquiries (in_order (map (λ (p : Prepared). p.tx) (kept_by rs).promises)) (every-in_order B [] (map (λ (p : Prepared). p.tx) (kept_by rs).promises) tt (asked_txs (kept_by rs).promises (kept_for nothing_kept rs tt puts))));
           failed = tt;
           writes = (tt, tt);

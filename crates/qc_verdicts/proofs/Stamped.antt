@@ -37,10 +37,10 @@ use Rattle.qc_recover.specs.Sites.{rising}
 use Rattle.qc_account.specs.Declares.{IsDeclaredDeed, IsPlanned}
 use Rattle.qc_account.proofs.Standing.{IsAtRest, IsTied, actor_more, steady_client, steady_up, up_more}
 use Rattle.qc_account.proofs.Writing.{IsClientTurn, IsCommitTurn, takes_turn}
-use Rattle.qc_verdicts.specs.GivenBack.{AreGivenBack}
+use Rattle.qc_core.specs.GivenBack.{AreGivenBack}
 use Rattle.qc_verdicts.proofs.Clocks.{Stamps, clock_posts, takes_stamps}
 use Rattle.qc_verdicts.proofs.Courses.{IsNow, Lasts, course, rises_to}
-use Rattle.qc_verdicts.proofs.KeptBack.{back_first, back_second}
+use Rattle.qc_core.proofs.KeptBack.{back_first, back_second}
 use Rattle.qc_verdicts.proofs.Lifelong.{same_client}
 use Rattle.qc_verdicts.proofs.Posting.{turn_journal}
 use Rattle.qc_verdicts.proofs.RisingStamps.{IsUpTo, Rise, all_passed, commits_more, commits_of, low_later, rise_first, rise_more}

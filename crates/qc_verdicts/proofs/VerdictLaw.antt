@@ -65,7 +65,7 @@ use Rattle.qc_reach.specs.Reached.{IsReachedWithFalls}
 use Rattle.qc_reach.proofs.Reaching.{net_of}
 use Rattle.qc_verdicts.proofs.Rightly.{Shows, course_shows}
 use Rattle.qc_verdicts.specs.Recorded.{IsRecorded}
-use Rattle.qc_verdicts.proofs.KeptBack.{kept_given_back}
+use Rattle.qc_core.proofs.KeptBack.{kept_given_back}
 use Rattle.qc_verdicts.proofs.Putting.{part_kept}
 use Rattle.qc_verdicts.proofs.Questions.{Asked, IsRequested, run_asked}
 use Rattle.qc_verdicts.proofs.RisingStamps.{Rise, commits_more, commits_of, rise_first, rise_pairs}

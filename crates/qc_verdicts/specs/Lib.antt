@@ -1,5 +1,4 @@
 pub mod Agreement
-pub mod GivenBack
 pub mod Pending
 pub mod Recorded
 pub mod Wrong

@@ -2,12 +2,12 @@
 //! do.
 
 ghost use Rattle.std.specs.Prelude.{ℕ, List, []};
+ghost use Rattle.qc_core.specs.GivenBack.{AreGivenBack};
 ghost use Rattle.qc_msg.specs.Deeds.{Deed, deeds};
 ghost use Rattle.qc_msg.specs.Steps.{Entry};
 ghost use Rattle.qc_promise.specs.Kept.{Kept, no_journal};
 ghost use Rattle.qc_promise.specs.Status.{AreRight, Unborn};
 ghost use Rattle.qc_stamp.specs.declared.stamp.TxId.{TxId};
-ghost use Rattle.qc_verdicts.specs.GivenBack.{AreGivenBack};
 ghost use Rattle.qc_verdicts.specs.Pending.{AreRightButWritten};
 
 /// Where each rise gives back what its actor's journal holds, the deeds of the
@@ -17,12 +17,6 @@ ghost use Rattle.qc_verdicts.specs.Pending.{AreRightButWritten};
 pub fn what_was_written_rises_rightly()
     ensures { (tx : TxId) (ds : List Deed) → AreGivenBack no_journal ds
         → AreRightButWritten tx Unborn no_journal ds → AreRight tx ds }
-{}
-
-/// Where records are kept, each rise gives back what its actor's journal holds.
-#[tactic(auto, using(crate::proofs::KeptBack::kept_given_back))]
-pub fn rises_give_back_journals_where_records_are_kept()
-    ensures { (h : List Entry) → Kept h → (a : ℕ) → AreGivenBack no_journal (deeds a [] h) }
 {}
 
 /// So in a history whose records are kept an actor's deeds are right for a
