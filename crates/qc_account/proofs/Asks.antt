@@ -12,7 +12,7 @@ use Rattle.qc_msg.specs.Deeds.{Deed, Sends, sends_of}
 use Rattle.qc_promise.specs.Account.{Account, ClientRequest, Current}
 use Rattle.qc_promise.specs.Accounting.{account_at}
 use Rattle.qc_promise.specs.Asked.{command_asks, is_asked_for}
-use Rattle.qc_account.specs.DeedsDue.{AreDeedsDue}
+use Rattle.qc_account.specs.ByRows.{AreByRows}
 use Rattle.qc_account.proofs.Requests.{request_at, requests_from}
 
 -- a request of the transaction, in its epoch, to a site in the life of its first grant
@@ -20,7 +20,7 @@ abbrev pub asking : Current → Want → ℕ → Posting
 asking t want site = record { to = site; message = messages.Request t.tx t.epoch (life_of t.lives site) want }
 
 -- deeds after deeds
-pub due_more : (decl : Declaration) (d : Account) (xs ys : List Deed) → AreDeedsDue decl d xs → AreDeedsDue decl (fold (account_at decl) d xs) ys → AreDeedsDue decl d (xs ++ ys)
+pub due_more : (decl : Declaration) (d : Account) (xs ys : List Deed) → AreByRows decl d xs → AreByRows decl (fold (account_at decl) d xs) ys → AreByRows decl d (xs ++ ys)
 due_more decl d [] ys first second = second
 due_more decl d (x ∷ xs) ys first second = (first.0, due_more decl (account_at decl d x) xs ys first.1 second)
 
@@ -41,11 +41,11 @@ module _ (decl : Declaration) (d : Account) (t : Current) (want : Want) (P : Lis
   one_asked : (number site : ℕ) (ss : List ℕ) (qs : List ClientRequest) → P qs (site ∷ ss) → account_at decl (run qs) (Sends number site (asking t want site).message) ≡ run (qs ++ request_at number t want site ∷ [])
   one_asked number site ss qs p = ap (λ (b : Bool). cond b (run (qs ++ request_at number t want site ∷ [])) (run qs)) (asked_for number site ss qs p)
 
-  pub asks_due : (ss : List ℕ) (number : ℕ) (qs : List ClientRequest) → P qs ss → AreDeedsDue decl (run qs) (sends_of number (map (asking t want) ss))
+  pub asks_due : (ss : List ℕ) (number : ℕ) (qs : List ClientRequest) → P qs ss → AreByRows decl (run qs) (sends_of number (map (asking t want) ss))
   asks_due [] number qs p = tt
   asks_due (s ∷ ss) number qs p = (
     asked_for number s ss qs p,
-    subst (λ (e : Account). AreDeedsDue decl e (sends_of (number + 1) (map (asking t want) ss))) (sym (one_asked number s ss qs p))
+    subst (λ (e : Account). AreByRows decl e (sends_of (number + 1) (map (asking t want) ss))) (sym (one_asked number s ss qs p))
         (asks_due ss (number + 1) (qs ++ request_at number t want s ∷ []) (step number s ss qs p).1),
   )
 

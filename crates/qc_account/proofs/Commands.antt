@@ -27,7 +27,7 @@ use Rattle.qc_promise.specs.Accounting.{account_at, account_heard, account_sent,
 use Rattle.qc_promise.specs.Asked.{is_asked_for}
 use Rattle.qc_site.specs.Conduct.{site_after}
 use Rattle.qc_promise.specs.Replies.{IsFreeFor}
-use Rattle.qc_laws.proofs.Up.{AreUp}
+use Rattle.qc_core.specs.Lives.{AreSteady}
 
 granted_command : (d : Account) (site life clock : ℕ) (log : List Line) (w : Want) → (granted d site life clock log w).command ≡ d.command
 granted_command d site life clock log (Read object inv) = refl
@@ -118,7 +118,7 @@ free_for decl client ds (given.Called command) may = by (fold (account_at decl) 
 free_for decl client ds (given.Got envelope) may = tt
 free_for decl client ds (given.Lost n) may = tt
 
-pub may_give : (decl : Declaration) (client : ℕ) (ds : List Deed) → AreUp ds → (g : Given) → MayTake ds g → IsFreeFor (fold (account_at decl) (new_account client) ds) g
+pub may_give : (decl : Declaration) (client : ℕ) (ds : List Deed) → AreSteady ds → (g : Given) → MayTake ds g → IsFreeFor (fold (account_at decl) (new_account client) ds) g
 may_give decl client ds up g may = free_for decl client ds g may
 
 -- a client's lawful turn is its conduct's

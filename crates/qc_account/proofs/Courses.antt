@@ -16,7 +16,7 @@ use Rattle.qc_promise.specs.Account.{Account, new_account}
 use Rattle.qc_promise.specs.Accounting.{account_at, account_taken}
 use Rattle.qc_promise.specs.Replies.{IsInputDue}
 use Rattle.qc_promise.specs.Rows.{running_row}
-use Rattle.qc_account.specs.DeedsDue.{AreDeedsDue}
+use Rattle.qc_account.specs.ByRows.{AreByRows}
 use Rattle.qc_account.specs.Goes.{Goes, Holds}
 use Rattle.qc_account.specs.Ties.{Ties, rests}
 use Rattle.qc_account.proofs.Asks.{due_more}
@@ -24,7 +24,8 @@ use Rattle.qc_account.proofs.Commands.{lawful_turn, may_give}
 use Rattle.qc_account.proofs.Fits.{takes_fit}
 use Rattle.qc_account.proofs.Nothing.{tied_none}
 use Rattle.qc_account.proofs.Step.{takes_go}
-use Rattle.qc_laws.proofs.Up.{AreUp, acts_up}
+use Rattle.qc_laws.proofs.Up.{acts_up}
+use Rattle.qc_core.specs.Lives.{AreSteady}
 
 module _ (decl : Declaration) (a : ℕ) (client : is_client decl a ≡ true) where
   abbrev pub account_of : List Deed → Account
@@ -34,7 +35,7 @@ module _ (decl : Declaration) (a : ℕ) (client : is_client decl a ≡ true) whe
   move_of ds = client_after decl (a - decl.sites) ds
 
   pub record IsAtRest (ds : List Deed) : Type 0 where
-    pub due : AreDeedsDue decl (new_account (a - decl.sites)) ds
+    pub due : AreByRows decl (new_account (a - decl.sites)) ds
     pub ties : Ties decl (account_of ds) (move_of ds).client
     pub holds : Holds decl (move_of ds).client
 
@@ -43,7 +44,7 @@ module _ (decl : Declaration) (a : ℕ) (client : is_client decl a ≡ true) whe
     pub given : Given
     pub is : ds ≡ before ++ Takes given ∷ []
     pub rest : IsAtRest before
-    pub up : AreUp before
+    pub up : AreSteady before
     pub may : MayTake before given
 
   abbrev pub IsAt : List Deed → Bool → Type 0
@@ -70,15 +71,15 @@ module _ (decl : Declaration) (a : ℕ) (client : is_client decl a ≡ true) whe
   account_take : (ds : List Deed) (g : Given) → account_of (ds ++ Takes g ∷ []) ≡ account_taken (account_of ds) g
   account_take ds g = fold-append (account_at decl) (new_account (a - decl.sites)) ds (Takes g ∷ [])
 
-  input_due : (ds : List Deed) (g : Given) → IsAtRest ds → AreUp ds → MayTake ds g → IsInputDue (account_of ds) (running_row decl (account_of ds) false) g
+  input_due : (ds : List Deed) (g : Given) → IsAtRest ds → AreSteady ds → MayTake ds g → IsInputDue (account_of ds) (running_row decl (account_of ds) false) g
   input_due ds g r up may = (tied_none decl (account_of ds) (move_of ds).client r.holds r.ties, may_give decl (a - decl.sites) ds up g may)
 
-  at_turn : (ds : List Deed) (g : Given) (first : ℕ) → IsAtRest ds → AreUp ds → MayTake ds g
+  at_turn : (ds : List Deed) (g : Given) (first : ℕ) → IsAtRest ds → AreSteady ds → MayTake ds g
       → IsAtRest ((ds ++ Takes g ∷ []) ++ turn_deeds first (client_takes decl (move_of ds).client g).turn)
   at_turn ds g first r up may = record {
     due = due_more decl (new_account (a - decl.sites)) (ds ++ Takes g ∷ []) (turn_deeds first move.turn)
         (due_more decl (new_account (a - decl.sites)) ds (Takes g ∷ []) r.due (input_due ds g r up may, tt))
-        (subst (λ (d : Account). AreDeedsDue decl d (turn_deeds first move.turn)) (sym (account_take ds g)) goes.due);
+        (subst (λ (d : Account). AreByRows decl d (turn_deeds first move.turn)) (sym (account_take ds g)) goes.due);
     ties = subst (λ (d : Account). Ties decl d (move_of ((ds ++ Takes g ∷ []) ++ turn_deeds first move.turn)).client)
         (sym (fold-append (account_at decl) (new_account (a - decl.sites)) (ds ++ Takes g ∷ []) (turn_deeds first move.turn) ∙ ap (λ (d : Account). fold (account_at decl) d (turn_deeds first move.turn)) (account_take ds g)))
         (subst (λ (m : ClientMove). Ties decl (fold (account_at decl) (account_taken (account_of ds) g) (turn_deeds first move.turn)) m.client) (sym moves) goes.ties);
@@ -109,12 +110,12 @@ module _ (decl : Declaration) (a : ℕ) (client : is_client decl a ≡ true) whe
           (sym (lawful_turn decl a older turn client law ∙ ap (λ (v : List Deed). (move_of v).turn) at.is ∙ ap (λ (m : ClientMove). m.turn) (after_take at.before at.given)))
           (at_turn at.before at.given first at.rest at.up at.may))
 
-  pub clients_due : (ds : List Deed) (b : Bool) (n : ℕ) → Acts decl a ds b n → AreDeedsDue decl (new_account (a - decl.sites)) ds
+  pub clients_due : (ds : List Deed) (b : Bool) (n : ℕ) → Acts decl a ds b n → AreByRows decl (new_account (a - decl.sites)) ds
   clients_due ds b n acts = by b (client_acts ds b n acts)
     where
-      by : (z : Bool) → IsAt ds z → AreDeedsDue decl (new_account (a - decl.sites)) ds
+      by : (z : Bool) → IsAt ds z → AreByRows decl (new_account (a - decl.sites)) ds
       by false at = at.due
-      by true at = subst (AreDeedsDue decl (new_account (a - decl.sites))) (sym at.is) (due_more decl (new_account (a - decl.sites)) at.before (Takes at.given ∷ []) at.rest.due (input_due at.before at.given at.rest at.up at.may, tt))
+      by true at = subst (AreByRows decl (new_account (a - decl.sites))) (sym at.is) (due_more decl (new_account (a - decl.sites)) at.before (Takes at.given ∷ []) at.rest.due (input_due at.before at.given at.rest at.up at.may, tt))
 
   pub clients_tied : (ds : List Deed) (n : ℕ) → Acts decl a ds false n → Ties decl (account_of ds) (move_of ds).client
   clients_tied ds n acts = (client_acts ds false n acts).ties

@@ -22,7 +22,7 @@ use Rattle.qc_msg.specs.declared.step.Command.{Command}
 use Rattle.qc_msg.specs.declared.step.Command.TheVariants as commands
 use Rattle.qc_msg.specs.declared.step.Given.TheVariants as given
 use Rattle.qc_msg.specs.Deeds.{Deed, Takes, Writes, Sends, Tells, Falls, Rises}
-use Rattle.qc_laws.proofs.Up.{AreUp, IsUp}
+use Rattle.qc_core.specs.Lives.{AreSteady, IsSteady}
 use Rattle.qc_promise.specs.Account.{Account, ClientRequest, Current, new_account}
 use Rattle.qc_promise.specs.Accounting as accounting
 use Rattle.qc_promise.specs.Accounting.{account_at}
@@ -32,7 +32,7 @@ use Rattle.qc_promise.specs.Replies as promise
 use Rattle.qc_promise.specs.Replies.{IsInputDue, IsRecordDue}
 use Rattle.qc_promise.specs.Rounds.{answer_of}
 use Rattle.qc_promise.specs.Rows.{due, is_declared_for, reply_to, row_of, running_row}
-use Rattle.qc_account.specs.DeedsDue.{AreDeedsDue, IsDeedDue}
+use Rattle.qc_account.specs.ByRows.{AreByRows, IsByRow}
 use Rattle.qc_account.specs.Declares.{Declares, IsDeclaredCommand, IsDeclaredDeed, IsPlanned}
 
 -- an account of a client that is up, which knows, has begun and runs what is declared
@@ -238,7 +238,7 @@ module _ (decl : Declaration) where
   told : (d : Account) (reply : Reply) → IsWithin decl d → IsWithin decl (accounting.account_told decl d reply)
   told d reply w = let v : IsWithin decl (accounting.account_told_in decl d reply) = told_in d reply w in record { up = v.up; known = v.known; current = v.current; command = tt }
 
-  pub within_at : (d : Account) (x : Deed) → IsUp x → IsDeclaredDeed decl x → IsWithin decl d → IsWithin decl (account_at decl d x)
+  pub within_at : (d : Account) (x : Deed) → IsSteady x → IsDeclaredDeed decl x → IsWithin decl d → IsWithin decl (account_at decl d x)
   within_at d (Takes (given.Called command)) up is w = record { up = w.up; known = w.known; current = w.current; command = is }
   within_at d (Takes (given.Got envelope)) up is w = heard d envelope.message is w
   within_at d (Takes (given.Lost number)) up is w = lost d number w
@@ -248,13 +248,13 @@ module _ (decl : Declaration) where
   within_at d (Falls cause pending) up is w = absurd up
   within_at d (Rises kept) up is w = absurd up
 
-  pub within_all : (ds : List Deed) (d : Account) → AreUp ds → Every (IsDeclaredDeed decl) ds → IsWithin decl d → IsWithin decl (fold (account_at decl) d ds)
+  pub within_all : (ds : List Deed) (d : Account) → AreSteady ds → Every (IsDeclaredDeed decl) ds → IsWithin decl d → IsWithin decl (fold (account_at decl) d ds)
   within_all [] d up all w = w
   within_all (x ∷ ds) d up all w = within_all ds (account_at decl d x) up.1 all.1 (within_at d x up.0 all.0 w)
 
   -- so what is by the rows is due, whatever comes behind it with no record pending
 
-  none_pending : (after ys : List Deed) → AreUp after → pending_next ys ≡ None → pending_next (after ++ ys) ≡ None
+  none_pending : (after ys : List Deed) → AreSteady after → pending_next ys ≡ None → pending_next (after ++ ys) ≡ None
   none_pending [] ys up none = none
   none_pending (Takes g ∷ after) ys up none = refl
   none_pending (Writes r ∷ after) ys up none = refl
@@ -263,7 +263,7 @@ module _ (decl : Declaration) where
   none_pending (Falls cause pending ∷ after) ys up none = absurd up.0
   none_pending (Rises kept ∷ after) ys up none = absurd up.0
 
-  deed_due : (d : Account) (x : Deed) (after : List Deed) → IsUp x → pending_next after ≡ None → IsWithin decl d → IsDeedDue decl d x → promise.IsDeedDue decl d x after
+  deed_due : (d : Account) (x : Deed) (after : List Deed) → IsSteady x → pending_next after ≡ None → IsWithin decl d → IsByRow decl d x → promise.IsDeedDue decl d x after
   deed_due d (Takes g) after up none w is = subst (λ (row : Option Reply). IsInputDue d row g) (sym (due_is decl d w)) is
   deed_due d (Writes r) after up none w is = subst (λ (row : Option Reply). IsRecordDue d row r) (sym (due_is decl d w)) is
   deed_due d (Sends number to m) after up none w is = tt
@@ -271,13 +271,13 @@ module _ (decl : Declaration) where
   deed_due d (Falls cause pending) after up none w is = absurd up
   deed_due d (Rises kept) after up none w is = absurd up
 
-  pub due_then : (ds ys : List Deed) (d : Account) → AreUp ds → Every (IsDeclaredDeed decl) ds → pending_next ys ≡ None → IsWithin decl d → AreDeedsDue decl d ds
+  pub due_then : (ds ys : List Deed) (d : Account) → AreSteady ds → Every (IsDeclaredDeed decl) ds → pending_next ys ≡ None → IsWithin decl d → AreByRows decl d ds
       → promise.AreDeedsDue decl (fold (account_at decl) d ds) ys → promise.AreDeedsDue decl d (ds ++ ys)
   due_then [] ys d up all none w is behind = behind
   due_then (x ∷ ds) ys d up all none w is behind =
       (deed_due d x (ds ++ ys) up.0 (none_pending ds ys up.1 none) w is.0, due_then ds ys (account_at decl d x) up.1 all.1 none (within_at d x up.0 all.0 w) is.1 behind)
 
-  pub all_due : (ds : List Deed) (d : Account) → AreUp ds → Every (IsDeclaredDeed decl) ds → IsWithin decl d → AreDeedsDue decl d ds → promise.AreDeedsDue decl d ds
+  pub all_due : (ds : List Deed) (d : Account) → AreSteady ds → Every (IsDeclaredDeed decl) ds → IsWithin decl d → AreByRows decl d ds → promise.AreDeedsDue decl d ds
   all_due ds d up all w is = subst (λ (v : List Deed). promise.AreDeedsDue decl d v) (append-nil ds) (due_then ds [] d up all refl w is tt)
 
   pub within_first : (client : ℕ) (ds : List Deed) → Declares decl ds → IsWithin decl (new_account client)

@@ -5,7 +5,8 @@ use Rattle.qc_core.specs.declared.actor.Actor.{Actor}
 use Rattle.qc_core.specs.Actors.{ActorMove, actor_after, actor_does, actor_takes, by_client, by_site}
 use Rattle.qc_core.specs.Acts.{MayTake}
 use Rattle.qc_core.specs.Conduct.{IsLawfulWithFalls, with_record}
-use Rattle.qc_core.specs.Lives.{IsByDisk, is_up}
+use Rattle.qc_core.specs.Lives.{is_up}
+use Rattle.qc_msg.specs.Steps.{IsByDisk, MayEnd}
 use Rattle.qc_core.proofs.Steady.{turn_steady}
 use Rattle.qc_client.specs.Client.{ClientMove}
 use Rattle.qc_client.specs.Conduct.{client_does, client_takes}
@@ -27,7 +28,6 @@ use Rattle.qc_msg.specs.declared.turn.Appended.TheVariants.{Done, Failed, Stoppe
 use Rattle.qc_msg.specs.declared.turn.Turn.{Turn}
 use Rattle.qc_msg.specs.Begun.{first_epoch}
 use Rattle.qc_msg.specs.Deeds.{Deed, Takes, Writes, Tells, Falls, Rises, deeds_as, sends_of, tells_of, turn_deeds, writes_of}
-use Rattle.qc_msg.specs.Steps.{MayEnd}
 use Rattle.qc_msg.specs.Turns.{telling}
 use Rattle.qc_promise.specs.Account.{Account, account_with}
 use Rattle.qc_promise.specs.Accounting.{account_at, account_taken}
@@ -36,7 +36,7 @@ use Rattle.qc_promise.specs.Replies.{AreDeedsDue, IsInputDue, IsRecordDue, IsRep
 use Rattle.qc_promise.specs.Rows.{due, is_declared_for, reply_to, row_of, running_row}
 use Rattle.qc_recover.specs.Clients.{client_rises}
 use Rattle.qc_recover.specs.Sites.{rising, site_rises}
-use Rattle.qc_account.specs.DeedsDue as rows
+use Rattle.qc_account.specs.ByRows as rows
 use Rattle.qc_account.specs.Declares.{IsDeclaredDeed, IsPlanned}
 use Rattle.qc_account.specs.Goes.{Goes}
 use Rattle.qc_account.specs.Ties.{Ties}
@@ -198,7 +198,7 @@ module _ (decl : Declaration) (a : ℕ) (client : is_client decl a ≡ true) whe
     -- where its record isn't written, Unknown is due, and it falls
 
     record_due : (w : IsCommitTurn move.turn) → IsRecordDue taken (running_row decl taken false) (records.Commit w.commit)
-    record_due w = (subst (λ (o : Option Record). rows.AreDeedsDue decl taken (writes_of o ++ (sends_of 0 move.turn.sends ++ tells_of move.turn.told))) w.write (goes 0).due).0
+    record_due w = (subst (λ (o : Option Record). rows.AreByRows decl taken (writes_of o ++ (sends_of 0 move.turn.sends ++ tells_of move.turn.told))) w.write (goes 0).due).0
 
     unknown_rest : (cause : Fall) → IsByDisk cause → (c : Commit) → IsRecordDue taken (running_row decl taken false) (records.Commit c)
         → IsAtRest decl a ((ds ++ Takes g ∷ []) ++ Tells replies.Unknown ∷ Falls cause (Some (records.Commit c)) ∷ [])

@@ -20,7 +20,7 @@ use Rattle.qc_msg.specs.declared.step.Command.{Command}
 use Rattle.qc_msg.specs.declared.step.Command.TheVariants as commands
 use Rattle.qc_msg.specs.declared.step.Given.TheVariants as given
 use Rattle.qc_msg.specs.Deeds.{Deed, Takes, Writes, Sends, Tells, Falls, Rises}
-use Rattle.qc_laws.proofs.Up.{AreUp, IsUp}
+use Rattle.qc_core.specs.Lives.{AreSteady, IsSteady}
 use Rattle.qc_promise.specs.Account.{Account, ClientRequest}
 use Rattle.qc_promise.specs.Accounting.{account_at, account_heard, account_sent, account_told_in, account_written, counted, counted_for, found_absent, granted, is_open, promised, responded, short_of, taken_for, told_by}
 use Rattle.qc_promise.specs.Asked.{is_asked_for}
@@ -130,7 +130,7 @@ module _ (decl : Declaration) where
   reply_up d replies.Fault = refl
   reply_up d (replies.Moved closed installed) = refl
 
-  step_up : (d : Account) (x : Deed) → IsUp x → (account_at decl d x).up ≡ d.up
+  step_up : (d : Account) (x : Deed) → IsSteady x → (account_at decl d x).up ≡ d.up
   step_up d (Takes (given.Called command)) up = refl
   step_up d (Takes (given.Got envelope)) up = heard_up d envelope.message
   step_up d (Takes (given.Lost number)) up = counted_up d number None
@@ -140,6 +140,6 @@ module _ (decl : Declaration) where
   step_up d (Falls cause pending) up = absurd up
   step_up d (Rises kept) up = absurd up
 
-  pub stays_up : (ds : List Deed) (d : Account) → AreUp ds → d.up ≡ true → (fold (account_at decl) d ds).up ≡ true
+  pub stays_up : (ds : List Deed) (d : Account) → AreSteady ds → d.up ≡ true → (fold (account_at decl) d ds).up ≡ true
   stays_up [] d up is = is
   stays_up (x ∷ ds) d up is = stays_up ds (account_at decl d x) up.1 (step_up d x up.0 ∙ is)

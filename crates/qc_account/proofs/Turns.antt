@@ -27,7 +27,7 @@ use Rattle.qc_promise.specs.Accounting.{account_at, account_told, doomed_if}
 use Rattle.qc_promise.specs.Replies.{IsReplyDue}
 use Rattle.qc_promise.specs.Rows.{running_row}
 use Rattle.qc_promise.specs.Asked.{command_asks}
-use Rattle.qc_account.specs.DeedsDue.{AreDeedsDue}
+use Rattle.qc_account.specs.ByRows.{AreByRows}
 use Rattle.qc_account.specs.Goes.{Goes}
 use Rattle.qc_account.specs.Told.{IsBegun, front_of, transaction_of}
 use Rattle.qc_account.specs.Ties.{IsIdleDesk, Ties, rests}
@@ -91,8 +91,8 @@ module _ (decl : Declaration) (number : ℕ) where
   decided_account b o d k [] ys = refl
   decided_account b o d k (s ∷ sites) ys = decided_account b o d (k + 1) sites ys
 
-  pub decided_due : (b : Begun) (o : Outcome) (d : Account) (k : ℕ) (sites : List ℕ) (ys : List Deed) → AreDeedsDue decl d ys
-      → AreDeedsDue decl d (sends_of k (map (λ site. record { to = site; message = messages.Decision b.tx o }) sites) ++ ys)
+  pub decided_due : (b : Begun) (o : Outcome) (d : Account) (k : ℕ) (sites : List ℕ) (ys : List Deed) → AreByRows decl d ys
+      → AreByRows decl d (sends_of k (map (λ site. record { to = site; message = messages.Decision b.tx o }) sites) ++ ys)
   decided_due b o d k [] ys is = is
   decided_due b o d k (s ∷ sites) ys is = (tt, decided_due b o d (k + 1) sites ys is)
 
@@ -125,14 +125,14 @@ module _ (decl : Declaration) (number : ℕ) where
         ∙ ap (λ (cs : List Call). moved (make cs) turn) (append_assoc calls (record { number = n; site = s } ∷ []) (calls_from (n + 1) ss))
 
     pub record Asked (ss : List ℕ) (qs : List ClientRequest) (calls : List Call) : Type 0 where
-      pub due : AreDeedsDue decl (record d { requests = qs; current = Some t }) (sends_of number (map (asking t want) ss) ++ [])
+      pub due : AreByRows decl (record d { requests = qs; current = Some t }) (sends_of number (map (asking t want) ss) ++ [])
       pub ties : Ties decl (fold (account_at decl) (record d { requests = qs; current = Some t }) (sends_of number (map (asking t want) ss) ++ []))
           (fold (client_does decl) (moved (make calls) turn) (sends_of number (map (asking t want) ss) ++ [])).client
 
     pub asks_go : (ss : List ℕ) (qs : List ClientRequest) (calls : List Call) → P qs ss
         → Ties decl (record d { requests = qs ++ requests_from number t want ss; current = Some t }) (make (calls ++ calls_from number ss)) → Asked ss qs calls
     asks_go ss qs calls p ties =
-        subst (λ (ds : List Deed). AreDeedsDue decl (record d { requests = qs; current = Some t }) ds
+        subst (λ (ds : List Deed). AreByRows decl (record d { requests = qs; current = Some t }) ds
         → Ties decl (fold (account_at decl) (record d { requests = qs; current = Some t }) ds) (fold (client_does decl) (moved (make calls) turn) ds).client → Asked ss qs calls)
         (append-nil (sends_of number (map (asking t want) ss)))
         (λ due after. record { due = due; ties = after })

@@ -10,7 +10,7 @@ use Rattle.qc_msg.specs.Deeds.{turn_deeds}
 use Rattle.qc_promise.specs.Account.{Account}
 use Rattle.qc_promise.specs.Accounting.{account_at}
 use Rattle.qc_promise.specs.Rows.{running_row}
-use Rattle.qc_account.specs.DeedsDue.{AreDeedsDue}
+use Rattle.qc_account.specs.ByRows.{AreByRows}
 use Rattle.qc_account.specs.Ties.{Ties}
 
 -- what holds of a client between two inputs, whatever its account
@@ -21,6 +21,6 @@ pub record Holds (decl : Declaration) (c : Client) : Type 0 where
 -- the account after the input being d, and the messages of the turn numbered from this number on
 pub record Goes (decl : Declaration) (number : ℕ) (d : Account) (move : ClientMove) : Type 0 where
   pub tells : move.turn.told ≡ running_row decl d false
-  pub due : AreDeedsDue decl d (turn_deeds number move.turn)
+  pub due : AreByRows decl d (turn_deeds number move.turn)
   pub ties : Ties decl (fold (account_at decl) d (turn_deeds number move.turn))
       (fold (client_does decl) move (turn_deeds number move.turn)).client

@@ -1,7 +1,7 @@
 pub mod Calls
 pub mod Told
 pub mod Ties
-pub mod DeedsDue
+pub mod ByRows
 pub mod Declares
 pub mod Goes
 pub mod Waits

@@ -3,7 +3,7 @@
 
 ghost use Rattle.std.specs.Prelude.{◌≡◌, ◌-◌, ℕ, Bool, true, false, List, [], ◌∷◌, ◌++◌, Some};
 ghost use Rattle.qc_account.specs.Declares.{Declares};
-ghost use Rattle.qc_account.specs.DeedsDue.{AreDeedsDue};
+ghost use Rattle.qc_account.specs.ByRows.{AreByRows};
 ghost use Rattle.qc_account.specs.Goes.{Goes, Holds};
 ghost use Rattle.qc_promise.specs.Replies.{AreRepliesDue, IsFreeFor, IsRecordDue, IsReplyDue};
 ghost use Rattle.qc_account.specs.Ties.{Ties};
@@ -72,7 +72,7 @@ pub fn turns_tell_what_is_due()
 #[tactic(auto, using(crate::proofs::Courses::clients_due))]
 pub fn deeds_of_clients_are_by_rows()
     ensures { (decl : Declaration) (a : ℕ) → is_client decl a ≡ true → (ds : List Deed) (is_open : Bool) (n : ℕ)
-        → Acts decl a ds is_open n → AreDeedsDue decl (new_account (a - decl.sites)) ds }
+        → Acts decl a ds is_open n → AreByRows decl (new_account (a - decl.sites)) ds }
 {}
 
 /// So each of its deeds is due, where what came to it is declared.

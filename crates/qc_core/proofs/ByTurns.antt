@@ -19,7 +19,7 @@ use Rattle.qc_msg.specs.declared.turn.Posting.{Posting}
 use Rattle.qc_msg.specs.declared.turn.Turn.{Turn}
 use Rattle.qc_msg.specs.Deeds.{Deed, Takes, Writes, Sends, Tells, Falls, Rises, deeds_as, sends_of, tells_of, writes_of}
 use Rattle.qc_msg.specs.Readings.{command_in, is_life}
-use Rattle.qc_msg.specs.Steps.{HasRecord, MayEnd}
+use Rattle.qc_msg.specs.Steps.{HasRecord, MayEnd, IsByDisk}
 use Rattle.qc_msg.specs.Turns.{quiet, telling}
 use Rattle.qc_msg.specs.declared.step.Command.{Command}
 use Rattle.std.specs.List.{AllByRecursion as Every}
@@ -32,7 +32,7 @@ use Rattle.qc_core.specs.declared.actor.Actor.{Actor}
 use Rattle.qc_core.specs.declared.actor.Actor.TheVariants as actor
 use Rattle.qc_core.specs.Actors.{ActorMove, actor_after, actor_does, actor_rises, actor_sends, actor_takes, by_client, by_site, down_takes, moved}
 use Rattle.qc_core.specs.Conduct.{IsLawfulWithFalls, with_record}
-use Rattle.qc_core.specs.Lives.{AreUncommanded, IsByDisk, IsUncommanded, Lives, MayReach, is_up, up_at}
+use Rattle.qc_core.specs.Lives.{AreUncommanded, IsUncommanded, Lives, MayReach, is_up, up_at}
 use Rattle.qc_core.specs.Lives as lives
 use Rattle.qc_core.proofs.LivesLaws.{down, rises, up}
 use Rattle.qc_core.proofs.Written.{FailsAlone, IsClientTurn, IsSiteTurn, client_written, says_neither, says_unwritten, site_written, tells_neither, tells_unwritten, writes_no_life}

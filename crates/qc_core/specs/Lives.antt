@@ -5,13 +5,13 @@ use Rattle.std.specs.List.{AllByRecursion as Every}
 use Rattle.qc_decl.specs.declared.declaration.Declaration.{Declaration}
 use Rattle.qc_msg.specs.declared.record.Record.{Record}
 use Rattle.qc_msg.specs.declared.step.Fall.{Fall}
-use Rattle.qc_msg.specs.declared.step.Fall.TheVariants.{Script, Stop, Disk}
+use Rattle.qc_msg.specs.declared.step.Fall.TheVariants.{Script}
 use Rattle.qc_msg.specs.declared.step.Given.{Given}
 use Rattle.qc_msg.specs.declared.step.Given.TheVariants as given
 use Rattle.qc_msg.specs.declared.turn.Turn.{Turn}
 use Rattle.qc_msg.specs.Deeds.{Deed, Takes, Writes, Sends, Tells, Falls, Rises, deeds_as}
 use Rattle.qc_msg.specs.Readings.{command_in}
-use Rattle.qc_msg.specs.Steps.{sends_as}
+use Rattle.qc_msg.specs.Steps.{IsByDisk, sends_as}
 use Rattle.qc_core.specs.Acts.{MayTake}
 use Rattle.qc_core.specs.Conduct.{IsLawfulWithFalls}
 
@@ -33,12 +33,6 @@ abbrev pub MayReach : Bool → Given → Type 0
 MayReach up (given.Called command) = Unit {0}
 MayReach up (given.Got envelope) = up ≡ true
 MayReach up (given.Lost number) = up ≡ true
-
--- a fall that its disk makes, and no line of the script
-abbrev pub IsByDisk : Fall → Type 0
-IsByDisk Script = ⊥
-IsByDisk Stop = Unit {0}
-IsByDisk Disk = Unit {0}
 
 -- The deeds of an actor through falls and rises, whether it has an open input, and a number above those of its
 -- messages. In a turn whose record isn't written it falls (`deeds_as`); by a line of the script only where no input is

@@ -4,7 +4,7 @@ use Rattle.std.specs.Prelude.{fold, set}
 use Rattle.std.proofs.lemmas.List.Sums.{fold-append}
 use Rattle.qc_core.specs.Acts.{is_running, runs_at}
 use Rattle.qc_laws.proofs.Running.{busy_step}
-use Rattle.qc_laws.proofs.Up.{AreUp}
+use Rattle.qc_core.specs.Lives.{AreSteady}
 use Rattle.qc_msg.specs.declared.message.Envelope.{Envelope}
 use Rattle.qc_msg.specs.declared.record.Record.{Record}
 use Rattle.qc_msg.specs.declared.step.Control.{Control}
@@ -19,11 +19,11 @@ use Rattle.qc_script.specs.declared.script.Script.{Script}
 use Rattle.qc_ends.specs.Order.{AreInOrder}
 use Rattle.qc_ends.proofs.Ordered.{order_first, order_second}
 
-mine_up : (mine : Bool) (ds : List Deed) → AreUp ds → AreUp (cond mine ds [])
+mine_up : (mine : Bool) (ds : List Deed) → AreSteady ds → AreSteady (cond mine ds [])
 mine_up true ds up = up
 mine_up false ds up = tt
 
-heard_up : (o : Option Envelope) → AreUp (heard o)
+heard_up : (o : Option Envelope) → AreSteady (heard o)
 heard_up None = tt
 heard_up (Some e) = (tt, tt)
 
@@ -55,7 +55,7 @@ ends_none true r d ends none are = none are ∙ sym ends
 ends_none false r d ends none are = refl
 
 module _ (script : Script) (a : ℕ) where
-  steady : (i : Inbox) (b : ℕ) (ms : List Envelope) (step : Step) (r : Bool) → i.busy ≡ r → AreUp (deed_at ms step) → (inbox_at script a i b step).busy ≡ fold runs_at r (cond (b == a) (deed_at ms step) [])
+  steady : (i : Inbox) (b : ℕ) (ms : List Envelope) (step : Step) (r : Bool) → i.busy ≡ r → AreSteady (deed_at ms step) → (inbox_at script a i b step).busy ≡ fold runs_at r (cond (b == a) (deed_at ms step) [])
   steady i b ms step r is up = busy_step script a i b ms step (mine_up (b == a) (deed_at ms step) up) ∙ ap (λ (x : Bool). fold runs_at x (cond (b == a) (deed_at ms step) [])) is
 
   busy_one : (i : Inbox) (b : ℕ) (ms : List Envelope) (step : Step) (r : Bool) → i.busy ≡ r → AreInOrder r (cond (b == a) (deed_at ms step) []) → (inbox_at script a i b step).busy ≡ fold runs_at r (cond (b == a) (deed_at ms step) [])

@@ -33,7 +33,7 @@ use Rattle.qc_promise.specs.Account.{Account}
 use Rattle.qc_promise.specs.Accounting.{account_at, account_taken}
 use Rattle.qc_promise.specs.Replies.{IsRecordDue}
 use Rattle.qc_promise.specs.Rows.{row_of, running_row}
-use Rattle.qc_account.specs.DeedsDue as rows
+use Rattle.qc_account.specs.ByRows as rows
 use Rattle.qc_account.specs.Goes.{Goes, Holds}
 use Rattle.qc_account.specs.Ties.{Ties}
 use Rattle.qc_account.proofs.Commands.{free_for, no_site, running}
@@ -179,7 +179,7 @@ module _ (decl : Declaration) (a : ℕ) (client : is_client decl a ≡ true) whe
 
     record_due : (w : IsCommitTurn (client_takes decl s.state g).turn) → IsRecordDue (account_taken (account_is decl a ds) g) (running_row decl (account_taken (account_is decl a ds) g) false) (records.Commit w.commit)
     record_due w =
-        (subst (λ (o : Option Record). rows.AreDeedsDue decl (account_taken (account_is decl a ds) g) (writes_of o ++ (sends_of 0 (client_takes decl s.state g).turn.sends ++ tells_of (client_takes decl s.state g).turn.told))) w.write (goes 0).due).0
+        (subst (λ (o : Option Record). rows.AreByRows decl (account_taken (account_is decl a ds) g) (writes_of o ++ (sends_of 0 (client_takes decl s.state g).turn.sends ++ tells_of (client_takes decl s.state g).turn.told))) w.write (goes 0).due).0
 
     failed_replies : IsClientTurn (client_takes decl s.state g).turn → HasRecord (client_takes decl s.state g).turn.write
         → (is_running (ds ++ Takes g ∷ []) ≡ true) × (is_some (client_takes decl s.state g).turn.failed_told ≡ true)

@@ -23,15 +23,14 @@ use Rattle.qc_msg.specs.declared.step.Command.{Command}
 use Rattle.qc_msg.specs.declared.step.Command.TheVariants as commands
 use Rattle.qc_msg.specs.declared.step.Given.{Given}
 use Rattle.qc_msg.specs.declared.step.Given.TheVariants as given
-use Rattle.qc_msg.specs.Deeds.{Deed, Takes, Writes, Sends, Tells, Falls, Rises}
+use Rattle.qc_msg.specs.Deeds.{Deed, Takes, Writes, Sends, Tells, Falls, Rises, deeds}
 use Rattle.qc_promise.specs.Account.{Account, ClientRequest, new_account}
 use Rattle.qc_promise.specs.Accounting.{account_at, account_taken, account_heard, account_sent, account_told_in, account_written, counted, counted_for, found_absent, granted, is_open, promised, responded, short_of, taken_for, told_by}
 use Rattle.qc_promise.specs.Asked.{is_asked_for}
 use Rattle.qc_promise.specs.Rows.{running_row}
-use Rattle.qc_account.specs.DeedsDue.{AreDeedsDue, IsDeedDue}
+use Rattle.qc_account.specs.ByRows.{AreByRows, IsByRow}
 use Rattle.qc_core.specs.Conduct.{IsLawful}
 use Rattle.qc_decl.specs.Actors.{actors, is_client}
-use Rattle.qc_msg.specs.Deeds.{deeds}
 use Rattle.qc_msg.specs.Steps.{Entry}
 use Rattle.qc_script.specs.Runs.{Runs}
 use Rattle.qc_script.specs.declared.script.Script.{Script}
@@ -158,7 +157,7 @@ module _ (decl : Declaration) where
   take_clock d (given.Got e) = heard_clock d e.message
   take_clock d (given.Lost n) = counted_clock d n None
 
-  deed_clock : (d : Account) (x : Deed) → IsDeedDue decl d x → d.clock ≤ (account_at decl d x).clock
+  deed_clock : (d : Account) (x : Deed) → IsByRow decl d x → d.clock ≤ (account_at decl d x).clock
   deed_clock d (Takes g) is = take_clock d g
   deed_clock d (Writes w) is = written_clock d w
   deed_clock d (Sends n to m) is = sent_clock d n to m
@@ -166,7 +165,7 @@ module _ (decl : Declaration) where
   deed_clock d (Falls cause pending) is = absurd is
   deed_clock d (Rises kept) is = absurd is
 
-  pub clock_rises : (ds : List Deed) (d : Account) → AreDeedsDue decl d ds → d.clock ≤ (fold (account_at decl) d ds).clock
+  pub clock_rises : (ds : List Deed) (d : Account) → AreByRows decl d ds → d.clock ≤ (fold (account_at decl) d ds).clock
   clock_rises [] d is = same_clock d
   clock_rises (x ∷ ds) d is =
       let first : d.clock ≤ (account_at decl d x).clock = deed_clock d x is.0 in
@@ -203,27 +202,27 @@ module _ (decl : Declaration) where
 
   -- parts of what is due
 
-  due_front : (xs ys : List Deed) (d : Account) → AreDeedsDue decl d (xs ++ ys) → AreDeedsDue decl d xs
+  due_front : (xs ys : List Deed) (d : Account) → AreByRows decl d (xs ++ ys) → AreByRows decl d xs
   due_front [] ys d due = tt
   due_front (x ∷ xs) ys d due = (due.0, due_front xs ys (account_at decl d x) due.1)
 
-  due_back : (xs ys : List Deed) (d : Account) → AreDeedsDue decl d (xs ++ ys) → AreDeedsDue decl (fold (account_at decl) d xs) ys
+  due_back : (xs ys : List Deed) (d : Account) → AreByRows decl d (xs ++ ys) → AreByRows decl (fold (account_at decl) d xs) ys
   due_back [] ys d due = due
   due_back (x ∷ xs) ys d due = due_back xs ys (account_at decl d x) due.1
 
-  counted_reached : (client : ℕ) (ds : List Deed) (clock : ℕ) → AreDeedsDue decl (new_account client) ds → IsCounted decl client ds clock → clock ≤ (fold (account_at decl) (new_account client) ds).clock
+  counted_reached : (client : ℕ) (ds : List Deed) (clock : ℕ) → AreByRows decl (new_account client) ds → IsCounted decl client ds clock → clock ≤ (fold (account_at decl) (new_account client) ds).clock
   counted_reached client ds clock due k =
       let d : Account = fold (account_at decl) (new_account client) k.before in
-      let rest_due : AreDeedsDue decl (account_at decl d (Takes (given.Got k.envelope))) k.after = (due_back k.before (Takes (given.Got k.envelope) ∷ k.after) (new_account client) (subst (AreDeedsDue decl (new_account client)) k.taken due)).1 in
+      let rest_due : AreByRows decl (account_at decl d (Takes (given.Got k.envelope))) k.after = (due_back k.before (Takes (given.Got k.envelope) ∷ k.after) (new_account client) (subst (AreByRows decl (new_account client)) k.taken due)).1 in
       let passed : clock ≤ (account_heard d k.envelope.message).clock = subst (λ (m : Message). clock ≤ (account_heard d m).clock) (sym k.answers_it) (counted_passes d k.number clock k.answer k.request k.counts k.tells) in
       let rises : (account_heard d k.envelope.message).clock ≤ (fold (account_at decl) (account_at decl d (Takes (given.Got k.envelope))) k.after).clock = clock_rises k.after (account_at decl d (Takes (given.Got k.envelope))) rest_due in
       let all : fold (account_at decl) (new_account client) ds ≡ fold (account_at decl) d (Takes (given.Got k.envelope) ∷ k.after) =
       ap (fold (account_at decl) (new_account client)) k.taken ∙ fold-append (account_at decl) (new_account client) k.before (Takes (given.Got k.envelope) ∷ k.after) in
       subst (λ (e : Account). clock ≤ e.clock) (sym all) (omega arith)
 
-  record_passes : (client : ℕ) (ds front back : List Deed) (c : CommitRecord) (clock : ℕ) → AreDeedsDue decl (new_account client) ds → ds ≡ front ++ Writes (records.Commit c) ∷ back → IsCounted decl client front clock → clock < c.stamp.clock
+  record_passes : (client : ℕ) (ds front back : List Deed) (c : CommitRecord) (clock : ℕ) → AreByRows decl (new_account client) ds → ds ≡ front ++ Writes (records.Commit c) ∷ back → IsCounted decl client front clock → clock < c.stamp.clock
   record_passes client ds front back c clock due is k =
-      let here : AreDeedsDue decl (new_account client) (front ++ Writes (records.Commit c) ∷ back) = subst (AreDeedsDue decl (new_account client)) is due in
+      let here : AreByRows decl (new_account client) (front ++ Writes (records.Commit c) ∷ back) = subst (AreByRows decl (new_account client)) is due in
       let low : clock ≤ (fold (account_at decl) (new_account client) front).clock = counted_reached client front clock (due_front front (Writes (records.Commit c) ∷ back) (new_account client) here) k in
       let next : c.stamp.clock ≡ (fold (account_at decl) (new_account client) front).clock + 1 = ap (λ (s : Stamp). s.clock) (due_stamp decl (fold (account_at decl) (new_account client) front) c.stamp (due_at decl front (Writes (records.Commit c)) back (new_account client) here).0) in
       omega arith

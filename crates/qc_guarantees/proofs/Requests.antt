@@ -20,7 +20,7 @@ use Rattle.qc_promise.specs.Account.{Account, Current, new_account}
 use Rattle.qc_promise.specs.Accounting.{account_at}
 use Rattle.qc_promise.specs.Asked.{carries, command_asks, is_asked_for, is_of, own_appended, same_line, same_own, weighs}
 use Rattle.qc_promise.specs.Rounds.{answer_of, next_own}
-use Rattle.qc_account.specs.DeedsDue.{AreDeedsDue, IsDeedDue}
+use Rattle.qc_account.specs.ByRows.{AreByRows, IsByRow}
 use Rattle.qc_net.specs.Net.{IsNamed}
 use Rattle.qc_guarantees.proofs.Accounts.{HasGrounds, and_first, and_second}
 use Rattle.qc_guarantees.proofs.Grounds.{has_grounds}
@@ -39,7 +39,7 @@ behind x (y ∷ ys) (inl same) = record { before = []; after = ys; is = ap (λ (
 behind x (y ∷ ys) (inr there) = let b : IsBehind x ys = behind x ys there in record { before = y ∷ b.before; after = b.after; is = ap (λ (zs : List _). y ∷ zs) b.is }
 
 module _ (decl : Declaration) where
-  pub due_at : (before : List Deed) (x : Deed) (after : List Deed) (d : Account) → AreDeedsDue decl d (before ++ x ∷ after) → IsDeedDue decl (fold (account_at decl) d before) x
+  pub due_at : (before : List Deed) (x : Deed) (after : List Deed) (d : Account) → AreByRows decl d (before ++ x ∷ after) → IsByRow decl (fold (account_at decl) d before) x
   due_at [] x after d due = due.0
   due_at (y ∷ ys) x after d due = due_at ys x after (account_at decl d y) due.1
 
@@ -78,11 +78,11 @@ module _ (decl : Declaration) where
       by None is = absurd (let never : ⊥ = cc in never)
       by (Some t) is = asks_right d t site want d.command named (and_second (is_of t site tx epoch life) (command_asks decl d t site want d.command) is)
 
-  pub request_right : (client : ℕ) (ds : List Deed) (n to : ℕ) (tx : TxId) (epoch life : ℕ) (want : Want) → AreDeedsDue decl (new_account client) ds → ((c : Command) → In (Takes (given.Called c)) ds → IsNamed decl c)
+  pub request_right : (client : ℕ) (ds : List Deed) (n to : ℕ) (tx : TxId) (epoch life : ℕ) (want : Want) → AreByRows decl (new_account client) ds → ((c : Command) → In (Takes (given.Called c)) ds → IsNamed decl c)
       → In (Sends n to (messages.Request tx epoch life want)) ds → IsNamedWant decl want × IsFull want
   request_right client ds n to tx epoch life want due called among =
       let b : IsBehind (Sends n to (messages.Request tx epoch life want)) ds = behind (Sends n to (messages.Request tx epoch life want)) ds among in
-      let here : is_asked_for decl (fold (account_at decl) (new_account client) b.before) to tx epoch life want ≡ true = due_at b.before (Sends n to (messages.Request tx epoch life want)) b.after (new_account client) (subst (AreDeedsDue decl (new_account client)) b.is due) in
+      let here : is_asked_for decl (fold (account_at decl) (new_account client) b.before) to tx epoch life want ≡ true = due_at b.before (Sends n to (messages.Request tx epoch life want)) b.after (new_account client) (subst (AreByRows decl (new_account client)) b.is due) in
       let g : HasGrounds b.before (fold (account_at decl) (new_account client) b.before) = has_grounds decl client b.before in
       asked_right (fold (account_at decl) (new_account client) b.before) to tx epoch life want
       (λ c is. called c (subst (λ (v : List Deed). In (Takes (given.Called c)) v) (sym b.is) (In-first (Takes (given.Called c)) b.before (Sends n to (messages.Request tx epoch life want) ∷ b.after) (g.called c is)))) here

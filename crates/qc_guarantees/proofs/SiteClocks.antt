@@ -46,7 +46,8 @@ use Rattle.qc_laws.proofs.Acted.{run_acts}
 use Rattle.qc_laws.proofs.Served.{run_due, run_shown}
 use Rattle.qc_laws.specs.Turns.{ActsIn}
 use Rattle.qc_laws.proofs.FirstLives.{only_life}
-use Rattle.qc_laws.proofs.Up.{AreUp, IsUp, run_up}
+use Rattle.qc_laws.proofs.Up.{run_up}
+use Rattle.qc_core.specs.Lives.{AreSteady, IsSteady}
 use Rattle.qc_net.specs.Sites.{SiteMirrors}
 use Rattle.qc_atomic.proofs.Calm.{all_up}
 use Rattle.qc_guarantees.proofs.Voted.{mirror, stood}
@@ -158,11 +159,11 @@ module _ (decl : Declaration) where
       given_brings (before ++ Takes g ∷ []) tx clock g (x ∷ after)
       (write_of (records.Done tx clock) (turn_due decl (before ++ Takes g ∷ []) g) (fallen_in (posted_next (x ∷ after))) (subst (λ (acts : List Act). In (Wrote (records.Done tx clock)) acts) due among))
 
-  done_brought : (before ds : List Deed) (tx : TxId) (clock : ℕ) → AreUp ds → AreDue decl before ds → In (Writes (records.Done tx clock)) ds → In (Wrote (records.Done tx clock)) (posted_next ds) ⊎ IsBrought tx clock ds
+  done_brought : (before ds : List Deed) (tx : TxId) (clock : ℕ) → AreSteady ds → AreDue decl before ds → In (Writes (records.Done tx clock)) ds → In (Wrote (records.Done tx clock)) (posted_next ds) ⊎ IsBrought tx clock ds
   done_brought before [] tx clock up due among = absurd among
   done_brought before (d ∷ ds) tx clock up due among = by d up.0 due.0 among (done_brought (before ++ d ∷ []) ds tx clock up.1 due.1)
     where
-      by : (d : Deed) → IsUp d → IsDueAt decl before d ds → (Writes (records.Done tx clock) ≡ d) ⊎ In (Writes (records.Done tx clock)) ds → (In (Writes (records.Done tx clock)) ds → In (Wrote (records.Done tx clock)) (posted_next ds) ⊎ IsBrought tx clock ds)
+      by : (d : Deed) → IsSteady d → IsDueAt decl before d ds → (Writes (records.Done tx clock) ≡ d) ⊎ In (Writes (records.Done tx clock)) ds → (In (Writes (records.Done tx clock)) ds → In (Wrote (records.Done tx clock)) (posted_next ds) ⊎ IsBrought tx clock ds)
           → In (Wrote (records.Done tx clock)) (posted_next (d ∷ ds)) ⊎ IsBrought tx clock (d ∷ ds)
       by (Takes g) up due (inl same) rest = absurd (let never : ⊥ = cc in never)
       by (Takes g) up due (inr there) rest = elim (rest there) [ inl next ↦ inr (take_brings before tx clock g ds due next) | inr old ↦ inr (later_brought tx clock (Takes g) ds old) ]
@@ -223,7 +224,7 @@ in_clocks [] d x among has = absurd among
 in_clocks (y ∷ ys) d x (inl same) has = In-first x (clocks_at y) (flat_map clocks_at ys) (subst (λ (z : Deed). In x (clocks_at z)) same has)
 in_clocks (y ∷ ys) d x (inr there) has = In-second x (clocks_at y) (flat_map clocks_at ys) (in_clocks ys d x there has)
 
-brought_passed : (tx : TxId) (clock : ℕ) (ds : List Deed) → AreUp ds → IsBrought tx clock ds → clock ≤ clock_shown ds
+brought_passed : (tx : TxId) (clock : ℕ) (ds : List Deed) → AreSteady ds → IsBrought tx clock ds → clock ≤ clock_shown ds
 brought_passed tx clock ds up b =
     let here : In b.stamp.clock (clocks_at (Takes (given.Got b.envelope))) = subst (λ (m : Message). In b.stamp.clock (clocks_in m)) (sym b.is) (inl refl) in
     let all : clock_shown ds ≡ fold max 0 (flat_map clocks_at ds) = ap (λ (l : Lifetime). fold max 0 (flat_map clocks_in_record l.kept ++ flat_map clocks_at l.since)) (only_life ds up) in
@@ -237,7 +238,7 @@ module _ (decl : Declaration) (script : Script) (h : List Entry) (open_inputs : 
   acts : ActsIn decl site h false
   acts = run_acts decl script h open_inputs run site false free
 
-  up : AreUp (deeds site [] h)
+  up : AreSteady (deeds site [] h)
   up = run_up (IsLawful decl) decl script h open_inputs run site
 
   pub dones_passed : (tx : TxId) (clock : ℕ) → In (Writes (records.Done tx clock)) (deeds site [] h) → clock ≤ clock_shown (deeds site [] h)

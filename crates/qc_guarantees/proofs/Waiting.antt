@@ -32,7 +32,7 @@ use Rattle.qc_promise.specs.Asked.{is_asked_for}
 use Rattle.qc_promise.specs.Rounds.{are_votes_in, first_against, participants}
 use Rattle.qc_promise.specs.Rows.{commit_row, running_row, row_of, vote_row}
 use Rattle.qc_promise.specs.Rows as rows
-use Rattle.qc_account.specs.DeedsDue.{AreDeedsDue}
+use Rattle.qc_account.specs.ByRows.{AreByRows}
 use Rattle.qc_account.specs.Ties.{IsPrepare, Votes}
 use Rattle.qc_account.proofs.Courses.{IsAtInput, account_of, client_acts, clients_due, turns_tell}
 use Rattle.qc_client.specs.Conduct.{client_after}
@@ -182,7 +182,7 @@ module _ (decl : Declaration) where
       pub writes_no_commit : commits_in turn.write ≡ []
       writes_no_commit = by turn.write (clients_due decl a client (ds ++ turn_deeds first turn) false (first + length turn.sends) (posts ds turn n first acts low law))
         where
-          by : (w : Option Record) → AreDeedsDue decl (new_account (a - decl.sites)) (ds ++ (writes_of w ++ (sends_of first turn.sends ++ tells_of turn.told))) → commits_in w ≡ []
+          by : (w : Option Record) → AreByRows decl (new_account (a - decl.sites)) (ds ++ (writes_of w ++ (sends_of first turn.sends ++ tells_of turn.told))) → commits_in w ≡ []
           by None due = refl
           by (Some records.Life) due = refl
           by (Some (records.Prepare prepared)) due = refl

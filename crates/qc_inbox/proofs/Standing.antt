@@ -12,10 +12,9 @@ use Rattle.qc_msg.specs.declared.step.Step.{Step}
 use Rattle.qc_msg.specs.declared.turn.Appended.TheVariants.{Failed, Stopped}
 use Rattle.qc_msg.specs.declared.turn.Turn.{Turn}
 use Rattle.qc_msg.specs.Deeds.{deeds}
-use Rattle.qc_msg.specs.Steps.{Entry, by, fell, posted_as, sents, told}
+use Rattle.qc_msg.specs.Steps.{Entry, by, fell, posted_as, sents, told, IsByDisk}
 use Rattle.qc_msg.proofs.Growth.{by-append}
 use Rattle.qc_script.specs.Inbox.{Inbox, acting, actor_fell, commands_for, control_acted, does_nothing, fell_by, inbox_at, is_by_line, is_up, opened, phase_begun, wrote_record}
-use Rattle.qc_script.specs.RunsWithFalls.{IsByDisk}
 use Rattle.qc_script.specs.declared.script.PhaseLines.{PhaseLines}
 use Rattle.qc_script.specs.declared.script.Script.{Script}
 use Rattle.qc_script.proofs.Inboxes.{opened_keeps}

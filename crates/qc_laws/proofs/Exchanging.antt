@@ -10,7 +10,7 @@ use Rattle.qc_msg.specs.Deeds.{Deed, Takes, Writes, Sends, Tells, Falls, Rises}
 use Rattle.qc_laws.specs.Exchanges.{AreAnswered, exchanges, exchanges_from}
 use Rattle.qc_laws.specs.Order.{AreInOrder}
 use Rattle.qc_laws.specs.Whole.{call_in}
-use Rattle.qc_laws.proofs.Up.{AreUp}
+use Rattle.qc_core.specs.Lives.{AreSteady}
 
 one_more : (before : List Deed) (d : Deed) (running : Bool) → is_running before ≡ running → is_running (before ++ d ∷ []) ≡ runs_at running d
 one_more before d running is = fold-append runs_at false before (d ∷ []) ∙ ap (λ (r : Bool). runs_at r d) is
@@ -18,7 +18,7 @@ one_more before d running is = fold-append runs_at false before (d ∷ []) ∙ a
 none_both : {A : Type 0} (r : Bool) → r ≡ true → r ≡ false → A
 none_both r is not = absurd (let never : ⊥ = cc in never)
 
-answered_from : (before : List Deed) (running : Option Command) (ds : List Deed) → is_running before ≡ is_some running → AreInOrder before ds → AreUp ds
+answered_from : (before : List Deed) (running : Option Command) (ds : List Deed) → is_running before ≡ is_some running → AreInOrder before ds → AreSteady ds
     → fold runs_at (is_some running) ds ≡ false → AreAnswered (option_to_list running ++ filter_map call_in ds) (exchanges_from running ds)
 answered_from before None [] is order up idle = tt
 answered_from before (Some c) [] is order up idle = absurd (let never : ⊥ = cc in never)
@@ -39,5 +39,5 @@ answered_from before (Some c) (Tells reply ∷ ds) is order up idle =
 answered_from before running (Falls cause pending ∷ ds) is order up idle = absurd up.0
 answered_from before running (Rises records ∷ ds) is order up idle = absurd up.0
 
-pub answered : (ds : List Deed) → AreInOrder [] ds → AreUp ds → is_running ds ≡ false → AreAnswered (filter_map call_in ds) (exchanges ds)
+pub answered : (ds : List Deed) → AreInOrder [] ds → AreSteady ds → is_running ds ≡ false → AreAnswered (filter_map call_in ds) (exchanges ds)
 answered ds order up idle = answered_from [] None ds refl order up idle

@@ -27,7 +27,7 @@ use Rattle.qc_laws.specs.Order.{AreInOrder, IsInOrder}
 use Rattle.qc_laws.specs.Whole.{call_in, reply_in}
 use Rattle.qc_laws.proofs.Stamped.{site_answering}
 use Rattle.qc_laws.proofs.Waiting.{Ends, IsNoCall, Rests, called_ends, epoch_rests, sent_waits, takes_ends, takes_rests}
-use Rattle.qc_laws.proofs.Up.{AreUp, IsUp}
+use Rattle.qc_core.specs.Lives.{AreSteady, IsSteady}
 
 -- whether a command runs, as deeds go on
 
@@ -200,7 +200,7 @@ module _ (decl : Declaration) (a : ℕ) where
 abbrev pub open_commands : Bool → ℕ
 open_commands running = cond running 1 0
 
-one_deed : (before : List Deed) (d : Deed) → IsInOrder before d → IsUp d
+one_deed : (before : List Deed) (d : Deed) → IsInOrder before d → IsSteady d
     → length (filter_map call_in (d ∷ [])) + open_commands (is_running before) ≡ length (filter_map reply_in (d ∷ [])) + open_commands (runs_at (is_running before) d)
 one_deed before (Takes (given.Called command)) is up = ap (λ (r : Bool). 1 + open_commands r) is
 one_deed before (Takes (given.Got envelope)) is up = refl
@@ -211,7 +211,7 @@ one_deed before (Tells reply) is up = let one : open_commands (is_running before
 one_deed before (Falls cause pending) is up = absurd up
 one_deed before (Rises records) is up = absurd up
 
-pub counted_from : (before ds : List Deed) → AreInOrder before ds → AreUp ds
+pub counted_from : (before ds : List Deed) → AreInOrder before ds → AreSteady ds
     → length (filter_map call_in ds) + open_commands (is_running before) ≡ length (filter_map reply_in ds) + open_commands (is_running (before ++ ds))
 counted_from before [] are up = ap (λ (v : List Deed). 0 + open_commands (is_running v)) (sym (append-nil before))
 counted_from before (d ∷ ds) are up =
@@ -223,5 +223,5 @@ counted_from before (d ∷ ds) are up =
     let told : length (filter_map reply_in (d ∷ ds)) ≡ length (filter_map reply_in (d ∷ [])) + length (filter_map reply_in ds) = ap length (filter_map-append reply_in (d ∷ []) ds) ∙ length-append (filter_map reply_in (d ∷ [])) (filter_map reply_in ds) in
     omega arith
 
-pub all_counted : (ds : List Deed) → AreInOrder [] ds → AreUp ds → length (filter_map call_in ds) ≡ length (filter_map reply_in ds) + open_commands (is_running ds)
+pub all_counted : (ds : List Deed) → AreInOrder [] ds → AreSteady ds → length (filter_map call_in ds) ≡ length (filter_map reply_in ds) + open_commands (is_running ds)
 all_counted ds are up = let count : length (filter_map call_in ds) + 0 ≡ length (filter_map reply_in ds) + open_commands (is_running ds) = counted_from [] ds are up in omega arith

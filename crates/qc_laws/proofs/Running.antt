@@ -26,7 +26,8 @@ use Rattle.qc_msg.specs.declared.step.Fall.{Fall}
 use Rattle.qc_script.specs.Requests.{has_request, requests_to, requests_to_others, with_lost}
 use Rattle.qc_script.specs.Inbox.{Inbox, acting, actor_fell, control_acted, emptied, fell_by, is_by_line, is_up, wrote_record, answers_by, comes, comes_at_once, command_called, commands_for, copy_taken, count_of, empty_inbox, goes, goes_with, inbox, inbox_at, is_request, loss_taken, opened, opened_by, phase_begun, reply_told, with_copies}
 use Rattle.qc_script.specs.Ready.{after_controls, command_in, first_command, first_copy, first_lost, ready, ready_in, takes_commands}
-use Rattle.qc_laws.proofs.Up.{AreUp, IsUp, first_up, rest_up}
+use Rattle.qc_laws.proofs.Up.{first_up, rest_up}
+use Rattle.qc_core.specs.Lives.{AreSteady, IsSteady}
 
 busy_if : (t : Bool) (i j : Inbox) (b : Bool) → i.busy ≡ b → j.busy ≡ b → (if t then i else j).busy ≡ b
 busy_if true i j b here there = here
@@ -93,11 +94,11 @@ hears true running (Some e) = refl
 hears false running o = refl
 
 -- an actor that is up neither falls nor rises
-never_mine : (mine running : Bool) (d : Deed) → AreUp (cond mine (d ∷ []) []) → (IsUp d → ⊥) → running ≡ fold runs_at running (cond mine (d ∷ []) [])
+never_mine : (mine running : Bool) (d : Deed) → AreSteady (cond mine (d ∷ []) []) → (IsSteady d → ⊥) → running ≡ fold runs_at running (cond mine (d ∷ []) [])
 never_mine true running d up never = absurd (never up.0)
 never_mine false running d up never = refl
 
-pub busy_step : (script : Script) (a : ℕ) (i : Inbox) (b : ℕ) (ms : List Envelope) (step : Step) → AreUp (cond (b == a) (deed_at ms step) []) → (inbox_at script a i b step).busy ≡ fold runs_at i.busy (cond (b == a) (deed_at ms step) [])
+pub busy_step : (script : Script) (a : ℕ) (i : Inbox) (b : ℕ) (ms : List Envelope) (step : Step) → AreSteady (cond (b == a) (deed_at ms step) []) → (inbox_at script a i b step).busy ≡ fold runs_at i.busy (cond (b == a) (deed_at ms step) [])
 busy_step script a i b ms (steps.Phase k) up = busy_phase a i (slice_get script.phases (k - 1)) ∙ no_deed (b == a) i.busy
 busy_step script a i b ms (steps.Cut x y) up = busy_acted a (record i { cuts = with_cut i.cuts x y }) ∙ no_deed (b == a) i.busy
 busy_step script a i b ms (steps.Heal x y) up = busy_acted a (record i { cuts = without_cut i.cuts x y }) ∙ no_deed (b == a) i.busy
@@ -132,7 +133,7 @@ busy_step script a i b ms (steps.Fell cause pending) up = busy_fell a i b cause 
 busy_step script a i b ms (steps.Rose records) up = never_mine (b == a) i.busy _ up (λ never. never)
 busy_step script a i b ms (steps.Damaged offset) up = busy_acted a i ∙ no_deed (b == a) i.busy
 
-busy_all : (script : Script) (a : ℕ) (h : List Entry) (i : Inbox) (ms : List Envelope) → AreUp (deeds a ms h) → (fold (λ (i : Inbox) (e : Entry). inbox_at script a i e.actor e.step) i h).busy ≡ fold runs_at i.busy (deeds a ms h)
+busy_all : (script : Script) (a : ℕ) (h : List Entry) (i : Inbox) (ms : List Envelope) → AreSteady (deeds a ms h) → (fold (λ (i : Inbox) (e : Entry). inbox_at script a i e.actor e.step) i h).busy ≡ fold runs_at i.busy (deeds a ms h)
 busy_all script a [] i ms up = refl
 busy_all script a (e ∷ h) i ms up =
     busy_all script a h (inbox_at script a i e.actor e.step) (ms ++ option_to_list (envelope_of e)) (rest_up (cond (e.actor == a) (deed_at ms e.step) []) (deeds a (ms ++ option_to_list (envelope_of e)) h) up)
@@ -140,7 +141,7 @@ busy_all script a (e ∷ h) i ms up =
     ∙ sym (fold-append runs_at i.busy (cond (e.actor == a) (deed_at ms e.step) []) (deeds a (ms ++ option_to_list (envelope_of e)) h))
 
 -- of each history in which the actor neither falls nor rises
-pub busy_is_running : (script : Script) (a : ℕ) (h : List Entry) → AreUp (deeds a [] h) → (inbox script a h).busy ≡ is_running (deeds a [] h)
+pub busy_is_running : (script : Script) (a : ℕ) (h : List Entry) → AreSteady (deeds a [] h) → (inbox script a h).busy ≡ is_running (deeds a [] h)
 busy_is_running script a h up = busy_all script a h empty_inbox [] up
 
 -- a command is ready only where none runs
@@ -165,7 +166,7 @@ not_busy decl a i c is = by i.controls is
     by [] e = free_copy i.copies (first_lost i.lost (command_in decl a i)) c i.busy (free_lost i.lost (command_in decl a i) c i.busy (free_command (takes_commands decl a) i.busy i.commands c)) e
     by (line ∷ lines) e = absurd (let never : ⊥ = cc in never)
 
-pub what_is_ready_may_be_taken : (decl : Declaration) (script : Script) (a : ℕ) (h : List Entry) → AreUp (deeds a [] h) → (taken : Given) → ready decl script a h ≡ Some taken → MayTake (deeds a [] h) taken
+pub what_is_ready_may_be_taken : (decl : Declaration) (script : Script) (a : ℕ) (h : List Entry) → AreSteady (deeds a [] h) → (taken : Given) → ready decl script a h ≡ Some taken → MayTake (deeds a [] h) taken
 what_is_ready_may_be_taken decl script a h up (given.Called command) is = sym (busy_is_running script a h up) ∙ not_busy decl a (inbox script a h) command is
 what_is_ready_may_be_taken decl script a h up (given.Got envelope) is = tt
 what_is_ready_may_be_taken decl script a h up (given.Lost number) is = tt

@@ -3,6 +3,7 @@ use Rattle.std.proofs.Common.{◌≡◌, ℕ, ◌+◌, ◌==◌, Bool, true, fal
 use Rattle.std.specs.List.{AllByRecursion as Every}
 use Rattle.qc_core.specs.Acts.{Acts}
 use Rattle.qc_core.specs.Acts as acts
+use Rattle.qc_core.specs.Lives.{AreSteady, IsSteady}
 use Rattle.qc_decl.specs.declared.declaration.Declaration.{Declaration}
 use Rattle.qc_decl.specs.Actors.{controller}
 use Rattle.qc_msg.specs.declared.message.Envelope.{Envelope}
@@ -23,77 +24,66 @@ use Rattle.qc_script.specs.declared.script.Script.{Script}
 use Rattle.qc_laws.proofs.Mailed.{both_all}
 use Rattle.qc_laws.proofs.Numbered.{IsSilent, control_silent, phase_silent}
 
-abbrev pub IsUp : Deed → Type 0
-IsUp (Takes given) = Unit {0}
-IsUp (Writes written) = Unit {0}
-IsUp (Sends number to message) = Unit {0}
-IsUp (Tells reply) = Unit {0}
-IsUp (Falls cause pending) = ⊥
-IsUp (Rises records) = ⊥
+pub both_up : (xs ys : List Deed) → AreSteady xs → AreSteady ys → AreSteady (xs ++ ys)
+both_up xs ys first second = both_all IsSteady xs ys first second
 
-abbrev pub AreUp : List Deed → Type 0
-AreUp ds = Every IsUp ds
-
-pub both_up : (xs ys : List Deed) → AreUp xs → AreUp ys → AreUp (xs ++ ys)
-both_up xs ys first second = both_all IsUp xs ys first second
-
-pub first_up : (xs ys : List Deed) → AreUp (xs ++ ys) → AreUp xs
+pub first_up : (xs ys : List Deed) → AreSteady (xs ++ ys) → AreSteady xs
 first_up [] ys up = tt
 first_up (x ∷ xs) ys up = (up.0, first_up xs ys up.1)
 
-pub rest_up : (xs ys : List Deed) → AreUp (xs ++ ys) → AreUp ys
+pub rest_up : (xs ys : List Deed) → AreSteady (xs ++ ys) → AreSteady ys
 rest_up [] ys up = up
 rest_up (x ∷ xs) ys up = rest_up xs ys up.1
 
 -- a turn that is posted, and an input
 
-sends_up : (n : ℕ) (ps : List Posting) (told : Option Reply) → AreUp (sends_of n ps ++ tells_of told)
+sends_up : (n : ℕ) (ps : List Posting) (told : Option Reply) → AreSteady (sends_of n ps ++ tells_of told)
 sends_up n [] None = tt
 sends_up n [] (Some reply) = (tt, tt)
 sends_up n (p ∷ ps) told = (tt, sends_up (n + 1) ps told)
 
-pub turn_up : (n : ℕ) (turn : Turn) → AreUp (turn_deeds n turn)
+pub turn_up : (n : ℕ) (turn : Turn) → AreSteady (turn_deeds n turn)
 turn_up n turn = by turn.write
   where
-    by : (w : Option Record) → AreUp (writes_of w ++ (sends_of n turn.sends ++ tells_of turn.told))
+    by : (w : Option Record) → AreSteady (writes_of w ++ (sends_of n turn.sends ++ tells_of turn.told))
     by None = sends_up n turn.sends turn.told
     by (Some written) = (tt, sends_up n turn.sends turn.told)
 
-heard_up : (o : Option Envelope) → AreUp (heard o)
+heard_up : (o : Option Envelope) → AreSteady (heard o)
 heard_up None = tt
 heard_up (Some envelope) = (tt, tt)
 
-input_up : (ms : List Envelope) (g : Given) → AreUp (deed_at ms (step_of g))
+input_up : (ms : List Envelope) (g : Given) → AreSteady (deed_at ms (step_of g))
 input_up ms (given.Called command) = (tt, tt)
 input_up ms (given.Got envelope) = heard_up (slice_get ms envelope.number)
 input_up ms (given.Lost number) = (tt, tt)
 
 -- one step more
 
-mine_up : (mine : Bool) (ds : List Deed) → AreUp ds → AreUp (cond mine ds [] ++ [])
+mine_up : (mine : Bool) (ds : List Deed) → AreSteady ds → AreSteady (cond mine ds [] ++ [])
 mine_up true ds up = both_up ds [] up tt
 mine_up false ds up = tt
 
-step_up : (a b : ℕ) (h : List Entry) (step : Step) → AreUp (deed_at (mail h) step) → AreUp (deeds a [] h) → AreUp (deeds a [] (h ++ marked b step ∷ []))
+step_up : (a b : ℕ) (h : List Entry) (step : Step) → AreSteady (deed_at (mail h) step) → AreSteady (deeds a [] h) → AreSteady (deeds a [] (h ++ marked b step ∷ []))
 step_up a b h step up before =
-    subst AreUp (sym (deeds-append a [] h (marked b step ∷ [])))
+    subst AreSteady (sym (deeds-append a [] h (marked b step ∷ [])))
     (both_up (deeds a [] h) (cond (b == a) (deed_at (mail h) step) [] ++ []) before (mine_up (b == a) (deed_at (mail h) step) up))
 
-silent_up : (ms : List Envelope) (step : Step) → IsSilent step → AreUp (deed_at ms step)
-silent_up ms step silent = subst AreUp (sym (silent.deeds ms)) tt
+silent_up : (ms : List Envelope) (step : Step) → IsSilent step → AreSteady (deed_at ms step)
+silent_up ms step silent = subst AreSteady (sym (silent.deeds ms)) tt
 
 -- in each run, over any conduct
 
-pub run_up : (lawful : ℕ → List Deed → Turn → Type 0) (decl : Declaration) (script : Script) (h : List Entry) (open_inputs : List Bool) → Runs lawful decl script h open_inputs → (a : ℕ) → AreUp (deeds a [] h)
+pub run_up : (lawful : ℕ → List Deed → Turn → Type 0) (decl : Declaration) (script : Script) (h : List Entry) (open_inputs : List Bool) → Runs lawful decl script h open_inputs → (a : ℕ) → AreSteady (deeds a [] h)
 run_up lawful decl script h open_inputs begins a = tt
 run_up lawful decl script h open_inputs (takes c given before older run free ready) a = step_up a c older (step_of given) (input_up (mail older) given) (run_up lawful decl script older before run a)
 run_up lawful decl script h open_inputs (posts c turn before older run taken law) a = at (c == a) refl (run_up lawful decl script older before run a)
   where
-    at : (same : Bool) → (c == a) ≡ same → AreUp (deeds a [] older) → AreUp (deeds a [] (older ++ by c (posted (length (mail older)) turn)))
+    at : (same : Bool) → (c == a) ≡ same → AreSteady (deeds a [] older) → AreSteady (deeds a [] (older ++ by c (posted (length (mail older)) turn)))
     at true same up =
-        subst (λ (k : ℕ). AreUp (deeds k [] older) → AreUp (deeds k [] (older ++ by c (posted (length (mail older)) turn)))) (eqb-true c a same)
-        (λ own. subst AreUp (sym (deeds-posted c (length (mail older)) older turn)) (both_up (deeds c [] older) (turn_deeds (length (mail older)) turn) own (turn_up (length (mail older)) turn))) up
-    at false other up = subst AreUp (sym (deeds-other c a [] older (posted (length (mail older)) turn) other)) up
+        subst (λ (k : ℕ). AreSteady (deeds k [] older) → AreSteady (deeds k [] (older ++ by c (posted (length (mail older)) turn)))) (eqb-true c a same)
+        (λ own. subst AreSteady (sym (deeds-posted c (length (mail older)) older turn)) (both_up (deeds c [] older) (turn_deeds (length (mail older)) turn) own (turn_up (length (mail older)) turn))) up
+    at false other up = subst AreSteady (sym (deeds-other c a [] older (posted (length (mail older)) turn) other)) up
 run_up lawful decl script h open_inputs (phase before older run none done quiet more) a =
     step_up a (controller decl) older (steps.Phase (phase_of older + 1)) (silent_up (mail older) (steps.Phase (phase_of older + 1)) (phase_silent (phase_of older + 1))) (run_up lawful decl script older before run a)
 run_up lawful decl script h open_inputs (control line lines step before older run left is) a =
@@ -101,7 +91,7 @@ run_up lawful decl script h open_inputs (control line lines step before older ru
 
 -- and where an actor takes inputs and posts turns
 
-pub acts_up : (decl : Declaration) (a : ℕ) (ds : List Deed) (t : Bool) (n : ℕ) → Acts decl a ds t n → AreUp ds
+pub acts_up : (decl : Declaration) (a : ℕ) (ds : List Deed) (t : Bool) (n : ℕ) → Acts decl a ds t n → AreSteady ds
 acts_up decl a ds t n acts.starts = tt
 acts_up decl a ds t n (acts.takes older g m acts may) = both_up older (Takes g ∷ []) (acts_up decl a older false m acts) (tt, tt)
 acts_up decl a ds t n (acts.posts older turn m first acts low law) = both_up older (turn_deeds first turn) (acts_up decl a older true m acts) (turn_up first turn)

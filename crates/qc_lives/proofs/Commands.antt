@@ -4,7 +4,7 @@ use Rattle.std.proofs.lemmas.List.Sums.{fold-append}
 use Rattle.qc_core.specs.Acts.{MayTake, is_running, runs_at}
 use Rattle.qc_decl.specs.declared.declaration.Declaration.{Declaration}
 use Rattle.qc_laws.proofs.Running.{busy_step, not_busy}
-use Rattle.qc_laws.proofs.Up.{AreUp}
+use Rattle.qc_core.specs.Lives.{AreSteady}
 use Rattle.qc_msg.specs.declared.message.Envelope.{Envelope}
 use Rattle.qc_msg.specs.declared.step.Given.{Given}
 use Rattle.qc_msg.specs.declared.step.Given.TheVariants as given
@@ -35,15 +35,15 @@ covers_deeds u running (d ∷ ds) covers = covers_deeds (runs_at u d) (runs_at r
 
 -- a step
 
-mine_up : (mine : Bool) (ds : List Deed) → AreUp ds → AreUp (cond mine ds [])
+mine_up : (mine : Bool) (ds : List Deed) → AreSteady ds → AreSteady (cond mine ds [])
 mine_up true ds up = up
 mine_up false ds up = tt
 
-heard_up : (o : Option Envelope) → AreUp (heard o)
+heard_up : (o : Option Envelope) → AreSteady (heard o)
 heard_up None = tt
 heard_up (Some e) = (tt, tt)
 
-covers_up : (script : Script) (a : ℕ) (i : Inbox) (b : ℕ) (ms : List Envelope) (step : Step) (running : Bool) → AreUp (cond (b == a) (deed_at ms step) []) → Covers i.busy running
+covers_up : (script : Script) (a : ℕ) (i : Inbox) (b : ℕ) (ms : List Envelope) (step : Step) (running : Bool) → AreSteady (cond (b == a) (deed_at ms step) []) → Covers i.busy running
     → Covers (inbox_at script a i b step).busy (fold runs_at running (cond (b == a) (deed_at ms step) []))
 covers_up script a i b ms step running up covers is = busy_step script a i b ms step up ∙ covers_deeds i.busy running (cond (b == a) (deed_at ms step) []) covers is
 
@@ -56,7 +56,7 @@ covers_none script a i b ms step running none covers = by (b == a) refl
     by true same is =
         let never : true ≡ false = sym is ∙ ap (λ (x : Bool). fold runs_at running (cond x (deed_at ms step) [])) same ∙ none in
         absurd (let no : ⊥ = cc in no)
-    by false other is = covers_up script a i b ms step running (subst (λ (x : Bool). AreUp (cond x (deed_at ms step) [])) (sym other) tt) covers is
+    by false other is = covers_up script a i b ms step running (subst (λ (x : Bool). AreSteady (cond x (deed_at ms step) [])) (sym other) tt) covers is
 
 covers_step : (script : Script) (a : ℕ) (i : Inbox) (b : ℕ) (ms : List Envelope) (step : Step) (running : Bool) → Covers i.busy running
     → Covers (inbox_at script a i b step).busy (fold runs_at running (cond (b == a) (deed_at ms step) []))

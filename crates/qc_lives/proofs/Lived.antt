@@ -2,7 +2,7 @@
 use Rattle.std.proofs.Common.{◌≡◌, ℕ, zero, suc, ◌+◌, ◌<◌, ◌≤◌, ◌==◌, not, Bool, true, false, List, [], ◌∷◌, ◌++◌, length, Some, None, slice_get, refl, sym, ap, ◌∙◌, subst, arith, eqb-true, length-append, append_assoc, zero-le}
 use Rattle.std.proofs.lemmas.List.{append-nil}
 use Rattle.qc_core.specs.Conduct.{IsLawfulWithFalls}
-use Rattle.qc_core.specs.Lives.{IsByDisk as ByDisk, Lives, MayReach, is_up}
+use Rattle.qc_core.specs.Lives.{Lives, MayReach, is_up}
 use Rattle.qc_core.specs.Lives as lives
 use Rattle.qc_decl.specs.declared.declaration.Declaration.{Declaration}
 use Rattle.qc_decl.specs.Actors.{actors, controller}
@@ -24,12 +24,12 @@ use Rattle.qc_msg.specs.declared.step.Step.{Step}
 use Rattle.qc_msg.specs.declared.step.Step.TheVariants as steps
 use Rattle.qc_msg.specs.declared.turn.Turn.{Turn}
 use Rattle.qc_msg.specs.Deeds.{Deed, WasSentTo, Falls, Rises, deeds, deeds_as, mail}
-use Rattle.qc_msg.specs.Steps.{Entry, by, fell, marked, posted_as, sends_as, step_of}
+use Rattle.qc_msg.specs.Steps.{Entry, by, fell, marked, posted_as, sends_as, step_of, IsByDisk}
 use Rattle.qc_msg.proofs.Growth.{deeds-append, deeds-fell, deeds-other, deeds-posted_as, deeds-rose, deeds-taken, length-envelopes, mail-append, mail-posted_as, mail-taken}
 use Rattle.qc_script.specs.Inbox.{inbox}
 use Rattle.qc_script.specs.Inbox as boxes
 use Rattle.qc_script.specs.Ready.{controller_step, controls_left, phase_of, ready}
-use Rattle.qc_script.specs.RunsWithFalls.{IsByDisk, RunsWithFalls, begins, takes, posts, phase, control, falls, rises, damaged, unopened}
+use Rattle.qc_script.specs.RunsWithFalls.{RunsWithFalls, begins, takes, posts, phase, control, falls, rises, damaged, unopened}
 use Rattle.qc_script.specs.declared.script.Script.{Script}
 use Rattle.qc_lives.specs.LivesIn.{LivesIn}
 use Rattle.qc_lives.proofs.Commands.{may_take}
@@ -47,11 +47,6 @@ line_silent (controls.Restart a) step is = absurd (let never : ⊥ = cc in never
 
 damage_silent : (offset : ℕ) → IsSilent (steps.Damaged offset)
 damage_silent offset = record { sends = λ a. refl; deeds = λ ms. refl }
-
-by_disk : (cause : Fall) → IsByDisk cause → ByDisk cause
-by_disk causes.Script never = absurd never
-by_disk causes.Stop is = tt
-by_disk causes.Disk is = tt
 
 place_within : (bs : List Bool) (a : ℕ) (t : Bool) → slice_get bs a ≡ Some t → a < length bs
 place_within [] a t is = absurd (let never : ⊥ = cc in never)
@@ -270,5 +265,5 @@ module _ (decl : Declaration) (script : Script) where
             (lives_falls c cause older
             (λ n life. lives.unopened (deeds c [] older) cause n life
             (up_of (deeds c [] older) false (sym (restarts_down (IsLawfulWithFalls decl) fits decl script older before few run c lines left) ∙ up_in older before run c (low older before run c t here)))
-            (by_disk cause disk))
+            disk)
             (subst (LivesIn decl c older) none r))

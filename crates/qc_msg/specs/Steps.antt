@@ -57,6 +57,12 @@ posted n turn = wrote turn.write ++ (sents n turn.sends ++ told turn.told)
 abbrev pub fell : Fall → Option Record → List Step
 fell cause pending = Fell cause pending ∷ []
 
+-- a fall that its disk makes, and no line of the script
+abbrev pub IsByDisk : Fall → Type 0
+IsByDisk causes.Script = ⊥
+IsByDisk causes.Stop = Unit {0}
+IsByDisk causes.Disk = Unit {0}
+
 abbrev pub posted_as : Appended → ℕ → Turn → List Step
 posted_as Done n turn = posted n turn
 posted_as Failed n turn = sents n turn.failed_sends ++ (told turn.failed_told ++ fell causes.Disk turn.write)

@@ -26,7 +26,7 @@ use Rattle.qc_onecopy.proofs.Lists.{in_split}
 use Rattle.qc_promise.specs.Account.{Account, Current, new_account, view_of}
 use Rattle.qc_promise.specs.Accounting.{account, account_at}
 use Rattle.qc_promise.specs.Rows.{commit_of}
-use Rattle.qc_account.specs.DeedsDue.{AreDeedsDue, IsDeedDue}
+use Rattle.qc_account.specs.ByRows.{AreByRows, IsByRow}
 use Rattle.qc_account.proofs.Courses.{clients_due}
 use Rattle.qc_script.specs.Runs.{Runs}
 use Rattle.qc_script.specs.Sound.{IsScriptFor}
@@ -60,10 +60,10 @@ module _ (decl : Declaration) (script : Script) (accepted : IsAccepted decl) (so
   within a client = ltb-true a (actors decl) (and_second (nat_le decl.sites a) (nat_lt a (actors decl)) client)
 
   -- all that a client does is due
-  deeds_due : (a : ℕ) → is_client decl a ≡ true → AreDeedsDue decl (new_account (a - decl.sites)) (deeds a [] h)
+  deeds_due : (a : ℕ) → is_client decl a ≡ true → AreByRows decl (new_account (a - decl.sites)) (deeds a [] h)
   deeds_due a client = by (has_entry (IsLawful decl) decl script h open_inputs run a (within a client))
     where
-      by : (t : Bool) × (slice_get open_inputs a ≡ Some t) → AreDeedsDue decl (new_account (a - decl.sites)) (deeds a [] h)
+      by : (t : Bool) × (slice_get open_inputs a ≡ Some t) → AreByRows decl (new_account (a - decl.sites)) (deeds a [] h)
       by slot = let acts : ActsIn decl a h slot.0 = run_acts decl script h open_inputs run a slot.0 slot.1 in clients_due decl a client (deeds a [] h) slot.0 acts.above acts.acts
 
   -- a record is due where it stands: it is of what was begun, and its stamp comes next
@@ -73,13 +73,13 @@ module _ (decl : Declaration) (script : Script) (accepted : IsAccepted decl) (so
     pub tx : c.tx ≡ t.tx
     pub ops : c.ops ≡ t.ops
     pub stamp : c.stamp.clock ≡ (account decl a before).clock + 1
-    pub due : AreDeedsDue decl (new_account (a - decl.sites)) (deeds a [] before)
+    pub due : AreByRows decl (new_account (a - decl.sites)) (deeds a [] before)
 
   due_there : (before : List Entry) (a : ℕ) (c : CommitRecord) (after : List Entry) → h ≡ before ++ wrote a c ∷ after → is_client decl a ≡ true → IsDueThere before a c
   due_there before a c after is client =
-      let due : AreDeedsDue decl (new_account (a - decl.sites)) (deeds a [] before ++ Writes (records.Commit c) ∷ deeds a (mail before ++ option_to_list (envelope_of (wrote a c))) after) =
-      subst (AreDeedsDue decl (new_account (a - decl.sites))) parts (deeds_due a client) in
-      let it : IsDeedDue decl (account decl a before) (Writes (records.Commit c)) = due_at decl (deeds a [] before) (Writes (records.Commit c)) (deeds a (mail before ++ option_to_list (envelope_of (wrote a c))) after) (new_account (a - decl.sites)) due in
+      let due : AreByRows decl (new_account (a - decl.sites)) (deeds a [] before ++ Writes (records.Commit c) ∷ deeds a (mail before ++ option_to_list (envelope_of (wrote a c))) after) =
+      subst (AreByRows decl (new_account (a - decl.sites))) parts (deeds_due a client) in
+      let it : IsByRow decl (account decl a before) (Writes (records.Commit c)) = due_at decl (deeds a [] before) (Writes (records.Commit c)) (deeds a (mail before ++ option_to_list (envelope_of (wrote a c))) after) (new_account (a - decl.sites)) due in
       let b = begun_of (account decl a before) c.stamp c it.1 in
       record {
         t = b.0;
@@ -133,8 +133,8 @@ module _ (decl : Declaration) (script : Script) (accepted : IsAccepted decl) (so
     rises : (account decl k.actor k.early).clock ≤ (account decl k.actor before).clock
     rises =
         let whole : deeds k.actor [] before ≡ deeds k.actor [] k.early ++ deeds k.actor (mail k.early) k.middle = deeds-append k.actor [] k.early k.middle in
-        let due : AreDeedsDue decl (account decl k.actor k.early) (deeds k.actor (mail k.early) k.middle) =
-        due_back decl (deeds k.actor [] k.early) (deeds k.actor (mail k.early) k.middle) (new_account (k.actor - decl.sites)) (subst (AreDeedsDue decl (new_account (k.actor - decl.sites))) whole at.due) in
+        let due : AreByRows decl (account decl k.actor k.early) (deeds k.actor (mail k.early) k.middle) =
+        due_back decl (deeds k.actor [] k.early) (deeds k.actor (mail k.early) k.middle) (new_account (k.actor - decl.sites)) (subst (AreByRows decl (new_account (k.actor - decl.sites))) whole at.due) in
         let rest : (account decl k.actor k.early).clock ≤ (fold (account_at decl) (account decl k.actor k.early) (deeds k.actor (mail k.early) k.middle)).clock = clock_rises decl (deeds k.actor (mail k.early) k.middle) (account decl k.actor k.early) due in
         let same : (account decl k.actor before).clock ≡ (fold (account_at decl) (account decl k.actor k.early) (deeds k.actor (mail k.early) k.middle)).clock =
         ap (λ (a : Account). a.clock) (ap (fold (account_at decl) (new_account (k.actor - decl.sites))) whole ∙ fold-append (account_at decl) (new_account (k.actor - decl.sites)) (deeds k.actor [] k.early) (deeds k.actor (mail k.early) k.middle)) in
@@ -174,7 +174,7 @@ module _ (decl : Declaration) (script : Script) (accepted : IsAccepted decl) (so
       still =
           let whole = grows w.before (wrote w.actor d.logged.commit ∷ w.after) w.stands in
           let p = persists decl (k.actor - decl.sites) (deeds k.actor [] k.early) (deeds k.actor (mail k.early) w.before) (deeds k.actor (mail k.early ++ mail w.before) (wrote w.actor d.logged.commit ∷ w.after)) t at.t op
-          (subst (AreDeedsDue decl (new_account (k.actor - decl.sites))) whole at.due) k.begun k.told
+          (subst (AreByRows decl (new_account (k.actor - decl.sites))) whole at.due) k.begun k.told
           (subst (λ (ds : List Deed). (fold (account_at decl) (new_account (k.actor - decl.sites)) ds).current ≡ Some at.t) whole at.begun) (sym at.tx ∙ sym k.its) in
           (p.0, subst (λ (ds : List Deed). (fold (account_at decl) (new_account (k.actor - decl.sites)) ds).current ≡ Some p.0) (sym (deeds-append k.actor [] k.early w.before)) p.1, p.2, p.3)
 

@@ -30,7 +30,7 @@ use Rattle.qc_promise.specs.Account.{Account, ClientRequest, Current, new_accoun
 use Rattle.qc_promise.specs.Accounting.{account_at, account_heard, account_sent, account_told_in, account_written, counted, counted_for, found_absent, granted, is_open, lived, promised, responded, short_of, taken_for, told_by, with_read, with_response}
 use Rattle.qc_promise.specs.Asked.{is_asked_for}
 use Rattle.qc_promise.specs.Rounds.{answer_of}
-use Rattle.qc_account.specs.DeedsDue.{AreDeedsDue, IsDeedDue}
+use Rattle.qc_account.specs.ByRows.{AreByRows, IsByRow}
 use Rattle.qc_order.proofs.DueNumbers.{due_number}
 
 -- what one deed does to the begun transaction: it changes that, keeping its name and its operations; it ends it; or it begins one
@@ -146,7 +146,7 @@ module _ (decl : Declaration) where
   short_step d halves.Append = alters d.count d.current _ (λ t. refl) (λ t. refl)
   short_step d halves.Close = stays d
 
-  reply_step : (d : Account) (reply : Reply) → IsDeedDue decl d (Tells reply) → Step d (account_told_in decl d reply)
+  reply_step : (d : Account) (reply : Reply) → IsByRow decl d (Tells reply) → Step d (account_told_in decl d reply)
   reply_step d replies.Down is = stays d
   reply_step d (replies.Already tx) is = stays d
   reply_step d (replies.Began tx) is = Begins refl (new_current tx d.known) refl (due_number decl d tx is.0)
@@ -167,7 +167,7 @@ module _ (decl : Declaration) where
   reply_step d replies.Fault is = stays d
   reply_step d (replies.Moved closed installed) is = stays d
 
-  deed_step : (d : Account) (x : Deed) → IsDeedDue decl d x → Step d (account_at decl d x)
+  deed_step : (d : Account) (x : Deed) → IsByRow decl d x → Step d (account_at decl d x)
   deed_step d (Takes (given.Called command)) is = stays d
   deed_step d (Takes (given.Got e)) is = heard_step d e.message
   deed_step d (Takes (given.Lost n)) is = counted_step d n None
@@ -245,15 +245,15 @@ module _ (decl : Declaration) where
   abbrev run : Account → List Deed → Account
   run d ds = fold (account_at decl) d ds
 
-  numbered_all : (ds : List Deed) (d : Account) → AreDeedsDue decl d ds → IsNumbered d.count d.current → IsNumbered (run d ds).count (run d ds).current
+  numbered_all : (ds : List Deed) (d : Account) → AreByRows decl d ds → IsNumbered d.count d.current → IsNumbered (run d ds).count (run d ds).current
   numbered_all [] d due k = k
   numbered_all (x ∷ ds) d due k = numbered_all ds (account_at decl d x) due.1 (numbered_step d.count (account_at decl d x).count d.current (account_at decl d x).current (deed_step decl d x due.0) k)
 
-  gone_all : (tx : TxId) (ds : List Deed) (d : Account) → AreDeedsDue decl d ds → Gone tx d.count d.current → Gone tx (run d ds).count (run d ds).current
+  gone_all : (tx : TxId) (ds : List Deed) (d : Account) → AreByRows decl d ds → Gone tx d.count d.current → Gone tx (run d ds).count (run d ds).current
   gone_all tx [] d due k = k
   gone_all tx (x ∷ ds) d due k = gone_all tx ds (account_at decl d x) due.1 (gone_step tx d.count (account_at decl d x).count d.current (account_at decl d x).current (deed_step decl d x due.0) k)
 
-  has_all : (tx : TxId) (op : Op) (ds : List Deed) (d : Account) → AreDeedsDue decl d ds → Has tx op d.count d.current → Has tx op (run d ds).count (run d ds).current ⊎ Gone tx (run d ds).count (run d ds).current
+  has_all : (tx : TxId) (op : Op) (ds : List Deed) (d : Account) → AreByRows decl d ds → Has tx op d.count d.current → Has tx op (run d ds).count (run d ds).current ⊎ Gone tx (run d ds).count (run d ds).current
   has_all tx op [] d due k = inl k
   has_all tx op (x ∷ ds) d due k = elim (has_step tx op d.count (account_at decl d x).count d.current (account_at decl d x).current (deed_step decl d x due.0) k) [
     | inl has ↦ has_all tx op ds (account_at decl d x) due.1 has
@@ -262,16 +262,16 @@ module _ (decl : Declaration) where
 
   -- parts of what is due
 
-  pub due_front : (xs ys : List Deed) (d : Account) → AreDeedsDue decl d (xs ++ ys) → AreDeedsDue decl d xs
+  pub due_front : (xs ys : List Deed) (d : Account) → AreByRows decl d (xs ++ ys) → AreByRows decl d xs
   due_front [] ys d due = tt
   due_front (x ∷ xs) ys d due = (due.0, due_front xs ys (account_at decl d x) due.1)
 
-  pub due_back : (xs ys : List Deed) (d : Account) → AreDeedsDue decl d (xs ++ ys) → AreDeedsDue decl (run d xs) ys
+  pub due_back : (xs ys : List Deed) (d : Account) → AreByRows decl d (xs ++ ys) → AreByRows decl (run d xs) ys
   due_back [] ys d due = due
   due_back (x ∷ xs) ys d due = due_back xs ys (account_at decl d x) due.1
 
   -- what is begun after the first deeds and after all of them, is begun in between
-  pub persists : (client : ℕ) (front mid back : List Deed) (t u : Current) (op : Op) → AreDeedsDue decl (new_account client) (front ++ (mid ++ back))
+  pub persists : (client : ℕ) (front mid back : List Deed) (t u : Current) (op : Op) → AreByRows decl (new_account client) (front ++ (mid ++ back))
       → (run (new_account client) front).current ≡ Some t → In op t.ops → (run (new_account client) (front ++ (mid ++ back))).current ≡ Some u → u.tx ≡ t.tx
       → (s : Current) × ((run (new_account client) (front ++ mid)).current ≡ Some s) × (s.tx ≡ t.tx) × In op s.ops
   persists client front mid back t u op due begun among last same =
@@ -285,5 +285,5 @@ module _ (decl : Declaration) where
             omega arith)
       ]
     where
-      rest : AreDeedsDue decl (run (new_account client) front) (mid ++ back)
+      rest : AreByRows decl (run (new_account client) front) (mid ++ back)
       rest = due_back front (mid ++ back) (new_account client) due

@@ -15,7 +15,7 @@ use Rattle.qc_msg.proofs.Growth.{deeds-append}
 use Rattle.qc_promise.specs.Account.{Account, Current, new_account}
 use Rattle.qc_promise.specs.Accounting.{account, account_at, account_told, found_absent, responded, with_absent, with_response}
 use Rattle.qc_promise.specs.Rounds.{answer_of}
-use Rattle.qc_account.specs.DeedsDue.{AreDeedsDue, IsDeedDue}
+use Rattle.qc_account.specs.ByRows.{AreByRows, IsByRow}
 use Rattle.qc_account.proofs.Courses.{clients_due}
 use Rattle.qc_script.specs.Runs.{Runs}
 use Rattle.qc_script.specs.declared.script.Script.{Script}
@@ -30,14 +30,14 @@ module _ (decl : Declaration) (script : Script) (h : List Entry) (open_inputs : 
   parts : (reply : Reply) (rest : List Entry) → deeds a [] (before ++ marked a (steps.Told reply) ∷ rest) ≡ deeds a [] before ++ Tells reply ∷ deeds a (mail before ++ option_to_list (envelope_of (marked a (steps.Told reply)))) rest
   parts reply rest = deeds-append a [] before (marked a (steps.Told reply) ∷ rest) ∙ ap (λ (b : Bool). deeds a [] before ++ (cond b (Tells reply ∷ []) [] ++ deeds a (mail before ++ option_to_list (envelope_of (marked a (steps.Told reply)))) rest)) (eq-eqb a a refl)
 
-  reply_due : (reply : Reply) → h ≡ before ++ marked a (steps.Told reply) ∷ after → IsDeedDue decl (account decl a before) (Tells reply)
+  reply_due : (reply : Reply) → h ≡ before ++ marked a (steps.Told reply) ∷ after → IsByRow decl (account decl a before) (Tells reply)
   reply_due reply is = by (has_entry (IsLawful decl) decl script h open_inputs run a (ltb-true a (actors decl) (and_second (nat_le decl.sites a) (nat_lt a (actors decl)) client)))
     where
-      by : (t : Bool) × (slice_get open_inputs a ≡ Some t) → IsDeedDue decl (account decl a before) (Tells reply)
+      by : (t : Bool) × (slice_get open_inputs a ≡ Some t) → IsByRow decl (account decl a before) (Tells reply)
       by slot =
           let acts : ActsIn decl a h slot.0 = run_acts decl script h open_inputs run a slot.0 slot.1 in
           due_at decl (deeds a [] before) (Tells reply) (deeds a (mail before ++ option_to_list (envelope_of (marked a (steps.Told reply)))) after) (new_account (a - decl.sites))
-          (subst (AreDeedsDue decl (new_account (a - decl.sites))) (ap (deeds a []) is ∙ parts reply after) (clients_due decl a client (deeds a [] h) slot.0 acts.above acts.acts))
+          (subst (AreByRows decl (new_account (a - decl.sites))) (ap (deeds a []) is ∙ parts reply after) (clients_due decl a client (deeds a [] h) slot.0 acts.above acts.acts))
 
   behind : (reply : Reply) → account decl a (before ++ marked a (steps.Told reply) ∷ []) ≡ account_told decl (account decl a before) reply
   behind reply = ap (fold (account_at decl) (new_account (a - decl.sites))) (parts reply []) ∙ fold-append (account_at decl) (new_account (a - decl.sites)) (deeds a [] before) (Tells reply ∷ [])

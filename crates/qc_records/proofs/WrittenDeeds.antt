@@ -28,7 +28,8 @@ use Rattle.qc_client.specs.declared.client.Client.{Client}
 use Rattle.qc_client.specs.Client.{ClientMove}
 use Rattle.qc_client.specs.Conduct.{client_does, sent_one}
 use Rattle.qc_promise.specs.Committed.{commits_by, commits_in, records}
-use Rattle.qc_laws.proofs.Up.{AreUp, first_up, rest_up}
+use Rattle.qc_laws.proofs.Up.{first_up, rest_up}
+use Rattle.qc_core.specs.Lives.{AreSteady}
 use Rattle.qc_records.specs.Written.{written_by, written_in}
 use Rattle.qc_records.proofs.ClientsWithin.{IsPost}
 use Rattle.qc_records.proofs.DealtClients.{commits_of}
@@ -126,12 +127,12 @@ own_step a ms e h =
 -- where nobody rises, a step has the commit record that it writes
 
 abbrev pub AllUp : List Envelope → List Entry → Type 0
-AllUp ms h = (a : ℕ) → AreUp (deeds a ms h)
+AllUp ms h = (a : ℕ) → AreSteady (deeds a ms h)
 
 pub rest_all_up : (ms : List Envelope) (e : Entry) (h : List Entry) → AllUp ms (e ∷ h) → AllUp (ms ++ option_to_list (envelope_of e)) h
 rest_all_up ms e h up a = rest_up (cond (e.actor == a) (deed_at ms e.step) []) (deeds a (ms ++ option_to_list (envelope_of e)) h) (up a)
 
-step_commits : (ms : List Envelope) (step : Step) → AreUp (deed_at ms step) → commits_in step ≡ option_to_list (commit_in step)
+step_commits : (ms : List Envelope) (step : Step) → AreSteady (deed_at ms step) → commits_in step ≡ option_to_list (commit_in step)
 step_commits ms (steps.Phase k) up = refl
 step_commits ms (steps.Cut x y) up = refl
 step_commits ms (steps.Heal x y) up = refl
@@ -148,7 +149,7 @@ step_commits ms (steps.Damaged offset) up = refl
 
 pub entry_commits : (ms : List Envelope) (e : Entry) (h : List Entry) → AllUp ms (e ∷ h) → commits_in e.step ≡ option_to_list (commit_in e.step)
 entry_commits ms e h up =
-    step_commits ms e.step (subst (λ (t : Bool). AreUp (cond t (deed_at ms e.step) [])) (eq-eqb e.actor e.actor refl)
+    step_commits ms e.step (subst (λ (t : Bool). AreSteady (cond t (deed_at ms e.step) [])) (eq-eqb e.actor e.actor refl)
     (first_up (cond (e.actor == e.actor) (deed_at ms e.step) []) (deeds e.actor (ms ++ option_to_list (envelope_of e)) h) (up e.actor)))
 
 -- in any case it is among its commit records

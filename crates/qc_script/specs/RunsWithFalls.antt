@@ -13,15 +13,9 @@ use Rattle.qc_msg.specs.declared.step.Step.{Step}
 use Rattle.qc_msg.specs.declared.step.Step.TheVariants.{Phase, Fell, Rose, Damaged}
 use Rattle.qc_msg.specs.declared.turn.Turn.{Turn}
 use Rattle.qc_msg.specs.Deeds.{Deed, deeds, mail}
-use Rattle.qc_msg.specs.Steps.{Entry, HasRecord, by, marked, posted_as, step_of}
+use Rattle.qc_msg.specs.Steps.{Entry, HasRecord, IsByDisk, by, marked, posted_as, step_of}
 use Rattle.qc_script.specs.Ready.{controller_step, controls_left, phase_of, ready}
 use Rattle.qc_script.specs.declared.script.Script.{Script}
-
--- a disk's doing, and not the script's
-abbrev pub IsByDisk : Fall → Type 0
-IsByDisk causes.Script = ⊥
-IsByDisk causes.Stop = Unit {0}
-IsByDisk causes.Disk = Unit {0}
 
 -- A conduct says which turns are lawful for an actor after its deeds, the last of which is the input that it took, or
 -- its rise; what became of a turn's record is part of the turn. `fits` says with which records an actor may rise. A

@@ -28,7 +28,7 @@ use Rattle.qc_promise.specs.Rows.{running_row}
 use Rattle.qc_promise.specs.Seen.{Sight, no_sight, sight, sight_sent, sight_taken}
 use Rattle.qc_promise.specs.Status.{AreRightFrom, Status, status_at}
 use Rattle.qc_promise.specs.Status as statuses
-use Rattle.qc_account.specs.DeedsDue.{AreDeedsDue}
+use Rattle.qc_account.specs.ByRows.{AreByRows}
 use Rattle.qc_account.specs.Ties.{Ties}
 use Rattle.qc_account.proofs.Commands.{lawful_turn, may_give}
 use Rattle.qc_account.proofs.Courses.{clients_due, clients_tied, turns_tell}
@@ -48,7 +48,7 @@ module _ (decl : Declaration) (commits : List Commit) (tx : TxId) where
   AfterAll d s wrote st ds = Sees commits tx (fold (account_at decl) d ds) (fold (sight tx) s ds) (fold wrote_at wrote ds) (fold (status_at tx) st ds)
 
   sends_see : (n : ℕ) (ps : List Posting) (told : Option Reply) (d : Account) (s : Sight) (wrote : List Commit) (st : Status) → Sees commits tx d s wrote st
-      → AreDeedsDue decl d (sends_of n ps ++ tells_of told) → AreRightFrom tx st (sends_of n ps ++ tells_of told)
+      → AreByRows decl d (sends_of n ps ++ tells_of told) → AreRightFrom tx st (sends_of n ps ++ tells_of told)
       → (is_some told ≡ true → IsFree s) → (is_some told ≡ true → Every AsksNothing ps) → AfterAll d s wrote st (sends_of n ps ++ tells_of told)
   sends_see n [] None d s wrote st w is right free alone = w
   sends_see n [] (Some reply) d s wrote st w is right free alone = told_sees decl commits tx d s wrote st w (free refl) reply is.0 (begins_new tx st reply right.0)
@@ -58,11 +58,11 @@ module _ (decl : Declaration) (commits : List Commit) (tx : TxId) where
       (λ some. sent_free s n p.message (alone some).0 (free some)) (λ some. (alone some).1)
 
   pub turn_sees : (n : ℕ) (turn : Turn) (d : Account) (s : Sight) (wrote : List Commit) (st : Status) → Sees commits tx d s wrote st
-      → AreDeedsDue decl d (turn_deeds n turn) → AreRightFrom tx st (turn_deeds n turn) → ((c : Commit) → In (Writes (records.Commit c)) (turn_deeds n turn) → In c commits)
+      → AreByRows decl d (turn_deeds n turn) → AreRightFrom tx st (turn_deeds n turn) → ((c : Commit) → In (Writes (records.Commit c)) (turn_deeds n turn) → In c commits)
       → (is_some turn.told ≡ true → IsFree s) → IsAlone turn → AfterAll d s wrote st (turn_deeds n turn)
   turn_sees n turn d s wrote st w is right there free alone = by turn.write is right there
     where
-      by : (o : Option Record) → AreDeedsDue decl d (writes_of o ++ (sends_of n turn.sends ++ tells_of turn.told)) → AreRightFrom tx st (writes_of o ++ (sends_of n turn.sends ++ tells_of turn.told))
+      by : (o : Option Record) → AreByRows decl d (writes_of o ++ (sends_of n turn.sends ++ tells_of turn.told)) → AreRightFrom tx st (writes_of o ++ (sends_of n turn.sends ++ tells_of turn.told))
           → ((c : Commit) → In (Writes (records.Commit c)) (writes_of o ++ (sends_of n turn.sends ++ tells_of turn.told)) → In c commits)
           → AfterAll d s wrote st (writes_of o ++ (sends_of n turn.sends ++ tells_of turn.told))
       by None is right there = sends_see n turn.sends turn.told d s wrote st w is right free alone
@@ -70,7 +70,7 @@ module _ (decl : Declaration) (commits : List Commit) (tx : TxId) where
           sends_see n turn.sends turn.told (account_at decl d (Writes written)) s (wrote_at wrote (Writes written)) (status_at tx st (Writes written))
           (wrote_sees commits tx d s wrote st w decl written (λ c same. there c (inl (ap (λ (x : Record). Writes x) (sym same)))) is.0) is.1 right.1 free alone
 
-due-second : (decl : Declaration) (d : Account) (xs ys : List Deed) → AreDeedsDue decl d (xs ++ ys) → AreDeedsDue decl (fold (account_at decl) d xs) ys
+due-second : (decl : Declaration) (d : Account) (xs ys : List Deed) → AreByRows decl d (xs ++ ys) → AreByRows decl (fold (account_at decl) d xs) ys
 due-second decl d [] ys all = all
 due-second decl d (x ∷ xs) ys all = due-second decl (account_at decl d x) xs ys all.1
 

@@ -28,7 +28,7 @@ use Rattle.qc_promise.specs.Rows.{running_row}
 use Rattle.qc_promise.specs.Seen.{Sight, answered, granted, sees, sight_sent, waits}
 use Rattle.qc_promise.specs.Status.{Status, given_up, status_sent, status_written}
 use Rattle.qc_promise.specs.Status as statuses
-use Rattle.qc_account.specs.DeedsDue.{IsSendDue}
+use Rattle.qc_account.specs.ByRows.{IsSendDue}
 use Rattle.qc_seen.proofs.Counted.{AsksForGrants, IsCounted, IsOpen, counts, name_of, passes}
 use Rattle.qc_seen.proofs.Seeing.{HasCommitted, IsUpTo, Sees, higher, in_split, is_before, stays_committed}
 use Rattle.qc_seen.proofs.Stamps.{due_stamp}

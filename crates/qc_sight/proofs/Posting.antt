@@ -29,7 +29,7 @@ use Rattle.qc_promise.specs.Kept.{Journal}
 use Rattle.qc_promise.specs.Replies.{IsRecordDue}
 use Rattle.qc_promise.specs.Rows.{running_row}
 use Rattle.qc_promise.specs.Seen.{Sight, sight, sight_sent}
-use Rattle.qc_account.specs.DeedsDue.{AreDeedsDue}
+use Rattle.qc_account.specs.ByRows.{AreByRows}
 use Rattle.qc_account.proofs.Writing.{IsClientTurn}
 use Rattle.qc_seen.proofs.Alone.{AsksNothing, IsAlone}
 use Rattle.qc_seen.proofs.Counted.{name_of}
@@ -125,7 +125,7 @@ module _ (decl : Declaration) (commits : List Commit) (tx : TxId) (client : ℕ)
 
   -- messages, and a reply
 
-  talks : (n : ℕ) (ps : List Posting) (told : Option Reply) (d : Account) (s : Sight) (made : List Commit) (j : Journal) → Stands decl commits tx client true d s made j → AreDeedsDue decl d (sends_of n ps ++ tells_of told)
+  talks : (n : ℕ) (ps : List Posting) (told : Option Reply) (d : Account) (s : Sight) (made : List Commit) (j : Journal) → Stands decl commits tx client true d s made j → AreByRows decl d (sends_of n ps ++ tells_of told)
       → (is_some told ≡ true → IsFree s) → (is_some told ≡ true → Every AsksNothing ps) → AfterAll true d s made j (sends_of n ps ++ tells_of told)
   talks n [] None d s made j w is free alone = w
   talks n [] (Some reply) d s made j w is free alone = tells decl commits tx client d s made j w (free refl) reply is.0
@@ -137,24 +137,24 @@ module _ (decl : Declaration) (commits : List Commit) (tx : TxId) (client : ℕ)
       }) is.1 (λ some. sent_free s n p.message (alone some).0 (free some)) (λ some. (alone some).1)
 
   -- a turn, its record written
-  pub posts : (n : ℕ) (turn : Turn) (d : Account) (s : Sight) (made : List Commit) (j : Journal) → Stands decl commits tx client true d s made j → AreDeedsDue decl d (turn_deeds n turn) → IsClientTurn turn
+  pub posts : (n : ℕ) (turn : Turn) (d : Account) (s : Sight) (made : List Commit) (j : Journal) → Stands decl commits tx client true d s made j → AreByRows decl d (turn_deeds n turn) → IsClientTurn turn
       → ((c : Commit) → In (Writes (records.Commit c)) (turn_deeds n turn) → In c commits) → (is_some turn.told ≡ true → IsFree s) → IsAlone turn → AfterAll true d s made j (turn_deeds n turn)
   posts n turn d s made j w is kind there free alone = by kind
     where
-      none : (o : Option Record) → o ≡ None → AreDeedsDue decl d (writes_of o ++ (sends_of n turn.sends ++ tells_of turn.told)) → AfterAll true d s made j (writes_of o ++ (sends_of n turn.sends ++ tells_of turn.told))
+      none : (o : Option Record) → o ≡ None → AreByRows decl d (writes_of o ++ (sends_of n turn.sends ++ tells_of turn.told)) → AfterAll true d s made j (writes_of o ++ (sends_of n turn.sends ++ tells_of turn.told))
       none None same dues = talks n turn.sends turn.told d s made j w dues free alone
       none (Some r) same dues = absurd (let never : ⊥ = cc in never)
 
-      one : (c : Commit) (o : Option Record) → o ≡ Some (records.Commit c) → AreDeedsDue decl d (writes_of o ++ (sends_of n turn.sends ++ tells_of turn.told)) → ((x : Commit) → In (Writes (records.Commit x)) (writes_of o ++ (sends_of n turn.sends ++ tells_of turn.told)) → In x commits)
+      one : (c : Commit) (o : Option Record) → o ≡ Some (records.Commit c) → AreByRows decl d (writes_of o ++ (sends_of n turn.sends ++ tells_of turn.told)) → ((x : Commit) → In (Writes (records.Commit x)) (writes_of o ++ (sends_of n turn.sends ++ tells_of turn.told)) → In x commits)
           → AfterAll true d s made j (writes_of o ++ (sends_of n turn.sends ++ tells_of turn.told))
       one c None same dues listed = absurd (let never : ⊥ = cc in never)
       one c (Some r) same dues listed = at r (let one : r ≡ records.Commit c = cc in one) dues listed
         where
-          at : (r : Record) → r ≡ records.Commit c → AreDeedsDue decl d (Writes r ∷ (sends_of n turn.sends ++ tells_of turn.told)) → ((x : Commit) → In (Writes (records.Commit x)) (Writes r ∷ (sends_of n turn.sends ++ tells_of turn.told)) → In x commits) → AfterAll true d s made j (Writes r ∷ (sends_of n turn.sends ++ tells_of turn.told))
+          at : (r : Record) → r ≡ records.Commit c → AreByRows decl d (Writes r ∷ (sends_of n turn.sends ++ tells_of turn.told)) → ((x : Commit) → In (Writes (records.Commit x)) (Writes r ∷ (sends_of n turn.sends ++ tells_of turn.told)) → In x commits) → AfterAll true d s made j (Writes r ∷ (sends_of n turn.sends ++ tells_of turn.told))
           at r is_it dues listed = subst (λ (v : Record). AfterAll true d s made j (Writes v ∷ (sends_of n turn.sends ++ tells_of turn.told))) (sym is_it)
               (talks n turn.sends turn.told (account_written d (records.Commit c)) s (c ∷ made) (journal_at j (Writes (records.Commit c)))
               (writes d s made j w c (subst (λ (v : Record). IsRecordDue d (running_row decl d false) v) is_it dues.0) (listed c (inl (ap (λ (v : Record). Writes v) (sym is_it)))))
-              (subst (λ (v : Record). AreDeedsDue decl (account_at decl d (Writes v)) (sends_of n turn.sends ++ tells_of turn.told)) is_it dues.1) free alone)
+              (subst (λ (v : Record). AreByRows decl (account_at decl d (Writes v)) (sends_of n turn.sends ++ tells_of turn.told)) is_it dues.1) free alone)
 
       by : IsClientTurn turn → AfterAll true d s made j (turn_deeds n turn)
       by (inl nothing) = none turn.write nothing is

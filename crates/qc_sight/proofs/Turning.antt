@@ -39,7 +39,7 @@ use Rattle.qc_promise.specs.Rows.{running_row}
 use Rattle.qc_promise.specs.Seen.{Sight, no_sight, sight, sight_taken}
 use Rattle.qc_recover.specs.Clients.{client_rises}
 use Rattle.qc_recover.specs.Sites.{rising, site_rises}
-use Rattle.qc_account.specs.DeedsDue.{AreDeedsDue}
+use Rattle.qc_account.specs.ByRows.{AreByRows}
 use Rattle.qc_account.specs.Goes.{Goes}
 use Rattle.qc_account.proofs.Commands.{free_for, no_site}
 use Rattle.qc_account.proofs.Happenings.{as_record}
@@ -112,7 +112,7 @@ module _ (decl : Declaration) (a : ℕ) (client : is_client decl a ≡ true) (co
         (up_more decl a ds (Takes g ∷ turn_deeds first move.turn) ∙ steady_up (is_up ds) (turn_deeds first move.turn) (turn_steady first move.turn) ∙ up)
 
     record_due : (c : IsCommitTurn move.turn) → IsRecordDue account (running_row decl account false) (records.Commit c.commit)
-    record_due c = (subst (λ (o : Option Record). AreDeedsDue decl account (writes_of o ++ (sends_of 0 move.turn.sends ++ tells_of move.turn.told))) c.write (goes 0).due).0
+    record_due c = (subst (λ (o : Option Record). AreByRows decl account (writes_of o ++ (sends_of 0 move.turn.sends ++ tells_of move.turn.told))) c.write (goes 0).due).0
 
     unwritten_stands : (cause : Fall) (c : IsCommitTurn move.turn) → AtRest ((ds ++ Takes g ∷ []) ++ Tells replies.Unknown ∷ Falls cause (Some (records.Commit c.commit)) ∷ [])
     unwritten_stands cause c =

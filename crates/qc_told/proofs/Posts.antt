@@ -26,7 +26,7 @@ use Rattle.qc_promise.specs.Accounting.{account_taken}
 use Rattle.qc_recover.specs.Clients.{client_rises}
 use Rattle.qc_recover.specs.Sites.{site_rises}
 use Rattle.qc_account.specs.Declares.{IsDeclaredDeed, IsPlanned}
-use Rattle.qc_account.specs.DeedsDue as rows
+use Rattle.qc_account.specs.ByRows as rows
 use Rattle.qc_account.specs.Goes.{Goes}
 use Rattle.qc_account.proofs.Commands.{free_for, no_site}
 use Rattle.qc_account.proofs.Lifelong.{client_lives}
@@ -118,7 +118,7 @@ module _ (decl : Declaration) (a : ℕ) (client : is_client decl a ≡ true) (pl
   up_tells : (before : List Deed) (s : IsTied decl a before) (g : Given) → (d : Goes decl 0 (account_taken (account_is decl a before) g) (client_takes decl s.state g)) → TellsCommits (client_takes decl s.state g).turn
   up_tells before s g goes c is =
       ap (λ (o : Option Reply). is_some o)
-      (goes.tells ∙ (subst (λ (o : Option Record). rows.AreDeedsDue decl (account_taken (account_is decl a before) g) (writes_of o ++ (sends_of 0 (client_takes decl s.state g).turn.sends ++ tells_of (client_takes decl s.state g).turn.told))) is goes.due).0.0)
+      (goes.tells ∙ (subst (λ (o : Option Record). rows.AreByRows decl (account_taken (account_is decl a before) g) (writes_of o ++ (sends_of 0 (client_takes decl s.state g).turn.sends ++ tells_of (client_takes decl s.state g).turn.told))) is goes.due).0.0)
 
   taken_tells : (older : List Deed) → IsAtInput decl a older → TellsCommits (actor_after decl a older).turn
   taken_tells older at = subst (λ (m : ActorMove). TellsCommits m.turn) (sym (ap (actor_after decl a) at.is ∙ actor_more decl a at.before (Takes at.given ∷ []))) (by at.rest.up at.rest.stands)

@@ -28,14 +28,14 @@ use Rattle.qc_promise.specs.Account.{Account, ClientRequest, Current, new_accoun
 use Rattle.qc_promise.specs.Accounting.{account_at, account_heard, account_sent, account_taken, account_written, counted, counted_for, is_open, taken_for}
 use Rattle.qc_promise.specs.Asked.{command_asks, is_asked_for, is_of}
 use Rattle.qc_promise.specs.SiteEnds.{is_final}
-use Rattle.qc_account.specs.DeedsDue.{AreDeedsDue, IsSendDue}
+use Rattle.qc_account.specs.ByRows.{AreByRows, IsSendDue}
 use Rattle.qc_undisturbed.specs.Elsewhere.{name_of}
 use Rattle.qc_undisturbed.specs.Open.{asks_to_hold, open_said}
 use Rattle.qc_undisturbed.specs.Arrives.{sent_to}
 use Rattle.qc_guarantees.proofs.Accounts.{IsTakenNow, after_taken, told_requests}
 use Rattle.qc_guarantees.proofs.Grounds.{asked_current}
 use Rattle.qc_undisturbed.proofs.Names.{sends_stay, stays_named, writes_stay}
-use Rattle.qc_laws.proofs.Up.{AreUp}
+use Rattle.qc_core.specs.Lives.{AreSteady}
 
 -- a request after an input was there before it
 
@@ -134,7 +134,7 @@ busy_sent decl d running n to (messages.Ask tx) b = b
 busy_sent decl d running n to (messages.Close epoch) b = b
 busy_sent decl d running n to (messages.Install epoch clock log) b = b
 
-busy_from : (decl : Declaration) (d : Account) (running : Bool) (ds : List Deed) → AreUp ds → IsBusy d running → IsBusy (fold (account_at decl) d ds) (fold runs_at running ds)
+busy_from : (decl : Declaration) (d : Account) (running : Bool) (ds : List Deed) → AreSteady ds → IsBusy d running → IsBusy (fold (account_at decl) d ds) (fold runs_at running ds)
 busy_from decl d running [] up b = b
 busy_from decl d running (Takes g ∷ ds) up b = busy_from decl (account_taken d g) (runs_at running (Takes g)) ds up.1 (busy_taken d running g b)
 busy_from decl d running (Writes w ∷ ds) up b = busy_from decl (account_written d w) running ds up.1 (busy_written d running w b)
@@ -143,7 +143,7 @@ busy_from decl d running (Tells r ∷ ds) up b = busy_from decl (account_at decl
 busy_from decl d running (Falls cause pending ∷ ds) up b = absurd up.0
 busy_from decl d running (Rises records ∷ ds) up b = absurd up.0
 
-pub is_busy : (decl : Declaration) (client : ℕ) (ds : List Deed) → AreUp ds → IsBusy (fold (account_at decl) (new_account client) ds) (is_running ds)
+pub is_busy : (decl : Declaration) (client : ℕ) (ds : List Deed) → AreSteady ds → IsBusy (fold (account_at decl) (new_account client) ds) (is_running ds)
 is_busy decl client ds up = busy_from decl (new_account client) false ds up (record { command = refl; requests = λ q never. absurd never })
 
 -- a turn that tells something leaves no request
@@ -172,7 +172,7 @@ IsNamed name (messages.Ask tx) = Unit {0}
 IsNamed name (messages.Close epoch) = Unit {0}
 IsNamed name (messages.Install epoch clock log) = Unit {0}
 
-pub due_second : (decl : Declaration) (d : Account) (xs ys : List Deed) → AreDeedsDue decl d (xs ++ ys) → AreDeedsDue decl (fold (account_at decl) d xs) ys
+pub due_second : (decl : Declaration) (d : Account) (xs ys : List Deed) → AreByRows decl d (xs ++ ys) → AreByRows decl (fold (account_at decl) d xs) ys
 due_second decl d [] ys due = due
 due_second decl d (x ∷ xs) ys due = due_second decl (account_at decl d x) xs ys due.1
 
@@ -187,7 +187,7 @@ named_send decl d to (messages.Ask tx) due = tt
 named_send decl d to (messages.Close epoch) due = tt
 named_send decl d to (messages.Install epoch clock log) due = tt
 
-named_sends : (decl : Declaration) (d : Account) (n : ℕ) (ps : List Posting) (more : List Deed) → AreDeedsDue decl d (sends_of n ps ++ more) → Every (λ (p : Posting). IsNamed (name_of d) p.message) ps
+named_sends : (decl : Declaration) (d : Account) (n : ℕ) (ps : List Posting) (more : List Deed) → AreByRows decl d (sends_of n ps ++ more) → Every (λ (p : Posting). IsNamed (name_of d) p.message) ps
 named_sends decl d n [] more due = tt
 named_sends decl d n (p ∷ ps) more due = (
   named_send decl d p.to p.message due.0,
@@ -195,7 +195,7 @@ named_sends decl d n (p ∷ ps) more due = (
       (named_sends decl (account_sent decl d n p.to p.message) (n + 1) ps more due.1),
 )
 
-pub turn_named : (decl : Declaration) (d : Account) (n : ℕ) (turn : Turn) → AreDeedsDue decl d (turn_deeds n turn) → Every (λ (p : Posting). IsNamed (name_of d) p.message) turn.sends
+pub turn_named : (decl : Declaration) (d : Account) (n : ℕ) (turn : Turn) → AreByRows decl d (turn_deeds n turn) → Every (λ (p : Posting). IsNamed (name_of d) p.message) turn.sends
 turn_named decl d n turn due =
     subst (λ (name : Option TxId). Every (λ (p : Posting). IsNamed name p.message) turn.sends) (stays_named d (fold (account_at decl) d (writes_of turn.write)) (writes_stay decl d turn.write))
     (named_sends decl (fold (account_at decl) d (writes_of turn.write)) n turn.sends (tells_of turn.told) (due_second decl d (writes_of turn.write) (sends_of n turn.sends ++ tells_of turn.told) due))

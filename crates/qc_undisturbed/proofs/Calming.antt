@@ -7,7 +7,7 @@ use Rattle.qc_core.proofs.LivesLaws.{same_turn}
 use Rattle.qc_decl.specs.Actors.{controller}
 use Rattle.qc_decl.specs.declared.declaration.Declaration.{Declaration}
 use Rattle.qc_laws.specs.Calm.{AreCalm, IsCalm}
-use Rattle.qc_laws.proofs.Up.{AreUp, run_up}
+use Rattle.qc_laws.proofs.Up.{run_up}
 use Rattle.qc_msg.specs.declared.record.Record.{Record}
 use Rattle.qc_msg.specs.declared.step.Control.{Control}
 use Rattle.qc_msg.specs.declared.step.Control.TheVariants as controls
@@ -56,16 +56,6 @@ post_written Failed a n turn calm =
 post_written Stopped a n turn calm =
     absurd (behind a (told turn.failed_told) (steps.Fell causes.Stop turn.write ∷ []) (λ c. c.0) calm)
 
--- who never falls has steady deeds
-up_steady : (ds : List Deed) → AreUp ds → AreSteady ds
-up_steady [] up = tt
-up_steady (Takes given ∷ ds) up = (tt, up_steady ds up.1)
-up_steady (Writes written ∷ ds) up = (tt, up_steady ds up.1)
-up_steady (Sends number to message ∷ ds) up = (tt, up_steady ds up.1)
-up_steady (Tells reply ∷ ds) up = (tt, up_steady ds up.1)
-up_steady (Falls cause pending ∷ ds) up = absurd up.0
-up_steady (Rises records ∷ ds) up = absurd up.0
-
 lawful_alone : (decl : Declaration) (a : ℕ) (ds : List Deed) (turn : Turn) → AreSteady ds → turn.append ≡ Done → IsLawfulWithFalls decl a ds turn → IsLawful decl a ds turn
 lawful_alone decl a ds turn steady done law =
     sym (same_turn decl a ds steady) ∙ law.called_for ∙ ap (λ (x : Appended). Some (record turn { append = x })) (sym done)
@@ -91,7 +81,7 @@ module _ (fits : ℕ → List Record → Type 0) (decl : Declaration) (script : 
       let done : turn.append ≡ Done = post_written turn.append a (length (mail older)) turn (rest_calm older (by a (posted_as turn.append (length (mail older)) turn)) calm) in
       subst (λ (end : Appended). Runs (IsLawful decl) decl script (older ++ by a (posted_as end (length (mail older)) turn)) open_inputs) (sym done)
       (runs.posts a turn before older so_far taken
-      (lawful_alone decl a (deeds a [] older) turn (up_steady (deeds a [] older) (run_up (IsLawful decl) decl script older before so_far a)) done law))
+      (lawful_alone decl a (deeds a [] older) turn (run_up (IsLawful decl) decl script older before so_far a) done law))
   calm_runs h open_inputs (falling.phase before older run none acted quiet more) calm =
       runs.phase before older (calm_runs older before run (first_calm older _ calm)) none acted quiet more
   calm_runs h open_inputs (falling.control line lines step before older run left is_step) calm =

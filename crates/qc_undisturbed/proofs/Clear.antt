@@ -34,7 +34,7 @@ use Rattle.qc_laws.proofs.Arrivals.{what_is_ready_was_sent}
 use Rattle.qc_laws.proofs.Numbered.{IsSilent, control_silent, mail-silent, phase_silent, run_numbered}
 use Rattle.qc_laws.proofs.Places.{slice_get-set_same}
 use Rattle.qc_account.proofs.Courses.{clients_due}
-use Rattle.qc_account.specs.DeedsDue.{AreDeedsDue}
+use Rattle.qc_account.specs.ByRows.{AreByRows}
 use Rattle.qc_promise.specs.Account.{Account, ClientRequest, Current, new_account}
 use Rattle.qc_promise.specs.Accounting.{account, account_at, account_taken}
 use Rattle.qc_undisturbed.specs.Answers.{sent_before}
@@ -183,7 +183,7 @@ module _ (decl : Declaration) (script : Script) (accepted : IsAccepted decl) (as
           let acts : ActsIn decl b (older ++ by b (posted (length (mail older)) turn)) false = run_acts decl script (older ++ by b (posted (length (mail older)) turn)) (slice_set before b false) next b false (slice_get-set_same before b false true is_opened) in
           turn_named decl (account decl b older) (length (mail older)) turn
           (due_second decl (new_account (b - decl.sites)) (deeds b [] older) (turn_deeds (length (mail older)) turn)
-          (subst (λ (ds : List Deed). AreDeedsDue decl (new_account (b - decl.sites)) ds) grown (clients_due decl b named (deeds b [] (older ++ by b (posted (length (mail older)) turn))) false acts.above acts.acts)))
+          (subst (λ (ds : List Deed). AreByRows decl (new_account (b - decl.sites)) ds) grown (clients_due decl b named (deeds b [] (older ++ by b (posted (length (mail older)) turn))) false acts.above acts.acts)))
 
       own_clear : (q : ClientRequest) → In q (account decl b (older ++ by b (posted (length (mail older)) turn))).requests → IsClear decl b (older ++ by b (posted (length (mail older)) turn)) q
       own_clear q among x is unnamed = split (turn_old decl (account decl b older) (length (mail older)) turn q here)

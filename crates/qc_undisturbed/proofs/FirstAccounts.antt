@@ -31,7 +31,7 @@ use Rattle.qc_promise.specs.Account.{Account, account_with, ClientRequest, Curre
 use Rattle.qc_promise.specs.Accounting.{account_at, account_fallen, account_heard, account_sent, account_taken, account_told, account_told_in, account_written, counted, counted_for, doomed_if, found_absent, granted, is_open, lived, promised, refused, responded, short_of, taken_for, told_by, with_absent, with_current, with_read, with_response}
 use Rattle.qc_promise.specs.Asked.{command_asks, is_asked_for, is_of}
 use Rattle.qc_promise.specs.Rounds.{answer_of}
-use Rattle.qc_account.specs.DeedsDue.{AreDeedsDue, IsSendDue}
+use Rattle.qc_account.specs.ByRows.{AreByRows, IsSendDue}
 use Rattle.qc_undisturbed.specs.First.{IsFirst, IsFirstAnswer}
 
 abbrev pub FirstLives : List LifeAt → Type 0
@@ -263,7 +263,7 @@ sent_is decl d to (messages.Ask tx) f due = tt
 sent_is decl d to (messages.Close epoch) f due = tt
 sent_is decl d to (messages.Install epoch clock log) f due = tt
 
-pub deeds_first : (decl : Declaration) (d : Account) (ds : List Deed) → IsFirstAccount d → AreDeedsDue decl d ds → Every TakesFirst ds → Every SendsFirst ds
+pub deeds_first : (decl : Declaration) (d : Account) (ds : List Deed) → IsFirstAccount d → AreByRows decl d ds → Every TakesFirst ds → Every SendsFirst ds
 deeds_first decl d [] f due all = tt
 deeds_first decl d (Takes g ∷ ds) f due all = (tt, deeds_first decl (account_taken d g) ds (taken_first d g all.0 f) due.1 all.1)
 deeds_first decl d (Writes w ∷ ds) f due all = (tt, deeds_first decl (account_written d w) ds (written_first d w f) due.1 all.1)

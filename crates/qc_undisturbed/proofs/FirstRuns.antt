@@ -35,7 +35,7 @@ use Rattle.qc_laws.proofs.Numbered.{control_silent, mail-silent, phase_silent}
 use Rattle.qc_laws.proofs.Places.{slice_get-set_same}
 use Rattle.qc_laws.proofs.Served.{second_part}
 use Rattle.qc_account.proofs.Courses.{clients_due}
-use Rattle.qc_account.specs.DeedsDue.{AreDeedsDue}
+use Rattle.qc_account.specs.ByRows.{AreByRows}
 use Rattle.qc_promise.specs.Account.{new_account}
 use Rattle.qc_records.proofs.Bounding.{lawful_turn, turn-posts}
 use Rattle.qc_records.proofs.ClientsWithin.{IsPost}
@@ -127,7 +127,7 @@ module _ (decl : Declaration) (script : Script) where
         every-append TakesFirst (deeds b [] older) (turn_deeds (length (mail older)) turn) (takes_first older b all) (post_first (turn_deeds (length (mail older)) turn) (turn-posts (length (mail older)) turn)) in
         let sends : Every SendsFirst (deeds b [] older ++ turn_deeds (length (mail older)) turn) =
         deeds_first decl (new_account (b - decl.sites)) (deeds b [] older ++ turn_deeds (length (mail older)) turn) (new_first (b - decl.sites))
-        (subst (λ (ds : List Deed). AreDeedsDue decl (new_account (b - decl.sites)) ds) grown (clients_due decl b named (deeds b [] (older ++ by b (posted (length (mail older)) turn))) false acts.above acts.acts)) takes in
+        (subst (λ (ds : List Deed). AreByRows decl (new_account (b - decl.sites)) ds) grown (clients_due decl b named (deeds b [] (older ++ by b (posted (length (mail older)) turn))) false acts.above acts.acts)) takes in
         turn_said (length (mail older)) turn (second_part SendsFirst (deeds b [] older) (turn_deeds (length (mail older)) turn) sends) (subst (λ (t : Turn). AreClientWords t.sends) (sym its) words)
 
     says : SayFirst turn.sends

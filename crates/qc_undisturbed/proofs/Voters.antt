@@ -28,7 +28,7 @@ use Rattle.qc_promise.specs.Account.{Account, ClientRequest, Current, is_append,
 use Rattle.qc_promise.specs.Accounting.{account_at, account_heard, account_sent, account_taken, account_written, counted, counted_for, granted, is_open, lived, promised, taken_for, told_by, with_current, with_read}
 use Rattle.qc_promise.specs.Asked.{append_need, are_reads_met, carries, command_asks, commit_asks, do_asks, is_asked_for, is_next_voter, is_of, is_this}
 use Rattle.qc_promise.specs.Rounds.{answer_of, asked_by, round_of, weights_of}
-use Rattle.qc_account.specs.DeedsDue.{AreDeedsDue, IsSendDue}
+use Rattle.qc_account.specs.ByRows.{AreByRows, IsSendDue}
 use Rattle.qc_guarantees.proofs.Accounts.{told_requests}
 
 -- the sites of positive weight in a client's order
@@ -255,7 +255,7 @@ module _ (decl : Declaration) where
   sent_order half is_half d n to (messages.Close epoch) due old = old
   sent_order half is_half d n to (messages.Install epoch clock log) due old = old
 
-  pub order_from : (half : Want → Bool) → IsHalf half → (d : Account) (ds : List Deed) → AreDeedsDue decl d ds → IsInOrder decl half d → IsInOrder decl half (fold (account_at decl) d ds)
+  pub order_from : (half : Want → Bool) → IsHalf half → (d : Account) (ds : List Deed) → AreByRows decl d ds → IsInOrder decl half d → IsInOrder decl half (fold (account_at decl) d ds)
   order_from half is_half d [] due old = old
   order_from half is_half d (Takes g ∷ ds) due old = order_from half is_half (account_taken d g) ds due.1 (taken_order decl half d g old)
   order_from half is_half d (Writes w ∷ ds) due old = order_from half is_half (account_written d w) ds due.1 (written_order decl half d w old)
@@ -264,5 +264,5 @@ module _ (decl : Declaration) where
   order_from half is_half d (Falls cause pending ∷ ds) due old = absurd due.0
   order_from half is_half d (Rises kept ∷ ds) due old = absurd due.0
 
-  pub in_order : (half : Want → Bool) → IsHalf half → (client : ℕ) (ds : List Deed) → AreDeedsDue decl (new_account client) ds → IsInOrder decl half (fold (account_at decl) (new_account client) ds)
+  pub in_order : (half : Want → Bool) → IsHalf half → (client : ℕ) (ds : List Deed) → AreByRows decl (new_account client) ds → IsInOrder decl half (fold (account_at decl) (new_account client) ds)
   in_order half is_half client ds due = order_from half is_half (new_account client) ds due (λ e is. refl)

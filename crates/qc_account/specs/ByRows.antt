@@ -22,14 +22,14 @@ IsSendDue decl d to (messages.Close epoch) = Unit {0}
 IsSendDue decl d to (messages.Install epoch clock log) = Unit {0}
 
 -- one deed, the account of those before it being d; of one life: nobody falls or rises
-abbrev pub IsDeedDue : Declaration → Account → Deed → Type 0
-IsDeedDue decl d (Takes given) = IsInputDue d (running_row decl d false) given
-IsDeedDue decl d (Writes written) = IsRecordDue d (running_row decl d false) written
-IsDeedDue decl d (Sends number to message) = IsSendDue decl d to message
-IsDeedDue decl d (Tells reply) = IsReplyDue d (running_row decl d false) [] reply
-IsDeedDue decl d (Falls cause pending) = ⊥
-IsDeedDue decl d (Rises kept) = ⊥
+abbrev pub IsByRow : Declaration → Account → Deed → Type 0
+IsByRow decl d (Takes given) = IsInputDue d (running_row decl d false) given
+IsByRow decl d (Writes written) = IsRecordDue d (running_row decl d false) written
+IsByRow decl d (Sends number to message) = IsSendDue decl d to message
+IsByRow decl d (Tells reply) = IsReplyDue d (running_row decl d false) [] reply
+IsByRow decl d (Falls cause pending) = ⊥
+IsByRow decl d (Rises kept) = ⊥
 
-abbrev pub AreDeedsDue : Declaration → Account → List Deed → Type 0
-AreDeedsDue decl d [] = Unit {0}
-AreDeedsDue decl d (deed ∷ ds) = IsDeedDue decl d deed × AreDeedsDue decl (account_at decl d deed) ds
+abbrev pub AreByRows : Declaration → Account → List Deed → Type 0
+AreByRows decl d [] = Unit {0}
+AreByRows decl d (deed ∷ ds) = IsByRow decl d deed × AreByRows decl (account_at decl d deed) ds
