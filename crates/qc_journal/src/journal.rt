@@ -10,6 +10,8 @@
 ghost use Rattle.std.specs.Prelude.{◌≡◌, ◌≢◌, ◌≤◌, ◌<◌, ◌+◌, ◌*◌, ◌^◌, List, ℕ, [], ◌∷◌, ◌++◌, Err, length};
 ghost use Rattle.std.specs.Prelude.{Some, IfOk, IfErr, OnOk, vec_capacity};
 ghost use Rattle.qc_outside.specs.Images.{Tells, Since, IsImage, as_read};
+ghost use Rattle.qc_outside.specs.Fuses.{KeepsArm, HasPassed};
+ghost use Rattle.qc_journal.specs.Calls.{JournalBurns, JournalIsRefused, most_of_opening};
 ghost use Rattle.qc_journal.specs.Causes.{JournalRose};
 ghost use Rattle.qc_journal.specs.declared.fault.JournalFault.TheVariants.{Torn, OutOfMemory as JournalWants};
 ghost use Rattle.qc_journal.specs.Grammar.{IsBody, IsNoJournal, Holds, HoldsWithOrWithout};
@@ -52,6 +54,10 @@ impl<D: Disk> Journal<D> {
             Since (IsLeftAtOpen old.now) old new)) }
         ensures rests { IfOk result (λ r. Rests (D.told r.0.disk) r.0.end (lists r.1.items)) }
         ensures later { IfOk result (λ r. D.faults disk ≤ D.faults r.0.disk) }
+        // One call counts for what is armed where the journal is read, and two where it is begun anew.
+        ensures fuse { IfOk result (λ r.
+            HasPassed 1 (most_of_opening (lists r.1.items)) (D.fuse disk) (D.fuse r.0.disk)) }
+        ensures fuse_err { IfErr result (λ e. JournalIsRefused 0 2 1 (D.fuse disk) (D.fuse e.0) e.1) }
         ensures cause { IfErr result (λ e. JournalRose {T = Unit {0}} (D.faults disk) (D.faults e.0) (Err e.1)) }
     {
         let mut disk = disk;
@@ -80,6 +86,7 @@ impl<D: Disk> Journal<D> {
         ensures end { self.new.end ≡ self.old.end }
         ensures records { self.new.records ≡ self.old.records }
         ensures faults { D.faults self.new.disk ≡ D.faults self.old.disk }
+        ensures fuse { D.fuse self.new.disk ≡ D.fuse self.old.disk }
     {
         self.frame.clear();
         self.frame.reserve(count as usize + 5)?;
@@ -106,6 +113,8 @@ impl<D: Disk> Journal<D> {
         ensures memory { result ≢ Err JournalWants }
         ensures whole { (offset : ℕ) → result ≢ Err (Torn offset) }
         ensures cause { JournalRose (D.faults self.old.disk) (D.faults self.new.disk) result }
+        // Each of its four calls counts for what is armed.
+        ensures fuse { JournalBurns 1 4 4 (D.fuse self.old.disk) (D.fuse self.new.disk) result }
     {
         fill(&mut self.frame, body)?;
         lay(&mut self.disk, self.end, &self.frame, body)?;
@@ -126,6 +135,7 @@ impl<D: Disk> Journal<D> {
         ensures moments { Tells (D.told self.disk) (D.told result) (λ old new. Since (IsImage old.now) old new) }
         ensures fell { Tells (D.told self.disk) (D.told result) (λ old new. new.now.writes ≡ []) }
         ensures later { D.faults self.disk ≤ D.faults result }
+        ensures fuse { KeepsArm (D.fuse self.disk) (D.fuse result) }
     {
         let mut disk = self.disk;
         disk.fall();
@@ -141,6 +151,8 @@ impl<D: Disk> Journal<Fused<D>> {
         ensures frame { self.new.frame ≡ self.old.frame }
         ensures told { ⟦<Fused<D> as Disk>⟧.told self.new.disk ≡ ⟦<Fused<D> as Disk>⟧.told self.old.disk }
         ensures faults { ⟦<Fused<D> as Disk>⟧.faults self.new.disk ≡ ⟦<Fused<D> as Disk>⟧.faults self.old.disk }
+        ensures fuse { ⟦<Fused<D> as Disk>⟧.fuse self.new.disk
+            ≡ record { armed = Some (kind, at); unarmed = (⟦<Fused<D> as Disk>⟧.fuse self.old.disk).unarmed } }
         ensures end { self.new.end ≡ self.old.end }
         ensures records { self.new.records ≡ self.old.records }
     {
