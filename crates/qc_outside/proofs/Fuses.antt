@@ -65,9 +65,9 @@ error_burns : {T : Type 0} (e : DiskFault) (least fewest most calls : ℕ) (old 
     → IsArmedAfter calls old.armed new.armed → least ≤ calls → calls ≤ most
     → DiskRose {T = T} old.unarmed new.unarmed (Err e) → BurnsMany {T = T} least fewest most old new (Err e)
 error_burns Failed least fewest most calls old new left some few rose =
-    inr (record { calls = calls; some = some; few = few; left = left; rose = rose.failed refl })
+    inr (record { calls = calls; some = some; few = few; left = left; later = rose.later; rose = rose.failed refl })
 error_burns Stopped least fewest most calls old new left some few rose =
-    inr (record { calls = calls; some = some; few = few; left = left; rose = rose.stopped refl })
+    inr (record { calls = calls; some = some; few = few; left = left; later = rose.later; rose = rose.stopped refl })
 error_burns OutOfMemory least fewest most calls old new left some few rose = rose.later
 
 result_burns : {T : Type 0} (r : Result T DiskFault) (calls : ℕ) (old new : Fuse)
@@ -149,6 +149,7 @@ failed_more a b l m x y z first second = record {
   some = omega (arith, first.some, second.some);
   few = omega (arith, first.few, second.few);
   left = left_more first.calls second.calls x.armed y.armed z.armed first.left second.left;
+  later = omega (arith, first.later, second.later);
   rose = risen;
 }
   where
@@ -185,6 +186,7 @@ faulted_wider l m k n kind x y low high (inr did) = inr (record {
   some = omega (arith, did.some, low);
   few = omega (arith, did.few, high);
   left = did.left;
+  later = did.later;
   rose = did.rose;
 })
 

@@ -71,6 +71,7 @@ pub record HasFailed (fewest most : ℕ) (old new : Fuse) : Type 0 where
   pub some : fewest ≤ calls
   pub few : calls ≤ most
   pub left : IsArmedAfter calls old.armed new.armed
+  pub later : old.unarmed ≤ new.unarmed
   pub rose : Rose old.unarmed new.unarmed
 
 abbrev pub HasFaulted : ℕ → ℕ → ArmKind → Fuse → Fuse → Type 0
