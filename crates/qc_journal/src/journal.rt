@@ -15,7 +15,7 @@ ghost use Rattle.qc_journal.specs.Calls.{JournalBurns, JournalIsRefused, most_of
 ghost use Rattle.qc_journal.specs.Causes.{JournalRose};
 ghost use Rattle.qc_journal.specs.declared.fault.JournalFault.TheVariants.{Torn, OutOfMemory as JournalWants};
 ghost use Rattle.qc_journal.specs.Grammar.{IsBody, IsNoJournal, Holds, HoldsWithOrWithout};
-ghost use Rattle.qc_journal.specs.Journal.{IsAtRest, Rests, IsReserved, IsLeftAtOpen, lists};
+ghost use Rattle.qc_journal.specs.Journal.{AreShort, IsAtRest, Rests, IsReserved, IsLeftAtOpen, lists};
 
 use crate::JournalFault;
 use crate::reading::start;
@@ -45,6 +45,7 @@ impl<D: Disk> Journal<D> {
         ensures opened { IfOk result (λ r. Tells (D.told disk) (D.told r.0.disk) (λ old new.
             Holds (lists r.1.items) (as_read old.now) × IsAtRest r.0.end (lists r.1.items) new)) }
         ensures records { IfOk result (λ r. r.0.records ≡ length r.1.items) }
+        ensures bodies { IfOk result (λ r. AreShort r.1.items) }
         ensures torn { IfErr result (λ e. (offset : ℕ) → e.1 ≡ Torn offset
             → Tells (D.told disk) (D.told e.0) (λ old new. IsNoJournal offset (as_read old.now))) }
         // A stop at a moment of it leaves what one before it might, or no record.

@@ -11,7 +11,7 @@ ghost use Rattle.qc_journal.specs.Causes.{JournalRose};
 ghost use Rattle.qc_journal.specs.declared.fault.JournalFault.TheVariants.{Torn as JournalTorn};
 ghost use Rattle.qc_journal.specs.Grammar.{IsTorn, IsNoJournal, Holds};
 ghost use Rattle.qc_journal.specs.Head.{IsHead};
-ghost use Rattle.qc_journal.specs.Journal.{Stands, IsAtRest, IsLeftAtOpen, lists};
+ghost use Rattle.qc_journal.specs.Journal.{AreShort, Stands, IsAtRest, IsLeftAtOpen, lists};
 
 use crate::JournalFault;
 use crate::writing::write_through;
@@ -62,6 +62,7 @@ pub(crate) fn read_records<D: Disk>(
     ensures opened { IfOk result (λ r. (t : Told) → D.told disk.old ≡ Some t
         → Stands r.0 (lists r.1.items) (as_read t.now)) }
     ensures short { IfOk result (λ r. r.0 ≤ 65541 * length r.1.items) }
+    ensures bodies { IfOk result (λ r. AreShort r.1.items) }
     ensures torn { IfErr result (λ e. (t : Told) → D.told disk.old ≡ Some t
         → (offset : ℕ) → e ≡ JournalTorn offset → IsTorn offset (as_read t.now)) }
     ensures cause { JournalRose (D.faults disk.old) (D.faults disk.new) result }
@@ -95,6 +96,7 @@ pub(crate) fn start<D: Disk>(
     ensures opened { IfOk result (λ r. Tells (D.told disk.old) (D.told disk.new) (λ old new.
         Holds (lists r.1.items) (as_read old.now) × IsAtRest r.0 (lists r.1.items) new)) }
     ensures short { IfOk result (λ r. r.0 ≤ 65541 * length r.1.items) }
+    ensures bodies { IfOk result (λ r. AreShort r.1.items) }
     ensures torn { IfErr result (λ e. (offset : ℕ) → e ≡ JournalTorn offset
         → Tells (D.told disk.old) (D.told disk.new) (λ old new. IsNoJournal offset (as_read old.now))) }
     ensures moments { Tells (D.told disk.old) (D.told disk.new) (λ old new. Since (IsLeftAtOpen old.now) old new) }

@@ -5,7 +5,7 @@ ghost use Rattle.std.specs.Prelude.{◌+◌, Option, vec_capacity};
 ghost use Rattle.qc_journal.specs.Calls.{JournalIsRefused};
 ghost use Rattle.qc_journal.specs.Causes.{JournalRose};
 ghost use Rattle.qc_journal.specs.Grammar.{IsBody};
-ghost use Rattle.qc_journal.specs.Journal.{IsReserved, Rests, lists};
+ghost use Rattle.qc_journal.specs.Journal.{AreShort, IsReserved, Rests, lists};
 ghost use Rattle.qc_journal.specs.declared.fault.JournalFault.TheVariants.{Torn};
 ghost use Rattle.qc_outside.specs.Fuses.{Fuse};
 ghost use Rattle.qc_outside.specs.Images.{Told, as_read, settled};
@@ -44,6 +44,7 @@ pub fn start<D: Disk>(
     ensures tells { IfOk result (λ r. StillTells (D.told disk) (⟦<Fused<D> as Disk>⟧.told r.0.disk)) }
     ensures empty { IfOk result (λ r. (t : Told) → D.told disk ≡ Some t → t.now ≡ settled [] → r.1.items ≡ []) }
     ensures records { IfOk result (λ r. r.0.records ≡ length r.1.items) }
+    ensures bodies { IfOk result (λ r. AreShort r.1.items) }
     // Nothing is armed yet, so what fails is the disk itself.
     ensures cause { IfErr result (λ e. JournalRose {T = Unit {0}} (D.faults disk) (D.faults e.0) (Err e.1)) }
 {
@@ -102,6 +103,7 @@ pub fn crash<D: Disk>(journal: Journal<D>) -> D
 pub fn rise<D: Disk>(alloc: Global, disk: D) -> Result<(Journal<D>, Vec<Vec<u8>>), (D, RiseFault)>
     ensures rests { IfOk result (λ r. Rests (D.told r.0.disk) r.0.end (lists r.1.items)) }
     ensures records { IfOk result (λ r. r.0.records ≡ length r.1.items) }
+    ensures bodies { IfOk result (λ r. AreShort r.1.items) }
     ensures tells { IfOk result (λ r. StillTells (D.told disk) (D.told r.0.disk)) }
     ensures tells_err { IfErr result (λ e. StillTells (D.told disk) (D.told e.0)) }
     // What it gives are the records, with the pending one or without it.

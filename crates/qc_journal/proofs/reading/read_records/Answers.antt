@@ -1,9 +1,11 @@
 use Rattle.std.proofs.lemmas.List.{length_push}
-use Rattle.std.proofs.Common.{◌+◌, ℕ, List, length, sym, ◌∙◌, ap, subst, arith}
+use Rattle.std.proofs.lemmas.List.Elements.{All-push}
+use Rattle.std.specs.declared.alloc.Global.{Global}
+use Rattle.std.proofs.Common.{◌+◌, ◌≤◌, ℕ, List, Vec, length, sym, ◌∙◌, ap, subst, arith}
 use Rattle.std.proofs.lemmas.Result.{err_from_is_err_and}
 use Rattle.qc_outside.specs.Images.{as_read}
 use Rattle.qc_outside.proofs.Fuses.{uncounted_burns, uncounted_refused, passed_more}
-use Rattle.qc_journal.specs.Journal.{Passed, lists}
+use Rattle.qc_journal.specs.Journal.{AreShort, Passed, lists}
 use Rattle.qc_journal.proofs.Gates.{lists_push, one_body_more}
 use Rattle.qc_journal.proofs.Fuses.{disk_refused, refusal_more}
 use Rattle.qc_journal.proofs.reading.read_records.Goals as goal
@@ -21,6 +23,11 @@ records-preserved g c = record {
       let one_more = length_push c.records.bodies.items c.in_ok-body-in-Open.body in
       let pushed = ap length c.in_ok-push-in-Open.ensures.items in
       omega (arith, c.in-Open.ensures.short, c.from-in-Open.ensures, pushed, one_more, c.records.invariant.short);
+  bodies =
+      subst AreShort (sym c.in_ok-push-in-Open.ensures.items)
+      (All-push (λ (v : Vec ℕ Global). length v.items ≤ 65536) c.records.bodies.items c.in_ok-body-in-Open.body
+      c.records.invariant.bodies
+      (omega (arith, c.in_ok-body-in-Open.ensures.bounded, c.in-Open.ensures.short)));
   passed_is = λ t tells.
       let told_now = c.records.invariant.told ∙ tells in
       let len = c.requires.len t tells in
