@@ -1,5 +1,5 @@
 -- What an open journal knows of its disk.
-use Rattle.std.specs.Prelude.{◌≡◌, ◌⊎◌, ℕ, ◌+◌, ◌≤◌, ◌<◌, ◌^◌, List, ◌∷◌, ◌++◌, length, Option, IfSome, map, Vec}
+use Rattle.std.specs.Prelude.{All, ◌≡◌, ◌⊎◌, ℕ, ◌+◌, ◌≤◌, ◌<◌, ◌^◌, List, ◌∷◌, ◌++◌, length, Option, IfSome, map, Vec}
 use Rattle.std.specs.declared.alloc.Global.{Global}
 use Rattle.qc_outside.specs.Images.{Stored, Told, IsImage, as_read, settled}
 use Rattle.qc_journal.specs.Grammar.{AreRecords, counted}
@@ -41,6 +41,10 @@ pub record IsReserved (capacity : ℕ) (has_room : ℕ → ℕ → Type 0) (end 
 -- the bytes of each
 abbrev pub lists : List (Vec ℕ Global) → List (List ℕ)
 lists vs = map (λ (v : Vec ℕ Global). v.items) vs
+
+-- each has at most the most bytes of a body
+abbrev pub AreShort : List (Vec ℕ Global) → Type 0
+AreShort vs = All (λ (v : Vec ℕ Global). length v.items ≤ 65536) vs
 
 -- records of these bodies stand before the place
 pub record Passed (at : ℕ) (bodies : List (List ℕ)) (bytes : List ℕ) : Type 0 where

@@ -10,10 +10,12 @@
 ghost use Rattle.std.specs.Prelude.{◌≡◌, ◌≢◌, ◌≤◌, ◌<◌, ◌+◌, ◌*◌, ◌^◌, List, ℕ, [], ◌∷◌, ◌++◌, Err, length};
 ghost use Rattle.std.specs.Prelude.{Some, IfOk, IfErr, OnOk, vec_capacity};
 ghost use Rattle.qc_outside.specs.Images.{Tells, Since, IsImage, as_read};
+ghost use Rattle.qc_outside.specs.Fuses.{KeepsArm, HasPassed};
+ghost use Rattle.qc_journal.specs.Calls.{JournalBurns, JournalIsRefused, most_of_opening};
 ghost use Rattle.qc_journal.specs.Causes.{JournalRose};
 ghost use Rattle.qc_journal.specs.declared.fault.JournalFault.TheVariants.{Torn, OutOfMemory as JournalWants};
 ghost use Rattle.qc_journal.specs.Grammar.{IsBody, IsNoJournal, Holds, HoldsWithOrWithout};
-ghost use Rattle.qc_journal.specs.Journal.{IsAtRest, Rests, IsReserved, IsLeftAtOpen, lists};
+ghost use Rattle.qc_journal.specs.Journal.{AreShort, IsAtRest, Rests, IsReserved, IsLeftAtOpen, lists};
 
 use crate::JournalFault;
 use crate::reading::start;
@@ -43,6 +45,7 @@ impl<D: Disk> Journal<D> {
         ensures opened { IfOk result (λ r. Tells (D.told disk) (D.told r.0.disk) (λ old new.
             Holds (lists r.1.items) (as_read old.now) × IsAtRest r.0.end (lists r.1.items) new)) }
         ensures records { IfOk result (λ r. r.0.records ≡ length r.1.items) }
+        ensures bodies { IfOk result (λ r. AreShort r.1.items) }
         ensures torn { IfErr result (λ e. (offset : ℕ) → e.1 ≡ Torn offset
             → Tells (D.told disk) (D.told e.0) (λ old new. IsNoJournal offset (as_read old.now))) }
         // A stop at a moment of it leaves what one before it might, or no record.
@@ -52,6 +55,10 @@ impl<D: Disk> Journal<D> {
             Since (IsLeftAtOpen old.now) old new)) }
         ensures rests { IfOk result (λ r. Rests (D.told r.0.disk) r.0.end (lists r.1.items)) }
         ensures later { IfOk result (λ r. D.faults disk ≤ D.faults r.0.disk) }
+        // One call counts for what is armed where the journal is read, and two where it is begun anew.
+        ensures fuse { IfOk result (λ r.
+            HasPassed 1 (most_of_opening (lists r.1.items)) (D.fuse disk) (D.fuse r.0.disk)) }
+        ensures fuse_err { IfErr result (λ e. JournalIsRefused 0 2 1 (D.fuse disk) (D.fuse e.0) e.1) }
         ensures cause { IfErr result (λ e. JournalRose {T = Unit {0}} (D.faults disk) (D.faults e.0) (Err e.1)) }
     {
         let mut disk = disk;
@@ -80,6 +87,7 @@ impl<D: Disk> Journal<D> {
         ensures end { self.new.end ≡ self.old.end }
         ensures records { self.new.records ≡ self.old.records }
         ensures faults { D.faults self.new.disk ≡ D.faults self.old.disk }
+        ensures fuse { D.fuse self.new.disk ≡ D.fuse self.old.disk }
     {
         self.frame.clear();
         self.frame.reserve(count as usize + 5)?;
@@ -106,6 +114,8 @@ impl<D: Disk> Journal<D> {
         ensures memory { result ≢ Err JournalWants }
         ensures whole { (offset : ℕ) → result ≢ Err (Torn offset) }
         ensures cause { JournalRose (D.faults self.old.disk) (D.faults self.new.disk) result }
+        // Each of its four calls counts for what is armed.
+        ensures fuse { JournalBurns 1 4 4 (D.fuse self.old.disk) (D.fuse self.new.disk) result }
     {
         fill(&mut self.frame, body)?;
         lay(&mut self.disk, self.end, &self.frame, body)?;
@@ -126,6 +136,7 @@ impl<D: Disk> Journal<D> {
         ensures moments { Tells (D.told self.disk) (D.told result) (λ old new. Since (IsImage old.now) old new) }
         ensures fell { Tells (D.told self.disk) (D.told result) (λ old new. new.now.writes ≡ []) }
         ensures later { D.faults self.disk ≤ D.faults result }
+        ensures fuse { KeepsArm (D.fuse self.disk) (D.fuse result) }
     {
         let mut disk = self.disk;
         disk.fall();
@@ -141,6 +152,8 @@ impl<D: Disk> Journal<Fused<D>> {
         ensures frame { self.new.frame ≡ self.old.frame }
         ensures told { ⟦<Fused<D> as Disk>⟧.told self.new.disk ≡ ⟦<Fused<D> as Disk>⟧.told self.old.disk }
         ensures faults { ⟦<Fused<D> as Disk>⟧.faults self.new.disk ≡ ⟦<Fused<D> as Disk>⟧.faults self.old.disk }
+        ensures fuse { ⟦<Fused<D> as Disk>⟧.fuse self.new.disk
+            ≡ record { armed = Some (kind, at); unarmed = (⟦<Fused<D> as Disk>⟧.fuse self.old.disk).unarmed } }
         ensures end { self.new.end ≡ self.old.end }
         ensures records { self.new.records ≡ self.old.records }
     {

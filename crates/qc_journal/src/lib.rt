@@ -9,6 +9,9 @@
 //! 3. `append` takes no memory: `reserve` took it.
 //! 4. A call answers `Failed` or `Stopped` only where the disk's count of faults
 //!    rose.
+//! 5. Of the disk's calls that count for what is armed, `append` makes four, and
+//!    `open` one, or two where it begins the journal anew. One that is refused
+//!    says in how many of them, and whether by the arm.
 //!
 //! All of it holds over any disk. `docs/JOURNAL.md` shows the calls with what a
 //! stop leaves after each. Each actor that keeps records has a journal.

@@ -5,11 +5,13 @@
 
 ghost use Rattle.std.specs.Prelude.{◌≡◌, ◌≢◌, ◌≤◌, ◌<◌, ◌+◌, ◌*◌, ℕ, Some, length, IfOk, IfErr};
 ghost use Rattle.qc_outside.specs.Images.{Told, Tells, Since, as_read};
+ghost use Rattle.qc_outside.specs.Fuses.{HasPassed};
+ghost use Rattle.qc_journal.specs.Calls.{JournalBurns, JournalIsRefused, most_of_opening};
 ghost use Rattle.qc_journal.specs.Causes.{JournalRose};
 ghost use Rattle.qc_journal.specs.declared.fault.JournalFault.TheVariants.{Torn as JournalTorn};
 ghost use Rattle.qc_journal.specs.Grammar.{IsTorn, IsNoJournal, Holds};
 ghost use Rattle.qc_journal.specs.Head.{IsHead};
-ghost use Rattle.qc_journal.specs.Journal.{Stands, IsAtRest, IsLeftAtOpen, lists};
+ghost use Rattle.qc_journal.specs.Journal.{AreShort, Stands, IsAtRest, IsLeftAtOpen, lists};
 
 use crate::JournalFault;
 use crate::writing::write_through;
@@ -60,9 +62,11 @@ pub(crate) fn read_records<D: Disk>(
     ensures opened { IfOk result (λ r. (t : Told) → D.told disk.old ≡ Some t
         → Stands r.0 (lists r.1.items) (as_read t.now)) }
     ensures short { IfOk result (λ r. r.0 ≤ 65541 * length r.1.items) }
+    ensures bodies { IfOk result (λ r. AreShort r.1.items) }
     ensures torn { IfErr result (λ e. (t : Told) → D.told disk.old ≡ Some t
         → (offset : ℕ) → e ≡ JournalTorn offset → IsTorn offset (as_read t.now)) }
     ensures cause { JournalRose (D.faults disk.old) (D.faults disk.new) result }
+    ensures fuse { JournalBurns 0 0 0 (D.fuse disk.old) (D.fuse disk.new) result }
 {
     let mut bodies = Vec::new(alloc);
     let mut at = 0;
@@ -92,10 +96,14 @@ pub(crate) fn start<D: Disk>(
     ensures opened { IfOk result (λ r. Tells (D.told disk.old) (D.told disk.new) (λ old new.
         Holds (lists r.1.items) (as_read old.now) × IsAtRest r.0 (lists r.1.items) new)) }
     ensures short { IfOk result (λ r. r.0 ≤ 65541 * length r.1.items) }
+    ensures bodies { IfOk result (λ r. AreShort r.1.items) }
     ensures torn { IfErr result (λ e. (offset : ℕ) → e ≡ JournalTorn offset
         → Tells (D.told disk.old) (D.told disk.new) (λ old new. IsNoJournal offset (as_read old.now))) }
     ensures moments { Tells (D.told disk.old) (D.told disk.new) (λ old new. Since (IsLeftAtOpen old.now) old new) }
     ensures cause { JournalRose (D.faults disk.old) (D.faults disk.new) result }
+    ensures fuse { IfOk result (λ r. HasPassed 1 (most_of_opening (lists r.1.items)) (D.fuse disk.old)
+        (D.fuse disk.new)) }
+    ensures fuse_err { IfErr result (λ e. JournalIsRefused 0 2 1 (D.fuse disk.old) (D.fuse disk.new) e) }
 {
     let len = disk.len()?;
     if len <= 1 {

@@ -9,6 +9,7 @@
 ghost use Rattle.std.specs.Prelude.{◌≡◌, ◌≢◌, ◌≤◌, ◌<◌, ◌+◌, ◌^◌, List, ℕ, suc, [], ◌∷◌, ◌++◌, Err, length};
 ghost use Rattle.std.specs.Prelude.{IfSome, OnOk, IsOk, vec_capacity};
 ghost use Rattle.qc_outside.specs.Disk.{DiskRose};
+ghost use Rattle.qc_outside.specs.Fuses.{BurnsMany};
 ghost use Rattle.qc_outside.specs.Images.{Tells, Since, IsImage, as_read, wrote, settled};
 ghost use Rattle.qc_outside.specs.declared.disk.DiskFault.TheVariants.{OutOfMemory as DiskWants};
 ghost use Rattle.qc_journal.specs.Grammar.{IsBody, Holds, HoldsWithOrWithout, counted};
@@ -43,6 +44,7 @@ pub(crate) fn write_through<D: Disk>(disk: &mut D, at: u64, bytes: &[u8]) -> Res
     ensures room { OnOk result ((n end : ℕ) → D.has_room disk.old (suc n) end → at + length bytes.now ≤ end
         → D.has_room disk.new n end) }
     ensures cause { DiskRose (D.faults disk.old) (D.faults disk.new) result }
+    ensures fuse { BurnsMany 1 2 2 (D.fuse disk.old) (D.fuse disk.new) result }
 {
     disk.write_at(at, bytes)?;
     disk.sync()
@@ -61,6 +63,7 @@ fn write_behind<D: Disk>(disk: &mut D, end: u64, frame: &[u8]) -> Result<(), Dis
     ensures room { OnOk result ((n place : ℕ) → D.has_room disk.old (suc n) place
         → end + 1 + length frame.now ≤ place → D.has_room disk.new n place) }
     ensures cause { DiskRose (D.faults disk.old) (D.faults disk.new) result }
+    ensures fuse { BurnsMany 1 2 2 (D.fuse disk.old) (D.fuse disk.new) result }
 {
     write_through(disk, end + 1, frame)
 }
@@ -76,6 +79,7 @@ fn open_gate<D: Disk>(disk: &mut D, end: u64) -> Result<(), DiskFault>
         → Tells (D.told disk.old) (D.told disk.new) (λ old new. Since (HoldsWithOrWithout bodies body) old new) }
     ensures memory { (n place : ℕ) → D.has_room disk.old (suc n) place → end + 1 ≤ place → result ≢ Err DiskWants }
     ensures cause { DiskRose (D.faults disk.old) (D.faults disk.new) result }
+    ensures fuse { BurnsMany 1 2 2 (D.fuse disk.old) (D.fuse disk.new) result }
 {
     write_through(disk, end, &[1])
 }
@@ -97,6 +101,7 @@ pub(crate) fn lay<D: Disk>(
         → Tells (D.told disk.old) (D.told disk.new) (λ old new. Since (HoldsWithOrWithout bodies body.now) old new) }
     ensures memory { result ≢ Err DiskWants }
     ensures cause { DiskRose (D.faults disk.old) (D.faults disk.new) result }
+    ensures fuse { BurnsMany 1 4 4 (D.fuse disk.old) (D.fuse disk.new) result }
 {
     write_behind(disk, end, frame)?;
     open_gate(disk, end)

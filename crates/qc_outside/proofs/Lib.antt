@@ -1,4 +1,5 @@
 pub mod Counted
+pub mod Fuses
 pub mod Images
 pub mod Kept
 pub mod Memory

@@ -3,6 +3,7 @@ pub mod Calls
 pub mod Causes
 pub mod Disk
 pub mod Fakes
+pub mod Fuses
 pub mod Images
 pub mod MemRack
 pub mod Memory

@@ -7,6 +7,7 @@
 
 ghost use Rattle.std.specs.Prelude.{◌≡◌, ◌≢◌, ◌≤◌, ◌+◌, ℕ, suc, Some, Err, [], length, take, drop, IfOk, OnOk};
 ghost use Rattle.qc_outside.specs.Disk.{DiskRose};
+ghost use Rattle.qc_outside.specs.Fuses.{Burns, KeepsArm, BurnsNothing};
 ghost use Rattle.qc_outside.specs.Images.{Told, Tells, Since, IsImage, as_read, wrote, settled};
 ghost use Rattle.qc_outside.specs.declared.disk.DiskFault.TheVariants.{Stopped as DiskStops, OutOfMemory as DiskWants};
 
@@ -47,6 +48,7 @@ pub enum ArmKind {
 /// falls, and stands where memory was wanting.
 pub trait Disk: Send + Drop {
     ghost use Rattle.std.specs.Prelude.{ℕ, Option};
+    ghost use Rattle.qc_outside.specs.Fuses.{Fuse};
     ghost use Rattle.qc_outside.specs.Images.{Told};
 
     // How many calls failed or stopped so far, or more.
@@ -54,6 +56,9 @@ pub trait Disk: Send + Drop {
 
     // What it holds and held, where it tells.
     ghost told: { Self → Option Told };
+
+    // What is armed on it, and how many faults came that weren't, or more.
+    ghost fuse: { Self → Fuse };
 
     // There is memory for so many writes that each end at or before a place.
     ghost has_room: { Self → ℕ → ℕ → Type 0 };
@@ -64,6 +69,7 @@ pub trait Disk: Send + Drop {
         ensures same { told self.new ≡ told self.old }
         ensures room { (n end : ℕ) → has_room self.old n end → has_room self.new n end }
         ensures cause { DiskRose (faults self.old) (faults self.new) result }
+        ensures fuse { BurnsNothing (fuse self.old) (fuse self.new) result }
         ensures memory { result ≢ Err DiskWants };
 
     /// The `count` bytes from `at` on, or fewer where the disk ends.
@@ -73,13 +79,15 @@ pub trait Disk: Send + Drop {
             → v.items ≡ take count (drop at (as_read t.now))) }
         ensures same { told self.new ≡ told self.old }
         ensures room { (n end : ℕ) → has_room self.old n end → has_room self.new n end }
-        ensures cause { DiskRose (faults self.old) (faults self.new) result };
+        ensures cause { DiskRose (faults self.old) (faults self.new) result }
+        ensures fuse { BurnsNothing (fuse self.old) (fuse self.new) result };
 
     /// Takes the memory for two writes that end at or before `end`.
     fn reserve(&mut self, end: u64) -> Result<(), OutOfMemory>
         ensures same { told self.new ≡ told self.old }
         ensures room { OnOk result (has_room self.new 2 end) }
-        ensures faults { faults self.new ≡ faults self.old };
+        ensures faults { faults self.new ≡ faults self.old }
+        ensures fuse { fuse self.new ≡ fuse self.old };
 
     /// Writes the bytes from `at` on. They last once `sync` has answered `Ok`.
     /// A gap before them reads as zeros.
@@ -96,7 +104,8 @@ pub trait Disk: Send + Drop {
         ensures wanting { result ≡ Err DiskWants → told self.new ≡ told self.old }
         ensures room { OnOk result ((n end : ℕ) → has_room self.old (suc n) end → at + length bytes.now ≤ end
             → has_room self.new n end) }
-        ensures cause { DiskRose (faults self.old) (faults self.new) result };
+        ensures cause { DiskRose (faults self.old) (faults self.new) result }
+        ensures fuse { Burns (fuse self.old) (fuse self.new) result };
 
     /// Makes what was written last. It takes no memory.
     fn sync(&mut self) -> Result<(), DiskFault>
@@ -107,6 +116,7 @@ pub trait Disk: Send + Drop {
             → Tells (told self.old) (told self.new) (λ old new. new.now.writes ≡ []) }
         ensures room { OnOk result ((n end : ℕ) → has_room self.old n end → has_room self.new n end) }
         ensures cause { DiskRose (faults self.old) (faults self.new) result }
+        ensures fuse { Burns (fuse self.old) (fuse self.new) result }
         ensures memory { result ≢ Err DiskWants };
 
     /// Stops the disk, as a loss of power does: it now holds one of the images
@@ -114,5 +124,6 @@ pub trait Disk: Send + Drop {
     fn fall(&mut self)
         ensures moments { Tells (told self.old) (told self.new) (λ old new. Since (IsImage old.now) old new) }
         ensures fell { Tells (told self.old) (told self.new) (λ old new. new.now.writes ≡ []) }
-        ensures later { faults self.old ≤ faults self.new };
+        ensures later { faults self.old ≤ faults self.new }
+        ensures fuse { KeepsArm (fuse self.old) (fuse self.new) };
 }

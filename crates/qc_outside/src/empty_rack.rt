@@ -27,9 +27,12 @@ impl Model for EmptyDisk {
 
 impl Disk for EmptyDisk {
     ghost use Rattle.std.specs.Prelude.{Some, ⊤};
+    ghost use Rattle.qc_outside.specs.Fuses.{no_fuse};
     ghost use Rattle.qc_outside.specs.Images.{told_at_first};
 
     ghost faults = { λ d. d };
+
+    ghost fuse = { λ d. no_fuse d };
 
     ghost told = { λ d. Some told_at_first };
 

@@ -7,6 +7,7 @@
 ghost use Rattle.std.specs.Prelude.{◌≡◌, ◌≢◌, ◌≤◌, ◌+◌, ℕ, suc, Some, None, Err, [], length, OnOk};
 ghost use Rattle.qc_outside.specs.Arms.{Acts, armed_after, acting, acted_after};
 ghost use Rattle.qc_outside.specs.Disk.{DiskRose};
+ghost use Rattle.qc_outside.specs.Fuses.{Burns};
 ghost use Rattle.qc_outside.specs.Images.{Tells, Since, IsImage, as_read, wrote, settled};
 ghost use Rattle.qc_outside.specs.declared.disk.DiskFault.TheVariants.{Stopped as DiskStops, OutOfMemory as DiskWants};
 
@@ -52,6 +53,7 @@ impl<D: Disk> Fused<D> {
         ensures told { ⟦<Fused<D> as Disk>⟧.told result ≡ D.told inner }
         ensures faults { ⟦<Fused<D> as Disk>⟧.faults result ≡ D.faults inner }
         ensures none { result.arm.armed ≡ None }
+        ensures fuse { ⟦<Fused<D> as Disk>⟧.fuse result ≡ record { armed = None; unarmed = D.faults inner } }
     {
         Fused {
             inner,
@@ -66,6 +68,7 @@ impl<D: Disk> Fused<D> {
     pub fn inner(self) -> D
         ensures told { D.told result ≡ ⟦<Fused<D> as Disk>⟧.told self }
         ensures same { result ≡ self.inner }
+        ensures fuse { D.faults result ≡ (⟦<Fused<D> as Disk>⟧.fuse self).unarmed }
     {
         self.inner
     }
@@ -77,6 +80,8 @@ impl<D: Disk> Fused<D> {
         ensures inner { self.new.inner ≡ self.old.inner }
         ensures told { ⟦<Fused<D> as Disk>⟧.told self.new ≡ ⟦<Fused<D> as Disk>⟧.told self.old }
         ensures faults { ⟦<Fused<D> as Disk>⟧.faults self.new ≡ ⟦<Fused<D> as Disk>⟧.faults self.old }
+        ensures fuse { ⟦<Fused<D> as Disk>⟧.fuse self.new
+            ≡ record { armed = Some (kind, at); unarmed = (⟦<Fused<D> as Disk>⟧.fuse self.old).unarmed } }
     {
         self.arm.armed = Some((kind, at));
     }
@@ -88,6 +93,8 @@ impl<D: Disk> Disk for Fused<D> {
     ghost told = { λ d. D.told d.inner };
 
     ghost has_room = { λ d. D.has_room d.inner };
+
+    ghost fuse = { λ d. record { armed = d.arm.armed; unarmed = D.faults d.inner } };
 
     fn len(&mut self) -> Result<u64, DiskFault> {
         self.inner.len()
@@ -118,6 +125,8 @@ impl<D: Disk> Disk for Fused<D> {
             → at + length bytes.now ≤ end → D.has_room self.new.inner n end) }
         ensures cause { DiskRose (D.faults self.old.inner + self.old.arm.acted)
             (D.faults self.new.inner + self.new.arm.acted) result }
+        ensures fuse { Burns (record { armed = self.old.arm.armed; unarmed = D.faults self.old.inner })
+            (record { armed = self.new.arm.armed; unarmed = D.faults self.new.inner }) result }
     {
         match self.arm.burn() {
             None => self.inner.write_at(at, bytes),
@@ -142,6 +151,8 @@ impl<D: Disk> Disk for Fused<D> {
         ensures room { OnOk result ((n end : ℕ) → D.has_room self.old.inner n end → D.has_room self.new.inner n end) }
         ensures cause { DiskRose (D.faults self.old.inner + self.old.arm.acted)
             (D.faults self.new.inner + self.new.arm.acted) result }
+        ensures fuse { Burns (record { armed = self.old.arm.armed; unarmed = D.faults self.old.inner })
+            (record { armed = self.new.arm.armed; unarmed = D.faults self.new.inner }) result }
         ensures memory { result ≢ Err DiskWants }
     {
         match self.arm.burn() {

@@ -11,6 +11,8 @@
 //!    run's fault is the outside's own.
 //! 4. Where memory was wanting a count stands, and a shelf, a sink and a disk are
 //!    as they were.
+//! 5. Each call of a disk says what it makes of what is armed on it, and whether
+//!    a fault was the arm's or the disk's own.
 //!
 //! Fakes in memory stand beside the traits: tests and laws on whole calls use
 //! them. `qc_top` takes one of each, `qc_report` words their faults, and the

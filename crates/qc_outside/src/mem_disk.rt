@@ -136,7 +136,11 @@ fn note(changes: &mut Vec<Change>, change: Change)
 }
 
 impl Disk for MemDisk {
+    ghost use Rattle.qc_outside.specs.Fuses.{no_fuse};
+
     ghost faults = { λ d. 0 };
+
+    ghost fuse = { λ d. no_fuse 0 };
 
     ghost told = { λ d. Some (told_by d.tear d.changes.items d.written.items) };
 

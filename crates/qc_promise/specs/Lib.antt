@@ -6,6 +6,8 @@ pub mod Seen
 pub mod Atomic
 pub mod Kept
 pub mod Spent
+pub mod DiskAccount
+pub mod Stores
 pub mod Lifetimes
 pub mod Posts
 pub mod SiteRecords

@@ -1,6 +1,6 @@
-//! Tests of what stands for the outside in memory, and of journals on such disks,
-//! through what their crates offer to others. They stand here, above them, so
-//! that they are proved without them.
+//! Tests of what stands for the outside in memory, of journals on such disks, and
+//! of stores, through what their crates offer to others. They stand here, above
+//! them, so that they are proved without them.
 #![tactic(auto)]
 
 #[cfg(test)]
@@ -11,3 +11,5 @@ mod disks;
 mod shelves;
 #[cfg(test)]
 mod stops;
+#[cfg(test)]
+mod stores;

@@ -1,0 +1,9 @@
+mod Ends
+mod Sums
+mod OwnArms
+mod ActingArms
+mod Agreement
+mod Whole
+mod OwnRecords
+pub mod Stores
+mod FittingRecords

@@ -1,0 +1,5 @@
+use Rattle.qc_spent.proofs.FittingRecords.{fitting_kept}
+use Rattle.qc_spent.proofs.laws.fitting_records_are_kept.Goals as goal
+
+pub returns : goal.returns
+returns c = fitting_kept

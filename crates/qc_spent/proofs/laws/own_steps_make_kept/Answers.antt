@@ -1,0 +1,5 @@
+use Rattle.qc_spent.proofs.OwnRecords.{kept}
+use Rattle.qc_spent.proofs.laws.own_steps_make_kept.Goals as goal
+
+pub returns : goal.returns
+returns c = kept

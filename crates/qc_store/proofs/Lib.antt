@@ -1,0 +1,3 @@
+pub mod Accounts
+mod Calls
+mod Contents
