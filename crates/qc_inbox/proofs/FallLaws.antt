@@ -18,11 +18,13 @@ use Rattle.qc_msg.specs.Deeds.{Deed, deeds}
 use Rattle.qc_msg.specs.Steps.{Entry, MayEnd}
 use Rattle.qc_script.specs.Inbox.{Inbox, inbox, is_up}
 use Rattle.qc_script.specs.Ready.{after_controls, command_in, controls_left, first_command, first_copy, first_lost, ready, takes_commands}
+use Rattle.qc_script.specs.Runs.{Runs}
 use Rattle.qc_script.specs.RunsWithFalls.{RunsWithFalls}
 use Rattle.qc_script.specs.declared.script.Script.{Script}
 use Rattle.qc_inbox.specs.Downs.{IsCommand, IsEmptied, TellsWhereDown, is_down}
 use Rattle.qc_inbox.specs.Inboxes.{Inboxes}
 use Rattle.qc_inbox.specs.Kept.{IsKept, MayPost, MayWrite}
+use Rattle.qc_script.proofs.AllUp.{actor_up}
 use Rattle.qc_inbox.proofs.Apart.{one_controls}
 use Rattle.qc_inbox.proofs.FallRuns.{run_stands}
 use Rattle.qc_inbox.proofs.FallTrays.{up_kept}
@@ -108,3 +110,10 @@ may_post lawful fits decl script h open_inputs kept few tells run is a turn with
     by : (t : Bool) → is_down (deeds a [] h) ≡ t → MayPost (is_up kept.up a) turn.append turn.write
     by true down = silent_posts (is_up kept.up a) turn.append turn.write (tells.writes_none a (deeds a [] h) turn law down) (tells.ends a (deeds a [] h) turn law)
     by false up = up_posts (is_up kept.up a) turn.append turn.write (tie ∙ ap not up)
+
+-- in a run without falls everybody is
+pub all_up : (lawful : ℕ → List Deed → Turn → Type 0) (decl : Declaration) (script : Script) (h : List Entry) (open_inputs : List Bool) (kept : Inboxes) (a : ℕ)
+    → Runs lawful decl script h open_inputs → IsKept script h kept → is_up kept.up a ≡ true
+all_up lawful decl script h open_inputs kept a run is =
+    ap (λ (up : List Bool). is_up up a) (sym (up_kept script h kept 0 is (omega arith)))
+    ∙ actor_up lawful decl script h open_inputs 0 a run
