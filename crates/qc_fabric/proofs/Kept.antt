@@ -23,7 +23,6 @@ use Rattle.qc_pass.specs.Tokens.{right_table, number, room, all, rooms, Met}
 use Rattle.qc_script.specs.Ready.{phase_of}
 use Rattle.qc_script.specs.Runs.{Runs, begins}
 use Rattle.qc_script.specs.Sound.{IsScriptFor}
-use Rattle.qc_script.specs.Steady.{LeavesAllUp}
 use Rattle.qc_script.specs.declared.script.Script.{Script}
 use Rattle.qc_fabric.specs.Events.{before_last_event, begins_event}
 use Rattle.qc_fabric.specs.Feeds.{HasGrown}
@@ -216,9 +215,9 @@ none_there (suc n) zero k e = let bad : 0 ≡ suc k = cc in absurd (omega (arith
 none_there (suc n) (suc a) k e = none_there n a k e
 
 pub starts : (L : ℕ → List Deed → Turn → Type 0) (D : Declaration) (S : Script) (z : TableId) (w : Script) (lg : Logged) (mb : Roomy) (op hd : List Bool) (tb : TableId) (r : Right Step)
-    → w ≡ S → lg.history ≡ [] → mb.inboxes ≡ empty_inboxes S → op ≡ replicate (actors D) false → hd ≡ replicate (actors D) false → tb ≡ z → IsFirst z (controller D + 1) r → IsScriptFor D S → controller D < most_actors → LeavesAllUp S
+    → w ≡ S → lg.history ≡ [] → mb.inboxes ≡ empty_inboxes S → op ≡ replicate (actors D) false → hd ≡ replicate (actors D) false → tb ≡ z → IsFirst z (controller D + 1) r → IsScriptFor D S → controller D < most_actors
     → IsStill L D S z w lg mb op hd 0 0 tb (Some r)
-starts L D S z w lg mb op hd tb r ws none is oc hc te i so few steady = record {
+starts L D S z w lg mb op hd tb r ws none is oc hc te i so few = record {
   script_is = ws;
   holder = r;
   right_is = refl;
@@ -226,7 +225,7 @@ starts L D S z w lg mb op hd tb r ws none is oc hc te i so few steady = record {
   right_table_is = i.table_is;
   all_is = i.all_none ∙ sym none;
   runs = subst (λ (l : List Entry). Runs L D S l op) (sym none) (subst (λ (o : List Bool). Runs L D S [] o) (sym oc) begins);
-  kept = subst (λ (l : List Entry). IsKept S l mb.inboxes) (sym none) (subst (λ (b : Inboxes). IsKept S [] b) (sym is) (kept_begins S steady));
+  kept = subst (λ (l : List Entry). IsKept S l mb.inboxes) (sym none) (subst (λ (b : Inboxes). IsKept S [] b) (sym is) (kept_begins S));
   phase_is = sym (ap (λ (l : List Entry). phase_of l) none);
   opens = ap length oc ∙ length-replicate (actors D) false;
   helds = ap length hc ∙ length-replicate (actors D) false;

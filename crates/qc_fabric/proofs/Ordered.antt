@@ -22,7 +22,7 @@ use Rattle.qc_msg.specs.Steps.{Entry, marked}
 use Rattle.qc_pass.specs.declared.token.Pass.{Pass}
 use Rattle.qc_pass.specs.declared.token.Right.{Right}
 use Rattle.qc_pass.specs.Tokens.{Met, all, number, room, seen}
-use Rattle.qc_script.specs.Ready.{controls_left, phase_of, step_of_control}
+use Rattle.qc_script.specs.Ready.{controller_step, controls_left, phase_of, step_of_control}
 use Rattle.qc_script.specs.Runs.{Runs, control, phase}
 use Rattle.qc_script.specs.declared.script.PhaseLines.{PhaseLines}
 use Rattle.qc_script.specs.declared.script.Script.{Script}
@@ -45,6 +45,14 @@ step_same (controls.Heal x y) step is = is
 step_same (controls.Armed actor kind n) step is = absurd (let no : ⊥ = cc in no)
 step_same (controls.Crash x) step is = absurd (let no : ⊥ = cc in no)
 step_same (controls.Restart x) step is = absurd (let no : ⊥ = cc in no)
+
+acts_same : (line : Control) (step : Step) → step_of_control line ≡ Some step → controller_step line ≡ Some step
+acts_same (controls.Phase k) step is = is
+acts_same (controls.Cut x y) step is = is
+acts_same (controls.Heal x y) step is = is
+acts_same (controls.Armed actor kind n) step is = absurd (let no : ⊥ = cc in no)
+acts_same (controls.Crash x) step is = is
+acts_same (controls.Restart x) step is = is
 
 -- the first of some lines
 pub record Lines (lines : List Control) (line : Control) : Type 0 where
@@ -85,7 +93,7 @@ module _ {L : ℕ → List Deed → Turn → Type 0} {D : Declaration} {S : Scri
       let run : Runs L D S (lg.history ++ marked (number p) step ∷ []) op =
       subst (λ n. Runs L D S (lg.history ++ marked n step ∷ []) op) (sym at) (control line lines.rest step op lg.history s.runs lines.are said) in
       steps_on s r e p q t step op ph m a lg1 lg' mb' hs lr bd g (omega (arith, mr, s.mail_room))
-      (subst (λ (i : Inboxes). IsKept S (lg.history ++ marked (number p) step ∷ []) i) (sym after) (kept_control S lg.history mb.inboxes line step (number p) s.kept said))
+      (subst (λ (i : Inboxes). IsKept S (lg.history ++ marked (number p) step ∷ []) i) (sym after) (kept_control S lg.history mb.inboxes line step (number p) s.kept (acts_same line step said)))
       (s.phase_is ∙ sym (phase_control lg.history (number p) line step said)) run s.opens (λ j o. o) under (begins_control line step said)
 
   pub did : (s : IsStill L D S z w lg mb op hd ph rsv tb ri) (r : Right Step) → ri ≡ Some r → (p q : Pass Step) (t : Right Step) (c : Control) (step : Step) → control_step c ≡ Some step → number p ≡ controller D → Met p r q t (step ∷ []) (room p)

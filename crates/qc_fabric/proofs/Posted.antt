@@ -12,6 +12,9 @@ use Rattle.qc_inbox.specs.Inboxes.{Inboxes}
 use Rattle.qc_inbox.specs.Kept.{IsKept}
 use Rattle.qc_inbox.specs.Rooms.{after_turn}
 use Rattle.qc_inbox.proofs.Acting.{kept_turn}
+use Rattle.qc_inbox.proofs.FallLaws.{all_up, up_posts}
+use Rattle.qc_msg.specs.declared.turn.Appended.TheVariants.{Done}
+use Rattle.qc_script.specs.Inbox.{is_up}
 use Rattle.qc_mailbox.specs.Kept.{Roomy}
 use Rattle.qc_msg.specs.declared.step.Step.{Step}
 use Rattle.qc_msg.specs.declared.turn.Turn.{Turn}
@@ -83,7 +86,7 @@ module _ {L : ℕ → List Deed → Turn → Type 0} {D : Declaration} {S : Scri
           all_is = all_after ∙ sym g.history;
           runs = subst (λ (l : List Entry). Runs L D S l (slice_set op (number p) false)) (sym g.history) run_after;
           kept = subst (λ (l : List Entry). IsKept S l mb'.inboxes) (sym g.history) (subst (λ (i : Inboxes). IsKept S (lg.history ++ by (number p) (posted first turn)) i) (sym is)
-              (subst (λ (x : ℕ). IsKept S (lg.history ++ by (number p) (posted x turn)) (after_turn mb.inboxes (number p) turn)) (sym first_is) (kept_turn S lg.history mb.inboxes (number p) turn s.kept here to)));
+              (subst (λ (x : ℕ). IsKept S (lg.history ++ by (number p) (posted x turn)) (after_turn mb.inboxes (number p) turn)) (sym first_is) (kept_turn S lg.history mb.inboxes (number p) turn s.kept here to (up_posts (is_up mb.inboxes.up (number p)) Done turn.write (all_up L D S lg.history op mb.inboxes (number p) s.runs s.kept)))));
           phase_is = s.phase_is ∙ (sym (phase_posted lg.history (number p) first turn) ∙ ap (λ (l : List Entry). phase_of l) (sym g.history));
           opens = length_set op (number p) false ∙ s.opens;
           helds = length_set hd b false ∙ s.helds;

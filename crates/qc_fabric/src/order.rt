@@ -92,7 +92,7 @@ impl<C: Conduct, N: Named> Still<C, N> {
             return Err(AllocError);
         };
         self.log.reserve(room)?;
-        self.mailboxes.control()?;
+        self.mailboxes.control();
         let Some(right) = self.right.take() else {
             unreachable!()
         };

@@ -7,7 +7,6 @@ ghost use Rattle.qc_pass.specs.Made.{IsFirst};
 ghost use Rattle.qc_pass.specs.Tokens.{number, pass_table, room, seen, table_of};
 ghost use Rattle.qc_script.specs.Runs.{Runs};
 ghost use Rattle.qc_script.specs.Sound.{IsScriptFor};
-ghost use Rattle.qc_script.specs.Steady.{LeavesAllUp};
 ghost use Rattle.qc_fabric.specs.Events.{before_last_event};
 ghost use Rattle.qc_fabric.specs.Logs.{full_of};
 ghost use Rattle.qc_fabric.specs.Stills.{most_history};
@@ -68,7 +67,6 @@ impl<C: Conduct, N: Named> Still<C, N> {
         requires script { script ≡ N.script }
         requires sound { IsScriptFor N.declaration N.script }
         requires few { controller N.declaration < most_actors }
-        requires steady { LeavesAllUp N.script }
         requires table { table_of passes ≡ N.table }
         requires right { IsFirst N.table (controller N.declaration + 1) right }
         ensures history { IfOk result (λ s. s.history ≡ []) }

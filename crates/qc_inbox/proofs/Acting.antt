@@ -14,14 +14,11 @@ use Rattle.qc_msg.specs.declared.turn.Turn.{Turn}
 use Rattle.qc_msg.specs.Deeds.{envelope_of, mail}
 use Rattle.qc_msg.specs.Steps.{Entry, by, marked, posted, sents, step_of, told, wrote}
 use Rattle.qc_msg.proofs.Growth.{by-posted}
-use Rattle.qc_script.specs.Inbox.{Inbox, command_called, copy_taken, count_of, inbox, inbox_at, loss_taken, reply_told}
-use Rattle.qc_msg.specs.declared.step.Control.{Control}
-use Rattle.qc_script.specs.Steady.{LeavesUp}
-use Rattle.qc_script.proofs.AllUp.{wrote_up}
+use Rattle.qc_script.specs.Inbox.{Inbox, command_called, control_acted, copy_taken, count_of, inbox, inbox_at, is_up, loss_taken, reply_told, wrote_record}
 use Rattle.qc_script.specs.Ready.{ready}
 use Rattle.qc_script.specs.declared.script.Script.{Script}
 use Rattle.qc_inbox.specs.Inboxes.{Inboxes, Tray}
-use Rattle.qc_inbox.specs.Kept.{IsKept, Shows, tray_of}
+use Rattle.qc_inbox.specs.Kept.{IsKept, MayWrite, Shows, tray_of}
 use Rattle.qc_inbox.specs.Picks.{calls_at, calls_of}
 use Rattle.qc_inbox.specs.Rooms.{after_reply, after_send, after_sends, after_take, after_turn, tray_at}
 use Rattle.qc_inbox.specs.Trays.{empty_tray, tray_taken, tray_told}
@@ -31,7 +28,7 @@ use Rattle.qc_inbox.proofs.Taking.{taken_shown}
 use Rattle.qc_link.specs.Limits.{most_actors}
 
 -- the trays, where one of them is changed
-own_tray : (trays : List Tray) (a b : ℕ) (change : Tray → Tray) (old new : Tray) → a < length trays → tray_at trays b ≡ old
+pub own_tray : (trays : List Tray) (a b : ℕ) (change : Tray → Tray) (old new : Tray) → a < length trays → tray_at trays b ≡ old
     → ((a == b) ≡ true → change old ≡ new) → ((a == b) ≡ false → old ≡ new)
     → tray_at (set trays a (change (tray_at trays a))) b ≡ new
 own_tray trays a b change old new within shown mine other = by (a == b) refl
@@ -51,7 +48,6 @@ still_shown : (old : Inboxes) (trays : List Tray) (a m n : ℕ) (i j : Inbox) �
 still_shown old trays a m n i j shows keeps tray = record {
   cuts = keeps.cuts ∙ shows.cuts;
   up = keeps.up ∙ shows.up;
-  steady = subst (λ (cs : List Control). Every LeavesUp cs) (sym keeps.controls) shows.steady;
   controls = keeps.controls ∙ shows.controls;
   from_each = λ b within. ap (λ (c : List ℕ). count_of c b) keeps.from_each ∙ shows.from_each b within;
   to_each = λ b within. ap (λ (c : List ℕ). count_of c b) keeps.to_each ∙ shows.to_each b within;
@@ -80,7 +76,7 @@ input_sends_nothing a (given.Lost number) = refl
 pub kept_take : (decl : Declaration) (script : Script) (h : List Entry) (old : Inboxes) (a : ℕ) (g : Given) → IsKept script h old → a < most_actors → ready decl script a h ≡ Some g
     → IsKept script (h ++ marked a (step_of g) ∷ []) (after_take old a)
 kept_take decl script h old a g kept within is =
-    kept_step script h (marked a (step_of g)) old (after_take old a) kept (input_sends_nothing a g) refl refl (length-set old.trays a _ ∙ kept.trays)
+    kept_step script h (marked a (step_of g)) old (after_take old a) kept (input_sends_nothing a g) refl refl kept.ups (length-set old.trays a _ ∙ kept.trays)
     (λ b b_within shows.
     still_shown old _ b (calls_of b h) _ (inbox script b h) _ shows (input_keeps script b (inbox script b h) a g)
     (own_tray old.trays a b tray_taken (tray_of (calls_of b h) (inbox script b h)) _ (subst (λ (n : ℕ). a < n) (sym kept.trays) within) shows.tray
@@ -94,11 +90,17 @@ kept_take decl script h old a g kept within is =
 
 -- turns
 
-written : (script : Script) (h : List Entry) (old : Inboxes) (a : ℕ) (write : Option Record) → IsKept script h old → IsKept script (h ++ by a (wrote write)) old
-written script h old a None kept = subst (λ (x : List Entry). IsKept script x old) (sym (append-nil h)) kept
-written script h old a (Some record_) kept = kept_step script h (marked a (Wrote record_)) old old kept refl refl refl kept.trays (λ b within shows. shows_along old b _ _ _ _ refl (sym (wrote_up b (inbox script b h) a shows.up)) shows)
+written : (script : Script) (h : List Entry) (old : Inboxes) (a : ℕ) (write : Option Record) → IsKept script h old → MayWrite (is_up old.up a) write → IsKept script (h ++ by a (wrote write)) old
+written script h old a None kept may = subst (λ (x : List Entry). IsKept script x old) (sym (append-nil h)) kept
+written script h old a (Some record_) kept may =
+    kept_step script h (marked a (Wrote record_)) old old kept refl refl refl kept.ups kept.trays
+    (λ b within shows. shows_along old b _ _ _ _ refl (sym (same_inbox b (inbox script b h) shows)) shows)
+  where
+    same_inbox : (b : ℕ) (i : Inbox) → Shows old b (calls_of b h) i → wrote_record b i a ≡ i
+    same_inbox b i shows =
+        ap (λ (t : Bool). if t then i else control_acted b (record i { up = set i.up a true })) (ap (λ (up : List Bool). is_up up a) shows.up ∙ may)
 
-sent : (script : Script) (h : List Entry) (old : Inboxes) (a : ℕ) (ps : List Posting) → IsKept script h old → a < most_actors → Every (λ (p : Posting). p.to < most_actors) ps
+pub sent : (script : Script) (h : List Entry) (old : Inboxes) (a : ℕ) (ps : List Posting) → IsKept script h old → a < most_actors → Every (λ (p : Posting). p.to < most_actors) ps
     → IsKept script (h ++ by a (sents old.counts.all ps)) (after_sends old a ps)
 sent script h old a [] kept within receivers = subst (λ (x : List Entry). IsKept script x old) (sym (append-nil h)) kept
 sent script h old a (p ∷ ps) kept within receivers =
@@ -106,10 +108,10 @@ sent script h old a (p ∷ ps) kept within receivers =
     (append_assoc h (marked a (Sent old.counts.all p.to p.message) ∷ []) (by a (sents (old.counts.all + 1) ps)))
     (sent script (h ++ marked a (Sent old.counts.all p.to p.message) ∷ []) (after_send old a p) a ps (kept_send script h old a p kept within receivers.0) within receivers.1)
 
-replied : (script : Script) (h : List Entry) (old : Inboxes) (a : ℕ) (reply : Option Reply) → IsKept script h old → a < most_actors → IsKept script (h ++ by a (told reply)) (after_reply old a reply)
+pub replied : (script : Script) (h : List Entry) (old : Inboxes) (a : ℕ) (reply : Option Reply) → IsKept script h old → a < most_actors → IsKept script (h ++ by a (told reply)) (after_reply old a reply)
 replied script h old a None kept within = subst (λ (x : List Entry). IsKept script x old) (sym (append-nil h)) kept
 replied script h old a (Some reply) kept within =
-    kept_step script h (marked a (Told reply)) old (after_reply old a (Some reply)) kept refl refl refl (length-set old.trays a _ ∙ kept.trays)
+    kept_step script h (marked a (Told reply)) old (after_reply old a (Some reply)) kept refl refl refl kept.ups (length-set old.trays a _ ∙ kept.trays)
     (λ b b_within shows.
     still_shown old _ b (calls_of b h) (calls_of b h) (inbox script b h) _ shows
     (by_test (Keeps (inbox script b h)) (a == b) (reply_told (inbox script b h)) (inbox script b h) (record { cuts = refl; up = refl; controls = refl; from_each = refl; to_each = refl }) (same (inbox script b h)))
@@ -118,12 +120,13 @@ replied script h old a (Some reply) kept within =
     (λ other. sym (ap (λ (t : Bool). tray_of (calls_of b h) (if t then reply_told (inbox script b h) else inbox script b h)) other))))
 
 pub kept_turn : (script : Script) (h : List Entry) (old : Inboxes) (a : ℕ) (turn : Turn) → IsKept script h old → a < most_actors → Every (λ (p : Posting). p.to < most_actors) turn.sends
+    → MayWrite (is_up old.up a) turn.write
     → IsKept script (h ++ by a (posted (length (mail h)) turn)) (after_turn old a turn)
-kept_turn script h old a turn kept within receivers =
+kept_turn script h old a turn kept within receivers may =
     subst (λ (n : ℕ). IsKept script (h ++ by a (posted n turn)) (after_turn old a turn)) kept.sent
     (subst (λ (x : List Entry). IsKept script x (after_turn old a turn)) whole
     (replied script ((h ++ by a (wrote turn.write)) ++ by a (sents old.counts.all turn.sends)) (after_sends old a turn.sends) a turn.told
-    (sent script (h ++ by a (wrote turn.write)) old a turn.sends (written script h old a turn.write kept) within receivers) within))
+    (sent script (h ++ by a (wrote turn.write)) old a turn.sends (written script h old a turn.write kept may) within receivers) within))
   where
     whole : ((h ++ by a (wrote turn.write)) ++ by a (sents old.counts.all turn.sends)) ++ by a (told turn.told) ≡ h ++ by a (posted old.counts.all turn)
     whole =

@@ -1,5 +1,5 @@
 -- What the laws of runs with falls say, from what stands at each event.
-use Rattle.std.proofs.Common.{◌≡◌, ℕ, ◌<◌, ◌≤◌, ◌∙◌, ◌&&◌, Bool, true, false, not, cond, List, [], ◌∷◌, Some, None, refl, ap, subst, arith}
+use Rattle.std.proofs.Common.{◌≡◌, ℕ, ◌<◌, ◌≤◌, ◌∙◌, ◌&&◌, Bool, true, false, not, cond, List, [], ◌∷◌, Option, Some, None, refl, ap, sym, subst, arith}
 use Rattle.std.specs.Prelude.{slice_get}
 use Rattle.qc_decl.specs.Actors.{actors}
 use Rattle.qc_decl.specs.declared.declaration.Declaration.{Declaration}
@@ -12,15 +12,22 @@ use Rattle.qc_msg.specs.declared.step.Control.TheVariants as controls
 use Rattle.qc_msg.specs.declared.step.Given.{Given}
 use Rattle.qc_msg.specs.declared.step.Given.TheVariants as given
 use Rattle.qc_msg.specs.declared.turn.Turn.{Turn}
+use Rattle.qc_msg.specs.declared.turn.Appended.{Appended}
+use Rattle.qc_msg.specs.declared.turn.Appended.TheVariants.{Done, Failed, Stopped}
 use Rattle.qc_msg.specs.Deeds.{Deed, deeds}
-use Rattle.qc_msg.specs.Steps.{Entry}
+use Rattle.qc_msg.specs.Steps.{Entry, MayEnd}
 use Rattle.qc_script.specs.Inbox.{Inbox, inbox, is_up}
 use Rattle.qc_script.specs.Ready.{after_controls, command_in, controls_left, first_command, first_copy, first_lost, ready, takes_commands}
+use Rattle.qc_script.specs.Runs.{Runs}
 use Rattle.qc_script.specs.RunsWithFalls.{RunsWithFalls}
 use Rattle.qc_script.specs.declared.script.Script.{Script}
 use Rattle.qc_inbox.specs.Downs.{IsCommand, IsEmptied, TellsWhereDown, is_down}
+use Rattle.qc_inbox.specs.Inboxes.{Inboxes}
+use Rattle.qc_inbox.specs.Kept.{IsKept, MayPost, MayWrite}
+use Rattle.qc_script.proofs.AllUp.{actor_up}
 use Rattle.qc_inbox.proofs.Apart.{one_controls}
 use Rattle.qc_inbox.proofs.FallRuns.{run_stands}
+use Rattle.qc_inbox.proofs.FallTrays.{up_kept}
 use Rattle.qc_inbox.proofs.Lined.{Lined, run_lined}
 use Rattle.qc_inbox.proofs.Standing.{ClosedWhile, IsSettled, Stands}
 
@@ -74,3 +81,39 @@ module _ (lawful : ℕ → List Deed → Turn → Type 0) (fits : ℕ → List R
   pub down_commanded : (a : ℕ) → a < most_actors → is_down (deeds a [] h) ≡ true → (g : Given) → ready decl script a h ≡ Some g → IsCommand g
   down_commanded a within down g is =
       commanded decl a (inbox script a h) (inbox script a h).controls (inbox script a h).copies (inbox script a h).lost g (down_emptied a within down).copies (down_emptied a within down).lost is
+
+-- who posts is up, or its turn has no record
+
+writes_up : (up : Bool) (w : Option Record) → up ≡ true → MayWrite up w
+writes_up up None is = tt
+writes_up up (Some written) is = is
+
+pub up_posts : (up : Bool) (end : Appended) (w : Option Record) → up ≡ true → MayPost up end w
+up_posts up Done w is = writes_up up w is
+up_posts up Failed w is = is
+up_posts up Stopped w is = is
+
+silent_posts : (up : Bool) (end : Appended) (w : Option Record) → w ≡ None → MayEnd w end → MayPost up end w
+silent_posts up Done None none may = tt
+silent_posts up Failed None none may = absurd may
+silent_posts up Stopped None none may = absurd may
+silent_posts up end (Some w) none may = absurd (let never : ⊥ = cc in never)
+
+pub may_post : (lawful : ℕ → List Deed → Turn → Type 0) (fits : ℕ → List Record → Type 0) (decl : Declaration) (script : Script) (h : List Entry) (open_inputs : List Bool) (kept : Inboxes)
+    → actors decl ≤ most_actors → TellsWhereDown lawful → RunsWithFalls lawful fits decl script h open_inputs → IsKept script h kept
+    → (a : ℕ) (turn : Turn) → a < most_actors → lawful a (deeds a [] h) turn → MayPost (is_up kept.up a) turn.append turn.write
+may_post lawful fits decl script h open_inputs kept few tells run is a turn within law = by (is_down (deeds a [] h)) refl
+  where
+    tie : is_up kept.up a ≡ not (is_down (deeds a [] h))
+    tie = ap (λ (up : List Bool). is_up up a) (sym (up_kept script h kept a is within)) ∙ up_by_deeds lawful fits decl script h open_inputs few tells run a a within within
+
+    by : (t : Bool) → is_down (deeds a [] h) ≡ t → MayPost (is_up kept.up a) turn.append turn.write
+    by true down = silent_posts (is_up kept.up a) turn.append turn.write (tells.writes_none a (deeds a [] h) turn law down) (tells.ends a (deeds a [] h) turn law)
+    by false up = up_posts (is_up kept.up a) turn.append turn.write (tie ∙ ap not up)
+
+-- in a run without falls everybody is
+pub all_up : (lawful : ℕ → List Deed → Turn → Type 0) (decl : Declaration) (script : Script) (h : List Entry) (open_inputs : List Bool) (kept : Inboxes) (a : ℕ)
+    → Runs lawful decl script h open_inputs → IsKept script h kept → is_up kept.up a ≡ true
+all_up lawful decl script h open_inputs kept a run is =
+    ap (λ (up : List Bool). is_up up a) (sym (up_kept script h kept 0 is (omega arith)))
+    ∙ actor_up lawful decl script h open_inputs 0 a run

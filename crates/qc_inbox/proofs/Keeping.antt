@@ -13,7 +13,6 @@ use Rattle.qc_msg.specs.declared.turn.Posting.{Posting}
 use Rattle.qc_msg.specs.Deeds.{envelope_of, mail}
 use Rattle.qc_msg.specs.Steps.{Entry, marked}
 use Rattle.qc_script.specs.Inbox.{Inbox, comes, empty_inbox, goes, inbox, inbox_at}
-use Rattle.qc_script.specs.Steady.{LeavesAllUp}
 use Rattle.qc_script.specs.declared.script.Script.{Script}
 use Rattle.qc_inbox.specs.Inboxes.{Inboxes}
 use Rattle.qc_inbox.specs.Kept.{AreBetweenActors, AreNumbered, IsKept, Shows}
@@ -57,17 +56,17 @@ same_mail h e none = mail_after h e ∙ (ap (λ (ms : List Envelope). mail h ++ 
 
 -- a step that sends nothing
 pub kept_step : (script : Script) (h : List Entry) (e : Entry) (old new : Inboxes) → IsKept script h old → envelope_of e ≡ None
-    → new.links ≡ old.links → new.counts ≡ old.counts → length new.trays ≡ most_actors
+    → new.links ≡ old.links → new.counts ≡ old.counts → length new.up ≡ most_actors → length new.trays ≡ most_actors
     → ((a : ℕ) → a < most_actors → Shows old a (calls_of a h) (inbox script a h)
     → Shows new a (calls_at a (calls_of a h) e.actor e.step) (inbox_at script a (inbox script a h) e.actor e.step))
     → IsKept script (h ++ e ∷ []) new
-kept_step script h e old new kept none links counts trays each = record {
+kept_step script h e old new kept none links counts ups trays each = record {
   links = links ∙ kept.links;
-  steady = kept.steady;
   sent = ap (λ (t : Tally). t.all) counts ∙ (kept.sent ∙ ap (λ (ms : List Envelope). length ms) (sym (same_mail h e none)));
   numbered = subst AreNumbered (sym (same_mail h e none)) kept.numbered;
   ends = subst AreBetweenActors (sym (same_mail h e none)) kept.ends;
   counts = ap (λ (t : Tally). length t.each) counts ∙ kept.counts;
+  ups = ups;
   trays = trays;
   inboxes = λ a within. after_entry script h e new a (each a within (kept.inboxes a within));
 }
@@ -100,7 +99,6 @@ pub kept_send : (script : Script) (h : List Entry) (old : Inboxes) (from : ℕ) 
     → IsKept script (h ++ marked from (Sent old.counts.all p.to p.message) ∷ []) (after_send old from p)
 kept_send script h old from p kept from_within to_within = record {
   links = kept.links;
-  steady = kept.steady;
   sent =
       ap (λ (n : ℕ). n + 1) kept.sent
       ∙ sym (ap (λ (ms : List Envelope). length ms) (mail_after h sends) ∙ length-append (mail h) (mail (sends ∷ [])));
@@ -108,6 +106,7 @@ kept_send script h old from p kept from_within to_within = record {
   ends = subst AreBetweenActors (sym (mail_after h sends))
       (every-append (λ (e : Envelope). (e.from < most_actors) × (e.to < most_actors)) (mail h) (record { number = old.counts.all; from = from; to = p.to; message = p.message } ∷ []) kept.ends ((from_within, to_within), tt));
   counts = length-set old.counts.each _ _ ∙ kept.counts;
+  ups = kept.ups;
   trays = length-set _ from _ ∙ (length-set old.trays p.to _ ∙ kept.trays);
   inboxes = λ a within. after_entry script h sends (after_send old from p) a
       (subst (λ (links : List Link). Shows (after_send old from p) a (calls_of a h)
@@ -120,19 +119,18 @@ kept_send script h old from p kept from_within to_within = record {
     sends = marked from (Sent old.counts.all p.to p.message)
 
 -- before the first step
-pub kept_begins : (script : Script) → LeavesAllUp script → IsKept script [] (empty_inboxes script)
-kept_begins script steady = record {
+pub kept_begins : (script : Script) → IsKept script [] (empty_inboxes script)
+kept_begins script = record {
   links = refl;
-  steady = steady;
   sent = refl;
   numbered = λ n e found. absurd (let never : ⊥ = cc in never);
   ends = tt;
   counts = refl;
+  ups = refl;
   trays = refl;
   inboxes = λ a within. record {
     cuts = refl;
     up = refl;
-    steady = tt;
     controls = refl;
     from_each = λ b b_within. get_or-replicate most_actors b 0 0 b_within ∙ sym (get_or-replicate (most_actors * most_actors) (place b a) 0 0 (place_within b a b_within within));
     to_each = λ b b_within. get_or-replicate most_actors b 0 0 b_within ∙ sym (get_or-replicate (most_actors * most_actors) (place a b) 0 0 (place_within a b within b_within));

@@ -7,6 +7,7 @@ pub mod Keeping
 pub mod Acting
 pub mod Seeing
 pub mod Controlling
+pub mod FallTrays
 pub mod Picking
 pub mod Among
 pub mod Bounds

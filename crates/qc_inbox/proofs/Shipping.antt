@@ -6,11 +6,7 @@ use Rattle.qc_link.specs.Fate.{fate}
 use Rattle.qc_link.specs.declared.rule.Fate.{Fate}
 use Rattle.qc_msg.specs.declared.message.Envelope.{Envelope}
 use Rattle.qc_msg.specs.declared.turn.Posting.{Posting}
-use Rattle.qc_script.specs.Inbox.{Inbox, comes, comes_with, count_of, goes, everybody, goes_with, is_up, one_more}
-use Rattle.qc_script.specs.Steady.{LeavesUp}
-use Rattle.qc_script.proofs.AllUp.{is_up-everybody}
-use Rattle.qc_msg.specs.declared.step.Control.{Control}
-use Rattle.std.specs.List.{AllByRecursion as Every}
+use Rattle.qc_script.specs.Inbox.{Inbox, comes, comes_with, count_of, goes, goes_with, is_up, one_more}
 use Rattle.qc_inbox.specs.Inboxes.{Inboxes, Tray}
 use Rattle.qc_inbox.specs.Kept.{Shows, tray_of}
 use Rattle.qc_inbox.specs.Rooms.{after_send, tray_at, with_coming, with_going}
@@ -34,9 +30,9 @@ tray_set trays k a t within = at_set trays k a t empty_tray within
 -- the tray of an actor to which it may come
 
 coming_tray : (kept : Inboxes) (a calls : ℕ) (i : Inbox) (from : ℕ) (p : Posting) (n : ℕ) → Shows kept a calls i → from < most_actors → p.to < length kept.trays
-    → tray_at (with_coming kept.trays p.to n p.message (fate_in kept from p)) a ≡ tray_of calls (comes kept.links a i (envelope n from p))
+    → tray_at (with_coming (is_up kept.up p.to) kept.trays p.to n p.message (fate_in kept from p)) a ≡ tray_of calls (comes kept.links a i (envelope n from p))
 coming_tray kept a calls i from p n shows from_within within =
-    tray_set kept.trays p.to a (tray_comes (tray_at kept.trays p.to) n p.message (fate_in kept from p)) within ∙ by (p.to == a) refl
+    tray_set kept.trays p.to a (tray_comes (is_up kept.up p.to) (tray_at kept.trays p.to) n p.message (fate_in kept from p)) within ∙ by (p.to == a) refl
   where
     one : p.to ≡ a → fate_in kept from p ≡ fate kept.links i.cuts from p.to (count_of i.from_each from + 1)
     one here =
@@ -45,24 +41,24 @@ coming_tray kept a calls i from p n shows from_within within =
         ∙ ap (λ (k : ℕ). fate kept.links i.cuts from p.to (k + 1)) (sym (shows.from_each from from_within))
 
     by : (t : Bool) → (p.to == a) ≡ t
-        → (if t then tray_comes (tray_at kept.trays p.to) n p.message (fate_in kept from p) else tray_at kept.trays a)
+        → (if t then tray_comes (is_up kept.up p.to) (tray_at kept.trays p.to) n p.message (fate_in kept from p) else tray_at kept.trays a)
         ≡ tray_of calls (if t then comes_with (is_up i.up a) i (envelope n from p) (fate kept.links i.cuts from p.to (count_of i.from_each from + 1)) else i)
     by true is =
         let here : p.to ≡ a = eqb-true p.to a is in
-        ap (λ (k : ℕ). tray_comes (tray_at kept.trays k) n p.message (fate_in kept from p)) here
-        ∙ ap (λ (t : Tray). tray_comes t n p.message (fate_in kept from p)) shows.tray
-        ∙ ap (λ (f : Fate). tray_comes (tray_of calls i) n p.message f) (one here)
-        ∙ sym (comes_shown calls i (envelope n from p) (fate kept.links i.cuts from p.to (count_of i.from_each from + 1)))
-        ∙ ap (λ (t : Bool). tray_of calls (comes_with t i (envelope n from p) (fate kept.links i.cuts from p.to (count_of i.from_each from + 1)))) (sym (is_up-everybody i.up a shows.up))
+        ap (λ (k : ℕ). tray_comes (is_up kept.up k) (tray_at kept.trays k) n p.message (fate_in kept from p)) here
+        ∙ ap (λ (t : Tray). tray_comes (is_up kept.up a) t n p.message (fate_in kept from p)) shows.tray
+        ∙ ap (λ (up : List Bool). tray_comes (is_up up a) (tray_of calls i) n p.message (fate_in kept from p)) (sym shows.up)
+        ∙ ap (λ (f : Fate). tray_comes (is_up i.up a) (tray_of calls i) n p.message f) (one here)
+        ∙ sym (comes_shown calls (is_up i.up a) i (envelope n from p) (fate kept.links i.cuts from p.to (count_of i.from_each from + 1)))
     by false is = shows.tray
 
 -- the tray of an actor from which it may go
 
 going_tray : (kept : Inboxes) (trays : List Tray) (a calls : ℕ) (j : Inbox) (from : ℕ) (p : Posting) (n : ℕ) → tray_at trays a ≡ tray_of calls j
-    → j.cuts ≡ kept.cuts → j.up ≡ everybody → count_of j.to_each p.to ≡ count kept.counts a p.to → from < length trays
-    → tray_at (with_going trays from n p.message (fate_in kept from p)) a ≡ tray_of calls (goes kept.links a j (envelope n from p))
+    → j.cuts ≡ kept.cuts → j.up ≡ kept.up → count_of j.to_each p.to ≡ count kept.counts a p.to → from < length trays
+    → tray_at (with_going (is_up kept.up p.to) trays from n p.to p.message (fate_in kept from p)) a ≡ tray_of calls (goes kept.links a j (envelope n from p))
 going_tray kept trays a calls j from p n shown cuts up counted within =
-    tray_set trays from a (tray_goes (tray_at trays from) n p.message (fate_in kept from p)) within ∙ by (from == a) refl
+    tray_set trays from a (tray_goes (is_up kept.up p.to) (tray_at trays from) n p.to p.message (fate_in kept from p)) within ∙ by (from == a) refl
   where
     one : from ≡ a → fate_in kept from p ≡ fate kept.links j.cuts from p.to (count_of j.to_each p.to + 1)
     one here =
@@ -71,14 +67,15 @@ going_tray kept trays a calls j from p n shown cuts up counted within =
         ∙ ap (λ (k : ℕ). fate kept.links j.cuts from p.to (k + 1)) (sym counted)
 
     by : (t : Bool) → (from == a) ≡ t
-        → (if t then tray_goes (tray_at trays from) n p.message (fate_in kept from p) else tray_at trays a)
+        → (if t then tray_goes (is_up kept.up p.to) (tray_at trays from) n p.to p.message (fate_in kept from p) else tray_at trays a)
         ≡ tray_of calls (if t then goes_with j (envelope n from p) (fate kept.links j.cuts from p.to (count_of j.to_each p.to + 1)) else j)
     by true is =
         let here : from ≡ a = eqb-true from a is in
-        ap (λ (k : ℕ). tray_goes (tray_at trays k) n p.message (fate_in kept from p)) here
-        ∙ ap (λ (t : Tray). tray_goes t n p.message (fate_in kept from p)) shown
-        ∙ ap (λ (f : Fate). tray_goes (tray_of calls j) n p.message f) (one here)
-        ∙ sym (goes_shown calls j (envelope n from p) (fate kept.links j.cuts from p.to (count_of j.to_each p.to + 1)) (is_up-everybody j.up p.to up))
+        ap (λ (k : ℕ). tray_goes (is_up kept.up p.to) (tray_at trays k) n p.to p.message (fate_in kept from p)) here
+        ∙ ap (λ (t : Tray). tray_goes (is_up kept.up p.to) t n p.to p.message (fate_in kept from p)) shown
+        ∙ ap (λ (v : List Bool). tray_goes (is_up v p.to) (tray_of calls j) n p.to p.message (fate_in kept from p)) (sym up)
+        ∙ ap (λ (f : Fate). tray_goes (is_up j.up p.to) (tray_of calls j) n p.to p.message f) (one here)
+        ∙ sym (goes_shown calls j (envelope n from p) (fate kept.links j.cuts from p.to (count_of j.to_each p.to + 1)))
     by false is = shown
 
 -- counts
@@ -110,7 +107,6 @@ pub sending_shown : (kept : Inboxes) (a calls : ℕ) (i : Inbox) (from : ℕ) (p
 sending_shown kept a calls i from p shows a_within from_within to_within long counted = record {
   cuts = all.cuts ∙ shows.cuts;
   up = all.up ∙ shows.up;
-  steady = subst (λ (cs : List Control). Every LeavesUp cs) (sym all.controls) shows.steady;
   controls = all.controls ∙ shows.controls;
   from_each = λ b b_within.
       ap (λ (xs : List ℕ). count_of xs b) all.from_each
@@ -126,7 +122,7 @@ sending_shown kept a calls i from p shows a_within from_within to_within long co
       ∙ sym (count_more kept.counts from p.to a b counted from_within to_within b_within))));
   from_length = ap (λ (xs : List ℕ). length xs) all.from_each ∙ length_if (p.to == a) i.from_each from shows.from_length;
   to_length = ap (λ (xs : List ℕ). length xs) all.to_each ∙ length_if (from == a) i.to_each p.to shows.to_length;
-  tray = going_tray kept (with_coming kept.trays p.to kept.counts.all p.message (fate_in kept from p)) a calls (comes kept.links a i (envelope kept.counts.all from p)) from p kept.counts.all
+  tray = going_tray kept (with_coming (is_up kept.up p.to) kept.trays p.to kept.counts.all p.message (fate_in kept from p)) a calls (comes kept.links a i (envelope kept.counts.all from p)) from p kept.counts.all
       (coming_tray kept a calls i from p kept.counts.all shows from_within (subst (λ (k : ℕ). p.to < k) (sym long) to_within))
       (first.cuts ∙ shows.cuts)
       (first.up ∙ shows.up)

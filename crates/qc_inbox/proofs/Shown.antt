@@ -7,8 +7,7 @@ use Rattle.qc_msg.specs.declared.message.Envelope.{Envelope}
 use Rattle.qc_msg.specs.declared.message.Message.{Message}
 use Rattle.qc_msg.specs.declared.message.Message.TheVariants as messages
 use Rattle.qc_script.specs.Inbox.{Inbox, answers_by, comes_at_once, comes_with, goes_with, is_request, is_up, one_more, request_answered, request_sent, with_copies}
-use Rattle.qc_script.specs.Requests.{SentRequest, has_request, request_numbers, with_number, without_number, without_request}
-use Rattle.qc_script.proofs.Requests.{has-numbers, without-numbers}
+use Rattle.qc_script.specs.Requests.{has_request, with_number, without_request}
 use Rattle.qc_inbox.specs.Inboxes.{Tray}
 use Rattle.qc_inbox.specs.Kept.{numbers_of, tray_of}
 use Rattle.qc_inbox.specs.Trays.{tray_answered, tray_answered_by, tray_asks, tray_comes, tray_goes, tray_lost_unless, tray_with_copies}
@@ -24,27 +23,30 @@ numbers-none es = ap (λ (x : List Envelope). numbers_of x) (append-nil es)
 numbers-two : (es : List Envelope) (e : Envelope) → numbers_of (es ++ e ∷ e ∷ []) ≡ (numbers_of es ++ e.number ∷ []) ++ e.number ∷ []
 numbers-two es e = numbers-append es (e ∷ e ∷ []) ∙ sym (append_assoc (numbers_of es) (e.number ∷ []) (e.number ∷ []))
 
-copies_shown : (calls : ℕ) (i : Inbox) (e : Envelope) (f : Fate) → tray_of calls (with_copies true i e f) ≡ tray_with_copies (tray_of calls i) e.number f
-copies_shown calls i e Pass = λ j. record (tray_of calls i) { copies = numbers-append i.copies (e ∷ []) j; late = numbers-none i.late j }
-copies_shown calls i e Drop = λ j. record (tray_of calls i) { copies = numbers-none i.copies j; late = numbers-none i.late j }
-copies_shown calls i e Twice = λ j. record (tray_of calls i) { copies = numbers-two i.copies e j; late = numbers-none i.late j }
-copies_shown calls i e Late = λ j. record (tray_of calls i) { copies = numbers-none i.copies j; late = numbers-append i.late (e ∷ []) j }
-copies_shown calls i e Again = λ j. record (tray_of calls i) { copies = numbers-append i.copies (e ∷ []) j; late = numbers-append i.late (e ∷ []) j }
+copies_shown : (calls : ℕ) (up : Bool) (i : Inbox) (e : Envelope) (f : Fate) → tray_of calls (with_copies up i e f) ≡ tray_with_copies up (tray_of calls i) e.number f
+copies_shown calls true i e Pass = λ j. record (tray_of calls i) { copies = numbers-append i.copies (e ∷ []) j; late = numbers-none i.late j }
+copies_shown calls true i e Drop = λ j. record (tray_of calls i) { copies = numbers-none i.copies j; late = numbers-none i.late j }
+copies_shown calls true i e Twice = λ j. record (tray_of calls i) { copies = numbers-two i.copies e j; late = numbers-none i.late j }
+copies_shown calls true i e Late = λ j. record (tray_of calls i) { copies = numbers-none i.copies j; late = numbers-append i.late (e ∷ []) j }
+copies_shown calls true i e Again = λ j. record (tray_of calls i) { copies = numbers-append i.copies (e ∷ []) j; late = numbers-append i.late (e ∷ []) j }
+copies_shown calls false i e Pass = λ j. record (tray_of calls i) { copies = numbers-none i.copies j; late = numbers-none i.late j }
+copies_shown calls false i e Drop = λ j. record (tray_of calls i) { copies = numbers-none i.copies j; late = numbers-none i.late j }
+copies_shown calls false i e Twice = λ j. record (tray_of calls i) { copies = numbers-none i.copies j; late = numbers-none i.late j }
+copies_shown calls false i e Late = λ j. record (tray_of calls i) { copies = numbers-none i.copies j; late = numbers-append i.late (e ∷ []) j }
+copies_shown calls false i e Again = λ j. record (tray_of calls i) { copies = numbers-none i.copies j; late = numbers-append i.late (e ∷ []) j }
 
 answered_shown : (calls : ℕ) (i : Inbox) (number : ℕ) (f : Fate) → tray_of calls (request_answered i number f) ≡ tray_answered (tray_of calls i) number f
-answered_shown calls i number f =
-    by (has_request i.unanswered number)
-    ∙ ap (λ (t : Bool). if t then tray_lost_unless (comes_at_once f) (record (tray_of calls i) { unanswered = without_number (request_numbers i.unanswered) number }) number else tray_of calls i) (has-numbers i.unanswered number)
+answered_shown calls i number f = by (has_request i.unanswered number)
   where
     lost : (t : Bool)
         → tray_of calls (record i { unanswered = without_request i.unanswered number; lost = if t then i.lost else with_number i.lost number })
-        ≡ tray_lost_unless t (record (tray_of calls i) { unanswered = without_number (request_numbers i.unanswered) number }) number
-    lost true = λ j. record (tray_of calls i) { unanswered = without-numbers i.unanswered number j }
-    lost false = λ j. record (tray_of calls i) { unanswered = without-numbers i.unanswered number j; lost = with_number i.lost number }
+        ≡ tray_lost_unless t (record (tray_of calls i) { unanswered = without_request i.unanswered number }) number
+    lost true = refl
+    lost false = refl
 
     by : (t : Bool)
         → tray_of calls (if t then record i { unanswered = without_request i.unanswered number; lost = if comes_at_once f then i.lost else with_number i.lost number } else i)
-        ≡ (if t then tray_lost_unless (comes_at_once f) (record (tray_of calls i) { unanswered = without_number (request_numbers i.unanswered) number }) number else tray_of calls i)
+        ≡ (if t then tray_lost_unless (comes_at_once f) (record (tray_of calls i) { unanswered = without_request i.unanswered number }) number else tray_of calls i)
     by true = lost (comes_at_once f)
     by false = refl
 
@@ -57,24 +59,22 @@ answers_shown calls i (messages.Ask tx) f = refl
 answers_shown calls i (messages.Close epoch) f = refl
 answers_shown calls i (messages.Install epoch clock log) f = refl
 
-pub comes_shown : (calls : ℕ) (i : Inbox) (e : Envelope) (f : Fate) → tray_of calls (comes_with true i e f) ≡ tray_comes (tray_of calls i) e.number e.message f
-comes_shown calls i e f =
-    answers_shown calls (with_copies true i e f) e.message f
-    ∙ ap (λ (t : Tray). tray_answered_by t e.message f) (copies_shown calls i e f)
+pub comes_shown : (calls : ℕ) (up : Bool) (i : Inbox) (e : Envelope) (f : Fate) → tray_of calls (comes_with up i e f) ≡ tray_comes up (tray_of calls i) e.number e.message f
+comes_shown calls up i e f =
+    answers_shown calls (with_copies up i e f) e.message f
+    ∙ ap (λ (t : Tray). tray_answered_by t e.message f) (copies_shown calls up i e f)
 
-sent_shown : (calls : ℕ) (i : Inbox) (to_now : List ℕ) (number to : ℕ) (t : Bool)
-    → tray_of calls (if t && true then record i { to_each = to_now; unanswered = i.unanswered ++ record { number = number; to = to } ∷ [] } else record i { to_each = to_now; lost = with_number i.lost number })
-    ≡ tray_asks t (tray_of calls i) number
-sent_shown calls i to_now number to true = λ j. record (tray_of calls i) { unanswered = map-append (λ (r : SentRequest). r.number) i.unanswered (record { number = number; to = to } ∷ []) j }
-sent_shown calls i to_now number to false = refl
-
-pub goes_shown : (calls : ℕ) (i : Inbox) (e : Envelope) (f : Fate) → is_up i.up e.to ≡ true → tray_of calls (goes_with i e f) ≡ tray_goes (tray_of calls i) e.number e.message f
-goes_shown calls i e f up = by (is_request e.message)
+pub goes_shown : (calls : ℕ) (i : Inbox) (e : Envelope) (f : Fate) → tray_of calls (goes_with i e f) ≡ tray_goes (is_up i.up e.to) (tray_of calls i) e.number e.to e.message f
+goes_shown calls i e f = by (is_request e.message)
   where
+    asks : (t : Bool)
+        → tray_of calls (if t then record i { to_each = one_more i.to_each e.to; unanswered = i.unanswered ++ record { number = e.number; to = e.to } ∷ [] } else record i { to_each = one_more i.to_each e.to; lost = with_number i.lost e.number })
+        ≡ tray_asks t (tray_of calls i) e.number e.to
+    asks true = refl
+    asks false = refl
+
     by : (t : Bool)
         → tray_of calls (if t then request_sent (record i { to_each = one_more i.to_each e.to }) e.number e.to f else record i { to_each = one_more i.to_each e.to })
-        ≡ (if t then tray_asks (comes_at_once f) (tray_of calls i) e.number else tray_of calls i)
-    by true =
-        ap (λ (t : Bool). tray_of calls (if comes_at_once f && t then record i { to_each = one_more i.to_each e.to; unanswered = i.unanswered ++ record { number = e.number; to = e.to } ∷ [] } else record i { to_each = one_more i.to_each e.to; lost = with_number i.lost e.number })) up
-        ∙ sent_shown calls i (one_more i.to_each e.to) e.number e.to (comes_at_once f)
+        ≡ (if t then tray_asks (comes_at_once f && is_up i.up e.to) (tray_of calls i) e.number e.to else tray_of calls i)
+    by true = asks (comes_at_once f && is_up i.up e.to)
     by false = refl

@@ -3,6 +3,7 @@ use Rattle.std.specs.Prelude.{ℕ, Bool, List}
 use Rattle.qc_link.specs.declared.plan.Link.{Link}
 use Rattle.qc_msg.specs.declared.step.Command.{Command}
 use Rattle.qc_msg.specs.declared.step.Control.{Control}
+use Rattle.qc_script.specs.Requests.{SentRequest}
 use Rattle.qc_inbox.specs.Tallies.{Tally}
 
 -- what waits for one actor, its messages named by their numbers
@@ -13,8 +14,8 @@ pub record Tray : Type 0 where
   pub opening : List ℕ
   -- the late copies that are ready in the next phase
   pub late : List ℕ
-  -- the actor's requests that made a copy at once and have no answer yet
-  pub unanswered : List ℕ
+  -- the actor's requests that made a copy at once and have no answer yet, each with its receiver
+  pub unanswered : List SentRequest
   -- the actor's requests that are lost, ascending
   pub lost : List ℕ
   -- the commands that the actor hasn't called
@@ -29,6 +30,8 @@ pub record Inboxes : Type 0 where
   pub links : List Link
   -- which actors are cut from each other
   pub cuts : List Bool
+  -- by actor, which are up
+  pub up : List Bool
   -- how many messages there were
   pub counts : Tally
   -- the control lines of the phase that haven't acted

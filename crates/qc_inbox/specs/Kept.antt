@@ -1,13 +1,13 @@
--- What is kept of the inboxes is what the history gives. It knows no falls: everybody is up, and the script leaves it
--- so.
-use Rattle.std.specs.Prelude.{◌*◌, ◌≡◌, ℕ, ◌<◌, List, Some, length, map, slice_get}
+-- What is kept of the inboxes is what the history gives, through falls too.
+use Rattle.std.specs.Prelude.{◌*◌, ◌≡◌, ℕ, ◌<◌, Bool, true, List, Option, Some, None, length, map, slice_get}
 use Rattle.std.specs.List.{AllByRecursion as Every}
 use Rattle.qc_msg.specs.declared.message.Envelope.{Envelope}
 use Rattle.qc_msg.specs.Deeds.{mail}
+use Rattle.qc_msg.specs.declared.record.Record.{Record}
+use Rattle.qc_msg.specs.declared.turn.Appended.{Appended}
+use Rattle.qc_msg.specs.declared.turn.Appended.TheVariants.{Done, Failed, Stopped}
 use Rattle.qc_msg.specs.Steps.{Entry}
-use Rattle.qc_script.specs.Inbox.{Inbox, count_of, everybody, inbox}
-use Rattle.qc_script.specs.Requests.{request_numbers}
-use Rattle.qc_script.specs.Steady.{LeavesAllUp, LeavesUp}
+use Rattle.qc_script.specs.Inbox.{Inbox, count_of, inbox}
 use Rattle.qc_script.specs.declared.script.Script.{Script}
 use Rattle.qc_inbox.specs.Inboxes.{Inboxes, Tray}
 use Rattle.qc_inbox.specs.Picks.{calls_of}
@@ -25,7 +25,7 @@ tray_of calls i =
       copies = numbers_of i.copies;
       opening = numbers_of i.opening;
       late = numbers_of i.late;
-      unanswered = request_numbers i.unanswered;
+      unanswered = i.unanswered;
       lost = i.lost;
       commands = i.commands;
       busy = i.busy;
@@ -35,8 +35,7 @@ tray_of calls i =
 -- what is kept shows an inbox of actor a
 pub record Shows (kept : Inboxes) (a calls : ℕ) (i : Inbox) : Type 0 where
   pub cuts : i.cuts ≡ kept.cuts
-  pub up : i.up ≡ everybody
-  pub steady : Every LeavesUp i.controls
+  pub up : i.up ≡ kept.up
   pub controls : i.controls ≡ kept.controls
   -- one table of counts serves senders and receivers
   pub from_each : (b : ℕ) → b < most_actors → count_of i.from_each b ≡ count kept.counts b a
@@ -55,10 +54,21 @@ AreBetweenActors ms = Every (λ (e : Envelope). (e.from < most_actors) × (e.to 
 
 pub record IsKept (script : Script) (h : List Entry) (kept : Inboxes) : Type 0 where
   pub links : kept.links ≡ script.links
-  pub steady : LeavesAllUp script
   pub sent : kept.counts.all ≡ length (mail h)
   pub numbered : AreNumbered (mail h)
   pub ends : AreBetweenActors (mail h)
   pub counts : length kept.counts.each ≡ most_actors * most_actors
+  pub ups : length kept.up ≡ most_actors
   pub trays : length kept.trays ≡ most_actors
   pub inboxes : (a : ℕ) → a < most_actors → Shows kept a (calls_of a h) (inbox script a h)
+
+-- who writes a record is up
+abbrev pub MayWrite : Bool → Option Record → Type 0
+MayWrite up None = Unit {0}
+MayWrite up (Some written) = up ≡ true
+
+-- who posts a turn is up where it has a record, or falls in it
+abbrev pub MayPost : Bool → Appended → Option Record → Type 0
+MayPost up Done write = MayWrite up write
+MayPost up Failed write = up ≡ true
+MayPost up Stopped write = up ≡ true

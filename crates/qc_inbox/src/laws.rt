@@ -18,25 +18,23 @@ ghost use Rattle.qc_msg.specs.declared.step.Step.{Step};
 ghost use Rattle.qc_msg.specs.declared.step.Step.TheVariants.{Phase, Sent, Told};
 ghost use Rattle.qc_msg.specs.declared.turn.Posting.{Posting};
 ghost use Rattle.qc_msg.specs.declared.turn.Turn.{Turn};
-ghost use Rattle.qc_script.specs.Inbox.{count_of, inbox};
-ghost use Rattle.qc_script.specs.Ready.{controls_left, ready, step_of_control};
+ghost use Rattle.qc_script.specs.Inbox.{count_of, inbox, is_up};
+ghost use Rattle.qc_script.specs.Ready.{controller_step, controls_left, ready};
 ghost use Rattle.qc_script.specs.Sound.{IsScriptFor};
-ghost use Rattle.qc_script.specs.Steady.{LeavesAllUp};
 ghost use Rattle.qc_script.specs.declared.script.PhaseLines.{PhaseLines};
 ghost use Rattle.qc_script.specs.declared.script.Script.{Script};
 ghost use Rattle.qc_inbox.specs.Inboxes.{Inboxes};
 ghost use Rattle.qc_inbox.specs.Inputs.{IsWithin, input_in, input_of};
-ghost use Rattle.qc_inbox.specs.Kept.{IsKept};
+ghost use Rattle.qc_inbox.specs.Kept.{IsKept, MayWrite};
 ghost use Rattle.qc_inbox.specs.Picks.{comes_before, is_held, picked, rank_at};
 ghost use Rattle.qc_inbox.specs.PicksKept.{picked_in};
 ghost use Rattle.qc_inbox.specs.Rooms.{after_control, after_phase, after_take, after_turn, empty_inboxes, tray_at};
 ghost use Rattle.qc_inbox.specs.declared.input.Rank.{Rank};
 ghost use Rattle.qc_link.specs.Limits.{most_actors};
 
-/// Before the first step, nothing waits for anybody. What is kept knows no falls:
-/// nobody is crashed or restarted by the script.
+/// Before the first step, nothing waits for anybody, and everybody is up.
 pub fn new_trays_are_kept()
-    ensures { (script : Script) → LeavesAllUp script → IsKept script [] (empty_inboxes script) }
+    ensures { (script : Script) → IsKept script [] (empty_inboxes script) }
 {}
 
 /// What is ready is what the trays show.
@@ -52,10 +50,12 @@ pub fn inputs_keep_trays()
         → IsKept script (h ++ marked a (step_of given) ∷ []) (after_take kept a) }
 {}
 
-/// So does an actor's turn, whose messages have the next numbers.
+/// So does an actor's turn, whose messages have the next numbers. Who writes a
+/// record is up.
 pub fn turns_keep_trays()
     ensures { (script : Script) (h : List Entry) (kept : Inboxes) (a : ℕ) (turn : Turn)
         → IsKept script h kept → a < most_actors → Every (λ (p : Posting). p.to < most_actors) turn.sends
+        → MayWrite (is_up kept.up a) turn.write
         → IsKept script (h ++ by a (posted (length (mail h)) turn)) (after_turn kept a turn) }
 {}
 
@@ -66,10 +66,10 @@ pub fn phases_keep_trays()
         → IsKept script (h ++ marked controller (Phase (n + 1)) ∷ []) (after_phase kept phase) }
 {}
 
-/// So does a control line that has a step.
+/// So does a control line that is the controller's own: it cuts, heals or arms.
 pub fn controls_keep_trays()
     ensures { (script : Script) (h : List Entry) (kept : Inboxes) (line : Control) (step : Step) (controller : ℕ)
-        → IsKept script h kept → step_of_control line ≡ Some step
+        → IsKept script h kept → controller_step line ≡ Some step
         → IsKept script (h ++ marked controller step ∷ []) (after_control kept line) }
 {}
 

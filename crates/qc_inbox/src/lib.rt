@@ -4,32 +4,41 @@
 //! Beside the history stands, for each actor, a tray: which copies wait, which
 //! of its requests are lost, which commands it is asked. So what is ready next
 //! is known without a look at the history, the script or its rules. `IsKept`
-//! (`specs/Kept.antt`) says that the trays show the inboxes of the history. They
-//! are those of runs without falls: nobody is crashed or restarted by the script,
-//! and everybody is up. What holds:
+//! (`specs/Kept.antt`) says that the trays show the inboxes of the history,
+//! through falls too. What holds:
 //!
 //! 1. Before the first step the trays show the inboxes (`new_trays_are_kept`),
 //!    and each step keeps that: an input that is taken, a turn that is posted, a
 //!    phase that begins, a control line that acts (`inputs_keep_trays`,
 //!    `turns_keep_trays`, `phases_keep_trays`, `controls_keep_trays`).
-//! 2. What the trays show as ready is ready, and where it is a message, that was
+//! 2. So do falls and rises (`src/fall_trays.rt`): a post whose record isn't
+//!    written, a crash, a rise with its turn or in vain, a journal that isn't
+//!    opened or is damaged (`posts_keep_trays`, `falls_by_lines_keep_trays`,
+//!    `rises_keep_trays`, `damaged_journals_keep_trays`). What is kept knows who
+//!    is up (`trays_know_who_is_up`), and who posts is (`lawful_posts_are_of_who_is_up`).
+//! 3. What the trays show as ready is ready, and where it is a message, that was
 //!    sent to the actor and is found under its number
 //!    (`trays_show_what_is_ready`, `ready_messages_were_sent`).
-//! 3. The trays tell who comes next: none just where nothing is ready, else one
+//! 4. The trays tell who comes next: none just where nothing is ready, else one
 //!    that comes before all others (`picks_are_made_by_trays`,
 //!    `who_comes_next_has_something_ready`, `who_comes_next_is_first`).
 //!
-//! Of runs with falls, which no code makes yet, what waits for an actor is known
-//! by laws (`src/falls.rt`). While a control line is left, no input is open and
+//! Of runs with falls, what waits for an actor is known by laws (`src/falls.rt`).
+//! While a control line is left, no input is open and
 //! nothing is ready; the next line crashes an actor that is up, or restarts one
 //! that is down; each inbox knows who is up; nothing waits for who is down but
 //! commands; what is ready was sent, and what is lost is an own request.
 #![tactic(auto)]
 
+mod fall_trays;
 mod falls;
 mod input;
 mod laws;
 
+pub use fall_trays::{
+    damaged_journals_keep_trays, falls_by_lines_keep_trays, lawful_posts_are_of_who_is_up,
+    posts_keep_trays, rises_keep_trays, trays_know_who_is_up,
+};
 pub use falls::{
     inboxes_know_who_is_up, lost_requests_are_own, next_lines_have_something_to_do,
     no_input_is_open_while_a_line_is_left, nothing_is_ready_while_a_line_is_left,

@@ -1,50 +1,50 @@
 -- How the room of mailboxes goes on, where one of them is changed.
-use Rattle.std.proofs.Common.{◌≡◌, ℕ, ◌+◌, ◌<◌, ◌≤◌, List, [], ◌∷◌, ap, sym, ◌∙◌, arith, length, get_or, map, set, subst}
+use Rattle.std.proofs.Common.{◌≡◌, ℕ, ◌+◌, ◌<◌, ◌≤◌, List, ap, sym, ◌∙◌, arith, length, get_or, map, set, subst}
 use Rattle.std.specs.List.{AllByRecursion as Every}
 use Rattle.qc_inbox.specs.Inboxes.{Tray}
 use Rattle.qc_inbox.specs.Rooms.{tray_at}
 use Rattle.qc_inbox.specs.Trays.{empty_tray}
 use Rattle.qc_mailbox.specs.Boxes.{HasRoom, HasUsed, tray}
-use Rattle.qc_mailbox.specs.Phases.{HasOpened, HasOthers, IsPrepared}
-use Rattle.qc_mailbox.specs.Queues.{items, spare}
+use Rattle.qc_mailbox.specs.Phases.{HasOthers, IsPrepared}
+use Rattle.qc_mailbox.specs.Queues.{spare}
 use Rattle.qc_mailbox.specs.declared.mailbox.Mailbox.{Mailbox}
 use Rattle.qc_mailbox.proofs.Each.{every_get, every_less, every_set, every_weaker, map_changed, map_same}
 
 room_left : (used room : ℕ) (old new : Mailbox) → HasUsed used old new → HasRoom (room + used) old → HasRoom room new
 room_left used room old new u r = record {
   copies = omega (arith, u.copies, r.copies);
+  opening = omega (arith, u.opening, r.opening);
   late = omega (arith, u.late, r.late);
   unanswered = omega (arith, u.unanswered, r.unanswered);
   lost = omega (arith, u.lost, r.lost);
 }
 
-room_less : (used room : ℕ) (m : Mailbox) → HasRoom (room + used) m → HasRoom room m
-room_less used room m r = record {
-  copies = omega (arith, r.copies);
-  late = omega (arith, r.late);
-  unanswered = omega (arith, r.unanswered);
-  lost = omega (arith, r.lost);
-}
-
-room_kept : (room : ℕ) (old new : Mailbox) → HasUsed 0 old new → HasRoom room old → HasRoom room new
-room_kept room old new u r = record {
-  copies = omega (arith, u.copies, r.copies);
-  late = omega (arith, u.late, r.late);
-  unanswered = omega (arith, u.unanswered, r.unanswered);
-  lost = omega (arith, u.lost, r.lost);
-}
-
-pub no_room : (boxes : List Mailbox) → Every (HasRoom 0) boxes
-no_room [] = tt {0}
-no_room (m ∷ ms) = (record { copies = omega arith; late = omega arith; unanswered = omega arith; lost = omega arith }, no_room ms)
-
-pub less_room : (more less : ℕ) (boxes : List Mailbox) → less ≤ more → Every (HasRoom more) boxes → Every (HasRoom less) boxes
-less_room more less boxes le all = every_weaker (HasRoom more) (HasRoom less) boxes (λ m r. record {
+weaker : (more few : ℕ) (m : Mailbox) → few ≤ more → HasRoom more m → HasRoom few m
+weaker more few m le r = record {
   copies = omega (arith, le, r.copies);
+  opening = omega (arith, le, r.opening);
   late = omega (arith, le, r.late);
   unanswered = omega (arith, le, r.unanswered);
   lost = omega (arith, le, r.lost);
-}) all
+}
+
+room_less : (used room : ℕ) (m : Mailbox) → HasRoom (room + used) m → HasRoom room m
+room_less used room m r = weaker (room + used) room m (omega arith) r
+
+pub room_kept : (room : ℕ) (old new : Mailbox) → HasUsed 0 old new → HasRoom room old → HasRoom room new
+room_kept room old new u r = record {
+  copies = omega (arith, u.copies, r.copies);
+  opening = omega (arith, u.opening, r.opening);
+  late = omega (arith, u.late, r.late);
+  unanswered = omega (arith, u.unanswered, r.unanswered);
+  lost = omega (arith, u.lost, r.lost);
+}
+
+pub less_room : (more few : ℕ) (boxes : List Mailbox) → few ≤ more → Every (HasRoom more) boxes → Every (HasRoom few) boxes
+less_room more few boxes le all = every_weaker (HasRoom more) (HasRoom few) boxes (λ m r. weaker more few m le r) all
+
+pub some_room : (room : ℕ) (boxes : List Mailbox) → Every (HasRoom room) boxes → Every (HasRoom 0) boxes
+some_room room boxes all = less_room room 0 boxes (omega arith) all
 
 -- one mailbox is changed, and used some of its room
 
@@ -68,34 +68,19 @@ module _ (boxes : List Mailbox) (a : ℕ) (old new : Mailbox) (within : a < leng
 -- phases
 
 pub prepared_less : (room commands : ℕ) (m : Mailbox) → IsPrepared room (commands + 1) m → IsPrepared room commands m
-prepared_less room commands m p = record {
-  copies = p.copies;
-  opening = p.opening;
-  late = p.late;
-  unanswered = p.unanswered;
-  lost = p.lost;
-  commands_fit = omega (arith, p.commands_fit);
-}
+prepared_less room commands m p = record { has_room = p.has_room; commands_fit = omega (arith, p.commands_fit) }
 
-pub prepared_one : (room commands : ℕ) (m : Mailbox) → 0 < commands → IsPrepared room commands m → IsPrepared 0 1 m
-prepared_one room commands m some p = record {
-  copies = omega (arith, p.copies);
-  opening = p.opening;
-  late = omega arith;
-  unanswered = omega arith;
-  lost = omega arith;
-  commands_fit = omega (arith, some, p.commands_fit);
+asked_room : (room : ℕ) (old new : Mailbox) → HasOthers old new → HasRoom room old → HasRoom room new
+asked_room room old new o r = record {
+  copies = rw (o.copies, o.opening, o.late) r.copies;
+  opening = rw (o.opening, o.late) r.opening;
+  late = rw o.late r.late;
+  unanswered = rw o.unanswered r.unanswered;
+  lost = rw (o.lost, o.unanswered) r.lost;
 }
 
 asked_kept : (room commands : ℕ) (old new : Mailbox) → HasOthers old new → spare old.commands ≤ spare new.commands + 1 → IsPrepared room (commands + 1) old → IsPrepared room commands new
-asked_kept room commands old new o le p = record {
-  copies = rw (o.copies, o.opening, o.late) p.copies;
-  opening = rw (o.opening, o.late) p.opening;
-  late = rw o.late p.late;
-  unanswered = rw o.unanswered p.unanswered;
-  lost = rw o.lost p.lost;
-  commands_fit = omega (arith, le, p.commands_fit);
-}
+asked_kept room commands old new o le p = record { has_room = asked_room room old new o p.has_room; commands_fit = omega (arith, le, p.commands_fit) }
 
 pub asked_set : (boxes : List Mailbox) (a : ℕ) (old new : Mailbox) → a < length boxes → old ≡ get_or boxes a old → HasOthers old new → spare old.commands ≤ spare new.commands + 1
     → (room commands : ℕ) → Every (IsPrepared room (commands + 1)) boxes → Every (IsPrepared room commands) (set boxes a new)
@@ -103,28 +88,8 @@ asked_set boxes a old new within is o le room commands all =
     every_less (IsPrepared room (commands + 1)) (IsPrepared room commands) boxes a new (prepared_less room commands)
     (asked_kept room commands old new o le (at boxes a old new within is (IsPrepared room (commands + 1)) all)) all
 
-pub opened_room : (room : ℕ) (old new : Mailbox) → HasOpened (length (items old.opening)) old new → IsPrepared room 0 old → HasRoom room new
-opened_room room old new o p = record {
-  copies = omega (arith, o.copies, p.copies);
-  late = omega (arith, o.late, p.late);
-  unanswered = omega (arith, o.unanswered, p.unanswered);
-  lost = omega (arith, o.lost, p.lost);
-}
+pub prepared_room : (room commands : ℕ) (boxes : List Mailbox) → Every (IsPrepared room commands) boxes → Every (HasRoom room) boxes
+prepared_room room commands boxes all = every_weaker (IsPrepared room commands) (HasRoom room) boxes (λ m p. p.has_room) all
 
-pub begun_room : (room : ℕ) (old new : Mailbox) → HasOpened (length (items old.opening) + length (items old.late)) old new → IsPrepared room 0 old → HasRoom room new
-begun_room room old new o p = record {
-  copies = omega (arith, o.copies, p.copies);
-  late = omega (arith, o.late, p.late);
-  unanswered = omega (arith, o.unanswered, p.unanswered);
-  lost = omega (arith, o.lost, p.lost);
-}
-
-pub prepared_none : (room commands : ℕ) (boxes : List Mailbox) → Every (IsPrepared room commands) boxes → Every (IsPrepared 0 0) boxes
-prepared_none room commands boxes all = every_weaker (IsPrepared room commands) (IsPrepared 0 0) boxes (λ m p. record {
-  copies = omega (arith, p.copies);
-  opening = p.opening;
-  late = omega arith;
-  unanswered = omega arith;
-  lost = omega arith;
-  commands_fit = omega arith;
-}) all
+pub prepared_some : (room commands : ℕ) (boxes : List Mailbox) → 0 < commands → Every (IsPrepared room commands) boxes → Every (IsPrepared 0 1) boxes
+prepared_some room commands boxes some all = every_weaker (IsPrepared room commands) (IsPrepared 0 1) boxes (λ m p. record { has_room = weaker room 0 m (omega arith) p.has_room; commands_fit = omega (arith, some, p.commands_fit) }) all

@@ -16,9 +16,16 @@ pub record Roomy : Type 0 where
   pub inboxes : Inboxes
   pub room : ℕ
 
-abbrev pub shown : List Link → List Bool → Tally → Queue Control → List Mailbox → Inboxes
-shown links cuts counts controls boxes =
-    record { links = links; cuts = cuts; counts = counts; controls = items controls; trays = map tray boxes }
+abbrev pub shown : List Link → List Bool → List Bool → Tally → Queue Control → List Mailbox → Inboxes
+shown links cuts up counts controls boxes =
+    record {
+      links = links;
+      cuts = cuts;
+      up = up;
+      counts = counts;
+      controls = items controls;
+      trays = map tray boxes;
+    }
 
 -- a message takes at most four places of each queue
 abbrev pub places_of : ℕ → ℕ

@@ -1,3 +1,5 @@
+pub mod Asked
+pub mod Passing
 pub mod Queues
 pub mod Boxes
 pub mod Phases

@@ -2,13 +2,15 @@
 
 ghost use Rattle.std.specs.Prelude.{◌≡◌, ℕ, ◌+◌, ◌^◌, ◌<◌, length, map, replicate, set, IfOk, OnOk};
 ghost use Rattle.std.specs.List.{AllByRecursion as Every};
-ghost use Rattle.qc_inbox.specs.Rooms.{tray_at, with_coming, with_command, with_commands, with_going};
-ghost use Rattle.qc_inbox.specs.Trays.{empty_tray, tray_begun, tray_opened, tray_taken, tray_told};
+ghost use Rattle.qc_inbox.specs.Rooms.{each_by_up, tray_at, with_coming, with_command, with_commands, with_fall};
+ghost use Rattle.qc_inbox.specs.Rooms.{with_going};
+ghost use Rattle.qc_inbox.specs.Trays.{empty_tray, tray_begun, tray_losing, tray_opened, tray_taken, tray_told};
 ghost use Rattle.qc_mailbox.specs.Boxes.{HasRoom, tray};
 ghost use Rattle.qc_mailbox.specs.Phases.{IsPrepared};
 ghost use Rattle.qc_link.specs.Limits.{most_actors};
 
 use crate::mailbox::Mailbox;
+use crate::ups::Ups;
 use qc_link::{Fate, MOST_ACTORS};
 use qc_list::OutOfMemory;
 use qc_msg::Message;
@@ -17,7 +19,8 @@ use std::alloc::Global;
 
 /// Empty mailboxes, one for each actor.
 pub(crate) fn empty(alloc: Global) -> Result<Vec<Mailbox>, OutOfMemory>
-    ensures { IfOk result (λ boxes. map tray boxes.items ≡ replicate most_actors empty_tray) }
+    ensures trays { IfOk result (λ boxes. map tray boxes.items ≡ replicate most_actors empty_tray) }
+    ensures room { IfOk result (λ boxes. Every (HasRoom 0) boxes.items) }
 {
     let mut boxes = Vec::new(alloc);
     'actors: for _ in 0..MOST_ACTORS {
@@ -26,28 +29,43 @@ pub(crate) fn empty(alloc: Global) -> Result<Vec<Mailbox>, OutOfMemory>
     Ok(boxes)
 }
 
-/// A message comes to an actor.
-pub(crate) fn come(boxes: &mut Vec<Mailbox>, to: u8, number: u32, message: &Message, fate: Fate)
+/// A message comes to an actor, which is up or down.
+pub(crate) fn come(
+    boxes: &mut Vec<Mailbox>,
+    up: bool,
+    to: u8,
+    number: u32,
+    message: &Message,
+    fate: Fate,
+)
     requires length { length boxes.old.items ≡ most_actors }
     requires to { to < most_actors }
     requires room { Every (HasRoom 3) boxes.old.items }
     ensures length { length boxes.new.items ≡ length boxes.old.items }
-    ensures trays { map tray boxes.new.items ≡ with_coming (map tray boxes.old.items) to number message.now fate }
+    ensures trays { map tray boxes.new.items ≡ with_coming up (map tray boxes.old.items) to number message.now fate }
     ensures room { (room : ℕ) → Every (HasRoom (room + 3)) boxes.old.items → Every (HasRoom room) boxes.new.items }
 {
-    boxes[to as usize].come(number, message, fate);
+    boxes[to as usize].come(up, number, message, fate);
 }
 
-/// A message of an actor's goes out.
-pub(crate) fn go(boxes: &mut Vec<Mailbox>, from: u8, number: u32, message: &Message, fate: Fate)
+/// A message of an actor's goes out, to one that is up or down.
+pub(crate) fn go(
+    boxes: &mut Vec<Mailbox>,
+    up: bool,
+    from: u8,
+    number: u32,
+    to: u8,
+    message: &Message,
+    fate: Fate,
+)
     requires length { length boxes.old.items ≡ most_actors }
     requires from { from < most_actors }
     requires room { Every (HasRoom 1) boxes.old.items }
     ensures length { length boxes.new.items ≡ length boxes.old.items }
-    ensures trays { map tray boxes.new.items ≡ with_going (map tray boxes.old.items) from number message.now fate }
+    ensures trays { map tray boxes.new.items ≡ with_going up (map tray boxes.old.items) from number to message.now fate }
     ensures room { (room : ℕ) → Every (HasRoom (room + 1)) boxes.old.items → Every (HasRoom room) boxes.new.items }
 {
-    boxes[from as usize].go(number, message, fate);
+    boxes[from as usize].go(up, number, to, message, fate);
 }
 
 /// What is ready first for an actor is taken.
@@ -105,7 +123,7 @@ pub(crate) fn prepare(
     ensures ok { OnOk result (Every (IsPrepared room commands) boxes.new.items) }
 {
     'actors: for actor in 0..MOST_ACTORS {
-        boxes[actor].prepare(room, commands)?;
+        boxes[actor].prepare(commands)?;
     }
     Ok(())
 }
@@ -115,7 +133,7 @@ pub(crate) fn ask_commands(boxes: &mut Vec<Mailbox>, room: usize, lines: &[Comma
     requires { Every (IsPrepared room (length lines.now)) boxes.old.items }
     ensures length { length boxes.new.items ≡ length boxes.old.items }
     ensures trays { map tray boxes.new.items ≡ with_commands (map tray boxes.old.items) lines.now }
-    ensures prepared { Every (IsPrepared room 0) boxes.new.items }
+    ensures room { Every (HasRoom room) boxes.new.items }
 {
     'lines: for line in lines {
         ask_command(boxes, line);
@@ -135,28 +153,52 @@ fn ask_command(boxes: &mut Vec<Mailbox>, line: &CommandLine)
     }
 }
 
-/// Late copies are ready, where no control line is left.
-pub(crate) fn open(boxes: &mut Vec<Mailbox>, none_left: bool)
+/// Late copies are ready, where no control line is left, for who is up.
+pub(crate) fn open(boxes: &mut Vec<Mailbox>, none_left: bool, up: &Ups)
     requires length { length boxes.old.items ≡ most_actors }
-    requires prepared { Every (IsPrepared 0 0) boxes.old.items }
+    requires room { Every (HasRoom 0) boxes.old.items }
     ensures length { length boxes.new.items ≡ length boxes.old.items }
-    ensures trays { map tray boxes.new.items ≡ map (tray_opened none_left) (map tray boxes.old.items) }
-    ensures room { (room : ℕ) → Every (IsPrepared room 0) boxes.old.items → Every (HasRoom room) boxes.new.items }
+    ensures trays { map tray boxes.new.items ≡ each_by_up (tray_opened none_left) up.now (map tray boxes.old.items) }
+    ensures room { (room : ℕ) → Every (HasRoom room) boxes.old.items → Every (HasRoom room) boxes.new.items }
 {
     'actors: for actor in 0..MOST_ACTORS {
-        boxes[actor].open(none_left);
+        boxes[actor].open(none_left, up.is_up(actor));
     }
 }
 
 /// The next phase begins, with no control line or some.
-pub(crate) fn begin(boxes: &mut Vec<Mailbox>, none_left: bool)
+pub(crate) fn begin(boxes: &mut Vec<Mailbox>, none_left: bool, up: &Ups)
     requires length { length boxes.old.items ≡ most_actors }
-    requires prepared { Every (IsPrepared 0 0) boxes.old.items }
+    requires room { Every (HasRoom 0) boxes.old.items }
     ensures length { length boxes.new.items ≡ length boxes.old.items }
-    ensures trays { map tray boxes.new.items ≡ map (tray_begun none_left) (map tray boxes.old.items) }
-    ensures room { (room : ℕ) → Every (IsPrepared room 0) boxes.old.items → Every (HasRoom room) boxes.new.items }
+    ensures trays { map tray boxes.new.items ≡ each_by_up (tray_begun none_left) up.now (map tray boxes.old.items) }
+    ensures room { (room : ℕ) → Every (HasRoom room) boxes.old.items → Every (HasRoom room) boxes.new.items }
 {
     'actors: for actor in 0..MOST_ACTORS {
-        boxes[actor].begin(none_left);
+        boxes[actor].begin(none_left, up.is_up(actor));
     }
+}
+
+/// What others asked an actor and has no answer is lost.
+pub(crate) fn lose(boxes: &mut Vec<Mailbox>, fallen: u8)
+    requires length { length boxes.old.items ≡ most_actors }
+    requires room { Every (HasRoom 0) boxes.old.items }
+    ensures length { length boxes.new.items ≡ length boxes.old.items }
+    ensures trays { map tray boxes.new.items ≡ map (tray_losing fallen) (map tray boxes.old.items) }
+    ensures room { (room : ℕ) → Every (HasRoom room) boxes.old.items → Every (HasRoom room) boxes.new.items }
+{
+    'actors: for actor in 0..MOST_ACTORS {
+        boxes[actor].lose(fallen);
+    }
+}
+
+/// Nothing waits any more for an actor that fell.
+pub(crate) fn fall(boxes: &mut Vec<Mailbox>, actor: u8)
+    requires length { length boxes.old.items ≡ most_actors }
+    requires actor { actor < most_actors }
+    ensures length { length boxes.new.items ≡ length boxes.old.items }
+    ensures trays { map tray boxes.new.items ≡ with_fall (map tray boxes.old.items) actor }
+    ensures room { (room : ℕ) → Every (HasRoom room) boxes.old.items → Every (HasRoom room) boxes.new.items }
+{
+    boxes[actor as usize].fall();
 }

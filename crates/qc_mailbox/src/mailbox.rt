@@ -1,19 +1,20 @@
 //! What waits for one actor.
 
-ghost use Rattle.std.specs.Prelude.{◌≡◌, ◌+◌, ◌^◌, ◌<◌, [], OnOk};
+ghost use Rattle.std.specs.Prelude.{◌≡◌, ◌+◌, ◌^◌, ◌<◌, true, false, [], OnOk};
 ghost use Rattle.qc_script.specs.Inbox.{comes_at_once, is_request};
 ghost use Rattle.qc_inbox.specs.Inputs.{first_command, next_in};
-ghost use Rattle.qc_inbox.specs.Trays.{empty_tray, tray_answered, tray_answered_by, tray_asks, tray_begun};
-ghost use Rattle.qc_inbox.specs.Trays.{tray_called, tray_comes, tray_goes, tray_lost_unless, tray_opened, tray_taken};
-ghost use Rattle.qc_inbox.specs.Trays.{tray_told, tray_with_copies};
+ghost use Rattle.qc_inbox.specs.Trays.{empty_tray, tray_answered, tray_answered_by, tray_asks};
+ghost use Rattle.qc_inbox.specs.Trays.{tray_called, tray_comes, tray_emptied, tray_goes, tray_losing, tray_lost_unless};
+ghost use Rattle.qc_inbox.specs.Trays.{tray_taken, tray_told, tray_with_copies};
 ghost use Rattle.qc_mailbox.specs.Boxes.{HasRoom, HasUsed, tray};
 
+use crate::asked::Asked;
 use crate::queue::Queue;
 use qc_inbox::Input;
 use qc_link::Fate;
 use qc_list::OutOfMemory;
 use qc_msg::{Command, Message};
-use std::alloc::Global;
+use std::alloc::{AllocError, Global};
 
 /// What waits for one actor, its messages named by their numbers. A message
 /// that comes or goes finds its places spare.
@@ -27,7 +28,7 @@ pub struct Mailbox {
     /// The late copies that are ready in the next phase.
     pub(crate) late: Queue<u32>,
     /// The actor's requests that made a copy at once and have no answer yet.
-    pub(crate) unanswered: Queue<u32>,
+    pub(crate) unanswered: Queue<Asked>,
     /// The actor's requests that are lost, ascending.
     pub(crate) lost: Queue<u32>,
     /// The commands that the actor hasn't called.
@@ -84,32 +85,66 @@ impl Mailbox {
     }
 
     /// Makes room for so many messages' places in each queue that messages come
-    /// into. What waits stays, also after want of memory.
+    /// into, beside the places that late copies find when they are ready, and
+    /// requests when they are lost. What waits stays, also after want of memory.
     pub(crate) fn reserve(&mut self, room: usize) -> Result<(), OutOfMemory>
         ensures same { tray self.new ≡ tray self.old }
         ensures kept { HasUsed 0 self.old self.new }
         ensures ok { OnOk result (HasRoom room self.new) }
     {
-        self.copies.reserve(room)?;
+        let (opening, late, unanswered) = (
+            self.opening.len(),
+            self.late.len(),
+            self.unanswered.len(),
+        );
+        // Such numbers of places find no memory anyhow.
+        let Some(opened) = late.checked_add(room) else {
+            return Err(AllocError);
+        };
+        let Some(copied) = opening.checked_add(opened) else {
+            return Err(AllocError);
+        };
+        let Some(lost) = unanswered.checked_add(room) else {
+            return Err(AllocError);
+        };
+        self.copies.reserve(copied)?;
+        self.opening.reserve(opened)?;
         self.late.reserve(room)?;
         self.unanswered.reserve(room)?;
-        self.lost.reserve(room)
+        self.lost.reserve(lost)
     }
 
-    /// A message comes.
-    pub(crate) fn come(&mut self, number: u32, message: &Message, fate: Fate)
+    /// A message comes, where the actor is up or down.
+    pub(crate) fn come(&mut self, up: bool, number: u32, message: &Message, fate: Fate)
         requires { HasRoom 3 self.old }
-        ensures tray { tray self.new ≡ tray_comes (tray self.old) number message.now fate }
+        ensures tray { tray self.new ≡ tray_comes up (tray self.old) number message.now fate }
         ensures used { HasUsed 3 self.old self.new }
     {
-        self.add_copies(number, fate);
+        if up {
+            self.add_copies(number, fate);
+        } else {
+            self.add_late_copy(number, fate);
+        }
         self.answer_by(message, fate);
+    }
+
+    /// Adds the late copy of a message, if it has one: its others are gone, as
+    /// the actor is down.
+    fn add_late_copy(&mut self, number: u32, fate: Fate)
+        requires { HasRoom 2 self.old }
+        ensures tray { tray self.new ≡ tray_with_copies false (tray self.old) number fate }
+        ensures used { HasUsed 2 self.old self.new }
+    {
+        match fate {
+            Fate::Pass | Fate::Drop | Fate::Twice => {}
+            Fate::Late | Fate::Again => self.late.push(number),
+        }
     }
 
     /// Adds the copies of a message.
     fn add_copies(&mut self, number: u32, fate: Fate)
         requires { HasRoom 2 self.old }
-        ensures tray { tray self.new ≡ tray_with_copies (tray self.old) number fate }
+        ensures tray { tray self.new ≡ tray_with_copies true (tray self.old) number fate }
         ensures used { HasUsed 2 self.old self.new }
     {
         match fate {
@@ -151,8 +186,8 @@ impl Mailbox {
         ensures tray { tray self.new ≡ tray_answered (tray self.old) number fate }
         ensures used { HasUsed 1 self.old self.new }
     {
-        if self.unanswered.has(number) {
-            self.unanswered.remove(number);
+        if self.unanswered.has_request(number) {
+            self.unanswered.remove_request(number);
             self.lose_unless(comes_at_once(fate), number);
         }
     }
@@ -168,25 +203,25 @@ impl Mailbox {
         }
     }
 
-    /// A message of the actor's goes out.
-    pub(crate) fn go(&mut self, number: u32, message: &Message, fate: Fate)
+    /// A message of the actor's goes out, to an actor that is up or down.
+    pub(crate) fn go(&mut self, up: bool, number: u32, to: u8, message: &Message, fate: Fate)
         requires { HasRoom 1 self.old }
-        ensures tray { tray self.new ≡ tray_goes (tray self.old) number message.now fate }
+        ensures tray { tray self.new ≡ tray_goes up (tray self.old) number to message.now fate }
         ensures used { HasUsed 1 self.old self.new }
     {
         if is_request(message) {
-            self.ask(comes_at_once(fate), number);
+            self.ask(comes_at_once(fate) && up, number, to);
         }
     }
 
-    /// A request of the actor's goes out.
-    fn ask(&mut self, comes: bool, number: u32)
+    /// A request of the actor's goes out, and is lost at once or isn't.
+    fn ask(&mut self, comes: bool, number: u32, to: u8)
         requires { HasRoom 1 self.old }
-        ensures tray { tray self.new ≡ tray_asks comes (tray self.old) number }
+        ensures tray { tray self.new ≡ tray_asks comes (tray self.old) number to }
         ensures used { HasUsed 1 self.old self.new }
     {
         if comes {
-            self.unanswered.push(number);
+            self.unanswered.push(Asked { number, to });
         } else {
             self.lost.put(number);
         }
@@ -224,6 +259,26 @@ impl Mailbox {
         ensures used { HasUsed 0 self.old self.new }
     {
         self.busy = false;
+    }
+
+    /// Another actor falls: what this one asked it and has no answer is lost.
+    pub(crate) fn lose(&mut self, actor: u8)
+        requires { HasRoom 0 self.old }
+        ensures tray { tray self.new ≡ tray_losing actor (tray self.old) }
+        ensures used { HasUsed 0 self.old self.new }
+    {
+        self.unanswered.lose(actor, &mut self.lost);
+    }
+
+    /// The actor falls: nothing waits for it any more but commands, and late
+    /// copies that aren't ready yet.
+    pub(crate) fn fall(&mut self)
+        ensures tray { tray self.new ≡ tray_emptied (tray self.old) }
+        ensures used { HasUsed 0 self.old self.new }
+    {
+        self.copies.clear();
+        self.unanswered.clear();
+        self.lost.clear();
     }
 }
 

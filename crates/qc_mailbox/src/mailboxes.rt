@@ -6,22 +6,27 @@ ghost use Rattle.std.specs.Prelude.{drop, length, map, slice_get};
 ghost use Rattle.std.specs.List.{AllByRecursion as Every};
 ghost use Rattle.qc_msg.specs.declared.turn.Posting.{Posting};
 ghost use Rattle.qc_inbox.specs.Inputs.{IsWithin, next_in};
-ghost use Rattle.qc_inbox.specs.Rooms.{after_first, after_phase, after_send, after_sends, after_take, after_turn};
-ghost use Rattle.qc_inbox.specs.Rooms.{empty_inboxes, none_left, tray_at};
+ghost use Rattle.qc_inbox.specs.Rooms.{after_fall, after_first, after_phase, after_post_as, after_reply, after_rise};
+ghost use Rattle.qc_inbox.specs.Rooms.{after_send, after_sends, after_take, after_turn, each_by_up, empty_inboxes};
+ghost use Rattle.qc_inbox.specs.Rooms.{none_left, tray_at, with_control_gone};
 ghost use Rattle.qc_inbox.specs.Trays.{tray_opened};
+ghost use Rattle.qc_msg.specs.Steps.{sends_as};
+ghost use Rattle.qc_msg.specs.declared.reply.Reply.{Reply};
+ghost use Rattle.qc_script.specs.Inbox.{acting};
 ghost use Rattle.qc_mailbox.specs.Boxes.{HasRoom, tray};
-ghost use Rattle.qc_mailbox.specs.Phases.{IsPrepared};
 ghost use Rattle.qc_mailbox.specs.Queues.{items};
 ghost use Rattle.qc_link.specs.Limits.{most_actors};
 
 use crate::boxes;
 use crate::counts::Counts;
+use crate::lines::pass_idle;
 use crate::mailbox::Mailbox;
 use crate::queue::Queue;
+use crate::ups::Ups;
 use qc_inbox::Input;
 use qc_link::{Cuts, Link, LinkPlan, fate};
 use qc_list::OutOfMemory;
-use qc_msg::{Control, Posting, Turn};
+use qc_msg::{Appended, Control, Posting, Reply, Turn};
 use qc_script::{PhaseLines, Script};
 use std::alloc::{AllocError, Global};
 use std::marker::Model;
@@ -31,6 +36,7 @@ use std::marker::Model;
 pub struct Mailboxes {
     links: LinkPlan,
     cuts: Cuts,
+    up: Ups,
     counts: Counts,
     controls: Queue<Control>,
     boxes: Vec<Mailbox>,
@@ -42,7 +48,7 @@ impl Model for Mailboxes {
 
     ghost Value = { Roomy };
 
-    ghost view = { λ m. record { inboxes = shown m.links m.cuts m.counts m.controls m.boxes.items; room = m.room } };
+    ghost view = { λ m. record { inboxes = shown m.links m.cuts m.up m.counts m.controls m.boxes.items; room = m.room } };
 
     ghost invariant = { λ m. IsRoomy m.room m.boxes.items };
 }
@@ -59,6 +65,7 @@ impl Mailboxes {
         Ok(Mailboxes {
             links: plan_of(alloc, script.links.items())?,
             cuts: Cuts::new(),
+            up: Ups::new(),
             counts: Counts::new(),
             controls: Queue::new(alloc),
             boxes: boxes::empty(alloc)?,
@@ -140,9 +147,76 @@ impl Mailboxes {
         ensures room { self.new.room + length turn.now.sends ≡ self.old.room }
     {
         self.send_all(actor, turn.sends.items());
-        if turn.told.is_some() {
+        self.tell(actor, &turn.told);
+    }
+
+    /// An actor tells a reply, if it has one.
+    fn tell(&mut self, actor: u8, reply: &Option<Reply>)
+        requires { actor < most_actors }
+        ensures inboxes { self.new.inboxes ≡ after_reply self.old.inboxes actor reply.now }
+        ensures room { self.new.room ≡ self.old.room }
+    {
+        if reply.is_some() {
             boxes::tell(&mut self.boxes, actor);
         }
+    }
+
+    /// An actor that is up posts a turn, by what became of its record: where that
+    /// isn't written, the actor falls. There is room for its messages.
+    pub fn post_as(&mut self, actor: u8, turn: &Turn)
+        requires actor { actor < most_actors }
+        requires receivers { Every (λ (p : Posting). p.to < most_actors) (sends_as turn.now.append turn.now) }
+        requires few { self.old.inboxes.counts.all + length (sends_as turn.now.append turn.now) < 2 ^ 32 }
+        requires room { length (sends_as turn.now.append turn.now) ≤ self.old.room }
+        ensures inboxes { self.new.inboxes ≡ after_post_as turn.now.append self.old.inboxes actor turn.now }
+        ensures room { self.new.room + length (sends_as turn.now.append turn.now) ≡ self.old.room }
+    {
+        match turn.append {
+            Appended::Done => self.post(actor, turn),
+            Appended::Failed => {
+                self.send_all(actor, turn.failed_sends.items());
+                self.tell(actor, &turn.failed_told);
+                self.fall(actor);
+            }
+            Appended::Stopped => {
+                self.tell(actor, &turn.failed_told);
+                self.fall(actor);
+            }
+        }
+    }
+
+    /// An actor falls: nothing waits for it any more, and what others asked it and
+    /// has no answer is lost. It takes no memory.
+    pub fn fall(&mut self, actor: u8)
+        requires { actor < most_actors }
+        ensures inboxes { self.new.inboxes ≡ after_fall self.old.inboxes actor }
+        ensures room { self.new.room ≡ self.old.room }
+    {
+        self.up.set(actor, false);
+        boxes::lose(&mut self.boxes, actor);
+        boxes::fall(&mut self.boxes, actor);
+    }
+
+    /// An actor rises, by the first control line left. Its rising turn is posted
+    /// after that. It takes no memory.
+    pub fn rise(&mut self, actor: u8)
+        requires { actor < most_actors }
+        ensures inboxes { self.new.inboxes ≡ after_rise self.old.inboxes actor }
+        ensures room { self.new.room ≡ self.old.room }
+    {
+        self.up.set(actor, true);
+        self.end_line();
+    }
+
+    /// The first control line left has acted, and those behind it that have
+    /// nothing to do are passed over. It takes no memory.
+    pub fn end_line(&mut self)
+        ensures inboxes { self.new.inboxes ≡ with_control_gone self.old.inboxes }
+        ensures room { self.new.room ≡ self.old.room }
+    {
+        self.controls.drop_first();
+        pass_idle(&mut self.controls, &self.up);
+        boxes::open(&mut self.boxes, self.controls.len() == 0, &self.up);
     }
 
     /// An actor sends messages, one after another.
@@ -172,8 +246,9 @@ impl Mailboxes {
         let number = self.counts.all();
         let ordinal = self.counts.add(actor, *to);
         let fate = fate(&self.links, &self.cuts, actor, *to, ordinal);
-        boxes::come(&mut self.boxes, *to, number, message, fate);
-        boxes::go(&mut self.boxes, actor, number, message, fate);
+        let up = self.up.is_up(*to as usize);
+        boxes::come(&mut self.boxes, up, *to, number, message, fate);
+        boxes::go(&mut self.boxes, up, actor, number, *to, message, fate);
         self.room -= 1;
     }
 
@@ -190,54 +265,33 @@ impl Mailboxes {
         self.controls.reserve(controls.len())?;
         boxes::prepare(&mut self.boxes, places, lines.len())?;
         self.controls.refill(controls);
+        pass_idle(&mut self.controls, &self.up);
         boxes::ask_commands(&mut self.boxes, places, lines);
-        boxes::begin(&mut self.boxes, controls.is_empty());
+        boxes::begin(&mut self.boxes, self.controls.len() == 0, &self.up);
         Ok(())
     }
 
-    /// The first control line left acts, if it has a step. After want of memory
-    /// nothing has changed.
-    pub fn control(&mut self) -> Result<(), OutOfMemory>
+    /// The first control line left acts, if it is the controller's own: it cuts,
+    /// heals or arms. It takes no memory.
+    pub fn control(&mut self)
         requires { IfSome (slice_get self.old.inboxes.controls 0) IsWithin }
-        ensures ok { OnOk result (self.new.inboxes ≡ after_first self.old.inboxes self.old.inboxes.controls) }
-        ensures err { OnErr result (self.new.inboxes ≡ self.old.inboxes) }
+        ensures inboxes { self.new.inboxes ≡ after_first self.old.inboxes self.old.inboxes.controls }
         ensures room { self.new.room ≡ self.old.room }
     {
-        let Some(places) = self.room.checked_mul(4) else {
-            return Err(AllocError);
-        };
-        boxes::prepare(&mut self.boxes, places, 0)?;
         match self.controls.first() {
             Some(Control::Cut(a, b)) => {
                 self.cuts.cut(a, b);
-                pass_control(&mut self.controls, &mut self.boxes);
+                self.end_line();
             }
             Some(Control::Heal(a, b)) => {
                 self.cuts.heal(a, b);
-                pass_control(&mut self.controls, &mut self.boxes);
+                self.end_line();
             }
-            Some(Control::Phase(_))
-            | Some(Control::Armed { .. })
-            | Some(Control::Crash(_))
-            | Some(Control::Restart(_))
-            | None => {}
+            Some(Control::Armed { .. }) => self.end_line(),
+            Some(Control::Phase(_)) | Some(Control::Crash(_)) | Some(Control::Restart(_)) | None =>
+                {}
         }
-        Ok(())
     }
-}
-
-/// The first control line left has acted. Late copies find their places.
-fn pass_control(controls: &mut Queue<Control>, boxes: &mut Vec<Mailbox>)
-    requires length { length boxes.old.items ≡ most_actors }
-    requires prepared { Every (IsPrepared 0 0) boxes.old.items }
-    ensures controls { items controls.new ≡ drop 1 (items controls.old) }
-    ensures length { length boxes.new.items ≡ length boxes.old.items }
-    ensures trays { map tray boxes.new.items
-        ≡ map (tray_opened (none_left (drop 1 (items controls.old)))) (map tray boxes.old.items) }
-    ensures room { (room : ℕ) → Every (IsPrepared room 0) boxes.old.items → Every (HasRoom room) boxes.new.items }
-{
-    controls.drop_first();
-    boxes::open(boxes, controls.len() == 0);
 }
 
 /// The rules of links, looked up by what they name.

@@ -1,34 +1,24 @@
-//! A phase begins, and late copies are ready: what they want of memory is taken
-//! before anything changes.
+//! A phase begins, and late copies are ready: what commands want of memory is
+//! taken before anything changes, and copies find their places.
 
-ghost use Rattle.std.specs.Prelude.{◌≡◌, ◌+◌, ◌≤◌, ◌<◌, length, OnOk};
+ghost use Rattle.std.specs.Prelude.{◌≡◌, ◌+◌, ◌≤◌, ◌<◌, ℕ, OnOk};
 ghost use Rattle.qc_inbox.specs.Trays.{tray_asked, tray_begun, tray_opened};
 ghost use Rattle.qc_mailbox.specs.Boxes.{HasRoom, HasUsed, tray};
-ghost use Rattle.qc_mailbox.specs.Phases.{HasOpened, HasOthers, IsPrepared};
-ghost use Rattle.qc_mailbox.specs.Queues.{items, spare};
+ghost use Rattle.qc_mailbox.specs.Phases.{HasOthers, IsPrepared};
+ghost use Rattle.qc_mailbox.specs.Queues.{spare};
 
 use crate::mailbox::Mailbox;
 use qc_list::OutOfMemory;
 use qc_msg::Command;
-use std::alloc::AllocError;
 
 impl Mailbox {
-    /// Takes the memory that the next phase wants, with so many commands, where
-    /// this room stays. What waits stays, also after want of memory.
-    pub(crate) fn prepare(&mut self, room: usize, commands: usize) -> Result<(), OutOfMemory>
+    /// Takes the memory that the next phase wants, with so many commands. What
+    /// waits stays, also after want of memory.
+    pub(crate) fn prepare(&mut self, commands: usize) -> Result<(), OutOfMemory>
         ensures same { tray self.new ≡ tray self.old }
         ensures kept { HasUsed 0 self.old self.new }
-        ensures ok { OnOk result (HasRoom room self.old → IsPrepared room commands self.new) }
+        ensures ok { OnOk result ((room : ℕ) → HasRoom room self.old → IsPrepared room commands self.new) }
     {
-        let (opening, late) = (self.opening.len(), self.late.len());
-        let Some(opened) = opening.checked_add(late) else {
-            return Err(AllocError);
-        };
-        let Some(places) = opened.checked_add(room) else {
-            return Err(AllocError);
-        };
-        self.copies.reserve(places)?;
-        self.opening.reserve(late)?;
         self.commands.reserve(commands)
     }
 
@@ -42,25 +32,30 @@ impl Mailbox {
         self.commands.push(command);
     }
 
-    /// Late copies are ready, where no control line is left.
-    pub(crate) fn open(&mut self, none_left: bool)
-        requires { length (items self.old.opening) ≤ spare self.old.copies }
-        ensures tray { tray self.new ≡ tray_opened none_left (tray self.old) }
-        ensures used { HasOpened (length (items self.old.opening)) self.old self.new }
+    /// Late copies are ready, where no control line is left; they are gone where
+    /// the actor is down.
+    pub(crate) fn open(&mut self, none_left: bool, up: bool)
+        requires { HasRoom 0 self.old }
+        ensures tray { tray self.new ≡ tray_opened none_left up (tray self.old) }
+        ensures used { HasUsed 0 self.old self.new }
     {
         if none_left {
-            self.copies.prepend(&mut self.opening);
+            if up {
+                self.copies.prepend(&mut self.opening);
+            } else {
+                self.opening.clear();
+            }
         }
     }
 
     /// The next phase begins, with no control line or some.
-    pub(crate) fn begin(&mut self, none_left: bool)
-        requires { IsPrepared 0 0 self.old }
-        ensures tray { tray self.new ≡ tray_begun none_left (tray self.old) }
-        ensures used { HasOpened (length (items self.old.opening) + length (items self.old.late)) self.old self.new }
+    pub(crate) fn begin(&mut self, none_left: bool, up: bool)
+        requires { HasRoom 0 self.old }
+        ensures tray { tray self.new ≡ tray_begun none_left up (tray self.old) }
+        ensures used { HasUsed 0 self.old self.new }
     {
         self.opening.append(&mut self.late);
         self.calls = 0;
-        self.open(none_left);
+        self.open(none_left, up);
     }
 }

@@ -1,7 +1,7 @@
 //! Queues that grow only where they are asked to, and ascending numbers in one.
 
 ghost use Rattle.std.specs.Prelude.{◌≡◌, ◌+◌, ◌≤◌, ◌<◌, [], ◌∷◌, ◌++◌, drop, insert, length, slice_get, OnOk};
-ghost use Rattle.qc_script.specs.Requests.{has_number, with_number, without_number};
+ghost use Rattle.qc_script.specs.Requests.{with_number};
 ghost use Rattle.qc_mailbox.specs.Queues.{items, spare};
 
 use qc_list::OutOfMemory;
@@ -60,6 +60,14 @@ impl<T: Copy> Queue<T> {
         }
     }
 
+    /// Takes all items away.
+    pub(crate) fn clear(&mut self)
+        ensures items { items self.new ≡ [] }
+        ensures spare { spare self.old ≤ spare self.new }
+    {
+        self.queue.clear();
+    }
+
     /// Adds an item behind the others.
     pub(crate) fn push(&mut self, item: T)
         requires { 0 < spare self.old }
@@ -106,21 +114,6 @@ impl<T: Copy> Queue<T> {
 }
 
 impl Queue<u32> {
-    /// Whether a number is among these.
-    pub(crate) fn has(&self, number: u32) -> bool
-        ensures { result ≡ has_number (items self.now) number }
-    {
-        self.queue.contains(&number)
-    }
-
-    /// Takes a number away, wherever it is.
-    pub(crate) fn remove(&mut self, number: u32)
-        ensures items { items self.new ≡ without_number (items self.old) number }
-        ensures spare { spare self.old ≤ spare self.new }
-    {
-        self.queue.retain(|item| *item != number);
-    }
-
     /// Adds a number to ascending ones, at its place.
     pub(crate) fn put(&mut self, number: u32)
         requires { 0 < spare self.old }

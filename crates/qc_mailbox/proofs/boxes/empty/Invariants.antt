@@ -1,7 +1,11 @@
 use Rattle.std.proofs.Common.{◌≡◌, map, replicate}
+use Rattle.std.specs.List.{AllByRecursion as Every}
 use Rattle.qc_inbox.specs.Trays.{empty_tray}
-use Rattle.qc_mailbox.specs.Boxes.{tray}
+use Rattle.qc_mailbox.specs.Boxes.{HasRoom, tray}
 use Rattle.qc_mailbox.proofs.boxes.empty.Given as goal
 
 abbrev pub invariant-actors : goal.invariant-actors
-invariant-actors l = map tray l.boxes.items ≡ replicate l.counter empty_tray
+invariant-actors l = record {
+  trays : map tray l.boxes.items ≡ replicate l.counter empty_tray;
+  room : Every (HasRoom 0) l.boxes.items;
+}

@@ -19,5 +19,5 @@ actors-preserved c =
       same = same_set c.actors.boxes.items c.actors.actor c.index_mut.result.now c.prepare.new.self within c.index_mut.ensures.value c.in_ok-prepare.ensures.same ∙ c.actors.invariant.same;
       kept = kept_set c.actors.boxes.items c.actors.actor c.index_mut.result.now c.prepare.new.self within c.index_mut.ensures.value c.args.room c.in_ok-prepare.ensures.kept c.actors.invariant.kept;
       done = front_next (IsPrepared c.args.room c.args.commands) c.actors.boxes.items c.actors.actor c.prepare.new.self within c.actors.invariant.done
-          (c.in_ok-prepare.ensures.ok (at c.actors.boxes.items c.actors.actor c.index_mut.result.now c.prepare.new.self within c.index_mut.ensures.value (HasRoom c.args.room) c.actors.invariant.kept));
+          (c.in_ok-prepare.ensures.ok c.args.room (at c.actors.boxes.items c.actors.actor c.index_mut.result.now c.prepare.new.self within c.index_mut.ensures.value (HasRoom c.args.room) c.actors.invariant.kept));
     }

@@ -12,10 +12,6 @@ control-requires g c = first_within c.self.invariant
 pub invariant_of-self : goal.invariant_of-self
 invariant_of-self g c = other_memory c.self.invariant c.reserve.new.self c.self.inside.mailboxes c.self.inside.held.items c.in_err-reserve.ensures.same refl (omega (arith, c.self.invariant.log_room, c.in_err-reserve.ensures.kept)) c.self.invariant.mail_room c.self.invariant.helds
 
-pub invariant_of-self-in_err-control : goal.invariant_of-self-in_err-control
-invariant_of-self-in_err-control g c = other_memory c.self.invariant c.reserve.new.self c.control.new.self c.self.inside.held.items c.in_ok-reserve.ensures.same c.in_err-control.ensures.err
-    (omega (arith, c.self.invariant.log_room, c.in_ok-reserve.ensures.kept)) (omega (arith, c.self.invariant.mail_room, c.control.ensures.room)) c.self.invariant.helds
-
 pub invariant_of-self-2 : goal.invariant_of-self-2
 invariant_of-self-2 g c =
     let first : slice_get (controls_left g.N.Named.script c.self.inside.log.history) 0 ≡ Some c.args.line = subst (λ (v : Shown). slice_get (controls_left g.N.Named.script v.history) 0 ≡ Some c.args.line) (sym c.self.view_is) c.requires.first in
@@ -23,4 +19,4 @@ invariant_of-self-2 g c =
     let fits : c.self.inside.reserved + 1 ≤ c.reserve.new.self.room = search (rules, arith) in
     let bound : length c.self.inside.log.history + (c.self.inside.reserved + 1) ≤ most_history = search (rules, arith) in
     acts_on c.self.invariant c.in-Some-take.right (sym c.take.ensures.value ∙ c.in-Some-take.is) c.args.pass.now c.add-right.new.pass c.add-right.result c.args.line c.step_of-step.result c.requires.controller first under c.step_of-step.ensures c.add-right.ensures.met c.add-right.ensures.all
-    c.reserve.new.self c.add-right.new.log c.control.new.self c.in_ok-reserve.ensures.same fits bound c.add-right.ensures.log c.control.ensures.room c.in_ok-control.ensures.ok
+    c.reserve.new.self c.add-right.new.log c.control.new.self c.in_ok-reserve.ensures.same fits bound c.add-right.ensures.log c.control.ensures.room c.control.ensures.inboxes

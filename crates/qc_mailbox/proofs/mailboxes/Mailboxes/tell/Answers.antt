@@ -1,5 +1,5 @@
 use Rattle.std.proofs.Common.{◌∙◌}
-use Rattle.qc_mailbox.proofs.mailboxes.Mailboxes.post.Goals as goal
+use Rattle.qc_mailbox.proofs.mailboxes.Mailboxes.tell.Goals as goal
 
 pub invariant_of-self : goal.invariant_of-self
 invariant_of-self c = record {
