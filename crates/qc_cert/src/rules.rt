@@ -58,17 +58,23 @@ fn first_fault(kind: &Prepared, triples: &Grouped) -> Option<CertFault>
         log: start,
         out: 0,
     };
-    match unless_covered(triples, CertFault::NoStart, &begun) {
+    match unless_covered(triples, CertFault::NoStart, &begun, 0) {
         Some(fault) => Some(fault),
         None => of_triples(kind, triples),
     }
 }
 
-/// The fault, where no triple of the list covers this one.
-fn unless_covered(triples: &Grouped, fault: CertFault, triple: &Triple) -> Option<CertFault>
+/// The fault, where no triple of the list covers this one. One that leaves out
+/// just the events `near` is looked at first.
+fn unless_covered(
+    triples: &Grouped,
+    fault: CertFault,
+    triple: &Triple,
+    near: u64,
+) -> Option<CertFault>
     ensures { result ≡ unless_covered triples.now fault triple.now }
 {
-    if triples.covers(triple) {
+    if triples.covers(triple, near) {
         None
     } else {
         Some(fault)
@@ -140,7 +146,7 @@ fn left_out(
         log,
         out: triple.out | 1 << event,
     };
-    unless_covered(triples, fault, &next)
+    unless_covered(triples, fault, &next, triple.out)
 }
 
 /// The first fault of the invocations at a triple.
@@ -259,5 +265,5 @@ fn taken(
         log: kind.plain().table.step(triple.log, event)?,
         out: triple.out,
     };
-    unless_covered(triples, fault, &next)
+    unless_covered(triples, fault, &next, triple.out)
 }
