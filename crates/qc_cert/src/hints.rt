@@ -18,10 +18,10 @@ const SLOTS: usize = 131_072;
 #[derive(Drop)]
 pub(crate) struct Hints {
     /// For each two states a triple with the fewest events.
-    least: Vec<u32>,
+    least: Vec<u16>,
     /// Each triple in the slot of its states and events, unless a later one has
     /// the same slot.
-    slots: Vec<u32>,
+    slots: Vec<u16>,
 }
 
 impl Hints {
@@ -32,8 +32,8 @@ impl Hints {
         let mut least = zeros(alloc, MOST_STATES * MOST_STATES)?;
         let mut slots = zeros(alloc, SLOTS)?;
         for (place, triple) in list.iter().enumerate() {
-            add_least(&mut least, list, place as u32, triple);
-            put(&mut slots, slot(triple, triple.out), place as u32);
+            add_least(&mut least, list, place as u16, triple);
+            put(&mut slots, slot(triple, triple.out), place as u16);
         }
         Ok(Hints { least, slots })
     }
@@ -49,7 +49,7 @@ impl Hints {
 }
 
 /// So many places, all 0.
-fn zeros(alloc: Global, count: usize) -> Result<Vec<u32>, OutOfMemory> {
+fn zeros(alloc: Global, count: usize) -> Result<Vec<u16>, OutOfMemory> {
     let mut places = Vec::new(alloc);
     'places: for _place in 0..count {
         places.push(0)?;
@@ -72,7 +72,7 @@ fn slot(triple: &Triple, out: u64) -> usize {
 
 /// The place that is kept at a number, and 0 where there is none.
 #[inline(always)]
-fn read(places: &[u32], number: usize) -> u32 {
+fn read(places: &[u16], number: usize) -> u16 {
     if number < places.len() {
         places[number]
     } else {
@@ -81,14 +81,14 @@ fn read(places: &[u32], number: usize) -> u32 {
 }
 
 /// Keeps a place at a number.
-fn put(places: &mut [u32], number: usize, place: u32) {
+fn put(places: &mut [u16], number: usize, place: u16) {
     if number < places.len() {
         places[number] = place;
     }
 }
 
 /// Keeps the place of a triple, unless its group has one with no more events.
-fn add_least(least: &mut [u32], list: &[Triple], place: u32, triple: &Triple) {
+fn add_least(least: &mut [u16], list: &[Triple], place: u16, triple: &Triple) {
     let number = group(triple);
     if let Some(old) = list.get(read(least, number) as usize) {
         if old.view != triple.view
@@ -102,7 +102,7 @@ fn add_least(least: &mut [u32], list: &[Triple], place: u32, triple: &Triple) {
 
 /// Whether there is a triple at a place of the list, and it covers this one.
 #[inline(always)]
-fn covers_at(list: &[Triple], place: u32, triple: &Triple) -> bool
+fn covers_at(list: &[Triple], place: u16, triple: &Triple) -> bool
     ensures { result ≡ true → is_covered list.now triple.now ≡ true }
 {
     match list.get(place as usize) {
