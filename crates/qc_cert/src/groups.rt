@@ -200,6 +200,17 @@ impl<'a> Grouped<'a> {
         self.firsts.as_slice()
     }
 
+    /// What a triple that covers what this one becomes is likely to leave out: the
+    /// fewest events of all that cover this one, as groups are mostly alike.
+    pub(crate) fn near(&self, triple: &Triple) -> u64 {
+        let number = triple.view as usize * MOST_STATES + triple.log as usize;
+        if number < self.groups.len() {
+            parts::least(&self.groups[number].parts, triple.out)
+        } else {
+            triple.out
+        }
+    }
+
     /// Whether some triple of the list covers this one. Hints are looked at first:
     /// one that leaves out just the events `near` is likely to.
     pub(crate) fn covers(&self, triple: &Triple, near: u64) -> bool
