@@ -27,8 +27,8 @@ use std::alloc::Global;
 /// The first fault is told: triples in the list's order, in each the events
 /// left out by number, then the invocations by number, first the lowest
 /// unequal response and then the events taken by number. A list that is
-/// accepted shows that the type's relation is exact. The walk takes some 4 MB
-/// beside the list, and up to 13 MB where the triples stand in many groups.
+/// accepted shows that the type's relation is exact. The walk takes some 4.3 MB
+/// beside the list, and up to 14 MB where the triples stand in many groups.
 pub fn check(alloc: Global, kind: &Kind, list: &[Triple]) -> Result<(), CertFault>
     requires few { length list.now ≤ most_triples }
     requires states { All (λ (t : Triple).
