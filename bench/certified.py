@@ -169,7 +169,7 @@ def sevens(seed):
 
 def apart(seed):
     """Five of 20 events each, drawn anew for each of 63 groups, of which ten sets of two
-    events come last and alone cover, each a tenth: no hint leads to most of what covers."""
+    events come last and alone cover, each a tenth: they cover in each group, also in a set's own."""
     chance, pairs, groups, found = random.Random(seed), [(e, e + 3) for e in range(4, 64, 6)], [], []
     for pair in pairs:
         for some in itertools.combinations([other for other in pairs if other != pair], 3):
