@@ -167,6 +167,18 @@ def sevens(seed):
     return ended(itertools.combinations(range(2, 54, 4), 6), seed)
 
 
+def apart(seed):
+    """Five of 20 events each, drawn anew for each of 63 groups, of which ten sets of two
+    events come last and alone cover, each a tenth: they cover in each group, also in a set's own."""
+    chance, pairs, groups, found = random.Random(seed), [(e, e + 3) for e in range(4, 64, 6)], [], []
+    for pair in pairs:
+        for some in itertools.combinations([other for other in pairs if other != pair], 3):
+            found += [(*pair, *(events[bits >> k & 1] for k, events in enumerate(some))) for bits in range(8)]
+    for log in range(1, 64):
+        groups.append((0, log, ALL, [*chance.sample(found, MOST_ALIKE - len(pairs)), *pairs]))
+    return on, groups
+
+
 def ones(seed):
     """One event each, 64 sets in each of 799 groups. All is looked up in 14 groups
     more, of 1,024 sets, of which the last 64 have one event each."""
@@ -200,7 +212,7 @@ def more(seed):
 
 LISTS = {
     "two": two, "drawn": drawn, "own": own, "ten": ten, "tens": tens, "pairs": pairs, "three": three, "six": six,
-    "last": last, "fours": fours, "walks": walks, "sevens": sevens, "ones": ones, "few": few, "more": more,
+    "last": last, "apart": apart, "fours": fours, "walks": walks, "sevens": sevens, "ones": ones, "few": few, "more": more,
 }
 
 

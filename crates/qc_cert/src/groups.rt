@@ -5,12 +5,14 @@ ghost use Rattle.std.specs.Prelude.{slice_index_or};
 ghost use Rattle.qc_cert.specs.Faults.{is_covered};
 ghost use Rattle.qc_cert.specs.Firsts.{firsts, marked};
 ghost use Rattle.qc_cert.specs.Groups.{AreStates, any_within, outs_at, parts_within, place_of};
+ghost use Rattle.qc_cert.specs.Limits.{most_triples};
 ghost use Rattle.qc_cert.specs.declared.triple.Triple.{Triple};
 ghost use Rattle.qc_table.specs.Sets.{is_within};
 ghost use Rattle.qc_table.specs.Limits.{most_states};
 
 use crate::blocks::{self, Block};
 use crate::firsts::firsts;
+use crate::hints::Hints;
 use crate::parts::{self, Part};
 use crate::triple::Triple;
 use qc_list::OutOfMemory;
@@ -149,6 +151,7 @@ pub(crate) struct Grouped<'a> {
     list: &'a [Triple],
     firsts: Vec<bool>,
     groups: Vec<Group>,
+    hints: Hints,
 }
 
 impl<'a> Model for Grouped<'a> {
@@ -166,17 +169,20 @@ impl<'a> Model for Grouped<'a> {
 impl<'a> Grouped<'a> {
     /// The list of these triples, each of two states below the most states.
     pub(crate) fn new(alloc: Global, list: &'a [Triple]) -> Result<Grouped<'a>, OutOfMemory>
-        requires { All AreStates list.now }
+        requires few { length list.now ≤ most_triples }
+        requires states { All AreStates list.now }
         ensures { IfOk result (λ g. g ≡ list.now) }
     {
         let firsts = firsts(alloc, list)?;
         let mut groups = empty_groups(alloc)?;
         add_triples(alloc, &mut groups, list, &firsts)?;
         close_groups(alloc, &mut groups)?;
+        let hints = Hints::new(alloc, list)?;
         Ok(Grouped {
             list,
             firsts,
             groups,
+            hints,
         })
     }
 
@@ -194,10 +200,25 @@ impl<'a> Grouped<'a> {
         self.firsts.as_slice()
     }
 
-    /// Whether some triple of the list covers this one.
-    pub(crate) fn covers(&self, triple: &Triple) -> bool
+    /// What a triple that covers what this one becomes is likely to leave out: the
+    /// fewest events of all that cover this one, as groups are mostly alike.
+    pub(crate) fn near(&self, triple: &Triple) -> u64 {
+        let number = triple.view as usize * MOST_STATES + triple.log as usize;
+        if number < self.groups.len() {
+            parts::least(&self.groups[number].parts, triple.out)
+        } else {
+            triple.out
+        }
+    }
+
+    /// Whether some triple of the list covers this one. Hints are looked at first:
+    /// one that leaves out just the events `near` is likely to.
+    pub(crate) fn covers(&self, triple: &Triple, near: u64) -> bool
         ensures { result ≡ is_covered self.now triple.now }
     {
+        if self.hints.tell(self.list, triple, near) {
+            return true;
+        }
         let groups = self.groups.as_slice();
         if triple.view as usize >= MOST_STATES || triple.log as usize >= MOST_STATES {
             return false;

@@ -17,6 +17,7 @@ mod blocks;
 mod fault;
 mod firsts;
 mod groups;
+mod hints;
 mod laws;
 mod limits;
 mod parts;

@@ -66,6 +66,17 @@ impl Part {
         }
         covered
     }
+
+    /// The set with the fewest events of those within this one and of one more.
+    fn least(&self, out: u64, other: u64) -> u64 {
+        let mut least = other;
+        for set in self.sets.iter() {
+            if *set & out == *set && set.count_ones() < least.count_ones() {
+                least = *set;
+            }
+        }
+        least
+    }
 }
 
 /// Adds a set to the shortest part of one of its events. The parts are made
@@ -180,4 +191,15 @@ pub(crate) fn looks(parts: &[Part], out: u64) -> usize {
         rest &= !(1 << event);
     }
     looks
+}
+
+/// A set with the fewest events that is within this one, or else this one.
+pub(crate) fn least(parts: &[Part], out: u64) -> u64 {
+    let mut least = out;
+    for event in 0..MOST_EVENTS {
+        if out >> event & 1 == 1 && event < parts.len() {
+            least = parts[event].least(out, least);
+        }
+    }
+    least
 }
