@@ -5,7 +5,9 @@
 #![tactic(auto)]
 
 mod holdings;
+mod votes;
 
 pub use holdings::{
     granted_items_are_held_in_their_lives, granted_logs_are_closed_through_falls,
 };
+pub use votes::{votes_are_cast_in_the_lives_that_they_name};
