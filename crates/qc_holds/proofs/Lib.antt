@@ -4,3 +4,6 @@ pub mod ClosedLogs
 pub mod SiteLives
 pub mod Voting
 pub mod Cast
+pub mod CommitDue
+pub mod Clients
+pub mod Recording

@@ -58,7 +58,7 @@ own_one : (a : ℕ) (e : Entry) (t : Bool) → (e.actor == a) ≡ t → own a (e
 own_one a e true is = ap (λ (b : Bool). map (λ (k : Entry). k.step) (cond b (e ∷ []) [])) is
 own_one a e false is = ap (λ (b : Bool). map (λ (k : Entry). k.step) (cond b (e ∷ []) [])) is
 
-journal_next : (a : ℕ) (before : List Entry) (e : Entry) (t : Bool) → (e.actor == a) ≡ t → journal_of (own a (before ++ e ∷ [])) ≡ cond t (journal_with (journal_of (own a before)) e.step) (journal_of (own a before))
+pub journal_next : (a : ℕ) (before : List Entry) (e : Entry) (t : Bool) → (e.actor == a) ≡ t → journal_of (own a (before ++ e ∷ [])) ≡ cond t (journal_with (journal_of (own a before)) e.step) (journal_of (own a before))
 journal_next a before e true is = ap journal_of (own-append a before (e ∷ []) ∙ ap (λ (v : List Step). own a before ++ v) (own_one a e true is)) ∙ fold-append journal_with no_journal (own a before) (e.step ∷ [])
 journal_next a before e false is = ap journal_of (own-append a before (e ∷ []) ∙ ap (λ (v : List Step). own a before ++ v) (own_one a e false is) ∙ append-nil (own a before))
 
