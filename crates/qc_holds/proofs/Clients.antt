@@ -14,7 +14,8 @@ use Rattle.qc_client.specs.Conduct.{client_takes}
 use Rattle.qc_core.specs.Actors.{ActorMove, actor_after, actor_takes, by_client, down_takes}
 use Rattle.qc_core.specs.Conduct.{IsLawfulWithFalls, with_record}
 use Rattle.qc_decl.specs.Accepted.{IsAccepted}
-use Rattle.qc_decl.specs.Actors.{actors, is_client, is_site}
+use Rattle.qc_decl.specs.Actors.{actors, client_actor, is_client, is_site}
+use Rattle.std.proofs.lemmas.Bool.{leb-true}
 use Rattle.qc_decl.specs.declared.declaration.Declaration.{Declaration}
 use Rattle.qc_due.proofs.Declared.{run_declares}
 use Rattle.qc_due.proofs.KeptFirst.{kept_first}
@@ -60,6 +61,21 @@ module _ (fits : ℕ → List Record → Type 0) (decl : Declaration) (script : 
       let lived : LivesIn decl a h t = run_lives decl script fits few h open_inputs run a t slot in
       let declared : Declares decl (deeds a [] h) = run_declares decl script fits accepted (asks_declared decl script accepted sound) h open_inputs run (kept_first decl script fits h open_inputs run kept) a in
       client_lives decl a client declared.first (deeds a [] h) t lived.above lived.lives declared.deeds
+
+-- the number of a client
+pub record IsNumbered (decl : Declaration) (a : ℕ) : Type 0 where
+  pub low : a - decl.sites < decl.clients
+  pub is : a ≡ client_actor decl (a - decl.sites)
+
+pub numbered : (decl : Declaration) (a : ℕ) → is_client decl a ≡ true → IsNumbered decl a
+numbered decl a client =
+    let above : decl.sites ≤ a = leb-true decl.sites a (first_true (nat_le decl.sites a) (nat_lt a (actors decl)) client) in
+    let below : a < decl.sites + decl.clients = within decl a client in
+    record { low = omega arith; is = omega arith }
+  where
+    first_true : (x y : Bool) → (x && y) ≡ true → x ≡ true
+    first_true true y is = refl
+    first_true false y is = is
 
 -- a turn with a commit record
 

@@ -7,3 +7,6 @@ pub mod Cast
 pub mod CommitDue
 pub mod Clients
 pub mod Recording
+pub mod Promising
+pub mod Stamps
+pub mod SiteClocks

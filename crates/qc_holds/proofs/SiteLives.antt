@@ -3,6 +3,9 @@ use Rattle.std.proofs.Common.{◌≡◌, ◌≤◌, ◌⊎◌, ℕ, ◌==◌, Bo
 use Rattle.std.proofs.lemmas.List.{append-nil}
 use Rattle.std.proofs.lemmas.List.Sums.{fold-append}
 use Rattle.qc_holds.specs.Votes.{life_at}
+use Rattle.qc_list.specs.Members.{In}
+use Rattle.qc_list.proofs.Members.{In-first}
+use Rattle.qc_reach.specs.Standing.{records_of}
 use Rattle.qc_msg.proofs.Growth.{own-append}
 use Rattle.qc_msg.specs.Deeds.{own}
 use Rattle.qc_msg.specs.Steps.{Entry}
@@ -76,3 +79,36 @@ life_grows a early (e ∷ later) h is kept =
     let one : life_at early a ≤ life_at (early ++ e ∷ []) a = entry_life a early e (kept early later e is) in
     let more : life_at (early ++ e ∷ []) a ≤ life_at h a = life_grows a (early ++ e ∷ []) later h (append_assoc early (e ∷ []) later ∙ is) kept in
     omega arith
+
+-- a record stays in its journal
+
+back_stays : (r : Record) (j : Journal) (given : List Record) → IsGivenBack j given → In r j.records → In r given
+back_stays r j given (inl same) among = subst (In r) (sym same) among
+back_stays r j given (inr more) among = subst (In r) (sym more) (In-first r j.records (option_to_list j.pending) among)
+
+step_stays : (r : Record) (before : List Step) (x : Step) → IsKeptAt before x → In r (journal_of before).records → In r (journal_with (journal_of before) x).records
+step_stays r before (steps.Phase number) kept among = among
+step_stays r before (steps.Cut a b) kept among = among
+step_stays r before (steps.Heal a b) kept among = among
+step_stays r before (steps.Armed actor kind at) kept among = among
+step_stays r before (steps.Called command) kept among = among
+step_stays r before (steps.Got number) kept among = among
+step_stays r before (steps.Lost number) kept among = among
+step_stays r before (steps.Wrote written) kept among = In-first r (journal_of before).records (written ∷ []) among
+step_stays r before (steps.Sent number to message) kept among = among
+step_stays r before (steps.Told reply) kept among = among
+step_stays r before (steps.Fell cause pending) kept among = among
+step_stays r before (steps.Rose given) kept among = back_stays r (journal_of before) given kept among
+step_stays r before (steps.Damaged offset) kept among = absurd kept
+
+entry_stays : (r : Record) (a : ℕ) (before : List Entry) (e : Entry) → IsKeptAt (own e.actor before) e.step → In r (records_of before a) → In r (records_of (before ++ e ∷ []) a)
+entry_stays r a before e kept among = by (e.actor == a) refl
+  where
+    by : (t : Bool) → (e.actor == a) ≡ t → In r (records_of (before ++ e ∷ []) a)
+    by true same = subst (λ (j : Journal). In r j.records) (sym (journal_next a before e true same)) (step_stays r (own a before) e.step (subst (λ (k : ℕ). IsKeptAt (own k before) e.step) (eqb-true e.actor a same) kept) among)
+    by false other = subst (λ (j : Journal). In r j.records) (sym (journal_next a before e false other)) among
+
+pub record_stays : (r : Record) (a : ℕ) (early later h : List Entry) → early ++ later ≡ h → Kept h → In r (records_of early a) → In r (records_of h a)
+record_stays r a early [] h is kept among = subst (λ (k : List Entry). In r (records_of k a)) (sym (append-nil early) ∙ is) among
+record_stays r a early (e ∷ later) h is kept among =
+    record_stays r a (early ++ e ∷ []) later h (append_assoc early (e ∷ []) later ∙ is) kept (entry_stays r a early e (kept early later e is) among)

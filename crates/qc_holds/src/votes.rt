@@ -6,6 +6,8 @@ ghost use Rattle.qc_core.specs.Conduct.{IsLawfulWithFalls};
 ghost use Rattle.qc_decl.specs.Accepted.{IsAccepted};
 ghost use Rattle.qc_decl.specs.Actors.{is_site};
 ghost use Rattle.qc_decl.specs.declared.declaration.Declaration.{Declaration};
+ghost use Rattle.qc_entry.specs.declared.record.Commit.{Commit};
+ghost use Rattle.qc_holds.specs.Recorded.{HaveAllPromised, IsRecorded};
 ghost use Rattle.qc_holds.specs.Votes.{IsCastSince};
 ghost use Rattle.qc_list.specs.Members.{In};
 ghost use Rattle.qc_msg.specs.declared.message.Answer.TheVariants.{Yes};
@@ -13,6 +15,7 @@ ghost use Rattle.qc_msg.specs.declared.message.Envelope.{Envelope};
 ghost use Rattle.qc_msg.specs.declared.message.Message.TheVariants.{Answer};
 ghost use Rattle.qc_msg.specs.Deeds.{mail};
 ghost use Rattle.qc_msg.specs.Steps.{Entry};
+ghost use Rattle.qc_promise.specs.Committed.{committed};
 ghost use Rattle.qc_promise.specs.Kept.{Kept};
 ghost use Rattle.qc_script.specs.RunsWithFalls.{RunsWithFalls};
 ghost use Rattle.qc_script.specs.Sound.{IsScriptFor};
@@ -31,4 +34,15 @@ pub fn votes_are_cast_in_the_lives_that_they_name<C: ConductWithFalls>()
         → (early later : List Entry) (e : Envelope) (to clock : ℕ) → early ++ later ≡ h → In e (mail h)
         → is_site decl e.from ≡ true → e.message ≡ Answer to (Yes clock)
         → In e (mail early) ⊎ IsCastSince early h e.from to }
+{}
+
+/// Each committed record was written by its client, or was being written as it
+/// fell, when it was due; and each site with a grant that counted had voted for
+/// its transaction then, asked for it in the life of its first grant, and has
+/// the record of its promise, which it keeps through its falls.
+pub fn participants_of_committed_transactions_have_promised<C: ConductWithFalls>()
+    ensures { (decl : Declaration) (script : Script) (h : List Entry) (open_inputs : List Bool)
+        → IsAccepted decl → IsScriptFor decl script
+        → RunsWithFalls (IsLawfulWithFalls decl) C.fits decl script h open_inputs → Kept h
+        → (c : Commit) → In c (committed decl h) → (r : IsRecorded decl h c) × HaveAllPromised h r.t }
 {}
