@@ -1,0 +1,2 @@
+//! Order.
+#![tactic(auto)]
