@@ -1,2 +1,4 @@
 pub mod Counts
 pub mod Live
+pub mod Safe
+pub mod Moments
