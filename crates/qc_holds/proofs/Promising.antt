@@ -14,6 +14,7 @@ use Rattle.qc_guarantees.proofs.Grounds.{has_grounds}
 use Rattle.qc_guarantees.proofs.Mailed.{sent_as, sent_mail, taken_mail}
 use Rattle.qc_holds.specs.Recorded.{HasPromised, HaveAllPromised, IsRecorded}
 use Rattle.qc_holds.proofs.CommitDue.{IsAskedAndFor, IsVotedFor, asked_for, due_votes}
+use Rattle.qc_holds.proofs.Clients.{IsCommitting}
 use Rattle.qc_holds.proofs.Nets.{at_number, backed, listed, net, now, one_request, reached}
 use Rattle.qc_holds.proofs.Recording.{Moment, all_recorded}
 use Rattle.qc_holds.proofs.SiteLives.{record_stays}
@@ -159,16 +160,51 @@ promised_later early later h t site is kept p = record {
     more : (e : Envelope) → In e (mail early) → In e (mail h)
     more e there = subst (λ (k : List Entry). In e (mail k)) is (subst (In e) (sym (mail-append early later)) (In-first e (mail early) (mail later) there))
 
+-- a client that has an open input is about to write this record: it is that of the transaction that it has begun, and all
+-- participants have promised
+pub record IsRecording (decl : Declaration) (h : List Entry) (a : ℕ) (c : CommitRecord) : Type 0 where
+  pub t : Current
+  pub begun : (account decl a h).current ≡ Some t
+  pub its : c.tx ≡ t.tx
+  pub ops : c.ops ≡ t.ops
+  pub stamp : c.stamp.clock ≡ (account decl a h).clock + 1
+  pub promised : HaveAllPromised h t
+
+module _ (fits : ℕ → List Record → Type 0) (decl : Declaration) (script : Script) (h : List Entry) (open_inputs : List Bool) (accepted : IsAccepted decl) (sound : IsScriptFor decl script)
+    (run : RunsWithFalls (IsLawfulWithFalls decl) fits decl script h open_inputs) (kept : Kept h) (a : ℕ) (c : CommitRecord) (k : IsCommitting decl a (deeds a [] h) c) where
+  abbrev d : Account
+  d = account decl a h
+
+  votes : (t : Current) × IsVotedFor decl d t
+  votes = due_votes decl d c.stamp k.due.0
+
+  same : record { stamp = c.stamp; tx = votes.0.tx; ops = votes.0.ops } ≡ c
+  same = same_commit d.current votes.0 c.stamp c votes.1.current k.due.1
+
+  account_now : d ≡ account_taken (account_is decl a k.before) k.input
+  account_now = ap (account_is decl a) k.is ∙ account_more decl a k.before (Takes k.input ∷ [])
+
+  promised_now : HaveAllPromised h votes.0
+  promised_now site has =
+      let there : is_site decl site ≡ true = granted_site fits decl script h open_inputs accepted sound run kept a d votes.0 site votes.1.current has in
+      let q : IsAskedAndFor (account_taken (account_is decl a k.before) k.input) votes.0 site =
+      asked_for decl (account_is decl a k.before) k.tied.state k.tied.ties k.input votes.0 (subst (λ (x : Account). IsVotedFor decl x votes.0) account_now votes.1) site (ltb-true site decl.sites there) has in
+      promised_there fits decl script h open_inputs accepted sound run kept a d votes.0 site (subst (λ (x : Account). IsAskedAndFor x votes.0 site) (sym account_now) q) votes.1.current there
+
+  pub recording : IsRecording decl h a c
+  recording = record {
+    t = votes.0;
+    begun = votes.1.current;
+    its = sym (ap (λ (x : CommitRecord). x.tx) same);
+    ops = sym (ap (λ (x : CommitRecord). x.ops) same);
+    stamp = ap (λ (s : Stamp). s.clock) (due_stamp decl d c.stamp k.due.0);
+    promised = promised_now;
+  }
+
 module _ (fits : ℕ → List Record → Type 0) (decl : Declaration) (script : Script) (accepted : IsAccepted decl) (sound : IsScriptFor decl script) (h : List Entry) (kept : Kept h) (a : ℕ) (c : CommitRecord) (client : is_client decl a ≡ true)
     (m : Moment fits decl script accepted sound h a c) where
-  abbrev pub d : Account
-  d = account decl a m.before
-
-  pub votes : (t : Current) × IsVotedFor decl d t
-  votes = due_votes decl d c.stamp m.commits.due.0
-
-  pub same : record { stamp = c.stamp; tx = votes.0.tx; ops = votes.0.ops } ≡ c
-  same = same_commit d.current votes.0 c.stamp c votes.1.current m.commits.due.1
+  pub now_recording : IsRecording decl m.before a c
+  now_recording = recording fits decl script m.before m.open_inputs accepted sound m.run m.kept a c m.commits
 
   abbrev pub recorded_at : IsRecorded decl h c
   recorded_at = record {
@@ -179,25 +215,15 @@ module _ (fits : ℕ → List Record → Type 0) (decl : Declaration) (script : 
     stands = m.stands;
     writing = m.writing;
     client = client;
-    t = votes.0;
-    begun = votes.1.current;
-    its = sym (ap (λ (x : CommitRecord). x.tx) same);
-    ops = sym (ap (λ (x : CommitRecord). x.ops) same);
-    stamp = ap (λ (s : Stamp). s.clock) (due_stamp decl d c.stamp m.commits.due.0);
+    t = now_recording.t;
+    begun = now_recording.begun;
+    its = now_recording.its;
+    ops = now_recording.ops;
+    stamp = now_recording.stamp;
   }
 
-  account_now : d ≡ account_taken (account_is decl a m.commits.before) m.commits.input
-  account_now = ap (account_is decl a) m.commits.is ∙ account_more decl a m.commits.before (Takes m.commits.input ∷ [])
-
-  promised_then : (site : ℕ) → has_granted votes.0.lives site ≡ true → HasPromised m.before votes.0 site
-  promised_then site has =
-      let there : is_site decl site ≡ true = granted_site fits decl script m.before m.open_inputs accepted sound m.run m.kept a d votes.0 site votes.1.current has in
-      let k : IsAskedAndFor (account_taken (account_is decl a m.commits.before) m.commits.input) votes.0 site =
-      asked_for decl (account_is decl a m.commits.before) m.commits.tied.state m.commits.tied.ties m.commits.input votes.0 (subst (λ (x : Account). IsVotedFor decl x votes.0) account_now votes.1) site (ltb-true site decl.sites there) has in
-      promised_there fits decl script m.before m.open_inputs accepted sound m.run m.kept a d votes.0 site (subst (λ (x : Account). IsAskedAndFor x votes.0 site) (sym account_now) k) votes.1.current there
-
   pub all_promised : HaveAllPromised h recorded_at.t
-  all_promised site has = promised_later m.before (by a m.steps ++ m.after) h recorded_at.t site (sym m.stands) kept (promised_then site has)
+  all_promised site has = promised_later m.before (by a m.steps ++ m.after) h recorded_at.t site (sym m.stands) kept (now_recording.promised site has)
 
 module _ (fits : ℕ → List Record → Type 0) (decl : Declaration) (script : Script) (h : List Entry) (open_inputs : List Bool) (accepted : IsAccepted decl) (sound : IsScriptFor decl script)
     (run : RunsWithFalls (IsLawfulWithFalls decl) fits decl script h open_inputs) (kept : Kept h) (c : CommitRecord) (committed_is : In c (committed decl h)) where

@@ -88,14 +88,14 @@ module _ (decl : Declaration) where
   steady_clock d (Falls cause pending) after steady is = absurd steady.0
   steady_clock d (Rises kept) after steady is = absurd steady.0
 
-  steady_clocks : (ds rest : List Deed) (d : Account) → AreSteady ds → AreDeedsDue decl d (ds ++ rest) → d.clock ≤ (fold (account_at decl) d ds).clock
+  pub steady_clocks : (ds rest : List Deed) (d : Account) → AreSteady ds → AreDeedsDue decl d (ds ++ rest) → d.clock ≤ (fold (account_at decl) d ds).clock
   steady_clocks [] rest d steady is = omega arith
   steady_clocks (x ∷ ds) rest d steady is =
       let first : d.clock ≤ (account_at decl d x).clock = steady_clock d x (ds ++ rest) (steady.0, tt) is.0 in
       let more : (account_at decl d x).clock ≤ (fold (account_at decl) (account_at decl d x) ds).clock = steady_clocks ds rest (account_at decl d x) steady.1 is.1 in
       omega arith
 
-  due_behind : (xs ys : List Deed) (d : Account) → AreDeedsDue decl d (xs ++ ys) → AreDeedsDue decl (fold (account_at decl) d xs) ys
+  pub due_behind : (xs ys : List Deed) (d : Account) → AreDeedsDue decl d (xs ++ ys) → AreDeedsDue decl (fold (account_at decl) d xs) ys
   due_behind [] ys d is = is
   due_behind (x ∷ xs) ys d is = due_behind xs ys (account_at decl d x) is.1
 

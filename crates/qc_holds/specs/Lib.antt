@@ -1,3 +1,4 @@
 pub mod Votes
 pub mod Recorded
 pub mod Counted
+pub mod Wrong

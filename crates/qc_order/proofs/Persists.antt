@@ -131,7 +131,7 @@ module _ (decl : Declaration) where
   moves_front [] ys d moves = tt
   moves_front (x ∷ xs) ys d moves = (moves.0, moves_front xs ys (account_at decl d x) moves.1)
 
-  moves_back : (xs ys : List Deed) (d : Account) → AreMoves d (xs ++ ys) → AreMoves (run d xs) ys
+  pub moves_back : (xs ys : List Deed) (d : Account) → AreMoves d (xs ++ ys) → AreMoves (run d xs) ys
   moves_back [] ys d moves = moves
   moves_back (x ∷ xs) ys d moves = moves_back xs ys (account_at decl d x) moves.1
 

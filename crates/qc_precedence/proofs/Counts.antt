@@ -127,7 +127,3 @@ module _ (decl : Declaration) where
 
   pub counts_all : (client : ℕ) (ds rest : List Deed) → AreDeedsDue decl (new_account client) (ds ++ rest) → Counts (fold (account_at decl) (new_account client) ds)
   counts_all client ds rest due = all_counts ds rest (new_account client) due (record { down = λ down. refl; numbered = λ t none. absurd (let never : ⊥ = cc in never) })
-
-  pub due_behind : (xs ys : List Deed) (d : Account) → AreDeedsDue decl d (xs ++ ys) → AreDeedsDue decl (fold (account_at decl) d xs) ys
-  due_behind [] ys d is = is
-  due_behind (x ∷ xs) ys d is = due_behind xs ys (account_at decl d x) is.1

@@ -2,3 +2,4 @@ pub mod Counts
 pub mod Live
 pub mod Safe
 pub mod Moments
+pub mod Law

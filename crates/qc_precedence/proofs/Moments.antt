@@ -35,6 +35,7 @@ use Rattle.qc_msg.specs.declared.turn.Appended.TheVariants as ends
 use Rattle.qc_msg.specs.declared.turn.Posting.{Posting}
 use Rattle.qc_msg.specs.declared.turn.Turn.{Turn}
 use Rattle.qc_net.specs.Net.{commits_in}
+use Rattle.qc_atomic.proofs.Posted.{taken_writes}
 use Rattle.qc_atomic.proofs.Silent.{site_silent}
 use Rattle.qc_order.proofs.Moments.{First, IsFirst, Second, first_posted, none_in, one_in, split, wrote}
 use Rattle.qc_promise.specs.Kept.{Kept}
@@ -51,11 +52,6 @@ use Rattle.qc_script.specs.declared.script.Script.{Script}
 use Rattle.qc_site.specs.Conduct.{site_takes}
 
 -- steps that write no commit record
-
-input_none : (g : Given) → commit_in (step_of g) ≡ None
-input_none (given.Called command) = refl
-input_none (given.Got envelope) = refl
-input_none (given.Lost number) = refl
 
 line_none : (line : Control) (step : Step) → controller_step line ≡ Some step → commit_in step ≡ None
 line_none (controls.Phase k) step is = absurd (let never : ⊥ = cc in never)
@@ -150,7 +146,7 @@ module _ (fits : ℕ → List Record → Type 0) (decl : Declaration) (script : 
   moment h inputs begins kept before a c after is = absurd (none_in [] (λ e never. absurd never) before a c after is)
   moment h inputs (takes b g slots older run free rdy) kept before a c after is = elim (split older (marked b (step_of g) ∷ []) before (wrote a c) after is) [
     | First m s ↦ moment older slots run (kept_of_first older _ kept) before a c m s
-    | Second m e s ↦ absurd (one_in (marked b (step_of g)) (input_none g) m a c after s)
+    | Second m e s ↦ absurd (one_in (marked b (step_of g)) (taken_writes g) m a c after s)
   ]
   moment h inputs (posts b turn slots older run taken law) kept before a c after is = elim (split older (by b (posted_as turn.append (length (mail older)) turn)) before (wrote a c) after is) [
     | First m s ↦ moment older slots run (kept_of_first older _ kept) before a c m s
