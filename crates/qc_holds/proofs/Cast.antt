@@ -1,15 +1,14 @@
 -- Each vote of a run with falls is one of its first entries, or its request names no life of its site, or none before the
 -- one that the site's records gave then.
-use Rattle.std.proofs.Common.{◌≡◌, ◌≤◌, ◌⊎◌, ◌+◌, ◌-◌, ℕ, Bool, true, false, List, [], ◌∷◌, ◌++◌, inl, inr, length, Option, Some, slice_get, refl, sym, ap, ◌∙◌, subst, arith, append_assoc}
+use Rattle.std.proofs.Common.{◌≡◌, ◌≤◌, ◌⊎◌, ◌+◌, ℕ, Bool, true, List, [], ◌∷◌, ◌++◌, inl, inr, length, Some, slice_get, refl, sym, ap, ◌∙◌, subst, arith}
 use Rattle.std.proofs.lemmas.List.{append-nil}
 use Rattle.qc_core.specs.Conduct.{IsLawfulWithFalls}
 use Rattle.qc_decl.specs.Accepted.{IsAccepted}
-use Rattle.qc_decl.specs.Actors.{controller, is_client, is_site}
+use Rattle.qc_decl.specs.Actors.{controller, is_site}
 use Rattle.qc_decl.specs.declared.declaration.Declaration.{Declaration}
 use Rattle.qc_holds.specs.Votes.{IsCastSince, life_at}
 use Rattle.qc_holds.proofs.SiteLives.{life_grows}
 use Rattle.qc_holds.proofs.Voting.{IsCast, post_casts, rise_casts}
-use Rattle.qc_inbox.proofs.FallMail.{ready_sent}
 use Rattle.qc_laws.proofs.Numbered.{mail-silent, phase_silent}
 use Rattle.qc_list.specs.Members.{In}
 use Rattle.qc_list.proofs.Members.{In-first}
@@ -23,11 +22,9 @@ use Rattle.qc_msg.specs.declared.message.Message.TheVariants as messages
 use Rattle.qc_msg.specs.declared.record.Record.{Record}
 use Rattle.qc_msg.specs.declared.step.Step.TheVariants as steps
 use Rattle.qc_msg.specs.declared.turn.Turn.{Turn}
-use Rattle.qc_net.proofs.Kepts.{no_client}
 use Rattle.qc_net.proofs.Posts.{Place, placed}
 use Rattle.qc_onecopy.proofs.Lists.{in_split}
 use Rattle.qc_promise.specs.Kept.{Kept}
-use Rattle.qc_reach.proofs.Posting.{no_turn}
 use Rattle.qc_reach.proofs.RunsStand.{kept_of_first, runs_stand}
 use Rattle.qc_reach.proofs.Stood.{Stood}
 use Rattle.qc_script.specs.Ready.{phase_of}

@@ -1,6 +1,6 @@
 -- Each client of a run with falls is as its deeds say, where it has an open input and where it has none; and with a turn
 -- that has a commit record, this is due.
-use Rattle.std.proofs.Common.{◌≡◌, ◌≢◌, ◌<◌, ◌≤◌, ◌+◌, ◌-◌, ◌&&◌, ℕ, nat_le, nat_lt, Bool, true, false, cond, List, [], ◌∷◌, ◌++◌, inl, inr, fold, Option, Some, None, slice_get, refl, sym, ap, ◌∙◌, subst, arith, ltb-true}
+use Rattle.std.proofs.Common.{◌≡◌, ◌<◌, ◌≤◌, ◌+◌, ◌-◌, ◌&&◌, ℕ, nat_le, nat_lt, Bool, true, false, List, [], ◌∷◌, ◌++◌, Option, Some, slice_get, refl, sym, ap, ◌∙◌, subst, arith, ltb-true}
 use Rattle.qc_account.proofs.Commands.{free_for}
 use Rattle.qc_account.proofs.Declared.{asks_declared}
 use Rattle.qc_account.proofs.Lifelong.{client_lives}
@@ -11,10 +11,10 @@ use Rattle.qc_account.specs.Declares.{Declares}
 use Rattle.qc_account.specs.DeedsDue as rows
 use Rattle.qc_account.specs.Goes.{Goes}
 use Rattle.qc_client.specs.Conduct.{client_takes}
-use Rattle.qc_core.specs.Actors.{ActorMove, actor_after, actor_takes, by_client, down_takes}
+use Rattle.qc_core.specs.Actors.{ActorMove, actor_after, actor_takes, down_takes}
 use Rattle.qc_core.specs.Conduct.{IsLawfulWithFalls, with_record}
 use Rattle.qc_decl.specs.Accepted.{IsAccepted}
-use Rattle.qc_decl.specs.Actors.{actors, client_actor, is_client, is_site}
+use Rattle.qc_decl.specs.Actors.{actors, client_actor, is_client}
 use Rattle.std.proofs.lemmas.Bool.{leb-true}
 use Rattle.qc_decl.specs.declared.declaration.Declaration.{Declaration}
 use Rattle.qc_due.proofs.Declared.{run_declares}
@@ -31,8 +31,8 @@ use Rattle.qc_msg.specs.declared.record.Record.TheVariants.{Commit}
 use Rattle.qc_msg.specs.declared.step.Given.{Given}
 use Rattle.qc_msg.specs.declared.step.Given.TheVariants as given
 use Rattle.qc_msg.specs.declared.turn.Turn.{Turn}
-use Rattle.qc_promise.specs.Account.{Account, Current}
-use Rattle.qc_promise.specs.Accounting.{account, account_at, account_taken}
+use Rattle.qc_promise.specs.Account.{Account}
+use Rattle.qc_promise.specs.Accounting.{account_taken}
 use Rattle.qc_promise.specs.Kept.{Kept}
 use Rattle.qc_promise.specs.Replies.{IsRecordDue}
 use Rattle.qc_promise.specs.Rows.{running_row}

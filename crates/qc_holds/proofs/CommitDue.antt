@@ -1,8 +1,8 @@
 -- A commit record is due where each participant of the begun transaction was asked for its promise, in the life of its
 -- first grant that counted, and has voted for it.
-use Rattle.std.proofs.Common.{◌≡◌, ◌≢◌, ◌<◌, ◌≤◌, ◌+◌, zero, suc, ◌-◌, ◌==◌, ◌&&◌, ℕ, nat_lt, nat_le, Bool, true, false, cond, if◌then◌else◌, List, [], ◌∷◌, ◌++◌, inl, inr, length, map, filter, Option, Some, None, is_some, refl, sym, ap, ◌∙◌, subst, arith, eqb-true, ltb-true, ltb-false}
+use Rattle.std.proofs.Common.{◌≡◌, ◌≢◌, ◌<◌, ◌≤◌, ◌+◌, zero, suc, ◌-◌, ◌==◌, ◌&&◌, ℕ, nat_lt, Bool, true, false, cond, if◌then◌else◌, List, [], ◌∷◌, inl, inr, length, filter, Option, Some, None, is_some, refl, sym, ap, ◌∙◌, subst, arith, eqb-true, ltb-true, ltb-false}
 use Rattle.std.specs.Prelude.{option_and_then}
-use Rattle.std.specs.List.{AllByRecursion as Every, find, list_all, range_with_len}
+use Rattle.std.specs.List.{find, list_all, range_with_len}
 use Rattle.std.specs.Option.{option_or}
 use Rattle.qc_decl.specs.Actors.{first_site}
 use Rattle.qc_decl.specs.declared.declaration.Declaration.{Declaration}
@@ -15,8 +15,7 @@ use Rattle.qc_msg.specs.declared.message.Answer.TheVariants as answers
 use Rattle.qc_msg.specs.declared.message.Message.{Message}
 use Rattle.qc_msg.specs.declared.message.Message.TheVariants as messages
 use Rattle.qc_msg.specs.declared.message.Want.{Want}
-use Rattle.qc_msg.specs.declared.message.Want.TheVariants.{Append, Prepare, Read}
-use Rattle.qc_msg.specs.declared.reply.Reply.{Reply}
+use Rattle.qc_msg.specs.declared.message.Want.TheVariants.{Prepare}
 use Rattle.qc_msg.specs.declared.reply.Reply.TheVariants as replies
 use Rattle.qc_msg.specs.declared.reply.Why.{Why}
 use Rattle.qc_msg.specs.declared.reply.Why.TheVariants as causes
@@ -24,11 +23,11 @@ use Rattle.qc_msg.specs.declared.step.Command.{Command}
 use Rattle.qc_msg.specs.declared.step.Command.TheVariants as commands
 use Rattle.qc_msg.specs.declared.step.Given.{Given}
 use Rattle.qc_msg.specs.declared.step.Given.TheVariants as given
-use Rattle.qc_account.specs.Ties.{IsPrepare, NoneRuns, Ties, Votes, appends, reads, rests, votes}
+use Rattle.qc_account.specs.Ties.{IsPrepare, NoneRuns, Ties, appends, reads, rests, votes}
 use Rattle.qc_client.specs.declared.client.Client.{Client}
 use Rattle.qc_net.proofs.Nets.{place}
 use Rattle.qc_guarantees.proofs.Accounts.{told_requests}
-use Rattle.qc_onecopy.proofs.Lists.{Mapped, in_map, map_in}
+use Rattle.qc_onecopy.proofs.Lists.{Mapped, map_in}
 use Rattle.qc_plan.specs.Round.{cyclic}
 use Rattle.qc_promise.specs.Account.{Account, ClientRequest, Current, is_prepare, requests_for}
 use Rattle.qc_promise.specs.Accounting.{account_heard, account_taken, counted, counted_for, granted, is_open, promised, taken_for, told_by}

@@ -15,10 +15,9 @@ use Rattle.qc_guarantees.proofs.Room.{numbered_within}
 use Rattle.qc_holds.proofs.Nets.{backed, listed, now, refined}
 use Rattle.qc_list.specs.Members.{In}
 use Rattle.qc_list.proofs.Members.{In-first, In-more, In-second}
-use Rattle.qc_lock.specs.declared.held.Held.{Held}
 use Rattle.qc_lock.specs.Held.{held_of}
-use Rattle.qc_msg.specs.Deeds.{Deed, Falls, Rises, Sends, Takes, Tells, Writes, deeds, mail}
-use Rattle.qc_msg.specs.Readings.{Decided, decision_in, got_in, request_in, risen_in}
+use Rattle.qc_msg.specs.Deeds.{Deed, Takes, deeds, mail}
+use Rattle.qc_msg.specs.Readings.{request_in, risen_in}
 use Rattle.qc_msg.specs.Steps.{Entry}
 use Rattle.qc_msg.specs.declared.message.Envelope.{Envelope}
 use Rattle.qc_msg.specs.declared.message.Message.{Message}

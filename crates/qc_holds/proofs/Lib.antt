@@ -10,3 +10,4 @@ pub mod Recording
 pub mod Promising
 pub mod Stamps
 pub mod SiteClocks
+pub mod WrongOnes

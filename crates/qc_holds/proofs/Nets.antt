@@ -1,5 +1,5 @@
 -- Of a run with falls whose records are kept: its net, the machine's run that this is, and what stands behind its mail.
-use Rattle.std.proofs.Common.{◌≡◌, ◌≢◌, ◌↔◌, ℕ, Bool, List, Some, slice_get, refl, sym, ap, ◌∙◌, subst}
+use Rattle.std.proofs.Common.{◌≡◌, ◌↔◌, ℕ, Bool, List, Some, slice_get, sym, ap, ◌∙◌, subst}
 use Rattle.qc_core.specs.Conduct.{IsLawfulWithFalls}
 use Rattle.qc_decl.specs.Accepted.{IsAccepted}
 use Rattle.qc_decl.specs.declared.declaration.Declaration.{Declaration}
@@ -32,7 +32,7 @@ use Rattle.qc_reach.proofs.Reaching.{net_of}
 use Rattle.qc_reach.proofs.RunLaws.{apart}
 use Rattle.qc_reach.proofs.Written.{Agree, written_are}
 use Rattle.qc_msg.specs.declared.record.Record.TheVariants as journals
-use Rattle.std.proofs.Common.{inl, inr}
+use Rattle.std.proofs.Common.{inr}
 
 module _ (fits : ℕ → List Record → Type 0) (decl : Declaration) (script : Script) (h : List Entry) (open_inputs : List Bool) (accepted : IsAccepted decl) (sound : IsScriptFor decl script)
     (run : RunsWithFalls (IsLawfulWithFalls decl) fits decl script h open_inputs) (kept : Kept h) where

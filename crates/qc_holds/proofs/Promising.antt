@@ -1,12 +1,11 @@
 -- As a commit record is written, or is being written, each site with a grant that counted has voted for the transaction,
 -- asked for it in the life of that grant, and has the record of its promise, which it keeps.
-use Rattle.std.proofs.Common.{◌≡◌, ◌<◌, ◌+◌, ◌-◌, ◌∷◌, ◌++◌, ℕ, Bool, true, List, [], inl, Option, Some, option_map, slice_get, refl, sym, ap, ◌∙◌, subst, ltb-true}
+use Rattle.std.proofs.Common.{◌≡◌, ◌+◌, ◌-◌, ◌∷◌, ◌++◌, ℕ, Bool, true, List, [], inl, Option, Some, option_map, slice_get, refl, sym, ap, ◌∙◌, subst, ltb-true}
 use Rattle.qc_account.proofs.Standing.{account_is, account_more}
 use Rattle.qc_core.specs.Conduct.{IsLawfulWithFalls}
 use Rattle.qc_decl.specs.Accepted.{IsAccepted}
 use Rattle.qc_decl.specs.Actors.{is_client, is_site}
 use Rattle.qc_decl.specs.declared.declaration.Declaration.{Declaration}
-use Rattle.qc_entry.specs.declared.line.Op.{Op}
 use Rattle.qc_entry.specs.declared.record.Commit.{Commit as CommitRecord}
 use Rattle.qc_guarantees.proofs.Accounts.{HasGrounds, WasGranted, WasSent, WasTaken}
 use Rattle.qc_guarantees.proofs.DueStamps.{due_stamp}
@@ -21,25 +20,21 @@ use Rattle.qc_holds.proofs.SiteLives.{record_stays}
 use Rattle.qc_list.specs.Members.{In}
 use Rattle.qc_list.proofs.Members.{In-first}
 use Rattle.qc_msg.proofs.Growth.{mail-append}
-use Rattle.qc_msg.specs.Begun.{has_granted, life_of}
+use Rattle.qc_msg.specs.Begun.{has_granted}
 use Rattle.qc_msg.specs.Deeds.{Deed, Sends, Takes, deeds, mail}
 use Rattle.qc_msg.specs.Steps.{Entry, by}
-use Rattle.qc_msg.specs.declared.message.Answer.{Answer as AnswerKind}
 use Rattle.qc_msg.specs.declared.message.Answer.TheVariants as answers
 use Rattle.qc_msg.specs.declared.message.Envelope.{Envelope}
-use Rattle.qc_msg.specs.declared.message.Message.{Message}
 use Rattle.qc_msg.specs.declared.message.Message.TheVariants as messages
 use Rattle.qc_msg.specs.declared.message.Want.{Want}
 use Rattle.qc_msg.specs.declared.message.Want.TheVariants.{Prepare}
 use Rattle.qc_msg.specs.declared.record.Record.{Record}
 use Rattle.qc_msg.specs.declared.record.Record.TheVariants as records
-use Rattle.qc_msg.specs.declared.step.Given.TheVariants as given
 use Rattle.qc_net.specs.Messages.{IsGrantTo, IsRequest, IsVoteTo}
-use Rattle.qc_promise.specs.Account.{Account, ClientRequest, Current}
+use Rattle.qc_promise.specs.Account.{Account, Current}
 use Rattle.qc_promise.specs.Accounting.{account, account_taken}
 use Rattle.qc_promise.specs.Committed.{committed}
 use Rattle.qc_promise.specs.Kept.{Kept}
-use Rattle.qc_protocol.specs.State.{State}
 use Rattle.qc_reach.proofs.RunLaws.{recorded}
 use Rattle.qc_reach.proofs.Committing.{standing}
 use Rattle.qc_reach.specs.Standing.{IsOfClient, IsPromiseRecorded, records_of}

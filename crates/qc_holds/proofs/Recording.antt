@@ -1,8 +1,7 @@
 -- Each commit record in a client's journal, or pending there, was written, or was being written, in a post of that client,
 -- where it was due.
-use Rattle.std.proofs.Common.{◌≡◌, ◌≢◌, ◌⊎◌, ◌+◌, ◌-◌, ◌==◌, ℕ, Bool, true, false, cond, List, [], ◌∷◌, ◌++◌, inl, inr, fold, length, Option, Some, None, option_to_list, slice_get, refl, sym, ap, ◌∙◌, subst, append_assoc, eqb-true}
+use Rattle.std.proofs.Common.{◌≡◌, ◌⊎◌, ◌+◌, ◌-◌, ◌==◌, ℕ, Bool, true, false, cond, List, [], ◌∷◌, ◌++◌, inl, inr, length, Option, Some, None, option_to_list, slice_get, refl, sym, ap, ◌∙◌, subst, append_assoc, eqb-true}
 use Rattle.qc_account.proofs.Standing.{actor_more, turn_is}
-use Rattle.qc_account.proofs.Writing.{IsClientTurn, IsCommitTurn}
 use Rattle.qc_client.specs.Conduct.{client_takes}
 use Rattle.qc_core.specs.Actors.{ActorMove, actor_after, actor_takes, by_client, by_site}
 use Rattle.qc_core.specs.Conduct.{IsLawfulWithFalls, with_record}
@@ -10,7 +9,7 @@ use Rattle.qc_core.specs.Journals.{journal_after, journal_at}
 use Rattle.qc_core.proofs.LivesLaws.{journal}
 use Rattle.qc_core.proofs.LivesLaws as actor_laws
 use Rattle.qc_decl.specs.Accepted.{IsAccepted}
-use Rattle.qc_decl.specs.Actors.{controller, is_client, is_site}
+use Rattle.qc_decl.specs.Actors.{controller, is_client}
 use Rattle.qc_decl.specs.declared.declaration.Declaration.{Declaration}
 use Rattle.qc_entry.specs.declared.record.Commit.{Commit as CommitRecord}
 use Rattle.qc_holds.specs.Recorded.{AreWriting}
@@ -23,11 +22,9 @@ use Rattle.qc_msg.specs.Steps.{Entry, by, marked, posted_as, step_of, sents, tol
 use Rattle.qc_msg.specs.Steps as post
 use Rattle.qc_msg.specs.declared.record.Record.{Record}
 use Rattle.qc_msg.specs.declared.record.Record.TheVariants.{Commit, Life}
-use Rattle.qc_msg.specs.declared.reply.Reply.{Reply}
 use Rattle.qc_msg.specs.declared.reply.Reply.TheVariants.{Unknown}
 use Rattle.qc_msg.specs.declared.step.Control.{Control}
 use Rattle.qc_msg.specs.declared.step.Control.TheVariants as controls
-use Rattle.qc_msg.specs.declared.step.Fall.{Fall}
 use Rattle.qc_msg.specs.declared.step.Fall.TheVariants as causes
 use Rattle.qc_msg.specs.declared.step.Given.{Given}
 use Rattle.qc_msg.specs.declared.step.Given.TheVariants as given
@@ -35,14 +32,12 @@ use Rattle.qc_msg.specs.declared.step.Step.{Step}
 use Rattle.qc_msg.specs.declared.step.Step.TheVariants as steps
 use Rattle.qc_msg.specs.declared.turn.Appended.{Appended}
 use Rattle.qc_msg.specs.declared.turn.Appended.TheVariants as ends
-use Rattle.qc_msg.specs.declared.turn.Posting.{Posting}
 use Rattle.qc_msg.specs.declared.turn.Turn.{Turn}
 use Rattle.qc_onecopy.proofs.Lists.{in_split}
-use Rattle.qc_promise.specs.Kept.{IsGivenBack, Journal, Kept, journal_of, journal_with, no_journal, pending_with}
+use Rattle.qc_promise.specs.Kept.{IsGivenBack, Journal, Kept, journal_of, journal_with, no_journal}
 use Rattle.qc_reach.proofs.Growing.{ended_journal, journal_posted}
 use Rattle.qc_reach.proofs.RunsStand.{kept_of_first}
 use Rattle.qc_reach.proofs.Stood.{not_site}
-use Rattle.qc_reach.specs.Standing.{records_of}
 use Rattle.qc_recover.specs.Clients.{client_rises}
 use Rattle.qc_recover.specs.Sites.{site_rises}
 use Rattle.qc_script.specs.Ready.{controller_step, phase_of}

@@ -1,6 +1,5 @@
 -- A site's clock has passed the lines that it knows, through falls.
-use Rattle.std.proofs.Common.{◌≡◌, ◌≤◌, ◌+◌, ℕ, Bool, true, false, List, [], inl, Some, slice_get, sym, ap, ◌∙◌, subst, arith, ltb-true}
-use Rattle.qc_core.specs.Actors.{actor_after}
+use Rattle.std.proofs.Common.{◌≡◌, ◌≤◌, ℕ, Bool, true, false, List, [], inl, Some, slice_get, sym, ◌∙◌, subst, arith, ltb-true}
 use Rattle.qc_core.specs.Conduct.{IsLawfulWithFalls}
 use Rattle.qc_core.specs.Lives.{is_up}
 use Rattle.qc_core.specs.Sites.{IsShown}

@@ -1,5 +1,5 @@
 -- The life that a site's records give it only grows, where records are kept.
-use Rattle.std.proofs.Common.{◌≡◌, ◌≤◌, ◌⊎◌, ℕ, ◌==◌, Bool, true, false, cond, List, [], ◌∷◌, ◌++◌, inl, inr, map, fold, Option, option_to_list, refl, sym, ap, ◌∙◌, subst, arith, eqb-true, append_assoc}
+use Rattle.std.proofs.Common.{◌≡◌, ◌≤◌, ℕ, ◌==◌, Bool, true, false, cond, List, [], ◌∷◌, ◌++◌, inl, inr, map, fold, option_to_list, refl, sym, ap, ◌∙◌, subst, arith, eqb-true, append_assoc}
 use Rattle.std.proofs.lemmas.List.{append-nil}
 use Rattle.std.proofs.lemmas.List.Sums.{fold-append}
 use Rattle.qc_holds.specs.Votes.{life_at}

@@ -1,12 +1,12 @@
 -- The stamp of a record has passed each clock that its client counted before in that life.
-use Rattle.std.proofs.Common.{◌≡◌, ◌<◌, ◌≤◌, ◌+◌, ◌-◌, ℕ, Bool, true, false, cond, if◌then◌else◌, List, [], ◌∷◌, ◌++◌, fold, Option, Some, None, is_some, refl, sym, ap, ◌∙◌, subst, arith, append_assoc}
+use Rattle.std.proofs.Common.{◌≡◌, ◌<◌, ◌≤◌, ◌+◌, ◌-◌, ℕ, Bool, true, false, if◌then◌else◌, List, [], ◌∷◌, ◌++◌, fold, Option, Some, None, refl, sym, ap, ◌∙◌, subst, arith, append_assoc}
 use Rattle.std.specs.Prelude.{option_and_then}
 use Rattle.std.proofs.lemmas.List.Sums.{fold-append}
 use Rattle.qc_account.proofs.Declared.{asks_declared}
 use Rattle.qc_core.specs.Conduct.{IsLawfulWithFalls}
 use Rattle.qc_core.specs.Lives.{AreSteady}
 use Rattle.qc_decl.specs.Accepted.{IsAccepted}
-use Rattle.qc_decl.specs.Actors.{actors, client_actor, is_client}
+use Rattle.qc_decl.specs.Actors.{actors, is_client}
 use Rattle.qc_decl.specs.declared.declaration.Declaration.{Declaration}
 use Rattle.qc_due.proofs.KeptFirst.{kept_due}
 use Rattle.qc_entry.specs.declared.record.Commit.{Commit as CommitRecord}
@@ -22,7 +22,6 @@ use Rattle.qc_msg.specs.Deeds.{Deed, Falls, Rises, Sends, Takes, Tells, Writes, 
 use Rattle.qc_msg.specs.Steps.{Entry, by}
 use Rattle.qc_msg.specs.declared.message.Message.{Message}
 use Rattle.qc_msg.specs.declared.record.Record.{Record}
-use Rattle.qc_msg.specs.declared.reply.Reply.{Reply}
 use Rattle.qc_msg.specs.declared.reply.Reply.TheVariants as replies
 use Rattle.qc_msg.specs.declared.reply.Why.{Why}
 use Rattle.qc_msg.specs.declared.reply.Why.TheVariants as causes

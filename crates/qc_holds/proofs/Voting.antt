@@ -1,15 +1,15 @@
 -- A site that posts a turn votes in the life that its records give it, then and after the turn, where the request names
 -- one; and no other event votes.
-use Rattle.std.proofs.Common.{◌≡◌, ◌≢◌, ◌≤◌, ◌⊎◌, ℕ, ◌==◌, not, Bool, true, false, cond, List, [], ◌∷◌, ◌++◌, inl, inr, length, map, ◌-◌, Option, Some, None, option_to_list, slice_get, refl, sym, ap, ◌∙◌, subst, arith}
+use Rattle.std.proofs.Common.{◌≡◌, ◌≤◌, ◌⊎◌, ℕ, not, Bool, true, false, cond, List, [], ◌∷◌, ◌++◌, inl, inr, length, map, ◌-◌, Some, option_to_list, slice_get, refl, sym, ap, ◌∙◌, subst, arith}
 use Rattle.qc_core.specs.declared.actor.Actor.{Actor}
-use Rattle.qc_core.specs.Actors.{ActorMove, actor_after, actor_rises, actor_takes, by_client, by_site}
+use Rattle.qc_core.specs.Actors.{ActorMove, actor_after, actor_takes, by_client, by_site}
 use Rattle.qc_core.specs.Conduct.{IsLawfulWithFalls, with_record}
 use Rattle.qc_core.specs.Journals.{journal_after}
 use Rattle.qc_core.specs.Lives.{is_up}
 use Rattle.qc_core.proofs.LivesLaws.{journal}
 use Rattle.qc_core.proofs.LivesLaws as actor_laws
 use Rattle.qc_decl.specs.Accepted.{IsAccepted}
-use Rattle.qc_decl.specs.Actors.{is_client, is_site}
+use Rattle.qc_decl.specs.Actors.{is_site}
 use Rattle.qc_decl.specs.declared.declaration.Declaration.{Declaration}
 use Rattle.qc_epoch.specs.SiteRows.{takes}
 use Rattle.qc_holds.specs.Votes.{life_at}
@@ -21,7 +21,7 @@ use Rattle.qc_entry.specs.declared.record.Prepared.{Prepared}
 use Rattle.qc_msg.specs.declared.step.Step.TheVariants as steps
 use Rattle.qc_lives.proofs.Downs.{due, tells, up_is}
 use Rattle.qc_msg.proofs.Growth.{deeds-append, deeds-posted_as, deeds-rose}
-use Rattle.qc_msg.specs.Deeds.{Deed, WasSentTo, deeds, deeds_as, envelopes, mail}
+use Rattle.qc_msg.specs.Deeds.{Deed, WasSentTo, deeds, envelopes, mail}
 use Rattle.qc_msg.specs.Steps.{Entry, HasRecord, MayEnd, by, posted_as, sends_as}
 use Rattle.qc_msg.specs.declared.message.Answer.TheVariants as answers
 use Rattle.qc_msg.specs.declared.message.Envelope.{Envelope}
@@ -39,17 +39,16 @@ use Rattle.qc_net.specs.Net.{MayCome, Net, after_site}
 use Rattle.qc_net.specs.Net as nets
 use Rattle.qc_net.specs.Steps.{IsNamedLater}
 use Rattle.qc_net.specs.Steps as later_nets
-use Rattle.qc_net.proofs.Machine.{put_other}
 use Rattle.qc_net.proofs.Refining.{refines}
 use Rattle.qc_net.proofs.SiteVotes.{no_inquiry, take_silent}
 use Rattle.qc_net.proofs.VotesLater.{votes_later}
-use Rattle.qc_promise.specs.Kept.{Journal, journal_of}
+use Rattle.qc_promise.specs.Kept.{Journal}
 use Rattle.qc_protocol.proofs.Names.{put_here}
-use Rattle.qc_reach.proofs.Growing.{ended_journal, journal_posted}
+use Rattle.qc_reach.proofs.Growing.{journal_posted}
 use Rattle.qc_reach.proofs.OneEpoch.{takes_so}
 use Rattle.qc_reach.proofs.Posting.{never_up}
 use Rattle.qc_reach.proofs.Stood.{Stands, Stood, in_site}
-use Rattle.qc_reach.specs.Reached.{HasTaken, TakesInputs}
+use Rattle.qc_reach.specs.Reached.{HasTaken}
 use Rattle.qc_recover.specs.Clients.{client_rises}
 use Rattle.qc_recover.specs.Sites.{in_order, kept_by, site_rises}
 use Rattle.qc_site.proofs.Rows.{life_stays}

@@ -1,13 +1,11 @@
 -- The ordering lemma through falls. If the writer's record was there at the moment, the reader was live in the machine of that
 -- moment and safe, and the writer had committed: so the line was in the view. It wasn't written between the moment and the
 -- reader's record: both would have been live and safe. If it was written later, its client's clock had passed the reader's stamp.
-use Rattle.std.proofs.Common.{◌≡◌, ◌≢◌, ◌⊎◌, ◌<◌, ◌≤◌, ◌+◌, ◌-◌, if◌then◌else◌, ℕ, Bool, true, List, [], ◌∷◌, ◌++◌, inl, inr, fold, Option, Some, refl, sym, ap, ◌∙◌, subst, arith, append_assoc}
-use Rattle.std.specs.List.{flat_map}
+use Rattle.std.proofs.Common.{◌≡◌, ◌≢◌, ◌≤◌, ◌+◌, ◌-◌, if◌then◌else◌, ℕ, Bool, true, List, [], ◌∷◌, ◌++◌, inl, inr, fold, Some, refl, sym, ap, ◌∙◌, subst, arith, append_assoc}
 use Rattle.std.proofs.lemmas.List.{append-nil}
 use Rattle.std.proofs.lemmas.List.Elements.{filter_map-append}
 use Rattle.std.proofs.lemmas.List.Sums.{fold-append}
 use Rattle.qc_core.specs.Conduct.{IsLawfulWithFalls}
-use Rattle.qc_core.specs.Lives.{AreSteady}
 use Rattle.qc_decl.specs.Accepted.{IsAccepted}
 use Rattle.qc_decl.specs.Actors.{is_client}
 use Rattle.qc_decl.specs.declared.declaration.Declaration.{Declaration}
@@ -39,7 +37,7 @@ use Rattle.qc_precedence.proofs.Moments.{WroteAt, moment}
 use Rattle.qc_precedence.proofs.Safe.{first_epochs, safe}
 use Rattle.qc_promise.specs.Account.{Account, Current, new_account, view_of}
 use Rattle.qc_promise.specs.Accounting.{account, account_at}
-use Rattle.qc_promise.specs.Committed.{commits_by, commits_in, committed, records}
+use Rattle.qc_promise.specs.Committed.{commits_by, commits_in, records}
 use Rattle.qc_promise.specs.Kept.{Kept}
 use Rattle.qc_promise.specs.Replies.{AreDeedsDue, AreRepliesDue}
 use Rattle.qc_protocol.specs.Acts.{Act}
@@ -48,7 +46,6 @@ use Rattle.qc_script.specs.RunsWithFalls.{RunsWithFalls}
 use Rattle.qc_script.specs.Sound.{IsScriptFor}
 use Rattle.qc_script.specs.declared.script.Script.{Script}
 use Rattle.qc_stamp.specs.declared.stamp.Stamp.{Stamp}
-use Rattle.qc_stamp.specs.declared.stamp.TxId.{TxId}
 
 module _ (decl : Declaration) where
   -- what a client writes is among the records

@@ -1,4 +1,5 @@
 pub mod Counts
+pub mod SameLife
 pub mod Live
 pub mod Safe
 pub mod Moments

@@ -1,8 +1,8 @@
 -- Of a client that has begun a transaction in a run with falls, with an open input or without: the machine's transaction
 -- is live, with the same operations, views and participants.
-use Rattle.std.proofs.Common.{◌≡◌, ◌⊎◌, ◌<◌, ◌≤◌, ◌+◌, ◌-◌, ℕ, Bool, true, false, List, [], ◌∷◌, ◌++◌, inl, inr, fold, map, Option, Some, None, slice_get, refl, sym, ap, ◌∙◌, subst, arith}
+use Rattle.std.proofs.Common.{◌≡◌, ◌⊎◌, ◌<◌, ◌≤◌, ◌-◌, ℕ, Bool, true, false, List, [], ◌∷◌, ◌++◌, inl, inr, map, Option, Some, None, slice_get, refl, sym, ap, ◌∙◌, subst, arith}
 use Rattle.std.proofs.lemmas.List.Sums.{fold-append}
-use Rattle.qc_account.proofs.Standing.{IsAt, IsAtInput, IsAtRest, IsTied, Stands, account_is, account_more}
+use Rattle.qc_account.proofs.Standing.{IsAtInput, IsAtRest, Stands, account_is, account_more}
 use Rattle.qc_account.specs.Ties.{Ties}
 use Rattle.qc_client.specs.declared.client.Client.{Client}
 use Rattle.qc_commit.specs.declared.desk.Voting.{Voting}
@@ -13,7 +13,6 @@ use Rattle.qc_core.specs.declared.actor.Actor.TheVariants as actor
 use Rattle.qc_decl.specs.Accepted.{IsAccepted}
 use Rattle.qc_decl.specs.Actors.{is_client}
 use Rattle.qc_decl.specs.declared.declaration.Declaration.{Declaration}
-use Rattle.qc_entry.specs.declared.line.Line.{Line}
 use Rattle.qc_front.specs.declared.transaction.Transaction.{Transaction}
 use Rattle.qc_guarantees.proofs.ClockLaw.{take_clock}
 use Rattle.qc_holds.proofs.Clients.{client_at, slot_of}
@@ -25,18 +24,16 @@ use Rattle.qc_msg.specs.Deeds.{Deed, Takes, deeds}
 use Rattle.qc_msg.specs.Steps.{Entry}
 use Rattle.qc_msg.specs.declared.begun.LifeAt.{LifeAt}
 use Rattle.qc_msg.specs.declared.record.Record.{Record}
-use Rattle.qc_msg.specs.declared.step.Given.{Given}
 use Rattle.qc_net.specs.Clients.{BegunMirrors, ClientMirrors, RunningMirrors, TransactionMirrors, status_by}
-use Rattle.qc_net.specs.Lives.{LivesMirror}
 use Rattle.qc_order.proofs.Begun.{IsKept, WasBegun, logged, taken_kept, tied_kept}
-use Rattle.qc_order.proofs.FirstGrants.{KeepsLives, same_lives}
+use Rattle.qc_order.proofs.FirstGrants.{same_lives}
 use Rattle.qc_order.proofs.Live.{Live}
 use Rattle.qc_order.proofs.Persists.{IsNumbered}
 use Rattle.qc_precedence.proofs.Counts.{Counts, counts_all}
-use Rattle.qc_promise.specs.Account.{Account, Current, new_account, view_of}
-use Rattle.qc_promise.specs.Accounting.{account, account_at, account_taken}
+use Rattle.qc_promise.specs.Account.{Account, Current}
+use Rattle.qc_promise.specs.Accounting.{account, account_taken}
 use Rattle.qc_promise.specs.Kept.{Kept}
-use Rattle.qc_promise.specs.Replies.{AreDeedsDue, AreRepliesDue}
+use Rattle.qc_promise.specs.Replies.{AreRepliesDue}
 use Rattle.qc_protocol.specs.Guards.{IsShown, op_of}
 use Rattle.qc_protocol.specs.State.{Active, Granted, State, Status}
 use Rattle.qc_protocol.specs.State as machine

@@ -1,6 +1,6 @@
 -- Where a commit record was written in a run with falls: the entries before it are a run, in which its client has an open
 -- input, and there it is due.
-use Rattle.std.proofs.Common.{◌≡◌, ◌⊎◌, ◌+◌, ◌-◌, not, ℕ, Bool, true, false, cond, List, [], ◌∷◌, ◌++◌, inl, inr, length, Option, Some, None, slice_get, refl, sym, ap, ◌∙◌, subst}
+use Rattle.std.proofs.Common.{◌≡◌, ◌+◌, ◌-◌, not, ℕ, Bool, true, false, cond, List, [], ◌∷◌, ◌++◌, inl, inr, length, Option, Some, None, slice_get, refl, sym, ap, ◌∙◌, subst}
 use Rattle.std.proofs.lemmas.List.{append-nil}
 use Rattle.qc_core.specs.Actors.{ActorMove, actor_after, actor_takes, by_client, by_site}
 use Rattle.qc_core.specs.Conduct.{IsLawfulWithFalls, with_record}
@@ -17,7 +17,7 @@ use Rattle.qc_list.specs.Members.{In}
 use Rattle.qc_lives.proofs.Downs.{due, tells, up_is}
 use Rattle.qc_msg.proofs.Growth.{deeds-append, deeds-rose}
 use Rattle.qc_msg.specs.Counts.{commit_in}
-use Rattle.qc_msg.specs.Deeds.{Deed, Rises, deeds, mail}
+use Rattle.qc_msg.specs.Deeds.{Deed, deeds, mail}
 use Rattle.qc_msg.specs.Steps.{Entry, by, fell, marked, posted_as, sents, step_of, told}
 use Rattle.qc_msg.specs.declared.record.Record.{Record}
 use Rattle.qc_msg.specs.declared.record.Record.TheVariants as records
@@ -26,8 +26,6 @@ use Rattle.qc_msg.specs.declared.step.Control.{Control}
 use Rattle.qc_msg.specs.declared.step.Control.TheVariants as controls
 use Rattle.qc_msg.specs.declared.step.Fall.{Fall}
 use Rattle.qc_msg.specs.declared.step.Fall.TheVariants as causes
-use Rattle.qc_msg.specs.declared.step.Given.{Given}
-use Rattle.qc_msg.specs.declared.step.Given.TheVariants as given
 use Rattle.qc_msg.specs.declared.step.Step.{Step}
 use Rattle.qc_msg.specs.declared.step.Step.TheVariants as steps
 use Rattle.qc_msg.specs.declared.turn.Appended.{Appended}

@@ -1,6 +1,6 @@
 -- In a run with falls each grant is of the first epoch, and a transaction whose participants have all promised in the end is
 -- safe at each moment before: each site is in the life in which it granted, or has voted.
-use Rattle.std.proofs.Common.{◌≡◌, ◌⊎◌, ◌<◌, ◌≤◌, ◌+◌, ◌-◌, ℕ, Bool, true, List, [], ◌∷◌, ◌++◌, inl, inr, fold, Option, Some, slice_get, refl, sym, ap, ◌∙◌, subst, arith}
+use Rattle.std.proofs.Common.{◌≡◌, ◌⊎◌, ◌<◌, ◌≤◌, ℕ, Bool, true, List, [], ◌∷◌, ◌++◌, inl, inr, fold, Some, slice_get, refl, sym, ap, ◌∙◌, subst, arith}
 use Rattle.std.specs.List.{AllByRecursion as Every}
 use Rattle.qc_core.specs.Conduct.{IsLawfulWithFalls}
 use Rattle.qc_decl.specs.Accepted.{IsAccepted}
@@ -15,12 +15,11 @@ use Rattle.qc_holds.specs.Votes.{IsCastSince, life_at}
 use Rattle.qc_list.specs.Members.{In}
 use Rattle.qc_list.proofs.Members.{In-first}
 use Rattle.qc_msg.proofs.Growth.{mail-append}
-use Rattle.qc_msg.specs.Begun.{has_granted, life_of}
-use Rattle.qc_msg.specs.Deeds.{deeds, mail, own}
+use Rattle.qc_msg.specs.Begun.{life_of}
+use Rattle.qc_msg.specs.Deeds.{mail, own}
 use Rattle.qc_msg.specs.Steps.{Entry}
 use Rattle.qc_msg.specs.declared.message.Answer.TheVariants as answers
 use Rattle.qc_msg.specs.declared.message.Envelope.{Envelope}
-use Rattle.qc_msg.specs.declared.message.Message.{Message}
 use Rattle.qc_msg.specs.declared.message.Message.TheVariants as messages
 use Rattle.qc_msg.specs.declared.message.Want.TheVariants.{Prepare}
 use Rattle.qc_msg.specs.declared.record.Record.{Record}
@@ -33,9 +32,8 @@ use Rattle.qc_order.proofs.Machine.{AreOfFirstEpoch, IsSafe}
 use Rattle.qc_precedence.proofs.Live.{IsParticipant, participant}
 use Rattle.qc_promise.specs.Account.{Current}
 use Rattle.qc_promise.specs.Accounting.{account}
-use Rattle.qc_promise.specs.Kept.{Journal, Kept, journal_of}
+use Rattle.qc_promise.specs.Kept.{Kept, journal_of}
 use Rattle.qc_protocol.proofs.Keeps.{laws}
-use Rattle.qc_protocol.specs.Acts.{state}
 use Rattle.qc_protocol.specs.State.{Granted, State, YesVote}
 use Rattle.qc_protocol.specs.StateLaws.{GrantedLaw, HasRisingEpochs, StateLaws}
 use Rattle.qc_recover.specs.Sites.{Kept as Given, keeps, kept_by, nothing_kept}

@@ -1,6 +1,6 @@
 -- Two committed operations one of which depends on the other, in a run with falls: a moment from which the one is told
 -- until its record is written.
-use Rattle.std.specs.Prelude.{◌≡◌, ◌≢◌, ℕ, Bool, IsTrue, List, ◌∷◌, ◌++◌, Some}
+use Rattle.std.specs.Prelude.{◌≡◌, ℕ, Bool, List, ◌∷◌, ◌++◌, Some}
 use Rattle.qc_core.specs.Conduct.{IsLawfulWithFalls}
 use Rattle.qc_core.specs.Lives.{AreSteady}
 use Rattle.qc_decl.specs.declared.declaration.Declaration.{Declaration}
