@@ -6,6 +6,9 @@ use Rattle.std.proofs.lemmas.List.{append-nil}
 use Rattle.std.proofs.lemmas.List.Elements.{filter_map-append}
 use Rattle.std.proofs.lemmas.List.Sums.{fold-append}
 use Rattle.qc_core.specs.Conduct.{IsLawfulWithFalls}
+use Rattle.qc_core.specs.Journals.{journal_after, journal_at}
+use Rattle.qc_core.specs.Lives.{AreSteady, is_up, up_at}
+use Rattle.qc_core.proofs.LivesLaws.{journal}
 use Rattle.qc_decl.specs.Accepted.{IsAccepted}
 use Rattle.qc_decl.specs.Actors.{is_client}
 use Rattle.qc_decl.specs.declared.declaration.Declaration.{Declaration}
@@ -19,7 +22,7 @@ use Rattle.qc_list.specs.Members.{In}
 use Rattle.qc_list.proofs.Members.{In-first, In-second}
 use Rattle.qc_msg.proofs.Growth.{deeds-append}
 use Rattle.qc_msg.specs.Counts.{commit_in, written}
-use Rattle.qc_msg.specs.Deeds.{Deed, deeds, mail}
+use Rattle.qc_msg.specs.Deeds.{Deed, deeds, mail, own}
 use Rattle.qc_msg.specs.Steps.{Entry}
 use Rattle.qc_msg.specs.declared.record.Record.{Record}
 use Rattle.qc_onecopy.proofs.Lists.{in_split}
@@ -32,13 +35,14 @@ use Rattle.qc_order.proofs.Persists.{AreMoves, Has, IsNumbered, moves_back, stay
 use Rattle.qc_order.specs.Ordered.{DependsOn, IsOrdered}
 use Rattle.qc_precedence.specs.Ordered.{IsToldBy}
 use Rattle.qc_precedence.proofs.Counts.{all_steady}
-use Rattle.qc_precedence.proofs.Live.{its_number, live}
+use Rattle.qc_precedence.proofs.Live.{is_up_now, its_number, life_named, live}
 use Rattle.qc_precedence.proofs.Moments.{WroteAt, moment}
 use Rattle.qc_precedence.proofs.Safe.{first_epochs, safe}
+use Rattle.qc_precedence.proofs.SameLife.{back_behind, life_of, steady_life}
 use Rattle.qc_promise.specs.Account.{Account, Current, new_account, view_of}
 use Rattle.qc_promise.specs.Accounting.{account, account_at}
 use Rattle.qc_promise.specs.Committed.{commits_by, commits_in, records}
-use Rattle.qc_promise.specs.Kept.{Kept}
+use Rattle.qc_promise.specs.Kept.{Journal, Kept, journal_of, no_journal}
 use Rattle.qc_promise.specs.Replies.{AreDeedsDue, AreRepliesDue}
 use Rattle.qc_protocol.specs.Acts.{Act}
 use Rattle.qc_reach.proofs.RunsStand.{kept_of_first}
@@ -46,6 +50,9 @@ use Rattle.qc_script.specs.RunsWithFalls.{RunsWithFalls}
 use Rattle.qc_script.specs.Sound.{IsScriptFor}
 use Rattle.qc_script.specs.declared.script.Script.{Script}
 use Rattle.qc_stamp.specs.declared.stamp.Stamp.{Stamp}
+use Rattle.qc_stamp.specs.declared.stamp.TxId.{TxId}
+use Rattle.qc_verdicts.specs.GivenBack.{AreGivenBack}
+use Rattle.qc_verdicts.proofs.KeptBack.{kept_given_back}
 
 module _ (decl : Declaration) where
   -- what a client writes is among the records
@@ -82,6 +89,9 @@ module _ (fits : ℕ → List Record → Type 0) (decl : Declaration) (script : 
     other : d.logged.commit.tx ≢ c.tx
     other x = d.apart (d.logged.named ∙ x)
 
+    same_name : r.t.tx ≡ t.tx
+    same_name = sym r.its ∙ sym k.its
+
     -- the client's deeds since the moment
 
     abbrev e : Account
@@ -96,18 +106,40 @@ module _ (fits : ℕ → List Record → Type 0) (decl : Declaration) (script : 
     account_then : account decl k.actor before ≡ fold (account_at decl) e mid
     account_then = ap (fold (account_at decl) (new_account (k.actor - decl.sites))) whole ∙ fold-append (account_at decl) (new_account (k.actor - decl.sites)) (deeds k.actor [] k.early) mid
 
+    since_due : AreDeedsDue decl e mid
+    since_due = due_behind decl (deeds k.actor [] k.early) mid (new_account (k.actor - decl.sites)) (subst (AreRepliesDue decl (k.actor - decl.sites)) whole (client_due fits decl script before m.open_inputs accepted sound m.run m.kept k.actor m.client))
+
     mid_due : AreDeedsDue decl e (mid ++ [])
-    mid_due = subst (AreDeedsDue decl e) (sym (append-nil mid))
-        (due_behind decl (deeds k.actor [] k.early) mid (new_account (k.actor - decl.sites)) (subst (AreRepliesDue decl (k.actor - decl.sites)) whole (client_due fits decl script before m.open_inputs accepted sound m.run m.kept k.actor m.client)))
+    mid_due = subst (AreDeedsDue decl e) (sym (append-nil mid)) since_due
+
+    -- it neither falls nor rises since: its transaction is of one life
+
+    abbrev j : Journal
+    j = journal_after (deeds k.actor [] k.early)
+
+    still_up : fold up_at true mid ≡ true
+    still_up =
+        ap (λ (u : Bool). fold up_at u mid) (sym (is_up_now fits decl script k.early k.open_inputs accepted sound k.run early_kept k.actor m.client t k.begun))
+        ∙ sym (ap is_up whole ∙ fold-append up_at true (deeds k.actor [] k.early) mid) ∙ is_up_now fits decl script before m.open_inputs accepted sound m.run m.kept k.actor m.client r.t r.begun
+
+    journal_then : fold journal_at j mid ≡ journal_of (own k.actor before)
+    journal_then = sym (ap journal_after whole ∙ fold-append journal_at no_journal (deeds k.actor [] k.early) mid) ∙ journal k.actor before
+
+    same_life : life_of (fold journal_at j mid).records ≡ life_of j.records
+    same_life =
+        ap (λ (x : Journal). life_of x.records) journal_then ∙ sym (life_named fits decl script before m.open_inputs accepted sound m.run m.kept k.actor m.client r.t r.begun)
+        ∙ ap (λ (x : TxId). x.life) same_name ∙ life_named fits decl script k.early k.open_inputs accepted sound k.run early_kept k.actor m.client t k.begun ∙ ap (λ (x : Journal). life_of x.records) (sym (journal k.actor k.early))
+
+    steady : AreSteady mid
+    steady = steady_life decl mid e j still_up
+        (back_behind (deeds k.actor [] k.early) mid no_journal (subst (AreGivenBack no_journal) whole (kept_given_back before m.kept k.actor))) since_due
+        (let low : life_of (fold journal_at j mid).records ≤ life_of (fold journal_at j mid).records = omega arith in let same : life_of (fold journal_at j mid).records ≡ life_of j.records = same_life in omega arith)
 
     moves : AreMoves decl e mid
-    moves = all_steady decl mid [] e k.steady mid_due
+    moves = all_steady decl mid [] e steady mid_due
 
     numbered : IsNumbered e.count e.current
     numbered = its_number fits decl script k.early k.open_inputs accepted sound k.run early_kept k.actor m.client t k.begun
-
-    same_name : r.t.tx ≡ t.tx
-    same_name = sym r.its ∙ sym k.its
 
     -- the begun transaction after first ones of these deeds
 
@@ -144,7 +176,7 @@ module _ (fits : ℕ → List Record → Type 0) (decl : Declaration) (script : 
     was_there among =
         let s : In line (view_of t op.object) × (line.stamp.clock ≤ e.clock) = seen among in
         let low : line.stamp.clock ≤ e.clock = s.1 in
-        let rises : e.clock ≤ (fold (account_at decl) e mid).clock = steady_clocks decl mid [] e k.steady mid_due in
+        let rises : e.clock ≤ (fold (account_at decl) e mid).clock = steady_clocks decl mid [] e steady mid_due in
         let same : (account decl k.actor before).clock ≡ (fold (account_at decl) e mid).clock = ap (λ (v : Account). v.clock) account_then in
         let next : c.stamp.clock ≡ (account decl k.actor before).clock + 1 = r.stamp in
         inl (record { seen = s.0; before = omega arith })
@@ -286,7 +318,6 @@ module _ (fits : ℕ → List Record → Type 0) (decl : Declaration) (script : 
           actor = w.actor;
           after = w.after;
           stands = w.stands ∙ ap (λ (x : List Entry). x ++ wrote w.actor c ∷ w.after) (sym (append-nil w.before));
-          steady = tt;
           begun = r.begun;
           its = sym r.its;
           told = subst (In op) r.ops listed_op;

@@ -29,6 +29,9 @@ use Rattle.qc_order.proofs.Begun.{IsKept, WasBegun, logged, taken_kept, tied_kep
 use Rattle.qc_order.proofs.FirstGrants.{same_lives}
 use Rattle.qc_order.proofs.Live.{Live}
 use Rattle.qc_order.proofs.Persists.{IsNumbered}
+use Rattle.qc_net.proofs.ClientKeeps.{clients_kept}
+use Rattle.qc_reach.specs.Standing.{records_of}
+use Rattle.qc_precedence.proofs.SameLife.{life_of as life_of_records}
 use Rattle.qc_precedence.proofs.Counts.{Counts, counts_all}
 use Rattle.qc_promise.specs.Account.{Account, Current}
 use Rattle.qc_promise.specs.Accounting.{account, account_taken}
@@ -169,6 +172,16 @@ module _ (fits : ℕ → List Record → Type 0) (decl : Declaration) (script : 
         omega arith
         );
   }
+
+  -- it is up, and its transaction is of the life that its records give
+  pub is_up_now : is_up ds ≡ true
+  is_up_now = o.up
+
+  pub life_named : t.tx.life ≡ life_of_records (records_of h a)
+  life_named =
+      ap (λ (x : TxId). x.life) (sym named ∙ b.0.named)
+      ∙ (clients_kept decl (net fits decl script h open_inputs accepted sound run kept) (reached fits decl script h open_inputs accepted sound run kept).reached a client ((reached fits decl script h open_inputs accepted sound run kept).up_is a (inr client) ∙ o.up)).life
+      ∙ ap life_of_records ((reached fits decl script h open_inputs accepted sound run kept).records_are a (inr client))
 
   -- each site whose grant the machine counted is a participant, in the life of that grant
   pub record IsParticipant (g : Granted) : Type 0 where
