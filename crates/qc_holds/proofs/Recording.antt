@@ -162,19 +162,19 @@ module _ (fits : ℕ → List Record → Type 0) (decl : Declaration) (script : 
             elim k.turn [
               | inl none ↦ absurd (let no : None ≡ Some (Commit c) = sym none ∙ ap (λ (t : Turn). t.write) same ∙ writes in let never : ⊥ = cc in never)
               | inr t ↦ (
-                let p = first_post b (length (mail h)) turn c turn.append writes (ap (λ (x : Turn). x.failed_sends) (sym same) ∙ t.failed_sends) (ap (λ (x : Turn). x.failed_told) (sym same) ∙ t.failed_told) in
-                record {
-                  before = h;
-                  open_inputs = inputs;
-                  run = run;
-                  kept = kept;
-                  taken = taken;
-                  steps = p.0;
-                  after = p.1;
-                  stands = ap (λ (k : List Entry). h ++ k) p.3;
-                  writing = p.2;
-                  commits = k;
-                })
+                  let p = first_post b (length (mail h)) turn c turn.append writes (ap (λ (x : Turn). x.failed_sends) (sym same) ∙ t.failed_sends) (ap (λ (x : Turn). x.failed_told) (sym same) ∙ t.failed_told) in
+                  record {
+                    before = h;
+                    open_inputs = inputs;
+                    run = run;
+                    kept = kept;
+                    taken = taken;
+                    steps = p.0;
+                    after = p.1;
+                    stands = ap (λ (k : List Entry). h ++ k) p.3;
+                    writing = p.2;
+                    commits = k;
+                  })
             ]
           where
             committing_turn : (k : IsCommitting decl b (deeds b [] h) c) → is_client decl b ≡ true → (client_takes decl k.tied.state k.input).turn ≡ with_record turn

@@ -6,9 +6,7 @@ use Rattle.std.proofs.lemmas.List.{append-nil}
 use Rattle.std.proofs.lemmas.List.Elements.{filter_map-append}
 use Rattle.std.proofs.lemmas.List.Sums.{fold-append}
 use Rattle.qc_core.specs.Conduct.{IsLawfulWithFalls}
-use Rattle.qc_core.specs.Journals.{journal_after, journal_at}
-use Rattle.qc_core.specs.Lives.{AreSteady, is_up, up_at}
-use Rattle.qc_core.proofs.LivesLaws.{journal}
+use Rattle.qc_core.specs.Lives.{AreSteady}
 use Rattle.qc_decl.specs.Accepted.{IsAccepted}
 use Rattle.qc_decl.specs.Actors.{is_client}
 use Rattle.qc_decl.specs.declared.declaration.Declaration.{Declaration}
@@ -17,12 +15,12 @@ use Rattle.qc_entry.specs.declared.line.Op.{Op}
 use Rattle.qc_entry.specs.declared.record.Commit.{Commit as CommitRecord}
 use Rattle.qc_holds.proofs.Nets.{listed, now, of_machine, refined}
 use Rattle.qc_holds.proofs.Promising.{IsRecording, recording}
-use Rattle.qc_holds.proofs.Stamps.{client_due, due_behind, steady_clocks}
+use Rattle.qc_holds.proofs.Stamps.{steady_clocks}
 use Rattle.qc_list.specs.Members.{In}
 use Rattle.qc_list.proofs.Members.{In-first, In-second}
 use Rattle.qc_msg.proofs.Growth.{deeds-append}
 use Rattle.qc_msg.specs.Counts.{commit_in, written}
-use Rattle.qc_msg.specs.Deeds.{Deed, deeds, mail, own}
+use Rattle.qc_msg.specs.Deeds.{Deed, deeds, mail}
 use Rattle.qc_msg.specs.Steps.{Entry}
 use Rattle.qc_msg.specs.declared.record.Record.{Record}
 use Rattle.qc_onecopy.proofs.Lists.{in_split}
@@ -35,24 +33,21 @@ use Rattle.qc_order.proofs.Persists.{AreMoves, Has, IsNumbered, moves_back, stay
 use Rattle.qc_order.specs.Ordered.{DependsOn, IsOrdered}
 use Rattle.qc_precedence.specs.Ordered.{IsToldBy}
 use Rattle.qc_precedence.proofs.Counts.{all_steady}
-use Rattle.qc_precedence.proofs.Live.{is_up_now, its_number, life_named, live}
+use Rattle.qc_precedence.proofs.Live.{its_number, live}
 use Rattle.qc_precedence.proofs.Moments.{WroteAt, moment}
 use Rattle.qc_precedence.proofs.Safe.{first_epochs, safe}
-use Rattle.qc_precedence.proofs.SameLife.{back_behind, life_of, steady_life}
+use Rattle.qc_precedence.proofs.Since.{account_since, since_due, stays_steady}
 use Rattle.qc_promise.specs.Account.{Account, Current, new_account, view_of}
 use Rattle.qc_promise.specs.Accounting.{account, account_at}
 use Rattle.qc_promise.specs.Committed.{commits_by, commits_in, records}
-use Rattle.qc_promise.specs.Kept.{Journal, Kept, journal_of, no_journal}
-use Rattle.qc_promise.specs.Replies.{AreDeedsDue, AreRepliesDue}
+use Rattle.qc_promise.specs.Kept.{Kept}
+use Rattle.qc_promise.specs.Replies.{AreDeedsDue}
 use Rattle.qc_protocol.specs.Acts.{Act}
 use Rattle.qc_reach.proofs.RunsStand.{kept_of_first}
 use Rattle.qc_script.specs.RunsWithFalls.{RunsWithFalls}
 use Rattle.qc_script.specs.Sound.{IsScriptFor}
 use Rattle.qc_script.specs.declared.script.Script.{Script}
 use Rattle.qc_stamp.specs.declared.stamp.Stamp.{Stamp}
-use Rattle.qc_stamp.specs.declared.stamp.TxId.{TxId}
-use Rattle.qc_verdicts.specs.GivenBack.{AreGivenBack}
-use Rattle.qc_verdicts.proofs.KeptBack.{kept_given_back}
 
 module _ (decl : Declaration) where
   -- what a client writes is among the records
@@ -100,40 +95,14 @@ module _ (fits : ℕ → List Record → Type 0) (decl : Declaration) (script : 
     abbrev mid : List Deed
     mid = deeds k.actor (mail k.early) k.middle
 
-    whole : deeds k.actor [] before ≡ deeds k.actor [] k.early ++ mid
-    whole = deeds-append k.actor [] k.early k.middle
-
     account_then : account decl k.actor before ≡ fold (account_at decl) e mid
-    account_then = ap (fold (account_at decl) (new_account (k.actor - decl.sites))) whole ∙ fold-append (account_at decl) (new_account (k.actor - decl.sites)) (deeds k.actor [] k.early) mid
-
-    since_due : AreDeedsDue decl e mid
-    since_due = due_behind decl (deeds k.actor [] k.early) mid (new_account (k.actor - decl.sites)) (subst (AreRepliesDue decl (k.actor - decl.sites)) whole (client_due fits decl script before m.open_inputs accepted sound m.run m.kept k.actor m.client))
+    account_then = account_since fits decl script k.early k.open_inputs accepted sound k.run early_kept k.actor m.client t k.begun before m.open_inputs m.run m.kept k.middle refl r.t r.begun same_name
 
     mid_due : AreDeedsDue decl e (mid ++ [])
-    mid_due = subst (AreDeedsDue decl e) (sym (append-nil mid)) since_due
-
-    -- it neither falls nor rises since: its transaction is of one life
-
-    abbrev j : Journal
-    j = journal_after (deeds k.actor [] k.early)
-
-    still_up : fold up_at true mid ≡ true
-    still_up =
-        ap (λ (u : Bool). fold up_at u mid) (sym (is_up_now fits decl script k.early k.open_inputs accepted sound k.run early_kept k.actor m.client t k.begun))
-        ∙ sym (ap is_up whole ∙ fold-append up_at true (deeds k.actor [] k.early) mid) ∙ is_up_now fits decl script before m.open_inputs accepted sound m.run m.kept k.actor m.client r.t r.begun
-
-    journal_then : fold journal_at j mid ≡ journal_of (own k.actor before)
-    journal_then = sym (ap journal_after whole ∙ fold-append journal_at no_journal (deeds k.actor [] k.early) mid) ∙ journal k.actor before
-
-    same_life : life_of (fold journal_at j mid).records ≡ life_of j.records
-    same_life =
-        ap (λ (x : Journal). life_of x.records) journal_then ∙ sym (life_named fits decl script before m.open_inputs accepted sound m.run m.kept k.actor m.client r.t r.begun)
-        ∙ ap (λ (x : TxId). x.life) same_name ∙ life_named fits decl script k.early k.open_inputs accepted sound k.run early_kept k.actor m.client t k.begun ∙ ap (λ (x : Journal). life_of x.records) (sym (journal k.actor k.early))
+    mid_due = subst (AreDeedsDue decl e) (sym (append-nil mid)) (since_due fits decl script k.early k.open_inputs accepted sound k.run early_kept k.actor m.client t k.begun before m.open_inputs m.run m.kept k.middle refl r.t r.begun same_name)
 
     steady : AreSteady mid
-    steady = steady_life decl mid e j still_up
-        (back_behind (deeds k.actor [] k.early) mid no_journal (subst (AreGivenBack no_journal) whole (kept_given_back before m.kept k.actor))) since_due
-        (let low : life_of (fold journal_at j mid).records ≤ life_of (fold journal_at j mid).records = omega arith in let same : life_of (fold journal_at j mid).records ≡ life_of j.records = same_life in omega arith)
+    steady = stays_steady fits decl script k.early k.open_inputs accepted sound k.run early_kept k.actor m.client t k.begun before m.open_inputs m.run m.kept k.middle refl r.t r.begun same_name
 
     moves : AreMoves decl e mid
     moves = all_steady decl mid [] e steady mid_due

@@ -3,4 +3,5 @@ pub mod SameLife
 pub mod Live
 pub mod Safe
 pub mod Moments
+pub mod Since
 pub mod Law
