@@ -189,6 +189,10 @@ module _ (decl : Declaration) (script : Script) (fits : ℕ → List Record → 
   pub kept_first : (h : List Entry) (open_inputs : List Bool) → IsRun h open_inputs → Kept h → AllRiseInFirst h
   kept_first h open_inputs run kept = all_rise h (run_puts h open_inputs run kept)
 
+  -- each record in a journal is of the first epoch
+  pub journals_first : (h : List Entry) (open_inputs : List Bool) → IsRun h open_inputs → Kept h → (a : ℕ) → Every IsOfFirst (journal_of (own a h)).records
+  journals_first h open_inputs run kept a = given_first a h (journal_of (own a h)).records (run_puts h open_inputs run kept) (inl refl)
+
   pub kept_due : IsAccepted decl → AsksDeclared decl script → actors decl ≤ most_actors → (h : List Entry) (open_inputs : List Bool) → IsRun h open_inputs → Kept h → Due decl h
   kept_due accepted asks few h open_inputs run kept =
       runs_due decl script fits accepted asks few h open_inputs run (kept_first h open_inputs run kept) (kept_rises decl script fits few h open_inputs run kept)

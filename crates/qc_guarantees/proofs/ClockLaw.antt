@@ -1,5 +1,5 @@
 -- The stamp of a record has passed each clock that its client counted before.
-use Rattle.std.proofs.Common.{◌≡◌, ◌<◌, ◌≤◌, ◌+◌, ◌-◌, ℕ, nat_le, nat_lt, Bool, true, false, cond, List, [], ◌∷◌, ◌++◌, Option, Some, None, sym, ap, ◌∙◌, slice_get, subst, arith, ltb-true}
+use Rattle.std.proofs.Common.{◌≡◌, ◌<◌, ◌≤◌, ◌+◌, ◌-◌, ℕ, nat_le, nat_lt, Bool, true, false, cond, List, [], ◌∷◌, ◌++◌, Option, Some, None, refl, sym, ap, ◌∙◌, slice_get, subst, arith, ltb-true}
 use Rattle.std.specs.Prelude.{fold}
 use Rattle.std.specs.List.{find}
 use Rattle.std.proofs.lemmas.List.Sums.{fold-append}
@@ -88,7 +88,7 @@ module _ (decl : Declaration) where
   heard_clock d (messages.Close epoch) = same_clock d
   heard_clock d (messages.Install epoch clock log) = same_clock d
 
-  written_clock : (d : Account) (w : Record) → d.clock ≤ (account_written d w).clock
+  pub written_clock : (d : Account) (w : Record) → d.clock ≤ (account_written d w).clock
   written_clock d records.Life = same_clock d
   written_clock d (records.Prepare prepared) = same_clock d
   written_clock d (records.Done tx clock) = same_clock d
@@ -97,7 +97,7 @@ module _ (decl : Declaration) where
   written_clock d (records.Commit commit) = same_clock d
   written_clock d (records.Decide epoch clock lines) = same_clock d
 
-  sent_clock : (d : Account) (n to : ℕ) (m : Message) → d.clock ≤ (account_sent decl d n to m).clock
+  pub sent_clock : (d : Account) (n to : ℕ) (m : Message) → d.clock ≤ (account_sent decl d n to m).clock
   sent_clock d n to (messages.Request tx epoch life want) = by (is_asked_for decl d to tx epoch life want)
     where
       by : (b : Bool) → d.clock ≤ (cond b (record d { requests = d.requests ++ record { number = n; site = to; life = life; want = want; taken = None } ∷ [] }) d).clock
@@ -131,7 +131,7 @@ module _ (decl : Declaration) where
   short_clock d halves.Append = same_clock d
   short_clock d halves.Close = same_clock d
 
-  reply_clock : (d : Account) (reply : Reply) → running_row decl d false ≡ Some reply → d.clock ≤ (account_told_in decl d reply).clock
+  pub reply_clock : (d : Account) (reply : Reply) → ((stamp : Stamp) → reply ≡ replies.Committed stamp → stamp.clock ≡ d.clock + 1) → d.clock ≤ (account_told_in decl d reply).clock
   reply_clock d replies.Down is = same_clock d
   reply_clock d (replies.Already tx) is = same_clock d
   reply_clock d (replies.Began tx) is = same_clock d
@@ -145,7 +145,7 @@ module _ (decl : Declaration) where
   reply_clock d (replies.Response resp) is = responded_clock d d.command
   reply_clock d (replies.Aborted why) is = same_clock d
   reply_clock d replies.Unknown is = same_clock d
-  reply_clock d (replies.Committed stamp) is = let next : stamp.clock ≡ d.clock + 1 = ap (λ (s : Stamp). s.clock) (due_stamp decl d stamp is) in omega arith
+  reply_clock d (replies.Committed stamp) is = let next : stamp.clock ≡ d.clock + 1 = is stamp refl in omega arith
   reply_clock d replies.Dropped is = same_clock d
   reply_clock d (replies.Order current) is = same_clock d
   reply_clock d (replies.InDoubt tx site) is = same_clock d
@@ -161,7 +161,7 @@ module _ (decl : Declaration) where
   deed_clock d (Takes g) is = take_clock d g
   deed_clock d (Writes w) is = written_clock d w
   deed_clock d (Sends n to m) is = sent_clock d n to m
-  deed_clock d (Tells reply) is = reply_clock d reply is.0
+  deed_clock d (Tells reply) is = reply_clock d reply (λ stamp same. ap (λ (s : Stamp). s.clock) (due_stamp decl d stamp (is.0 ∙ ap Some same)))
   deed_clock d (Falls cause pending) is = absurd is
   deed_clock d (Rises kept) is = absurd is
 
@@ -197,7 +197,7 @@ module _ (decl : Declaration) where
   told_passes d q answers.Installed clock is = absurd is
   told_passes d q (answers.Answered outcome) clock is = absurd is
 
-  counted_passes : (d : Account) (n clock : ℕ) (answer : Answer) (q : ClientRequest) → find (is_open n) d.requests ≡ Some q → TellsClock clock q.want answer → clock ≤ (counted d n (Some answer)).clock
+  pub counted_passes : (d : Account) (n clock : ℕ) (answer : Answer) (q : ClientRequest) → find (is_open n) d.requests ≡ Some q → TellsClock clock q.want answer → clock ≤ (counted d n (Some answer)).clock
   counted_passes d n clock answer q found tells = subst (λ (o : Option ClientRequest). clock ≤ (counted_for d n (Some answer) o).clock) (sym found) (told_passes (record d { requests = taken_for n (Some answer) d.requests }) q answer clock tells)
 
   -- parts of what is due

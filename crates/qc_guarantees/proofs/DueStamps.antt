@@ -18,7 +18,7 @@ use Rattle.qc_promise.specs.Account.{Account, Current, is_append, is_prepare, is
 use Rattle.qc_promise.specs.Rounds.{answer_of, are_votes_in, first_against, round_of}
 use Rattle.qc_promise.specs.Rows.{answer_row, append_row, commit_row, do_row, running_row, next_stamp, read_row, row_of, vote_row}
 
-abbrev stamp_in : Reply → Option Stamp
+abbrev pub stamp_in : Reply → Option Stamp
 stamp_in replies.Down = None
 stamp_in (replies.Already tx) = None
 stamp_in (replies.Began tx) = None
@@ -39,11 +39,11 @@ stamp_in (replies.InDoubt tx site) = None
 stamp_in replies.Fault = None
 stamp_in (replies.Moved closed installed) = None
 
-abbrev stamp_of : Option Reply → Option Stamp
+abbrev pub stamp_of : Option Reply → Option Stamp
 stamp_of None = None
 stamp_of (Some reply) = stamp_in reply
 
-none_some : {A : Type 0} (o : Option Stamp) (stamp : Stamp) → o ≡ None → o ≡ Some stamp → A
+pub none_some : {A : Type 0} (o : Option Stamp) (stamp : Stamp) → o ≡ None → o ≡ Some stamp → A
 none_some o stamp none some = absurd (let never : ⊥ = cc in never)
 
 module _ (decl : Declaration) where
@@ -65,7 +65,7 @@ module _ (decl : Declaration) where
   read_stamp d t object inv (verdicts.Clash tx site) = refl
   read_stamp d t object inv (verdicts.Short got need) = refl
 
-  do_stamp : (d : Account) (t : Current) (object inv : ℕ) → stamp_of (do_row decl d t object inv) ≡ None
+  pub do_stamp : (d : Account) (t : Current) (object inv : ℕ) → stamp_of (do_row decl d t object inv) ≡ None
   do_stamp d t object inv = by t.doomed (nat_le most_transaction_operations (length t.ops))
     where
       by : (x y : Bool) → stamp_of (if x then Some replies.Doomed else (if y then Some replies.TooLong else read_row decl d t object inv (verdict (round_of decl d t is_read (read_need_of decl t.epoch object inv))))) ≡ None

@@ -70,7 +70,7 @@ undecided tx (messages.Ask t) none = refl
 undecided tx (messages.Close epoch) none = refl
 undecided tx (messages.Install epoch clock log) none = refl
 
-not_ended : (tx : TxId) (ds : List Deed) → ((e : Envelope) (verdict : Outcome) → In (Takes (given.Got e)) ds → e.message ≡ messages.Decision tx verdict → is_final verdict ≡ true → ⊥) → is_ended tx ds ≡ false
+pub not_ended : (tx : TxId) (ds : List Deed) → ((e : Envelope) (verdict : Outcome) → In (Takes (given.Got e)) ds → e.message ≡ messages.Decision tx verdict → is_final verdict ≡ true → ⊥) → is_ended tx ds ≡ false
 not_ended tx [] none = refl
 not_ended tx (d ∷ ds) none = by (is_decision is_final tx d) (one d (λ e verdict same. none e verdict (inl (sym same)))) (not_ended tx ds (λ e verdict there. none e verdict (inr there)))
   where
@@ -89,7 +89,7 @@ not_ended tx (d ∷ ds) none = by (is_decision is_final tx d) (one d (λ e verdi
     one (Rises records) n = refl
 
 -- what stands among later deeds stands among all
-standing_more : (before ds : List Deed) (g : Grant) → In g (standing ds) → In g (standing (before ++ ds))
+pub standing_more : (before ds : List Deed) (g : Grant) → In g (standing ds) → In g (standing (before ++ ds))
 standing_more [] ds g among = among
 standing_more (d ∷ before) ds g among = In-second g (option_map_or (standing_by (before ++ ds)) (got_in d) []) (standing (before ++ ds)) (standing_more before ds g among)
 
@@ -104,7 +104,7 @@ pub record WasTakenFor (ds : List Deed) (g : Grant) : Type 0 where
 later_taken : (d : Deed) (ds : List Deed) (g : Grant) → WasTakenFor ds g → WasTakenFor (d ∷ ds) g
 later_taken d ds g w = record { envelope = w.envelope; taken = inr w.taken; epoch = w.epoch; life = w.life; content = w.content }
 
-was_taken : (ds : List Deed) (g : Grant) → In g (standing ds) → WasTakenFor ds g
+pub was_taken : (ds : List Deed) (g : Grant) → In g (standing ds) → WasTakenFor ds g
 was_taken [] g among = absurd among
 was_taken (d ∷ ds) g among = elim (in_split g (option_map_or (standing_by ds) (got_in d) []) (standing ds) among) [
   | inl here ↦ at_deed d here
@@ -139,13 +139,13 @@ was_taken (d ∷ ds) g among = elim (in_split g (option_map_or (standing_by ds) 
 
 -- what stands is held
 
-abbrev own_wanted : Want → List OwnLine
+abbrev pub own_wanted : Want → List OwnLine
 own_wanted (Read object inv) = []
 own_wanted (Append object view own) = own
 own_wanted Prepare = []
 
 -- own lines of one operation are one
-abbrev Agrees : List Grant → TxId → Item → Type 0
+abbrev pub Agrees : List Grant → TxId → Item → Type 0
 Agrees gs tx x = (o l : OwnLine) (g : Grant) → x ≡ Own o → In g gs → g.tx ≡ tx → In l (own_wanted g.want) → o.op ≡ l.op → o ≡ l
 
 holding_keeps : (held : List Held) (u : TxId) (w : Want) (tx : TxId) (x : Item) → ((o l : OwnLine) → x ≡ Own o → u ≡ tx → In l (own_wanted w) → o.op ≡ l.op → o ≡ l) → IsHeld (held_of held tx) x → IsHeld (held_of (holding held u w) tx) x
@@ -153,11 +153,11 @@ holding_keeps held u (Read object inv) tx x agree h = given_keeps held u tx (rec
 holding_keeps held u (Append object view own) tx x agree h = given_keeps held u tx [] own x agree h
 holding_keeps held u Prepare tx x agree h = h
 
-kept : (gs : List Grant) (held : List Held) (tx : TxId) (x : Item) → Agrees gs tx x → IsHeld (held_of held tx) x → IsHeld (held_of (fold (λ (hs : List Held) (g : Grant). holding hs g.tx g.want) held gs) tx) x
+pub kept : (gs : List Grant) (held : List Held) (tx : TxId) (x : Item) → Agrees gs tx x → IsHeld (held_of held tx) x → IsHeld (held_of (fold (λ (hs : List Held) (g : Grant). holding hs g.tx g.want) held gs) tx) x
 kept [] held tx x agree h = h
 kept (g ∷ gs) held tx x agree h = kept gs (holding held g.tx g.want) tx x (λ o l k is among. agree o l k is (inr among)) (holding_keeps held g.tx g.want tx x (λ o l is. agree o l g is (inl refl)) h)
 
-abbrev IsWanted : Want → Item → Type 0
+abbrev pub IsWanted : Want → Item → Type 0
 IsWanted (Read object inv) x = x ≡ Lock (record { object = object; inv = inv })
 IsWanted (Append object view own) x = (o : OwnLine) × (x ≡ Own o) × In o own
 IsWanted Prepare x = ⊥
@@ -167,7 +167,7 @@ holding_has held tx (Read object inv) x agree is = subst (λ (y : Item). IsHeld 
 holding_has held tx (Append object view own) x agree is = subst (λ (y : Item). IsHeld (held_of (with_held held tx [] own) tx) y) (sym is.1) (own_given_here held tx own is.0 (λ l among. agree is.0 l is.1 among) is.2)
 holding_has held tx Prepare x agree is = absurd is
 
-standing_held : (gs : List Grant) (held : List Held) (g : Grant) (x : Item) → In g gs → Agrees gs g.tx x → IsWanted g.want x → IsHeld (held_of (fold (λ (hs : List Held) (k : Grant). holding hs k.tx k.want) held gs) g.tx) x
+pub standing_held : (gs : List Grant) (held : List Held) (g : Grant) (x : Item) → In g gs → Agrees gs g.tx x → IsWanted g.want x → IsHeld (held_of (fold (λ (hs : List Held) (k : Grant). holding hs k.tx k.want) held gs) g.tx) x
 standing_held [] held g x among agree is = absurd among
 standing_held (k ∷ gs) held g x (inl same) agree is =
     kept gs (holding held k.tx k.want) g.tx x (λ o l j e there. agree o l j e (inr there))

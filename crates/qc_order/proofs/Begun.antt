@@ -25,6 +25,7 @@ use Rattle.qc_front.specs.Answering.{view_log}
 use Rattle.qc_client.specs.declared.client.Client.{Client}
 use Rattle.qc_promise.specs.Account.{Account, ClientRequest, Current, ReadGrant, view_of}
 use Rattle.qc_promise.specs.Accounting.{account_heard, account_taken, counted, counted_for, granted, is_open, lived, promised, taken_for, told_by, with_read}
+use Rattle.qc_order.proofs.FirstGrants.{KeepsLives, life_added, same_lives}
 use Rattle.qc_account.specs.Ties.{Ties, appends, reads, rests, votes}
 use Rattle.qc_account.specs.Told.{AreBegun, IsBegun}
 
@@ -37,9 +38,10 @@ pub record WasBegun (o : Option Current) (t : Current) : Type 0 where
   pub tx : t.tx ≡ old.tx
   pub ops : t.ops ≡ old.ops
   pub view : (object : ℕ) (l : Line) → In l (view_of old object) → In l (view_of t object)
+  pub lives : KeepsLives old.lives t.lives
 
 same : (o : Option Current) (t : Current) → o ≡ Some t → WasBegun o t
-same o t is = record { old = t; was = is; tx = refl; ops = refl; view = λ object l among. among }
+same o t is = record { old = t; was = is; tx = refl; ops = refl; view = λ object l among. among; lives = same_lives t.lives }
 
 abbrev add : List Line → ReadGrant → List Line
 add lines g = union lines g.log
@@ -60,16 +62,17 @@ record Keeps (change : Current → Current) (x : Current) : Type 0 where
   pub tx : (change x).tx ≡ x.tx
   pub ops : (change x).ops ≡ x.ops
   pub view : (object : ℕ) (l : Line) → In l (view_of x object) → In l (view_of (change x) object)
+  pub lives : KeepsLives x.lives (change x).lives
 
 changed : (o : Option Current) (change : Current → Current) → ((x : Current) → Keeps change x) → (t : Current) → option_map change o ≡ Some t → WasBegun o t
 changed None change keeps t is = absurd (let never : ⊥ = cc in never)
 changed (Some x) change keeps t is =
     let it : change x ≡ t = cc in
-    subst (WasBegun (Some x)) it (record { old = x; was = refl; tx = (keeps x).tx; ops = (keeps x).ops; view = (keeps x).view })
+    subst (WasBegun (Some x)) it (record { old = x; was = refl; tx = (keeps x).tx; ops = (keeps x).ops; view = (keeps x).view; lives = (keeps x).lives })
 
 granted_kept : (d : Account) (site life clock : ℕ) (log : List Line) (w : Want) (t : Current) → (granted d site life clock log w).current ≡ Some t → WasBegun d.current t
-granted_kept d site life clock log (Read object inv) t is = changed d.current (λ (x : Current). with_read (lived x site life) object log) (λ x. record { tx = refl; ops = refl; view = λ o l among. grows x.read_grants (record { object = object; log = log } ∷ []) o l among }) t is
-granted_kept d site life clock log (Append object view own) t is = changed d.current (λ (x : Current). lived x site life) (λ x. record { tx = refl; ops = refl; view = λ o l among. among }) t is
+granted_kept d site life clock log (Read object inv) t is = changed d.current (λ (x : Current). with_read (lived x site life) object log) (λ x. record { tx = refl; ops = refl; view = λ o l among. grows x.read_grants (record { object = object; log = log } ∷ []) o l among; lives = life_added x.lives site life }) t is
+granted_kept d site life clock log (Append object view own) t is = changed d.current (λ (x : Current). lived x site life) (λ x. record { tx = refl; ops = refl; view = λ o l among. among; lives = life_added x.lives site life }) t is
 granted_kept d site life clock log Prepare t is = same d.current t is
 
 promised_kept : (d : Account) (clock : ℕ) (w : Want) (t : Current) → (promised d clock w).current ≡ Some t → WasBegun d.current t

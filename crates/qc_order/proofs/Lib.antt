@@ -1,4 +1,5 @@
 pub mod Machine
+pub mod FirstGrants
 pub mod Begun
 pub mod Moments
 pub mod Replies
@@ -7,6 +8,7 @@ pub mod Recorded
 pub mod Live
 pub mod Safe
 pub mod DueNumbers
+pub mod Moving
 pub mod Persists
 pub mod Committed
 pub mod Law

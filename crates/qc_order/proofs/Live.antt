@@ -32,6 +32,7 @@ use Rattle.qc_net.specs.Mirrors.{Refines}
 use Rattle.qc_net.proofs.Refining.{refines}
 use Rattle.qc_atomic.proofs.Calm.{all_up, is_reached}
 use Rattle.qc_guarantees.proofs.ClockLaw.{take_clock}
+use Rattle.qc_order.proofs.FirstGrants.{same_lives}
 use Rattle.qc_order.proofs.Begun.{IsKept, WasBegun, logged, taken_kept, tied_kept}
 use Rattle.qc_atomic.proofs.Stood.{OpenClient, Stood}
 use Rattle.qc_atomic.proofs.RunsStand.{runs_stand}
@@ -90,7 +91,7 @@ module _ (decl : Declaration) (script : Script) (accepted : IsAccepted decl) (so
       record {
         was = account decl a h;
         tied = subst (Ties decl (account decl a h)) (sym ((stood.clients_are a client).closed slot)) (clients_tied decl a client (deeds a [] h) acts.above acts.acts);
-        begun = record { old = t; was = is; tx = refl; ops = refl; view = λ object l among. among };
+        begun = record { old = t; was = is; tx = refl; ops = refl; view = λ object l among. among; lives = same_lives t.lives };
         rises = omega arith;
       }
 

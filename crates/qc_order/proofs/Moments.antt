@@ -54,17 +54,17 @@ abbrev pub wrote : ℕ → CommitRecord → Entry
 wrote a c = marked a (steps.Wrote (records.Commit c))
 
 -- entries that write no commit record
-none_in : (k : List Entry) → ((e : Entry) → In e k → commit_in e.step ≡ None) → (m : List Entry) (a : ℕ) (c : CommitRecord) (after : List Entry) → k ≡ m ++ wrote a c ∷ after → ⊥
+pub none_in : (k : List Entry) → ((e : Entry) → In e k → commit_in e.step ≡ None) → (m : List Entry) (a : ℕ) (c : CommitRecord) (after : List Entry) → k ≡ m ++ wrote a c ∷ after → ⊥
 none_in k none m a c after is = let n : Some c ≡ None = none (wrote a c) (subst (In (wrote a c)) (sym is) (In-second (wrote a c) m (wrote a c ∷ after) (inl refl))) in let never : ⊥ = cc in never
 
-one_in : (e : Entry) → commit_in e.step ≡ None → (m : List Entry) (a : ℕ) (c : CommitRecord) (after : List Entry) → e ∷ [] ≡ m ++ wrote a c ∷ after → ⊥
+pub one_in : (e : Entry) → commit_in e.step ≡ None → (m : List Entry) (a : ℕ) (c : CommitRecord) (after : List Entry) → e ∷ [] ≡ m ++ wrote a c ∷ after → ⊥
 one_in e none m a c after is = none_in (e ∷ []) (λ x among. at x among) m a c after is
   where
     at : (x : Entry) → In x (e ∷ []) → commit_in x.step ≡ None
     at x (inl same) = ap (λ (y : Entry). commit_in y.step) same ∙ none
     at x (inr never) = absurd never
 
-sends_none : (b n : ℕ) (ps : List Posting) (reply : Option Reply) (e : Entry) → In e (by b (sents n ps ++ told reply)) → commit_in e.step ≡ None
+pub sends_none : (b n : ℕ) (ps : List Posting) (reply : Option Reply) (e : Entry) → In e (by b (sents n ps ++ told reply)) → commit_in e.step ≡ None
 sends_none b n [] None e among = absurd among
 sends_none b n [] (Some reply) e (inl same) = ap (λ (y : Entry). commit_in y.step) same
 sends_none b n [] (Some reply) e (inr never) = absurd never
@@ -72,12 +72,12 @@ sends_none b n (p ∷ ps) reply e (inl same) = ap (λ (y : Entry). commit_in y.s
 sends_none b n (p ∷ ps) reply e (inr there) = sends_none b (n + 1) ps reply e there
 
 -- the record of a turn is the first that it posts
-record IsFirst (b : ℕ) (turn : Turn) (m : List Entry) (a : ℕ) (c : CommitRecord) : Type 0 where
+pub record IsFirst (b : ℕ) (turn : Turn) (m : List Entry) (a : ℕ) (c : CommitRecord) : Type 0 where
   pub none : m ≡ []
   pub actor : b ≡ a
   pub writes : turn.write ≡ Some (records.Commit c)
 
-first_posted : (b n : ℕ) (turn : Turn) (m : List Entry) (a : ℕ) (c : CommitRecord) (after : List Entry) → by b (posted n turn) ≡ m ++ wrote a c ∷ after → IsFirst b turn m a c
+pub first_posted : (b n : ℕ) (turn : Turn) (m : List Entry) (a : ℕ) (c : CommitRecord) (after : List Entry) → by b (posted n turn) ≡ m ++ wrote a c ∷ after → IsFirst b turn m a c
 first_posted b n turn m a c after is = at turn.write refl m is
   where
     at : (w : Option Record) → turn.write ≡ w → (m : List Entry) → by b (post.wrote w ++ (sents n turn.sends ++ told turn.told)) ≡ m ++ wrote a c ∷ after → IsFirst b turn m a c

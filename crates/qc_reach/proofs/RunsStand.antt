@@ -128,6 +128,9 @@ module _ (decl : Declaration) (script : Script) (fits : ℕ → List Record → 
                   given = g;
                   sent = subst (λ (ms : List Envelope). WasSentTo a ms g) (sym (mail-taken h a g)) sent;
                   may = λ client. may g refl (old.net.clients a) (s.closed (sym same_up ∙ up) free ∙ in_client decl old.net a client);
+                  before = deeds a [] h;
+                  deeds_are = deeds-taken a h g sent;
+                  was = s.closed (sym same_up ∙ up) free;
                   is = ap (actor_after decl a) (deeds-taken a h g sent) ∙ fold-append (actor_does decl a) _ (deeds a [] h) (Takes g ∷ []) ∙ ap (λ (v : Actor). actor_takes decl v g) (s.closed (sym same_up ∙ up) free);
                 };
               }

@@ -71,6 +71,9 @@ module _ (decl : Declaration) where
       given = x.given;
       sent = subst (λ (ms : List Envelope). WasSentTo b ms x.given) (sym grows) (still_sent b (mail h) more x.given x.sent);
       may = λ client. subst (λ (c : Client). MayCommand decl c x.given) (sym leaves.clients) (x.may client);
+      before = x.before;
+      deeds_are = same ∙ x.deeds_are;
+      was = x.was ∙ same_actor net next b leaves;
       is = ap (actor_after decl b) same ∙ x.is ∙ ap (λ (v : Actor). actor_takes decl v x.given) (same_actor net next b leaves);
     });
   }

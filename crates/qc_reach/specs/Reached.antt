@@ -1,6 +1,6 @@
 -- A history with falls has a net: what was sent there, who is up, what each actor's records are, and what each actor is
 -- that is up and has no open input.
-use Rattle.std.specs.Prelude.{◌≡◌, ◌⊎◌, ℕ, Bool, true, false, if◌then◌else◌, List, [], Some, slice_get}
+use Rattle.std.specs.Prelude.{◌≡◌, ◌⊎◌, ℕ, Bool, true, false, if◌then◌else◌, List, [], ◌∷◌, ◌++◌, Some, slice_get}
 use Rattle.qc_core.specs.declared.actor.Actor.{Actor}
 use Rattle.qc_core.specs.declared.actor.Actor.TheVariants.{Site, Client}
 use Rattle.qc_core.specs.Actors.{actor_after, actor_takes}
@@ -8,7 +8,7 @@ use Rattle.qc_core.specs.Lives.{is_up}
 use Rattle.qc_decl.specs.Actors.{is_client, is_site}
 use Rattle.qc_decl.specs.declared.declaration.Declaration.{Declaration}
 use Rattle.qc_msg.specs.declared.step.Given.{Given}
-use Rattle.qc_msg.specs.Deeds.{WasSentTo, deeds, mail, own}
+use Rattle.qc_msg.specs.Deeds.{Deed, Takes, WasSentTo, deeds, mail, own}
 use Rattle.qc_msg.specs.Steps.{Entry}
 use Rattle.qc_net.specs.Net.{MayCommand, Net, Reaches}
 use Rattle.qc_promise.specs.Kept.{journal_of}
@@ -26,6 +26,10 @@ pub record HasTaken (decl : Declaration) (net : Net) (a : ℕ) (h : List Entry) 
   pub given : Given
   pub sent : WasSentTo a (mail h) given
   pub may : is_client decl a ≡ true → MayCommand decl (net.clients a) given
+  -- its deeds before, and what it was then
+  pub before : List Deed
+  pub deeds_are : deeds a [] h ≡ before ++ Takes given ∷ []
+  pub was : (actor_after decl a before).actor ≡ actor_in decl net a
   pub is : actor_after decl a (deeds a [] h) ≡ actor_takes decl (actor_in decl net a) given
 
 -- the net of a history, some of whose inputs are open

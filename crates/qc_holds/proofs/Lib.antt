@@ -1,0 +1,13 @@
+pub mod Nets
+pub mod HeldLaw
+pub mod ClosedLogs
+pub mod SiteLives
+pub mod Voting
+pub mod Cast
+pub mod CommitDue
+pub mod Clients
+pub mod Recording
+pub mod Promising
+pub mod Stamps
+pub mod SiteClocks
+pub mod WrongOnes

@@ -1,0 +1,4 @@
+pub mod Votes
+pub mod Recorded
+pub mod Counted
+pub mod Wrong
