@@ -3,7 +3,7 @@ mod Sums
 mod OwnArms
 mod ActingArms
 mod Agreement
-mod Whole
+pub mod Whole
 mod OwnRecords
 pub mod Stores
 mod FittingRecords

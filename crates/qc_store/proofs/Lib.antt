@@ -1,3 +1,4 @@
 pub mod Accounts
 mod Calls
 mod Contents
+mod Counts

@@ -1,11 +1,14 @@
 //! Laws of stores, each the contract of a function with nothing to do.
 
-ghost use Rattle.std.specs.Prelude.{◌≡◌, ◌<◌, ◌≤◌, ℕ, List, Some, None, length};
+ghost use Rattle.std.specs.Prelude.{◌≡◌, ◌<◌, ◌≤◌, ◌-◌, ◌^◌, ℕ, suc, List, Some, None, length};
+ghost use Rattle.qc_msg.specs.Steps.{Entry};
 ghost use Rattle.qc_msg.specs.declared.record.Record.{Record};
+ghost use Rattle.qc_outside.specs.Disk.{IsKept};
 ghost use Rattle.qc_outside.specs.Fuses.{Fuse};
 ghost use Rattle.qc_outside.specs.declared.disk.ArmKind.{ArmKind};
-ghost use Rattle.qc_promise.specs.DiskAccount.{DiskAccount, DiskArm, IsInTime, disk_armed};
-ghost use Rattle.qc_promise.specs.Spent.{of_fall, of_opening};
+ghost use Rattle.qc_promise.specs.DiskAccount.{AreFallsBelow, DiskAccount, IsEverInTime, IsInTime, disk_account};
+ghost use Rattle.qc_promise.specs.DiskAccount.{disk_armed};
+ghost use Rattle.qc_promise.specs.Spent.{Spent, of_fall, of_opening};
 ghost use Rattle.qc_store.specs.Accounts.{IsAccountOf, IsCounted};
 ghost use Rattle.qc_store.specs.Calls.{of_bodies, of_broken_opening, of_broken_record};
 
@@ -34,4 +37,13 @@ pub fn calls_are_those_of_histories()
         → of_bodies bodies ≡ of_opening records }
     ensures records { (written : Record) → of_broken_record ≡ of_fall (Some written) }
     ensures broken { of_broken_opening ≡ of_fall None }
+{}
+
+/// Where each disk counted the falls of its account, and goes back to the rack,
+/// what the rack's count rose by spends the history, as long as 64 bits hold it.
+pub fn counted_disks_make_spent()
+    ensures { (h : List Entry) (actors : ℕ) (disks nows : ℕ → ℕ) → AreFallsBelow actors h
+        → ((a : ℕ) → IsEverInTime a h) → ((a : ℕ) → a < actors → IsCounted (disk_account a h).unarmed (disks a))
+        → ((a : ℕ) → a < actors → IsKept (nows a) (disks a) (nows (suc a))) → nows actors < 2 ^ 64 - 1
+        → Spent h (nows actors - nows 0) }
 {}
