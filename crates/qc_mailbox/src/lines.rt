@@ -1,7 +1,7 @@
 //! Control lines that are left: those at the front that have nothing to do are
 //! passed over.
 
-ghost use Rattle.std.specs.Prelude.{◌≡◌, drop};
+ghost use Rattle.std.specs.Prelude.{◌≡◌};
 ghost use Rattle.qc_script.specs.Inbox.{acting, does_nothing};
 ghost use Rattle.qc_mailbox.specs.Passing.{first_does_nothing};
 ghost use Rattle.qc_mailbox.specs.Queues.{items};
