@@ -44,7 +44,10 @@ impl Model for Mailboxes {
 
     ghost Value = { Roomy };
 
-    ghost view = { λ m. record { inboxes = shown m.links m.cuts m.up m.counts m.controls m.boxes.items; room = m.room } };
+    ghost view = { λ m. record {
+      inboxes = shown m.links m.cuts m.up m.counts m.controls m.boxes.items;
+      room = m.room;
+    } };
 
     ghost invariant = { λ m. IsRoomy m.room m.boxes.items };
 }
