@@ -1,5 +1,6 @@
 -- What is kept of all inboxes, and what changes in it as actors and the controller act.
-use Rattle.std.specs.Prelude.{ℕ, ◌+◌, ◌==◌, Bool, true, false, List, [], ◌∷◌, Option, Some, None, drop, get_or, length, map}
+use Rattle.std.specs.Prelude.{ℕ, ◌+◌, ◌==◌, Bool, true, false, List, [], ◌∷◌, Option, Some, None, drop, get_or}
+use Rattle.std.specs.Prelude.{length, map}
 use Rattle.std.specs.Prelude.{replicate, set}
 use Rattle.qc_link.specs.Cuts.{no_cuts, with_cut, without_cut}
 use Rattle.qc_link.specs.Fate.{fate}
@@ -139,7 +140,8 @@ after_rise i r = with_control_gone (record i { up = set i.up r true })
 -- an actor that is up posts a turn, by what became of its record: where that isn't written, the actor falls
 abbrev pub after_post_as : Appended → Inboxes → ℕ → Turn → Inboxes
 after_post_as Done i from turn = after_turn i from turn
-after_post_as Failed i from turn = after_fall (after_reply (after_sends i from turn.failed_sends) from turn.failed_told) from
+after_post_as Failed i from turn =
+    after_fall (after_reply (after_sends i from turn.failed_sends) from turn.failed_told) from
 after_post_as Stopped i from turn = after_fall (after_reply i from turn.failed_told) from
 
 -- an actor rises and posts its rising turn, by what became of the record of its rise: where that isn't written, it rose

@@ -1,5 +1,5 @@
 -- Requests in a queue, one after another; and control lines that are passed over.
-use Rattle.std.proofs.Common.{◌≡◌, ℕ, ◌+◌, ◌<◌, ◌≤◌, ◌==◌, Bool, true, false, cond, not, List, [], ◌∷◌, length, refl, ap, arith}
+use Rattle.std.proofs.Common.{◌≡◌, ℕ, ◌+◌, ◌≤◌, ◌==◌, Bool, true, false, cond, not, List, [], ◌∷◌, length, refl, ap, arith}
 use Rattle.std.specs.Prelude.{drop, filter}
 use Rattle.qc_msg.specs.declared.step.Control.{Control}
 use Rattle.qc_script.specs.Inbox.{acting, does_nothing}
@@ -63,7 +63,3 @@ acting_now up (c ∷ cs) is = by (does_nothing up c) is
     by : (t : Bool) → t ≡ false → (c ∷ cs) ≡ cond t (acting up cs) (c ∷ cs)
     by true is = absurd (let never : ⊥ = cc in never)
     by false is = refl
-
-pub shorter : (up : List Bool) (cs : List Control) → first_does_nothing up cs ≡ true → length (drop 1 cs) < length cs
-shorter up [] is = absurd (let never : ⊥ = cc in never)
-shorter up (c ∷ cs) is = omega arith

@@ -19,8 +19,8 @@ tray m =
       calls = m.calls;
     }
 
--- the queues that messages come into have so many places spare, beside those that are wanted when late copies are ready,
--- and when requests without an answer are lost
+-- the queues that messages come into have so many places spare, beside those that are wanted when late copies are
+-- ready, and when requests without an answer are lost
 pub record HasRoom (room : ℕ) (m : Mailbox) : Type 0 where
   pub copies : room + (length (items m.opening) + length (items m.late)) ≤ spare m.copies
   pub opening : room + length (items m.late) ≤ spare m.opening

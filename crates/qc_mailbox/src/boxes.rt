@@ -62,7 +62,8 @@ pub(crate) fn go(
     requires from { from < most_actors }
     requires room { Every (HasRoom 1) boxes.old.items }
     ensures length { length boxes.new.items ≡ length boxes.old.items }
-    ensures trays { map tray boxes.new.items ≡ with_going up (map tray boxes.old.items) from number to message.now fate }
+    ensures trays { map tray boxes.new.items
+        ≡ with_going up (map tray boxes.old.items) from number to message.now fate }
     ensures room { (room : ℕ) → Every (HasRoom (room + 1)) boxes.old.items → Every (HasRoom room) boxes.new.items }
 {
     boxes[from as usize].go(up, number, to, message, fate);

@@ -29,6 +29,7 @@
 mod asked;
 mod boxes;
 mod counts;
+mod fall;
 mod lines;
 mod mailbox;
 mod mailboxes;

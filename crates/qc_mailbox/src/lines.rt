@@ -1,7 +1,7 @@
 //! Control lines that are left: those at the front that have nothing to do are
 //! passed over.
 
-ghost use Rattle.std.specs.Prelude.{◌≡◌, drop};
+ghost use Rattle.std.specs.Prelude.{◌≡◌};
 ghost use Rattle.qc_script.specs.Inbox.{acting, does_nothing};
 ghost use Rattle.qc_mailbox.specs.Passing.{first_does_nothing};
 ghost use Rattle.qc_mailbox.specs.Queues.{items};
@@ -35,7 +35,7 @@ fn first_does_nothing(controls: &Queue<Control>, up: &Ups) -> bool
 }
 
 /// Takes the lines away that have nothing to do, up to one that has.
-#[tactic(auto, using(crate::proofs::Requested::acting_past, crate::proofs::Requested::acting_now, crate::proofs::Requested::shorter))]
+#[tactic(auto, using(crate::proofs::Requested::acting_past, crate::proofs::Requested::acting_now))]
 pub(crate) fn pass_idle(controls: &mut Queue<Control>, up: &Ups)
     ensures { items controls.new ≡ acting up.now (items controls.old) }
 {

@@ -1,10 +1,10 @@
 //! What waits for one actor.
 
-ghost use Rattle.std.specs.Prelude.{◌≡◌, ◌+◌, ◌^◌, ◌<◌, true, false, [], OnOk};
+ghost use Rattle.std.specs.Prelude.{◌≡◌, ◌+◌, ◌^◌, ◌<◌, true, false, OnOk};
 ghost use Rattle.qc_script.specs.Inbox.{comes_at_once, is_request};
 ghost use Rattle.qc_inbox.specs.Inputs.{first_command, next_in};
 ghost use Rattle.qc_inbox.specs.Trays.{empty_tray, tray_answered, tray_answered_by, tray_asks};
-ghost use Rattle.qc_inbox.specs.Trays.{tray_called, tray_comes, tray_emptied, tray_goes, tray_losing, tray_lost_unless};
+ghost use Rattle.qc_inbox.specs.Trays.{tray_called, tray_comes, tray_goes, tray_lost_unless};
 ghost use Rattle.qc_inbox.specs.Trays.{tray_taken, tray_told, tray_with_copies};
 ghost use Rattle.qc_mailbox.specs.Boxes.{HasRoom, HasUsed, tray};
 
@@ -259,26 +259,6 @@ impl Mailbox {
         ensures used { HasUsed 0 self.old self.new }
     {
         self.busy = false;
-    }
-
-    /// Another actor falls: what this one asked it and has no answer is lost.
-    pub(crate) fn lose(&mut self, actor: u8)
-        requires { HasRoom 0 self.old }
-        ensures tray { tray self.new ≡ tray_losing actor (tray self.old) }
-        ensures used { HasUsed 0 self.old self.new }
-    {
-        self.unanswered.lose(actor, &mut self.lost);
-    }
-
-    /// The actor falls: nothing waits for it any more but commands, and late
-    /// copies that aren't ready yet.
-    pub(crate) fn fall(&mut self)
-        ensures tray { tray self.new ≡ tray_emptied (tray self.old) }
-        ensures used { HasUsed 0 self.old self.new }
-    {
-        self.copies.clear();
-        self.unanswered.clear();
-        self.lost.clear();
     }
 }
 

@@ -1,19 +1,15 @@
 //! What is kept beside a history: what waits for each actor, which actors are
 //! cut from each other, and how many messages there were.
 
-ghost use Rattle.std.specs.Prelude.{◌≡◌, ℕ, ◌+◌, ◌^◌, ◌≤◌, ◌<◌, IfOk, IfSome, OnOk, OnErr};
-ghost use Rattle.std.specs.Prelude.{drop, length, map, slice_get};
+ghost use Rattle.std.specs.Prelude.{◌≡◌, ◌+◌, ◌^◌, ◌≤◌, ◌<◌, IfOk, IfSome, OnOk, OnErr};
+ghost use Rattle.std.specs.Prelude.{length, slice_get};
 ghost use Rattle.std.specs.List.{AllByRecursion as Every};
 ghost use Rattle.qc_msg.specs.declared.turn.Posting.{Posting};
 ghost use Rattle.qc_inbox.specs.Inputs.{IsWithin, next_in};
-ghost use Rattle.qc_inbox.specs.Rooms.{after_fall, after_first, after_phase, after_post_as, after_reply, after_rise};
-ghost use Rattle.qc_inbox.specs.Rooms.{after_send, after_sends, after_take, after_turn, each_by_up, empty_inboxes};
-ghost use Rattle.qc_inbox.specs.Rooms.{none_left, tray_at, with_control_gone};
-ghost use Rattle.qc_inbox.specs.Trays.{tray_opened};
-ghost use Rattle.qc_msg.specs.Steps.{sends_as};
+ghost use Rattle.qc_inbox.specs.Rooms.{after_first, after_phase, after_reply};
+ghost use Rattle.qc_inbox.specs.Rooms.{after_send, after_sends, after_take, after_turn, empty_inboxes};
+ghost use Rattle.qc_inbox.specs.Rooms.{tray_at};
 ghost use Rattle.qc_msg.specs.declared.reply.Reply.{Reply};
-ghost use Rattle.qc_script.specs.Inbox.{acting};
-ghost use Rattle.qc_mailbox.specs.Boxes.{HasRoom, tray};
 ghost use Rattle.qc_mailbox.specs.Queues.{items};
 ghost use Rattle.qc_link.specs.Limits.{most_actors};
 
@@ -26,7 +22,7 @@ use crate::ups::Ups;
 use qc_inbox::Input;
 use qc_link::{Cuts, Link, LinkPlan, fate};
 use qc_list::OutOfMemory;
-use qc_msg::{Appended, Control, Posting, Reply, Turn};
+use qc_msg::{Control, Posting, Reply, Turn};
 use qc_script::{PhaseLines, Script};
 use std::alloc::{AllocError, Global};
 use std::marker::Model;
@@ -36,10 +32,10 @@ use std::marker::Model;
 pub struct Mailboxes {
     links: LinkPlan,
     cuts: Cuts,
-    up: Ups,
+    pub(crate) up: Ups,
     counts: Counts,
-    controls: Queue<Control>,
-    boxes: Vec<Mailbox>,
+    pub(crate) controls: Queue<Control>,
+    pub(crate) boxes: Vec<Mailbox>,
     room: usize,
 }
 
@@ -48,7 +44,10 @@ impl Model for Mailboxes {
 
     ghost Value = { Roomy };
 
-    ghost view = { λ m. record { inboxes = shown m.links m.cuts m.up m.counts m.controls m.boxes.items; room = m.room } };
+    ghost view = { λ m. record {
+      inboxes = shown m.links m.cuts m.up m.counts m.controls m.boxes.items;
+      room = m.room;
+    } };
 
     ghost invariant = { λ m. IsRoomy m.room m.boxes.items };
 }
@@ -151,7 +150,7 @@ impl Mailboxes {
     }
 
     /// An actor tells a reply, if it has one.
-    fn tell(&mut self, actor: u8, reply: &Option<Reply>)
+    pub(crate) fn tell(&mut self, actor: u8, reply: &Option<Reply>)
         requires { actor < most_actors }
         ensures inboxes { self.new.inboxes ≡ after_reply self.old.inboxes actor reply.now }
         ensures room { self.new.room ≡ self.old.room }
@@ -161,66 +160,8 @@ impl Mailboxes {
         }
     }
 
-    /// An actor that is up posts a turn, by what became of its record: where that
-    /// isn't written, the actor falls. There is room for its messages.
-    pub fn post_as(&mut self, actor: u8, turn: &Turn)
-        requires actor { actor < most_actors }
-        requires receivers { Every (λ (p : Posting). p.to < most_actors) (sends_as turn.now.append turn.now) }
-        requires few { self.old.inboxes.counts.all + length (sends_as turn.now.append turn.now) < 2 ^ 32 }
-        requires room { length (sends_as turn.now.append turn.now) ≤ self.old.room }
-        ensures inboxes { self.new.inboxes ≡ after_post_as turn.now.append self.old.inboxes actor turn.now }
-        ensures room { self.new.room + length (sends_as turn.now.append turn.now) ≡ self.old.room }
-    {
-        match turn.append {
-            Appended::Done => self.post(actor, turn),
-            Appended::Failed => {
-                self.send_all(actor, turn.failed_sends.items());
-                self.tell(actor, &turn.failed_told);
-                self.fall(actor);
-            }
-            Appended::Stopped => {
-                self.tell(actor, &turn.failed_told);
-                self.fall(actor);
-            }
-        }
-    }
-
-    /// An actor falls: nothing waits for it any more, and what others asked it and
-    /// has no answer is lost. It takes no memory.
-    pub fn fall(&mut self, actor: u8)
-        requires { actor < most_actors }
-        ensures inboxes { self.new.inboxes ≡ after_fall self.old.inboxes actor }
-        ensures room { self.new.room ≡ self.old.room }
-    {
-        self.up.set(actor, false);
-        boxes::lose(&mut self.boxes, actor);
-        boxes::fall(&mut self.boxes, actor);
-    }
-
-    /// An actor rises, by the first control line left. Its rising turn is posted
-    /// after that. It takes no memory.
-    pub fn rise(&mut self, actor: u8)
-        requires { actor < most_actors }
-        ensures inboxes { self.new.inboxes ≡ after_rise self.old.inboxes actor }
-        ensures room { self.new.room ≡ self.old.room }
-    {
-        self.up.set(actor, true);
-        self.end_line();
-    }
-
-    /// The first control line left has acted, and those behind it that have
-    /// nothing to do are passed over. It takes no memory.
-    pub fn end_line(&mut self)
-        ensures inboxes { self.new.inboxes ≡ with_control_gone self.old.inboxes }
-        ensures room { self.new.room ≡ self.old.room }
-    {
-        self.controls.drop_first();
-        pass_idle(&mut self.controls, &self.up);
-        boxes::open(&mut self.boxes, self.controls.len() == 0, &self.up);
-    }
-
     /// An actor sends messages, one after another.
-    fn send_all(&mut self, actor: u8, postings: &[Posting])
+    pub(crate) fn send_all(&mut self, actor: u8, postings: &[Posting])
         requires actor { actor < most_actors }
         requires receivers { Every (λ (p : Posting). p.to < most_actors) postings.now }
         requires few { self.old.inboxes.counts.all + length postings.now < 2 ^ 32 }
