@@ -27,10 +27,10 @@ transactions-preserved c =
     let rest = c.next.new.self in
     let is_next = c.in-Some.ensures.steps in
     let more = asked_more (inquiry decl) c.transactions.sends c.transactions.left c.in-Some.tx.now rest c.transactions.tx-iterator
-        (λ none. omega (arith, none, c.if-left-eq0.false)) is_next in
+    (λ none. omega (arith, none, c.if-left-eq0.false)) is_next in
     let sent : c.push.new.self ≡ c.transactions.sends ++ inquiry decl c.in-Some.tx.now ∷ [] =
-        c.in_ok-push.ensures.ok
-        ∙ ap (λ (to : ℕ). c.transactions.sends ++ record { to = to; message = messages.Inquiry c.in-Some.tx.now } ∷ []) c.client_actor.ensures in (
+    c.in_ok-push.ensures.ok
+    ∙ ap (λ (to : ℕ). c.transactions.sends ++ record { to = to; message = messages.Inquiry c.in-Some.tx.now } ∷ []) c.client_actor.ensures in (
       tt,
       tt,
       ap (λ (sends : List Posting). sends ++ map (inquiry decl) (take (c.transactions.left - 1) rest)) sent ∙ more ∙ c.transactions.invariant.2,
