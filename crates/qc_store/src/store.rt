@@ -4,11 +4,11 @@ ghost use Rattle.std.specs.Prelude.{◌≡◌, ◌≤◌, ◌<◌, ◌^◌, List
 ghost use Rattle.std.specs.Prelude.{◌+◌, Option, vec_capacity};
 ghost use Rattle.qc_journal.specs.Calls.{JournalIsRefused};
 ghost use Rattle.qc_journal.specs.Causes.{JournalRose};
-ghost use Rattle.qc_journal.specs.Grammar.{IsBody};
+ghost use Rattle.qc_journal.specs.Grammar.{Holds, IsBody, IsNoJournal};
 ghost use Rattle.qc_journal.specs.Journal.{AreShort, IsReserved, Rests, lists};
 ghost use Rattle.qc_journal.specs.declared.fault.JournalFault.TheVariants.{Torn};
 ghost use Rattle.qc_outside.specs.Fuses.{Fuse};
-ghost use Rattle.qc_outside.specs.Images.{Told, as_read, settled};
+ghost use Rattle.qc_outside.specs.Images.{Tells, Told, as_read, settled};
 ghost use Rattle.qc_outside.specs.declared.disk.ArmKind.{ArmKind};
 ghost use Rattle.qc_promise.specs.DiskAccount.{DiskAccount, no_disk_account, disk_called, disk_fell};
 ghost use Rattle.qc_promise.specs.Spent.{of_reading, of_record};
@@ -42,6 +42,11 @@ pub fn start<D: Disk>(
     ensures account { IfOk result (λ r. IsAccountOf no_disk_account (⟦<Fused<D> as Disk>⟧.fuse r.0.disk)) }
     ensures rests { IfOk result (λ r. Rests (⟦<Fused<D> as Disk>⟧.told r.0.disk) r.0.end (lists r.1.items)) }
     ensures tells { IfOk result (λ r. StillTells (D.told disk) (⟦<Fused<D> as Disk>⟧.told r.0.disk)) }
+    // What it gives is what the disk held, and it is torn only where that is no journal.
+    ensures opened { IfOk result (λ r. Tells (D.told disk) (⟦<Fused<D> as Disk>⟧.told r.0.disk) (λ old new.
+        Holds (lists r.1.items) (as_read old.now))) }
+    ensures torn { IfErr result (λ e. (offset : ℕ) → e.1 ≡ Torn offset
+        → Tells (D.told disk) (D.told e.0) (λ old new. IsNoJournal offset (as_read old.now))) }
     ensures empty { IfOk result (λ r. (t : Told) → D.told disk ≡ Some t → t.now ≡ settled [] → r.1.items ≡ []) }
     ensures records { IfOk result (λ r. r.0.records ≡ length r.1.items) }
     ensures bodies { IfOk result (λ r. AreShort r.1.items) }
@@ -106,7 +111,12 @@ pub fn rise<D: Disk>(alloc: Global, disk: D) -> Result<(Journal<D>, Vec<Vec<u8>>
     ensures bodies { IfOk result (λ r. AreShort r.1.items) }
     ensures tells { IfOk result (λ r. StillTells (D.told disk) (D.told r.0.disk)) }
     ensures tells_err { IfErr result (λ e. StillTells (D.told disk) (D.told e.0)) }
-    // What it gives are the records, with the pending one or without it.
+    // What it gives is what the disk held, whatever that is.
+    ensures opened { IfOk result (λ r. Tells (D.told disk) (D.told r.0.disk) (λ old new.
+        Holds (lists r.1.items) (as_read old.now))) }
+    ensures broken { IfErr result (λ e. (offset : ℕ) → e.1 ≡ rise_fault.Torn offset
+        → Tells (D.told disk) (D.told e.0) (λ old new. IsNoJournal offset (as_read old.now))) }
+    // So it is the records, with the pending one or without it.
     ensures given { IfOk result (λ r. (bodies : List (List ℕ)) (pending : Option (List ℕ)) (t : Told)
         → D.told disk ≡ Some t → DiskHolds (D.told disk) bodies pending → AreGiven bodies pending (lists r.1.items)) }
     // A disk that tells, and holds them, is never torn.
@@ -140,6 +150,7 @@ fn refused<D: Disk>(disk: D, fault: JournalFault) -> (D, RiseFault)
         → DiskHolds (D.told result.0) bodies pending }
     ensures tells { StillTells (D.told disk) (D.told result.0) }
     ensures torn { (offset : ℕ) → result.1 ≡ rise_fault.Torn offset → fault ≡ Torn offset }
+    ensures same { (offset : ℕ) → result.1 ≡ rise_fault.Torn offset → D.told result.0 ≡ D.told disk }
     ensures fell { (kind : ArmKind) → result.1 ≡ rise_fault.Fell kind
         → IsSettled (D.told result.0) }
     ensures account_fell { (f : Fuse) (t : DiskAccount) (kind : ArmKind) → result.1 ≡ rise_fault.Fell kind
