@@ -10,4 +10,9 @@ pub mod Recording
 pub mod Promising
 pub mod Stamps
 pub mod SiteClocks
+pub mod PromisedLocks
+pub mod PromisedItems
+pub mod StandingPromises
+pub mod PromisedStill
 pub mod WrongOnes
+pub mod WrongPromises

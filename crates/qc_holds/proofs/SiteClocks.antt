@@ -26,7 +26,7 @@ use Rattle.qc_script.specs.Sound.{IsScriptFor}
 use Rattle.qc_script.specs.declared.script.Script.{Script}
 use Rattle.qc_site.specs.Site.{SiteState}
 
-same_site : (s t : SiteState) → actor.Site s ≡ actor.Site t → s ≡ t
+pub same_site : (s t : SiteState) → actor.Site s ≡ actor.Site t → s ≡ t
 same_site s t is = let same : s ≡ t = cc in same
 
 module _ (fits : ℕ → List Record → Type 0) (decl : Declaration) (script : Script) (h : List Entry) (open_inputs : List Bool) (accepted : IsAccepted decl) (sound : IsScriptFor decl script)

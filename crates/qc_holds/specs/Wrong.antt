@@ -2,6 +2,7 @@
 use Rattle.std.specs.Prelude.{◌≡◌, ◌⊎◌, ℕ, true, false, List, [], ◌∷◌, ◌++◌, None}
 use Rattle.qc_decl.specs.Actors.{is_site}
 use Rattle.qc_decl.specs.declared.declaration.Declaration.{Declaration}
+use Rattle.qc_entry.specs.declared.record.Prepared.{Prepared}
 use Rattle.qc_guarantees.specs.Wrong.{granted, tx}
 use Rattle.qc_holds.specs.Votes.{IsCastSince}
 use Rattle.qc_list.specs.Members.{In}
@@ -9,10 +10,11 @@ use Rattle.qc_msg.specs.Deeds.{Deed, Falls, Rises, Writes, mail}
 use Rattle.qc_msg.specs.Steps.{Entry, marked}
 use Rattle.qc_msg.specs.declared.message.Answer.TheVariants.{Yes}
 use Rattle.qc_msg.specs.declared.message.Envelope.{Envelope}
-use Rattle.qc_msg.specs.declared.message.Message.TheVariants.{Answer, Request}
+use Rattle.qc_msg.specs.declared.message.Message.TheVariants.{Answer, Decision, Request}
+use Rattle.qc_msg.specs.declared.message.Outcome.TheVariants.{Aborted}
 use Rattle.qc_msg.specs.declared.message.Want.TheVariants as wants
 use Rattle.qc_msg.specs.declared.record.Record.{Record}
-use Rattle.qc_msg.specs.declared.record.Record.TheVariants.{Life, Prepare}
+use Rattle.qc_msg.specs.declared.record.Record.TheVariants.{Done, Life, Prepare}
 use Rattle.qc_msg.specs.declared.step.Fall.TheVariants.{Script}
 use Rattle.qc_msg.specs.declared.step.Step.TheVariants as steps
 use Rattle.qc_promise.specs.Account.{Current}
@@ -36,9 +38,11 @@ begun =
       doomed = false;
     }
 
+abbrev pub prepared : Prepared
+prepared = record { tx = tx; epoch = 1; locks = record { object = 0; inv = 0 } ∷ []; own = []; lines = [] }
+
 abbrev pub promise : Record
-promise =
-    Prepare (record { tx = tx; epoch = 1; locks = record { object = 0; inv = 0 } ∷ []; own = []; lines = [] })
+promise = Prepare prepared
 
 -- entries: the client asks for a promise in this life of the site; the site records it, votes, falls, and rises
 
@@ -83,6 +87,26 @@ in_another_life = asks 2 ∷ records_it ∷ votes ∷ []
 
 abbrev pub promised : List Record → List Entry
 promised kept = asks 1 ∷ records_it ∷ votes ∷ falls ∷ rises kept ∷ lives ∷ []
+
+-- its client tells that the transaction aborted; the site takes it before it falls, or once it rose; or its records say
+-- that it is done
+
+abbrev pub tells_abort : Entry
+tells_abort = marked 1 (steps.Sent 2 0 (Decision tx Aborted))
+
+abbrev pub takes_it : Entry
+takes_it = marked 0 (steps.Got 2)
+
+abbrev pub aborted_before : List Entry
+aborted_before =
+    asks 1 ∷ records_it ∷ votes ∷ tells_abort ∷ takes_it ∷ falls ∷ rises (promise ∷ []) ∷ lives ∷ []
+
+abbrev pub aborted_since : List Entry
+aborted_since =
+    asks 1 ∷ records_it ∷ votes ∷ tells_abort ∷ falls ∷ rises (promise ∷ []) ∷ lives ∷ takes_it ∷ []
+
+abbrev pub finished : List Entry
+finished = promised (promise ∷ Done tx 1 ∷ [])
 
 -- deeds of the site: it granted a Read, falls, and rises with these records
 abbrev pub fallen : List Record → List Deed

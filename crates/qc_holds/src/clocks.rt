@@ -14,12 +14,15 @@ ghost use Rattle.qc_holds.specs.Recorded.{IsRecorded};
 ghost use Rattle.qc_list.specs.Members.{In};
 ghost use Rattle.qc_msg.specs.Deeds.{deeds};
 ghost use Rattle.qc_msg.specs.Steps.{Entry};
+ghost use Rattle.qc_msg.specs.declared.record.Record.TheVariants.{Done};
 ghost use Rattle.qc_promise.specs.Kept.{Kept};
 ghost use Rattle.qc_promise.specs.SiteClocks.{clock_shown};
 ghost use Rattle.qc_promise.specs.SiteLogs.{log_shown};
+ghost use Rattle.qc_reach.specs.Standing.{records_of};
 ghost use Rattle.qc_script.specs.RunsWithFalls.{RunsWithFalls};
 ghost use Rattle.qc_script.specs.Sound.{IsScriptFor};
 ghost use Rattle.qc_script.specs.declared.script.Script.{Script};
+ghost use Rattle.qc_stamp.specs.declared.stamp.TxId.{TxId};
 
 use qc_script::ConductWithFalls;
 
@@ -45,4 +48,15 @@ pub fn sites_clocks_pass_their_lines_through_falls<C: ConductWithFalls>()
         → (site : ℕ) (line : Line) → is_site decl site ≡ true → slice_get open_inputs site ≡ Some false
         → is_up (deeds site [] h) ≡ true → In line (log_shown (deeds site [] h))
         → line.stamp.clock ≤ clock_shown (deeds site [] h) }
+{}
+
+/// And it has passed the clock of each Done that stands on its disk, from this
+/// life or an earlier one.
+pub fn sites_clocks_pass_their_dones_through_falls<C: ConductWithFalls>()
+    ensures { (decl : Declaration) (script : Script) (h : List Entry) (open_inputs : List Bool)
+        → IsAccepted decl → IsScriptFor decl script
+        → RunsWithFalls (IsLawfulWithFalls decl) C.fits decl script h open_inputs → Kept h
+        → (site : ℕ) (tx : TxId) (clock : ℕ) → is_site decl site ≡ true → slice_get open_inputs site ≡ Some false
+        → is_up (deeds site [] h) ≡ true → In (Done tx clock) (records_of h site)
+        → clock ≤ clock_shown (deeds site [] h) }
 {}

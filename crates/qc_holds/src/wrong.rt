@@ -4,10 +4,12 @@
 ghost use Rattle.std.specs.Prelude.{[], ◌∷◌};
 ghost use Rattle.qc_guarantees.specs.Held.{HasWanted, IsGrantedSince};
 ghost use Rattle.qc_guarantees.specs.Wrong.{granted, tx};
+ghost use Rattle.qc_holds.specs.Promised.{HasPromisedItems, IsPromisedStill};
 ghost use Rattle.qc_holds.specs.Recorded.{HasPromised};
-ghost use Rattle.qc_holds.specs.Wrong.{AreCastSince, begun, fallen, in_another_life, promise, promised, risen};
-ghost use Rattle.qc_holds.specs.Wrong.{unrecorded, voting};
+ghost use Rattle.qc_holds.specs.Wrong.{AreCastSince, aborted_before, aborted_since, begun, fallen, finished};
+ghost use Rattle.qc_holds.specs.Wrong.{in_another_life, prepared, promise, promised, risen, unrecorded, voting};
 ghost use Rattle.qc_lock.specs.Held.{held_of};
+ghost use Rattle.qc_msg.specs.Deeds.{deeds};
 ghost use Rattle.qc_msg.specs.declared.message.Want.TheVariants.{Read};
 ghost use Rattle.qc_promise.specs.Lifetimes.{lifetime};
 ghost use Rattle.qc_promise.specs.SiteHeld.{held_shown};
@@ -37,4 +39,17 @@ pub fn locks_of_former_lives_are_refused()
     ensures promised { HasWanted (held_of (held_shown (fallen (promise ∷ []))) tx) (Read 0 0) }
     ensures present { IsGrantedSince (lifetime granted).since tx (Read 0 0) }
     ensures former { IsGrantedSince (lifetime (fallen [])).since tx (Read 0 0) → ⊥ }
+{}
+
+/// A promise that isn't on the disk doesn't stand, nor does one that is done.
+/// One whose abort was taken since the rise is let go of; but where the site
+/// falls after that and rises, it stands again, and is had.
+pub fn promises_that_were_let_go_are_refused()
+    ensures kept { IsPromisedStill (promised (promise ∷ [])) 0 prepared }
+    ensures lost { IsPromisedStill (promised []) 0 prepared → ⊥ }
+    ensures done { IsPromisedStill finished 0 prepared → ⊥ }
+    ensures aborted { IsPromisedStill aborted_since 0 prepared → ⊥ }
+    ensures dropped { HasPromisedItems (held_of (held_shown (deeds 0 [] aborted_since)) tx) prepared → ⊥ }
+    ensures again { IsPromisedStill aborted_before 0 prepared }
+    ensures had { HasPromisedItems (held_of (held_shown (deeds 0 [] aborted_before)) tx) prepared }
 {}
