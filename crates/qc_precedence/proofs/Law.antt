@@ -1,93 +1,54 @@
--- The ordering lemma through falls. If the writer's record was there at the moment, the reader was live in the machine of that
--- moment and safe, and the writer had committed: so the line was in the view. It wasn't written between the moment and the
--- reader's record: both would have been live and safe. If it was written later, its client's clock had passed the reader's stamp.
-use Rattle.std.proofs.Common.{◌≡◌, ◌≢◌, ◌≤◌, ◌+◌, ◌-◌, if◌then◌else◌, ℕ, Bool, true, List, [], ◌∷◌, ◌++◌, inl, inr, fold, Some, refl, sym, ap, ◌∙◌, subst, arith, append_assoc}
+-- The ordering lemma through falls. If the writer's client knew the record at the moment, written or pending, then the
+-- reader, which was live in the machine of that moment and safe, had its line in the view. It wasn't written, nor being
+-- written, between the moment and the reader's record: both would have been live and safe. If it was later, its client's
+-- clock had passed the reader's stamp.
+use Rattle.std.proofs.Common.{◌≡◌, ◌≢◌, ◌⊎◌, ◌≤◌, ◌+◌, ◌-◌, ◌==◌, ℕ, Bool, true, false, List, [], ◌∷◌, ◌++◌, inl, inr, fold, refl, sym, ap, ◌∙◌, subst, arith, append_assoc}
 use Rattle.std.proofs.lemmas.List.{append-nil}
-use Rattle.std.proofs.lemmas.List.Elements.{filter_map-append}
-use Rattle.std.proofs.lemmas.List.Sums.{fold-append}
 use Rattle.qc_core.specs.Conduct.{IsLawfulWithFalls}
 use Rattle.qc_core.specs.Lives.{AreSteady}
 use Rattle.qc_decl.specs.Accepted.{IsAccepted}
-use Rattle.qc_decl.specs.Actors.{is_client}
 use Rattle.qc_decl.specs.declared.declaration.Declaration.{Declaration}
 use Rattle.qc_entry.specs.declared.line.Line.{Line}
 use Rattle.qc_entry.specs.declared.line.Op.{Op}
 use Rattle.qc_entry.specs.declared.record.Commit.{Commit as CommitRecord}
-use Rattle.qc_holds.proofs.Nets.{listed, now, of_machine, refined}
-use Rattle.qc_holds.proofs.Promising.{IsRecording, recording}
+use Rattle.qc_holds.proofs.Nets.{refined}
+use Rattle.qc_holds.proofs.Promising.{IsRecording, its_client, its_moment, now_recording}
+use Rattle.qc_holds.proofs.Recording.{IsKnown, Moment}
 use Rattle.qc_holds.proofs.Stamps.{steady_clocks}
 use Rattle.qc_list.specs.Members.{In}
-use Rattle.qc_list.proofs.Members.{In-first, In-second}
-use Rattle.qc_msg.proofs.Growth.{deeds-append}
-use Rattle.qc_msg.specs.Counts.{commit_in, written}
-use Rattle.qc_msg.specs.Deeds.{Deed, deeds, mail}
-use Rattle.qc_msg.specs.Steps.{Entry}
+use Rattle.qc_msg.specs.Deeds.{Deed, deeds, mail, own}
+use Rattle.qc_msg.specs.Steps.{Entry, by, marked}
 use Rattle.qc_msg.specs.declared.record.Record.{Record}
-use Rattle.qc_onecopy.proofs.Lists.{in_split}
+use Rattle.qc_msg.specs.declared.step.Step.{Step}
 use Rattle.qc_onecopy.specs.Logged.{IsOperation}
-use Rattle.qc_order.proofs.Committed.{both_live, reader_sees, writer_passes}
-use Rattle.qc_order.proofs.FirstGrants.{KeepsLives, same_lives}
+use Rattle.qc_order.proofs.Committed.{both_live}
+use Rattle.qc_order.proofs.FirstGrants.{same_lives}
 use Rattle.qc_order.proofs.Machine.{IsSafe}
-use Rattle.qc_order.proofs.Moments.{IsWrittenIn, written_in, wrote}
-use Rattle.qc_order.proofs.Persists.{AreMoves, Has, IsNumbered, moves_back, stays_begun}
-use Rattle.qc_order.specs.Ordered.{DependsOn, IsOrdered}
-use Rattle.qc_precedence.specs.Ordered.{IsToldBy}
-use Rattle.qc_precedence.proofs.Counts.{all_steady}
-use Rattle.qc_precedence.proofs.Live.{its_number, live}
-use Rattle.qc_precedence.proofs.Moments.{WroteAt, moment}
+use Rattle.qc_order.proofs.Moments.{First, Second, split}
+use Rattle.qc_order.specs.Ordered.{IsOrdered}
+use Rattle.qc_precedence.proofs.Known.{IsWriting, known_since}
+use Rattle.qc_precedence.proofs.Live.{live}
+use Rattle.qc_precedence.proofs.Moments.{WroteAt}
+use Rattle.qc_precedence.proofs.Ours.{known_after, not_steady, not_told, own_record}
+use Rattle.qc_precedence.proofs.Pending.{passes, sees}
+use Rattle.qc_precedence.proofs.Reader.{IsFalling, IsPosted, IsReading, account_then, behind, due_at, early_kept, m as writes_then, mid_due, posted_at, r as due_then, reads_before, reads_between, safe_early, says, steady}
 use Rattle.qc_precedence.proofs.Safe.{first_epochs, safe}
-use Rattle.qc_precedence.proofs.Since.{account_since, since_due, stays_steady}
-use Rattle.qc_promise.specs.Account.{Account, Current, new_account, view_of}
+use Rattle.qc_precedence.specs.Ordered.{DependsOn, IsToldBy}
+use Rattle.qc_promise.specs.Account.{Account, Current, view_of}
 use Rattle.qc_promise.specs.Accounting.{account, account_at}
-use Rattle.qc_promise.specs.Committed.{commits_by, commits_in, records}
-use Rattle.qc_promise.specs.Kept.{Kept}
-use Rattle.qc_promise.specs.Replies.{AreDeedsDue}
-use Rattle.qc_protocol.specs.Acts.{Act}
-use Rattle.qc_reach.proofs.RunsStand.{kept_of_first}
+use Rattle.qc_promise.specs.Committed.{committed}
+use Rattle.qc_promise.specs.Kept.{Kept, journal_of}
+use Rattle.qc_reach.specs.Standing.{IsOfClient, records_of}
 use Rattle.qc_script.specs.RunsWithFalls.{RunsWithFalls}
 use Rattle.qc_script.specs.Sound.{IsScriptFor}
 use Rattle.qc_script.specs.declared.script.Script.{Script}
 use Rattle.qc_stamp.specs.declared.stamp.Stamp.{Stamp}
 
-module _ (decl : Declaration) where
-  -- what a client writes is among the records
-  written_records : (before after : List Entry) (a : ℕ) (c : CommitRecord) → is_client decl a ≡ true → In c (records decl (before ++ wrote a c ∷ after))
-  written_records [] after a c client = In-first c (commits_by decl (wrote a c)) (records decl after) (subst (In c) (sym (ap (λ (b : Bool). if b then commits_in (wrote a c).step else []) client)) (inl refl))
-  written_records (x ∷ before) after a c client = In-second c (commits_by decl x) (records decl (before ++ wrote a c ∷ after)) (written_records before after a c client)
-
 module _ (fits : ℕ → List Record → Type 0) (decl : Declaration) (script : Script) (h : List Entry) (open_inputs : List Bool) (accepted : IsAccepted decl) (sound : IsScriptFor decl script)
     (run : RunsWithFalls (IsLawfulWithFalls decl) fits decl script h open_inputs) (kept : Kept h) where
-  part_kept : (first rest : List Entry) → h ≡ first ++ rest → Kept first
-  part_kept first rest is = kept_of_first first rest (subst Kept is kept)
-
-  -- a record that stands in the history
-
-  wrote_at : (before : List Entry) (a : ℕ) (c : CommitRecord) (after : List Entry) → h ≡ before ++ wrote a c ∷ after → WroteAt fits decl script accepted sound before a c
-  wrote_at before a c after is = moment fits decl script accepted sound h open_inputs run kept before a c after is
-
-  due_at : (before : List Entry) (a : ℕ) (c : CommitRecord) → WroteAt fits decl script accepted sound before a c → IsRecording decl before a c
-  due_at before a c m = recording fits decl script before m.open_inputs accepted sound m.run m.kept a c m.commits
-
   module _ (c : CommitRecord) (op : Op) (t : Current) (k : IsToldBy fits decl script h c op t) (line : Line) (d : DependsOn decl h c op line) where
     abbrev before : List Entry
     before = k.early ++ k.middle
-
-    m : WroteAt fits decl script accepted sound before k.actor c
-    m = wrote_at before k.actor c k.after k.stands
-
-    r : IsRecording decl before k.actor c
-    r = due_at before k.actor c m
-
-    early_kept : Kept k.early
-    early_kept = kept_of_first k.early k.middle m.kept
-
-    other : d.logged.commit.tx ≢ c.tx
-    other x = d.apart (d.logged.named ∙ x)
-
-    same_name : r.t.tx ≡ t.tx
-    same_name = sym r.its ∙ sym k.its
-
-    -- the client's deeds since the moment
 
     abbrev e : Account
     e = account decl k.actor k.early
@@ -95,198 +56,152 @@ module _ (fits : ℕ → List Record → Type 0) (decl : Declaration) (script : 
     abbrev mid : List Deed
     mid = deeds k.actor (mail k.early) k.middle
 
-    account_then : account decl k.actor before ≡ fold (account_at decl) e mid
-    account_then = account_since fits decl script k.early k.open_inputs accepted sound k.run early_kept k.actor m.client t k.begun before m.open_inputs m.run m.kept k.middle refl r.t r.begun same_name
+    m : WroteAt fits decl script accepted sound before k.actor c
+    m = writes_then fits decl script h open_inputs accepted sound run kept c op t k
 
-    mid_due : AreDeedsDue decl e (mid ++ [])
-    mid_due = subst (AreDeedsDue decl e) (sym (append-nil mid)) (since_due fits decl script k.early k.open_inputs accepted sound k.run early_kept k.actor m.client t k.begun before m.open_inputs m.run m.kept k.middle refl r.t r.begun same_name)
+    r : IsRecording decl before k.actor c
+    r = due_then fits decl script h open_inputs accepted sound run kept c op t k
 
-    steady : AreSteady mid
-    steady = stays_steady fits decl script k.early k.open_inputs accepted sound k.run early_kept k.actor m.client t k.begun before m.open_inputs m.run m.kept k.middle refl r.t r.begun same_name
+    abbrev kept_early : Kept k.early
+    kept_early = early_kept fits decl script h open_inputs accepted sound run kept c op t k
 
-    moves : AreMoves decl e mid
-    moves = all_steady decl mid [] e steady mid_due
+    other : d.logged.commit.tx ≢ c.tx
+    other x = d.apart (d.logged.named ∙ x)
 
-    numbered : IsNumbered e.count e.current
-    numbered = its_number fits decl script k.early k.open_inputs accepted sound k.run early_kept k.actor m.client t k.begun
+    -- the writer's client, whose journal has the record in the end
+    w : IsOfClient decl (records_of h) d.logged.commit
+    w = its_client fits decl script h open_inputs accepted sound run kept d.logged.commit d.logged.listed
 
-    -- the begun transaction after first ones of these deeds
+    -- it knew the record at the moment
 
-    has : (x y : List Deed) → mid ≡ x ++ y → Has t.tx op t.lives (fold (account_at decl) e x).count (fold (account_at decl) e x).current
-    has x y is = stays_begun decl e x y t r.t op (subst (AreMoves decl e) is moves) numbered k.begun k.told (ap (λ (v : Account). v.current) (sym (account_then ∙ ap (fold (account_at decl) e) is ∙ fold-append (account_at decl) e x y)) ∙ r.begun) same_name
-
-    last : Has t.tx op t.lives (fold (account_at decl) e mid).count (fold (account_at decl) e mid).current
-    last = has mid [] (sym (append-nil mid))
-
-    last_is : last.t ≡ r.t
-    last_is = let both : Some last.t ≡ Some r.t = sym last.is ∙ sym (ap (λ (v : Account). v.current) account_then) ∙ r.begun in cc
-
-    -- the reader is safe at the moment
-    safe_early : IsSafe (refined fits decl script k.early k.open_inputs accepted sound k.run early_kept).acts t.tx
-    safe_early = safe fits decl script k.early k.open_inputs accepted sound k.run early_kept k.actor m.client t k.begun before m.open_inputs m.run m.kept k.middle refl r.t same_name (subst (λ (s : Current). KeepsLives t.lives s.lives) last_is last.lives) r.promised
-
-    -- the writer's record was there at the moment
-
-    seen : In d.logged.commit (written k.early) → In line (view_of t op.object) × (line.stamp.clock ≤ e.clock)
-    seen among = reader_sees decl accepted (refined fits decl script k.early k.open_inputs accepted sound k.run early_kept).acts (refined fits decl script k.early k.open_inputs accepted sound k.run early_kept).run
-        (first_epochs fits decl script k.early k.open_inputs accepted sound k.run early_kept) t e.clock
-        (live fits decl script k.early k.open_inputs accepted sound k.run early_kept k.actor m.client t k.begun) safe_early
-        d.logged.commit (in_machine (written_in k.early d.logged.commit among))
-        (λ x. other (x ∙ k.its)) op line k.told d.logged.stamped d.logged.named d.logged.operation d.on d.depends
-      where
-        in_machine : IsWrittenIn k.early d.logged.commit → In d.logged.commit (now fits decl script k.early k.open_inputs accepted sound k.run early_kept).records
-        in_machine w =
-            let n : WroteAt fits decl script accepted sound w.before w.actor d.logged.commit = moment fits decl script accepted sound k.early k.open_inputs k.run early_kept w.before w.actor d.logged.commit w.after w.stands in
-            of_machine fits decl script k.early k.open_inputs accepted sound k.run early_kept d.logged.commit
-            ((listed fits decl script k.early k.open_inputs accepted sound k.run early_kept d.logged.commit).1
-            (subst (λ (es : List Entry). In d.logged.commit (records decl es)) (sym w.stands) (written_records decl w.before w.after w.actor d.logged.commit n.client)))
-
-    was_there : In d.logged.commit (written k.early) → IsOrdered (view_of t op.object) line c.stamp
-    was_there among =
-        let s : In line (view_of t op.object) × (line.stamp.clock ≤ e.clock) = seen among in
+    was_there : IsKnown d.logged.commit (journal_of (own w.actor k.early)) → IsOrdered (view_of t op.object) line c.stamp
+    was_there known =
+        let s : In line (view_of t op.object) × (line.stamp.clock ≤ e.clock) =
+        sees fits decl script k.early k.open_inputs accepted sound k.run kept_early k.actor m.client t k.begun (safe_early fits decl script h open_inputs accepted sound run kept c op t k) w.actor w.client d.logged.commit (λ x. other (x ∙ k.its)) known
+        op line k.told d.logged.stamped d.logged.named d.logged.operation d.on d.depends in
         let low : line.stamp.clock ≤ e.clock = s.1 in
-        let rises : e.clock ≤ (fold (account_at decl) e mid).clock = steady_clocks decl mid [] e steady mid_due in
-        let same : (account decl k.actor before).clock ≡ (fold (account_at decl) e mid).clock = ap (λ (v : Account). v.clock) account_then in
+        let rises : e.clock ≤ (fold (account_at decl) e mid).clock =
+        steady_clocks decl mid [] e (steady fits decl script h open_inputs accepted sound run kept c op t k) (mid_due fits decl script h open_inputs accepted sound run kept c op t k) in
+        let same : (account decl k.actor before).clock ≡ (fold (account_at decl) e mid).clock = ap (λ (v : Account). v.clock) (account_then fits decl script h open_inputs accepted sound run kept c op t k) in
         let next : c.stamp.clock ≡ (account decl k.actor before).clock + 1 = r.stamp in
         inl (record { seen = s.0; before = omega arith })
 
-    -- it wasn't written between the moment and the reader's record
+    -- it wasn't written where the reader's client is reading
 
-    module _ (w : IsWrittenIn k.middle d.logged.commit) where
-      abbrev between : List Entry
-      between = k.early ++ w.before
+    never_at : (now : List Entry) (n : WroteAt fits decl script accepted sound now w.actor d.logged.commit) → IsReading fits decl script h open_inputs accepted sound run kept c op t k now n.open_inputs n.run n.kept → ⊥
+    never_at now n reading =
+        both_live decl accepted (refined fits decl script now n.open_inputs accepted sound n.run n.kept).acts (refined fits decl script now n.open_inputs accepted sound n.run n.kept).run (first_epochs fits decl script now n.open_inputs accepted sound n.run n.kept)
+        reading.s there.t (account decl k.actor now).clock (account decl w.actor now).clock
+        (live fits decl script now n.open_inputs accepted sound n.run n.kept k.actor m.client reading.s reading.begun)
+        (live fits decl script now n.open_inputs accepted sound n.run n.kept w.actor n.client there.t there.begun)
+        reading.safe writer_safe (λ z. other (there.its ∙ z ∙ reading.its ∙ k.its)) op line.op line.object line.event reading.told
+        (subst (λ (os : List Op). IsOperation decl os line.op line.object line.event) there.ops d.logged.operation) d.on d.depends
+      where
+        there : IsRecording decl now w.actor d.logged.commit
+        there = due_at fits decl script h open_inputs accepted sound run kept now w.actor d.logged.commit n
 
-      abbrev since : List Entry
-      since = wrote w.actor d.logged.commit ∷ w.after
+        writer_safe : IsSafe (refined fits decl script now n.open_inputs accepted sound n.run n.kept).acts there.t.tx
+        writer_safe = safe fits decl script now n.open_inputs accepted sound n.run n.kept w.actor n.client there.t there.begun now n.open_inputs n.run n.kept [] (append-nil now) there.t refl (same_lives there.t.lives) there.promised
 
-      amid : h ≡ between ++ wrote w.actor d.logged.commit ∷ (w.after ++ wrote k.actor c ∷ k.after)
-      amid = k.stands ∙ append_assoc k.early k.middle (wrote k.actor c ∷ k.after)
-          ∙ ap (λ (x : List Entry). k.early ++ (x ++ wrote k.actor c ∷ k.after)) w.stands
-          ∙ ap (λ (x : List Entry). k.early ++ x) (append_assoc w.before since (wrote k.actor c ∷ k.after))
-          ∙ sym (append_assoc k.early w.before (wrote w.actor d.logged.commit ∷ (w.after ++ wrote k.actor c ∷ k.after)))
+    never_between : (first : List Entry) (step : Step) (rest : List Entry) → k.middle ≡ first ++ marked w.actor step ∷ rest → IsWriting d.logged.commit step → ⊥
+    never_between first step rest parts writing = at (behind k.early first p.prior p.tail w.actor d.logged.commit step p.tells p.is)
+      where
+        stands : h ≡ (k.early ++ first) ++ marked w.actor step ∷ (rest ++ (by k.actor k.steps ++ k.after))
+        stands =
+            k.stands ∙ append_assoc k.early k.middle (by k.actor k.steps ++ k.after) ∙ ap (λ (x : List Entry). k.early ++ (x ++ (by k.actor k.steps ++ k.after))) parts
+            ∙ ap (λ (x : List Entry). k.early ++ x) (append_assoc first (marked w.actor step ∷ rest) (by k.actor k.steps ++ k.after)) ∙ sym (append_assoc k.early first (marked w.actor step ∷ (rest ++ (by k.actor k.steps ++ k.after))))
 
-      n : WroteAt fits decl script accepted sound between w.actor d.logged.commit
-      n = wrote_at between w.actor d.logged.commit (w.after ++ wrote k.actor c ∷ k.after) amid
+        p : IsPosted fits decl script accepted sound (k.early ++ first) w.actor d.logged.commit step
+        p = posted_at fits decl script h open_inputs accepted sound run kept (k.early ++ first) w.actor step (rest ++ (by k.actor k.steps ++ k.after)) d.logged.commit stands writing
 
-      there : IsRecording decl between w.actor d.logged.commit
-      there = due_at between w.actor d.logged.commit n
+        -- within what follows the moment
+        within : (n : List Entry) → p.prior ≡ k.early ++ n → first ≡ n ++ p.tail → ⊥
+        within n front back =
+            let at_it : WroteAt fits decl script accepted sound (k.early ++ n) w.actor d.logged.commit = subst (λ (x : List Entry). WroteAt fits decl script accepted sound x w.actor d.logged.commit) front p.wrote in
+            never_at (k.early ++ n) at_it
+            (reads_between fits decl script h open_inputs accepted sound run kept c op t k n (p.tail ++ marked w.actor step ∷ rest)
+            (parts ∙ ap (λ (x : List Entry). x ++ marked w.actor step ∷ rest) back ∙ append_assoc n p.tail (marked w.actor step ∷ rest)) at_it.open_inputs at_it.run at_it.kept)
 
-      -- the reader's deeds until then, and since
+        -- its Unknown is the last before the moment: it isn't the reader's client, which doesn't fall
+        last : first ≡ [] → k.early ≡ p.prior ++ says w.actor ∷ [] → IsFalling d.logged.commit step → ⊥
+        last none all falling = by_actor (w.actor == k.actor) refl
+          where
+            by_actor : (b : Bool) → (w.actor == k.actor) ≡ b → ⊥
+            by_actor true same = not_steady k.actor w.actor (mail k.early) d.logged.commit step rest same falling
+                (subst (λ (x : List Entry). AreSteady (deeds k.actor (mail k.early) x)) (parts ∙ ap (λ (x : List Entry). x ++ marked w.actor step ∷ rest) none) (steady fits decl script h open_inputs accepted sound run kept c op t k))
+            by_actor false differs = never_at p.prior p.wrote (reads_before fits decl script h open_inputs accepted sound run kept c op t k p.prior w.actor differs all p.wrote.open_inputs p.wrote.run p.wrote.kept)
 
-      abbrev x : List Deed
-      x = deeds k.actor (mail k.early) w.before
-
-      abbrev y : List Deed
-      y = deeds k.actor (mail k.early ++ mail w.before) since
-
-      parts : mid ≡ x ++ y
-      parts = ap (deeds k.actor (mail k.early)) w.stands ∙ deeds-append k.actor (mail k.early) w.before since
-
-      account_between : account decl k.actor between ≡ fold (account_at decl) e x
-      account_between =
-          ap (fold (account_at decl) (new_account (k.actor - decl.sites))) (deeds-append k.actor [] k.early w.before)
-          ∙ fold-append (account_at decl) (new_account (k.actor - decl.sites)) (deeds k.actor [] k.early) x
-
-      still : Has t.tx op t.lives (fold (account_at decl) e x).count (fold (account_at decl) e x).current
-      still = has x y parts
-
-      begun_between : (account decl k.actor between).current ≡ Some still.t
-      begun_between = ap (λ (v : Account). v.current) account_between ∙ still.is
-
-      -- its lives stay until its record
-      later_lives : KeepsLives still.t.lives r.t.lives
-      later_lives = subst (λ (s : Current). KeepsLives still.t.lives s.lives) end_is then.lives
-        where
-          back : AreMoves decl (account decl k.actor between) y
-          back = subst (λ (v : Account). AreMoves decl v y) (sym account_between) (moves_back decl x y e (subst (AreMoves decl e) parts moves))
-
-          at_end : (account decl k.actor before).current ≡ (fold (account_at decl) (account decl k.actor between) y).current
-          at_end = ap (λ (v : Account). v.current) (account_then ∙ ap (fold (account_at decl) e) parts ∙ fold-append (account_at decl) e x y ∙ ap (λ (v : Account). fold (account_at decl) v y) (sym account_between))
-
-          then : Has still.t.tx op still.t.lives (fold (account_at decl) (account decl k.actor between) y).count (fold (account_at decl) (account decl k.actor between) y).current
-          then = stays_begun decl (account decl k.actor between) y [] still.t r.t op (subst (AreMoves decl (account decl k.actor between)) (sym (append-nil y)) back)
-              (its_number fits decl script between n.open_inputs accepted sound n.run n.kept k.actor m.client still.t begun_between) begun_between still.among (sym at_end ∙ r.begun) (same_name ∙ sym still.its)
-
-          end_is : then.t ≡ r.t
-          end_is = let both : Some then.t ≡ Some r.t = sym then.is ∙ sym at_end ∙ r.begun in cc
-
-      abbrev acts : List Act
-      acts = (refined fits decl script between n.open_inputs accepted sound n.run n.kept).acts
-
-      reader_safe : IsSafe acts still.t.tx
-      reader_safe = safe fits decl script between n.open_inputs accepted sound n.run n.kept k.actor m.client still.t begun_between before m.open_inputs m.run m.kept since
-          (append_assoc k.early w.before since ∙ ap (λ (z : List Entry). k.early ++ z) (sym w.stands)) r.t (same_name ∙ sym still.its) later_lives r.promised
-
-      writer_safe : IsSafe acts there.t.tx
-      writer_safe = safe fits decl script between n.open_inputs accepted sound n.run n.kept w.actor n.client there.t there.begun between n.open_inputs n.run n.kept [] (append-nil between) there.t refl (same_lives there.t.lives) there.promised
-
-      pub never_between : ⊥
-      never_between = both_live decl accepted acts (refined fits decl script between n.open_inputs accepted sound n.run n.kept).run (first_epochs fits decl script between n.open_inputs accepted sound n.run n.kept)
-          still.t there.t (account decl k.actor between).clock (account decl w.actor between).clock
-          (live fits decl script between n.open_inputs accepted sound n.run n.kept k.actor m.client still.t begun_between)
-          (live fits decl script between n.open_inputs accepted sound n.run n.kept w.actor n.client there.t there.begun)
-          reader_safe writer_safe (λ z. other (there.its ∙ z ∙ still.its ∙ k.its)) op line.op line.object line.event still.among
-          (subst (λ (os : List Op). IsOperation decl os line.op line.object line.event) there.ops d.logged.operation) d.on d.depends
+        at : ((n : List Entry) × (p.prior ≡ k.early ++ n) × (first ≡ n ++ p.tail)) ⊎ ((first ≡ []) × (k.early ≡ p.prior ++ says w.actor ∷ []) × IsFalling d.logged.commit step) → ⊥
+        at (inl (n, front, back)) = within n front back
+        at (inr (none, all, falling)) = last none all falling
 
     -- it was written later
 
-    module _ (w : IsWrittenIn k.after d.logged.commit) where
-      abbrev until : List Entry
-      until = before ++ wrote k.actor c ∷ w.before
+    came_later : (first : List Entry) (step : Step) (rest : List Entry) → k.after ≡ first ++ marked w.actor step ∷ rest → IsWriting d.logged.commit step → IsOrdered (view_of t op.object) line c.stamp
+    came_later first step rest parts writing = at (behind (before ++ by k.actor k.steps) first p.prior p.tail w.actor d.logged.commit step p.tells p.is)
+      where
+        stands : h ≡ ((before ++ by k.actor k.steps) ++ first) ++ marked w.actor step ∷ rest
+        stands =
+            k.stands ∙ sym (append_assoc before (by k.actor k.steps) k.after) ∙ ap (λ (x : List Entry). (before ++ by k.actor k.steps) ++ x) parts
+            ∙ sym (append_assoc (before ++ by k.actor k.steps) first (marked w.actor step ∷ rest))
 
-      stands : h ≡ until ++ wrote w.actor d.logged.commit ∷ w.after
-      stands = k.stands ∙ ap (λ (x : List Entry). before ++ wrote k.actor c ∷ x) w.stands ∙ sym (append_assoc before (wrote k.actor c ∷ w.before) (wrote w.actor d.logged.commit ∷ w.after))
+        p : IsPosted fits decl script accepted sound ((before ++ by k.actor k.steps) ++ first) w.actor d.logged.commit step
+        p = posted_at fits decl script h open_inputs accepted sound run kept ((before ++ by k.actor k.steps) ++ first) w.actor step rest d.logged.commit stands writing
 
-      l : WroteAt fits decl script accepted sound until w.actor d.logged.commit
-      l = wrote_at until w.actor d.logged.commit w.after stands
+        -- the reader's record is known there
+        passed : (n : List Entry) → p.prior ≡ (before ++ by k.actor k.steps) ++ n → IsOrdered (view_of t op.object) line c.stamp
+        passed n front =
+            let low : c.stamp.clock ≤ (account decl w.actor p.prior).clock =
+            passes fits decl script p.prior p.wrote.open_inputs accepted sound p.wrote.run p.wrote.kept w.actor p.wrote.client due_last.t due_last.begun
+            (safe fits decl script p.prior p.wrote.open_inputs accepted sound p.wrote.run p.wrote.kept w.actor p.wrote.client due_last.t due_last.begun p.prior p.wrote.open_inputs p.wrote.run p.wrote.kept [] (append-nil p.prior) due_last.t refl (same_lives due_last.t.lives) due_last.promised)
+            k.actor m.client c (λ x. other (due_last.its ∙ sym x)) known op line.op line.object line.event d.operation
+            (subst (λ (os : List Op). IsOperation decl os line.op line.object line.event) due_last.ops d.logged.operation) d.on d.depends in
+            let next : d.logged.commit.stamp.clock ≡ (account decl w.actor p.prior).clock + 1 = due_last.stamp in
+            let clocks : line.stamp.clock ≡ d.logged.commit.stamp.clock = ap (λ (s : Stamp). s.clock) d.logged.stamped in
+            inr (omega arith)
+          where
+            due_last : IsRecording decl p.prior w.actor d.logged.commit
+            due_last = due_at fits decl script h open_inputs accepted sound run kept p.prior w.actor d.logged.commit p.wrote
 
-      due_last : IsRecording decl until w.actor d.logged.commit
-      due_last = due_at until w.actor d.logged.commit l
+            known : IsKnown c (journal_of (own k.actor p.prior))
+            known = subst (λ (x : List Entry). IsKnown c (journal_of (own k.actor x))) (sym front)
+                (known_after fits decl script h open_inputs accepted sound run kept c op t k n (p.tail ++ marked w.actor step ∷ rest)
+                (stands ∙ ap (λ (x : List Entry). x ++ marked w.actor step ∷ rest) (p.is ∙ ap (λ (x : List Entry). x ++ p.tail) front) ∙ append_assoc ((before ++ by k.actor k.steps) ++ n) p.tail (marked w.actor step ∷ rest)))
 
-      passes : c.stamp.clock ≤ (account decl w.actor until).clock
-      passes = writer_passes decl accepted (refined fits decl script until l.open_inputs accepted sound l.run l.kept).acts (refined fits decl script until l.open_inputs accepted sound l.run l.kept).run
-          (first_epochs fits decl script until l.open_inputs accepted sound l.run l.kept) due_last.t (account decl w.actor until).clock
-          (live fits decl script until l.open_inputs accepted sound l.run l.kept w.actor l.client due_last.t due_last.begun)
-          (safe fits decl script until l.open_inputs accepted sound l.run l.kept w.actor l.client due_last.t due_last.begun until l.open_inputs l.run l.kept [] (append-nil until) due_last.t refl (same_lives due_last.t.lives) due_last.promised)
-          c (of_machine fits decl script until l.open_inputs accepted sound l.run l.kept c ((listed fits decl script until l.open_inputs accepted sound l.run l.kept c).1 (written_records decl before w.before k.actor c m.client)))
-          (λ x. other (due_last.its ∙ sym x)) op line.op line.object line.event d.operation
-          (subst (λ (os : List Op). IsOperation decl os line.op line.object line.event) due_last.ops d.logged.operation) d.on d.depends
-
-      pub came_later : IsOrdered (view_of t op.object) line c.stamp
-      came_later =
-          let low : c.stamp.clock ≤ (account decl w.actor until).clock = passes in
-          let next : d.logged.commit.stamp.clock ≡ (account decl w.actor until).clock + 1 = due_last.stamp in
-          let clocks : line.stamp.clock ≡ d.logged.commit.stamp.clock = ap (λ (s : Stamp). s.clock) d.logged.stamped in
-          inr (omega arith)
-
-    places : written h ≡ (written k.early ++ written k.middle) ++ c ∷ written k.after
-    places = ap written k.stands ∙ filter_map-append (λ (v : Entry). commit_in v.step) before (wrote k.actor c ∷ k.after) ∙ ap (λ (cs : List CommitRecord). cs ++ c ∷ written k.after) (filter_map-append (λ (v : Entry). commit_in v.step) k.early k.middle)
+        at : ((n : List Entry) × (p.prior ≡ (before ++ by k.actor k.steps) ++ n) × (first ≡ n ++ p.tail)) ⊎ ((first ≡ []) × ((before ++ by k.actor k.steps) ≡ p.prior ++ says w.actor ∷ []) × IsFalling d.logged.commit step) → IsOrdered (view_of t op.object) line c.stamp
+        at (inl (n, front, back)) = passed n front
+        at (inr (none, all, falling)) = absurd (not_told k.steps c before k.actor p.prior w.actor k.writing all)
 
     pub ordered : IsOrdered (view_of t op.object) line c.stamp
-    ordered = elim (in_split d.logged.commit (written k.early ++ written k.middle) (c ∷ written k.after) (subst (In d.logged.commit) places d.logged.listed)) [
-      | inl old ↦ elim (in_split d.logged.commit (written k.early) (written k.middle) old) [
-        | inl there_then ↦ was_there there_then
-        | inr amid_them ↦ absurd (never_between (written_in k.middle d.logged.commit amid_them))
+    ordered = elim (known_since d.logged.commit w.actor k.early (k.middle ++ (by k.actor k.steps ++ k.after)) h (sym (k.stands ∙ append_assoc k.early k.middle (by k.actor k.steps ++ k.after))) kept (inl w.listed)) [
+      | inl known ↦ was_there known
+      | inr p ↦ elim (split k.middle (by k.actor k.steps ++ k.after) p.before (marked w.actor p.step) p.after p.stands) [
+        | First rest s ↦ absurd (never_between p.before p.step rest s p.writing)
+        | Second first is s ↦ elim (split (by k.actor k.steps) k.after first (marked w.actor p.step) p.after s) [
+          | First rest own_step ↦ absurd (other (ap (λ (x : CommitRecord). x.tx) (own_record k.steps c k.actor first w.actor p.step rest d.logged.commit k.writing own_step p.writing)))
+          | Second later is_later s_later ↦ came_later later p.step p.after s_later p.writing
+        ]
       ]
-      | inr (inl same) ↦ absurd (other (ap (λ (x : CommitRecord). x.tx) same))
-      | inr (inr more) ↦ came_later (written_in k.after d.logged.commit more)
     ]
 
-  -- each operation of a record that was written had been told by then
-  pub told_by : (c : CommitRecord) (op : Op) → In c (written h) → In op c.ops → (t : Current) × IsToldBy fits decl script h c op t
+  -- each operation of a committed record had been told by then
+  pub told_by : (c : CommitRecord) (op : Op) → In c (committed decl h) → In op c.ops → (t : Current) × IsToldBy fits decl script h c op t
   told_by c op among listed_op =
-      let w : IsWrittenIn h c = written_in h c among in
-      let m : WroteAt fits decl script accepted sound w.before w.actor c = wrote_at w.before w.actor c w.after w.stands in
-      let r : IsRecording decl w.before w.actor c = due_at w.before w.actor c m in (
+      let w : IsOfClient decl (records_of h) c = its_client fits decl script h open_inputs accepted sound run kept c among in
+      let m : Moment fits decl script accepted sound h w.actor c = its_moment fits decl script h open_inputs accepted sound run kept c among in
+      let r : IsRecording decl m.before w.actor c = now_recording fits decl script accepted sound h kept w.actor c w.client m in (
         r.t,
         record {
-          early = w.before;
+          commits = among;
+          early = m.before;
           middle = [];
           open_inputs = m.open_inputs;
           run = m.run;
           actor = w.actor;
-          after = w.after;
-          stands = w.stands ∙ ap (λ (x : List Entry). x ++ wrote w.actor c ∷ w.after) (sym (append-nil w.before));
+          steps = m.steps;
+          after = m.after;
+          stands = m.stands ∙ ap (λ (x : List Entry). x ++ (by w.actor m.steps ++ m.after)) (sym (append-nil m.before));
+          writing = m.writing;
           begun = r.begun;
           its = sym r.its;
           told = subst (In op) r.ops listed_op;

@@ -1,7 +1,14 @@
 pub mod Counts
 pub mod SameLife
+pub mod Splits
+pub mod Known
 pub mod Live
 pub mod Safe
+pub mod Pending
 pub mod Moments
+pub mod FallenMoments
 pub mod Since
+pub mod Reader
+pub mod Ours
 pub mod Law
+pub mod WrongOnes

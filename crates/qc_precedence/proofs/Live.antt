@@ -1,6 +1,6 @@
 -- Of a client that has begun a transaction in a run with falls, with an open input or without: the machine's transaction
 -- is live, with the same operations, views and participants.
-use Rattle.std.proofs.Common.{◌≡◌, ◌⊎◌, ◌<◌, ◌≤◌, ◌-◌, ℕ, Bool, true, false, List, [], ◌∷◌, ◌++◌, inl, inr, map, Option, Some, None, slice_get, refl, sym, ap, ◌∙◌, subst, arith}
+use Rattle.std.proofs.Common.{◌≡◌, ◌⊎◌, ◌<◌, ◌≤◌, ◌+◌, ◌-◌, ℕ, Bool, true, false, List, [], ◌∷◌, ◌++◌, inl, inr, map, Option, Some, None, slice_get, refl, sym, ap, ◌∙◌, subst, arith}
 use Rattle.std.proofs.lemmas.List.Sums.{fold-append}
 use Rattle.qc_account.proofs.Standing.{IsAtInput, IsAtRest, Stands, account_is, account_more}
 use Rattle.qc_account.specs.Ties.{Ties}
@@ -182,6 +182,13 @@ module _ (fits : ℕ → List Record → Type 0) (decl : Declaration) (script : 
       ap (λ (x : TxId). x.life) (sym named ∙ b.0.named)
       ∙ (clients_kept decl (net fits decl script h open_inputs accepted sound run kept) (reached fits decl script h open_inputs accepted sound run kept).reached a client ((reached fits decl script h open_inputs accepted sound run kept).up_is a (inr client) ∙ o.up)).life
       ∙ ap life_of_records ((reached fits decl script h open_inputs accepted sound run kept).records_are a (inr client))
+
+  -- it is its client's own
+  pub client_named : t.tx.client ≡ a - decl.sites
+  client_named =
+      let own : t.tx.client ≡ c.front.client = clients_own in
+      let actor : a ≡ decl.sites + c.front.client = m.own.actor in
+      omega arith
 
   -- each site whose grant the machine counted is a participant, in the life of that grant
   pub record IsParticipant (g : Granted) : Type 0 where

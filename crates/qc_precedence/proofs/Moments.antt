@@ -113,7 +113,7 @@ module _ (fits : ℕ → List Record → Type 0) (decl : Declaration) (script : 
         by false down = none_commit turn.write c writes ((tells decl).writes_none b ds turn law (fallen (is_down ds) (up_is ds) down))
 
     -- so a client does, where it is due
-    posted : slice_get inputs b ≡ Some true → IsLawfulWithFalls decl b ds turn → WroteAt h b c
+    pub posted : slice_get inputs b ≡ Some true → IsLawfulWithFalls decl b ds turn → WroteAt h b c
     posted taken law = by (is_site decl b) (is_client decl b) refl refl
       where
         by : (s t : Bool) → is_site decl b ≡ s → is_client decl b ≡ t → WroteAt h b c
@@ -128,7 +128,7 @@ module _ (fits : ℕ → List Record → Type 0) (decl : Declaration) (script : 
         by false false none no_client = absurd (no_turn decl b ds turn law none no_client)
 
     -- and nobody as it rises
-    risen : (rs : List Record) → IsLawfulWithFalls decl b (deeds b [] (h ++ marked b (steps.Rose rs) ∷ [])) turn → ⊥
+    pub risen : (rs : List Record) → IsLawfulWithFalls decl b (deeds b [] (h ++ marked b (steps.Rose rs) ∷ [])) turn → ⊥
     risen rs law = by (is_site decl b) same
       where
         same : (cond (is_site decl b) (by_site (site_rises decl b rs)) (by_client (client_rises (b - decl.sites) rs))).turn ≡ with_record turn

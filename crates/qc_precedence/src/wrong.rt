@@ -1,0 +1,21 @@
+//! Wrong histories, and what the definitions take and refuse of them: the
+//! contracts of functions with nothing to do.
+
+ghost use Rattle.std.specs.Prelude.{[], ◌∷◌};
+ghost use Rattle.qc_decl.specs.One.{three};
+ghost use Rattle.qc_msg.specs.declared.record.Record.TheVariants.{Commit};
+ghost use Rattle.qc_order.specs.Wrong.{line, read, reads, writes};
+ghost use Rattle.qc_precedence.specs.Ordered.{DependsOn, IsToldBy};
+ghost use Rattle.qc_precedence.specs.Wrong.{all_fit, reader_fell, writer_fell};
+ghost use Rattle.qc_promise.specs.Account.{Current};
+ghost use Rattle.qc_script.specs.declared.script.Script.{Script};
+
+/// A record that was being written as its client fell, and didn't rise, is no
+/// committed one: nothing depends on its lines, and it depends on none. One that
+/// rose is as if it had been written.
+pub fn records_that_never_rose_are_refused()
+    ensures writer { DependsOn three (writer_fell (Commit writes ∷ [])) reads read line }
+    ensures lost { DependsOn three (writer_fell []) reads read line → ⊥ }
+    ensures reader { DependsOn three (reader_fell (Commit reads ∷ [])) reads read line }
+    ensures untold { (script : Script) (t : Current) → IsToldBy all_fit three script (reader_fell []) reads read t → ⊥ }
+{}
