@@ -11,4 +11,6 @@ pub mod Since
 pub mod Reader
 pub mod Ours
 pub mod Law
+pub mod RepliesEnd
+pub mod RecordsOperations
 pub mod WrongOnes

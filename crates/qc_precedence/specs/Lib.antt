@@ -1,2 +1,3 @@
 pub mod Ordered
 pub mod Wrong
+pub mod Replies

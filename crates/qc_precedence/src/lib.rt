@@ -17,14 +17,21 @@
 //! 2. There are such moments: each operation of a committed transaction had been
 //!    told as its record was written, or was being written
 //!    (`operations_of_records_were_told_through_falls`).
-//! 3. A record that never rose is no committed one
-//!    (`records_that_never_rose_are_refused`).
+//! 3. A client's reply ends its turn, and only Unknown is told at a fall
+//!    (`replies_end_their_turns_through_falls`); with each Response and each Absent
+//!    an operation is recorded, which was answered from the view of then
+//!    (`replies_record_operations_through_falls`).
+//! 4. A record that never rose is no committed one
+//!    (`records_that_never_rose_are_refused`), and other replies than Unknown are
+//!    none of a fall (`other_replies_at_falls_are_refused`).
 #![tactic(auto)]
 
 mod order;
+mod replies;
 mod wrong;
 
 pub use order::{
     dependent_operations_are_ordered_through_falls, operations_of_records_were_told_through_falls,
 };
-pub use wrong::records_that_never_rose_are_refused;
+pub use replies::{replies_end_their_turns_through_falls, replies_record_operations_through_falls};
+pub use wrong::{other_replies_at_falls_are_refused, records_that_never_rose_are_refused};
