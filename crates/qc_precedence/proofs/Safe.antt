@@ -72,8 +72,14 @@ module _ (fits : ℕ → List Record → Type 0) (decl : Declaration) (script : 
   wl : StateLaws decl then
   wl = laws decl (refined fits decl script h open_inputs accepted sound run kept).acts (refined fits decl script h open_inputs accepted sound run kept).run
 
-  granting : (g : Granted) → In g then.granted → is_site decl g.site ≡ true
+  pub granting : (g : Granted) → In g then.granted → is_site decl g.site ≡ true
   granting g known = (refined fits decl script h open_inputs accepted sound run kept).agrees.placed g known
+
+  -- each site is in it
+  pub epoch_is : (site : ℕ) → is_site decl site ≡ true → epoch_from 1 (then.deeds site) ≡ 1
+  epoch_is site is =
+      (site_kept site is).epoch ∙ ap (λ (rs : List Record). (kept_by rs).epoch) (site_records site is)
+      ∙ all_first nothing_kept (journal_of (own site h)).records (journals_first decl script fits h open_inputs run kept site)
 
   pub first_epochs : AreOfFirstEpoch (refined fits decl script h open_inputs accepted sound run kept).acts
   first_epochs g known =
@@ -83,9 +89,7 @@ module _ (fits : ℕ → List Record → Type 0) (decl : Declaration) (script : 
       let low : 1 ≤ epoch_from 1 g.before = upward g.before 1 (rising-left g.before rest 1 rising) in
       let high : epoch_from 1 g.before ≤ epoch_from (epoch_from 1 g.before) rest = upward rest (epoch_from 1 g.before) (rising-right g.before rest 1 rising) in
       let there : epoch_from (epoch_from 1 g.before) rest ≡ epoch_from 1 (then.deeds g.site) = sym (ap (epoch_from 1) law.split ∙ epoch-append g.before rest 1) in
-      let first : epoch_from 1 (then.deeds g.site) ≡ 1 =
-      (site_kept g.site (granting g known)).epoch ∙ ap (λ (rs : List Record). (kept_by rs).epoch) (site_records g.site (granting g known))
-      ∙ all_first nothing_kept (journal_of (own g.site h)).records (journals_first decl script fits h open_inputs run kept g.site) in
+      let first : epoch_from 1 (then.deeds g.site) ≡ 1 = epoch_is g.site (granting g known) in
       let told : epoch_from 1 g.before ≡ g.epoch = (wl.facts g known).current in
       omega arith
 
