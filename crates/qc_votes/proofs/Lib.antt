@@ -1,0 +1,2 @@
+pub mod LifeGrounds
+pub mod Holding

@@ -1,0 +1,491 @@
+-- What stands behind the lives of a begun transaction, through falls: the life of each site that granted it something was
+-- told by a grant, which its client took for a request that it had sent.
+use Rattle.std.proofs.Common.{◌≡◌, ◌⊎◌, ◌+◌, ℕ, ◌==◌, ◌&&◌, Bool, true, false, cond, List, [], ◌∷◌, ◌++◌, inl, inr, Option, Some, None, option_map, refl, sym, ap, ◌∙◌, subst, arith, append_assoc}
+use Rattle.std.specs.Prelude.{fold, is_none}
+use Rattle.std.specs.List.{find}
+use Rattle.std.specs.Option.{option_map_or}
+use Rattle.std.proofs.lemmas.List.{append-nil}
+use Rattle.qc_stamp.specs.Order.{same_tx}
+use Rattle.qc_stamp.specs.declared.stamp.TxId.{TxId}
+use Rattle.qc_list.specs.Members.{In}
+use Rattle.qc_list.proofs.Members.{In-last, In-more}
+use Rattle.qc_decl.specs.declared.declaration.Declaration.{Declaration}
+use Rattle.qc_msg.specs.declared.begun.LifeAt.{LifeAt}
+use Rattle.qc_msg.specs.declared.message.Answer.{Answer}
+use Rattle.qc_msg.specs.declared.message.Message.{Message}
+use Rattle.qc_msg.specs.declared.message.Message.TheVariants as messages
+use Rattle.qc_msg.specs.declared.message.Want.{Want}
+use Rattle.qc_msg.specs.declared.record.Record.{Record}
+use Rattle.qc_msg.specs.declared.record.Record.TheVariants as records
+use Rattle.qc_msg.specs.declared.reply.Half.{Half}
+use Rattle.qc_msg.specs.declared.reply.Half.TheVariants as halves
+use Rattle.qc_msg.specs.declared.reply.Reply.{Reply}
+use Rattle.qc_msg.specs.declared.reply.Reply.TheVariants as replies
+use Rattle.qc_msg.specs.declared.step.Command.{Command}
+use Rattle.qc_msg.specs.declared.step.Command.TheVariants as commands
+use Rattle.qc_msg.specs.declared.step.Given.{Given}
+use Rattle.qc_msg.specs.declared.step.Given.TheVariants as given
+use Rattle.qc_msg.specs.Begun.{has_granted}
+use Rattle.qc_msg.specs.Deeds.{Deed, Takes, Writes, Sends, Tells, Falls, Rises}
+use Rattle.qc_promise.specs.Account.{Account, ClientRequest, Current, new_account, new_current}
+use Rattle.qc_promise.specs.Accounting.{account_at, account_heard, account_sent, account_taken, account_told_in, account_written, counted, counted_for, refused, responded, found_absent, short_of, taken_for, with_response}
+use Rattle.qc_promise.specs.Asked.{command_asks, is_asked_for, is_of}
+use Rattle.qc_promise.specs.Rounds.{answer_of}
+use Rattle.std.proofs.Common.{◌||◌, ◌<◌, eqb-true, filter, length, slice_get}
+use Rattle.qc_list.proofs.Members.{In-passes, every-at, every-from_In}
+use Rattle.qc_decl.specs.Actors.{first_site}
+use Rattle.qc_plan.specs.Round.{cyclic}
+use Rattle.qc_order.proofs.FirstGrants.{KeepsLives, same_lives}
+use Rattle.qc_promise.specs.Asked.{is_this}
+use Rattle.qc_promise.specs.Rounds.{participants}
+use Rattle.qc_promise.specs.Account.{is_prepare, requests_for}
+use Rattle.qc_entry.specs.declared.line.OwnLine.{OwnLine}
+use Rattle.std.proofs.lemmas.List.Sums.{fold-append}
+use Rattle.qc_entry.specs.declared.line.Line.{Line}
+use Rattle.qc_msg.specs.declared.message.Answer.TheVariants as answers
+use Rattle.qc_msg.specs.declared.message.Envelope.{Envelope}
+use Rattle.qc_msg.specs.declared.message.Want.TheVariants.{Append, Prepare, Read}
+use Rattle.qc_promise.specs.Accounting.{told_by}
+use Rattle.qc_guarantees.proofs.Accounts.{HasGrounds, WasSent, WasTaken, after_taken, and_first, and_second, found_in, sent_more, taken_more, told_requests}
+use Rattle.qc_guarantees.proofs.Grounds.{has_grounds}
+use Rattle.qc_guarantees.proofs.SiteMoves.{IsFull}
+use Rattle.std.specs.Cmp.Lexicographic.{pointwise}
+use Rattle.qc_promise.specs.Rounds.{next_own}
+use Rattle.qc_msg.specs.Begun.{life_of, with_life}
+use Rattle.qc_order.proofs.FirstGrants.{life_added}
+use Rattle.qc_promise.specs.Accounting.{granted, is_open, lived, promised, with_read}
+use Rattle.qc_promise.specs.Asked.{carries, command_asks, is_of, own_appended, same_line, same_own, weighs}
+
+-- a grant told this life of the site, for a request of the transaction that it had been sent
+pub record IsToldLife (ds : List Deed) (tx : TxId) (site life : ℕ) : Type 0 where
+  pub q : ClientRequest
+  pub sent : WasSent ds q tx
+  pub at : q.site ≡ site
+  pub full : IsFull q.want
+  pub clock : ℕ
+  pub log : List Line
+  pub taken : WasTaken ds q.number (answers.Granted life clock log)
+
+-- the site of the request granted something to the begun transaction, and the request names the life of that
+abbrev pub HasParticipant : Option Current → ClientRequest → Type 0
+HasParticipant o q = (t : Current) × (o ≡ Some t) × (has_granted t.lives q.site ≡ true) × (q.life ≡ life_of t.lives q.site)
+
+pub record HasLifeGrounds (ds : List Deed) (d : Account) : Type 0 where
+  pub votes : (q : ClientRequest) → In q d.requests → q.want ≡ Prepare → HasParticipant d.current q
+  pub full : (q : ClientRequest) → In q d.requests → IsFull q.want
+  pub told : (t : Current) (site : ℕ) → d.current ≡ Some t → has_granted t.lives site ≡ true → IsToldLife ds t.tx site (life_of t.lives site)
+
+told_more : (ds : List Deed) (x : Deed) (tx : TxId) (site life : ℕ) → IsToldLife ds tx site life → IsToldLife (ds ++ x ∷ []) tx site life
+told_more ds x tx site life k = record {
+  q = k.q;
+  sent = sent_more ds x k.q tx k.sent;
+  at = k.at;
+  full = k.full;
+  clock = k.clock;
+  log = k.log;
+  taken = taken_more ds x k.q.number (answers.Granted life k.clock k.log) k.taken;
+}
+
+-- what is begun later was begun before, with the same lives, or has none yet
+
+abbrev WasBegunWith : Option Current → Current → Type 0
+WasBegunWith o t = (old : Current) × (o ≡ Some old) × (t.tx ≡ old.tx) × (t.lives ≡ old.lives)
+
+abbrev HaveSameLives : Option Current → Option Current → Type 0
+HaveSameLives o p = (t : Current) → p ≡ Some t → WasBegunWith o t ⊎ (t.lives ≡ [])
+
+same_now : (o p : Option Current) → p ≡ o → HaveSameLives o p
+same_now o p is t at = inl (t, sym is ∙ at, refl, refl)
+
+none_now : (o p : Option Current) → p ≡ None → HaveSameLives o p
+none_now o p none t at = absurd (let no : None ≡ Some t = sym none ∙ at in let never : ⊥ = cc in never)
+
+changed_alike : (o : Option Current) (change : Current → Current) → ((x : Current) → ((change x).tx ≡ x.tx) × ((change x).lives ≡ x.lives)) → HaveSameLives o (option_map change o)
+changed_alike None change keeps t at = absurd (let never : ⊥ = cc in never)
+changed_alike (Some x) change keeps t at =
+    let same : t ≡ change x = cc in
+    inl (x, refl, ap (λ (y : Current). y.tx) same ∙ (keeps x).0, ap (λ (y : Current). y.lives) same ∙ (keeps x).1)
+
+-- an account that changes so
+
+same_told : (ds : List Deed) (x : Deed) (d e : Account) → HaveSameLives d.current e.current → HasLifeGrounds ds d → (t : Current) (site : ℕ) → e.current ≡ Some t → has_granted t.lives site ≡ true → IsToldLife (ds ++ x ∷ []) t.tx site (life_of t.lives site)
+same_told ds x d e alike k t site at has = by (alike t at)
+  where
+    by : WasBegunWith d.current t ⊎ (t.lives ≡ []) → IsToldLife (ds ++ x ∷ []) t.tx site (life_of t.lives site)
+    by (inl (old, was, its, lives)) =
+        subst (λ (ls : List LifeAt). IsToldLife (ds ++ x ∷ []) t.tx site (life_of ls site)) (sym lives)
+        (subst (λ (tx : TxId). IsToldLife (ds ++ x ∷ []) tx site (life_of old.lives site)) (sym its)
+        (told_more ds x old.tx site (life_of old.lives site) (k.told old site was (subst (λ (ls : List LifeAt). has_granted ls site ≡ true) lives has))))
+    by (inr none) = absurd (let no : false ≡ true = subst (λ (ls : List LifeAt). has_granted ls site ≡ true) none has in let never : ⊥ = cc in never)
+
+-- with the requests that it had, or with none
+
+same_grounds : (ds : List Deed) (x : Deed) (d e : Account) → e.requests ≡ d.requests → e.current ≡ d.current → HasLifeGrounds ds d → HasLifeGrounds (ds ++ x ∷ []) e
+same_grounds ds x d e requests current k = record {
+  votes = λ q among want. subst (λ (o : Option Current). HasParticipant o q) (sym current) (k.votes q (subst (In q) requests among) want);
+  full = λ q among. k.full q (subst (In q) requests among);
+  told = same_told ds x d e (same_now d.current e.current current) k;
+}
+
+bare_grounds : (ds : List Deed) (x : Deed) (d e : Account) → e.requests ≡ [] → HaveSameLives d.current e.current → HasLifeGrounds ds d → HasLifeGrounds (ds ++ x ∷ []) e
+bare_grounds ds x d e none alike k = record {
+  votes = λ q among want. absurd (subst (In q) none among);
+  full = λ q among. absurd (subst (In q) none among);
+  told = same_told ds x d e alike k;
+}
+
+-- an answer that counts
+
+-- a site that has granted nothing yet has the life that is added
+
+abbrev added : ℕ → ℕ → List LifeAt
+added site life = record { site = site; life = life } ∷ []
+
+first_added : (site life s : ℕ) (b : Bool) → (site == s) ≡ b → (b || false) ≡ true → (site ≡ s) × (option_map_or (λ (x : LifeAt). x.life) (cond b (Some (record { site = site; life = life })) None) 0 ≡ life)
+first_added site life s true at is = (eqb-true site s at, refl)
+first_added site life s false at is = absurd (let never : ⊥ = cc in never)
+
+next_added : (x : LifeAt) (xs : List LifeAt) (site life s : ℕ) (b : Bool) → (b || has_granted xs s) ≡ false → (b || has_granted (xs ++ added site life) s) ≡ true
+    → (has_granted xs s ≡ false → has_granted (xs ++ added site life) s ≡ true → (site ≡ s) × (life_of (xs ++ added site life) s ≡ life))
+    → (site ≡ s) × (option_map_or (λ (y : LifeAt). y.life) (cond b (Some x) (find (λ (y : LifeAt). y.site == s) (xs ++ added site life))) 0 ≡ life)
+next_added x xs site life s true none has rest = absurd (let never : ⊥ = cc in never)
+next_added x xs site life s false none has rest = rest none has
+
+all_added : (xs : List LifeAt) (site life s : ℕ) → has_granted xs s ≡ false → has_granted (xs ++ added site life) s ≡ true → (site ≡ s) × (life_of (xs ++ added site life) s ≡ life)
+all_added [] site life s none has = first_added site life s (site == s) refl has
+all_added (x ∷ xs) site life s none has = next_added x xs site life s (x.site == s) none has (all_added xs site life s)
+
+not_yet : (ls : List LifeAt) (site life s : ℕ) → has_granted ls s ≡ false → has_granted (with_life ls site life) s ≡ true → (site ≡ s) × (life_of (with_life ls site life) s ≡ life)
+not_yet ls site life s none has = by (has_granted ls site) has
+  where
+    by : (b : Bool) → has_granted (cond b ls (ls ++ added site life)) s ≡ true → (site ≡ s) × (life_of (cond b ls (ls ++ added site life)) s ≡ life)
+    by true is = absurd (let no : false ≡ true = sym none ∙ is in let never : ⊥ = cc in never)
+    by false is = all_added ls site life s none is
+
+-- the transaction has one life more
+record HasOneMore (o : Option Current) (site life : ℕ) (t : Current) : Type 0 where
+  old : Current
+  was : o ≡ Some old
+  its : t.tx ≡ old.tx
+  lives : t.lives ≡ with_life old.lives site life
+
+-- what an answer changes: nothing, or a grant of a Read or an Append adds a life
+abbrev IsChangedBy : Option Current → ℕ → Option Answer → Current → Type 0
+IsChangedBy o site answer t = WasBegunWith o t ⊎ ((life : ℕ) × (clock : ℕ) × (log : List Line) × (answer ≡ Some (answers.Granted life clock log)) × HasOneMore o site life t)
+
+same_changed : (o : Option Current) (site : ℕ) (answer : Option Answer) (t : Current) → o ≡ Some t → IsChangedBy o site answer t
+same_changed o site answer t is = inl (t, is, refl, refl)
+
+one_changed : (o : Option Current) (site life clock : ℕ) (log : List Line) (change : Current → Current) → ((x : Current) → ((change x).tx ≡ x.tx) × ((change x).lives ≡ with_life x.lives site life)) → (t : Current) → option_map change o ≡ Some t
+    → IsChangedBy o site (Some (answers.Granted life clock log)) t
+one_changed None site life clock log change keeps t is = absurd (let never : ⊥ = cc in never)
+one_changed (Some x) site life clock log change keeps t is =
+    let same : t ≡ change x = cc in
+    inr (life, clock, log, refl, record { old = x; was = refl; its = ap (λ (y : Current). y.tx) same ∙ (keeps x).0; lives = ap (λ (y : Current). y.lives) same ∙ (keeps x).1 })
+
+promised_same : (d : Account) (clock : ℕ) (w : Want) → (promised d clock w).current ≡ d.current
+promised_same d clock (Read object inv) = refl
+promised_same d clock (Append object view own) = refl
+promised_same d clock Prepare = refl
+
+told_changed : (d : Account) (p : ClientRequest) (answer : Option Answer) (t : Current) → (told_by d p answer).current ≡ Some t → IsChangedBy d.current p.site answer t
+told_changed d p None t is = same_changed d.current p.site None t is
+told_changed d p (Some (answers.Granted life clock log)) t is = by p.want is
+  where
+    by : (w : Want) → (granted d p.site life clock log w).current ≡ Some t → IsChangedBy d.current p.site (Some (answers.Granted life clock log)) t
+    by (Read object inv) e = one_changed d.current p.site life clock log (λ (x : Current). with_read (lived x p.site life) object log) (λ x. (refl, refl)) t e
+    by (Append object view own) e = one_changed d.current p.site life clock log (λ (x : Current). lived x p.site life) (λ x. (refl, refl)) t e
+    by Prepare e = same_changed d.current p.site (Some (answers.Granted life clock log)) t e
+told_changed d p (Some (answers.Clash holder inv event)) t is = same_changed d.current p.site (Some (answers.Clash holder inv event)) t is
+told_changed d p (Some (answers.Closed epoch)) t is = same_changed d.current p.site (Some (answers.Closed epoch)) t is
+told_changed d p (Some (answers.Behind epoch)) t is = same_changed d.current p.site (Some (answers.Behind epoch)) t is
+told_changed d p (Some (answers.Restarted life)) t is = same_changed d.current p.site (Some (answers.Restarted life)) t is
+told_changed d p (Some answers.Stale) t is = same_changed d.current p.site (Some answers.Stale) t is
+told_changed d p (Some answers.Fault) t is = same_changed d.current p.site (Some answers.Fault) t is
+told_changed d p (Some (answers.Yes clock)) t is = same_changed d.current p.site (Some (answers.Yes clock)) t (sym (promised_same d clock p.want) ∙ is)
+told_changed d p (Some (answers.Shut clock log prepared)) t is = same_changed d.current p.site (Some (answers.Shut clock log prepared)) t is
+told_changed d p (Some answers.Installed) t is = same_changed d.current p.site (Some answers.Installed) t is
+told_changed d p (Some (answers.Answered verdict)) t is = same_changed d.current p.site (Some (answers.Answered verdict)) t is
+
+-- what was begun stays so, and has the lives that it had
+granted_on : (o : Option Current) (t : Current) (site life : ℕ) (change : Current → Current) → ((x : Current) → (change x).lives ≡ with_life x.lives site life) → o ≡ Some t → (u : Current) × (option_map change o ≡ Some u) × KeepsLives t.lives u.lives
+granted_on o t site life change keeps was = (change t, ap (option_map change) was, subst (KeepsLives t.lives) (sym (keeps t)) (life_added t.lives site life))
+
+told_forward : (d : Account) (p : ClientRequest) (answer : Option Answer) (t : Current) → d.current ≡ Some t → (u : Current) × ((told_by d p answer).current ≡ Some u) × KeepsLives t.lives u.lives
+told_forward d p None t was = (t, was, same_lives t.lives)
+told_forward d p (Some (answers.Granted life clock log)) t was = by p.want
+  where
+    by : (w : Want) → (u : Current) × ((granted d p.site life clock log w).current ≡ Some u) × KeepsLives t.lives u.lives
+    by (Read object inv) = granted_on d.current t p.site life (λ (x : Current). with_read (lived x p.site life) object log) (λ x. refl) was
+    by (Append object view own) = granted_on d.current t p.site life (λ (x : Current). lived x p.site life) (λ x. refl) was
+    by Prepare = (t, was, same_lives t.lives)
+told_forward d p (Some (answers.Clash holder inv event)) t was = (t, was, same_lives t.lives)
+told_forward d p (Some (answers.Closed epoch)) t was = (t, was, same_lives t.lives)
+told_forward d p (Some (answers.Behind epoch)) t was = (t, was, same_lives t.lives)
+told_forward d p (Some (answers.Restarted life)) t was = (t, was, same_lives t.lives)
+told_forward d p (Some answers.Stale) t was = (t, was, same_lives t.lives)
+told_forward d p (Some answers.Fault) t was = (t, was, same_lives t.lives)
+told_forward d p (Some (answers.Yes clock)) t was = (t, promised_same d clock p.want ∙ was, same_lives t.lives)
+told_forward d p (Some (answers.Shut clock log prepared)) t was = (t, was, same_lives t.lives)
+told_forward d p (Some answers.Installed) t was = (t, was, same_lives t.lives)
+told_forward d p (Some (answers.Answered verdict)) t was = (t, was, same_lives t.lives)
+
+-- something is taken, and counts
+
+module _ (ds : List Deed) (x : Deed) (d : Account) (n : ℕ) (answer : Option Answer) (grounds : HasGrounds ds d) (k : HasLifeGrounds ds d)
+    (taken_now : (a : Answer) → answer ≡ Some a → (e : Envelope) × (x ≡ Takes (given.Got e)) × (e.message ≡ messages.Answer n a)) where
+  now_full : (q : ClientRequest) → In q (taken_for n answer d.requests) → IsFull q.want
+  now_full q among = elim (after_taken n answer q d.requests among) [
+    | inl old ↦ k.full q old
+    | inr now ↦ subst (λ (w : Want). IsFull w) (sym (ap (λ (y : ClientRequest). y.want) now.is)) (k.full now.old now.among)
+  ]
+
+  now_voting : (p : ClientRequest) (q : ClientRequest) → In q (taken_for n answer d.requests) → q.want ≡ Prepare → HasParticipant (told_by (record d { requests = taken_for n answer d.requests }) p answer).current q
+  now_voting p q among want = elim (after_taken n answer q d.requests among) [
+    | inl old ↦ moved_on q (k.votes q old want)
+    | inr now ↦ (
+        let was : HasParticipant d.current now.old = k.votes now.old now.among (sym (ap (λ (y : ClientRequest). y.want) now.is) ∙ want) in
+        moved_on q (
+          was.0,
+          was.1,
+          subst (λ (n : ℕ). has_granted was.0.lives n ≡ true) (sym (ap (λ (y : ClientRequest). y.site) now.is)) was.2,
+          ap (λ (y : ClientRequest). y.life) now.is ∙ was.3 ∙ ap (life_of was.0.lives) (sym (ap (λ (y : ClientRequest). y.site) now.is)),
+        ))
+  ]
+    where
+      moved_on : (q : ClientRequest) → HasParticipant d.current q → HasParticipant (told_by (record d { requests = taken_for n answer d.requests }) p answer).current q
+      moved_on q (t, was, has, life) =
+          let on = told_forward (record d { requests = taken_for n answer d.requests }) p answer t was in
+          (on.0, on.1, (on.2 q.site has).0, life ∙ sym (on.2 q.site has).1)
+
+  now_taken : (a : Answer) → answer ≡ Some a → WasTaken (ds ++ x ∷ []) n a
+  now_taken a is = (let e = taken_now a is in record { envelope = e.0; taken = subst (λ (y : Deed). In y (ds ++ x ∷ [])) e.1 (In-last x ds); is = e.2 })
+
+  now_told : (p : ClientRequest) → In p d.requests → p.number ≡ n → (t : Current) (site : ℕ) → (told_by (record d { requests = taken_for n answer d.requests }) p answer).current ≡ Some t → has_granted t.lives site ≡ true
+      → IsToldLife (ds ++ x ∷ []) t.tx site (life_of t.lives site)
+  now_told p among number t site at has = by (told_changed (record d { requests = taken_for n answer d.requests }) p answer t at)
+    where
+      added_here : (life clock : ℕ) (log : List Line) → answer ≡ Some (answers.Granted life clock log) → (m : HasOneMore d.current p.site life t) → (b : Bool) → has_granted m.old.lives site ≡ b → IsToldLife (ds ++ x ∷ []) t.tx site (life_of t.lives site)
+      added_here life clock log is m true before_it =
+          subst (λ (tx : TxId). IsToldLife (ds ++ x ∷ []) tx site (life_of t.lives site)) (sym m.its)
+          (subst (λ (l : ℕ). IsToldLife (ds ++ x ∷ []) m.old.tx site l) (sym (ap (λ (ls : List LifeAt). life_of ls site) m.lives ∙ (life_added m.old.lives p.site life site before_it).1))
+          (told_more ds x m.old.tx site (life_of m.old.lives site) (k.told m.old site m.was before_it)))
+      added_here life clock log is m false before_it =
+          let new = not_yet m.old.lives p.site life site before_it (subst (λ (ls : List LifeAt). has_granted ls site ≡ true) m.lives has) in
+          let s : (c : Current) × (d.current ≡ Some c) × WasSent ds p c.tx = grounds.sent p among in
+          let same : s.0 ≡ m.old = (let both : Some s.0 ≡ Some m.old = sym s.1 ∙ m.was in cc) in
+          let sent : WasSent ds p t.tx = subst (λ (tx : TxId). WasSent ds p tx) (ap (λ (y : Current). y.tx) same ∙ sym m.its) s.2 in
+          subst (λ (l : ℕ). IsToldLife (ds ++ x ∷ []) t.tx site l) (sym (ap (λ (ls : List LifeAt). life_of ls site) m.lives ∙ new.1))
+          (record {
+            q = p;
+            sent = sent_more ds x p t.tx sent;
+            at = new.0;
+            full = k.full p among;
+            clock = clock;
+            log = log;
+            taken = subst (λ (number : ℕ). WasTaken (ds ++ x ∷ []) number (answers.Granted life clock log)) (sym number) (now_taken (answers.Granted life clock log) is);
+          })
+
+      by : IsChangedBy d.current p.site answer t → IsToldLife (ds ++ x ∷ []) t.tx site (life_of t.lives site)
+      by (inl (old, was, its, lives)) =
+          subst (λ (ls : List LifeAt). IsToldLife (ds ++ x ∷ []) t.tx site (life_of ls site)) (sym lives)
+          (subst (λ (tx : TxId). IsToldLife (ds ++ x ∷ []) tx site (life_of old.lives site)) (sym its)
+          (told_more ds x old.tx site (life_of old.lives site) (k.told old site was (subst (λ (ls : List LifeAt). has_granted ls site ≡ true) lives has))))
+      by (inr (life, clock, log, is, m)) = added_here life clock log is m (has_granted m.old.lives site) refl
+
+  counted_grounds : HasLifeGrounds (ds ++ x ∷ []) (counted d n answer)
+  counted_grounds = by (find (is_open n) d.requests) refl
+    where
+      by : (o : Option ClientRequest) → find (is_open n) d.requests ≡ o → HasLifeGrounds (ds ++ x ∷ []) (counted_for d n answer o)
+      by None at = same_grounds ds x d d refl refl k
+      by (Some p) at =
+          let found = found_in n p d.requests at in
+          record {
+            votes = λ q among want. now_voting p q (subst (In q) (told_requests (record d { requests = taken_for n answer d.requests }) p answer).0 among) want;
+            full = λ q among. now_full q (subst (In q) (told_requests (record d { requests = taken_for n answer d.requests }) p answer).0 among);
+            told = now_told p found.0 (eqb-true p.number n (and_first (p.number == n) (is_none p.taken) found.1));
+          }
+
+take_grounds : (ds : List Deed) (d : Account) (g : Given) → HasGrounds ds d → HasLifeGrounds ds d → HasLifeGrounds (ds ++ Takes g ∷ []) (account_taken d g)
+take_grounds ds d (given.Called command) grounds k = bare_grounds ds (Takes (given.Called command)) d (record d { command = Some command; requests = []; written = None }) refl (same_now d.current d.current refl) k
+take_grounds ds d (given.Lost number) grounds k = counted_grounds ds (Takes (given.Lost number)) d number None grounds k (λ a is. absurd (let never : ⊥ = cc in never))
+take_grounds ds d (given.Got e) grounds k = by e.message refl
+  where
+    same : HasLifeGrounds (ds ++ Takes (given.Got e) ∷ []) d
+    same = same_grounds ds (Takes (given.Got e)) d d refl refl k
+
+    by : (m : Message) → e.message ≡ m → HasLifeGrounds (ds ++ Takes (given.Got e) ∷ []) (account_heard d m)
+    by (messages.Request tx epoch life want) is = same
+    by (messages.Answer to answer) is = counted_grounds ds (Takes (given.Got e)) d to (Some answer) grounds k (λ a it. (e, refl, is ∙ ap (λ (y : Answer). messages.Answer to y) (let just : answer ≡ a = cc in just)))
+    by (messages.Decision tx verdict) is = same
+    by (messages.Inquiry tx) is = same
+    by (messages.Ask tx) is = same
+    by (messages.Close epoch) is = same
+    by (messages.Install epoch clock log) is = same
+
+-- a record changes no transaction
+write_grounds : (ds : List Deed) (d : Account) (w : Record) → HasLifeGrounds ds d → HasLifeGrounds (ds ++ Writes w ∷ []) (account_written d w)
+write_grounds ds d records.Life k = same_grounds ds (Writes records.Life) d (record d { life = d.life + 1 }) refl refl k
+write_grounds ds d (records.Prepare prepared) k = same_grounds ds (Writes (records.Prepare prepared)) d d refl refl k
+write_grounds ds d (records.Done tx clock) k = same_grounds ds (Writes (records.Done tx clock)) d d refl refl k
+write_grounds ds d (records.Close epoch) k = same_grounds ds (Writes (records.Close epoch)) d d refl refl k
+write_grounds ds d (records.Install epoch clock lines) k = same_grounds ds (Writes (records.Install epoch clock lines)) d d refl refl k
+write_grounds ds d (records.Commit commit) k = same_grounds ds (Writes (records.Commit commit)) d (record d { written = Some commit }) refl refl k
+write_grounds ds d (records.Decide epoch clock lines) k = same_grounds ds (Writes (records.Decide epoch clock lines)) d d refl refl k
+
+module _ (decl : Declaration) where
+  -- a request that is asked for has own lines where it is an Append
+
+  carried_full : (d : Account) (t : Current) (object : ℕ) (view : List Line) (own : List OwnLine) (o : Option ℕ) → carries decl t object view own o ≡ true → 0 < length own
+  carried_full d t object view own None is = absurd (let never : ⊥ = cc in never)
+  carried_full d t object view [] (Some event) is = absurd (none (filter (weighs decl t.epoch object) t.own) (and_second (pointwise same_line view _) (pointwise same_own [] (own_appended decl t object event)) is))
+    where
+      none : (xs : List OwnLine) → pointwise same_own [] (xs ++ next_own t object event ∷ []) ≡ true → ⊥
+      none [] is = let never : ⊥ = cc in never
+      none (x ∷ xs) is = let never : ⊥ = cc in never
+  carried_full d t object view (o ∷ os) (Some event) is = omega arith
+
+  command_full : (d : Account) (t : Current) (site : ℕ) (want : Want) (o : Option Command) → command_asks decl d t site want o ≡ true → IsFull want
+  command_full d t site want None is = absurd (let never : ⊥ = cc in never)
+  command_full d t site want (Some commands.Begin) is = absurd (let never : ⊥ = cc in never)
+  command_full d t site (Read o i) (Some (commands.Do object inv)) is = tt
+  command_full d t site (Append o view own) (Some (commands.Do object inv)) is =
+      carried_full d t object view own (answer_of decl t object inv) (and_second (o == object) (carries decl t object view own (answer_of decl t object inv)) (and_first ((o == object) && carries decl t object view own (answer_of decl t object inv)) _ is))
+  command_full d t site Prepare (Some (commands.Do object inv)) is = absurd (let never : ⊥ = cc in never)
+  command_full d t site (Read o i) (Some commands.Commit) is = absurd (let never : ⊥ = cc in never)
+  command_full d t site (Append o view own) (Some commands.Commit) is = absurd (let never : ⊥ = cc in never)
+  command_full d t site Prepare (Some commands.Commit) is = tt
+  command_full d t site want (Some commands.Abort) is = absurd (let never : ⊥ = cc in never)
+  command_full d t site want (Some (commands.Epoch number)) is = absurd (let never : ⊥ = cc in never)
+
+  asked_full : (d : Account) (site : ℕ) (tx : TxId) (epoch life : ℕ) (want : Want) → is_asked_for decl d site tx epoch life want ≡ true → IsFull want
+  asked_full d site tx epoch life want is = by d.current is
+    where
+      by : (o : Option Current) → option_map_or (λ (t : Current). is_of t site tx epoch life && command_asks decl d t site want d.command) o false ≡ true → IsFull want
+      by None e = absurd (let never : ⊥ = cc in never)
+      by (Some t) e = command_full d t site want d.command (and_second (is_of t site tx epoch life) (command_asks decl d t site want d.command) e)
+
+  -- a Prepare is asked of a participant, and names the life of its first grant
+
+  at_in : (xs : List ℕ) (n x : ℕ) → slice_get xs n ≡ Some x → In x xs
+  at_in xs n x is = every-at (λ (y : ℕ). In y xs) xs n x (every-from_In (λ (y : ℕ). In y xs) xs (λ y among. among)) is
+
+  this_one : (site : ℕ) (o : Option ℕ) → is_this site o ≡ true → o ≡ Some site
+  this_one site None is = absurd (let never : ⊥ = cc in never)
+  this_one site (Some n) is = ap Some (eqb-true n site is)
+
+  commit_participant : (d : Account) (t : Current) (site : ℕ) (o : Option Command) → command_asks decl d t site Prepare o ≡ true → has_granted t.lives site ≡ true
+  commit_participant d t site None is = absurd (let never : ⊥ = cc in never)
+  commit_participant d t site (Some commands.Begin) is = absurd (let never : ⊥ = cc in never)
+  commit_participant d t site (Some (commands.Do object inv)) is = absurd (let never : ⊥ = cc in never)
+  commit_participant d t site (Some commands.Commit) is =
+      In-passes (has_granted t.lives) site (cyclic decl.sites (first_site decl d.client))
+      (at_in (participants decl d t) (length (requests_for is_prepare d)) site (this_one site (slice_get (participants decl d t) (length (requests_for is_prepare d))) is))
+  commit_participant d t site (Some commands.Abort) is = absurd (let never : ⊥ = cc in never)
+  commit_participant d t site (Some (commands.Epoch number)) is = absurd (let never : ⊥ = cc in never)
+
+  asked_participant : (d : Account) (n to : ℕ) (tx : TxId) (epoch life : ℕ) (want : Want) → want ≡ Prepare → is_asked_for decl d to tx epoch life want ≡ true → HasParticipant d.current (record { number = n; site = to; life = life; want = want; taken = None })
+  asked_participant d n to tx epoch life want prepare is = by d.current refl is
+    where
+      by : (o : Option Current) → d.current ≡ o → option_map_or (λ (t : Current). is_of t to tx epoch life && command_asks decl d t to want d.command) o false ≡ true → HasParticipant o (record { number = n; site = to; life = life; want = want; taken = None })
+      by None at e = absurd (let never : ⊥ = cc in never)
+      by (Some t) at e = (
+        t,
+        refl,
+        commit_participant d t to d.command (subst (λ (w : Want). command_asks decl d t to w d.command ≡ true) prepare (and_second (is_of t to tx epoch life) (command_asks decl d t to want d.command) e)),
+        eqb-true life (life_of t.lives to) (and_second (epoch == t.epoch) (life == life_of t.lives to) (and_second (same_tx t.tx tx) ((epoch == t.epoch) && (life == life_of t.lives to)) (and_first (is_of t to tx epoch life) (command_asks decl d t to want d.command) e))),
+      )
+
+  send_grounds : (ds : List Deed) (d : Account) (n to : ℕ) (m : Message) → HasLifeGrounds ds d → HasLifeGrounds (ds ++ Sends n to m ∷ []) (account_sent decl d n to m)
+  send_grounds ds d n to (messages.Request tx epoch life want) k = by (is_asked_for decl d to tx epoch life want) refl
+    where
+      by : (b : Bool) → is_asked_for decl d to tx epoch life want ≡ b → HasLifeGrounds (ds ++ Sends n to (messages.Request tx epoch life want) ∷ []) (cond b (record d { requests = d.requests ++ record { number = n; site = to; life = life; want = want; taken = None } ∷ [] }) d)
+      by false is = same_grounds ds (Sends n to (messages.Request tx epoch life want)) d d refl refl k
+      by true is = record {
+        votes = λ q among prepare. elim (In-more q (record { number = n; site = to; life = life; want = want; taken = None }) d.requests among) [
+          | inl old ↦ k.votes q old prepare
+          | inr new ↦ subst (HasParticipant d.current) (sym new) (asked_participant d n to tx epoch life want (sym (ap (λ (y : ClientRequest). y.want) new) ∙ prepare) is)
+        ];
+        full = λ q among. elim (In-more q (record { number = n; site = to; life = life; want = want; taken = None }) d.requests among) [
+          | inl old ↦ k.full q old
+          | inr new ↦ subst (λ (w : Want). IsFull w) (sym (ap (λ (y : ClientRequest). y.want) new)) (asked_full d to tx epoch life want is)
+        ];
+        told = same_told ds (Sends n to (messages.Request tx epoch life want)) d d (same_now d.current d.current refl) k;
+      }
+  send_grounds ds d n to (messages.Answer request answer) k = same_grounds ds (Sends n to (messages.Answer request answer)) d d refl refl k
+  send_grounds ds d n to (messages.Decision tx verdict) k = same_grounds ds (Sends n to (messages.Decision tx verdict)) d d refl refl k
+  send_grounds ds d n to (messages.Inquiry tx) k = same_grounds ds (Sends n to (messages.Inquiry tx)) d d refl refl k
+  send_grounds ds d n to (messages.Ask tx) k = same_grounds ds (Sends n to (messages.Ask tx)) d d refl refl k
+  send_grounds ds d n to (messages.Close epoch) k = same_grounds ds (Sends n to (messages.Close epoch)) d d refl refl k
+  send_grounds ds d n to (messages.Install epoch clock log) k = same_grounds ds (Sends n to (messages.Install epoch clock log)) d d refl refl k
+
+  -- a reply
+
+  response_alike : (object inv : ℕ) (o : Option ℕ) (x : Current) → ((with_response decl x object inv o).tx ≡ x.tx) × ((with_response decl x object inv o).lives ≡ x.lives)
+  response_alike object inv None x = (refl, refl)
+  response_alike object inv (Some event) x = (refl, refl)
+
+  responded_alike : (d : Account) (c : Option Command) → HaveSameLives d.current (responded decl d c).current
+  responded_alike d None = same_now d.current d.current refl
+  responded_alike d (Some commands.Begin) = same_now d.current d.current refl
+  responded_alike d (Some (commands.Do object inv)) = changed_alike d.current (λ (t : Current). with_response decl t object inv (answer_of decl t object inv)) (λ x. response_alike object inv (answer_of decl x object inv) x)
+  responded_alike d (Some commands.Commit) = same_now d.current d.current refl
+  responded_alike d (Some commands.Abort) = same_now d.current d.current refl
+  responded_alike d (Some (commands.Epoch number)) = same_now d.current d.current refl
+
+  absent_alike : (d : Account) (c : Option Command) → HaveSameLives d.current (found_absent d c).current
+  absent_alike d None = same_now d.current d.current refl
+  absent_alike d (Some commands.Begin) = same_now d.current d.current refl
+  absent_alike d (Some (commands.Do object inv)) = changed_alike d.current _ (λ x. (refl, refl))
+  absent_alike d (Some commands.Commit) = same_now d.current d.current refl
+  absent_alike d (Some commands.Abort) = same_now d.current d.current refl
+  absent_alike d (Some (commands.Epoch number)) = same_now d.current d.current refl
+
+  short_alike : (d : Account) (half : Half) → HaveSameLives d.current (short_of d half).current
+  short_alike d halves.Read = same_now d.current d.current refl
+  short_alike d halves.Append = changed_alike d.current _ (λ x. (refl, refl))
+  short_alike d halves.Close = same_now d.current d.current refl
+
+  refused_alike : (d : Account) → HaveSameLives d.current (refused d).current
+  refused_alike d = changed_alike d.current _ (λ x. (refl, refl))
+
+  told_alike : (d : Account) (reply : Reply) → HaveSameLives d.current (account_told_in decl d reply).current
+  told_alike d replies.Down = same_now d.current d.current refl
+  told_alike d (replies.Already tx) = same_now d.current d.current refl
+  told_alike d (replies.Began tx) = λ t at. inr (let same : t ≡ new_current tx d.known = cc in ap (λ (y : Current). y.lives) same)
+  told_alike d replies.NoTransaction = same_now d.current d.current refl
+  told_alike d replies.Doomed = same_now d.current d.current refl
+  told_alike d replies.TooLong = same_now d.current d.current refl
+  told_alike d (replies.Closed epoch site) = refused_alike d
+  told_alike d (replies.Conflict tx site) = refused_alike d
+  told_alike d (replies.Quorum half got need) = short_alike d half
+  told_alike d replies.Absent = absent_alike d d.command
+  told_alike d (replies.Response resp) = responded_alike d d.command
+  told_alike d (replies.Aborted why) = none_now d.current None refl
+  told_alike d replies.Unknown = none_now d.current None refl
+  told_alike d (replies.Committed stamp) = none_now d.current None refl
+  told_alike d replies.Dropped = none_now d.current None refl
+  told_alike d (replies.Order current) = same_now d.current d.current refl
+  told_alike d (replies.InDoubt tx site) = same_now d.current d.current refl
+  told_alike d replies.Fault = same_now d.current d.current refl
+  told_alike d (replies.Moved closed installed) = same_now d.current d.current refl
+
+  one_more : (ds : List Deed) (d : Account) (x : Deed) → HasGrounds ds d → HasLifeGrounds ds d → HasLifeGrounds (ds ++ x ∷ []) (account_at decl d x)
+  one_more ds d (Takes g) grounds k = take_grounds ds d g grounds k
+  one_more ds d (Writes w) grounds k = write_grounds ds d w k
+  one_more ds d (Sends n to m) grounds k = send_grounds ds d n to m k
+  one_more ds d (Tells reply) grounds k = bare_grounds ds (Tells reply) d (account_at decl d (Tells reply)) refl (told_alike d reply) k
+  one_more ds d (Falls cause pending) grounds k = record { votes = λ q never. absurd never; full = λ q never. absurd never; told = λ t site is has. absurd (let never : ⊥ = cc in never) }
+  one_more ds d (Rises kept) grounds k = record { votes = λ q never. absurd never; full = λ q never. absurd never; told = λ t site is has. absurd (let never : ⊥ = cc in never) }
+
+  all_more : (client : ℕ) (ds more : List Deed) → HasLifeGrounds ds (fold (account_at decl) (new_account client) ds) → HasLifeGrounds (ds ++ more) (fold (account_at decl) (new_account client) (ds ++ more))
+  all_more client ds [] k = subst (λ (v : List Deed). HasLifeGrounds v (fold (account_at decl) (new_account client) v)) (sym (append-nil ds)) k
+  all_more client ds (x ∷ more) k =
+      subst (λ (v : List Deed). HasLifeGrounds v (fold (account_at decl) (new_account client) v)) (append_assoc ds (x ∷ []) more)
+      (all_more client (ds ++ x ∷ []) more
+      (subst (HasLifeGrounds (ds ++ x ∷ [])) (sym (fold-append (account_at decl) (new_account client) ds (x ∷ [])))
+      (one_more ds (fold (account_at decl) (new_account client) ds) x (has_grounds decl client ds) k)))
+
+  -- the life of a site was told by a grant
+  pub has_life_grounds : (client : ℕ) (ds : List Deed) → HasLifeGrounds ds (fold (account_at decl) (new_account client) ds)
+  has_life_grounds client ds = all_more client [] ds (record { votes = λ q never. absurd never; full = λ q never. absurd never; told = λ t site is has. absurd (let never : ⊥ = cc in never) })

@@ -1,0 +1,50 @@
+//! What sites hold for transactions that wait for their votes: the contracts of
+//! functions with nothing to do.
+
+ghost use Rattle.std.specs.Prelude.{◌≡◌, ℕ, true, false, Bool, List, [], Some, slice_get};
+ghost use Rattle.qc_core.specs.Conduct.{IsLawfulWithFalls};
+ghost use Rattle.qc_core.specs.Lives.{is_up};
+ghost use Rattle.qc_decl.specs.Accepted.{IsAccepted};
+ghost use Rattle.qc_decl.specs.Actors.{is_client};
+ghost use Rattle.qc_decl.specs.declared.declaration.Declaration.{Declaration};
+ghost use Rattle.qc_guarantees.specs.Votes.{IsOpenVote};
+ghost use Rattle.qc_lock.specs.Held.{is_held};
+ghost use Rattle.qc_msg.specs.Begun.{has_granted, life_of};
+ghost use Rattle.qc_msg.specs.Deeds.{deeds};
+ghost use Rattle.qc_msg.specs.Steps.{Entry};
+ghost use Rattle.qc_promise.specs.Account.{ClientRequest, Current};
+ghost use Rattle.qc_promise.specs.Accounting.{account};
+ghost use Rattle.qc_promise.specs.Kept.{Kept};
+ghost use Rattle.qc_promise.specs.SiteHeld.{held_shown};
+ghost use Rattle.qc_promise.specs.SiteRecords.{life_shown};
+ghost use Rattle.qc_script.specs.RunsWithFalls.{RunsWithFalls};
+ghost use Rattle.qc_script.specs.Sound.{IsScriptFor};
+ghost use Rattle.qc_script.specs.declared.script.Script.{Script};
+
+use qc_script::ConductWithFalls;
+
+/// A site that granted something to a transaction that its client runs, and that
+/// counted, holds something of it as long as the site is in the life of that
+/// grant: at each moment at which it is up and has no open input. So it doesn't
+/// refuse a Prepare that names this life for having forgotten.
+pub fn granted_sites_hold_through_falls<C: ConductWithFalls>()
+    ensures { (decl : Declaration) (script : Script) (h : List Entry) (open_inputs : List Bool)
+        → IsAccepted decl → IsScriptFor decl script
+        → RunsWithFalls (IsLawfulWithFalls decl) C.fits decl script h open_inputs → Kept h
+        → (a : ℕ) → is_client decl a ≡ true → (t : Current) → (account decl a h).current ≡ Some t
+        → (site : ℕ) → has_granted t.lives site ≡ true → slice_get open_inputs site ≡ Some false
+        → is_up (deeds site [] h) ≡ true → life_of t.lives site ≡ life_shown (deeds site [] h)
+        → is_held (held_shown (deeds site [] h)) t.tx ≡ true }
+{}
+
+/// So while a client waits for a site's promise, its transaction holds something at
+/// the site, as long as the site is in the life that the request names.
+pub fn asked_sites_hold_through_falls<C: ConductWithFalls>()
+    ensures { (decl : Declaration) (script : Script) (h : List Entry) (open_inputs : List Bool)
+        → IsAccepted decl → IsScriptFor decl script
+        → RunsWithFalls (IsLawfulWithFalls decl) C.fits decl script h open_inputs → Kept h
+        → (a : ℕ) → is_client decl a ≡ true → (t : Current) → (account decl a h).current ≡ Some t
+        → (q : ClientRequest) → IsOpenVote (account decl a h) q → slice_get open_inputs q.site ≡ Some false
+        → is_up (deeds q.site [] h) ≡ true → q.life ≡ life_shown (deeds q.site [] h)
+        → is_held (held_shown (deeds q.site [] h)) t.tx ≡ true }
+{}
