@@ -102,7 +102,7 @@ some_item (Append object view (o ∷ own)) asks full = record { item = Own o; am
 some_item Prepare asks full = absurd asks
 
 -- who has an item holds something
-is_held_with : (held : List Held) (tx : TxId) (x : Item) → IsHeld (held_of held tx) x → is_held held tx ≡ true
+pub is_held_with : (held : List Held) (tx : TxId) (x : Item) → IsHeld (held_of held tx) x → is_held held tx ≡ true
 is_held_with held tx x has = by (entry_of held tx) x has
   where
     by : (o : Option Held) (x : Item) → IsHeld (unwrap_or o (record { tx = tx; locks = []; own = [] })) x → is_some o ≡ true
@@ -179,6 +179,8 @@ module _ (fits : ℕ → List Record → Type 0) (decl : Declaration) (script : 
       pub its : grant.tx ≡ t.tx
       pub by : grant.site ≡ site
       pub life : grant.life ≡ life_of t.lives site
+      pub some : 0 < life_of t.lives site
+      pub epoch : grant.epoch ≡ then.epoch grant.tx
       pub place : is_site decl site ≡ true
       pub item : Item
       pub among : In item grant.items
@@ -198,6 +200,8 @@ module _ (fits : ℕ → List Record → Type 0) (decl : Declaration) (script : 
               its = b.grant.its ∙ one.1;
               by = b.grant.by ∙ from;
               life = b.grant.life_is;
+              some = b.grant.some;
+              epoch = b.grant.epoch_is ∙ ap then.epoch (sym b.grant.its);
               place = subst (λ (n : ℕ). is_site decl n ≡ true) from b.grant.place;
               item = item.item;
               among = subst (In item.item) (sym b.grant.items_are) item.among;

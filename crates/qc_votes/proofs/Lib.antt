@@ -1,2 +1,3 @@
 pub mod LifeGrounds
 pub mod Holding
+pub mod Answering

@@ -10,9 +10,14 @@
 //!    grant (`granted_sites_hold_through_falls`).
 //! 2. So does a site whose promise a client waits for, as long as it is in the
 //!    life that the request names (`asked_sites_hold_through_falls`): where epoch
-//!    and life don't refuse the Prepare, it isn't refused as forgotten.
+//!    and life don't refuse the Prepare, the site holds what it granted.
+//! 3. So it doesn't answer Stale or Behind, where what it would promise fits a
+//!    record (`asked_sites_remember_through_falls`).
 #![tactic(auto)]
 
 mod votes;
 
-pub use votes::{asked_sites_hold_through_falls, granted_sites_hold_through_falls};
+pub use votes::{
+    asked_sites_hold_through_falls, asked_sites_remember_through_falls,
+    granted_sites_hold_through_falls,
+};
