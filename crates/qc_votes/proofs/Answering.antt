@@ -72,7 +72,8 @@ use Rattle.qc_site.specs.Requests.{closed_fault, fault_of, life_fault, names_dec
 use Rattle.qc_site.specs.Site.{SiteState, moved}
 use Rattle.qc_stamp.specs.declared.stamp.TxId.{TxId}
 use Rattle.qc_votes.proofs.Holding.{IsGrantedIn, granted, is_held_with, still_held}
-use Rattle.qc_votes.proofs.LifeGrounds.{HasParticipant, has_life_grounds}
+use Rattle.qc_votes.proofs.LifeGrounds.{has_life_grounds}
+use Rattle.qc_votes.proofs.LivesTold.{HasParticipant}
 
 -- a request that names another life is refused for that
 

@@ -51,7 +51,8 @@ use Rattle.qc_stamp.specs.declared.stamp.Stamp.{Stamp}
 use Rattle.qc_stamp.specs.declared.stamp.TxId.{TxId}
 use Rattle.qc_guarantees.specs.Votes.{IsOpenVote}
 use Rattle.qc_promise.specs.Account.{ClientRequest}
-use Rattle.qc_votes.proofs.LifeGrounds.{HasParticipant, IsToldLife, has_life_grounds}
+use Rattle.qc_votes.proofs.LifeGrounds.{has_life_grounds}
+use Rattle.qc_votes.proofs.LivesTold.{HasParticipant, IsToldLife}
 
 -- a machine's site holds an item on, as long as the transaction doesn't end, and the site neither rises nor closes nor installs
 

@@ -1,3 +1,4 @@
+pub mod LivesTold
 pub mod LifeGrounds
 pub mod Holding
 pub mod Answering
