@@ -1,5 +1,5 @@
--- A site by its conduct, through falls and rises: of what it has promised it holds the locks, and its clock has passed what
--- its records say is done.
+-- A site by its conduct, through falls and rises: of what it has promised it holds the locks, and its clock has passed
+-- what its records say is done.
 use Rattle.std.proofs.Common.{◌≡◌, ◌≤◌, ◌-◌, not, nat_le, max, if◌then◌else◌, ℕ, Bool, true, false, cond, List, [], ◌∷◌, ◌++◌, inl, inr, Option, Some, None, option_to_list, refl, sym, ap, ◌∙◌, subst, arith, append_assoc}
 use Rattle.std.proofs.lemmas.List.Sums.{fold-append}
 use Rattle.qc_account.proofs.Standing.{actor_more}

@@ -1,5 +1,5 @@
--- A promise that stands among an actor's records, and wasn't aborted since it was written and since the actor rose, is one
--- of what it has promised.
+-- A promise that stands among an actor's records, and wasn't aborted since it was written and since the actor rose, is
+-- one of what it has promised.
 use Rattle.std.proofs.Common.{◌||◌, ◌≡◌, ◌&&◌, Bool, true, false, cond, List, [], ◌∷◌, ◌++◌, inl, inr, fold, Option, Some, None, refl, sym, ap, ◌∙◌, subst, append_assoc}
 use Rattle.std.specs.List.{cons_option, filter_map, list_any}
 use Rattle.std.specs.Option.{option_map_or}

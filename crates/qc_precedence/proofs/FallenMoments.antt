@@ -1,5 +1,5 @@
--- Where a client fell as it wrote a commit record in a run with falls: it was told Unknown, and right before that is a run
--- in which the client has an open input, and the record is due.
+-- Where a client fell as it wrote a commit record in a run with falls: it was told Unknown, and right before that is a
+-- run in which the client has an open input, and the record is due.
 use Rattle.std.proofs.Common.{◌≡◌, ◌⊎◌, ◌+◌, ℕ, Bool, true, List, [], ◌∷◌, ◌++◌, inl, inr, length, Option, Some, None, refl, sym, ap, ◌∙◌, subst, append_assoc, slice_get}
 use Rattle.std.proofs.lemmas.List.{append-nil}
 use Rattle.qc_account.proofs.Standing.{actor_more, turn_is}

@@ -11,6 +11,7 @@ pub mod Since
 pub mod Reader
 pub mod Ours
 pub mod Law
+pub mod Untold
 pub mod RepliesEnd
 pub mod RecordsOperations
 pub mod WrongOnes

@@ -1,5 +1,6 @@
--- Beside a live transaction in a run with falls: the commit record of another, which stands in its client's journal, or is
--- pending there. In some run of the machine, in which the live one is the same, it stands: while it is pending it may be written.
+-- Beside a live transaction in a run with falls: the commit record of another, which stands in its client's journal, or
+-- is pending there. In some run of the machine, in which the live one is the same, it stands: while it is pending it
+-- may be written.
 use Rattle.std.proofs.Common.{◌≡◌, ◌≢◌, ◌⊎◌, ◌≤◌, ◌+◌, ◌-◌, ℕ, Bool, true, false, IsTrue, List, [], ◌∷◌, inl, inr, Some, None, slice_get, refl, sym, ap, ◌∙◌, subst, arith}
 use Rattle.qc_core.proofs.LivesLaws.{clear, journal}
 use Rattle.qc_core.specs.Conduct.{IsLawfulWithFalls}

@@ -1,5 +1,5 @@
--- A client's reply is the last step of its turn, or Unknown, and the client falls behind it: so the entries up to there are a
--- run.
+-- A client's reply is the last step of its turn, or Unknown, and the client falls behind it: so the entries up to there
+-- are a run.
 use Rattle.std.proofs.Common.{◌≡◌, ◌+◌, ◌-◌, ℕ, Bool, true, false, cond, List, [], ◌∷◌, ◌++◌, inl, inr, length, Option, Some, None, slice_get, refl, sym, ap, ◌∙◌, subst, append_assoc}
 use Rattle.std.proofs.lemmas.List.{append-nil}
 use Rattle.std.specs.Prelude.{slice_set}
@@ -14,8 +14,6 @@ use Rattle.qc_decl.specs.Actors.{is_client, is_site}
 use Rattle.qc_decl.specs.declared.declaration.Declaration.{Declaration}
 use Rattle.qc_holds.proofs.Clients.{client_at}
 use Rattle.qc_laws.proofs.Places.{slice_get-set_same}
-use Rattle.qc_list.specs.Members.{In}
-use Rattle.qc_list.proofs.Members.{In-second}
 use Rattle.qc_lives.proofs.Downs.{due}
 use Rattle.qc_msg.proofs.Growth.{by-append, deeds-append, deeds-rose}
 use Rattle.qc_msg.specs.Deeds.{Deed, Takes, deeds, mail}
@@ -24,8 +22,6 @@ use Rattle.qc_msg.specs.Steps as post
 use Rattle.qc_msg.specs.declared.record.Record.{Record}
 use Rattle.qc_msg.specs.declared.reply.Reply.{Reply}
 use Rattle.qc_msg.specs.declared.reply.Reply.TheVariants.{Unknown}
-use Rattle.qc_msg.specs.declared.step.Control.{Control}
-use Rattle.qc_msg.specs.declared.step.Control.TheVariants as controls
 use Rattle.qc_msg.specs.declared.step.Fall.{Fall}
 use Rattle.qc_msg.specs.declared.step.Fall.TheVariants as causes
 use Rattle.qc_msg.specs.declared.step.Given.{Given}
@@ -42,67 +38,11 @@ use Rattle.qc_promise.specs.Kept.{Kept}
 use Rattle.qc_reach.proofs.RunsStand.{kept_of_first}
 use Rattle.qc_recover.specs.Clients.{client_rises}
 use Rattle.qc_recover.specs.Sites.{site_rises}
-use Rattle.qc_script.specs.Ready.{controller_step, phase_of}
+use Rattle.qc_script.specs.Ready.{phase_of}
 use Rattle.qc_script.specs.RunsWithFalls.{RunsWithFalls, begins, takes, posts, phase, control, falls, rises, damaged, unopened}
 use Rattle.qc_script.specs.Sound.{IsScriptFor}
 use Rattle.qc_script.specs.declared.script.Script.{Script}
-
--- the reply of a step that told one
-abbrev reply_of : Step → Option Reply
-reply_of (steps.Phase k) = None
-reply_of (steps.Cut a b) = None
-reply_of (steps.Heal a b) = None
-reply_of (steps.Armed actor kind at) = None
-reply_of (steps.Called command) = None
-reply_of (steps.Got n) = None
-reply_of (steps.Lost n) = None
-reply_of (steps.Wrote w) = None
-reply_of (steps.Sent n to message) = None
-reply_of (steps.Told reply) = Some reply
-reply_of (steps.Fell cause pending) = None
-reply_of (steps.Rose w) = None
-reply_of (steps.Damaged offset) = None
-
-abbrev tells : ℕ → Reply → Entry
-tells a reply = marked a (steps.Told reply)
-
--- entries that tell no reply
-
-abbrev AreSilent : List Entry → Type 0
-AreSilent k = (e : Entry) → In e k → reply_of e.step ≡ None
-
-silent_none : (k : List Entry) → AreSilent k → (m : List Entry) (a : ℕ) (reply : Reply) (after : List Entry) → k ≡ m ++ tells a reply ∷ after → ⊥
-silent_none k silent m a reply after is =
-    let none : Some reply ≡ None = silent (tells a reply) (subst (In (tells a reply)) (sym is) (In-second (tells a reply) m (tells a reply ∷ after) (inl refl))) in
-    let never : ⊥ = cc in
-    never
-
-silent_one : (e : Entry) → reply_of e.step ≡ None → AreSilent (e ∷ [])
-silent_one e none x (inl same) = ap (λ (y : Entry). reply_of y.step) same ∙ none
-silent_one e none x (inr never) = absurd never
-
-silent_sents : (b n : ℕ) (ps : List Posting) → AreSilent (by b (sents n ps))
-silent_sents b n [] e among = absurd among
-silent_sents b n (p ∷ ps) e (inl same) = ap (λ (y : Entry). reply_of y.step) same
-silent_sents b n (p ∷ ps) e (inr there) = silent_sents b (n + 1) ps e there
-
-silent_written : (b n : ℕ) (w : Option Record) (ps : List Posting) → AreSilent (by b (post.wrote w ++ sents n ps))
-silent_written b n None ps e among = silent_sents b n ps e among
-silent_written b n (Some w) ps e (inl same) = ap (λ (y : Entry). reply_of y.step) same
-silent_written b n (Some w) ps e (inr there) = silent_sents b n ps e there
-
-silent_taken : (g : Given) → reply_of (step_of g) ≡ None
-silent_taken (given.Called command) = refl
-silent_taken (given.Got envelope) = refl
-silent_taken (given.Lost number) = refl
-
-silent_line : (line : Control) (step : Step) → controller_step line ≡ Some step → reply_of step ≡ None
-silent_line (controls.Phase k) step is = absurd (let never : ⊥ = cc in never)
-silent_line (controls.Cut a b) step is = ap reply_of (let same : step ≡ steps.Cut a b = cc in same)
-silent_line (controls.Heal a b) step is = ap reply_of (let same : step ≡ steps.Heal a b = cc in same)
-silent_line (controls.Armed actor kind at) step is = ap reply_of (let same : step ≡ steps.Armed actor kind at = cc in same)
-silent_line (controls.Crash a) step is = absurd (let never : ⊥ = cc in never)
-silent_line (controls.Restart a) step is = absurd (let never : ⊥ = cc in never)
+use Rattle.qc_precedence.proofs.Untold.{reply_of, tells, AreSilent, silent_none, silent_one, silent_sents, silent_written, silent_taken, silent_line}
 
 -- where a reply stands in a post: nothing comes behind it, or the fall
 

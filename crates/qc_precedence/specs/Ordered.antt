@@ -22,8 +22,8 @@ use Rattle.qc_script.specs.declared.script.Script.{Script}
 -- a committed record that was written, or was being written as its client fell; and a moment before it, between two
 -- events, at which its client had begun the transaction and had been told the operation: right behind the operation's
 -- reply, or later
-pub record IsToldBy (fits : ℕ → List Record → Type 0) (decl : Declaration) (script : Script) (h : List Entry) (c : Commit)
-    (op : Op) (t : Current) : Type 0 where
+pub record IsToldBy (fits : ℕ → List Record → Type 0) (decl : Declaration) (script : Script) (h : List Entry)
+    (c : Commit) (op : Op) (t : Current) : Type 0 where
   pub commits : In c (committed decl h)
   -- the entries until the moment, which are a run, and those between it and the record
   pub early : List Entry

@@ -1,5 +1,5 @@
--- Where the entries up to a reply are a run, in which its client has no open input: behind the reply; or behind the fall
--- that follows it, where the client was told Unknown as it fell with a record that wasn't written.
+-- Where the entries up to a reply are a run, in which its client has no open input: behind the reply; or behind the
+-- fall that follows it, where the client was told Unknown as it fell with a record that wasn't written.
 use Rattle.std.specs.Prelude.{◌≡◌, ◌⊎◌, ℕ, Bool, false, List, [], ◌∷◌, ◌++◌, Some, slice_get}
 use Rattle.qc_core.specs.Conduct.{IsLawfulWithFalls}
 use Rattle.qc_decl.specs.declared.declaration.Declaration.{Declaration}
@@ -27,8 +27,8 @@ abbrev pub unknown_fall : Fall → CommitRecord → List Step
 unknown_fall cause c = Told Unknown ∷ Fell cause (Some (Commit c)) ∷ []
 
 -- the client was told Unknown, and its fall comes right behind, with the record that it was writing
-pub record IsToldAtFall (fits : ℕ → List Record → Type 0) (decl : Declaration) (script : Script) (h : List Entry) (a : ℕ)
-    (before : List Entry) (reply : Reply) : Type 0 where
+pub record IsToldAtFall (fits : ℕ → List Record → Type 0) (decl : Declaration) (script : Script) (h : List Entry)
+    (a : ℕ) (before : List Entry) (reply : Reply) : Type 0 where
   pub unknown : reply ≡ Unknown
   pub cause : Fall
   pub commit : CommitRecord

@@ -1,4 +1,5 @@
--- The control lines that are left in a history are lines of its script: what holds of each line of the script holds of them.
+-- The control lines that are left in a history are lines of its script: what holds of each line of the script holds of
+-- them.
 use Rattle.std.proofs.Common.{◌≡◌, ℕ, ◌-◌, ◌==◌, Bool, true, false, if◌then◌else◌, List, [], ◌∷◌, Option, Some, None, refl, sym, subst}
 use Rattle.std.specs.Prelude.{drop, set, slice_get}
 use Rattle.std.specs.List.{AllByRecursion as Every, fold}

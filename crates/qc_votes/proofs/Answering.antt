@@ -1,5 +1,5 @@
--- A site that answers a Prepare for which a client waits doesn't say that it has forgotten, if what it would promise fits a
--- record: it is in another life than the request names, and says so, or it holds something.
+-- A site that answers a Prepare for which a client waits doesn't say that it has forgotten, if what it would promise
+-- fits a record: it is in another life than the request names, and says so, or it holds something.
 use Rattle.std.proofs.Common.{◌≡◌, ◌≢◌, ◌⊎◌, ◌<◌, ◌≤◌, ◌-◌, ◌==◌, nat_le, nat_lt, if◌then◌else◌, ℕ, Bool, true, false, List, [], ◌∷◌, ◌++◌, inl, inr, Option, Some, None, slice_get, refl, sym, ap, ◌∙◌, subst, arith, ltb-true, eqb-true, eq-eqb}
 use Rattle.std.specs.List.{AllByRecursion as Every}
 use Rattle.qc_core.proofs.SiteLaws.{shows}

@@ -54,7 +54,8 @@ use Rattle.qc_promise.specs.Account.{ClientRequest}
 use Rattle.qc_votes.proofs.LifeGrounds.{has_life_grounds}
 use Rattle.qc_votes.proofs.LivesTold.{HasParticipant, IsToldLife}
 
--- a machine's site holds an item on, as long as the transaction doesn't end, and the site neither rises nor closes nor installs
+-- a machine's site holds an item on, as long as the transaction doesn't end, and the site neither rises nor closes nor
+-- installs
 
 -- no verdict on the transaction is learnt
 abbrev NeverEnds : TxId → List Deed → Type 0

@@ -1,5 +1,5 @@
--- What stands behind the lives of a begun transaction, through falls: the life of each site that granted it something was
--- told by a grant, which its client took for a request that it had sent.
+-- What stands behind the lives of a begun transaction, through falls: the life of each site that granted it something
+-- was told by a grant, which its client took for a request that it had sent.
 use Rattle.std.proofs.Common.{◌≡◌, ◌+◌, ℕ, ◌==◌, ◌&&◌, Bool, true, false, cond, List, [], ◌∷◌, ◌++◌, inl, inr, Option, Some, None, refl, sym, ap, ◌∙◌, subst, arith, append_assoc}
 use Rattle.std.specs.Prelude.{fold, is_none}
 use Rattle.std.specs.List.{find}
