@@ -1,5 +1,5 @@
 -- What an open journal knows of its disk.
-use Rattle.std.specs.Prelude.{All, ◌≡◌, ◌⊎◌, ℕ, ◌+◌, ◌≤◌, ◌<◌, ◌^◌, List, ◌∷◌, ◌++◌, length, Option, IfSome, map, Vec}
+use Rattle.std.specs.Prelude.{All, ◌≡◌, ◌⊎◌, ℕ, ◌+◌, ◌*◌, ◌≤◌, ◌<◌, ◌^◌, List, ◌∷◌, ◌++◌, length, Option, IfSome, map, Vec}
 use Rattle.std.specs.declared.alloc.Global.{Global}
 use Rattle.qc_outside.specs.Images.{Stored, Told, IsImage, as_read, settled}
 use Rattle.qc_journal.specs.Grammar.{AreRecords, counted}
@@ -37,6 +37,10 @@ pub record IsReserved (capacity : ℕ) (has_room : ℕ → ℕ → Type 0) (end 
   pub frame : count + 5 ≤ capacity
   pub disk : has_room 2 (end + count + 6)
   pub bound : end + count + 6 < 2 ^ 64
+
+-- the end of so many records: each has at most 65,541 bytes, with its gate and its length
+abbrev pub EndsWithin : ℕ → ℕ → Type 0
+EndsWithin end records = end ≤ 65541 * records
 
 -- the bytes of each
 abbrev pub lists : List (Vec ℕ Global) → List (List ℕ)

@@ -15,7 +15,7 @@ ghost use Rattle.qc_journal.specs.Calls.{JournalBurns, JournalIsRefused, most_of
 ghost use Rattle.qc_journal.specs.Causes.{JournalRose};
 ghost use Rattle.qc_journal.specs.declared.fault.JournalFault.TheVariants.{Torn, OutOfMemory as JournalWants};
 ghost use Rattle.qc_journal.specs.Grammar.{IsBody, IsNoJournal, Holds, HoldsWithOrWithout};
-ghost use Rattle.qc_journal.specs.Journal.{AreShort, IsAtRest, Rests, IsReserved, IsLeftAtOpen, lists};
+ghost use Rattle.qc_journal.specs.Journal.{AreShort, EndsWithin, IsAtRest, Rests, IsReserved, IsLeftAtOpen, lists};
 
 use crate::JournalFault;
 use crate::reading::start;
@@ -34,7 +34,6 @@ pub struct Journal<D: Disk> {
     records: u64,
     /// Room for what is written behind the gate.
     frame: Vec<u8>,
-    ghost short: { end ≤ 65541 * records },
 }
 
 impl<D: Disk> Journal<D> {
@@ -45,6 +44,7 @@ impl<D: Disk> Journal<D> {
         ensures opened { IfOk result (λ r. Tells (D.told disk) (D.told r.0.disk) (λ old new.
             Holds (lists r.1.items) (as_read old.now) × IsAtRest r.0.end (lists r.1.items) new)) }
         ensures records { IfOk result (λ r. r.0.records ≡ length r.1.items) }
+        ensures ends { IfOk result (λ r. EndsWithin r.0.end r.0.records) }
         ensures bodies { IfOk result (λ r. AreShort r.1.items) }
         ensures torn { IfErr result (λ e. (offset : ℕ) → e.1 ≡ Torn offset
             → Tells (D.told disk) (D.told e.0) (λ old new. IsNoJournal offset (as_read old.now))) }
@@ -80,6 +80,7 @@ impl<D: Disk> Journal<D> {
     /// the next `append`.
     pub fn reserve(&mut self, count: u32) -> Result<(), OutOfMemory>
         requires short { count ≤ 65536 }
+        requires ends { EndsWithin self.old.end self.old.records }
         requires fewer { self.old.records < 2 ^ 32 }
         ensures room { OnOk result (IsReserved (vec_capacity self.new.frame) (D.has_room self.new.disk)
             self.new.end count) }
@@ -111,6 +112,8 @@ impl<D: Disk> Journal<D> {
             → Tells (D.told self.old.disk) (D.told self.new.disk) (λ old new.
             Since (HoldsWithOrWithout bodies body.now) old new) }
         ensures records { OnOk result (self.new.records ≡ self.old.records + 1) }
+        ensures ends { OnOk result (EndsWithin self.old.end self.old.records
+            → EndsWithin self.new.end self.new.records) }
         ensures memory { result ≢ Err JournalWants }
         ensures whole { (offset : ℕ) → result ≢ Err (Torn offset) }
         ensures cause { JournalRose (D.faults self.old.disk) (D.faults self.new.disk) result }
@@ -129,6 +132,13 @@ impl<D: Disk> Journal<D> {
         ensures { result ≡ self.now.records }
     {
         self.records
+    }
+
+    /// Where its closed gate stands.
+    pub fn end(&self) -> u64
+        ensures { result ≡ self.now.end }
+    {
+        self.end
     }
 
     /// Stops the disk and hands it back.

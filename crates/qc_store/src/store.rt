@@ -5,7 +5,7 @@ ghost use Rattle.std.specs.Prelude.{◌+◌, Option, vec_capacity};
 ghost use Rattle.qc_journal.specs.Calls.{JournalIsRefused};
 ghost use Rattle.qc_journal.specs.Causes.{JournalRose};
 ghost use Rattle.qc_journal.specs.Grammar.{Holds, IsBody, IsNoJournal};
-ghost use Rattle.qc_journal.specs.Journal.{AreShort, IsReserved, Rests, lists};
+ghost use Rattle.qc_journal.specs.Journal.{AreShort, EndsWithin, IsReserved, Rests, lists};
 ghost use Rattle.qc_journal.specs.declared.fault.JournalFault.TheVariants.{Torn};
 ghost use Rattle.qc_outside.specs.Fuses.{Fuse};
 ghost use Rattle.qc_outside.specs.Images.{Tells, Told, as_read, settled};
@@ -49,6 +49,7 @@ pub fn start<D: Disk>(
         → Tells (D.told disk) (D.told e.0) (λ old new. IsNoJournal offset (as_read old.now))) }
     ensures empty { IfOk result (λ r. (t : Told) → D.told disk ≡ Some t → t.now ≡ settled [] → r.1.items ≡ []) }
     ensures records { IfOk result (λ r. r.0.records ≡ length r.1.items) }
+    ensures ends { IfOk result (λ r. EndsWithin r.0.end r.0.records) }
     ensures bodies { IfOk result (λ r. AreShort r.1.items) }
     // Nothing is armed yet, so what fails is the disk itself.
     ensures cause { IfErr result (λ e. JournalRose {T = Unit {0}} (D.faults disk) (D.faults e.0) (Err e.1)) }
@@ -74,6 +75,7 @@ pub fn write<D: Disk>(journal: Journal<D>, body: &[u8]) -> Result<Journal<D>, (D
     ensures tells_err { IfErr result (λ e. (bodies : List (List ℕ)) → Rests (D.told journal.disk) journal.end bodies
         → StillTells (D.told journal.disk) (D.told e.0)) }
     ensures records { IfOk result (λ j. j.records ≡ journal.records + 1) }
+    ensures ends { IfOk result (λ j. EndsWithin journal.end journal.records → EndsWithin j.end j.records) }
     ensures holds { IfErr result (λ e. (bodies : List (List ℕ)) → Rests (D.told journal.disk) journal.end bodies
         → DiskHolds (D.told e.0) bodies (Some body.now)) }
     ensures fell { IfErr result (λ e. IsSettled (D.told e.0)) }
@@ -108,6 +110,7 @@ pub fn crash<D: Disk>(journal: Journal<D>) -> D
 pub fn rise<D: Disk>(alloc: Global, disk: D) -> Result<(Journal<D>, Vec<Vec<u8>>), (D, RiseFault)>
     ensures rests { IfOk result (λ r. Rests (D.told r.0.disk) r.0.end (lists r.1.items)) }
     ensures records { IfOk result (λ r. r.0.records ≡ length r.1.items) }
+    ensures ends { IfOk result (λ r. EndsWithin r.0.end r.0.records) }
     ensures bodies { IfOk result (λ r. AreShort r.1.items) }
     ensures tells { IfOk result (λ r. StillTells (D.told disk) (D.told r.0.disk)) }
     ensures tells_err { IfErr result (λ e. StillTells (D.told disk) (D.told e.0)) }

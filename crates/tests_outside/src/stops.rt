@@ -9,6 +9,9 @@
 //!    synced: the gate holds what the tear leaves of that byte, and any byte but
 //!    0 opens it.
 
+ghost use Rattle.std.specs.Prelude.{◌≡◌, ◌<◌, ◌^◌, false};
+ghost use Rattle.qc_journal.specs.Journal.{EndsWithin};
+
 use qc_journal::{Journal, JournalFault};
 use qc_outside::{ArmKind, Disk, Fused, MemDisk, Tear};
 use std::alloc::Global;
@@ -44,11 +47,19 @@ const SHAPES: [[&[u8]; 3]; 8] = [
 /// Adds a record of 1 to 65,536 bytes to a journal of at most 9,999.
 pub(crate) fn add<D: Disk>(journal: &mut Journal<D>, body: &[u8]) -> Result<(), JournalFault> {
     let count = body.len();
-    if count == 0 || count > 65_536 || journal.records() > 9999 {
+    if count == 0 || count > 65_536 || is_long(journal) {
         return Err(JournalFault::Torn { offset: 0 });
     }
     journal.reserve(count as u32)?;
     journal.append(body)
+}
+
+/// Whether a journal has more than 9,999 records, or one that is too long.
+pub(crate) fn is_long<D: Disk>(journal: &Journal<D>) -> bool
+    ensures short { result ≡ false → (journal.now.records < 2 ^ 32) × EndsWithin journal.now.end journal.now.records }
+{
+    let records = journal.records();
+    records > 9999 || journal.end() > 65_541 * records
 }
 
 /// Adds records until the disk fails, and stops it. Tells how many were

@@ -1,5 +1,6 @@
 //! Stores in memory, through falls and rises of their actors.
 
+use crate::stops::is_long;
 use qc_journal::{Journal, JournalFault};
 use qc_outside::{ArmKind, Fused, MemDisk, Tear};
 use qc_store::{RiseFault, crash, rise, start, write};
@@ -26,7 +27,7 @@ fn write_all(
 ) -> Result<(Fused<MemDisk>, usize, Option<ArmKind>), JournalFault> {
     let mut journal = journal;
     for (written, byte) in bytes.iter().enumerate() {
-        if journal.records() > 9999 {
+        if is_long(&journal) {
             return Err(JournalFault::Torn { offset: 0 });
         }
         journal.reserve(1)?;

@@ -1,0 +1,11 @@
+-- What an actor's calls ask of an input.
+use Rattle.std.specs.Prelude.{◌^◌, ◌<◌}
+use Rattle.qc_client.specs.Fits.{promise_in}
+use Rattle.qc_msg.specs.declared.step.Given.{Given}
+use Rattle.qc_msg.specs.declared.step.Given.TheVariants as given
+
+-- the clock of the promise that it may bring is far from the end of its type
+abbrev pub IsReadable : Given → Type 0
+IsReadable (given.Called command) = Unit {0}
+IsReadable (given.Got envelope) = promise_in envelope.message < 2 ^ 63
+IsReadable (given.Lost number) = Unit {0}

@@ -1,0 +1,13 @@
+pub mod Cuts
+pub mod Posts
+pub mod Prefixes
+pub mod Lines
+pub mod RunFaults
+pub mod Others
+pub mod MisfitSteps
+pub mod Kept
+pub mod Limits
+pub mod Sums
+pub mod Counted
+pub mod Falls
+pub mod BackPlaces

@@ -1,0 +1,17 @@
+pub mod Forms
+pub mod Orders
+pub mod HeldInForm
+pub mod SitesInForm
+pub mod SitesTake
+pub mod SitesRisen
+pub mod RecordsRead
+pub mod TransactionsInForm
+pub mod FrontsInForm
+pub mod FrontsTake
+pub mod DesksInForm
+pub mod ClientsInForm
+pub mod ClientsRisen
+pub mod Declared
+pub mod ActorsInForm
+pub mod HistoriesInForm
+pub mod TurnsSpelled
