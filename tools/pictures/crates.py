@@ -14,8 +14,8 @@ TESTS, PROGRAM = "tests_", "quorum"
 BANDS = {
     "base": "list stamp table cert plan entry lock link view outside pass journal decl accept",
     "theory": "onecopy protocol runs",
-    "system": "msg record fit script inbox mailbox fabric promise spent store site commit front client epoch recover core",
-    "laws": "laws lives records account due bounds trays ends net atomic reach verdicts dealings told seen sight guarantees undisturbed order holds precedence votes falls",
+    "system": "msg record fit script inbox mailbox fabric promise spent store site commit front client epoch recover core process",
+    "laws": "laws lives records account due bounds trays spelling settle ends net atomic reach verdicts dealings told seen sight guarantees undisturbed order holds precedence votes falls",
     "outside": "node report text top files quorum",
 }
 
