@@ -164,7 +164,7 @@ def bars(found):
     steps = 1 + 2 * 100_000
     yield "KB a step, of %d" % steps, found["100000 begins"][1] / steps, 1
     yield "load 500 / load 250", seconds["load 500"] / seconds["load 250"], 5
-    yield "load 500 / walk 500", seconds["load 500"] / seconds["walk 500"], 2
+    yield "load 500 / walk 500", seconds["load 500"] / seconds["walk 500"], 2.6
     for count in MESSAGES[:-1]:
         ratio = seconds["%d messages" % (2 * count)] / seconds["%d messages" % count]
         yield "%d messages / %d messages" % (2 * count, count), ratio, 2.3

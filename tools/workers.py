@@ -4,14 +4,14 @@
 usage: tools/workers.py [RUNS] [SEED] [PROGRAM]
 
 Makes RUNS scripts, 1,000 unless it is given, by Python's `random` from SEED, 1 unless it is given. Each is over a declaration
-that is built in, one of examples/types/, or a union of up to three of those for up to five clients. PROGRAM is
-crates/quorum/out/quorum unless it is given; it has to be built. It runs each script by 2, 4 or 8 workers in turn, and by one.
-The replay is written apart from the proved code. Each run has to end in 20 seconds, with status 0 and nothing on standard
-error, and in its text:
+that is built in, one of examples/types/, or a union of up to three of those for up to five clients. In half of them sites and
+clients crash and restart, and disks stop and fail. PROGRAM is crates/quorum/out/quorum unless it is given; it has to be built.
+It runs each script by 2, 4 or 8 workers in turn, and by one. The replay is written apart from the proved code. Each run has to
+end in 20 seconds, with status 0 and nothing on standard error, and in its text:
 
-- each command has its reply, in the script's order, and one that this client could get then;
+- each command has its reply, in the script's order, and one that this client could get then, up or down;
 - the stamps of the log rise, and the log has just the transactions that were told as committed, each with the stamp that its
-  client was told, and with the operations and responses of its `do`s;
+  client was told, and with the operations and responses of its `do`s, and maybe some of which the client was told `?`;
 - one copy of each object, by the declaration's rows, gives these responses in the log's order, and ends in the state printed;
 - of one client's transactions, each that committed comes behind those that committed before it began.
 
@@ -123,8 +123,8 @@ class Script:
 
     def __init__(self, chance, decl):
         self.chance, self.decl, self.lines, self.commands = chance, decl, [], []
-        self.open, self.cuts = set(), []
-        loses = chance.random() < 0.6
+        self.open, self.cuts, self.down = set(), [], []
+        loses, self.falls = chance.random() < 0.6, chance.random() < 0.5
         if loses:
             self.lines += [self.link() for _ in range(chance.randint(1, 8))]
         for _ in range(chance.randint(1, 6)):
@@ -153,6 +153,8 @@ class Script:
         with those of the others."""
         self.lines.append("phase")
         self.lines += [self.control() for _ in range(controls)]
+        for _ in range(self.chance.choice((0, 1, 1, 2, 4)) if self.falls else 0):
+            self.fall()
         actors = [client for client in range(self.decl.clients) if self.chance.random() < 0.8]
         order = [client for client in actors for _ in range(self.chance.randint(1, 12))]
         self.chance.shuffle(order)
@@ -167,6 +169,19 @@ class Script:
             return "heal %s %s" % self.cuts.pop(self.chance.randrange(len(self.cuts)))
         self.cuts.append((self.client(), self.site()))
         return "cut %s %s" % self.cuts[-1]
+
+    def fall(self):
+        """Somebody falls or rises, or a fault is armed."""
+        actor = self.chance.choice((self.site, self.client))()
+        word = self.chance.choice(("crash", "restart", "restart", "stop", "fail"))
+        if word == "restart" and self.down and self.chance.random() < 0.8:
+            actor = self.down.pop(self.chance.randrange(len(self.down)))
+        elif word != "restart":
+            self.down.append(actor)
+        at = self.chance.randint(1, 12)
+        self.lines.append("%s %s" % (word, actor) if word in ("crash", "restart") else "%s %s at %d" % (word, actor, at))
+        if actor[0] == "c":
+            self.commands.append((int(actor[1:]), [word]))
 
     def command(self, client, long):
         """A command that mostly fits what the client has open."""
@@ -184,13 +199,17 @@ class Script:
 # The replay of a text.
 
 NUMBER = r"(0|[1-9]\d*)"
-TRANSACTION = r"%s\.1\.%s" % (NUMBER, NUMBER)
+TRANSACTION = r"%s\.[1-9]\d*\.%s" % (NUMBER, NUMBER)
 STAMP = r"%s\.%s" % (NUMBER, NUMBER)
 COMMIT = re.compile(r"(%s) (%s)( .+)?" % (STAMP, TRANSACTION))
 CONFLICT = re.compile(r"! conflict (%s) s%s" % (TRANSACTION, NUMBER))
 QUORUM = re.compile(r"! quorum (read|append) %s of %s" % (NUMBER, NUMBER))
 NO_ANSWER = re.compile(r"! no answer s%s" % NUMBER)
-SITE = re.compile(r"s%s life 1 epoch 1 lines %s held %s" % (NUMBER, NUMBER, NUMBER))
+RESTARTED = re.compile(r"! restarted s%s %s %s" % (NUMBER, NUMBER, NUMBER))
+FAULT = re.compile(r"! fault s%s" % NUMBER)
+SITE = re.compile(r"s%s (down|life [1-9]\d* epoch 1 lines %s held %s)" % (NUMBER, NUMBER, NUMBER))
+# Lines of a script that a client has no reply to.
+CONTROLS = "crash", "restart", "stop", "fail"
 
 
 def want(holds, what):
@@ -203,8 +222,22 @@ class Client:
 
     def __init__(self, number, decl, counts):
         self.number, self.decl, self.counts = number, decl, counts
-        self.count, self.commits, self.holders = 0, [], []
+        self.count, self.commits, self.holders = collections.Counter(), [], []
+        # Which transactions it has begun, and of which it was told that it doesn't know; its life, by what it was told and at
+        # most; whether it is up, None where a disk may have failed as it rose; and whether a fault was armed for its disk.
+        self.begun, self.doubts, self.life, self.most, self.up, self.armed = set(), [], 1, 1, True, False
         self.end()
+
+    def controlled(self, word):
+        """A control line: it falls, rises, or a fault is armed for its disk."""
+        if word in ("stop", "fail"):
+            self.armed = True
+        elif word == "crash":
+            self.up = False
+            self.end()
+        elif self.up is not True:
+            self.up = None if self.armed else True
+            self.most += 1
 
     def end(self):
         """No transaction is begun. `doomed` is None where a refusal doesn't tell whether it doomed."""
@@ -212,7 +245,11 @@ class Client:
 
     def takes(self, words, result):
         """A command and what it was told. The first that isn't right ends the replay."""
-        if words[0] == "begin":
+        want(self.up is None or self.up == (result != "! down"), "whether it is up was known")
+        self.up = result != "! down"
+        if not self.up:
+            self.counts["told down"] += 1
+        elif words[0] == "begin":
             self.begins(result)
         elif self.open is None:
             want(result == "! no transaction", "no transaction is begun")
@@ -231,9 +268,16 @@ class Client:
             want(result == "! already " + self.open, "a transaction is begun")
             self.counts["begun twice"] += 1
             return
-        self.count += 1
-        self.open = "%d.1.%d" % (self.number, self.count)
-        want(result == self.open, "the next transaction is " + self.open)
+        parts = re.fullmatch(r"%d\.([1-9]\d*)\.([1-9]\d*)" % self.number, result)
+        want(parts, "a transaction's name")
+        self.count[int(parts[1])] += 1
+        want(int(parts[2]) == self.count[int(parts[1])], "the next transaction has number %d" % self.count[int(parts[1])])
+        # Where a fault was armed, it may have been up as it was restarted, or have risen in vain.
+        want(self.life <= int(parts[1]) <= self.most, "its life is %d to %d" % (self.life, self.most))
+        want(self.armed or int(parts[1]) == self.most, "its life is %d" % self.most)
+        self.life, self.open = int(parts[1]), result
+        want(self.open not in self.begun, "a name that is used up")
+        self.begun.add(self.open)
         self.counts["transactions"] += 1
 
     def is_told_doom(self, result):
@@ -254,7 +298,7 @@ class Client:
         elif clash:
             want(clash[1] != self.open, "a conflict with itself")
             want(int(clash[2]) < self.decl.clients and int(clash[4]) < self.decl.sites, "a conflict with whom, or where")
-            self.holders.append((int(clash[2]), int(clash[3])))
+            self.holders.append((int(clash[2]), clash[1]))
             self.doomed = None
             self.counts["in conflict"] += 1
         elif quorum:
@@ -274,6 +318,13 @@ class Client:
             self.counts["given up as doomed"] += 1
         elif NO_ANSWER.fullmatch(result):
             self.counts["lost for want of a vote"] += 1
+        elif RESTARTED.fullmatch(result) or FAULT.fullmatch(result):
+            self.counts["lost for a fall"] += 1
+        elif result == "?":
+            want(self.armed, "its disk fails by itself")
+            self.doubts.append((self.open, self.operations))
+            self.up = False
+            self.counts["in doubt"] += 1
         else:
             stamp = stamp_of(result)
             want(stamp[1] == self.number, "another client's stamp")
@@ -305,10 +356,16 @@ def sections(text):
 
 
 def replay_replies(decl, commands, lines, counts):
-    """The transactions that were told as committed, by stamp: each with its operations."""
-    want(len(lines) == len(commands), "%d replies to %d commands" % (len(lines), len(commands)))
+    """The transactions that were told as committed, by stamp, and those in doubt: each with its operations."""
+    asked = [words for number, words in commands if words[0] not in CONTROLS]
+    want(len(lines) == len(asked), "%d replies to %d commands" % (len(lines), len(asked)))
     clients = [Client(number, decl, counts) for number in range(decl.clients)]
-    for (number, words), line in zip(commands, lines):
+    left = iter(lines)
+    for number, words in commands:
+        if words[0] in CONTROLS:
+            clients[number].controlled(words[0])
+            continue
+        line = next(left)
         head = "c%d %s " % (number, " ".join(words[words[0] == "do" :]))
         want(line.startswith(head), "%s, where the command is %s" % (line, head))
         try:
@@ -316,20 +373,21 @@ def replay_replies(decl, commands, lines, counts):
         except Wrong as wrong:
             raise Wrong("%s: %s" % (line, wrong)) from wrong
     for client in clients:
-        want(all(number <= clients[holder].count for holder, number in client.holders), "a conflict with what wasn't begun")
+        want(all(name in clients[holder].begun for holder, name in client.holders), "a conflict with what wasn't begun")
         counts["left open"] += client.open is not None
-    return sorted(commit for client in clients for commit in client.commits)
+    return sorted(commit for client in clients for commit in client.commits), [it for client in clients for it in client.doubts]
 
 
-def replay_log(decl, commits, lines):
-    """The state of each object behind all transactions of the log, which are to be these."""
+def replay_log(decl, commits, doubts, lines):
+    """The state of each object behind all transactions of the log, which are to be these, and maybe some in doubt."""
     log, states = [], {thing: table["start"] for thing, table in decl.types.items()}
     for line in lines:
         parts = COMMIT.fullmatch(line)
         want(parts, "no line of a log: " + line)
         log.append((stamp_of(parts[1]), parts[4], parts[7][1:].split(", ") if parts[7] else []))
     want(all(log[k][0] < log[k + 1][0] for k in range(len(log) - 1)), "the log's stamps don't rise")
-    want(log == commits, "not both in the log and told: %s" % [it for it in log + commits if (it in log) != (it in commits)])
+    sure = [it for it in log if it[1:] not in doubts]
+    want(sure == commits, "not both in the log and told: %s" % [it for it in sure + commits if (it in sure) != (it in commits)])
     for stamp, name, operations in log:
         for operation in operations:
             thing, inv, resp = operation.split(" ")
@@ -344,8 +402,8 @@ def replay_log(decl, commits, lines):
 def replay(decl, commands, text, counts):
     """Raises what isn't right in a text, and counts what there is."""
     replies, log, states, sites = sections(text)
-    commits = replay_replies(decl, commands, replies, counts)
-    last = ["%s %s" % pair for pair in replay_log(decl, commits, log).items()]
+    commits, doubts = replay_replies(decl, commands, replies, counts)
+    last = ["%s %s" % pair for pair in replay_log(decl, commits, doubts, log).items()]
     want(states == last, "the states aren't those of the replay: %s" % last)
     found = [SITE.fullmatch(line) for line in sites]
     want(all(found) and [int(it[1]) for it in found] == [*range(decl.sites)], "the sites")
@@ -418,7 +476,7 @@ def main():
     print("runs=%d seed=%d failures=%d; texts unlike one worker's %d" % (runs, seed, failures, unlike))
     print(amounts("transactions", "committed", "given up", "given up as doomed", "lost for want of a vote", "left open"))
     print(amounts("operations", "with a response", "absent", "in conflict", "without a quorum", "doomed", "too long"))
-    print(amounts("commands without a transaction", "begun twice"))
+    print(amounts("commands without a transaction", "begun twice", "told down", "in doubt", "lost for a fall"))
     return 1 if failures or not runs else 0
 
 

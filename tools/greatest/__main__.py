@@ -17,6 +17,8 @@ copy of each object gives the responses. Numbers and texts were compared with th
   steps, operations, lines
               end one below the limit of that name. `NAME_past` has a little more, and comes to just the limit;
               `NAME_meet` comes to it by three clients at once
+  restarts    2,048 restarts of one site, which read all its records each time: below the limit of lines. `restarts_past`
+              has one more, and passes it; `restarts_meet` passes it by two sites
 """
 
 import os
@@ -25,7 +27,7 @@ import sys
 sys.dont_write_bytecode = True
 
 from declaration import declaration  # noqa: E402 (no bytecode is written)
-from limits import LIMITS, MEETING  # noqa: E402
+from limits import KINDS, LIMITS, MEETING, MOST  # noqa: E402
 from runs import RUNS  # noqa: E402
 
 
@@ -46,15 +48,16 @@ def main(words):
         write(folder, name + ".expected", text)
         runs += "%s %s\n" % (name, decl)
     for name, make in LIMITS.items():
-        script, text, past, number = make()
+        script, text, past, told = make()
+        kind = KINDS.get(name, name)
         write(folder, name + ".script", script)
         write(folder, name + ".expected", text)
         write(folder, name + "_past.script", past)
         runs += "%s @one\n" % name
-        limits += "%s_past @one %s %d %d\n" % (name, name, number, number)
+        limits += "%s_past @one %s %d %d\n" % (name, kind, MOST[kind], told)
         script, told = MEETING[name]
         write(folder, name + "_meet.script", script)
-        limits += "%s_meet @three %s %d %d\n" % (name, name, number, told)
+        limits += "%s_meet @three %s %d %d\n" % (name, kind, MOST[kind], told)
     write(folder, "runs", runs)
     write(folder, "limits", limits)
     return 0

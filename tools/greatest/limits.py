@@ -1,6 +1,9 @@
-"""Runs that come to a limit: of one client, one below it and just to it, and of three clients at once."""
+"""Runs that come to a limit: of one client, one below it and just to it, and of three clients at once; of restarts."""
 
 from texts import OPERATIONS, printed
+
+
+MOST = {"steps": 262144, "operations": 1024, "lines": 8388608}
 
 
 class Story:
@@ -64,16 +67,30 @@ def lines():
     return below.script(), below.told(1, 1023), past.script(), 8388608
 
 
+def restart(count, sites):
+    """So many restarts of each of these sites, in turn."""
+    return "phase\n" + "".join("crash s%d\nrestart s%d\n" % (site, site) for site in range(sites)) * count
+
+
+def restarts():
+    """A site rises with a record of each former rise, which counts four lines: 2,048 restarts come to 8,384,512 lines."""
+    return restart(2048, 1), printed([], [], ["x 0"], [(0, 0)], life=2049), restart(2049, 1), 8392704
+
+
 def side_by_side(count, operations, invocation, end):
     """So many transactions of each client."""
     commands = ["begin", *["do x " + invocation] * operations, end]
     return "phase\n" + "".join("c%d %s\n" % (client, line) for client in range(3) for line in commands) * count
 
 
-LIMITS = {"steps": steps, "operations": operations, "lines": lines}
+LIMITS = {"steps": steps, "operations": operations, "lines": lines, "restarts": restarts}
+
+# What is told of those whose limit has another name.
+KINDS = {"restarts": "lines"}
 
 MEETING = {
     "steps": (side_by_side(600, 16, "R", "abort"), 262144),
     "operations": (side_by_side(24, 15, "W1", "commit"), 1035),
     "lines": (side_by_side(21, 16, "W1", "commit") + side_by_side(140, 16, "R", "abort"), 8389248),
+    "restarts": (restart(1449, 2), 8392608),
 }

@@ -17,8 +17,8 @@ def filled(text, size):
     return text + "#" * (size - len(text) - 1) + "\n"
 
 
-def printed(replies, log, states, sites):
+def printed(replies, log, states, sites, life=1):
     """The text of a run: its replies, its log, each object's state, each site's lines and how many it holds."""
     lines = ["replies", *replies, "log", *log, "states", *states, "sites"]
-    lines += ["s%d life 1 epoch 1 lines %d held %d" % (number, *site) for number, site in enumerate(sites)]
+    lines += ["s%d life %d epoch 1 lines %d held %d" % (number, life, *site) for number, site in enumerate(sites)]
     return "\n".join(lines) + "\n"

@@ -13,9 +13,9 @@ TESTS, PROGRAM = "tests_", "quorum"
 # from the bottom up; a crate stands on none of a later band
 BANDS = {
     "base": "list stamp table cert plan entry lock link view outside pass journal decl accept",
-    "theory": "onecopy protocol runs",
-    "system": "msg record fit script inbox mailbox fabric promise spent store site commit front client epoch recover core process",
-    "laws": "laws lives records account due bounds trays spelling settle ends net atomic reach verdicts dealings told seen sight guarantees undisturbed order holds precedence votes falls",
+    "theory": "onecopy protocol runs bases",
+    "system": "msg record fit script inbox mailbox fabric promise spent store site commit front client epoch recover admin core process",
+    "laws": "laws due bounds net atomic reach guarantees votes falls",
     "outside": "node report text top files quorum",
 }
 

@@ -44,9 +44,9 @@ use Rattle.qc_laws.specs.Calls.{is_waiting}
 use Rattle.qc_laws.proofs.Waiting.{round_none, votes_none}
 use Rattle.qc_promise.specs.Account.{new_account}
 use Rattle.qc_promise.specs.Accounting.{account, account_at}
-use Rattle.qc_account.specs.Ties.{Ties}
-use Rattle.qc_account.proofs.Courses.{clients_tied}
-use Rattle.qc_account.proofs.Declared.{asks_declared}
+use Rattle.qc_due.specs.Ties.{Ties}
+use Rattle.qc_due.proofs.Courses.{clients_tied}
+use Rattle.qc_due.proofs.AccountDeclared.{asks_declared}
 use Rattle.qc_net.specs.Net.{MayCommand, after_client, after_site, commits_in, first_net, sent_all}
 use Rattle.qc_net.proofs.Machine.{put_one}
 use Rattle.qc_atomic.proofs.Asked.{ready_named}

@@ -24,7 +24,7 @@ use Rattle.qc_promise.specs.Account.{Account, new_account}
 use Rattle.qc_promise.specs.Accounting.{account, account_at, account_taken}
 use Rattle.qc_laws.proofs.Places.{slice_get-more, slice_get-set_other, slice_get-set_same}
 use Rattle.qc_laws.proofs.SiteReplies.{IsMailProper, IsProperFrom}
-use Rattle.qc_account.specs.Ties.{Ties}
+use Rattle.qc_due.specs.Ties.{Ties}
 use Rattle.qc_net.specs.Net.{MayCome, MayCommand, Net}
 use Rattle.qc_atomic.proofs.Calm.{IsCalm}
 

@@ -27,10 +27,10 @@ use Rattle.qc_msg.specs.Deeds.{Deed, Takes, Writes, Sends, Tells, Falls, Rises, 
 use Rattle.qc_msg.specs.Turns.{quiet}
 use Rattle.qc_site.specs.Conduct.{site_takes}
 use Rattle.qc_site.specs.Site.{new_site}
-use Rattle.qc_records.specs.Within.{ClientMoveWithin, GivenWithin, SiteMoveWithin}
-use Rattle.qc_records.proofs.ClientsWithin.{all_posts-within, client-le, client_takes_within}
-use Rattle.qc_records.proofs.Greater.{lines-le, sends-le}
-use Rattle.qc_records.proofs.SitesWithin.{site-le, site_takes_within}
+use Rattle.qc_laws.specs.Within.{ClientMoveWithin, GivenWithin, SiteMoveWithin}
+use Rattle.qc_laws.proofs.ClientsWithin.{all_posts-within, client-le, client_takes_within}
+use Rattle.qc_laws.proofs.Greater.{lines-le, sends-le}
+use Rattle.qc_laws.proofs.SitesWithin.{site-le, site_takes_within}
 use Rattle.qc_bounds.specs.Within.{AreWithin, MoveWithin, RecordWithin, StateWithin, TurnWithin}
 use Rattle.qc_bounds.proofs.ClientWrites.{client_writes_within}
 use Rattle.qc_bounds.proofs.SiteWrites.{WritesWithin, site_writes_within}

@@ -31,8 +31,8 @@ use Rattle.qc_front.specs.Conduct as fronts
 use Rattle.qc_front.specs.Fits as rounds
 use Rattle.qc_front.proofs.Fitting.{fits as front_fits}
 use Rattle.qc_link.specs.Limits.{most_actors}
-use Rattle.qc_lives.specs.LivesIn.{LivesIn}
-use Rattle.qc_lives.proofs.Lived.{run_lives}
+use Rattle.qc_laws.specs.LivesIn.{LivesIn}
+use Rattle.qc_laws.proofs.Lived.{run_lives}
 use Rattle.qc_msg.specs.declared.message.Envelope.{Envelope}
 use Rattle.qc_msg.specs.declared.message.Message.{Message}
 use Rattle.qc_msg.specs.declared.message.Message.TheVariants as messages
@@ -43,8 +43,8 @@ use Rattle.qc_msg.specs.declared.turn.Turn.{Turn}
 use Rattle.qc_msg.specs.Deeds.{Deed, deeds, mail}
 use Rattle.qc_msg.specs.Steps.{Entry}
 use Rattle.qc_msg.proofs.Growth.{length-mail}
-use Rattle.qc_records.specs.Within.{MessageWithin}
-use Rattle.qc_records.proofs.DesksWithin.{promised-within}
+use Rattle.qc_laws.specs.Within.{MessageWithin}
+use Rattle.qc_laws.proofs.DesksWithin.{promised-within}
 use Rattle.qc_script.specs.RunsWithFalls.{RunsWithFalls}
 use Rattle.qc_script.specs.declared.script.Script.{Script}
 use Rattle.qc_bounds.specs.Bounds.{CountsWithin, IsBoundedWithFalls}

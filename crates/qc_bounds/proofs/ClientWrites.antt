@@ -29,7 +29,7 @@ use Rattle.qc_msg.specs.declared.step.Given.{Given}
 use Rattle.qc_msg.specs.declared.step.Given.TheVariants as given
 use Rattle.qc_msg.specs.declared.turn.Turn.{Turn}
 use Rattle.qc_stamp.specs.declared.stamp.TxId.{TxId}
-use Rattle.qc_records.specs.Within.{ClientWithin, SendsWithin}
+use Rattle.qc_laws.specs.Within.{ClientWithin, SendsWithin}
 use Rattle.qc_bounds.specs.Within.{AreWithin}
 use Rattle.qc_bounds.proofs.SiteWrites.{WritesWithin}
 

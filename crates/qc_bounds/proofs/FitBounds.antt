@@ -13,7 +13,7 @@ use Rattle.qc_fit.proofs.Words.{as_said}
 use Rattle.qc_msg.specs.declared.record.Record.{Record}
 use Rattle.qc_msg.specs.declared.record.Record.TheVariants as records
 use Rattle.qc_msg.specs.Steps.{Entry}
-use Rattle.qc_records.specs.Within.{LinesWithin}
+use Rattle.qc_laws.specs.Within.{LinesWithin}
 use Rattle.qc_bounds.specs.Bounds.{RiseWithFew}
 use Rattle.qc_bounds.specs.Calls.{IsOfClient}
 use Rattle.qc_bounds.specs.Fitting.{AllFit, AllRiseFit}

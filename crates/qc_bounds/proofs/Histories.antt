@@ -13,7 +13,7 @@ use Rattle.qc_inbox.proofs.FallMail.{ready_sent}
 use Rattle.qc_inbox.proofs.Keeping.{same_mail}
 use Rattle.qc_laws.proofs.Acted.{deeds-silent}
 use Rattle.qc_laws.proofs.Numbered.{IsSilent, mail-silent, phase_silent}
-use Rattle.qc_lives.proofs.Lived.{deeds-fall, deeds-rise, line_silent}
+use Rattle.qc_laws.proofs.Lived.{deeds-fall, deeds-rise, line_silent}
 use Rattle.qc_msg.specs.declared.message.Envelope.{Envelope}
 use Rattle.qc_msg.specs.declared.record.Record.{Record}
 use Rattle.qc_msg.specs.declared.step.Fall.{Fall}
@@ -33,9 +33,9 @@ use Rattle.qc_script.specs.Ready.{phase_of}
 use Rattle.qc_script.specs.RunsWithFalls.{RunsWithFalls, begins, takes, posts, phase, control, falls, rises, damaged}
 use Rattle.qc_script.specs.RunsWithFalls.{unopened}
 use Rattle.qc_script.specs.declared.script.Script.{Script}
-use Rattle.qc_records.specs.Within.{MailWithin, MessageWithin, SendsWithin}
-use Rattle.qc_records.proofs.Bounding.{given-within}
-use Rattle.qc_records.proofs.Greater.{mail_le}
+use Rattle.qc_laws.specs.Within.{MailWithin, MessageWithin, SendsWithin}
+use Rattle.qc_laws.proofs.Bounding.{given-within}
+use Rattle.qc_laws.proofs.Greater.{mail_le}
 use Rattle.qc_bounds.specs.Records.{AllRisen, records_at}
 use Rattle.qc_bounds.specs.Within.{AreWithin, MoveWithin, PutWithin, RecordWithin, RiseWithin, TurnWithin}
 use Rattle.qc_bounds.proofs.ActorsWithin.{deeds_post, down_within, move_le, new_within, posts_within, records_le}

@@ -15,7 +15,7 @@ use Rattle.qc_inbox.proofs.FallMail.{ready_sent}
 use Rattle.qc_inbox.proofs.Keeping.{same_mail}
 use Rattle.qc_laws.proofs.Acted.{deeds-silent}
 use Rattle.qc_laws.proofs.Numbered.{IsSilent, mail-silent, phase_silent}
-use Rattle.qc_lives.proofs.Lived.{deeds-fall, deeds-rise, line_silent}
+use Rattle.qc_laws.proofs.Lived.{deeds-fall, deeds-rise, line_silent}
 use Rattle.qc_msg.specs.declared.message.Envelope.{Envelope}
 use Rattle.qc_msg.specs.declared.record.Record.{Record}
 use Rattle.qc_msg.specs.declared.step.Fall.{Fall}

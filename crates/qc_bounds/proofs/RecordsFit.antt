@@ -23,7 +23,7 @@ use Rattle.qc_msg.specs.declared.turn.Turn.{Turn}
 use Rattle.qc_msg.specs.Deeds.{deeds, own}
 use Rattle.qc_msg.specs.Steps.{Entry}
 use Rattle.qc_promise.specs.Kept.{Journal, Kept, journal_of}
-use Rattle.qc_records.specs.Within.{LinesWithin}
+use Rattle.qc_laws.specs.Within.{LinesWithin}
 use Rattle.qc_script.specs.RunsWithFalls.{RunsWithFalls}
 use Rattle.qc_script.specs.Sound.{IsScriptFor}
 use Rattle.qc_script.specs.declared.script.Script.{Script}

@@ -22,7 +22,7 @@ use Rattle.qc_site.specs.Promise.{lines_of, prepared_of, stamped, with_stamped}
 use Rattle.qc_stamp.specs.Order.{same_tx}
 use Rattle.qc_stamp.specs.declared.stamp.Stamp.{Stamp}
 use Rattle.qc_stamp.specs.declared.stamp.TxId.{TxId}
-use Rattle.qc_records.specs.Within.{LinesWithin, SendsWithin}
+use Rattle.qc_laws.specs.Within.{LinesWithin, SendsWithin}
 use Rattle.qc_bounds.specs.Within.{AreWithin, MoveWithin, RecordWithin}
 
 module _ (bound : ℕ) where

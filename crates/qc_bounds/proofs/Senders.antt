@@ -12,7 +12,7 @@ use Rattle.qc_decl.specs.declared.declaration.Declaration.{Declaration}
 use Rattle.qc_inbox.proofs.Keeping.{same_mail}
 use Rattle.qc_laws.proofs.Numbered.{mail-silent}
 use Rattle.qc_link.specs.Limits.{most_actors}
-use Rattle.qc_lives.proofs.Lived.{line_silent}
+use Rattle.qc_laws.proofs.Lived.{line_silent}
 use Rattle.qc_msg.specs.declared.message.Envelope.{Envelope}
 use Rattle.qc_msg.specs.declared.record.Record.{Record}
 use Rattle.qc_msg.specs.declared.step.Fall.TheVariants as causes
@@ -23,7 +23,7 @@ use Rattle.qc_msg.specs.declared.turn.Turn.{Turn}
 use Rattle.qc_msg.specs.Deeds.{Deed, deed_at, deeds, envelope_of, envelopes, heard, mail}
 use Rattle.qc_msg.specs.Steps.{Entry, by, marked, posted_as, sends_as}
 use Rattle.qc_msg.proofs.Growth.{mail-append, mail-posted_as, mail-taken}
-use Rattle.qc_records.proofs.InRuns.{client_low}
+use Rattle.qc_laws.proofs.InRuns.{client_low}
 use Rattle.qc_script.specs.Ready.{phase_of}
 use Rattle.qc_script.specs.RunsWithFalls.{RunsWithFalls, begins, takes, posts, phase, control, falls, rises, damaged}
 use Rattle.qc_script.specs.RunsWithFalls.{unopened}

@@ -20,7 +20,7 @@ use Rattle.qc_site.specs.Requests.{grants}
 use Rattle.qc_site.specs.Site.{SiteMove, SiteState}
 use Rattle.qc_site.proofs.Cases.{append_cases, join_cases, prepare_cases, read_cases, request_cases}
 use Rattle.qc_stamp.specs.declared.stamp.TxId.{TxId}
-use Rattle.qc_records.specs.Within.{GivenWithin, LinesWithin, MessageWithin, OutcomeWithin, SendsWithin, SiteWithin}
+use Rattle.qc_laws.specs.Within.{GivenWithin, LinesWithin, MessageWithin, OutcomeWithin, SendsWithin, SiteWithin}
 use Rattle.qc_bounds.specs.Within.{AreWithin}
 
 pub record WritesWithin (bound : ℕ) (turn : Turn) : Type 0 where

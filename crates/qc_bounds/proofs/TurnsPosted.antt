@@ -2,7 +2,7 @@
 use Rattle.std.proofs.Common.{◌≡◌, ℕ, ◌+◌, Bool, false, List, [], ◌∷◌, ◌++◌, fold, Option}
 use Rattle.std.proofs.Common.{Some, None, refl, ap, ◌∙◌}
 use Rattle.std.proofs.lemmas.List.Sums.{fold-append}
-use Rattle.qc_account.proofs.Standing.{steady_client}
+use Rattle.qc_due.proofs.Standing.{steady_client}
 use Rattle.qc_client.specs.Client.{ClientMove}
 use Rattle.qc_core.specs.declared.actor.Actor.TheVariants as actors
 use Rattle.qc_core.specs.Actors.{ActorMove, actor_does, by_client}

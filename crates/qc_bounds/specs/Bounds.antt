@@ -7,7 +7,7 @@ use Rattle.qc_core.specs.Actors.{actor_after}
 use Rattle.qc_decl.specs.declared.declaration.Declaration.{Declaration}
 use Rattle.qc_msg.specs.Deeds.{deeds, mail}
 use Rattle.qc_msg.specs.Steps.{Entry}
-use Rattle.qc_records.specs.Within.{MailWithin}
+use Rattle.qc_laws.specs.Within.{MailWithin}
 use Rattle.qc_bounds.specs.Records.{risen_at}
 use Rattle.qc_bounds.specs.Within.{MoveWithin, PutWithin}
 

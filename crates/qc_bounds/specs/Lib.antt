@@ -3,3 +3,9 @@ pub mod Within
 pub mod Bounds
 pub mod Fitting
 pub mod Calls
+pub mod Faults
+pub mod Misfits
+pub mod Limits
+pub mod Visits
+pub mod Falls
+pub mod Places

@@ -8,7 +8,7 @@ use Rattle.qc_msg.specs.declared.record.Record.{Record}
 use Rattle.qc_msg.specs.declared.record.Record.TheVariants as records
 use Rattle.qc_msg.specs.declared.turn.Turn.{Turn}
 use Rattle.qc_msg.specs.Steps.{Entry}
-use Rattle.qc_records.specs.Within.{ClientWithin, LinesWithin, SendsWithin, SiteWithin}
+use Rattle.qc_laws.specs.Within.{ClientWithin, LinesWithin, SendsWithin, SiteWithin}
 use Rattle.qc_bounds.specs.Records.{AllPut, AllRisen}
 
 -- the clocks that a record tells

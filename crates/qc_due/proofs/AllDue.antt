@@ -6,9 +6,9 @@ use Rattle.qc_decl.specs.Actors.{actors}
 use Rattle.qc_decl.specs.declared.declaration.Declaration.{Declaration}
 use Rattle.qc_laws.specs.Asked.{AsksDeclared}
 use Rattle.qc_link.specs.Limits.{most_actors}
-use Rattle.qc_lives.specs.OwnRises.{RiseWithOwn}
-use Rattle.qc_lives.proofs.ByMail.{run_by_turns, run_mailed}
-use Rattle.qc_lives.proofs.FallServed.{run_due}
+use Rattle.qc_laws.specs.OwnRises.{RiseWithOwn}
+use Rattle.qc_laws.proofs.ByMailWithFalls.{run_by_turns, run_mailed}
+use Rattle.qc_laws.proofs.FallServed.{run_due}
 use Rattle.qc_msg.specs.declared.record.Record.{Record}
 use Rattle.qc_msg.specs.Steps.{Entry}
 use Rattle.qc_promise.specs.Due.{Due}

@@ -5,16 +5,16 @@ use Rattle.qc_decl.specs.Actors.{actors, client_actor, is_client}
 use Rattle.qc_decl.specs.declared.declaration.Declaration.{Declaration}
 use Rattle.qc_laws.proofs.Places.{slice_get-within}
 use Rattle.qc_link.specs.Limits.{most_actors}
-use Rattle.qc_lives.specs.LivesIn.{LivesIn}
-use Rattle.qc_lives.proofs.Lived.{run_lives, run_long}
+use Rattle.qc_laws.specs.LivesIn.{LivesIn}
+use Rattle.qc_laws.proofs.Lived.{run_lives, run_long}
 use Rattle.qc_msg.specs.declared.record.Record.{Record}
 use Rattle.qc_msg.specs.Deeds.{deeds}
 use Rattle.qc_msg.specs.Steps.{Entry}
 use Rattle.qc_promise.specs.Replies.{AreRepliesDue}
 use Rattle.qc_script.specs.RunsWithFalls.{RunsWithFalls}
 use Rattle.qc_script.specs.declared.script.Script.{Script}
-use Rattle.qc_account.specs.Declares.{Declares}
-use Rattle.qc_account.proofs.Lifelong.{lives_due}
+use Rattle.qc_due.specs.Declares.{Declares}
+use Rattle.qc_due.proofs.Lifelong.{lives_due}
 
 module _ (decl : Declaration) (script : Script) (fits : ℕ → List Record → Type 0) (few : actors decl ≤ most_actors) (h : List Entry) (open_inputs : List Bool)
     (run : RunsWithFalls (IsLawfulWithFalls decl) fits decl script h open_inputs) where

@@ -12,8 +12,8 @@ use Rattle.qc_msg.specs.Steps.{Entry}
 use Rattle.qc_promise.specs.Replies.{AreRepliesDue}
 use Rattle.qc_script.specs.RunsWithFalls.{RunsWithFalls}
 use Rattle.qc_script.specs.declared.script.Script.{Script}
-use Rattle.qc_account.specs.Declares.{Declares}
-use Rattle.qc_account.proofs.Declaring.{all_declared, deeds_first, first_planned}
+use Rattle.qc_due.specs.Declares.{Declares}
+use Rattle.qc_due.proofs.Declaring.{all_declared, deeds_first, first_planned}
 use Rattle.qc_due.specs.Risen.{AllRiseInFirst}
 use Rattle.qc_due.proofs.Clients.{clients_due}
 use Rattle.qc_due.proofs.Commanded.{run_askable}

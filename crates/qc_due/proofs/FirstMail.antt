@@ -38,8 +38,8 @@ use Rattle.qc_script.specs.Ready.{controller_step, phase_of}
 use Rattle.qc_script.specs.RunsWithFalls.{RunsWithFalls, begins, takes, posts, phase, control, falls, rises, damaged, unopened}
 use Rattle.qc_script.specs.declared.script.Script.{Script}
 use Rattle.qc_site.specs.Site.{new_site}
-use Rattle.qc_account.proofs.Epochs.{IsMailFirst, TellFirst, TellsFirst, client_takes_first, envelopes_first}
-use Rattle.qc_account.proofs.Writing.{IsClientTurn, takes_turn}
+use Rattle.qc_due.proofs.Epochs.{IsMailFirst, TellFirst, TellsFirst, client_takes_first, envelopes_first}
+use Rattle.qc_due.proofs.Writing.{IsClientTurn, takes_turn}
 use Rattle.qc_due.specs.Risen.{AllRiseInFirst, IsOfFirst, RisesInFirst}
 use Rattle.qc_due.proofs.SiteAnswers.{IsInFirst, TurnFirst, rises_first, rising_first, stays_first, takes_first}
 

@@ -10,7 +10,7 @@ use Rattle.qc_decl.specs.declared.declaration.Declaration.{Declaration}
 use Rattle.qc_laws.specs.Asked.{AsksDeclared}
 use Rattle.qc_laws.proofs.Mailed.{both_all}
 use Rattle.qc_link.specs.Limits.{most_actors}
-use Rattle.qc_lives.proofs.FallKept.{kept_rises}
+use Rattle.qc_laws.proofs.FallKept.{kept_rises}
 use Rattle.qc_msg.specs.declared.record.Record.{Record}
 use Rattle.qc_msg.specs.declared.reply.Reply.{Reply}
 use Rattle.qc_msg.specs.declared.step.Control.{Control}

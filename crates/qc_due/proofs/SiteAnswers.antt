@@ -37,7 +37,7 @@ use Rattle.qc_site.specs.Promise.{finishes, is_prepared, joins, prepare_length, 
 use Rattle.qc_site.specs.Requests.{appends_by, closed_fault, fault_of, grants, names_declared, reads_by, relation_at, requested}
 use Rattle.qc_site.specs.Site.{SiteMove, SiteState, moved}
 use Rattle.qc_site.proofs.Rows.{closing_stays, epoch_stays}
-use Rattle.qc_account.proofs.Epochs.{AreFirst, TellFirst}
+use Rattle.qc_due.proofs.Epochs.{AreFirst, TellFirst}
 use Rattle.qc_due.specs.Risen.{IsOfFirst}
 
 pub record TurnFirst (t : Turn) : Type 0 where

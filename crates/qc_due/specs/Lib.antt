@@ -1,1 +1,10 @@
+pub mod Calls
+pub mod Told
+pub mod Ties
+pub mod ByRows
+pub mod Declares
+pub mod Goes
+pub mod Waits
 pub mod Risen
+pub mod Order
+pub mod Whole

@@ -17,6 +17,6 @@ module _ (decl : Declaration) (script : Script) (h : List Entry) (inputs : List 
   nothing_comes last none phases (controls.Phase k) up may = phases k up may.next
   nothing_comes last none phases (controls.Cut a b) up may = no_line (controls.Cut a b) none may.next
   nothing_comes last none phases (controls.Heal a b) up may = no_line (controls.Heal a b) none may.next
-  nothing_comes last none phases (controls.Armed actor kind at) up may = may.next
-  nothing_comes last none phases (controls.Crash a) up may = may.next
-  nothing_comes last none phases (controls.Restart a) up may = may.next
+  nothing_comes last none phases (controls.Armed actor kind at) up may = no_line (controls.Armed actor kind at) none may.next
+  nothing_comes last none phases (controls.Crash a) up may = no_line (controls.Crash a) none may.next
+  nothing_comes last none phases (controls.Restart a) up may = no_line (controls.Restart a) none may.next

@@ -1,17 +1,13 @@
 -- The history before its last event goes on with each event, and what is posted leaves it.
-use Rattle.std.proofs.Common.{◌≡◌, ℕ, ◌+◌, Bool, true, false, List, [], ◌∷◌, ◌++◌, Option, Some, None, refl, ap, subst, ◌∙◌}
+use Rattle.std.proofs.Common.{◌≡◌, Bool, true, false, List, [], ◌∷◌, ◌++◌, Some, refl, ap, subst, ◌∙◌}
 use Rattle.std.specs.Prelude.{◌||◌, if◌then◌else◌}
-use Rattle.qc_msg.specs.Steps.{Entry, by, posted, sents, step_of, told, wrote}
-use Rattle.qc_msg.specs.declared.turn.Posting.{Posting}
-use Rattle.qc_msg.specs.declared.record.Record.{Record}
-use Rattle.qc_msg.specs.declared.reply.Reply.{Reply}
+use Rattle.qc_msg.specs.Steps.{Entry, step_of}
 use Rattle.qc_msg.specs.declared.step.Control.{Control}
 use Rattle.qc_msg.specs.declared.step.Control.TheVariants as controls
 use Rattle.qc_msg.specs.declared.step.Given.{Given}
 use Rattle.qc_msg.specs.declared.step.Given.TheVariants as given
 use Rattle.qc_msg.specs.declared.step.Step.{Step}
 use Rattle.qc_msg.specs.declared.step.Step.TheVariants as steps
-use Rattle.qc_msg.specs.declared.turn.Turn.{Turn}
 use Rattle.qc_script.specs.Ready.{step_of_control}
 use Rattle.qc_fabric.specs.Events.{before_last_event, begins_event, has_event}
 
@@ -30,23 +26,6 @@ before_event [] e post begins none = ap (λ (b : Bool). let left : List Entry = 
 before_event (x ∷ h) e post begins none =
     ap (λ (b : Bool). let left : List Entry = if b then x ∷ before_last_event (h ++ e ∷ post) else [] in left) (stands h e post begins)
     ∙ ap (λ (left : List Entry). x ∷ left) (before_event h e post begins none)
-
--- no event begins in what is posted
-
-told_none : (a : ℕ) (reply : Option Reply) → has_event (by a (told reply)) ≡ false
-told_none a None = refl
-told_none a (Some reply) = refl
-
-sents_none : (a n : ℕ) (ps : List Posting) (later : List Step) → has_event (by a later) ≡ false → has_event (by a (sents n ps ++ later)) ≡ false
-sents_none a n [] later none = none
-sents_none a n (p ∷ ps) later none = sents_none a (n + 1) ps later none
-
-wrote_none : (a : ℕ) (write : Option Record) (later : List Step) → has_event (by a later) ≡ false → has_event (by a (wrote write ++ later)) ≡ false
-wrote_none a None later none = none
-wrote_none a (Some written) later none = none
-
-pub post_none : (a n : ℕ) (turn : Turn) → has_event (by a (posted n turn)) ≡ false
-post_none a n turn = wrote_none a turn.write (sents n turn.sends ++ told turn.told) (sents_none a n turn.sends (told turn.told) (told_none a turn.told))
 
 none_before : (h : List Entry) → has_event h ≡ false → before_last_event h ≡ []
 none_before [] none = refl

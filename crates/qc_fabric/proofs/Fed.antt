@@ -1,22 +1,25 @@
 -- How passes, the right and the log go on as steps are added.
-use Rattle.std.proofs.Common.{◌≡◌, ℕ, zero, suc, ◌+◌, ◌<◌, Bool, true, false, List, [], ◌∷◌, ◌++◌, length, refl, ap, sym, ◌∙◌, subst, arith, length-append, append_assoc, Some, sum}
+use Rattle.std.proofs.Common.{◌≡◌, ℕ, zero, suc, ◌+◌, ◌<◌, ◌≤◌, Bool, true, false, List, [], ◌∷◌, ◌++◌, length, refl, ap, sym, ◌∙◌, subst, arith, length-append, append_assoc, Some, sum}
 use Rattle.std.specs.Prelude.{slice_get, slice_set}
 use Rattle.std.proofs.lemmas.List.{append-nil}
 use Rattle.std.proofs.lemmas.List.Sums.{sum_by-cons}
 use mathlib.Core.List.{IsPrefix}
 use Rattle.qc_pass.specs.declared.token.Pass.{Pass}
 use Rattle.qc_pass.specs.declared.token.Right.{Right}
-use Rattle.qc_pass.specs.Tokens.{number, seen, mine, room, all, rooms, Met}
+use Rattle.qc_pass.specs.Tokens.{number, mine, room, all, ends, rooms, Met}
 use Rattle.qc_msg.specs.declared.step.Step.{Step}
+use Rattle.qc_msg.specs.declared.step.Fall.TheVariants as causes
+use Rattle.qc_msg.specs.declared.turn.Appended.{Appended}
+use Rattle.qc_msg.specs.declared.turn.Appended.TheVariants.{Done, Failed, Stopped}
 use Rattle.qc_msg.specs.declared.turn.Posting.{Posting}
 use Rattle.qc_msg.specs.declared.turn.Turn.{Turn}
 use Rattle.qc_msg.specs.Deeds.{deeds, own}
-use Rattle.qc_msg.specs.Steps.{Entry, by, marked, sents, told, posted, wrote}
+use Rattle.qc_msg.specs.Steps.{Entry, by, fell, marked, posted_as, sends_as, sents, told, wrote}
 use Rattle.qc_msg.proofs.Growth.{by-append, same_deeds}
 use Rattle.qc_inbox.specs.Picks.{is_held}
 use Rattle.qc_fabric.specs.Logs.{Logged}
 use Rattle.qc_fabric.specs.Feeds.{CanFeed, Feeding, HasGrown}
-use Rattle.qc_fabric.specs.Tells.{Fed, Sees, size_of}
+use Rattle.qc_fabric.specs.Tells.{Fed, size_of}
 
 -- lists of numbers
 
@@ -66,18 +69,10 @@ deeds_of_front a h k e p =
     ap (λ (l : List Entry). deeds a [] l) (sym p.1)
     ∙ same_deeds a [] h p.0 (ap (λ (l : List Entry). own a l) p.1 ∙ sym e)
 
-pub saw : (p q : Pass Step) (r t : Right Step) (kept : ℕ) → Met p r q t [] kept → all t ≡ all r → Sees p q
-saw p q r t kept m a = record {
-  pass = record { table_is = m.same_table; number_is = m.same_number };
-  begins = subst (λ (l : List Entry). IsPrefix (seen p) l) (sym (m.seen_is ∙ a)) m.begins;
-  mine_is = m.mine_is ∙ append-nil (mine p);
-  does = ap (λ (l : List Entry). deeds (number p) [] l) (m.seen_is ∙ a) ∙ deeds_of_front (number p) (seen p) (all r) (p.part ∙ sym m.part) m.begins;
-}
-
 -- steps that were added
 
 pub fed_none : (p : Pass Step) (r : Right Step) → Fed p r p r []
-fed_none p r = record { same_table = refl; same_right = refl; same_number = refl; mine_is = sym (append-nil (mine p)); all_is = sym (append-nil (all r)); rooms_are = refl; room_is = refl }
+fed_none p r = record { same_table = refl; same_right = refl; same_number = refl; mine_is = sym (append-nil (mine p)); all_is = sym (append-nil (all r)); rooms_are = refl; others_end = λ b other. refl; room_is = refl }
 
 pub fed_more : (p p1 q : Pass Step) (r r1 t : Right Step) (s : Step) (ss : List Step) → Met p r p1 r1 (s ∷ []) (room p) → all r1 ≡ all r ++ marked (number p) s ∷ [] → Fed p1 r1 q t ss → Fed p r q t (s ∷ ss)
 fed_more p p1 q r r1 t s ss m a f = record {
@@ -87,6 +82,8 @@ fed_more p p1 q r r1 t s ss m a f = record {
   mine_is = f.mine_is ∙ (ap (λ (l : List Step). l ++ ss) m.mine_is ∙ append_assoc (mine p) (s ∷ []) ss);
   all_is = f.all_is ∙ (ap (λ (k : ℕ). all r1 ++ by k ss) m.same_number ∙ (ap (λ (l : List Entry). l ++ by (number p) ss) a ∙ append_assoc (all r) (marked (number p) s ∷ []) (by (number p) ss)));
   rooms_are = f.rooms_are ∙ rooms_kept p p1 r r1 (s ∷ []) m;
+  others_end = λ b other.
+      f.others_end b (λ is. other (is ∙ m.same_number)) ∙ (ap (λ (l : List ℕ). slice_get l b) m.ends_are ∙ get_else (ends r) (number p) b (length (all r1)) other);
   room_is = f.room_is ∙ m.room_is;
 }
 
@@ -99,6 +96,7 @@ fed_join p p1 q r r1 t xs ys e f = record {
   all_is = f.all_is ∙ (ap (λ (k : ℕ). all r1 ++ by k ys) e.same_number ∙ (ap (λ (l : List Entry). l ++ by (number p) ys) e.all_is
       ∙ (append_assoc (all r) (by (number p) xs) (by (number p) ys) ∙ ap (λ (l : List Entry). all r ++ l) (sym (by-append (number p) xs ys)))));
   rooms_are = f.rooms_are ∙ e.rooms_are;
+  others_end = λ b other. f.others_end b (λ is. other (is ∙ e.same_number)) ∙ e.others_end b other;
   room_is = f.room_is ∙ e.room_is;
 }
 
@@ -115,8 +113,27 @@ pub length-sents : (n : ℕ) (ps : List Posting) → length (sents n ps) ≡ len
 length-sents n [] = refl
 length-sents n (p ∷ ps) = ap suc (length-sents (n + 1) ps)
 
-pub length-posted : (n : ℕ) (t : Turn) → length (posted n t) + 1 ≡ size_of t
-length-posted n t = omega (arith, length-append (wrote t.write) (sents n t.sends ++ told t.told), length-append (sents n t.sends) (told t.told), length-sents n t.sends)
+-- a turn's posts
+pub length-done : (n : ℕ) (t : Turn) → length (posted_as Done n t) ≡ length (wrote t.write) + (length t.sends + length (told t.told))
+length-done n t = omega (arith, length-append (wrote t.write) (sents n t.sends ++ told t.told), length-append (sents n t.sends) (told t.told), length-sents n t.sends)
+
+pub length-failed : (n : ℕ) (t : Turn) → length (posted_as Failed n t) ≡ length t.failed_sends + (length (told t.failed_told) + 1)
+length-failed n t =
+    omega (arith, length-append (sents n t.failed_sends) (told t.failed_told ++ fell causes.Disk t.write), length-append (told t.failed_told) (fell causes.Disk t.write), length-sents n t.failed_sends)
+
+length-stopped : (n : ℕ) (t : Turn) → length (posted_as Stopped n t) ≡ length (told t.failed_told) + 1
+length-stopped n t = omega (arith, length-append (told t.failed_told) (fell causes.Stop t.write))
+
+-- each has room in what the turn asks for, and so have its messages
+pub length-posted : (end : Appended) (n : ℕ) (t : Turn) → length (posted_as end n t) + 1 ≤ size_of t
+length-posted Done n t = omega (arith, length-done n t)
+length-posted Failed n t = omega (arith, length-failed n t)
+length-posted Stopped n t = omega (arith, length-stopped n t)
+
+pub sends_few : (end : Appended) (n : ℕ) (t : Turn) → length (sends_as end t) ≤ length (posted_as end n t)
+sends_few Done n t = omega (arith, length-done n t)
+sends_few Failed n t = omega (arith, length-failed n t)
+sends_few Stopped n t = omega arith
 
 pub grown_none : (log : Logged) → HasGrown log log []
 grown_none log = record { history = sym (append-nil log.history); room = omega arith }
@@ -133,6 +150,10 @@ can_rest old new entries left total g e f = record {
   room = omega (arith, g.room, e, f.room);
   bound = omega (arith, ap (λ (l : List Entry). length l) g.history, length-append old.history entries, e, f.bound);
 }
+
+-- some of the room
+pub can_start : (log : Logged) (some total : ℕ) → CanFeed log total → some ≤ total → CanFeed log some
+can_start log some total f few = record { room = omega (arith, f.room, few); bound = omega (arith, f.bound, few) }
 
 -- one step more of some
 

@@ -12,17 +12,17 @@ use Rattle.qc_fabric.specs.Logs.{full_of}
 use Rattle.qc_fabric.specs.Picks.{IsStopped}
 
 -- The next phase comes where nothing is left to do in this one, and else the first control line that hasn't acted.
--- Lines that arm a disk, crash an actor or restart it can't act yet.
 abbrev pub ComesNext : Declaration → Script → List Entry → List Bool → Control → Type 0
 ComesNext decl script h inputs (controls.Phase k) =
     IsStopped decl script h inputs × (k ≡ phase_of h + 1) × (phase_of h < length script.phases)
 ComesNext decl script h inputs (controls.Cut a b) = slice_get (controls_left script h) 0 ≡ Some (controls.Cut a b)
 ComesNext decl script h inputs (controls.Heal a b) = slice_get (controls_left script h) 0 ≡ Some (controls.Heal a b)
-ComesNext decl script h inputs (controls.Armed actor kind at) = ⊥
-ComesNext decl script h inputs (controls.Crash a) = ⊥
-ComesNext decl script h inputs (controls.Restart a) = ⊥
+ComesNext decl script h inputs (controls.Armed actor kind at) =
+    slice_get (controls_left script h) 0 ≡ Some (controls.Armed actor kind at)
+ComesNext decl script h inputs (controls.Crash a) = slice_get (controls_left script h) 0 ≡ Some (controls.Crash a)
+ComesNext decl script h inputs (controls.Restart a) = slice_get (controls_left script h) 0 ≡ Some (controls.Restart a)
 
--- the controller may do what comes next, while no limit is reached
+-- what comes next may be done, while no limit is reached
 pub record MayDo (decl : Declaration) (script : Script) (h : List Entry) (inputs : List Bool) (control : Control)
     : Type 0 where
   pub next : ComesNext decl script h inputs control
@@ -37,11 +37,21 @@ IsUpTo last (controls.Armed actor kind at) = Unit {0}
 IsUpTo last (controls.Crash a) = Unit {0}
 IsUpTo last (controls.Restart a) = Unit {0}
 
--- the step of what may be done
+-- what the controller does with no actor. A line that arms an actor's disk, crashes the actor or restarts it takes that
+-- actor's pass too
+abbrev pub IsControllers : Control → Type 0
+IsControllers (controls.Phase k) = Unit {0}
+IsControllers (controls.Cut a b) = Unit {0}
+IsControllers (controls.Heal a b) = Unit {0}
+IsControllers (controls.Armed actor kind at) = ⊥
+IsControllers (controls.Crash a) = ⊥
+IsControllers (controls.Restart a) = ⊥
+
+-- the step of what may be done, where it is the controller's own
 abbrev pub control_step : Control → Option Step
 control_step (controls.Phase k) = Some (steps.Phase k)
 control_step (controls.Cut a b) = Some (steps.Cut a b)
 control_step (controls.Heal a b) = Some (steps.Heal a b)
-control_step (controls.Armed actor kind at) = None
+control_step (controls.Armed actor kind at) = Some (steps.Armed actor kind at)
 control_step (controls.Crash a) = None
 control_step (controls.Restart a) = None

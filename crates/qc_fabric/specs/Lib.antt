@@ -5,9 +5,12 @@ pub mod Limits
 pub mod Brands
 pub mod Picks
 pub mod Controls
+pub mod Gains
 pub mod Stills
 pub mod Tells
 pub mod Advances
 pub mod Inputs
 pub mod Feeds
-pub mod Armed
+pub mod ActorLines
+pub mod Risings
+pub mod Rolls

@@ -11,7 +11,7 @@ ghost use Rattle.std.specs.Prelude.{◌≡◌, ◌<◌, [], false, Some, Ok, IfO
 ghost use Rattle.qc_decl.specs.Actors.{actors, controller};
 ghost use Rattle.qc_msg.specs.Deeds.{deeds};
 ghost use Rattle.qc_pass.specs.Tokens.{number, pass_table, room, seen};
-ghost use Rattle.qc_fabric.specs.Advances.{HasNothingLeft};
+ghost use Rattle.qc_fabric.specs.Advances.{HasNothingLeft, WasNext};
 ghost use Rattle.qc_fabric.specs.Picks.{IsNamed};
 ghost use Rattle.qc_fabric.specs.Tells.{GoesToActors, Posts, Sees, Takes, Waits, size_of};
 
@@ -21,7 +21,7 @@ use crate::still::Still;
 use crate::taken::Taken;
 use qc_decl::Declaration;
 use qc_list::OutOfMemory;
-use qc_msg::{Step, Turn};
+use qc_msg::{Control, Step, Turn};
 use qc_pass::Pass;
 use std::alloc::Global;
 use std::sync::atomic::{AtomicU64, Ordering};
@@ -31,8 +31,9 @@ use std::thread::yield_now;
 /// What lies under the lock: the state, how many threads sleep, and whether one of
 /// them was woken and hasn't come yet.
 #[derive(Drop)]
-struct Shared<C: Conduct, N: Named> {
-    still: Still<C, N>,
+pub struct Shared<C: Conduct, N: Named> {
+    /// The state.
+    pub still: Still<C, N>,
     asleep: u32,
     is_one_woken: bool,
 }
@@ -147,9 +148,25 @@ impl<C: Conduct, N: Named> Fabric<C, N> {
         self.changed.notify_all();
     }
 
+    /// The state itself, until the guard goes. Nobody else calls meanwhile, so what
+    /// a call tells of the state stands until the next one.
+    pub fn hold<R: Wait>(&self, rt: &R) -> MutexGuard<'_, Shared<C, N>> {
+        self.shared.lock(rt)
+    }
+
+    /// What may be done next, in phases up to the last one that is given. It may be
+    /// past as soon as it is answered.
+    pub fn next_order<R: Wait>(&self, rt: &R, decl: &Declaration, last: u32) -> Option<Control>
+        requires { decl.now ≡ N.declaration }
+        ensures { IfSome result (WasNext N.declaration N.script) }
+    {
+        self.shared.lock(rt).still.next_order(decl, last)
+    }
+
     /// The controller does what it may do next, if anything, in phases up to the last
-    /// one that is given. Whether something is left: none is where it did nothing,
-    /// nothing is ready, nobody is held and no limit is reached.
+    /// one that is given. Whether something is left: none is where there was nothing
+    /// to do, nothing is ready, nobody is held and no limit is reached. A line of an
+    /// actor's is left to who has that actor's pass.
     pub fn advance<R: Wait>(
         &self,
         rt: &R,
@@ -163,7 +180,8 @@ impl<C: Conduct, N: Named> Fabric<C, N> {
         ensures table { pass_table pass.new ≡ N.table }
         ensures controller { number pass.new ≡ controller N.declaration }
         ensures over { result ≡ Ok false
-            → HasNothingLeft (C.lawful N.declaration) N.declaration N.script last (seen pass.new) }
+            → HasNothingLeft (C.lawful N.declaration) (C.fits N.declaration) N.declaration N.script last
+            (seen pass.new) }
     {
         let mut shared = self.shared.lock(rt);
         if shared.still.advance(decl, pass, last)? {
@@ -188,8 +206,9 @@ impl<C: Conduct, N: Named> Fabric<C, N> {
         requires actor { number pass.old < actors N.declaration }
         ensures err { OnErr result (pass.new ≡ pass.old) }
         ensures told { IfOk result (λ r. MatchOption r
-            (Waits (C.lawful N.declaration) N.declaration N.script pass.old pass.new)
-            (λ taken. Takes (C.lawful N.declaration) N.declaration N.script pass.old pass.new taken.given)) }
+            (Waits (C.lawful N.declaration) (C.fits N.declaration) N.declaration N.script pass.old pass.new)
+            (λ taken. Takes (C.lawful N.declaration) (C.fits N.declaration) N.declaration N.script pass.old pass.new
+            taken.given)) }
         ensures steps { IfOk result (λ r. IfSome r (λ taken. taken.steps ≡ length (seen pass.new))) }
     {
         self.shared.lock(rt).still.take(alloc, decl, pass)
@@ -211,14 +230,16 @@ impl<C: Conduct, N: Named> Fabric<C, N> {
         self.shared.lock(rt).still.reserve(pass, turn)
     }
 
-    /// Posts the turn for which there is room. It takes no memory.
+    /// Posts the turn for which there is room, by what became of its record. It takes
+    /// no memory.
     pub fn post<R: Wait>(&self, rt: &R, pass: &mut Pass<Step>, turn: Turn) -> u32
         requires table { pass_table pass.old ≡ N.table }
         requires actor { number pass.old < actors N.declaration }
         requires room { room pass.old ≡ size_of turn }
         requires receivers { GoesToActors turn }
         requires lawful { C.lawful N.declaration (number pass.old) (deeds (number pass.old) [] (seen pass.old)) turn }
-        ensures told { Posts (C.lawful N.declaration) N.declaration N.script pass.old pass.new turn result }
+        ensures told { Posts (C.lawful N.declaration) (C.fits N.declaration) N.declaration N.script pass.old pass.new
+            turn result }
     {
         self.shared.lock(rt).still.post(pass, turn)
     }

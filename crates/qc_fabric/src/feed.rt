@@ -1,14 +1,18 @@
-//! Steps are added to the history, by the right: one, or those of a turn.
+//! Steps are added to the history, by the right: one, or those of a post, or of
+//! an actor's restart.
 
 ghost use Rattle.std.specs.Prelude.{◌≡◌, ◌+◌, ◌^◌, ◌≤◌, ◌<◌, ◌∷◌, ◌++◌, [], length};
-ghost use Rattle.qc_msg.specs.Steps.{by, marked, posted, sents, told, wrote};
+ghost use Rattle.qc_msg.specs.Steps.{by, fell, marked, posted_as, sends_as, sents, told, wrote};
+ghost use Rattle.qc_msg.specs.declared.turn.Appended.TheVariants.{Done, Failed, Stopped};
 ghost use Rattle.qc_pass.specs.Tokens.{Met, all, number, pass_table, right_table, room, table_of};
 ghost use Rattle.qc_fabric.specs.Feeds.{CanFeed, HasGrown};
+ghost use Rattle.qc_fabric.specs.Risings.{sends_of_rising, steps_of_rising};
 ghost use Rattle.qc_fabric.specs.Tells.{Fed};
 
 use crate::log::Log;
+use crate::rising::Rising;
 use qc_list::Marked;
-use qc_msg::{Posting, Record, Reply, Step, Turn};
+use qc_msg::{Appended, Fall, Posting, Record, Reply, Step, Turn};
 use qc_pass::{Pass, Passes, Right};
 
 /// One step more, in the history and with the right. It takes no memory.
@@ -31,8 +35,8 @@ pub(crate) fn add(
     right
 }
 
-/// The steps of a turn, whose messages have the numbers from `first` on. It
-/// takes no memory.
+/// The steps of a turn's post, by what became of its record; the messages have
+/// the numbers from `first` on. It takes no memory.
 pub(crate) fn feed(
     passes: &Passes<Step>,
     right: Right<Step>,
@@ -42,10 +46,32 @@ pub(crate) fn feed(
     first: u32,
 ) -> Right<Step>
     requires table { (pass_table pass.old ≡ table_of passes.now) × (right_table right ≡ table_of passes.now) }
-    requires room { CanFeed log.old (length (wrote turn.write) + (length turn.sends + length (told turn.told))) }
+    requires room { CanFeed log.old (length (posted_as turn.append first turn)) }
+    requires few { first + length (sends_as turn.append turn) < 2 ^ 32 }
+    ensures fed { Fed pass.old right pass.new result (posted_as turn.append first turn) }
+    ensures log { HasGrown log.old log.new (by (number pass.old) (posted_as turn.append first turn)) }
+{
+    match turn.append {
+        Appended::Done => feed_done(passes, right, log, pass, turn, first),
+        Appended::Failed => feed_failed(passes, right, log, pass, turn, first),
+        Appended::Stopped => feed_stopped(passes, right, log, pass, turn),
+    }
+}
+
+/// The steps of a turn whose record is written, or that has none.
+fn feed_done(
+    passes: &Passes<Step>,
+    right: Right<Step>,
+    log: &mut Log,
+    pass: &mut Pass<Step>,
+    turn: Turn,
+    first: u32,
+) -> Right<Step>
+    requires table { (pass_table pass.old ≡ table_of passes.now) × (right_table right ≡ table_of passes.now) }
+    requires room { CanFeed log.old (length (posted_as Done first turn)) }
     requires few { first + length turn.sends < 2 ^ 32 }
-    ensures fed { Fed pass.old right pass.new result (posted first turn) }
-    ensures log { HasGrown log.old log.new (by (number pass.old) (posted first turn)) }
+    ensures fed { Fed pass.old right pass.new result (posted_as Done first turn) }
+    ensures log { HasGrown log.old log.new (by (number pass.old) (posted_as Done first turn)) }
 {
     let Turn {
         write,
@@ -56,6 +82,97 @@ pub(crate) fn feed(
     let right = feed_wrote(passes, right, log, pass, write);
     let right = feed_sents(passes, right, log, pass, sends.into_vec(), first);
     feed_told(passes, right, log, pass, told)
+}
+
+/// The steps of a turn whose record couldn't be written, since the disk failed:
+/// the actor falls behind what it then sends and tells.
+fn feed_failed(
+    passes: &Passes<Step>,
+    right: Right<Step>,
+    log: &mut Log,
+    pass: &mut Pass<Step>,
+    turn: Turn,
+    first: u32,
+) -> Right<Step>
+    requires table { (pass_table pass.old ≡ table_of passes.now) × (right_table right ≡ table_of passes.now) }
+    requires room { CanFeed log.old (length (posted_as Failed first turn)) }
+    requires few { first + length turn.failed_sends < 2 ^ 32 }
+    ensures fed { Fed pass.old right pass.new result (posted_as Failed first turn) }
+    ensures log { HasGrown log.old log.new (by (number pass.old) (posted_as Failed first turn)) }
+{
+    let Turn {
+        write,
+        failed_sends,
+        failed_told,
+        ..
+    } = turn;
+    let right = feed_sents(passes, right, log, pass, failed_sends.into_vec(), first);
+    let right = feed_told(passes, right, log, pass, failed_told);
+    feed_fell(passes, right, log, pass, Fall::Disk, write)
+}
+
+/// The steps of a turn in whose writing the disk stopped.
+fn feed_stopped(
+    passes: &Passes<Step>,
+    right: Right<Step>,
+    log: &mut Log,
+    pass: &mut Pass<Step>,
+    turn: Turn,
+) -> Right<Step>
+    requires table { (pass_table pass.old ≡ table_of passes.now) × (right_table right ≡ table_of passes.now) }
+    requires room { CanFeed log.old (length (posted_as Stopped 0 turn)) }
+    ensures fed { Fed pass.old right pass.new result (posted_as Stopped 0 turn) }
+    ensures log { HasGrown log.old log.new (by (number pass.old) (posted_as Stopped 0 turn)) }
+{
+    let Turn {
+        write,
+        failed_told,
+        ..
+    } = turn;
+    let right = feed_told(passes, right, log, pass, failed_told);
+    feed_fell(passes, right, log, pass, Fall::Stop, write)
+}
+
+/// The steps of an actor's restart, by what it found. It takes no memory.
+pub(crate) fn feed_rising(
+    passes: &Passes<Step>,
+    right: Right<Step>,
+    log: &mut Log,
+    pass: &mut Pass<Step>,
+    rising: Rising,
+    first: u32,
+) -> Right<Step>
+    requires table { (pass_table pass.old ≡ table_of passes.now) × (right_table right ≡ table_of passes.now) }
+    requires room { CanFeed log.old (length (steps_of_rising first rising)) }
+    requires few { first + length (sends_of_rising rising) < 2 ^ 32 }
+    ensures fed { Fed pass.old right pass.new result (steps_of_rising first rising) }
+    ensures log { HasGrown log.old log.new (by (number pass.old) (steps_of_rising first rising)) }
+{
+    match rising {
+        Rising::Rose { records, turn } => {
+            let right = add(passes, right, log, pass, Step::Rose(records));
+            feed(passes, right, log, pass, turn, first)
+        }
+        Rising::Damaged { offset } => add(passes, right, log, pass, Step::Damaged(offset)),
+        Rising::NotOpened { cause } => feed_fell(passes, right, log, pass, cause, None),
+    }
+}
+
+/// The step of a fall, with the record that was being written, if one was.
+fn feed_fell(
+    passes: &Passes<Step>,
+    right: Right<Step>,
+    log: &mut Log,
+    pass: &mut Pass<Step>,
+    cause: Fall,
+    pending: Option<Record>,
+) -> Right<Step>
+    requires table { (pass_table pass.old ≡ table_of passes.now) × (right_table right ≡ table_of passes.now) }
+    requires room { CanFeed log.old 1 }
+    ensures fed { Fed pass.old right pass.new result (fell cause pending) }
+    ensures log { HasGrown log.old log.new (by (number pass.old) (fell cause pending)) }
+{
+    add(passes, right, log, pass, Step::Fell { cause, pending })
 }
 
 /// The step of a turn's record.

@@ -7,7 +7,7 @@ ghost use Rattle.qc_fabric.specs.Logs.{full_of};
 ghost use Rattle.qc_fabric.specs.Places.{place_of, places_of};
 
 use crate::full::Full;
-use crate::weigh::{carried_by, operations_by};
+use crate::weigh::{carried_by, operations_by, standing_by};
 use qc_decl::{MOST_CARRIED_LINES, MOST_COMMITTED_OPERATIONS, MOST_STEPS};
 use qc_list::OutOfMemory;
 use qc_msg::{Entry, Step, What};
@@ -19,6 +19,7 @@ use std::marker::Model;
 pub struct Log {
     entries: Vec<Entry>,
     places: Vec<u32>,
+    standing: [usize; NAMED_ACTORS],
     operations: u32,
     carried: u32,
     room: usize,
@@ -33,8 +34,12 @@ impl Model for Log {
     ghost view = { λ l. record { history = l.entries.items; room = l.room } };
 
     ghost invariant = { λ l. IsLog l.entries.items (vec_capacity l.entries) l.places.items (vec_capacity l.places)
-        l.operations l.carried l.room };
+        l.standing l.operations l.carried l.room };
 }
+
+/// How many actors a number of 8 bits may name: of each it is counted how many
+/// records stand in its journal.
+const NAMED_ACTORS: usize = 256;
 
 /// More room than is asked for is made at once, for so many steps.
 const MORE: usize = 256;
@@ -47,6 +52,7 @@ impl Log {
         Log {
             entries: Vec::new(alloc),
             places: Vec::new(alloc),
+            standing: [0; NAMED_ACTORS],
             operations: 0,
             carried: 0,
             room: 0,
@@ -100,8 +106,13 @@ impl Log {
         ensures room { self.new.room + 1 ≡ self.old.room }
     {
         let place = self.entries.len() as u32;
-        self.operations = self.operations.saturating_add(operations_by(&entry.step));
+        let actor = usize::from(entry.actor);
+        let standing = self.standing[actor];
+        self.operations = self
+            .operations
+            .saturating_add(operations_by(standing, &entry.step));
         self.carried = self.carried.saturating_add(carried_by(&entry.step));
+        self.standing[actor] = standing_by(standing, &entry.step);
         add_place(&mut self.places, place, &entry.step);
         self.entries.push_reserved(entry);
         self.room -= 1;

@@ -5,7 +5,7 @@ ghost use Rattle.qc_decl.specs.Actors.{controller};
 ghost use Rattle.qc_msg.specs.declared.step.Control.TheVariants.{Phase};
 ghost use Rattle.qc_pass.specs.Tokens.{number, pass_table};
 ghost use Rattle.qc_script.specs.Ready.{controls_left, phase_of, step_of_control};
-ghost use Rattle.qc_fabric.specs.Controls.{MayDo};
+ghost use Rattle.qc_fabric.specs.Controls.{IsControllers, MayDo};
 ghost use Rattle.qc_fabric.specs.Logs.{full_of};
 ghost use Rattle.qc_fabric.specs.Tells.{Does};
 
@@ -33,15 +33,18 @@ impl<C: Conduct, N: Named> Still<C, N> {
         self.mailboxes.next_control()
     }
 
-    /// The controller does what comes next, while no limit is reached. After want
-    /// of memory nothing has changed.
+    /// The controller does what comes next and takes no actor's pass, while no limit
+    /// is reached: the next phase, or a line that cuts or heals. After want of memory
+    /// nothing has changed.
     pub fn order(&mut self, pass: &mut Pass<Step>, control: Control) -> Result<(), OutOfMemory>
         requires table { pass_table pass.old ≡ N.table }
         requires controller { number pass.old ≡ controller N.declaration }
+        requires controllers { IsControllers control }
         requires may { MayDo N.declaration N.script self.old.history self.old.open_inputs control }
         ensures ok { OnOk result
             (Does N.declaration pass.old pass.new self.old.history self.new.history control) }
         ensures same { (self.new.open_inputs ≡ self.old.open_inputs) × (self.new.held ≡ self.old.held) }
+        ensures spare { self.new.spare ≡ self.old.spare }
         ensures err { OnErr result ((self.new ≡ self.old) × (pass.new ≡ pass.old)) }
     {
         match control {
@@ -59,9 +62,10 @@ impl<C: Conduct, N: Named> Still<C, N> {
         ensures ok { OnOk result
             (Does N.declaration pass.old pass.new self.old.history self.new.history (Phase phase)) }
         ensures same { (self.new.open_inputs ≡ self.old.open_inputs) × (self.new.held ≡ self.old.held) }
+        ensures spare { self.new.spare ≡ self.old.spare }
         ensures err { OnErr result ((self.new ≡ self.old) × (pass.new ≡ pass.old)) }
     {
-        let Some(room) = more(self.log.steps(), self.reserved, 1) else {
+        let Some(room) = more(self.log.steps(), self.reserved, self.spare, 1) else {
             return Err(AllocError);
         };
         self.log.reserve(room)?;
@@ -76,7 +80,7 @@ impl<C: Conduct, N: Named> Still<C, N> {
         Ok(())
     }
 
-    /// The first control line left acts.
+    /// The first control line left acts, one that cuts or heals.
     fn act(&mut self, pass: &mut Pass<Step>, line: Control) -> Result<(), OutOfMemory>
         requires table { pass_table pass.old ≡ N.table }
         requires controller { number pass.old ≡ controller N.declaration }
@@ -86,9 +90,10 @@ impl<C: Conduct, N: Named> Still<C, N> {
         ensures ok { OnOk result
             (Does N.declaration pass.old pass.new self.old.history self.new.history line) }
         ensures same { (self.new.open_inputs ≡ self.old.open_inputs) × (self.new.held ≡ self.old.held) }
+        ensures spare { self.new.spare ≡ self.old.spare }
         ensures err { OnErr result ((self.new ≡ self.old) × (pass.new ≡ pass.old)) }
     {
-        let Some(room) = more(self.log.steps(), self.reserved, 1) else {
+        let Some(room) = more(self.log.steps(), self.reserved, self.spare, 1) else {
             return Err(AllocError);
         };
         self.log.reserve(room)?;

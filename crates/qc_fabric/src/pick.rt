@@ -57,6 +57,7 @@ impl<C: Conduct, N: Named> Still<C, N> {
             ≡ picked N.declaration N.script self.old.open_inputs self.old.held self.old.history }
         ensures same { (self.new.history ≡ self.old.history) × (self.new.open_inputs ≡ self.old.open_inputs) }
         ensures held { self.new.held ≡ held_after result self.old.held }
+        ensures spare { self.new.spare ≡ self.old.spare }
         ensures named { IsNamed N.declaration result }
     {
         let next = self.next(decl);

@@ -3,9 +3,10 @@
 
 ghost use Rattle.std.specs.Prelude.{◌≡◌, ◌<◌, ◌≤◌, ◌+◌, [], None, IfOk, false, length, replicate, slice_set};
 ghost use Rattle.qc_decl.specs.Actors.{actors, controller};
+ghost use Rattle.qc_inbox.specs.Downs.{TellsWhereDown};
 ghost use Rattle.qc_pass.specs.Made.{IsFirst};
 ghost use Rattle.qc_pass.specs.Tokens.{number, pass_table, room, seen, table_of};
-ghost use Rattle.qc_script.specs.Runs.{Runs};
+ghost use Rattle.qc_script.specs.RunsWithFalls.{RunsWithFalls};
 ghost use Rattle.qc_script.specs.Sound.{IsScriptFor};
 ghost use Rattle.qc_fabric.specs.Events.{before_last_event};
 ghost use Rattle.qc_fabric.specs.Logs.{full_of};
@@ -36,6 +37,7 @@ pub struct Still<C: Conduct, N: Named> {
     pub(crate) held: Vec<bool>,
     pub(crate) phase: u32,
     pub(crate) reserved: usize,
+    pub(crate) spare: usize,
     pub(crate) passes: Passes<Step>,
     pub(crate) right: Option<Right<Step>>,
     of: PhantomData<(C, N)>,
@@ -47,10 +49,15 @@ impl<C: Conduct, N: Named> Model for Still<C, N> {
 
     ghost Value = { Shown };
 
-    ghost view = { λ s. record { history = s.log.history; open_inputs = s.inputs.items; held = s.held.items } };
+    ghost view = { λ s. record {
+      history = s.log.history;
+      open_inputs = s.inputs.items;
+      held = s.held.items;
+      spare = s.spare;
+    } };
 
-    ghost invariant = { λ s. IsStill (C.lawful N.declaration) N.declaration N.script N.table s.script s.log s.mailboxes
-        s.inputs.items s.held.items s.phase s.reserved (table_of s.passes) s.right };
+    ghost invariant = { λ s. IsStill (C.lawful N.declaration) (C.fits N.declaration) N.declaration N.script N.table
+        s.script s.log s.mailboxes s.inputs.items s.held.items s.phase s.reserved s.spare (table_of s.passes) s.right };
 }
 
 impl<C: Conduct, N: Named> Still<C, N> {
@@ -69,9 +76,11 @@ impl<C: Conduct, N: Named> Still<C, N> {
         requires few { controller N.declaration < most_actors }
         requires table { table_of passes ≡ N.table }
         requires right { IsFirst N.table (controller N.declaration + 1) right }
+        requires down { TellsWhereDown (C.lawful N.declaration) }
         ensures history { IfOk result (λ s. s.history ≡ []) }
         ensures inputs { IfOk result (λ s. s.open_inputs ≡ replicate (actors N.declaration) false) }
         ensures held { IfOk result (λ s. s.held ≡ replicate (actors N.declaration) false) }
+        ensures spare { IfOk result (λ s. s.spare ≡ 0) }
     {
         let actors = decl.sites + decl.clients;
         let mailboxes = Mailboxes::new(alloc, &script)?;
@@ -85,6 +94,7 @@ impl<C: Conduct, N: Named> Still<C, N> {
             held,
             phase: 0,
             reserved: 0,
+            spare: 0,
             passes,
             right: Some(right),
             of: PhantomData,
@@ -101,7 +111,8 @@ impl<C: Conduct, N: Named> Still<C, N> {
     /// The history's entries, which are a run, and no more than the most.
     pub fn history(&self) -> &[Entry]
         ensures history { result.now ≡ self.now.history }
-        ensures runs { Runs (C.lawful N.declaration) N.declaration N.script result.now self.now.open_inputs }
+        ensures runs { RunsWithFalls (C.lawful N.declaration) (C.fits N.declaration) N.declaration N.script result.now
+            self.now.open_inputs }
         ensures below { full_of (before_last_event result.now) ≡ None }
         ensures few { length result.now ≤ most_history }
     {
@@ -114,7 +125,8 @@ impl<C: Conduct, N: Named> Still<C, N> {
         ensures same { self.new ≡ self.old }
         ensures saw { Sees pass.old pass.new }
         ensures seen { seen pass.new ≡ self.new.history }
-        ensures runs { Runs (C.lawful N.declaration) N.declaration N.script (seen pass.new) self.new.open_inputs }
+        ensures runs { RunsWithFalls (C.lawful N.declaration) (C.fits N.declaration) N.declaration N.script
+            (seen pass.new) self.new.open_inputs }
         ensures room { room pass.new ≡ room pass.old }
     {
         let kept = pass.room();
@@ -131,6 +143,7 @@ impl<C: Conduct, N: Named> Still<C, N> {
         requires table { pass_table pass.old ≡ N.table }
         ensures same { (self.new.history ≡ self.old.history) × (self.new.open_inputs ≡ self.old.open_inputs) }
         ensures held { self.new.held ≡ slice_set self.old.held (number pass.old) false }
+        ensures spare { self.new.spare ≡ self.old.spare }
         ensures saw { Sees pass.old pass.new }
         ensures seen { seen pass.new ≡ self.new.history }
         ensures room { room pass.new ≡ 0 }
@@ -153,7 +166,8 @@ impl<C: Conduct, N: Named> Still<C, N> {
         ensures script { result.0 ≡ N.script }
         ensures history { result.1.items ≡ self.history }
         ensures inputs { length self.open_inputs ≡ actors N.declaration }
-        ensures runs { Runs (C.lawful N.declaration) N.declaration N.script result.1.items self.open_inputs }
+        ensures runs { RunsWithFalls (C.lawful N.declaration) (C.fits N.declaration) N.declaration N.script
+            result.1.items self.open_inputs }
         ensures few { length result.1.items ≤ most_history }
         ensures below { full_of (before_last_event result.1.items) ≡ None }
     {

@@ -37,8 +37,9 @@ impl<C: Conduct, N: Named> Still<C, N> {
         ensures history { IfOk result (λ r. self.new.history ≡ seen pass.new) }
         ensures err { OnErr result ((self.new ≡ self.old) × (pass.new ≡ pass.old)) }
         ensures told { IfOk result (λ r. MatchOption r
-            (Waits (C.lawful N.declaration) N.declaration N.script pass.old pass.new)
-            (λ taken. Takes (C.lawful N.declaration) N.declaration N.script pass.old pass.new taken.given)) }
+            (Waits (C.lawful N.declaration) (C.fits N.declaration) N.declaration N.script pass.old pass.new)
+            (λ taken. Takes (C.lawful N.declaration) (C.fits N.declaration) N.declaration N.script pass.old pass.new
+            taken.given)) }
         ensures steps { IfOk result (λ r. IfSome r (λ taken. taken.steps ≡ length self.new.history)) }
         ensures exact { IfOk result (λ r. MatchOption r
             (HasNone N.declaration N.script self.old.open_inputs (number pass.old) self.old.history)
@@ -48,6 +49,7 @@ impl<C: Conduct, N: Named> Still<C, N> {
             (λ taken. self.new.open_inputs ≡ slice_set self.old.open_inputs (number pass.old) true)) }
         ensures held { IfOk result (λ r. MatchOption r (self.new.held ≡ slice_set self.old.held (number pass.old) false)
             (λ taken. self.new.held ≡ self.old.held)) }
+        ensures spare { self.new.spare ≡ self.old.spare }
     {
         let actor = pass.number();
         let inputs = self.inputs.as_slice();
@@ -56,7 +58,7 @@ impl<C: Conduct, N: Named> Still<C, N> {
             return Ok(None);
         };
         let given = given_of(alloc, &self.log, input)?;
-        let Some(room) = more(self.log.steps(), self.reserved, 1) else {
+        let Some(room) = more(self.log.steps(), self.reserved, self.spare, 1) else {
             return Err(AllocError);
         };
         self.log.reserve(room)?;
@@ -90,7 +92,7 @@ impl<C: Conduct, N: Named> Still<C, N> {
         }
         let size = size_of(turn)?;
         // Memory ends long before a history of the most steps.
-        let Some(room) = more(self.log.steps(), self.reserved, size) else {
+        let Some(room) = more(self.log.steps(), self.reserved, self.spare, size) else {
             return Err(AllocError);
         };
         self.log.reserve(room)?;
@@ -104,10 +106,10 @@ impl<C: Conduct, N: Named> Still<C, N> {
         Ok(())
     }
 
-    /// Posts the turn for which there is room, and ends the holding of the pass's
-    /// actor, whose input is no longer open. It answers the number of the turn's
-    /// first message, or of the next one where the turn sends none. It takes no
-    /// memory.
+    /// Posts the turn for which there is room, by what became of its record: where
+    /// that isn't written the actor falls. The holding of the pass's actor ends, and
+    /// its input is no longer open. It answers the number of the first message, or
+    /// of the next one where none is sent. It takes no memory.
     pub fn post(&mut self, pass: &mut Pass<Step>, turn: Turn) -> u32
         requires table { pass_table pass.old ≡ N.table }
         requires actor { number pass.old < actors N.declaration }
@@ -115,9 +117,11 @@ impl<C: Conduct, N: Named> Still<C, N> {
         requires receivers { GoesToActors turn }
         requires lawful { C.lawful N.declaration (number pass.old) (deeds (number pass.old) [] (seen pass.old)) turn }
         ensures history { self.new.history ≡ seen pass.new }
-        ensures told { Posts (C.lawful N.declaration) N.declaration N.script pass.old pass.new turn result }
+        ensures told { Posts (C.lawful N.declaration) (C.fits N.declaration) N.declaration N.script pass.old pass.new
+            turn result }
         ensures inputs { self.new.open_inputs ≡ slice_set self.old.open_inputs (number pass.old) false }
         ensures held { self.new.held ≡ slice_set self.old.held (number pass.old) false }
+        ensures spare { self.new.spare ≡ self.old.spare }
     {
         let first = self.mailboxes.sent();
         let size = pass.room();
@@ -126,7 +130,7 @@ impl<C: Conduct, N: Named> Still<C, N> {
             unreachable!()
         };
         let right = self.passes.look(pass, right, size);
-        self.mailboxes.post(actor, &turn);
+        self.mailboxes.post_as(actor, &turn);
         let right = feed(&self.passes, right, &mut self.log, pass, turn, first);
         let right = self.passes.look(pass, right, 0);
         set(&mut self.inputs, actor, false);

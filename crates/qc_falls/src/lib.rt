@@ -2,8 +2,7 @@
 //! `Spent` refuse, each a story of one site, and such as they take.
 //!
 //! There is no code here: each law is the contract of a function with nothing to
-//! do, a clause a history. No run has a fall yet; these say what both will hold
-//! it to.
+//! do, a clause a history.
 //!
 //! 1. A site that rises has its records: none is forgotten, none is invented,
 //!    and what was being written as it fell is there from its next rise on, or

@@ -28,7 +28,7 @@ use Rattle.qc_promise.specs.Account.{Account, ClientRequest, new_account}
 use Rattle.qc_promise.specs.Accounting.{account_at, account_taken, account_heard, account_sent, account_told_in, account_written, counted, counted_for, found_absent, granted, is_open, promised, responded, short_of, taken_for, told_by}
 use Rattle.qc_promise.specs.Asked.{is_asked_for}
 use Rattle.qc_promise.specs.Rows.{running_row}
-use Rattle.qc_account.specs.ByRows.{AreByRows, IsByRow}
+use Rattle.qc_due.specs.ByRows.{AreByRows, IsByRow}
 use Rattle.qc_core.specs.Conduct.{IsLawful}
 use Rattle.qc_decl.specs.Actors.{actors, is_client}
 use Rattle.qc_msg.specs.Steps.{Entry}
@@ -36,7 +36,7 @@ use Rattle.qc_script.specs.Runs.{Runs}
 use Rattle.qc_script.specs.declared.script.Script.{Script}
 use Rattle.qc_laws.proofs.Acted.{has_entry, run_acts}
 use Rattle.qc_laws.specs.Turns.{ActsIn}
-use Rattle.qc_account.proofs.Courses.{clients_due}
+use Rattle.qc_due.proofs.Courses.{clients_due}
 use Rattle.qc_guarantees.specs.Clocks.{GrantTells, IsCounted, PromiseTells, Tells as TellsClock}
 use Rattle.qc_guarantees.proofs.Accounts.{and_second}
 use Rattle.qc_guarantees.proofs.Requests.{due_at}

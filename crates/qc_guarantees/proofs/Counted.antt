@@ -48,11 +48,11 @@ use Rattle.qc_laws.proofs.Arrivals.{what_is_ready_was_sent}
 use Rattle.qc_laws.proofs.Numbered.{control_silent, phase_silent}
 use Rattle.qc_laws.proofs.Served.{run_shown}
 use Rattle.qc_laws.specs.Turns.{ActsIn}
-use Rattle.qc_account.proofs.Courses.{turns_tell}
-use Rattle.qc_account.proofs.Mute.{IsMuteDeed, sites_mute}
+use Rattle.qc_due.proofs.Courses.{turns_tell}
+use Rattle.qc_due.proofs.Mute.{IsMuteDeed, sites_mute}
 use Rattle.qc_core.specs.Acts.{posts as acts_post}
 use Rattle.qc_guarantees.specs.Votes.{IsOpenVote, IsRemembered}
-use Rattle.qc_account.specs.Ties.{Votes}
+use Rattle.qc_due.specs.Ties.{Votes}
 use Rattle.qc_client.specs.Conduct.{client_after}
 use Rattle.qc_guarantees.proofs.Accounts.{WasSent}
 use Rattle.qc_guarantees.proofs.Grounds.{has_grounds, turn_old}

@@ -20,7 +20,7 @@ use Rattle.qc_promise.specs.Account.{Account, Current, new_account}
 use Rattle.qc_promise.specs.Accounting.{account_at}
 use Rattle.qc_promise.specs.Asked.{carries, command_asks, is_asked_for, is_of, own_appended, same_line, same_own, weighs}
 use Rattle.qc_promise.specs.Rounds.{answer_of, next_own}
-use Rattle.qc_account.specs.ByRows.{AreByRows, IsByRow}
+use Rattle.qc_due.specs.ByRows.{AreByRows, IsByRow}
 use Rattle.qc_net.specs.Net.{IsNamed}
 use Rattle.qc_guarantees.proofs.Accounts.{HasGrounds, and_first, and_second}
 use Rattle.qc_guarantees.proofs.Grounds.{has_grounds}

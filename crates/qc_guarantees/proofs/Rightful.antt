@@ -33,8 +33,8 @@ use Rattle.qc_laws.proofs.Numbered.{control_silent, phase_silent}
 use Rattle.qc_laws.proofs.Proper.{run_proper}
 use Rattle.qc_laws.proofs.SiteReplies.{IsProperFrom}
 use Rattle.qc_laws.specs.Turns.{ActsIn}
-use Rattle.qc_account.proofs.Courses.{clients_due}
-use Rattle.qc_account.proofs.Declared.{asks_declared}
+use Rattle.qc_due.proofs.Courses.{clients_due}
+use Rattle.qc_due.proofs.AccountDeclared.{asks_declared}
 use Rattle.qc_net.specs.Net.{IsNamed}
 use Rattle.qc_atomic.specs.Reached.{AreNamed}
 use Rattle.qc_atomic.proofs.Asked.{ready_named}

@@ -2,7 +2,6 @@
 use Rattle.std.proofs.Common.{◌*◌, ◌≡◌, ◌<◌, ◌≤◌, ◌+◌, ◌-◌, ◌==◌, ℕ, zero, suc, nat_le, nat_lt, Bool, true, false, cond, List, [], ◌∷◌, ◌++◌, length, Some, None, slice_get, refl, sym, ap, ◌∙◌, subst, arith, eqb-true, eq-eqb, ltb-true}
 use Rattle.std.specs.Prelude.{fold, slice_set, sum_by}
 use Rattle.std.proofs.lemmas.List.{append-nil}
-use Rattle.std.proofs.lemmas.List.Sums.{sum_by-append}
 use Rattle.qc_stamp.specs.declared.stamp.TxId.{TxId}
 use Rattle.qc_list.specs.Members.{In}
 use Rattle.qc_list.proofs.Members.{every-at, every-from_In}
@@ -22,11 +21,11 @@ use Rattle.qc_msg.specs.declared.message.Want.TheVariants.{Prepare}
 use Rattle.qc_msg.specs.declared.step.Given.{Given}
 use Rattle.qc_msg.specs.declared.turn.Posting.{Posting}
 use Rattle.qc_msg.specs.declared.turn.Turn.{Turn}
-use Rattle.qc_msg.specs.Counts.{answered, answered_in, commit_in, operations_of, written}
+use Rattle.qc_msg.specs.Counts.{answered, operations_of, written}
 use Rattle.qc_msg.specs.Begun.{first_epoch}
 use Rattle.qc_msg.specs.Deeds.{Deed, WasSentTo, deeds, mail}
 use Rattle.qc_msg.specs.Steps.{Entry, by as by_actor, posted}
-use Rattle.qc_msg.proofs.Growth.{deeds-other, deeds-posted, operations-written}
+use Rattle.qc_msg.proofs.Growth.{deeds-other, deeds-posted}
 use Rattle.qc_promise.specs.Account.{ClientRequest, new_account}
 use Rattle.qc_promise.specs.Accounting.{account, account_at}
 use Rattle.qc_protocol.specs.Acts.{state}
@@ -47,6 +46,7 @@ use Rattle.qc_atomic.proofs.Stood.{OpenSite}
 use Rattle.qc_guarantees.specs.Votes.{IsOpenVote}
 use Rattle.qc_guarantees.proofs.Accounts.{and_second}
 use Rattle.qc_guarantees.proofs.NetHolds.{both}
+use Rattle.qc_guarantees.proofs.NeverRisen.{operations_written}
 use Rattle.qc_guarantees.proofs.SiteMoves.{Forgets, IsAnsweringTo, answers_requests, prepares_remembered}
 use Rattle.qc_guarantees.proofs.Voted.{asked, granted, granted_first, mirror, one_request, site_has_room, site_holds, stood, tie}
 use Rattle.qc_guarantees.proofs.Waiting.{still_open, writes_no_commit}
@@ -58,10 +58,6 @@ below_length (y ∷ ys) (suc n) x is = let rest : n < length ys = below_length y
 
 pub at_in : (ms : List Envelope) (n : ℕ) (e : Envelope) → slice_get ms n ≡ Some e → In e ms
 at_in ms n e is = every-at (λ (x : Envelope). In x ms) ms n e (every-from_In (λ (x : Envelope). In x ms) ms (λ x among. among)) is
-
--- the operations of a history that goes on
-pub operations_grow : (h k : List Entry) → operations_of h ≤ operations_of (h ++ k)
-operations_grow h k = let all : operations_of (h ++ k) ≡ operations_of h + operations_of k = sum_by-append (λ (e : Entry). answered_in (commit_in e.step)) h k in omega arith
 
 module _ (decl : Declaration) (script : Script) (accepted : IsAccepted decl) (sound : IsScriptFor decl script) where
   -- an answer of a site with an open input doesn't say that it has forgotten what a client waits for, which has none
@@ -158,7 +154,7 @@ module _ (decl : Declaration) (script : Script) (accepted : IsAccepted decl) (so
     same_written = written_posted h a (length (mail h)) turn ∙ ap (λ (cs : List CommitRecord). written h ++ cs) (writes_no_commit decl a client (deeds a [] h) acts.above acts.acts q k turn (length (mail h)) acts.within law) ∙ append-nil (written h)
 
     pub later_few : operations_of h ≤ 2 * most_committed_operations → operations_of later ≤ 2 * most_committed_operations
-    later_few few = subst (λ (n : ℕ). n ≤ 2 * most_committed_operations) (operations-written h ∙ ap (sum_by (λ (c : CommitRecord). answered c.ops)) (sym same_written) ∙ sym (operations-written later)) few
+    later_few few = subst (λ (n : ℕ). n ≤ 2 * most_committed_operations) (operations_written (IsLawful decl) decl script h open_inputs run ∙ ap (sum_by (λ (c : CommitRecord). answered c.ops)) (sym same_written) ∙ sym (operations_written (IsLawful decl) decl script later (slice_set open_inputs a false) later_run)) few
 
     pub later_closed : slice_get (slice_set open_inputs a false) a ≡ Some false
     later_closed = slice_get-set_same open_inputs a false true opened

@@ -22,7 +22,7 @@ use Rattle.qc_msg.specs.declared.turn.Turn.{Turn}
 use Rattle.qc_msg.specs.Counts.{operations_of}
 use Rattle.qc_msg.specs.Deeds.{Deed, Takes, WasSentTo, deeds, envelopes, mail, turn_deeds}
 use Rattle.qc_msg.specs.Steps.{Entry, by as by_actor, marked, posted, step_of}
-use Rattle.qc_msg.proofs.Growth.{deeds-other, deeds-posted, deeds-taken, mail-append, mail-posted, mail-taken}
+use Rattle.qc_msg.proofs.Growth.{deeds-other, deeds-posted, deeds-taken, mail-append, mail-posted, mail-taken, operations-grow}
 use Rattle.qc_promise.specs.Account.{Account, ClientRequest, new_account}
 use Rattle.qc_promise.specs.Accounting.{account, account_at, account_taken}
 use Rattle.qc_script.specs.Ready.{phase_of}
@@ -41,9 +41,9 @@ use Rattle.qc_laws.proofs.SiteReplies.{IsProperFrom}
 use Rattle.qc_laws.proofs.Replying.{after_taken as after_given}
 use Rattle.qc_laws.proofs.Served.{lawful_site}
 use Rattle.qc_laws.specs.Turns.{ActsIn}
-use Rattle.qc_account.proofs.Commands.{lawful_turn}
-use Rattle.qc_account.proofs.Courses.{IsAtInput, client_acts}
-use Rattle.qc_account.proofs.Declared.{asks_declared}
+use Rattle.qc_due.proofs.Commands.{lawful_turn}
+use Rattle.qc_due.proofs.Courses.{IsAtInput, client_acts}
+use Rattle.qc_due.proofs.AccountDeclared.{asks_declared}
 use Rattle.qc_net.proofs.Posts.{Place, placed}
 use Rattle.qc_atomic.proofs.Stood.{OpenSite}
 use Rattle.qc_guarantees.specs.Votes.{IsOpenVote}
@@ -51,7 +51,7 @@ use Rattle.qc_guarantees.proofs.ClientTalks.{client_answers}
 use Rattle.qc_guarantees.proofs.Grounds.{open_before, turn_old}
 use Rattle.qc_guarantees.proofs.Mailed.{taken_mail}
 use Rattle.qc_guarantees.proofs.SiteMoves.{Forgets, IsAnsweringTo, answers_requests}
-use Rattle.qc_guarantees.proofs.Stale.{below_length, operations_grow, remembered}
+use Rattle.qc_guarantees.proofs.Stale.{below_length, remembered}
 use Rattle.qc_guarantees.proofs.Voted.{stood}
 use Rattle.qc_decl.specs.Limits.{most_committed_operations}
 
@@ -213,7 +213,7 @@ module _ (decl : Declaration) (script : Script) (accepted : IsAccepted decl) (so
             itself u (subst (λ (n : ℕ). is_client decl n ≡ true) here client) q x (subst (λ (n : ℕ). IsOpenVote (account decl n (h ++ by_actor b (posted (length (mail h)) turn))) q) here vote) k forgets
 
   pub few_before : (h k : List Entry) → operations_of (h ++ k) ≤ 2 * most_committed_operations → operations_of h ≤ 2 * most_committed_operations
-  few_before h k few = let more : operations_of h ≤ operations_of (h ++ k) = operations_grow h k in omega arith
+  few_before h k few = let more : operations_of h ≤ operations_of (h ++ k) = operations-grow h k in omega arith
 
   pub unforgotten : (h : List Entry) (open_inputs : List Bool) → Runs (IsLawful decl) decl script h open_inputs → operations_of h ≤ 2 * most_committed_operations → Unforgotten h
   unforgotten h open_inputs begins few = record { low = λ n x k. absurd k.sent; votes = λ a q x client vote k forgets. k.sent }

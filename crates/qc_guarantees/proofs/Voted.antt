@@ -24,7 +24,6 @@ use Rattle.qc_msg.specs.Begun.{first_epoch, has_granted}
 use Rattle.qc_msg.specs.Counts.{answered, operations_of}
 use Rattle.qc_msg.specs.Deeds.{Sends, deeds, mail}
 use Rattle.qc_msg.specs.Steps.{Entry}
-use Rattle.qc_msg.proofs.Growth.{operations-written}
 use Rattle.qc_plan.specs.Round.{cyclic}
 use Rattle.qc_promise.specs.Account.{Account, ClientRequest, Current, is_append}
 use Rattle.qc_promise.specs.Accounting.{account}
@@ -47,11 +46,11 @@ use Rattle.qc_laws.proofs.Acted.{run_acts}
 use Rattle.qc_laws.proofs.Proper.{run_proper}
 use Rattle.qc_laws.proofs.SiteReplies.{IsProperFrom}
 use Rattle.qc_laws.specs.Turns.{ActsIn}
-use Rattle.qc_account.specs.Calls.{ballot_of, calls_in}
-use Rattle.qc_account.specs.Ties.{Ties, Votes, appends, reads, rests, votes}
-use Rattle.qc_account.specs.Told.{IsOpenIn}
-use Rattle.qc_account.proofs.Courses.{clients_tied}
-use Rattle.qc_account.proofs.Declared.{asks_declared}
+use Rattle.qc_due.specs.Calls.{ballot_of, calls_in}
+use Rattle.qc_due.specs.Ties.{Ties, Votes, appends, reads, rests, votes}
+use Rattle.qc_due.specs.Told.{IsOpenIn}
+use Rattle.qc_due.proofs.Courses.{clients_tied}
+use Rattle.qc_due.proofs.AccountDeclared.{asks_declared}
 use Rattle.qc_net.specs.Messages.{Backed, IsGrantTo, IsRequest, IsVerdictBacked}
 use Rattle.qc_net.specs.Mirrors.{Refines}
 use Rattle.qc_atomic.proofs.CalmGrants.{is_of_first_epoch}
@@ -60,6 +59,7 @@ use Rattle.qc_atomic.proofs.Stood.{Stood}
 use Rattle.qc_guarantees.specs.Votes.{IsOpenVote}
 use Rattle.qc_guarantees.proofs.Accounts.{HasGrounds, WasGranted, WasSent}
 use Rattle.qc_guarantees.proofs.Grounds.{has_grounds}
+use Rattle.qc_guarantees.proofs.NeverRisen.{operations_written}
 use Rattle.qc_guarantees.proofs.Mailed.{sent_as, sent_mail, taken_mail}
 use Rattle.qc_guarantees.proofs.NetHolds.{AreFullMessages, IsGrantedBy, WasEnded, granted_or_ended, same_request}
 use Rattle.qc_guarantees.proofs.Rightful.{mail_full, mail_named}
@@ -212,4 +212,4 @@ module _ (decl : Declaration) (script : Script) (accepted : IsAccepted decl) (so
     site_has_room few =
         subst (λ (tx : TxId). nat_le (prepare_length (promise_of (stood.net.sites q.site) tx)) most_record_bytes ≡ true) name_is
         (promise_fits decl accepted stood.net stood.calm a tie.x v client transaction_is voting_is q.site place (subst (AreNamedMessages decl) (sym stood.mail_is) (mail_named decl script accepted sound h open_inputs run))
-        (subst (λ (cs : List CommitRecord). sum_by (λ (c : CommitRecord). answered c.ops) cs ≤ 2 * most_committed_operations) (sym stood.written_is) (subst (λ (n : ℕ). n ≤ 2 * most_committed_operations) (operations-written h) few)))
+        (subst (λ (cs : List CommitRecord). sum_by (λ (c : CommitRecord). answered c.ops) cs ≤ 2 * most_committed_operations) (sym stood.written_is) (subst (λ (n : ℕ). n ≤ 2 * most_committed_operations) (operations_written (IsLawful decl) decl script h open_inputs run) few)))

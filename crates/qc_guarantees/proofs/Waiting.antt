@@ -32,9 +32,9 @@ use Rattle.qc_promise.specs.Asked.{is_asked_for}
 use Rattle.qc_promise.specs.Rounds.{are_votes_in, first_against, participants}
 use Rattle.qc_promise.specs.Rows.{commit_row, running_row, row_of, vote_row}
 use Rattle.qc_promise.specs.Rows as rows
-use Rattle.qc_account.specs.ByRows.{AreByRows}
-use Rattle.qc_account.specs.Ties.{IsPrepare, Votes}
-use Rattle.qc_account.proofs.Courses.{IsAtInput, account_of, client_acts, clients_due, turns_tell}
+use Rattle.qc_due.specs.ByRows.{AreByRows}
+use Rattle.qc_due.specs.Ties.{IsPrepare, Votes}
+use Rattle.qc_due.proofs.Courses.{IsAtInput, account_of, client_acts, clients_due, turns_tell}
 use Rattle.qc_client.specs.Conduct.{client_after}
 use Rattle.qc_net.specs.Net.{commits_in}
 use Rattle.qc_guarantees.proofs.Accounts.{found_in, told_requests}

@@ -1,4 +1,16 @@
 pub mod Votes
 pub mod Held
 pub mod Clocks
-pub mod Wrong
+pub mod WrongGuarantees
+pub mod Undisturbed
+pub mod Arrives
+pub mod Open
+pub mod First
+pub mod Answers
+pub mod Elsewhere
+pub mod Acting
+pub mod Succeeds
+pub mod WrongUndisturbed
+pub mod Scripts
+pub mod Ordered
+pub mod WrongOrder

@@ -6,3 +6,12 @@ pub mod Asked
 pub mod Waits
 pub mod Exchanges
 pub mod Calm
+pub mod LivesIn
+pub mod OwnRises
+pub mod Others
+pub mod Within
+pub mod Bounds
+pub mod RecordsAsked
+pub mod Books
+pub mod Written
+pub mod Wrong

@@ -1,10 +1,11 @@
 -- How what is read off a history grows, as the history does.
-use Rattle.std.proofs.Common.{◌≡◌, ℕ, suc, ◌+◌, ◌==◌, ◌≤◌, Bool, true, false, cond, List, [], ◌∷◌, ◌++◌, map, filter, length, sum_by, Option, Some, None, option_to_list, refl, ap, sym, ◌∙◌, arith, append_assoc}
-use Rattle.std.specs.List.{cons_option}
+use Rattle.std.proofs.Common.{◌≡◌, ℕ, suc, ◌+◌, ◌==◌, ◌≤◌, Bool, true, false, cond, List, [], ◌∷◌, ◌++◌, map, filter, length, sum_by, Option, Some, None, option_to_list, refl, ap, subst, sym, ◌∙◌, arith, append_assoc}
+use Rattle.std.specs.List.{AllByRecursion as Every, cons_option}
+use Rattle.std.specs.Prelude.{fold}
 use Rattle.std.proofs.lemmas.Bool.{eq-eqb}
 use Rattle.std.proofs.lemmas.List.{append-nil, map-append}
 use Rattle.std.proofs.lemmas.List.Elements.{filter-append, filter_map-append}
-use Rattle.std.proofs.lemmas.List.Sums.{sum_by-cons}
+use Rattle.std.proofs.lemmas.List.Sums.{fold-append, sum_by-cons}
 use Rattle.qc_msg.specs.declared.message.Envelope.{Envelope}
 use Rattle.qc_msg.specs.declared.record.Record.{Record}
 use Rattle.qc_msg.specs.declared.reply.Reply.{Reply}
@@ -13,6 +14,7 @@ use Rattle.qc_msg.specs.declared.step.Fall.TheVariants as causes
 use Rattle.qc_msg.specs.declared.step.Given.{Given}
 use Rattle.qc_msg.specs.declared.step.Given.TheVariants as given
 use Rattle.qc_msg.specs.declared.step.Step.{Step}
+use Rattle.qc_msg.specs.declared.step.Step.TheVariants as steps
 use Rattle.qc_msg.specs.declared.step.Step.TheVariants.{Fell, Rose, Wrote, Sent, Told}
 use Rattle.qc_msg.specs.declared.turn.Appended.{Appended}
 use Rattle.qc_msg.specs.declared.turn.Appended.TheVariants.{Done, Failed, Stopped}
@@ -20,7 +22,7 @@ use Rattle.qc_msg.specs.declared.turn.Posting.{Posting}
 use Rattle.qc_msg.specs.declared.turn.Turn.{Turn}
 use Rattle.qc_msg.specs.Deeds.{Deed, Falls, Rises, Takes, Sends, deed_at, deeds, deeds_as, envelope_of, envelopes, heard, mail, own, sends_of, tells_of, turn_deeds, writes_of, WasSentTo}
 use Rattle.qc_entry.specs.declared.record.Commit.{Commit}
-use Rattle.qc_msg.specs.Counts.{answered, answered_in, commit_in, operations_of, written}
+use Rattle.qc_msg.specs.Counts.{IsNoRise, Tally, answered, answered_at, answered_in, commit_in, no_tally, operations_of, standing_after, tally_of, tally_with, written}
 use Rattle.qc_msg.specs.Steps.{Entry, by, fell, marked, posted, posted_as, sends_as, sents, step_of, told, wrote}
 
 -- an actor's steps, as entries
@@ -259,7 +261,25 @@ same_deeds a ms h k same =
     nothing_more [] ys h = h
     nothing_more (x ∷ xs) ys h = nothing_more xs ys (cc)
 
--- the committed operations are those of the records that were written
+-- what is counted goes on
+
+pub tally-more : (h : List Entry) (e : Entry) → tally_of (h ++ e ∷ []) ≡ tally_with (tally_of h) e
+tally-more h e = fold-append tally_with no_tally h (e ∷ [])
+
+pub operations-more : (h : List Entry) (e : Entry) → operations_of (h ++ e ∷ []) ≡ operations_of h + answered_at ((tally_of h).standing e.actor) e.step
+operations-more h e = ap (λ (t : Tally). t.operations) (tally-more h e)
+
+pub standing-more : (h : List Entry) (e : Entry) (a : ℕ) → (tally_of (h ++ e ∷ [])).standing a ≡ cond (a == e.actor) (standing_after ((tally_of h).standing a) e.step) ((tally_of h).standing a)
+standing-more h e a = ap (λ (t : Tally). t.standing a) (tally-more h e)
+
+tally_grows : (t : Tally) (k : List Entry) → t.operations ≤ (fold tally_with t k).operations
+tally_grows t [] = omega arith
+tally_grows t (e ∷ k) = omega (arith, tally_grows (tally_with t e) k)
+
+pub operations-grow : (h k : List Entry) → operations_of h ≤ operations_of (h ++ k)
+operations-grow h k = subst (λ (t : Tally). operations_of h ≤ t.operations) (sym (fold-append tally_with no_tally h k)) (tally_grows (tally_of h) k)
+
+-- without rises the committed operations are those of the records that were written
 
 abbrev answered_by : Commit → ℕ
 answered_by c = answered c.ops
@@ -268,9 +288,28 @@ operations-cons : (o : Option Commit) (cs : List Commit) → answered_in o + sum
 operations-cons None cs = omega arith
 operations-cons (Some c) cs = sym (sum_by-cons answered_by c cs)
 
-pub operations-written : (h : List Entry) → operations_of h ≡ sum_by answered_by (written h)
-operations-written [] = refl
-operations-written (e ∷ h) =
-    sum_by-cons (λ (x : Entry). answered_in (commit_in x.step)) e h
-    ∙ ap (λ (v : ℕ). answered_in (commit_in e.step) + v) (operations-written h)
-    ∙ operations-cons (commit_in e.step) (written h)
+answered_written : (n : ℕ) (step : Step) → IsNoRise step → answered_at n step ≡ answered_in (commit_in step)
+answered_written n (steps.Phase k) none = refl
+answered_written n (steps.Cut a b) none = refl
+answered_written n (steps.Heal a b) none = refl
+answered_written n (steps.Armed actor kind at) none = refl
+answered_written n (steps.Called command) none = refl
+answered_written n (steps.Got number) none = refl
+answered_written n (steps.Lost number) none = refl
+answered_written n (steps.Wrote record_written) none = refl
+answered_written n (steps.Sent number to message) none = refl
+answered_written n (steps.Told reply) none = refl
+answered_written n (steps.Fell cause pending) none = refl
+answered_written n (steps.Rose records) never = absurd never
+answered_written n (steps.Damaged offset) none = refl
+
+tally_written : (t : Tally) (h : List Entry) → Every (λ (e : Entry). IsNoRise e.step) h → (fold tally_with t h).operations ≡ t.operations + sum_by answered_by (written h)
+tally_written t [] none = let nothing : sum_by answered_by [] ≡ 0 = refl in omega arith
+tally_written t (e ∷ h) none =
+    let rest : (fold tally_with (tally_with t e) h).operations ≡ (t.operations + answered_at (t.standing e.actor) e.step) + sum_by answered_by (written h) = tally_written (tally_with t e) h none.1 in
+    let one : answered_at (t.standing e.actor) e.step ≡ answered_in (commit_in e.step) = answered_written (t.standing e.actor) e.step none.0 in
+    let all : answered_in (commit_in e.step) + sum_by answered_by (written h) ≡ sum_by answered_by (written (e ∷ h)) = operations-cons (commit_in e.step) (written h) in
+    omega arith
+
+pub operations-written : (h : List Entry) → Every (λ (e : Entry). IsNoRise e.step) h → operations_of h ≡ sum_by answered_by (written h)
+operations-written h none = let all : operations_of h ≡ 0 + sum_by answered_by (written h) = tally_written no_tally h none in omega arith

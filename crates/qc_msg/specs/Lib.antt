@@ -3,6 +3,7 @@ pub mod Turns
 pub mod Deeds
 pub mod Lengths
 pub mod Counts
+pub mod Fallen
 pub mod Calls
 pub mod Begun
 pub mod Readings

@@ -11,8 +11,10 @@
 //!    them: a message's number is its place in the list of all messages.
 //! 2. The steps of a turn are its record, then its messages, then its reply
 //!    (`posted`, in `specs/Steps.antt`).
-//! 3. The committed operations are those of the records that were written
-//!    (`operations_are_those_of_records`).
+//! 3. The committed operations are those of the commit records that came to
+//!    stand, each once: written, or given by a rise (`operations_go_on`,
+//!    `records_that_rise_count_once`). Without rises they are those of the records
+//!    that were written (`operations_are_those_of_records`).
 //! 4. An actor's deeds go on by its own input and turn, and stay where another
 //!    actor or the controller goes on (`deeds_go_on`).
 //!
@@ -35,7 +37,9 @@ pub use begun::{
 };
 pub use call::{Call, Calls, MOST_CALLS};
 pub use history::History;
-pub use laws::{deeds_go_on, operations_are_those_of_records};
+pub use laws::{
+    deeds_go_on, operations_are_those_of_records, operations_go_on, records_that_rise_count_once,
+};
 pub use message::{Answer, Envelope, Message, Outcome, PreparedList, Want};
 pub use record::{Record, Records};
 pub use reply::{Half, Reply, Why};

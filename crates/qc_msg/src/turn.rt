@@ -46,8 +46,8 @@ pub struct Turn {
     pub failed_sends: Sends,
     /// The reply where the record wasn't written.
     pub failed_told: Option<Reply>,
-    /// What became of the record. No disk takes records yet, so each turn has
-    /// `Done`.
+    /// What became of the record: an actor makes each turn with `Done`, and who
+    /// appends the record says otherwise where its disk failed or stopped.
     pub append: Appended,
 }
 

@@ -1,4 +1,15 @@
-pub mod Senders
 pub mod Turns
 pub mod News
-pub mod Steady
+pub mod Turned
+pub mod Served
+pub mod Lines
+pub mod Rises
+pub mod Kept
+pub mod Posted
+pub mod Ordered
+pub mod Starts
+pub mod Unstarted
+pub mod Misfits
+pub mod Settling
+pub mod Settled
+pub mod Runnable

@@ -1,66 +1,83 @@
 -- What a cell keeps, and what a turn makes of it.
-use Rattle.std.specs.Prelude.{◌≡◌, ℕ, ◌<◌, Bool, true, false, List, [], ◌∷◌, ◌++◌, Option, Some, None}
+use Rattle.std.specs.Prelude.{◌≡◌, ◌⊎◌, ℕ, ◌<◌, Bool, true, false, List, [], ◌∷◌, ◌++◌, None}
 use mathlib.Core.List.{IsPrefix}
 use Rattle.atomic_table.specs.Seated.{TableId}
-use Rattle.qc_core.specs.declared.actor.Actor.{Actor}
 use Rattle.qc_core.specs.Actors.{actor_after, actor_takes}
-use Rattle.qc_core.specs.Conduct.{IsLawful}
-use Rattle.qc_decl.specs.Actors.{actors}
+use Rattle.qc_core.specs.Conduct.{IsLawfulWithFalls}
+use Rattle.qc_decl.specs.Actors.{actors, administrator}
 use Rattle.qc_decl.specs.declared.declaration.Declaration.{Declaration}
-use Rattle.qc_msg.specs.Deeds.{Takes, deeds, turn_deeds}
+use Rattle.qc_msg.specs.Deeds.{Takes, deeds, deeds_as}
 use Rattle.qc_msg.specs.Steps.{Entry}
 use Rattle.qc_msg.specs.declared.step.Given.{Given}
 use Rattle.qc_msg.specs.declared.step.Step.{Step}
+use Rattle.qc_msg.specs.declared.turn.Appended.{Appended}
 use Rattle.qc_pass.specs.declared.token.Pass.{Pass}
 use Rattle.qc_pass.specs.Tokens.{number, pass_table, room, seen}
-use Rattle.qc_script.specs.Runs.{Run}
+use Rattle.qc_process.specs.Stored.{IsOnDisk, IsProcess, IsStored}
+use Rattle.qc_process.specs.Views.{ProcessView, StoreView}
+use Rattle.qc_script.specs.RunsWithFalls.{RunWithFalls}
 use Rattle.qc_script.specs.declared.script.Script.{Script}
 use Rattle.qc_fabric.specs.Tells.{HasNone}
+use Rattle.qc_node.specs.Rules.{fits_of}
 use Rattle.qc_node.specs.declared.ends.TurnEnd.{TurnEnd}
 use Rattle.qc_node.specs.declared.ends.TurnEnd.TheVariants as ends
 
--- what callers see: the actor's number, what the cell saw of the history, and the actor, unless it was given up
+-- what callers see: the actor's number, what the cell saw of the history, and the process, with whether it was given up
 pub record Known : Type 0 where
   pub number : ℕ
   pub seen : List Entry
-  pub actor : Option Actor
+  pub given_up : Bool
+  pub process : ProcessView
 
-abbrev pub unless_given_up : Bool → Actor → Option Actor
-unless_given_up true actor = None
-unless_given_up false actor = Some actor
+-- a store of a process that was given up: it stands as the history tells; or its journal was given up as well, and its
+-- disk holds the records and has counted its falls
+abbrev pub IsLeft : Bool → Declaration → ℕ → List Entry → StoreView → Type 0
+IsLeft tells decl a h s =
+    IsStored tells decl a h s ⊎ ((s.journal ≡ None) × IsOnDisk tells decl a h s.told s.fuse.unarmed)
 
--- the actor that its deeds in this part of the history make
-abbrev pub actor_in : Declaration → ℕ → List Entry → Actor
-actor_in decl a h = (actor_after decl a (deeds a [] h)).actor
+-- what is known of a process: it is what its actor's deeds make of it; or it was given up, and its disk alone is known
+abbrev pub IsKnown : Bool → Declaration → ℕ → List Entry → Bool → ProcessView → Type 0
+IsKnown tells decl a h false p = IsProcess tells decl a h p
+IsKnown tells decl a h true p = IsLeft tells decl a h p.store
 
--- the pass is of the run, of a site or a client, and has no room; unless the actor was given up, it is what its deeds
--- make
-pub record IsCell (z : TableId) (decl : Declaration) (given_up : Bool) (actor : Actor) (pass : Pass Step) : Type 0 where
+-- the pass is of the run, of a site or a client, and has no room
+pub record IsCell (tells : Bool) (z : TableId) (decl : Declaration) (given_up : Bool) (p : ProcessView)
+    (pass : Pass Step) : Type 0 where
   pub table_is : pass_table pass ≡ z
   pub is_actor : number pass < actors decl
   pub no_room : room pass ≡ 0
-  pub actor_is : given_up ≡ false → actor ≡ actor_in decl (number pass) (seen pass)
+  pub known : IsKnown tells decl (number pass) (seen pass) given_up p
 
 -- The cell saw more, in which its actor did nothing: what it saw is a run, after which a limit is reached, an input of
 -- the actor is open, or nothing is ready for it.
 pub record IsIdle (decl : Declaration) (script : Script) (old new : Known) : Type 0 where
   pub begins : IsPrefix old.seen new.seen
   pub does : deeds new.number [] new.seen ≡ deeds old.number [] old.seen
-  pub actor_is : new.actor ≡ old.actor
-  pub run : Run (IsLawful decl) decl script new.seen
+  pub process_is : new.process ≡ old.process
+  pub given_up_is : new.given_up ≡ old.given_up
+  pub run : RunWithFalls (IsLawfulWithFalls decl) (fits_of decl) decl script new.seen
   pub why : HasNone decl script run.0 new.number new.seen
 
--- The cell saw more, in which its actor took an input and posted the turn that this calls for, whose messages have the
--- numbers from first on.
+-- The cell saw more, in which its actor took an input and posted the turn that this calls for, by what became of its
+-- record; its messages have the numbers from first on.
 pub record IsServed (decl : Declaration) (old new : Known) : Type 0 where
   pub begins : IsPrefix old.seen new.seen
   pub given : Given
+  pub end : Appended
   pub first : ℕ
   pub does : deeds new.number [] new.seen
       ≡ (deeds old.number [] old.seen ++ Takes given ∷ [])
-      ++ turn_deeds first (actor_takes decl (actor_in decl old.number old.seen) given).turn
-  pub actor_is : new.actor ≡ Some (actor_in decl new.number new.seen)
+      ++ deeds_as end first (actor_takes decl (actor_after decl old.number (deeds old.number [] old.seen)).actor given).turn
+  pub up : new.given_up ≡ false
 
 abbrev pub IsTurn : Declaration → Script → Known → Known → TurnEnd → Type 0
 IsTurn decl script old new ends.NothingReady = IsIdle decl script old new
 IsTurn decl script old new ends.Done = IsServed decl old new
+
+-- the administrator, to whom nothing happens: his pass is of the run, and has no room
+pub record IsAdministrator (tells : Bool) (z : TableId) (decl : Declaration) (s : StoreView) (pass : Pass Step) : Type 0
+  where
+    pub table_is : pass_table pass ≡ z
+    pub number_is : number pass ≡ administrator decl
+    pub no_room : room pass ≡ 0
+    pub stored : IsStored tells decl (administrator decl) (seen pass) s

@@ -1,15 +1,16 @@
 -- How a phase ends, and a script, and what its run comes to.
 use Rattle.std.specs.Prelude.{◌≡◌, ◌≤◌, ℕ, Bool, List, Some, None, length}
-use Rattle.qc_core.specs.Conduct.{IsLawful}
+use Rattle.qc_core.specs.Conduct.{IsLawfulWithFalls}
 use Rattle.qc_decl.specs.Actors.{actors}
 use Rattle.qc_decl.specs.declared.declaration.Declaration.{Declaration}
 use Rattle.qc_msg.specs.Steps.{Entry}
 use Rattle.qc_script.specs.Ready.{phase_of}
-use Rattle.qc_script.specs.Runs.{Runs}
+use Rattle.qc_script.specs.RunsWithFalls.{RunsWithFalls}
 use Rattle.qc_script.specs.declared.script.Script.{Script}
 use Rattle.qc_fabric.specs.Events.{before_last_event}
 use Rattle.qc_fabric.specs.Logs.{full_of}
 use Rattle.qc_fabric.specs.Picks.{IsStopped}
+use Rattle.qc_node.specs.Rules.{fits_of}
 use Rattle.qc_node.specs.declared.ends.DriveEnd.{DriveEnd}
 use Rattle.qc_node.specs.declared.ends.DriveEnd.TheVariants as ends
 
@@ -40,6 +41,6 @@ IsScriptEnd decl script h inputs ends.OutOfMemory = (full_of h ≡ None) × (IsO
 pub record HasEnded (decl : Declaration) (script : Script) (h : List Entry) (end : DriveEnd) : Type 0 where
   pub inputs : List Bool
   pub opens : length inputs ≡ actors decl
-  pub runs : Runs (IsLawful decl) decl script h inputs
+  pub runs : RunsWithFalls (IsLawfulWithFalls decl) (fits_of decl) decl script h inputs
   pub ended : IsScriptEnd decl script h inputs end
   pub below : full_of (before_last_event h) ≡ None

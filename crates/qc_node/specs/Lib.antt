@@ -1,4 +1,8 @@
 pub mod Built
-pub mod Inputs
+pub mod Rules
 pub mod Cells
+pub mod Restarts
 pub mod Ends
+pub mod Places
+pub mod Settling
+pub mod Starts

@@ -1,75 +1,73 @@
-//! An actor in its cell, and its turns.
+//! An actor's process in its cell, and its turns.
 
-ghost use Rattle.std.specs.Prelude.{◌≡◌, ◌<◌, [], IfOk, IfSome, option_map};
-ghost use Rattle.qc_core.specs.Actors.{actor_after};
-ghost use Rattle.qc_decl.specs.Accepted.{IsAccepted};
+ghost use Rattle.std.specs.Prelude.{◌≡◌, ◌<◌, [], IfOk, false};
 ghost use Rattle.qc_decl.specs.Actors.{actors};
-ghost use Rattle.qc_msg.specs.Deeds.{deeds};
 ghost use Rattle.qc_pass.specs.Made.{IsNew};
 ghost use Rattle.qc_pass.specs.Tokens.{number};
+ghost use Rattle.qc_process.specs.Stored.{IsProcess};
+ghost use Rattle.qc_node.specs.Built.{IsRunnable};
 ghost use Rattle.qc_node.specs.Cells.{IsTurn};
 
-use crate::act::act;
 use crate::ends::TurnEnd;
 use crate::rules::Rules;
-use qc_core::Actor;
 use qc_decl::Declaration;
-use qc_fabric::{Fabric, Named, Still, Taken};
+use qc_fabric::{Fabric, Named, Taken};
 use qc_list::OutOfMemory;
 use qc_msg::Step;
-use qc_outside::Gate;
+use qc_outside::{Disk, Gate};
 use qc_pass::Pass;
+use qc_process::Process;
 use std::alloc::{AllocError, Global};
 use std::marker::{Model, PhantomData};
 use std::sync::Wait;
 use std::thread::Threads;
 
-/// An actor with its pass. Where the actor was given up, what is left of it is
-/// nobody's.
+/// A process with its pass. Where it was given up, its disk is all that is known
+/// of it.
 #[derive(Drop)]
-pub struct Cell<N: Named> {
-    actor: Actor,
-    given_up: bool,
-    pass: Pass<Step>,
+pub struct Cell<D: Disk, N: Named> {
+    pub(crate) process: Process<D>,
+    pub(crate) given_up: bool,
+    pub(crate) pass: Pass<Step>,
     of: PhantomData<N>,
 }
 
-impl<N: Named> Model for Cell<N> {
+impl<D: Disk, N: Named> Model for Cell<D, N> {
     ghost use Rattle.qc_pass.specs.Tokens.{number, seen};
-    ghost use Rattle.qc_node.specs.Cells.{IsCell, Known, unless_given_up};
+    ghost use Rattle.qc_node.specs.Cells.{IsCell, Known};
 
     ghost Value = { Known };
 
     ghost view = { λ c. record {
       number = number c.pass;
       seen = seen c.pass;
-      actor = unless_given_up c.given_up c.actor;
+      given_up = c.given_up;
+      process = c.process;
     } };
 
-    ghost invariant = { λ c. IsCell N.table N.declaration c.given_up c.actor c.pass };
+    ghost invariant = { λ c. IsCell N.tells N.table N.declaration c.given_up c.process c.pass };
 }
 
-impl<N: Named> Cell<N> {
-    /// The cell of a pass that has seen nothing, with its actor before it does
-    /// anything.
-    pub fn new(alloc: Global, decl: &Declaration, pass: Pass<Step>) -> Result<Cell<N>, OutOfMemory>
-        requires declaration { decl.now ≡ N.declaration }
+impl<D: Disk, N: Named> Cell<D, N> {
+    /// The cell of a pass that has seen nothing, with the process of its number
+    /// before that does anything. It takes no memory.
+    pub(crate) fn new(process: Process<D>, pass: Pass<Step>) -> Cell<D, N>
         requires fresh { IsNew N.table (number pass) pass }
         requires actor { number pass < actors N.declaration }
-        ensures { IfOk result (λ c. c.number ≡ number pass) }
+        requires process { IsProcess N.tells N.declaration (number pass) [] process }
+        ensures number { result.number ≡ number pass }
     {
-        let actor = Actor::new(alloc, decl, pass.number())?;
-        Ok(Cell {
-            actor,
+        Cell {
+            process,
             given_up: false,
             pass,
             of: PhantomData,
-        })
+        }
     }
 
-    /// The actor takes its next input, acts, and posts. After want of memory its
-    /// holding ends, and where it took an input this stays open: then the actor
-    /// is given up.
+    /// The actor takes its next input, acts, writes its record, and posts. After
+    /// want of memory its holding ends, and where it took an input this stays open:
+    /// then the process is given up.
     pub fn turn<G: Gate, R: Threads + Wait + Sync>(
         &mut self,
         rt: &R,
@@ -79,7 +77,7 @@ impl<N: Named> Cell<N> {
         gate: &G,
     ) -> Result<TurnEnd, OutOfMemory>
         requires declaration { decl.now ≡ N.declaration }
-        requires accepted { IsAccepted N.declaration }
+        requires runnable { IsRunnable N.declaration N.script }
         ensures number { self.new.number ≡ self.old.number }
         ensures ok { IfOk result (λ end. IsTurn N.declaration N.script self.old self.new end) }
     {
@@ -90,9 +88,9 @@ impl<N: Named> Cell<N> {
         end
     }
 
-    /// The same, but after want of memory the actor is still held. It counts as
-    /// given up from the input until all is posted, so each way out between them
-    /// leaves it so.
+    /// The same, but after want of memory the actor is still held. Its process counts
+    /// as given up from the input until all is posted, so each way out between them
+    /// leaves it so. All memory is taken before the disk is called.
     fn try_turn<G: Gate, R: Threads + Wait + Sync>(
         &mut self,
         rt: &R,
@@ -102,56 +100,28 @@ impl<N: Named> Cell<N> {
         gate: &G,
     ) -> Result<TurnEnd, OutOfMemory>
         requires declaration { decl.now ≡ N.declaration }
-        requires accepted { IsAccepted N.declaration }
+        requires runnable { IsRunnable N.declaration N.script }
         ensures number { self.new.number ≡ self.old.number }
         ensures ok { IfOk result (λ end. IsTurn N.declaration N.script self.old self.new end) }
     {
         let Some(Taken { given, steps }) = fabric.take(rt, alloc, decl, &mut self.pass)? else {
             return Ok(TurnEnd::NothingReady);
         };
-        // An actor that was given up has an open input, so nothing is ready for
+        // A process that was given up has an open input, so nothing is ready for
         // it, and none was taken here. The lock doesn't let that be known.
         if self.given_up {
             return Err(AllocError);
         }
         self.given_up = true;
-        let turn = act(&mut self.actor, alloc, decl, given)?;
+        let turn = self.process.take(alloc, decl, given)?;
+        self.process.prepare(alloc, &turn)?;
         fabric.reserve(rt, &mut self.pass, &turn)?;
         gate.at(rt, self.pass.number(), steps);
+        let mut turn = turn;
+        turn.append = self.process.append();
         let first = fabric.post(rt, &mut self.pass, turn);
-        self.actor.sent(first);
+        self.process.sent(first);
         self.given_up = false;
         Ok(TurnEnd::Done)
-    }
-
-    /// The cell sees the history.
-    pub fn look(&mut self, still: &mut Still<Rules, N>)
-        ensures still { still.new ≡ still.old }
-        ensures same { (self.new.number ≡ self.old.number) × (self.new.actor ≡ self.old.actor) }
-        ensures seen { self.new.seen ≡ still.new.history }
-    {
-        still.look(&mut self.pass);
-    }
-
-    /// The actor's number.
-    pub fn number(&self) -> u8
-        ensures number { result ≡ self.now.number }
-        ensures actor { result < actors N.declaration }
-    {
-        self.pass.number()
-    }
-
-    /// The actor, which is what its deeds in what the cell saw make of it. None
-    /// where it was given up.
-    pub fn actor(&self) -> Option<&Actor>
-        ensures same { option_map (λ a. a.now) result ≡ self.now.actor }
-        ensures state { IfSome result
-            (λ a. a.now ≡ (actor_after N.declaration self.now.number (deeds self.now.number [] self.now.seen)).actor) }
-    {
-        if self.given_up {
-            None
-        } else {
-            Some(&self.actor)
-        }
     }
 }

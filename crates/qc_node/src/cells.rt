@@ -1,55 +1,38 @@
-//! The cells of all sites and clients, with the controller.
+//! The cells of all sites and clients, with the administrator and the controller.
 
-ghost use Rattle.std.specs.Prelude.{◌≡◌, ◌+◌, ◌<◌, All, IfOk, vec_len};
-ghost use Rattle.qc_decl.specs.Accepted.{IsAccepted};
+ghost use Rattle.std.specs.Prelude.{◌≡◌, ◌+◌, ◌<◌, IfOk, vec_len};
 ghost use Rattle.qc_decl.specs.Actors.{actors, controller};
 ghost use Rattle.qc_pass.specs.Made.{AreNew};
+ghost use Rattle.qc_node.specs.Built.{IsRunnable};
 
+use crate::administrator::Administrator;
 use crate::cell::Cell;
 use crate::controller::Controller;
 use crate::ends::TurnEnd;
+use crate::processes::Processes;
 use crate::rules::Rules;
 use qc_decl::Declaration;
-use qc_fabric::{Fabric, Named, Still};
+use qc_fabric::{Fabric, Named};
 use qc_list::OutOfMemory;
-use qc_msg::Step;
-use qc_outside::Gate;
+use qc_msg::{Control, Step};
+use qc_outside::{Disk, Gate};
 use qc_pass::Pass;
-use std::alloc::Global;
+use std::alloc::{AllocError, Global};
 use std::sync::{Mutex, Wait};
 use std::thread::Threads;
 
-/// The cells of all sites and clients, by number, and the controller.
+/// The cells of all sites and clients, by number, the administrator, and the
+/// controller. Locks are taken in this order: a cell's, the controller's, the
+/// fabric's; and no thread holds two of one kind.
 #[derive(Drop)]
-pub struct Cells<N: Named> {
-    cells: Vec<Mutex<Cell<N>>>,
-    controller: Mutex<Controller<N>>,
+pub struct Cells<D: Disk, N: Named> {
+    pub(crate) cells: Vec<Mutex<Cell<D, N>>>,
+    pub(crate) administrator: Mutex<Administrator<D, N>>,
+    pub(crate) controller: Mutex<Controller<N>>,
     ghost whole: { vec_len cells ≡ actors N.declaration },
 }
 
-impl<N: Named> Cells<N> {
-    /// The cells of all sites and clients, of new passes in the order of their
-    /// numbers, and the controller, whose pass is the last. The one before it is
-    /// the administrator's, and is let go: nobody asks him anything yet.
-    pub fn new(
-        alloc: Global,
-        decl: &Declaration,
-        passes: Vec<Pass<Step>>,
-    ) -> Result<Cells<N>, OutOfMemory>
-        requires declaration { decl.now ≡ N.declaration }
-        requires fresh { AreNew N.table passes.items }
-        requires whole { vec_len passes ≡ controller N.declaration + 1 }
-    {
-        let mut passes = passes;
-        let Some(controller) = passes.pop() else {
-            unreachable!()
-        };
-        passes.pop();
-        let cells = cells_of(alloc, decl, passes)?;
-        let controller = Mutex::new(Controller::new(controller));
-        Ok(Cells { cells, controller })
-    }
-
+impl<D: Disk, N: Named> Cells<D, N> {
     /// A turn of the actor in the cell of this number.
     pub(crate) fn turn<G: Gate, R: Threads + Wait + Sync>(
         &self,
@@ -61,66 +44,44 @@ impl<N: Named> Cells<N> {
         actor: u8,
     ) -> Result<TurnEnd, OutOfMemory>
         requires declaration { decl.now ≡ N.declaration }
-        requires accepted { IsAccepted N.declaration }
+        requires runnable { IsRunnable N.declaration N.script }
         requires actor { actor < actors N.declaration }
     {
         let mut cell = self.cells[actor as usize].lock(rt);
         cell.turn(rt, alloc, decl, fabric, gate)
     }
 
-    /// The controller does what it may do next, in phases up to the last one that is
-    /// given. Whether something is left.
+    /// What comes next is done, in phases up to the last one that is given: a control
+    /// line acts, in the cell of its actor or by the controller, or the next phase
+    /// begins. Whether something is left.
     pub(crate) fn advance<R: Wait>(
         &self,
         rt: &R,
+        alloc: Global,
         decl: &Declaration,
         fabric: &Fabric<Rules, N>,
         last: u32,
     ) -> Result<bool, OutOfMemory>
-        requires { decl.now ≡ N.declaration }
+        requires declaration { decl.now ≡ N.declaration }
+        requires runnable { IsRunnable N.declaration N.script }
     {
-        self.controller.lock(rt).advance(rt, decl, fabric, last)
-    }
-
-    /// The cells once no thread shares them, each having seen the history: what
-    /// sits in them is what the actors' deeds in it make.
-    pub fn settle(
-        self,
-        alloc: Global,
-        still: &mut Still<Rules, N>,
-    ) -> Result<Vec<Cell<N>>, OutOfMemory>
-        ensures still { still.new ≡ still.old }
-        ensures whole { IfOk result (λ v. vec_len v ≡ actors N.declaration) }
-        ensures seen { IfOk result (λ v. All (λ c. c.seen ≡ still.new.history) v.items) }
-    {
-        let Cells {
-            cells,
-            controller: _,
-        } = self;
-        let mut settled = Vec::with_capacity(alloc, cells.len())?;
-        for cell in cells {
-            let mut cell = cell.into_inner();
-            cell.look(still);
-            settled.push(cell)?;
+        match fabric.next_order(rt, decl, last) {
+            Some(Control::Armed { actor, .. }) => {
+                let mut cell = self.cells[actor as usize].lock(rt);
+                let mut controller = self.controller.lock(rt);
+                cell.arm(rt, decl, fabric, &mut controller, last)
+            }
+            Some(Control::Crash(actor)) => {
+                let mut cell = self.cells[actor as usize].lock(rt);
+                cell.crash(rt, decl, fabric, last)
+            }
+            Some(Control::Restart(actor)) => {
+                let mut cell = self.cells[actor as usize].lock(rt);
+                cell.restart(rt, alloc, decl, fabric, last)
+            }
+            Some(Control::Phase(_) | Control::Cut(_, _) | Control::Heal(_, _)) | None => {
+                self.controller.lock(rt).advance(rt, decl, fabric, last)
+            }
         }
-        Ok(settled)
     }
-}
-
-/// A cell for each of these passes.
-fn cells_of<N: Named>(
-    alloc: Global,
-    decl: &Declaration,
-    passes: Vec<Pass<Step>>,
-) -> Result<Vec<Mutex<Cell<N>>>, OutOfMemory>
-    requires declaration { decl.now ≡ N.declaration }
-    requires fresh { AreNew N.table passes.items }
-    requires whole { vec_len passes ≡ actors N.declaration }
-    ensures { IfOk result (λ cells. vec_len cells ≡ actors N.declaration) }
-{
-    let mut cells = Vec::with_capacity(alloc, passes.len())?;
-    for pass in passes {
-        cells.push(Mutex::new(Cell::new(alloc, decl, pass)?))?;
-    }
-    Ok(cells)
 }

@@ -1,14 +1,18 @@
 //! The controller, with its pass.
 
-ghost use Rattle.std.specs.Prelude.{◌≡◌};
-ghost use Rattle.qc_decl.specs.Actors.{controller};
+ghost use Rattle.std.specs.Prelude.{◌≡◌, ◌<◌, OnErr, OnOk};
+ghost use Rattle.qc_decl.specs.Actors.{actors, controller};
+ghost use Rattle.qc_msg.specs.declared.step.Control.TheVariants.{Armed};
 ghost use Rattle.qc_pass.specs.Tokens.{number, pass_table};
+ghost use Rattle.qc_fabric.specs.ActorLines.{Arms};
+ghost use Rattle.qc_fabric.specs.Controls.{MayDo};
 
 use crate::rules::Rules;
 use qc_decl::Declaration;
-use qc_fabric::{Fabric, Named};
+use qc_fabric::{Fabric, Named, Still};
 use qc_list::OutOfMemory;
 use qc_msg::Step;
+use qc_outside::ArmKind;
 use qc_pass::Pass;
 use std::marker::{Model, PhantomData};
 use std::sync::Wait;
@@ -47,7 +51,7 @@ impl<N: Named> Controller<N> {
     }
 
     /// It does what it may do next, in phases up to the last one that is given: a
-    /// phase begins, or a control line acts. Whether something is left.
+    /// phase begins, or a line of its own acts. Whether something is left.
     pub(crate) fn advance<R: Wait>(
         &mut self,
         rt: &R,
@@ -58,5 +62,25 @@ impl<N: Named> Controller<N> {
         requires { decl.now ≡ N.declaration }
     {
         fabric.advance(rt, decl, &mut self.pass, last)
+    }
+
+    /// It arms a fault for the disk of this pass's actor, by the control line that
+    /// is next.
+    pub(crate) fn arm(
+        &mut self,
+        still: &mut Still<Rules, N>,
+        pass: &mut Pass<Step>,
+        kind: ArmKind,
+        at: u32,
+    ) -> Result<(), OutOfMemory>
+        requires table { pass_table pass.old ≡ N.table }
+        requires actor { number pass.old < actors N.declaration }
+        requires may { MayDo N.declaration N.script still.old.history still.old.open_inputs
+            (Armed (number pass.old) kind at) }
+        ensures ok { OnOk result
+            (Arms N.declaration pass.old pass.new still.old.history still.new.history kind at) }
+        ensures err { OnErr result (pass.new ≡ pass.old) }
+    {
+        still.arm(&mut self.pass, pass, kind, at)
     }
 }

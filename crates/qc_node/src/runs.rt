@@ -1,27 +1,41 @@
 //! A whole run of a script.
 
-ghost use Rattle.std.specs.Prelude.{◌≡◌, ◌+◌, true, vec_len, IfOk};
+ghost use Rattle.std.specs.Prelude.{◌≡◌, ◌+◌, ◌-◌, ◌^◌, ◌<◌, ◌≤◌, ℕ, [], true, IfErr, IfOk, IfSome, IsSome, is_some};
+ghost use Rattle.std.specs.Prelude.{vec_capacity, vec_len};
 ghost use Rattle.qc_decl.specs.Accepted.{IsAccepted};
-ghost use Rattle.qc_decl.specs.Actors.{controller};
+ghost use Rattle.qc_decl.specs.Actors.{actors, administrator, controller};
 ghost use Rattle.qc_pass.specs.Made.{AreNew, IsFirst};
 ghost use Rattle.qc_pass.specs.Tokens.{table_of};
+ghost use Rattle.qc_process.specs.Stored.{IsStored};
+ghost use Rattle.qc_promise.specs.Kept.{Kept};
+ghost use Rattle.qc_promise.specs.Spent.{Spent};
+ghost use Rattle.qc_script.specs.Ready.{phase_of};
 ghost use Rattle.qc_script.specs.Sound.{IsScriptFor};
-ghost use Rattle.qc_node.specs.Built.{is_built};
-ghost use Rattle.qc_node.specs.Ends.{HasEnded, IsScriptEnd};
+ghost use Rattle.qc_bounds.specs.Places.{AreHandedOut};
+ghost use Rattle.qc_node.specs.Built.{IsRunnable, is_built};
+ghost use Rattle.qc_node.specs.Ends.{HasEnded};
+ghost use Rattle.qc_node.specs.Places.{AreEmpty, AreGivenBack, BothTell, HoldJournals, IsRefused};
+ghost use Rattle.qc_node.specs.Starts.{AreProcesses};
 
+use crate::administrator::Administrator;
+use crate::cell::Cell;
 use crate::cells::Cells;
+use crate::controller::Controller;
 use crate::ends::DriveEnd;
+use crate::processes::{Processes, start};
 use crate::rules::Rules;
 use crate::scripts::{Job, drive_script};
+use crate::settle::settle;
 use qc_fabric::{Named, Still};
 use qc_list::{List, OutOfMemory};
 use qc_msg::{History, Step};
-use qc_outside::Gate;
-use qc_pass::{Made, Passes};
+use qc_outside::{Disk, Gate, Rack, RackFault};
+use qc_pass::{Made, Pass, Passes};
+use qc_process::Process;
 use qc_script::Script;
 use std::alloc::Global;
 use std::marker::Brand;
-use std::sync::Wait;
+use std::sync::{Mutex, Wait};
 use std::thread::Threads;
 
 /// What a run came to.
@@ -36,44 +50,76 @@ pub struct Ran {
 }
 
 /// Runs a script from its beginning to its end, to a limit, or to want of
-/// memory. What happened is a run in each case. Before its last event each
-/// counted quantity was below its limit.
-pub fn run_script<G: Gate + Sync, R: Threads + Wait + Sync>(
+/// memory, over a disk of the rack for each actor. What happened is a run in each
+/// case. Before its last event each counted quantity was below its limit. Each
+/// disk goes back to its place. Where the rack tells, a run begins only where no
+/// actor's place holds a byte; records are kept then, and each place holds its
+/// actor's journal in the end.
+///
+/// Where no run begins and the rack tells, the disks that were handed out for the
+/// actors before the one that is told came back, each with its journal begun, and no
+/// actor's place that held a byte has changed.
+#[tactic(auto, using(crate::proofs::Runnable::runnable, crate::proofs::Unstarted::nothing_back))]
+pub fn run_script<G: Gate + Sync, K: Rack, R: Threads + Wait + Sync>(
     rt: &R,
     alloc: Global,
     job: &Job<'_, G>,
     script: Script,
-) -> Result<Ran, OutOfMemory>
+    rack: &mut K,
+) -> Result<Ran, RackFault>
     requires accepted { IsAccepted job.now.decl.now }
     requires built { is_built job.now.decl.now script ≡ true }
     requires sound { IsScriptFor job.now.decl.now script }
     ensures script { IfOk result (λ ran. ran.script ≡ script) }
     ensures ended { IfOk result (λ ran. HasEnded job.now.decl.now script ran.history ran.end) }
+    ensures spent { IfOk result (λ ran. K.faults rack.new < 2 ^ 64 - 1
+        → Spent ran.history (K.faults rack.new - K.faults rack.old)) }
+    ensures kept { IfOk result (λ ran. IsSome (K.places rack.old) → Kept ran.history) }
+    ensures empty { IfOk result (λ ran. AreEmpty job.now.decl.now (K.places rack.old)) }
+    ensures places { IfOk result (λ ran. 1 ≤ phase_of ran.history
+        → HoldJournals job.now.decl.now ran.history (K.places rack.new)) }
+    ensures tells { IsSome (K.places rack.old) → IsSome (K.places rack.new) }
+    ensures later { K.faults rack.old ≤ K.faults rack.new }
+    ensures refused { IfErr result (λ fault.
+        IsRefused (K.places rack.old) (K.faults rack.old) (K.faults rack.new) fault) }
+    ensures given_back { IfErr result (λ fault.
+        BothTell (K.places rack.old) (K.places rack.new) (AreGivenBack fault)) }
 {
     let made = Passes::make(alloc, job.decl.sites + job.decl.clients + 2)?;
-    run_named::<Brand, G, R>(rt, alloc, job, script, made)
+    run_named::<Brand, G, K, R>(rt, alloc, job, script, made, rack)
 }
 
 /// The same, under a name of its own, by these passes.
-#[tactic(auto, using(crate::proofs::Steady::built_steady))]
-fn run_named<N: Named + Send + Sync, G: Gate + Sync, R: Threads + Wait + Sync>(
+#[tactic(auto, using(crate::proofs::Unstarted::nothing_back))]
+fn run_named<N: Named + Send + Sync, G: Gate + Sync, K: Rack, R: Threads + Wait + Sync>(
     rt: &R,
     alloc: Global,
     job: &Job<'_, G>,
     script: Script,
     made: Made<Step>,
-) -> Result<Ran, OutOfMemory>
+    rack: &mut K,
+) -> Result<Ran, RackFault>
     requires declaration { job.now.decl.now ≡ N.declaration }
     requires script { script ≡ N.script }
-    requires sound { IsScriptFor N.declaration N.script }
-    requires accepted { IsAccepted N.declaration }
-    requires built { is_built N.declaration N.script ≡ true }
+    requires runnable { IsRunnable N.declaration N.script }
     requires table { table_of made.passes ≡ N.table }
     requires right { IsFirst N.table (controller N.declaration + 1) made.right }
     requires whole { vec_len made.each ≡ controller N.declaration + 1 }
     requires each { AreNew N.table made.each.items }
+    requires tells { is_some (K.places rack.old) ≡ N.tells }
     ensures script { IfOk result (λ ran. ran.script ≡ N.script) }
     ensures ended { IfOk result (λ ran. HasEnded N.declaration N.script ran.history ran.end) }
+    ensures spent { IfOk result (λ ran. K.faults rack.new < 2 ^ 64 - 1
+        → Spent ran.history (K.faults rack.new - K.faults rack.old)) }
+    ensures kept { IfOk result (λ ran. N.tells ≡ true → Kept ran.history) }
+    ensures empty { IfOk result (λ ran. AreEmpty N.declaration (K.places rack.old)) }
+    ensures places { IfOk result (λ ran. HoldJournals N.declaration ran.history (K.places rack.new)) }
+    ensures tells { is_some (K.places rack.new) ≡ N.tells }
+    ensures later { K.faults rack.old ≤ K.faults rack.new }
+    ensures refused { IfErr result (λ fault.
+        IsRefused (K.places rack.old) (K.faults rack.old) (K.faults rack.new) fault) }
+    ensures given_back { IfErr result (λ fault.
+        BothTell (K.places rack.old) (K.places rack.new) (AreGivenBack fault)) }
 {
     let Made {
         passes,
@@ -81,21 +127,101 @@ fn run_named<N: Named + Send + Sync, G: Gate + Sync, R: Threads + Wait + Sync>(
         each,
     } = made;
     let still: Still<Rules, N> = Still::make(alloc, job.decl, script, passes, right)?;
-    let cells: Cells<N> = Cells::new(alloc, job.decl, each)?;
-    let (still, end) = drive_script(rt, alloc, job, still, &cells);
-    Ok(outcome(still, end))
+    let places = Vec::with_capacity(alloc, usize::from(job.decl.sites + job.decl.clients))?;
+    let processes = start(alloc, job.decl, rack)?;
+    let cells = cells_of(each, processes, places);
+    Ok(run_cells(rt, alloc, job, still, cells, rack))
 }
 
-/// What the state leaves.
-fn outcome<N: Named>(still: Still<Rules, N>, end: DriveEnd) -> Ran
-    requires { IsScriptEnd N.declaration N.script still.history still.open_inputs end }
+/// These cells are run, and each disk goes back to its place.
+fn run_cells<N: Named + Send + Sync, G: Gate + Sync, K: Rack, R: Threads + Wait + Sync>(
+    rt: &R,
+    alloc: Global,
+    job: &Job<'_, G>,
+    still: Still<Rules, N>,
+    cells: Cells<K::D, N>,
+    rack: &mut K,
+) -> Ran
+    requires declaration { job.now.decl.now ≡ N.declaration }
+    requires runnable { IsRunnable N.declaration N.script }
+    requires tells { is_some (K.places rack.old) ≡ N.tells }
+    requires handed { IfSome (K.places rack.old) (AreHandedOut (controller N.declaration)) }
     ensures script { result.script ≡ N.script }
     ensures ended { HasEnded N.declaration N.script result.history result.end }
+    // The count may have risen before.
+    ensures spent { (before : ℕ) → before ≤ K.faults rack.old → K.faults rack.new < 2 ^ 64 - 1
+        → Spent result.history (K.faults rack.new - before) }
+    ensures kept { N.tells ≡ true → Kept result.history }
+    ensures places { HoldJournals N.declaration result.history (K.places rack.new) }
+    ensures tells { is_some (K.places rack.new) ≡ N.tells }
+    ensures later { K.faults rack.old ≤ K.faults rack.new }
 {
-    let (script, entries) = still.end();
+    let (still, end) = drive_script(rt, alloc, job, still, &cells);
+    let mut roll = still.roll();
+    settle(cells, &mut roll, rack);
+    let (script, entries) = roll.end();
     Ran {
         script,
         history: List::from_vec(entries),
         end,
     }
+}
+
+/// The cells of all processes, each with the pass of its number, in a list that has
+/// room for them; then come the administrator's pass and the controller's. It takes
+/// no memory.
+fn cells_of<D: Disk, N: Named>(
+    passes: Vec<Pass<Step>>,
+    processes: Processes<D>,
+    cells: Vec<Mutex<Cell<D, N>>>,
+) -> Cells<D, N>
+    requires fresh { AreNew N.table passes.items }
+    requires whole { vec_len passes ≡ controller N.declaration + 1 }
+    requires processes { vec_len processes.each ≡ actors N.declaration }
+    requires begun { AreProcesses N.tells N.declaration processes.each.items }
+    requires administrator { IsStored N.tells N.declaration (administrator N.declaration) [] processes.administrator }
+    requires none { vec_len cells ≡ 0 }
+    requires room { actors N.declaration ≤ vec_capacity cells }
+{
+    let Processes {
+        each,
+        administrator,
+    } = processes;
+    let mut passes = passes;
+    let Some(controller) = passes.pop() else {
+        unreachable!()
+    };
+    let Some(pass) = passes.pop() else {
+        unreachable!()
+    };
+    Cells {
+        cells: actors_of(passes, each, cells),
+        administrator: Mutex::new(Administrator::new(administrator, pass)),
+        controller: Mutex::new(Controller::new(controller)),
+    }
+}
+
+/// The cells of sites and clients alone.
+fn actors_of<D: Disk, N: Named>(
+    passes: Vec<Pass<Step>>,
+    processes: Vec<Process<D>>,
+    cells: Vec<Mutex<Cell<D, N>>>,
+) -> Vec<Mutex<Cell<D, N>>>
+    requires fresh { AreNew N.table passes.items }
+    requires whole { vec_len passes ≡ actors N.declaration }
+    requires processes { vec_len processes ≡ actors N.declaration }
+    requires begun { AreProcesses N.tells N.declaration processes.items }
+    requires none { vec_len cells ≡ 0 }
+    requires room { actors N.declaration ≤ vec_capacity cells }
+    ensures whole { vec_len result ≡ actors N.declaration }
+{
+    let mut cells = cells;
+    let mut processes = processes.into_iter();
+    for pass in passes {
+        let Some(process) = processes.next() else {
+            unreachable!()
+        };
+        cells.push_reserved(Mutex::new(Cell::new(process, pass)));
+    }
+    cells
 }

@@ -1,8 +1,7 @@
 //! A whole script, by as many workers as are asked for.
 
-ghost use Rattle.std.specs.Prelude.{◌≡◌, length, nat_le, true};
-ghost use Rattle.qc_decl.specs.Accepted.{IsAccepted};
-ghost use Rattle.qc_node.specs.Built.{is_built};
+ghost use Rattle.std.specs.Prelude.{◌≡◌, length, nat_le};
+ghost use Rattle.qc_node.specs.Built.{IsRunnable};
 ghost use Rattle.qc_node.specs.Ends.{IsPhaseEnd, IsScriptEnd};
 
 use crate::cells::Cells;
@@ -11,7 +10,7 @@ use crate::rules::Rules;
 use crate::worker::drive;
 use qc_decl::Declaration;
 use qc_fabric::{Fabric, Named, Still};
-use qc_outside::Gate;
+use qc_outside::{Disk, Gate};
 use qc_script::Script;
 use std::alloc::Global;
 use std::sync::Wait;
@@ -30,16 +29,15 @@ pub struct Job<'a, G: Gate> {
 
 /// All that is left of a script that can be run, by so many workers in threads that
 /// are joined. How it ended is read off the history, whatever the workers answered.
-pub fn drive_script<N: Named + Send + Sync, G: Gate + Sync, R: Threads + Wait + Sync>(
+pub fn drive_script<D: Disk, N: Named + Send + Sync, G: Gate + Sync, R: Threads + Wait + Sync>(
     rt: &R,
     alloc: Global,
     job: &Job<'_, G>,
     still: Still<Rules, N>,
-    cells: &Cells<N>,
+    cells: &Cells<D, N>,
 ) -> (Still<Rules, N>, DriveEnd)
     requires declaration { job.now.decl.now ≡ N.declaration }
-    requires accepted { IsAccepted N.declaration }
-    requires built { is_built N.declaration N.script ≡ true }
+    requires runnable { IsRunnable N.declaration N.script }
     ensures { IsScriptEnd N.declaration N.script result.0.history result.0.open_inputs result.1 }
 {
     let last = u32::try_from(still.script().phases.items().len()).unwrap_or(u32::MAX);
@@ -50,17 +48,16 @@ pub fn drive_script<N: Named + Send + Sync, G: Gate + Sync, R: Threads + Wait + 
 
 /// All that is left of it up to the end of the phase of this number, one that
 /// hasn't passed; the same threads go through all these phases.
-pub fn phase<N: Named + Send + Sync, G: Gate + Sync, R: Threads + Wait + Sync>(
+pub fn phase<D: Disk, N: Named + Send + Sync, G: Gate + Sync, R: Threads + Wait + Sync>(
     rt: &R,
     alloc: Global,
     job: &Job<'_, G>,
     still: Still<Rules, N>,
-    cells: &Cells<N>,
+    cells: &Cells<D, N>,
     number: u32,
 ) -> (Still<Rules, N>, DriveEnd)
     requires declaration { job.now.decl.now ≡ N.declaration }
-    requires accepted { IsAccepted N.declaration }
-    requires built { is_built N.declaration N.script ≡ true }
+    requires runnable { IsRunnable N.declaration N.script }
     ensures { IsPhaseEnd N.declaration N.script number result.0.history result.0.open_inputs result.1 }
 {
     let fabric = Fabric::open(still);
@@ -73,16 +70,16 @@ pub fn phase<N: Named + Send + Sync, G: Gate + Sync, R: Threads + Wait + Sync>(
 /// So many workers, each in a thread of its own, or one after another where no
 /// thread can be had; one alone needs none. What they answer is no more than the
 /// history shows.
-fn drive_all<N: Named + Send + Sync, G: Gate + Sync, R: Threads + Wait + Sync>(
+fn drive_all<D: Disk, N: Named + Send + Sync, G: Gate + Sync, R: Threads + Wait + Sync>(
     rt: &R,
     alloc: Global,
     job: &Job<'_, G>,
     fabric: &Fabric<Rules, N>,
-    cells: &Cells<N>,
+    cells: &Cells<D, N>,
     last: u32,
 )
     requires declaration { job.now.decl.now ≡ N.declaration }
-    requires accepted { IsAccepted N.declaration }
+    requires runnable { IsRunnable N.declaration N.script }
 {
     let (decl, gate) = (job.decl, job.gate);
     if job.workers <= 1 {
@@ -95,7 +92,7 @@ fn drive_all<N: Named + Send + Sync, G: Gate + Sync, R: Threads + Wait + Sync>(
         usize::from(job.workers),
         &|_|
             requires declaration { decl.now ≡ N.declaration }
-            requires accepted { IsAccepted N.declaration }
+            requires runnable { IsRunnable N.declaration N.script }
         { drive(rt, alloc, decl, fabric, cells, gate, last) },
     );
     drop(ends);

@@ -1,34 +1,34 @@
 //! One worker.
 
 ghost use Rattle.std.specs.Prelude.{◌≡◌};
-ghost use Rattle.qc_decl.specs.Accepted.{IsAccepted};
+ghost use Rattle.qc_node.specs.Built.{IsRunnable};
 
 use crate::cells::Cells;
 use crate::ends::DriveEnd;
 use crate::rules::Rules;
 use qc_decl::Declaration;
 use qc_fabric::{Fabric, Named, Picked};
-use qc_outside::Gate;
+use qc_outside::{Disk, Gate};
 use std::alloc::Global;
 use std::sync::Wait;
 use std::thread::Threads;
 
 /// One worker: it picks an actor, which takes its turn, and so on; where nothing
-/// is ready and nobody is held it lets the controller do what comes next, in phases
-/// up to the last one that is given. It ends where nothing is left in these, a
-/// counted quantity has reached its limit, or memory was wanting. Then it wakes the
-/// others.
-pub fn drive<N: Named, G: Gate, R: Threads + Wait + Sync>(
+/// is ready and nobody is held it has done what comes next, in phases up to the last
+/// one that is given: a control line acts, or the next phase begins. It ends where
+/// nothing is left in these, a counted quantity has reached its limit, or memory was
+/// wanting. Then it wakes the others.
+pub fn drive<D: Disk, N: Named, G: Gate, R: Threads + Wait + Sync>(
     rt: &R,
     alloc: Global,
     decl: &Declaration,
     fabric: &Fabric<Rules, N>,
-    cells: &Cells<N>,
+    cells: &Cells<D, N>,
     gate: &G,
     last: u32,
 ) -> DriveEnd
     requires declaration { decl.now ≡ N.declaration }
-    requires accepted { IsAccepted N.declaration }
+    requires runnable { IsRunnable N.declaration N.script }
 {
     let end = serve(rt, alloc, decl, fabric, cells, gate, last);
     fabric.wake();
@@ -36,17 +36,17 @@ pub fn drive<N: Named, G: Gate, R: Threads + Wait + Sync>(
 }
 
 /// The same, while the others may sleep.
-fn serve<N: Named, G: Gate, R: Threads + Wait + Sync>(
+fn serve<D: Disk, N: Named, G: Gate, R: Threads + Wait + Sync>(
     rt: &R,
     alloc: Global,
     decl: &Declaration,
     fabric: &Fabric<Rules, N>,
-    cells: &Cells<N>,
+    cells: &Cells<D, N>,
     gate: &G,
     last: u32,
 ) -> DriveEnd
     requires declaration { decl.now ≡ N.declaration }
-    requires accepted { IsAccepted N.declaration }
+    requires runnable { IsRunnable N.declaration N.script }
 {
     for _ in rt.forever() {
         match fabric.pick(rt, decl) {
@@ -56,7 +56,7 @@ fn serve<N: Named, G: Gate, R: Threads + Wait + Sync>(
                     return DriveEnd::OutOfMemory;
                 }
             }
-            Picked::Quiet => match cells.advance(rt, decl, fabric, last) {
+            Picked::Quiet => match cells.advance(rt, alloc, decl, fabric, last) {
                 Ok(true) => {}
                 Ok(false) => return DriveEnd::Quiet,
                 Err(_) => return DriveEnd::OutOfMemory,

@@ -1,22 +1,27 @@
--- A store that was begun.
+-- A store that was begun, and one whose open journal is given up.
 use Rattle.std.proofs.Common.{◌≡◌, ℕ, ◌≤◌, Bool, true, List, [], ◌∷◌, Option, Some, None, IsSome, length}
-use Rattle.std.proofs.Common.{refl, ◌∙◌, ap, arith, Err}
+use Rattle.std.proofs.Common.{refl, sym, ◌∙◌, ap, arith, subst, Err}
 use Rattle.qc_decl.specs.declared.declaration.Declaration.{Declaration}
 use Rattle.qc_journal.specs.Causes.{JournalRose}
 use Rattle.qc_journal.specs.Grammar.{IsNoJournal}
 use Rattle.qc_journal.specs.Journal.{Rests}
 use Rattle.qc_journal.specs.declared.fault.JournalFault.{JournalFault}
 use Rattle.qc_journal.specs.declared.fault.JournalFault.TheVariants as faults
+use Rattle.qc_msg.specs.Deeds.{own}
+use Rattle.qc_msg.specs.Steps.{Entry}
+use Rattle.qc_outside.specs.Fuses.{Fuse}
 use Rattle.qc_outside.specs.Images.{Tells, Told, as_read, settled}
 use Rattle.qc_outside.specs.Causes.{Rose}
 use Rattle.qc_outside.specs.declared.rack.RackFault.{RackFault}
 use Rattle.qc_outside.specs.declared.rack.RackFault.TheVariants as racks
 use Rattle.qc_promise.specs.DiskAccount.{IsEverInTime, IsInTime, no_disk_account}
-use Rattle.qc_promise.specs.Kept.{no_journal}
+use Rattle.qc_promise.specs.Kept.{Journal, journal_of, no_journal}
 use Rattle.qc_store.specs.Accounts.{IsAccountOf}
+use Rattle.qc_store.specs.Contents.{DiskHasJournal}
 use Rattle.qc_process.specs.Opens.{IsStartRefused, not_begun}
-use Rattle.qc_process.specs.Stored.{IsStored, IsTold}
+use Rattle.qc_process.specs.Stored.{IsPlaced, IsStored, IsTold, bodies_of}
 use Rattle.qc_process.specs.Views.{OpenJournal, StoreView}
+use Rattle.qc_process.proofs.Appending.{Shows}
 use Rattle.qc_process.proofs.Own.{none_kept}
 
 pub none_in : {X : Type 0} (xs : List X) → length xs ≡ 0 → xs ≡ []
@@ -78,3 +83,19 @@ refused_later actor old mid before between now (racks.NotEmpty a) same later is 
 refused_later actor old mid before between now (racks.Failed a) same later is =
     (is.0, (let rose : Rose between now = is.1 in omega (arith, rose, later)))
 refused_later actor old mid before between now racks.OutOfMemory same later is = tt
+
+-- an open journal stays begun
+
+module _ (tells : Bool) (decl : Declaration) (a : ℕ) (h : List Entry) (s : StoreView) (o : OpenJournal)
+    (old new : Option Told) (f : Fuse) (shows : Shows s old f (Some o))
+    (begun : (bodies : List (List ℕ)) → Rests old o.end bodies → DiskHasJournal new bodies) where
+  rests_here : (j : Journal) → IsPlaced s.told s.journal j → Rests old o.end (bodies_of j.records)
+  rests_here j placed =
+      let at : IsPlaced s.told (Some o) j =
+      subst (λ (open_as : Option OpenJournal). IsPlaced s.told open_as j) shows.journal_is placed in
+      subst (λ (t : Option Told). Rests t o.end (bodies_of j.records)) shows.told_is at.0
+
+  pub stays_begun : IsStored tells decl a h s → DiskHasJournal new (bodies_of (journal_of (own a h)).records)
+  stays_begun is =
+      subst (λ (j : Journal). DiskHasJournal new (bodies_of j.records)) (sym is.told_by.store.journal_is)
+      (begun (bodies_of is.records.records) (rests_here is.records is.placed))

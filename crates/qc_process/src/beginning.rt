@@ -2,11 +2,14 @@
 
 ghost use Rattle.std.specs.Prelude.{◌≡◌, ◌≢◌, [], ℕ, Bool, true, None, IfErr, IfOk, IsSome, List};
 ghost use Rattle.qc_decl.specs.declared.declaration.Declaration.{Declaration};
+ghost use Rattle.qc_msg.specs.Deeds.{own};
 ghost use Rattle.qc_msg.specs.Steps.{Entry};
 ghost use Rattle.qc_outside.specs.declared.disk.DiskFault.TheVariants.{OutOfMemory as DiskWants};
 ghost use Rattle.qc_outside.specs.declared.rack.RackFault.TheVariants.{Failed as RackFails};
+ghost use Rattle.qc_promise.specs.Kept.{journal_of};
+ghost use Rattle.qc_store.specs.Contents.{DiskHasJournal};
 ghost use Rattle.qc_process.specs.Opens.{IsStartRefused, not_begun};
-ghost use Rattle.qc_process.specs.Stored.{IsOnDisk, IsStored};
+ghost use Rattle.qc_process.specs.Stored.{IsOnDisk, IsStored, bodies_of};
 ghost use Rattle.qc_process.specs.Views.{IsUp};
 
 use crate::store::Store;
@@ -40,6 +43,10 @@ impl<D: Disk> Store<D> {
         ensures on_disk { (tells : Bool) (decl : Declaration) (a : ℕ) (h : List Entry) → self.journal ≡ None
             → IsOnDisk tells decl a h self.told self.fuse.unarmed
             → IsOnDisk tells decl a h (D.told result) (D.faults result) }
+        // A journal that was open stays begun.
+        ensures begun { (tells : Bool) (decl : Declaration) (a : ℕ) (h : List Entry) → IsUp self
+            → IsStored tells decl a h self
+            → DiskHasJournal (D.told result) (bodies_of (journal_of (own a h)).records) }
     {
         let mut store = self;
         if let Some(journal) = store.journal.take() {

@@ -7,16 +7,19 @@ ghost use Rattle.qc_core.specs.declared.actor.Actor.TheVariants as actors;
 ghost use Rattle.qc_decl.specs.Accepted.{IsAccepted};
 ghost use Rattle.qc_decl.specs.Actors.{actors as number_of_actors};
 ghost use Rattle.qc_decl.specs.declared.declaration.Declaration.{Declaration as Declared};
+ghost use Rattle.qc_msg.specs.Deeds.{own};
 ghost use Rattle.qc_msg.specs.Steps.{Entry, HasRecord, posted_as};
 ghost use Rattle.qc_msg.specs.declared.step.Fall.TheVariants as fall;
 ghost use Rattle.qc_msg.specs.declared.step.Step.TheVariants as steps;
 ghost use Rattle.qc_msg.specs.declared.turn.Appended.TheVariants.{Done};
 ghost use Rattle.qc_msg.specs.declared.turn.Turn.{Turn as MsgTurn};
+ghost use Rattle.qc_promise.specs.Kept.{journal_of};
 ghost use Rattle.qc_record.specs.Records.{spelled};
+ghost use Rattle.qc_store.specs.Contents.{DiskHasJournal};
 ghost use Rattle.qc_process.specs.Goes.{Goes, GoesArmed};
 ghost use Rattle.qc_process.specs.Inputs.{IsReadable};
 ghost use Rattle.qc_process.specs.Opens.{GoesOn, IsStartRefused};
-ghost use Rattle.qc_process.specs.Stored.{IsOnDisk, IsOpened, IsProcess, IsStored, Spells};
+ghost use Rattle.qc_process.specs.Stored.{IsOnDisk, IsOpened, IsProcess, IsStored, Spells, bodies_of};
 ghost use Rattle.qc_process.specs.Views.{HasFewRecords, IsUp, MayWrite};
 
 use crate::act::act;
@@ -59,6 +62,7 @@ impl<D: Disk> Process<D> {
         requires { number < number_of_actors decl.now }
         ensures begun { IfOk result (λ p. (tells : Bool) → (tells ≡ true → IsSome (D.told disk))
             → IsProcess tells decl.now number [] p) }
+        ensures up { IfOk result (λ p. IsUp p.store) }
         ensures refused { IfErr result (λ e. IsStartRefused number (D.told disk) (D.faults disk) (D.faults e.0) e.1) }
     {
         let Ok(actor) = Actor::new(alloc, decl, number) else {
@@ -173,6 +177,10 @@ impl<D: Disk> Process<D> {
         ensures on_disk { (tells : Bool) (decl : Declared) (a : ℕ) (h : List Entry) → self.store.journal ≡ None
             → IsOnDisk tells decl a h self.store.told self.store.fuse.unarmed
             → IsOnDisk tells decl a h (D.told result) (D.faults result) }
+        // A journal that was open stays begun.
+        ensures begun { (tells : Bool) (decl : Declared) (a : ℕ) (h : List Entry) → IsUp self.store
+            → IsStored tells decl a h self.store
+            → DiskHasJournal (D.told result) (bodies_of (journal_of (own a h)).records) }
     {
         self.store.into_disk()
     }

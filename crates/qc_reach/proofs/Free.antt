@@ -31,7 +31,7 @@ use Rattle.qc_client.specs.Inputs.{IsFree}
 use Rattle.qc_front.specs.Going.{is_idle}
 use Rattle.qc_front.specs.declared.doing.Doing.{Doing}
 use Rattle.qc_front.specs.declared.doing.Doing.TheVariants.{Idle, Reading, Appending}
-use Rattle.qc_lives.proofs.Downs.{due}
+use Rattle.qc_laws.proofs.Downs.{due}
 use Rattle.qc_laws.specs.Calls.{is_waiting}
 use Rattle.qc_laws.proofs.Replying.{running_more, running_turn}
 use Rattle.qc_laws.proofs.Waiting.{IsNoCall, called_ends, epoch_rests, round_none, sent_waits, takes_ends, takes_rests, votes_none}

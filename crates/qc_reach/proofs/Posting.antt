@@ -15,7 +15,7 @@ use Rattle.qc_client.specs.Client.{ClientMove}
 use Rattle.qc_client.specs.Conduct.{client_takes}
 use Rattle.qc_epoch.specs.SiteRows.{takes}
 use Rattle.qc_inbox.specs.Downs.{is_down}
-use Rattle.qc_lives.proofs.Downs.{due, tells, up_is}
+use Rattle.qc_laws.proofs.Downs.{due, tells, up_is}
 use Rattle.qc_msg.specs.declared.message.Envelope.{Envelope}
 use Rattle.qc_msg.specs.declared.record.Record.{Record}
 use Rattle.qc_msg.specs.declared.turn.Appended.{Appended}

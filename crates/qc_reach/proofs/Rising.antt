@@ -24,7 +24,7 @@ use Rattle.qc_msg.specs.declared.turn.Turn.{Turn}
 use Rattle.qc_msg.specs.Deeds.{Deed, Rises, deeds, deeds_as, envelopes, mail, own}
 use Rattle.qc_msg.specs.Steps.{Entry, by, marked, posted_as, sends_as}
 use Rattle.qc_msg.proofs.Growth.{deeds-append, deeds-other, deeds-posted_as, deeds-rose, mail-append, mail-posted_as}
-use Rattle.qc_lives.proofs.Downs.{due}
+use Rattle.qc_laws.proofs.Downs.{due}
 use Rattle.qc_net.specs.Net.{Net, Reaches, after_client_rise, after_site_rise, after_vain_rise}
 use Rattle.qc_net.specs.Net as nets
 use Rattle.qc_net.proofs.Machine.{put_other}

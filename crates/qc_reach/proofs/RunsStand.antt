@@ -19,10 +19,10 @@ use Rattle.qc_laws.proofs.Acted.{deeds-silent}
 use Rattle.qc_laws.proofs.Numbered.{IsSilent, mail-silent, phase_silent}
 use Rattle.qc_laws.proofs.Places.{replicate_at}
 use Rattle.qc_link.specs.Limits.{most_actors}
-use Rattle.qc_lives.specs.LivesIn.{LivesIn}
-use Rattle.qc_lives.proofs.Commands.{may_take}
-use Rattle.qc_lives.proofs.Downs.{tells, up_is}
-use Rattle.qc_lives.proofs.Lived.{deeds-fall, line_silent, run_lives}
+use Rattle.qc_laws.specs.LivesIn.{LivesIn}
+use Rattle.qc_laws.proofs.Commands.{may_take}
+use Rattle.qc_laws.proofs.Downs.{tells, up_is}
+use Rattle.qc_laws.proofs.Lived.{deeds-fall, line_silent, run_lives}
 use Rattle.qc_msg.specs.declared.message.Envelope.{Envelope}
 use Rattle.qc_msg.specs.declared.record.Record.{Record}
 use Rattle.qc_msg.specs.declared.step.Control.{Control}

@@ -1,2 +1,10 @@
+pub mod Says
+pub mod Ends
 pub mod Reached
 pub mod Standing
+pub mod Falling
+pub mod WrongSight
+pub mod Agreement
+pub mod Pending
+pub mod Recorded
+pub mod WrongVerdicts

@@ -14,7 +14,7 @@ use std::marker::Model;
 /// once: a log that is merged with each record's lines would be copied as often
 /// as a line belongs between its own.
 #[derive(Drop)]
-pub(crate) struct LineSet {
+pub struct LineSet {
     lines: Vec<Line>,
 }
 
@@ -30,7 +30,7 @@ impl Model for LineSet {
 
 impl LineSet {
     /// No line. It takes no memory.
-    pub(crate) fn new(alloc: Global) -> LineSet
+    pub fn new(alloc: Global) -> LineSet
         ensures { result ≡ [] }
     {
         LineSet {
@@ -39,7 +39,7 @@ impl LineSet {
     }
 
     /// Adds the lines of a log.
-    pub(crate) fn join(&mut self, lines: &[Line]) -> Result<(), OutOfMemory>
+    pub fn join(&mut self, lines: &[Line]) -> Result<(), OutOfMemory>
         requires { IsAscending lines.now }
         ensures { OnOk result (self.new ≡ union self.old lines.now) }
     {
@@ -49,7 +49,7 @@ impl LineSet {
 
     /// The log of the lines. As they are sorted, each belongs behind those
     /// before it, or is the last of them.
-    pub(crate) fn into_log(self, alloc: Global) -> Result<Log, OutOfMemory>
+    pub fn into_log(self, alloc: Global) -> Result<Log, OutOfMemory>
         ensures { IfOk result (λ log. log ≡ self) }
     {
         let LineSet { lines } = self;

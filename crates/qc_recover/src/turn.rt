@@ -9,7 +9,7 @@ use std::alloc::Global;
 
 /// The turn that writes the record of a new life, and then sends these. Where
 /// the record isn't written, nothing is said. It takes no memory.
-pub(crate) fn rising(alloc: Global, sends: Sends) -> Turn
+pub fn rising(alloc: Global, sends: Sends) -> Turn
     ensures { result ≡ rising sends }
 {
     Turn {

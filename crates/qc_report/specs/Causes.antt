@@ -1,10 +1,12 @@
 -- How a call of the program ended: its status, and what is told on standard error.
 use Rattle.std.specs.Prelude.{ℕ, Bool, if◌then◌else◌, List, [], ◌++◌, codes, decimal}
+use Rattle.qc_outside.specs.declared.rack.RackFault.{RackFault}
+use Rattle.qc_outside.specs.declared.rack.RackFault.TheVariants as racks
 use Rattle.qc_outside.specs.declared.shelf.ShelfFault.{ShelfFault}
 use Rattle.qc_outside.specs.declared.shelf.ShelfFault.TheVariants as faults
 use Rattle.qc_report.specs.declared.cause.Cause.{Cause}
 use Rattle.qc_report.specs.declared.cause.Cause.TheVariants.{Done, NotBuilt, Shelf, Declaration, Script}
-use Rattle.qc_report.specs.declared.cause.Cause.TheVariants.{Sink, Full, OutOfMemory}
+use Rattle.qc_report.specs.declared.cause.Cause.TheVariants.{Rack, Sink, Full, OutOfMemory}
 use Rattle.qc_msg.specs.declared.step.What.{What}
 use Rattle.qc_msg.specs.declared.step.What.TheVariants.{Steps, Operations, Carried}
 use Rattle.qc_report.specs.Declarations.{status_of_refused, refused_text, no_memory_text}
@@ -17,12 +19,18 @@ status_of_shelf faults.TooLong = 4
 status_of_shelf faults.Failed = 4
 status_of_shelf faults.OutOfMemory = 8
 
+abbrev pub status_of_rack : RackFault → ℕ
+status_of_rack (racks.NotEmpty actor) = 6
+status_of_rack (racks.Failed actor) = 6
+status_of_rack racks.OutOfMemory = 8
+
 abbrev pub status_of : Cause → ℕ
 status_of Done = 0
 status_of (Declaration fault) = status_of_refused fault
 status_of (Script fault) = status_of_script fault
 status_of (Shelf script fault) = status_of_shelf fault
 status_of Sink = 5
+status_of (Rack fault) = status_of_rack fault
 status_of (Full what number) = 7
 status_of OutOfMemory = 8
 status_of NotBuilt = 9
@@ -37,6 +45,15 @@ shelf_text script faults.TooLong = file_text script ++ codes "too long\n"
 shelf_text script faults.Failed = file_text script ++ codes "failed\n"
 shelf_text script faults.OutOfMemory = no_memory_text
 
+-- whose disk it was, by the actor's number
+abbrev pub disk_text : ℕ → List ℕ → List ℕ
+disk_text actor what = codes "quorum: disk of actor " ++ (decimal actor ++ what)
+
+abbrev pub rack_text : RackFault → List ℕ
+rack_text (racks.NotEmpty actor) = disk_text actor (codes ": not empty\n")
+rack_text (racks.Failed actor) = disk_text actor (codes ": failed\n")
+rack_text racks.OutOfMemory = no_memory_text
+
 abbrev pub what_text : What → List ℕ
 what_text Steps = codes "steps "
 what_text Operations = codes "operations "
@@ -49,6 +66,7 @@ cause_text_of NotBuilt = codes "quorum: not built\n"
 cause_text_of (Shelf script fault) = shelf_text script fault
 cause_text_of (Declaration fault) = refused_text fault
 cause_text_of (Script fault) = script_text fault
+cause_text_of (Rack fault) = rack_text fault
 cause_text_of Sink = codes "quorum: output failed\n"
 cause_text_of (Full what number) = codes "quorum: full: " ++ (what_text what ++ (decimal number ++ codes "\n"))
 cause_text_of OutOfMemory = no_memory_text

@@ -1,7 +1,8 @@
 //! How a call of the program ended.
 
 ghost use Rattle.std.specs.Prelude.{◌≡◌, IfOk, OnOk, ◌++◌};
-ghost use Rattle.qc_report.specs.Causes.{status_of, status_of_shelf, cause_text_of, shelf_text, file_text, what_text};
+ghost use Rattle.qc_report.specs.Causes.{status_of, status_of_rack, status_of_shelf, cause_text_of, shelf_text};
+ghost use Rattle.qc_report.specs.Causes.{disk_text, file_text, rack_text, what_text};
 
 use crate::declaration::{put_refused, refused_status};
 use crate::page::Page;
@@ -10,7 +11,7 @@ use itoa::Buffer;
 use qc_accept::DeclFault;
 use qc_list::OutOfMemory;
 use qc_msg::What;
-use qc_outside::ShelfFault;
+use qc_outside::{RackFault, ShelfFault};
 use qc_script::ScriptFault;
 use std::alloc::Global;
 
@@ -27,6 +28,8 @@ pub enum Cause {
     Declaration(DeclFault),
     /// The script isn't read.
     Script(ScriptFault),
+    /// The rack gave no disk for an actor.
+    Rack(RackFault),
     /// The output failed.
     Sink,
     /// A counted quantity reached its limit, and then had this number.
@@ -37,8 +40,8 @@ pub enum Cause {
 
 impl Cause {
     /// The program's exit status: 0 where all was done, 2 for a declaration
-    /// that is refused, 3 for a script, 4 for a file, 5 for the output, 7 for a
-    /// limit, 8 for want of memory, 9 for what isn't built.
+    /// that is refused, 3 for a script, 4 for a file, 5 for the output, 6 for a
+    /// disk, 7 for a limit, 8 for want of memory, 9 for what isn't built.
     pub fn status(&self) -> u8
         ensures { result ≡ status_of self.now }
     {
@@ -48,6 +51,7 @@ impl Cause {
             Cause::Script(fault) => script_status(*fault),
             Cause::Shelf { fault, .. } => shelf_status(*fault),
             Cause::Sink => 5,
+            Cause::Rack(fault) => rack_status(*fault),
             Cause::Full { .. } => 7,
             Cause::OutOfMemory => 8,
             Cause::NotBuilt => 9,
@@ -65,6 +69,16 @@ fn shelf_status(fault: ShelfFault) -> u8
     }
 }
 
+/// The status for a disk that wasn't given.
+fn rack_status(fault: RackFault) -> u8
+    ensures { result ≡ status_of_rack fault }
+{
+    match fault {
+        RackFault::NotEmpty { .. } | RackFault::Failed { .. } => 6,
+        RackFault::OutOfMemory => 8,
+    }
+}
+
 /// What is told of a cause on standard error: a line that ends with LF, or no
 /// byte where all was done.
 pub fn cause_text(alloc: Global, cause: &Cause) -> Result<Vec<u8>, OutOfMemory>
@@ -77,6 +91,7 @@ pub fn cause_text(alloc: Global, cause: &Cause) -> Result<Vec<u8>, OutOfMemory>
         Cause::Shelf { script, fault } => shelf_text(&mut page, *script, *fault)?,
         Cause::Declaration(fault) => put_refused(&mut page, fault)?,
         Cause::Script(fault) => put_script(&mut page, *fault)?,
+        Cause::Rack(fault) => rack_text(&mut page, *fault)?,
         Cause::Sink => page.put("quorum: output failed\n")?,
         Cause::Full { what, number } => full_text(&mut page, *what, *number)?,
         Cause::OutOfMemory => page.put("quorum: out of memory\n")?,
@@ -106,6 +121,25 @@ fn file_text(page: &mut Page, script: bool, what: &str) -> Result<(), OutOfMemor
         "quorum: declaration file: "
     };
     page.put_all(&[file, what])
+}
+
+/// The line of a disk that wasn't given.
+fn rack_text(page: &mut Page, fault: RackFault) -> Result<(), OutOfMemory>
+    ensures { OnOk result (page.new ≡ page.old ++ rack_text fault) }
+{
+    match fault {
+        RackFault::NotEmpty { actor } => disk_text(page, actor, ": not empty\n"),
+        RackFault::Failed { actor } => disk_text(page, actor, ": failed\n"),
+        RackFault::OutOfMemory => page.put("quorum: out of memory\n"),
+    }
+}
+
+/// Whose disk it was, and what of it.
+fn disk_text(page: &mut Page, actor: u8, what: &str) -> Result<(), OutOfMemory>
+    ensures { OnOk result (page.new ≡ page.old ++ disk_text actor what.now) }
+{
+    let mut digits = Buffer::new();
+    page.put_all(&["quorum: disk of actor ", digits.format(actor), what])
 }
 
 /// The line of a limit that was reached.

@@ -10,7 +10,8 @@
 //! 2. Each guard is needed: without it, some run breaks a guarantee.
 //! 3. Every run keeps each guarantee.
 //!
-//! There is no code here. Nothing stands on this crate.
+//! There is no code here. Nothing stands on this crate but `qc_bases`, for runs
+//! that show its laws.
 #![tactic(auto)]
 
 mod appends;

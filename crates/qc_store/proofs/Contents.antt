@@ -4,9 +4,9 @@ use Rattle.qc_outside.specs.Images.{IsImage, Since, Tells, Told, as_read}
 use Rattle.qc_outside.proofs.Kept.{read_is_image}
 use Rattle.qc_journal.specs.Grammar.{Holds, HoldsWithOrWithout, IsNoJournal}
 use Rattle.qc_journal.specs.Journal.{IsAtRest, IsLeftAtOpen, Rests}
-use Rattle.qc_journal.proofs.Lasting.{rest_lasts}
+use Rattle.qc_journal.proofs.Lasting.{rest_is_journal, rest_lasts}
 use Rattle.qc_journal.proofs.Unique.{length_journal, one_list, torn_or_not}
-use Rattle.qc_store.specs.Contents.{AreGiven, DiskHolds, HoldsBodies, IsSettled, StillTells}
+use Rattle.qc_store.specs.Contents.{AreGiven, DiskHasJournal, DiskHolds, HoldsBodies, IsSettled, StillTells}
 
 -- a fall leaves what was there
 pub fall_holds : (a b : Option Told) (bodies : List (List ℕ)) (pending : Option (List ℕ))
@@ -23,6 +23,13 @@ rested None None end bodies fell is = tt
 rested (Some o) None end bodies fell is = absurd fell
 rested None (Some n) end bodies fell is = absurd fell
 rested (Some o) (Some n) end bodies fell is = λ image left. rest_lasts end bodies o is image (fell.now image left)
+
+pub rested_begun : (a b : Option Told) (end : ℕ) (bodies : List (List ℕ))
+    → Tells a b (λ old new. Since (IsImage old.now) old new) → Rests a end bodies → DiskHasJournal b bodies
+rested_begun None None end bodies fell is = tt
+rested_begun (Some o) None end bodies fell is = absurd fell
+rested_begun None (Some n) end bodies fell is = absurd fell
+rested_begun (Some o) (Some n) end bodies fell is = λ image left. rest_is_journal end bodies o is image (fell.now image left)
 
 -- a record was being written, and then the disk fell
 pub broken_off : (a b c : Option Told) (bodies : List (List ℕ)) (body : List ℕ)

@@ -14,7 +14,7 @@ ghost use Rattle.qc_promise.specs.DiskAccount.{DiskAccount, no_disk_account, dis
 ghost use Rattle.qc_promise.specs.Spent.{of_reading, of_record};
 ghost use Rattle.qc_store.specs.Accounts.{IsAccountOf};
 ghost use Rattle.qc_store.specs.Calls.{of_bodies, of_broken_opening, of_broken_record};
-ghost use Rattle.qc_store.specs.Contents.{AreGiven, DiskHolds, IsSettled, StillTells};
+ghost use Rattle.qc_store.specs.Contents.{AreGiven, DiskHasJournal, DiskHolds, IsSettled, StillTells};
 ghost use Rattle.qc_store.specs.declared.store.RiseFault.TheVariants as rise_fault;
 
 use qc_journal::{Journal, JournalFault};
@@ -97,6 +97,9 @@ pub fn write<D: Disk>(journal: Journal<D>, body: &[u8]) -> Result<Journal<D>, (D
 pub fn crash<D: Disk>(journal: Journal<D>) -> D
     ensures holds { (bodies : List (List ℕ)) → Rests (D.told journal.disk) journal.end bodies
         → DiskHolds (D.told result) bodies None }
+    // It stays begun.
+    ensures begun { (bodies : List (List ℕ)) → Rests (D.told journal.disk) journal.end bodies
+        → DiskHasJournal (D.told result) bodies }
     ensures fell { IsSettled (D.told result) }
     ensures tells { StillTells (D.told journal.disk) (D.told result) }
     ensures account { (t : DiskAccount) → IsAccountOf t (D.fuse journal.disk)

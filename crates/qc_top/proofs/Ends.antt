@@ -1,23 +1,27 @@
 -- How a call ends: with a run of its script and its text, with a word on its declaration, or with a cause that is due.
 use Rattle.std.proofs.Common.{◌≡◌, ℕ, false, List, [], Option, Some, None, Result, Ok, Err, inl, inr, refl, sym, subst, arith}
 use Rattle.std.specs.Prelude.{MatchOption, replicate}
-use Rattle.qc_core.specs.Conduct.{IsLawful}
-use Rattle.qc_laws.specs.Whole.{IsWhole}
+use Rattle.qc_core.specs.Conduct.{IsLawfulWithFalls}
+use Rattle.qc_due.specs.Whole.{IsWholeWithFalls}
 use Rattle.qc_decl.specs.Actors.{actors}
 use Rattle.qc_decl.specs.declared.declaration.Declaration.{Declaration}
 use Rattle.qc_msg.specs.Steps.{Entry}
+use Rattle.qc_node.specs.Rules.{fits_of}
+use Rattle.qc_outside.specs.Places.{Places}
 use Rattle.qc_outside.specs.Shelf.{Answer, Files}
+use Rattle.qc_outside.specs.declared.rack.RackFault.{RackFault}
+use Rattle.qc_outside.specs.declared.rack.RackFault.TheVariants as racks
 use Rattle.qc_report.specs.declared.cause.Cause.{Cause}
 use Rattle.qc_report.specs.declared.cause.Cause.TheVariants as causes
 use Rattle.qc_text.specs.Text.{text_of}
-use Rattle.qc_script.specs.Runs.{Run, begins}
+use Rattle.qc_promise.specs.Kept.{Kept}
+use Rattle.qc_script.specs.RunsWithFalls.{RunWithFalls, begins}
 use Rattle.qc_script.specs.declared.script.Script.{Script}
 use Rattle.qc_top.proofs.Right.{work_is}
 use Rattle.qc_fabric.specs.Limits.{IsBelow}
-use Rattle.qc_top.proofs.Calm.{runs_calm}
-use Rattle.qc_top.proofs.Runs.{run_atomic, run_due, run_known}
-use Rattle.qc_laws.specs.Calm.{AreCalm}
-use Rattle.qc_top.specs.Top.{AreStatesKnown, IsFullCause, IsRan, IsRight, IsRunnable, IsTold, Leaves, LeavesAsked, LeavesNothing, LeavesRun, LeavesWords, OnPrinted, PrintsBetween}
+use Rattle.qc_top.proofs.Runs.{run_atomic, run_due, run_first, run_known}
+use Rattle.qc_top.specs.Racks.{cause_of_rack}
+use Rattle.qc_top.specs.Top.{AreStatesKnown, IsFullCause, IsNoRack, IsRan, IsRight, IsRunnable, IsTold, Leaves, LeavesAsked, LeavesNothing, LeavesRun, LeavesWords, OnPrinted, PrintsBetween}
 use Rattle.qc_top.specs.Words.{AskedOf, asked}
 use Rattle.qc_top.specs.Work.{Caused, Gives, IsRefusal, work_of}
 use Rattle.qc_top.specs.declared.answers.Answers.{Answers}
@@ -28,7 +32,7 @@ abbrev pub the_err : Cause → Result Work Cause
 the_err cause = Err cause
 
 -- the empty history is a run of every script
-empty_run : (decl : Declaration) (script : Script) → Run (IsLawful decl) decl script []
+empty_run : (decl : Declaration) (script : Script) → RunWithFalls (IsLawfulWithFalls decl) (fits_of decl) decl script []
 empty_run decl script = (replicate (actors decl) false, begins)
 
 -- what holds in each case holds where a text is printed
@@ -40,20 +44,22 @@ on_printed causes.NotBuilt P here = tt
 on_printed (causes.Shelf script fault) P here = tt
 on_printed (causes.Declaration fault) P here = tt
 on_printed (causes.Script fault) P here = tt
+on_printed (causes.Rack fault) P here = tt
 on_printed (causes.Full what number) P here = tt
 
 -- what a run leaves
 pub leaves_run : (decl : Declaration) (script : Script) (h : List Entry) (old : Option (List ℕ)) (cause : Cause) (new : Option (List ℕ)) → IsRunnable decl script
-    → Run (IsLawful decl) decl script h → IsRan cause → OnPrinted cause (IsWhole decl script h) → PrintsBetween (text_of decl script h) old cause new → LeavesRun decl script old cause new h
+    → RunWithFalls (IsLawfulWithFalls decl) (fits_of decl) decl script h → IsRan cause → OnPrinted cause (IsWholeWithFalls (fits_of decl) decl script h) → PrintsBetween (text_of decl script h) old cause new → LeavesRun decl script old cause new h
 leaves_run decl script h old cause new ready run ran whole text = record {
   accepted = ready.accepted;
   due = ran;
   run = run;
   whole = whole;
   text = text;
-  states = on_printed cause (AreStatesKnown decl h) (run_known decl script ready h run);
+  states = on_printed cause (Kept h → AreStatesKnown decl h) (run_known decl script ready h run);
   replies = run_due decl script ready h run;
-  atomic = λ kept. run_atomic decl script ready h run;
+  first = run_first decl script ready h run;
+  atomic = run_atomic decl script ready h run;
 }
 
 -- for want of memory nothing is printed
@@ -72,19 +78,32 @@ leaves_want (Ok (works.Accept decl)) taken right = record {
 leaves_want (Ok (works.Run decl script)) taken right =
     leaves_run decl script [] taken causes.OutOfMemory taken (right (works.Run decl script) refl) (empty_run decl script) tt tt (want_between (text_of decl script []) taken)
 
--- the run that didn't begin, for want of memory
-pub leaves_unbegun : (decl : Declaration) (script : Script) (taken : Option (List ℕ)) (cause : Cause) (h : List Entry) → IsRunnable decl script → h ≡ [] → cause ≡ causes.OutOfMemory
-    → LeavesRun decl script taken cause taken h
-leaves_unbegun decl script taken cause h ready none is =
-    subst (λ (c : Cause). LeavesRun decl script taken c taken h) (sym is)
-    (subst (λ (k : List Entry). LeavesRun decl script taken causes.OutOfMemory taken k) (sym none)
-    (leaves_run decl script [] taken causes.OutOfMemory taken ready (empty_run decl script) tt tt (want_between (text_of decl script []) taken)))
+-- the run that didn't begin, since the rack gave no disk, or for want of memory
 
--- whatever a call leaves, no disk has a part in it
-pub leaves_calm : (work : Caused Work) (old : Option (List ℕ)) (cause : Cause) (new : Option (List ℕ)) (h : List Entry) → Leaves work old cause new h → AreCalm h
-leaves_calm (Err why) old cause new h left = subst AreCalm (sym left.history) tt
-leaves_calm (Ok (works.Accept decl)) old cause new h left = subst AreCalm (sym left.history) tt
-leaves_calm (Ok (works.Run decl script)) old cause new h left = runs_calm decl script h left.run.0 left.run.1
+unbegun_ran : (fault : RackFault) → IsRan (cause_of_rack fault)
+unbegun_ran (racks.NotEmpty actor) = tt
+unbegun_ran (racks.Failed actor) = tt
+unbegun_ran racks.OutOfMemory = tt
+
+unbegun_printed : (fault : RackFault) (P : Type 0) → OnPrinted (cause_of_rack fault) P
+unbegun_printed (racks.NotEmpty actor) P = tt
+unbegun_printed (racks.Failed actor) P = tt
+unbegun_printed racks.OutOfMemory P = tt
+
+unbegun_between : (fault : RackFault) (text : List ℕ) (taken : Option (List ℕ)) → PrintsBetween text taken (cause_of_rack fault) taken
+unbegun_between (racks.NotEmpty actor) text None = tt
+unbegun_between (racks.NotEmpty actor) text (Some old) = refl
+unbegun_between (racks.Failed actor) text None = tt
+unbegun_between (racks.Failed actor) text (Some old) = refl
+unbegun_between racks.OutOfMemory text taken = want_between text taken
+
+pub leaves_unbegun : (decl : Declaration) (script : Script) (taken : Option (List ℕ)) (fault : RackFault) (cause : Cause) (h : List Entry) → IsRunnable decl script → h ≡ [] → cause ≡ cause_of_rack fault
+    → LeavesRun decl script taken cause taken h
+leaves_unbegun decl script taken fault cause h ready none is =
+    subst (λ (c : Cause). LeavesRun decl script taken c taken h) (sym is)
+    (subst (λ (k : List Entry). LeavesRun decl script taken (cause_of_rack fault) taken k) (sym none)
+    (leaves_run decl script [] taken (cause_of_rack fault) taken ready (empty_run decl script) (unbegun_ran fault) (unbegun_printed fault (IsWholeWithFalls (fits_of decl) decl script []))
+    (unbegun_between fault (text_of decl script []) taken)))
 
 -- nothing was to be done, for this cause
 pub leaves_refused : (asked : AskedOf) (answers : Answers) (taken : Option (List ℕ)) (cause : Cause) → Gives (work_of asked answers) (the_err cause) → Leaves (work_of asked answers) taken cause taken []
@@ -93,10 +112,11 @@ leaves_refused asked answers taken cause (inr wanting) =
     subst (λ (c : Cause). Leaves (work_of asked answers) taken c taken []) (sym wanting) (leaves_want (work_of asked answers) taken (λ w is. work_is asked answers w is))
 
 -- what the words come to, by what was asked
-pub words_leave : {S : Type 0} (gives : S → List ℕ → ℕ → Answer → S → Type 0) (files : Option Files) (words : List (List ℕ)) (a : AskedOf) (before after : S) (old : Option (List ℕ)) (cause : Cause) (new : Option (List ℕ)) (h : List Entry)
-    → asked words ≡ Some a → LeavesAsked gives files a before after old cause new h → LeavesWords gives files words before after old cause new h
-words_leave gives files words a before after old cause new h is here =
-    subst (λ (o : Option AskedOf). MatchOption o (LeavesNothing causes.NotBuilt old cause new h × (after ≡ before)) (λ x. LeavesAsked gives files x before after old cause new h)) (sym is) here
+pub words_leave : {S R : Type 0} (gives : S → List ℕ → ℕ → Answer → S → Type 0) (files : Option Files) (told : R → Option Places) (words : List (List ℕ)) (a : AskedOf) (before after : S) (first last : R)
+    (old : Option (List ℕ)) (cause : Cause) (new : Option (List ℕ)) (h : List Entry)
+    → asked words ≡ Some a → LeavesAsked gives files told a before after first last old cause new h → LeavesWords gives files told words before after first last old cause new h
+words_leave gives files told words a before after first last old cause new h is here =
+    subst (λ (o : Option AskedOf). MatchOption o (LeavesNothing causes.NotBuilt old cause new h × (after ≡ before) × (last ≡ first)) (λ x. LeavesAsked gives files told x before after first last old cause new h)) (sym is) here
 
 -- limits, where nothing ran
 
@@ -110,6 +130,7 @@ told_full causes.Sink h told none = below_at_first h none
 told_full (causes.Shelf script fault) h told none = none
 told_full (causes.Declaration fault) h told none = none
 told_full (causes.Script fault) h told none = none
+told_full (causes.Rack fault) h told none = none
 told_full causes.NotBuilt h told none = none
 told_full causes.OutOfMemory h told none = below_at_first h none
 told_full (causes.Full what number) h told none = absurd told
@@ -122,4 +143,18 @@ refused_full causes.NotBuilt h refusal none = none
 refused_full causes.OutOfMemory h refusal none = below_at_first h none
 refused_full causes.Done h refusal none = absurd refusal
 refused_full causes.Sink h refusal none = absurd refusal
+refused_full (causes.Rack fault) h refusal none = absurd refusal
 refused_full (causes.Full what number) h refusal none = absurd refusal
+
+pub unbegun_full : (fault : RackFault) (h : List Entry) → h ≡ [] → IsFullCause (cause_of_rack fault) h
+unbegun_full (racks.NotEmpty actor) h none = none
+unbegun_full (racks.Failed actor) h none = none
+unbegun_full racks.OutOfMemory h none = below_at_first h none
+
+-- the causes with which the rack isn't blamed: those that tell, and those for which there is nothing to do
+
+pub told_no_rack : (cause : Cause) → IsTold cause → IsNoRack cause
+told_no_rack cause told = λ fault is. absurd (subst IsTold is told)
+
+pub refused_no_rack : (cause : Cause) → IsRefusal cause → IsNoRack cause
+refused_no_rack cause refusal = λ fault is. absurd (subst IsRefusal is refusal)

@@ -1,6 +1,7 @@
 mod Blame
-mod Calm
 mod Ends
+mod Idle
+mod OwnRises
 mod Right
 mod Runs
 mod Takes

@@ -1,38 +1,63 @@
 -- What is promised of every run of a script that was read.
-use Rattle.std.proofs.Common.{◌≡◌, ℕ, zero, suc, Bool, true, false, List, [], ◌∷◌, length, Some, refl, sym, ap, ◌∙◌, subst, arith, slice_get}
+use Rattle.std.proofs.Common.{◌≡◌, ◌≤◌, ℕ, zero, suc, Bool, true, false, List, [], ◌∷◌, length, Some, refl, sym, ap, ◌∙◌, subst, arith, slice_get}
 use Rattle.std.specs.Prelude.{replicate}
-use Rattle.qc_account.proofs.Declared.{asks_declared}
-use Rattle.qc_account.proofs.Ended.{whole}
-use Rattle.qc_account.proofs.Whole.{all_is_due}
-use Rattle.qc_core.specs.Conduct.{IsLawful}
+use Rattle.qc_due.proofs.AccountDeclared.{asks_declared}
+use Rattle.qc_core.specs.Conduct.{IsLawfulWithFalls}
 use Rattle.qc_decl.specs.Actors.{actors}
 use Rattle.qc_decl.specs.declared.declaration.Declaration.{Declaration}
+use Rattle.qc_due.proofs.AllDue.{runs_due}
+use Rattle.qc_due.proofs.KeptFirst.{kept_first}
+use Rattle.qc_due.specs.Risen.{AllRiseInFirst}
+use Rattle.qc_due.proofs.WholeLaw.{is_whole}
+use Rattle.qc_due.specs.Whole.{IsClosedWithFalls, IsWholeWithFalls}
 use Rattle.qc_fabric.specs.Events.{before_last_event}
 use Rattle.qc_fabric.specs.Limits.{IsBelow}
 use Rattle.qc_fabric.proofs.Limits.{first_reached, none_reached}
-use Rattle.qc_laws.specs.Whole.{IsClosed, IsWhole}
+use Rattle.qc_link.specs.Limits.{most_actors}
 use Rattle.qc_msg.specs.Steps.{Entry}
 use Rattle.qc_node.specs.Ends.{HasEnded, IsScriptEnd}
+use Rattle.qc_node.specs.Rules.{fits_of}
 use Rattle.qc_node.specs.declared.ends.DriveEnd.{DriveEnd}
 use Rattle.qc_node.specs.declared.ends.DriveEnd.TheVariants as ends
 use Rattle.qc_onecopy.proofs.Copies.{replay_copies}
 use Rattle.qc_promise.specs.Atomic.{Atomic}
 use Rattle.qc_promise.specs.Committed.{committed}
 use Rattle.qc_promise.specs.Due.{Due}
-use Rattle.qc_seen.proofs.SeenLaw.{is_atomic}
-use Rattle.qc_script.specs.Runs.{Run, Runs}
+use Rattle.qc_promise.specs.Kept.{Kept}
+use Rattle.qc_reach.proofs.RunLaws.{committed_apart, committed_one_copy}
+use Rattle.qc_script.specs.RunsWithFalls.{RunWithFalls, RunsWithFalls}
 use Rattle.qc_script.specs.declared.script.Script.{Script}
+use Rattle.qc_reach.proofs.SightLaw.{after_seen}
+use Rattle.qc_reach.proofs.ToldRunLaws.{dealt, told}
+use Rattle.qc_top.proofs.OwnRises.{run_own}
 use Rattle.qc_top.specs.Top.{AreStatesKnown, IsEnd, IsRunnable}
 
-module _ (decl : Declaration) (script : Script) (ready : IsRunnable decl script) (h : List Entry) (run : Run (IsLawful decl) decl script h) where
-  pub run_atomic : Atomic decl h
-  run_atomic = is_atomic decl script h run.0 ready.accepted ready.declared run.1
+module _ (decl : Declaration) (script : Script) (ready : IsRunnable decl script) (h : List Entry) (run : RunWithFalls (IsLawfulWithFalls decl) (fits_of decl) decl script h) where
+  pub run_atomic : Kept h → Atomic decl h
+  run_atomic kept = record {
+    apart = committed_apart (fits_of decl) decl script h run.0 ready.accepted ready.declared run.1 kept;
+    one_copy = committed_one_copy (fits_of decl) decl script h run.0 ready.accepted ready.declared run.1 kept;
+    dealt = dealt (fits_of decl) decl script h run.0 ready.accepted ready.declared run.1 kept;
+    seen = after_seen (fits_of decl) decl script h run.0 ready.accepted ready.declared run.1 kept;
+    told = told (fits_of decl) decl script h run.0 ready.accepted ready.declared run.1 kept;
+  }
 
-  pub run_due : Due decl h
-  run_due = all_is_due decl script h run.0 run.1 ready.accepted (asks_declared decl script ready.accepted ready.declared)
+  few : actors decl ≤ most_actors
+  few =
+      let sites : decl.sites ≤ 16 = ready.accepted.sites in
+      let clients : decl.clients ≤ 16 = ready.accepted.clients in
+      omega arith
 
-  pub run_known : AreStatesKnown decl h
-  run_known = (replay_copies decl (committed decl h)).1 run_atomic.one_copy
+  pub run_first : Kept h → AllRiseInFirst h
+  run_first kept = kept_first decl script (fits_of decl) h run.0 run.1 kept
+
+  pub run_due : AllRiseInFirst h → Due decl h
+  run_due first =
+      runs_due decl script (fits_of decl) ready.accepted (asks_declared decl script ready.accepted ready.declared) few h run.0 run.1
+      first (run_own decl script h run.0 run.1)
+
+  pub run_known : Kept h → AreStatesKnown decl h
+  run_known kept = (replay_copies decl (committed decl h)).1 (run_atomic kept).one_copy
 
 -- where no input is open, all bits are clear
 all_clear : (bits : List Bool) → ((a : ℕ) → slice_get bits a ≡ Some true → ⊥) → bits ≡ replicate (length bits) false
@@ -41,16 +66,16 @@ all_clear (true ∷ bits) none = absurd (none zero refl)
 all_clear (false ∷ bits) none = ap (λ (bs : List Bool). false ∷ bs) (all_clear bits (λ a is. none (suc a) is))
 
 module _ (decl : Declaration) (script : Script) (ready : IsRunnable decl script) (h : List Entry) where
-  pub ended_run : (end : DriveEnd) → HasEnded decl script h end → Run (IsLawful decl) decl script h
+  pub ended_run : (end : DriveEnd) → HasEnded decl script h end → RunWithFalls (IsLawfulWithFalls decl) (fits_of decl) decl script h
   ended_run end ended = (ended.inputs, ended.runs)
 
   -- where nothing is left to do, the run is whole
-  pub ended_whole : (end : DriveEnd) → HasEnded decl script h end → end ≡ ends.Quiet → IsWhole decl script h
+  pub ended_whole : (end : DriveEnd) → HasEnded decl script h end → end ≡ ends.Quiet → IsWholeWithFalls (fits_of decl) decl script h
   ended_whole end ended quiet =
       let over : IsScriptEnd decl script h ended.inputs ends.Quiet = subst (λ (e : DriveEnd). IsScriptEnd decl script h ended.inputs e) quiet ended.ended in
       let clear : ended.inputs ≡ replicate (actors decl) false = all_clear ended.inputs over.1.1.none_open ∙ ap (λ (n : ℕ). replicate n false) ended.opens in
-      let closed : IsClosed decl script h = subst (λ (bits : List Bool). Runs (IsLawful decl) decl script h bits) clear ended.runs in
-      whole decl script ready.accepted (asks_declared decl script ready.accepted ready.declared) h closed over.1.1.none_ready over.1.1.none_left over.1.0
+      let closed : IsClosedWithFalls (fits_of decl) decl script h = subst (λ (bits : List Bool). RunsWithFalls (IsLawfulWithFalls decl) (fits_of decl) decl script h bits) clear ended.runs in
+      is_whole decl script ready.accepted (asks_declared decl script ready.accepted ready.declared) (fits_of decl) h closed over.1.1.none_ready over.1.1.none_left over.1.0
 
   pub ended_end : (end : DriveEnd) → HasEnded decl script h end → IsEnd end h
   ended_end ends.Quiet ended = none_reached h ended.ended.0

@@ -2,5 +2,6 @@ pub mod Words
 pub mod Answers
 pub mod Unbuilt
 pub mod Work
+pub mod Racks
 pub mod Source
 pub mod Top

@@ -4,26 +4,32 @@ use Rattle.qc_promise.specs.Atomic.{Atomic}
 use Rattle.qc_promise.specs.Committed.{committed}
 use Rattle.qc_promise.specs.Due.{Due}
 use Rattle.qc_promise.specs.Kept.{Kept}
-use Rattle.qc_core.specs.Conduct.{IsLawful}
-use Rattle.qc_laws.specs.Whole.{IsWhole}
+use Rattle.qc_core.specs.Conduct.{IsLawfulWithFalls}
+use Rattle.qc_due.specs.Risen.{AllRiseInFirst}
+use Rattle.qc_due.specs.Whole.{IsWholeWithFalls}
 use Rattle.qc_onecopy.specs.Replay.{replay}
 use Rattle.qc_decl.specs.Accepted.{IsAccepted}
 use Rattle.qc_decl.specs.declared.declaration.Declaration.{Declaration}
 use Rattle.qc_msg.specs.Steps.{Entry}
-use Rattle.qc_outside.specs.declared.shelf.ShelfFault.TheVariants as faults
+use Rattle.qc_outside.specs.Places.{Places}
 use Rattle.qc_outside.specs.Shelf.{Answer, Files}
+use Rattle.qc_outside.specs.declared.rack.RackFault.{RackFault}
+use Rattle.qc_outside.specs.declared.rack.RackFault.TheVariants as racks
+use Rattle.qc_outside.specs.declared.shelf.ShelfFault.TheVariants as faults
 use Rattle.qc_report.specs.Declarations.{accepted_text_of}
 use Rattle.qc_report.specs.declared.cause.Cause.{Cause}
 use Rattle.qc_report.specs.declared.cause.Cause.TheVariants as causes
 use Rattle.qc_text.specs.Text.{text_of}
-use Rattle.qc_script.specs.Runs.{Run}
+use Rattle.qc_script.specs.RunsWithFalls.{RunWithFalls}
 use Rattle.qc_script.specs.declared.script.Script.{Script}
 use Rattle.qc_script.specs.Sound.{IsScriptFor}
 use Rattle.qc_fabric.specs.Limits.{HasReached, IsBelow}
 use Rattle.qc_node.specs.Built.{is_built}
+use Rattle.qc_node.specs.Rules.{fits_of}
 use Rattle.qc_node.specs.declared.ends.DriveEnd.{DriveEnd}
 use Rattle.qc_node.specs.declared.ends.DriveEnd.TheVariants as ends
 use Rattle.qc_top.specs.Answers.{AreAnswers}
+use Rattle.qc_top.specs.Racks.{LeavesRack}
 use Rattle.qc_top.specs.Words.{AskedOf, asked}
 use Rattle.qc_top.specs.Work.{Caused, IsBlamed, work_of}
 use Rattle.qc_top.specs.declared.answers.Answers.{Answers}
@@ -44,6 +50,7 @@ IsFullCause causes.Sink h = IsBelow h
 IsFullCause (causes.Shelf script fault) h = h ≡ []
 IsFullCause (causes.Declaration fault) h = h ≡ []
 IsFullCause (causes.Script fault) h = h ≡ []
+IsFullCause (causes.Rack fault) h = h ≡ []
 IsFullCause causes.NotBuilt h = h ≡ []
 IsFullCause causes.OutOfMemory h = IsBelow h
 
@@ -60,6 +67,7 @@ Printed text old causes.NotBuilt new = new ≡ old
 Printed text old (causes.Shelf script fault) new = new ≡ old
 Printed text old (causes.Declaration fault) new = new ≡ old
 Printed text old (causes.Script fault) new = new ≡ old
+Printed text old (causes.Rack fault) new = new ≡ old
 Printed text old (causes.Full what number) new = new ≡ old
 
 abbrev pub PrintsBetween : List ℕ → Option (List ℕ) → Cause → Option (List ℕ) → Type 0
@@ -77,6 +85,7 @@ OnPrinted causes.NotBuilt P = Unit {0}
 OnPrinted (causes.Shelf script fault) P = Unit {0}
 OnPrinted (causes.Declaration fault) P = Unit {0}
 OnPrinted (causes.Script fault) P = Unit {0}
+OnPrinted (causes.Rack fault) P = Unit {0}
 OnPrinted (causes.Full what number) P = Unit {0}
 
 -- the causes with which a call may end that tells of a declaration
@@ -88,10 +97,14 @@ IsTold causes.NotBuilt = ⊥
 IsTold (causes.Shelf script fault) = ⊥
 IsTold (causes.Declaration fault) = ⊥
 IsTold (causes.Script fault) = ⊥
+IsTold (causes.Rack fault) = ⊥
 IsTold (causes.Full what number) = ⊥
 
--- the causes with which a call may end that runs a script
+-- the causes with which a call may end that runs a script, or for whose run the rack gave no disk
 abbrev pub IsRan : Cause → Type 0
+IsRan (causes.Rack (racks.NotEmpty actor)) = Unit {0}
+IsRan (causes.Rack (racks.Failed actor)) = Unit {0}
+IsRan (causes.Rack racks.OutOfMemory) = ⊥
 IsRan (causes.Full what number) = Unit {0}
 IsRan causes.Done = Unit {0}
 IsRan causes.Sink = Unit {0}
@@ -126,17 +139,19 @@ pub record LeavesRun (decl : Declaration) (script : Script) (old : Option (List 
     (new : Option (List ℕ)) (h : List Entry) : Type 0 where
   pub accepted : IsAccepted decl
   pub due : IsRan cause
-  -- what happened is a run of the script
-  pub run : Run (IsLawful decl) decl script h
+  -- what happened is a run of the script, in which disks may fail, and actors fall and rise
+  pub run : RunWithFalls (IsLawfulWithFalls decl) (fits_of decl) decl script h
   -- where its text is printed, it is a whole one: each input that was taken has its turn, all that the script asks was
   -- done, and nothing is left to do
-  pub whole : OnPrinted cause (IsWhole decl script h)
+  pub whole : OnPrinted cause (IsWholeWithFalls (fits_of decl) decl script h)
   -- what is printed is the text of just this history
   pub text : PrintsBetween (text_of decl script h) old cause new
-  -- and each state in it is known
-  pub states : OnPrinted cause (AreStatesKnown decl h)
-  -- each reply, each commit record and all that sites post is due
-  pub replies : Due decl h
+  -- and each state in it is known, where actors keep their records
+  pub states : OnPrinted cause (Kept h → AreStatesKnown decl h)
+  -- each reply, each commit record and all that sites post is due, where nobody rises in another epoch than the first
+  pub replies : AllRiseInFirst h → Due decl h
+  -- and nobody does, where actors keep their records
+  pub first : Kept h → AllRiseInFirst h
   -- the history is atomic, where its actors keep their records
   pub atomic : Kept h → Atomic decl h
 
@@ -145,22 +160,25 @@ Leaves (Err why) old cause new h = LeavesNothing why old cause new h
 Leaves (Ok (works.Accept decl)) old cause new h = LeavesWord decl old cause new h
 Leaves (Ok (works.Run decl script)) old cause new h = LeavesRun decl script old cause new h
 
--- What a call leaves whose words ask this, over any shelf: there are the answers that the shelf gave, and all is said
--- of these bytes and faults.
-pub record LeavesAsked {S : Type 0} (gives : S → List ℕ → ℕ → Answer → S → Type 0) (files : Option Files)
-    (asked : AskedOf) (before after : S) (old : Option (List ℕ)) (cause : Cause) (new : Option (List ℕ))
-    (h : List Entry) : Type 0 where
+-- What a call leaves whose words ask this, over any shelf and rack: there are the answers that the shelf gave, and all
+-- is said of these bytes and faults.
+pub record LeavesAsked {S R : Type 0} (gives : S → List ℕ → ℕ → Answer → S → Type 0) (files : Option Files)
+    (told : R → Option Places) (asked : AskedOf) (before after : S) (first last : R) (old : Option (List ℕ))
+    (cause : Cause) (new : Option (List ℕ)) (h : List Entry) : Type 0 where
   pub answers : Answers
   pub given : AreAnswers gives files asked before after answers
   pub leaves : Leaves (work_of asked answers) old cause new h
+  pub rack : LeavesRack told (work_of asked answers) first last h
   pub blame : (script : Bool) → cause ≡ causes.Shelf script faults.Failed → IsBlamed asked answers script
 
--- the same of words; words of another form come to nothing, and the shelf is left as it was
-abbrev pub LeavesWords : {S : Type 0} → (S → List ℕ → ℕ → Answer → S → Type 0) → Option Files → List (List ℕ)
-    → S → S → Option (List ℕ) → Cause → Option (List ℕ) → List Entry → Type 0
-LeavesWords gives files words before after old cause new h =
-    MatchOption (asked words) (LeavesNothing causes.NotBuilt old cause new h × (after ≡ before))
-    (λ a. LeavesAsked gives files a before after old cause new h)
+-- the same of words; words of another form come to nothing, and the shelf and the rack are left as they were
+abbrev pub LeavesWords : {S R : Type 0} → (S → List ℕ → ℕ → Answer → S → Type 0) → Option Files
+    → (R → Option Places) → List (List ℕ) → S → S → R → R → Option (List ℕ) → Cause → Option (List ℕ) → List Entry
+    → Type 0
+LeavesWords gives files told words before after first last old cause new h =
+    MatchOption (asked words)
+    (LeavesNothing causes.NotBuilt old cause new h × (after ≡ before) × (last ≡ first))
+    (λ a. LeavesAsked gives files told a before after first last old cause new h)
 
 -- a script that is run, over a declaration: it names what is declared
 pub record IsRunnable (decl : Declaration) (script : Script) : Type 0 where
@@ -176,3 +194,7 @@ IsRight (works.Run decl script) = IsRunnable decl script
 -- the shelf isn't blamed for a failure
 abbrev pub IsNoShelf : Cause → Type 0
 IsNoShelf cause = (script : Bool) → cause ≡ causes.Shelf script faults.Failed → ⊥
+
+-- the rack isn't blamed
+abbrev pub IsNoRack : Cause → Type 0
+IsNoRack cause = (fault : RackFault) → cause ≡ causes.Rack fault → ⊥

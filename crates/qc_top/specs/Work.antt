@@ -62,7 +62,7 @@ abbrev pub unless_a_line_is : Result Script Refusal → Caused Script
 unless_a_line_is (Ok script) = Ok script
 unless_a_line_is (Err refusal) = Err (causes.Script (Line refusal.number refusal.kind))
 
--- the run of a script; of one for disks, crashes or the administrator it isn't built
+-- the run of a script; of one for the administrator it isn't built
 abbrev pub built_run : Declaration → Script → Caused Work
 built_run decl script = if is_built decl script then Ok (Run decl script) else Err causes.NotBuilt
 
@@ -103,4 +103,5 @@ IsRefusal causes.NotBuilt = Unit {0}
 IsRefusal causes.OutOfMemory = Unit {0}
 IsRefusal causes.Done = ⊥
 IsRefusal causes.Sink = ⊥
+IsRefusal (causes.Rack fault) = ⊥
 IsRefusal (causes.Full what number) = ⊥

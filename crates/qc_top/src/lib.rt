@@ -4,33 +4,41 @@
 //! (`asked_by`), which ask for one to eight workers
 //! (`one_to_eight_workers_are_asked`), takes the files that they name from the shelf (`answers_for`),
 //! and does what is asked over the bytes or faults that it was handed
-//! (`perform`): it says that a declaration is accepted, or runs a script and
-//! prints the run.
+//! (`perform`): it says that a declaration is accepted, or runs a script, over a
+//! disk of the rack for each actor, and prints the run.
 //!
 //! 1. What a call has to do is exact in the words and in what it was handed, and
 //!    so is the cause for which it has nothing to do (`work_of`).
-//! 2. What happened is a run of the script, of which nothing is left to do where
-//!    its text is printed; all that was posted is due; the history is atomic.
-//! 3. The sink takes the whole text of the run, a part of it where it failed,
-//!    or nothing. Each printed state is known.
-//! 4. Status, limits and blame are those of the cause.
-//! 5. A script isn't built exactly where it has a line for disks, crashes or the
-//!    administrator (`built_scripts_have_no_unbuilt_line`).
+//! 2. What happened is a run of the script, in which disks may fail, and actors
+//!    fall and rise; nothing is left to do where its text is printed. Where actors
+//!    keep their records, the history is atomic, and all that was posted is due.
+//! 3. Where the rack tells what its places hold, records are kept, and each place
+//!    holds its actor's journal in the end. Falls by disks are within what was
+//!    armed and what the rack counted.
+//! 4. The sink takes the whole text of the run, a part of it where it failed,
+//!    or nothing. Each printed state is known, where records are kept.
+//! 5. Status, limits and blame are those of the cause.
+//! 6. A script isn't built exactly where it has a line for the administrator
+//!    (`built_scripts_have_no_unbuilt_line`).
 //!
 //! The program stands on it.
 #![tactic(auto)]
 
 mod answers;
+mod ended;
 mod laws;
+mod printing;
+mod running;
 mod top;
 mod words;
 mod work;
 
 pub use answers::{Answer, Answers, answers_for};
-pub use laws::{built_scripts_have_no_unbuilt_line, one_to_eight_workers_are_asked, runs_are_calm};
+pub use ended::Ended;
+pub use laws::{built_scripts_have_no_unbuilt_line, one_to_eight_workers_are_asked};
 pub use qc_msg::What;
 pub use qc_report::{Cause, cause_text};
 pub use qc_text::text;
-pub use top::{Ended, perform, quorum_words};
+pub use top::{perform, quorum_words};
 pub use words::{Asked, asked_by};
 pub use work::Work;

@@ -142,8 +142,8 @@ fn script_work(alloc: Global, source: Source, answer: Answer) -> Result<Work, Ca
     run_of(alloc, decl, bytes.items())
 }
 
-/// The run of the script that these bytes spell. Where it has lines for disks,
-/// crashes or the administrator, it isn't built.
+/// The run of the script that these bytes spell. Where it has lines for the
+/// administrator, it isn't built.
 fn run_of(alloc: Global, decl: Declaration, bytes: &[u8]) -> Result<Work, Cause>
     requires accepted { IsAccepted decl }
     requires named { IsNamed decl }

@@ -7,7 +7,7 @@ use Rattle.qc_core.proofs.SiteLives.{serves_as_lives}
 use Rattle.qc_core.specs.Actors.{ActorMove, actor_after, actor_takes}
 use Rattle.qc_core.specs.Conduct.{IsLawfulWithFalls}
 use Rattle.std.proofs.lemmas.List.Sums.{fold-append}
-use Rattle.qc_account.proofs.Standing.{actor_more}
+use Rattle.qc_due.proofs.Standing.{actor_more}
 use Rattle.qc_core.specs.Lives.{Lives, is_up, up_at}
 use Rattle.qc_core.specs.Lives as lives
 use Rattle.qc_core.specs.declared.actor.Actor.{Actor}
@@ -24,15 +24,15 @@ use Rattle.qc_guarantees.proofs.Grounds.{has_grounds}
 use Rattle.qc_guarantees.proofs.Mailed.{sent_as, sent_mail}
 use Rattle.qc_guarantees.proofs.SiteMoves.{Forgets, IsAnsweringTo, answers_requests, prepares_remembered}
 use Rattle.qc_guarantees.specs.Votes.{IsOpenVote}
-use Rattle.qc_holds.proofs.Nets.{at_number, backed, net, now, reached, refined}
-use Rattle.qc_holds.proofs.SiteClocks.{same_site}
+use Rattle.qc_votes.proofs.Nets.{at_number, backed, net, now, reached, refined}
+use Rattle.qc_votes.proofs.SiteClocks.{same_site}
 use Rattle.qc_link.specs.Limits.{most_actors}
 use Rattle.qc_list.specs.Members.{In}
-use Rattle.qc_lives.proofs.Downs.{due}
-use Rattle.qc_lives.proofs.FallKept.{kept_rises}
-use Rattle.qc_lives.proofs.FallServed.{run_site_deeds}
-use Rattle.qc_lives.proofs.Lived.{run_lives}
-use Rattle.qc_lives.specs.LivesIn.{LivesIn}
+use Rattle.qc_laws.proofs.Downs.{due}
+use Rattle.qc_laws.proofs.FallKept.{kept_rises}
+use Rattle.qc_laws.proofs.FallServed.{run_site_deeds}
+use Rattle.qc_laws.proofs.Lived.{run_lives}
+use Rattle.qc_laws.specs.LivesIn.{LivesIn}
 use Rattle.qc_lock.specs.Held.{held_of, is_held}
 use Rattle.qc_msg.specs.Begun.{has_granted, life_of}
 use Rattle.qc_msg.specs.Deeds.{Deed, Takes, WasSentTo, deeds, mail}
@@ -52,9 +52,9 @@ use Rattle.qc_msg.specs.declared.turn.Posting.{Posting}
 use Rattle.qc_msg.specs.declared.turn.Turn.{Turn}
 use Rattle.qc_net.specs.Messages.{Backed}
 use Rattle.qc_net.specs.Sites.{SiteMirrors}
-use Rattle.qc_precedence.proofs.Live.{live}
-use Rattle.qc_precedence.proofs.Safe.{epoch_is, first_epochs}
-use Rattle.qc_precedence.proofs.Splits.{snoc_same}
+use Rattle.qc_votes.proofs.Live.{live}
+use Rattle.qc_votes.proofs.Safe.{epoch_is, first_epochs}
+use Rattle.qc_votes.proofs.Splits.{snoc_same}
 use Rattle.qc_promise.specs.Account.{ClientRequest, Current}
 use Rattle.qc_promise.specs.Accounting.{account}
 use Rattle.qc_promise.specs.Kept.{Kept}

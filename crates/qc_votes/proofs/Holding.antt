@@ -8,8 +8,8 @@ use Rattle.qc_decl.specs.Actors.{is_client, is_site}
 use Rattle.qc_decl.specs.declared.declaration.Declaration.{Declaration}
 use Rattle.qc_guarantees.proofs.Mailed.{sent_as, sent_mail, taken_mail}
 use Rattle.qc_guarantees.proofs.SiteMoves.{IsFull}
-use Rattle.qc_holds.proofs.Nets.{at_number, backed, net, now, one_request, reached, refined}
-use Rattle.qc_holds.proofs.SiteClocks.{mirrors, shown}
+use Rattle.qc_votes.proofs.Nets.{at_number, backed, net, now, one_request, reached, refined}
+use Rattle.qc_votes.proofs.SiteClocks.{mirrors, shown}
 use Rattle.qc_list.specs.Members.{In}
 use Rattle.qc_list.proofs.Members.{In-first, In-second}
 use Rattle.qc_lock.specs.Held.{entry_of, held_of, is_held}
@@ -26,9 +26,9 @@ use Rattle.qc_msg.specs.declared.record.Record.{Record}
 use Rattle.qc_net.specs.Items.{items_wanted}
 use Rattle.qc_net.specs.Messages.{IsGrantTo, IsGrantable, IsRequest}
 use Rattle.qc_net.specs.Sites.{IsHeld, SiteMirrors}
-use Rattle.qc_order.proofs.Live.{no_outcome}
-use Rattle.qc_precedence.proofs.Live.{live}
-use Rattle.qc_precedence.proofs.Safe.{epoch_is, first_epochs, granting}
+use Rattle.qc_guarantees.proofs.Live.{no_outcome}
+use Rattle.qc_votes.proofs.Live.{live}
+use Rattle.qc_votes.proofs.Safe.{epoch_is, first_epochs, granting}
 use Rattle.qc_promise.specs.Account.{Current}
 use Rattle.qc_promise.specs.Accounting.{account}
 use Rattle.qc_promise.specs.Kept.{Kept}

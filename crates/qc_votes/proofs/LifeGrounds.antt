@@ -47,7 +47,7 @@ use Rattle.qc_guarantees.proofs.SiteMoves.{IsFull}
 use Rattle.std.specs.Cmp.Lexicographic.{pointwise}
 use Rattle.qc_promise.specs.Rounds.{next_own}
 use Rattle.qc_msg.specs.Begun.{life_of}
-use Rattle.qc_order.proofs.FirstGrants.{life_added}
+use Rattle.qc_guarantees.proofs.FirstGrants.{life_added}
 use Rattle.qc_promise.specs.Accounting.{is_open}
 use Rattle.qc_promise.specs.Asked.{carries, command_asks, is_of, own_appended, same_line, same_own, weighs}
 use Rattle.qc_votes.proofs.LivesTold.{told_alike, IsToldLife, HasParticipant, HasLifeGrounds, told_more, same_now, same_told, same_grounds, bare_grounds, not_yet, HasOneMore, IsChangedBy, told_changed, told_forward}

@@ -10,7 +10,7 @@ use Rattle.qc_msg.specs.declared.message.Want.{Want}
 use Rattle.qc_msg.specs.Begun.{has_granted, life_of, with_life}
 use Rattle.qc_msg.specs.Deeds.{Deed}
 use Rattle.qc_promise.specs.Account.{Account, ClientRequest, Current, new_current}
-use Rattle.qc_order.proofs.FirstGrants.{KeepsLives, same_lives, life_added}
+use Rattle.qc_guarantees.proofs.FirstGrants.{KeepsLives, same_lives, life_added}
 use Rattle.qc_entry.specs.declared.line.Line.{Line}
 use Rattle.qc_msg.specs.declared.message.Answer.TheVariants as answers
 use Rattle.qc_msg.specs.declared.message.Want.TheVariants.{Append, Prepare, Read}

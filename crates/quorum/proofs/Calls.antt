@@ -1,5 +1,6 @@
 -- A call over the system's files and a writer: what the shelf handed over is just what all is said of.
-use Rattle.std.proofs.Common.{◌≡◌, ℕ, List, [], ◌∷◌, ◌++◌, Option, None, Some, refl, sym, subst, ap, ◌∙◌}
+use Rattle.std.proofs.Common.{◌≡◌, ◌≤◌, ℕ, List, [], ◌∷◌, ◌++◌, Option, None, Some, Ok, Err}
+use Rattle.std.proofs.Common.{refl, sym, subst, ap, ◌∙◌, arith}
 use Rattle.std.proofs.lemmas.List.{append-nil}
 use Rattle.std.specs.Option.{option_map_or}
 use Rattle.std.specs.Prelude.{MatchOption}
@@ -7,15 +8,27 @@ use Rattle.qc_fabric.specs.Events.{before_last_event}
 use Rattle.qc_fabric.specs.Limits.{IsBelow}
 use Rattle.qc_files.specs.Outside.{ShelfOfFiles}
 use Rattle.qc_msg.specs.Steps.{Entry}
+use Rattle.qc_outside.specs.MemRack.{held}
+use Rattle.qc_node.specs.Places.{place_of}
+use Rattle.qc_outside.specs.Places.{HoldsNoByte, Places}
 use Rattle.qc_outside.specs.Shelf.{Answer}
+use Rattle.qc_outside.specs.declared.mem_rack.Kept.{Kept as KeptPlace}
+use Rattle.qc_outside.specs.declared.rack.RackFault.{RackFault}
+use Rattle.qc_outside.specs.declared.rack.RackFault.TheVariants as racks
 use Rattle.qc_promise.specs.Kept.{Kept}
+use Rattle.qc_promise.specs.Spent.{Spent}
 use Rattle.qc_report.specs.Causes.{status_of}
 use Rattle.qc_report.specs.declared.cause.Cause.{Cause}
 use Rattle.qc_report.specs.declared.cause.Cause.TheVariants as causes
 use Rattle.qc_top.specs.Answers.{IsAnswerFor, decl_file, most_declaration_bytes, most_script_bytes, script_file}
-use Rattle.qc_top.specs.Top.{IsFullCause, LeavesAsked, LeavesNothing, LeavesWords}
+use Rattle.qc_top.specs.Racks.{IsRackBlamed}
+use Rattle.qc_top.specs.Top.{AreStatesKnown, IsFullCause, IsNoRack, Leaves, LeavesAsked, LeavesNothing}
+use Rattle.qc_top.specs.Top.{LeavesWords, OnPrinted}
 use Rattle.qc_top.specs.Words.{AskedOf, asked}
-use Rattle.quorum.specs.Call.{IsCall, IsCallFor, IsNoCall, for_file}
+use Rattle.qc_top.specs.Work.{Caused, work_of}
+use Rattle.qc_top.specs.declared.work.Work.{Work}
+use Rattle.qc_top.specs.declared.work.Work.TheVariants as works
+use Rattle.quorum.specs.Call.{IsCall, IsCallFor, IsKeptWork, IsNoCall, for_file}
 
 -- what a call of the shelf of files keeps
 abbrev pub keeps : ShelfOfFiles → List ℕ → ℕ → Answer → ShelfOfFiles → Type 0
@@ -27,51 +40,91 @@ file_handed None limit before after answer given =
     ap (λ (s : ShelfOfFiles). s.handed) given.0 ∙ sym (append-nil before.handed)
 file_handed (Some name) limit before after answer given = given.given
 
-pub call_for : (a : AskedOf) (before after : ShelfOfFiles) (cause : Cause) (taken : List ℕ) (h : List Entry)
-    → before.handed ≡ [] → LeavesAsked keeps None a before after (Some []) cause (Some taken) h
-    → IsCallFor a after.handed cause taken h
-call_for a before after cause taken h unread left =
-    let between : ShelfOfFiles = left.given.between in
-    let first : between.handed ≡ for_file (decl_file a) most_declaration_bytes left.answers.decl =
-    file_handed (decl_file a) most_declaration_bytes before between left.answers.decl left.given.decl
-    ∙ ap (λ l. l ++ for_file (decl_file a) most_declaration_bytes left.answers.decl) unread in
-    record {
-      answers = left.answers;
-      files =
-          file_handed (script_file a left.answers.decl) most_script_bytes between after left.answers.script left.given.script
-          ∙ ap (λ l. l ++ for_file (script_file a left.answers.decl) most_script_bytes left.answers.script) first;
-      leaves = left.leaves;
-      blame = left.blame;
-    }
+-- what is printed of a run is known where records are kept
+printed_then : (cause : Cause) (P Q : Type 0) → (P → Q) → OnPrinted cause P → OnPrinted cause Q
+printed_then causes.Done P Q then here = then here
+printed_then causes.Sink P Q then here = then here
+printed_then causes.OutOfMemory P Q then here = tt
+printed_then causes.NotBuilt P Q then here = tt
+printed_then (causes.Shelf script fault) P Q then here = tt
+printed_then (causes.Declaration fault) P Q then here = tt
+printed_then (causes.Script fault) P Q then here = tt
+printed_then (causes.Rack fault) P Q then here = tt
+printed_then (causes.Full what number) P Q then here = tt
 
--- by what the words ask, if they ask anything
-by_words : (o : Option AskedOf) (before after : ShelfOfFiles) (cause : Cause) (taken : List ℕ) (h : List Entry)
-    → before.handed ≡ [] → (o ≡ None → cause ≡ causes.NotBuilt)
-    → MatchOption o (LeavesNothing causes.NotBuilt (Some []) cause (Some taken) h × (after ≡ before))
-    (λ a. LeavesAsked keeps None a before after (Some []) cause (Some taken) h)
-    → MatchOption o (IsNoCall after.handed cause taken h) (λ a. IsCallFor a after.handed cause taken h)
-by_words None before after cause taken h unread due left =
-    record {
-      files = ap (λ (s : ShelfOfFiles). s.handed) left.1 ∙ unread;
-      due = due refl;
-      history = left.0.history;
-      text = ap (λ (o : Option (List ℕ)). option_map_or (λ text. text) o []) left.0.text;
-    }
-by_words (Some a) before after cause taken h unread due left = call_for a before after cause taken h unread left
+kept_work : (work : Caused Work) (cause : Cause) (taken : List ℕ) (h : List Entry)
+    → Leaves work (Some []) cause (Some taken) h → Kept h → IsKeptWork work cause h
+kept_work (Err why) cause taken h left kept = tt
+kept_work (Ok (works.Accept decl)) cause taken h left kept = tt
+kept_work (Ok (works.Run decl script)) cause taken h left kept = record {
+  due = left.replies (left.first kept);
+  atomic = left.atomic kept;
+  states = printed_then cause (Kept h → AreStatesKnown decl h) (AreStatesKnown decl h)
+      (λ known. known kept) left.states;
+}
 
-pub is_call : (words : List (List ℕ)) (before after : ShelfOfFiles) (old : List ℕ) (status : ℕ) (cause : Cause)
-    (taken : List ℕ) (h : List Entry)
-    → before.handed ≡ [] → old ≡ [] → (asked words ≡ None → cause ≡ causes.NotBuilt)
-    → LeavesWords keeps None words before after (Some old) cause (Some taken) h
-    → status ≡ status_of cause → IsFullCause cause h → IsBelow (before_last_event h) → Kept h
-    → IsCall words after.handed status cause taken h
-is_call words before after old status cause taken h unread unwritten due left told full below kept =
-    let fresh : LeavesWords keeps None words before after (Some []) cause (Some taken) h =
-    subst (λ l. LeavesWords keeps None words before after (Some l) cause (Some taken) h) unwritten left in
-    record {
-      by_words = by_words (asked words) before after cause taken h unread due fresh;
-      told = told;
-      full = full;
-      before = below;
-      kept = kept;
-    }
+-- nobody blames a new rack: none of its places holds a byte, and it counts no fault
+pub unblamed : (kept : List KeptPlace) → kept ≡ [] → (cause : Cause)
+    → ((fault : RackFault) → cause ≡ causes.Rack fault → IsRackBlamed (Some (held kept)) 0 0 fault) → IsNoRack cause
+unblamed kept none cause blame = λ fault is. by fault (blame fault is)
+  where
+    by : (fault : RackFault) → IsRackBlamed (Some (held kept)) 0 0 fault → ⊥
+    by (racks.NotEmpty actor) blamed =
+        blamed.0 (subst (λ (k : List KeptPlace). HoldsNoByte (held k (place_of actor))) (sym none) tt)
+    by (racks.Failed actor) blamed = let never : 1 ≤ 0 = blamed.0 in omega arith
+    by racks.OutOfMemory blamed = blamed.1 refl
+
+module _ {R : Type 0} (told : R → Option Places) (before after : ShelfOfFiles) (first last : R) (cause : Cause)
+    (taken : List ℕ) (h : List Entry) (kept : Kept h) where
+  call_for : (a : AskedOf) → before.handed ≡ []
+      → LeavesAsked keeps None told a before after first last (Some []) cause (Some taken) h
+      → IsCallFor a after.handed cause taken h
+  call_for a unread left =
+      let between : ShelfOfFiles = left.given.between in
+      let one : between.handed ≡ for_file (decl_file a) most_declaration_bytes left.answers.decl =
+      file_handed (decl_file a) most_declaration_bytes before between left.answers.decl left.given.decl
+      ∙ ap (λ l. l ++ for_file (decl_file a) most_declaration_bytes left.answers.decl) unread in
+      record {
+        answers = left.answers;
+        files =
+            file_handed (script_file a left.answers.decl) most_script_bytes between after left.answers.script
+            left.given.script
+            ∙ ap (λ l. l ++ for_file (script_file a left.answers.decl) most_script_bytes left.answers.script) one;
+        leaves = left.leaves;
+        keeps = kept_work (work_of a left.answers) cause taken h left.leaves kept;
+        blame = left.blame;
+      }
+
+  -- by what the words ask, if they ask anything
+  by_words : (o : Option AskedOf) → before.handed ≡ [] → (o ≡ None → cause ≡ causes.NotBuilt)
+      → MatchOption o
+      (LeavesNothing causes.NotBuilt (Some []) cause (Some taken) h × (after ≡ before) × (last ≡ first))
+      (λ a. LeavesAsked keeps None told a before after first last (Some []) cause (Some taken) h)
+      → MatchOption o (IsNoCall after.handed cause taken h) (λ a. IsCallFor a after.handed cause taken h)
+  by_words None unread due left =
+      record {
+        files = ap (λ (s : ShelfOfFiles). s.handed) left.1 ∙ unread;
+        due = due refl;
+        history = left.0.history;
+        text = ap (λ (o : Option (List ℕ)). option_map_or (λ text. text) o []) left.0.text;
+      }
+  by_words (Some a) unread due left = call_for a unread left
+
+  pub is_call : (words : List (List ℕ)) (old : List ℕ) (status : ℕ)
+      → before.handed ≡ [] → old ≡ [] → (asked words ≡ None → cause ≡ causes.NotBuilt)
+      → LeavesWords keeps None told words before after first last (Some old) cause (Some taken) h
+      → status ≡ status_of cause → IsFullCause cause h → IsBelow (before_last_event h) → Spent h 0 → IsNoRack cause
+      → IsCall words after.handed status cause taken h
+  is_call words old status unread unwritten due left told_is full below spent disks =
+      let fresh : LeavesWords keeps None told words before after first last (Some []) cause (Some taken) h =
+      subst (λ l. LeavesWords keeps None told words before after first last (Some l) cause (Some taken) h)
+      unwritten left in
+      record {
+        by_words = by_words (asked words) unread due fresh;
+        told = told_is;
+        full = full;
+        before = below;
+        kept = kept;
+        spent = spent;
+        disks = disks;
+      }

@@ -1,20 +1,26 @@
 -- What a call of the program leaves: by its words, what was handed over for its files, and what standard output took.
-use Rattle.std.specs.Prelude.{◌≡◌, ℕ, Bool, List, [], ◌∷◌, ◌++◌, Option, None, Some, MatchOption}
+use Rattle.std.specs.Prelude.{◌≡◌, ℕ, Bool, List, [], ◌∷◌, ◌++◌, Option, None, Some, Ok, Err, MatchOption}
+use Rattle.qc_decl.specs.declared.declaration.Declaration.{Declaration}
 use Rattle.qc_fabric.specs.Events.{before_last_event}
 use Rattle.qc_fabric.specs.Limits.{IsBelow}
 use Rattle.qc_files.specs.Handed.{HandedOver}
 use Rattle.qc_msg.specs.Steps.{Entry}
 use Rattle.qc_outside.specs.Shelf.{Answer}
 use Rattle.qc_outside.specs.declared.shelf.ShelfFault.TheVariants as faults
+use Rattle.qc_promise.specs.Atomic.{Atomic}
+use Rattle.qc_promise.specs.Due.{Due}
 use Rattle.qc_promise.specs.Kept.{Kept}
+use Rattle.qc_promise.specs.Spent.{Spent}
 use Rattle.qc_report.specs.Causes.{status_of}
 use Rattle.qc_report.specs.declared.cause.Cause.{Cause}
 use Rattle.qc_report.specs.declared.cause.Cause.TheVariants as causes
 use Rattle.qc_top.specs.Answers.{decl_file, most_declaration_bytes, most_script_bytes, script_file}
-use Rattle.qc_top.specs.Top.{IsFullCause, Leaves}
+use Rattle.qc_top.specs.Top.{AreStatesKnown, IsFullCause, IsNoRack, Leaves, OnPrinted}
 use Rattle.qc_top.specs.Words.{AskedOf, asked}
-use Rattle.qc_top.specs.Work.{IsBlamed, work_of}
+use Rattle.qc_top.specs.Work.{Caused, IsBlamed, work_of}
 use Rattle.qc_top.specs.declared.answers.Answers.{Answers}
+use Rattle.qc_top.specs.declared.work.Work.{Work}
+use Rattle.qc_top.specs.declared.work.Work.TheVariants as works
 
 -- what is handed over for a file, where one is asked for
 abbrev pub for_file : Option (List ℕ) → ℕ → Answer → List HandedOver
@@ -27,6 +33,19 @@ handed_for asked answers =
     for_file (decl_file asked) most_declaration_bytes answers.decl
     ++ for_file (script_file asked answers.decl) most_script_bytes answers.script
 
+-- A run over disks that keep records: each reply, each commit record and all that sites post is due, the history is
+-- atomic, and each state that is printed is known.
+pub record IsKeptRun (decl : Declaration) (cause : Cause) (h : List Entry) : Type 0 where
+  pub due : Due decl h
+  pub atomic : Atomic decl h
+  pub states : OnPrinted cause (AreStatesKnown decl h)
+
+-- the same of what there was to do
+abbrev pub IsKeptWork : Caused Work → Cause → List Entry → Type 0
+IsKeptWork (Err why) cause h = Unit {0}
+IsKeptWork (Ok (works.Accept decl)) cause h = Unit {0}
+IsKeptWork (Ok (works.Run decl script)) cause h = IsKeptRun decl cause h
+
 -- A call whose words ask this.
 pub record IsCallFor (asked : AskedOf) (handed : List HandedOver) (cause : Cause) (taken : List ℕ) (h : List Entry)
     : Type 0 where
@@ -36,6 +55,7 @@ pub record IsCallFor (asked : AskedOf) (handed : List HandedOver) (cause : Cause
   -- and of them all is said: what is to be done, what happened, and that just its text was taken, or a part of it, or
   -- nothing
   pub leaves : Leaves (work_of asked answers) (Some []) cause (Some taken) h
+  pub keeps : IsKeptWork (work_of asked answers) cause h
   pub blame : (script : Bool) → cause ≡ causes.Shelf script faults.Failed → IsBlamed asked answers script
 
 -- A call whose words have another form: no file is asked for, nothing happens, and nothing is taken.
@@ -53,4 +73,7 @@ pub record IsCall (words : List (List ℕ)) (handed : List HandedOver) (status :
   -- a limit is told exactly where it was reached
   pub full : IsFullCause cause h
   pub before : IsBelow (before_last_event h)
+  -- records are kept; what falls by disks there are was armed; and no disk is missing
   pub kept : Kept h
+  pub spent : Spent h 0
+  pub disks : IsNoRack cause

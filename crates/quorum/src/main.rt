@@ -1,10 +1,11 @@
 //! The program `quorum`: the real outside, and the top call.
 //!
 //! All that matters is in `qc_top`. Here the words, the files and standard
-//! output of the system are handed in, and the cause of a status other than 0
-//! is told on standard error, whatever that takes. What a call leaves is said in
-//! `run`, of the very bytes that were handed over and of all that standard output
-//! took (`IsCall`).
+//! output of the system are handed in, with a rack of disks in memory, and the
+//! cause of a status other than 0 is told on standard error, whatever that takes.
+//! What a call leaves is said in `run`, of the very bytes that were handed over and
+//! of all that standard output took (`IsCall`). Since the rack tells what its disks
+//! hold, records are kept: so each run is due and atomic.
 #![tactic(auto)]
 
 ghost use Rattle.std.specs.Prelude.{◌≡◌, [], IfOk, drop, map};
@@ -17,7 +18,7 @@ ghost use Rattle.quorum.specs.Call.{IsCall};
 ghost use Rattle.quorum.specs.Words.{cause_of_kind};
 
 use qc_files::{FileShelf, OutSink};
-use qc_outside::{EmptyRack, OpenGate};
+use qc_outside::{MemRack, OpenGate, Tear};
 use qc_top::{Cause, Ended, cause_text, quorum_words};
 use std::alloc::{AllocError, Global};
 use std::env::Args;
@@ -66,21 +67,26 @@ fn borrowed(alloc: Global, words: &[String]) -> Result<Vec<&str>, AllocError>
     Ok(texts)
 }
 
-/// The top call over the system's files and a writer, as standard output is. All
-/// that it leaves is said of what the files were read as, and of what the writer
-/// took.
-fn run<R, W>(rt: &R, words: &[&str], shelf: &mut FileShelf<'_, R>, sink: &mut OutSink<W>) -> Ended
+/// The top call over the system's files, a writer, as standard output is, and a new
+/// rack in memory. All that it leaves is said of what the files were read as, and of
+/// what the writer took.
+fn run<R, W>(
+    rt: &R,
+    words: &[&str],
+    shelf: &mut FileShelf<'_, R>,
+    sink: &mut OutSink<W>,
+    rack: &mut MemRack,
+) -> Ended
 where
     R: Threads + Wait + Sync + Files + AllocGlobal,
     W: Write,
     requires unread { shelf.old.handed ≡ [] }
     requires unwritten { sink.old.taken ≡ [] }
+    requires unused { rack.old.places.items ≡ [] }
     ensures { IsCall (texts_of words.now) shelf.new.handed result.status result.cause sink.new.taken
         result.history }
 {
-    let alloc = rt.alloc();
-    let mut rack = EmptyRack::new(alloc);
-    quorum_words(rt, alloc, words, shelf, sink, &mut rack, &OpenGate)
+    quorum_words(rt, rt.alloc(), words, shelf, sink, rack, &OpenGate)
 }
 
 /// The cause with which a call of these words ends, over the system's files and
@@ -92,9 +98,12 @@ where
     let Ok(texts) = borrowed(rt.alloc(), words) else {
         return Cause::OutOfMemory;
     };
+    let Ok(mut rack) = MemRack::new(rt.alloc(), Tear::Nothing) else {
+        return Cause::OutOfMemory;
+    };
     let mut shelf = FileShelf::new(rt);
     let mut sink = OutSink::new(io::writer(rt));
-    run(rt, texts.as_slice(), &mut shelf, &mut sink).cause
+    run(rt, texts.as_slice(), &mut shelf, &mut sink, &mut rack).cause
 }
 
 /// Tells a cause on standard error, and gives the program's exit, which is the

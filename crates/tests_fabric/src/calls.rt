@@ -2,6 +2,7 @@
 
 use crate::steps::Short;
 use qc_fabric::Picked;
+use qc_msg::{Appended, Fall};
 
 /// What an actor does for its input.
 #[derive(Clone, Copy)]
@@ -16,6 +17,21 @@ pub(crate) enum Says {
     Answers(u8, u32),
     /// It tells a reply.
     Tells,
+    /// It writes a record, of which this becomes, and asks an actor: also where the
+    /// record couldn't be written, and it then tells a reply.
+    Writes(Appended, u8),
+}
+
+/// What a restart finds.
+#[derive(Clone, Copy)]
+pub(crate) enum Finds {
+    /// No records. Of the record of the rise this becomes, and the actor asks
+    /// another.
+    Nothing(Appended, u8),
+    /// A journal that is none.
+    Damage,
+    /// The disk fails or stops.
+    Fault(Fall),
 }
 
 /// A call.
@@ -23,8 +39,14 @@ pub(crate) enum Says {
 pub(crate) enum Act {
     /// The controller begins the next phase.
     Phase,
-    /// The first control line left of the phase acts, where it may.
+    /// The first control line left of the phase cuts or heals, where it does.
     Control,
+    /// It arms an actor's disk, where it does.
+    Arm(u8),
+    /// It crashes an actor, where it does.
+    Crash(u8),
+    /// It restarts an actor, where it does.
+    Restart(u8, Finds),
     /// The actor that comes next is picked.
     Pick,
     /// An actor takes its next input.

@@ -12,6 +12,10 @@ pub use scripts::script_of;
 #[cfg(test)]
 mod calls;
 #[cfg(test)]
+mod fall_tests;
+#[cfg(test)]
+mod falls;
+#[cfg(test)]
 mod lock;
 #[cfg(test)]
 mod meeting;

@@ -6,7 +6,7 @@ use crate::calls::{Saw, Says};
 use crate::conduct::AnyTurn;
 use crate::seat::Seat;
 use crate::steps::short_of;
-use crate::turn::{is_actor, turn_of};
+use crate::turn::{down_after, is_actor, may_say, turn_of};
 use qc_decl::Declaration;
 use qc_fabric::{Fabric, Named};
 use qc_list::OutOfMemory;
@@ -49,12 +49,34 @@ impl<N: Named> Seat<N> {
         let Some(turn) = turn_of(alloc, says)? else {
             return Ok(Saw::MayNot);
         };
+        if !may_say(self.down, &turn) {
+            return Ok(Saw::MayNot);
+        }
+        let append = turn.append;
         fabric.reserve(rt, &mut self.pass, &turn)?;
-        Ok(Saw::Posted(fabric.post(rt, &mut self.pass, turn)))
+        let first = fabric.post(rt, &mut self.pass, turn);
+        self.down = down_after(self.down, append);
+        Ok(Saw::Posted(first))
     }
 
     /// The actor isn't held any more.
     pub(crate) fn leave_by_lock<R: Wait>(&mut self, rt: &R, fabric: &Fabric<AnyTurn, N>) {
         fabric.leave(rt, &mut self.pass);
+    }
+
+    /// Its pass sees the history of a state that is held. Whether its actor isn't
+    /// held then, and nothing is left that the controller may do.
+    pub(crate) fn rests<R: Wait>(
+        &mut self,
+        rt: &R,
+        fabric: &Fabric<AnyTurn, N>,
+        decl: &Declaration,
+    ) -> bool
+        requires { decl.now ≡ N.declaration }
+    {
+        let is_last = fabric.next_order(rt, decl, 9).is_none();
+        let mut held = fabric.hold(rt);
+        held.still.look(&mut self.pass);
+        is_last && !held.still.is_held(self.pass.number())
     }
 }

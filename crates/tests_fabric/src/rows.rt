@@ -16,6 +16,7 @@ use std::alloc::Global;
 fn caller(act: Act, count: usize) -> usize {
     match act {
         Act::Take(actor) | Act::Post(actor, _) | Act::Leave(actor) => actor as usize,
+        Act::Arm(actor) | Act::Crash(actor) | Act::Restart(actor, _) => actor as usize,
         _ => count.saturating_sub(1),
     }
 }
@@ -30,8 +31,29 @@ fn act<N: Named>(
 ) -> Result<Saw, OutOfMemory>
     requires { decl.now ≡ N.declaration }
 {
+    if let Act::Arm(actor) = act {
+        return arm(decl, still, seats, actor as usize);
+    }
     match seats.get_mut(caller(act, seats.len())) {
         Some(seat) => seat.act(alloc, still, decl, act),
+        None => Ok(Saw::MayNot),
+    }
+}
+
+/// The controller, whose seat is the last, arms an actor's disk.
+fn arm<N: Named>(
+    decl: &Declaration,
+    still: &mut Still<AnyTurn, N>,
+    seats: &mut [Seat<N>],
+    actor: usize,
+) -> Result<Saw, OutOfMemory>
+    requires { decl.now ≡ N.declaration }
+{
+    let Some((controller, actors)) = seats.split_last_mut() else {
+        return Ok(Saw::MayNot);
+    };
+    match actors.get_mut(actor) {
+        Some(seat) => seat.arm(controller, still, decl),
         None => Ok(Saw::MayNot),
     }
 }

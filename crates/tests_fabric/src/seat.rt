@@ -1,14 +1,14 @@
 //! A pass of the run's table, by which its actor does the calls of rows.
 
-ghost use Rattle.std.specs.Prelude.{◌≡◌, None, true};
+ghost use Rattle.std.specs.Prelude.{◌≡◌, [], None, true};
 ghost use Rattle.qc_decl.specs.Actors.{controller};
 ghost use Rattle.qc_fabric.specs.Logs.{full_of};
-ghost use Rattle.qc_pass.specs.Tokens.{number, pass_table};
+ghost use Rattle.qc_pass.specs.Tokens.{number, pass_table, seen};
 
 use crate::calls::{Act, Saw, Says};
 use crate::conduct::AnyTurn;
 use crate::steps::short_of;
-use crate::turn::{is_actor, is_controller, turn_of};
+use crate::turn::{down_after, is_actor, is_controller, may_say, turn_of};
 use qc_decl::Declaration;
 use qc_fabric::{Named, Still};
 use qc_list::OutOfMemory;
@@ -17,33 +17,35 @@ use qc_pass::Pass;
 use std::alloc::Global;
 use std::marker::{Model, PhantomData};
 
-/// A pass of the run's table.
+/// A pass of the run's table, and whether its actor is down.
 #[derive(Drop)]
 pub(crate) struct Seat<N: Named> {
     pub(crate) pass: Pass<Step>,
+    pub(crate) down: bool,
     of: PhantomData<N>,
 }
 
 impl<N: Named> Model for Seat<N> {
-    ghost use Rattle.std.specs.Prelude.{◌≡◌};
-    ghost use Rattle.qc_pass.specs.Tokens.{pass_table};
     ghost use Rattle.qc_pass.specs.declared.token.Pass.{Pass};
     ghost use Rattle.qc_msg.specs.declared.step.Step.{Step};
+    ghost use Rattle.tests_fabric.specs.Seats.{IsSeat};
 
     ghost Value = { Pass Step };
 
     ghost view = { λ s. s.pass };
 
-    ghost invariant = { λ s. pass_table s.pass ≡ N.table };
+    ghost invariant = { λ s. IsSeat N.table N.declaration s.pass s.down };
 }
 
 impl<N: Named> Seat<N> {
-    /// The seat of a pass.
+    /// The seat of a pass that has seen nothing: its actor is up.
     pub(crate) fn new(pass: Pass<Step>) -> Seat<N>
-        requires { pass_table pass ≡ N.table }
+        requires table { pass_table pass ≡ N.table }
+        requires none { seen pass ≡ [] }
     {
         Seat {
             pass,
+            down: false,
             of: PhantomData,
         }
     }
@@ -69,6 +71,9 @@ impl<N: Named> Seat<N> {
         match act {
             Act::Phase => self.begin(still, decl),
             Act::Control => self.control(still, decl),
+            Act::Arm(_) => Ok(Saw::MayNot),
+            Act::Crash(_) => self.crash(still, decl),
+            Act::Restart(_, finds) => self.restart(alloc, still, decl, finds),
             Act::Pick => Ok(Saw::Picked(still.pick(decl))),
             Act::Take(_) => self.take(alloc, still, decl),
             Act::Post(_, says) => self.post(alloc, still, decl, says),
@@ -111,8 +116,12 @@ impl<N: Named> Seat<N> {
             return Ok(Saw::MayNot);
         }
         match still.next_control() {
-            Some(line @ (Control::Cut(_, _) | Control::Heal(_, _))) => {
-                still.order(&mut self.pass, line)?;
+            Some(Control::Cut(a, b)) => {
+                still.order(&mut self.pass, Control::Cut(a, b))?;
+                Ok(Saw::Acted)
+            }
+            Some(Control::Heal(a, b)) => {
+                still.order(&mut self.pass, Control::Heal(a, b))?;
                 Ok(Saw::Acted)
             }
             _ => Ok(Saw::MayNot),
@@ -152,8 +161,14 @@ impl<N: Named> Seat<N> {
         let Some(turn) = turn_of(alloc, says)? else {
             return Ok(Saw::MayNot);
         };
+        if !may_say(self.down, &turn) {
+            return Ok(Saw::MayNot);
+        }
+        let append = turn.append;
         still.reserve(&mut self.pass, &turn)?;
-        Ok(Saw::Posted(still.post(&mut self.pass, turn)))
+        let first = still.post(&mut self.pass, turn);
+        self.down = down_after(self.down, append);
+        Ok(Saw::Posted(first))
     }
 
     /// The pass sees the history, and its actor isn't held any more.

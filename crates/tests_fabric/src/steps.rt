@@ -1,14 +1,16 @@
 //! Steps and inputs in short.
 
 use qc_list::OutOfMemory;
-use qc_msg::{Entry, Given, Step};
+use qc_msg::{Entry, Fall, Given, Step};
 use std::alloc::Global;
 
 /// The actor, the kind's letter, and the number of the phase or message, or 0.
 pub(crate) type Short = (u8, u8, u32);
 
-/// A step in short: `P`hase, cut (`X`), `H`eal, `C`alled, `G`ot, `L`ost,
-/// `W`rote, `S`ent, `T`old.
+/// A step in short: `P`hase, cut (`X`), `H`eal, `A`rmed, `C`alled, `G`ot, `L`ost,
+/// `W`rote, `S`ent, `T`old, `F`ell, or `f`ell with no record pending, `R`ose,
+/// `D`amaged. The number of an arming is the call's; that of a fall is 0 where the
+/// script made it, 1 where the disk stopped, and 2 where it failed.
 pub(crate) fn short(entry: &Entry) -> Short {
     match &entry.step {
         Step::Phase(number) => (entry.actor, b'P', *number),
@@ -20,9 +22,22 @@ pub(crate) fn short(entry: &Entry) -> Short {
         Step::Wrote(_) => (entry.actor, b'W', 0),
         Step::Sent { number, .. } => (entry.actor, b'S', *number),
         Step::Told(_) => (entry.actor, b'T', 0),
-        Step::Armed { .. } | Step::Fell { .. } | Step::Rose(_) | Step::Damaged(_) => {
-            (entry.actor, b'?', 0)
+        Step::Armed { at, .. } => (entry.actor, b'A', *at),
+        Step::Fell { cause, pending } => {
+            let letter = if pending.is_some() { b'F' } else { b'f' };
+            (entry.actor, letter, number_of(*cause))
         }
+        Step::Rose(_) => (entry.actor, b'R', 0),
+        Step::Damaged(_) => (entry.actor, b'D', 0),
+    }
+}
+
+/// The number of a fall's cause.
+fn number_of(cause: Fall) -> u32 {
+    match cause {
+        Fall::Script => 0,
+        Fall::Stop => 1,
+        Fall::Disk => 2,
     }
 }
 

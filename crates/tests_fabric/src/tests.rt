@@ -13,7 +13,7 @@ use std::sync::Wait;
 use std::thread::Threads;
 
 /// Each row answers what it is to, and the history is this one.
-fn plays<R: Threads + Wait + Sync + Abort>(
+pub(crate) fn plays<R: Threads + Wait + Sync + Abort>(
     rt: &R,
     alloc: Global,
     script: &[u8],

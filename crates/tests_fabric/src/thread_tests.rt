@@ -120,6 +120,7 @@ fn two_threads_have_open_inputs_at_once_and_a_pick_waits(rt: HostRuntime) {
         Saw::Is(false),
         Saw::Took(Some((0, b'G', 2))),
         Saw::Posted(4),
+        Saw::Is(true),
     ];
     // a request is left to the site 0
     let picker = [

@@ -16,7 +16,7 @@ use std::sync::Wait;
 use std::thread::{Threads, join};
 
 /// What the calls of the thread that holds answered, one after another.
-pub(crate) type Holder = [Saw; 8];
+pub(crate) type Holder = [Saw; 9];
 
 /// What those of the thread that picks answered.
 pub(crate) type Picker = [Saw; 5];
@@ -103,7 +103,10 @@ fn serve_and_hold<N: Named, R: Wait>(
     let (comes, answers) = (Saw::Is(meeting.waited(5)), Saw::Is(meeting.soon(6)));
     let again = seat.take_by_lock(rt, alloc, fabric, decl)?;
     let answered = seat.post_by_lock(rt, alloc, fabric, decl, Says::Answers(3, 2))?;
-    Ok([took, met, asked, picked, comes, answers, again, answered])
+    let rests = Saw::Is(seat.rests(rt, fabric, decl));
+    Ok([
+        took, met, asked, picked, comes, answers, again, answered, rests,
+    ])
 }
 
 /// The seat's actor takes an input, and once the other has one too it asks the

@@ -1,18 +1,17 @@
 //! A run of a script by the rows of a table.
 
-ghost use Rattle.std.specs.Prelude.{◌≡◌, ◌+◌, ◌<◌, ◌≤◌, true, length};
+ghost use Rattle.std.specs.Prelude.{◌≡◌, ◌+◌, ◌<◌, ◌≤◌, length};
 ghost use Rattle.qc_decl.specs.Accepted.{IsAccepted};
 ghost use Rattle.qc_decl.specs.Actors.{controller};
 ghost use Rattle.qc_decl.specs.Limits.{most_script_bytes};
 ghost use Rattle.qc_pass.specs.Made.{AreNew, IsFirst};
 ghost use Rattle.qc_pass.specs.Tokens.{table_of};
 ghost use Rattle.qc_script.specs.Sound.{IsScriptFor};
-ghost use Rattle.tests_fabric.specs.Steady.{is_steady};
 
 use crate::calls::Row;
 use crate::conduct::AnyTurn;
 use crate::rows::play;
-use crate::scripts::{is_steady, script_of};
+use crate::scripts::script_of;
 use crate::seat::Seat;
 use crate::steps::{Short, shorts};
 use crate::threads::{Both, serve_both};
@@ -48,7 +47,7 @@ pub(crate) struct Ran {
 }
 
 /// Plays the rows over the built-in declaration of three sites. None where memory
-/// is wanted, the script is refused, or it crashes or restarts somebody.
+/// is wanted, or the script is refused.
 pub(crate) fn played<R: Threads + Wait + Sync>(
     rt: &R,
     alloc: Global,
@@ -64,9 +63,6 @@ pub(crate) fn played<R: Threads + Wait + Sync>(
     let Ok(script) = script_of(alloc, script, &decl) else {
         return None;
     };
-    if !is_steady(&script) {
-        return None;
-    }
     run(rt, alloc, &decl, script, rows, then).ok()
 }
 
@@ -80,7 +76,6 @@ fn run<R: Threads + Wait + Sync>(
     then: Then,
 ) -> Result<Ran, OutOfMemory>
     requires sound { IsScriptFor decl.now script }
-    requires steady { is_steady script ≡ true }
     requires accepted { IsAccepted decl.now }
 {
     let made = Passes::make(alloc, decl.sites + decl.clients + 2)?;
@@ -101,7 +96,6 @@ fn run_named<N: Named + Send + Sync, R: Threads + Wait + Sync>(
     requires declaration { decl.now ≡ N.declaration }
     requires script { script ≡ N.script }
     requires sound { IsScriptFor N.declaration N.script }
-    requires steady { is_steady N.script ≡ true }
     requires few { controller N.declaration < 34 }
     requires table { table_of made.passes ≡ N.table }
     requires right { IsFirst N.table (controller N.declaration + 1) made.right }
@@ -121,7 +115,7 @@ fn run_named<N: Named + Send + Sync, R: Threads + Wait + Sync>(
 }
 
 /// The state at its beginning, with a seat for each pass.
-#[tactic(auto, using(crate::proofs::Steady::steady))]
+#[tactic(auto, using(crate::proofs::Seats::tells_where_down))]
 fn begun<N: Named>(
     alloc: Global,
     decl: &Declaration,
@@ -131,7 +125,6 @@ fn begun<N: Named>(
     requires declaration { decl.now ≡ N.declaration }
     requires script { script ≡ N.script }
     requires sound { IsScriptFor N.declaration N.script }
-    requires steady { is_steady N.script ≡ true }
     requires few { controller N.declaration < 34 }
     requires table { table_of made.passes ≡ N.table }
     requires right { IsFirst N.table (controller N.declaration + 1) made.right }

@@ -1,13 +1,16 @@
 //! What actors do for their inputs, as turns.
 
-ghost use Rattle.std.specs.Prelude.{◌≡◌, ◌<◌, true, IfOk, IfSome};
+ghost use Rattle.std.specs.Prelude.{◌≡◌, ◌<◌, true, IfOk, IfSome, Some};
 ghost use Rattle.qc_decl.specs.Actors.{actors, controller};
 ghost use Rattle.qc_fabric.specs.Tells.{GoesToActors};
+ghost use Rattle.qc_msg.specs.Steps.{MayEnd};
+ghost use Rattle.tests_fabric.specs.Seats.{down_after};
+ghost use Rattle.tests_fabric.specs.Turns.{MaySay};
 
 use crate::calls::Says;
 use qc_decl::Declaration;
 use qc_list::{List, OutOfMemory};
-use qc_msg::{Answer, Message, Posting, Reply, Turn};
+use qc_msg::{Answer, Appended, Message, Posting, Record, Reply, Turn};
 use std::alloc::Global;
 
 /// Whether the number is that of a site or a client.
@@ -32,7 +35,8 @@ pub(crate) fn is_controller(decl: &Declaration, number: u8) -> bool
 
 /// The turn, or none where a receiver's number is none of an actor.
 pub(crate) fn turn_of(alloc: Global, says: Says) -> Result<Option<Turn>, OutOfMemory>
-    ensures { IfOk result (λ turn. IfSome turn GoesToActors) }
+    ensures receivers { IfOk result (λ turn. IfSome turn GoesToActors) }
+    ensures ends { IfOk result (λ turn. IfSome turn (λ t. MayEnd t.write t.append)) }
 {
     match says {
         Says::Nothing => Ok(Some(Turn::quiet(alloc))),
@@ -43,6 +47,50 @@ pub(crate) fn turn_of(alloc: Global, says: Says) -> Result<Option<Turn>, OutOfMe
             one(alloc, to, Message::Answer { to: number, answer })
         }
         Says::Tells => Ok(Some(Turn::telling(alloc, Reply::NoTransaction))),
+        Says::Writes(append, to) => writing(alloc, Record::Close { epoch: 2 }, append, to),
+    }
+}
+
+/// The turn that writes a record, of which this becomes, and asks an actor, also
+/// where the record couldn't be written.
+pub(crate) fn writing(
+    alloc: Global,
+    written: Record,
+    append: Appended,
+    to: u8,
+) -> Result<Option<Turn>, OutOfMemory>
+    ensures receivers { IfOk result (λ turn. IfSome turn GoesToActors) }
+    ensures written { IfOk result (λ turn. IfSome turn (λ t. t.write ≡ Some written)) }
+    ensures append { IfOk result (λ turn. IfSome turn (λ t. t.append ≡ append)) }
+{
+    if to >= 34 {
+        return Ok(None);
+    }
+    Ok(Some(Turn {
+        write: Some(written),
+        sends: Posting::alone(alloc, to, request())?,
+        told: None,
+        failed_sends: Posting::alone(alloc, to, request())?,
+        failed_told: Some(Reply::NoTransaction),
+        append,
+    }))
+}
+
+/// Whether who is down, or isn't, may post the turn.
+pub(crate) fn may_say(down: bool, turn: &Turn) -> bool
+    requires { MayEnd turn.now.write turn.now.append }
+    ensures { result ≡ true → MaySay down turn.now }
+{
+    !down || (turn.write.is_none() && turn.sends.items().is_empty())
+}
+
+/// Whether an actor is down after a post, by what became of its record.
+pub(crate) fn down_after(down: bool, append: Appended) -> bool
+    ensures { result ≡ down_after down append }
+{
+    match append {
+        Appended::Done => down,
+        Appended::Failed | Appended::Stopped => true,
     }
 }
 
@@ -63,7 +111,8 @@ fn asking(to: u8) -> Posting
 
 /// The turn that sends a message to an actor.
 fn one(alloc: Global, to: u8, message: Message) -> Result<Option<Turn>, OutOfMemory>
-    ensures { IfOk result (λ turn. IfSome turn GoesToActors) }
+    ensures receivers { IfOk result (λ turn. IfSome turn GoesToActors) }
+    ensures ends { IfOk result (λ turn. IfSome turn (λ t. MayEnd t.write t.append)) }
 {
     if to >= 34 {
         return Ok(None);
@@ -73,7 +122,8 @@ fn one(alloc: Global, to: u8, message: Message) -> Result<Option<Turn>, OutOfMem
 
 /// The turn that sends a request to each of two actors.
 fn two(alloc: Global, first: u8, second: u8) -> Result<Option<Turn>, OutOfMemory>
-    ensures { IfOk result (λ turn. IfSome turn GoesToActors) }
+    ensures receivers { IfOk result (λ turn. IfSome turn GoesToActors) }
+    ensures ends { IfOk result (λ turn. IfSome turn (λ t. MayEnd t.write t.append)) }
 {
     if first >= 34 || second >= 34 {
         return Ok(None);

@@ -5,6 +5,7 @@
 use crate::steps::Short;
 
 mod conflicts;
+mod falls;
 mod links;
 mod losses;
 
@@ -21,4 +22,4 @@ pub(crate) struct Row {
 }
 
 /// All rows, by what they are about.
-pub(crate) const ROWS: [&[Row]; 3] = [&conflicts::ROWS, &losses::ROWS, &links::ROWS];
+pub(crate) const ROWS: [&[Row]; 4] = [&conflicts::ROWS, &losses::ROWS, &links::ROWS, &falls::ROWS];

@@ -4,11 +4,12 @@ use qc_list::OutOfMemory;
 use qc_msg::{Entry, Step};
 use std::alloc::Global;
 
-/// The actor, the kind's letter, and the number of the phase or message, or 0.
+/// The actor, the kind's letter, and the number of the phase, message or disk call,
+/// or 0.
 pub type Short = (u8, u8, u32);
 
-/// A step in short: `P`hase, cut (`X`), `H`eal, `C`alled, `G`ot, `L`ost,
-/// `W`rote, `S`ent, `T`old.
+/// A step in short: `P`hase, cut (`X`), `H`eal, `A`rmed, `C`alled, `G`ot, `L`ost,
+/// `W`rote, `S`ent, `T`old, `F`ell, `R`ose, `D`amaged.
 pub(crate) fn short(entry: &Entry) -> Short {
     match &entry.step {
         Step::Phase(number) => (entry.actor, b'P', *number),
@@ -20,9 +21,10 @@ pub(crate) fn short(entry: &Entry) -> Short {
         Step::Wrote(_) => (entry.actor, b'W', 0),
         Step::Sent { number, .. } => (entry.actor, b'S', *number),
         Step::Told(_) => (entry.actor, b'T', 0),
-        Step::Armed { .. } | Step::Fell { .. } | Step::Rose(_) | Step::Damaged(_) => {
-            (entry.actor, b'?', 0)
-        }
+        Step::Armed { at, .. } => (entry.actor, b'A', *at),
+        Step::Fell { .. } => (entry.actor, b'F', 0),
+        Step::Rose(_) => (entry.actor, b'R', 0),
+        Step::Damaged(_) => (entry.actor, b'D', 0),
     }
 }
 

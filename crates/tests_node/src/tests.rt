@@ -31,14 +31,13 @@ c2 do x R
 c2 commit
 ";
 
-/// Runs a script by so many workers, all of it at once or phase by phase.
-fn ran<G: Gate, R: Threads + Wait + Sync>(
+/// Runs a script by so many workers.
+fn ran<G: Gate + Sync, R: Threads + Wait + Sync>(
     rt: &R,
     alloc: Global,
     bytes: &[u8],
     gate: &G,
     workers: u8,
-    by_phase: bool,
 ) -> Result<Ran, Fail> {
     if bytes.len() > MOST_SCRIPT_BYTES as usize {
         return Err(Fail::from("the script is too long"));
@@ -55,27 +54,23 @@ fn ran<G: Gate, R: Threads + Wait + Sync>(
         gate,
         workers,
     };
-    Ok(run(rt, alloc, &job, script, by_phase)?)
+    match run(rt, alloc, &job, script) {
+        Ok(ran) => Ok(ran),
+        Err(_) => Err(Fail::from("the rack gave no disks")),
+    }
 }
 
-/// Whether one worker takes just the steps of a row, gives no actor up, and ends
-/// quiet.
-fn goes<R: Threads + Wait + Sync>(
-    rt: &R,
-    alloc: Global,
-    row: &Row,
-    by_phase: bool,
-) -> Result<bool, Fail> {
-    let ran = ran(rt, alloc, row.script, &OpenGate, 1, by_phase)?;
-    Ok(ran.end == DriveEnd::Quiet && ran.actors == 6 && ran.steps.as_slice() == row.steps)
+/// Whether one worker takes just the steps of a row, and ends quiet.
+fn goes<R: Threads + Wait + Sync>(rt: &R, alloc: Global, row: &Row) -> Result<bool, Fail> {
+    let ran = ran(rt, alloc, row.script, &OpenGate, 1)?;
+    Ok(ran.end == DriveEnd::Quiet && ran.steps.as_slice() == row.steps)
 }
 
 /// One worker takes the steps that the rules give, one after another.
 #[test]
 fn one_worker_takes_the_steps_of_the_rules(rt: HostRuntime) -> Result<(), Fail> {
     for row in ROWS.iter().copied().flatten() {
-        assert!(rt; goes(&rt, rt.alloc(), row, false)?, "{}", row.name);
-        assert!(rt; goes(&rt, rt.alloc(), row, true)?, "{} by phases", row.name);
+        assert!(rt; goes(&rt, rt.alloc(), row)?, "{}", row.name);
     }
     Ok(())
 }
@@ -86,17 +81,15 @@ fn count(steps: &[Short], kind: u8) -> usize {
 }
 
 /// Two workers, of which each holds an input while the other takes one: both
-/// phases end quiet, each of the nine commands is called and has its reply, and
-/// no actor is given up.
+/// phases end quiet, and each of the nine commands is called and has its reply.
 #[test]
 fn two_inputs_are_open_at_once(rt: HostRuntime) -> Result<(), Fail> {
     let gate = Meeting::new(3, 4);
-    let ran = ran(&rt, rt.alloc(), SCRIPT, &gate, 2, false)?;
+    let ran = ran(&rt, rt.alloc(), SCRIPT, &gate, 2)?;
     assert!(rt; gate.met());
     assert_eq!(rt; ran.end, DriveEnd::Quiet);
     assert_eq!(rt; count(ran.steps.as_slice(), b'P'), 2);
     assert_eq!(rt; count(ran.steps.as_slice(), b'C'), 9);
     assert_eq!(rt; count(ran.steps.as_slice(), b'T'), 9);
-    assert_eq!(rt; ran.actors, 6);
     Ok(())
 }

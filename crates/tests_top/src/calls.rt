@@ -1,7 +1,7 @@
 //! Calls over the fakes in memory.
 
 use qc_list::OutOfMemory;
-use qc_outside::{EmptyRack, Gate, MemShelf, MemSink, OpenGate};
+use qc_outside::{Gate, MemRack, MemShelf, MemSink, OpenGate, Rack, Tear};
 use qc_top::{Ended, cause_text, quorum_words};
 use std::alloc::Global;
 use std::process::Abort;
@@ -25,17 +25,21 @@ fn shelf(alloc: Global, files: &[(&str, &str)], failing: &[u32]) -> Result<MemSh
     MemShelf::new(alloc, held, failing.to_vec(alloc)?)
 }
 
+/// A new rack in memory.
+pub(crate) fn new_rack(alloc: Global) -> Result<MemRack, OutOfMemory> {
+    MemRack::new(alloc, Tear::Nothing)
+}
+
 /// How a call with these words over a shelf and a sink ends, whose turns pass
 /// this gate, and what the sink took.
-fn call_over<T: Threads + Wait + Sync, G: Gate + Sync>(
+fn call_over<T: Threads + Wait + Sync, R: Rack, G: Gate + Sync>(
     rt: &T,
     alloc: Global,
     words: &[&str],
-    outside: (&mut MemShelf, &mut MemSink, &G),
+    outside: (&mut MemShelf, &mut MemSink, &mut R, &G),
 ) -> Result<(Ended, Vec<u8>), OutOfMemory> {
-    let (shelf, sink, gate) = outside;
-    let mut rack = EmptyRack::new(alloc);
-    let ended = quorum_words(rt, alloc, words, shelf, sink, &mut rack, gate);
+    let (shelf, sink, rack, gate) = outside;
+    let ended = quorum_words(rt, alloc, words, shelf, sink, rack, gate);
     Ok((ended, sink.taken().to_vec(alloc)?))
 }
 
@@ -50,7 +54,21 @@ pub(crate) fn call_by<T: Threads + Wait + Sync, G: Gate + Sync>(
 ) -> Result<(Ended, Vec<u8>), OutOfMemory> {
     let mut shelf = shelf(alloc, files, &[])?;
     let mut sink = MemSink::new(alloc, Vec::new(alloc))?;
-    call_over(rt, alloc, words, (&mut shelf, &mut sink, gate))
+    let mut rack = new_rack(alloc)?;
+    call_over(rt, alloc, words, (&mut shelf, &mut sink, &mut rack, gate))
+}
+
+/// A call with these words over a shelf of these files, and over this rack.
+pub(crate) fn call_on<T: Threads + Wait + Sync, R: Rack>(
+    rt: &T,
+    alloc: Global,
+    words: &[&str],
+    files: &[(&str, &str)],
+    rack: &mut R,
+) -> Result<(Ended, Vec<u8>), OutOfMemory> {
+    let mut shelf = shelf(alloc, files, &[])?;
+    let mut sink = MemSink::new(alloc, Vec::new(alloc))?;
+    call_over(rt, alloc, words, (&mut shelf, &mut sink, rack, &OpenGate))
 }
 
 /// A call with these words over a shelf of these files, where the shelf's calls
@@ -64,7 +82,13 @@ pub(crate) fn call<T: Threads + Wait + Sync>(
 ) -> Result<(Ended, Vec<u8>), OutOfMemory> {
     let mut shelf = shelf(alloc, files, failing.0)?;
     let mut sink = MemSink::new(alloc, failing.1.to_vec(alloc)?)?;
-    call_over(rt, alloc, words, (&mut shelf, &mut sink, &OpenGate))
+    let mut rack = new_rack(alloc)?;
+    call_over(
+        rt,
+        alloc,
+        words,
+        (&mut shelf, &mut sink, &mut rack, &OpenGate),
+    )
 }
 
 /// The call with these words over these files prints this text, at status 0.
@@ -90,7 +114,7 @@ pub(crate) fn prints<T: Threads + Wait + Sync + Abort>(
 pub(crate) type Ending = (u8, &'static str, u64);
 
 /// Whether a call ended so.
-fn is_ending(alloc: Global, ended: &Ended, want: Ending) -> Result<bool, OutOfMemory> {
+pub(crate) fn is_ending(alloc: Global, ended: &Ended, want: Ending) -> Result<bool, OutOfMemory> {
     let (status, text, steps) = want;
     let told = cause_text(alloc, &ended.cause)?;
     Ok(

@@ -1,5 +1,5 @@
 //! Whole runs over declarations of files, each a story. What they want comes from a model that was written apart;
-//! each stands with its story in the folder of its name in `examples/`.
+//! each but that of a failed vote stands with its story in the folder of its name in `examples/`.
 
 use crate::calls::prints;
 
@@ -44,6 +44,22 @@ q empty
 sites
 s0 life 1 epoch 1 lines 2 held 0
 s1 life 1 epoch 1 lines 2 held 0
+s2 life 1 epoch 1 lines 0 held 0
+";
+
+const FAILED_VOTE_SCRIPT: &str = "phase\nfail s1 at 2\nc0 begin\nc0 do q Put\nc0 commit\n";
+
+const FAILED_VOTE_TEXT: &str = "\
+replies
+c0 begin 0.1.1
+c0 q Put ok
+c0 commit ! fault s1
+log
+states
+q empty
+sites
+s0 life 1 epoch 1 lines 0 held 0
+s1 down
 s2 life 1 epoch 1 lines 0 held 0
 ";
 
@@ -243,7 +259,7 @@ s1 life 1 epoch 1 lines 1 held 0
 s2 life 1 epoch 1 lines 0 held 0
 ";
 
-/// Two objects, a slot that is empty, a fast write that a slow reader passes, and one operation that loses a request.
+/// Two objects, a slot that is empty, a disk that fails at a vote, a fast write that a slow reader passes, and one operation that loses a request.
 #[test]
 fn runs_over_declarations_of_files(rt: HostRuntime) {
     let rows = [
@@ -251,6 +267,11 @@ fn runs_over_declarations_of_files(rt: HostRuntime) {
             ABSENT_AND_ITEM_DECLARATION,
             ABSENT_AND_ITEM_SCRIPT,
             ABSENT_AND_ITEM_TEXT,
+        ),
+        (
+            ABSENT_AND_ITEM_DECLARATION,
+            FAILED_VOTE_SCRIPT,
+            FAILED_VOTE_TEXT,
         ),
         (LATE_STAMP_DECLARATION, LATE_STAMP_SCRIPT, LATE_STAMP_TEXT),
         (

@@ -101,10 +101,10 @@ fn scripts_are_refused_or_not_built(rt: HostRuntime) {
             (3, "quorum: script: line 2: number\n", 0),
         ),
         ("c0 begin\n", (3, "quorum: script: line 1: place\n", 0)),
-        ("phase\ncrash s0\n", NOT_BUILT),
-        ("phase\nrestart c0\n", NOT_BUILT),
-        ("phase\nstop s0 at 4\n", NOT_BUILT),
-        ("phase\nfail s0 at 4\n", NOT_BUILT),
+        ("phase\ncrash admin\n", NOT_BUILT),
+        ("phase\nrestart admin\n", NOT_BUILT),
+        ("phase\nstop admin at 4\n", NOT_BUILT),
+        ("phase\nfail admin at 4\n", NOT_BUILT),
     ];
     for (script, want) in rows {
         ends_with(

@@ -382,7 +382,12 @@ s2 life 1 epoch 1 lines 0 held 0
 
 /// The script's run over three sites prints this text, by one worker and by
 /// four.
-fn tells<T: Threads + Wait + Sync + Abort>(rt: &T, alloc: Global, script: &str, text: &str) {
+pub(crate) fn tells<T: Threads + Wait + Sync + Abort>(
+    rt: &T,
+    alloc: Global,
+    script: &str,
+    text: &str,
+) {
     let files = [("s", script)];
     prints(rt, alloc, &["run", "@three", "s"], &files, text);
     let four = ["run", "@three", "s", "--workers", "4"];

@@ -1,15 +1,15 @@
-use Rattle.std.proofs.Common.{subst, sym, ◌∙◌, List, Ok}
+use Rattle.std.proofs.Common.{refl, subst, sym, ◌∙◌, List}
 use Rattle.qc_msg.specs.Steps.{Entry}
 use Rattle.qc_report.specs.declared.cause.Cause.{Cause}
 use Rattle.qc_top.proofs.Blame.{blames}
-use Rattle.qc_top.proofs.Calm.{calm_kept, calm_spent}
-use Rattle.qc_top.proofs.Ends.{leaves_calm, leaves_refused, refused_full}
-use Rattle.qc_laws.specs.Calm.{AreCalm}
+use Rattle.qc_top.proofs.Ends.{leaves_refused, refused_full, refused_no_rack}
+use Rattle.qc_top.proofs.Idle.{idle_rack, idle_used}
 use Rattle.qc_top.proofs.Runs.{begun_below}
 use Rattle.qc_top.proofs.Right.{work_is}
+use Rattle.qc_top.specs.Racks.{LeavesRack}
 use Rattle.qc_top.specs.Top.{IsFullCause, Leaves}
 use Rattle.qc_top.specs.Words.{asked_in}
-use Rattle.qc_top.specs.Work.{Caused, work_of}
+use Rattle.qc_top.specs.Work.{Caused, IsRefusal, work_of}
 use Rattle.qc_top.specs.declared.work.Work.{Work}
 use Rattle.qc_top.proofs.top.perform.Goals as goal
 
@@ -23,19 +23,18 @@ returns-in-Ok-clause-leaves g c =
 pub returns-in-Ok-clause-blame : goal.returns-in-Ok-clause-blame
 returns-in-Ok-clause-blame g c = λ script same. absurd (c.do_work.ensures.shelf script same)
 
-pub returns-in-Ok-clause-kept : goal.returns-in-Ok-clause-kept
-returns-in-Ok-clause-kept g c =
-    calm_kept c.do_work.result.history (leaves_calm (Ok c.in-Ok.work) (g.K.Sink.taken c.args.sink.now) c.do_work.result.cause (g.K.Sink.taken c.do_work.new.sink) c.do_work.result.history c.do_work.ensures.leaves)
+pub returns-in-Ok-clause-rack : goal.returns-in-Ok-clause-rack
+returns-in-Ok-clause-rack g c =
+    subst (λ (w : Caused Work). LeavesRack g.R.Rack.places w c.args.rack.now c.do_work.new.rack c.do_work.result.history) (sym c.in-Ok.ensures.work) c.do_work.ensures.rack
 
-pub returns-in-Ok-clause-spent : goal.returns-in-Ok-clause-spent
-returns-in-Ok-clause-spent g c =
-    calm_spent c.do_work.result.history 0 (leaves_calm (Ok c.in-Ok.work) (g.K.Sink.taken c.args.sink.now) c.do_work.result.cause (g.K.Sink.taken c.do_work.new.sink) c.do_work.result.history c.do_work.ensures.leaves)
+pub returns-in-Err-clause-rack : goal.returns-in-Err-clause-rack
+returns-in-Err-clause-rack g c =
+    idle_rack g.R.Rack.places (work_of (asked_in c.args.asked) c.args.answers) c.args.rack.now c.args.rack.now c.without_run.result.history refl c.without_run.ensures.history
 
-pub returns-in-Err-clause-kept : goal.returns-in-Err-clause-kept
-returns-in-Err-clause-kept g c = calm_kept c.without_run.result.history (subst AreCalm (sym c.without_run.ensures.history) tt)
-
-pub returns-in-Err-clause-spent : goal.returns-in-Err-clause-spent
-returns-in-Err-clause-spent g c = calm_spent c.without_run.result.history 0 (subst AreCalm (sym c.without_run.ensures.history) tt)
+pub returns-in-Err-clause-used : goal.returns-in-Err-clause-used
+returns-in-Err-clause-used g c =
+    idle_used g.R.Rack.faults g.R.Rack.places c.args.rack.now c.without_run.result.cause c.without_run.result.history c.without_run.ensures.history
+    (refused_no_rack c.without_run.result.cause (subst IsRefusal (sym c.without_run.ensures.cause) c.in-Err.ensures.refusal))
 
 pub returns-in-Err-clause-leaves : goal.returns-in-Err-clause-leaves
 returns-in-Err-clause-leaves g c =

@@ -16,7 +16,7 @@ pub invariant_of-self-2 : goal.invariant_of-self-2
 invariant_of-self-2 g c =
     let first : slice_get (controls_left g.N.Named.script c.self.inside.log.history) 0 ≡ Some c.args.line = subst (λ (v : Shown). slice_get (controls_left g.N.Named.script v.history) 0 ≡ Some c.args.line) (sym c.self.view_is) c.requires.first in
     let under : full_of c.self.inside.log.history ≡ None = subst (λ (v : Shown). full_of v.history ≡ None) (sym c.self.view_is) c.requires.below in
-    let fits : c.self.inside.reserved + 1 ≤ c.reserve.new.self.room = search (rules, arith) in
-    let bound : length c.self.inside.log.history + (c.self.inside.reserved + 1) ≤ most_history = search (rules, arith) in
+    let fits : (c.self.inside.reserved + c.self.inside.spare) + 1 ≤ c.reserve.new.self.room = search (rules, arith) in
+    let bound : length c.self.inside.log.history + ((c.self.inside.reserved + c.self.inside.spare) + 1) ≤ most_history = search (rules, arith) in
     acts_on c.self.invariant c.in-Some-take.right (sym c.take.ensures.value ∙ c.in-Some-take.is) c.args.pass.now c.add-right.new.pass c.add-right.result c.args.line c.step_of-step.result c.requires.controller first under c.step_of-step.ensures c.add-right.ensures.met c.add-right.ensures.all
     c.reserve.new.self c.add-right.new.log c.control.new.self c.in_ok-reserve.ensures.same fits bound c.add-right.ensures.log c.control.ensures.room c.control.ensures.inboxes

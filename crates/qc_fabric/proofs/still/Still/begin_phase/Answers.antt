@@ -24,7 +24,7 @@ invariant_of-self-2 g c =
     slice_get-get_or c.self.inside.script.phases c.self.inside.phase c.index-items-self.result within
     ∙ ap Some (sym (subst (λ (v : List PhaseLines). c.index-items-self.result ≡ get_or v c.self.inside.phase c.index-items-self.result) c.items.ensures c.index-items-self.is)) in
     let there : slice_get g.N.Named.script.phases c.self.inside.phase ≡ Some c.index-items-self.result = ap (λ (s : Script). slice_get s.phases c.self.inside.phase) (sym c.self.invariant.script_is) ∙ here in
-    let fits : c.self.inside.reserved + 1 ≤ c.reserve.new.self.room = search (rules, arith) in
-    let bound : length c.self.inside.log.history + (c.self.inside.reserved + 1) ≤ most_history = search (rules, arith) in
+    let fits : (c.self.inside.reserved + c.self.inside.spare) + 1 ≤ c.reserve.new.self.room = search (rules, arith) in
+    let bound : length c.self.inside.log.history + ((c.self.inside.reserved + c.self.inside.spare) + 1) ≤ most_history = search (rules, arith) in
     begins_on c.self.invariant c.in-Some-take.right (sym c.take.ensures.value ∙ c.in-Some-take.is) c.args.pass.now c.add-right.new.pass c.add-right.result c.args.phase c.index-items-self.result c.requires.controller may there c.add-right.ensures.met c.add-right.ensures.all
     c.reserve.new.self c.add-right.new.log c.begin_phase.new.self c.in_ok-reserve.ensures.same fits bound c.add-right.ensures.log c.begin_phase.ensures.room c.in_ok-begin_phase.ensures.ok

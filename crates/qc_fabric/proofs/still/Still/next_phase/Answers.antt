@@ -6,5 +6,5 @@ use Rattle.qc_fabric.proofs.still.Still.next_phase.Goals as goal
 pub overflow_add-result : goal.overflow_add-result
 overflow_add-result g c =
     let few : phase_of c.self.inside.log.history ≤ length c.self.inside.log.history =
-    phase_few (g.C.Conduct.lawful g.N.Named.declaration) g.N.Named.declaration g.N.Named.script c.self.inside.log.history c.self.inside.inputs.items c.self.invariant.runs in
+    phase_few (g.C.Conduct.lawful g.N.Named.declaration) (g.C.Conduct.fits g.N.Named.declaration) g.N.Named.declaration g.N.Named.script c.self.invariant.down c.self.inside.log.history c.self.inside.inputs.items c.self.invariant.runs in
     omega (arith, few, c.self.invariant.phase_is, c.self.invariant.bound)

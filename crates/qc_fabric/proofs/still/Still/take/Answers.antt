@@ -57,8 +57,8 @@ invariant_of-self-2 g c =
     let met : Met p c.in-Some-take.right c.add-right.new.pass c.add-right.result (step_of c.in_ok-given.given ∷ []) (room p) = subst (λ s. Met p c.in-Some-take.right c.add-right.new.pass c.add-right.result (s ∷ []) (room p)) c.step_of-step.ensures c.add-right.ensures.met in
     let all_is : all c.add-right.result ≡ all c.in-Some-take.right ++ marked (number p) (step_of c.in_ok-given.given) ∷ [] = c.add-right.ensures.all ∙ ap (λ s. all c.in-Some-take.right ++ marked (number p) s ∷ []) c.step_of-step.ensures in
     let grown : HasGrown c.reserve.new.self c.add-right.new.log (marked (number p) (step_of c.in_ok-given.given) ∷ []) = subst (λ s. HasGrown c.reserve.new.self c.add-right.new.log (marked (number p) s ∷ [])) c.step_of-step.ensures c.add-right.ensures.log in
-    let fits : c.self.inside.reserved + 1 ≤ c.reserve.new.self.room = search (rules, arith) in
-    let bound : length c.self.inside.log.history + (c.self.inside.reserved + 1) ≤ most_history = search (rules, arith) in
+    let fits : (c.self.inside.reserved + c.self.inside.spare) + 1 ≤ c.reserve.new.self.room = search (rules, arith) in
+    let bound : length c.self.inside.log.history + ((c.self.inside.reserved + c.self.inside.spare) + 1) ≤ most_history = search (rules, arith) in
     rw (c.set.ensures, c.number-actor.ensures)
     (takes_on c.self.invariant c.in-Some-take.right (sym c.take.ensures.value ∙ c.in-Some-take.is) p c.add-right.new.pass c.add-right.result c.in_ok-given.given c.requires.actor next met all_is
     c.reserve.new.self c.add-right.new.log c.take-2.new.self c.in_ok-reserve.ensures.same fits bound grown c.take-2.ensures.room (c.take-2.ensures.inboxes ∙ ap (λ a. after_take c.self.inside.mailboxes.inboxes a) c.number-actor.ensures))

@@ -1,0 +1,11 @@
+pub mod Asked
+pub mod Numbers
+pub mod Taken
+pub mod Bits
+pub mod Moves
+pub mod RoundBits
+pub mod Numbered
+pub mod Fitting
+pub mod AtOnce
+pub mod Promised
+pub mod Receivers

@@ -1,0 +1,87 @@
+-- What holds of him, and of what he takes, in every run, and his calls rely on.
+use Rattle.std.specs.Prelude.{◌≡◌, ℕ, ◌+◌, ◌^◌, ◌<◌, ◌≤◌, List, [], ◌++◌, length, map, Option, Some, None}
+use Rattle.std.specs.List.{AllByRecursion as Every}
+use Rattle.qc_decl.specs.Limits.{most_clients, most_sites}
+use Rattle.qc_entry.specs.declared.record.Prepared.{Prepared}
+use Rattle.qc_msg.specs.declared.message.Answer.{Answer}
+use Rattle.qc_msg.specs.declared.message.Answer.TheVariants as answers
+use Rattle.qc_msg.specs.declared.message.Message.{Message}
+use Rattle.qc_msg.specs.declared.message.Message.TheVariants as messages
+use Rattle.qc_msg.specs.declared.step.Given.{Given}
+use Rattle.qc_msg.specs.declared.step.Given.TheVariants as given
+use Rattle.qc_msg.specs.declared.turn.Posting.{Posting}
+use Rattle.qc_msg.specs.declared.turn.Turn.{Turn}
+use Rattle.qc_plan.specs.Round.{RoundState}
+use Rattle.qc_front.specs.Holds.{sites_called, sites_of}
+use Rattle.qc_epoch.specs.Admin.{Admin, Doing, Resting, Closing, Asking, Installing, ShutSite}
+use Rattle.qc_epoch.specs.Conduct.{site_set}
+use Rattle.qc_epoch.specs.Deciding.{most_asks}
+
+-- few sites, which are a set of 16 bits
+pub record AreSites (sites : List ℕ) : Type 0 where
+  pub few : length sites ≤ most_sites
+  pub set : site_set sites < 2 ^ 16
+
+-- the sites that a round has asked, or may ask
+abbrev pub sites_in : RoundState → List ℕ
+sites_in round = sites_of round.asked ++ round.rest
+
+-- what is promised is of clients below the most clients
+
+abbrev pub AreOfClients : List Prepared → Type 0
+AreOfClients prepared = Every (λ (p : Prepared). p.tx.client < most_clients) prepared
+
+abbrev pub ShutsFit : List ShutSite → Type 0
+ShutsFit shuts = Every (λ (s : ShutSite). AreOfClients s.prepared) shuts
+
+-- where nothing is open, nothing is installed: the Installs have no numbers yet
+pub record InstallsFit (closed sites : List ℕ) (asked installed : List ℕ) : Type 0 where
+  pub closed_set : site_set closed < 2 ^ 16
+  pub sites_are : AreSites sites
+  pub told : site_set installed + site_set asked < 2 ^ 16
+  pub none : asked ≡ [] → installed ≡ []
+
+abbrev pub DoingFits : Doing → Type 0
+DoingFits Resting = Unit {0}
+DoingFits (Closing epoch calls round shuts) = AreSites (sites_in round) × ShutsFit shuts
+DoingFits (Asking epoch shuts questions) = site_set (map (λ (s : ShutSite). s.site) shuts) < 2 ^ 16
+DoingFits (Installing closed sites calls installed) = InstallsFit closed sites (sites_called calls) installed
+
+abbrev pub AdminFits : Admin → Type 0
+AdminFits m = DoingFits m.doing
+
+-- what he takes
+
+abbrev pub AnswerFits : Option Answer → Type 0
+AnswerFits None = Unit {0}
+AnswerFits (Some (answers.Granted life clock log)) = Unit {0}
+AnswerFits (Some (answers.Clash holder inv event)) = Unit {0}
+AnswerFits (Some (answers.Closed epoch)) = Unit {0}
+AnswerFits (Some (answers.Behind epoch)) = Unit {0}
+AnswerFits (Some (answers.Restarted life)) = Unit {0}
+AnswerFits (Some answers.Stale) = Unit {0}
+AnswerFits (Some answers.Fault) = Unit {0}
+AnswerFits (Some (answers.Yes clock)) = Unit {0}
+AnswerFits (Some (answers.Shut clock log prepared)) = AreOfClients prepared
+AnswerFits (Some answers.Installed) = Unit {0}
+AnswerFits (Some (answers.Answered verdict)) = Unit {0}
+
+abbrev pub MessageFits : Message → Type 0
+MessageFits (messages.Request tx epoch life want) = Unit {0}
+MessageFits (messages.Answer to answer) = AnswerFits (Some answer)
+MessageFits (messages.Decision tx verdict) = Unit {0}
+MessageFits (messages.Inquiry tx) = Unit {0}
+MessageFits (messages.Ask tx) = Unit {0}
+MessageFits (messages.Close epoch) = Unit {0}
+MessageFits (messages.Install epoch clock log) = Unit {0}
+
+abbrev pub GivenFits : Given → Type 0
+GivenFits (given.Called command) = Unit {0}
+GivenFits (given.Got envelope) = MessageFits envelope.message
+GivenFits (given.Lost number) = Unit {0}
+
+-- a turn goes to sites and clients, and has few messages: at most one for each site, or one for each question that is
+-- asked
+pub record GoesToActors (turn : Turn) : Type 0 where
+  pub receivers : Every (λ (p : Posting). p.to < most_sites + most_clients) turn.sends
+  pub few : length turn.sends ≤ most_asks

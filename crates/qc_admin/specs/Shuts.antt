@@ -1,0 +1,24 @@
+-- What a site's answer to a Close tells, after what other sites told.
+use Rattle.std.specs.Prelude.{ℕ, List, ◌++◌, Option, Some, None}
+use Rattle.qc_msg.specs.declared.message.Answer.{Answer}
+use Rattle.qc_msg.specs.declared.message.Answer.TheVariants as answers
+use Rattle.qc_epoch.specs.Admin.{ShutSite}
+use Rattle.qc_epoch.specs.Deciding.{shut_list}
+
+abbrev pub shut_in : ℕ → Option Answer → Option ShutSite
+shut_in site None = None
+shut_in site (Some (answers.Granted life clock log)) = None
+shut_in site (Some (answers.Clash holder inv event)) = None
+shut_in site (Some (answers.Closed epoch)) = None
+shut_in site (Some (answers.Behind epoch)) = None
+shut_in site (Some (answers.Restarted life)) = None
+shut_in site (Some answers.Stale) = None
+shut_in site (Some answers.Fault) = None
+shut_in site (Some (answers.Yes clock)) = None
+shut_in site (Some (answers.Shut clock log prepared)) =
+    Some (record { site = site; clock = clock; log = log; prepared = prepared })
+shut_in site (Some answers.Installed) = None
+shut_in site (Some (answers.Answered verdict)) = None
+
+abbrev pub with_last : List ShutSite → Option ShutSite → List ShutSite
+with_last shuts last = shuts ++ shut_list last

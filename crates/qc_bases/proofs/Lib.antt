@@ -1,0 +1,16 @@
+pub mod Items
+pub mod Growing
+pub mod Deeds
+pub mod Decides
+pub mod Keeps
+pub mod Above
+pub mod Fold
+pub mod Stands
+pub mod EpochOrder
+pub mod BaseLogs
+pub mod Disciplined
+pub mod Undisciplined
+pub mod Refused
+pub mod Dependences
+pub mod Closings
+pub mod Passing

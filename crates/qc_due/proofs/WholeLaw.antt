@@ -1,0 +1,106 @@
+-- Where nothing is left to happen a run with falls is whole: each command is told its reply.
+use Rattle.std.proofs.Common.{◌≡◌, ℕ, ◌+◌, ◌≤◌, ◌==◌, ◌&&◌, ◌||◌, not, Bool, true, false, cond, List, [], ◌∷◌, ◌++◌, length, Option, Some, None, is_some, refl, sym, ap, ◌∙◌, subst, arith}
+use Rattle.std.specs.Prelude.{fold, option_to_list, replicate, slice_get}
+use Rattle.std.specs.List.{filter_map}
+use Rattle.std.proofs.lemmas.List.{append-nil, take_all}
+use Rattle.qc_client.specs.declared.client.Client.{Client}
+use Rattle.qc_core.specs.declared.actor.Actor.TheVariants as actor
+use Rattle.qc_core.specs.Actors.{actor_after}
+use Rattle.qc_core.specs.Acts.{is_running, runs_at}
+use Rattle.qc_core.specs.Conduct.{IsLawfulWithFalls}
+use Rattle.qc_decl.specs.Accepted.{IsAccepted}
+use Rattle.qc_decl.specs.Actors.{actors, administrator, is_client}
+use Rattle.qc_decl.specs.declared.declaration.Declaration.{Declaration}
+use Rattle.qc_laws.specs.Asked.{AsksDeclared}
+use Rattle.qc_laws.specs.Calls.{open_calls}
+use Rattle.qc_laws.specs.Whole.{IsQuiet, asked_by, asked_in_all, call_in, calls_of, replies_of}
+use Rattle.qc_laws.proofs.Places.{replicate_at}
+use Rattle.qc_msg.specs.declared.message.Envelope.{Envelope}
+use Rattle.qc_msg.specs.declared.record.Record.{Record}
+use Rattle.qc_msg.specs.declared.step.Command.{Command}
+use Rattle.qc_msg.specs.declared.step.Given.TheVariants as given
+use Rattle.qc_msg.specs.Deeds.{Deed, Takes, Writes, Sends, Tells, Falls, Rises, deeds}
+use Rattle.qc_msg.specs.Steps.{Entry}
+use Rattle.qc_script.specs.Inbox.{inbox}
+use Rattle.qc_script.specs.Ready.{command_in, controls_left, first_command, first_copy, first_lost, phase_of, takes_commands}
+use Rattle.qc_script.specs.declared.script.PhaseLines.{PhaseLines}
+use Rattle.qc_script.specs.declared.script.Script.{Script}
+use Rattle.qc_due.specs.Order.{AreInOrder}
+use Rattle.qc_laws.specs.Exchanges.{AreAnswered, exchanges, exchanges_from}
+use Rattle.qc_due.specs.Whole.{IsClosedWithFalls, IsWholeWithFalls}
+use Rattle.qc_due.proofs.Busy.{busy_runs}
+use Rattle.qc_due.proofs.Calling.{run_asked, run_phases}
+use Rattle.qc_due.proofs.EndsWithFalls.{copies_none, losts_none, none_open, none_runs, nothing_ready}
+use Rattle.qc_due.proofs.Ordered.{all_counted, open_commands, run_ordered}
+use Rattle.qc_due.proofs.Places.{client_within}
+
+-- deeds in order, after which no command runs, answer each command
+
+pub answered_from : (running : Option Command) (ds : List Deed) → AreInOrder (is_some running) ds → fold runs_at (is_some running) ds ≡ false → AreAnswered (option_to_list running ++ filter_map call_in ds) (exchanges_from running ds)
+answered_from None [] are idle = tt
+answered_from (Some c) [] are idle = absurd (let never : ⊥ = cc in never)
+answered_from None (Takes (given.Called command) ∷ ds) are idle = answered_from (Some command) ds are.1 idle
+answered_from (Some c) (Takes (given.Called command) ∷ ds) are idle = absurd (let is : true ≡ false = are.0 in let never : ⊥ = cc in never)
+answered_from running (Takes (given.Got envelope) ∷ ds) are idle = answered_from running ds are.1 idle
+answered_from running (Takes (given.Lost number) ∷ ds) are idle = answered_from running ds are.1 idle
+answered_from running (Writes written ∷ ds) are idle = answered_from running ds are.1 idle
+answered_from running (Sends number to message ∷ ds) are idle = answered_from running ds are.1 idle
+answered_from None (Tells reply ∷ ds) are idle = absurd (let is : false ≡ true = are.0 in let never : ⊥ = cc in never)
+answered_from (Some c) (Tells reply ∷ ds) are idle = ((reply, refl), answered_from None ds are.1 idle)
+answered_from None (Falls cause pending ∷ ds) are idle = answered_from None ds are.1 idle
+answered_from (Some c) (Falls cause pending ∷ ds) are idle = absurd (let is : true ≡ false = are.0 in let never : ⊥ = cc in never)
+answered_from None (Rises records ∷ ds) are idle = answered_from None ds are.1 idle
+answered_from (Some c) (Rises records ∷ ds) are idle = absurd (let is : true ≡ false = are.0 in let never : ⊥ = cc in never)
+
+no_commands : (t busy : Bool) (commands : List Command) → t ≡ true → busy ≡ false → cond (t && not busy) (first_command commands) None ≡ None → commands ≡ []
+no_commands t busy [] may free is = refl
+no_commands true true (c ∷ commands) may free is = absurd (let never : ⊥ = cc in never)
+no_commands true false (c ∷ commands) may free is = absurd (let never : ⊥ = cc in never)
+no_commands false busy (c ∷ commands) may free is = absurd (let never : ⊥ = cc in never)
+
+module _ (decl : Declaration) (script : Script) (accepted : IsAccepted decl) (asks : AsksDeclared decl script) (fits : ℕ → List Record → Type 0) (h : List Entry) where
+  none_open_now : (a : ℕ) → slice_get (replicate (actors decl) false) a ≡ Some true → ⊥
+  none_open_now a is = let no : true ≡ false = replicate_at (actors decl) a false true is in let never : ⊥ = cc in never
+
+  module _ (closed : IsClosedWithFalls fits decl script h) (quiet : IsQuiet decl script h) (done : controls_left script h ≡ []) where
+    pub no_request_open : (a : ℕ) → is_client decl a ≡ true → (c : Client) → (actor_after decl a (deeds a [] h)).actor ≡ actor.Client c → open_calls c ≡ []
+    no_request_open a client = none_open decl script accepted asks fits h (replicate (actors decl) false) closed none_open_now quiet done a client
+
+    pub none_runs_now : (a : ℕ) → is_client decl a ≡ true → is_running (deeds a [] h) ≡ false
+    none_runs_now a client = none_runs decl script accepted asks fits h (replicate (actors decl) false) closed none_open_now quiet done a client
+
+    ordered : (a : ℕ) → is_client decl a ≡ true → AreInOrder false (deeds a [] h)
+    ordered a client = run_ordered decl script accepted asks fits a client h (replicate (actors decl) false) closed
+
+    pub all_replied : (a : ℕ) → is_client decl a ≡ true → length (calls_of a h) ≡ length (replies_of a h)
+    all_replied a client =
+        let count : length (calls_of a h) ≡ length (replies_of a h) + 0 = all_counted (deeds a [] h) (ordered a client) ∙ ap (λ (t : Bool). length (replies_of a h) + open_commands t) (none_runs_now a client) in
+        omega arith
+
+    no_command : (a : ℕ) → is_client decl a ≡ true → command_in decl a (inbox script a h) ≡ None
+    no_command a client =
+        sym (ap (λ (es : List Envelope). first_copy es (first_lost (inbox script a h).lost (command_in decl a (inbox script a h))))
+        (copies_none decl script accepted asks fits h (replicate (actors decl) false) closed none_open_now quiet done a (client_within decl a client))
+        ∙ ap (λ (ns : List ℕ). first_lost ns (command_in decl a (inbox script a h)))
+        (losts_none decl script accepted asks fits h (replicate (actors decl) false) closed none_open_now quiet done a (client_within decl a client)))
+        ∙ nothing_ready decl script accepted asks fits h (replicate (actors decl) false) closed none_open_now quiet done a (client_within decl a client)
+
+    none_left : (a : ℕ) → is_client decl a ≡ true → (inbox script a h).commands ≡ []
+    none_left a client =
+        no_commands (takes_commands decl a) (inbox script a h).busy (inbox script a h).commands (ap (λ (t : Bool). t || (a == administrator decl)) client)
+        (busy_runs script a h (ordered a client) ∙ none_runs_now a client) (no_command a client)
+
+    calls_whole : length script.phases ≤ phase_of h → (a : ℕ) → is_client decl a ≡ true → calls_of a h ≡ asked_by a script
+    calls_whole all a client =
+        sym (append-nil (calls_of a h)) ∙ ap (λ (v : List Command). calls_of a h ++ v) (sym (none_left a client)) ∙ run_asked (IsLawfulWithFalls decl) fits decl script a h (replicate (actors decl) false) closed
+        ∙ ap (λ (v : List PhaseLines). asked_in_all a v) (take_all (phase_of h) script.phases all)
+
+    pub is_whole : length script.phases ≤ phase_of h → IsWholeWithFalls fits decl script h
+    is_whole all = record {
+      closed = closed;
+      phases = (let most : phase_of h ≤ length script.phases = run_phases (IsLawfulWithFalls decl) fits decl script h (replicate (actors decl) false) closed in omega arith);
+      controls = done;
+      replies = λ a client. subst (λ (cs : List Command). AreAnswered cs (exchanges (deeds a [] h))) (calls_whole all a client)
+          (answered_from None (deeds a [] h) (ordered a client) (none_runs_now a client));
+      quiet = quiet;
+    }

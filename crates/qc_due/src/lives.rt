@@ -1,0 +1,18 @@
+//! What is due of a client through its falls: laws as contracts of functions with
+//! nothing to do.
+
+ghost use Rattle.std.specs.Prelude.{◌≡◌, ◌-◌, ℕ, Bool, true, List};
+ghost use Rattle.qc_due.specs.Declares.{Declares};
+ghost use Rattle.qc_core.specs.Lives.{Lives};
+ghost use Rattle.qc_decl.specs.Actors.{is_client};
+ghost use Rattle.qc_decl.specs.declared.declaration.Declaration.{Declaration};
+ghost use Rattle.qc_msg.specs.Deeds.{Deed};
+ghost use Rattle.qc_promise.specs.Replies.{AreRepliesDue};
+
+/// Each deed of a client is due through its falls and rises too, with whatever
+/// records it rises, where what comes to it is declared.
+#[tactic(auto, using(crate::proofs::Lifelong::lives_due))]
+pub fn lives_of_clients_are_due()
+    ensures { (decl : Declaration) (a : ℕ) → is_client decl a ≡ true → (ds : List Deed) (is_open : Bool) (n : ℕ)
+        → Lives decl a ds is_open n → Declares decl ds → AreRepliesDue decl (a - decl.sites) ds }
+{}

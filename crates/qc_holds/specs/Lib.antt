@@ -1,5 +1,0 @@
-pub mod Votes
-pub mod Recorded
-pub mod Counted
-pub mod Wrong
-pub mod Promised

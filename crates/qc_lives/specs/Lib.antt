@@ -1,2 +1,0 @@
-pub mod LivesIn
-pub mod OwnRises

@@ -1,0 +1,211 @@
+-- A start is given up: the disks that were handed out come back, and leave begun journals.
+use Rattle.std.proofs.Common.{◌≡◌, ◌⊎◌, ℕ, ◌+◌, ◌<◌, ◌≤◌, ◌==◌, Bool, true, false, List, [], ◌∷◌, ◌++◌}
+use Rattle.std.proofs.Common.{Option, Some, None, refl, sym, ◌∙◌, subst, arith, inl, inr}
+use Rattle.std.specs.Prelude.{IfSome, IsSome, is_some}
+use Rattle.std.proofs.lemmas.Bool.{eqb-false, eqb-true}
+use Rattle.qc_journal.specs.Grammar.{IsJournal}
+use Rattle.qc_outside.specs.Disk.{IsKept, NamesActor}
+use Rattle.qc_outside.specs.Images.{Told, as_read}
+use Rattle.qc_outside.specs.Places.{HoldsNoByte, IsPutBack, Place, Places, held_after}
+use Rattle.qc_outside.specs.declared.rack.RackFault.{RackFault}
+use Rattle.qc_outside.specs.declared.rack.RackFault.TheVariants.{Failed, NotEmpty, OutOfMemory}
+use Rattle.qc_outside.proofs.Kept.{read_is_image}
+use Rattle.qc_promise.specs.Kept.{no_journal}
+use Rattle.qc_bounds.specs.Places.{AreHandedOut, HoldsJournal, place_of}
+use Rattle.qc_bounds.proofs.BackPlaces.{elsewhere}
+use Rattle.qc_store.specs.Contents.{DiskHasJournal}
+use Rattle.qc_node.specs.Places.{AreGivenBack, BothTell, HasBegun, IsRefused}
+use Rattle.qc_node.specs.Starts.{AreBackBelow, AreHandedBelow, AreStarted, AreUnstarted, IsGivenBack, IsHandedBelow}
+use Rattle.qc_node.specs.Starts.{IsOtherwiseSame, IsUnstarted}
+use Rattle.qc_node.proofs.Starts.{other_place}
+
+-- who tells its places still does
+pub told_alike : (old new : Option Places) (P : Places → Places → Type 0) → BothTell old new P
+    → is_some new ≡ is_some old
+told_alike None None P both = refl
+told_alike None (Some new) P both = absurd both
+told_alike (Some old) None P both = absurd both
+told_alike (Some old) (Some new) P both = refl
+
+-- begun journals
+
+pub begun_holds : (place : Option (List ℕ)) → HasBegun place → HoldsJournal no_journal place
+begun_holds None begun = begun
+begun_holds (Some bytes) begun = inl begun
+
+some_byte : (front rest : List ℕ) → front ++ 0 ∷ rest ≡ [] → ⊥
+some_byte [] rest is = cc is
+some_byte (byte ∷ front) rest is = cc is
+
+pub none_begun : (place : Option (List ℕ)) → HoldsNoByte place → HasBegun place → ⊥
+none_begun None empty begun = begun
+none_begun (Some bytes) empty begun = some_byte begun.front begun.rest (sym begun.closed ∙ empty)
+
+begun_then : (was : Option (List ℕ)) (bytes : List ℕ) → IsSome was → IsJournal [] bytes
+    → HasBegun (held_after was bytes)
+begun_then None bytes handed journal = absurd (let never : ⊥ = cc in never)
+begun_then (Some held) bytes handed journal = journal
+
+here_begun : (old new : Places) (here : Place) (told : Option Told) → IsPutBack (Some old) here told (Some new)
+    → IsSome (old here) → IsSome told → DiskHasJournal told [] → HasBegun (new here)
+here_begun old new here None put handed tells has = absurd (let never : ⊥ = cc in never)
+here_begun old new here (Some t) put handed tells has =
+    subst HasBegun (sym put.0)
+    (begun_then (old here) (as_read t.now) handed (has (as_read t.now) (read_is_image t.now)))
+
+-- disks come back: none at first, and then one more
+
+none_back_at : (old : Option Places) → BothTell old old (AreBackBelow 0)
+none_back_at None = tt
+none_back_at (Some old) = record { begun = λ a low. absurd (omega (arith, low)); same = λ a high. refl }
+
+pub none_back : (old : Option Places) (before : ℕ) → IsGivenBack 0 old before old before
+none_back old before = record { later = omega arith; places = none_back_at old }
+
+module _ (n : ℕ) (old mid new : Places) (told : Option Told) (was : AreBackBelow n old mid)
+    (put : IsPutBack (Some mid) (place_of n) told (Some new)) (handed : IsSome (old (place_of n)))
+    (tells : IsSome told) (has : DiskHasJournal told []) where
+  still_handed : IsSome (mid (place_of n))
+  still_handed = subst (λ (o : Option (List ℕ)). IsSome o) (sym (was.same n (omega arith))) handed
+
+  same_there : (a : ℕ) → (a ≡ n → ⊥) → new (place_of a) ≡ mid (place_of a)
+  same_there a other = elsewhere mid new (place_of n) told put (place_of a) (other_place a n other)
+
+  begun_at : (a : ℕ) → a < n + 1 → (c : Bool) → (n == a) ≡ c → HasBegun (new (place_of a))
+  begun_at a low true this =
+      subst (λ (k : ℕ). HasBegun (new (place_of k))) (eqb-true n a this)
+      (here_begun mid new (place_of n) told put still_handed tells has)
+  begun_at a low false other =
+      let apart : n ≡ a → ⊥ = eqb-false n a other in
+      subst HasBegun (sym (same_there a (λ same. apart (sym same)))) (was.begun a (omega (arith, low, apart)))
+
+  one_more_at : AreBackBelow (n + 1) old new
+  one_more_at = record {
+    begun = λ a low. begun_at a low (n == a) refl;
+    same = λ a high. same_there a (λ same. omega (arith, high, same)) ∙ was.same a (omega (arith, high));
+  }
+
+one_more_places : (n : ℕ) (old mid new : Option Places) (told : Option Told) → BothTell old mid (AreBackBelow n)
+    → IsPutBack mid (place_of n) told new → IfSome old (λ places. IsSome (places (place_of n)))
+    → (IsSome old → IsSome told) → DiskHasJournal told [] → BothTell old new (AreBackBelow (n + 1))
+one_more_places n None None None told was put handed tells has = tt
+one_more_places n None None (Some new) told was put handed tells has = absurd put
+one_more_places n None (Some mid) new told was put handed tells has = absurd was
+one_more_places n (Some old) None new told was put handed tells has = absurd was
+one_more_places n (Some old) (Some mid) None told was put handed tells has = absurd put
+one_more_places n (Some old) (Some mid) (Some new) told was put handed tells has =
+    one_more_at n old mid new told was put handed (tells refl) has
+
+pub one_more_back : (n : ℕ) (old mid new : Option Places) (before then now disk : ℕ) (told : Option Told)
+    → IsGivenBack n old before mid then → IsPutBack mid (place_of n) told new → IsKept then disk now
+    → IfSome old (λ places. IsSome (places (place_of n))) → (IsSome old → IsSome told) → DiskHasJournal told []
+    → IsGivenBack (n + 1) old before new now
+one_more_back n old mid new before then now disk told was put kept handed tells has = record {
+  later = omega (arith, was.later, kept.later);
+  places = one_more_places n old mid new told was.places put handed tells has;
+}
+
+pub handed_at : (n a : ℕ) (old : Option Places) → a < n → IfSome old (AreHandedOut n)
+    → IfSome old (λ places. IsSome (places (place_of a)))
+handed_at n a None low handed = tt
+handed_at n a (Some old) low handed = handed a low
+
+-- why none began
+
+later_refused : (n : ℕ) (old mid : Option Places) (before then now : ℕ) (fault : RackFault)
+    → IsHandedBelow n old mid → before ≤ then → NamesActor n fault → IsRefused mid then now fault
+    → IsRefused old before now fault
+later_refused n None mid before then now (NotEmpty named) was later names why = tt
+later_refused n (Some old) None before then now (NotEmpty named) was later names why = absurd was
+later_refused n (Some old) (Some mid) before then now (NotEmpty named) was later names why = λ none.
+    why (subst HoldsNoByte (sym (was.same named (omega (arith, names)))) none)
+later_refused n old mid before then now (Failed named) was later names why = omega (arith, why, later)
+later_refused n old mid before then now OutOfMemory was later names why = tt
+
+back_refused : (old : Option Places) (before then now : ℕ) (fault : RackFault) → then ≤ now
+    → IsRefused old before then fault → IsRefused old before now fault
+back_refused old before then now (NotEmpty named) later why = why
+back_refused old before then now (Failed named) later why = omega (arith, why, later)
+back_refused old before then now OutOfMemory later why = tt
+
+-- disks were handed out for those below an actor, its process wasn't started, and they came back
+
+module _ (n : ℕ) (old mid last new : Places) (was : AreHandedBelow n old mid) (un : IsOtherwiseSame n mid last)
+    (back : AreBackBelow n last new) where
+  here_by : (last (place_of n) ≡ mid (place_of n)) ⊎ HoldsNoByte (mid (place_of n))
+      → (new (place_of n) ≡ old (place_of n)) ⊎ HoldsNoByte (old (place_of n))
+  here_by (inl same) = inl (back.same n (omega arith) ∙ (same ∙ was.same n (omega arith)))
+  here_by (inr none) = inr (subst HoldsNoByte (was.same n (omega arith)) none)
+
+  all_back_at : (fault : RackFault) → NamesActor n fault → AreGivenBack fault old new
+  all_back_at fault names = record {
+    actor = n;
+    named = names;
+    empty = was.empty;
+    begun = back.begun;
+    here = here_by un.here;
+    same = λ a high.
+        back.same a (omega (arith, high))
+        ∙ (un.others a (λ same. omega (arith, high, same)) ∙ was.same a (omega (arith, high)));
+  }
+
+all_back : (n : ℕ) (old mid last new : Option Places) (fault : RackFault) → IsHandedBelow n old mid
+    → BothTell mid last (IsOtherwiseSame n) → BothTell last new (AreBackBelow n) → NamesActor n fault
+    → BothTell old new (AreGivenBack fault)
+all_back n None None None None fault was un back names = tt
+all_back n None None None (Some new) fault was un back names = absurd back
+all_back n None None (Some last) new fault was un back names = absurd un
+all_back n None (Some mid) last new fault was un back names = absurd was
+all_back n (Some old) None last new fault was un back names = absurd was
+all_back n (Some old) (Some mid) None new fault was un back names = absurd un
+all_back n (Some old) (Some mid) (Some last) None fault was un back names = absurd back
+all_back n (Some old) (Some mid) (Some last) (Some new) fault was un back names =
+    all_back_at n old mid last new was un back fault names
+
+pub given_up : (n m : ℕ) (old mid last new : Option Places) (before then after now : ℕ) (fault : RackFault)
+    → AreStarted n old before mid then → IsUnstarted n mid then last after fault → m ≡ n
+    → IsGivenBack m last after new now → AreUnstarted old before new now fault
+given_up n m old mid last new before then after now fault was un count given =
+    let back : IsGivenBack n last after new now =
+    subst (λ (k : ℕ). IsGivenBack k last after new now) count given in
+    let all : BothTell old new (AreGivenBack fault) =
+    all_back n old mid last new fault was.places un.places back.places un.named in
+    record {
+      why =
+          back_refused old before after now fault back.later
+          (later_refused n old mid before then after fault was.places was.later un.named un.why);
+      later = omega (arith, was.later, un.later, back.later);
+      tells = told_alike old new (AreGivenBack fault) all;
+      back = all;
+    }
+
+-- what was handed out still is
+
+still_at : (n : ℕ) (mid last : Places) → IsOtherwiseSame n mid last → AreHandedOut n mid → AreHandedOut n last
+still_at n mid last un handed = λ a low.
+    subst (λ (o : Option (List ℕ)). IsSome o) (sym (un.others a (λ same. omega (arith, low, same)))) (handed a low)
+
+pub handed_still : (n m : ℕ) (old mid last : Option Places) → m ≡ n → IsHandedBelow n old mid
+    → BothTell mid last (IsOtherwiseSame n) → IfSome last (AreHandedOut m)
+handed_still n m old mid None count was un = tt
+handed_still n m old None (Some last) count was un = absurd un
+handed_still n m None (Some mid) (Some last) count was un = absurd was
+handed_still n m (Some old) (Some mid) (Some last) count was un =
+    subst (λ (k : ℕ). AreHandedOut k last) (sym count) (still_at n mid last un was.handed)
+
+-- nothing was handed out, since memory was wanting
+
+pub nothing_back : (old : Option Places) → BothTell old old (AreGivenBack OutOfMemory)
+nothing_back None = tt
+nothing_back (Some old) = record {
+  actor = 0;
+  named = tt;
+  empty = λ a low. absurd (omega (arith, low));
+  begun = λ a low. absurd (omega (arith, low));
+  here = inl refl;
+  same = λ a high. refl;
+}
+
+pub wanting_unstarted : (old : Option Places) (before : ℕ) → AreUnstarted old before old before OutOfMemory
+wanting_unstarted old before =
+    record { why = tt; later = omega arith; tells = refl; back = nothing_back old }

@@ -1,0 +1,48 @@
+use Rattle.std.proofs.Common.{◌∙◌, [], subst}
+use Rattle.qc_decl.specs.Actors.{administrator, controller}
+use Rattle.qc_decl.specs.declared.declaration.Declaration.{Declaration}
+use Rattle.qc_laws.proofs.Downs.{tells}
+use Rattle.qc_process.specs.Stored.{IsStored}
+use Rattle.qc_node.specs.Starts.{AreProcesses, IsHandedBelow}
+use Rattle.qc_node.proofs.Starts.{all_handed, empty_before, started_tells}
+use Rattle.qc_node.proofs.runs.run_named.Goals as goal
+
+pub make-requires-clause-down : goal.make-requires-clause-down
+make-requires-clause-down g c = tells g.N.Named.declaration
+
+pub cells_of-cells-requires-clause-begun : goal.cells_of-cells-requires-clause-begun
+cells_of-cells-requires-clause-begun g c κs within =
+    subst (λ (d : Declaration). AreProcesses g.N.Named.tells d c.in_ok-processes.processes.each.items)
+    c.requires.declaration
+    (c.in_ok-processes.ensures.each g.N.Named.tells (λ is. c.requires.tells ∙ is))
+
+pub cells_of-cells-requires-clause-administrator :
+    goal.cells_of-cells-requires-clause-administrator
+cells_of-cells-requires-clause-administrator g c κs within =
+    subst
+    (λ (d : Declaration). IsStored g.N.Named.tells d (administrator d) [] c.in_ok-processes.processes.administrator)
+    c.requires.declaration
+    (c.in_ok-processes.ensures.administrator g.N.Named.tells (λ is. c.requires.tells ∙ is))
+
+pub run_cells-requires-clause-tells : goal.run_cells-requires-clause-tells
+run_cells-requires-clause-tells g c κs within =
+    started_tells (controller c.args.job.now.decl.now) (g.K.Rack.places c.args.rack.now)
+    (g.K.Rack.places c.start.new.rack) c.in_ok-processes.ensures.started.places ∙ c.requires.tells
+
+pub run_cells-requires-clause-handed : goal.run_cells-requires-clause-handed
+run_cells-requires-clause-handed g c κs within =
+    all_handed (controller g.N.Named.declaration) (g.K.Rack.places c.args.rack.now) (g.K.Rack.places c.start.new.rack)
+    (subst
+    (λ (d : Declaration). IsHandedBelow (controller d) (g.K.Rack.places c.args.rack.now)
+    (g.K.Rack.places c.start.new.rack)) c.requires.declaration c.in_ok-processes.ensures.started.places)
+
+pub returns-clause-spent : goal.returns-clause-spent
+returns-clause-spent g c short =
+    c.run_cells.ensures.spent (g.K.Rack.faults c.args.rack.now) c.in_ok-processes.ensures.started.later short
+
+pub returns-clause-empty : goal.returns-clause-empty
+returns-clause-empty g c =
+    empty_before g.N.Named.declaration (g.K.Rack.places c.args.rack.now) (g.K.Rack.places c.start.new.rack)
+    (subst
+    (λ (d : Declaration). IsHandedBelow (controller d) (g.K.Rack.places c.args.rack.now)
+    (g.K.Rack.places c.start.new.rack)) c.requires.declaration c.in_ok-processes.ensures.started.places)

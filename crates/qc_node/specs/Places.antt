@@ -1,0 +1,46 @@
+-- What the places of a rack hold before a run and after it; why no run began, and what they hold then.
+use Rattle.std.specs.Prelude.{◌≡◌, ◌⊎◌, ℕ, ◌<◌, List, [], Option, Some, None, IfSome}
+use Rattle.qc_decl.specs.Actors.{controller}
+use Rattle.qc_decl.specs.declared.declaration.Declaration.{Declaration}
+use Rattle.qc_journal.specs.Grammar.{IsJournal}
+use Rattle.qc_outside.specs.Causes.{Rose}
+use Rattle.qc_outside.specs.Disk.{NamesActor}
+use Rattle.qc_outside.specs.Places.{HoldsNoByte, Places}
+use Rattle.qc_outside.specs.declared.rack.RackFault.{RackFault}
+use Rattle.qc_outside.specs.declared.rack.RackFault.TheVariants as racks
+pub use Rattle.qc_bounds.specs.Places.{HoldJournals, HoldsJournal, place_of}
+
+-- no actor's place holds a byte, where the rack tells
+abbrev pub AreEmpty : Declaration → Option Places → Type 0
+AreEmpty decl told = IfSome told (λ places. (a : ℕ) → a < controller decl → HoldsNoByte (places (place_of a)))
+
+-- Why no run began, by what the places held before and the counts of the rack's faults before and now: a place isn't
+-- empty only where it holds bytes, and the rack failed only where its count rose.
+abbrev pub IsRefused : Option Places → ℕ → ℕ → RackFault → Type 0
+IsRefused told before now (racks.NotEmpty actor) =
+    IfSome told (λ places. HoldsNoByte (places (place_of actor)) → ⊥)
+IsRefused told before now (racks.Failed actor) = Rose before now
+IsRefused told before now racks.OutOfMemory = Unit {0}
+
+-- neither rack tells its places, or both do, and this holds of them
+abbrev pub BothTell : Option Places → Option Places → (Places → Places → Type 0) → Type 0
+BothTell None None P = Unit {0}
+BothTell None (Some new) P = ⊥
+BothTell (Some old) None P = ⊥
+BothTell (Some old) (Some new) P = P old new
+
+-- a journal was begun at the place, and has no records: a closed gate comes first
+abbrev pub HasBegun : Option (List ℕ) → Type 0
+HasBegun None = ⊥
+HasBegun (Some bytes) = IsJournal [] bytes
+
+-- No run began, since one actor's process wasn't started: that of the actor whom the fault names, if it names one. Each
+-- place of an actor before that one held no byte, and its disk came back to it with its journal begun. The place of that
+-- actor is as it was, or held no byte; the places of the actors behind it are as they were.
+pub record AreGivenBack (fault : RackFault) (old new : Places) : Type 0 where
+  pub actor : ℕ
+  pub named : NamesActor actor fault
+  pub empty : (a : ℕ) → a < actor → HoldsNoByte (old (place_of a))
+  pub begun : (a : ℕ) → a < actor → HasBegun (new (place_of a))
+  pub here : (new (place_of actor) ≡ old (place_of actor)) ⊎ HoldsNoByte (old (place_of actor))
+  pub same : (a : ℕ) → actor < a → new (place_of a) ≡ old (place_of a)

@@ -1,0 +1,184 @@
+//! Control lines of an actor, carried out in its cell: one arms its disk, one has it
+//! fall, one has it rise. Each holds the fabric's lock until the line has acted, over
+//! the calls of the disk too: between control lines nobody else has anything to do.
+//! Where the line isn't the next one any more, another worker carried it out.
+
+ghost use Rattle.std.specs.Prelude.{◌≡◌, ◌≢◌, None, IfOk, OnErr};
+ghost use Rattle.qc_core.specs.declared.actor.Actor.TheVariants.{Down};
+ghost use Rattle.qc_decl.specs.Accepted.{IsAccepted};
+ghost use Rattle.qc_process.specs.Opens.{OpensAs, StaysOnDisk};
+ghost use Rattle.qc_process.specs.Views.{HasFewRecords};
+ghost use Rattle.qc_fabric.specs.Risings.{size_of_rising};
+ghost use Rattle.qc_node.specs.Built.{IsRunnable};
+ghost use Rattle.qc_node.specs.Restarts.{IsClosed, IsRecorded, opened_of};
+
+use crate::cell::Cell;
+use crate::controller::Controller;
+use crate::rules::Rules;
+use qc_decl::Declaration;
+use qc_fabric::{Fabric, Named, Rising, Still};
+use qc_list::OutOfMemory;
+use qc_msg::Control;
+use qc_outside::Disk;
+use qc_process::{Opened, Process};
+use std::alloc::{AllocError, Global};
+use std::sync::Wait;
+
+impl<D: Disk, N: Named> Cell<D, N> {
+    /// A fault is armed for the actor's disk, where the next control line says so.
+    /// Whether something is left: always.
+    pub(crate) fn arm<R: Wait>(
+        &mut self,
+        rt: &R,
+        decl: &Declaration,
+        fabric: &Fabric<Rules, N>,
+        controller: &mut Controller<N>,
+        last: u32,
+    ) -> Result<bool, OutOfMemory>
+        requires declaration { decl.now ≡ N.declaration }
+        requires runnable { IsRunnable N.declaration N.script }
+        ensures number { self.new.number ≡ self.old.number }
+    {
+        let mut held = fabric.hold(rt);
+        let Some(Control::Armed { actor, kind, at }) = held.still.next_order(decl, last) else {
+            return Ok(true);
+        };
+        if actor != self.pass.number() {
+            return Ok(true);
+        }
+        if self.given_up {
+            return Err(AllocError);
+        }
+        controller.arm(&mut held.still, &mut self.pass, kind, at)?;
+        self.process.arm(kind, at);
+        Ok(true)
+    }
+
+    /// The actor falls, where the next control line crashes it.
+    pub(crate) fn crash<R: Wait>(
+        &mut self,
+        rt: &R,
+        decl: &Declaration,
+        fabric: &Fabric<Rules, N>,
+        last: u32,
+    ) -> Result<bool, OutOfMemory>
+        requires declaration { decl.now ≡ N.declaration }
+        requires runnable { IsRunnable N.declaration N.script }
+        ensures number { self.new.number ≡ self.old.number }
+    {
+        let mut held = fabric.hold(rt);
+        let Some(Control::Crash(actor)) = held.still.next_order(decl, last) else {
+            return Ok(true);
+        };
+        if actor != self.pass.number() {
+            return Ok(true);
+        }
+        if self.given_up {
+            return Err(AllocError);
+        }
+        held.still.look(&mut self.pass);
+        held.still.fall(&mut self.pass)?;
+        self.process.crash();
+        Ok(true)
+    }
+
+    /// The actor rises from its records, where the next control line restarts it, or
+    /// stays down. It is tried once: after want of memory the process is given up,
+    /// since its disk was called and no step shows it.
+    pub(crate) fn restart<R: Wait>(
+        &mut self,
+        rt: &R,
+        alloc: Global,
+        decl: &Declaration,
+        fabric: &Fabric<Rules, N>,
+        last: u32,
+    ) -> Result<bool, OutOfMemory>
+        requires declaration { decl.now ≡ N.declaration }
+        requires runnable { IsRunnable N.declaration N.script }
+        ensures number { self.new.number ≡ self.old.number }
+    {
+        let mut held = fabric.hold(rt);
+        let Some(Control::Restart(actor)) = held.still.next_order(decl, last) else {
+            return Ok(true);
+        };
+        if actor != self.pass.number() {
+            return Ok(true);
+        }
+        if self.given_up {
+            return Err(AllocError);
+        }
+        held.still.look(&mut self.pass);
+        held.still.room(&Rising::Damaged { offset: 0 })?;
+        self.given_up = true;
+        let rising = open(alloc, decl, &mut self.process, &mut held.still)?;
+        let rising = with_record(&mut self.process, rising);
+        let first = held.still.rise(&mut self.pass, rising);
+        self.process.sent(first);
+        self.given_up = false;
+        Ok(true)
+    }
+}
+
+/// The process opens its journal, where there is room for one step, which is all that
+/// an actor does that stays down. Then there is room for what was found. After want
+/// of memory the disk holds what it held.
+fn open<D: Disk, N: Named>(
+    alloc: Global,
+    decl: &Declaration,
+    process: &mut Process<D>,
+    still: &mut Still<Rules, N>,
+) -> Result<Rising, OutOfMemory>
+    requires accepted { IsAccepted decl.now }
+    requires down { process.old.actor ≡ Down }
+    requires room { still.old.spare ≡ 1 }
+    ensures ok { IfOk result (λ rising. OpensAs decl.now process.old process.new (opened_of rising)) }
+    ensures room { IfOk result (λ rising. still.new.spare ≡ size_of_rising rising) }
+    ensures same { (still.new.history ≡ still.old.history) × (still.new.open_inputs ≡ still.old.open_inputs) }
+    ensures err { OnErr result ((process.new.store.journal ≡ None)
+        × StaysOnDisk decl.now process.old.store process.new.store) }
+{
+    match process.open(alloc, decl) {
+        Ok(Opened::Rose { records, turn }) => {
+            let rising = Rising::Rose { records, turn };
+            make_room(process, still, rising)
+        }
+        Ok(Opened::Damaged { offset }) => Ok(Rising::Damaged { offset }),
+        Ok(Opened::NotOpened { cause }) => Ok(Rising::NotOpened { cause }),
+        Err(error) => Err(error),
+    }
+}
+
+/// Makes room for an actor that rose. Without it the journal is closed.
+fn make_room<D: Disk, N: Named>(
+    process: &mut Process<D>,
+    still: &mut Still<Rules, N>,
+    rising: Rising,
+) -> Result<Rising, OutOfMemory>
+    requires up { process.old.actor ≢ Down }
+    ensures ok { IfOk result (λ r. (r ≡ rising) × (still.new.spare ≡ size_of_rising r)
+        × (process.new ≡ process.old)) }
+    ensures same { (still.new.history ≡ still.old.history) × (still.new.open_inputs ≡ still.old.open_inputs) }
+    ensures err { OnErr result (IsClosed process.old process.new) }
+{
+    if let Err(error) = still.room(&rising) {
+        process.crash();
+        return Err(error);
+    }
+    Ok(rising)
+}
+
+/// What was found, with what became of the record of the rise, which is written now.
+fn with_record<D: Disk>(process: &mut Process<D>, rising: Rising) -> Rising
+    requires few { HasFewRecords process.old.store }
+    ensures { IsRecorded process.old process.new rising result }
+{
+    match rising {
+        Rising::Rose { records, turn } => {
+            let mut turn = turn;
+            turn.append = process.append();
+            Rising::Rose { records, turn }
+        }
+        Rising::Damaged { offset } => Rising::Damaged { offset },
+        Rising::NotOpened { cause } => Rising::NotOpened { cause },
+    }
+}

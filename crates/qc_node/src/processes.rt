@@ -1,0 +1,147 @@
+//! The processes of a run are started, each over a disk of the rack; or none is, and
+//! each disk that was handed out goes back.
+
+ghost use Rattle.std.specs.Prelude.{◌≡◌, ◌<◌, [], Bool, true, IfErr, IfOk, IfSome, IsSome, is_some, vec_len};
+ghost use Rattle.qc_decl.specs.Accepted.{IsAccepted};
+ghost use Rattle.qc_decl.specs.Actors.{actors, administrator, controller};
+ghost use Rattle.qc_decl.specs.declared.declaration.Declaration.{Declaration as Declared};
+ghost use Rattle.qc_process.specs.Stored.{IsProcess, IsStored};
+ghost use Rattle.qc_process.specs.Views.{IsUp};
+ghost use Rattle.qc_bounds.specs.Places.{AreHandedOut};
+ghost use Rattle.qc_node.specs.Starts.{AreProcesses, AreStarted, AreUnstarted, AreUp, IsGivenBack, IsStarted};
+ghost use Rattle.qc_node.specs.Starts.{IsUnstarted};
+
+use qc_decl::Declaration;
+use qc_outside::{Disk, Rack, RackFault};
+use qc_process::{Process, Store};
+use std::alloc::Global;
+
+/// The processes of all sites and clients, by number, and the administrator's store.
+#[derive(Drop)]
+pub(crate) struct Processes<D: Disk> {
+    pub(crate) each: Vec<Process<D>>,
+    pub(crate) administrator: Store<D>,
+}
+
+/// A process over a disk of the rack, in no folder, for each site and client, and a
+/// store for the administrator.
+pub(crate) fn start<K: Rack>(
+    alloc: Global,
+    decl: &Declaration,
+    rack: &mut K,
+) -> Result<Processes<K::D>, RackFault>
+    requires accepted { IsAccepted decl.now }
+    ensures whole { IfOk result (λ ps. vec_len ps.each ≡ actors decl.now) }
+    ensures each { IfOk result (λ ps. (tells : Bool) → (tells ≡ true → IsSome (K.places rack.old))
+        → AreProcesses tells decl.now ps.each.items) }
+    ensures administrator { IfOk result (λ ps. (tells : Bool) → (tells ≡ true → IsSome (K.places rack.old))
+        → IsStored tells decl.now (administrator decl.now) [] ps.administrator) }
+    ensures started { IfOk result (λ _. AreStarted (controller decl.now) (K.places rack.old) (K.faults rack.old)
+        (K.places rack.new) (K.faults rack.new)) }
+    ensures refused { IfErr result (λ fault. AreUnstarted (K.places rack.old) (K.faults rack.old) (K.places rack.new)
+        (K.faults rack.new) fault) }
+{
+    let each = start_all(alloc, decl, rack)?;
+    match start_store(alloc, rack, decl.sites + decl.clients) {
+        Ok(administrator) => Ok(Processes {
+            each,
+            administrator,
+        }),
+        Err(fault) => {
+            give_back(rack, each);
+            Err(fault)
+        }
+    }
+}
+
+/// The processes of all sites and clients.
+#[tactic(auto, using(crate::proofs::Starts::none_started, crate::proofs::Unstarted::wanting_unstarted))]
+fn start_all<K: Rack>(
+    alloc: Global,
+    decl: &Declaration,
+    rack: &mut K,
+) -> Result<Vec<Process<K::D>>, RackFault>
+    requires accepted { IsAccepted decl.now }
+    ensures whole { IfOk result (λ each. vec_len each ≡ actors decl.now) }
+    ensures each { IfOk result (λ each. (tells : Bool) → (tells ≡ true → IsSome (K.places rack.old))
+        → AreProcesses tells decl.now each.items) }
+    ensures up { IfOk result (λ each. AreUp each.items) }
+    ensures started { IfOk result (λ _. AreStarted (actors decl.now) (K.places rack.old) (K.faults rack.old)
+        (K.places rack.new) (K.faults rack.new)) }
+    ensures refused { IfErr result (λ fault. AreUnstarted (K.places rack.old) (K.faults rack.old) (K.places rack.new)
+        (K.faults rack.new) fault) }
+{
+    let actors = decl.sites + decl.clients;
+    let mut each = Vec::with_capacity(alloc, usize::from(actors))?;
+    for actor in 0..actors {
+        match start_one(alloc, decl, rack, actor) {
+            Ok(process) => each.push_reserved(process),
+            Err(fault) => {
+                give_back(rack, each);
+                return Err(fault);
+            }
+        }
+    }
+    Ok(each)
+}
+
+/// The process of one.
+#[tactic(auto, using(crate::proofs::Starts::one_started, crate::proofs::Starts::rack_refused, crate::proofs::Starts::start_refused))]
+fn start_one<K: Rack>(
+    alloc: Global,
+    decl: &Declaration,
+    rack: &mut K,
+    actor: u8,
+) -> Result<Process<K::D>, RackFault>
+    requires actor { actor < actors decl.now }
+    ensures begun { IfOk result (λ p. (tells : Bool) → (tells ≡ true → IsSome (K.places rack.old))
+        → IsProcess tells decl.now actor [] p) }
+    ensures up { IfOk result (λ p. IsUp p.store) }
+    ensures started { IfOk result (λ _. IsStarted actor (K.places rack.old) (K.faults rack.old) (K.places rack.new)
+        (K.faults rack.new)) }
+    ensures refused { IfErr result (λ fault. IsUnstarted actor (K.places rack.old) (K.faults rack.old)
+        (K.places rack.new) (K.faults rack.new) fault) }
+{
+    let disk = rack.disk(None, actor)?;
+    match Process::new(alloc, decl, actor, disk) {
+        Ok(process) => Ok(process),
+        Err((disk, fault)) => {
+            rack.keep(None, actor, disk);
+            Err(fault)
+        }
+    }
+}
+
+/// The store of one.
+#[tactic(auto, using(crate::proofs::Starts::one_started, crate::proofs::Starts::rack_refused, crate::proofs::Starts::start_refused))]
+fn start_store<K: Rack>(alloc: Global, rack: &mut K, actor: u8) -> Result<Store<K::D>, RackFault>
+    ensures begun { IfOk result (λ s. (tells : Bool) (decl : Declared) → (tells ≡ true → IsSome (K.places rack.old))
+        → IsStored tells decl actor [] s) }
+    ensures started { IfOk result (λ _. IsStarted actor (K.places rack.old) (K.faults rack.old) (K.places rack.new)
+        (K.faults rack.new)) }
+    ensures refused { IfErr result (λ fault. IsUnstarted actor (K.places rack.old) (K.faults rack.old)
+        (K.places rack.new) (K.faults rack.new) fault) }
+{
+    let disk = rack.disk(None, actor)?;
+    match Store::new(alloc, actor, disk) {
+        Ok(store) => Ok(store),
+        Err((disk, fault)) => {
+            rack.keep(None, actor, disk);
+            Err(fault)
+        }
+    }
+}
+
+/// Each disk goes back to its place, with its journal begun.
+fn give_back<K: Rack>(rack: &mut K, each: Vec<Process<K::D>>)
+    requires handed { IfSome (K.places rack.old) (AreHandedOut (vec_len each)) }
+    requires processes { (decl : Declared) × AreProcesses (is_some (K.places rack.old)) decl each.items }
+    requires up { AreUp each.items }
+    ensures { IsGivenBack (vec_len each) (K.places rack.old) (K.faults rack.old) (K.places rack.new)
+        (K.faults rack.new) }
+{
+    for process in each {
+        let actor = process.number();
+        rack.keep(None, actor, process.into_disk());
+    }
+}

@@ -1,0 +1,195 @@
+-- A site promises only for transactions that it was asked for, and asks clients only about these, as it rises too.
+use Rattle.std.proofs.Common.{◌≡◌, ℕ, not, List, [], ◌∷◌, ◌++◌, fold, map, take, option_to_list, refl}
+use Rattle.std.specs.List.{AllByRecursion as Every}
+use Rattle.std.specs.declared.cmp.Ordering.{Ordering}
+use Rattle.std.specs.declared.cmp.Ordering.TheVariants.{Equal, Greater, Less}
+use Rattle.qc_list.specs.Order.{by_order, inserted}
+use Rattle.qc_list.proofs.Members.{every-append, every-filter, every-weaker}
+use Rattle.qc_stamp.specs.declared.stamp.TxId.{TxId}
+use Rattle.qc_stamp.specs.Order.{same_tx, tx_cmp}
+use Rattle.qc_entry.specs.declared.record.Prepared.{Prepared}
+use Rattle.qc_decl.specs.Actors.{client_actor}
+use Rattle.qc_decl.specs.declared.declaration.Declaration.{Declaration}
+use Rattle.qc_lock.specs.declared.held.Held.{Held}
+use Rattle.qc_msg.specs.declared.message.Answer.{Answer}
+use Rattle.qc_msg.specs.declared.message.Answer.TheVariants as says
+use Rattle.qc_msg.specs.declared.message.Message.{Message}
+use Rattle.qc_msg.specs.declared.message.Message.TheVariants as messages
+use Rattle.qc_msg.specs.declared.message.Outcome.TheVariants.{Aborted, Active, Committed}
+use Rattle.qc_msg.specs.declared.message.Want.{Want}
+use Rattle.qc_msg.specs.declared.message.Want.TheVariants.{Append, Prepare, Read}
+use Rattle.qc_msg.specs.declared.record.Record.{Record}
+use Rattle.qc_msg.specs.declared.record.Record.TheVariants as records
+use Rattle.qc_msg.specs.declared.step.Given.{Given}
+use Rattle.qc_msg.specs.declared.step.Given.TheVariants as given
+use Rattle.qc_msg.specs.declared.turn.Posting.{Posting}
+use Rattle.qc_msg.specs.declared.turn.Turn.{Turn}
+use Rattle.qc_msg.specs.Turns.{quiet}
+use Rattle.qc_recover.proofs.Asked.{first_every}
+use Rattle.qc_recover.specs.Sites.{holds, in_order, inquiry, keeps, Kept, kept_by, most_inquiries, nothing_kept, site_rises}
+use Rattle.qc_laws.proofs.SitesAsk.{Asks, GivenTells, HeldFor, SiteTells, Tells, held-more, site_asks}
+use Rattle.qc_site.specs.Conduct.{passed, site_at, site_takes}
+use Rattle.qc_site.specs.Promise.{promise_of, without_prepared}
+use Rattle.qc_site.specs.Requests.{grants}
+use Rattle.qc_site.specs.Site.{SiteMove, SiteState, answers, moved}
+use Rattle.qc_site.proofs.Cases.{append_cases, join_cases, prepare_cases, read_cases, request_cases}
+
+every-inserted : (P : TxId → Type 0) (xs : List TxId) (x : TxId) → Every P xs → P x → Every P (inserted tx_cmp xs x)
+every-inserted P [] x all here = (here, tt)
+every-inserted P (y ∷ ys) x all here = by (tx_cmp x y) (every-inserted P ys x all.1 here) where
+  by : (order : Ordering) → Every P (inserted tx_cmp ys x) → Every P (by_order order (x ∷ y ∷ ys) (x ∷ ys) (y ∷ inserted tx_cmp ys x))
+  by Less rest = (here, all)
+  by Equal rest = (here, all.1)
+  by Greater rest = (all.0, rest)
+
+every-in_order : (P : TxId → Type 0) (xs ys : List TxId) → Every P xs → Every P ys → Every P (fold (inserted tx_cmp) xs ys)
+every-in_order P xs [] all more = all
+every-in_order P xs (y ∷ ys) all more = every-in_order P (inserted tx_cmp xs y) ys (every-inserted P xs y all more.0) more.1
+
+module _ (decl : Declaration) (B : TxId → Type 0) where
+  -- a question is about such a transaction, and goes to its client
+  abbrev pub IsAbout : ℕ → Message → Type 0
+  IsAbout to (messages.Request tx epoch life want) = Unit {0}
+  IsAbout to (messages.Answer asked answer) = Unit {0}
+  IsAbout to (messages.Decision tx verdict) = Unit {0}
+  IsAbout to (messages.Inquiry tx) = (to ≡ client_actor decl tx.client) × B tx
+  IsAbout to (messages.Ask tx) = Unit {0}
+  IsAbout to (messages.Close epoch) = Unit {0}
+  IsAbout to (messages.Install epoch clock log) = Unit {0}
+
+  abbrev pub AreAbout : List Posting → Type 0
+  AreAbout ps = Every (λ (p : Posting). IsAbout p.to p.message) ps
+
+  -- a promise is for such a one
+
+  abbrev pub PromisesFor : Record → Type 0
+  PromisesFor records.Life = Unit {0}
+  PromisesFor (records.Prepare p) = B p.tx
+  PromisesFor (records.Done tx clock) = Unit {0}
+  PromisesFor (records.Close epoch) = Unit {0}
+  PromisesFor (records.Install epoch clock lines) = Unit {0}
+  PromisesFor (records.Commit commit) = Unit {0}
+  PromisesFor (records.Decide epoch clock lines) = Unit {0}
+
+  abbrev pub PreparedFor : List Prepared → Type 0
+  PreparedFor ps = Every (λ (p : Prepared). B p.tx) ps
+
+  -- whatever becomes of a turn's record
+  pub record TurnAsks (turn : Turn) : Type 0 where
+    pub sends : AreAbout turn.sends
+    pub failed : AreAbout turn.failed_sends
+    pub writes : Every PromisesFor (option_to_list turn.write)
+
+  pub record SiteAsks (m : SiteMove) : Type 0 where
+    pub held : HeldFor decl B m.site.held
+    pub prepared : PreparedFor m.site.prepared
+    pub turn : TurnAsks m.turn
+
+  -- what it promises and writes
+
+  record Promising (m : SiteMove) : Type 0 where
+    prepared : PreparedFor m.site.prepared
+    failed : AreAbout m.turn.failed_sends
+    writes : Every PromisesFor (option_to_list m.turn.write)
+
+  module _ (s : SiteState) (from number : ℕ) (all : PreparedFor s.prepared) where
+    still : (answer : Answer) → Promising (moved s (answers from number answer))
+    still answer = record { prepared = all; failed = tt; writes = tt }
+
+    silent : Promising (moved s quiet)
+    silent = record { prepared = all; failed = tt; writes = tt }
+
+    granted : (tx : TxId) (want : Want) → B tx → Promising (grants decl s from number tx want)
+    granted tx (Read object inv) here =
+        read_cases Promising decl s from number tx object inv (λ free. record { prepared = all; failed = tt; writes = tt }) (λ c clash. record { prepared = all; failed = tt; writes = tt })
+    granted tx (Append object view own) here =
+        append_cases Promising decl s from number tx object view own (λ free. record { prepared = all; failed = tt; writes = tt }) (λ c clash. record { prepared = all; failed = tt; writes = tt })
+    granted tx Prepare here =
+        prepare_cases Promising s from number tx (still says.Stale) (λ held stands. still (says.Yes s.clock))
+        (λ held made. record { prepared = every-append (λ (p : Prepared). B p.tx) s.prepared (promise_of s tx ∷ []) all (here, tt); failed = (tt, tt); writes = (here, tt) })
+
+    without : (tx : TxId) → PreparedFor (without_prepared s.prepared tx)
+    without tx = every-filter (λ (p : Prepared). B p.tx) (λ (p : Prepared). not (same_tx p.tx tx)) s.prepared all
+
+    at : (to : ℕ) (message : Message) → Tells decl B to message → Promising (site_at decl s from number message)
+    at to (messages.Request tx epoch life want) here = request_cases Promising decl s from number tx epoch life want silent (λ fault is. still fault) (λ is. granted tx want here)
+    at to (messages.Answer asked answer) here = silent
+    at to (messages.Decision tx (Committed stamp)) here =
+        join_cases Promising s tx stamp (λ none. record { prepared = without tx; failed = tt; writes = tt }) (λ p some. record { prepared = without tx; failed = tt; writes = (tt, tt) })
+    at to (messages.Decision tx Aborted) here = record { prepared = without tx; failed = tt; writes = tt }
+    at to (messages.Decision tx Active) here = silent
+    at to (messages.Inquiry tx) here = silent
+    at to (messages.Ask tx) here = silent
+    at to (messages.Close epoch) here = silent
+    at to (messages.Install epoch clock log) here = silent
+
+  promising : (s : SiteState) (g : Given) → PreparedFor s.prepared → GivenTells decl B g → Promising (site_takes decl s g)
+  promising s (given.Called command) all here = record { prepared = all; failed = tt; writes = tt }
+  promising s (given.Got e) all here = at (passed s e.message) e.from e.number all e.to e.message here
+  promising s (given.Lost number) all here = record { prepared = all; failed = tt; writes = tt }
+
+  about : (to : ℕ) (message : Message) → SiteTells decl B to message → IsAbout to message
+  about to (messages.Request tx epoch life want) never = tt
+  about to (messages.Answer asked answer) here = tt
+  about to (messages.Decision tx verdict) never = tt
+  about to (messages.Inquiry tx) here = here
+  about to (messages.Ask tx) never = tt
+  about to (messages.Close epoch) never = tt
+  about to (messages.Install epoch clock log) never = tt
+
+  -- one input
+  pub takes_ask : (s : SiteState) (g : Given) → HeldFor decl B s.held → PreparedFor s.prepared → GivenTells decl B g → SiteAsks (site_takes decl s g)
+  takes_ask s g held prepared here =
+      let a : Asks decl B (site_takes decl s g) = site_asks decl B s g held here in
+      let p : Promising (site_takes decl s g) = promising s g prepared here in
+      record {
+        held = a.held;
+        prepared = p.prepared;
+        turn = record {
+          sends = every-weaker (λ (q : Posting). SiteTells decl B q.to q.message) (λ (q : Posting). IsAbout q.to q.message) (λ q. about q.to q.message) (site_takes decl s g).turn.sends a.sends;
+          failed = p.failed;
+          writes = p.writes;
+        };
+      }
+
+  -- a rise
+
+  less : (ps : List Prepared) (tx : TxId) → PreparedFor ps → PreparedFor (without_prepared ps tx)
+  less ps tx all = every-filter (λ (p : Prepared). B p.tx) (λ (p : Prepared). not (same_tx p.tx tx)) ps all
+
+  kept_for : (k : Kept) (rs : List Record) → PreparedFor k.promises → Every PromisesFor rs → PreparedFor (fold keeps k rs).promises
+  kept_for k [] all puts = all
+  kept_for k (records.Life ∷ rs) all puts = kept_for (keeps k records.Life) rs all puts.1
+  kept_for k (records.Prepare p ∷ rs) all puts =
+      kept_for (keeps k (records.Prepare p)) rs (every-append (λ (q : Prepared). B q.tx) (without_prepared k.promises p.tx) (p ∷ []) (less k.promises p.tx all) (puts.0, tt)) puts.1
+  kept_for k (records.Done tx clock ∷ rs) all puts = kept_for (keeps k (records.Done tx clock)) rs (less k.promises tx all) puts.1
+  kept_for k (records.Close epoch ∷ rs) all puts = kept_for (keeps k (records.Close epoch)) rs all puts.1
+  kept_for k (records.Install epoch clock lines ∷ rs) all puts = kept_for (keeps k (records.Install epoch clock lines)) rs tt puts.1
+  kept_for k (records.Commit commit ∷ rs) all puts = kept_for k rs all puts.1
+  kept_for k (records.Decide epoch clock lines ∷ rs) all puts = kept_for k rs all puts.1
+
+  held_for : (held : List Held) (ps : List Prepared) → HeldFor decl B held → PreparedFor ps → HeldFor decl B (fold holds held ps)
+  held_for held [] all more = all
+  held_for held (p ∷ ps) all more = held_for (holds held p) ps (held-more decl B held p.tx p.locks p.own all more.0) more.1
+
+  asked_txs : (ps : List Prepared) → PreparedFor ps → Every B (map (λ (p : Prepared). p.tx) ps)
+  asked_txs [] all = tt
+  asked_txs (p ∷ ps) all = (all.0, asked_txs ps all.1)
+
+  asked_about : (txs : List TxId) → Every B txs → AreAbout (map (inquiry decl) txs)
+  asked_about [] all = tt
+  asked_about (tx ∷ txs) all = ((refl, all.0), asked_about txs all.1)
+
+  pub rises_ask : (site : ℕ) (rs : List Record) → Every PromisesFor rs → SiteAsks (site_rises decl site rs)
+  rises_ask site rs puts =
+      let whole : PreparedFor (kept_by (rs ++ records.Life ∷ [])).promises = kept_for nothing_kept (rs ++ records.Life ∷ []) tt (every-append PromisesFor rs (records.Life ∷ []) puts (tt, tt)) in
+      record {
+        held = held_for [] (kept_by (rs ++ records.Life ∷ [])).promises tt whole;
+        prepared = whole;
+        turn = record {
+          sends = asked_about (take most_inquiries (in_order (map (λ (p : Prepared). p.tx) (kept_by rs).promises)))
+              (first_every B most_inquiries (in_order (map (λ (p : Prepared). p.tx) (kept_by rs).promises)) (every-in_order B [] (map (λ (p : Prepared). p.tx) (kept_by rs).promises) tt (asked_txs (kept_by rs).promises (kept_for nothing_kept rs tt puts))));
+          failed = tt;
+          writes = (tt, tt);
+        };
+      }

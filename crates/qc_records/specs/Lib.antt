@@ -1,6 +1,0 @@
-pub mod Within
-pub mod Bounds
-pub mod Asked
-pub mod Books
-pub mod Written
-pub mod Wrong

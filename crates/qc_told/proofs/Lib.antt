@@ -1,4 +1,0 @@
-pub mod Posts
-pub mod Clients
-pub mod RunLaws
-pub mod Falling

@@ -1,0 +1,126 @@
+//! The run of a script, and how it ends.
+
+ghost use Rattle.std.specs.Prelude.{◌≡◌};
+ghost use Rattle.qc_due.specs.Whole.{IsWholeWithFalls};
+ghost use Rattle.qc_fabric.specs.Events.{before_last_event};
+ghost use Rattle.qc_fabric.specs.Limits.{IsBelow};
+ghost use Rattle.qc_node.specs.Ends.{HasEnded};
+ghost use Rattle.qc_node.specs.Rules.{fits_of};
+ghost use Rattle.qc_node.specs.declared.ends.DriveEnd.TheVariants.{Quiet};
+ghost use Rattle.qc_outside.specs.Causes.{Rose};
+ghost use Rattle.qc_report.specs.Causes.{status_of};
+ghost use Rattle.qc_text.specs.Text.{text_of};
+ghost use Rattle.qc_top.specs.Racks.{FillsPlaces, IsUsed, cause_of_rack};
+ghost use Rattle.qc_top.specs.Top.{IsEnd, IsFullCause, IsNoRack, IsNoShelf, IsRan, IsRunnable, LeavesRun};
+ghost use Rattle.qc_top.specs.Top.{OnPrinted, PrintsBetween};
+
+use crate::ended::{Ended, without_run};
+use crate::printing::print;
+use qc_decl::Declaration;
+use qc_msg::History;
+use qc_node::{DriveEnd, Job, Ran, run_script};
+use qc_outside::{Gate, Rack, RackFault, Sink};
+use qc_report::Cause;
+use qc_script::Script;
+use std::alloc::Global;
+use std::sync::Wait;
+use std::thread::Threads;
+
+/// Runs a script over the rack's disks, and prints the run.
+pub(crate) fn run<T, G, K, R>(
+    rt: &T,
+    alloc: Global,
+    job: &Job<'_, G>,
+    script: Script,
+    sink: &mut K,
+    rack: &mut R,
+) -> Ended
+where
+    T: Threads + Wait + Sync,
+    G: Gate + Sync,
+    K: Sink,
+    R: Rack,
+    requires runnable { IsRunnable job.now.decl.now script }
+    ensures leaves { LeavesRun job.now.decl.now script (K.taken sink.old) result.cause (K.taken sink.new)
+        result.history }
+    ensures rack { FillsPlaces job.now.decl.now (R.places rack.old) (R.places rack.new) result.history }
+    ensures used { IsUsed R.faults R.places rack.old rack.new result.cause result.history }
+    ensures status { result.status ≡ status_of result.cause }
+    ensures full { IsFullCause result.cause result.history }
+    ensures before { IsBelow (before_last_event result.history) }
+    ensures shelf { IsNoShelf result.cause }
+    ensures sink { result.cause ≡ Cause.Sink → Rose (K.faults sink.old) (K.faults sink.new) }
+{
+    match run_script(rt, alloc, job, script, rack) {
+        Ok(ran) => finish(alloc, job.decl, ran, sink),
+        Err(fault) => without_run(alloc, rack_cause(fault)),
+    }
+}
+
+/// The cause for a disk that wasn't given. Want of memory is no fault of the rack.
+fn rack_cause(fault: RackFault) -> Cause
+    ensures { result ≡ cause_of_rack fault }
+{
+    match fault {
+        RackFault::NotEmpty { .. } | RackFault::Failed { .. } => Cause::Rack(fault),
+        RackFault::OutOfMemory => Cause::OutOfMemory,
+    }
+}
+
+/// Prints a run that ended, where it came to the script's end.
+fn finish<K: Sink>(alloc: Global, decl: &Declaration, ran: Ran, sink: &mut K) -> Ended
+    requires runnable { IsRunnable decl.now ran.script }
+    requires ended { HasEnded decl.now ran.script ran.history ran.end }
+    ensures leaves { LeavesRun decl.now ran.script (K.taken sink.old) result.cause (K.taken sink.new)
+        result.history }
+    ensures history { result.history ≡ ran.history }
+    ensures status { result.status ≡ status_of result.cause }
+    ensures full { IsFullCause result.cause result.history }
+    ensures before { IsBelow (before_last_event result.history) }
+    ensures rack { IsNoRack result.cause }
+    ensures shelf { IsNoShelf result.cause }
+    ensures sink { result.cause ≡ Cause.Sink → Rose (K.faults sink.old) (K.faults sink.new) }
+{
+    let Ran {
+        script,
+        history,
+        end,
+    } = ran;
+    let cause = conclude(alloc, decl, &script, end, &history, sink);
+    Ended {
+        status: cause.status(),
+        cause,
+        history,
+    }
+}
+
+/// The cause of the end of a run, whose text is printed where the script came
+/// to its end.
+fn conclude<K: Sink>(
+    alloc: Global,
+    decl: &Declaration,
+    script: &Script,
+    end: DriveEnd,
+    history: &History,
+    sink: &mut K,
+) -> Cause
+    requires end { IsEnd end history.now }
+    requires whole { end ≡ Quiet → IsWholeWithFalls (fits_of decl.now) decl.now script.now history.now }
+    ensures full { IsFullCause result history.now }
+    ensures whole { OnPrinted result (IsWholeWithFalls (fits_of decl.now) decl.now script.now history.now) }
+    ensures text { PrintsBetween (text_of decl.now script.now history.now)
+        (K.taken sink.old) result (K.taken sink.new) }
+    ensures ran { IsRan result }
+    ensures rack { IsNoRack result }
+    ensures shelf { IsNoShelf result }
+    ensures sink { result ≡ Cause.Sink → Rose (K.faults sink.old) (K.faults sink.new) }
+{
+    match end {
+        DriveEnd::Quiet => print(alloc, decl, script, history, sink),
+        DriveEnd::Full(full) => Cause::Full {
+            what: full.what,
+            number: full.number,
+        },
+        DriveEnd::OutOfMemory => Cause::OutOfMemory,
+    }
+}

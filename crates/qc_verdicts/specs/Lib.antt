@@ -1,4 +1,0 @@
-pub mod Agreement
-pub mod Pending
-pub mod Recorded
-pub mod Wrong

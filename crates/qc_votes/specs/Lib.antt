@@ -1,0 +1,9 @@
+pub mod Votes
+pub mod Recorded
+pub mod Counted
+pub mod WrongHoldings
+pub mod Promised
+pub mod Ordered
+pub mod WrongPrecedence
+pub mod Replies
+pub mod Operations

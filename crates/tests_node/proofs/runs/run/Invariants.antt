@@ -1,6 +1,0 @@
-use Rattle.qc_pass.specs.Tokens.{table_of}
-use Rattle.tests_node.proofs.runs.run.Given as goal
-
--- the declaration and the script that were given, and the table that was just made
-abbrev pub ghosts-run_named : goal.ghosts-run_named
-ghosts-run_named g a = record { declaration = a.job.now.decl.now; script = a.script; table = table_of a.made.passes }

@@ -1,0 +1,68 @@
+#!/usr/bin/env python3
+"""Tells what `rt ci` reads for the lines of crates.txt, by crate.
+
+usage: readings.py [N]
+
+Before and after it proves a library, `rt ci` sums its sources and those of all crates below, each as often as there are
+ways to it over the lines of crates.txt. Printed are the N crates (else 20) for which most is read, with the number of
+those ways, and all that is read; then the crates that a line names and the crate's sources don't. A gigabyte takes 17
+to 36 processor seconds, of one thread at a time. Python 3.8 or later.
+"""
+import functools
+import os
+import re
+import sys
+
+TOP = os.path.dirname(os.path.dirname(os.path.abspath(__file__)))
+PARTS = "src", "specs", "proofs"
+
+
+def read_crates():
+    """Returns what crates.txt names of the repository's crates, behind each crate."""
+    found = {}
+    with open(f"{TOP}/crates.txt", encoding="utf-8") as it:
+        for line in it:
+            head, colon, rest = line.split("#")[0].partition(":")
+            if colon:
+                found[head.split()[0]] = rest.split()
+    return {name: [it for it in below if it in found] for name, below in found.items()}
+
+
+def texts(crate):
+    """Yields the text of each file of the crate's code, specs and proofs."""
+    for part in PARTS:
+        for at, _, files in os.walk(f"{TOP}/crates/{crate}/{part}"):
+            for file in files:
+                with open(f"{at}/{file}", encoding="utf-8") as it:
+                    yield it.read()
+
+
+def main(words):
+    below = read_crates()
+    sizes, unnamed = {}, {}
+    for crate in below:
+        all_texts = list(texts(crate))
+        sizes[crate] = sum(len(it.encode()) for it in all_texts)
+        said = set(re.findall(r"\w+", "\n".join(re.sub(r"(?m)^\s*(//|--).*$", "", it) for it in all_texts)))
+        unnamed[crate] = [it for it in below[crate] if it not in said]
+
+    @functools.lru_cache(None)
+    def ways(crate):
+        return 1 + sum(ways(it) for it in below[crate])
+
+    @functools.lru_cache(None)
+    def read(crate):
+        return sizes[crate] + sum(read(it) for it in below[crate])
+
+    # A program has no library, so it isn't summed.
+    libraries = [it for it in below if not os.path.isfile(f"{TOP}/crates/{it}/src/main.rt")]
+    for crate in sorted(libraries, key=read, reverse=True)[: int(words[0]) if words else 20]:
+        print(f"{crate:24} {ways(crate):8} ways, {2 * read(crate) / 1e9:7.2f} GB")
+    print(f"all: {sum(2 * read(it) for it in libraries) / 1e9:.1f} GB")
+    for crate, names in unnamed.items():
+        if names:
+            print(f"{crate} doesn't name: {' '.join(names)}")
+
+
+if __name__ == "__main__":
+    main(sys.argv[1:])
