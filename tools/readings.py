@@ -13,35 +13,17 @@ import os
 import re
 import sys
 
-TOP = os.path.dirname(os.path.dirname(os.path.abspath(__file__)))
-PARTS = "src", "specs", "proofs"
+sys.dont_write_bytecode = True
 
-
-def read_crates():
-    """Returns what crates.txt names of the repository's crates, behind each crate."""
-    found = {}
-    with open(f"{TOP}/crates.txt", encoding="utf-8") as it:
-        for line in it:
-            head, colon, rest = line.split("#")[0].partition(":")
-            if colon:
-                found[head.split()[0]] = rest.split()
-    return {name: [it for it in below if it in found] for name, below in found.items()}
-
-
-def texts(crate):
-    """Yields the text of each file of the crate's code, specs and proofs."""
-    for part in PARTS:
-        for at, _, files in os.walk(f"{TOP}/crates/{crate}/{part}"):
-            for file in files:
-                with open(f"{at}/{file}", encoding="utf-8") as it:
-                    yield it.read()
+import edits
 
 
 def main(words):
-    below = read_crates()
+    named = edits.read_crates()
+    below = {crate: [it for it in names if it in named] for crate, names in named.items()}
     sizes, unnamed = {}, {}
     for crate in below:
-        all_texts = list(texts(crate))
+        all_texts = [edits.text_of(file) for file in edits.sources(crate)]
         sizes[crate] = sum(len(it.encode()) for it in all_texts)
         said = set(re.findall(r"\w+", "\n".join(re.sub(r"(?m)^\s*(//|--).*$", "", it) for it in all_texts)))
         unnamed[crate] = [it for it in below[crate] if it not in said]
@@ -55,7 +37,7 @@ def main(words):
         return sizes[crate] + sum(read(it) for it in below[crate])
 
     # A program has no library, so it isn't summed.
-    libraries = [it for it in below if not os.path.isfile(f"{TOP}/crates/{it}/src/main.rt")]
+    libraries = [it for it in below if not os.path.isfile(f"{edits.TOP}/crates/{it}/src/main.rt")]
     for crate in sorted(libraries, key=read, reverse=True)[: int(words[0]) if words else 20]:
         print(f"{crate:24} {ways(crate):8} ways, {2 * read(crate) / 1e9:7.2f} GB")
     print(f"all: {sum(2 * read(it) for it in libraries) / 1e9:.1f} GB")
