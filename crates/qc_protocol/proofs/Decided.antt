@@ -50,10 +50,10 @@ spares_left : (tx : TxId) (m q : List Deed) → SparesUntilDone tx false (m ++ q
 spares_left tx m [] u = subst (λ (ds : List Deed). SparesUntilDone tx false ds) (append-nil m) u
 spares_left tx m (d ∷ q) u = spares_front tx m d q false u
 
-order : (a b : ℕ) → a < suc b → (a ≡ b) ⊎ (a < b)
+pub order : (a b : ℕ) → a < suc b → (a ≡ b) ⊎ (a < b)
 order a b l = elim (cases_eq a b) [ inl e ↦ inl e | inr ne ↦ inr (let n = ne in omega arith) ]
 
-suc_of : (n : ℕ) → 0 < n → (m : ℕ) × (n ≡ suc m)
+pub suc_of : (n : ℕ) → 0 < n → (m : ℕ) × (n ≡ suc m)
 suc_of zero l = absurd (omega arith)
 suc_of (suc m) l = (m, refl)
 
@@ -74,8 +74,9 @@ module _ (decl : Declaration) (accepted : IsAccepted decl) (acts : List Act) (ru
     pub later : List Deed
     pub within : (state acts).deeds g.site ≡ sn.before ++ later
 
-  past : (g : Granted) (c : CommitRecord) (sn : Snapshot) → In g (state acts).counted → (state acts).status g.tx ≡ Committed c → In sn (state acts).snapshots → sn.site ≡ g.site → epoch_from 1 sn.before ≡ g.epoch → IsPast g sn
-  past g c sn hg sg hs site epoch =
+  pub past : (g : Granted) (sn : Snapshot) → In g (state acts).counted → ((k : CountedLaw ((state acts).deeds g.site) ((state acts).life g.site) ((state acts).status g.tx) (state acts).votes g) → SparesUntilDone g.tx false k.post)
+      → In sn (state acts).snapshots → sn.site ≡ g.site → epoch_from 1 sn.before ≡ g.epoch → IsPast g sn
+  past g sn hg spares hs site epoch =
       let k = wl.counted g hg in
       let r = wl.snapped sn hs in
       let whole : (state acts).deeds g.site ≡ sn.before ++ r.0 = ap (state acts).deeds (sym site) ∙ r.1 in
@@ -86,7 +87,7 @@ module _ (decl : Declaration) (accepted : IsAccepted decl) (acts : List Act) (ru
       by k later whole (Within m b s) = record {
         since = m;
         is = b;
-        spared = spares_left g.tx m later (subst (λ (ds : List Deed). SparesUntilDone g.tx false ds) s (spared decl acts run g c hg sg k));
+        spared = spares_left g.tx m later (subst (λ (ds : List Deed). SparesUntilDone g.tx false ds) s (spares k));
         none = between g.before (Grants g.tx g.items g.view) m g.epoch (subst (λ (ds : List Deed). HasRisingEpochs 1 ds) b (rising-left sn.before later 1 (subst (λ (ds : List Deed). HasRisingEpochs 1 ds) whole (wl.rising g.site)))) tt
             (wl.facts g (wl.known g hg)).current (ap (epoch_from 1) (sym b) ∙ epoch);
         shut = sym (ap (λ (t : Bool). shut_from t m) (wl.facts g (wl.known g hg)).unshut) ∙ sym (shut-append g.before (Grants g.tx g.items g.view ∷ m) false) ∙ ap (shut_from false) (sym b) ∙ (wl.answers sn hs).shut;
@@ -102,7 +103,7 @@ module _ (decl : Declaration) (accepted : IsAccepted decl) (acts : List Act) (ru
           absurd (let never : ⊥ = cc in never)
 
   -- it has it prepared, or its Done
-  tells : (g : Granted) (sn : Snapshot) (item : Item) → In g (state acts).counted → In item g.items → (p : IsPast g sn) → IsPreparedWith g.tx item (site_after sn.before) ⊎ HasDone g.tx false p.since
+  pub tells : (g : Granted) (sn : Snapshot) (item : Item) → In g (state acts).counted → In item g.items → (p : IsPast g sn) → IsPreparedWith g.tx item (site_after sn.before) ⊎ HasDone g.tx false p.since
   tells g sn item hg hi p =
       let eq : site_after sn.before ≡ site_from (after_deed (site_after g.before) (Grants g.tx g.items g.view)) p.since = ap site_after p.is ∙ after_append g.before (Grants g.tx g.items g.view ∷ p.since) empty_site in
       elim (prepared_or_done p.since g.tx item (after_deed (site_after g.before) (Grants g.tx g.items g.view)) (holds_granted g item (wl.counted g hg).fresh hi) p.spared p.none p.shut) [
@@ -194,7 +195,7 @@ module _ (decl : Declaration) (accepted : IsAccepted decl) (acts : List Act) (ru
                 let ge : g.grant.epoch ≡ m = wl.counts_epoch g.grant g.counts ∙ ap (state acts).epoch g.its ∙ now in
                 let same : suc (epoch_from 1 sn.0.before) ≡ suc m = sym se.1 ∙ is in
                 let at_epoch : epoch_from 1 sn.0.before ≡ m = (omega arith) in
-                let p = past g.grant c sn.0 g.counts sg se.0 (sn.2 ∙ sym g.from) (at_epoch ∙ sym ge) in
+                let p = past g.grant sn.0 g.counts (spared decl acts run g.grant c g.counts sg) se.0 (sn.2 ∙ sym g.from) (at_epoch ∙ sym ge) in
                 elim (tells g.grant sn.0 (Own (own_line a)) g.counts g.has p) [
                   | inl t ↦ (verdict u c d t.by su (t.its ∙ g.its) ((wl.made d hd).resolved sn.0 t.by sn.1 t.stands)).0 (own_line a) t.has
                   | inr done_ ↦
@@ -242,7 +243,7 @@ module _ (decl : Declaration) (accepted : IsAccepted decl) (acts : List Act) (ru
                 let ge : g.grant.epoch ≡ m = wl.counts_epoch g.grant g.counts ∙ ap (state acts).epoch g.its ∙ now in
                 let same : suc (epoch_from 1 sn.0.before) ≡ suc m = sym se.1 ∙ is in
                 let at_epoch : epoch_from 1 sn.0.before ≡ m = (omega arith) in
-                let p = past g.grant c sn.0 g.counts sg se.0 (sn.2 ∙ sym g.from) (at_epoch ∙ sym ge) in
+                let p = past g.grant sn.0 g.counts (spared decl acts run g.grant c g.counts sg) se.0 (sn.2 ∙ sym g.from) (at_epoch ∙ sym ge) in
                 elim (tells g.grant sn.0 (Lock (read_lock b.op)) g.counts g.has p) [
                   | inl t ↦ (verdict v c d t.by sv (t.its ∙ g.its) ((wl.made d hd).resolved sn.0 t.by sn.1 t.stands)).1
                   | inr done_ ↦
