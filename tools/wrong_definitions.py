@@ -3,9 +3,9 @@
 
 usage: wrong_definitions.py [WORD..]
 
-With words only the edits whose names have one of them are tried. Nothing of the tree is changed: qc_epoch, qc_recover
-and qc_net are copied, with what was kept of them, beside the crates below, which have to be built, as `rt check` in
-crates/qc_net leaves them. An edit takes half a minute to two. The status is 0 where each is refused, 1 where one
+With words only the edits whose names have one of them are tried. Nothing of the tree is changed: qc_site, qc_epoch,
+qc_recover and qc_net are copied, with what was kept of them, beside the crates below, which have to be built, as
+`rt check` in crates/qc_net leaves them. An edit takes half a minute to two. The status is 0 where each is refused, 1 where one
 isn't, no longer applies, or isn't a definition any more. Python 3.8 or later.
 """
 import os
@@ -15,17 +15,19 @@ import sys
 import tempfile
 
 TOP = os.path.dirname(os.path.dirname(os.path.abspath(__file__)))
-COPIED = "qc_epoch", "qc_recover", "qc_net"
+COPIED = "qc_site", "qc_epoch", "qc_recover", "qc_net"
 
 SITES = "qc_recover/specs/Sites.antt"
 CLIENTS = "qc_recover/specs/Clients.antt"
 ADMINS = "qc_recover/specs/Admins.antt"
-ROWS = "qc_epoch/specs/SiteRows.antt"
+SITE = "qc_site/specs/Site.antt"
+ROWS = "qc_site/specs/Epochs.antt"
 CONDUCT = "qc_epoch/specs/Conduct.antt"
 NET = "qc_net/specs/Net.antt"
 
 CLOSE = "keeps k (records.Close epoch) = record k { life = k.life + 1; closed_for = Some epoch }"
 INSTALL_CLOCK = "clock = max (latest k.clock lines) clock;"
+INSTALL_LINES = "      began = lines;\n      lines = [];"
 INSTALL_EPOCH = "      epoch = epoch;\n      closed_for = None;"
 RISE = "    let records : List Record = net.records a ++ option_to_list back in\n    record {\n      mail = net.mail ++"
 
@@ -43,7 +45,10 @@ EDITS = [
     ("a site that rises forgets its promises", SITES, "prepared = k.promises;\n      clock", "prepared = [];\n      clock"),
     ("a site rises with clock 0", SITES, "      clock = k.clock;\n    }", "      clock = 0;\n    }"),
     ("a Prepare records no lines", SITES, "lines = union k.lines p.lines;", "lines = k.lines;"),
-    ("a Done gives no lines", SITES, "lines = union k.lines (done_lines k.prepares tx clock);", "lines = k.lines;"),
+    ("a site rises without the lines that its epoch began with", SITES, "      began = k.began;\n      log = k.lines;",
+     "      began = [];\n      log = k.lines;"),
+    ("a Done gives no lines", SITES, "lines = union k.lines (without (done_lines k.prepares tx clock) k.began);",
+     "lines = k.lines;"),
     ("a Done leaves the promise", SITES, "promises = without_prepared k.promises tx;", "promises = k.promises;"),
     ("a Close record begins no life", SITES, CLOSE, CLOSE.replace("life = k.life + 1; ", "")),
     ("a Close record is forgotten", SITES, CLOSE, CLOSE.replace("; closed_for = Some epoch", "")),
@@ -51,7 +56,8 @@ EDITS = [
     ("an Install record is of the next epoch", SITES, INSTALL_EPOCH, INSTALL_EPOCH.replace("= epoch", "= k.epoch + 1")),
     ("an Install record leaves the promises", SITES, "      prepares = [];\n      promises = [];\n      clock = max",
      "      prepares = k.prepares;\n      promises = k.promises;\n      clock = max"),
-    ("an Install record joins the log", SITES, "      lines = lines;", "      lines = union k.lines lines;"),
+    ("an Install record gives no lines", SITES, INSTALL_LINES, INSTALL_LINES.replace("began = lines", "began = []")),
+    ("an Install record leaves the lines", SITES, INSTALL_LINES, INSTALL_LINES.replace("[]", "k.lines")),
     ("an Install record's own clock is forgotten", SITES, INSTALL_CLOCK, "clock = latest k.clock lines;"),
     ("an Install record's clock forgets the one before", SITES, INSTALL_CLOCK, "clock = max (latest 0 lines) clock;"),
     # the administrator's
@@ -63,19 +69,25 @@ EDITS = [
     # turns, falls and rises
     ("Installs are sent though the decision isn't written", CONDUCT, "failed_sends = [];\n      failed_told = Some",
      "failed_sends = install_sends decl d;\n      failed_told = Some"),
-    ("Shut is told though the Close isn't written", ROWS, "failed_sends = answering from number Fault",
+    ("Shut is told though the Close isn't written", SITE, "failed_sends = answering from number Fault",
      "failed_sends = answering from number answer"),
     ("a site that closes begins no life", ROWS, "record s { life = s.life + 1; closed_for", "record s { closed_for"),
+    ("a closed site tells the lines since alone", ROWS, "Shut s.clock (known s)", "Shut s.clock s.log"),
+    ("a site that installs leaves its lines", ROWS, "      log = [];", "      log = s.log;"),
+    ("a site that installs takes no lines", ROWS, "      began = lines;", "      began = [];"),
     ("a rise may lose all records", NET, RISE, RISE.replace("net.records a ++ ", "")),
     ("a turn that isn't written sends its messages", NET, "(sends ≡ turn.failed_sends) ⊎", "(sends ≡ turn.sends) ⊎"),
 ]
 
 
 def below():
-    """Returns the lines of crates.txt for qc_net and the repository's crates that it stands on, by crate."""
+    """Returns the lines of crates.txt for qc_net and all crates of the repository that it stands on, by crate."""
     with open(f"{TOP}/crates.txt", encoding="utf-8") as it:
         lines = {line.split(":")[0].split()[0]: line for line in it if ":" in line.split("#")[0]}
-    wanted = {"qc_net", *lines["qc_net"].partition(":")[2].split()}
+    wanted, new = set(), {"qc_net"}
+    while new:
+        wanted |= new
+        new = {name for crate in new for name in lines[crate].partition(":")[2].split() if name in lines} - wanted
     return {name: line for name, line in lines.items() if name in wanted}
 
 
@@ -99,12 +111,13 @@ def copy_to(folder):
 
 
 def tried(folder):
-    """Returns how a check of qc_net ends: proved, refused, or what is wrong with the definitions themselves."""
+    """Returns how a check of qc_net ends: proved, refused, refused by a crate below, or why it is no definition."""
     ran = subprocess.run(["rt", "check", "--jobs", "1"], cwd=f"{folder}/crates/qc_net", stdin=subprocess.DEVNULL,
                          capture_output=True, text=True)
     said = ran.stdout + ran.stderr
     if "crate qc_net:" not in said:
-        return "not a definition"
+        own = "logic=not-proved" in said and "./specs/" not in said
+        return "refused below" if own else "not a definition"
     return "PROVED" if "logic=proved" in said.split("crate qc_net:")[1] else "refused"
 
 
@@ -136,7 +149,7 @@ def main(words):
             raise SystemExit("wrong_definitions: qc_net isn't proved as it stands")
         for label, file, old, new in wanted:
             end = outcome(folder, file, old, new)
-            wrong += end != "refused"
+            wrong += end not in ("refused", "refused below")
             print(f"{end}: {label}", flush=True)
     print(f"{len(wanted) - wrong} refused, {wrong} not")
     return 1 if wrong or not wanted else 0

@@ -104,9 +104,18 @@ def module(head, decl, history, schedule=None, imports=IMPORTS):
     if decl is not None:
         body += "abbrev pub decl : Declaration\ndecl =\n%s\n\n" % "\n".join(broken(declaration(decl)))
     body += "abbrev pub moves : List Move\nmoves =\n%s\n\n" % filled(schedule or moves(history), "[]")
-    entries = ["marked %d %s" % (actor, step(x)) for actor, x in history]
-    body += "abbrev pub history : List Entry\nhistory =\n%s\n" % filled(entries, "[]")
-    used = words_of(body)
+    return headed(head, body + entries("history", history), imports)
+
+
+def entries(name, history):
+    """A history as a definition."""
+    items = ["marked %d %s" % (actor, step(x)) for actor, x in history]
+    return "abbrev pub %s : List Entry\n%s =\n%s\n" % (name, name, filled(items, "[]"))
+
+
+def headed(head, body, imports):
+    """A module: its head comment, the names that its body uses, the body."""
+    used = words_of("\n".join(text for text in body.split("\n") if not text.startswith("--")))
     out = "".join("-- %s\n" % text for text in textwrap.wrap(head, COLUMNS - 3))
     for where, names in imports:
         names = [n for n in names if n in used or n == "◌∷◌"]

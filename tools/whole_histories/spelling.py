@@ -48,6 +48,16 @@ def outcome(verdict):
     return term("outcomes.Committed", stamp(verdict[1])) if verdict[0] == "Committed" else "outcomes." + verdict[0]
 
 
+def promise(p):
+    """What a Prepare holds."""
+    locks = listed("read_lock %d %d" % lock for lock in p.locks)
+    return tx(p.tx), p.epoch, locks, listed(map(own_line, p.own)), listed(map(line, p.lines))
+
+
+def prepared(p):
+    return "prepared %s %d %s %s %s" % promise(p)
+
+
 def answer(a):
     fields = {
         "Granted": lambda: (a.life, a.clock, listed(map(line, a.log))),
@@ -58,6 +68,9 @@ def answer(a):
         "Stale": tuple,
         "Fault": tuple,
         "Yes": lambda: (a.clock,),
+        "Shut": lambda: (a.clock, listed(map(line, a.log)), listed(map(prepared, a.prepared))),
+        "Installed": tuple,
+        "Answered": lambda: (outcome(a.verdict),),
     }[kind(a)]()
     return term("answers." + kind(a), *fields)
 
@@ -77,11 +90,23 @@ def message(q):
         return term("messages.Decision", tx(q.tx), outcome(q.verdict))
     if kind(q) == "Inquiry":
         return term("messages.Inquiry", tx(q.tx))
+    if kind(q) == "Ask":
+        return term("messages.Ask", tx(q.tx))
+    if kind(q) == "Close":
+        return term("messages.Close", q.epoch)
+    if kind(q) == "Install":
+        return term("messages.Install", q.epoch, q.clock, listed(map(line, q.log)))
     return term("messages.Answer", q.to, answer(q))
 
 
 def command(c):
-    return term("commands.Do", c.object, c.inv) if kind(c) == "Do" else "commands." + kind(c)
+    fields = {"Do": lambda: (c.object, c.inv), "Epoch": lambda: (c.number,)}.get(kind(c), tuple)()
+    return term("commands." + kind(c), *fields)
+
+
+def site_set(sites):
+    """Sites as a set: site k is bit k."""
+    return sum(1 << site for site in sites)
 
 
 def reply(q):
@@ -94,8 +119,11 @@ def reply(q):
         "Quorum": lambda: ("halves." + q.half, q.got, q.need),
         "Committed": lambda: (stamp(q.stamp),),
         "Aborted": lambda: (term("causes." + q.why[0], *q.why[1:]),),
+        "Order": lambda: (q.current,),
+        "InDoubt": lambda: (tx(q.tx), q.site),
+        "Moved": lambda: (site_set(q.closed), site_set(q.installed)),
         "NoTransaction": tuple, "Doomed": tuple, "TooLong": tuple, "Absent": tuple, "Dropped": tuple,
-        "Down": tuple, "Unknown": tuple,
+        "Down": tuple, "Unknown": tuple, "Fault": tuple,
     }[kind(q)]()
     return term("replies." + kind(q), *fields)
 
@@ -104,11 +132,13 @@ def record(x):
     if kind(x) == "Life":
         return "records.Life"
     if kind(x) == "Prepare":
-        p = x.prepared
-        locks = listed("read_lock %d %d" % lock for lock in p.locks)
-        return term("prepare", tx(p.tx), p.epoch, locks, listed(map(own_line, p.own)), listed(map(line, p.lines)))
+        return term("prepare", *promise(x.prepared))
     if kind(x) == "Done":
         return term("records.Done", tx(x.tx), x.clock)
+    if kind(x) == "Close":
+        return term("records.Close", x.epoch)
+    if kind(x) in ("Install", "Decide"):
+        return term("records." + kind(x), x.epoch, x.clock, listed(map(line, x.lines)))
     return term("commit", stamp(x.stamp), tx(x.tx), listed(map(operation, x.ops)))
 
 

@@ -30,7 +30,7 @@ use Rattle.qc_epoch.specs.Admin.{Admin, Decided, Doing, Question, Resting, Closi
 use Rattle.qc_epoch.specs.Answers.{outcome_in, standing_of, taken_for, with_installed, with_shut_of}
 use Rattle.qc_epoch.specs.Conduct.{admin_takes, again, answered_in, ask_of, asks, called, close_need, close_round, close_round_by, closes, closes_by, closing_takes, decide_turn, decides, doing, goes_on, heard, install_sends, installing, installing_takes, moves_to, replies_with, settles, settles_by, site_set}
 use Rattle.qc_epoch.specs.Deciding.{all_taken, decision, first_doubt, in_asked_order, most_asks, questions_of}
-use Rattle.qc_epoch.specs.SiteRows.{epoch_length}
+use Rattle.qc_msg.specs.Lengths.{epoch_length}
 use Rattle.qc_admin.specs.Holds.{AdminHolds, DoingHolds, IsNumberedAtOnce}
 use Rattle.qc_admin.proofs.Numbered.{all_unasked, asking_new, asks_new, asks_on, installs_new, taken_asked, unsent}
 

@@ -25,7 +25,7 @@ use Rattle.qc_epoch.specs.Admin.{Admin, Decided, Doing, Question, Resting, Closi
 use Rattle.qc_epoch.specs.Answers.{outcome_in, standing_of, taken_for, with_installed, with_shut_of}
 use Rattle.qc_epoch.specs.Conduct.{again, all_sites, answered_in, ask_of, asking_takes, asks, called, close_round, closes, closes_by, closing_takes, decide_turn, decides, doing, heard, installing, installing_takes, moves_to, replies_with, settles, settles_by, site_set, admin_takes}
 use Rattle.qc_epoch.specs.Deciding.{all_taken, decision, first_doubt, in_asked_order, most_asks, questions_of}
-use Rattle.qc_epoch.specs.SiteRows.{epoch_length}
+use Rattle.qc_msg.specs.Lengths.{epoch_length}
 use Rattle.qc_admin.specs.Fits.{AdminFits, AnswerFits, AreSites, DoingFits, GivenFits, InstallsFit, MessageFits, ShutsFit, sites_in}
 use Rattle.qc_admin.specs.Sent.{numbered, sent}
 use Rattle.qc_admin.proofs.Bits.{last_bit, taken_bit}

@@ -28,7 +28,7 @@ use Rattle.qc_epoch.specs.Admin.{Admin, Decided, Doing, Question, Resting, Closi
 use Rattle.qc_epoch.specs.Answers.{outcome_in, standing_of, taken_for, with_installed, with_shut_of}
 use Rattle.qc_epoch.specs.Conduct.{admin_takes, again, all_sites, answered_in, ask_of, asks, called, close_of, close_round, closes, closes_by, closing_takes, decide_turn, decides, doing, goes_on, heard, install_of, installing, installing_takes, moves_to, replies_with, settles, settles_by, site_set}
 use Rattle.qc_epoch.specs.Deciding.{all_taken, decision, first_doubt, in_asked_order, most_asks, questions_of}
-use Rattle.qc_epoch.specs.SiteRows.{epoch_length}
+use Rattle.qc_msg.specs.Lengths.{epoch_length}
 use Rattle.qc_admin.specs.Fits.{AdminFits, AnswerFits, AreSites, DoingFits, GivenFits, GoesToActors, MessageFits, ShutsFit, sites_in}
 use Rattle.qc_admin.proofs.Bits.{below_16, both_sets, first_bit}
 use Rattle.qc_admin.proofs.Moves.{last_fits, ordered_fit, shut_last}

@@ -3,7 +3,7 @@
 ghost use Rattle.std.specs.Prelude.{◌≡◌, nat_le, IfOk, map};
 ghost use Rattle.qc_decl.specs.Limits.{most_record_bytes};
 ghost use Rattle.qc_epoch.specs.Conduct.{install_of};
-ghost use Rattle.qc_epoch.specs.SiteRows.{epoch_length};
+ghost use Rattle.qc_msg.specs.Lengths.{epoch_length};
 
 use qc_decl::MOST_RECORD_BYTES;
 use qc_entry::Log;

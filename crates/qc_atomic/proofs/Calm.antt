@@ -1,24 +1,22 @@
 -- Nets in which nobody falls and no epoch is closed, as those of all runs are yet: each actor is up, and each site is in
 -- its first life and epoch.
 use Rattle.std.specs.Prelude.{◌≡◌, ℕ, true, refl}
-use Rattle.std.proofs.Common.{subst}
 use Rattle.qc_decl.specs.declared.declaration.Declaration.{Declaration}
 use Rattle.qc_decl.specs.Actors.{is_client, is_site}
 use Rattle.qc_msg.specs.declared.step.Given.{Given}
-use Rattle.qc_epoch.specs.SiteRows.{takes as takes_with_epochs}
 use Rattle.qc_client.specs.Conduct.{client_takes}
 use Rattle.qc_site.specs.Conduct.{site_takes}
-use Rattle.qc_site.specs.Site.{IsAtFirst, SiteMove, SiteState}
-use Rattle.qc_site.proofs.Rows.{at_first}
+use Rattle.qc_site.specs.Site.{SiteState}
 use Rattle.qc_net.specs.Net.{MayCome, MayCommand, Net, Reaches, after_client, after_site, first_net}
 use Rattle.qc_net.specs.Net as nets
 use Rattle.qc_net.proofs.Machine.{put_one}
+use Rattle.qc_atomic.proofs.FirstSites.{IsAtFirst, IsCalmGiven, at_first}
 
--- a site takes each input by its rules for one epoch
+-- a site takes neither a Close nor an Install
 pub data IsCalm (decl : Declaration) : Net → Type 0 where
   begins : IsCalm decl (first_net decl)
   serves : (a : ℕ) (given : Given) (net : Net) → IsCalm decl net → is_site decl a ≡ true → MayCome net a given
-      → takes_with_epochs decl (net.sites a) given ≡ site_takes decl (net.sites a) given
+      → IsCalmGiven given
       → IsCalm decl (after_site net a (site_takes decl (net.sites a) given))
   takes : (a : ℕ) (given : Given) (net : Net) → IsCalm decl net → is_client decl a ≡ true → MayCome net a given
       → MayCommand decl (net.clients a) given → IsCalm decl (after_client net a (client_takes decl (net.clients a) given))
@@ -26,17 +24,17 @@ pub data IsCalm (decl : Declaration) : Net → Type 0 where
 module _ (decl : Declaration) where
   pub all_up : (net : Net) → IsCalm decl net → (b : ℕ) → net.up b ≡ true
   all_up net begins b = refl
-  all_up net (serves a given before calm site came same) b = all_up before calm b
+  all_up net (serves a given before calm site came still) b = all_up before calm b
   all_up net (takes a given before calm client came may) b = all_up before calm b
 
   pub all_first : (net : Net) → IsCalm decl net → (b : ℕ) → IsAtFirst b (net.sites b)
   all_first net begins b = record { number_is = refl; life_is = refl; epoch_is = refl; is_open = refl }
-  all_first net (serves a given before calm site came same) b =
-      put_one (λ k (s : SiteState). IsAtFirst k s) before.sites a (site_takes decl (before.sites a) given).site b (at_first a decl (before.sites a) given (all_first before calm a)) (λ other. all_first before calm b)
+  all_first net (serves a given before calm site came still) b =
+      put_one (λ k (s : SiteState). IsAtFirst k s) before.sites a (site_takes decl (before.sites a) given).site b (at_first decl a (before.sites a) given still (all_first before calm a)) (λ other. all_first before calm b)
   all_first net (takes a given before calm client came may) b = all_first before calm b
 
   pub is_reached : (net : Net) → IsCalm decl net → Reaches decl net
   is_reached net begins = nets.begins
-  is_reached net (serves a given before calm site came same) =
-      subst (λ (m : SiteMove). Reaches decl (after_site before a m)) same (nets.serves a given before (is_reached before calm) site (all_up before calm a) came)
+  is_reached net (serves a given before calm site came still) =
+      nets.serves a given before (is_reached before calm) site (all_up before calm a) came
   is_reached net (takes a given before calm client came may) = nets.takes a given before (is_reached before calm) client (all_up before calm a) came may

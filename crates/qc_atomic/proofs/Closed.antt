@@ -22,6 +22,7 @@ use Rattle.qc_net.specs.Messages.{Backed}
 use Rattle.qc_net.specs.Mirrors.{Refines}
 use Rattle.qc_net.specs.Net.{Net, Reaches}
 use Rattle.qc_net.specs.Sites.{SiteMirrors}
+use Rattle.qc_site.specs.Site.{known}
 use Rattle.qc_net.proofs.Refining.{refines}
 
 module _ (decl : Declaration) (accepted : IsAccepted decl) (net : Net) (reached : Reaches decl net) where
@@ -31,7 +32,7 @@ module _ (decl : Declaration) (accepted : IsAccepted decl) (net : Net) (reached 
   machine_logged : (l : Line) → IsLogged decl net.written l → IsLogged decl (state mirrored.acts).records l
   machine_logged l k = record { commit = k.commit; listed = mirrored.agrees.records k.commit k.listed; stamped = k.stamped; named = k.named; operation = k.operation }
 
-  pub site_closed : (a : ℕ) → is_site decl a ≡ true → net.up a ≡ true → IsClosedLog decl net.written (net.sites a).log
+  pub site_closed : (a : ℕ) → is_site decl a ≡ true → net.up a ≡ true → IsClosedLog decl net.written (known (net.sites a))
   site_closed a site up l m among committed same before depends =
       let s : SiteMirrors decl (net.sites a) ((state mirrored.acts).deeds a) ((state mirrored.acts).life a) = mirrored.agrees.sites a site up in
       s.log m (claims.logs_are_closed decl accepted mirrored.acts mirrored.run (site_after ((state mirrored.acts).deeds a)).volatile (OfSite a refl) l m (s.logged l among) (machine_logged m committed) same before depends)

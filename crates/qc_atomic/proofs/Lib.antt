@@ -2,6 +2,7 @@ pub mod Silent
 pub mod Posted
 pub mod Names
 pub mod Asked
+pub mod FirstSites
 pub mod Calm
 pub mod CalmGrants
 pub mod Stood

@@ -22,7 +22,7 @@ use Rattle.qc_script.specs.Runs.{Runs}
 use Rattle.qc_script.specs.Sound.{IsScriptFor}
 use Rattle.qc_script.specs.declared.script.Script.{Script}
 use Rattle.qc_site.specs.Conduct.{site_after}
-use Rattle.qc_site.specs.Site.{SiteState}
+use Rattle.qc_site.specs.Site.{SiteState, known}
 use Rattle.qc_stamp.specs.declared.stamp.TxId.{TxId}
 use Rattle.qc_net.specs.Lines.{IsTrueVerdict, lines_in}
 use Rattle.qc_net.proofs.NetLaws as nets
@@ -52,10 +52,10 @@ module _ (decl : Declaration) (script : Script) (h : List Entry) (open_inputs : 
   pub apart : AreApart (written h)
   apart = subst AreApart net_of.written_is (nets.apart decl accepted net_of.net net_of.reached)
 
-  pub site_lines : (a : ℕ) (line : Line) → is_site decl a ≡ true → slice_get open_inputs a ≡ Some false → In line (site_after decl a (deeds a [] h)).site.log → IsLogged decl (written h) line
+  pub site_lines : (a : ℕ) (line : Line) → is_site decl a ≡ true → slice_get open_inputs a ≡ Some false → In line (known (site_after decl a (deeds a [] h)).site) → IsLogged decl (written h) line
   site_lines a line site closed among =
       subst (λ (cs : List CommitRecord). IsLogged decl cs line) stood.written_is
-      (nets.site_lines decl accepted stood.net (is_reached decl stood.net stood.calm) a line site (all_up decl stood.net stood.calm a) (subst (λ (s : SiteState). In line s.log) (sym ((stood.sites_are a site).closed closed)) among))
+      (nets.site_lines decl accepted stood.net (is_reached decl stood.net stood.calm) a line site (all_up decl stood.net stood.calm a) (subst (λ (s : SiteState). In line (known s)) (sym ((stood.sites_are a site).closed closed)) among))
 
   pub message_lines : (e : Envelope) (line : Line) → In e (mail h) → In line (lines_in e.message) → IsLogged decl (written h) line
   message_lines e line sent among =
@@ -67,10 +67,10 @@ module _ (decl : Declaration) (script : Script) (h : List Entry) (open_inputs : 
       subst (λ (cs : List CommitRecord). IsTrueVerdict cs tx verdict) net_of.written_is
       (nets.decisions_agree decl accepted net_of.net net_of.reached e tx verdict (subst (λ (ms : List Envelope). In e ms) (sym net_of.mail_is) sent) is)
 
-  pub site_closed : (a : ℕ) → is_site decl a ≡ true → slice_get open_inputs a ≡ Some false → IsClosedLog decl (written h) (site_after decl a (deeds a [] h)).site.log
+  pub site_closed : (a : ℕ) → is_site decl a ≡ true → slice_get open_inputs a ≡ Some false → IsClosedLog decl (written h) (known (site_after decl a (deeds a [] h)).site)
   site_closed a site closed =
-      subst (λ (cs : List CommitRecord). IsClosedLog decl cs (site_after decl a (deeds a [] h)).site.log) stood.written_is
-      (subst (λ (s : SiteState). IsClosedLog decl stood.net.written s.log) ((stood.sites_are a site).closed closed) (closed_logs.site_closed decl accepted stood.net (is_reached decl stood.net stood.calm) a site (all_up decl stood.net stood.calm a)))
+      subst (λ (cs : List CommitRecord). IsClosedLog decl cs (known (site_after decl a (deeds a [] h)).site)) stood.written_is
+      (subst (λ (s : SiteState). IsClosedLog decl stood.net.written (known s)) ((stood.sites_are a site).closed closed) (closed_logs.site_closed decl accepted stood.net (is_reached decl stood.net stood.calm) a site (all_up decl stood.net stood.calm a)))
 
   pub view_closed : (e : Envelope) (tx : TxId) (epoch life object : ℕ) (view : List Line) (own : List OwnLine) → In e (mail h) → e.message ≡ Request tx epoch life (Append object view own) → IsClosedLog decl (written h) view
   view_closed e tx epoch life object view own sent is =

@@ -54,7 +54,7 @@ use Rattle.qc_atomic.proofs.Calm as calm
 use Rattle.qc_atomic.proofs.Names.{script_named}
 use Rattle.qc_atomic.proofs.Posted.{client_posted, control_writes, site_posted, site_taken, taken_writes, written_posted, written_same}
 use Rattle.qc_atomic.proofs.Silent.{site_silent}
-use Rattle.qc_atomic.proofs.Stood.{ClientStands, OpenClient, OpenSite, SiteStands, Stood, apart, both, client_stays, false_true, may_come, not_now, site_stays, slot_other, takes_so, true_false}
+use Rattle.qc_atomic.proofs.Stood.{ClientStands, OpenClient, OpenSite, SiteStands, Stood, apart, both, client_stays, false_true, may_come, not_now, site_stays, sent_calm, slot_other, true_false}
 use Rattle.qc_laws.proofs.Up.{run_up}
 
 module _ (decl : Declaration) (script : Script) (accepted : IsAccepted decl) (sound : IsScriptFor decl script) where
@@ -175,7 +175,7 @@ module _ (decl : Declaration) (script : Script) (accepted : IsAccepted decl) (so
         stands_served = record {
           net = after_site old.net a move;
           calm = calm.serves a x.given old.net old.calm site (may_come old.net a x.given (subst (λ (ms : List Envelope). WasSentTo a ms x.given) (sym old.mail_is) x.sent))
-              (takes_so decl (old.net.sites a) a (mail h) x.given (run_proper decl script accepted (asks_declared decl script accepted sound) h open_inputs run) x.sent);
+              (sent_calm decl a (mail h) x.given (run_proper decl script accepted (asks_declared decl script accepted sound) h open_inputs run) x.sent);
           mail_is = mail_after move.turn.sends (ap (λ (t : Turn). t.sends) turn_is);
           written_is = old.written_is ∙ sym (written_posted h a (length (mail h)) turn ∙ ap (λ (cs : List CommitRecord). written h ++ cs) (ap (λ (t : Turn). commits_in t.write) (sym turn_is) ∙ site_silent decl (old.net.sites a) x.given) ∙ append-nil (written h));
           sites_are = λ b is. put_one (λ k (s : SiteState). SiteStands decl s k now_posted (slice_get (slice_set open_inputs a false) k)) old.net.sites a move.site b here (λ other. site_elsewhere b is (differs b other));

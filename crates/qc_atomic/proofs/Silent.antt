@@ -18,6 +18,7 @@ use Rattle.qc_msg.specs.declared.message.Want.TheVariants.{Read, Append, Prepare
 use Rattle.qc_msg.specs.declared.step.Given.{Given}
 use Rattle.qc_msg.specs.declared.step.Given.TheVariants as given
 use Rattle.qc_msg.specs.Turns.{quiet}
+use Rattle.qc_site.proofs.Cases.{close_rows, install_rows}
 use Rattle.qc_site.specs.Conduct.{passed, site_at, site_takes}
 use Rattle.qc_site.specs.Promise.{is_prepared, joins, prepare_length, prepared_of, promise_of, promised, votes, finishes}
 use Rattle.qc_site.specs.Requests.{appends_by, fault_of, grants, names_declared, reads_by, relation_at, requested}
@@ -67,8 +68,8 @@ at_silent decl s from number (messages.Answer to answer) = refl
 at_silent decl s from number (messages.Decision tx verdict) = finishes_silent s tx verdict
 at_silent decl s from number (messages.Inquiry tx) = refl
 at_silent decl s from number (messages.Ask tx) = refl
-at_silent decl s from number (messages.Close epoch) = refl
-at_silent decl s from number (messages.Install epoch clock log) = refl
+at_silent decl s from number (messages.Close k) = close_rows Silent s from number k refl refl refl refl
+at_silent decl s from number (messages.Install k clock lines) = install_rows Silent s from number k clock lines refl refl refl
 
 pub site_silent : (decl : Declaration) (s : SiteState) (g : Given) → commits_in (site_takes decl s g).turn.write ≡ []
 site_silent decl s (given.Called command) = refl

@@ -17,8 +17,7 @@ use Rattle.qc_msg.specs.Deeds.{Deed, WasSentTo, deeds, mail}
 use Rattle.qc_msg.specs.Steps.{Entry}
 use Rattle.qc_client.specs.Conduct.{client_after, client_takes}
 use Rattle.qc_client.specs.declared.client.Client.{Client}
-use Rattle.qc_epoch.specs.SiteRows.{hears, takes}
-use Rattle.qc_site.specs.Conduct.{site_after, site_on, site_takes}
+use Rattle.qc_site.specs.Conduct.{site_after, site_takes}
 use Rattle.qc_site.specs.Site.{SiteState}
 use Rattle.qc_promise.specs.Account.{Account, new_account}
 use Rattle.qc_promise.specs.Accounting.{account, account_at, account_taken}
@@ -27,6 +26,7 @@ use Rattle.qc_laws.proofs.SiteReplies.{IsMailProper, IsProperFrom}
 use Rattle.qc_due.specs.Ties.{Ties}
 use Rattle.qc_net.specs.Net.{MayCome, MayCommand, Net}
 use Rattle.qc_atomic.proofs.Calm.{IsCalm}
+use Rattle.qc_atomic.proofs.FirstSites.{IsCalmGiven, IsCalmMessage}
 
 -- what was sent stays so, and may come
 
@@ -101,21 +101,21 @@ module _ (decl : Declaration) where
     pub sites_are : (a : ℕ) → is_site decl a ≡ true → SiteStands (net.sites a) a h (slice_get open_inputs a)
     pub clients_are : (a : ℕ) → is_client decl a ≡ true → ClientStands (net.clients a) a h (slice_get open_inputs a)
 
-  -- without a Close or an Install a site takes what comes by its rules of one epoch
+  -- what is sent is neither a Close nor an Install
 
-  heard_so : (s : SiteState) (from number to : ℕ) (m : Message) → IsProperFrom decl from to m → hears decl s from number m ≡ site_on decl s from number m
-  heard_so s from number to (messages.Request tx epoch life want) proper = refl
-  heard_so s from number to (messages.Answer request answer) proper = refl
-  heard_so s from number to (messages.Decision tx verdict) proper = refl
-  heard_so s from number to (messages.Inquiry tx) proper = refl
-  heard_so s from number to (messages.Ask tx) proper = absurd proper
-  heard_so s from number to (messages.Close epoch) proper = absurd proper
-  heard_so s from number to (messages.Install epoch clock log) proper = absurd proper
+  pub heard_calm : (from to : ℕ) (m : Message) → IsProperFrom decl from to m → IsCalmMessage m
+  heard_calm from to (messages.Request tx epoch life want) proper = tt
+  heard_calm from to (messages.Answer request answer) proper = tt
+  heard_calm from to (messages.Decision tx verdict) proper = tt
+  heard_calm from to (messages.Inquiry tx) proper = tt
+  heard_calm from to (messages.Ask tx) proper = tt
+  heard_calm from to (messages.Close epoch) proper = proper
+  heard_calm from to (messages.Install epoch clock log) proper = proper
 
-  pub takes_so : (s : SiteState) (a : ℕ) (ms : List Envelope) (g : Given) → IsMailProper decl ms → WasSentTo a ms g → takes decl s g ≡ site_takes decl s g
-  takes_so s a ms (given.Called command) proper sent = refl
-  takes_so s a ms (given.Got e) proper sent = heard_so s e.from e.number e.to e.message (every-at (λ (x : Envelope). IsProperFrom decl x.from x.to x.message) ms e.number e proper sent.0)
-  takes_so s a ms (given.Lost number) proper sent = refl
+  pub sent_calm : (a : ℕ) (ms : List Envelope) (g : Given) → IsMailProper decl ms → WasSentTo a ms g → IsCalmGiven g
+  sent_calm a ms (given.Called command) proper sent = tt
+  sent_calm a ms (given.Got e) proper sent = heard_calm e.from e.to e.message (every-at (λ (x : Envelope). IsProperFrom decl x.from x.to x.message) ms e.number e proper sent.0)
+  sent_calm a ms (given.Lost number) proper sent = tt
 
   -- no actor is both
   pub both : (a : ℕ) → is_site decl a ≡ true → is_client decl a ≡ true → ⊥

@@ -23,6 +23,7 @@ ghost use Rattle.qc_onecopy.specs.OneCopy.{OneCopy};
 ghost use Rattle.qc_script.specs.Runs.{Runs};
 ghost use Rattle.qc_script.specs.Sound.{IsScriptFor};
 ghost use Rattle.qc_script.specs.declared.script.Script.{Script};
+ghost use Rattle.qc_site.specs.Site.{known};
 ghost use Rattle.qc_site.specs.Conduct.{site_after};
 ghost use Rattle.qc_stamp.specs.declared.stamp.TxId.{TxId};
 ghost use Rattle.qc_atomic.specs.Reached.{IsReached};
@@ -53,7 +54,7 @@ pub fn lines_are_operations_of_records()
     ensures sites { (decl : Declaration) (script : Script) (h : List Entry) (open_inputs : List Bool) (a : ℕ)
         (line : Line) → IsAccepted decl → IsScriptFor decl script → Runs (IsLawful decl) decl script h open_inputs
         → is_site decl a ≡ true → slice_get open_inputs a ≡ Some false
-        → In line (site_after decl a (deeds a [] h)).site.log → IsLogged decl (written h) line }
+        → In line (known (site_after decl a (deeds a [] h)).site) → IsLogged decl (written h) line }
     ensures messages { (decl : Declaration) (script : Script) (h : List Entry) (open_inputs : List Bool)
         (e : Envelope) (line : Line) → IsAccepted decl → IsScriptFor decl script
         → Runs (IsLawful decl) decl script h open_inputs → In e (mail h) → In line (lines_in e.message)
@@ -67,7 +68,7 @@ pub fn logs_and_views_are_closed()
     ensures sites { (decl : Declaration) (script : Script) (h : List Entry) (open_inputs : List Bool) (a : ℕ)
         → IsAccepted decl → IsScriptFor decl script → Runs (IsLawful decl) decl script h open_inputs
         → is_site decl a ≡ true → slice_get open_inputs a ≡ Some false
-        → IsClosedLog decl (written h) (site_after decl a (deeds a [] h)).site.log }
+        → IsClosedLog decl (written h) (known (site_after decl a (deeds a [] h)).site) }
     ensures views { (decl : Declaration) (script : Script) (h : List Entry) (open_inputs : List Bool)
         (e : Envelope) (tx : TxId) (epoch life object : ℕ) (view : List Line) (own : List OwnLine)
         → IsAccepted decl → IsScriptFor decl script → Runs (IsLawful decl) decl script h open_inputs

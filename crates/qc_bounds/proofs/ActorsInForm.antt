@@ -22,7 +22,8 @@ use Rattle.qc_msg.specs.declared.turn.Turn.{Turn}
 use Rattle.qc_msg.specs.Deeds.{Deed, Takes, Writes, Sends, Tells, Falls, Rises}
 use Rattle.qc_msg.specs.Turns.{quiet}
 use Rattle.qc_recover.specs.Clients.{client_rises}
-use Rattle.qc_recover.specs.Sites.{in_order, kept_by, most_inquiries, site_rises}
+use Rattle.qc_recover.specs.Sites.{kept_by, most_inquiries, site_rises}
+use Rattle.qc_site.specs.Epochs.{in_order}
 use Rattle.qc_site.specs.Conduct.{site_takes}
 use Rattle.qc_site.specs.Site.{new_site}
 use Rattle.qc_bounds.specs.Bounds.{CountsWithin}
@@ -62,8 +63,9 @@ module _ (decl : Declaration) where
     where
       by : (b : Bool) → StateInForm a (cond b (Site (new_site a)) (Client (new_client (a - decl.sites))))
       by true = record {
-        form = record { epoch = (omega arith, omega arith); log = tt; held = tt; prepared = tt };
+        form = record { epoch = (omega arith, omega arith); began = tt; log = tt; held = tt; prepared = tt };
         sorted = record {
+          began = tt;
           log = tt;
           recorded = tt;
           held = record { single = tt; full = tt; sorted = tt };

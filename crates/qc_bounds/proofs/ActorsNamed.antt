@@ -17,6 +17,7 @@ use Rattle.qc_decl.specs.Accepted.{IsAccepted}
 use Rattle.qc_decl.specs.Actors.{actors, client_actor, is_site}
 use Rattle.qc_decl.specs.declared.declaration.Declaration.{Declaration}
 use Rattle.qc_entry.specs.declared.record.Prepared.{Prepared}
+use Rattle.qc_fit.specs.Said.{HasPlan}
 use Rattle.qc_msg.specs.declared.message.Message.{Message}
 use Rattle.qc_msg.specs.declared.record.Record.{Record}
 use Rattle.qc_msg.specs.declared.record.Record.TheVariants as records
@@ -24,9 +25,11 @@ use Rattle.qc_msg.specs.declared.step.Given.{Given}
 use Rattle.qc_msg.specs.declared.step.Given.TheVariants as given
 use Rattle.qc_msg.specs.declared.turn.Turn.{Turn}
 use Rattle.qc_msg.specs.Deeds.{Deed, Takes, Writes, Sends, Tells, Falls, Rises}
+use Rattle.qc_msg.specs.Begun.{first_epoch}
 use Rattle.qc_msg.specs.Turns.{quiet}
 use Rattle.qc_recover.specs.Clients.{client_rises}
-use Rattle.qc_recover.specs.Sites.{in_order, kept_by, most_inquiries, site_rises}
+use Rattle.qc_recover.specs.Sites.{kept_by, most_inquiries, site_rises}
+use Rattle.qc_site.specs.Epochs.{in_order}
 use Rattle.qc_site.specs.Conduct.{site_takes}
 use Rattle.qc_site.specs.Site.{new_site}
 use Rattle.qc_bounds.proofs.ActorsWithin.{IsOfPost}
@@ -62,12 +65,12 @@ module _ (decl : Declaration) where
   client_high : (a n : ℕ) → nat_lt a n ≡ false → n ≤ a
   client_high a n is = grind (arith, nat_tests)
 
-  pub new_named : (a : ℕ) → MoveNamed a (moved (new_actor decl a) quiet)
-  new_named a = record { state = by (is_site decl a) refl; turn = quiet_named a }
+  pub new_named : HasPlan decl first_epoch → (a : ℕ) → MoveNamed a (moved (new_actor decl a) quiet)
+  new_named first a = record { state = by (is_site decl a) refl; turn = quiet_named a }
     where
       by : (b : Bool) → is_site decl a ≡ b
           → StateNamed a (cond b (Site (new_site a)) (Client (new_client (a - decl.sites))))
-      by true is = (site_low a is, record { epoch = refl; log = tt; held = tt; prepared = tt })
+      by true is = (site_low a is, record { epoch = first; began = tt; log = tt; held = tt; prepared = tt })
       by false is = (
         client_high a decl.sites is,
         record {
@@ -143,8 +146,8 @@ module _ (decl : Declaration) where
 
   -- a rise
 
-  pub rises_named : (a : ℕ) (rs : List Record) → AreNamed decl a rs → MoveNamed a (actor_rises decl a rs)
-  rises_named a rs all = by (is_site decl a) refl
+  pub rises_named : HasPlan decl first_epoch → (a : ℕ) (rs : List Record) → AreNamed decl a rs → MoveNamed a (actor_rises decl a rs)
+  rises_named first a rs all = by (is_site decl a) refl
     where
       by : (b : Bool) → is_site decl a ≡ b
           → MoveNamed a (cond b (by_site (site_rises decl a rs)) (by_client (client_rises (a - decl.sites) rs)))
@@ -153,7 +156,7 @@ module _ (decl : Declaration) where
           record {
             state = (
               low,
-              site_risen_named decl a (rs ++ records.Life ∷ [])
+              site_risen_named decl first a (rs ++ records.Life ∷ [])
                   (every-append (RecordNamed decl a) rs (records.Life ∷ []) all
                   ((let life : a < actors decl = omega arith in life), tt)),
             );

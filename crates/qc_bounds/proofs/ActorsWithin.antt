@@ -78,7 +78,7 @@ pub new_within : (bound : ℕ) (decl : Declaration) (a : ℕ) → MoveWithin bou
 new_within bound decl a = record { state = by (is_site decl a); turn = quiet_within bound }
   where
     by : (b : Bool) → StateWithin bound (cond b (Site (new_site a)) (Client (new_client (a - decl.sites))))
-    by true = record { clock = omega arith; log = tt }
+    by true = record { clock = omega arith; began = tt; log = tt; prepared = tt }
     by false = record {
       front = record { clock = omega arith; count = omega arith; views = tt };
       desk = record { clock = omega arith; commits = tt };

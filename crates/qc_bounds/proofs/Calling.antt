@@ -24,7 +24,7 @@ use Rattle.qc_decl.specs.Accepted.{IsAccepted}
 use Rattle.qc_decl.specs.Actors.{actors}
 use Rattle.qc_decl.specs.Limits.{most_steps}
 use Rattle.qc_decl.specs.declared.declaration.Declaration.{Declaration}
-use Rattle.qc_fit.specs.Numbers.{greatest_clock}
+use Rattle.qc_fit.specs.Numbers.{greatest_clock, most_records}
 use Rattle.qc_front.specs.declared.doing.Doing.{Doing}
 use Rattle.qc_front.specs.declared.doing.Doing.TheVariants.{Idle, Reading, Appending}
 use Rattle.qc_front.specs.Conduct as fronts
@@ -47,13 +47,13 @@ use Rattle.qc_laws.specs.Within.{MessageWithin}
 use Rattle.qc_laws.proofs.DesksWithin.{promised-within}
 use Rattle.qc_script.specs.RunsWithFalls.{RunsWithFalls}
 use Rattle.qc_script.specs.declared.script.Script.{Script}
-use Rattle.qc_bounds.specs.Bounds.{CountsWithin, IsBoundedWithFalls}
+use Rattle.qc_bounds.specs.Bounds.{CountsWithin, IsBoundedWithFalls, LivesWithin}
 use Rattle.qc_bounds.specs.Calls.{IsFailedShort, IsSound}
 use Rattle.qc_bounds.specs.Fitting.{AllRiseFit}
 use Rattle.qc_bounds.specs.Within.{StateWithin}
-use Rattle.qc_bounds.proofs.CountBounds.{history_counts}
+use Rattle.qc_bounds.proofs.CountBounds.{history_counts, history_lives}
 use Rattle.qc_bounds.proofs.FailedSends.{failed_short}
-use Rattle.qc_bounds.proofs.FitBounds.{rise_clients, rise_within}
+use Rattle.qc_bounds.proofs.FitBounds.{rise_clients, rise_few, rise_within}
 use Rattle.qc_bounds.proofs.Needs.{run_bounded}
 use Rattle.qc_bounds.proofs.Senders.{AreFrom, deeds_sound, run_from}
 use Rattle.qc_bounds.proofs.Standing.{IsOpen, IsReady, Known, known}
@@ -83,11 +83,13 @@ module _ (decl : Declaration) (accepted : IsAccepted decl) where
   round_few : (running : Bool) (c : Client) → Stands decl running c → rounds.AsksFew c.front.doing
   round_few running c st = (front_fits decl (record c.front { count = 0 }) accepted st.front (omega arith)).few
 
-  -- an actor that is ready fits, where its clocks and its count are below the ends
-  ready_fits : (running : Bool) (v : Actor) (clock count : ℕ) → clock < 2 ^ 63 → count < 2 ^ 32 - 1
-      → IsReady decl running v → StateWithin clock v → CountsWithin count v → ActorFits v
-  ready_fits running (actors_of.Site s) clock count low few ready within counts = tt
-  ready_fits running (actors_of.Client c) clock count low few ready within counts =
+  -- an actor that is ready fits, where its clocks, its count and its life are below the ends
+  ready_fits : (running : Bool) (v : Actor) (clock count life : ℕ) → clock < 2 ^ 63 → count < 2 ^ 32 - 1
+      → life < 2 ^ 32 - 1 → IsReady decl running v → StateWithin clock v → CountsWithin count v → LivesWithin life v
+      → ActorFits v
+  ready_fits running (actors_of.Site s) clock count life low few short ready within counts lives =
+      (let n : s.life ≤ life = lives in omega (arith, n, short))
+  ready_fits running (actors_of.Client c) clock count life low few short ready within counts lives =
       let n : c.front.count ≤ count = counts in
       let f : c.front.clock.value ≤ clock = within.front.clock in
       let d : c.desk.clock.value ≤ clock = within.desk.clock in
@@ -96,7 +98,7 @@ module _ (decl : Declaration) (accepted : IsAccepted decl) where
         clock = omega arith;
         desk = record { clock = omega arith; few = ready.stands.few };
       }
-  ready_fits running actors_of.Down clock count low few ready within counts = tt
+  ready_fits running actors_of.Down clock count life low few short ready within counts lives = tt
 
   -- after an input it asked few sites, and its turn is short
   taken_few : (v : Actor) (ds : List Deed) (g : Given) → IsReady decl (is_running ds) v → MayTake ds g
@@ -163,8 +165,9 @@ module _ (decl : Declaration) (script : Script) (fits : ℕ → List Record → 
           → ActorFits (actor_after decl a (deeds a [] h)).actor
       actor_fits short free =
           ready_fits decl accepted (is_running (deeds a [] h)) (actor_after decl a (deeds a [] h)).actor
-          (greatest_clock + length h) (length h) (omega arith) (omega arith)
+          (greatest_clock + length h) (length h) (most_records + 2 + length h) (omega arith) (omega arith) (omega arith)
           (known_at false free) ((bound_is fit).actors a).state (history_counts decl a h)
+          (history_lives most_records decl a h (rise_few decl h fit))
 
       pub actor_asks_few : slice_get open_inputs a ≡ Some true → AsksFew (actor_after decl a (deeds a [] h)).actor
       actor_asks_few taken =

@@ -1,5 +1,5 @@
 -- A client's count of transactions is at most its deeds, and begins anew at a rise; an actor keeps its life until it
--- rises, and has at most two more than the records that it rises with.
+-- rises or closes an epoch, and has at most two more than the records that it rises with.
 use Rattle.std.proofs.Common.{◌≡◌, ℕ, ◌+◌, ◌-◌, ◌≤◌, ◌==◌, Bool, true, false, cond, List, [], ◌∷◌, ◌++◌, fold, length}
 use Rattle.std.proofs.Common.{Option, Some, None, refl, arith, length-append}
 use Rattle.std.specs.Prelude.{option_to_list, slice_get}
@@ -28,9 +28,9 @@ use Rattle.qc_msg.specs.Turns.{quiet}
 use Rattle.qc_recover.specs.Clients.{client_rises, nothing_kept as no_client}
 use Rattle.qc_recover.specs.Sites.{nothing_kept as no_site, site_rises}
 use Rattle.qc_recover.proofs.Lives.{client_lives, site_lives}
-use Rattle.qc_site.specs.Conduct.{site_takes}
+use Rattle.qc_site.specs.Conduct.{passed, site_takes}
 use Rattle.qc_site.specs.Site.{SiteState, new_site}
-use Rattle.qc_site.proofs.Rows.{life_stays}
+use Rattle.qc_site.proofs.Cases.{state_cases}
 use Rattle.qc_bounds.specs.Bounds.{CountsWithin, LivesWithin, RiseWithFew}
 use Rattle.qc_bounds.specs.Records.{risen_at}
 use Rattle.qc_bounds.proofs.ClientCounts.{sent_same, takes_steps}
@@ -107,15 +107,20 @@ module _ (decl : Declaration) (a : ℕ) where
   lives_more low high (actors.Client c) le w = (let n : c.front.life ≤ low = w in omega arith)
   lives_more low high actors.Down le w = tt
 
-  site_life : (s : SiteState) (g : Given) → (site_takes decl s g).site.life ≡ s.life
-  site_life s (given.Called command) = refl
-  site_life s (given.Got e) = life_stays decl s e.from e.number e.message
-  site_life s (given.Lost number) = refl
+  site_life : (s : SiteState) (g : Given) → (site_takes decl s g).site.life ≤ s.life + 1
+  site_life s (given.Called command) = omega arith
+  site_life s (given.Got e) =
+      let same : s.life ≤ s.life + 1 = omega arith in
+      let closed : s.life + 1 ≤ s.life + 1 = omega arith in
+      state_cases (λ (t : SiteState). t.life ≤ s.life + 1) decl (passed s e.message) e.from e.number e.message same
+      (λ tx epoch life object inv is. same) (λ tx epoch life object view own is. same) (λ tx. same)
+      (λ tx verdict is final. same) (λ tx stamp p is. same) (λ k is. closed) (λ k clock lines is later. same)
+  site_life s (given.Lost number) = omega arith
 
-  lives_take : (n : ℕ) (v : Actor) (g : Given) → LivesWithin n v → LivesWithin n (actor_takes decl v g).actor
+  lives_take : (n : ℕ) (v : Actor) (g : Given) → LivesWithin n v → LivesWithin (n + 1) (actor_takes decl v g).actor
   lives_take n (actors.Site s) g w =
-      (let before : s.life ≤ n = w in let same : (site_takes decl s g).site.life
-      ≡ s.life = site_life s g in omega arith)
+      (let before : s.life ≤ n = w in let step : (site_takes decl s g).site.life
+      ≤ s.life + 1 = site_life s g in omega arith)
   lives_take n (actors.Client c) g w =
       (let before : c.front.life ≤ n = w in let same : (client_takes decl c g).client.front.life ≡ c.front.life =
       (takes_steps decl c g).life in omega arith)
@@ -146,18 +151,22 @@ module _ (decl : Declaration) (a : ℕ) where
           (rs ++ records.Life ∷ []) = client_lives no_client (rs ++ records.Life ∷ []) in omega
           (arith, life, long, few))
 
-  lives_fold : (n : ℕ) (m : ActorMove) (ds : List Deed) → Every (RisesFew n) ds → LivesWithin (n + 2) m.actor
-      → LivesWithin (n + 2) (fold (actor_does decl a) m ds).actor
-  lives_fold n m [] few w = w
-  lives_fold n m (Takes g ∷ ds) few w =
-      lives_fold n (actor_takes decl m.actor g) ds few.1 (lives_take (n + 2) m.actor g w)
-  lives_fold n m (Writes written ∷ ds) few w = lives_fold n m ds few.1 w
-  lives_fold n m (Sends number to message ∷ ds) few w =
-      lives_fold n (record m { actor = actor_sends m.actor number to message }) ds few.1
-      (lives_send (n + 2) m.actor number to message w)
-  lives_fold n m (Tells reply ∷ ds) few w = lives_fold n m ds few.1 w
-  lives_fold n m (Falls cause pending ∷ ds) few w = lives_fold n (moved actors.Down quiet) ds few.1 tt
-  lives_fold n m (Rises rs ∷ ds) few w = lives_fold n (actor_rises decl a rs) ds few.1 (lives_rise n rs few.0)
+  lives_fold : (n k : ℕ) (m : ActorMove) (ds : List Deed) → Every (RisesFew n) ds → n + 2 ≤ k → LivesWithin k m.actor
+      → LivesWithin (k + length ds) (fold (actor_does decl a) m ds).actor
+  lives_fold n k m [] few le w = lives_more k (k + 0) m.actor (omega arith) w
+  lives_fold n k m (d ∷ ds) few le w =
+      lives_more (k + 1 + length ds) (k + length (d ∷ ds)) (fold (actor_does decl a) (actor_does decl a m d) ds).actor
+      (omega arith)
+      (lives_fold n (k + 1) (actor_does decl a m d) ds few.1 (omega arith) (by d few.0))
+    where
+      by : (d : Deed) → RisesFew n d → LivesWithin (k + 1) (actor_does decl a m d).actor
+      by (Takes g) few = lives_take k m.actor g w
+      by (Writes written) few = lives_more k (k + 1) m.actor (omega arith) w
+      by (Sends number to message) few =
+          lives_send (k + 1) m.actor number to message (lives_more k (k + 1) m.actor (omega arith) w)
+      by (Tells reply) few = lives_more k (k + 1) m.actor (omega arith) w
+      by (Falls cause pending) few = tt
+      by (Rises rs) few = lives_more (n + 2) (k + 1) (actor_rises decl a rs).actor (omega arith) (lives_rise n rs few)
 
   new_lives : (n : ℕ) → LivesWithin (n + 2) (new_actor decl a)
   new_lives n = by (is_site decl a)
@@ -245,6 +254,9 @@ deeds_rise n a ms (e ∷ h) few =
     (mine_rises n (e.actor == a) ms e.step few.0) (deeds_rise n a (ms ++ option_to_list (envelope_of e)) h few.1)
 
 pub history_lives : (n : ℕ) (decl : Declaration) (a : ℕ) (h : List Entry) → RiseWithFew n h
-    → LivesWithin (n + 2) (actor_after decl a (deeds a [] h)).actor
+    → LivesWithin (n + 2 + length h) (actor_after decl a (deeds a [] h)).actor
 history_lives n decl a h few =
-    lives_fold decl a n (moved (new_actor decl a) quiet) (deeds a [] h) (deeds_rise n a [] h few) (new_lives decl a n)
+    lives_more decl a (n + 2 + length (deeds a [] h)) (n + 2 + length h) (actor_after decl a (deeds a [] h)).actor
+    (let less : length (deeds a [] h) ≤ length h = deeds_few a [] h in omega arith)
+    (lives_fold decl a n (n + 2) (moved (new_actor decl a) quiet) (deeds a [] h) (deeds_rise n a [] h few) (omega arith)
+    (new_lives decl a n))

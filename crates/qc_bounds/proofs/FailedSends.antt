@@ -20,7 +20,8 @@ use Rattle.qc_site.specs.Conduct.{passed, site_at, site_takes}
 use Rattle.qc_site.specs.Promise.{finishes}
 use Rattle.qc_site.specs.Requests.{grants}
 use Rattle.qc_site.specs.Site.{SiteMove, SiteState}
-use Rattle.qc_site.proofs.Cases.{append_cases, join_cases, prepare_cases, read_cases, request_cases}
+use Rattle.qc_site.proofs.Cases.{append_cases, close_rows, install_rows, join_cases, prepare_cases, read_cases}
+use Rattle.qc_site.proofs.Cases.{request_cases}
 use Rattle.qc_stamp.specs.declared.stamp.TxId.{TxId}
 use Rattle.qc_bounds.specs.Calls.{IsFailedShort}
 
@@ -55,8 +56,13 @@ module _ (decl : Declaration) (s : SiteState) (from number : ℕ) (low : from < 
   at (messages.Decision tx verdict) = finished tx verdict
   at (messages.Inquiry tx) = record { few = omega arith; receivers = tt }
   at (messages.Ask tx) = record { few = omega arith; receivers = tt }
-  at (messages.Close epoch) = record { few = omega arith; receivers = tt }
-  at (messages.Install epoch clock lines) = record { few = omega arith; receivers = tt }
+  at (messages.Close k) =
+      close_rows Short s from number k (record { few = omega arith; receivers = tt })
+      (record { few = omega arith; receivers = tt }) (record { few = omega arith; receivers = tt })
+      (record { few = omega arith; receivers = (low, tt) })
+  at (messages.Install k clock lines) =
+      install_rows Short s from number k clock lines (record { few = omega arith; receivers = tt })
+      (record { few = omega arith; receivers = tt }) (record { few = omega arith; receivers = (low, tt) })
 
 site_short : (decl : Declaration) (s : SiteState) (g : Given) → IsFrom g → IsFailedShort (site_takes decl s g).turn
 site_short decl s (given.Called command) from = record { few = omega arith; receivers = tt }

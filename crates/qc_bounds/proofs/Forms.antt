@@ -9,7 +9,7 @@ use Rattle.qc_entry.specs.declared.record.Commit.{Commit}
 use Rattle.qc_entry.specs.declared.record.Prepared.{Prepared}
 use Rattle.qc_list.specs.Order.{Ascends}
 use Rattle.qc_lock.specs.Held.{lock_cmp, own_cmp}
-use Rattle.qc_msg.specs.Lengths.{prepare_length}
+use Rattle.qc_msg.specs.Lengths.{epoch_length, prepare_length}
 use Rattle.qc_msg.specs.declared.message.Answer.{Answer}
 use Rattle.qc_msg.specs.declared.message.Answer.TheVariants as answers
 use Rattle.qc_msg.specs.declared.message.Envelope.{Envelope}
@@ -64,6 +64,17 @@ pub record EventInForm (object event resp : ℕ) : Type 0 where
   pub event_is : event ≤ 63
   pub resp_is : resp ≤ 31
 
+-- a promise, as far as its site goes by it
+pub record PromiseInForm (p : Prepared) : Type 0 where
+  pub tx : IsTx p.tx
+  pub locks : Every IsLock p.locks
+  pub own : Every IsOwn p.own
+
+-- how an epoch begins
+pub record StartInForm (epoch : ℕ) (lines : List Line) : Type 0 where
+  pub epoch_is : IsWithin 1 8 epoch
+  pub lines_are : LinesInForm lines
+
 -- what is said
 
 abbrev pub VerdictInForm : TxId → Outcome → Type 0
@@ -85,7 +96,7 @@ AnswerInForm (answers.Restarted life) = Unit {0}
 AnswerInForm answers.Stale = Unit {0}
 AnswerInForm answers.Fault = Unit {0}
 AnswerInForm (answers.Yes clock) = Unit {0}
-AnswerInForm (answers.Shut clock log prepared) = Unit {0}
+AnswerInForm (answers.Shut clock log prepared) = LinesInForm log × Every PromiseInForm prepared
 AnswerInForm answers.Installed = Unit {0}
 AnswerInForm (answers.Answered verdict) = Unit {0}
 
@@ -99,8 +110,8 @@ MessageInForm (messages.Answer to answer) = AnswerInForm answer
 MessageInForm (messages.Decision tx verdict) = VerdictInForm tx verdict
 MessageInForm (messages.Inquiry tx) = Unit {0}
 MessageInForm (messages.Ask tx) = Unit {0}
-MessageInForm (messages.Close epoch) = Unit {0}
-MessageInForm (messages.Install epoch clock log) = Unit {0}
+MessageInForm (messages.Close epoch) = IsWithin 1 8 epoch
+MessageInForm (messages.Install epoch clock lines) = StartInForm epoch lines
 
 abbrev pub MailInForm : List Envelope → Type 0
 MailInForm mail = Every (λ (e : Envelope). MessageInForm e.message) mail
@@ -139,10 +150,6 @@ pub record CommitInForm (c : Commit) : Type 0 where
   pub ops : Every IsOp c.ops
   pub few : length c.ops ≤ 16
 
-pub record StartInForm (epoch : ℕ) (lines : List Line) : Type 0 where
-  pub epoch_is : IsWithin 1 8 epoch
-  pub lines_are : LinesInForm lines
-
 abbrev pub RecordInForm : Record → Type 0
 RecordInForm records.Life = Unit {0}
 RecordInForm (records.Prepare p) = PreparedInForm p
@@ -152,16 +159,16 @@ RecordInForm (records.Install epoch clock lines) = StartInForm epoch lines
 RecordInForm (records.Commit c) = CommitInForm c
 RecordInForm (records.Decide epoch clock lines) = StartInForm epoch lines
 
--- the records that are written so far are no longer than a journal's record may be: no epoch is installed yet
+-- records that are written are no longer than a journal's record may be
 
 abbrev pub IsBrief : Record → Type 0
 IsBrief records.Life = Unit {0}
 IsBrief (records.Prepare p) = prepare_length p ≤ most_record_bytes
 IsBrief (records.Done tx clock) = Unit {0}
-IsBrief (records.Close epoch) = ⊥
-IsBrief (records.Install epoch clock lines) = ⊥
+IsBrief (records.Close epoch) = Unit {0}
+IsBrief (records.Install epoch clock lines) = epoch_length lines ≤ most_record_bytes
 IsBrief (records.Commit c) = Unit {0}
-IsBrief (records.Decide epoch clock lines) = ⊥
+IsBrief (records.Decide epoch clock lines) = epoch_length lines ≤ most_record_bytes
 
 abbrev pub WriteInForm : Record → Type 0
 WriteInForm r = RecordInForm r × IsBrief r

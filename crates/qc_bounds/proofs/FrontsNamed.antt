@@ -200,8 +200,8 @@ module _ (decl : Declaration) where
       one to (messages.Decision tx verdict) is = tt
       one to (messages.Inquiry tx) is = tt
       one to (messages.Ask tx) is = tt
-      one to (messages.Close epoch) is = tt
-      one to (messages.Install epoch clock log) is = tt
+      one to (messages.Close epoch) is = absurd is
+      one to (messages.Install epoch clock log) is = absurd is
 
   pub record FrontMoveNamed (m : FrontMove) : Type 0 where
     pub front : FrontNamed m.front

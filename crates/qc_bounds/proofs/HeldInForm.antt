@@ -12,15 +12,16 @@ use Rattle.qc_list.specs.Order.{inserted}
 use Rattle.qc_lock.specs.declared.held.Held.{Held}
 use Rattle.qc_lock.specs.Held.{entry_of, held_of, lock_cmp, own_cmp, with_entry, with_held, with_locks, with_owns}
 use Rattle.qc_record.specs.Legal.{IsLock, IsOwn, IsTx}
+use Rattle.qc_site.specs.Epochs.{held_by, holds}
 use Rattle.qc_site.specs.Promise.{lines_of, prepared_of, stamped, with_stamped}
 use Rattle.qc_stamp.specs.declared.stamp.Stamp.{Stamp}
 use Rattle.qc_stamp.specs.declared.stamp.TxId.{TxId}
 use Rattle.qc_stamp.specs.Order.{same_tx}
 use Rattle.qc_stamp.proofs.Orders.{same_tx_is}
 use Rattle.qc_bounds.proofs.HeldNamed.{every-inserted}
-use Rattle.qc_bounds.proofs.Forms.{LineInForm, StampInForm}
+use Rattle.qc_bounds.proofs.Forms.{LineInForm, PromiseInForm, StampInForm}
 
-every-all_inserted : {A : Type 0} (P : A → Type 0) (cmp : A → A → Ordering) (xs others : List A) → Every P xs
+pub every-all_inserted : {A : Type 0} (P : A → Type 0) (cmp : A → A → Ordering) (xs others : List A) → Every P xs
     → Every P others → Every P (fold (inserted cmp) xs others)
 every-all_inserted P cmp xs [] all more = all
 every-all_inserted P cmp xs (y ∷ ys) all more =
@@ -29,10 +30,6 @@ every-all_inserted P cmp xs (y ∷ ys) all more =
 pub record HeldInForm (h : Held) : Type 0 where
   pub locks : Every IsLock h.locks
   pub own : Every IsOwn h.own
-
-pub record PromiseInForm (p : Prepared) : Type 0 where
-  pub tx : IsTx p.tx
-  pub own : Every IsOwn p.own
 
 -- what is held
 
@@ -74,6 +71,17 @@ held_form held tx locks own all here mine = by ((length locks == 0) && (length o
     by : (t : Bool) → Every HeldInForm (cond t held (with_entry held entry))
     by true = all
     by false = entry_form held entry all form
+
+-- what promises hold
+
+all_held : (held : List Held) (ps : List Prepared) → Every HeldInForm held → Every PromiseInForm ps
+    → Every HeldInForm (fold holds held ps)
+all_held held [] form all = form
+all_held held (p ∷ ps) form all =
+    all_held (holds held p) ps (held_form held p.tx p.locks p.own form all.0.locks all.0.own) all.1
+
+pub promises_held : (ps : List Prepared) → Every PromiseInForm ps → Every HeldInForm (held_by ps)
+promises_held ps all = all_held [] ps tt all
 
 -- a promise becomes lines
 

@@ -17,8 +17,9 @@ use Rattle.qc_site.specs.Promise.{lines_of, prepared_of, stamped, with_stamped}
 use Rattle.qc_stamp.specs.declared.stamp.Stamp.{Stamp}
 use Rattle.qc_stamp.specs.declared.stamp.TxId.{TxId}
 use Rattle.qc_stamp.specs.Order.{same_tx}
+use Rattle.qc_site.specs.Epochs.{held_by, holds}
 use Rattle.qc_bounds.proofs.Names.{LineNamed, LinesNamed, LocksNamed}
-use Rattle.qc_bounds.proofs.Names.{OwnsNamed}
+use Rattle.qc_bounds.proofs.Names.{OwnsNamed, PromiseNamed}
 
 -- what is put among items in order
 
@@ -33,7 +34,7 @@ every-inserted P cmp (y ∷ ys) x all here = by (cmp x y) (every-inserted P cmp 
     by Equal rest = (here, all.1)
     by Greater rest = (all.0, rest)
 
-every-all_inserted : {A : Type 0} (P : A → Type 0) (cmp : A → A → Ordering) (xs others : List A) → Every P xs
+pub every-all_inserted : {A : Type 0} (P : A → Type 0) (cmp : A → A → Ordering) (xs others : List A) → Every P xs
     → Every P others → Every P (fold (inserted cmp) xs others)
 every-all_inserted P cmp xs [] all more = all
 every-all_inserted P cmp xs (y ∷ ys) all more =
@@ -52,10 +53,6 @@ module _ (decl : Declaration) where
     pub client : h.tx.client < decl.clients
     pub locks : LocksNamed decl h.locks
     pub own : OwnsNamed decl h.own
-
-  pub record PromiseNamed (p : Prepared) : Type 0 where
-    pub client : p.tx.client < decl.clients
-    pub own : OwnsNamed decl p.own
 
   -- what is held
 
@@ -108,6 +105,16 @@ module _ (decl : Declaration) where
       by true = all
       by false = entry_named held entry all named
 
+  -- what promises hold
+  all_held : (held : List Held) (ps : List Prepared) → Every HeldNamed held → Every (PromiseNamed decl) ps
+      → Every HeldNamed (fold holds held ps)
+  all_held held [] named all = named
+  all_held held (p ∷ ps) named all =
+      all_held (holds held p) ps (held_named held p.tx p.locks p.own named all.0.client all.0.locks all.0.own) all.1
+
+  pub promises_held : (ps : List Prepared) → Every (PromiseNamed decl) ps → Every HeldNamed (held_by ps)
+  promises_held ps all = all_held [] ps tt all
+
   -- a promise becomes lines
 
   stamped_named : (stamp : Stamp) (tx : TxId) (lines : List Line) (own : List OwnLine) → tx.client < decl.clients
@@ -126,7 +133,7 @@ module _ (decl : Declaration) where
     pub client : tx.client < decl.clients
     pub own : OwnsNamed decl p.own
 
-  pub found_named : (ps : List Prepared) (tx : TxId) (p : Prepared) → Every PromiseNamed ps → prepared_of ps tx ≡ Some p
+  pub found_named : (ps : List Prepared) (tx : TxId) (p : Prepared) → Every (PromiseNamed decl) ps → prepared_of ps tx ≡ Some p
       → FoundNamed tx p
   found_named [] tx p all is = absurd (let never : ⊥ = cc in never)
   found_named (q ∷ qs) tx p all is = by (same_tx q.tx tx) refl is (found_named qs tx p all.1)
@@ -135,7 +142,7 @@ module _ (decl : Declaration) where
           → (prepared_of qs tx ≡ Some p → FoundNamed tx p) → FoundNamed tx p
       by true same found rest =
           let it : q ≡ p = cc in
-          let first : PromiseNamed q = all.0 in
+          let first : PromiseNamed decl q = all.0 in
           let low : q.tx.client < decl.clients = first.client in
           let client : q.tx.client ≡ tx.client = same_client q.tx tx same in
           record {

@@ -27,7 +27,11 @@ use Rattle.qc_msg.specs.declared.turn.Appended.{Appended}
 use Rattle.qc_msg.specs.declared.turn.Appended.TheVariants.{Done, Failed, Stopped}
 use Rattle.qc_msg.specs.declared.turn.Posting.{Posting}
 use Rattle.qc_msg.specs.declared.turn.Turn.{Turn}
+use Rattle.qc_fit.specs.Said.{HasPlan}
+use Rattle.qc_msg.specs.Begun.{first_epoch}
 use Rattle.qc_msg.specs.Deeds.{Deed, WasSentTo, deeds, deeds_as, envelopes}
+use Rattle.qc_fit.specs.Said.{HasPlan}
+use Rattle.qc_msg.specs.Begun.{first_epoch}
 use Rattle.qc_msg.specs.Deeds.{mail}
 use Rattle.qc_msg.specs.Steps.{Entry, by, marked, posted_as, sends_as, step_of}
 use Rattle.qc_msg.proofs.Growth.{deeds-other, deeds-posted_as, deeds-taken, mail-append, mail-posted_as, mail-taken}
@@ -40,6 +44,7 @@ use Rattle.qc_script.specs.declared.script.Script.{Script}
 use Rattle.qc_bounds.specs.Records.{AllPut}
 use Rattle.qc_bounds.proofs.ActorsWithin.{deeds_post}
 use Rattle.qc_bounds.proofs.AskedNamed.{given_named}
+use Rattle.qc_bounds.proofs.EventsNamed.{first_planned}
 use Rattle.qc_bounds.proofs.Names.{AreNamed, GivenNamed, MailNamed, MessageNamed, RecordNamed, SendsNamed}
 use Rattle.qc_bounds.proofs.Putting.{back_has, input_puts, kept_part, line_puts, post_puts, puts_both}
 use Rattle.qc_bounds.proofs.Senders.{lawful_actor}
@@ -129,14 +134,14 @@ module _ (decl : Declaration) where
       (sym (ap (actor_after decl c) (deeds-fall c h cause) ∙ after_falls decl c (deeds c [] h) cause None))
       (down_named decl c)) (tt, tt)
 
-  risen : (c : ℕ) (h : List Entry) (rs : List Record) → AreNamed decl c rs → AllNamed h
+  risen : HasPlan decl first_epoch → (c : ℕ) (h : List Entry) (rs : List Record) → AreNamed decl c rs → AllNamed h
       → AllNamed (h ++ by c (steps.Rose rs ∷ []))
-  risen c h rs all named =
+  risen first c h rs all named =
       grows c h (steps.Rose rs ∷ []) named
       (subst (MailNamed decl) (sym (same_mail h (marked c (steps.Rose rs)) refl)) named.messages)
       (subst (MoveNamed decl c)
       (sym (ap (actor_after decl c) (deeds-rise c h rs) ∙ after_rises decl c (deeds c [] h) rs))
-      (rises_named decl c rs all)) (all, tt)
+      (rises_named decl first c rs all)) (all, tt)
 
   module _ (accepted : IsAccepted decl) (script : Script) (sound : IsScriptFor decl script)
       (fits : ℕ → List Record → Type 0) where
@@ -144,7 +149,7 @@ module _ (decl : Declaration) where
     IsRun h open_inputs = RunsWithFalls (IsLawfulWithFalls decl) fits decl script h open_inputs
 
     pub run_named : (h : List Entry) (open_inputs : List Bool) → IsRun h open_inputs → Kept h → AllNamed h
-    run_named h open_inputs begins kept = record { messages = tt; actors_are = new_named decl; puts = tt }
+    run_named h open_inputs begins kept = record { messages = tt; actors_are = new_named decl (first_planned decl accepted); puts = tt }
     run_named h open_inputs (takes c g before older run free rdy) kept =
         let old : AllNamed older = run_named older before run (kept_part older (marked c (step_of g) ∷ []) kept) in
         let sent : WasSentTo c (mail older) g =
@@ -172,7 +177,7 @@ module _ (decl : Declaration) where
         run_named older before run (kept_part older (marked c (steps.Rose rs) ∷ post) kept) in
         subst AllNamed (append_assoc older (marked c (steps.Rose rs) ∷ []) post)
         (posted c (length (mail older)) rose turn law
-        (risen c older rs
+        (risen (first_planned decl accepted) c older rs
         (back_has (RecordNamed decl) c older rs old.puts (kept older post (marked c (steps.Rose rs)) refl)) old))
     run_named h open_inputs (damaged c offset lines before older run left) kept =
         still c older (steps.Damaged offset) (record { sends = λ a. refl; deeds = λ ms. refl }) (tt, tt)

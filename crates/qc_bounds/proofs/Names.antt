@@ -2,13 +2,14 @@
 -- messages and records.
 use Rattle.std.proofs.Common.{◌≡◌, ℕ, ◌<◌, List, Option, Some, None}
 use Rattle.std.specs.List.{AllByRecursion as Every}
-use Rattle.qc_decl.specs.Actors.{actors, client_actor}
+use Rattle.qc_decl.specs.Actors.{actors, administrator, client_actor}
 use Rattle.qc_decl.specs.declared.declaration.Declaration.{Declaration}
 use Rattle.qc_entry.specs.declared.line.Line.{Line}
 use Rattle.qc_entry.specs.declared.line.Op.{Op}
 use Rattle.qc_entry.specs.declared.line.OwnLine.{OwnLine}
 use Rattle.qc_entry.specs.declared.line.ReadLock.{ReadLock}
-use Rattle.qc_fit.specs.Said.{HasEvent, HasInvocation, IsOpDeclared}
+use Rattle.qc_entry.specs.declared.record.Prepared.{Prepared}
+use Rattle.qc_fit.specs.Said.{HasEvent, HasInvocation, HasPlan, IsOpDeclared}
 use Rattle.qc_msg.specs.declared.message.Answer.{Answer}
 use Rattle.qc_msg.specs.declared.message.Answer.TheVariants as answers
 use Rattle.qc_msg.specs.declared.message.Envelope.{Envelope}
@@ -23,7 +24,6 @@ use Rattle.qc_msg.specs.declared.step.Command.TheVariants as commands
 use Rattle.qc_msg.specs.declared.step.Given.{Given}
 use Rattle.qc_msg.specs.declared.step.Given.TheVariants as given
 use Rattle.qc_msg.specs.declared.turn.Posting.{Posting}
-use Rattle.qc_msg.specs.Begun.{first_epoch}
 
 module _ (decl : Declaration) where
   pub record LineNamed (l : Line) : Type 0 where
@@ -42,6 +42,11 @@ module _ (decl : Declaration) where
   abbrev pub OpsNamed : List Op → Type 0
   OpsNamed ops = Every (IsOpDeclared decl) ops
 
+  pub record PromiseNamed (p : Prepared) : Type 0 where
+    pub client : p.tx.client < decl.clients
+    pub locks : LocksNamed p.locks
+    pub own : OwnsNamed p.own
+
   -- what is said
 
   abbrev pub WantNamed : Want → Type 0
@@ -58,7 +63,7 @@ module _ (decl : Declaration) where
   AnswerNamed answers.Stale = Unit {0}
   AnswerNamed answers.Fault = Unit {0}
   AnswerNamed (answers.Yes clock) = Unit {0}
-  AnswerNamed (answers.Shut clock log prepared) = Unit {0}
+  AnswerNamed (answers.Shut clock log prepared) = LinesNamed log × Every PromiseNamed prepared
   AnswerNamed answers.Installed = Unit {0}
   AnswerNamed (answers.Answered verdict) = Unit {0}
 
@@ -72,8 +77,8 @@ module _ (decl : Declaration) where
   MessageNamed (messages.Decision tx verdict) = Unit {0}
   MessageNamed (messages.Inquiry tx) = Unit {0}
   MessageNamed (messages.Ask tx) = Unit {0}
-  MessageNamed (messages.Close epoch) = Unit {0}
-  MessageNamed (messages.Install epoch clock log) = Unit {0}
+  MessageNamed (messages.Close epoch) = HasPlan decl epoch
+  MessageNamed (messages.Install epoch clock log) = HasPlan decl epoch × LinesNamed log
 
   abbrev pub MailNamed : List Envelope → Type 0
   MailNamed mail = Every (λ (e : Envelope). MessageNamed e.message) mail
@@ -95,17 +100,17 @@ module _ (decl : Declaration) where
   GivenNamed (given.Got e) = MessageNamed e.message
   GivenNamed (given.Lost number) = Unit {0}
 
-  -- the records of an actor: of sites and clients, in the first epoch
+  -- the records of an actor, of epochs with plans
   abbrev pub RecordNamed : ℕ → Record → Type 0
   RecordNamed a records.Life = a < actors decl
   RecordNamed a (records.Prepare p) =
-      (a < decl.sites) × (p.tx.client < decl.clients) × (p.epoch ≡ first_epoch) × LocksNamed p.locks × OwnsNamed p.own
+      (a < decl.sites) × (p.tx.client < decl.clients) × HasPlan decl p.epoch × LocksNamed p.locks × OwnsNamed p.own
       × LinesNamed p.lines
   RecordNamed a (records.Done tx clock) = (a < decl.sites) × (tx.client < decl.clients)
-  RecordNamed a (records.Close epoch) = ⊥
-  RecordNamed a (records.Install epoch clock lines) = ⊥
+  RecordNamed a (records.Close epoch) = (a < decl.sites) × HasPlan decl epoch
+  RecordNamed a (records.Install epoch clock lines) = (a < decl.sites) × HasPlan decl epoch × LinesNamed lines
   RecordNamed a (records.Commit c) = (a ≡ client_actor decl c.tx.client) × (c.tx.client < decl.clients) × OpsNamed c.ops
-  RecordNamed a (records.Decide epoch clock lines) = ⊥
+  RecordNamed a (records.Decide epoch clock lines) = (a ≡ administrator decl) × HasPlan decl epoch × LinesNamed lines
 
   abbrev pub AreNamed : ℕ → List Record → Type 0
   AreNamed a rs = Every (RecordNamed a) rs

@@ -32,5 +32,5 @@ module _ (decl : Declaration) (script : Script) (fits : ℕ → List Record → 
       (bounded_by 0 (kept_rises_within h kept))
 
 pub kept_lives : (decl : Declaration) (h : List Entry) (a : ℕ) → Kept h
-    → LivesWithin (length h + 2) (actor_after decl a (deeds a [] h)).actor
+    → LivesWithin (length h + 2 + length h) (actor_after decl a (deeds a [] h)).actor
 kept_lives decl h a kept = history_lives (length h) decl a h (kept_rise_few h kept)

@@ -31,7 +31,6 @@ use Rattle.qc_bounds.specs.Bounds.{IsBoundedWithFalls}
 use Rattle.qc_bounds.specs.Fitting.{AllFit, AllRiseFit, JournalFits}
 use Rattle.qc_bounds.specs.Records.{AllPut, records_at, risen_at}
 use Rattle.qc_bounds.specs.Within.{AreWithin, RecordWithin, TurnWithin}
-use Rattle.qc_bounds.proofs.EventsNamed.{first_planned}
 use Rattle.qc_bounds.proofs.FewRecords.{kept_journals_few, kept_rise_few}
 use Rattle.qc_bounds.proofs.ActorsNamed.{TurnNamed}
 use Rattle.qc_bounds.proofs.HistoriesNamed.{AllNamed, run_named, turn_named}
@@ -72,7 +71,7 @@ module _ (decl : Declaration) (accepted : IsAccepted decl) (a bound : ℕ) (low 
     few = few;
     writer = named.0;
     clients = (named.1, tt);
-    epochs = (subst (HasPlan decl) (sym named.2) (first_planned decl accepted), tt);
+    epochs = (named.2, tt);
     clocks = tt;
     locks = named.3;
     owns = named.4;
@@ -90,8 +89,28 @@ module _ (decl : Declaration) (accepted : IsAccepted decl) (a bound : ℕ) (low 
     lines = tt;
     ops = tt;
   }
-  said_fit before (records.Close epoch) few named within = absurd named
-  said_fit before (records.Install epoch clock lines) few named within = absurd named
+  said_fit before (records.Close epoch) few named within = record {
+    few = few;
+    writer = named.0;
+    clients = tt;
+    epochs = (named.1, tt);
+    clocks = tt;
+    locks = tt;
+    owns = tt;
+    lines = tt;
+    ops = tt;
+  }
+  said_fit before (records.Install epoch clock lines) few named within = record {
+    few = few;
+    writer = named.0;
+    clients = tt;
+    epochs = (named.1, tt);
+    clocks = ((let here : clock ≤ bound = within.0 in omega (arith, here, low)), tt);
+    locks = tt;
+    owns = tt;
+    lines = lines_fit lines named.2 within.1;
+    ops = tt;
+  }
   said_fit before (records.Commit c) few named within = record {
     few = few;
     writer = named.0;
@@ -103,7 +122,17 @@ module _ (decl : Declaration) (accepted : IsAccepted decl) (a bound : ℕ) (low 
     lines = tt;
     ops = named.2;
   }
-  said_fit before (records.Decide epoch clock lines) few named within = absurd named
+  said_fit before (records.Decide epoch clock lines) few named within = record {
+    few = few;
+    writer = named.0;
+    clients = tt;
+    epochs = (named.1, tt);
+    clocks = ((let here : clock ≤ bound = within.0 in omega (arith, here, low)), tt);
+    locks = tt;
+    owns = tt;
+    lines = lines_fit lines named.2 within.1;
+    ops = tt;
+  }
 
   pub records_fit : (before : ℕ) (rs : List Record) → before + length rs ≤ most_records → AreNamed decl a rs
       → AreWithin bound rs → AllFit decl a before rs

@@ -10,17 +10,17 @@ use Rattle.qc_decl.specs.Limits.{most_record_bytes}
 use Rattle.qc_entry.specs.declared.line.Line.{Line}
 use Rattle.qc_entry.specs.declared.line.Op.{Op}
 use Rattle.qc_list.proofs.Members.{every-weaker}
-use Rattle.qc_msg.specs.Lengths.{prepare_length}
+use Rattle.qc_msg.specs.Lengths.{epoch_length, prepare_length}
 use Rattle.qc_msg.specs.declared.record.Record.{Record}
 use Rattle.qc_msg.specs.declared.record.Record.TheVariants as records
 use Rattle.qc_record.specs.Form.{items_spelled}
-use Rattle.qc_record.specs.Legal.{AreLines, IsInForm, IsLine}
-use Rattle.qc_record.specs.Records.{is_legal, op_form, ops_form, spelled}
+use Rattle.qc_record.specs.Legal.{AreLines, IsInForm, IsLine, IsStart}
+use Rattle.qc_record.specs.Records.{is_legal, line_form, lines_form, op_form, ops_form, spelled}
 use Rattle.qc_record.proofs.InForm.{legal_is}
 use Rattle.qc_record.proofs.Lengths.{prepare_long}
 use Rattle.qc_laws.specs.Within.{LinesWithin}
 use Rattle.qc_bounds.specs.Within.{RecordWithin}
-use Rattle.qc_bounds.proofs.Forms.{IsBrief, LineInForm, LinesInForm, RecordInForm}
+use Rattle.qc_bounds.proofs.Forms.{IsBrief, LineInForm, LinesInForm, RecordInForm, StartInForm}
 use Rattle.qc_bounds.proofs.Orders.{few_owns, locks_ascend, locks_rise, owns_ascend, owns_rise}
 
 -- what rises
@@ -85,6 +85,22 @@ lines_are (l ∷ ls) all low = (
   lines_are ls all.1 low.1,
 )
 
+start_form : (epoch clock : ℕ) (lines : List Line) → StartInForm epoch lines
+    → (clock ≤ 2 ^ 62) × LinesWithin (2 ^ 62) lines → epoch_length lines ≤ most_record_bytes → IsStart epoch clock lines
+start_form epoch clock lines here low brief =
+    let short : epoch_length lines ≤ 65536 = brief in
+    let total : epoch_length lines ≡ 14 + 20 * length lines = refl in
+    let few : length lines ≤ 2 ^ 32 - 1 = omega (arith, short, total) in
+    record {
+      epoch_is = here.epoch_is;
+      clock_is = low.0;
+      lines_are = record {
+        few = few;
+        each_is = lines_are lines here.lines_are.each_is low.1;
+        rise = here.lines_are.ascend;
+      };
+    }
+
 pub brief_form : (r : Record) → RecordInForm r → RecordWithin (2 ^ 62) r → IsBrief r → IsInForm r
 brief_form records.Life here low brief = tt
 brief_form (records.Prepare p) here low brief =
@@ -102,8 +118,8 @@ brief_form (records.Prepare p) here low brief =
           record { few = few_lines; each_is = lines_are p.lines here.lines.each_is low; rise = here.lines.ascend };
     }
 brief_form (records.Done tx clock) here low brief = (here.0, (here.1, low))
-brief_form (records.Close epoch) here low brief = absurd brief
-brief_form (records.Install epoch clock lines) here low brief = absurd brief
+brief_form (records.Close epoch) here low brief = here
+brief_form (records.Install epoch clock lines) here low brief = start_form epoch clock lines here low brief
 brief_form (records.Commit c) here low brief =
     record {
       stamp = here.stamp.client;
@@ -111,7 +127,7 @@ brief_form (records.Commit c) here low brief =
       clock = (here.stamp.clock, low);
       ops = record { few = here.few; each_is = here.ops };
     }
-brief_form (records.Decide epoch clock lines) here low brief = absurd brief
+brief_form (records.Decide epoch clock lines) here low brief = start_form epoch clock lines here low brief
 
 -- its length
 
@@ -125,6 +141,28 @@ ops_long before (o ∷ ops) =
     length-append ((op_form before).spelled o) (items_spelled op_form (Some o) ops) in
     omega arith
 
+lines_long : (before : Option Line) (lines : List Line)
+    → length (items_spelled line_form before lines) ≡ 20 * length lines
+lines_long before [] = omega arith
+lines_long before (l ∷ lines) =
+    let rest : length (items_spelled line_form (Some l) lines) ≡ 20 * length lines = lines_long (Some l) lines in
+    let first : length ((line_form before).spelled l) ≡ 20 = refl in
+    let both : length ((line_form before).spelled l ++ items_spelled line_form (Some l) lines)
+    ≡ length ((line_form before).spelled l) + length (items_spelled line_form (Some l) lines) =
+    length-append ((line_form before).spelled l) (items_spelled line_form (Some l) lines) in
+    omega arith
+
+-- a record with an epoch, a clock and lines
+start_length : (lines : List Line) (long : ℕ) → long ≡ 10 + length (lines_form.spelled lines)
+    → epoch_length lines ≤ most_record_bytes → long ≤ most_record_bytes
+start_length lines long is brief =
+    let all : length (lines_form.spelled lines) ≡ 4 + 20 * length lines =
+    length-append (big_bytes 4 (length lines)) (items_spelled line_form None lines)
+    ∙ ap (λ (k : ℕ). k + length (items_spelled line_form None lines)) (length-bytes_high_first 4 (length lines))
+    ∙ ap (λ (k : ℕ). 4 + k) (lines_long None lines) in
+    let total : epoch_length lines ≡ 14 + 20 * length lines = refl in
+    omega (arith, is, brief, all, total)
+
 pub brief_length : (r : Record) → RecordInForm r → IsBrief r → length (spelled r) ≤ most_record_bytes
 brief_length records.Life here brief = omega arith
 brief_length (records.Prepare p) here brief =
@@ -133,8 +171,11 @@ brief_length (records.Prepare p) here brief =
     omega (arith, long, short))
 brief_length (records.Done tx clock) here brief =
     (let long : length (spelled (records.Done tx clock)) ≡ 18 = refl in omega (arith, long))
-brief_length (records.Close epoch) here brief = absurd brief
-brief_length (records.Install epoch clock lines) here brief = absurd brief
+brief_length (records.Close epoch) here brief =
+    (let long : length (spelled (records.Close epoch)) ≡ 2 = refl in omega (arith, long))
+brief_length (records.Install epoch clock lines) here brief =
+    (let long : length (spelled (records.Install epoch clock lines)) ≡ 10 + length (lines_form.spelled lines) = omega arith in
+    start_length lines (length (spelled (records.Install epoch clock lines))) long brief)
 brief_length (records.Commit c) here brief =
     (let ops : length (ops_form.spelled c.ops) ≡ 1 + 3 * length c.ops =
     length-append (big_bytes 1 (length c.ops)) (items_spelled op_form None c.ops)
@@ -143,4 +184,6 @@ brief_length (records.Commit c) here brief =
     let long : length (spelled (records.Commit c)) ≡ 18 + length (ops_form.spelled c.ops) = omega arith in
     let few : length c.ops ≤ 16 = here.few in
     omega (arith, ops, long, few))
-brief_length (records.Decide epoch clock lines) here brief = absurd brief
+brief_length (records.Decide epoch clock lines) here brief =
+    (let long : length (spelled (records.Decide epoch clock lines)) ≡ 10 + length (lines_form.spelled lines) = omega arith in
+    start_length lines (length (spelled (records.Decide epoch clock lines))) long brief)

@@ -5,43 +5,38 @@ use Rattle.std.specs.List.{AllByRecursion as Every}
 use Rattle.std.specs.Option.{option_map_or}
 use Rattle.qc_list.proofs.Members.{every-append, every-filter}
 use Rattle.qc_decl.specs.declared.declaration.Declaration.{Declaration}
+use Rattle.qc_entry.specs.Log.{has_line, without}
+use Rattle.qc_entry.specs.declared.line.Line.{Line}
 use Rattle.qc_entry.specs.declared.record.Prepared.{Prepared}
 use Rattle.qc_entry.proofs.Union.{every-union}
-use Rattle.qc_lock.specs.declared.held.Held.{Held}
+use Rattle.qc_fit.specs.Said.{HasPlan}
 use Rattle.qc_msg.specs.declared.record.Record.{Record}
 use Rattle.qc_msg.specs.declared.record.Record.TheVariants as records
 use Rattle.qc_msg.specs.Begun.{first_epoch}
 use Rattle.qc_recover.specs.Clients.{client_of}
-use Rattle.qc_recover.specs.Sites.{Kept, done_lines, done_stamp, holds, inquiry, keeps, kept_by, nothing_kept, site_of}
+use Rattle.qc_recover.specs.Sites.{Kept, done_lines, done_stamp, inquiry, keeps, kept_by, nothing_kept, site_of}
 use Rattle.qc_recover.specs.Sites.{with_promise}
 use Rattle.qc_site.specs.Promise.{lines_of, prepared_of, without_prepared}
 use Rattle.qc_stamp.specs.Order.{same_tx}
 use Rattle.qc_stamp.specs.declared.stamp.TxId.{TxId}
 use Rattle.qc_bounds.proofs.ClientsNamed.{ClientNamed}
-use Rattle.qc_bounds.proofs.Names.{AreNamed, LineNamed, LinesNamed, LocksNamed, OwnsNamed, RecordNamed, SendsNamed}
-use Rattle.qc_bounds.proofs.HeldNamed.{FoundNamed, HeldNamed, PromiseNamed, found_named, held_named, lines_named}
-use Rattle.qc_bounds.proofs.SitesNamed.{SiteNamed}
-use Rattle.qc_bounds.proofs.HeldNamed.{FoundNamed, HeldNamed, PromiseNamed, found_named, held_named, lines_named}
+use Rattle.qc_bounds.proofs.Names.{AreNamed, LineNamed, LinesNamed, PromiseNamed, RecordNamed, SendsNamed}
+use Rattle.qc_bounds.proofs.HeldNamed.{FoundNamed, found_named, lines_named, promises_held}
 use Rattle.qc_bounds.proofs.SitesNamed.{SiteNamed}
 
 module _ (decl : Declaration) where
-  -- a promise with its locks
-  record PromiseKept (p : Prepared) : Type 0 where
-    client : p.tx.client < decl.clients
-    locks : LocksNamed decl p.locks
-    own : OwnsNamed decl p.own
-
   record KeptNamed (k : Kept) : Type 0 where
-    epoch : k.epoch ≡ first_epoch
+    epoch : HasPlan decl k.epoch
+    began : LinesNamed decl k.began
     lines : LinesNamed decl k.lines
     prepares : Every (PromiseNamed decl) k.prepares
-    promises : Every PromiseKept k.promises
+    promises : Every (PromiseNamed decl) k.promises
 
-  with_named : (P : Prepared → Type 0) (ps : List Prepared) (p : Prepared) → Every P ps → P p
-      → Every P (with_promise ps p)
-  with_named P ps p all here =
-      every-append P (without_prepared ps p.tx) (p ∷ [])
-      (every-filter P (λ (q : Prepared). not (same_tx q.tx p.tx)) ps all) (here, tt)
+  with_named : (ps : List Prepared) (p : Prepared) → Every (PromiseNamed decl) ps → PromiseNamed decl p
+      → Every (PromiseNamed decl) (with_promise ps p)
+  with_named ps p all here =
+      every-append (PromiseNamed decl) (without_prepared ps p.tx) (p ∷ [])
+      (every-filter (PromiseNamed decl) (λ (q : Prepared). not (same_tx q.tx p.tx)) ps all) (here, tt)
 
   done_named : (prepares : List Prepared) (tx : TxId) (clock : ℕ) → Every (PromiseNamed decl) prepares
       → LinesNamed decl (done_lines prepares tx clock)
@@ -56,52 +51,46 @@ module _ (decl : Declaration) where
 
   keeps_named : (a : ℕ) (k : Kept) (r : Record) → RecordNamed decl a r → KeptNamed k → KeptNamed (keeps k r)
   keeps_named a k records.Life here w =
-      record { epoch = w.epoch; lines = w.lines; prepares = w.prepares; promises = w.promises }
+      record { epoch = w.epoch; began = w.began; lines = w.lines; prepares = w.prepares; promises = w.promises }
   keeps_named a k (records.Prepare p) here w = record {
     epoch = w.epoch;
+    began = w.began;
     lines = every-union (LineNamed decl) k.lines p.lines w.lines here.5;
-    prepares = with_named (PromiseNamed decl) k.prepares p w.prepares (record { client = here.1; own = here.4 });
-    promises =
-        with_named PromiseKept k.promises p w.promises (record { client = here.1; locks = here.3; own = here.4 });
+    prepares = with_named k.prepares p w.prepares (record { client = here.1; locks = here.3; own = here.4 });
+    promises = with_named k.promises p w.promises (record { client = here.1; locks = here.3; own = here.4 });
   }
   keeps_named a k (records.Done tx clock) here w = record {
     epoch = w.epoch;
+    began = w.began;
     lines =
-        every-union (LineNamed decl) k.lines (done_lines k.prepares tx clock) w.lines
-        (done_named k.prepares tx clock w.prepares);
+        every-union (LineNamed decl) k.lines (without (done_lines k.prepares tx clock) k.began) w.lines
+        (every-filter (LineNamed decl) (λ (l : Line). not (has_line k.began l)) (done_lines k.prepares tx clock)
+        (done_named k.prepares tx clock w.prepares));
     prepares = w.prepares;
-    promises = every-filter PromiseKept (λ (q : Prepared). not (same_tx q.tx tx)) k.promises w.promises;
+    promises = every-filter (PromiseNamed decl) (λ (q : Prepared). not (same_tx q.tx tx)) k.promises w.promises;
   }
-  keeps_named a k (records.Close epoch) here w = absurd here
-  keeps_named a k (records.Install epoch clock lines) here w = absurd here
+  keeps_named a k (records.Close epoch) here w =
+      record { epoch = w.epoch; began = w.began; lines = w.lines; prepares = w.prepares; promises = w.promises }
+  keeps_named a k (records.Install epoch clock lines) here w =
+      record { epoch = here.1; began = here.2; lines = tt; prepares = tt; promises = tt }
   keeps_named a k (records.Commit c) here w = w
-  keeps_named a k (records.Decide epoch clock lines) here w = absurd here
+  keeps_named a k (records.Decide epoch clock lines) here w = w
 
   kept_named : (a : ℕ) (rs : List Record) (k : Kept) → AreNamed decl a rs → KeptNamed k → KeptNamed (fold keeps k rs)
   kept_named a [] k all w = w
   kept_named a (r ∷ rs) k all w = kept_named a rs (keeps k r) all.1 (keeps_named a k r all.0 w)
 
-  all_held : (held : List Held) (ps : List Prepared) → Every (HeldNamed decl) held → Every PromiseKept ps
-      → Every (HeldNamed decl) (fold holds held ps)
-  all_held held [] named all = named
-  all_held held (p ∷ ps) named all =
-      all_held (holds held p) ps
-      (held_named decl held p.tx p.locks p.own named all.0.client all.0.locks all.0.own) all.1
-
-  promised : (ps : List Prepared) → Every PromiseKept ps → Every (PromiseNamed decl) ps
-  promised [] all = tt
-  promised (p ∷ ps) all = (record { client = all.0.client; own = all.0.own }, promised ps all.1)
-
-  pub site_risen_named : (a : ℕ) (rs : List Record) → AreNamed decl a rs → SiteNamed decl (site_of a rs)
-  site_risen_named a rs all =
+  pub site_risen_named : HasPlan decl first_epoch → (a : ℕ) (rs : List Record) → AreNamed decl a rs
+      → SiteNamed decl (site_of a rs)
+  site_risen_named first a rs all =
       let k : KeptNamed (kept_by rs) =
-      kept_named a rs nothing_kept all (record { epoch = refl; lines = tt; prepares = tt; promises = tt }) in
+      kept_named a rs nothing_kept all (record { epoch = first; began = tt; lines = tt; prepares = tt; promises = tt }) in
       record {
         epoch = k.epoch;
+        began = k.began;
         log = k.lines;
-        held = all_held []
-            (kept_by rs).promises tt k.promises;
-        prepared = promised (kept_by rs).promises k.promises;
+        held = promises_held decl (kept_by rs).promises k.promises;
+        prepared = k.promises;
       }
 
   pub inquiries_named : (txs : List TxId) → SendsNamed decl (map (inquiry decl) txs)

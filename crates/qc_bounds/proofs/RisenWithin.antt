@@ -7,6 +7,7 @@ use Rattle.qc_list.proofs.Members.{every-append, every-filter}
 use Rattle.qc_core.specs.Actors.{actor_rises, by_client, by_site}
 use Rattle.qc_decl.specs.Actors.{is_site}
 use Rattle.qc_decl.specs.declared.declaration.Declaration.{Declaration}
+use Rattle.qc_entry.specs.Log.{has_line, without}
 use Rattle.qc_entry.specs.declared.line.Line.{Line}
 use Rattle.qc_entry.specs.declared.line.OwnLine.{OwnLine}
 use Rattle.qc_entry.specs.declared.record.Commit.{Commit}
@@ -15,14 +16,15 @@ use Rattle.qc_entry.proofs.Union.{every-union}
 use Rattle.qc_msg.specs.declared.record.Record.{Record}
 use Rattle.qc_msg.specs.declared.record.Record.TheVariants as records
 use Rattle.qc_recover.specs.Clients as by_client_records
-use Rattle.qc_recover.specs.Sites.{done_lines, done_stamp, in_order, inquiry, keeps, Kept, kept_by, most_inquiries, nothing_kept}
+use Rattle.qc_recover.specs.Sites.{done_lines, done_stamp, inquiry, keeps, Kept, kept_by, most_inquiries, nothing_kept}
+use Rattle.qc_site.specs.Epochs.{in_order}
 use Rattle.qc_recover.specs.Sites.{site_rises}
 use Rattle.qc_site.specs.Conduct.{latest}
-use Rattle.qc_site.specs.Promise.{lines_of, prepared_of, stamped, with_stamped}
+use Rattle.qc_site.specs.Promise.{lines_of, prepared_of, stamped, with_stamped, without_prepared}
 use Rattle.qc_stamp.specs.Order.{same_tx}
 use Rattle.qc_stamp.specs.declared.stamp.Stamp.{Stamp}
 use Rattle.qc_stamp.specs.declared.stamp.TxId.{TxId}
-use Rattle.qc_laws.specs.Within.{LinesWithin, SendsWithin}
+use Rattle.qc_laws.specs.Within.{LinesWithin, PromisesWithin, SendsWithin}
 use Rattle.qc_bounds.specs.Within.{AreWithin, MoveWithin, RecordWithin}
 
 module _ (bound : ℕ) where
@@ -52,26 +54,43 @@ module _ (bound : ℕ) where
 
   record KeptWithin (k : Kept) : Type 0 where
     clock : k.clock ≤ bound
+    began : LinesWithin bound k.began
     lines : LinesWithin bound k.lines
+    promises : PromisesWithin bound k.promises
 
   site_keeps : (k : Kept) (r : Record) → RecordWithin bound r → KeptWithin k → KeptWithin (keeps k r)
-  site_keeps k records.Life here w = record { clock = w.clock; lines = w.lines }
+  site_keeps k records.Life here w =
+      record { clock = w.clock; began = w.began; lines = w.lines; promises = w.promises }
   site_keeps k (records.Prepare p) here w = record {
     clock = latest_within k.clock p.lines w.clock here;
+    began = w.began;
     lines = every-union (λ (l : Line). l.stamp.clock ≤ bound) k.lines p.lines w.lines here;
+    promises =
+        every-append (λ (q : Prepared). LinesWithin bound q.lines) (without_prepared k.promises p.tx) (p ∷ [])
+        (every-filter (λ (q : Prepared). LinesWithin bound q.lines) (λ (q : Prepared). not (same_tx q.tx p.tx))
+        k.promises w.promises) (here, tt);
   }
   site_keeps k (records.Done tx clock) here w = record {
     clock = (let c : k.clock ≤ bound = w.clock in let d : clock ≤ bound = here in omega arith);
+    began = w.began;
     lines =
-        every-union (λ (l : Line). l.stamp.clock ≤ bound) k.lines (done_lines k.prepares tx clock) w.lines
-        (done_within k.prepares tx clock here);
+        every-union (λ (l : Line). l.stamp.clock ≤ bound) k.lines (without (done_lines k.prepares tx clock) k.began)
+        w.lines
+        (every-filter (λ (l : Line). l.stamp.clock ≤ bound) (λ (l : Line). not (has_line k.began l))
+        (done_lines k.prepares tx clock) (done_within k.prepares tx clock here));
+    promises =
+        every-filter (λ (q : Prepared). LinesWithin bound q.lines) (λ (q : Prepared). not (same_tx q.tx tx)) k.promises
+        w.promises;
   }
-  site_keeps k (records.Close epoch) here w = record { clock = w.clock; lines = w.lines }
+  site_keeps k (records.Close epoch) here w =
+      record { clock = w.clock; began = w.began; lines = w.lines; promises = w.promises }
   site_keeps k (records.Install epoch clock lines) here w = record {
     clock =
         (let c : latest k.clock lines ≤ bound = latest_within k.clock lines w.clock here.1 in
         let d : clock ≤ bound = here.0 in omega arith);
-    lines = here.1;
+    began = here.1;
+    lines = tt;
+    promises = tt;
   }
   site_keeps k (records.Commit c) here w = w
   site_keeps k (records.Decide epoch clock lines) here w = w
@@ -120,7 +139,8 @@ module _ (bound : ℕ) where
   site_within : (number : ℕ) (rs : List Record) → AreWithin bound rs
       → KeptWithin (kept_by (rs ++ records.Life ∷ []))
   site_within number rs all =
-      site_kept (rs ++ records.Life ∷ []) nothing_kept (risen rs all) (record { clock = omega arith; lines = tt })
+      site_kept (rs ++ records.Life ∷ []) nothing_kept (risen rs all)
+      (record { clock = omega arith; began = tt; lines = tt; promises = tt })
 
   client_within : (rs : List Record) → AreWithin bound rs
       → CommitsWithin (by_client_records.kept_by (rs ++ records.Life ∷ []))
@@ -138,7 +158,7 @@ module _ (bound : ℕ) where
       by true =
           let w : KeptWithin (kept_by (rs ++ records.Life ∷ [])) = site_within a rs all in
           record {
-            state = record { clock = w.clock; log = w.lines };
+            state = record { clock = w.clock; began = w.began; log = w.lines; prepared = w.promises };
             turn = record {
               sends = inquiries_within decl (take most_inquiries (in_order (map (λ (p : Prepared). p.tx) (kept_by rs).promises)));
               failed_sends = tt;

@@ -13,9 +13,11 @@ use Rattle.qc_msg.specs.declared.record.Record.{Record}
 use Rattle.qc_msg.specs.declared.record.Record.TheVariants as records
 use Rattle.qc_msg.specs.declared.turn.Posting.{Posting}
 use Rattle.qc_recover.specs.Clients.{client_rises}
-use Rattle.qc_recover.specs.Sites.{Kept, in_order, inquiries, inquiry, keeps, kept_by, most_inquiries, nothing_kept}
+use Rattle.qc_recover.specs.Sites.{Kept, inquiries, inquiry, keeps, kept_by, most_inquiries, nothing_kept}
+use Rattle.qc_site.specs.Epochs.{in_order}
 use Rattle.qc_recover.specs.Sites.{site_rises, with_promise}
-use Rattle.qc_recover.proofs.Asked.{In_order_is, first_every}
+use Rattle.qc_recover.proofs.Asked.{first_every}
+use Rattle.qc_site.proofs.InOrder.{In_order_is}
 use Rattle.qc_recover.proofs.Promised.{each_promise}
 use Rattle.qc_site.specs.Promise.{without_prepared}
 use Rattle.qc_stamp.specs.Order.{same_tx, tx_cmp}

@@ -18,7 +18,8 @@ use Rattle.qc_site.specs.Conduct.{passed, site_at, site_takes}
 use Rattle.qc_site.specs.Promise.{finishes}
 use Rattle.qc_site.specs.Requests.{grants}
 use Rattle.qc_site.specs.Site.{SiteMove, SiteState}
-use Rattle.qc_site.proofs.Cases.{append_cases, join_cases, prepare_cases, read_cases, request_cases}
+use Rattle.qc_site.proofs.Cases.{append_cases, close_rows, install_rows, join_cases, prepare_cases, read_cases}
+use Rattle.qc_site.proofs.Cases.{request_cases}
 use Rattle.qc_stamp.specs.declared.stamp.TxId.{TxId}
 use Rattle.qc_laws.specs.Within.{GivenWithin, LinesWithin, MessageWithin, OutcomeWithin, SendsWithin, SiteWithin}
 use Rattle.qc_bounds.specs.Within.{AreWithin}
@@ -65,8 +66,12 @@ module _ (bound : ℕ) (decl : Declaration) (s : SiteState) (from number : ℕ) 
   at (messages.Decision tx verdict) here = finished tx verdict here
   at (messages.Inquiry tx) here = record { failed_sends = tt; write = tt }
   at (messages.Ask tx) here = record { failed_sends = tt; write = tt }
-  at (messages.Close epoch) here = record { failed_sends = tt; write = tt }
-  at (messages.Install epoch clock lines) here = record { failed_sends = tt; write = tt }
+  at (messages.Close k) here =
+      close_rows Writes s from number k (record { failed_sends = tt; write = tt }) (record { failed_sends = tt; write = tt })
+      (record { failed_sends = tt; write = tt }) (record { failed_sends = (tt, tt); write = (tt, tt) })
+  at (messages.Install k clock lines) here =
+      install_rows Writes s from number k clock lines (record { failed_sends = tt; write = tt })
+      (record { failed_sends = tt; write = tt }) (record { failed_sends = (tt, tt); write = (here, tt) })
 
 -- one input
 pub site_writes_within : (bound : ℕ) (decl : Declaration) (s : SiteState) (g : Given) → SiteWithin bound s

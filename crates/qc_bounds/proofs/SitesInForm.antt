@@ -1,6 +1,6 @@
 -- A site that knows, holds and has promised what is in form goes on so, sends such messages and writes such records,
 -- which are no longer than a journal's record may be.
-use Rattle.std.proofs.Common.{◌≡◌, ℕ, ◌<◌, ◌≤◌, ◌==◌, ◌&&◌, nat_le, nat_lt, not, Bool, true, false, [], ◌∷◌}
+use Rattle.std.proofs.Common.{◌≡◌, ℕ, ◌<◌, ◌≤◌, ◌==◌, ◌&&◌, nat_le, nat_lt, not, Bool, true, false, List, [], ◌∷◌}
 use Rattle.std.proofs.Common.{Option, Some, None, refl, arith}
 use Rattle.std.specs.Prelude.{option_to_list}
 use Rattle.std.specs.List.{AllByRecursion as Every}
@@ -9,11 +9,11 @@ use Rattle.qc_list.proofs.Members.{every-append, every-filter}
 use Rattle.qc_list.proofs.Order.{ascends-filter}
 use Rattle.qc_decl.specs.Limits.{most_clients, most_record_bytes}
 use Rattle.qc_decl.specs.declared.declaration.Declaration.{Declaration}
-use Rattle.qc_entry.specs.Line.{line_cmp}
-use Rattle.qc_entry.specs.Log.{has_line}
+use Rattle.qc_entry.specs.Line.{IsAscending, line_cmp}
+use Rattle.qc_entry.specs.Log.{has_line, without}
 use Rattle.qc_entry.specs.declared.line.Line.{Line}
 use Rattle.qc_entry.specs.declared.record.Prepared.{Prepared}
-use Rattle.qc_entry.proofs.Union.{every-union}
+use Rattle.qc_entry.proofs.Union.{ascending-union, every-union}
 use Rattle.qc_lock.specs.declared.clash.Clash.{Clash as Conflict}
 use Rattle.qc_lock.specs.declared.held.Held.{Held}
 use Rattle.qc_lock.specs.Held.{held_of, is_held}
@@ -26,25 +26,26 @@ use Rattle.qc_msg.specs.declared.message.Outcome.{Outcome}
 use Rattle.qc_msg.specs.declared.message.Outcome.TheVariants.{Committed, Aborted, Active}
 use Rattle.qc_msg.specs.declared.message.Want.{Want}
 use Rattle.qc_msg.specs.declared.message.Want.TheVariants.{Append, Prepare, Read}
-use Rattle.qc_msg.specs.Lengths.{prepare_length}
+use Rattle.qc_msg.specs.Lengths.{epoch_length, prepare_length}
 use Rattle.qc_msg.specs.Turns.{quiet}
 use Rattle.qc_record.specs.Legal.{IsTx, IsWithin}
 use Rattle.qc_site.specs.Conduct.{site_at}
+use Rattle.qc_site.specs.Epochs.{closes, installs, promise_cmp, shut_answer}
 use Rattle.qc_site.specs.Promise.{dropped, finishes, is_prepared, lines_of, prepares, promise_of, promised, votes}
 use Rattle.qc_site.specs.Requests.{clashing, fault_of, grants, names_declared, names_object, requested}
-use Rattle.qc_site.specs.Site.{SiteMove, SiteState, answers, moved}
+use Rattle.qc_site.specs.Site.{SiteMove, SiteState, answers, known, learned, moved}
 use Rattle.qc_site.specs.Sorted.{IsSiteSorted}
-use Rattle.qc_site.proofs.Cases.{append_cases, choose, fault_is, join_cases, read_cases}
+use Rattle.qc_site.proofs.Cases.{append_cases, choose, close_rows, fault_is, join_cases, read_cases}
 use Rattle.qc_stamp.specs.declared.stamp.TxId.{TxId}
 use Rattle.qc_stamp.specs.Order.{same_tx}
-use Rattle.qc_bounds.proofs.Forms.{AnswerInForm, LineInForm, MessageInForm, OrdinalsInForm, SendsInForm}
-use Rattle.qc_bounds.proofs.Forms.{VerdictInForm}
-use Rattle.qc_bounds.proofs.Forms.{WantInForm, WriteInForm}
-use Rattle.qc_bounds.proofs.HeldInForm.{FoundInForm, HeldInForm, PromiseInForm, found_form, has_form, held_form}
-use Rattle.qc_bounds.proofs.HeldInForm.{lines_form}
+use Rattle.qc_bounds.proofs.Forms.{AnswerInForm, LineInForm, MessageInForm, OrdinalsInForm, PromiseInForm}
+use Rattle.qc_bounds.proofs.Forms.{SendsInForm, StartInForm, VerdictInForm, WantInForm, WriteInForm}
+use Rattle.qc_bounds.proofs.HeldInForm.{FoundInForm, HeldInForm, every-all_inserted, found_form, has_form, held_form}
+use Rattle.qc_bounds.proofs.HeldInForm.{lines_form, promises_held}
 
 pub record SiteInForm (s : SiteState) : Type 0 where
   pub epoch : IsWithin 1 8 s.epoch
+  pub began : Every LineInForm s.began
   pub log : Every LineInForm s.log
   pub held : Every HeldInForm s.held
   pub prepared : Every PromiseInForm s.prepared
@@ -67,7 +68,18 @@ module _ (decl : Declaration) (s : SiteState) (from number : ℕ) (w : SiteInFor
   clashed : (c : Conflict) → SiteMoveInForm (moved s (clashing decl from number c))
   clashed c = record { site = w; sends = (tt, (tt, tt)); failed_sends = tt; write = tt }
 
+  all_known : Every LineInForm (known s)
+  all_known = every-union LineInForm s.began s.log w.began w.log
+
+  learns : (lines : List Line) → Every LineInForm lines → Every LineInForm (learned s lines)
+  learns lines all =
+      every-union LineInForm s.log (without lines s.began) w.log
+      (every-filter LineInForm (λ (l : Line). not (has_line s.began l)) lines all)
+
   module _ (sorted : IsSiteSorted s) where
+    known_ascends : IsAscending (known s)
+    known_ascends = ascending-union s.began s.log sorted.began sorted.log
+
     -- a promise
 
     made : (tx : TxId) → IsTx tx → prepare_length (promise_of s tx) ≤ most_record_bytes
@@ -79,11 +91,12 @@ module _ (decl : Declaration) (s : SiteState) (from number : ℕ) (w : SiteInFor
           site =
               record {
                 epoch = w.epoch;
+                began = w.began;
                 log = w.log;
                 held = w.held;
                 prepared =
                     every-append PromiseInForm s.prepared (promise_of s tx ∷ []) w.prepared
-                    (record { tx = its; own = has.own }, tt);
+                    (record { tx = its; locks = has.locks; own = has.own }, tt);
               };
           sends = (tt, tt);
           failed_sends = (tt, tt);
@@ -125,6 +138,7 @@ module _ (decl : Declaration) (s : SiteState) (from number : ℕ) (w : SiteInFor
           site =
               record {
                 epoch = w.epoch;
+                began = w.began;
                 log = w.log;
                 held =
                     held_form s.held tx (record { object = object; inv = inv } ∷ []) [] w.held
@@ -133,8 +147,8 @@ module _ (decl : Declaration) (s : SiteState) (from number : ℕ) (w : SiteInFor
               };
           sends = (
             record {
-              each_is = every-filter LineInForm (λ (l : Line). l.object == object) s.log w.log;
-              ascend = ascends-filter line_cmp (λ (l : Line). l.object == object) s.log sorted.log;
+              each_is = every-filter LineInForm (λ (l : Line). l.object == object) (known s) all_known;
+              ascend = ascends-filter line_cmp (λ (l : Line). l.object == object) (known s) known_ascends;
             },
             tt,
           );
@@ -148,7 +162,8 @@ module _ (decl : Declaration) (s : SiteState) (from number : ℕ) (w : SiteInFor
           site =
               record {
                 epoch = w.epoch;
-                log = every-union LineInForm s.log view w.log here.0.each_is;
+                began = w.began;
+                log = learns view here.0.each_is;
                 held = held_form s.held tx [] own w.held tt here.1;
                 prepared = w.prepared;
               };
@@ -164,6 +179,7 @@ module _ (decl : Declaration) (s : SiteState) (from number : ℕ) (w : SiteInFor
     without_tx : (tx : TxId) → SiteInForm (dropped s tx)
     without_tx tx = record {
       epoch = w.epoch;
+      began = w.began;
       log = w.log;
       held = every-filter HeldInForm (λ (h : Held). not (same_tx h.tx tx)) s.held w.held;
       prepared = every-filter PromiseInForm (λ (q : Prepared). not (same_tx q.tx tx)) s.prepared w.prepared;
@@ -178,9 +194,8 @@ module _ (decl : Declaration) (s : SiteState) (from number : ℕ) (w : SiteInFor
         record {
           site = record {
             epoch = w.epoch;
-            log =
-                every-union LineInForm s.log (lines_of stamp tx p.own) w.log
-                (lines_form stamp tx p.own here found.tx_is found.own);
+            began = w.began;
+            log = learns (lines_of stamp tx p.own) (lines_form stamp tx p.own here found.tx_is found.own);
             held = rest.held;
             prepared = rest.prepared;
           };
@@ -218,6 +233,45 @@ module _ (decl : Declaration) (s : SiteState) (from number : ℕ) (w : SiteInFor
               number = its.number;
             }) here
 
+    -- a Close tells all that the site knows and has promised; with an Install another epoch begins
+
+    shut_form : AnswerInForm (shut_answer s)
+    shut_form = (
+      record { each_is = all_known; ascend = known_ascends },
+      every-all_inserted PromiseInForm promise_cmp [] s.prepared tt w.prepared,
+    )
+
+    closed_form : (k : ℕ) → IsWithin 1 8 k → SiteMoveInForm (closes s from number k)
+    closed_form k here =
+        close_rows SiteMoveInForm s from number k (answered (says.Behind s.epoch) tt)
+        (answered (says.Closed s.epoch) tt) (answered (shut_answer s) shut_form)
+        (record {
+          site = record {
+            epoch = w.epoch;
+            began = w.began;
+            log = w.log;
+            held = promises_held s.prepared w.prepared;
+            prepared = w.prepared;
+          };
+          sends = (shut_form, tt);
+          failed_sends = (tt, tt);
+          write = ((here, tt), tt);
+        })
+
+    installed_form : (k clock : ℕ) (lines : List Line) → StartInForm k lines
+        → SiteMoveInForm (installs s from number k clock lines)
+    installed_form k clock lines here =
+        choose SiteMoveInForm (nat_le k s.epoch) _ _ (λ known. answered says.Installed tt)
+        (λ later. choose SiteMoveInForm (nat_le (epoch_length lines) most_record_bytes) _ _
+        (λ fits. record {
+          site =
+              record { epoch = here.epoch_is; began = here.lines_are.each_is; log = tt; held = tt; prepared = tt };
+          sends = (tt, tt);
+          failed_sends = (tt, tt);
+          write = ((here, leb-true (epoch_length lines) most_record_bytes fits), tt);
+        })
+        (λ long. answered (says.Behind s.epoch) tt))
+
     pub at_form : decl.clients ≤ most_clients → (message : Message) → MessageInForm message
         → SiteMoveInForm (site_at decl s from number message)
     at_form few (messages.Request tx epoch life want) here = requested_form few tx epoch life want here.0 here.1
@@ -225,5 +279,5 @@ module _ (decl : Declaration) (s : SiteState) (from number : ℕ) (w : SiteInFor
     at_form few (messages.Decision tx verdict) here = finished tx verdict here
     at_form few (messages.Inquiry tx) here = silent
     at_form few (messages.Ask tx) here = silent
-    at_form few (messages.Close epoch) here = silent
-    at_form few (messages.Install epoch clock log) here = silent
+    at_form few (messages.Close k) here = closed_form k here
+    at_form few (messages.Install k clock lines) here = installed_form k clock lines here

@@ -4,40 +4,37 @@ use Rattle.std.specs.List.{AllByRecursion as Every}
 use Rattle.std.specs.Option.{option_map_or}
 use Rattle.qc_list.proofs.Members.{every-In, every-append, every-filter}
 use Rattle.qc_decl.specs.declared.declaration.Declaration.{Declaration}
+use Rattle.qc_entry.specs.Log.{has_line, without}
+use Rattle.qc_entry.specs.declared.line.Line.{Line}
 use Rattle.qc_entry.specs.declared.record.Prepared.{Prepared}
 use Rattle.qc_entry.proofs.Union.{every-union}
-use Rattle.qc_lock.specs.declared.held.Held.{Held}
 use Rattle.qc_msg.specs.declared.record.Record.{Record}
 use Rattle.qc_msg.specs.declared.record.Record.TheVariants as records
-use Rattle.qc_record.specs.Legal.{IsLock, IsOwn, IsTx, IsWithin}
-use Rattle.qc_recover.specs.Sites.{Kept, done_lines, done_stamp, holds, inquiry, keeps, kept_by, nothing_kept, site_of}
+use Rattle.qc_record.specs.Legal.{IsWithin}
+use Rattle.qc_recover.specs.Sites.{Kept, done_lines, done_stamp, inquiry, keeps, kept_by, nothing_kept, site_of}
 use Rattle.qc_recover.specs.Sites.{with_promise}
 use Rattle.qc_recover.specs.Words.{IsRecordSorted}
 use Rattle.qc_recover.proofs.SortedRecords.{risen_sorted}
 use Rattle.qc_site.specs.Promise.{lines_of, prepared_of, without_prepared}
 use Rattle.qc_stamp.specs.Order.{same_tx}
 use Rattle.qc_stamp.specs.declared.stamp.TxId.{TxId}
-use Rattle.qc_bounds.proofs.Forms.{LineInForm, RecordInForm, SendsInForm}
-use Rattle.qc_bounds.proofs.HeldInForm.{FoundInForm, HeldInForm, PromiseInForm, found_form, held_form, lines_form}
+use Rattle.qc_bounds.proofs.Forms.{LineInForm, PromiseInForm, RecordInForm, SendsInForm}
+use Rattle.qc_bounds.proofs.HeldInForm.{FoundInForm, found_form, lines_form, promises_held}
 use Rattle.qc_bounds.proofs.SitesInForm.{SiteInForm}
 use Rattle.qc_bounds.proofs.SitesTake.{SiteStands}
 
--- a promise with its locks
-record PromiseKept (p : Prepared) : Type 0 where
-  tx : IsTx p.tx
-  locks : Every IsLock p.locks
-  own : Every IsOwn p.own
-
 record KeptInForm (k : Kept) : Type 0 where
   epoch : IsWithin 1 8 k.epoch
+  began : Every LineInForm k.began
   lines : Every LineInForm k.lines
   prepares : Every PromiseInForm k.prepares
-  promises : Every PromiseKept k.promises
+  promises : Every PromiseInForm k.promises
 
-with_form : (P : Prepared → Type 0) (ps : List Prepared) (p : Prepared) → Every P ps → P p → Every P (with_promise ps p)
-with_form P ps p all here =
-    every-append P (without_prepared ps p.tx) (p ∷ [])
-    (every-filter P (λ (q : Prepared). not (same_tx q.tx p.tx)) ps all) (here, tt)
+with_form : (ps : List Prepared) (p : Prepared) → Every PromiseInForm ps → PromiseInForm p
+    → Every PromiseInForm (with_promise ps p)
+with_form ps p all here =
+    every-append PromiseInForm (without_prepared ps p.tx) (p ∷ [])
+    (every-filter PromiseInForm (λ (q : Prepared). not (same_tx q.tx p.tx)) ps all) (here, tt)
 
 done_form : (prepares : List Prepared) (tx : TxId) (clock : ℕ) → Every PromiseInForm prepares → 1 ≤ clock
     → Every LineInForm (done_lines prepares tx clock)
@@ -52,26 +49,28 @@ done_form prepares tx clock all least = by (prepared_of prepares tx) refl
 
 keeps_form : (k : Kept) (r : Record) → RecordInForm r → KeptInForm k → KeptInForm (keeps k r)
 keeps_form k records.Life here w =
-    record { epoch = w.epoch; lines = w.lines; prepares = w.prepares; promises = w.promises }
+    record { epoch = w.epoch; began = w.began; lines = w.lines; prepares = w.prepares; promises = w.promises }
 keeps_form k (records.Prepare p) here w = record {
   epoch = w.epoch;
+  began = w.began;
   lines = every-union LineInForm k.lines p.lines w.lines here.lines.each_is;
-  prepares = with_form PromiseInForm k.prepares p w.prepares (record { tx = here.tx; own = here.own });
-  promises =
-      with_form PromiseKept k.promises p w.promises (record { tx = here.tx; locks = here.locks; own = here.own });
+  prepares = with_form k.prepares p w.prepares (record { tx = here.tx; locks = here.locks; own = here.own });
+  promises = with_form k.promises p w.promises (record { tx = here.tx; locks = here.locks; own = here.own });
 }
 keeps_form k (records.Done tx clock) here w = record {
   epoch = w.epoch;
+  began = w.began;
   lines =
-      every-union LineInForm k.lines (done_lines k.prepares tx clock) w.lines
-      (done_form k.prepares tx clock w.prepares here.1);
+      every-union LineInForm k.lines (without (done_lines k.prepares tx clock) k.began) w.lines
+      (every-filter LineInForm (λ (l : Line). not (has_line k.began l)) (done_lines k.prepares tx clock)
+      (done_form k.prepares tx clock w.prepares here.1));
   prepares = w.prepares;
-  promises = every-filter PromiseKept (λ (q : Prepared). not (same_tx q.tx tx)) k.promises w.promises;
+  promises = every-filter PromiseInForm (λ (q : Prepared). not (same_tx q.tx tx)) k.promises w.promises;
 }
 keeps_form k (records.Close epoch) here w =
-    record { epoch = w.epoch; lines = w.lines; prepares = w.prepares; promises = w.promises }
+    record { epoch = w.epoch; began = w.began; lines = w.lines; prepares = w.prepares; promises = w.promises }
 keeps_form k (records.Install epoch clock lines) here w =
-    record { epoch = here.epoch_is; lines = here.lines_are.each_is; prepares = tt; promises = tt }
+    record { epoch = here.epoch_is; began = here.lines_are.each_is; lines = tt; prepares = tt; promises = tt }
 keeps_form k (records.Commit c) here w = w
 keeps_form k (records.Decide epoch clock lines) here w = w
 
@@ -79,26 +78,17 @@ kept_form : (rs : List Record) (k : Kept) → Every RecordInForm rs → KeptInFo
 kept_form [] k all w = w
 kept_form (r ∷ rs) k all w = kept_form rs (keeps k r) all.1 (keeps_form k r all.0 w)
 
-all_held : (held : List Held) (ps : List Prepared) → Every HeldInForm held → Every PromiseKept ps
-    → Every HeldInForm (fold holds held ps)
-all_held held [] form all = form
-all_held held (p ∷ ps) form all =
-    all_held (holds held p) ps (held_form held p.tx p.locks p.own form all.0.locks all.0.own) all.1
-
-promised : (ps : List Prepared) → Every PromiseKept ps → Every PromiseInForm ps
-promised [] all = tt
-promised (p ∷ ps) all = (record { tx = all.0.tx; own = all.0.own }, promised ps all.1)
-
 site_form : (a : ℕ) (rs : List Record) → Every RecordInForm rs → SiteInForm (site_of a rs)
 site_form a rs all =
     let first : IsWithin 1 8 nothing_kept.epoch = (omega arith, omega arith) in
     let k : KeptInForm (kept_by rs) =
-    kept_form rs nothing_kept all (record { epoch = first; lines = tt; prepares = tt; promises = tt }) in
+    kept_form rs nothing_kept all (record { epoch = first; began = tt; lines = tt; prepares = tt; promises = tt }) in
     record {
       epoch = k.epoch;
+      began = k.began;
       log = k.lines;
-      held = all_held [] (kept_by rs).promises tt k.promises;
-      prepared = promised (kept_by rs).promises k.promises;
+      held = promises_held (kept_by rs).promises k.promises;
+      prepared = k.promises;
     }
 
 record_sorted : (r : Record) → RecordInForm r → IsRecordSorted r

@@ -33,7 +33,7 @@ message_sorted (messages.Decision tx verdict) here = tt
 message_sorted (messages.Inquiry tx) here = tt
 message_sorted (messages.Ask tx) here = tt
 message_sorted (messages.Close epoch) here = tt
-message_sorted (messages.Install epoch clock log) here = tt
+message_sorted (messages.Install epoch clock lines) here = here.lines_are.ascend
 
 module _ (decl : Declaration) (few : decl.clients ≤ most_clients) where
   pub site_takes_form : (s : SiteState) (g : Given) → SiteStands s → TakenInForm g
@@ -41,8 +41,8 @@ module _ (decl : Declaration) (few : decl.clients ≤ most_clients) where
   site_takes_form s (given.Called command) w here = silent decl s 0 0 w.form
   site_takes_form s (given.Got e) w here =
       at_form decl (passed s e.message) e.from e.number
-      (record { epoch = w.form.epoch; log = w.form.log; held = w.form.held; prepared = w.form.prepared })
-      (record { log = w.sorted.log; recorded = w.sorted.recorded; held = w.sorted.held; prepared = w.sorted.prepared })
+      (record { epoch = w.form.epoch; began = w.form.began; log = w.form.log; held = w.form.held; prepared = w.form.prepared })
+      (record { began = w.sorted.began; log = w.sorted.log; recorded = w.sorted.recorded; held = w.sorted.held; prepared = w.sorted.prepared })
       few e.message here
   site_takes_form s (given.Lost number) w here = silent decl s 0 0 w.form
 

@@ -21,7 +21,7 @@ use Rattle.qc_core.proofs.ClientLands.{lands}
 use Rattle.qc_core.proofs.ClientReaches.{AskedFit, ClientReach, client_reach, new_asked, no_sites, sent_asked}
 use Rattle.qc_core.proofs.ClientStands.{Lands, Stands, new_stands, runs_told}
 use Rattle.qc_core.proofs.LivesLaws.{falls as after_falls, rises as after_rises}
-use Rattle.qc_core.proofs.SiteReaches.{site_reach}
+use Rattle.qc_core.proofs.SiteReaches.{IsOfClients, site_reach}
 use Rattle.qc_decl.specs.Accepted.{IsAccepted}
 use Rattle.qc_decl.specs.Actors.{is_site}
 use Rattle.qc_decl.specs.Limits.{most_clients}
@@ -39,10 +39,10 @@ use Rattle.qc_msg.specs.declared.turn.Turn.{Turn}
 use Rattle.qc_msg.specs.Deeds.{Deed, Takes, Falls, Rises, deeds_as, sends_of, tells_of, turn_deeds}
 use Rattle.qc_recover.specs.Clients.{client_rises}
 use Rattle.qc_recover.specs.Sites.{kept_by, site_rises}
-use Rattle.qc_recover.proofs.Holders.{holders_of_clients}
+use Rattle.qc_site.proofs.Holders.{clients-promised}
 use Rattle.qc_recover.proofs.Promised.{each_promise}
 use Rattle.qc_site.specs.Conduct.{site_takes}
-use Rattle.qc_site.specs.Holders.{AreOfClients}
+use Rattle.qc_site.specs.Holders.{AreByClients}
 use Rattle.qc_site.specs.Site.{new_site}
 use Rattle.qc_bounds.specs.Calls.{IsOfClient, IsSound}
 use Rattle.qc_bounds.proofs.TurnsPosted.{client_turn, down_turn, runs_event, runs_turn, site_turn}
@@ -54,7 +54,7 @@ pub record ClientReady (decl : Declaration) (running : Bool) (c : Client) : Type
   pub asked : AskedFit decl.sites c
 
 abbrev pub IsReady : Declaration → Bool → Actor → Type 0
-IsReady decl running (actors.Site s) = AreOfClients s.held
+IsReady decl running (actors.Site s) = IsOfClients s
 IsReady decl running (actors.Client c) = ClientReady decl running c
 IsReady decl running actors.Down = Unit {0}
 
@@ -64,7 +64,7 @@ module _ (decl : Declaration) (accepted : IsAccepted decl) (a : ℕ) where
     where
       by : (b : Bool)
           → IsReady decl false (cond b (actors.Site (new_site a)) (actors.Client (new_client (a - decl.sites))))
-      by true = tt
+      by true = record { held = tt; prepared = tt }
       by false = record { stands = new_stands decl (a - decl.sites); asked = new_asked decl.sites (a - decl.sites) }
 
   -- one input with its turn
@@ -96,15 +96,17 @@ module _ (decl : Declaration) (accepted : IsAccepted decl) (a : ℕ) where
 
   -- a rise with its turn
 
-  promises_of : (rs : List Record) → Every IsOfClient rs → AreOfClients (site_rises decl a rs).site.held
-  promises_of rs all =
-      holders_of_clients (kept_by (rs ++ records.Life ∷ [])).promises
-      (each_promise (λ (p : Prepared). p.tx.client < most_clients) (rs ++ records.Life ∷ [])
-      (λ p among. by p (In-more (records.Prepare p) records.Life rs among)))
+  promises_of : (rs : List Record) → Every IsOfClient rs → IsOfClients (site_rises decl a rs).site
+  promises_of rs all = record { held = clients-promised (kept_by (rs ++ records.Life ∷ [])).promises each; prepared = each }
     where
       by : (p : Prepared) → In (records.Prepare p) rs ⊎ (records.Prepare p ≡ records.Life) → p.tx.client < most_clients
       by p (inl old) = every-In IsOfClient (records.Prepare p) rs all old
       by p (inr never) = absurd (let no : ⊥ = cc in no)
+
+      each : AreByClients (kept_by (rs ++ records.Life ∷ [])).promises
+      each =
+          each_promise (λ (p : Prepared). p.tx.client < most_clients) (rs ++ records.Life ∷ [])
+          (λ p among. by p (In-more (records.Prepare p) records.Life rs among))
 
   told_idle : (told : Option Reply) → runs_told false told ≡ false
   told_idle None = refl

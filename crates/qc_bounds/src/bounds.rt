@@ -44,14 +44,15 @@ pub fn bounds_are_on_what_rises()
 
 /// A client has begun at most as many transactions as there are steps: they
 /// count anew from each rise. An actor's life is at most two more than the
-/// records of any rise, and, where records are kept, than the steps. So it is
+/// records of any rise and the steps, among which are those with which a site
+/// closes an epoch; and, where records are kept, than twice the steps. So it is
 /// of every history.
 #[tactic(auto, using(crate::proofs::CountBounds::history_counts, crate::proofs::CountBounds::history_lives, crate::proofs::Needs::kept_lives))]
 pub fn counts_and_lives_are_bounded_with_falls()
     ensures counts { (decl : Declaration) (a : ℕ) (h : List Entry)
         → CountsWithin (length h) (actor_after decl a (deeds a [] h)).actor }
     ensures lives { (most : ℕ) (decl : Declaration) (a : ℕ) (h : List Entry) → RiseWithFew most h
-        → LivesWithin (most + 2) (actor_after decl a (deeds a [] h)).actor }
+        → LivesWithin (most + 2 + length h) (actor_after decl a (deeds a [] h)).actor }
     ensures kept_lives { (decl : Declaration) (h : List Entry) (a : ℕ) → Kept h
-        → LivesWithin (length h + 2) (actor_after decl a (deeds a [] h)).actor }
+        → LivesWithin (length h + 2 + length h) (actor_after decl a (deeds a [] h)).actor }
 {}

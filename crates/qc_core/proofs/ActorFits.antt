@@ -12,7 +12,6 @@ use Rattle.qc_front.specs.declared.doing.Doing.{Doing}
 use Rattle.qc_front.specs.declared.doing.Doing.TheVariants.{Idle, Reading, Appending}
 use Rattle.qc_front.specs.Conduct as fronts
 use Rattle.qc_front.specs.Fits as rounds
-use Rattle.qc_front.specs.Fits.{FrontFits}
 use Rattle.qc_front.proofs.Fitting.{fits}
 use Rattle.qc_msg.specs.declared.step.Given.{Given}
 use Rattle.qc_msg.specs.declared.turn.Turn.{Turn}
@@ -22,8 +21,7 @@ use Rattle.qc_client.specs.Client.{ClientMove}
 use Rattle.qc_client.specs.Conduct.{client_after, client_does, client_takes, sent, sent_by}
 use Rattle.qc_client.specs.Fits.{ClientFits}
 use Rattle.qc_site.specs.Conduct.{site_after, site_does, site_takes}
-use Rattle.qc_site.specs.Holders.{AreOfClients}
-use Rattle.qc_site.specs.Site.{SiteMove}
+use Rattle.qc_site.specs.Site.{SiteMove, SiteState}
 use Rattle.qc_core.specs.declared.actor.Actor.TheVariants as actor
 use Rattle.qc_core.specs.Actors.{ActorFits, ActorMove, ActorWithin, AsksFew, IsFrom, IsFromActor, IsShort, actor_after, actor_takes}
 use Rattle.qc_core.specs.Acts.{Acts, MayTake, is_running, starts, takes, posts}
@@ -32,7 +30,7 @@ use Rattle.qc_core.proofs.ActorSent.{known, lawful_turn, sent_at_once}
 use Rattle.qc_core.proofs.ClientReaches.{AskedFit, client_reach, new_asked, sent_asked}
 use Rattle.qc_core.proofs.ClientLands.{lands}
 use Rattle.qc_core.proofs.ClientStands.{Lands, Stands}
-use Rattle.qc_core.proofs.SiteReaches.{site_reach}
+use Rattle.qc_core.proofs.SiteReaches.{IsOfClients, site_reach}
 use Rattle.qc_core.proofs.Steady.{acts_steady}
 
 -- few sites are asked, before the numbers of a turn's messages are known as after
@@ -69,11 +67,18 @@ client_fits decl running c n accepted low st within =
       desk = record { clock = omega arith; few = st.few };
     }
 
+-- a site fits, where its life is below the end
+
+site_fits : (s : SiteState) (n : ℕ) → n < 2 ^ 31 → ActorWithin n (actor.Site s) → ActorFits (actor.Site s)
+site_fits s n low within = let life : s.life ≤ n = within in omega arith
+
 pub actor_fits : (decl : Declaration) (a : ℕ) (ds : List Deed) (m n : ℕ) → IsAccepted decl → a < actors decl → Acts decl a ds false m → n < 2 ^ 31 → ActorWithin n (actor_after decl a ds).actor → ActorFits (actor_after decl a ds).actor
 actor_fits decl a ds m n accepted below acts low = by (is_site decl a) refl
   where
     by : (b : Bool) → is_site decl a ≡ b → ActorWithin n (actor_after decl a ds).actor → ActorFits (actor_after decl a ds).actor
-    by true is within = subst (λ (v : ActorMove). ActorFits v.actor) (sym (at_site decl a ds (acts_steady decl a ds false m acts) is)) tt
+    by true is within =
+        subst (λ (v : ActorMove). ActorFits v.actor) (sym (at_site decl a ds (acts_steady decl a ds false m acts) is))
+        (site_fits (site_after decl a ds).site n low (subst (λ (v : ActorMove). ActorWithin n v.actor) (at_site decl a ds (acts_steady decl a ds false m acts) is) within))
     by false is within =
         subst (λ (v : ActorMove). ActorFits v.actor) (sym (at_client decl a ds (acts_steady decl a ds false m acts) is))
         (client_fits decl (is_running ds) (client_after decl (a - decl.sites) ds).client n accepted low
@@ -102,7 +107,7 @@ every_last : (xs ys : List Deed) → Every IsFromActor (xs ++ ys) → Every IsFr
 every_last [] ys all = all
 every_last (x ∷ xs) ys all = every_last xs ys all.1
 
-site_clients : (decl : Declaration) → IsAccepted decl → (m : SiteMove) (ds : List Deed) → Every IsFromActor ds → AreOfClients m.site.held → AreOfClients (fold (site_does decl) m ds).site.held
+site_clients : (decl : Declaration) → IsAccepted decl → (m : SiteMove) (ds : List Deed) → Every IsFromActor ds → IsOfClients m.site → IsOfClients (fold (site_does decl) m ds).site
 site_clients decl accepted m [] from clients = clients
 site_clients decl accepted m (Takes g ∷ ds) from clients = site_clients decl accepted (site_takes decl m.site g) ds from.1 (site_reach decl accepted m.site g from.0 clients).clients
 site_clients decl accepted m (Writes written ∷ ds) from clients = site_clients decl accepted m ds from.1 clients
@@ -158,7 +163,7 @@ actor_short decl a ds m g accepted below acts from here = by (is_site decl a) re
     by : (b : Bool) → is_site decl a ≡ b → IsShort (actor_takes decl (actor_after decl a ds).actor g).turn
     by true is =
         subst (λ (v : ActorMove). IsShort (actor_takes decl v.actor g).turn) (sym (at_site decl a ds (acts_steady decl a ds false m acts) is))
-        (site_reach decl accepted (site_after decl a ds).site g here (site_clients decl accepted _ ds from tt)).turn
+        (site_reach decl accepted (site_after decl a ds).site g here (site_clients decl accepted _ ds from (record { held = tt; prepared = tt }))).turn
     by false is =
         subst (λ (v : ActorMove). IsShort (actor_takes decl v.actor g).turn) (sym (at_client decl a ds (acts_steady decl a ds false m acts) is))
         (client_reach decl accepted (client_after decl (a - decl.sites) ds).client g here

@@ -14,16 +14,19 @@ use Rattle.qc_msg.specs.declared.turn.Turn.{Turn}
 use Rattle.qc_msg.specs.Deeds.{Deed, Takes, Rises}
 use Rattle.qc_msg.specs.Steps.{sends_as}
 use Rattle.qc_recover.specs.Clients.{client_rises}
-use Rattle.qc_recover.specs.Sites.{in_order, inquiries, inquiry, kept_by, most_inquiries, rising, site_rises}
+use Rattle.qc_recover.specs.Sites.{inquiry, kept_by, most_inquiries, site_rises}
+use Rattle.qc_site.specs.Epochs.{in_order}
 use Rattle.qc_stamp.specs.declared.stamp.TxId.{TxId}
 use Rattle.qc_entry.specs.declared.record.Prepared.{Prepared}
 use Rattle.qc_core.specs.declared.actor.Actor.{Actor}
 use Rattle.qc_core.specs.declared.actor.Actor.TheVariants as actor
-use Rattle.qc_core.specs.Actors.{ActorMove, actor_after, actor_rises, actor_takes, by_client, by_site, down_takes}
+use Rattle.qc_core.specs.Actors.{ActorMove, actor_after, actor_rises, actor_takes, by_client, by_site}
 use Rattle.qc_core.specs.Conduct.{IsLawfulWithFalls, with_record}
 use Rattle.qc_core.proofs.ByTurns.{after_takes, called_turn}
 use Rattle.qc_core.proofs.LivesLaws.{rises}
-use Rattle.qc_core.proofs.Written.{IsAnswerTo, IsClientTurn, IsSiteTurn, NoAnswer, client_answers, client_written, site_written}
+use Rattle.qc_core.proofs.FrontWrites.{NoAnswer}
+use Rattle.qc_core.proofs.SiteWrites.{IsAnswerTo, IsSiteTurn, site_written}
+use Rattle.qc_core.proofs.Written.{client_answers, client_written}
 
 record Answering (P : Posting → Type 0) (t : Turn) : Type 0 where
   sends : Every P t.sends

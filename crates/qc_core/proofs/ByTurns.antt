@@ -35,7 +35,9 @@ use Rattle.qc_core.specs.Conduct.{IsLawfulWithFalls, with_record}
 use Rattle.qc_core.specs.Lives.{AreUncommanded, IsUncommanded, Lives, MayReach, is_up, up_at}
 use Rattle.qc_core.specs.Lives as lives
 use Rattle.qc_core.proofs.LivesLaws.{down, rises, up}
-use Rattle.qc_core.proofs.Written.{FailsAlone, IsClientTurn, IsSiteTurn, client_written, says_neither, says_unwritten, site_written, tells_neither, tells_unwritten, writes_no_life}
+use Rattle.qc_core.proofs.FrontWrites.{FailsAlone, IsClientTurn, says_neither, says_unwritten, tells_neither, tells_unwritten}
+use Rattle.qc_core.proofs.SiteWrites.{IsSiteTurn, site_written, writes_no_life}
+use Rattle.qc_core.proofs.Written.{client_written}
 
 -- deed by deed
 

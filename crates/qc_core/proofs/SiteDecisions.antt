@@ -8,7 +8,7 @@ use Rattle.qc_stamp.specs.declared.stamp.TxId.{TxId}
 use Rattle.qc_stamp.specs.Order.{same_tx}
 use Rattle.qc_entry.specs.declared.line.Line.{Line}
 use Rattle.qc_entry.specs.declared.record.Prepared.{Prepared}
-use Rattle.qc_entry.specs.Log.{union}
+use Rattle.qc_entry.specs.Log.{union, without}
 use Rattle.qc_entry.proofs.Union.{union-nil}
 use Rattle.qc_lock.specs.declared.held.Held.{Held}
 use Rattle.qc_lock.specs.Held.{without_held}
@@ -24,19 +24,21 @@ use Rattle.qc_msg.specs.declared.turn.Turn.{Turn}
 use Rattle.qc_msg.specs.Deeds.{Deed, Takes, turn_deeds}
 use Rattle.qc_msg.specs.Readings.{Finished}
 use Rattle.qc_msg.specs.Turns.{quiet}
-use Rattle.qc_promise.specs.Lifetimes.{lifetime, records_in}
+use Rattle.qc_promise.specs.Lifetimes.{records_in}
 use Rattle.qc_promise.specs.SiteEnds.{is_ended, is_final}
-use Rattle.qc_promise.specs.SiteHeld.{Grant, standing, with_promise}
-use Rattle.qc_promise.specs.SiteLogs.{done_lines, lines_of, view_in}
+use Rattle.qc_promise.specs.SiteHeld.{Grant, last_cut, standing, with_promise}
+use Rattle.qc_promise.specs.SiteLogs.{Lines, done_lines, learning, lines_of, lines_shown, view_in}
 use Rattle.qc_site.specs.Promise.{dropped, finishes, is_prepared, joins, prepared_of}
 use Rattle.qc_site.specs.Site.{SiteState, answering, moved}
 use Rattle.qc_core.proofs.SiteDrops.{drops, drops_promises}
 use Rattle.qc_core.proofs.SiteGrowth.{lasts, stays}
-use Rattle.qc_core.proofs.SitePosts.{post_ends}
+use Rattle.qc_core.proofs.SiteHolds.{hold, remaining, remains}
+use Rattle.qc_core.proofs.SiteLines.{began_shows, view_given}
+use Rattle.qc_core.proofs.SitePosts.{learning-nil, post_ends}
 use Rattle.qc_core.proofs.SitePrepares.{filter_same, last_of, none_prepared, sym_tx}
-use Rattle.qc_core.proofs.SiteShown.{grown, hold, remains, rose, same_state, shown, shown-more, view_given}
+use Rattle.qc_core.proofs.SiteShown.{grown, same_state, shown, shown-more}
 use Rattle.qc_core.proofs.SiteSteps.{IsStep, and_false, letter, passed, still}
-use Rattle.qc_core.proofs.SiteTalks.{filter_all, held_on}
+use Rattle.qc_core.proofs.SiteTalks.{filter_all, stays_held}
 
 or_false : (x : Bool) → (x || false) ≡ x
 or_false true = refl
@@ -83,10 +85,10 @@ module _ (site : ℕ) (ds : List Deed) (n number from to : ℕ) where
         sym (shown-more site ds preparing n (promising from number clock p)
         ∙ same_state (grown site ds preparing n (promising from number clock p))
         (record (passed site ds (messages.Request tx epoch life Prepare)) { recorded = union (shown site ds).recorded p.lines; prepared = (shown site ds).prepared ++ p ∷ [] })
-        refl refl refl refl
-        (union-nil (union (shown site ds).log (view_given preparing (turn_deeds n (promising from number clock p)))) ∙ ap (λ (v : List Line). union (shown site ds).log v) (none_seen ((number == number) && false || false)) ∙ union-nil (shown site ds).log)
+        refl refl refl refl refl
+        (ap (λ (l : Lines). l.since) (learning-nil (learning (lines_shown ds) (view_given preparing (turn_deeds n (promising from number clock p))))) ∙ ap (λ (v : List Line). (learning (lines_shown ds) v).since) (none_seen ((number == number) && false || false)) ∙ union-nil (shown site ds).log)
         refl
-        (held_on ds preparing n (promising from number clock p) (λ t. refl, λ t. refl) []
+        (stays_held ds preparing n (promising from number clock p) (λ t. refl, λ t. refl) []
         (ap (λ (b : Bool). cond ((b || false) && true) (record { tx = tx; want = Prepare } ∷ []) []) (and_false (number == number))))
         (ap (λ (v : List Prepared). v ++ p ∷ []) (filter_same (lasts (Takes preparing ∷ turn_deeds n (promising from number clock p))) (λ (q : Prepared). not (same_tx q.tx tx)) apart (shown site ds).prepared ∙ none_prepared (shown site ds).prepared tx none))
         refl)
@@ -111,11 +113,11 @@ module _ (site : ℕ) (ds : List Deed) (n number from to : ℕ) where
 
   -- what is held once a Decision that ends a transaction is taken
   ended : (tx : TxId) (verdict : Outcome) (turn : Turn) → is_final verdict ≡ true
-      → fold hold (fold hold (fold with_promise [] (filter (remains (Takes (deciding tx verdict) ∷ turn_deeds n turn)) (rose (lifetime ds)))) (filter (stays (Takes (deciding tx verdict) ∷ turn_deeds n turn)) (standing (lifetime ds).since))) []
+      → fold hold (fold hold (fold with_promise [] (filter (remains (Takes (deciding tx verdict) ∷ turn_deeds n turn)) (remaining (last_cut ds)))) (filter (stays (Takes (deciding tx verdict) ∷ turn_deeds n turn)) (standing (last_cut ds).since))) []
       ≡ without_held (shown site ds).held tx
   ended tx verdict turn final =
-      ap (λ (v : List Held). fold hold v (filter (stays done) (standing (lifetime ds).since))) (drops_promises tx (remains done) (λ (p : Prepared). others p.tx) [] (rose (lifetime ds)))
-      ∙ drops tx (stays done) (λ (r : Grant). others r.tx) (fold with_promise [] (rose (lifetime ds))) (standing (lifetime ds).since)
+      ap (λ (v : List Held). fold hold v (filter (stays done) (standing (last_cut ds).since))) (drops_promises tx (remains done) (λ (p : Prepared). others p.tx) [] (remaining (last_cut ds)))
+      ∙ drops tx (stays done) (λ (r : Grant). others r.tx) (fold with_promise [] (remaining (last_cut ds))) (standing (last_cut ds).since)
     where
       done : List Deed
       done = Takes (deciding tx verdict) ∷ turn_deeds n turn
@@ -130,7 +132,7 @@ module _ (site : ℕ) (ds : List Deed) (n number from to : ℕ) where
   aborted tx =
       sym (shown-more site ds (deciding tx Aborted) n quiet
       ∙ same_state (grown site ds (deciding tx Aborted) n quiet) (dropped (with_clock tx Aborted) tx)
-      refl refl refl refl
+      refl refl refl refl refl
       (union-nil (shown site ds).log)
       refl
       (ended tx Aborted quiet refl)
@@ -161,7 +163,7 @@ module _ (site : ℕ) (ds : List Deed) (n number from to : ℕ) where
       by None is =
           sym (shown-more site ds (deciding tx (Committed stamp)) n quiet
           ∙ same_state (grown site ds (deciding tx (Committed stamp)) n quiet) (dropped (with_clock tx (Committed stamp)) tx)
-          refl refl refl refl
+          refl refl refl refl refl
           (union-nil (shown site ds).log)
           refl
           (ended tx (Committed stamp) quiet refl)
@@ -170,10 +172,10 @@ module _ (site : ℕ) (ds : List Deed) (n number from to : ℕ) where
           refl)
       by (Some p) is =
           sym (shown-more site ds (deciding tx (Committed stamp)) n (finishing tx stamp.clock)
-          ∙ same_state (grown site ds (deciding tx (Committed stamp)) n (finishing tx stamp.clock)) (record (dropped (with_clock tx (Committed stamp)) tx) { log = union (shown site ds).log (lines_of stamp tx p.own); recorded = union (shown site ds).recorded (lines_of stamp tx p.own) })
-          refl refl refl refl
-          (ap (λ (v : List Line). union v (done_lines (records_in ds) done)) (union-nil (shown site ds).log) ∙ ap (λ (v : List Line). union (shown site ds).log v) (lines_are p is))
-          (ap (λ (v : List Line). union (shown site ds).recorded v) (lines_are p is))
+          ∙ same_state (grown site ds (deciding tx (Committed stamp)) n (finishing tx stamp.clock)) (record (dropped (with_clock tx (Committed stamp)) tx) { log = union (shown site ds).log (without (lines_of stamp tx p.own) (shown site ds).began); recorded = union (shown site ds).recorded (without (lines_of stamp tx p.own) (shown site ds).began) })
+          refl refl refl refl refl
+          (ap (λ (l : Lines). (learning l (done_lines (records_in ds) done)).since) (learning-nil (lines_shown ds)) ∙ ap (λ (v : List Line). (learning (lines_shown ds) v).since) (lines_are p is))
+          (ap (λ (v : List Line). union (shown site ds).recorded (without (done_lines (records_in ds) done) v)) (sym (began_shows ds)) ∙ ap (λ (v : List Line). union (shown site ds).recorded (without v (shown site ds).began)) (lines_are p is))
           (ended tx (Committed stamp) (finishing tx stamp.clock) refl)
           (append-nil (filter (lasts (Takes (deciding tx (Committed stamp)) ∷ turn_deeds n (finishing tx stamp.clock))) (shown site ds).prepared)
           ∙ filter_same (lasts (Takes (deciding tx (Committed stamp)) ∷ turn_deeds n (finishing tx stamp.clock))) (λ (q : Prepared). not (same_tx q.tx tx)) apart (shown site ds).prepared)

@@ -13,7 +13,7 @@ use Rattle.qc_msg.specs.declared.message.Want.{Want}
 use Rattle.qc_msg.specs.declared.message.Want.TheVariants.{Read, Append, Prepare}
 use Rattle.qc_entry.specs.declared.record.Prepared.{Prepared}
 use Rattle.qc_promise.specs.SiteHeld.{Grant, holding, with_promise}
-use Rattle.qc_core.proofs.SiteShown.{hold}
+use Rattle.qc_core.proofs.SiteHolds.{hold}
 
 without-put_same : (held : List Held) (e : Held) (tx : TxId) → same_tx e.tx tx ≡ true → without_held (with_entry held e) tx ≡ without_held held tx
 without-put_same [] e tx same = rw same refl

@@ -1,14 +1,16 @@
 -- A site's turn for an input is the one that is due.
-use Rattle.std.proofs.Common.{◌≡◌, ℕ, ◌==◌, ◌||◌, not, nat_lt, Bool, true, false, cond, List, [], ◌∷◌, ◌++◌, Option, Some, None, is_some, refl, sym, ap, ◌∙◌, subst}
-use Rattle.std.specs.Prelude.{filter, map, option_map, option_to_list}
+use Rattle.std.proofs.Common.{◌≡◌, ℕ, ◌+◌, ◌==◌, ◌||◌, not, nat_le, nat_lt, Bool, true, false, cond, List, [], ◌∷◌, ◌++◌, Option, Some, None, is_some, refl, sym, ap, ◌∙◌, subst}
+use Rattle.std.specs.Prelude.{filter, option_map}
 use Rattle.std.specs.Option.{option_map_or, option_or}
 use Rattle.std.proofs.lemmas.List.{append-nil}
 use Rattle.qc_stamp.specs.declared.stamp.Stamp.{Stamp}
 use Rattle.qc_stamp.specs.declared.stamp.TxId.{TxId}
 use Rattle.qc_stamp.specs.Order.{same_tx}
+use Rattle.qc_entry.specs.declared.line.Line.{Line}
 use Rattle.qc_entry.specs.declared.record.Prepared.{Prepared}
 use Rattle.qc_entry.specs.Log.{union}
 use Rattle.qc_decl.specs.declared.declaration.Declaration.{Declaration}
+use Rattle.qc_decl.specs.Limits.{most_record_bytes}
 use Rattle.qc_lock.specs.declared.clash.Clash.{Clash as Conflict}
 use Rattle.qc_lock.specs.Clash.{append_clash, read_clash}
 use Rattle.qc_lock.specs.Held.{is_held}
@@ -20,91 +22,29 @@ use Rattle.qc_msg.specs.declared.message.Message.TheVariants as messages
 use Rattle.qc_msg.specs.declared.message.Outcome.TheVariants.{Committed, Aborted, Active}
 use Rattle.qc_msg.specs.declared.message.Want.{Want}
 use Rattle.qc_msg.specs.declared.message.Want.TheVariants.{Read, Append, Prepare}
-use Rattle.qc_msg.specs.declared.record.Record.{Record}
 use Rattle.qc_msg.specs.declared.record.Record.TheVariants as records
-use Rattle.qc_msg.specs.declared.reply.Reply.{Reply}
-use Rattle.qc_msg.specs.declared.step.Fall.{Fall}
-use Rattle.qc_msg.specs.declared.step.Fall.TheVariants as causes
-use Rattle.qc_msg.specs.declared.turn.Appended.{Appended}
-use Rattle.qc_msg.specs.declared.turn.Appended.TheVariants.{Done, Failed, Stopped}
-use Rattle.qc_msg.specs.Steps.{HasRecord, MayEnd}
+use Rattle.qc_msg.specs.declared.turn.Appended.TheVariants.{Done}
 use Rattle.qc_msg.specs.declared.step.Given.{Given}
 use Rattle.qc_msg.specs.declared.step.Given.TheVariants as given
 use Rattle.qc_msg.specs.declared.turn.Posting.{Posting}
-use Rattle.qc_msg.specs.declared.turn.Turn.{Turn}
-use Rattle.qc_msg.specs.Deeds.{Deed, Takes, Falls, deeds_as, tells_of, turn_deeds}
+use Rattle.qc_msg.specs.Deeds.{Deed, Takes}
+use Rattle.qc_msg.specs.Lengths.{epoch_length}
 use Rattle.qc_msg.specs.Readings.{Requested}
 use Rattle.qc_msg.specs.Turns.{quiet}
-use Rattle.qc_promise.specs.Posts.{Act, Fell, IsPostOf, Sent, TurnDue, Wrote, ends_with, fallen_in, posted_due, posted_next, quiet_turn, sending}
-use Rattle.qc_promise.specs.SiteDue.{answers_due, clash_told, closed_refusal, epoch_refusal, fits_record, granting_turn, inquiries_due, is_declared, promise_due, promise_turn, turn_due, want_refusal}
+use Rattle.qc_promise.specs.Posts.{TurnDue, quiet_turn, sending}
+use Rattle.qc_promise.specs.SiteDue.{answers_due, clash_told, closed_refusal, epoch_refusal, fits_record, granting_turn, inquiries_due, is_declared, is_epoch, promise_due, promise_turn, recording_turn, shut_due, telling_turn, turn_due, want_refusal}
 use Rattle.qc_promise.specs.SitePromises.{is_promised, prepared_shown, promise_in}
-use Rattle.qc_promise.proofs.Posts.{fallen_none, fallen_sent, posted_sends}
 use Rattle.qc_site.specs.Conduct.{site_at, site_on, site_takes}
+use Rattle.qc_site.specs.Epochs.{closed, closes, installed, installs, is_closed_for, shut_answer}
 use Rattle.qc_site.specs.Promise.{joins, promise_of}
 use Rattle.qc_site.specs.Requests.{appends_by, closed_fault, fault_of, grants, names_declared, reads_by, relation_at, requested}
-use Rattle.qc_site.specs.Site.{SiteState, answering, answers as answered, moved}
+use Rattle.qc_site.specs.Site.{SiteState, answering, answers as answered, moved, recording}
 use Rattle.qc_core.proofs.SiteDecisions.{promising}
 use Rattle.qc_core.proofs.SiteGrowth.{lasts}
-use Rattle.qc_core.proofs.SitePosts.{post_acts, told_of}
 use Rattle.qc_core.proofs.SiteShown.{shown, shown-more}
-use Rattle.qc_core.proofs.SiteSteps.{and_false, ignored, letter, passed}
+use Rattle.qc_core.proofs.SiteSteps.{and_false, ignored, letter, passed, still}
 use Rattle.qc_core.proofs.SiteTalks.{filter_all}
-
--- the conduct's turn is the one that is due: the same record and messages, and nothing is told
-
-abbrev pub as_due : Turn → TurnDue
-as_due turn = record { write = turn.write; sends = turn.sends; failed_sends = turn.failed_sends }
-
-pub record Does (turn : Turn) (due : TurnDue) : Type 0 where
-  pub same : as_due turn ≡ due
-  pub untold : turn.told ≡ None
-  pub failed_untold : turn.failed_told ≡ None
-
--- so its post is one of those, whatever becomes of its record
-
-abbrev pub IsFit : TurnDue → List Act → Type 0
-IsFit t acts = acts ≡ posted_due t (fallen_in acts)
-
-written_post : (n : ℕ) (turn : Turn) → turn.told ≡ None → IsFit (as_due turn) (posted_next (turn_deeds n turn))
-written_post n turn untold = subst (IsFit (as_due turn)) (sym posted) (by turn.write)
-  where
-    posted : posted_next (turn_deeds n turn) ≡ map Wrote (option_to_list turn.write) ++ map Sent turn.sends
-    posted =
-        post_acts n turn
-        ∙ ap (λ (o : Option Reply). map Wrote (option_to_list turn.write) ++ (map Sent turn.sends ++ told_of o)) untold
-        ∙ ap (λ (v : List Act). map Wrote (option_to_list turn.write) ++ v) (append-nil (map Sent turn.sends))
-
-    by : (w : Option Record) → map Wrote (option_to_list w) ++ map Sent turn.sends
-        ≡ posted_due (record { write = w; sends = turn.sends; failed_sends = turn.failed_sends }) (fallen_in (map Wrote (option_to_list w) ++ map Sent turn.sends))
-    by None = refl
-    by (Some w) = sym (ap (λ (o : Option Fall). ends_with (record { write = Some w; sends = turn.sends; failed_sends = turn.failed_sends }) w o) (fallen_none turn.sends))
-
-failed_post : (n : ℕ) (turn : Turn) → turn.failed_told ≡ None → HasRecord turn.write → IsFit (as_due turn) (posted_next (deeds_as Failed n turn))
-failed_post n turn untold has = subst (IsFit (as_due turn)) (sym posted) (by turn.write has)
-  where
-    posted : posted_next (deeds_as Failed n turn) ≡ map Sent turn.failed_sends ++ Fell causes.Disk turn.write ∷ []
-    posted =
-        posted_sends n turn.failed_sends (tells_of turn.failed_told ++ Falls causes.Disk turn.write ∷ [])
-        ∙ ap (λ (o : Option Reply). map Sent turn.failed_sends ++ posted_next (tells_of o ++ Falls causes.Disk turn.write ∷ [])) untold
-
-    by : (w : Option Record) → HasRecord w → IsFit (record { write = w; sends = turn.sends; failed_sends = turn.failed_sends }) (map Sent turn.failed_sends ++ Fell causes.Disk w ∷ [])
-    by None has = absurd has
-    by (Some w) has = sym (ap (λ (o : Option Fall). ends_with (record { write = Some w; sends = turn.sends; failed_sends = turn.failed_sends }) w o) (fallen_sent turn.failed_sends (Fell causes.Disk (Some w) ∷ [])))
-
-stopped_post : (n : ℕ) (turn : Turn) → turn.failed_told ≡ None → HasRecord turn.write → IsFit (as_due turn) (posted_next (deeds_as Stopped n turn))
-stopped_post n turn untold has = subst (IsFit (as_due turn)) (sym posted) (by turn.write has)
-  where
-    posted : posted_next (deeds_as Stopped n turn) ≡ Fell causes.Stop turn.write ∷ []
-    posted = ap (λ (o : Option Reply). posted_next (tells_of o ++ Falls causes.Stop turn.write ∷ [])) untold
-
-    by : (w : Option Record) → HasRecord w → IsFit (record { write = w; sends = turn.sends; failed_sends = turn.failed_sends }) (Fell causes.Stop w ∷ [])
-    by None has = absurd has
-    by (Some w) has = refl
-
-pub post_fits : (end : Appended) (n : ℕ) (turn : Turn) (due : TurnDue) → Does turn due → MayEnd turn.write end → IsPostOf due (deeds_as end n turn)
-post_fits Done n turn due does may = subst (λ (t : TurnDue). IsFit t (posted_next (deeds_as Done n turn))) does.same (written_post n turn does.untold)
-post_fits Failed n turn due does may = subst (λ (t : TurnDue). IsFit t (posted_next (deeds_as Failed n turn))) does.same (failed_post n turn does.failed_untold may)
-post_fits Stopped n turn due does may = subst (λ (t : TurnDue). IsFit t (posted_next (deeds_as Stopped n turn))) does.same (stopped_post n turn does.failed_untold may)
+use Rattle.qc_core.proofs.SiteFits.{Does}
 
 module _ (decl : Declaration) (site : ℕ) (ds : List Deed) (from number : ℕ) (tx : TxId) (epoch life : ℕ) where
   abbrev now : SiteState
@@ -228,6 +168,53 @@ module _ (decl : Declaration) (site : ℕ) (ds : List Deed) where
         by None = record { same = refl; untold = refl; failed_untold = refl }
         by (Some p) = record { same = refl; untold = refl; failed_untold = refl }
 
+    -- by the state that the deeds show with the message taken
+
+    same_shut : (k : ℕ) (o : Option ℕ) → is_closed_for k o ≡ is_epoch k o
+    same_shut k None = refl
+    same_shut k (Some epoch) = refl
+
+    close_does : (k : ℕ) → Answered (messages.Close k)
+    close_does k =
+        subst (λ (s : SiteState). Does (closes s from number k).turn (turn_due decl (after (messages.Close k)) (letter number from to (messages.Close k))))
+        (sym (still site ds 0 number from to (messages.Close k) [] None (λ t. refl, λ t. refl) refl refl))
+        (by (nat_lt (s.epoch + 1) k) (nat_le k s.epoch) (is_closed_for k s.closed_for) (same_shut k s.closed_for))
+      where
+        s : SiteState
+        s = shown site (after (messages.Close k))
+
+        e : Envelope
+        e = record { number = number; from = from; to = to; message = messages.Close k }
+
+        by : (far past shut : Bool) → shut ≡ is_epoch k s.closed_for
+            → Does (cond far (moved s (answered from number (answers.Behind s.epoch))) (cond past (moved s (answered from number (answers.Closed s.epoch)))
+            (cond shut (moved s (answered from number (shut_answer s))) (moved (closed s k) (recording from number (records.Close k) (shut_answer (closed s k))))))).turn
+            (cond far (telling_turn e (answers.Behind s.epoch)) (cond past (telling_turn e (answers.Closed s.epoch))
+            (cond (is_epoch k s.closed_for) (telling_turn e (shut_due (after (messages.Close k)))) (recording_turn e (records.Close k) (shut_due (after (messages.Close k)))))))
+        by true past shut is = record { same = refl; untold = refl; failed_untold = refl }
+        by false true shut is = record { same = refl; untold = refl; failed_untold = refl }
+        by false false true is = rw (sym is) (record { same = refl; untold = refl; failed_untold = refl })
+        by false false false is = rw (sym is) (record { same = refl; untold = refl; failed_untold = refl })
+
+    install_does : (k clock : ℕ) (lines : List Line) → Answered (messages.Install k clock lines)
+    install_does k clock lines =
+        subst (λ (s : SiteState). Does (installs s from number k clock lines).turn (turn_due decl (after (messages.Install k clock lines)) (letter number from to (messages.Install k clock lines))))
+        (sym (still site ds 0 number from to (messages.Install k clock lines) [] None (λ t. refl, λ t. refl) refl refl))
+        (by (nat_le k s.epoch) (nat_le (epoch_length lines) most_record_bytes))
+      where
+        s : SiteState
+        s = shown site (after (messages.Install k clock lines))
+
+        e : Envelope
+        e = record { number = number; from = from; to = to; message = messages.Install k clock lines }
+
+        by : (past short : Bool)
+            → Does (cond past (moved s (answered from number answers.Installed)) (cond short (moved (installed s k clock lines) (recording from number (records.Install k clock lines) answers.Installed)) (moved s (answered from number (answers.Behind s.epoch))))).turn
+            (cond past (telling_turn e answers.Installed) (cond short (recording_turn e (records.Install k clock lines) answers.Installed) (telling_turn e (answers.Behind s.epoch))))
+        by true short = record { same = refl; untold = refl; failed_untold = refl }
+        by false true = record { same = refl; untold = refl; failed_untold = refl }
+        by false false = record { same = refl; untold = refl; failed_untold = refl }
+
     heard_does : (m : Message) → Answered m
     heard_does (messages.Request tx epoch life want) = requested_does tx epoch life want
     heard_does (messages.Answer k answer) = record { same = refl; untold = refl; failed_untold = refl }
@@ -236,8 +223,8 @@ module _ (decl : Declaration) (site : ℕ) (ds : List Deed) where
     heard_does (messages.Decision tx Active) = record { same = refl; untold = refl; failed_untold = refl }
     heard_does (messages.Inquiry tx) = record { same = refl; untold = refl; failed_untold = refl }
     heard_does (messages.Ask tx) = record { same = refl; untold = refl; failed_untold = refl }
-    heard_does (messages.Close epoch) = record { same = refl; untold = refl; failed_untold = refl }
-    heard_does (messages.Install epoch clock log) = record { same = refl; untold = refl; failed_untold = refl }
+    heard_does (messages.Close k) = close_does k
+    heard_does (messages.Install k clock lines) = install_does k clock lines
 
   -- each input
   pub turns_are_due : (g : Given) → Does (site_takes decl (shown site ds) g).turn (turn_due decl (ds ++ Takes g ∷ []) g)

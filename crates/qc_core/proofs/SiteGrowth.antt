@@ -8,16 +8,15 @@ use Rattle.std.proofs.lemmas.List.Elements.{filter-append}
 use Rattle.std.proofs.lemmas.List.Folds.{list_any-append}
 use Rattle.qc_entry.specs.declared.line.Line.{Line}
 use Rattle.qc_entry.specs.declared.record.Prepared.{Prepared}
-use Rattle.qc_entry.specs.Log.{union}
 use Rattle.qc_msg.specs.declared.message.Envelope.{Envelope}
 use Rattle.qc_msg.specs.declared.record.Record.{Record}
 use Rattle.qc_msg.specs.declared.turn.Posting.{Posting}
 use Rattle.qc_msg.specs.Deeds.{Deed}
-use Rattle.qc_msg.specs.Readings.{Requested, got_in, prepare_in, request_in, written_in}
+use Rattle.qc_msg.specs.Readings.{Installing, Requested, got_in, install_in, prepare_in, request_in, written_in}
 use Rattle.qc_promise.specs.Posts.{Act, posted_next, sent_by}
 use Rattle.qc_promise.specs.SiteEnds.{frees, is_decision, is_ended, is_final, is_over}
 use Rattle.qc_promise.specs.SiteHeld.{Grant, grants, is_granted, standing, standing_as, standing_by}
-use Rattle.qc_promise.specs.SiteLogs.{joining, lines_done, log_from, recorded_from, view_by, view_in, with_given, with_written}
+use Rattle.qc_promise.specs.SiteLogs.{Lines, begun_with_lines, joining, learning, lines_done, lines_from, recorded_from, view_by, view_in, with_given, with_joined, with_written}
 use Rattle.qc_promise.specs.SitePromises.{left_of, promises_since, unless_over}
 use Rattle.qc_promise.proofs.Posts.{posted-more}
 
@@ -59,7 +58,7 @@ module _ (ys : List Deed) (apart : posted_next ys ≡ []) where
       ∙ sym (append_assoc (filter (stays ys) (option_map_or (standing_by xs) (got_in d) [])) (filter (stays ys) (standing xs)) (standing ys))
       ∙ ap (λ (v : List Grant). v ++ standing ys) (sym (filter-append (stays ys) (option_map_or (standing_by xs) (got_in d) []) (standing xs)))
 
-  -- the log
+  -- the lines
 
   view-more : (e : Envelope) (xs : List Deed) → view_by (xs ++ ys) e ≡ view_by xs e
   view-more e xs = ap (λ (b : Bool). option_map_or (λ (q : Requested). cond b (view_in q.want) []) (request_in e.message) []) (granted-more e.number xs)
@@ -71,11 +70,11 @@ module _ (ys : List Deed) (apart : posted_next ys ≡ []) where
       by None = refl
       by (Some e) = view-more e xs
 
-  pub log-more : (lines : List Line) (before : List Record) (xs : List Deed) → log_from lines before (xs ++ ys) ≡ log_from (log_from lines before xs) (fold with_written before xs) ys
-  log-more lines before [] = refl
-  log-more lines before (d ∷ xs) =
-      ap (λ (v : List Line). log_from (union lines v) (with_written before d) (xs ++ ys)) (joining-more before d xs)
-      ∙ log-more (union lines (joining before d xs)) (with_written before d) xs
+  pub lines-more : (l : Lines) (before : List Record) (xs : List Deed) → lines_from l before (xs ++ ys) ≡ lines_from (lines_from l before xs) (fold with_written before xs) ys
+  lines-more l before [] = refl
+  lines-more l before (d ∷ xs) =
+      ap (λ (v : List Line). lines_from (option_map_or (λ (i : Installing). begun_with_lines i.lines) (option_and_then install_in (written_in d)) (learning l v)) (with_written before d) (xs ++ ys)) (joining-more before d xs)
+      ∙ lines-more (with_joined l before d xs) (with_written before d) xs
 
 -- the records by then are those before and those that the deeds write
 pub written_then : (before : List Record) (xs : List Deed) → fold with_written before xs ≡ before ++ filter_map written_in xs
@@ -124,8 +123,8 @@ module _ (ys : List Deed) where
       by (Some p) = over-more xs p
 
 -- what records give, as more are written
-pub recorded-more : (lines : List Line) (before rs ws : List Record) → recorded_from lines before (rs ++ ws) ≡ recorded_from (recorded_from lines before rs) (before ++ rs) ws
-recorded-more lines before [] ws = ap (λ (v : List Record). recorded_from lines v ws) (sym (append-nil before))
-recorded-more lines before (r ∷ rs) ws =
-    recorded-more (with_given lines before r) (before ++ r ∷ []) rs ws
-    ∙ ap (λ (v : List Record). recorded_from (recorded_from lines before (r ∷ rs)) v ws) (append_assoc before (r ∷ []) rs)
+pub recorded-more : (l : Lines) (before rs ws : List Record) → recorded_from l before (rs ++ ws) ≡ recorded_from (recorded_from l before rs) (before ++ rs) ws
+recorded-more l before [] ws = ap (λ (v : List Record). recorded_from l v ws) (sym (append-nil before))
+recorded-more l before (r ∷ rs) ws =
+    recorded-more (with_given l before r) (before ++ r ∷ []) rs ws
+    ∙ ap (λ (v : List Record). recorded_from (recorded_from l before (r ∷ rs)) v ws) (append_assoc before (r ∷ []) rs)

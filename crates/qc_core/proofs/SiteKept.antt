@@ -10,8 +10,6 @@ use Rattle.qc_stamp.specs.Order.{same_tx}
 use Rattle.qc_stamp.proofs.Orders.{same_tx_is}
 use Rattle.qc_entry.specs.declared.line.Line.{Line}
 use Rattle.qc_entry.specs.declared.record.Prepared.{Prepared}
-use Rattle.qc_entry.specs.Log.{union}
-use Rattle.qc_entry.proofs.Union.{union-nil}
 use Rattle.qc_msg.specs.declared.record.Record.{Record}
 use Rattle.qc_msg.specs.declared.record.Record.TheVariants as journals
 use Rattle.qc_msg.specs.Begun.{first_epoch}
@@ -19,10 +17,11 @@ use Rattle.qc_site.specs.Promise.{lines_of, prepared_of, without_prepared}
 use Rattle.qc_site.proofs.Votes.{prepared-without, prepared-without_other}
 use Rattle.qc_recover.specs.Sites.{Kept, done_stamp, keeps, kept_by, nothing_kept}
 use Rattle.qc_promise.specs.SiteClocks.{clocks_in_record, clocks_of}
-use Rattle.qc_promise.specs.SiteLogs.{recorded_by, recorded_from}
+use Rattle.qc_promise.specs.SiteLogs.{Lines, learning, recorded_by, recorded_from}
 use Rattle.qc_promise.specs.SitePromises.{promises_of}
 use Rattle.qc_promise.specs.SiteRecords.{closed_by, epoch_by, last_prepare, life_by, prepare_by}
 use Rattle.qc_promise.proofs.Promises.{promises_by_record, promises_with}
+use Rattle.qc_core.proofs.SitePosts.{learning-nil}
 
 -- life, epoch, closed epoch
 
@@ -123,29 +122,32 @@ agrees_after k before (journals.Decide epoch clock lines) agree tx = last_after 
 
 -- the lines
 
-lines_kept : (k : Kept) (before rs : List Record) → Agrees k before → recorded_from k.lines before rs ≡ (fold keeps k rs).lines
+abbrev lines_in : Kept → Lines
+lines_in k = record { began = k.began; since = k.lines }
+
+lines_kept : (k : Kept) (before rs : List Record) → Agrees k before → recorded_from (lines_in k) before rs ≡ lines_in (fold keeps k rs)
 lines_kept k before [] agree = refl
 lines_kept k before (journals.Life ∷ rs) agree =
-    ap (λ (l : List Line). recorded_from l (before ++ journals.Life ∷ []) rs) (union-nil k.lines)
+    ap (λ (l : Lines). recorded_from l (before ++ journals.Life ∷ []) rs) (learning-nil (lines_in k))
     ∙ lines_kept (keeps k journals.Life) (before ++ journals.Life ∷ []) rs (agrees_after k before journals.Life agree)
 lines_kept k before (journals.Prepare p ∷ rs) agree =
     lines_kept (keeps k (journals.Prepare p)) (before ++ journals.Prepare p ∷ []) rs (agrees_after k before (journals.Prepare p) agree)
 lines_kept k before (journals.Done tx clock ∷ rs) agree =
-    ap (λ (o : Option Prepared). recorded_from (union k.lines (option_map_or (λ (p : Prepared). lines_of (done_stamp tx clock) tx p.own) o [])) (before ++ journals.Done tx clock ∷ []) rs) (agree tx)
+    ap (λ (o : Option Prepared). recorded_from (learning (lines_in k) (option_map_or (λ (p : Prepared). lines_of (done_stamp tx clock) tx p.own) o [])) (before ++ journals.Done tx clock ∷ []) rs) (agree tx)
     ∙ lines_kept (keeps k (journals.Done tx clock)) (before ++ journals.Done tx clock ∷ []) rs (agrees_after k before (journals.Done tx clock) agree)
 lines_kept k before (journals.Close epoch ∷ rs) agree =
-    ap (λ (l : List Line). recorded_from l (before ++ journals.Close epoch ∷ []) rs) (union-nil k.lines)
+    ap (λ (l : Lines). recorded_from l (before ++ journals.Close epoch ∷ []) rs) (learning-nil (lines_in k))
     ∙ lines_kept (keeps k (journals.Close epoch)) (before ++ journals.Close epoch ∷ []) rs (agrees_after k before (journals.Close epoch) agree)
 lines_kept k before (journals.Install epoch clock lines ∷ rs) agree =
     lines_kept (keeps k (journals.Install epoch clock lines)) (before ++ journals.Install epoch clock lines ∷ []) rs (agrees_after k before (journals.Install epoch clock lines) agree)
 lines_kept k before (journals.Commit c ∷ rs) agree =
-    ap (λ (l : List Line). recorded_from l (before ++ journals.Commit c ∷ []) rs) (union-nil k.lines)
+    ap (λ (l : Lines). recorded_from l (before ++ journals.Commit c ∷ []) rs) (learning-nil (lines_in k))
     ∙ lines_kept (keeps k (journals.Commit c)) (before ++ journals.Commit c ∷ []) rs (agrees_after k before (journals.Commit c) agree)
 lines_kept k before (journals.Decide epoch clock lines ∷ rs) agree =
-    ap (λ (l : List Line). recorded_from l (before ++ journals.Decide epoch clock lines ∷ []) rs) (union-nil k.lines)
+    ap (λ (l : Lines). recorded_from l (before ++ journals.Decide epoch clock lines ∷ []) rs) (learning-nil (lines_in k))
     ∙ lines_kept (keeps k (journals.Decide epoch clock lines)) (before ++ journals.Decide epoch clock lines ∷ []) rs (agrees_after k before (journals.Decide epoch clock lines) agree)
 
-pub lines_by_records : (rs : List Record) → recorded_by rs ≡ (kept_by rs).lines
+pub lines_by_records : (rs : List Record) → recorded_by rs ≡ record { began = (kept_by rs).began; since = (kept_by rs).lines }
 lines_by_records rs = lines_kept nothing_kept [] rs (λ tx. refl)
 
 -- promises

@@ -25,6 +25,7 @@ use Rattle.qc_site.specs.Requests.{appends_by, closed_fault, fault_of, grants, n
 use Rattle.qc_site.specs.Site.{SiteState, answers as answered, moved}
 use Rattle.qc_core.specs.Sites.{IsInput, IsStamped}
 use Rattle.qc_core.proofs.SiteDecisions.{aborted, active, committed, promise, promising}
+use Rattle.qc_core.proofs.SiteEpochs.{close, install}
 use Rattle.qc_core.proofs.SiteShown.{shown, shown-more}
 use Rattle.qc_core.proofs.SiteSteps.{IsStep, append, clashes, ignored, letter, passed, read, refused, still}
 use Rattle.qc_core.proofs.SiteTalks.{stands_still}
@@ -106,8 +107,8 @@ module _ (decl : Declaration) (site : ℕ) (ds : List Deed) (n : ℕ) where
     hear (messages.Decision tx Active) ok = active site ds n number from to tx
     hear (messages.Inquiry tx) ok = still site ds n number from to (messages.Inquiry tx) [] None (λ t. refl, λ t. refl) refl refl
     hear (messages.Ask tx) ok = still site ds n number from to (messages.Ask tx) [] None (λ t. refl, λ t. refl) refl refl
-    hear (messages.Close epoch) ok = still site ds n number from to (messages.Close epoch) [] None (λ t. refl, λ t. refl) refl refl
-    hear (messages.Install epoch clock log) ok = still site ds n number from to (messages.Install epoch clock log) [] None (λ t. refl, λ t. refl) refl refl
+    hear (messages.Close epoch) ok = close site ds n number from to epoch
+    hear (messages.Install epoch clock lines) ok = install site ds n number from to epoch clock lines
 
   -- each input
   pub steps : (g : Given) → IsInput g → IsStep site ds g n (site_takes decl (shown site ds) g)

@@ -3,22 +3,22 @@ use Rattle.std.proofs.Common.{◌≡◌, ℕ, ◌+◌, ◌||◌, Bool, true, fal
 use Rattle.std.specs.Prelude.{cond, map, option_to_list}
 use Rattle.std.specs.List.{filter_map, flat_map}
 use Rattle.std.specs.Option.{option_map_or}
+use Rattle.std.proofs.lemmas.List.{append-nil}
 use Rattle.qc_stamp.specs.declared.stamp.TxId.{TxId}
 use Rattle.qc_entry.specs.declared.line.Line.{Line}
 use Rattle.qc_entry.specs.declared.record.Prepared.{Prepared}
-use Rattle.qc_entry.specs.Log.{union}
 use Rattle.qc_entry.proofs.Union.{union-nil}
 use Rattle.qc_msg.specs.declared.record.Record.{Record}
 use Rattle.qc_msg.specs.declared.reply.Reply.{Reply}
 use Rattle.qc_msg.specs.declared.turn.Posting.{Posting}
 use Rattle.qc_msg.specs.declared.turn.Turn.{Turn}
 use Rattle.qc_msg.specs.Deeds.{Deed, sends_of, tells_of, turn_deeds, writes_of}
-use Rattle.qc_msg.specs.Readings.{prepare_in, written_in}
+use Rattle.qc_msg.specs.Readings.{Installing, install_in, prepare_in, written_in}
 use Rattle.qc_promise.specs.Posts.{Act, Sent, Told, Wrote, posted_next, sent_by}
-use Rattle.qc_promise.specs.SiteClocks.{clocks_at}
+use Rattle.qc_promise.specs.SiteClocks.{clocks_at, clocks_written}
 use Rattle.qc_promise.specs.SiteEnds.{is_ended, is_over, redeems}
 use Rattle.qc_promise.specs.SiteHeld.{standing}
-use Rattle.qc_promise.specs.SiteLogs.{lines_done, log_from}
+use Rattle.qc_promise.specs.SiteLogs.{Lines, begun_with_lines, learning, lines_done, lines_from}
 use Rattle.qc_promise.specs.SitePromises.{promises_since, unless_over}
 use Rattle.qc_promise.proofs.Lifetimes.{AreNoRises}
 use Rattle.qc_promise.proofs.Posts.{posted_sends}
@@ -33,7 +33,7 @@ talk_rises n [] None = tt
 talk_rises n [] (Some r) = (refl, tt)
 talk_rises n (p ∷ ps) told = (refl, talk_rises (n + 1) ps told)
 
-talk_ends : (tx : TxId) (n : ℕ) (ps : List Posting) (told : Option Reply) → is_ended tx (talk n ps told) ≡ false
+pub talk_ends : (tx : TxId) (n : ℕ) (ps : List Posting) (told : Option Reply) → is_ended tx (talk n ps told) ≡ false
 talk_ends tx n [] None = refl
 talk_ends tx n [] (Some r) = refl
 talk_ends tx n (p ∷ ps) told = talk_ends tx (n + 1) ps told
@@ -43,7 +43,7 @@ talk_frees tx n [] None = refl
 talk_frees tx n [] (Some r) = refl
 talk_frees tx n (p ∷ ps) told = talk_frees tx (n + 1) ps told
 
-talk_stands : (n : ℕ) (ps : List Posting) (told : Option Reply) → standing (talk n ps told) ≡ []
+pub talk_stands : (n : ℕ) (ps : List Posting) (told : Option Reply) → standing (talk n ps told) ≡ []
 talk_stands n [] None = refl
 talk_stands n [] (Some r) = refl
 talk_stands n (p ∷ ps) told = talk_stands (n + 1) ps told
@@ -63,11 +63,19 @@ talk_records n [] None = refl
 talk_records n [] (Some r) = refl
 talk_records n (p ∷ ps) told = talk_records (n + 1) ps told
 
-talk_log : (lines : List Line) (before : List Record) (n : ℕ) (ps : List Posting) (told : Option Reply) → log_from lines before (talk n ps told) ≡ lines
-talk_log lines before n [] None = refl
-talk_log lines before n [] (Some r) = union-nil lines
-talk_log lines before n (p ∷ ps) told =
-    ap (λ (v : List Line). log_from v before (talk (n + 1) ps told)) (union-nil lines) ∙ talk_log lines before (n + 1) ps told
+-- lines of which none are learned, and those that a record tells
+
+pub learning-nil : (l : Lines) → learning l [] ≡ l
+learning-nil l = ap (λ (v : List Line). record l { since = v }) (union-nil l.since)
+
+abbrev pub lines_written : Lines → List Record → Record → Lines
+lines_written l before w = option_map_or (λ (i : Installing). begun_with_lines i.lines) (install_in w) (learning l (lines_done before w))
+
+talk_lines : (l : Lines) (before : List Record) (n : ℕ) (ps : List Posting) (told : Option Reply) → lines_from l before (talk n ps told) ≡ l
+talk_lines l before n [] None = refl
+talk_lines l before n [] (Some r) = learning-nil l
+talk_lines l before n (p ∷ ps) told =
+    ap (λ (v : Lines). lines_from v before (talk (n + 1) ps told)) (learning-nil l) ∙ talk_lines l before (n + 1) ps told
 
 -- the acts of a reply
 
@@ -83,7 +91,11 @@ told_sends : (told : Option Reply) → filter_map sent_by (told_of told) ≡ []
 told_sends None = refl
 told_sends (Some r) = refl
 
--- what the record of a turn promises
+-- the clocks that the record of a turn tells, and what it promises
+
+abbrev pub clocks_by : Option Record → List ℕ
+clocks_by w = option_map_or clocks_written w []
+
 abbrev pub promises_by : Option Record → List Prepared
 promises_by None = []
 promises_by (Some written) = option_map_or (unless_over []) (prepare_in written) []
@@ -115,12 +127,12 @@ module _ (n : ℕ) (turn : Turn) where
       by None = talk_stands n turn.sends turn.told
       by (Some w) = talk_stands n turn.sends turn.told
 
-  pub post_clocks : flat_map clocks_at post ≡ []
+  pub post_clocks : flat_map clocks_at post ≡ clocks_by turn.write
   post_clocks = by turn.write
     where
-      by : (w : Option Record) → flat_map clocks_at (writes_of w ++ talk n turn.sends turn.told) ≡ []
+      by : (w : Option Record) → flat_map clocks_at (writes_of w ++ talk n turn.sends turn.told) ≡ clocks_by w
       by None = talk_clocks n turn.sends turn.told
-      by (Some w) = talk_clocks n turn.sends turn.told
+      by (Some w) = ap (λ (v : List ℕ). clocks_written w ++ v) (talk_clocks n turn.sends turn.told) ∙ append-nil (clocks_written w)
 
   pub post_records : filter_map written_in post ≡ option_to_list turn.write
   post_records = by turn.write
@@ -170,9 +182,9 @@ module _ (n : ℕ) (turn : Turn) where
       by None = talked
       by (Some w) = by_prepare (prepare_in w)
 
-  pub post_log : (lines : List Line) (before : List Record) → log_from lines before post ≡ option_map_or (λ (w : Record). union lines (lines_done before w)) turn.write lines
-  post_log lines before = by turn.write
+  pub post_lines : (l : Lines) (before : List Record) → lines_from l before post ≡ option_map_or (lines_written l before) turn.write l
+  post_lines l before = by turn.write
     where
-      by : (w : Option Record) → log_from lines before (writes_of w ++ talk n turn.sends turn.told) ≡ option_map_or (λ (r : Record). union lines (lines_done before r)) w lines
-      by None = talk_log lines before n turn.sends turn.told
-      by (Some w) = talk_log (union lines (lines_done before w)) (before ++ w ∷ []) n turn.sends turn.told
+      by : (w : Option Record) → lines_from l before (writes_of w ++ talk n turn.sends turn.told) ≡ option_map_or (lines_written l before) w l
+      by None = talk_lines l before n turn.sends turn.told
+      by (Some w) = talk_lines (lines_written l before w) (before ++ w ∷ []) n turn.sends turn.told

@@ -1,7 +1,7 @@
 -- A site that rose, once its rising turn is posted: what its deeds show is what its records give, with that of the rise. And
 -- that turn is due.
-use Rattle.std.proofs.Common.{◌≡◌, ℕ, ◌+◌, max, not, Bool, false, cond, List, [], ◌∷◌, ◌++◌, Option, Some, None, refl, sym, ap, ◌∙◌}
-use Rattle.std.specs.Prelude.{filter, fold, option_to_list}
+use Rattle.std.proofs.Common.{◌≡◌, ℕ, ◌+◌, max, Bool, false, cond, List, [], ◌∷◌, ◌++◌, Option, Some, None, refl, sym, ap, ◌∙◌, subst}
+use Rattle.std.specs.Prelude.{fold, option_to_list}
 use Rattle.std.specs.List.{filter_map, flat_map}
 use Rattle.std.specs.Option.{option_map_or}
 use Rattle.std.proofs.lemmas.List.{append-nil}
@@ -9,38 +9,41 @@ use Rattle.std.proofs.lemmas.List.Sums.{fold-append}
 use Rattle.qc_stamp.specs.declared.stamp.TxId.{TxId}
 use Rattle.qc_stamp.specs.Lives.{first_life}
 use Rattle.qc_entry.specs.declared.record.Prepared.{Prepared}
-use Rattle.qc_entry.specs.Log.{union}
-use Rattle.qc_entry.proofs.Union.{union-nil}
 use Rattle.qc_decl.specs.declared.declaration.Declaration.{Declaration}
 use Rattle.qc_msg.specs.declared.record.Record.{Record}
 use Rattle.qc_msg.specs.declared.record.Record.TheVariants as journals
 use Rattle.qc_msg.specs.declared.turn.Turn.{Turn}
 use Rattle.qc_msg.specs.Begun.{first_epoch}
-use Rattle.qc_msg.specs.Deeds.{Deed, Rises, turn_deeds}
+use Rattle.qc_msg.specs.Deeds.{Deed, Rises, turn_deeds, writes_of}
 use Rattle.qc_msg.specs.Readings.{written_in}
-use Rattle.qc_promise.specs.Lifetimes.{Lifetime}
-use Rattle.qc_promise.specs.SiteClocks.{clocks_in_record}
+use Rattle.qc_promise.specs.Lifetimes.{Lifetime, lifetime, records_in}
+use Rattle.qc_promise.specs.SiteClocks.{clock_shown, clocks_at, clocks_in_record}
 use Rattle.qc_promise.specs.SiteDue.{rising_turn}
-use Rattle.qc_promise.specs.SiteEnds.{is_ended, is_over, redeems}
-use Rattle.qc_promise.specs.SiteHeld.{Grant, with_promise}
-use Rattle.qc_promise.specs.SiteLogs.{lines_done, recorded_by}
-use Rattle.qc_promise.specs.SitePromises.{left_of, promises_of, promises_since}
+use Rattle.qc_promise.specs.SiteEnds.{is_over, redeems}
+use Rattle.qc_promise.specs.SiteHeld.{Grant, Holding, held_shown, last_cut, with_cut, with_promise}
+use Rattle.qc_promise.specs.SiteLogs.{Lines, lines_from, lines_shown, no_lines, recorded_by}
+use Rattle.qc_promise.specs.SitePromises.{left_of, prepared_shown, promises_of, promises_since}
 use Rattle.qc_promise.specs.SiteRecords.{closed_by, epoch_by, life_by}
 use Rattle.qc_promise.proofs.Lifetimes.{life_after, life_begins}
-use Rattle.qc_recover.specs.Sites.{held_by, inquiries, keeps, kept_by, nothing_kept, site_by, site_of, site_rises}
-use Rattle.qc_core.proofs.SiteDues.{Does}
+use Rattle.qc_site.specs.Epochs.{held_by}
+use Rattle.qc_recover.specs.Sites.{inquiries, keeps, kept_by, nothing_kept, site_by, site_of, site_rises}
+use Rattle.qc_core.proofs.SiteFits.{Does}
 use Rattle.qc_core.proofs.SiteGrowth.{recorded-more}
 use Rattle.qc_core.proofs.SiteKept.{clock_by_records, closed_by_records, epoch_by_records, life_by_records, lines_by_records, promises_by_records}
-use Rattle.qc_core.proofs.SitePosts.{post_clocks, post_ends, post_frees, post_log, post_prepares, post_records, post_rises, post_stands, promises_by}
-use Rattle.qc_core.proofs.SiteShown.{hold, remains, rose, same_state, shown, shown_in}
+use Rattle.qc_core.proofs.SiteHolds.{AreNoCuts, held_in, hold, none_ended, remaining, talk_uncut, uncut, whole}
+use Rattle.qc_core.proofs.SitePosts.{clocks_by, learning-nil, lines_written, post_clocks, post_ends, post_frees, post_lines, post_prepares, post_records, post_rises, post_stands, promises_by, talk}
+use Rattle.qc_core.proofs.SiteShown.{same_state, shown}
 
 none_over : (ds : List Deed) → ((tx : TxId) → is_over tx ds ≡ false) → (ps : List Prepared) → left_of ds ps ≡ ps
 none_over ds none [] = refl
 none_over ds none (p ∷ ps) = ap (λ (b : Bool). cond b [] (p ∷ []) ++ left_of ds ps) (none p.tx) ∙ ap (λ (v : List Prepared). p ∷ v) (none_over ds none ps)
 
-none_ended : (ds : List Deed) → ((tx : TxId) → is_ended tx ds ≡ false) → (ps : List Prepared) → filter (remains ds) ps ≡ ps
-none_ended ds none [] = refl
-none_ended ds none (p ∷ ps) = ap (λ (b : Bool). cond (not b) (p ∷ filter (remains ds) ps) (filter (remains ds) ps)) (none p.tx) ∙ ap (λ (v : List Prepared). p ∷ v) (none_ended ds none ps)
+rise_promises : (before : List Deed) (rs : List Record) → prepared_shown (before ++ Rises rs ∷ []) ≡ (kept_by rs).promises
+rise_promises before rs =
+    ap (λ (l : Lifetime). left_of l.since (promises_of l.kept) ++ promises_since l.since) (life_begins before rs)
+    ∙ append-nil (left_of [] (promises_of rs))
+    ∙ none_over [] (λ tx. refl) (promises_of rs)
+    ∙ promises_by_records rs
 
 -- the turn of a rise, whose record is Life
 module _ (site : ℕ) (before : List Deed) (rs : List Record) (n : ℕ) (turn : Turn) (life : turn.write ≡ Some journals.Life) where
@@ -50,63 +53,80 @@ module _ (site : ℕ) (before : List Deed) (rs : List Record) (n : ℕ) (turn : 
   abbrev now : Lifetime
   now = record { kept = rs; since = post }
 
-  wrote : rs ++ filter_map written_in post ≡ rs ++ journals.Life ∷ []
-  wrote = ap (λ (v : List Record). rs ++ v) (post_records n turn ∙ ap option_to_list life)
+  life_now : lifetime (before ++ Rises rs ∷ post) ≡ now
+  life_now = life_after before rs post (post_rises n turn)
 
-  by_records : {A : Type 0} (f : A → Record → A) (a : A) → fold f a (rs ++ filter_map written_in post) ≡ f (fold f a rs) journals.Life
-  by_records f a = ap (fold f a) wrote ∙ fold-append f a rs (journals.Life ∷ [])
+  records_now : records_in (before ++ Rises rs ∷ post) ≡ rs ++ journals.Life ∷ []
+  records_now =
+      ap (λ (l : Lifetime). l.kept ++ filter_map written_in l.since) life_now
+      ∙ ap (λ (v : List Record). rs ++ v) (post_records n turn ∙ ap option_to_list life)
 
-  lines_after : recorded_by (rs ++ filter_map written_in post) ≡ (kept_by rs).lines
+  by_records : {A : Type 0} (f : A → Record → A) (a : A) → fold f a (records_in (before ++ Rises rs ∷ post)) ≡ f (fold f a rs) journals.Life
+  by_records f a = ap (λ (v : List Record). fold f a v) records_now ∙ fold-append f a rs (journals.Life ∷ [])
+
+  recorded_after : recorded_by (records_in (before ++ Rises rs ∷ post)) ≡ record { began = (kept_by rs).began; since = (kept_by rs).lines }
+  recorded_after =
+      ap recorded_by records_now
+      ∙ recorded-more no_lines [] rs (journals.Life ∷ [])
+      ∙ learning-nil (recorded_by rs)
+      ∙ lines_by_records rs
+
+  lines_after : lines_shown (before ++ Rises rs ∷ post) ≡ record { began = (kept_by rs).began; since = (kept_by rs).lines }
   lines_after =
-      ap recorded_by wrote
-      ∙ recorded-more [] [] rs (journals.Life ∷ [])
-      ∙ union-nil (recorded_by rs)
+      ap (λ (l : Lifetime). lines_from (recorded_by l.kept) l.kept l.since) life_now
+      ∙ post_lines n turn (recorded_by rs) rs
+      ∙ ap (λ (w : Option Record). option_map_or (lines_written (recorded_by rs) rs) w (recorded_by rs)) life
+      ∙ learning-nil (recorded_by rs)
       ∙ lines_by_records rs
 
-  log_after : (shown_in site now).log ≡ (kept_by rs).lines
-  log_after =
-      post_log n turn (recorded_by rs) rs
-      ∙ ap (λ (w : Option Record). option_map_or (λ (r : Record). union (recorded_by rs) (lines_done rs r)) w (recorded_by rs)) life
-      ∙ union-nil (recorded_by rs)
-      ∙ lines_by_records rs
+  post_uncut : AreNoCuts post
+  post_uncut = subst (λ (w : Option Record). AreNoCuts (writes_of w ++ talk n turn.sends turn.told)) (sym life) (refl, talk_uncut n turn.sends turn.told)
 
-  held_after : (shown_in site now).held ≡ held_by (kept_by rs).promises
+  held_after : held_shown (before ++ Rises rs ∷ post) ≡ held_by (kept_by rs).promises
   held_after =
-      ap (λ (v : List Grant). fold hold (fold with_promise [] (rose now)) v) (post_stands n turn)
-      ∙ ap (fold with_promise []) (none_ended post (post_ends n turn) (promises_of rs) ∙ promises_by_records rs)
+      ap held_in (fold-append with_cut (record { before = []; since = [] }) before (Rises rs ∷ post) ∙ uncut cut post post_uncut)
+      ∙ ap (λ (v : List Grant). fold hold (fold with_promise [] (remaining (record { before = cut.before; since = post }))) v) (post_stands n turn)
+      ∙ ap (λ (v : List Prepared). fold with_promise [] v) (none_ended post (post_ends n turn) (prepared_shown cut.before))
+      ∙ ap (λ (v : List Deed). fold with_promise [] (prepared_shown v)) (ap (λ (v : List Deed). v ++ Rises rs ∷ []) (whole before))
+      ∙ ap (λ (v : List Prepared). fold with_promise [] v) (rise_promises before rs)
+    where
+      cut : Holding
+      cut = record { before = (last_cut before).before ++ (last_cut before).since ++ Rises rs ∷ []; since = [] }
 
   none_freed : (tx : TxId) → is_over tx post ≡ false
   none_freed tx = post_frees n turn tx ∙ ap (λ (w : Option Record). option_map_or (redeems tx) w false) life
 
-  prepared_after : (shown_in site now).prepared ≡ (kept_by rs).promises
+  prepared_after : prepared_shown (before ++ Rises rs ∷ post) ≡ (kept_by rs).promises
   prepared_after =
-      ap (λ (v : List Prepared). left_of post (promises_of rs) ++ v) (post_prepares n turn ∙ ap promises_by life)
+      ap (λ (l : Lifetime). left_of l.since (promises_of l.kept) ++ promises_since l.since) life_now
+      ∙ ap (λ (v : List Prepared). left_of post (promises_of rs) ++ v) (post_prepares n turn ∙ ap promises_by life)
       ∙ append-nil (left_of post (promises_of rs))
       ∙ none_over post none_freed (promises_of rs)
       ∙ promises_by_records rs
 
-  clock_after : (shown_in site now).clock ≡ (kept_by rs).clock
+  clock_after : clock_shown (before ++ Rises rs ∷ post) ≡ (kept_by rs).clock
   clock_after =
-      ap (λ (v : List ℕ). fold max 0 (flat_map clocks_in_record rs ++ v)) (post_clocks n turn)
+      ap (λ (l : Lifetime). fold max 0 (flat_map clocks_in_record l.kept ++ flat_map clocks_at l.since)) life_now
+      ∙ ap (λ (v : List ℕ). fold max 0 (flat_map clocks_in_record rs ++ v)) (post_clocks n turn ∙ ap clocks_by life)
       ∙ ap (fold max 0) (append-nil (flat_map clocks_in_record rs))
       ∙ clock_by_records rs
 
-  pub risen_shown : shown site (before ++ Rises rs ∷ turn_deeds n turn) ≡ site_of site (rs ++ journals.Life ∷ [])
+  pub risen_shown : shown site (before ++ Rises rs ∷ post) ≡ site_of site (rs ++ journals.Life ∷ [])
   risen_shown =
-      ap (shown_in site) (life_after before rs post (post_rises n turn))
-      ∙ same_state (shown_in site now) (site_by site (keeps (kept_by rs) journals.Life)) refl
+      same_state (shown site (before ++ Rises rs ∷ post)) (site_by site (keeps (kept_by rs) journals.Life)) refl
       (by_records life_by first_life ∙ ap (λ (k : ℕ). k + 1) (life_by_records rs))
       (by_records epoch_by first_epoch ∙ epoch_by_records rs)
       (by_records closed_by None ∙ closed_by_records rs)
-      log_after lines_after held_after prepared_after clock_after
+      (ap (λ (l : Lines). l.began) lines_after)
+      (ap (λ (l : Lines). l.since) lines_after)
+      (ap (λ (l : Lines). l.since) recorded_after)
+      held_after prepared_after clock_after
       ∙ ap (site_by site) (sym (fold-append keeps nothing_kept rs (journals.Life ∷ [])))
 
 pub rising_does : (decl : Declaration) (site : ℕ) (before : List Deed) (rs : List Record) → Does (site_rises decl site rs).turn (rising_turn decl (before ++ Rises rs ∷ []))
 rising_does decl site before rs =
     record {
-      same =
-          sym (ap (λ (l : Lifetime). record { write = Some journals.Life; sends = inquiries decl (left_of l.since (promises_of l.kept) ++ promises_since l.since); failed_sends = [] }) (life_begins before rs)
-          ∙ ap (λ (ps : List Prepared). record { write = Some journals.Life; sends = inquiries decl ps; failed_sends = [] }) (append-nil (left_of [] (promises_of rs)) ∙ none_over [] (λ tx. refl) (promises_of rs) ∙ promises_by_records rs));
+      same = ap (λ (ps : List Prepared). record { write = Some journals.Life; sends = inquiries decl ps; failed_sends = [] }) (sym (rise_promises before rs));
       untold = refl;
       failed_untold = refl;
     }

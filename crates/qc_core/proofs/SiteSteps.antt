@@ -3,8 +3,7 @@ use Rattle.std.proofs.Common.{◌≡◌, ℕ, ◌==◌, ◌&&◌, ◌||◌, Bool
 use Rattle.qc_stamp.specs.declared.stamp.TxId.{TxId}
 use Rattle.qc_entry.specs.declared.line.Line.{Line}
 use Rattle.qc_entry.specs.declared.line.OwnLine.{OwnLine}
-use Rattle.qc_entry.specs.Log.{of_object, union}
-use Rattle.qc_entry.proofs.Union.{union-nil}
+use Rattle.qc_entry.specs.Log.{of_object}
 use Rattle.qc_decl.specs.declared.declaration.Declaration.{Declaration}
 use Rattle.qc_lock.specs.declared.clash.Clash.{Clash as Conflict}
 use Rattle.qc_msg.specs.declared.message.Answer.{Answer}
@@ -20,11 +19,14 @@ use Rattle.qc_msg.specs.declared.turn.Posting.{Posting}
 use Rattle.qc_msg.specs.Deeds.{Deed, Takes, turn_deeds}
 use Rattle.qc_msg.specs.Readings.{granted_in}
 use Rattle.qc_msg.specs.Turns.{quiet, says}
-use Rattle.qc_promise.specs.SiteLogs.{view_in}
+use Rattle.qc_promise.specs.SiteLogs.{Lines, lines_shown, view_in}
 use Rattle.qc_site.specs.Conduct.{clock_after}
 use Rattle.qc_site.specs.Requests.{appends, clashing, reads}
-use Rattle.qc_site.specs.Site.{SiteMove, SiteState, answering, answers as answered, moved}
-use Rattle.qc_core.proofs.SiteShown.{hold, shown, shown-more, standing_given, view_given}
+use Rattle.qc_site.specs.Site.{SiteMove, SiteState, answering, answers as answered, known, learned, moved}
+use Rattle.qc_core.proofs.SiteHolds.{hold, standing_given}
+use Rattle.qc_core.proofs.SiteLines.{view_given}
+use Rattle.qc_core.proofs.SitePosts.{learning-nil}
+use Rattle.qc_core.proofs.SiteShown.{shown, shown-more}
 use Rattle.qc_core.proofs.SiteTalks.{DecidesNothing, clock_passes, stands_still, talks}
 
 abbrev pub letter : ℕ → ℕ → ℕ → Message → Given
@@ -84,18 +86,18 @@ module _ (site : ℕ) (ds : List Deed) (n number from to : ℕ) where
     -- a grant
 
     pub granted : (want : Want) (l c : ℕ) (log : List Line) (r : SiteState)
-        → r ≡ record (passed site ds (asked want)) { log = union (shown site ds).log (view_in want); held = hold (shown site ds).held (record { tx = tx; want = want }) }
+        → r ≡ record (passed site ds (asked want)) { log = learned (shown site ds) (view_in want); held = hold (shown site ds).held (record { tx = tx; want = want }) }
         → IsStep site ds (asking want) n (moved r (answered from number (answers.Granted l c log)))
     granted want l c log r is =
         is ∙ sym (shown-more site ds (asking want) n (answered from number (answers.Granted l c log))
         ∙ talks site ds (asking want) n (answering from number (answers.Granted l c log) ∷ []) None (nothing want) (record { tx = tx; want = want } ∷ []) (view_in want)
         (ap (λ (b : Bool). cond ((b && true || false) && true) (record { tx = tx; want = want } ∷ []) []) (eq-eqb number number refl))
         (ap (λ (b : Bool). cond (b && true || false) (view_in want) []) (eq-eqb number number refl))
-        ∙ ap (λ (v : ℕ). record (shown site ds) { log = union (shown site ds).log (view_in want); held = hold (shown site ds).held (record { tx = tx; want = want }); clock = v }) (clock_passes (shown site ds).clock (asked want)))
+        ∙ ap (λ (v : ℕ). record (shown site ds) { log = learned (shown site ds) (view_in want); held = hold (shown site ds).held (record { tx = tx; want = want }); clock = v }) (clock_passes (shown site ds).clock (asked want)))
 
     pub read : (object inv : ℕ) → IsStep site ds (asking (Read object inv)) n (reads (passed site ds (asked (Read object inv))) from number tx object inv)
-    read object inv = granted (Read object inv) (shown site ds).life (shown site ds).clock (of_object (shown site ds).log object) (reads (passed site ds (asked (Read object inv))) from number tx object inv).site
-        (ap (λ (v : List Line). record (shown site ds) { log = v; held = hold (shown site ds).held (record { tx = tx; want = Read object inv }) }) (sym (union-nil (shown site ds).log)))
+    read object inv = granted (Read object inv) (shown site ds).life (shown site ds).clock (of_object (known (shown site ds)) object) (reads (passed site ds (asked (Read object inv))) from number tx object inv).site
+        (ap (λ (l : Lines). record (shown site ds) { log = l.since; held = hold (shown site ds).held (record { tx = tx; want = Read object inv }) }) (sym (learning-nil (lines_shown ds))))
 
     pub append : (object : ℕ) (view : List Line) (own : List OwnLine) → IsStep site ds (asking (Append object view own)) n (appends (passed site ds (asked (Append object view own))) from number tx view own)
     append object view own = granted (Append object view own) (shown site ds).life (passed site ds (asked (Append object view own))).clock [] (appends (passed site ds (asked (Append object view own))) from number tx view own).site refl

@@ -1,12 +1,10 @@
 -- What a site becomes, where its turn writes no record, or a promise.
 use Rattle.std.proofs.Common.{◌≡◌, ℕ, ◌||◌, not, max, Bool, true, false, cond, List, [], ◌∷◌, Option, refl, ap, ◌∙◌}
-use Rattle.std.specs.Prelude.{filter, fold, map}
+use Rattle.std.specs.Prelude.{filter, fold}
 use Rattle.std.proofs.lemmas.List.{append-nil}
 use Rattle.qc_stamp.specs.declared.stamp.TxId.{TxId}
 use Rattle.qc_entry.specs.declared.line.Line.{Line}
 use Rattle.qc_entry.specs.declared.record.Prepared.{Prepared}
-use Rattle.qc_entry.specs.Log.{union}
-use Rattle.qc_entry.proofs.Union.{union-nil}
 use Rattle.qc_msg.specs.declared.message.Message.{Message}
 use Rattle.qc_msg.specs.declared.message.Message.TheVariants as messages
 use Rattle.qc_msg.specs.declared.message.Outcome.TheVariants.{Committed, Aborted, Active}
@@ -17,16 +15,18 @@ use Rattle.qc_msg.specs.declared.turn.Posting.{Posting}
 use Rattle.qc_msg.specs.declared.turn.Turn.{Turn}
 use Rattle.qc_msg.specs.Deeds.{Deed, Takes, turn_deeds}
 use Rattle.qc_msg.specs.Turns.{says}
-use Rattle.qc_promise.specs.Lifetimes.{lifetime}
-use Rattle.qc_promise.specs.SiteClocks.{clock_shown, clocks_in}
+use Rattle.qc_promise.specs.SiteClocks.{clock_shown, clocks_in, clocks_of}
 use Rattle.qc_promise.specs.SiteEnds.{is_aborted, is_decision, is_ended, is_final, is_over}
-use Rattle.qc_promise.specs.SiteHeld.{Grant, held_shown, standing, with_promise}
-use Rattle.qc_promise.specs.SiteLogs.{log_shown}
+use Rattle.qc_promise.specs.SiteHeld.{Grant, held_shown, last_cut, standing, with_promise}
+use Rattle.qc_promise.specs.SiteLogs.{Lines, learning, lines_shown}
 use Rattle.qc_promise.specs.SitePromises.{prepared_shown}
 use Rattle.qc_site.specs.Conduct.{clock_after, latest}
 use Rattle.qc_core.proofs.SiteGrowth.{lasts, stays}
-use Rattle.qc_core.proofs.SitePosts.{post_ends, post_frees}
-use Rattle.qc_core.proofs.SiteShown.{clocks_given, grown, hold, remains, rose, same_state, shown, standing_given, view_given}
+use Rattle.qc_core.proofs.SiteHolds.{hold, held_on, remaining, remains, standing_given}
+use Rattle.qc_core.proofs.SiteLines.{view_given}
+use Rattle.qc_core.proofs.SitePosts.{learning-nil, post_ends, post_frees}
+use Rattle.qc_core.proofs.SiteRecorded.{clocks_given}
+use Rattle.qc_core.proofs.SiteShown.{grown, same_state, shown}
 
 pub filter_all : {A : Type 0} (f : A → Bool) → ((x : A) → f x ≡ true) → (xs : List A) → filter f xs ≡ xs
 filter_all f all [] = refl
@@ -43,29 +43,28 @@ module _ (ds : List Deed) (g : Given) (n : ℕ) (turn : Turn) (still : DecidesNo
   none_ends : (tx : TxId) → is_ended tx done ≡ false
   none_ends tx = ap (λ (b : Bool). b || is_ended tx (turn_deeds n turn)) (still.0 tx) ∙ post_ends n turn tx
 
-  all_stand : filter (stays done) (standing (lifetime ds).since) ≡ standing (lifetime ds).since
-  all_stand = filter_all (stays done) (λ (r : Grant). ap (λ (b : Bool). not b) (none_ends r.tx)) (standing (lifetime ds).since)
+  all_stand : filter (stays done) (standing (last_cut ds).since) ≡ standing (last_cut ds).since
+  all_stand = filter_all (stays done) (λ (r : Grant). ap (λ (b : Bool). not b) (none_ends r.tx)) (standing (last_cut ds).since)
 
-  all_remain : filter (remains done) (rose (lifetime ds)) ≡ rose (lifetime ds)
-  all_remain = filter_all (remains done) (λ (p : Prepared). ap (λ (b : Bool). not b) (none_ends p.tx)) (rose (lifetime ds))
+  all_remain : filter (remains done) (remaining (last_cut ds)) ≡ remaining (last_cut ds)
+  all_remain = filter_all (remains done) (λ (p : Prepared). ap (λ (b : Bool). not b) (none_ends p.tx)) (remaining (last_cut ds))
 
-  pub held_on : (gs : List Grant) → standing_given g (turn_deeds n turn) ≡ gs
-      → fold hold (fold hold (fold with_promise [] (filter (remains done) (rose (lifetime ds)))) (filter (stays done) (standing (lifetime ds).since))) (standing_given g (turn_deeds n turn)) ≡ fold hold (held_shown ds) gs
-  held_on gs is =
-      ap (λ (v : List Prepared). fold hold (fold hold (fold with_promise [] v) (filter (stays done) (standing (lifetime ds).since))) (standing_given g (turn_deeds n turn))) all_remain
-      ∙ ap (λ (v : List Grant). fold hold (fold hold (fold with_promise [] (rose (lifetime ds))) v) (standing_given g (turn_deeds n turn))) all_stand
+  pub stays_held : (gs : List Grant) → standing_given g (turn_deeds n turn) ≡ gs → held_on ds g n turn ≡ fold hold (held_shown ds) gs
+  stays_held gs is =
+      ap (λ (v : List Prepared). fold hold (fold hold (fold with_promise [] v) (filter (stays done) (standing (last_cut ds).since))) (standing_given g (turn_deeds n turn))) all_remain
+      ∙ ap (λ (v : List Grant). fold hold (fold hold (fold with_promise [] (remaining (last_cut ds))) v) (standing_given g (turn_deeds n turn))) all_stand
       ∙ ap (λ (v : List Grant). fold hold (held_shown ds) v) is
 
 -- a turn without a record
 module _ (site : ℕ) (ds : List Deed) (g : Given) (n : ℕ) (sends : List Posting) (told : Option Reply) (still : DecidesNothing g) where
   pub talks : (gs : List Grant) (view : List Line) → standing_given g (turn_deeds n (says sends told)) ≡ gs → view_given g (turn_deeds n (says sends told)) ≡ view
-      → grown site ds g n (says sends told) ≡ record (shown site ds) { log = union (log_shown ds) view; held = fold hold (held_shown ds) gs; clock = fold max (clock_shown ds) (clocks_given g) }
+      → grown site ds g n (says sends told) ≡ record (shown site ds) { log = (learning (lines_shown ds) view).since; held = fold hold (held_shown ds) gs; clock = fold max (clock_shown ds) (clocks_given g) }
   talks gs view stand joins =
-      same_state (grown site ds g n (says sends told)) (record (shown site ds) { log = union (log_shown ds) view; held = fold hold (held_shown ds) gs; clock = fold max (clock_shown ds) (clocks_given g) })
-      refl refl refl refl
-      (ap (λ (v : List Line). union (log_shown ds) v) joins)
+      same_state (grown site ds g n (says sends told)) (record (shown site ds) { log = (learning (lines_shown ds) view).since; held = fold hold (held_shown ds) gs; clock = fold max (clock_shown ds) (clocks_given g) })
+      refl refl refl refl refl
+      (ap (λ (v : List Line). (learning (lines_shown ds) v).since) joins)
       refl
-      (held_on ds g n (says sends told) still gs stand)
+      (stays_held ds g n (says sends told) still gs stand)
       (append-nil (filter (lasts (Takes g ∷ turn_deeds n (says sends told))) (prepared_shown ds)) ∙ filter_all (lasts (Takes g ∷ turn_deeds n (says sends told))) last (prepared_shown ds))
       refl
     where
@@ -76,16 +75,17 @@ module _ (site : ℕ) (ds : List Deed) (g : Given) (n : ℕ) (sends : List Posti
 
   -- nothing is granted
   pub stands_still : standing_given g (turn_deeds n (says sends told)) ≡ [] → view_given g (turn_deeds n (says sends told)) ≡ [] → grown site ds g n (says sends told) ≡ record (shown site ds) { clock = fold max (clock_shown ds) (clocks_given g) }
-  stands_still stand joins = talks [] [] stand joins ∙ ap (λ (v : List Line). record (shown site ds) { log = v; clock = fold max (clock_shown ds) (clocks_given g) }) (union-nil (log_shown ds))
+  stands_still stand joins = talks [] [] stand joins ∙ ap (λ (l : Lines). record (shown site ds) { log = l.since; clock = fold max (clock_shown ds) (clocks_given g) }) (learning-nil (lines_shown ds))
 
 -- the clock
+
+lines_pass : (clock : ℕ) (lines : List Line) → fold max clock (clocks_of lines) ≡ latest clock lines
+lines_pass clock [] = refl
+lines_pass clock (l ∷ lines) = lines_pass (max clock l.stamp.clock) lines
+
 pub clock_passes : (clock : ℕ) (m : Message) → fold max clock (clocks_in m) ≡ clock_after clock m
 clock_passes clock (messages.Request tx epoch life (Read object inv)) = refl
-clock_passes clock (messages.Request tx epoch life (Append object view own)) = by clock view
-  where
-    by : (clock : ℕ) (view : List Line) → fold max clock (map (λ (l : Line). l.stamp.clock) view) ≡ latest clock view
-    by clock [] = refl
-    by clock (l ∷ view) = by (max clock l.stamp.clock) view
+clock_passes clock (messages.Request tx epoch life (Append object view own)) = lines_pass clock view
 clock_passes clock (messages.Request tx epoch life Prepare) = refl
 clock_passes clock (messages.Answer to answer) = refl
 clock_passes clock (messages.Decision tx (Committed stamp)) = refl
@@ -94,4 +94,4 @@ clock_passes clock (messages.Decision tx Active) = refl
 clock_passes clock (messages.Inquiry tx) = refl
 clock_passes clock (messages.Ask tx) = refl
 clock_passes clock (messages.Close epoch) = refl
-clock_passes clock (messages.Install epoch installed log) = refl
+clock_passes clock (messages.Install epoch installed lines) = lines_pass clock lines

@@ -1,6 +1,6 @@
 -- An actor's state: a site's, or a client's, or none while it is down. What it becomes and does for each input and as
 -- it rises, and over all its deeds.
-use Rattle.std.specs.Prelude.{ℕ, ◌-◌, ◌<◌, ◌≤◌, if◌then◌else◌, List, fold, length}
+use Rattle.std.specs.Prelude.{ℕ, ◌-◌, ◌^◌, ◌<◌, ◌≤◌, if◌then◌else◌, List, fold, length}
 use Rattle.std.specs.List.{AllByRecursion as Every}
 use Rattle.qc_decl.specs.declared.declaration.Declaration.{Declaration}
 use Rattle.qc_decl.specs.Actors.{is_site}
@@ -98,16 +98,16 @@ abbrev pub actor_after : Declaration → ℕ → List Deed → ActorMove
 actor_after decl a deeds = fold (actor_does decl a) (moved (new_actor decl a) quiet) deeds
 
 -- What holds of an actor, and of what it takes, in every run of fewer steps than the limit, and its calls rely on. A
--- site's calls rely on nothing, nor do those of an actor that is down.
+-- site can count one life more; the calls of an actor that is down rely on nothing.
 
 abbrev pub ActorFits : Actor → Type 0
-ActorFits (Site s) = Unit {0}
+ActorFits (Site s) = s.life < 2 ^ 32 - 1
 ActorFits (Client c) = ClientFits c
 ActorFits Down = Unit {0}
 
--- the count and the clocks of a client are at most this
+-- the life of a site, and the count and the clocks of a client, are at most this
 abbrev pub ActorWithin : ℕ → Actor → Type 0
-ActorWithin n (Site s) = Unit {0}
+ActorWithin n (Site s) = s.life ≤ n
 ActorWithin n (Client c) = (c.front.count ≤ n) × (c.front.clock.value ≤ n) × (c.desk.clock.value ≤ n)
 ActorWithin n Down = Unit {0}
 

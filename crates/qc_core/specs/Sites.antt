@@ -18,7 +18,7 @@ use Rattle.qc_msg.specs.declared.turn.Turn.{Turn}
 use Rattle.qc_msg.specs.Deeds.{Deed, Takes, Writes, Sends, Tells, Falls, Rises, deeds_as}
 use Rattle.qc_promise.specs.SiteClocks.{clock_shown}
 use Rattle.qc_promise.specs.SiteHeld.{held_shown}
-use Rattle.qc_promise.specs.SiteLogs.{log_shown, recorded_shown}
+use Rattle.qc_promise.specs.SiteLogs.{began_shown, recorded_shown, since_shown}
 use Rattle.qc_promise.specs.SitePromises.{prepared_shown}
 use Rattle.qc_promise.specs.SiteRecords.{closed_shown, epoch_shown, life_shown}
 use Rattle.qc_site.specs.Site.{SiteState}
@@ -93,7 +93,8 @@ pub record IsShown (ds : List Deed) (s : SiteState) : Type 0 where
   pub life : s.life ≡ life_shown ds
   pub epoch : s.epoch ≡ epoch_shown ds
   pub closed_for : s.closed_for ≡ closed_shown ds
-  pub log : s.log ≡ log_shown ds
+  pub began : s.began ≡ began_shown ds
+  pub log : s.log ≡ since_shown ds
   pub recorded : s.recorded ≡ recorded_shown ds
   pub held : s.held ≡ held_shown ds
   pub prepared : s.prepared ≡ prepared_shown ds

@@ -22,8 +22,9 @@ ghost use Rattle.qc_msg.specs.declared.step.Given.TheVariants as given;
 ghost use Rattle.qc_promise.specs.SiteDue.{AreDue};
 ghost use Rattle.qc_site.specs.Site.{SiteState};
 
-/// All that a site is while it is up, its own steps show: life, epoch, log, the
-/// lines that its records give, what is held there and promised, and its clock.
+/// All that a site is while it is up, its own steps show: life, epoch, the lines
+/// that this began with and those since, the lines that its records give, what is
+/// held there and promised, and its clock.
 /// So it is after any falls and rises, whatever records they gave.
 #[tactic(auto, using(crate::proofs::SiteLaws::shows))]
 pub fn sites_are_read_off_their_steps()
@@ -79,8 +80,8 @@ pub fn requests_are_numbered_at_once()
         ≡ actor_sent (actor_takes decl (actor_after decl a ds).actor given).actor first }
 {}
 
-/// Where the count and the clocks of an actor of a run are far from the ends of
-/// their types, it fits: its calls may be made.
+/// Where the life, the count and the clocks of an actor of a run are far from
+/// the ends of their types, it fits: its calls may be made.
 #[tactic(auto, using(crate::proofs::ActorFits::actor_fits, crate::proofs::ActorFits::actor_asks_few))]
 pub fn actors_fit()
     ensures fits { (decl : Declaration) (a : ℕ) (ds : List Deed) (m n : ℕ) → IsAccepted decl → a < actors decl

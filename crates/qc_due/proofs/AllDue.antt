@@ -14,14 +14,14 @@ use Rattle.qc_msg.specs.Steps.{Entry}
 use Rattle.qc_promise.specs.Due.{Due}
 use Rattle.qc_script.specs.RunsWithFalls.{RunsWithFalls}
 use Rattle.qc_script.specs.declared.script.Script.{Script}
-use Rattle.qc_due.specs.Risen.{AllRiseInFirst}
+use Rattle.qc_due.specs.Risen.{AllRisePlanned}
 use Rattle.qc_due.proofs.Declared.{replies_due}
 
 pub runs_due : (decl : Declaration) (script : Script) (fits : ℕ → List Record → Type 0) → IsAccepted decl → AsksDeclared decl script → actors decl ≤ most_actors → (h : List Entry) (open_inputs : List Bool)
-    → RunsWithFalls (IsLawfulWithFalls decl) fits decl script h open_inputs → AllRiseInFirst h → RiseWithOwn decl h → Due decl h
-runs_due decl script fits accepted asks few h open_inputs run first given = record {
+    → RunsWithFalls (IsLawfulWithFalls decl) fits decl script h open_inputs → AllRisePlanned decl h → RiseWithOwn decl h → Due decl h
+runs_due decl script fits accepted asks few h open_inputs run planned given = record {
   turns = run_by_turns decl script fits few h open_inputs run;
   mail = run_mailed decl script fits few h open_inputs run;
-  replies = replies_due decl script fits accepted asks h open_inputs run first few;
+  replies = replies_due decl script fits accepted asks h open_inputs run planned few;
   sites = run_due decl script fits few h open_inputs run given;
 }

@@ -1,4 +1,4 @@
--- In a run with falls what comes to a client is declared, where nobody rises in another epoch than the first.
+-- In a run with falls what comes to a client is declared, where nobody rises with an epoch without a plan.
 use Rattle.std.proofs.Common.{◌≤◌, ◌<◌, ℕ, Bool, List, []}
 use Rattle.qc_core.specs.Conduct.{IsLawfulWithFalls}
 use Rattle.qc_decl.specs.Accepted.{IsAccepted}
@@ -13,19 +13,20 @@ use Rattle.qc_promise.specs.Replies.{AreRepliesDue}
 use Rattle.qc_script.specs.RunsWithFalls.{RunsWithFalls}
 use Rattle.qc_script.specs.declared.script.Script.{Script}
 use Rattle.qc_due.specs.Declares.{Declares}
-use Rattle.qc_due.proofs.Declaring.{all_declared, deeds_first, first_planned}
-use Rattle.qc_due.specs.Risen.{AllRiseInFirst}
+use Rattle.qc_due.proofs.Declaring.{all_declared, first_planned}
+use Rattle.qc_due.proofs.PlannedMail.{deeds_planned}
+use Rattle.qc_due.specs.Risen.{AllRisePlanned}
 use Rattle.qc_due.proofs.Clients.{clients_due}
 use Rattle.qc_due.proofs.Commanded.{run_askable}
-use Rattle.qc_due.proofs.FirstMail.{run_first}
+use Rattle.qc_due.proofs.MailPlanned.{run_planned}
 
 module _ (decl : Declaration) (script : Script) (fits : ℕ → List Record → Type 0) (accepted : IsAccepted decl) (asks : AsksDeclared decl script) (h : List Entry) (open_inputs : List Bool)
-    (run : RunsWithFalls (IsLawfulWithFalls decl) fits decl script h open_inputs) (all : AllRiseInFirst h) where
+    (run : RunsWithFalls (IsLawfulWithFalls decl) fits decl script h open_inputs) (all : AllRisePlanned decl h) where
   pub run_declares : (a : ℕ) → Declares decl (deeds a [] h)
   run_declares a = record {
     first = first_planned decl accepted;
     deeds = all_declared decl accepted a (deeds a [] h) (run_askable (IsLawfulWithFalls decl) fits decl script asks h open_inputs run a)
-        (deeds_first a [] h tt (run_first decl script fits h open_inputs run all));
+        (deeds_planned decl a [] h tt (run_planned decl (first_planned decl accepted) script fits h open_inputs run all));
   }
 
   pub replies_due : actors decl ≤ most_actors → (client : ℕ) → client < decl.clients → AreRepliesDue decl client (deeds (client_actor decl client) [] h)

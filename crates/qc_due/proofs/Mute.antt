@@ -34,6 +34,7 @@ use Rattle.qc_site.specs.Promise.{finishes, is_prepared, joins, prepare_length, 
 use Rattle.qc_decl.specs.Limits.{most_record_bytes}
 use Rattle.qc_site.specs.Requests.{appends_by, fault_of, grants, names_declared, reads_by, relation_at, requested}
 use Rattle.qc_site.specs.Site.{SiteMove, SiteState, answers, moved, new_site}
+use Rattle.qc_site.proofs.Cases.{close_cases, install_cases}
 
 abbrev pub NoCommit : Record → Type 0
 NoCommit records.Life = Unit {0}
@@ -106,8 +107,10 @@ site_mute decl s from number (messages.Answer to answer) = mute_quiet
 site_mute decl s from number (messages.Decision tx verdict) = finishes_mute s tx verdict
 site_mute decl s from number (messages.Inquiry tx) = mute_quiet
 site_mute decl s from number (messages.Ask tx) = mute_quiet
-site_mute decl s from number (messages.Close epoch) = mute_quiet
-site_mute decl s from number (messages.Install epoch clock log) = mute_quiet
+site_mute decl s from number (messages.Close k) =
+    close_cases (λ (m : SiteMove). IsMute m.turn) s from number k (λ answer. record { told = refl; write = tt }) (λ near later. record { told = refl; write = tt })
+site_mute decl s from number (messages.Install k clock lines) =
+    install_cases (λ (m : SiteMove). IsMute m.turn) s from number k clock lines (λ answer. record { told = refl; write = tt }) (λ later fits. record { told = refl; write = tt })
 
 takes_mute : (decl : Declaration) (s : SiteState) (g : Given) → IsMute (site_takes decl s g).turn
 takes_mute decl s (given.Called command) = mute_quiet

@@ -3,6 +3,7 @@ pub mod Told
 pub mod Ties
 pub mod ByRows
 pub mod Declares
+pub mod Planned
 pub mod Goes
 pub mod Waits
 pub mod Risen

@@ -1,36 +1,26 @@
--- A history in which nobody rises in another epoch than the first: no record that rises closes an epoch or installs
--- one.
+-- A history in which nobody rises with an epoch without a plan: each record that rises names epochs with plans.
 use Rattle.std.specs.Prelude.{List}
 use Rattle.std.specs.List.{AllByRecursion as Every}
-use Rattle.qc_msg.specs.declared.record.Record.{Record}
-use Rattle.qc_msg.specs.declared.record.Record.TheVariants as records
+use Rattle.qc_decl.specs.declared.declaration.Declaration.{Declaration}
 use Rattle.qc_msg.specs.declared.step.Step.{Step}
 use Rattle.qc_msg.specs.declared.step.Step.TheVariants as steps
 use Rattle.qc_msg.specs.Steps.{Entry}
+use Rattle.qc_due.specs.Planned.{IsRecordPlanned}
 
-abbrev pub IsOfFirst : Record → Type 0
-IsOfFirst records.Life = Unit {0}
-IsOfFirst (records.Prepare prepared) = Unit {0}
-IsOfFirst (records.Done tx clock) = Unit {0}
-IsOfFirst (records.Close epoch) = ⊥
-IsOfFirst (records.Install epoch clock lines) = ⊥
-IsOfFirst (records.Commit commit) = Unit {0}
-IsOfFirst (records.Decide epoch clock lines) = Unit {0}
+abbrev pub RisesPlanned : Declaration → Step → Type 0
+RisesPlanned decl (steps.Phase k) = Unit {0}
+RisesPlanned decl (steps.Cut x y) = Unit {0}
+RisesPlanned decl (steps.Heal x y) = Unit {0}
+RisesPlanned decl (steps.Armed actor kind at) = Unit {0}
+RisesPlanned decl (steps.Called command) = Unit {0}
+RisesPlanned decl (steps.Got n) = Unit {0}
+RisesPlanned decl (steps.Lost n) = Unit {0}
+RisesPlanned decl (steps.Wrote written) = Unit {0}
+RisesPlanned decl (steps.Sent n to message) = Unit {0}
+RisesPlanned decl (steps.Told reply) = Unit {0}
+RisesPlanned decl (steps.Fell cause pending) = Unit {0}
+RisesPlanned decl (steps.Rose kept) = Every (IsRecordPlanned decl) kept
+RisesPlanned decl (steps.Damaged offset) = Unit {0}
 
-abbrev pub RisesInFirst : Step → Type 0
-RisesInFirst (steps.Phase k) = Unit {0}
-RisesInFirst (steps.Cut x y) = Unit {0}
-RisesInFirst (steps.Heal x y) = Unit {0}
-RisesInFirst (steps.Armed actor kind at) = Unit {0}
-RisesInFirst (steps.Called command) = Unit {0}
-RisesInFirst (steps.Got n) = Unit {0}
-RisesInFirst (steps.Lost n) = Unit {0}
-RisesInFirst (steps.Wrote written) = Unit {0}
-RisesInFirst (steps.Sent n to message) = Unit {0}
-RisesInFirst (steps.Told reply) = Unit {0}
-RisesInFirst (steps.Fell cause pending) = Unit {0}
-RisesInFirst (steps.Rose kept) = Every IsOfFirst kept
-RisesInFirst (steps.Damaged offset) = Unit {0}
-
-abbrev pub AllRiseInFirst : List Entry → Type 0
-AllRiseInFirst h = Every (λ (e : Entry). RisesInFirst e.step) h
+abbrev pub AllRisePlanned : Declaration → List Entry → Type 0
+AllRisePlanned decl h = Every (λ (e : Entry). RisesPlanned decl e.step) h

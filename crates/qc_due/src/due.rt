@@ -6,7 +6,7 @@ ghost use Rattle.qc_core.specs.Conduct.{IsLawfulWithFalls};
 ghost use Rattle.qc_decl.specs.Accepted.{IsAccepted};
 ghost use Rattle.qc_decl.specs.Actors.{actors, client_actor};
 ghost use Rattle.qc_decl.specs.declared.declaration.Declaration.{Declaration};
-ghost use Rattle.qc_due.specs.Risen.{AllRiseInFirst};
+ghost use Rattle.qc_due.specs.Risen.{AllRisePlanned};
 ghost use Rattle.qc_laws.specs.Asked.{AsksDeclared};
 ghost use Rattle.qc_link.specs.Limits.{most_actors};
 ghost use Rattle.qc_laws.specs.OwnRises.{RiseWithOwn};
@@ -32,14 +32,13 @@ pub fn clients_of_runs_with_falls_are_due<C: ConductWithFalls>()
         → AreRepliesDue decl client (deeds (client_actor decl client) [] h) }
 {}
 
-/// So it is, of a script that asks for what is declared, where no record that
-/// rises closes an epoch or installs one: then nobody tells of another epoch than
-/// the first.
+/// So it is, of a script that asks for what is declared, where each record that
+/// rises names epochs with plans: then nobody tells of another.
 #[tactic(auto, using(crate::proofs::Declared::replies_due))]
 pub fn replies_are_due_with_falls<C: ConductWithFalls>()
     ensures { (decl : Declaration) (script : Script) → IsAccepted decl → AsksDeclared decl script
         → (h : List Entry) (open_inputs : List Bool)
-        → RunsWithFalls (IsLawfulWithFalls decl) C.fits decl script h open_inputs → AllRiseInFirst h
+        → RunsWithFalls (IsLawfulWithFalls decl) C.fits decl script h open_inputs → AllRisePlanned decl h
         → actors decl ≤ most_actors
         → (client : ℕ) → client < decl.clients
         → AreRepliesDue decl client (deeds (client_actor decl client) [] h) }
@@ -47,27 +46,27 @@ pub fn replies_are_due_with_falls<C: ConductWithFalls>()
 
 /// All is due in every run with falls: actors go by turns, messages reach their
 /// receivers, and each deed of a client and each post of a site is due; where
-/// what rises is of the first epoch, and clients rise with commit records that
+/// what rises names epochs with plans, and clients rise with commit records that
 /// name stamps of their transactions' own clients.
 #[tactic(auto, using(crate::proofs::AllDue::runs_due))]
 pub fn runs_with_falls_are_due<C: ConductWithFalls>()
     ensures { (decl : Declaration) (script : Script) → IsAccepted decl → AsksDeclared decl script
         → actors decl ≤ most_actors → (h : List Entry) (open_inputs : List Bool)
-        → RunsWithFalls (IsLawfulWithFalls decl) C.fits decl script h open_inputs → AllRiseInFirst h
+        → RunsWithFalls (IsLawfulWithFalls decl) C.fits decl script h open_inputs → AllRisePlanned decl h
         → RiseWithOwn decl h → Due decl h }
 {}
 
-/// Where records are kept, what rises is of the first epoch: no actor writes a
-/// record that closes an epoch or installs one.
-#[tactic(auto, using(crate::proofs::KeptFirst::kept_first))]
-pub fn what_rises_is_of_the_first_epoch_where_records_are_kept<C: ConductWithFalls>()
-    ensures { (decl : Declaration) (script : Script) → (h : List Entry) (open_inputs : List Bool)
+/// Where records are kept, what rises names epochs with plans: no actor writes a
+/// record of another.
+#[tactic(auto, using(crate::proofs::KeptPlanned::kept_planned))]
+pub fn what_rises_is_planned_where_records_are_kept<C: ConductWithFalls>()
+    ensures { (decl : Declaration) (script : Script) → IsAccepted decl → (h : List Entry) (open_inputs : List Bool)
         → RunsWithFalls (IsLawfulWithFalls decl) C.fits decl script h open_inputs → Kept h
-        → AllRiseInFirst h }
+        → AllRisePlanned decl h }
 {}
 
 /// So all is due in every run with falls in which records are kept.
-#[tactic(auto, using(crate::proofs::KeptFirst::kept_due))]
+#[tactic(auto, using(crate::proofs::KeptPlanned::kept_due))]
 pub fn runs_with_falls_are_due_where_records_are_kept<C: ConductWithFalls>()
     ensures { (decl : Declaration) (script : Script) → IsAccepted decl → AsksDeclared decl script
         → actors decl ≤ most_actors → (h : List Entry) (open_inputs : List Bool)

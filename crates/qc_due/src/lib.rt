@@ -42,13 +42,13 @@
 //!
 //! 1. In every run with falls each deed of a client is due, where what comes to it
 //!    is declared (`clients_of_runs_with_falls_are_due`).
-//! 2. That is so where the script asks for what is declared and no record that
-//!    rises closes an epoch or installs one (`replies_are_due_with_falls`).
+//! 2. That is so where the script asks for what is declared and each record that
+//!    rises names epochs with plans (`replies_are_due_with_falls`).
 //! 3. Then all is due in the run, by turns, by mail, of clients and of sites, where
 //!    the commit records that rise name stamps of their own clients
 //!    (`runs_with_falls_are_due`).
-//! 4. Where records are kept, no record that rises closes an epoch or installs one
-//!    (`what_rises_is_of_the_first_epoch_where_records_are_kept`); and so all is due
+//! 4. Where records are kept, each record that rises names epochs with plans
+//!    (`what_rises_is_planned_where_records_are_kept`); and so all is due
 //!    (`runs_with_falls_are_due_where_records_are_kept`).
 //!
 //! # Commands, replies, requests and ends with falls
@@ -110,8 +110,7 @@ pub use command_laws::{
 };
 pub use due::{
     clients_of_runs_with_falls_are_due, replies_are_due_with_falls, runs_with_falls_are_due,
-    runs_with_falls_are_due_where_records_are_kept,
-    what_rises_is_of_the_first_epoch_where_records_are_kept,
+    runs_with_falls_are_due_where_records_are_kept, what_rises_is_planned_where_records_are_kept,
 };
 pub use endings::{
     clients_wait_only_for_requests, commands_end, each_call_has_its_reply, runs_are_whole,

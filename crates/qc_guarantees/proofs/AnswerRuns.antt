@@ -29,7 +29,7 @@ use Rattle.qc_script.specs.declared.script.Script.{Script}
 use Rattle.qc_site.specs.Conduct.{site_after, site_does, site_takes}
 use Rattle.qc_site.specs.Site.{SiteMove, new_site}
 use Rattle.qc_site.specs.Site as sites
-use Rattle.qc_site.proofs.Rows.{after_at_first}
+use Rattle.qc_atomic.proofs.FirstSites.{TakesCalm, after_at_first}
 use Rattle.qc_client.specs.Client.{ClientMove, moved, new_client}
 use Rattle.qc_client.specs.Conduct.{client_after, client_does}
 use Rattle.qc_laws.proofs.Numbered.{AreNumbered, control_silent, mail-silent, phase_silent, run_numbered}
@@ -39,8 +39,10 @@ use Rattle.qc_guarantees.specs.Arrives.{Arrives, sent_to, taken, taken_by, taken
 use Rattle.qc_guarantees.specs.First.{IsFirst}
 use Rattle.qc_guarantees.specs.Undisturbed.{IsUndisturbed}
 use Rattle.qc_guarantees.proofs.ClientWords.{AreClientWords, IsClientWord, client_words}
-use Rattle.qc_guarantees.proofs.FirstAccounts.{FirstGiven}
-use Rattle.qc_guarantees.proofs.FirstRuns.{given_first, run_first}
+use Rattle.qc_laws.proofs.Served.{first_part}
+use Rattle.qc_guarantees.proofs.FirstAccounts.{FirstGiven, TakesFirst}
+use Rattle.qc_guarantees.proofs.FirstRuns.{given_first, run_first, takes_first}
+use Rattle.qc_guarantees.proofs.FirstSites.{deeds_calm}
 use Rattle.qc_guarantees.proofs.Fitting.{AnswersTo, FitsMessage, IfAnswers, fits_on}
 use Rattle.qc_guarantees.proofs.Held.{held_open}
 use Rattle.qc_guarantees.proofs.Mailed.{taken_mail}
@@ -158,6 +160,9 @@ module _ (decl : Declaration) (script : Script) (calm : IsUndisturbed script) wh
     hears_first : FirstGiven at.given
     hears_first = given_first older b at.given (run_first decl script older before run) (subst (In (Takes at.given)) (sym at.is) (In-last (Takes at.given) at.before))
 
+    before_calm : Every TakesCalm at.before
+    before_calm = deeds_calm at.before (first_part TakesFirst at.before (Takes at.given ∷ []) (subst (Every TakesFirst) at.is (takes_first older b (run_first decl script older before run))))
+
     arrives : Arrives script b older
     arrives = run_arrives decl script older before calm run b
 
@@ -184,7 +189,7 @@ module _ (decl : Declaration) (script : Script) (calm : IsUndisturbed script) wh
       first = subst FirstGiven got hears_first
 
       fits : AnswersTo (taken_in at.before) e.number e.message (site_takes decl (site_after decl b at.before).site (given.Got e))
-      fits = fits_on decl (taken_in at.before) b (site_after decl b at.before).site e (after_at_first decl b at.before) (held_open decl b at.before) first
+      fits = fits_on decl (taken_in at.before) b (site_after decl b at.before).site e (after_at_first decl b at.before before_calm) (held_open decl b at.before before_calm) first
 
       answered : (answer : Answer) (number : ℕ) → number ≡ e.number → (m : Message) → e.message ≡ m → FitsMessage (taken_in at.before) m answer → IsAnswered (mail older) b number answer
       answered answer number same (messages.Request tx epoch life want) is fit = record {

@@ -23,12 +23,13 @@ use Rattle.qc_guarantees.specs.Undisturbed.{IsUndisturbed}
 use Rattle.qc_guarantees.proofs.Held.{held_open}
 use Rattle.qc_guarantees.proofs.OwnWords.{open_begun}
 use Rattle.qc_guarantees.proofs.Passing.{run_arrives}
+use Rattle.qc_guarantees.proofs.Uncut.{calm_deeds}
 
 pub held_begun : (decl : Declaration) (script : Script) → IsAccepted decl → AsksDeclared decl script → IsUndisturbed script → (h : List Entry) (open_inputs : List Bool) → Runs (IsLawful decl) decl script h open_inputs
     → (site : ℕ) → (inbox script site h).copies ≡ [] → Every (λ (x : Held). begun_by decl (client_actor decl x.tx.client) h ≡ Some x.tx) (site_after decl site (deeds site [] h)).site.held
 held_begun decl script accepted asks calm h open_inputs run site none =
     every-weaker (λ (x : Held). is_open x.tx (taken site h) ≡ true) (λ (x : Held). begun_by decl (client_actor decl x.tx.client) h ≡ Some x.tx)
-    (λ x is. open_begun decl script accepted asks h open_inputs run site x.tx (ap (is_open x.tx) (sym all) ∙ is)) (site_after decl site (deeds site [] h)).site.held (held_open decl site (deeds site [] h))
+    (λ x is. open_begun decl script accepted asks h open_inputs run site x.tx (ap (is_open x.tx) (sym all) ∙ is)) (site_after decl site (deeds site [] h)).site.held (held_open decl site (deeds site [] h) (calm_deeds decl script accepted asks h open_inputs run site))
   where
     r : Arrives script site h
     r = run_arrives decl script h open_inputs calm run site

@@ -36,12 +36,13 @@ pub record WasBegun (o : Option Current) (t : Current) : Type 0 where
   pub old : Current
   pub was : o ≡ Some old
   pub tx : t.tx ≡ old.tx
+  pub epoch : t.epoch ≡ old.epoch
   pub ops : t.ops ≡ old.ops
   pub view : (object : ℕ) (l : Line) → In l (view_of old object) → In l (view_of t object)
   pub lives : KeepsLives old.lives t.lives
 
 same : (o : Option Current) (t : Current) → o ≡ Some t → WasBegun o t
-same o t is = record { old = t; was = is; tx = refl; ops = refl; view = λ object l among. among; lives = same_lives t.lives }
+same o t is = record { old = t; was = is; tx = refl; epoch = refl; ops = refl; view = λ object l among. among; lives = same_lives t.lives }
 
 abbrev add : List Line → ReadGrant → List Line
 add lines g = union lines g.log
@@ -60,6 +61,7 @@ grows xs ys object l among =
 
 record Keeps (change : Current → Current) (x : Current) : Type 0 where
   pub tx : (change x).tx ≡ x.tx
+  pub epoch : (change x).epoch ≡ x.epoch
   pub ops : (change x).ops ≡ x.ops
   pub view : (object : ℕ) (l : Line) → In l (view_of x object) → In l (view_of (change x) object)
   pub lives : KeepsLives x.lives (change x).lives
@@ -68,11 +70,11 @@ changed : (o : Option Current) (change : Current → Current) → ((x : Current)
 changed None change keeps t is = absurd (let never : ⊥ = cc in never)
 changed (Some x) change keeps t is =
     let it : change x ≡ t = cc in
-    subst (WasBegun (Some x)) it (record { old = x; was = refl; tx = (keeps x).tx; ops = (keeps x).ops; view = (keeps x).view; lives = (keeps x).lives })
+    subst (WasBegun (Some x)) it (record { old = x; was = refl; tx = (keeps x).tx; epoch = (keeps x).epoch; ops = (keeps x).ops; view = (keeps x).view; lives = (keeps x).lives })
 
 granted_kept : (d : Account) (site life clock : ℕ) (log : List Line) (w : Want) (t : Current) → (granted d site life clock log w).current ≡ Some t → WasBegun d.current t
-granted_kept d site life clock log (Read object inv) t is = changed d.current (λ (x : Current). with_read (lived x site life) object log) (λ x. record { tx = refl; ops = refl; view = λ o l among. grows x.read_grants (record { object = object; log = log } ∷ []) o l among; lives = life_added x.lives site life }) t is
-granted_kept d site life clock log (Append object view own) t is = changed d.current (λ (x : Current). lived x site life) (λ x. record { tx = refl; ops = refl; view = λ o l among. among; lives = life_added x.lives site life }) t is
+granted_kept d site life clock log (Read object inv) t is = changed d.current (λ (x : Current). with_read (lived x site life) object log) (λ x. record { tx = refl; epoch = refl; ops = refl; view = λ o l among. grows x.read_grants (record { object = object; log = log } ∷ []) o l among; lives = life_added x.lives site life }) t is
+granted_kept d site life clock log (Append object view own) t is = changed d.current (λ (x : Current). lived x site life) (λ x. record { tx = refl; epoch = refl; ops = refl; view = λ o l among. among; lives = life_added x.lives site life }) t is
 granted_kept d site life clock log Prepare t is = same d.current t is
 
 promised_kept : (d : Account) (clock : ℕ) (w : Want) (t : Current) → (promised d clock w).current ≡ Some t → WasBegun d.current t

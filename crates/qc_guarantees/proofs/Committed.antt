@@ -27,7 +27,8 @@ use Rattle.qc_protocol.proofs.Keeps.{laws}
 use Rattle.qc_protocol.proofs.LogKeeps.{log_laws}
 use Rattle.qc_protocol.proofs.Outcomes.{committed_record}
 use Rattle.qc_guarantees.proofs.Live.{Live, no_outcome, not_aborted}
-use Rattle.qc_guarantees.proofs.Machine.{AreOfFirstEpoch, IsPassed, IsSafe, IsSeen, ordered_now}
+use Rattle.qc_guarantees.proofs.Machine.{IsPassed, IsSeen, ordered_now}
+use Rattle.qc_guarantees.proofs.Settled.{IsSafe}
 
 -- the operation at a place
 record IsNth (ds : List Executed) (from at : ℕ) (op : Op) : Type 0 where
@@ -101,10 +102,10 @@ module _ (decl : Declaration) (accepted : IsAccepted decl) (acts : List Act) (ru
       inr (subst (λ (x : TxId). In {X = YesVote} (record { tx = x; site = g.site }) (state acts).votes) (sym its) ((wl.record_of c.tx c (committed_record ((state acts).status c.tx) c (wl.written c h))).agreed g counts its).0)
 
   -- two live transactions that are safe don't depend on each other
-  pub both_live : AreOfFirstEpoch acts → (t u : Current) (m n : ℕ) → Live (state acts) t m → Live (state acts) u n → IsSafe acts t.tx → IsSafe acts u.tx → u.tx ≢ t.tx → (op : Op) (number object number_of_event : ℕ) → In op t.ops → IsOperation decl u.ops number object number_of_event → object ≡ op.object
+  pub both_live : (t u : Current) (m n : ℕ) → Live (state acts) t m → Live (state acts) u n → IsSafe acts t.tx → IsSafe acts u.tx → u.tx ≢ t.tx → (op : Op) (number object number_of_event : ℕ) → In op t.ops → IsOperation decl u.ops number object number_of_event → object ≡ op.object
       → IsTrue (depends_at decl op.object op.inv number_of_event) → ⊥
-  both_live one t u m n lt lu st su ne op number object number_of_event among operation on depends =
-      elim (ordered_now decl accepted acts run one t.tx u.tx v.from o.operation v.listed o.listed o.some (sym o.object_is ∙ on ∙ ap (λ (x : Op). x.object) v.is) ne
+  both_live t u m n lt lu st su ne op number object number_of_event among operation on depends =
+      elim (ordered_now decl accepted acts run t.tx u.tx v.from o.operation v.listed o.listed o.some (sym o.object_is ∙ on ∙ ap (λ (x : Op). x.object) v.is) ne
       (not_aborted ((state acts).status t.tx) lt.active) (not_aborted ((state acts).status u.tx) lu.active) st su
       (subst (λ (x : Op). IsTrue (depends_at decl x.object x.inv o.operation.event)) v.is (subst (λ (k : ℕ). IsTrue (depends_at decl op.object op.inv k)) o.event_is depends))) [
         | inl s ↦ no_outcome ((state acts).status u.tx) lu.active (Some s.stamp) s.outcome
@@ -117,12 +118,12 @@ module _ (decl : Declaration) (accepted : IsAccepted decl) (acts : List Act) (ru
       o : IsOperationOf u.tx number object number_of_event
       o = operation_of u.tx u.ops number object number_of_event lu.ops operation
 
-  module _ (one : AreOfFirstEpoch acts) (t : Current) (clock : ℕ) (l : Live (state acts) t clock) (safe : IsSafe acts t.tx) (d : CommitRecord) (hd : In d (state acts).records) (ne : d.tx ≢ t.tx) where
+  module _ (t : Current) (clock : ℕ) (l : Live (state acts) t clock) (safe : IsSafe acts t.tx) (d : CommitRecord) (hd : In d (state acts).records) (ne : d.tx ≢ t.tx) where
     -- the reader is live, and the writer has committed
     pub reader_sees : (op : Op) (line : Line) → In op t.ops → line.stamp ≡ d.stamp → line.tx ≡ d.tx → IsOperation decl d.ops line.op line.object line.event → line.object ≡ op.object
         → IsTrue (depends_at decl op.object op.inv line.event) → In line (view_of t op.object) × (line.stamp.clock ≤ clock)
     reader_sees op line among stamped named operation on depends =
-        elim (ordered_now decl accepted acts run one t.tx d.tx v.from u.operation v.listed u.listed u.some objects ne (not_aborted ((state acts).status t.tx) l.active) (alive d hd) safe (committed_safe d hd)
+        elim (ordered_now decl accepted acts run t.tx d.tx v.from u.operation v.listed u.listed u.some objects ne (not_aborted ((state acts).status t.tx) l.active) (alive d hd) safe (committed_safe d hd)
         (subst (λ (x : Op). IsTrue (depends_at decl x.object x.inv u.operation.event)) v.is (subst (λ (n : ℕ). IsTrue (depends_at decl op.object op.inv n)) u.event_is depends))) [
           | inl s ↦ seen s
           | inr p ↦ absurd (no_outcome ((state acts).status t.tx) l.active (Some p.stamp) p.outcome)
@@ -137,7 +138,7 @@ module _ (decl : Declaration) (accepted : IsAccepted decl) (acts : List Act) (ru
         objects : u.operation.op.object ≡ v.from.op.object
         objects = sym u.object_is ∙ on ∙ ap (λ (x : Op). x.object) v.is
 
-        seen : IsSeen decl accepted acts run one t.tx d.tx v.from u.operation → In line (view_of t op.object) × (line.stamp.clock ≤ clock)
+        seen : IsSeen decl accepted acts run t.tx d.tx v.from u.operation → In line (view_of t op.object) × (line.stamp.clock ≤ clock)
         seen s =
             let stamp : line.stamp ≡ s.stamp = stamped ∙ its_stamp d hd s.stamp s.outcome in
             let line_is : line ≡ committed_line s.stamp d.tx (own_line u.operation) = (λ i. record { stamp = stamp i; tx = named i; op = u.op i; object = u.object_is i; event = u.event_is i }) in
@@ -154,7 +155,7 @@ module _ (decl : Declaration) (accepted : IsAccepted decl) (acts : List Act) (ru
     pub writer_passes : (op : Op) (number object number_of_event : ℕ) → In op d.ops → IsOperation decl t.ops number object number_of_event → object ≡ op.object
         → IsTrue (depends_at decl op.object op.inv number_of_event) → d.stamp.clock ≤ clock
     writer_passes op number object number_of_event among operation on depends =
-        elim (ordered_now decl accepted acts run one d.tx t.tx v.from u.operation v.listed u.listed u.some objects (λ x. ne (sym x)) (alive d hd) (not_aborted ((state acts).status t.tx) l.active) (committed_safe d hd) safe
+        elim (ordered_now decl accepted acts run d.tx t.tx v.from u.operation v.listed u.listed u.some objects (λ x. ne (sym x)) (alive d hd) (not_aborted ((state acts).status t.tx) l.active) (committed_safe d hd) safe
         (subst (λ (x : Op). IsTrue (depends_at decl x.object x.inv u.operation.event)) v.is (subst (λ (n : ℕ). IsTrue (depends_at decl op.object op.inv n)) u.event_is depends))) [
           | inl s ↦ absurd (no_outcome ((state acts).status t.tx) l.active (Some s.stamp) s.outcome)
           | inr p ↦ passed p
@@ -169,7 +170,7 @@ module _ (decl : Declaration) (accepted : IsAccepted decl) (acts : List Act) (ru
         objects : u.operation.op.object ≡ v.from.op.object
         objects = sym u.object_is ∙ on ∙ ap (λ (x : Op). x.object) v.is
 
-        passed : IsPassed decl accepted acts run one d.tx t.tx → d.stamp.clock ≤ clock
+        passed : IsPassed decl accepted acts run d.tx t.tx → d.stamp.clock ≤ clock
         passed p =
             let stamp : d.stamp.clock ≡ p.stamp.clock = ap (λ (x : Stamp). x.clock) (its_stamp d hd p.stamp p.outcome) in
             let counted : p.grant.clock ≤ (state acts).clock p.grant.tx.client = wl.passed p.grant p.counts (subst (λ (x : TxId). IsLive ((state acts).status x)) (sym p.its) (live_guard ((state acts).status t.tx) l.active)) in

@@ -26,14 +26,14 @@ use Rattle.qc_script.specs.declared.script.Script.{Script}
 use Rattle.qc_site.specs.Conduct.{site_after, site_does}
 use Rattle.qc_site.specs.Site.{SiteMove, new_site}
 use Rattle.qc_site.specs.Site as sites
-use Rattle.qc_site.proofs.Rows.{after_at_first}
+use Rattle.qc_atomic.proofs.FirstSites.{TakesCalm, after_at_first}
 use Rattle.qc_client.specs.Client.{ClientMove, moved, new_client}
 use Rattle.qc_client.specs.Conduct.{client_after, client_does}
 use Rattle.qc_laws.specs.Turns.{ActsIn}
 use Rattle.qc_laws.proofs.Acted.{run_acts}
 use Rattle.qc_laws.proofs.Numbered.{control_silent, mail-silent, phase_silent}
 use Rattle.qc_laws.proofs.Places.{slice_get-set_same}
-use Rattle.qc_laws.proofs.Served.{second_part}
+use Rattle.qc_laws.proofs.Served.{first_part, second_part}
 use Rattle.qc_due.proofs.Courses.{clients_due}
 use Rattle.qc_due.specs.ByRows.{AreByRows}
 use Rattle.qc_promise.specs.Account.{new_account}
@@ -42,7 +42,7 @@ use Rattle.qc_laws.proofs.ClientsWithin.{IsPost}
 use Rattle.qc_guarantees.specs.First.{AreFirst, IsFirst}
 use Rattle.qc_guarantees.proofs.ClientWords.{AreClientWords, IsClientWord, client_words}
 use Rattle.qc_guarantees.proofs.FirstAccounts.{FirstGiven, RequestIsFirst, SendsFirst, TakesFirst, deeds_first, new_first}
-use Rattle.qc_guarantees.proofs.FirstSites.{site_first}
+use Rattle.qc_guarantees.proofs.FirstSites.{deeds_calm, site_first}
 use Rattle.qc_guarantees.proofs.Mailed.{taken_mail}
 use Rattle.qc_guarantees.proofs.Opened.{IsAtTake, opened}
 
@@ -106,13 +106,16 @@ module _ (decl : Declaration) (script : Script) where
     hears_first : FirstGiven at.given
     hears_first = given_first older b at.given all (subst (In (Takes at.given)) (sym at.is) (In-last (Takes at.given) at.before))
 
+    before_calm : Every TakesCalm at.before
+    before_calm = deeds_calm at.before (first_part TakesFirst at.before (Takes at.given ∷ []) (subst (Every TakesFirst) at.is (takes_first older b all)))
+
     next : Runs (IsLawful decl) decl script (older ++ by b (posted (length (mail older)) turn)) (slice_set before b false)
     next = posts b turn before older run taken lawful
 
     by_site : is_site decl b ≡ true → SayFirst (site_after decl b (deeds b [] older)).turn.sends
     by_site is =
         subst (λ (m : SiteMove). SayFirst m.turn.sends) (sym (ap (site_after decl b) at.is ∙ fold-append (site_does decl) (sites.moved (new_site b) quiet) at.before (Takes at.given ∷ [])))
-        (site_first decl b (site_after decl b at.before).site at.given (after_at_first decl b at.before) hears_first)
+        (site_first decl b (site_after decl b at.before).site at.given (after_at_first decl b at.before before_calm) hears_first)
 
     words : AreClientWords (client_after decl (b - decl.sites) (deeds b [] older)).turn.sends
     words =

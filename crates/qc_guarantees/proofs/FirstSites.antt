@@ -1,5 +1,5 @@
 -- A site that hears of the first life and epoch alone refuses nothing for them, and tells no other.
-use Rattle.std.proofs.Common.{◌≡◌, ℕ, ◌==◌, ◌⊎◌, inl, inr, nat_lt, cond, Some, None, ap, ◌∙◌}
+use Rattle.std.proofs.Common.{◌≡◌, ℕ, ◌==◌, ◌⊎◌, inl, inr, nat_lt, cond, List, [], ◌∷◌, Some, None, ap, ◌∙◌}
 use Rattle.std.specs.List.{AllByRecursion as Every}
 use Rattle.qc_stamp.specs.declared.stamp.TxId.{TxId}
 use Rattle.qc_stamp.specs.Lives.{first_life}
@@ -14,12 +14,14 @@ use Rattle.qc_msg.specs.declared.step.Given.{Given}
 use Rattle.qc_msg.specs.declared.step.Given.TheVariants as given
 use Rattle.qc_msg.specs.declared.turn.Posting.{Posting}
 use Rattle.qc_msg.specs.Begun.{first_epoch}
+use Rattle.qc_msg.specs.Deeds.{Deed, Takes, Writes, Sends, Tells, Falls, Rises}
 use Rattle.qc_site.specs.Conduct.{passed, site_at, site_takes}
 use Rattle.qc_site.specs.Requests.{closed_fault, fault_of, grants, life_fault}
-use Rattle.qc_site.specs.Site.{IsAtFirst, SiteMove, SiteState}
+use Rattle.qc_site.specs.Site.{SiteMove, SiteState}
 use Rattle.qc_site.proofs.Cases.{append_cases, join_cases, prepare_cases, read_cases, request_cases}
+use Rattle.qc_atomic.proofs.FirstSites.{IsAtFirst, IsCalmGiven, IsCalmMessage, TakesCalm}
 use Rattle.qc_guarantees.specs.First.{IsFirst}
-use Rattle.qc_guarantees.proofs.FirstAccounts.{FirstGiven}
+use Rattle.qc_guarantees.proofs.FirstAccounts.{FirstGiven, TakesFirst}
 
 -- a request of the first epoch, which names the first life or none, isn't refused for them
 pub first_free : (n : ℕ) (s : SiteState) (epoch life : ℕ) → IsAtFirst n s → epoch ≡ first_epoch → (life ≡ 0) ⊎ (life ≡ first_life) → fault_of s epoch life ≡ None
@@ -56,10 +58,35 @@ module _ (decl : Declaration) (n : ℕ) (s : SiteState) (first : IsAtFirst n s) 
   at (messages.Decision tx Active) is = tt
   at (messages.Inquiry tx) is = tt
   at (messages.Ask tx) is = tt
-  at (messages.Close epoch) is = tt
-  at (messages.Install epoch clock log) is = tt
+  at (messages.Close epoch) never = absurd never
+  at (messages.Install epoch clock log) never = absurd never
 
 pub site_first : (decl : Declaration) (n : ℕ) (s : SiteState) (g : Given) → IsAtFirst n s → FirstGiven g → SaysFirst (site_takes decl s g)
 site_first decl n s (given.Called command) first is = tt
 site_first decl n s (given.Got e) first is = at decl n (passed s e.message) (passed_first n s e.message first) e.from e.number e.message is
 site_first decl n s (given.Lost number) first is = tt
+
+-- neither a Close nor an Install is of the first epoch
+
+message_calm : (m : Message) → IsFirst m → IsCalmMessage m
+message_calm (messages.Request tx epoch life want) first = tt
+message_calm (messages.Answer to answer) first = tt
+message_calm (messages.Decision tx verdict) first = tt
+message_calm (messages.Inquiry tx) first = tt
+message_calm (messages.Ask tx) first = tt
+message_calm (messages.Close epoch) never = never
+message_calm (messages.Install epoch clock log) never = never
+
+given_calm : (g : Given) → FirstGiven g → IsCalmGiven g
+given_calm (given.Called command) first = tt
+given_calm (given.Got e) first = message_calm e.message first
+given_calm (given.Lost number) first = tt
+
+pub deeds_calm : (ds : List Deed) → Every TakesFirst ds → Every TakesCalm ds
+deeds_calm [] all = tt
+deeds_calm (Takes g ∷ ds) all = (given_calm g all.0, deeds_calm ds all.1)
+deeds_calm (Writes written ∷ ds) all = (tt, deeds_calm ds all.1)
+deeds_calm (Sends number to message ∷ ds) all = (tt, deeds_calm ds all.1)
+deeds_calm (Tells reply ∷ ds) all = (tt, deeds_calm ds all.1)
+deeds_calm (Falls cause pending ∷ ds) all = (tt, deeds_calm ds all.1)
+deeds_calm (Rises kept ∷ ds) all = (tt, deeds_calm ds all.1)

@@ -14,7 +14,8 @@ use Rattle.qc_msg.specs.declared.step.Given.TheVariants as given
 use Rattle.qc_msg.specs.declared.turn.Posting.{Posting}
 use Rattle.qc_site.specs.Conduct.{passed, site_at, site_takes}
 use Rattle.qc_site.specs.Requests.{fault_of, grants, relation_at}
-use Rattle.qc_site.specs.Site.{IsAtFirst, SiteMove, SiteState}
+use Rattle.qc_site.specs.Site.{SiteMove, SiteState}
+use Rattle.qc_atomic.proofs.FirstSites.{IsAtFirst}
 use Rattle.qc_site.proofs.Cases.{append_cases, join_cases, prepare_cases, read_cases, request_cases}
 use Rattle.qc_guarantees.specs.Answers.{Fits}
 use Rattle.qc_guarantees.specs.First.{IsFirst}
@@ -66,8 +67,8 @@ module _ (decl : Declaration) (ms : List Envelope) (n : ℕ) (s : SiteState) (fi
   at (messages.Decision tx Active) is = tt
   at (messages.Inquiry tx) is = tt
   at (messages.Ask tx) is = tt
-  at (messages.Close epoch) is = tt
-  at (messages.Install epoch clock log) is = tt
+  at (messages.Close epoch) never = absurd never
+  at (messages.Install epoch clock log) never = absurd never
 
 -- the site once its clock has passed
 pub fits_on : (decl : Declaration) (ms : List Envelope) (n : ℕ) (s : SiteState) (e : Envelope) → IsAtFirst n s → AreOpen ms s.held → IsFirst e.message → AnswersTo ms e.number e.message (site_takes decl s (given.Got e))

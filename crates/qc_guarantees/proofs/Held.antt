@@ -28,6 +28,7 @@ use Rattle.qc_msg.specs.declared.step.Given.TheVariants as given
 use Rattle.qc_msg.specs.Deeds.{Deed, Takes, Writes, Sends, Tells, Falls, Rises}
 use Rattle.qc_msg.specs.Turns.{quiet}
 use Rattle.qc_promise.specs.SiteEnds.{is_final}
+use Rattle.qc_atomic.proofs.FirstSites.{IsCalmGiven, IsCalmMessage, TakesCalm}
 use Rattle.qc_site.specs.Conduct.{passed, site_after, site_at, site_does, site_takes}
 use Rattle.qc_site.specs.Requests.{grants}
 use Rattle.qc_site.specs.Site.{SiteMove, SiteState, moved, new_site}
@@ -104,46 +105,46 @@ module _ (decl : Declaration) (ms : List Envelope) (s : SiteState) (from number 
   told tx = every-weaker (λ (h : Held). is_open h.tx ms ≡ true) (λ (h : Held). open_said h.tx (is_open h.tx ms) (messages.Decision tx Active) ≡ true)
       (λ h is. active_leaves h.tx tx (is_open h.tx ms) ∙ is) s.held all
 
-  at : (m : Message) → Now m (site_at decl s from number m).site.held
-  at (messages.Request tx epoch life want) =
+  at : (m : Message) → IsCalmMessage m → Now m (site_at decl s from number m).site.held
+  at (messages.Request tx epoch life want) calm =
       request_cases (λ (m : SiteMove). Now (messages.Request tx epoch life want) m.site.held) decl s from number tx epoch life want (requested tx epoch life want) (λ fault is. requested tx epoch life want) (λ is. granted tx epoch life want)
-  at (messages.Answer to answer) = all
-  at (messages.Decision tx (Committed stamp)) =
+  at (messages.Answer to answer) calm = all
+  at (messages.Decision tx (Committed stamp)) calm =
       join_cases (λ (m : SiteMove). Now (messages.Decision tx (Committed stamp)) m.site.held) s tx stamp (λ none. ended tx (Committed stamp)) (λ p some. ended tx (Committed stamp))
-  at (messages.Decision tx Aborted) = ended tx Aborted
-  at (messages.Decision tx Active) = told tx
-  at (messages.Inquiry tx) = all
-  at (messages.Ask tx) = all
-  at (messages.Close epoch) = all
-  at (messages.Install epoch clock log) = all
+  at (messages.Decision tx Aborted) calm = ended tx Aborted
+  at (messages.Decision tx Active) calm = told tx
+  at (messages.Inquiry tx) calm = all
+  at (messages.Ask tx) calm = all
+  at (messages.Close epoch) calm = absurd calm
+  at (messages.Install epoch clock log) calm = absurd calm
 
 -- over all that a site does
 
-one_input : (decl : Declaration) (ms : List Envelope) (s : SiteState) (g : Given) → AreOpen ms s.held → AreOpen (ms ++ taken_in (Takes g ∷ [])) (site_takes decl s g).site.held
-one_input decl ms s (given.Called command) all = subst (λ (v : List Envelope). AreOpen v s.held) (sym (append-nil ms)) all
-one_input decl ms s (given.Lost number) all = subst (λ (v : List Envelope). AreOpen v s.held) (sym (append-nil ms)) all
-one_input decl ms s (given.Got e) all =
+one_input : (decl : Declaration) (ms : List Envelope) (s : SiteState) (g : Given) → IsCalmGiven g → AreOpen ms s.held → AreOpen (ms ++ taken_in (Takes g ∷ [])) (site_takes decl s g).site.held
+one_input decl ms s (given.Called command) calm all = subst (λ (v : List Envelope). AreOpen v s.held) (sym (append-nil ms)) all
+one_input decl ms s (given.Lost number) calm all = subst (λ (v : List Envelope). AreOpen v s.held) (sym (append-nil ms)) all
+one_input decl ms s (given.Got e) calm all =
     every-weaker (λ (h : Held). open_said h.tx (is_open h.tx ms) e.message ≡ true) (λ (h : Held). is_open h.tx (ms ++ e ∷ []) ≡ true)
-    (λ h is. open_more h.tx ms e ∙ is) (site_at decl (passed s e.message) e.from e.number e.message).site.held (at decl ms (passed s e.message) e.from e.number e all e.message)
+    (λ h is. open_more h.tx ms e ∙ is) (site_at decl (passed s e.message) e.from e.number e.message).site.held (at decl ms (passed s e.message) e.from e.number e all e.message calm)
 
-open_from : (decl : Declaration) (ms : List Envelope) (m : SiteMove) (ds : List Deed) → AreOpen ms m.site.held → AreOpen (ms ++ taken_in ds) (fold (site_does decl) m ds).site.held
-open_from decl ms m [] all = subst (λ (v : List Envelope). AreOpen v m.site.held) (sym (append-nil ms)) all
-open_from decl ms m (Takes g ∷ ds) all =
+open_from : (decl : Declaration) (ms : List Envelope) (m : SiteMove) (ds : List Deed) → Every TakesCalm ds → AreOpen ms m.site.held → AreOpen (ms ++ taken_in ds) (fold (site_does decl) m ds).site.held
+open_from decl ms m [] calm all = subst (λ (v : List Envelope). AreOpen v m.site.held) (sym (append-nil ms)) all
+open_from decl ms m (Takes g ∷ ds) calm all =
     subst (λ (v : List Envelope). AreOpen v (fold (site_does decl) (site_takes decl m.site g) ds).site.held) (whole (message_in g))
-    (open_from decl (ms ++ taken_in (Takes g ∷ [])) (site_takes decl m.site g) ds (one_input decl ms m.site g all))
+    (open_from decl (ms ++ taken_in (Takes g ∷ [])) (site_takes decl m.site g) ds calm.1 (one_input decl ms m.site g calm.0 all))
   where
     whole : (o : Option Envelope) → (ms ++ cons_option o []) ++ taken_in ds ≡ ms ++ cons_option o (taken_in ds)
     whole None = ap (λ (v : List Envelope). v ++ taken_in ds) (append-nil ms)
     whole (Some e) = append_assoc ms (e ∷ []) (taken_in ds)
-open_from decl ms m (Writes written ∷ ds) all = open_from decl ms m ds all
-open_from decl ms m (Sends number to message ∷ ds) all = open_from decl ms m ds all
-open_from decl ms m (Tells reply ∷ ds) all = open_from decl ms m ds all
-open_from decl ms m (Falls cause pending ∷ ds) all = open_from decl ms m ds all
-open_from decl ms m (Rises records ∷ ds) all = open_from decl ms m ds all
+open_from decl ms m (Writes written ∷ ds) calm all = open_from decl ms m ds calm.1 all
+open_from decl ms m (Sends number to message ∷ ds) calm all = open_from decl ms m ds calm.1 all
+open_from decl ms m (Tells reply ∷ ds) calm all = open_from decl ms m ds calm.1 all
+open_from decl ms m (Falls cause pending ∷ ds) calm all = open_from decl ms m ds calm.1 all
+open_from decl ms m (Rises records ∷ ds) calm all = open_from decl ms m ds calm.1 all
 
 -- each that holds something at a site is open by what the site took
-pub held_open : (decl : Declaration) (site : ℕ) (ds : List Deed) → AreOpen (taken_in ds) (site_after decl site ds).site.held
-held_open decl site ds = open_from decl [] (moved (new_site site) quiet) ds tt
+pub held_open : (decl : Declaration) (site : ℕ) (ds : List Deed) → Every TakesCalm ds → AreOpen (taken_in ds) (site_after decl site ds).site.held
+held_open decl site ds calm = open_from decl [] (moved (new_site site) quiet) ds calm tt
 
 -- so is each that is in the way of a request
 

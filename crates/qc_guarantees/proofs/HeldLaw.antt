@@ -29,12 +29,8 @@ use Rattle.qc_msg.specs.Deeds.{Deed, Takes, Writes, Sends, Tells, Falls, Rises, 
 use Rattle.qc_msg.specs.Steps.{Entry}
 use Rattle.qc_onecopy.specs.Executed.{Executed, own_line}
 use Rattle.qc_msg.specs.Readings.{Decided, decision_in, got_in, request_in}
-use Rattle.qc_promise.specs.Lifetimes.{Lifetime}
 use Rattle.qc_promise.specs.SiteEnds.{is_decision, is_ended, is_final}
-use Rattle.qc_promise.specs.SiteHeld.{Grant, held_shown, held_since_rise, holding, is_granted, standing, standing_as, standing_by, stands}
-use Rattle.qc_promise.specs.SitePromises.{promises_of}
-use Rattle.qc_laws.proofs.FirstLives.{only_life}
-use Rattle.qc_laws.proofs.Up.{run_up}
+use Rattle.qc_promise.specs.SiteHeld.{Grant, held_shown, holding, is_granted, standing, standing_as, standing_by, stands}
 use Rattle.qc_protocol.specs.Acts.{state}
 use Rattle.qc_protocol.specs.Logs.{IsExecutedOrChosen, IsOwnClosedAt, LogLaws}
 use Rattle.qc_protocol.specs.Site.{Item, Lock, Own}
@@ -51,6 +47,7 @@ use Rattle.qc_atomic.proofs.Runs.{decisions_agree}
 use Rattle.qc_guarantees.specs.Held.{HasWanted, IsGrantedSince}
 use Rattle.qc_guarantees.proofs.Mailed.{taken_mail}
 use Rattle.qc_guarantees.proofs.Room.{numbered_within}
+use Rattle.qc_guarantees.proofs.Uncut.{held_from_first}
 use Rattle.qc_guarantees.proofs.Voted.{mirror, stood}
 
 -- a transaction that no final Decision ends among deeds
@@ -262,9 +259,7 @@ module _ (decl : Declaration) (script : Script) (accepted : IsAccepted decl) (so
         subst (λ (held : List Held). IsHeld (held_of held c.tx) x) (sym held_is) (standing_held (standing (deeds site [] h)) [] asked x it_stands (agrees x is) is)
       where
         held_is : held_shown (deeds site [] h) ≡ fold (λ (held : List Held) (k : Grant). holding held k.tx k.want) [] (standing (deeds site [] h))
-        held_is =
-            ap (λ (l : Lifetime). fold (λ (held : List Held) (k : Grant). holding held k.tx k.want) (held_since_rise l.since (promises_of l.kept)) (standing l.since))
-            (only_life (deeds site [] h) (run_up (IsLawful decl) decl script h open_inputs run site))
+        held_is = held_from_first decl script accepted sound h open_inputs run site
 
     pub granted_is_held : HasWanted (held_of (held_shown (deeds site [] h)) c.tx) want
     granted_is_held = by want wanted_held

@@ -42,7 +42,7 @@ use Rattle.qc_guarantees.specs.Ordered.{DependsOn, IsOrdered, IsToldBy}
 use Rattle.qc_guarantees.proofs.Committed.{both_live, reader_sees, writer_passes}
 use Rattle.qc_guarantees.proofs.Live.{live, mirror, stood}
 use Rattle.qc_guarantees.proofs.Persists.{due_back, due_front, persists}
-use Rattle.qc_guarantees.proofs.Safe.{first_epochs, safe_in_first_lives}
+use Rattle.qc_guarantees.proofs.Safe.{safe_in_first_lives}
 use Rattle.qc_guarantees.proofs.Moments.{IsWrittenIn, Moment, moment, wrote, writer, written_in}
 
 -- the record that goes with what was begun
@@ -124,7 +124,7 @@ module _ (decl : Declaration) (script : Script) (accepted : IsAccepted decl) (so
     then = mirror decl script accepted sound k.early k.open_inputs k.run
 
     seen : In d.logged.commit (written k.early) → In line (view_of t op.object) × (line.stamp.clock ≤ (account decl k.actor k.early).clock)
-    seen among = reader_sees decl accepted then.acts then.run (first_epochs decl script accepted sound k.early k.open_inputs k.run) t (account decl k.actor k.early).clock
+    seen among = reader_sees decl accepted then.acts then.run t (account decl k.actor k.early).clock
         (live decl script accepted sound k.early k.open_inputs k.run k.actor client (slot_at k.early k.open_inputs k.run) t k.begun)
         (safe_in_first_lives decl script accepted sound k.early k.open_inputs k.run t.tx)
         d.logged.commit (then.agrees.records d.logged.commit (subst (In d.logged.commit) (sym (stood decl script accepted sound k.early k.open_inputs k.run).written_is) among))
@@ -182,7 +182,7 @@ module _ (decl : Declaration) (script : Script) (accepted : IsAccepted decl) (so
       amidst = mirror decl script accepted sound between n.open_inputs n.run
 
       pub never_between : ⊥
-      never_between = both_live decl accepted amidst.acts amidst.run (first_epochs decl script accepted sound between n.open_inputs n.run) still.0 there.t (account decl k.actor between).clock (account decl w.actor between).clock
+      never_between = both_live decl accepted amidst.acts amidst.run still.0 there.t (account decl k.actor between).clock (account decl w.actor between).clock
           (live decl script accepted sound between n.open_inputs n.run k.actor client (slot_at between n.open_inputs n.run) still.0 still.1)
           (live decl script accepted sound between n.open_inputs n.run w.actor writing (true, n.taken) there.t there.begun)
           (safe_in_first_lives decl script accepted sound between n.open_inputs n.run still.0.tx) (safe_in_first_lives decl script accepted sound between n.open_inputs n.run there.t.tx)
@@ -214,7 +214,7 @@ module _ (decl : Declaration) (script : Script) (accepted : IsAccepted decl) (so
       written_before = subst (In c) (sym (filter_map-append (λ (e : Entry). commit_in e.step) before (wrote k.actor c ∷ w.before))) (In-second c (written before) (c ∷ written w.before) (inl refl))
 
       passes : c.stamp.clock ≤ (account decl w.actor until).clock
-      passes = writer_passes decl accepted late.acts late.run (first_epochs decl script accepted sound until last.open_inputs last.run) due_last.t (account decl w.actor until).clock
+      passes = writer_passes decl accepted late.acts late.run due_last.t (account decl w.actor until).clock
           (live decl script accepted sound until last.open_inputs last.run w.actor its_writer (true, last.taken) due_last.t due_last.begun)
           (safe_in_first_lives decl script accepted sound until last.open_inputs last.run due_last.t.tx)
           c (late.agrees.records c (subst (In c) (sym (stood decl script accepted sound until last.open_inputs last.run).written_is) written_before))

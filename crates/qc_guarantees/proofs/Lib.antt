@@ -17,6 +17,7 @@ pub mod Stale
 pub mod Unforgotten
 pub mod Against
 pub mod Counted
+pub mod Uncut
 pub mod HeldLaw
 pub mod ClosedLogs
 pub mod DueStamps
@@ -52,6 +53,7 @@ pub mod Dos
 pub mod Commits
 pub mod WrongOnes
 mod Calming
+pub mod Settled
 pub mod Machine
 pub mod FirstGrants
 pub mod Begun

@@ -91,7 +91,7 @@ module _ (decl : Declaration) (script : Script) (accepted : IsAccepted decl) (so
       record {
         was = account decl a h;
         tied = subst (Ties decl (account decl a h)) (sym ((stood.clients_are a client).closed slot)) (clients_tied decl a client (deeds a [] h) acts.above acts.acts);
-        begun = record { old = t; was = is; tx = refl; ops = refl; view = λ object l among. among; lives = same_lives t.lives };
+        begun = record { old = t; was = is; tx = refl; epoch = refl; ops = refl; view = λ object l among. among; lives = same_lives t.lives };
         rises = omega arith;
       }
 

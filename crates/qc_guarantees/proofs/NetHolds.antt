@@ -37,7 +37,8 @@ use Rattle.qc_net.proofs.Machine.{put_one, slice_get-append}
 use Rattle.qc_net.proofs.Posts.{Place, placed}
 use Rattle.qc_net.proofs.Refining.{refines}
 use Rattle.qc_guarantees.proofs.SiteLocks.{Asks, locks_were_asked}
-use Rattle.qc_guarantees.proofs.SiteMoves.{EndsBy, IsAnsweringTo, IsFull, answers_requests, granted_is_held, held_stays}
+use Rattle.qc_guarantees.proofs.SiteMoves.{EndsBy, IsAnswering, IsAnsweringTo, IsFull, answers_inputs, answers_request, granted_is_held, held_stays}
+use Rattle.qc_atomic.proofs.FirstSites.{IsCalmGiven, IsCalmMessage}
 
 -- no actor is a site and a client
 pub both : (decl : Declaration) (a : ℕ) → is_site decl a ≡ true → is_client decl a ≡ true → ⊥
@@ -114,10 +115,10 @@ same_request t u e l f k w v same =
 module _ (decl : Declaration) (accepted : IsAccepted decl) where
   -- a site that takes an input, and what it had
 
-  stays : (s : SiteState) (g : Given) (tx : TxId) (mail : List Envelope) (a : ℕ) (net : Net) → net.mail ≡ mail → MayCome net a g → is_held s.held tx ≡ true → (is_held (site_takes decl s g).site.held tx ≡ true) ⊎ WasEnded mail tx
-  stays s (given.Called command) tx mail a net same came held = inl held
-  stays s (given.Lost number) tx mail a net same came held = inl held
-  stays s (given.Got e) tx mail a net same came held = elim (held_stays decl (passed s e.message) e.from e.number e.message tx held) [
+  stays : (s : SiteState) (g : Given) (tx : TxId) (mail : List Envelope) (a : ℕ) (net : Net) → net.mail ≡ mail → MayCome net a g → IsCalmGiven g → is_held s.held tx ≡ true → (is_held (site_takes decl s g).site.held tx ≡ true) ⊎ WasEnded mail tx
+  stays s (given.Called command) tx mail a net same came calm held = inl held
+  stays s (given.Lost number) tx mail a net same came calm held = inl held
+  stays s (given.Got e) tx mail a net same came calm held = elim (held_stays decl (passed s e.message) e.from e.number e.message tx calm held) [
     | inl still ↦ inl still
     | inr ends ↦ inr (record { envelope = e; sent = subst (λ (ms : List Envelope). In e ms) same came.0; ends = ends })
   ]
@@ -127,9 +128,20 @@ module _ (decl : Declaration) (accepted : IsAccepted decl) where
       → In p (site_takes decl (net.sites a) g).turn.sends → p.message ≡ messages.Answer number (answers.Granted life clock log) → (more : List Envelope) → IsRequest (net.mail ++ more) number a tx want
       → ((n : ℕ) (e : Envelope) → slice_get net.mail n ≡ Some e → slice_get (net.mail ++ more) n ≡ Some e) → is_held (site_takes decl (net.sites a) g).site.held tx ≡ true
   granted_now net a g p number life clock log tx want full numbered came posted is more asked longer =
-      let r : IsAnsweringTo g number = answers_requests decl (net.sites a) g p number (answers.Granted life clock log) posted is in
-      by r
+      by (answers_request g number first tx asked.epoch asked.life want asked_there)
     where
+      first : IsAnswering g number
+      first = answers_inputs decl (net.sites a) g p number (answers.Granted life clock log) posted is
+
+      first_here : In first.envelope net.mail
+      first_here = (subst (MayCome net a) first.is came).0
+
+      asked_there : first.envelope.message ≡ messages.Request tx asked.epoch asked.life want
+      asked_there =
+          let at : slice_get (net.mail ++ more) number ≡ Some first.envelope = subst (λ (n : ℕ). slice_get (net.mail ++ more) n ≡ Some first.envelope) first.numbered (longer first.envelope.number first.envelope (numbered first.envelope first_here)) in
+          let e : asked.is.0 ≡ first.envelope = (let both_are : Some asked.is.0 ≡ Some first.envelope = sym asked.is.1 ∙ at in cc) in
+          sym (ap (λ (x : Envelope). x.message) e) ∙ asked.is.3
+
       by : IsAnsweringTo g number → is_held (site_takes decl (net.sites a) g).site.held tx ≡ true
       by r = subst (λ (x : Given). is_held (site_takes decl (net.sites a) x).site.held tx ≡ true) (sym r.is)
           (subst (λ (m : Message). is_held (site_at decl (passed (net.sites a) r.envelope.message) r.envelope.from r.envelope.number m).site.held tx ≡ true) (sym content)
@@ -192,7 +204,7 @@ module _ (decl : Declaration) (accepted : IsAccepted decl) where
 
   -- a step of a site
 
-  module _ (before : Net) (a : ℕ) (g : Given) (r : IsCalm decl before) (served : is_site decl a ≡ true) (came : MayCome before a g) (site : ℕ) (tx : TxId) where
+  module _ (before : Net) (a : ℕ) (g : Given) (r : IsCalm decl before) (served : is_site decl a ≡ true) (came : MayCome before a g) (calm_input : IsCalmGiven g) (site : ℕ) (tx : TxId) where
     abbrev step : SiteMove
     step = site_takes decl (before.sites a) g
 
@@ -201,7 +213,7 @@ module _ (decl : Declaration) (accepted : IsAccepted decl) where
 
     old_holds : is_held (before.sites site).held tx ≡ true → HoldsOrEnded (after_site before a step) site tx
     old_holds = put_one (λ (n : ℕ) (s : SiteState). is_held (before.sites n).held tx ≡ true → (is_held s.held tx ≡ true) ⊎ WasEnded (before.mail ++ posted) tx) before.sites a step.site site
-        (λ held. elim (stays (before.sites a) g tx before.mail a before refl came held) [ inl still ↦ inl still | inr ended ↦ inr (ended_more before.mail posted tx ended) ])
+        (λ held. elim (stays (before.sites a) g tx before.mail a before refl came calm_input held) [ inl still ↦ inl still | inr ended ↦ inr (ended_more before.mail posted tx ended) ])
         (λ other held. inl held)
 
     new_holds : AreFullMessages before.mail → (k : IsGrantedBy (before.mail ++ posted) site tx) → In k.answer posted → HoldsOrEnded (after_site before a step) site tx
@@ -232,7 +244,7 @@ module _ (decl : Declaration) (accepted : IsAccepted decl) where
   granted_or_ended net calm.begins full site tx is g = absurd g.sent
   granted_or_ended net (calm.serves a input before r served came same) full site tx is g =
       let less : AreFullMessages before.mail = (λ e among. full e (In-first e before.mail (envelopes a (length before.mail) (site_takes decl (before.sites a) input).turn.sends) among)) in
-      site_step before a input r served came site tx less (granted_or_ended before r less site tx is) g
+      site_step before a input r served came same site tx less (granted_or_ended before r less site tx is) g
   granted_or_ended net (calm.takes a input before r client came ready) full site tx is g =
       client_step before a (client_takes decl (before.clients a) input).turn.sends r client site tx is
       (granted_or_ended before r (λ e among. full e (In-first e before.mail (envelopes a (length before.mail) (client_takes decl (before.clients a) input).turn.sends) among)) site tx is) g
@@ -247,10 +259,10 @@ module _ (decl : Declaration) (accepted : IsAccepted decl) where
   asked_more : (mail more : List Envelope) (tx : TxId) (lock : ReadLock) → WasAsked mail tx lock → WasAsked (mail ++ more) tx lock
   asked_more mail more tx lock w = record { envelope = w.envelope; sent = In-first w.envelope mail more w.sent; asks = w.asks }
 
-  asked_step : (net : Net) (a : ℕ) (s : SiteState) (g : Given) (tx : TxId) (lock : ReadLock) → MayCome net a g → In lock (held_of (site_takes decl s g).site.held tx).locks → In lock (held_of s.held tx).locks ⊎ WasAsked net.mail tx lock
-  asked_step net a s (given.Called command) tx lock came among = inl among
-  asked_step net a s (given.Lost number) tx lock came among = inl among
-  asked_step net a s (given.Got e) tx lock came among = elim (locks_were_asked decl (passed s e.message) e.from e.number e.message tx lock among) [
+  asked_step : (net : Net) (a : ℕ) (s : SiteState) (g : Given) (tx : TxId) (lock : ReadLock) → MayCome net a g → IsCalmGiven g → In lock (held_of (site_takes decl s g).site.held tx).locks → In lock (held_of s.held tx).locks ⊎ WasAsked net.mail tx lock
+  asked_step net a s (given.Called command) tx lock came calm among = inl among
+  asked_step net a s (given.Lost number) tx lock came calm among = inl among
+  asked_step net a s (given.Got e) tx lock came calm among = elim (locks_were_asked decl (passed s e.message) e.from e.number e.message tx lock calm among) [
     | inl old ↦ inl old
     | inr asks ↦ inr (record { envelope = e; sent = came.0; asks = asks })
   ]
@@ -260,7 +272,7 @@ module _ (decl : Declaration) (accepted : IsAccepted decl) where
   locks_asked net (calm.serves a input before r served came same) site tx lock among =
       asked_more before.mail (envelopes a (length before.mail) (site_takes decl (before.sites a) input).turn.sends) tx lock
       (by (put_one (λ (n : ℕ) (s : SiteState). In lock (held_of s.held tx).locks → In lock (held_of (before.sites n).held tx).locks ⊎ WasAsked before.mail tx lock) before.sites a (site_takes decl (before.sites a) input).site site
-      (asked_step before a (before.sites a) input tx lock came) (λ other there. inl there) among) (locks_asked before r site tx lock))
+      (asked_step before a (before.sites a) input tx lock came same) (λ other there. inl there) among) (locks_asked before r site tx lock))
     where
       by : In lock (held_of (before.sites site).held tx).locks ⊎ WasAsked before.mail tx lock → (In lock (held_of (before.sites site).held tx).locks → WasAsked before.mail tx lock) → WasAsked before.mail tx lock
       by (inl old) older = older old
@@ -275,25 +287,25 @@ module _ (decl : Declaration) (accepted : IsAccepted decl) where
   sorted_want net from to tx epoch life (Append object view own) m b = b.3.1
   sorted_want net from to tx epoch life Prepare m b = tt
 
-  sorted_message : (net : Net) (from to : ℕ) (message : Message) (m : Refines decl net) → Backed decl (state m.acts) net.mail from to message → IsMessageSorted message
-  sorted_message net from to (messages.Request tx epoch life want) m b = sorted_want net from to tx epoch life want m b
-  sorted_message net from to (messages.Answer number answer) m b = tt
-  sorted_message net from to (messages.Decision tx verdict) m b = tt
-  sorted_message net from to (messages.Inquiry tx) m b = tt
-  sorted_message net from to (messages.Ask tx) m b = tt
-  sorted_message net from to (messages.Close epoch) m b = tt
-  sorted_message net from to (messages.Install epoch clock log) m b = tt
+  sorted_message : (net : Net) (from to : ℕ) (message : Message) (m : Refines decl net) → IsCalmMessage message → Backed decl (state m.acts) net.mail from to message → IsMessageSorted message
+  sorted_message net from to (messages.Request tx epoch life want) m calm b = sorted_want net from to tx epoch life want m b
+  sorted_message net from to (messages.Answer number answer) m calm b = tt
+  sorted_message net from to (messages.Decision tx verdict) m calm b = tt
+  sorted_message net from to (messages.Inquiry tx) m calm b = tt
+  sorted_message net from to (messages.Ask tx) m calm b = tt
+  sorted_message net from to (messages.Close epoch) m calm b = tt
+  sorted_message net from to (messages.Install epoch clock log) m calm b = absurd calm
 
-  sorted_step : (net : Net) (a : ℕ) (s : SiteState) (g : Given) → IsCalm decl net → MayCome net a g → IsSiteSorted s → IsSiteSorted (site_takes decl s g).site
-  sorted_step net a s (given.Called command) r came sorted = sorted
-  sorted_step net a s (given.Lost number) r came sorted = sorted
-  sorted_step net a s (given.Got e) r came sorted =
+  sorted_step : (net : Net) (a : ℕ) (s : SiteState) (g : Given) → IsCalm decl net → MayCome net a g → IsCalmGiven g → IsSiteSorted s → IsSiteSorted (site_takes decl s g).site
+  sorted_step net a s (given.Called command) r came calm sorted = sorted
+  sorted_step net a s (given.Lost number) r came calm sorted = sorted
+  sorted_step net a s (given.Got e) r came calm sorted =
       let m : Refines decl net = refines decl accepted net (is_reached decl net r) in
-      stays_sorted decl s e.from e.number e.message sorted (sorted_message net e.from e.to e.message m (m.agrees.mail e came.0))
+      stays_sorted decl s e.from e.number e.message sorted (sorted_message net e.from e.to e.message m calm (m.agrees.mail e came.0))
 
   pub sites_sorted : (net : Net) → IsCalm decl net → (site : ℕ) → IsSiteSorted (net.sites site)
-  sites_sorted net calm.begins site = record { log = tt; recorded = tt; held = record { single = tt; full = tt; sorted = tt }; prepared = tt }
+  sites_sorted net calm.begins site = record { began = tt; log = tt; recorded = tt; held = record { single = tt; full = tt; sorted = tt }; prepared = tt }
   sites_sorted net (calm.serves a input before r served came same) site =
       put_one (λ (n : ℕ) (s : SiteState). IsSiteSorted s) before.sites a (site_takes decl (before.sites a) input).site site
-      (sorted_step before a (before.sites a) input r came (sites_sorted before r a)) (λ other. sites_sorted before r site)
+      (sorted_step before a (before.sites a) input r came same (sites_sorted before r a)) (λ other. sites_sorted before r site)
   sites_sorted net (calm.takes a input before r client came ready) site = sites_sorted before r site

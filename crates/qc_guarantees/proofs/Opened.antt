@@ -23,7 +23,7 @@ abbrev At : Declaration → ℕ → List Deed → Bool → Type 0
 At decl a ds true = IsAtTake decl a ds
 At decl a ds false = Unit {0}
 
-at_take : (decl : Declaration) (a : ℕ) (ds : List Deed) (b : Bool) (n : ℕ) → Acts decl a ds b n → At decl a ds b
+pub at_take : (decl : Declaration) (a : ℕ) (ds : List Deed) (b : Bool) (n : ℕ) → Acts decl a ds b n → At decl a ds b
 at_take decl a ds b n starts = tt
 at_take decl a ds b n (takes before g m done may) = record { before = before; given = g; is = refl; above = m; acts = done; may = may }
 at_take decl a ds b n (posts before turn m first done above lawful) = tt

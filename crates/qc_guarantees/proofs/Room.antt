@@ -11,6 +11,7 @@ use Rattle.qc_entry.specs.declared.line.OwnLine.{OwnLine}
 use Rattle.qc_entry.specs.declared.line.ReadLock.{ReadLock}
 use Rattle.qc_entry.specs.declared.record.Commit.{Commit as CommitRecord}
 use Rattle.qc_entry.specs.Log.{has_line, without}
+use Rattle.qc_entry.proofs.Union.{in_second}
 use Rattle.qc_decl.specs.declared.declaration.Declaration.{Declaration}
 use Rattle.qc_decl.specs.Accepted.{IsAccepted}
 use Rattle.qc_decl.specs.Actors.{is_client, is_site}
@@ -161,7 +162,7 @@ module _ (decl : Declaration) (accepted : IsAccepted decl) (net : Net) (calm : I
 
     lines_few : (most : ℕ) → sum_by (λ (c : CommitRecord). answered c.ops) net.written ≤ most → length (without (net.sites site).log (net.sites site).recorded) ≤ most
     lines_few most few =
-        let whole : length (net.sites site).log ≤ sum_by (λ (c : CommitRecord). answered c.ops) net.written = log_count decl net.written (net.sites site).log (m.agrees.sites site place (all_up decl net calm site)).sorted (λ l among. site_lines decl accepted net (is_reached decl net calm) site l place (all_up decl net calm site) among) in
+        let whole : length (net.sites site).log ≤ sum_by (λ (c : CommitRecord). answered c.ops) net.written = log_count decl net.written (net.sites site).log (m.agrees.sites site place (all_up decl net calm site)).sorted.1 (λ l among. site_lines decl accepted net (is_reached decl net calm) site l place (all_up decl net calm site) (in_second l (net.sites site).began (net.sites site).log among)) in
         let part : length (without (net.sites site).log (net.sites site).recorded) ≡ count_by (λ (l : Line). not (has_line (net.sites site).recorded l)) (net.sites site).log = length-filter (λ (l : Line). not (has_line (net.sites site).recorded l)) (net.sites site).log in
         let less : count_by (λ (l : Line). not (has_line (net.sites site).recorded l)) (net.sites site).log ≤ length (net.sites site).log = count_by-le-length (λ (l : Line). not (has_line (net.sites site).recorded l)) (net.sites site).log in
         omega arith

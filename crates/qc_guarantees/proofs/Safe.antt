@@ -1,5 +1,5 @@
--- Of the net of a run, in which nobody falls yet and no epoch is closed: each grant is of the first epoch, and each
--- transaction is safe, since each site is in the life in which it granted.
+-- Of the net of a run in which nobody falls and no epoch is closed: each transaction is safe, since each site is in the
+-- life in which it granted.
 use Rattle.std.proofs.Common.{Bool, inl, List}
 use Rattle.qc_stamp.specs.declared.stamp.TxId.{TxId}
 use Rattle.qc_core.specs.Conduct.{IsLawful}
@@ -11,10 +11,10 @@ use Rattle.qc_script.specs.Runs.{Runs}
 use Rattle.qc_script.specs.Sound.{IsScriptFor}
 use Rattle.qc_script.specs.declared.script.Script.{Script}
 use Rattle.qc_net.specs.Mirrors.{Refines}
-use Rattle.qc_atomic.proofs.CalmGrants.{is_of_first_epoch, is_of_its_life}
+use Rattle.qc_atomic.proofs.CalmGrants.{is_of_its_life}
 use Rattle.qc_atomic.proofs.Stood.{Stood}
 use Rattle.qc_guarantees.proofs.Live.{mirror, stood}
-use Rattle.qc_guarantees.proofs.Machine.{AreOfFirstEpoch, IsSafe}
+use Rattle.qc_guarantees.proofs.Settled.{IsSafe}
 
 module _ (decl : Declaration) (script : Script) (accepted : IsAccepted decl) (sound : IsScriptFor decl script) (h : List Entry) (open_inputs : List Bool) (run : Runs (IsLawful decl) decl script h open_inputs) where
   abbrev s : Stood decl h open_inputs
@@ -22,9 +22,6 @@ module _ (decl : Declaration) (script : Script) (accepted : IsAccepted decl) (so
 
   abbrev m : Refines decl s.net
   m = mirror decl script accepted sound h open_inputs run
-
-  pub first_epochs : AreOfFirstEpoch m.acts
-  first_epochs g known = is_of_first_epoch decl s.net s.calm m.acts m.run m.agrees g known
 
   pub safe_in_first_lives : (tx : TxId) → IsSafe m.acts tx
   safe_in_first_lives tx g counts its = inl (is_of_its_life decl s.net s.calm m.acts m.run m.agrees g ((laws decl m.acts m.run).known g counts))

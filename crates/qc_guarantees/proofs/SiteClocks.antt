@@ -1,5 +1,5 @@
 -- A site's clock has passed all lines that it knows, and each Done that it wrote.
-use Rattle.std.proofs.Common.{◌≡◌, ◌⊎◌, ◌≤◌, ℕ, max, Bool, true, false, cond, List, [], ◌∷◌, ◌++◌, inl, inr, Option, Some, None, slice_get, refl, sym, ap, ◌∙◌, subst, arith, ltb-true}
+use Rattle.std.proofs.Common.{◌≡◌, ◌⊎◌, ◌≤◌, ℕ, ◌+◌, nat_le, nat_lt, max, Bool, true, false, cond, List, [], ◌∷◌, ◌++◌, inl, inr, Option, Some, None, slice_get, refl, sym, ap, ◌∙◌, subst, arith, ltb-true}
 use Rattle.std.specs.Prelude.{fold, map}
 use Rattle.std.specs.Option.{option_map_or}
 use Rattle.std.specs.List.{flat_map}
@@ -7,13 +7,16 @@ use Rattle.qc_stamp.specs.declared.stamp.Stamp.{Stamp}
 use Rattle.qc_stamp.specs.declared.stamp.TxId.{TxId}
 use Rattle.qc_list.specs.Members.{In}
 use Rattle.qc_list.proofs.Members.{In-first, In-second}
+use Rattle.qc_entry.specs.Log.{union}
 use Rattle.qc_entry.specs.declared.line.Line.{Line}
 use Rattle.qc_core.specs.Acts.{Acts, starts, takes, posts}
 use Rattle.qc_core.specs.Conduct.{IsLawful}
 use Rattle.qc_core.specs.Sites.{IsShown}
+use Rattle.qc_core.proofs.SiteLines.{began_shows}
 use Rattle.qc_decl.specs.declared.declaration.Declaration.{Declaration}
 use Rattle.qc_decl.specs.Accepted.{IsAccepted}
 use Rattle.qc_decl.specs.Actors.{is_site}
+use Rattle.qc_decl.specs.Limits.{most_record_bytes}
 use Rattle.qc_msg.specs.declared.message.Envelope.{Envelope}
 use Rattle.qc_msg.specs.declared.message.Message.{Message}
 use Rattle.qc_msg.specs.declared.message.Message.TheVariants as messages
@@ -26,22 +29,25 @@ use Rattle.qc_msg.specs.declared.step.Given.TheVariants as given
 use Rattle.qc_msg.specs.Deeds.{Deed, Takes, Writes, Sends, Tells, Falls, Rises, deeds, turn_deeds}
 use Rattle.qc_msg.specs.Steps.{Entry}
 use Rattle.qc_msg.specs.declared.message.Answer.{Answer}
+use Rattle.qc_msg.specs.declared.message.Answer.TheVariants as answers
+use Rattle.qc_msg.specs.Lengths.{epoch_length}
 use Rattle.qc_msg.specs.declared.step.Fall.{Fall}
 use Rattle.qc_msg.specs.declared.step.Fall.TheVariants as causes
 use Rattle.qc_msg.specs.declared.turn.Posting.{Posting}
-use Rattle.qc_msg.specs.Readings.{Requested}
+use Rattle.qc_msg.specs.Readings.{Installing, Requested}
 use Rattle.qc_promise.specs.Lifetimes.{Lifetime}
 use Rattle.qc_promise.specs.Posts.{Act, Fell, Sent, TurnDue, Wrote, ends_with, fallen_in, posted_due, posted_next, quiet_turn, sending}
 use Rattle.qc_promise.specs.SiteClocks.{clock_shown, clocks_at, clocks_in, clocks_in_record}
-use Rattle.qc_promise.specs.SiteDue.{AreDue, IsDueAt, IsDueOrOpen, answers_due, done_turn, grant_due, granting_turn, heard_turn, is_declared, is_new_promise, promise_turn, refusal_due, request_turn, turn_due}
+use Rattle.qc_promise.specs.SiteDue.{AreDue, IsDueAt, IsDueOrOpen, answers_due, close_turn, done_turn, grant_due, granting_turn, heard_turn, install_turn, is_declared, is_epoch, is_new_promise, promise_turn, recording_turn, refusal_due, request_turn, shut_due, telling_turn, turn_due}
 use Rattle.qc_promise.specs.SiteLogs.{log_shown}
 use Rattle.qc_promise.specs.SitePromises.{is_promised}
+use Rattle.qc_promise.specs.SiteRecords.{closed_shown, epoch_shown}
 use Rattle.qc_protocol.specs.Acts.{state}
 use Rattle.qc_script.specs.Runs.{Runs}
 use Rattle.qc_script.specs.Sound.{IsScriptFor}
 use Rattle.qc_script.specs.declared.script.Script.{Script}
 use Rattle.qc_site.specs.Conduct.{site_after}
-use Rattle.qc_site.specs.Site.{SiteState}
+use Rattle.qc_site.specs.Site.{SiteState, known}
 use Rattle.qc_laws.proofs.Acted.{run_acts}
 use Rattle.qc_laws.proofs.Served.{run_due, run_shown}
 use Rattle.qc_laws.specs.Turns.{ActsIn}
@@ -118,6 +124,23 @@ module _ (decl : Declaration) where
       by true (Some a) t c is = let never : ⊥ = cc in never
       by false o t c is = let never : ⊥ = cc in never
 
+  close_writes : (ds : List Deed) (e : Envelope) (k : ℕ) → WritesNoDone (close_turn ds e k).write
+  close_writes ds e k = by (nat_lt (epoch_shown ds + 1) k) (nat_le k (epoch_shown ds)) (is_epoch k (closed_shown ds))
+    where
+      by : (far near again : Bool) → WritesNoDone (cond far (telling_turn e (answers.Behind (epoch_shown ds))) (cond near (telling_turn e (answers.Closed (epoch_shown ds))) (cond again (telling_turn e (shut_due ds)) (recording_turn e (records.Close k) (shut_due ds))))).write
+      by true near again t c is = let never : ⊥ = cc in never
+      by false true again t c is = let never : ⊥ = cc in never
+      by false false true t c is = let never : ⊥ = cc in never
+      by false false false t c is = let never : ⊥ = cc in never
+
+  install_writes : (ds : List Deed) (e : Envelope) (i : Installing) → WritesNoDone (install_turn ds e i).write
+  install_writes ds e i = by (nat_le i.epoch (epoch_shown ds)) (nat_le (epoch_length i.lines) most_record_bytes)
+    where
+      by : (is_known fits : Bool) → WritesNoDone (cond is_known (telling_turn e answers.Installed) (cond fits (recording_turn e (records.Install i.epoch i.clock i.lines) answers.Installed) (telling_turn e (answers.Behind (epoch_shown ds))))).write
+      by true fits t c is = let never : ⊥ = cc in never
+      by false true t c is = let never : ⊥ = cc in never
+      by false false t c is = let never : ⊥ = cc in never
+
   outcome_brings : (ds : List Deed) (t tx : TxId) (clock : ℕ) (v : Outcome) → (done_turn ds t v).write ≡ Some (records.Done tx clock) → IsBroughtBy tx clock (messages.Decision t v)
   outcome_brings ds t tx clock (outcomes.Committed stamp) is = by (is_promised ds t) is
     where
@@ -142,8 +165,9 @@ module _ (decl : Declaration) where
   message_brings ds tx clock e (messages.Decision t verdict) is = outcome_brings ds t tx clock verdict is
   message_brings ds tx clock e (messages.Inquiry t) is = none_written tx clock is
   message_brings ds tx clock e (messages.Ask t) is = none_written tx clock is
-  message_brings ds tx clock e (messages.Close epoch) is = none_written tx clock is
-  message_brings ds tx clock e (messages.Install epoch at log) is = none_written tx clock is
+  message_brings ds tx clock e (messages.Close epoch) is = absurd (close_writes ds (letter e (messages.Close epoch)) epoch tx clock is)
+  message_brings ds tx clock e (messages.Install epoch at log) is =
+      absurd (install_writes ds (letter e (messages.Install epoch at log)) (record { epoch = epoch; clock = at; lines = log }) tx clock is)
 
   given_brings : (ds : List Deed) (tx : TxId) (clock : ℕ) (g : Given) (more : List Deed) → (turn_due decl ds g).write ≡ Some (records.Done tx clock) → IsBrought tx clock (Takes g ∷ more)
   given_brings ds tx clock (given.Called command) more is = none_written tx clock is
@@ -252,5 +276,5 @@ module _ (decl : Declaration) (script : Script) (h : List Entry) (open_inputs : 
       let s : IsShown (deeds site [] h) (site_after decl site (deeds site [] h)).site = run_shown decl script h open_inputs run site (ltb-true site decl.sites is) free in
       let here : (stood decl script accepted sound h open_inputs run).net.sites site ≡ (site_after decl site (deeds site [] h)).site = ((stood decl script accepted sound h open_inputs run).sites_are site is).closed free in
       let m : SiteMirrors decl ((stood decl script accepted sound h open_inputs run).net.sites site) ((state (mirror decl script accepted sound h open_inputs run).acts).deeds site) ((state (mirror decl script accepted sound h open_inputs run).acts).life site) = (mirror decl script accepted sound h open_inputs run).agrees.sites site is (all_up decl (stood decl script accepted sound h open_inputs run).net (stood decl script accepted sound h open_inputs run).calm site) in
-      let there : In l ((stood decl script accepted sound h open_inputs run).net.sites site).log = subst (λ (x : SiteState). In l x.log) (sym here) (subst (λ (ls : List Line). In l ls) (sym s.log) among) in
+      let there : In l (known ((stood decl script accepted sound h open_inputs run).net.sites site)) = subst (λ (x : SiteState). In l (known x)) (sym here) (subst (λ (ls : List Line). In l ls) (λ i. union ((began_shows (deeds site [] h) ∙ sym s.began) i) (sym s.log i)) among) in
       subst (λ (n : ℕ). l.stamp.clock ≤ n) (ap (λ (x : SiteState). x.clock) here ∙ s.clock) (m.passed l (m.logged l there))

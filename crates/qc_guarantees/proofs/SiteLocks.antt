@@ -18,6 +18,7 @@ use Rattle.qc_msg.specs.declared.message.Message.TheVariants as messages
 use Rattle.qc_msg.specs.declared.message.Want.TheVariants.{Read}
 use Rattle.qc_site.specs.Conduct.{site_at}
 use Rattle.qc_site.specs.Site.{SiteState}
+use Rattle.qc_atomic.proofs.FirstSites.{IsCalmMessage}
 use Rattle.qc_site.proofs.Cases.{state_cases}
 
 lock_back : (ls : List ReadLock) (l x : ReadLock) → In x (with_lock ls l) → In x ls ⊎ (x ≡ l)
@@ -68,8 +69,8 @@ drop_back held u tx x h = by (same_tx u tx) refl
 abbrev pub Asks : Message → TxId → ReadLock → Type 0
 Asks m tx x = (epoch : ℕ) × (life : ℕ) × (m ≡ messages.Request tx epoch life (Read x.object x.inv))
 
-pub locks_were_asked : (decl : Declaration) (s : SiteState) (from number : ℕ) (m : Message) (tx : TxId) (x : ReadLock) → In x (held_of (site_at decl s from number m).site.held tx).locks → In x (held_of s.held tx).locks ⊎ Asks m tx x
-locks_were_asked decl s from number m tx x =
+pub locks_were_asked : (decl : Declaration) (s : SiteState) (from number : ℕ) (m : Message) (tx : TxId) (x : ReadLock) → IsCalmMessage m → In x (held_of (site_at decl s from number m).site.held tx).locks → In x (held_of s.held tx).locks ⊎ Asks m tx x
+locks_were_asked decl s from number m tx x calm =
     state_cases (λ (y : SiteState). In x (held_of y.held tx).locks → In x (held_of s.held tx).locks ⊎ Asks m tx x) decl s from number m (λ h. inl h)
     (λ t epoch life object inv same h. elim (given_back s.held t tx (record { object = object; inv = inv } ∷ []) [] x h) [
       | inl old ↦ inl old
@@ -86,3 +87,5 @@ locks_were_asked decl s from number m tx x =
     (λ t h. inl h)
     (λ t verdict same final h. inl (drop_back s.held t tx x h))
     (λ t stamp p same h. inl (drop_back s.held t tx x h))
+    (λ k same. absurd (subst IsCalmMessage same calm))
+    (λ k clock lines same later. absurd (subst IsCalmMessage same calm))

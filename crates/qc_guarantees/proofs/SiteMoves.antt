@@ -26,15 +26,18 @@ use Rattle.qc_msg.specs.declared.message.Want.TheVariants.{Read, Append, Prepare
 use Rattle.qc_msg.specs.declared.step.Given.{Given}
 use Rattle.qc_msg.specs.declared.step.Given.TheVariants as given
 use Rattle.qc_msg.specs.declared.turn.Posting.{Posting}
+use Rattle.qc_msg.specs.declared.record.Record.TheVariants as records
 use Rattle.qc_site.specs.Conduct.{passed, site_at, site_takes}
 use Rattle.qc_site.specs.Ended.{is_final}
+use Rattle.qc_site.specs.Epochs.{closed, closes, installed, installs, shut_answer}
 use Rattle.qc_site.specs.Promise.{finishes, is_prepared, joins, prepare_length, prepared_of, prepares, promise_of, promised, votes}
 use Rattle.qc_lock.specs.declared.clash.Clash.{Clash as Conflict}
 use Rattle.qc_msg.specs.Turns.{quiet}
 use Rattle.qc_stamp.specs.declared.stamp.Stamp.{Stamp}
 use Rattle.qc_site.specs.Requests.{appends, clashing, closed_fault, fault_of, grants, reads}
-use Rattle.qc_site.specs.Site.{SiteMove, SiteState, answering, answers as answering_turn, moved}
-use Rattle.qc_site.proofs.Cases.{append_cases, choose, fault_is, prepare_cases, read_cases, request_cases, state_cases}
+use Rattle.qc_site.specs.Site.{SiteMove, SiteState, answering, answers as answering_turn, known, moved, recording}
+use Rattle.qc_site.proofs.Cases.{append_cases, choose, close_cases, fault_is, install_cases, prepare_cases, read_cases, request_cases, state_cases}
+use Rattle.qc_atomic.proofs.FirstSites.{IsCalmMessage}
 
 -- the answers that count as against a promise because the site has forgotten the transaction
 abbrev pub Forgets : Answer → Type 0
@@ -110,12 +113,30 @@ request_says decl s from number tx epoch life want =
   where
     by : (w : Want) → Says number Anything (grants decl s from number tx w)
     by (Read object inv) = read_cases (Says number Anything) decl s from number tx object inv
-        (λ free. says_one Anything (reads s from number tx object inv) from number (answers.Granted s.life s.clock (of_object s.log object)) refl tt) (λ c clash. says_clash Anything decl (moved s (clashing decl from number c)) from number c refl tt)
+        (λ free. says_one Anything (reads s from number tx object inv) from number (answers.Granted s.life s.clock (of_object (known s) object)) refl tt) (λ c clash. says_clash Anything decl (moved s (clashing decl from number c)) from number c refl tt)
     by (Append object view own) = append_cases (Says number Anything) decl s from number tx object view own
         (λ free. says_one Anything (appends s from number tx view own) from number (answers.Granted s.life s.clock []) refl tt) (λ c clash. says_clash Anything decl (moved s (clashing decl from number c)) from number c refl tt)
     by Prepare = prepare_cases (Says number Anything) s from number tx (says_one Anything (moved s (answering_turn from number answers.Stale)) from number answers.Stale refl tt)
         (λ held stands. says_one Anything (moved s (answering_turn from number (answers.Yes s.clock))) from number (answers.Yes s.clock) refl tt)
         (λ held made. says_one Anything (moved (promised s (promise_of s tx)) (votes s from number (promise_of s tx))) from number (answers.Yes s.clock) refl tt)
+
+close_says : (s : SiteState) (from number k : ℕ) → Says number Anything (closes s from number k)
+close_says s from number k =
+    close_cases (Says number Anything) s from number k
+    (λ answer. says_one Anything (moved s (answering_turn from number answer)) from number answer refl tt)
+    (λ near later. says_one Anything (moved (closed s k) (recording from number (records.Close k) (shut_answer (closed s k)))) from number (shut_answer (closed s k)) refl tt)
+
+install_says : (s : SiteState) (from number k clock : ℕ) (lines : List Line) → Says number Anything (installs s from number k clock lines)
+install_says s from number k clock lines =
+    install_cases (Says number Anything) s from number k clock lines
+    (λ answer. says_one Anything (moved s (answering_turn from number answer)) from number answer refl tt)
+    (λ later fits. says_one Anything (moved (installed s k clock lines) (recording from number (records.Install k clock lines) answers.Installed)) from number answers.Installed refl tt)
+
+-- what is answered under a number was taken under it
+pub record IsAnswering (input : Given) (number : ℕ) : Type 0 where
+  pub envelope : Envelope
+  pub is : input ≡ given.Got envelope
+  pub numbered : envelope.number ≡ number
 
 -- the request that an answer is to
 pub record IsAnsweringTo (input : Given) (number : ℕ) : Type 0 where
@@ -128,10 +149,10 @@ pub record IsAnsweringTo (input : Given) (number : ℕ) : Type 0 where
   pub want : Want
   pub content : envelope.message ≡ messages.Request tx epoch life want
 
-pub answers_requests : (decl : Declaration) (s : SiteState) (g : Given) (p : Posting) (k : ℕ) (x : Answer) → In p (site_takes decl s g).turn.sends → p.message ≡ messages.Answer k x → IsAnsweringTo g k
-answers_requests decl s (given.Called command) p k x among is = absurd among
-answers_requests decl s (given.Lost number) p k x among is = absurd among
-answers_requests decl s (given.Got e) p k x among is = by e.message refl among
+pub answers_inputs : (decl : Declaration) (s : SiteState) (g : Given) (p : Posting) (k : ℕ) (x : Answer) → In p (site_takes decl s g).turn.sends → p.message ≡ messages.Answer k x → IsAnswering g k
+answers_inputs decl s (given.Called command) p k x among is = absurd among
+answers_inputs decl s (given.Lost number) p k x among is = absurd among
+answers_inputs decl s (given.Got e) p k x among is = by e.message among
   where
     none_joins : (tx : TxId) (stamp : Stamp) (o : Option Prepared) → In p (joins (passed s e.message) tx stamp o).turn.sends → ⊥
     none_joins tx stamp None there = there
@@ -142,14 +163,22 @@ answers_requests decl s (given.Got e) p k x among is = by e.message refl among
     none tx Aborted there = there
     none tx Active there = there
 
-    by : (m : Message) → e.message ≡ m → In p (site_at decl (passed s e.message) e.from e.number m).turn.sends → IsAnsweringTo (given.Got e) k
-    by (messages.Request tx epoch life want) same there = record { envelope = e; is = refl; numbered = (request_says decl (passed s e.message) e.from e.number tx epoch life want p k x there is).0; tx = tx; epoch = epoch; life = life; want = want; content = same }
-    by (messages.Answer to answer) same there = absurd there
-    by (messages.Decision tx verdict) same there = absurd (none tx verdict there)
-    by (messages.Inquiry tx) same there = absurd there
-    by (messages.Ask tx) same there = absurd there
-    by (messages.Close epoch) same there = absurd there
-    by (messages.Install epoch clock log) same there = absurd there
+    numbered : e.number ≡ k → IsAnswering (given.Got e) k
+    numbered same = record { envelope = e; is = refl; numbered = same }
+
+    by : (m : Message) → In p (site_at decl (passed s e.message) e.from e.number m).turn.sends → IsAnswering (given.Got e) k
+    by (messages.Request tx epoch life want) there = numbered (request_says decl (passed s e.message) e.from e.number tx epoch life want p k x there is).0
+    by (messages.Answer to answer) there = absurd there
+    by (messages.Decision tx verdict) there = absurd (none tx verdict there)
+    by (messages.Inquiry tx) there = absurd there
+    by (messages.Ask tx) there = absurd there
+    by (messages.Close epoch) there = numbered (close_says (passed s e.message) e.from e.number epoch p k x there is).0
+    by (messages.Install epoch clock log) there = numbered (install_says (passed s e.message) e.from e.number epoch clock log p k x there is).0
+
+-- where a request was sent under the number, it is the request that is answered
+pub answers_request : (g : Given) (k : ℕ) (r : IsAnswering g k) (tx : TxId) (epoch life : ℕ) (want : Want) → r.envelope.message ≡ messages.Request tx epoch life want → IsAnsweringTo g k
+answers_request g k r tx epoch life want same =
+    record { envelope = r.envelope; is = r.is; numbered = r.numbered; tx = tx; epoch = epoch; life = life; want = want; content = same }
 
 -- what is given is held
 
@@ -230,14 +259,16 @@ held_drops held u tx m verdict is final was = by (same_tx u tx) refl
     by true same = inr (verdict, is ∙ ap (λ (t : TxId). messages.Decision t verdict) (same_tx_is u tx same), final)
     by false other = inl (ap is_some (entry-without_other held u tx other) ∙ was)
 
-pub held_stays : (decl : Declaration) (s : SiteState) (from number : ℕ) (m : Message) (tx : TxId) → is_held s.held tx ≡ true → (is_held (site_at decl s from number m).site.held tx ≡ true) ⊎ EndsBy m tx
-held_stays decl s from number m tx was =
+pub held_stays : (decl : Declaration) (s : SiteState) (from number : ℕ) (m : Message) (tx : TxId) → IsCalmMessage m → is_held s.held tx ≡ true → (is_held (site_at decl s from number m).site.held tx ≡ true) ⊎ EndsBy m tx
+held_stays decl s from number m tx calm was =
     state_cases (λ (x : SiteState). (is_held x.held tx ≡ true) ⊎ EndsBy m tx) decl s from number m (inl was)
     (λ t epoch life object inv same. inl (held_given s.held t tx (record { object = object; inv = inv } ∷ []) [] was))
     (λ t epoch life object view own same. inl (held_given s.held t tx [] own was))
     (λ t. inl was)
     (λ t verdict same final. held_drops s.held t tx m verdict same final was)
     (λ t stamp p same. held_drops s.held t tx m (Committed stamp) same refl was)
+    (λ k same. absurd (subst IsCalmMessage same calm))
+    (λ k clock lines same later. absurd (subst IsCalmMessage same calm))
 
 -- what a Prepare is answered where something is held, and a promise fits a record
 

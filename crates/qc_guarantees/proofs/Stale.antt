@@ -47,7 +47,7 @@ use Rattle.qc_guarantees.specs.Votes.{IsOpenVote}
 use Rattle.qc_guarantees.proofs.Accounts.{and_second}
 use Rattle.qc_guarantees.proofs.NetHolds.{both}
 use Rattle.qc_guarantees.proofs.NeverRisen.{operations_written}
-use Rattle.qc_guarantees.proofs.SiteMoves.{Forgets, IsAnsweringTo, answers_requests, prepares_remembered}
+use Rattle.qc_guarantees.proofs.SiteMoves.{Forgets, IsAnswering, IsAnsweringTo, answers_inputs, answers_request, prepares_remembered}
 use Rattle.qc_guarantees.proofs.Voted.{asked, granted, granted_first, mirror, one_request, site_has_room, site_holds, stood, tie}
 use Rattle.qc_guarantees.proofs.Waiting.{still_open, writes_no_commit}
 
@@ -65,13 +65,26 @@ module _ (decl : Declaration) (script : Script) (accepted : IsAccepted decl) (so
   module _ (h : List Entry) (open_inputs : List Bool) (run : Runs (IsLawful decl) decl script h open_inputs) (few : operations_of h ≤ 2 * most_committed_operations) (a : ℕ) (client : is_client decl a ≡ true) (free : slice_get open_inputs a ≡ Some false)
       (q : ClientRequest) (k : IsOpenVote (account decl a h) q) (b : ℕ) (site : is_site decl b ≡ true) (taken : slice_get open_inputs b ≡ Some true) where
     pub says_remembered : (p : Posting) (n : ℕ) (x : Answer) → In p (site_after decl b (deeds b [] h)).turn.sends → p.message ≡ messages.Answer n x → Forgets x → q.number ≡ n → ⊥
-    says_remembered p n x among is forgets same = by (answers_requests decl ((stood decl script accepted sound h open_inputs run).net.sites b) o.given p n x posted_here is)
+    says_remembered p n x among is forgets same = by (answers_request o.given n first (tie decl script accepted sound h open_inputs run a client free q k).t.tx question.epoch question.life Prepare content)
       where
         o : OpenSite decl ((stood decl script accepted sound h open_inputs run).net.sites b) b h
         o = ((stood decl script accepted sound h open_inputs run).sites_are b site).opened taken
 
         posted_here : In p (site_takes decl ((stood decl script accepted sound h open_inputs run).net.sites b) o.given).turn.sends
         posted_here = subst (λ (m : SiteMove). In p m.turn.sends) o.is among
+
+        question : IsRequest (mail h) q.number q.site (tie decl script accepted sound h open_inputs run a client free q k).t.tx Prepare
+        question = asked decl script accepted sound h open_inputs run a client free q k
+
+        first : IsAnswering o.given n
+        first = answers_inputs decl ((stood decl script accepted sound h open_inputs run).net.sites b) o.given p n x posted_here is
+
+        content : first.envelope.message ≡ messages.Request (tie decl script accepted sound h open_inputs run a client free q k).t.tx question.epoch question.life Prepare
+        content =
+            let came : (slice_get (mail h) first.envelope.number ≡ Some first.envelope) × (first.envelope.to ≡ b) = subst (WasSentTo b (mail h)) first.is o.sent in
+            let one : question.is.0 ≡ first.envelope =
+            (let both : Some question.is.0 ≡ Some first.envelope = sym question.is.1 ∙ ap (slice_get (mail h)) (sym (first.numbered ∙ sym same)) ∙ came.0 in cc) in
+            sym (ap (λ (e : Envelope). e.message) one) ∙ question.is.3
 
         by : IsAnsweringTo o.given n → ⊥
         by r = prepares_remembered decl (passed ((stood decl script accepted sound h open_inputs run).net.sites b) r.envelope.message) r.envelope.from r.envelope.number r.tx r.epoch r.life

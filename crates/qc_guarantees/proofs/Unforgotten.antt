@@ -50,7 +50,7 @@ use Rattle.qc_guarantees.specs.Votes.{IsOpenVote}
 use Rattle.qc_guarantees.proofs.ClientTalks.{client_answers}
 use Rattle.qc_guarantees.proofs.Grounds.{open_before, turn_old}
 use Rattle.qc_guarantees.proofs.Mailed.{taken_mail}
-use Rattle.qc_guarantees.proofs.SiteMoves.{Forgets, IsAnsweringTo, answers_requests}
+use Rattle.qc_guarantees.proofs.SiteMoves.{Forgets, IsAnswering, answers_inputs}
 use Rattle.qc_guarantees.proofs.Stale.{below_length, remembered}
 use Rattle.qc_guarantees.proofs.Voted.{stood}
 use Rattle.qc_decl.specs.Limits.{most_committed_operations}
@@ -162,7 +162,7 @@ module _ (decl : Declaration) (script : Script) (accepted : IsAccepted decl) (so
       where
         by : OpenSite decl ((stood decl script accepted sound h open_inputs run).net.sites b) b h → n < length (mail h)
         by o =
-            let r : IsAnsweringTo o.given n = answers_requests decl ((stood decl script accepted sound h open_inputs run).net.sites b) o.given k.posting n x
+            let r : IsAnswering o.given n = answers_inputs decl ((stood decl script accepted sound h open_inputs run).net.sites b) o.given k.posting n x
             (subst (λ (m : SiteMove). In k.posting m.turn.sends) o.is (subst (λ (t : Turn). In k.posting t.sends) (site_turn site) k.among)) k.is in
             let sent : (slice_get (mail h) r.envelope.number ≡ Some r.envelope) × (r.envelope.to ≡ b) = subst (WasSentTo b (mail h)) r.is o.sent in
             subst (λ (m : ℕ). m < length (mail h)) r.numbered (below_length (mail h) r.envelope.number r.envelope sent.0)

@@ -25,7 +25,8 @@ use Rattle.qc_msg.specs.Deeds.{Deed, Takes, Writes, Sends, Tells, Falls, Rises}
 use Rattle.qc_msg.specs.Steps.{sends_as}
 use Rattle.qc_msg.specs.Turns.{quiet}
 use Rattle.qc_recover.specs.Clients.{Kept, client_of, client_rises, keeps, nothing_kept}
-use Rattle.qc_recover.specs.Sites.{in_order, inquiry, kept_by as site_kept, most_inquiries, site_rises}
+use Rattle.qc_recover.specs.Sites.{inquiry, kept_by as site_kept, most_inquiries, site_rises}
+use Rattle.qc_site.specs.Epochs.{in_order}
 use Rattle.qc_entry.specs.declared.record.Prepared.{Prepared}
 use Rattle.qc_site.specs.Site.{new_site}
 use Rattle.qc_laws.proofs.OwnStamps.{AreStamped, IsOwnCommit, IsOwnWrite, Own, OwnMove, sent_own, takes_own, unwritten}

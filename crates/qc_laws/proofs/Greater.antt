@@ -19,7 +19,7 @@ module _ (low high : ℕ) (le : low ≤ high) where
   pub lines-le : (lines : List Line) → LinesWithin low lines → LinesWithin high lines
   lines-le lines = every-weaker (λ (l : Line). l.stamp.clock ≤ low) (λ (l : Line). l.stamp.clock ≤ high) (λ l here. omega arith) lines
 
-  promises-le : (prepared : List Prepared) → PromisesWithin low prepared → PromisesWithin high prepared
+  pub promises-le : (prepared : List Prepared) → PromisesWithin low prepared → PromisesWithin high prepared
   promises-le prepared = every-weaker (λ (p : Prepared). LinesWithin low p.lines) (λ (p : Prepared). LinesWithin high p.lines) (λ p. lines-le p.lines) prepared
 
   clock-le : (clock : ℕ) → clock ≤ low → clock ≤ high

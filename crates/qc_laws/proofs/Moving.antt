@@ -8,6 +8,7 @@ use Rattle.qc_stamp.specs.declared.stamp.TxId.{TxId}
 use Rattle.qc_stamp.proofs.Orders.{same_tx_is}
 use Rattle.qc_decl.specs.Actors.{client_actor, is_client, is_site}
 use Rattle.qc_decl.specs.declared.declaration.Declaration.{Declaration}
+use Rattle.qc_entry.specs.declared.record.Prepared.{Prepared}
 use Rattle.qc_lock.specs.declared.held.Held.{Held}
 use Rattle.qc_msg.specs.declared.message.Envelope.{Envelope}
 use Rattle.qc_msg.specs.declared.message.Message.{Message}
@@ -84,6 +85,7 @@ module _ (decl : Declaration) where
   pub asks_later : (h k : List Entry) (m : SiteMove) → Asks decl (Born decl h) m → Asks decl (Born decl (h ++ k)) m
   asks_later h k m a = record {
     held = every-weaker (λ (x : Held). Born decl h x.tx) (λ (x : Held). Born decl (h ++ k) x.tx) (λ x. born_later decl h k x.tx) m.site.held a.held;
+    prepared = every-weaker (λ (p : Prepared). Born decl h p.tx) (λ (p : Prepared). Born decl (h ++ k) p.tx) (λ p. born_later decl h k p.tx) m.site.prepared a.prepared;
     sends = every-weaker (λ (p : Posting). SiteTells decl (Born decl h) p.to p.message) (λ (p : Posting). SiteTells decl (Born decl (h ++ k)) p.to p.message) (λ p. site_tells_later h k p.to p.message) m.turn.sends a.sends;
   }
 
@@ -167,7 +169,7 @@ module _ (decl : Declaration) where
       own : is_site decl b ≡ true → Asks decl (Born decl (h ++ marked b (step_of g) ∷ [])) (site_after decl b (deeds b [] (h ++ marked b (step_of g) ∷ [])))
       own is =
           subst (Asks decl (Born decl (h ++ marked b (step_of g) ∷ []))) (sym (ap (site_after decl b) (deeds-taken b h g sent) ∙ fold-append (site_does decl) (site_moved (new_site b) quiet) (deeds b [] h) (Takes g ∷ [])))
-          (asks_later h (marked b (step_of g) ∷ []) (site_takes decl (site_after decl b (deeds b [] h)).site g) (site_asks decl (Born decl h) (site_after decl b (deeds b [] h)).site g (good.sites b is).held (given_tells g sent)))
+          (asks_later h (marked b (step_of g) ∷ []) (site_takes decl (site_after decl b (deeds b [] h)).site g) (site_asks decl (Born decl h) (site_after decl b (deeds b [] h)).site g (good.sites b is).held (good.sites b is).prepared (given_tells g sent)))
 
       sites_by : (a : ℕ) → is_site decl a ≡ true → (t : Bool) → (b == a) ≡ t → Asks decl (Born decl (h ++ marked b (step_of g) ∷ [])) (site_after decl a (deeds a [] (h ++ marked b (step_of g) ∷ [])))
       sites_by a is true same = subst (λ (k : ℕ). Asks decl (Born decl (h ++ marked b (step_of g) ∷ [])) (site_after decl k (deeds k [] (h ++ marked b (step_of g) ∷ [])))) (eqb-true b a same) (own (ap (is_site decl) (eqb-true b a same) ∙ is))

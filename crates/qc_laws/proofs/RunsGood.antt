@@ -116,7 +116,7 @@ module _ (decl : Declaration) (script : Script) (accepted : IsAccepted decl) whe
   all_good h open_inputs runs.begins = record {
     known = λ a named tx. tt;
     mail_is = tt;
-    sites = λ a is. record { held = tt; sends = tt };
+    sites = λ a is. record { held = tt; prepared = tt; sends = tt };
   }
   all_good h open_inputs (runs.takes b g before older run free rdy) = takes_good decl older (all_good older before run) b g (what_is_ready_was_sent (IsLawful decl) decl script older before run b g rdy)
   all_good h open_inputs (runs.posts b turn before older run taken lawful) =

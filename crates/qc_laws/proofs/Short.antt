@@ -29,7 +29,7 @@ use Rattle.qc_client.specs.Conduct.{answered, answered_by, called, client_after,
 use Rattle.qc_core.specs.Acts.{Acts, posts, starts, takes}
 use Rattle.qc_site.specs.Conduct.{passed, site_after, site_at, site_does, site_takes}
 use Rattle.qc_site.specs.Site.{SiteMove, SiteState, moved as site_moved, new_site}
-use Rattle.qc_site.proofs.Cases.{append_cases, join_cases, prepare_cases, read_cases, request_cases}
+use Rattle.qc_site.proofs.Cases.{append_cases, close_cases, install_cases, join_cases, prepare_cases, read_cases, request_cases}
 use Rattle.qc_laws.specs.RecordsAsked.{AskedSites, AsksSites, VotedSites}
 use Rattle.qc_laws.proofs.AskedMoves.{IsShort, called-short, takes_short}
 use Rattle.qc_laws.proofs.Bounding.{turn-posts}
@@ -57,8 +57,8 @@ site_short decl s from number (messages.Decision tx Aborted) = omega arith
 site_short decl s from number (messages.Decision tx Active) = omega arith
 site_short decl s from number (messages.Inquiry tx) = omega arith
 site_short decl s from number (messages.Ask tx) = omega arith
-site_short decl s from number (messages.Close epoch) = omega arith
-site_short decl s from number (messages.Install epoch clock log) = omega arith
+site_short decl s from number (messages.Close k) = close_cases FewSent s from number k (λ answer. omega arith) (λ near later. omega arith)
+site_short decl s from number (messages.Install k clock lines) = install_cases FewSent s from number k clock lines (λ answer. omega arith) (λ later fits. omega arith)
 
 site_takes_short : (decl : Declaration) (s : SiteState) (g : Given) → FewSent (site_takes decl s g)
 site_takes_short decl s (given.Called command) = omega arith

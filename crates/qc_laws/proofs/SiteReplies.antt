@@ -29,6 +29,7 @@ use Rattle.qc_site.specs.Conduct.{passed, site_after, site_at, site_does, site_t
 use Rattle.qc_site.specs.Promise.{finishes, is_prepared, joins, prepare_length, prepared_of, prepares, promise_of, promises}
 use Rattle.qc_site.specs.Requests.{appends_by, fault_of, grants, names_declared, reads_by, relation_at, requested}
 use Rattle.qc_site.specs.Site.{SiteMove, SiteState, answering, moved, new_site}
+use Rattle.qc_site.proofs.Cases.{close_cases, install_cases}
 use Rattle.qc_laws.proofs.Rounds.{IsProper}
 
 abbrev pub IsProperFrom : Declaration → ℕ → ℕ → Message → Type 0
@@ -122,8 +123,9 @@ site_asks decl s from number (messages.Answer to answer) = tt
 site_asks decl s from number (messages.Decision tx verdict) = decision_asks s tx verdict
 site_asks decl s from number (messages.Inquiry tx) = tt
 site_asks decl s from number (messages.Ask tx) = tt
-site_asks decl s from number (messages.Close epoch) = tt
-site_asks decl s from number (messages.Install epoch clock log) = tt
+site_asks decl s from number (messages.Close k) = close_cases (λ (m : SiteMove). AskNothing m.turn.sends) s from number k (λ answer. (tt, tt)) (λ near later. (tt, tt))
+site_asks decl s from number (messages.Install k clock lines) =
+    install_cases (λ (m : SiteMove). AskNothing m.turn.sends) s from number k clock lines (λ answer. (tt, tt)) (λ later fits. (tt, tt))
 
 takes_asks : (decl : Declaration) (s : SiteState) (g : Given) → AskNothing (site_takes decl s g).turn.sends
 takes_asks decl s (given.Called command) = tt

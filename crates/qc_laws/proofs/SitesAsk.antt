@@ -1,11 +1,12 @@
 -- A site holds something only for transactions that it was asked for, and asks clients only about these.
-use Rattle.std.proofs.Common.{◌≡◌, ℕ, ◌&&◌, ◌==◌, not, Bool, true, false, cond, List, [], ◌∷◌, length, Some, refl, sym, subst}
+use Rattle.std.proofs.Common.{◌≡◌, ℕ, ◌&&◌, ◌==◌, not, Bool, true, false, cond, List, [], ◌∷◌, ◌++◌, fold, length, Some, refl, sym, subst}
 use Rattle.std.specs.List.{AllByRecursion as Every}
 use Rattle.qc_list.proofs.Members.{every-In, every-filter}
 use Rattle.qc_stamp.specs.declared.stamp.TxId.{TxId}
 use Rattle.qc_stamp.specs.Order.{same_tx}
 use Rattle.qc_entry.specs.declared.line.OwnLine.{OwnLine}
 use Rattle.qc_entry.specs.declared.line.ReadLock.{ReadLock}
+use Rattle.qc_entry.specs.declared.record.Prepared.{Prepared}
 use Rattle.qc_decl.specs.Actors.{client_actor}
 use Rattle.qc_decl.specs.declared.declaration.Declaration.{Declaration}
 use Rattle.qc_lock.specs.declared.clash.Clash.{Clash}
@@ -26,9 +27,11 @@ use Rattle.qc_msg.specs.declared.step.Given.TheVariants as given
 use Rattle.qc_msg.specs.declared.turn.Posting.{Posting}
 use Rattle.qc_msg.specs.Turns.{quiet}
 use Rattle.qc_site.specs.Conduct.{passed, site_at, site_takes}
+use Rattle.qc_site.specs.Epochs.{holds}
+use Rattle.qc_site.specs.Promise.{promise_of, without_prepared}
 use Rattle.qc_site.specs.Requests.{clashing, grants, relation_at}
 use Rattle.qc_site.specs.Site.{SiteMove, SiteState, answers, moved}
-use Rattle.qc_site.proofs.Cases.{append_cases, join_cases, prepare_cases, read_cases, request_cases}
+use Rattle.qc_site.proofs.Cases.{append_cases, close_cases, install_cases, join_cases, prepare_cases, read_cases, request_cases}
 
 -- of what a message says, where B holds of transactions: a request is for such a one, a question about such a one goes to
 -- its client
@@ -85,40 +88,62 @@ module _ (decl : Declaration) (B : TxId → Type 0) where
       let conflict : IsAppendConflict relation held tx own c = found.0 in
       subst (λ (d : Clash). B d.holder) (sym conflict.told) (every-In (λ (h : Held). B h.tx) conflict.holder held all conflict.holds)
 
+  -- promises
+
+  abbrev pub PreparedFor : List Prepared → Type 0
+  PreparedFor ps = Every (λ (p : Prepared). B p.tx) ps
+
+  pub prepared-push : (ps : List Prepared) (p : Prepared) → PreparedFor ps → B p.tx → PreparedFor (ps ++ p ∷ [])
+  prepared-push [] p all here = (here, tt)
+  prepared-push (q ∷ qs) p all here = (all.0, prepared-push qs p all.1 here)
+
+  pub prepared-left : (ps : List Prepared) (tx : TxId) → PreparedFor ps → PreparedFor (without_prepared ps tx)
+  prepared-left ps tx all = every-filter (λ (p : Prepared). B p.tx) (λ (p : Prepared). not (same_tx p.tx tx)) ps all
+
+  -- what they hold
+  pub held-promised : (held : List Held) (ps : List Prepared) → HeldFor held → PreparedFor ps → HeldFor (fold holds held ps)
+  held-promised held [] all more = all
+  held-promised held (p ∷ ps) all more = held-promised (holds held p) ps (held-more held p.tx p.locks p.own all more.0) more.1
+
   pub record Asks (m : SiteMove) : Type 0 where
     pub held : HeldFor m.site.held
+    pub prepared : PreparedFor m.site.prepared
     pub sends : Every (λ (p : Posting). SiteTells decl B p.to p.message) m.turn.sends
 
-  module _ (s : SiteState) (from number : ℕ) (all : HeldFor s.held) where
+  module _ (s : SiteState) (from number : ℕ) (all : HeldFor s.held) (promised : PreparedFor s.prepared) where
     answered : (answer : Answer) → Asks (moved s (answers from number answer))
-    answered answer = record { held = all; sends = (tt, tt) }
+    answered answer = record { held = all; prepared = promised; sends = (tt, tt) }
 
     clashed : (c : Clash) → B c.holder → Asks (moved s (clashing decl from number c))
-    clashed c here = record { held = all; sends = (tt, ((refl, here), tt)) }
+    clashed c here = record { held = all; prepared = promised; sends = (tt, ((refl, here), tt)) }
 
     granted : (tx : TxId) (want : Want) → B tx → Asks (grants decl s from number tx want)
     granted tx (Read object inv) here =
-        read_cases Asks decl s from number tx object inv (λ free. record { held = held-more s.held tx (record { object = object; inv = inv } ∷ []) [] all here; sends = (tt, tt) })
+        read_cases Asks decl s from number tx object inv (λ free. record { held = held-more s.held tx (record { object = object; inv = inv } ∷ []) [] all here; prepared = promised; sends = (tt, tt) })
         (λ c clash. clashed c (read_holder (relation_at decl object) s.held tx object inv c all clash))
     granted tx (Append object view own) here =
-        append_cases Asks decl s from number tx object view own (λ free. record { held = held-more s.held tx [] own all here; sends = (tt, tt) })
+        append_cases Asks decl s from number tx object view own (λ free. record { held = held-more s.held tx [] own all here; prepared = promised; sends = (tt, tt) })
         (λ c clash. clashed c (append_holder (relation_at decl object) s.held tx own c all clash))
-    granted tx Prepare here = prepare_cases Asks s from number tx (answered says.Stale) (λ held stands. answered (says.Yes s.clock)) (λ held made. record { held = all; sends = (tt, tt) })
+    granted tx Prepare here = prepare_cases Asks s from number tx (answered says.Stale) (λ held stands. answered (says.Yes s.clock)) (λ held made. record { held = all; prepared = prepared-push s.prepared (promise_of s tx) promised here; sends = (tt, tt) })
 
     silent : Asks (moved s quiet)
-    silent = record { held = all; sends = tt }
+    silent = record { held = all; prepared = promised; sends = tt }
+
+    ended : (tx : TxId) → HeldFor (without_held s.held tx) × PreparedFor (without_prepared s.prepared tx)
+    ended tx = (held-without s.held tx all, prepared-left s.prepared tx promised)
 
     at : (to : ℕ) (message : Message) → Tells decl B to message → Asks (site_at decl s from number message)
     at to (messages.Request tx epoch life want) here = request_cases Asks decl s from number tx epoch life want silent (λ fault is. answered fault) (λ is. granted tx want here)
     at to (messages.Answer asked answer) here = silent
     at to (messages.Decision tx (Committed stamp)) here =
-        join_cases Asks s tx stamp (λ none. record { held = held-without s.held tx all; sends = tt }) (λ p some. record { held = held-without s.held tx all; sends = tt })
-    at to (messages.Decision tx Aborted) here = record { held = held-without s.held tx all; sends = tt }
+        join_cases Asks s tx stamp (λ none. record { held = (ended tx).0; prepared = (ended tx).1; sends = tt }) (λ p some. record { held = (ended tx).0; prepared = (ended tx).1; sends = tt })
+    at to (messages.Decision tx Aborted) here = record { held = (ended tx).0; prepared = (ended tx).1; sends = tt }
     at to (messages.Decision tx Active) here = silent
     at to (messages.Inquiry tx) here = silent
     at to (messages.Ask tx) here = silent
-    at to (messages.Close epoch) here = silent
-    at to (messages.Install epoch clock log) here = silent
+    at to (messages.Close k) here =
+        close_cases Asks s from number k answered (λ near later. record { held = held-promised [] s.prepared tt promised; prepared = promised; sends = (tt, tt) })
+    at to (messages.Install k clock lines) here = install_cases Asks s from number k clock lines answered (λ later fits. record { held = tt; prepared = tt; sends = (tt, tt) })
 
   -- what is taken
   abbrev pub GivenTells : Given → Type 0
@@ -127,7 +152,7 @@ module _ (decl : Declaration) (B : TxId → Type 0) where
   GivenTells (given.Lost number) = Unit {0}
 
   -- one input
-  pub site_asks : (s : SiteState) (g : Given) → HeldFor s.held → GivenTells g → Asks (site_takes decl s g)
-  site_asks s (given.Called command) all here = record { held = all; sends = tt }
-  site_asks s (given.Got e) all here = at (passed s e.message) e.from e.number all e.to e.message here
-  site_asks s (given.Lost number) all here = record { held = all; sends = tt }
+  pub site_asks : (s : SiteState) (g : Given) → HeldFor s.held → PreparedFor s.prepared → GivenTells g → Asks (site_takes decl s g)
+  site_asks s (given.Called command) all promised here = record { held = all; prepared = promised; sends = tt }
+  site_asks s (given.Got e) all promised here = at (passed s e.message) e.from e.number all promised e.to e.message here
+  site_asks s (given.Lost number) all promised here = record { held = all; prepared = promised; sends = tt }

@@ -1,10 +1,16 @@
 -- What a site becomes and sends stays within a bound that what it takes keeps to.
-use Rattle.std.proofs.Common.{ℕ, ◌≤◌, ◌==◌, max, List, [], ◌∷◌, fold, arith}
+use Rattle.std.proofs.Common.{ℕ, ◌≤◌, ◌==◌, max, not, List, [], ◌∷◌, ◌++◌, fold, arith}
+use Rattle.std.specs.declared.cmp.Ordering.{Ordering}
+use Rattle.std.specs.declared.cmp.Ordering.TheVariants.{Less, Equal, Greater}
+use Rattle.qc_list.specs.Order.{by_order, inserted}
 use Rattle.qc_list.proofs.Members.{every-filter}
 use Rattle.qc_stamp.specs.declared.stamp.Stamp.{Stamp}
 use Rattle.qc_stamp.specs.declared.stamp.TxId.{TxId}
+use Rattle.qc_stamp.specs.Order.{same_tx}
 use Rattle.qc_entry.specs.declared.line.Line.{Line}
 use Rattle.qc_entry.specs.declared.line.OwnLine.{OwnLine}
+use Rattle.qc_entry.specs.declared.record.Prepared.{Prepared}
+use Rattle.qc_entry.specs.Log.{has_line, without}
 use Rattle.qc_entry.proofs.Union.{every-union}
 use Rattle.qc_decl.specs.declared.declaration.Declaration.{Declaration}
 use Rattle.qc_lock.specs.declared.clash.Clash.{Clash as Conflict}
@@ -20,17 +26,23 @@ use Rattle.qc_msg.specs.declared.step.Given.{Given}
 use Rattle.qc_msg.specs.declared.step.Given.TheVariants as given
 use Rattle.qc_msg.specs.Turns.{quiet}
 use Rattle.qc_site.specs.Conduct.{latest, passed, site_at, site_takes}
-use Rattle.qc_site.specs.Promise.{finishes, lines_of, stamped, with_stamped}
+use Rattle.qc_site.specs.Epochs.{closes, installs, promise_cmp, shut_answer}
+use Rattle.qc_site.specs.Promise.{finishes, lines_of, promise_of, stamped, with_stamped, without_prepared}
 use Rattle.qc_site.specs.Requests.{clashing, grants}
-use Rattle.qc_site.specs.Site.{SiteMove, SiteState, answers, moved}
-use Rattle.qc_site.proofs.Cases.{append_cases, fault_is, join_cases, prepare_cases, read_cases, request_cases}
-use Rattle.qc_laws.proofs.Greater.{lines-le, sends-le}
-use Rattle.qc_laws.specs.Within.{AnswerWithin, GivenWithin, LinesWithin, MessageWithin, OutcomeWithin, SiteMoveWithin, SiteWithin, WantWithin}
+use Rattle.qc_site.specs.Site.{SiteMove, SiteState, answers, known, learned, moved}
+use Rattle.qc_site.proofs.Cases.{append_cases, close_rows, fault_is, install_rows, join_cases, prepare_cases, read_cases, request_cases}
+use Rattle.qc_laws.proofs.Greater.{lines-le, promises-le, sends-le}
+use Rattle.qc_laws.specs.Within.{AnswerWithin, GivenWithin, LinesWithin, MessageWithin, OutcomeWithin, PromisesWithin, SiteMoveWithin, SiteWithin, WantWithin}
 
 -- a greater bound
 
 pub site-le : (low high : ℕ) (s : SiteState) → low ≤ high → SiteWithin low s → SiteWithin high s
-site-le low high s le w = record { clock = (let c : s.clock ≤ low = w.clock in omega arith); log = lines-le low high le s.log w.log }
+site-le low high s le w = record {
+  clock = (let c : s.clock ≤ low = w.clock in omega arith);
+  began = lines-le low high le s.began w.began;
+  log = lines-le low high le s.log w.log;
+  prepared = promises-le low high le s.prepared w.prepared;
+}
 
 pub site_move-le : (low high : ℕ) (m : SiteMove) → low ≤ high → SiteMoveWithin low m → SiteMoveWithin high m
 site_move-le low high m le w = record { site = site-le low high m.site le w.site; sends = sends-le low high le m.turn.sends w.sends }
@@ -48,6 +60,28 @@ stamped-within bound stamp tx lines [] here within = within
 stamped-within bound stamp tx lines (o ∷ os) here within =
     stamped-within bound stamp tx (with_stamped stamp tx lines o) os here (every-union (λ (l : Line). l.stamp.clock ≤ bound) lines (stamped stamp tx o ∷ []) within (here, tt))
 
+-- lines that others aren't among, and promises
+
+without-within : (bound : ℕ) (lines others : List Line) → LinesWithin bound lines → LinesWithin bound (without lines others)
+without-within bound lines others within = every-filter (λ (l : Line). l.stamp.clock ≤ bound) (λ (l : Line). not (has_line others l)) lines within
+
+promises-push : (bound : ℕ) (ps : List Prepared) (p : Prepared) → PromisesWithin bound ps → LinesWithin bound p.lines → PromisesWithin bound (ps ++ p ∷ [])
+promises-push bound [] p within here = (here, tt)
+promises-push bound (q ∷ qs) p within here = (within.0, promises-push bound qs p within.1 here)
+
+promises-inserted : (bound : ℕ) (ps : List Prepared) (p : Prepared) → PromisesWithin bound ps → LinesWithin bound p.lines → PromisesWithin bound (inserted promise_cmp ps p)
+promises-inserted bound [] p within here = (here, tt)
+promises-inserted bound (q ∷ qs) p within here = by (promise_cmp p q) (promises-inserted bound qs p within.1 here)
+  where
+    by : (o : Ordering) → PromisesWithin bound (inserted promise_cmp qs p) → PromisesWithin bound (by_order o (p ∷ q ∷ qs) (p ∷ qs) (q ∷ inserted promise_cmp qs p))
+    by Less rest = (here, within)
+    by Equal rest = (here, within.1)
+    by Greater rest = (within.0, rest)
+
+promises-ordered : (bound : ℕ) (before ps : List Prepared) → PromisesWithin bound before → PromisesWithin bound ps → PromisesWithin bound (fold (inserted promise_cmp) before ps)
+promises-ordered bound before [] first within = first
+promises-ordered bound before (p ∷ ps) first within = promises-ordered bound (inserted promise_cmp before p) ps (promises-inserted bound before p first within.0) within.1
+
 module _ (bound : ℕ) (decl : Declaration) (s : SiteState) (from number : ℕ) (w : SiteWithin bound s) where
   -- the state is as it was, and the answer tells no clock
   answered : (answer : Answer) → AnswerWithin bound answer → SiteMoveWithin bound (moved s (answers from number answer))
@@ -59,18 +93,37 @@ module _ (bound : ℕ) (decl : Declaration) (s : SiteState) (from number : ℕ) 
   clashed : (c : Conflict) → SiteMoveWithin bound (moved s (clashing decl from number c))
   clashed c = record { site = w; sends = (tt, (tt, tt)) }
 
+  all-known : LinesWithin bound (known s)
+  all-known = every-union (λ (l : Line). l.stamp.clock ≤ bound) s.began s.log w.began w.log
+
+  learns : (lines : List Line) → LinesWithin bound lines → LinesWithin bound (learned s lines)
+  learns lines within = every-union (λ (l : Line). l.stamp.clock ≤ bound) s.log (without lines s.began) w.log (without-within bound lines s.began within)
+
+  promised-lines : (tx : TxId) → LinesWithin bound (promise_of s tx).lines
+  promised-lines tx = without-within bound s.log s.recorded w.log
+
+  -- its transaction has ended
+  left : (tx : TxId) → PromisesWithin bound (without_prepared s.prepared tx)
+  left tx = every-filter (λ (p : Prepared). LinesWithin bound p.lines) (λ (p : Prepared). not (same_tx p.tx tx)) s.prepared w.prepared
+
   granted : (tx : TxId) (want : Want) → WantWithin bound want → SiteMoveWithin bound (grants decl s from number tx want)
   granted tx (Read object inv) here =
       read_cases (SiteMoveWithin bound) decl s from number tx object inv
-      (λ free. record { site = record { clock = w.clock; log = w.log }; sends = ((w.clock, every-filter (λ (l : Line). l.stamp.clock ≤ bound) (λ (l : Line). l.object == object) s.log w.log), tt) })
+      (λ free. record {
+        site = record { clock = w.clock; began = w.began; log = w.log; prepared = w.prepared };
+        sends = ((w.clock, every-filter (λ (l : Line). l.stamp.clock ≤ bound) (λ (l : Line). l.object == object) (known s) all-known), tt);
+      })
       (λ c clash. clashed c)
   granted tx (Append object view own) here =
       append_cases (SiteMoveWithin bound) decl s from number tx object view own
-      (λ free. record { site = record { clock = w.clock; log = every-union (λ (l : Line). l.stamp.clock ≤ bound) s.log view w.log here }; sends = ((w.clock, tt), tt) })
+      (λ free. record { site = record { clock = w.clock; began = w.began; log = learns view here; prepared = w.prepared }; sends = ((w.clock, tt), tt) })
       (λ c clash. clashed c)
   granted tx Prepare here =
       prepare_cases (SiteMoveWithin bound) s from number tx (answered says.Stale tt) (λ held stands. answered (says.Yes s.clock) w.clock)
-      (λ held made. record { site = record { clock = w.clock; log = w.log }; sends = (w.clock, tt) })
+      (λ held made. record {
+        site = record { clock = w.clock; began = w.began; log = w.log; prepared = promises-push bound s.prepared (promise_of s tx) w.prepared (promised-lines tx) };
+        sends = (w.clock, tt);
+      })
 
   requested-within : (tx : TxId) (epoch life : ℕ) (want : Want) → WantWithin bound want → SiteMoveWithin bound (site_at decl s from number (messages.Request tx epoch life want))
   requested-within tx epoch life want here =
@@ -80,13 +133,28 @@ module _ (bound : ℕ) (decl : Declaration) (s : SiteState) (from number : ℕ) 
 
   finished : (tx : TxId) (verdict : Outcome) → OutcomeWithin bound verdict → SiteMoveWithin bound (finishes s tx verdict)
   finished tx (Committed stamp) here =
-      join_cases (SiteMoveWithin bound) s tx stamp (λ none. record { site = record { clock = w.clock; log = w.log }; sends = tt })
+      join_cases (SiteMoveWithin bound) s tx stamp (λ none. record { site = record { clock = w.clock; began = w.began; log = w.log; prepared = left tx }; sends = tt })
       (λ p some. record {
-        site = record { clock = w.clock; log = every-union (λ (l : Line). l.stamp.clock ≤ bound) s.log (lines_of stamp tx p.own) w.log (stamped-within bound stamp tx [] p.own here tt) };
+        site = record { clock = w.clock; began = w.began; log = learns (lines_of stamp tx p.own) (stamped-within bound stamp tx [] p.own here tt); prepared = left tx };
         sends = tt;
       })
-  finished tx Aborted here = record { site = record { clock = w.clock; log = w.log }; sends = tt }
+  finished tx Aborted here = record { site = record { clock = w.clock; began = w.began; log = w.log; prepared = left tx }; sends = tt }
   finished tx Active here = silent
+
+  -- a Close tells all that the site knows; with an Install another epoch begins
+
+  shut-within : AnswerWithin bound (shut_answer s)
+  shut-within = (w.clock, all-known, promises-ordered bound [] s.prepared tt w.prepared)
+
+  closed-within : (k : ℕ) → SiteMoveWithin bound (closes s from number k)
+  closed-within k =
+      close_rows (SiteMoveWithin bound) s from number k (answered (says.Behind s.epoch) tt) (answered (says.Closed s.epoch) tt) (answered (shut_answer s) shut-within)
+      (record { site = record { clock = w.clock; began = w.began; log = w.log; prepared = w.prepared }; sends = (shut-within, tt) })
+
+  installed-within : (k clock : ℕ) (lines : List Line) → clock ≤ bound → LinesWithin bound lines → SiteMoveWithin bound (installs s from number k clock lines)
+  installed-within k clock lines here within =
+      install_rows (SiteMoveWithin bound) s from number k clock lines (answered says.Installed tt) (answered (says.Behind s.epoch) tt)
+      (record { site = record { clock = (let c : s.clock ≤ bound = w.clock in omega arith); began = within; log = tt; prepared = tt }; sends = (tt, tt) })
 
   at-within : (message : Message) → MessageWithin bound message → SiteMoveWithin bound (site_at decl s from number message)
   at-within (messages.Request tx epoch life want) here = requested-within tx epoch life want here
@@ -94,29 +162,29 @@ module _ (bound : ℕ) (decl : Declaration) (s : SiteState) (from number : ℕ) 
   at-within (messages.Decision tx verdict) here = finished tx verdict here
   at-within (messages.Inquiry tx) here = silent
   at-within (messages.Ask tx) here = silent
-  at-within (messages.Close epoch) here = silent
-  at-within (messages.Install epoch clock log) here = silent
+  at-within (messages.Close k) here = closed-within k
+  at-within (messages.Install k clock lines) here = installed-within k clock lines here.0 here.1
 
 -- the clock as a message comes
 
 asked-within : (bound : ℕ) (s : SiteState) (tx : TxId) (epoch life : ℕ) (want : Want) → SiteWithin bound s → WantWithin bound want → SiteWithin bound (passed s (messages.Request tx epoch life want))
-asked-within bound s tx epoch life (Read object inv) w here = record { clock = w.clock; log = w.log }
-asked-within bound s tx epoch life (Append object view own) w here = record { clock = latest-within bound s.clock view w.clock here; log = w.log }
-asked-within bound s tx epoch life Prepare w here = record { clock = w.clock; log = w.log }
+asked-within bound s tx epoch life (Read object inv) w here = record { clock = w.clock; began = w.began; log = w.log; prepared = w.prepared }
+asked-within bound s tx epoch life (Append object view own) w here = record { clock = latest-within bound s.clock view w.clock here; began = w.began; log = w.log; prepared = w.prepared }
+asked-within bound s tx epoch life Prepare w here = record { clock = w.clock; began = w.began; log = w.log; prepared = w.prepared }
 
 told-within : (bound : ℕ) (s : SiteState) (tx : TxId) (verdict : Outcome) → SiteWithin bound s → OutcomeWithin bound verdict → SiteWithin bound (passed s (messages.Decision tx verdict))
-told-within bound s tx (Committed stamp) w here = record { clock = (let c : s.clock ≤ bound = w.clock in let t : stamp.clock ≤ bound = here in omega arith); log = w.log }
-told-within bound s tx Aborted w here = record { clock = w.clock; log = w.log }
-told-within bound s tx Active w here = record { clock = w.clock; log = w.log }
+told-within bound s tx (Committed stamp) w here = record { clock = (let c : s.clock ≤ bound = w.clock in let t : stamp.clock ≤ bound = here in omega arith); began = w.began; log = w.log; prepared = w.prepared }
+told-within bound s tx Aborted w here = record { clock = w.clock; began = w.began; log = w.log; prepared = w.prepared }
+told-within bound s tx Active w here = record { clock = w.clock; began = w.began; log = w.log; prepared = w.prepared }
 
 passed-within : (bound : ℕ) (s : SiteState) (message : Message) → SiteWithin bound s → MessageWithin bound message → SiteWithin bound (passed s message)
 passed-within bound s (messages.Request tx epoch life want) w here = asked-within bound s tx epoch life want w here
-passed-within bound s (messages.Answer to answer) w here = record { clock = w.clock; log = w.log }
+passed-within bound s (messages.Answer to answer) w here = record { clock = w.clock; began = w.began; log = w.log; prepared = w.prepared }
 passed-within bound s (messages.Decision tx verdict) w here = told-within bound s tx verdict w here
-passed-within bound s (messages.Inquiry tx) w here = record { clock = w.clock; log = w.log }
-passed-within bound s (messages.Ask tx) w here = record { clock = w.clock; log = w.log }
-passed-within bound s (messages.Close epoch) w here = record { clock = w.clock; log = w.log }
-passed-within bound s (messages.Install epoch clock log) w here = record { clock = w.clock; log = w.log }
+passed-within bound s (messages.Inquiry tx) w here = record { clock = w.clock; began = w.began; log = w.log; prepared = w.prepared }
+passed-within bound s (messages.Ask tx) w here = record { clock = w.clock; began = w.began; log = w.log; prepared = w.prepared }
+passed-within bound s (messages.Close epoch) w here = record { clock = w.clock; began = w.began; log = w.log; prepared = w.prepared }
+passed-within bound s (messages.Install epoch clock lines) w here = record { clock = latest-within bound s.clock lines w.clock here.1; began = w.began; log = w.log; prepared = w.prepared }
 
 -- one input
 pub site_takes_within : (bound : ℕ) (decl : Declaration) (s : SiteState) (g : Given) → SiteWithin bound s → GivenWithin bound g → SiteMoveWithin bound (site_takes decl s g)

@@ -32,6 +32,7 @@ use Rattle.qc_site.specs.Promise.{finishes, is_prepared, joins, prepare_length, 
 use Rattle.qc_site.specs.Requests.{appends_by, fault_of, grants, names_declared, reads_by, relation_at, requested as site_requested}
 use Rattle.qc_site.specs.Site.{SiteMove, SiteState, new_site}
 use Rattle.qc_site.specs.Site as sites
+use Rattle.qc_site.proofs.Cases.{close_cases, install_cases}
 use Rattle.qc_laws.proofs.OwnStamps.{AreStamped, IsOwnWrite, by_two, client_stamped, unwritten}
 
 -- a site sends answers, and Inquiries with them
@@ -83,8 +84,12 @@ site_answers decl s from number (messages.Answer to answer) = (record { sends = 
 site_answers decl s from number (messages.Decision tx verdict) = decision_answers s tx verdict
 site_answers decl s from number (messages.Inquiry tx) = (record { sends = tt; failed = tt; writes = unwritten None refl; told = refl })
 site_answers decl s from number (messages.Ask tx) = (record { sends = tt; failed = tt; writes = unwritten None refl; told = refl })
-site_answers decl s from number (messages.Close epoch) = (record { sends = tt; failed = tt; writes = unwritten None refl; told = refl })
-site_answers decl s from number (messages.Install epoch clock log) = (record { sends = tt; failed = tt; writes = unwritten None refl; told = refl })
+site_answers decl s from number (messages.Close k) =
+    close_cases IsAnswering s from number k (λ answer. record { sends = (tt, tt); failed = tt; writes = unwritten None refl; told = refl })
+    (λ near later. record { sends = (tt, tt); failed = (tt, tt); writes = λ c is. absurd (let never : ⊥ = cc in never); told = refl })
+site_answers decl s from number (messages.Install k clock lines) =
+    install_cases IsAnswering s from number k clock lines (λ answer. record { sends = (tt, tt); failed = tt; writes = unwritten None refl; told = refl })
+    (λ later fits. record { sends = (tt, tt); failed = (tt, tt); writes = λ c is. absurd (let never : ⊥ = cc in never); told = refl })
 
 pub takes_answer : (decl : Declaration) (s : SiteState) (g : Given) → IsAnswering (site_takes decl s g)
 takes_answer decl s (given.Called command) = (record { sends = tt; failed = tt; writes = unwritten None refl; told = refl })

@@ -80,10 +80,12 @@ GivenWithin bound (given.Lost number) = Unit {0}
 abbrev pub SendsWithin : ℕ → List Posting → Type 0
 SendsWithin bound sends = Every (λ (p : Posting). MessageWithin bound p.message) sends
 
--- a site: its clock, and the lines that it knows
+-- a site: its clock, the lines that it knows, and those of its promises
 pub record SiteWithin (bound : ℕ) (s : SiteState) : Type 0 where
   pub clock : s.clock ≤ bound
+  pub began : LinesWithin bound s.began
   pub log : LinesWithin bound s.log
+  pub prepared : PromisesWithin bound s.prepared
 
 pub record SiteMoveWithin (bound : ℕ) (move : SiteMove) : Type 0 where
   pub site : SiteWithin bound move.site

@@ -14,11 +14,12 @@ use Rattle.qc_msg.specs.declared.message.Want.{Want}
 use Rattle.qc_msg.specs.declared.record.Record.{Record}
 use Rattle.qc_msg.specs.declared.record.Record.TheVariants as journals
 use Rattle.qc_msg.specs.declared.step.Command.{Command}
+use Rattle.qc_msg.specs.declared.step.Command.TheVariants as commands
 use Rattle.qc_msg.specs.declared.step.Given.{Given}
 use Rattle.qc_msg.specs.declared.step.Given.TheVariants as inputs
 use Rattle.qc_msg.specs.Deeds.{Deed, Takes, Writes, Sends, Tells, Falls, Rises}
 
--- of a message: a request, an answer, a Decision
+-- of a message: a request, an answer, a Decision, an epoch to be closed for, and one to be installed
 
 pub record Requested : Type 0 where
   pub tx : TxId
@@ -62,7 +63,31 @@ decision_in (messages.Ask tx) = None
 decision_in (messages.Close epoch) = None
 decision_in (messages.Install epoch clock log) = None
 
--- of an answer: a grant, a promise with its clock, the epoch that another one closed
+abbrev pub closing_in : Message → Option ℕ
+closing_in (messages.Request tx epoch life want) = None
+closing_in (messages.Answer to answer) = None
+closing_in (messages.Decision tx verdict) = None
+closing_in (messages.Inquiry tx) = None
+closing_in (messages.Ask tx) = None
+closing_in (messages.Close epoch) = Some epoch
+closing_in (messages.Install epoch clock log) = None
+
+pub record Installing : Type 0 where
+  pub epoch : ℕ
+  pub clock : ℕ
+  pub lines : List Line
+
+abbrev pub installing_in : Message → Option Installing
+installing_in (messages.Request tx epoch life want) = None
+installing_in (messages.Answer to answer) = None
+installing_in (messages.Decision tx verdict) = None
+installing_in (messages.Inquiry tx) = None
+installing_in (messages.Ask tx) = None
+installing_in (messages.Close epoch) = None
+installing_in (messages.Install epoch clock log) = Some (record { epoch = epoch; clock = clock; lines = log })
+
+-- of an answer: a grant, a promise with its clock, the epoch that another one closed, what a closed site tells, that an
+-- epoch is installed, how a transaction stands
 
 pub record Granting : Type 0 where
   pub life : ℕ
@@ -108,8 +133,52 @@ closed_in (answers.Shut clock log prepared) = None
 closed_in answers.Installed = None
 closed_in (answers.Answered verdict) = None
 
--- of a record: a rise, a promise, that a promised transaction committed, a closed and an installed epoch (a commit:
--- Counts)
+pub record Shutting : Type 0 where
+  pub clock : ℕ
+  pub log : List Line
+  pub prepared : List Prepared
+
+abbrev pub shut_in : Answer → Option Shutting
+shut_in (answers.Granted life clock log) = None
+shut_in (answers.Clash holder inv event) = None
+shut_in (answers.Closed epoch) = None
+shut_in (answers.Behind epoch) = None
+shut_in (answers.Restarted life) = None
+shut_in answers.Stale = None
+shut_in answers.Fault = None
+shut_in (answers.Yes clock) = None
+shut_in (answers.Shut clock log prepared) = Some (record { clock = clock; log = log; prepared = prepared })
+shut_in answers.Installed = None
+shut_in (answers.Answered verdict) = None
+
+abbrev pub has_installed : Answer → Bool
+has_installed (answers.Granted life clock log) = false
+has_installed (answers.Clash holder inv event) = false
+has_installed (answers.Closed epoch) = false
+has_installed (answers.Behind epoch) = false
+has_installed (answers.Restarted life) = false
+has_installed answers.Stale = false
+has_installed answers.Fault = false
+has_installed (answers.Yes clock) = false
+has_installed (answers.Shut clock log prepared) = false
+has_installed answers.Installed = true
+has_installed (answers.Answered verdict) = false
+
+abbrev pub verdict_in : Answer → Option Outcome
+verdict_in (answers.Granted life clock log) = None
+verdict_in (answers.Clash holder inv event) = None
+verdict_in (answers.Closed epoch) = None
+verdict_in (answers.Behind epoch) = None
+verdict_in (answers.Restarted life) = None
+verdict_in answers.Stale = None
+verdict_in answers.Fault = None
+verdict_in (answers.Yes clock) = None
+verdict_in (answers.Shut clock log prepared) = None
+verdict_in answers.Installed = None
+verdict_in (answers.Answered verdict) = Some verdict
+
+-- of a record: a rise, a promise, that a promised transaction committed, a closed, an installed and a decided epoch (a
+-- commit: Counts)
 
 abbrev pub is_life : Record → Bool
 is_life journals.Life = true
@@ -151,11 +220,6 @@ close_in (journals.Install epoch clock lines) = None
 close_in (journals.Commit commit) = None
 close_in (journals.Decide epoch clock lines) = None
 
-pub record Installing : Type 0 where
-  pub epoch : ℕ
-  pub clock : ℕ
-  pub lines : List Line
-
 abbrev pub install_in : Record → Option Installing
 install_in journals.Life = None
 install_in (journals.Prepare prepared) = None
@@ -164,6 +228,35 @@ install_in (journals.Close epoch) = None
 install_in (journals.Install epoch clock lines) = Some (record { epoch = epoch; clock = clock; lines = lines })
 install_in (journals.Commit commit) = None
 install_in (journals.Decide epoch clock lines) = None
+
+abbrev pub decide_in : Record → Option Installing
+decide_in journals.Life = None
+decide_in (journals.Prepare prepared) = None
+decide_in (journals.Done tx clock) = None
+decide_in (journals.Close epoch) = None
+decide_in (journals.Install epoch clock lines) = None
+decide_in (journals.Commit commit) = None
+decide_in (journals.Decide epoch clock lines) = Some (record { epoch = epoch; clock = clock; lines = lines })
+
+-- of a message of the administrator: the transaction that is asked about
+
+abbrev pub asking_in : Message → Option TxId
+asking_in (messages.Request tx epoch life want) = None
+asking_in (messages.Answer to answer) = None
+asking_in (messages.Decision tx verdict) = None
+asking_in (messages.Inquiry tx) = None
+asking_in (messages.Ask tx) = Some tx
+asking_in (messages.Close epoch) = None
+asking_in (messages.Install epoch clock log) = None
+
+-- of a command: the epoch that is to be moved to
+
+abbrev pub epoch_in : Command → Option ℕ
+epoch_in commands.Begin = None
+epoch_in (commands.Do object inv) = None
+epoch_in commands.Commit = None
+epoch_in commands.Abort = None
+epoch_in (commands.Epoch number) = Some number
 
 -- of an input: a message, a command
 

@@ -23,7 +23,7 @@ use Rattle.qc_protocol.specs.State.{Decision, NotBegun, State}
 use Rattle.qc_epoch.specs.Admin.{Admin, AdminMove, Decided, Doing, Question, Resting, Asking, Installing, ShutSite, moved}
 use Rattle.qc_epoch.specs.Conduct.{again, all_sites, ask_of, asks, decides, doing, install_of, install_sends, installing, replies_with, settles, settles_by}
 use Rattle.qc_epoch.specs.Deciding.{decision, first_doubt, greatest, merged, most_asks, questions_of}
-use Rattle.qc_epoch.specs.SiteRows.{epoch_length}
+use Rattle.qc_msg.specs.Lengths.{epoch_length}
 use Rattle.qc_net.specs.Admins.{AdminMirrors, AreEnough, AreSnapshots, DecidedMirrors, DoingMirrors, IsCovered, IsNumbered, IsPendingRule, IsTaken, QuestionMirrors, RulesMirror}
 use Rattle.qc_net.specs.Messages.{Backed}
 use Rattle.qc_net.specs.Mirrors.{Continues, Mirrors}

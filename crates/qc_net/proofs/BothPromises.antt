@@ -1,23 +1,18 @@
 -- What a site has promised, beside the machine's promises: each was asked for, each has its other, and they hold alike.
-use Rattle.std.proofs.Common.{◌≡◌, ◌≢◌, ℕ, Bool, true, false, cond, ◌⊎◌, inl, inr, List, [], ◌∷◌, ◌++◌, Option, Some, None, unwrap_or, option_map, refl, sym, ap, ◌∙◌, subst}
+use Rattle.std.proofs.Common.{◌≡◌, ◌≢◌, ℕ, ◌⊎◌, inl, inr, List, [], ◌∷◌, Option, Some, None, refl, sym, ap, subst}
 use Rattle.qc_stamp.specs.declared.stamp.Stamp.{Stamp}
 use Rattle.qc_stamp.specs.declared.stamp.TxId.{TxId}
-use Rattle.qc_stamp.specs.Order.{same_tx}
-use Rattle.qc_stamp.proofs.Orders.{same_tx_is}
 use Rattle.qc_list.specs.Members.{In}
 use Rattle.qc_entry.specs.declared.line.Line.{Line}
 use Rattle.qc_entry.specs.declared.line.OwnLine.{OwnLine}
 use Rattle.qc_entry.specs.declared.record.Prepared.{Prepared}
 use Rattle.qc_decl.specs.declared.declaration.Declaration.{Declaration}
-use Rattle.qc_lock.specs.declared.held.Held.{Held}
-use Rattle.qc_lock.specs.Held.{entry_of}
 use Rattle.qc_protocol.specs.Guards.{MayPrepare}
-use Rattle.qc_protocol.specs.Site.{Closes, Deed, Grants, Installs, Item, LearnsAbort, LearnsCommit, Lock, Own, Prepares, Promise, Rises, Site, after_commit, after_deed, after_prepare, each_held, empty_site, held_by_promises, items_of, promise_of, site_after, site_from, without_promise}
+use Rattle.qc_protocol.specs.Site.{Closes, Deed, Grants, Installs, Item, LearnsAbort, LearnsCommit, Own, Prepares, Promise, Rises, Site, after_commit, after_deed, after_prepare, empty_site, promise_of, site_after, site_from, without_promise}
 use Rattle.qc_protocol.specs.State.{NotBegun, State, Status}
-use Rattle.qc_protocol.proofs.SiteLists.{found, in_dropped, items_of-append, items_of-each_held, items_of-other}
+use Rattle.qc_protocol.proofs.SiteLists.{found, in_dropped}
 use Rattle.qc_site.specs.Promise.{prepared_of}
-use Rattle.qc_epoch.specs.SiteRows.{held_by}
-use Rattle.qc_net.specs.Sites.{AreApart, AreSingle, IsDecided, IsHeld, IsPromiseOf, IsPromised, IsSingle}
+use Rattle.qc_net.specs.Sites.{AreApart, IsDecided, IsPromiseOf, IsPromised}
 use Rattle.qc_net.proofs.Apart.{apart_found, found_in}
 
 -- what the machine has promised it was asked to prepare
@@ -100,53 +95,6 @@ before ps qs p promised is = by (promise_of p.tx ps) (prepared_of qs p.tx) is re
         record { prepared = r; stands = f.0; its = f.1; has = λ i among. h.0 i (subst (λ (y : Promise). In i y.items) (sym e) among) }
     by (Some x) None same found_r h = absurd h
     by None r same found_r h = absurd (let never : ⊥ = cc in never)
-
--- what a site holds once it is closed: what it has promised
-
-pub held_by_found : (qs : List Prepared) (t : TxId) → entry_of (held_by qs) t ≡ option_map (λ (p : Prepared). record { tx = p.tx; locks = p.locks; own = p.own }) (prepared_of qs t)
-held_by_found [] t = refl
-held_by_found (q ∷ qs) t = by (same_tx q.tx t) (held_by_found qs t)
-  where
-    by : (b : Bool) → entry_of (held_by qs) t ≡ option_map (λ (p : Prepared). record { tx = p.tx; locks = p.locks; own = p.own }) (prepared_of qs t)
-        → cond b (Some (record { tx = q.tx; locks = q.locks; own = q.own })) (entry_of (held_by qs) t) ≡ option_map (λ (p : Prepared). record { tx = p.tx; locks = p.locks; own = p.own }) (cond b (Some q) (prepared_of qs t))
-    by true rest = refl
-    by false rest = rest
-
-pub single_items : (t : TxId) (ps : List Promise) → IsSingle t ps → items_of t (held_by_promises ps) ≡ []
-single_items t [] s = refl
-single_items t (p ∷ ps) s = items_of-append t (each_held p.tx p.items) (held_by_promises ps) ∙ ap (λ (xs : List Item). xs ++ items_of t (held_by_promises ps)) (items_of-other t p.tx p.items s.0) ∙ single_items t ps s.1
-
-abbrev pub items_in : Option Promise → List Item
-items_in None = []
-items_in (Some p) = p.items
-
-pub append_nil : {A : Type 0} (xs : List A) → xs ++ [] ≡ xs
-append_nil [] = refl
-append_nil (x ∷ xs) = ap (λ (ys : List _). x ∷ ys) (append_nil xs)
-
-pub promise_items : (t : TxId) (ps : List Promise) → AreSingle ps → items_of t (held_by_promises ps) ≡ items_in (promise_of t ps)
-promise_items t [] s = refl
-promise_items t (p ∷ ps) s = items_of-append t (each_held p.tx p.items) (held_by_promises ps) ∙ by (same_tx t p.tx) refl (promise_items t ps s.1)
-  where
-    by : (b : Bool) → same_tx t p.tx ≡ b → items_of t (held_by_promises ps) ≡ items_in (promise_of t ps) → items_of t (each_held p.tx p.items) ++ items_of t (held_by_promises ps) ≡ items_in (cond b (Some p) (promise_of t ps))
-    by true is rest =
-        let e : t ≡ p.tx = same_tx_is t p.tx is in
-        ap (λ (xs : List Item). xs ++ items_of t (held_by_promises ps)) (subst (λ (u : TxId). items_of u (each_held p.tx p.items) ≡ p.items) (sym e) (items_of-each_held p.tx p.items))
-        ∙ ap (λ (xs : List Item). p.items ++ xs) (subst (λ (u : TxId). items_of u (held_by_promises ps) ≡ []) (sym e) (single_items p.tx ps s.0))
-        ∙ append_nil p.items
-    by false is rest = ap (λ (xs : List Item). xs ++ items_of t (held_by_promises ps)) (items_of-other t p.tx p.items is) ∙ rest
-
-pub closed_holds : (t : TxId) (x : Item) (o : Option Promise) (r : Option Prepared) → IsPromiseOf o r → In x (items_in o) → IsHeld (unwrap_or (option_map (λ (p : Prepared). record { tx = p.tx; locks = p.locks; own = p.own }) r) (record { tx = t; locks = []; own = [] })) x
-closed_holds t x None r h among = absurd among
-closed_holds t x (Some p) None h among = absurd h
-closed_holds t (Lock l) (Some p) (Some q) h among = h.0 (Lock l) among
-closed_holds t (Own o) (Some p) (Some q) h among = h.0 (Own o) among
-
-pub closed_owns : (t : TxId) (x : OwnLine) (o : Option Promise) (r : Option Prepared) → IsPromiseOf o r → In x (unwrap_or {T = Held} (option_map (λ (p : Prepared). record { tx = p.tx; locks = p.locks; own = p.own }) r) (record { tx = t; locks = []; own = [] })).own → In (Own x) (items_in o)
-closed_owns t x None None h among = absurd among
-closed_owns t x None (Some q) h among = absurd h
-closed_owns t x (Some p) None h among = absurd among
-closed_owns t x (Some p) (Some q) h among = h.1 x among
 
 -- the deed of a decision
 pub deed_is : {decl : Declaration} {now : State} {k clock : ℕ} {log : List Line} (d : IsDecided decl now k clock log) → Installs d.decision.epoch d.decision.clock d.decision.log ≡ Installs k clock log

@@ -14,13 +14,15 @@ use Rattle.qc_protocol.specs.Site.{Deed, Installs, Site, empty_site, epoch_from,
 use Rattle.qc_protocol.specs.State.{State}
 use Rattle.qc_protocol.proofs.Names.{put_here}
 use Rattle.qc_site.specs.Conduct.{latest}
-use Rattle.qc_site.specs.Site.{SiteState, answers as answers_with, moved}
-use Rattle.qc_epoch.specs.SiteRows.{epoch_length, installed, installs_on, recording}
+use Rattle.qc_site.specs.Site.{SiteState, answers as answers_with, moved, recording}
+use Rattle.qc_msg.specs.Lengths.{epoch_length}
+use Rattle.qc_site.specs.Epochs.{installed, installs}
 use Rattle.qc_net.specs.Mirrors.{Continues, Mirrors}
 use Rattle.qc_net.specs.Net.{Net, after_site}
 use Rattle.qc_net.specs.Sites.{IsKeptBy, KeptMirrors, IsDecided, IsPromiseOf, SiteMirrors}
 use Rattle.qc_recover.specs.Sites.{Kept, keeps, kept_by}
 use Rattle.qc_net.proofs.KeptLists.{kept_more}
+use Rattle.qc_net.proofs.Known.{known_from, known_in}
 use Rattle.qc_net.proofs.KeptSteps.{kept_installs}
 use Rattle.qc_net.proofs.Machine.{done_last, epoch_after, put_other, shut_after, single_more, site_more}
 use Rattle.qc_net.proofs.Nets.{site_goes}
@@ -45,7 +47,7 @@ module _ (decl : Declaration) (acts : List Act) (net : Net) (a : ℕ) (run : IsR
             (subst (λ (x : Kept). KeptMirrors decl x (state acts).status ((state acts).life a) ((state acts).deeds a ++ deed ∷ [])) (sym (kept_more (net.records a) (records.Install k clock log)))
             (subst (λ (x : Deed). KeptMirrors decl (keeps (kept_by (net.records a)) (records.Install k clock log)) (state acts).status ((state acts).life a) ((state acts).deeds a ++ x ∷ [])) (sym (deed_is d))
             (kept_installs decl (kept_by (net.records a)) (state acts).status ((state acts).life a) ((state acts).deeds a) k clock log (m.kept a site) d.planned d.sorted)));
-        alike = subst (λ (x : Kept). IsKeptBy (installed (record (net.sites a) { clock = latest (net.sites a).clock log }) k clock log) x) (sym (kept_more (net.records a) (records.Install k clock log))) (record { recorded = refl; promises = λ t p never. absurd (let none : ⊥ = cc in none) });
+        alike = subst (λ (x : Kept). IsKeptBy (installed (record (net.sites a) { clock = latest (net.sites a).clock log }) k clock log) x) (sym (kept_more (net.records a) (records.Install k clock log))) (record { began = refl; recorded = refl; promises = λ t p never. absurd (let none : ⊥ = cc in none) });
         here = subst (λ (ds : List Deed). SiteMirrors decl s ds ((state acts).life a)) (sym (put_here (state acts).deeds a ((state acts).deeds a ++ deed ∷ []))) here;
         there = λ b other. put_other (state acts).deeds a ((state acts).deeds a ++ deed ∷ []) b other;
         alive = λ b other. refl;
@@ -80,9 +82,9 @@ module _ (decl : Declaration) (acts : List Act) (net : Net) (a : ℕ) (run : IsR
         installs = λ n c ls among. by n c ls (in_split (Installs n c ls) ((state acts).deeds a) (deed ∷ []) among);
         done = λ x among. elim (done_last ((state acts).deeds a) deed empty_site x among) [ inl old ↦ (let c : x.stamp.clock ≤ (net.sites a).clock = (m.sites a site up).done x old in let g : (net.sites a).clock ≤ latest (net.sites a).clock log = latest_grows (net.sites a).clock log in omega arith) | inr never ↦ absurd never ];
         passed = λ l among. (let c : l.stamp.clock ≤ latest (net.sites a).clock log = latest_passes (net.sites a).clock log l (lines l (subst (λ (q : Site). In l q.volatile) (site_more ((state acts).deeds a) deed) among)) in omega arith);
-        log = λ l among. lines l (subst (λ (q : Site). In l q.volatile) (site_more ((state acts).deeds a) deed) among);
-        logged = λ l among. subst (λ (q : Site). In l q.volatile) (sym (site_more ((state acts).deeds a) deed)) (subst (λ (ls : List Line). In l ls) (sym d.log_is) among);
-        sorted = d.sorted;
+        log = λ l among. known_in l log [] (inl (lines l (subst (λ (q : Site). In l q.volatile) (site_more ((state acts).deeds a) deed) among)));
+        logged = λ l among. subst (λ (q : Site). In l q.volatile) (sym (site_more ((state acts).deeds a) deed)) (subst (λ (ls : List Line). In l ls) (sym d.log_is) (elim (known_from l log [] among) [ inl first ↦ first | inr never ↦ absurd never ]));
+        sorted = (d.sorted, tt);
         promised = λ t. subst (λ (q : Site). IsPromiseOf (promise_of t q.prepared) None) (sym (site_more ((state acts).deeds a) deed)) tt;
         apart = tt;
         lined = λ p never. absurd never;
@@ -94,7 +96,7 @@ module _ (decl : Declaration) (acts : List Act) (net : Net) (a : ℕ) (run : IsR
           by n c ls (inr (inl same)) = let e : c ≡ d.decision.clock = cc in let f : d.decision.clock ≡ clock = d.clock_is in omega arith
           by n c ls (inr (inr never)) = absurd never
 
-  pub install_case : (from number k clock : ℕ) (log : List Line) → IsDecided decl (state acts) k clock log → Continues decl acts (after_site net a (installs_on (net.sites a) from number k clock log))
+  pub install_case : (from number k clock : ℕ) (log : List Line) → IsDecided decl (state acts) k clock log → Continues decl acts (after_site net a (installs (record (net.sites a) { clock = latest (net.sites a).clock log }) from number k clock log))
   install_case from number k clock log d = by (nat_le k (net.sites a).epoch) (nat_le (epoch_length log) most_record_bytes) refl
     where
       t : SiteState

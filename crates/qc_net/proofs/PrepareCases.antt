@@ -1,13 +1,12 @@
 -- A site takes a Prepare: it votes by the promise that it has, promises what the transaction holds, or says that it has
 -- forgotten.
-use Rattle.std.proofs.Common.{◌≡◌, ◌≤◌, ◌⊎◌, inl, inr, ℕ, ◌∙◌, Bool, true, false, List, [], ◌∷◌, ◌++◌, Option, Some, None, is_some, not, refl, ap, subst, ◌≢◌, filter, sym}
+use Rattle.std.proofs.Common.{◌≡◌, ◌≤◌, inl, inr, ℕ, ◌∙◌, Bool, true, false, List, [], ◌∷◌, ◌++◌, Option, Some, None, is_some, refl, ap, subst, ◌≢◌, sym}
 use Rattle.qc_stamp.specs.declared.stamp.TxId.{TxId}
 use Rattle.qc_stamp.specs.Order.{same_tx}
 use Rattle.qc_list.specs.Members.{In}
 use Rattle.qc_entry.specs.declared.record.Prepared.{Prepared}
 use Rattle.qc_entry.specs.declared.line.Line.{Line}
-use Rattle.qc_entry.specs.Log.{has_line, union}
-use Rattle.qc_list.proofs.Members.{In-unfiltered, In-filter}
+use Rattle.qc_entry.specs.Log.{union}
 use Rattle.qc_onecopy.proofs.Lists.{in_split}
 use Rattle.qc_decl.specs.declared.declaration.Declaration.{Declaration}
 use Rattle.qc_decl.specs.Accepted.{IsAccepted}
@@ -19,7 +18,7 @@ use Rattle.qc_protocol.specs.Guards.{IsRun, MayPrepare}
 use Rattle.qc_protocol.specs.Site.{Item, Lock, Own, Promise, Site, after_prepare, items_of, promise_of, site_after, Prepares}
 use Rattle.qc_protocol.specs.State.{Granted, NotBegun}
 use Rattle.qc_site.specs.Promise.{dropped, is_prepared, joins, lines_of, prepared_of, prepares, promised, votes, without_prepared}
-use Rattle.qc_site.specs.Site.{SiteMove, answers as answers_with, moved}
+use Rattle.qc_site.specs.Site.{SiteMove, answers as answers_with, known, moved}
 use Rattle.qc_site.proofs.Cases.{prepare_cases}
 use Rattle.qc_net.specs.Messages.{IsRequest}
 use Rattle.qc_net.specs.Mirrors.{Continues, Mirrors}
@@ -31,7 +30,9 @@ use Rattle.qc_net.proofs.SiteActs.{says, votes_it}
 use Rattle.std.proofs.lemmas.List.{append-nil}
 use Rattle.qc_recover.specs.Sites.{Kept, kept_by, with_promise}
 use Rattle.qc_msg.specs.declared.record.Record.{Record}
-use Rattle.qc_net.proofs.KeptLists.{ascending-filter, has_line_in, kept_more}
+use Rattle.qc_site.proofs.Sorted.{ascending-without}
+use Rattle.qc_net.proofs.KeptLists.{kept_more}
+use Rattle.qc_net.proofs.Known.{promised_known, unrecorded}
 use Rattle.qc_net.proofs.KeptSteps.{leaves_epoch, kept_prepares, kept_same}
 use Rattle.qc_stamp.proofs.Orders.{same_tx_is}
 use Rattle.qc_site.proofs.Votes.{prepared-without, prepared-without_other}
@@ -51,7 +52,7 @@ module _ (decl : Declaration) (accepted : IsAccepted decl) (acts : List Act) (ne
       (λ held is. votes_it decl acts net a run m site up clock from number tx (moved (record (net.sites a) { clock = clock }) (answers_with from number (answers.Yes clock))) more request asked lived
       (subst (λ (rs : List Record). KeptMirrors decl (kept_by rs) (state acts).status ((state acts).life a) ((state acts).deeds a ++ Prepares tx ∷ [])) (sym (append-nil (net.records a)))
       (kept_same decl (kept_by (net.records a)) (state acts).status ((state acts).life a) ((state acts).deeds a) (Prepares tx) (leaves_epoch ((state acts).deeds a) (Prepares tx) tt) (m.kept a site) (ap (λ (k : Site). k.stable) (standing is)) (ap (λ (k : Site). k.promises) (standing is)) (λ x never. absurd never)))
-      (subst (λ (rs : List Record). IsKeptBy (record (net.sites a) { clock = clock }) (kept_by rs)) (sym (append-nil (net.records a))) (record { recorded = (m.alike a site up).recorded; promises = (m.alike a site up).promises }))
+      (subst (λ (rs : List Record). IsKeptBy (record (net.sites a) { clock = clock }) (kept_by rs)) (sym (append-nil (net.records a))) (record { began = (m.alike a site up).began; recorded = (m.alike a site up).recorded; promises = (m.alike a site up).promises }))
       (net.sites a).prepared (net.sites a).recorded refl (stood is) (m.sites a site up).apart (m.sites a site up).lined refl)
       (λ held is. votes_it decl acts net a run m site up clock from number tx
       (moved (promised (record (net.sites a) { clock = clock }) (promise clock tx)) (votes (record (net.sites a) { clock = clock }) from number (promise clock tx)))
@@ -59,9 +60,10 @@ module _ (decl : Declaration) (accepted : IsAccepted decl) (acts : List Act) (ne
       (subst (λ (k : Kept). KeptMirrors decl k (state acts).status ((state acts).life a) ((state acts).deeds a ++ Prepares tx ∷ [])) (sym (kept_more (net.records a) (records.Prepare (promise clock tx))))
       (kept_prepares decl (kept_by (net.records a)) (state acts).status ((state acts).life a) ((state acts).deeds a) (promise clock tx) (m.kept a site) (fresh tx is)
       ((λ x among. has x (ms.held tx x among)), (λ o among. ms.owned tx o among))
-      (λ l among. unrecorded l (ms.log l among)) (λ l among. ms.logged l (In-unfiltered (λ (x : Line). not (has_line (net.sites a).recorded x)) l (net.sites a).log among))
-      (ascending-filter (λ (x : Line). not (has_line (net.sites a).recorded x)) (net.sites a).log ms.sorted) (born asked)))
+      (λ l among. unrecorded (net.sites a) (kept_by (net.records a)) (m.alike a site up) l (ms.log l among)) (λ l among. ms.logged l (promised_known (net.sites a) l among))
+      (ascending-without (net.sites a).log (net.sites a).recorded ms.sorted.1) (born asked)))
       (subst (λ (k : Kept). IsKeptBy (promised (record (net.sites a) { clock = clock }) (promise clock tx)) k) (sym (kept_more (net.records a) (records.Prepare (promise clock tx)))) (record {
+        began = (m.alike a site up).began;
         recorded = ap (λ (ls : List Line). union ls (promise clock tx).lines) (m.alike a site up).recorded;
         promises = λ t q e. promised_still t q e (is_none is);
       }))
@@ -106,13 +108,6 @@ module _ (decl : Declaration) (accepted : IsAccepted decl) (acts : List Act) (ne
           by None None same some = absurd (let never : ⊥ = cc in never)
           by None (Some q) same some = absurd same
 
-      unrecorded : (l : Line) → In l (net.sites a).log → In l (kept_by (net.records a)).lines ⊎ In l (filter (λ (x : Line). not (has_line (net.sites a).recorded x)) (net.sites a).log)
-      unrecorded l among = by (has_line (net.sites a).recorded l) refl
-        where
-          by : (b : Bool) → has_line (net.sites a).recorded l ≡ b → In l (kept_by (net.records a)).lines ⊎ In l (filter (λ (x : Line). not (has_line (net.sites a).recorded x)) (net.sites a).log)
-          by true is = inl (subst (λ (ls : List Line). In l ls) (m.alike a site up).recorded (has_line_in (net.sites a).recorded l is))
-          by false is = inr (In-filter (λ (x : Line). not (has_line (net.sites a).recorded x)) l (net.sites a).log among (ap not is))
-
       -- each promise of the site is one of the records
       promised_still : (t : TxId) (q : Prepared) → prepared_of ((net.sites a).prepared ++ promise clock tx ∷ []) t ≡ Some q → prepared_of (net.sites a).prepared tx ≡ None → prepared_of (with_promise (kept_by (net.records a)).promises (promise clock tx)) t ≡ Some q
       promised_still t q e none = by (same_tx tx t) refl
@@ -128,10 +123,10 @@ module _ (decl : Declaration) (accepted : IsAccepted decl) (acts : List Act) (ne
               ∙ (m.alike a site up).promises t q (sym (found_other t (promise clock tx) (net.sites a).prepared is) ∙ e)
 
       -- the lines that it promises are those that it has
-      lined : AreLined ((net.sites a).prepared ++ sites.promise_of (record (net.sites a) { clock = clock }) tx ∷ []) (net.sites a).log
+      lined : AreLined ((net.sites a).prepared ++ sites.promise_of (record (net.sites a) { clock = clock }) tx ∷ []) (known (net.sites a))
       lined p among l has = elim (in_split p (net.sites a).prepared (sites.promise_of (record (net.sites a) { clock = clock }) tx ∷ []) among) [
         | inl old ↦ ms.lined p old l has
-        | inr new ↦ elim new [ inl same ↦ In-unfiltered (λ (x : Line). not (has_line (net.sites a).recorded x)) l (net.sites a).log (subst (λ (q : Prepared). In l q.lines) same has) | inr never ↦ absurd never ]
+        | inr new ↦ elim new [ inl same ↦ promised_known (net.sites a) l (subst (λ (q : Prepared). In l q.lines) same has) | inr never ↦ absurd never ]
       ]
 
       -- it is prepared already

@@ -22,13 +22,14 @@ use Rattle.qc_msg.specs.declared.record.Record.TheVariants as records
 use Rattle.qc_msg.specs.declared.step.Given.{Given}
 use Rattle.qc_msg.specs.declared.step.Given.TheVariants.{Called, Got, Lost}
 use Rattle.qc_msg.specs.declared.turn.Posting.{Posting}
-use Rattle.qc_site.specs.Conduct.{latest, passed}
+use Rattle.qc_site.specs.Conduct.{latest, passed, site_on, site_takes}
 use Rattle.qc_decl.specs.Limits.{most_record_bytes}
-use Rattle.qc_epoch.specs.SiteRows.{closed, closes, epoch_length, hears, installed, installs_on, is_closed_for, recording, shut_answer, takes as site_takes}
+use Rattle.qc_msg.specs.Lengths.{epoch_length}
+use Rattle.qc_site.specs.Epochs.{closed, closes, installed, installs, is_closed_for, shut_answer}
 use Rattle.qc_site.specs.Promise.{prepared_of, promise_of, without_prepared}
 use Rattle.qc_site.specs.Requests.{closed_fault, fault_of, grants}
-use Rattle.qc_site.specs.Site.{SiteMove, SiteState, answering, answers as answers_with, moved}
-use Rattle.qc_site.proofs.Cases.{append_cases, join_cases, prepare_cases, read_cases, request_cases}
+use Rattle.qc_site.specs.Site.{SiteMove, SiteState, answering, answers as answers_with, moved, recording}
+use Rattle.qc_site.proofs.Cases.{append_cases, close_cases, install_cases, join_cases, prepare_cases, read_cases, request_cases}
 use Rattle.qc_recover.specs.Sites.{Kept, inquiry, keeps, kept_by, nothing_kept}
 use Rattle.qc_net.proofs.Apart.{found_in}
 
@@ -145,7 +146,7 @@ module _ (decl : Declaration) (s : SiteState) where
       by false false true p among to clock is = (let r = one_answer from number (shut_answer s) p among to clock is in let e = r.1 in absurd (let never : ⊥ = cc in never))
       by false false false p among to clock is = (let r = one_answer from number (shut_answer (closed s k)) p among to clock is in let e = r.1 in absurd (let never : ⊥ = cc in never))
 
-  install_votes : (from number k at : ℕ) (log : List Line) → Votes s number (messages.Install k at log) (installs_on s from number k at log)
+  install_votes : (from number k at : ℕ) (log : List Line) → Votes s number (messages.Install k at log) (installs (record s { clock = latest s.clock log }) from number k at log)
   install_votes from number k at log = by (nat_le k s.epoch) (nat_le (epoch_length log) most_record_bytes)
     where
       by : (b c : Bool) → Votes s number (messages.Install k at log) (cond b (moved (record s { clock = latest s.clock log }) (answers_with from number answers.Installed))
@@ -155,7 +156,7 @@ module _ (decl : Declaration) (s : SiteState) where
       by false true p among to clock is = (let r = one_answer from number answers.Installed p among to clock is in let e = r.1 in absurd (let never : ⊥ = cc in never))
       by false false p among to clock is = (let r = one_answer from number (answers.Behind s.epoch) p among to clock is in let e = r.1 in absurd (let never : ⊥ = cc in never))
 
-  pub message_votes : (from number : ℕ) (message : Message) → Votes s number message (hears decl s from number message)
+  pub message_votes : (from number : ℕ) (message : Message) → Votes s number message (site_on decl s from number message)
   message_votes from number (messages.Request tx epoch life want) = request_cases (Votes s number (messages.Request tx epoch life want)) decl (passed s (messages.Request tx epoch life want)) from number tx epoch life want
       (λ p among to clock is. absurd among)
       (λ fault is p among to clock told. absurd (no_fault (passed s (messages.Request tx epoch life want)) epoch life clock (is ∙ ap Some (one_answer from number fault p among to clock told).1)))
@@ -176,34 +177,16 @@ abbrev pub Silent : SiteMove → Type 0
 Silent move = (p : Posting) → In p move.turn.failed_sends → (to clock : ℕ) → p.message ≡ messages.Answer to (answers.Yes clock) → ⊥
 
 module _ (decl : Declaration) (s : SiteState) where
+  faulted : (from number : ℕ) (p : Posting) → In p (answering from number answers.Fault ∷ []) → (to clock : ℕ) → p.message ≡ messages.Answer to (answers.Yes clock) → ⊥
+  faulted from number p among to clock is = let r = one_answer from number answers.Fault p among to clock is in let e = r.1 in let never : ⊥ = cc in never
+
   want_silent : (from number epoch life : ℕ) (tx : TxId) (w : Want) → Silent (grants decl (passed s (messages.Request tx epoch life w)) from number tx w)
   want_silent from number epoch life tx (Read object inv) = read_cases Silent decl (passed s (messages.Request tx epoch life (Read object inv))) from number tx object inv (λ free p among to clock is. among) (λ c clash p among to clock is. among)
   want_silent from number epoch life tx (Append object view own) = append_cases Silent decl (passed s (messages.Request tx epoch life (Append object view own))) from number tx object view own (λ free p among to clock is. among) (λ c clash p among to clock is. among)
   want_silent from number epoch life tx Prepare = prepare_cases Silent s from number tx (λ p among to clock is. among) (λ held stands p among to clock is. among)
-      (λ held fresh p among to clock is. (let r = one_answer from number answers.Fault p among to clock is in let e = r.1 in let never : ⊥ = cc in never))
+      (λ held fresh. faulted from number)
 
-  close_silent : (from number k : ℕ) → Silent (closes s from number k)
-  close_silent from number k = by (nat_lt (s.epoch + 1) k) (nat_le k s.epoch) (is_closed_for k s.closed_for)
-    where
-      by : (b c d : Bool) → Silent (cond b (moved s (answers_with from number (answers.Behind s.epoch)))
-          (cond c (moved s (answers_with from number (answers.Closed s.epoch)))
-          (cond d (moved s (answers_with from number (shut_answer s))) (moved (closed s k) (recording from number (records.Close k) (shut_answer (closed s k)))))))
-      by true c d p among to clock is = among
-      by false true d p among to clock is = among
-      by false false true p among to clock is = among
-      by false false false p among to clock is = (let r = one_answer from number answers.Fault p among to clock is in let e = r.1 in let never : ⊥ = cc in never)
-
-  install_silent : (from number k at : ℕ) (log : List Line) → Silent (installs_on s from number k at log)
-  install_silent from number k at log = by (nat_le k s.epoch) (nat_le (epoch_length log) most_record_bytes)
-    where
-      by : (b c : Bool) → Silent (cond b (moved (record s { clock = latest s.clock log }) (answers_with from number answers.Installed))
-          (cond c (moved (installed (record s { clock = latest s.clock log }) k at log) (recording from number (records.Install k at log) answers.Installed))
-          (moved (record s { clock = latest s.clock log }) (answers_with from number (answers.Behind s.epoch)))))
-      by true c p among to clock is = among
-      by false true p among to clock is = (let r = one_answer from number answers.Fault p among to clock is in let e = r.1 in let never : ⊥ = cc in never)
-      by false false p among to clock is = among
-
-  message_silent : (from number : ℕ) (message : Message) → Silent (hears decl s from number message)
+  message_silent : (from number : ℕ) (message : Message) → Silent (site_on decl s from number message)
   message_silent from number (messages.Request tx epoch life want) = request_cases Silent decl (passed s (messages.Request tx epoch life want)) from number tx epoch life want (λ p among to clock is. among) (λ fault is p among to clock told. among) (λ is. want_silent from number epoch life tx want)
   message_silent from number (messages.Decision tx (outcomes.Committed stamp)) = join_cases Silent (passed s (messages.Decision tx (outcomes.Committed stamp))) tx stamp (λ none p among to clock is. among) (λ q some p among to clock is. among)
   message_silent from number (messages.Decision tx outcomes.Aborted) = λ p among to clock is. among
@@ -211,8 +194,8 @@ module _ (decl : Declaration) (s : SiteState) where
   message_silent from number (messages.Answer n answer) = λ p among to clock is. among
   message_silent from number (messages.Inquiry tx) = λ p among to clock is. among
   message_silent from number (messages.Ask tx) = λ p among to clock is. among
-  message_silent from number (messages.Close epoch) = close_silent from number epoch
-  message_silent from number (messages.Install epoch clock log) = install_silent from number epoch clock log
+  message_silent from number (messages.Close epoch) = close_cases Silent (passed s (messages.Close epoch)) from number epoch (λ answer p among to clock is. among) (λ near later. faulted from number)
+  message_silent from number (messages.Install epoch clock log) = install_cases Silent (passed s (messages.Install epoch clock log)) from number epoch clock log (λ answer p among to at is. among) (λ later fits. faulted from number)
 
   pub take_silent : (given : Given) → Silent (site_takes decl s given)
   take_silent (Got e) = message_silent e.from e.number e.message

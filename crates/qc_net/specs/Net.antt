@@ -12,7 +12,6 @@ use Rattle.qc_msg.specs.declared.record.Record.TheVariants.{Life}
 use Rattle.qc_msg.specs.declared.step.Command.{Command}
 use Rattle.qc_msg.specs.declared.step.Command.TheVariants.{Begin, Do, Commit, Abort, Epoch}
 use Rattle.qc_msg.specs.Counts.{commit_of}
-use Rattle.qc_epoch.specs.SiteRows.{takes as site_takes}
 use Rattle.qc_epoch.specs.Conduct.{admin_takes}
 use Rattle.qc_client.specs.Client.{ClientMove, new_client}
 use Rattle.qc_client.specs.Conduct.{client_takes, sent_one as client_sent_one}
@@ -29,6 +28,7 @@ use Rattle.qc_msg.specs.declared.turn.Posting.{Posting}
 use Rattle.qc_msg.specs.declared.turn.Turn.{Turn}
 use Rattle.qc_msg.specs.Deeds.{envelopes}
 use Rattle.qc_protocol.specs.Names.{put}
+use Rattle.qc_site.specs.Conduct.{site_takes}
 use Rattle.qc_site.specs.Site.{SiteMove, SiteState, new_site}
 use Rattle.qc_epoch.specs.Admin.{Admin, AdminMove, new_admin}
 use Rattle.qc_epoch.specs.Conduct.{sent_one}

@@ -7,6 +7,7 @@ use Rattle.qc_entry.specs.declared.line.Line.{Line}
 use Rattle.qc_entry.specs.declared.line.OwnLine.{OwnLine}
 use Rattle.qc_entry.specs.declared.record.Prepared.{Prepared}
 use Rattle.qc_entry.specs.Line.{IsAscending}
+use Rattle.qc_entry.specs.Log.{union}
 use Rattle.qc_plan.specs.declared.plan.Plan.{Plan}
 use Rattle.qc_decl.specs.declared.declaration.Declaration.{Declaration}
 use Rattle.qc_decl.specs.Lookup.{plan_in}
@@ -20,7 +21,7 @@ use Rattle.qc_msg.specs.declared.record.Record.{Record}
 use Rattle.qc_msg.specs.declared.record.Record.TheVariants as records
 use Rattle.qc_recover.specs.Sites.{Kept, done_stamp}
 use Rattle.qc_site.specs.Promise.{prepared_of}
-use Rattle.qc_site.specs.Site.{SiteState}
+use Rattle.qc_site.specs.Site.{SiteState, known}
 
 -- the epoch has a plan
 abbrev pub IsPlanned : Declaration → ℕ → Type 0
@@ -86,14 +87,18 @@ pub record SiteMirrors (decl : Declaration) (s : SiteState) (ds : List Deed) (al
   pub installs : (k c : ℕ) (log : List Line) → In (Installs k c log) ds → c ≤ s.clock
   pub done : (d : DoneRecord) → In d (done_records empty_site ds) → d.stamp.clock ≤ s.clock
   pub passed : (l : Line) → In l (site_after ds).volatile → l.stamp.clock ≤ s.clock
-  -- its log has the same lines
-  pub log : (l : Line) → In l (site_after ds).volatile → In l s.log
-  pub logged : (l : Line) → In l s.log → In l (site_after ds).volatile
-  pub sorted : IsAscending s.log
+  -- it knows the same lines, and has them in order
+  pub log : (l : Line) → In l (site_after ds).volatile → In l (known s)
+  pub logged : (l : Line) → In l (known s) → In l (site_after ds).volatile
+  pub sorted : IsAscending s.began × IsAscending s.log
   pub promised : (t : TxId) → IsPromiseOf (promise_of t (site_after ds).prepared) (prepared_of s.prepared t)
   pub apart : AreApart s.prepared
-  pub lined : AreLined s.prepared s.log
+  pub lined : AreLined s.prepared (known s)
   pub single : AreSingle (site_after ds).prepared
+
+-- all lines that the records give
+abbrev pub kept_lines : Kept → List Line
+kept_lines k = union k.began k.lines
 
 -- what its records give is what the machine's site would have after a rise
 pub record KeptMirrors (decl : Declaration) (k : Kept) (status : TxId → Status) (life : ℕ)
@@ -104,9 +109,9 @@ pub record KeptMirrors (decl : Declaration) (k : Kept) (status : TxId → Status
   pub shut : shut_from false ds ≡ is_some k.closed_for
   pub closing : IsClosing decl k.epoch k.closed_for
   pub installs : (n c : ℕ) (log : List Line) → In (Installs n c log) ds → c ≤ k.clock
-  pub stable : (l : Line) → In l (site_after ds).stable → In l k.lines
-  pub kept : (l : Line) → In l k.lines → In l (site_after ds).stable
-  pub sorted : IsAscending k.lines
+  pub stable : (l : Line) → In l (site_after ds).stable → In l (kept_lines k)
+  pub kept : (l : Line) → In l (kept_lines k) → In l (site_after ds).stable
+  pub sorted : IsAscending k.began × IsAscending k.lines
   pub done : (d : DoneRecord) → In d (done_records empty_site ds) → d.stamp.clock ≤ k.clock
   pub passed : (l : Line) → In l (site_after ds).stable → l.stamp.clock ≤ k.clock
   pub promised : (t : TxId) → IsPromiseOf (promise_of t (site_after ds).promises) (prepared_of k.promises t)
@@ -114,11 +119,12 @@ pub record KeptMirrors (decl : Declaration) (k : Kept) (status : TxId → Status
   pub last : (t : TxId) (p : Prepared) → prepared_of k.promises t ≡ Some p → prepared_of k.prepares t ≡ Some p
   -- each promise is of its own transaction, which was begun, and of lines that the records give
   pub apart : AreApart k.promises
-  pub lined : AreLined k.promises k.lines
+  pub lined : AreLined k.promises (kept_lines k)
   pub begun : (p : Prepared) → In p k.promises → status p.tx ≢ NotBegun
 
 -- the site has what its records give, but for what it let go of since
 pub record IsKeptBy (s : SiteState) (k : Kept) : Type 0 where
+  pub began : s.began ≡ k.began
   pub recorded : s.recorded ≡ k.lines
   pub promises : (t : TxId) (p : Prepared) → prepared_of s.prepared t ≡ Some p → prepared_of k.promises t ≡ Some p
 
@@ -127,7 +133,7 @@ pub record IsPreparing (now : State) (k : Kept) (ds : List Deed) (p : Prepared) 
   pub asked : MayPrepare (now.status p.tx)
   pub fresh : promise_of p.tx (site_after ds).prepared ≡ None
   pub same : IsPromiseOf (Some (record { tx = p.tx; items = items_of p.tx (site_after ds).held })) (Some p)
-  pub whole : (l : Line) → In l (site_after ds).volatile → In l k.lines ⊎ In l p.lines
+  pub whole : (l : Line) → In l (site_after ds).volatile → In l (kept_lines k) ⊎ In l p.lines
   pub lines : (l : Line) → In l p.lines → In l (site_after ds).volatile
   pub ascends : IsAscending p.lines
 

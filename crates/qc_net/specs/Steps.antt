@@ -11,8 +11,8 @@ use Rattle.qc_msg.specs.declared.record.Record.{Record}
 use Rattle.qc_msg.specs.declared.step.Given.{Given}
 use Rattle.qc_msg.specs.declared.turn.Posting.{Posting}
 use Rattle.qc_epoch.specs.Conduct.{admin_takes}
-use Rattle.qc_epoch.specs.SiteRows.{takes as site_takes}
 use Rattle.qc_client.specs.Conduct.{client_takes}
+use Rattle.qc_site.specs.Conduct.{site_takes}
 use Rattle.qc_recover.specs.Sites.{kept_by}
 use Rattle.qc_net.specs.Net.{AreFailedSends, IsGivenBack, MayAdminister, MayCome, MayCommand, Net}
 use Rattle.qc_net.specs.Net.{after_admin, after_admin_rise, after_client, after_client_rise, after_fall}

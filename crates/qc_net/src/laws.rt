@@ -7,7 +7,6 @@ ghost use Rattle.qc_decl.specs.Accepted.{IsAccepted};
 ghost use Rattle.qc_decl.specs.Actors.{administrator, is_site};
 ghost use Rattle.qc_decl.specs.declared.declaration.Declaration.{Declaration};
 ghost use Rattle.qc_entry.specs.declared.line.Line.{Line};
-ghost use Rattle.qc_epoch.specs.SiteRows.{takes};
 ghost use Rattle.qc_list.specs.Members.{In};
 ghost use Rattle.qc_msg.specs.Begun.{first_epoch};
 ghost use Rattle.qc_msg.specs.declared.message.Envelope.{Envelope};
@@ -17,6 +16,8 @@ ghost use Rattle.qc_msg.specs.declared.step.Given.{Given};
 ghost use Rattle.qc_onecopy.specs.Committed.{AreApart, sorted};
 ghost use Rattle.qc_onecopy.specs.Logged.{IsLogged};
 ghost use Rattle.qc_onecopy.specs.OneCopy.{OneCopy};
+ghost use Rattle.qc_site.specs.Conduct.{site_takes};
+ghost use Rattle.qc_site.specs.Site.{known};
 ghost use Rattle.qc_stamp.specs.declared.stamp.TxId.{TxId};
 ghost use Rattle.qc_net.specs.Lines.{IsTrueVerdict, lines_in};
 ghost use Rattle.qc_net.specs.Mirrors.{FrontStands, Refines};
@@ -36,7 +37,7 @@ pub fn nets_refine()
 pub fn sites_refine()
     ensures { (decl : Declaration) (net : Net) (a : ℕ) (given : Given) → IsAccepted decl → Refines decl net
         → is_site decl a ≡ true → net.up a ≡ true → MayCome net a given
-        → Refines decl (after_site net a (takes decl (net.sites a) given)) }
+        → Refines decl (after_site net a (site_takes decl (net.sites a) given)) }
 {}
 
 /// Each front end is as its own laws say, between two of its steps.
@@ -52,11 +53,11 @@ pub fn nets_are_one_copy()
     ensures apart { (decl : Declaration) (net : Net) → IsAccepted decl → Reaches decl net → AreApart net.written }
 {}
 
-/// Each line of the log of a site that is up, and each line that a message
-/// carries, is an operation of a record that stands.
+/// Each line that a site that is up knows, and each line that a message carries,
+/// is an operation of a record that stands.
 pub fn lines_are_operations()
     ensures sites { (decl : Declaration) (net : Net) (a : ℕ) (line : Line) → IsAccepted decl → Reaches decl net
-        → is_site decl a ≡ true → net.up a ≡ true → In line (net.sites a).log → IsLogged decl net.written line }
+        → is_site decl a ≡ true → net.up a ≡ true → In line (known (net.sites a)) → IsLogged decl net.written line }
     ensures messages { (decl : Declaration) (net : Net) (e : Envelope) (line : Line) → IsAccepted decl
         → Reaches decl net → In e net.mail → In line (lines_in e.message) → IsLogged decl net.written line }
 {}

@@ -26,3 +26,8 @@ pub mod Replies
 pub mod Turns
 pub mod Mail
 pub mod Due
+pub mod AdminAccount
+pub mod AdminRounds
+pub mod AdminRows
+pub mod AdminAccounting
+pub mod AdminDue

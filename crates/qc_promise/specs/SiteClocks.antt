@@ -1,5 +1,5 @@
 -- A site's clock: the greatest of the lines and Decisions that it took in its present life, whatever became of them,
--- and of what stood in the records that it rose with (Lamport 1978).
+-- of the clocks with which it installed epochs since, and of what stood in the records that it rose with (Lamport 1978).
 use Rattle.std.specs.Prelude.{ℕ, max, List, [], ◌∷◌, ◌++◌, fold, map}
 use Rattle.std.specs.List.{flat_map}
 use Rattle.std.specs.Option.{option_map_or}
@@ -15,12 +15,13 @@ use Rattle.qc_msg.specs.declared.record.Record.{Record}
 use Rattle.qc_msg.specs.Deeds.{Deed}
 use Rattle.qc_promise.specs.Lifetimes.{lifetime}
 use Rattle.qc_msg.specs.Readings.{Decided, Finished, Installing, Requested}
-use Rattle.qc_msg.specs.Readings.{decision_in, done_in, got_in, install_in, prepare_in, request_in}
+use Rattle.qc_msg.specs.Readings.{decision_in, done_in, got_in, install_in, installing_in, prepare_in, request_in}
+use Rattle.qc_msg.specs.Readings.{written_in}
 
 abbrev pub clocks_of : List Line → List ℕ
 clocks_of lines = map (λ (l : Line). l.stamp.clock) lines
 
--- what was taken; no site is asked for an epoch yet
+-- what was taken
 
 abbrev pub clocks_in_want : Want → List ℕ
 clocks_in_want (Read object inv) = []
@@ -35,10 +36,17 @@ clocks_in_outcome Active = []
 abbrev pub clocks_in : Message → List ℕ
 clocks_in m =
     option_map_or (λ (q : Requested). clocks_in_want q.want) (request_in m)
-    (option_map_or (λ (x : Decided). clocks_in_outcome x.verdict) (decision_in m) [])
+    (option_map_or (λ (x : Decided). clocks_in_outcome x.verdict) (decision_in m)
+    (option_map_or (λ (i : Installing). clocks_of i.lines) (installing_in m) []))
+
+-- what was written: an Install's own clock
+
+abbrev pub clocks_written : Record → List ℕ
+clocks_written r = option_map_or (λ (i : Installing). i.clock ∷ []) (install_in r) []
 
 abbrev pub clocks_at : Deed → List ℕ
-clocks_at d = option_map_or (λ (e : Envelope). clocks_in e.message) (got_in d) []
+clocks_at d =
+    option_map_or (λ (e : Envelope). clocks_in e.message) (got_in d) (option_map_or clocks_written (written_in d) [])
 
 -- what records name
 

@@ -1,8 +1,10 @@
 -- What a site is to write and to send for what it takes, and as it rises, by what its own steps show: the first row
 -- that applies.
-use Rattle.std.specs.Prelude.{ℕ, ◌==◌, ◌&&◌, nat_lt, nat_le, Bool, true, false, not, if◌then◌else◌, is_some}
+use Rattle.std.specs.Prelude.{ℕ, ◌+◌, ◌==◌, ◌&&◌, nat_lt, nat_le, Bool, true, false, not, if◌then◌else◌, is_some}
 use Rattle.std.specs.Prelude.{List, [], ◌∷◌, ◌++◌, map, take, fold, Option, Some, None, option_map}
 use Rattle.std.specs.Option.{option_map_or, option_or}
+use Rattle.std.specs.Ordering.{on}
+use Rattle.std.specs.declared.cmp.Ordering.{Ordering}
 use Rattle.qc_list.specs.Order.{inserted}
 use Rattle.qc_stamp.specs.declared.stamp.TxId.{TxId}
 use Rattle.qc_stamp.specs.Order.{tx_cmp}
@@ -24,18 +26,19 @@ use Rattle.qc_msg.specs.declared.message.Outcome.{Outcome}
 use Rattle.qc_msg.specs.declared.message.Outcome.TheVariants.{Committed, Aborted, Active}
 use Rattle.qc_msg.specs.declared.message.Want.{Want}
 use Rattle.qc_msg.specs.declared.message.Want.TheVariants.{Read, Append, Prepare}
+use Rattle.qc_msg.specs.declared.record.Record.{Record}
 use Rattle.qc_msg.specs.declared.record.Record.TheVariants as records
 use Rattle.qc_msg.specs.declared.message.Envelope.{Envelope}
 use Rattle.qc_msg.specs.declared.step.Given.{Given}
 use Rattle.qc_msg.specs.declared.turn.Posting.{Posting}
 use Rattle.qc_msg.specs.Deeds.{Deed, Takes, Writes, Sends, Tells, Falls, Rises}
-use Rattle.qc_msg.specs.Lengths.{prepare_length}
+use Rattle.qc_msg.specs.Lengths.{epoch_length, prepare_length}
 use Rattle.qc_promise.specs.Posts.{IsPostOf, TurnDue, quiet_turn, sending}
 use Rattle.qc_promise.specs.SiteClocks.{clock_shown}
 use Rattle.qc_promise.specs.SiteHeld.{held_shown}
-use Rattle.qc_promise.specs.SiteLogs.{log_shown, recorded_shown}
+use Rattle.qc_promise.specs.SiteLogs.{log_shown, recorded_shown, since_shown}
 use Rattle.qc_promise.specs.SitePromises.{is_promised, prepared_shown}
-use Rattle.qc_msg.specs.Readings.{Decided, Requested, decision_in, heard_in, request_in}
+use Rattle.qc_msg.specs.Readings.{Decided, Installing, Requested, closing_in, decision_in, heard_in, installing_in, request_in}
 use Rattle.qc_promise.specs.SiteRecords.{closed_shown, epoch_shown, life_shown}
 
 -- the refusal that the request's epoch and life are due, if any
@@ -64,7 +67,7 @@ promise_due ds tx =
       epoch = epoch_shown ds;
       locks = entry.locks;
       own = entry.own;
-      lines = without (log_shown ds) (recorded_shown ds);
+      lines = without (since_shown ds) (recorded_shown ds);
     }
 
 abbrev pub fits_record : Prepared → Bool
@@ -159,7 +162,7 @@ request_turn decl ds e q =
     (refusal_due decl ds q.tx q.epoch q.life q.want) (granting_turn decl ds e q)
     else quiet_turn
 
--- that of a Decision: that a promised transaction committed is written. Nothing else has one
+-- that of a Decision: that a promised transaction committed is written
 
 abbrev pub done_turn : List Deed → TxId → Outcome → TurnDue
 done_turn ds tx (Committed stamp) =
@@ -169,10 +172,55 @@ done_turn ds tx (Committed stamp) =
 done_turn ds tx Aborted = quiet_turn
 done_turn ds tx Active = quiet_turn
 
+-- a turn that writes before it answers; where that failed, the answer is Fault
+abbrev pub recording_turn : Envelope → Record → Answer → TurnDue
+recording_turn e written answer =
+    record {
+      write = Some written;
+      sends = record { to = e.from; message = messages.Answer e.number answer } ∷ [];
+      failed_sends = record { to = e.from; message = messages.Answer e.number answers.Fault } ∷ [];
+    }
+
+abbrev pub telling_turn : Envelope → Answer → TurnDue
+telling_turn e answer = sending (record { to = e.from; message = messages.Answer e.number answer } ∷ [])
+
+-- that of a Close: a closed site tells its clock, its log, and its promises in the order of their transactions
+
+abbrev pub promise_cmp : Prepared → Prepared → Ordering
+promise_cmp = on (λ (p : Prepared). p.tx) tx_cmp
+
+abbrev pub promises_told : List Prepared → List Prepared
+promises_told ps = fold (inserted promise_cmp) [] ps
+
+abbrev pub shut_due : List Deed → Answer
+shut_due ds = answers.Shut (clock_shown ds) (log_shown ds) (promises_told (prepared_shown ds))
+
+abbrev pub is_epoch : ℕ → Option ℕ → Bool
+is_epoch k closed = option_map_or (λ (n : ℕ). n == k) closed false
+
+abbrev pub close_turn : List Deed → Envelope → ℕ → TurnDue
+close_turn ds e k =
+    if nat_lt (epoch_shown ds + 1) k then telling_turn e (answers.Behind (epoch_shown ds))
+    else (if nat_le k (epoch_shown ds) then telling_turn e (answers.Closed (epoch_shown ds))
+    else (if is_epoch k (closed_shown ds) then telling_turn e (shut_due ds)
+    else recording_turn e (records.Close k) (shut_due ds)))
+
+-- that of an Install: it is written, where the site's epoch is an earlier one and the record isn't too long
+
+abbrev pub install_turn : List Deed → Envelope → Installing → TurnDue
+install_turn ds e i =
+    if nat_le i.epoch (epoch_shown ds) then telling_turn e answers.Installed
+    else (if nat_le (epoch_length i.lines) most_record_bytes
+    then recording_turn e (records.Install i.epoch i.clock i.lines) answers.Installed
+    else telling_turn e (answers.Behind (epoch_shown ds)))
+
+-- nothing else has one
 abbrev pub heard_turn : Declaration → List Deed → Envelope → TurnDue
 heard_turn decl ds e =
     option_map_or (request_turn decl ds e) (request_in e.message)
-    (option_map_or (λ (x : Decided). done_turn ds x.tx x.verdict) (decision_in e.message) quiet_turn)
+    (option_map_or (λ (x : Decided). done_turn ds x.tx x.verdict) (decision_in e.message)
+    (option_map_or (close_turn ds e) (closing_in e.message)
+    (option_map_or (install_turn ds e) (installing_in e.message) quiet_turn)))
 
 abbrev pub turn_due : Declaration → List Deed → Given → TurnDue
 turn_due decl ds given = option_map_or (heard_turn decl ds) (heard_in given) quiet_turn

@@ -1,6 +1,7 @@
--- What unfinished transactions hold at a site: what stood in the promises that it rose with, and what stands in a
--- request that was granted in its present life, where no Decision ended the transaction since (Herlihy 1986).
-use Rattle.std.specs.Prelude.{ℕ, ◌==◌, ◌&&◌, not, Bool, false, cond, List, [], ◌∷◌, ◌++◌, filter, fold, is_some}
+-- What unfinished transactions hold at a site. At a rise, as an epoch is closed and as one is installed it holds what
+-- it has promised then, and no more. Since then what stands in a request that was granted is held too. A Decision that
+-- ends the transaction ends both (Herlihy 1986).
+use Rattle.std.specs.Prelude.{ℕ, ◌==◌, ◌&&◌, ◌||◌, not, Bool, false, cond, List, [], ◌∷◌, ◌++◌, filter, fold, is_some}
 use Rattle.std.specs.List.{list_any}
 use Rattle.std.specs.Option.{option_map_or}
 use Rattle.qc_stamp.specs.declared.stamp.TxId.{TxId}
@@ -11,13 +12,14 @@ use Rattle.qc_msg.specs.declared.message.Envelope.{Envelope}
 use Rattle.qc_msg.specs.declared.message.Message.{Message}
 use Rattle.qc_msg.specs.declared.message.Want.{Want}
 use Rattle.qc_msg.specs.declared.message.Want.TheVariants.{Read, Append, Prepare}
+use Rattle.qc_msg.specs.declared.record.Record.{Record}
 use Rattle.qc_msg.specs.declared.turn.Posting.{Posting}
 use Rattle.qc_msg.specs.Deeds.{Deed}
-use Rattle.qc_promise.specs.Lifetimes.{lifetime}
 use Rattle.qc_promise.specs.Posts.{sent_next}
-use Rattle.qc_msg.specs.Readings.{Answered, Requested, answer_in, got_in, granted_in, request_in}
+use Rattle.qc_msg.specs.Readings.{Answered, Requested, answer_in, close_in, got_in, granted_in, install_in, request_in}
+use Rattle.qc_msg.specs.Readings.{risen_in, written_in}
 use Rattle.qc_promise.specs.SiteEnds.{is_ended}
-use Rattle.qc_promise.specs.SitePromises.{promises_of}
+use Rattle.qc_promise.specs.SitePromises.{prepared_shown}
 
 -- a Read or an Append is granted where what is posted next answers its number by Granted
 
@@ -59,12 +61,30 @@ holding held tx Prepare = held
 abbrev pub with_promise : List Held → Prepared → List Held
 with_promise held p = with_held held p.tx p.locks p.own
 
--- what it holds of the promises that it rose with, these deeds later
-abbrev pub held_since_rise : List Deed → List Prepared → List Held
-held_since_rise since ps = fold with_promise [] (filter (λ (p : Prepared). not (is_ended p.tx since)) ps)
+-- the deeds up to the last rise, Close or Install of a site, with it, and its deeds since
+pub record Holding : Type 0 where
+  pub before : List Deed
+  pub since : List Deed
+
+abbrev pub cuts : Deed → Bool
+cuts d =
+    is_some (risen_in d)
+    || option_map_or (λ (r : Record). is_some (close_in r) || is_some (install_in r)) (written_in d) false
+
+abbrev pub with_cut : Holding → Deed → Holding
+with_cut h d =
+    cond (cuts d) (record { before = h.before ++ h.since ++ d ∷ []; since = [] })
+    (record h { since = h.since ++ d ∷ [] })
+
+abbrev pub last_cut : List Deed → Holding
+last_cut ds = fold with_cut (record { before = []; since = [] }) ds
+
+-- what it holds of what was promised then, these deeds later
+abbrev pub held_of_promises : List Deed → List Prepared → List Held
+held_of_promises since ps = fold with_promise [] (filter (λ (p : Prepared). not (is_ended p.tx since)) ps)
 
 -- what is held
 abbrev pub held_shown : List Deed → List Held
 held_shown ds =
     fold (λ (held : List Held) (g : Grant). holding held g.tx g.want)
-    (held_since_rise (lifetime ds).since (promises_of (lifetime ds).kept)) (standing (lifetime ds).since)
+    (held_of_promises (last_cut ds).since (prepared_shown (last_cut ds).before)) (standing (last_cut ds).since)

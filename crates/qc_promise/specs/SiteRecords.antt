@@ -20,7 +20,7 @@ life_by before r = cond (is_life r || is_some (close_in r)) (before + 1) before
 abbrev pub life_shown : List Deed → ℕ
 life_shown ds = fold life_by first_life (records_in ds)
 
--- Epoch: that of the last Install. No site installs one yet.
+-- Epoch: that of the last Install.
 
 abbrev pub epoch_by : ℕ → Record → ℕ
 epoch_by before r = option_map_or (λ (i : Installing). i.epoch) (install_in r) before

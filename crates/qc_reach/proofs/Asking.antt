@@ -29,12 +29,12 @@ use Rattle.qc_msg.specs.Turns.{quiet}
 use Rattle.qc_recover.specs.Clients.{client_rises}
 use Rattle.qc_recover.specs.Sites.{site_rises}
 use Rattle.qc_laws.proofs.RightTurns.{IsNoInquiry, NoInquiries}
-use Rattle.qc_laws.proofs.SitesAsk.{GivenTells, HeldFor}
+use Rattle.qc_laws.proofs.SitesAsk.{GivenTells, HeldFor, PreparedFor}
 use Rattle.qc_site.specs.Site.{new_site}
 use Rattle.qc_stamp.specs.declared.stamp.TxId.{TxId}
 use Rattle.qc_due.proofs.Writing.{IsClientTurn, takes_turn}
 use Rattle.qc_reach.proofs.Changes.{input_changes}
-use Rattle.qc_reach.proofs.SitesAsk.{AreAbout, IsAbout, PreparedFor, PromisesFor, SiteAsks, TurnAsks, rises_ask, takes_ask}
+use Rattle.qc_reach.proofs.SitesAsk.{AreAbout, IsAbout, PromisesFor, SiteAsks, TurnAsks, rises_ask, takes_ask}
 
 module _ (decl : Declaration) (B : TxId → Type 0) where
   abbrev ActorAsks : Actor → Type 0

@@ -11,7 +11,7 @@ use Rattle.qc_decl.specs.Accepted.{IsAccepted}
 use Rattle.qc_decl.specs.Actors.{actors, client_actor, is_client}
 use Rattle.qc_decl.specs.declared.declaration.Declaration.{Declaration}
 use Rattle.qc_due.proofs.Declared.{run_declares}
-use Rattle.qc_due.proofs.KeptFirst.{kept_due, kept_first}
+use Rattle.qc_due.proofs.KeptPlanned.{kept_due, kept_planned}
 use Rattle.qc_laws.specs.Asked.{AsksDeclared}
 use Rattle.qc_laws.proofs.Places.{slice_get-within}
 use Rattle.qc_link.specs.Limits.{most_actors}
@@ -83,7 +83,7 @@ module _ (fits : ℕ → List Record → Type 0) (decl : Declaration) (script : 
     commits_told = on (slice_get-within open_inputs (client_actor decl n) (subst (λ (k : ℕ). client_actor decl n < k) (sym (run_long decl script fits few h open_inputs run)) within))
       where
         declared : Declares decl its
-        declared = run_declares decl script fits accepted asks h open_inputs run (kept_first decl script fits h open_inputs run kept) (client_actor decl n)
+        declared = run_declares decl script fits accepted asks h open_inputs run (kept_planned decl script fits accepted h open_inputs run kept) (client_actor decl n)
 
         on : (t : Bool) × (slice_get open_inputs (client_actor decl n) ≡ Some t) → AreCommitsTold its
         on place =

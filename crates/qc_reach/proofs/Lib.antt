@@ -10,8 +10,6 @@ pub mod EndTies
 pub mod EndReplies
 pub mod EndDeeds
 pub mod EndLaws
-pub mod Says
-pub mod OneEpoch
 pub mod Free
 pub mod Asked
 pub mod Growing

@@ -13,7 +13,6 @@ use Rattle.qc_decl.specs.declared.declaration.Declaration.{Declaration}
 use Rattle.qc_decl.specs.Actors.{is_client, is_site}
 use Rattle.qc_client.specs.Client.{ClientMove}
 use Rattle.qc_client.specs.Conduct.{client_takes}
-use Rattle.qc_epoch.specs.SiteRows.{takes}
 use Rattle.qc_inbox.specs.Downs.{is_down}
 use Rattle.qc_laws.proofs.Downs.{due, tells, up_is}
 use Rattle.qc_msg.specs.declared.message.Envelope.{Envelope}
@@ -34,7 +33,7 @@ use Rattle.qc_site.specs.Site.{SiteMove}
 use Rattle.qc_atomic.proofs.Stood.{may_come, not_now, false_true, slot_other}
 use Rattle.qc_reach.specs.Reached.{HasTaken, TakesInputs, actor_in}
 use Rattle.qc_reach.proofs.Growing.{actor_posted, all_sent, ended_journal, ended_up, journal_posted, up_posted}
-use Rattle.qc_reach.proofs.OneEpoch.{IsMailOfOneEpoch, takes_so, turn_one}
+use Rattle.qc_site.specs.Conduct.{site_takes}
 use Rattle.qc_reach.proofs.Stood.{Leaves, Stands, Stood, in_client, in_site, itself, moves}
 
 -- an actor falls in the net
@@ -64,8 +63,7 @@ no_turn decl a ds turn law = by (is_site decl a) (is_client decl a) law.called_f
 
 module _ (decl : Declaration) (h : List Entry) (inputs later : List Bool) (old : Stood decl h inputs) (a : ℕ) (turn : Turn) (end : Appended) (k : List Entry) (ds : List Deed)
     (deeds_are : deeds a [] k ≡ ds ++ deeds_as end (length (mail h)) turn) (mail_is : mail k ≡ mail h ++ envelopes a (length (mail h)) (sends_as end turn))
-    (others : (b : ℕ) → (a == b) ≡ false → deeds b [] k ≡ deeds b [] h) (slots : (b : ℕ) → (a == b) ≡ false → slice_get later b ≡ slice_get inputs b) (shut : slice_get later a ≡ Some true → ⊥)
-    (one : IsMailOfOneEpoch (envelopes a (length (mail h)) (sends_as end turn))) where
+    (others : (b : ℕ) → (a == b) ≡ false → deeds b [] k ≡ deeds b [] h) (slots : (b : ℕ) → (a == b) ≡ false → slice_get later b ≡ slice_get inputs b) (shut : slice_get later a ≡ Some true → ⊥) where
   abbrev pub journal_then : Journal
   journal_then = ended_journal end turn.write (journal_after ds)
 
@@ -89,7 +87,7 @@ module _ (decl : Declaration) (h : List Entry) (inputs later : List Bool) (old :
   pub turned : (next : Net) → Shows next → Stood decl k later
   turned next s =
       moves decl h k inputs later old a next (envelopes a (length (mail h)) (sends_as end turn)) s.reached
-      (s.sent ∙ ap (λ (ms : List Envelope). ms ++ envelopes a (length ms) (sends_as end turn)) old.mail_is ∙ sym mail_is) mail_is one s.leaves others slots (λ is. here)
+      (s.sent ∙ ap (λ (ms : List Envelope). ms ++ envelopes a (length ms) (sends_as end turn)) old.mail_is ∙ sym mail_is) mail_is s.leaves others slots (λ is. here)
     where
       here : Stands decl next a k (slice_get later a)
       here = record {
@@ -120,17 +118,17 @@ module _ (decl : Declaration) (h : List Entry) (inputs : List Bool) (old : Stood
   mail_now end = mail-append h (by a (posted_as end n turn)) ∙ ap (λ (ms : List Envelope). mail h ++ ms) (mail-posted_as end a n turn)
 
   -- the net after it
-  to_net : (end : Appended) (one : IsMailOfOneEpoch (envelopes a n (sends_as end turn))) (next : Net)
-      → Shows decl h inputs now old a turn end (after end) ds (deeds-posted_as end a n h turn) (mail_now end) (λ b other. deeds-other a b [] h (posted_as end n turn) other) (λ b other. slot_other inputs a b false other) (not_now inputs a false true true taken false_true) one next
+  to_net : (end : Appended) (next : Net)
+      → Shows decl h inputs now old a turn end (after end) ds (deeds-posted_as end a n h turn) (mail_now end) (λ b other. deeds-other a b [] h (posted_as end n turn) other) (λ b other. slot_other inputs a b false other) (not_now inputs a false true true taken false_true) next
       → Stood decl (after end) now
-  to_net end one next shows =
-      turned decl h inputs now old a turn end (after end) ds (deeds-posted_as end a n h turn) (mail_now end) (λ b other. deeds-other a b [] h (posted_as end n turn) other) (λ b other. slot_other inputs a b false other) (not_now inputs a false true true taken false_true) one next shows
+  to_net end next shows =
+      turned decl h inputs now old a turn end (after end) ds (deeds-posted_as end a n h turn) (mail_now end) (λ b other. deeds-other a b [] h (posted_as end n turn) other) (λ b other. slot_other inputs a b false other) (not_now inputs a false true true taken false_true) next shows
 
-  fails_shows : (end : Appended) (one : IsMailOfOneEpoch (envelopes a n (sends_as end turn))) (r : Record) → Stands decl old.net a h (Some true) → turn.write ≡ Some r → ended_up end true ≡ false → ended_journal end turn.write (journal_after ds) ≡ record (journal_after ds) { pending = pending_with (journal_after ds).pending turn.write }
+  fails_shows : (end : Appended) (r : Record) → Stands decl old.net a h (Some true) → turn.write ≡ Some r → ended_up end true ≡ false → ended_journal end turn.write (journal_after ds) ≡ record (journal_after ds) { pending = pending_with (journal_after ds).pending turn.write }
       → Reaches decl (after_fall old.net a (Some r) (sends_as end turn)) → is_up ds ≡ true → Stood decl (after end) now
-  fails_shows end one r s wrote falls journal reached up =
+  fails_shows end r s wrote falls journal reached up =
       let down : ended_up end (is_up ds) ≡ false = ap (ended_up end) up ∙ falls in
-      to_net end one (after_fall old.net a (Some r) (sends_as end turn)) (record {
+      to_net end (after_fall old.net a (Some r) (sends_as end turn)) (record {
         reached = reached;
         sent = refl;
         leaves = fell_leaves decl old.net a (Some r) (sends_as end turn);
@@ -148,26 +146,26 @@ module _ (decl : Declaration) (h : List Entry) (inputs : List Bool) (old : Stood
     x = s.opened up refl
 
     abbrev move : SiteMove
-    move = takes decl (old.net.sites a) x.given
+    move = site_takes decl (old.net.sites a) x.given
 
     came : MayCome old.net a x.given
     came = may_come old.net a x.given (subst (λ (ms : List Envelope). WasSentTo a ms x.given) (sym old.mail_is) x.sent)
 
     moved_is : actor_after decl a ds ≡ by_site move
-    moved_is = x.is ∙ ap (λ (v : Actor). actor_takes decl v x.given) (in_site decl old.net a site) ∙ ap by_site (sym (takes_so decl (old.net.sites a) a (mail h) x.given old.one x.sent))
+    moved_is = x.is ∙ ap (λ (v : Actor). actor_takes decl v x.given) (in_site decl old.net a site)
 
     turn_is : move.turn ≡ with_record turn
     turn_is = ap (λ (m : ActorMove). m.turn) (sym moved_is) ∙ due decl a ds turn law
 
-    site_fails : (end : Appended) (one : IsMailOfOneEpoch (envelopes a n (sends_as end turn))) (r : Record) → turn.write ≡ Some r → ended_up end true ≡ false → ended_journal end turn.write (journal_after ds) ≡ record (journal_after ds) { pending = pending_with (journal_after ds).pending turn.write }
+    site_fails : (end : Appended) (r : Record) → turn.write ≡ Some r → ended_up end true ≡ false → ended_journal end turn.write (journal_after ds) ≡ record (journal_after ds) { pending = pending_with (journal_after ds).pending turn.write }
         → nets.AreFailedSends turn (sends_as end turn) → Stood decl (after end) now
-    site_fails end one r wrote falls journal failed =
-        fails_shows end one r s wrote falls journal
+    site_fails end r wrote falls journal failed =
+        fails_shows end r s wrote falls journal
         (nets.site_fails a x.given r (sends_as end turn) old.net old.reached site (s.up ∙ up) came (ap (λ (t : Turn). t.write) turn_is ∙ wrote)
         (elim failed [ inl same ↦ inl (same ∙ ap (λ (t : Turn). t.failed_sends) (sym turn_is)) | inr none ↦ inr none ])) up
 
-    pub site_posts : (end : Appended) → MayEnd turn.write end → IsMailOfOneEpoch (envelopes a n (sends_as end turn)) → Stood decl (after end) now
-    site_posts Done may one = to_net Done one (after_site old.net a move) (record {
+    pub site_posts : (end : Appended) → MayEnd turn.write end → Stood decl (after end) now
+    site_posts Done may = to_net Done (after_site old.net a move) (record {
       reached = nets.serves a x.given old.net old.reached site (s.up ∙ up) came;
       sent = ap (λ (t : Turn). old.net.mail ++ envelopes a (length old.net.mail) t.sends) turn_is;
       leaves = λ b other. record {
@@ -185,16 +183,16 @@ module _ (decl : Declaration) (h : List Entry) (inputs : List Bool) (old : Stood
           actor_posted decl a ds n turn ∙ ap (λ (m : ActorMove). all_sent m.actor n turn.sends) moved_is
           ∙ sym (in_site decl (after_site old.net a move) a site ∙ ap (λ (v : _). actor.Site v) (put_here old.net.sites a move.site));
     })
-    site_posts Failed may one = by turn.write refl may
+    site_posts Failed may = by turn.write refl may
       where
         by : (o : Option Record) → turn.write ≡ o → HasRecord o → Stood decl (after Failed) now
         by None wrote has = absurd has
-        by (Some r) wrote has = site_fails Failed one r wrote refl refl (inl refl)
-    site_posts Stopped may one = by turn.write refl may
+        by (Some r) wrote has = site_fails Failed r wrote refl refl (inl refl)
+    site_posts Stopped may = by turn.write refl may
       where
         by : (o : Option Record) → turn.write ≡ o → HasRecord o → Stood decl (after Stopped) now
         by None wrote has = absurd has
-        by (Some r) wrote has = site_fails Stopped one r wrote refl refl (inr refl)
+        by (Some r) wrote has = site_fails Stopped r wrote refl refl (inr refl)
 
   -- a client's
 
@@ -214,15 +212,15 @@ module _ (decl : Declaration) (h : List Entry) (inputs : List Bool) (old : Stood
     turn_was : step.turn ≡ with_record turn
     turn_was = ap (λ (m : ActorMove). m.turn) (sym step_is) ∙ due decl a ds turn law
 
-    client_fails : (end : Appended) (one : IsMailOfOneEpoch (envelopes a n (sends_as end turn))) (r : Record) → turn.write ≡ Some r → ended_up end true ≡ false → ended_journal end turn.write (journal_after ds) ≡ record (journal_after ds) { pending = pending_with (journal_after ds).pending turn.write }
+    client_fails : (end : Appended) (r : Record) → turn.write ≡ Some r → ended_up end true ≡ false → ended_journal end turn.write (journal_after ds) ≡ record (journal_after ds) { pending = pending_with (journal_after ds).pending turn.write }
         → nets.AreFailedSends turn (sends_as end turn) → Stood decl (after end) now
-    client_fails end one r wrote falls journal failed =
-        fails_shows end one r s wrote falls journal
+    client_fails end r wrote falls journal failed =
+        fails_shows end r s wrote falls journal
         (nets.client_fails a y.given r (sends_as end turn) old.net old.reached client (s.up ∙ up) comes (y.may client) (ap (λ (t : Turn). t.write) turn_was ∙ wrote)
         (elim failed [ inl same ↦ inl (same ∙ ap (λ (t : Turn). t.failed_sends) (sym turn_was)) | inr none ↦ inr none ])) up
 
-    pub client_posts : (end : Appended) → MayEnd turn.write end → IsMailOfOneEpoch (envelopes a n (sends_as end turn)) → Stood decl (after end) now
-    client_posts Done may one = to_net Done one (after_client old.net a step) (record {
+    pub client_posts : (end : Appended) → MayEnd turn.write end → Stood decl (after end) now
+    client_posts Done may = to_net Done (after_client old.net a step) (record {
       reached = nets.takes a y.given old.net old.reached client (s.up ∙ up) comes (y.may client);
       sent = ap (λ (t : Turn). old.net.mail ++ envelopes a (length old.net.mail) t.sends) turn_was;
       leaves = λ b other. record {
@@ -241,16 +239,16 @@ module _ (decl : Declaration) (h : List Entry) (inputs : List Bool) (old : Stood
           ∙ (λ i. actor.Client (sent_all step.client (length (sym old.mail_is i)) (sym turn_was i).sends))
           ∙ sym (in_client decl (after_client old.net a step) a client ∙ ap (λ (v : _). actor.Client v) (put_here old.net.clients a (sent_all step.client (length old.net.mail) step.turn.sends)));
     })
-    client_posts Failed may one = by turn.write refl may
+    client_posts Failed may = by turn.write refl may
       where
         by : (o : Option Record) → turn.write ≡ o → HasRecord o → Stood decl (after Failed) now
         by None wrote has = absurd has
-        by (Some r) wrote has = client_fails Failed one r wrote refl refl (inl refl)
-    client_posts Stopped may one = by turn.write refl may
+        by (Some r) wrote has = client_fails Failed r wrote refl refl (inl refl)
+    client_posts Stopped may = by turn.write refl may
       where
         by : (o : Option Record) → turn.write ≡ o → HasRecord o → Stood decl (after Stopped) now
         by None wrote has = absurd has
-        by (Some r) wrote has = client_fails Stopped one r wrote refl refl (inr refl)
+        by (Some r) wrote has = client_fails Stopped r wrote refl refl (inr refl)
 
   -- one that is down: it has no record and no message
 
@@ -261,8 +259,8 @@ module _ (decl : Declaration) (h : List Entry) (inputs : List Bool) (old : Stood
   fallen : is_up ds ≡ false → is_down ds ≡ true
   fallen down = is_fallen (is_down ds) (up_is ds) down
 
-  pub down_posts : Stands decl old.net a h (Some true) → is_up ds ≡ false → (end : Appended) → MayEnd turn.write end → IsMailOfOneEpoch (envelopes a n (sends_as end turn)) → Stood decl (after end) now
-  down_posts s down Done may one = to_net Done one old.net (record {
+  pub down_posts : Stands decl old.net a h (Some true) → is_up ds ≡ false → (end : Appended) → MayEnd turn.write end → Stood decl (after end) now
+  down_posts s down Done may = to_net Done old.net (record {
     reached = old.reached;
     sent = sym (ap (λ (ps : List Posting). old.net.mail ++ envelopes a (length old.net.mail) ps) ((tells decl).sends_none a ds turn law (fallen down)) ∙ append-nil old.net.mail);
     leaves = λ b other. itself decl old.net b;
@@ -272,21 +270,18 @@ module _ (decl : Declaration) (h : List Entry) (inputs : List Bool) (old : Stood
     clear = s.clear;
     state = λ is. absurd (never_up (is_up ds) down is);
   })
-  down_posts s down Failed may one = absurd (subst HasRecord ((tells decl).writes_none a ds turn law (fallen down)) may)
-  down_posts s down Stopped may one = absurd (subst HasRecord ((tells decl).writes_none a ds turn law (fallen down)) may)
+  down_posts s down Failed may = absurd (subst HasRecord ((tells decl).writes_none a ds turn law (fallen down)) may)
+  down_posts s down Stopped may = absurd (subst HasRecord ((tells decl).writes_none a ds turn law (fallen down)) may)
 
   pub posts : Stood decl (after turn.append) now
   posts = by (is_site decl a) (is_client decl a) refl refl (is_up ds) refl
     where
-      one : IsMailOfOneEpoch (envelopes a n (sends_as turn.append turn))
-      one = turn_one decl a n ds turn (due decl a ds turn law) law.may_end
-
       stands : TakesInputs decl a → Stands decl old.net a h (Some true)
       stands is = subst (Stands decl old.net a h) taken (old.actors a is)
 
       by : (t c : Bool) → is_site decl a ≡ t → is_client decl a ≡ c → (u : Bool) → is_up ds ≡ u → Stood decl (after turn.append) now
-      by true c site client true up = site_posts site (stands (inl site)) up turn.append law.may_end one
-      by true c site client false down = down_posts (stands (inl site)) down turn.append law.may_end one
-      by false true none client true up = client_posts client (stands (inr client)) up turn.append law.may_end one
-      by false true none client false down = down_posts (stands (inr client)) down turn.append law.may_end one
+      by true c site client true up = site_posts site (stands (inl site)) up turn.append law.may_end
+      by true c site client false down = down_posts (stands (inl site)) down turn.append law.may_end
+      by false true none client true up = client_posts client (stands (inr client)) up turn.append law.may_end
+      by false true none client false down = down_posts (stands (inr client)) down turn.append law.may_end
       by false false none no_client u is = absurd (no_turn decl a ds turn law none no_client)

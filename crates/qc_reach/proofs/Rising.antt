@@ -34,7 +34,6 @@ use Rattle.qc_recover.specs.Clients.{client_rises}
 use Rattle.qc_recover.specs.Sites.{site_rises}
 use Rattle.qc_site.specs.Site.{SiteState}
 use Rattle.qc_reach.proofs.Growing.{actor_posted, all_sent, ended_journal, ended_up}
-use Rattle.qc_reach.proofs.OneEpoch.{IsMailOfOneEpoch, turn_one}
 use Rattle.qc_reach.proofs.Posting.{Shows, never_up, no_turn, turned}
 use Rattle.qc_reach.proofs.Stood.{Stands, Stood, in_client, in_site, not_site}
 
@@ -71,11 +70,11 @@ module _ (decl : Declaration) (h : List Entry) (inputs : List Bool) (old : Stood
   mail_now : (end : Appended) → mail (after end) ≡ mail h ++ envelopes a n (sends_as end turn)
   mail_now end = mail-append h (by a (steps.Rose records ∷ posted_as end n turn)) ∙ ap (λ (ms : List Envelope). mail h ++ ms) (mail-posted_as end a n turn)
 
-  to_net : (end : Appended) (one : IsMailOfOneEpoch (envelopes a n (sends_as end turn))) (next : Net)
-      → Shows decl h inputs inputs old a turn end (after end) ds (deeds_now end) (mail_now end) (λ b other. deeds-other a b [] h (steps.Rose records ∷ posted_as end n turn) other) (λ b other. refl) shut one next
+  to_net : (end : Appended) (next : Net)
+      → Shows decl h inputs inputs old a turn end (after end) ds (deeds_now end) (mail_now end) (λ b other. deeds-other a b [] h (steps.Rose records ∷ posted_as end n turn) other) (λ b other. refl) shut next
       → Stood decl (after end) inputs
-  to_net end one next shows =
-      turned decl h inputs inputs old a turn end (after end) ds (deeds_now end) (mail_now end) (λ b other. deeds-other a b [] h (steps.Rose records ∷ posted_as end n turn) other) (λ b other. refl) shut one next shows
+  to_net end next shows =
+      turned decl h inputs inputs old a turn end (after end) ds (deeds_now end) (mail_now end) (λ b other. deeds-other a b [] h (steps.Rose records ∷ posted_as end n turn) other) (λ b other. refl) shut next shows
 
   -- what it is, and its turn
 
@@ -111,11 +110,11 @@ module _ (decl : Declaration) (h : List Entry) (inputs : List Bool) (old : Stood
     was_down = s.up ∙ down
 
     -- the record of its rise isn't written
-    in_vain : (end : Appended) (one : IsMailOfOneEpoch (envelopes a n (sends_as end turn))) → ended_up end true ≡ false → ended_journal end turn.write (journal_after ds) ≡ record (journal_after ds) { pending = pending_with (journal_after ds).pending turn.write }
+    in_vain : (end : Appended) → ended_up end true ≡ false → ended_journal end turn.write (journal_after ds) ≡ record (journal_after ds) { pending = pending_with (journal_after ds).pending turn.write }
         → turn.write ≡ Some Life → sends_as end turn ≡ [] → Reaches decl (after_vain_rise old.net a b.back) → Stood decl (after end) inputs
-    in_vain end one falls shape wrote none reached =
+    in_vain end falls shape wrote none reached =
         let still : ended_up end (is_up ds) ≡ false = ap (ended_up end) up_now ∙ falls in
-        to_net end one (after_vain_rise old.net a b.back) (record {
+        to_net end (after_vain_rise old.net a b.back) (record {
           reached = reached;
           sent = sym (ap (λ (ps : List Posting). old.net.mail ++ envelopes a (length old.net.mail) ps) none ∙ append-nil old.net.mail);
           leaves = λ c other. record {
@@ -144,8 +143,8 @@ module _ (decl : Declaration) (h : List Entry) (inputs : List Bool) (old : Stood
       site_turn : (site_rises decl a records).turn ≡ with_record turn
       site_turn = ap (λ (m : ActorMove). m.turn) (sym by_rise) ∙ turn_is
 
-      pub site_up : (end : Appended) → IsMailOfOneEpoch (envelopes a n (sends_as end turn)) → Stood decl (after end) inputs
-      site_up Done one = to_net Done one (after_site_rise decl old.net a b.back) (record {
+      pub site_up : (end : Appended) → Stood decl (after end) inputs
+      site_up Done = to_net Done (after_site_rise decl old.net a b.back) (record {
         reached = nets.site_rises_up a b.back old.net old.reached site was_down is_given;
         sent = (λ i. old.net.mail ++ envelopes a (length old.net.mail) (site_rises decl a (same_records i)).turn.sends) ∙ ap (λ (t : Turn). old.net.mail ++ envelopes a (length old.net.mail) t.sends) site_turn;
         leaves = λ c other. record {
@@ -164,8 +163,8 @@ module _ (decl : Declaration) (h : List Entry) (inputs : List Bool) (old : Stood
             ∙ ap (λ (rs : List Record). actor.Site (site_rises decl a rs).site) (sym same_records)
             ∙ sym (in_site decl (after_site_rise decl old.net a b.back) a site ∙ ap (λ (v : SiteState). actor.Site v) (put_here old.net.sites a (site_rises decl a net_records).site));
       })
-      site_up Failed one = in_vain Failed one refl refl (ap (λ (t : Turn). t.write) (sym site_turn)) (ap (λ (t : Turn). t.failed_sends) (sym site_turn)) (nets.site_rises_in_vain a b.back old.net old.reached site was_down is_given)
-      site_up Stopped one = in_vain Stopped one refl refl (ap (λ (t : Turn). t.write) (sym site_turn)) refl (nets.site_rises_in_vain a b.back old.net old.reached site was_down is_given)
+      site_up Failed = in_vain Failed refl refl (ap (λ (t : Turn). t.write) (sym site_turn)) (ap (λ (t : Turn). t.failed_sends) (sym site_turn)) (nets.site_rises_in_vain a b.back old.net old.reached site was_down is_given)
+      site_up Stopped = in_vain Stopped refl refl (ap (λ (t : Turn). t.write) (sym site_turn)) refl (nets.site_rises_in_vain a b.back old.net old.reached site was_down is_given)
 
     -- a client
 
@@ -179,8 +178,8 @@ module _ (decl : Declaration) (h : List Entry) (inputs : List Bool) (old : Stood
       none_sent : turn.sends ≡ []
       none_sent = ap (λ (t : Turn). t.sends) (sym client_turn)
 
-      pub client_up : (end : Appended) → IsMailOfOneEpoch (envelopes a n (sends_as end turn)) → Stood decl (after end) inputs
-      client_up Done one = to_net Done one (after_client_rise decl old.net a b.back) (record {
+      pub client_up : (end : Appended) → Stood decl (after end) inputs
+      client_up Done = to_net Done (after_client_rise decl old.net a b.back) (record {
         reached = nets.client_rises_up a b.back old.net old.reached client was_down is_given;
         sent = sym (ap (λ (ps : List Posting). old.net.mail ++ envelopes a (length old.net.mail) ps) none_sent ∙ append-nil old.net.mail);
         leaves = λ c other. record {
@@ -199,16 +198,13 @@ module _ (decl : Declaration) (h : List Entry) (inputs : List Bool) (old : Stood
             ∙ ap (λ (rs : List Record). actor.Client (client_rises (a - decl.sites) rs).client) (sym same_records)
             ∙ sym (in_client decl (after_client_rise decl old.net a b.back) a client ∙ ap (λ (v : Client). actor.Client v) (put_here old.net.clients a (client_rises (a - decl.sites) net_records).client));
       })
-      client_up Failed one = in_vain Failed one refl refl (ap (λ (t : Turn). t.write) (sym client_turn)) (ap (λ (t : Turn). t.failed_sends) (sym client_turn)) (nets.client_rises_in_vain a b.back old.net old.reached client was_down is_given)
-      client_up Stopped one = in_vain Stopped one refl refl (ap (λ (t : Turn). t.write) (sym client_turn)) refl (nets.client_rises_in_vain a b.back old.net old.reached client was_down is_given)
+      client_up Failed = in_vain Failed refl refl (ap (λ (t : Turn). t.write) (sym client_turn)) (ap (λ (t : Turn). t.failed_sends) (sym client_turn)) (nets.client_rises_in_vain a b.back old.net old.reached client was_down is_given)
+      client_up Stopped = in_vain Stopped refl refl (ap (λ (t : Turn). t.write) (sym client_turn)) refl (nets.client_rises_in_vain a b.back old.net old.reached client was_down is_given)
 
   pub rises : Stood decl (after turn.append) inputs
   rises = by (is_site decl a) (is_client decl a) refl refl
     where
-      one : IsMailOfOneEpoch (envelopes a n (sends_as turn.append turn))
-      one = turn_one decl a n (deeds a [] (h ++ marked a (steps.Rose records) ∷ [])) turn (due decl a (deeds a [] (h ++ marked a (steps.Rose records) ∷ [])) turn law) law.may_end
-
       by : (t c : Bool) → is_site decl a ≡ t → is_client decl a ≡ c → Stood decl (after turn.append) inputs
-      by true c site client = site_up (old.actors a (inl site)) site turn.append one
-      by false true none client = client_up (old.actors a (inr client)) client turn.append one
+      by true c site client = site_up (old.actors a (inl site)) site turn.append
+      by false true none client = client_up (old.actors a (inr client)) client turn.append
       by false false none no_client = absurd (no_turn decl a (deeds a [] (h ++ marked a (steps.Rose records) ∷ [])) turn law none no_client)

@@ -39,7 +39,7 @@ use Rattle.qc_promise.specs.Told.{DecisionAgrees}
 use Rattle.qc_script.specs.RunsWithFalls.{RunsWithFalls}
 use Rattle.qc_script.specs.Sound.{IsScriptFor}
 use Rattle.qc_script.specs.declared.script.Script.{Script}
-use Rattle.qc_site.specs.Site.{SiteState}
+use Rattle.qc_site.specs.Site.{SiteState, known}
 use Rattle.qc_stamp.specs.declared.stamp.TxId.{TxId}
 use Rattle.qc_atomic.proofs.Closed as closed_logs
 use Rattle.qc_reach.specs.Reached.{IsReachedWithFalls}
@@ -126,16 +126,16 @@ module _ (fits : ℕ → List Record → Type 0) (decl : Declaration) (script : 
     closed_too log closed l m among committed same before depends = closed l m among (net_logged m committed) same before depends
 
     pub site_lines : (a : ℕ) (s : SiteState) (line : Line) → is_site decl a ≡ true → is_up (deeds a [] h) ≡ true → slice_get open_inputs a ≡ Some false → (actor_after decl a (deeds a [] h)).actor ≡ actor.Site s
-        → In line s.log → IsLogged decl commits line
+        → In line (known s) → IsLogged decl commits line
     site_lines a s line site up closed is among =
-        logged line (nets.site_lines decl accepted r.net r.reached a line site (r.up_is a (inl site) ∙ up) (subst (λ (t : SiteState). In line t.log) (sym (site_log a s site up closed is)) among))
+        logged line (nets.site_lines decl accepted r.net r.reached a line site (r.up_is a (inl site) ∙ up) (subst (λ (t : SiteState). In line (known t)) (sym (site_log a s site up closed is)) among))
 
     pub message_lines : (e : Envelope) (line : Line) → In e (mail h) → In line (lines_in e.message) → IsLogged decl commits line
     message_lines e line sent among = logged line (nets.message_lines decl accepted r.net r.reached e line (subst (In e) (sym r.mail_is) sent) among)
 
-    pub site_closed : (a : ℕ) (s : SiteState) → is_site decl a ≡ true → is_up (deeds a [] h) ≡ true → slice_get open_inputs a ≡ Some false → (actor_after decl a (deeds a [] h)).actor ≡ actor.Site s → IsClosedLog decl commits s.log
+    pub site_closed : (a : ℕ) (s : SiteState) → is_site decl a ≡ true → is_up (deeds a [] h) ≡ true → slice_get open_inputs a ≡ Some false → (actor_after decl a (deeds a [] h)).actor ≡ actor.Site s → IsClosedLog decl commits (known s)
     site_closed a s site up closed is =
-        subst (λ (t : SiteState). IsClosedLog decl commits t.log) (site_log a s site up closed is) (closed_too (r.net.sites a).log (closed_logs.site_closed decl accepted r.net r.reached a site (r.up_is a (inl site) ∙ up)))
+        subst (λ (t : SiteState). IsClosedLog decl commits (known t)) (site_log a s site up closed is) (closed_too (known (r.net.sites a)) (closed_logs.site_closed decl accepted r.net r.reached a site (r.up_is a (inl site) ∙ up)))
 
     pub view_closed : (e : Envelope) (tx : TxId) (epoch life object : ℕ) (view : List Line) (own : List OwnLine) → In e (mail h) → e.message ≡ Request tx epoch life (Append object view own) → IsClosedLog decl commits view
     view_closed e tx epoch life object view own sent is = closed_too view (closed_logs.view_closed decl accepted r.net r.reached e tx epoch life object view own (subst (In e) (sym r.mail_is) sent) is)

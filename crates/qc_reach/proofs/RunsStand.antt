@@ -52,7 +52,6 @@ use Rattle.qc_atomic.proofs.Stood.{not_now, slot_other, true_false}
 use Rattle.qc_reach.specs.Reached.{TakesInputs}
 use Rattle.qc_reach.proofs.Asked.{ready_named}
 use Rattle.qc_reach.proofs.Free.{client_free}
-use Rattle.qc_reach.proofs.OneEpoch.{IsMailOfOneEpoch}
 use Rattle.qc_reach.proofs.Posting.{fell_leaves, never_up}
 use Rattle.qc_reach.proofs.Posting as post
 use Rattle.qc_reach.proofs.Rising as rise
@@ -112,7 +111,7 @@ module _ (decl : Declaration) (script : Script) (fits : ℕ → List Record → 
       same_journal = ap journal_after (deeds-taken a h g sent) ∙ fold-append journal_at no_journal (deeds a [] h) (Takes g ∷ [])
 
       pub stands_taken : Stood decl now_taken (slice_set inputs a true)
-      stands_taken = moves decl h now_taken inputs (slice_set inputs a true) old a old.net [] old.reached (old.mail_is ∙ sym (mail-taken h a g)) grows tt (λ b other. itself decl old.net b)
+      stands_taken = moves decl h now_taken inputs (slice_set inputs a true) old a old.net [] old.reached (old.mail_is ∙ sym (mail-taken h a g)) grows (λ b other. itself decl old.net b)
           (λ b other. deeds-other a b [] h (step_of g ∷ []) other) (λ b other. slot_other inputs a b true other) here
         where
           here : TakesInputs decl a → Stands decl old.net a now_taken (slice_get (slice_set inputs a true) a)
@@ -142,7 +141,6 @@ module _ (decl : Declaration) (script : Script) (fits : ℕ → List Record → 
       net = old.net;
       reached = old.reached;
       mail_is = old.mail_is ∙ sym (mail-silent h b step silent);
-      one = subst IsMailOfOneEpoch (sym (mail-silent h b step silent)) old.one;
       actors = λ a is. stays decl old.net old.net a h (h ++ marked b step ∷ []) [] (slice_get inputs a) (slice_get inputs a) (itself decl old.net a) (deeds-silent a b h step silent) (mail-silent h b step silent ∙ sym (append-nil (mail h))) refl (old.actors a is);
     }
 
@@ -174,7 +172,7 @@ module _ (decl : Declaration) (script : Script) (fits : ℕ → List Record → 
 
     falls_to : (a : ℕ) (cause : Fall) (next : Net) → Reaches decl next → next.mail ≡ old.net.mail → ((b : ℕ) → b ≢ a → Leaves decl old.net next b) → (TakesInputs decl a → Stands decl next a (fallen a cause) (slice_get inputs a)) → Stood decl (fallen a cause) inputs
     falls_to a cause next reached same leaves here =
-        moves decl h (fallen a cause) inputs inputs old a next [] reached (same ∙ old.mail_is ∙ sym (append-nil (mail h)) ∙ sym (mail_fall a h cause)) (mail_fall a h cause) tt leaves (λ b other. deeds-other a b [] h (steps.Fell cause None ∷ []) other) (λ b other. refl) here
+        moves decl h (fallen a cause) inputs inputs old a next [] reached (same ∙ old.mail_is ∙ sym (append-nil (mail h)) ∙ sym (mail_fall a h cause)) (mail_fall a h cause) leaves (λ b other. deeds-other a b [] h (steps.Fell cause None ∷ []) other) (λ b other. refl) here
 
     pub stands_fallen : (a : ℕ) (lines : List Control) → controls_left script h ≡ controls.Crash a ∷ lines → Stood decl (fallen a causes.Script) inputs
     stands_fallen a lines left = by (is_site decl a) (is_client decl a) refl refl
@@ -234,7 +232,6 @@ module _ (decl : Declaration) (script : Script) (fits : ℕ → List Record → 
     net = first_net decl;
     reached = nets.begins;
     mail_is = refl;
-    one = tt;
     actors = λ a is. record { up = refl; records = refl; pending = refl; clear = λ up. refl; closed = λ up slot. refl; opened = λ up slot. absurd (none_open a slot) };
   }
 

@@ -46,7 +46,7 @@ use Rattle.qc_script.specs.declared.script.Script.{Script}
 use Rattle.qc_due.specs.Declares.{Declares}
 use Rattle.qc_due.proofs.AccountDeclared.{asks_declared}
 use Rattle.qc_due.proofs.Declared.{run_declares}
-use Rattle.qc_due.proofs.KeptFirst.{kept_first}
+use Rattle.qc_due.proofs.KeptPlanned.{kept_planned}
 use Rattle.qc_reach.specs.Reached.{IsReachedWithFalls}
 use Rattle.qc_reach.specs.Standing.{AreStanding, IsOfClient, records_of}
 use Rattle.qc_reach.proofs.Committing.{standing}
@@ -133,7 +133,7 @@ module _ (fits : ℕ → List Record → Type 0) (decl : Declaration) (script : 
   }
 
   declares : (a : ℕ) → Declares decl (deeds a [] h)
-  declares a = run_declares decl script fits accepted (asks_declared decl script accepted sound) h open_inputs run (kept_first decl script fits h open_inputs run kept) a
+  declares a = run_declares decl script fits accepted (asks_declared decl script accepted sound) h open_inputs run (kept_planned decl script fits accepted h open_inputs run kept) a
 
   stands : (a : ℕ) (client : is_client decl a ≡ true) (tx : TxId) → StandsNow decl a client (declares a).first (committed decl h) tx (deeds a [] h)
   stands a client tx =

@@ -26,13 +26,14 @@ use Rattle.qc_msg.specs.declared.turn.Posting.{Posting}
 use Rattle.qc_msg.specs.declared.turn.Turn.{Turn}
 use Rattle.qc_msg.specs.Turns.{quiet}
 use Rattle.qc_recover.proofs.Asked.{first_every}
-use Rattle.qc_recover.specs.Sites.{holds, in_order, inquiry, keeps, Kept, kept_by, most_inquiries, nothing_kept, site_rises}
-use Rattle.qc_laws.proofs.SitesAsk.{Asks, GivenTells, HeldFor, SiteTells, Tells, held-more, site_asks}
+use Rattle.qc_recover.specs.Sites.{inquiry, keeps, Kept, kept_by, most_inquiries, nothing_kept, site_rises}
+use Rattle.qc_site.specs.Epochs.{in_order}
+use Rattle.qc_laws.proofs.SitesAsk.{Asks, GivenTells, HeldFor, PreparedFor, SiteTells, Tells, held-promised, prepared-left, site_asks}
 use Rattle.qc_site.specs.Conduct.{passed, site_at, site_takes}
 use Rattle.qc_site.specs.Promise.{promise_of, without_prepared}
 use Rattle.qc_site.specs.Requests.{grants}
 use Rattle.qc_site.specs.Site.{SiteMove, SiteState, answers, moved}
-use Rattle.qc_site.proofs.Cases.{append_cases, join_cases, prepare_cases, read_cases, request_cases}
+use Rattle.qc_site.proofs.Cases.{append_cases, close_cases, install_cases, join_cases, prepare_cases, read_cases, request_cases}
 
 every-inserted : (P : TxId → Type 0) (xs : List TxId) (x : TxId) → Every P xs → P x → Every P (inserted tx_cmp xs x)
 every-inserted P [] x all here = (here, tt)
@@ -71,9 +72,6 @@ module _ (decl : Declaration) (B : TxId → Type 0) where
   PromisesFor (records.Commit commit) = Unit {0}
   PromisesFor (records.Decide epoch clock lines) = Unit {0}
 
-  abbrev pub PreparedFor : List Prepared → Type 0
-  PreparedFor ps = Every (λ (p : Prepared). B p.tx) ps
-
   -- whatever becomes of a turn's record
   pub record TurnAsks (turn : Turn) : Type 0 where
     pub sends : AreAbout turn.sends
@@ -82,51 +80,46 @@ module _ (decl : Declaration) (B : TxId → Type 0) where
 
   pub record SiteAsks (m : SiteMove) : Type 0 where
     pub held : HeldFor decl B m.site.held
-    pub prepared : PreparedFor m.site.prepared
+    pub prepared : PreparedFor decl B m.site.prepared
     pub turn : TurnAsks m.turn
 
-  -- what it promises and writes
+  -- what it writes
 
   record Promising (m : SiteMove) : Type 0 where
-    prepared : PreparedFor m.site.prepared
     failed : AreAbout m.turn.failed_sends
     writes : Every PromisesFor (option_to_list m.turn.write)
 
-  module _ (s : SiteState) (from number : ℕ) (all : PreparedFor s.prepared) where
+  module _ (s : SiteState) (from number : ℕ) where
     still : (answer : Answer) → Promising (moved s (answers from number answer))
-    still answer = record { prepared = all; failed = tt; writes = tt }
+    still answer = record { failed = tt; writes = tt }
 
     silent : Promising (moved s quiet)
-    silent = record { prepared = all; failed = tt; writes = tt }
+    silent = record { failed = tt; writes = tt }
 
     granted : (tx : TxId) (want : Want) → B tx → Promising (grants decl s from number tx want)
     granted tx (Read object inv) here =
-        read_cases Promising decl s from number tx object inv (λ free. record { prepared = all; failed = tt; writes = tt }) (λ c clash. record { prepared = all; failed = tt; writes = tt })
+        read_cases Promising decl s from number tx object inv (λ free. record { failed = tt; writes = tt }) (λ c clash. record { failed = tt; writes = tt })
     granted tx (Append object view own) here =
-        append_cases Promising decl s from number tx object view own (λ free. record { prepared = all; failed = tt; writes = tt }) (λ c clash. record { prepared = all; failed = tt; writes = tt })
+        append_cases Promising decl s from number tx object view own (λ free. record { failed = tt; writes = tt }) (λ c clash. record { failed = tt; writes = tt })
     granted tx Prepare here =
-        prepare_cases Promising s from number tx (still says.Stale) (λ held stands. still (says.Yes s.clock))
-        (λ held made. record { prepared = every-append (λ (p : Prepared). B p.tx) s.prepared (promise_of s tx ∷ []) all (here, tt); failed = (tt, tt); writes = (here, tt) })
-
-    without : (tx : TxId) → PreparedFor (without_prepared s.prepared tx)
-    without tx = every-filter (λ (p : Prepared). B p.tx) (λ (p : Prepared). not (same_tx p.tx tx)) s.prepared all
+        prepare_cases Promising s from number tx (still says.Stale) (λ held stands. still (says.Yes s.clock)) (λ held made. record { failed = (tt, tt); writes = (here, tt) })
 
     at : (to : ℕ) (message : Message) → Tells decl B to message → Promising (site_at decl s from number message)
     at to (messages.Request tx epoch life want) here = request_cases Promising decl s from number tx epoch life want silent (λ fault is. still fault) (λ is. granted tx want here)
     at to (messages.Answer asked answer) here = silent
     at to (messages.Decision tx (Committed stamp)) here =
-        join_cases Promising s tx stamp (λ none. record { prepared = without tx; failed = tt; writes = tt }) (λ p some. record { prepared = without tx; failed = tt; writes = (tt, tt) })
-    at to (messages.Decision tx Aborted) here = record { prepared = without tx; failed = tt; writes = tt }
+        join_cases Promising s tx stamp (λ none. record { failed = tt; writes = tt }) (λ p some. record { failed = tt; writes = (tt, tt) })
+    at to (messages.Decision tx Aborted) here = record { failed = tt; writes = tt }
     at to (messages.Decision tx Active) here = silent
     at to (messages.Inquiry tx) here = silent
     at to (messages.Ask tx) here = silent
-    at to (messages.Close epoch) here = silent
-    at to (messages.Install epoch clock log) here = silent
+    at to (messages.Close k) here = close_cases Promising s from number k still (λ near later. record { failed = (tt, tt); writes = (tt, tt) })
+    at to (messages.Install k clock lines) here = install_cases Promising s from number k clock lines still (λ later fits. record { failed = (tt, tt); writes = (tt, tt) })
 
-  promising : (s : SiteState) (g : Given) → PreparedFor s.prepared → GivenTells decl B g → Promising (site_takes decl s g)
-  promising s (given.Called command) all here = record { prepared = all; failed = tt; writes = tt }
-  promising s (given.Got e) all here = at (passed s e.message) e.from e.number all e.to e.message here
-  promising s (given.Lost number) all here = record { prepared = all; failed = tt; writes = tt }
+  promising : (s : SiteState) (g : Given) → GivenTells decl B g → Promising (site_takes decl s g)
+  promising s (given.Called command) here = record { failed = tt; writes = tt }
+  promising s (given.Got e) here = at (passed s e.message) e.from e.number e.to e.message here
+  promising s (given.Lost number) here = record { failed = tt; writes = tt }
 
   about : (to : ℕ) (message : Message) → SiteTells decl B to message → IsAbout to message
   about to (messages.Request tx epoch life want) never = tt
@@ -138,13 +131,13 @@ module _ (decl : Declaration) (B : TxId → Type 0) where
   about to (messages.Install epoch clock log) never = tt
 
   -- one input
-  pub takes_ask : (s : SiteState) (g : Given) → HeldFor decl B s.held → PreparedFor s.prepared → GivenTells decl B g → SiteAsks (site_takes decl s g)
+  pub takes_ask : (s : SiteState) (g : Given) → HeldFor decl B s.held → PreparedFor decl B s.prepared → GivenTells decl B g → SiteAsks (site_takes decl s g)
   takes_ask s g held prepared here =
-      let a : Asks decl B (site_takes decl s g) = site_asks decl B s g held here in
-      let p : Promising (site_takes decl s g) = promising s g prepared here in
+      let a : Asks decl B (site_takes decl s g) = site_asks decl B s g held prepared here in
+      let p : Promising (site_takes decl s g) = promising s g here in
       record {
         held = a.held;
-        prepared = p.prepared;
+        prepared = a.prepared;
         turn = record {
           sends = every-weaker (λ (q : Posting). SiteTells decl B q.to q.message) (λ (q : Posting). IsAbout q.to q.message) (λ q. about q.to q.message) (site_takes decl s g).turn.sends a.sends;
           failed = p.failed;
@@ -154,25 +147,18 @@ module _ (decl : Declaration) (B : TxId → Type 0) where
 
   -- a rise
 
-  less : (ps : List Prepared) (tx : TxId) → PreparedFor ps → PreparedFor (without_prepared ps tx)
-  less ps tx all = every-filter (λ (p : Prepared). B p.tx) (λ (p : Prepared). not (same_tx p.tx tx)) ps all
-
-  kept_for : (k : Kept) (rs : List Record) → PreparedFor k.promises → Every PromisesFor rs → PreparedFor (fold keeps k rs).promises
+  kept_for : (k : Kept) (rs : List Record) → PreparedFor decl B k.promises → Every PromisesFor rs → PreparedFor decl B (fold keeps k rs).promises
   kept_for k [] all puts = all
   kept_for k (records.Life ∷ rs) all puts = kept_for (keeps k records.Life) rs all puts.1
   kept_for k (records.Prepare p ∷ rs) all puts =
-      kept_for (keeps k (records.Prepare p)) rs (every-append (λ (q : Prepared). B q.tx) (without_prepared k.promises p.tx) (p ∷ []) (less k.promises p.tx all) (puts.0, tt)) puts.1
-  kept_for k (records.Done tx clock ∷ rs) all puts = kept_for (keeps k (records.Done tx clock)) rs (less k.promises tx all) puts.1
+      kept_for (keeps k (records.Prepare p)) rs (every-append (λ (q : Prepared). B q.tx) (without_prepared k.promises p.tx) (p ∷ []) (prepared-left decl B k.promises p.tx all) (puts.0, tt)) puts.1
+  kept_for k (records.Done tx clock ∷ rs) all puts = kept_for (keeps k (records.Done tx clock)) rs (prepared-left decl B k.promises tx all) puts.1
   kept_for k (records.Close epoch ∷ rs) all puts = kept_for (keeps k (records.Close epoch)) rs all puts.1
   kept_for k (records.Install epoch clock lines ∷ rs) all puts = kept_for (keeps k (records.Install epoch clock lines)) rs tt puts.1
   kept_for k (records.Commit commit ∷ rs) all puts = kept_for k rs all puts.1
   kept_for k (records.Decide epoch clock lines ∷ rs) all puts = kept_for k rs all puts.1
 
-  held_for : (held : List Held) (ps : List Prepared) → HeldFor decl B held → PreparedFor ps → HeldFor decl B (fold holds held ps)
-  held_for held [] all more = all
-  held_for held (p ∷ ps) all more = held_for (holds held p) ps (held-more decl B held p.tx p.locks p.own all more.0) more.1
-
-  asked_txs : (ps : List Prepared) → PreparedFor ps → Every B (map (λ (p : Prepared). p.tx) ps)
+  asked_txs : (ps : List Prepared) → PreparedFor decl B ps → Every B (map (λ (p : Prepared). p.tx) ps)
   asked_txs [] all = tt
   asked_txs (p ∷ ps) all = (all.0, asked_txs ps all.1)
 
@@ -182,9 +168,9 @@ module _ (decl : Declaration) (B : TxId → Type 0) where
 
   pub rises_ask : (site : ℕ) (rs : List Record) → Every PromisesFor rs → SiteAsks (site_rises decl site rs)
   rises_ask site rs puts =
-      let whole : PreparedFor (kept_by (rs ++ records.Life ∷ [])).promises = kept_for nothing_kept (rs ++ records.Life ∷ []) tt (every-append PromisesFor rs (records.Life ∷ []) puts (tt, tt)) in
+      let whole : PreparedFor decl B (kept_by (rs ++ records.Life ∷ [])).promises = kept_for nothing_kept (rs ++ records.Life ∷ []) tt (every-append PromisesFor rs (records.Life ∷ []) puts (tt, tt)) in
       record {
-        held = held_for [] (kept_by (rs ++ records.Life ∷ [])).promises tt whole;
+        held = held-promised decl B [] (kept_by (rs ++ records.Life ∷ [])).promises tt whole;
         prepared = whole;
         turn = record {
           sends = asked_about (take most_inquiries (in_order (map (λ (p : Prepared). p.tx) (kept_by rs).promises)))

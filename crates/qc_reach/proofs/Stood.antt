@@ -1,7 +1,6 @@
 -- A net stands for a history with falls where it has the history's mail, and each site and client is up, and has on its
 -- disk, what its deeds say; one that is up is as its deeds give it, or as it was before the input that is open.
 use Rattle.std.proofs.Common.{◌≡◌, ◌≢◌, ℕ, ◌==◌, Bool, true, false, cond, List, [], ◌++◌, Option, Some, None, slice_get, inl, inr, refl, sym, ap, ◌∙◌, subst}
-use Rattle.qc_list.proofs.Members.{every-append}
 use Rattle.qc_core.specs.declared.actor.Actor.{Actor}
 use Rattle.qc_core.specs.declared.actor.Actor.TheVariants as actor
 use Rattle.qc_core.specs.Actors.{actor_after, actor_takes}
@@ -21,8 +20,6 @@ use Rattle.qc_net.proofs.Nets.{place}
 use Rattle.qc_laws.proofs.Places.{slice_get-more}
 use Rattle.qc_atomic.proofs.Stood.{apart}
 use Rattle.qc_reach.specs.Reached.{HasTaken, TakesInputs, actor_in}
-use Rattle.qc_reach.proofs.OneEpoch.{IsMailOfOneEpoch}
-use Rattle.qc_reach.proofs.Says.{IsOfOneEpoch}
 
 still_sent : (a : ℕ) (ms more : List Envelope) (g : Given) → WasSentTo a ms g → WasSentTo a (ms ++ more) g
 still_sent a ms more (given.Called command) sent = tt
@@ -42,7 +39,6 @@ module _ (decl : Declaration) where
     pub net : Net
     pub reached : Reaches decl net
     pub mail_is : net.mail ≡ mail h
-    pub one : IsMailOfOneEpoch (mail h)
     pub actors : (a : ℕ) → TakesInputs decl a → Stands net a h (slice_get open_inputs a)
 
   -- an actor that the next net leaves as it was
@@ -79,14 +75,13 @@ module _ (decl : Declaration) where
   }
 
   -- one actor moves, and all others stay
-  pub moves : (h k : List Entry) (inputs later : List Bool) (old : Stood h inputs) (a : ℕ) (next : Net) (more : List Envelope) → Reaches decl next → next.mail ≡ mail k → mail k ≡ mail h ++ more → IsMailOfOneEpoch more
+  pub moves : (h k : List Entry) (inputs later : List Bool) (old : Stood h inputs) (a : ℕ) (next : Net) (more : List Envelope) → Reaches decl next → next.mail ≡ mail k → mail k ≡ mail h ++ more
       → ((b : ℕ) → b ≢ a → Leaves old.net next b) → ((b : ℕ) → (a == b) ≡ false → deeds b [] k ≡ deeds b [] h) → ((b : ℕ) → (a == b) ≡ false → slice_get later b ≡ slice_get inputs b)
       → (TakesInputs decl a → Stands next a k (slice_get later a)) → Stood k later
-  moves h k inputs later old a next more reached mail_is grows one leaves same slots here = record {
+  moves h k inputs later old a next more reached mail_is grows leaves same slots here = record {
     net = next;
     reached = reached;
     mail_is = mail_is;
-    one = subst IsMailOfOneEpoch (sym grows) (every-append (λ (e : Envelope). IsOfOneEpoch e.message) (mail h) more old.one one);
     actors = λ b is. elim (place b a) [
       | inl at ↦ subst (λ (n : ℕ). Stands next n k (slice_get later n)) (sym at) (here (subst (TakesInputs decl) at is))
       | inr other ↦ (let differs : (a == b) ≡ false = apart a b (λ at. other (sym at)) in stays old.net next b h k more (slice_get inputs b) (slice_get later b) (leaves b other) (same b differs) grows (slots b differs) (old.actors b is))

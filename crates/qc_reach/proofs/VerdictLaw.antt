@@ -60,7 +60,7 @@ use Rattle.qc_stamp.proofs.Orders.{same_tx_is, same_tx_itself}
 use Rattle.qc_due.specs.Declares.{Declares}
 use Rattle.qc_due.proofs.AccountDeclared.{asks_declared}
 use Rattle.qc_due.proofs.Declared.{run_declares}
-use Rattle.qc_due.proofs.KeptFirst.{kept_first}
+use Rattle.qc_due.proofs.KeptPlanned.{kept_planned}
 use Rattle.qc_reach.specs.Reached.{IsReachedWithFalls}
 use Rattle.qc_reach.proofs.Reaching.{net_of}
 use Rattle.qc_reach.proofs.Rightly.{Shows, course_shows}
@@ -106,7 +106,7 @@ module _ (decl : Declaration) (script : Script) (fits : ℕ → List Record → 
   AreKnown h = (a : ℕ) → is_client decl a ≡ true → (tx : TxId) → KnownFrom tx Unborn (deeds a [] h)
 
   declares : (h : List Entry) (open_inputs : List Bool) → IsRun h open_inputs → Kept h → (a : ℕ) → Declares decl (deeds a [] h)
-  declares h open_inputs run kept a = run_declares decl script fits accepted (asks_declared decl script accepted sound) h open_inputs run (kept_first decl script fits h open_inputs run kept) a
+  declares h open_inputs run kept a = run_declares decl script fits accepted (asks_declared decl script accepted sound) h open_inputs run (kept_planned decl script fits accepted h open_inputs run kept) a
 
   record Lived (h : List Entry) (open_inputs : List Bool) (a : ℕ) : Type 0 where
     is_open : Bool

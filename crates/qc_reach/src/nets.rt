@@ -33,7 +33,7 @@ ghost use Rattle.qc_reach.specs.Standing.{AreStanding, IsPromiseRecorded};
 ghost use Rattle.qc_script.specs.RunsWithFalls.{RunsWithFalls};
 ghost use Rattle.qc_script.specs.Sound.{IsScriptFor};
 ghost use Rattle.qc_script.specs.declared.script.Script.{Script};
-ghost use Rattle.qc_site.specs.Site.{SiteState};
+ghost use Rattle.qc_site.specs.Site.{SiteState, known};
 ghost use Rattle.qc_stamp.specs.declared.stamp.TxId.{TxId};
 
 use qc_script::ConductWithFalls;
@@ -100,7 +100,7 @@ pub fn lines_are_operations_of_records_that_stand<C: ConductWithFalls>()
         → RunsWithFalls (IsLawfulWithFalls decl) C.fits decl script h open_inputs → Kept h
         → AreStanding decl h commits → is_site decl a ≡ true → is_up (deeds a [] h) ≡ true
         → slice_get open_inputs a ≡ Some false → (actor_after decl a (deeds a [] h)).actor ≡ Site s
-        → In line s.log → IsLogged decl commits line }
+        → In line (known s) → IsLogged decl commits line }
     ensures messages { (decl : Declaration) (script : Script) (h : List Entry) (open_inputs : List Bool)
         (commits : List Commit) (e : Envelope) (line : Line) → IsAccepted decl → IsScriptFor decl script
         → RunsWithFalls (IsLawfulWithFalls decl) C.fits decl script h open_inputs → Kept h
@@ -116,7 +116,7 @@ pub fn logs_and_views_are_closed_through_falls<C: ConductWithFalls>()
         → RunsWithFalls (IsLawfulWithFalls decl) C.fits decl script h open_inputs → Kept h
         → AreStanding decl h commits → is_site decl a ≡ true → is_up (deeds a [] h) ≡ true
         → slice_get open_inputs a ≡ Some false → (actor_after decl a (deeds a [] h)).actor ≡ Site s
-        → IsClosedLog decl commits s.log }
+        → IsClosedLog decl commits (known s) }
     ensures views { (decl : Declaration) (script : Script) (h : List Entry) (open_inputs : List Bool)
         (commits : List Commit) (e : Envelope) (tx : TxId) (epoch life object : ℕ) (view : List Line)
         (own : List OwnLine) → IsAccepted decl → IsScriptFor decl script

@@ -1,10 +1,8 @@
-pub mod Ascending
 pub mod Logs
 pub mod Last
 pub mod Promised
 pub mod Asked
 pub mod Lives
-pub mod Holders
 pub mod SiteLaws
 pub mod ClientLaws
 pub mod SortedRecords

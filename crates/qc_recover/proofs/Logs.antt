@@ -13,7 +13,7 @@ use Rattle.qc_entry.proofs.Union.{union_lem}
 use Rattle.qc_list.specs.Members.{In}
 use Rattle.qc_list.proofs.Members.{every-In, every-from_In}
 use Rattle.qc_recover.specs.Gathered.{log_of, with_line}
-use Rattle.qc_recover.proofs.Ascending.{same_ascending}
+use Rattle.qc_site.proofs.Ascending.{same_ascending}
 
 pub one_more : (log : List Line) (line : Line) → IsAscending log → IsUnion log (line ∷ []) (with_line log line)
 one_more log line ascending = union_lem log (line ∷ []) ascending (tt, tt)

@@ -13,13 +13,14 @@ use Rattle.qc_lock.proofs.Ones.{once-filter, once-put, put_last}
 use Rattle.qc_msg.specs.declared.record.Record.{Record}
 use Rattle.qc_msg.specs.declared.record.Record.TheVariants as records
 use Rattle.qc_site.specs.Conduct.{latest}
+use Rattle.qc_site.specs.Epochs.{held_by, holds}
 use Rattle.qc_site.specs.Promise.{is_prepared, prepared_of, without_prepared}
 use Rattle.qc_site.specs.Site.{SiteState}
 use Rattle.qc_site.proofs.Votes.{prepared-without, prepared-without_other}
 use Rattle.qc_stamp.specs.declared.stamp.TxId.{TxId}
-use Rattle.qc_recover.specs.Sites.{Kept, held_by, holds, keeps, kept_by, nothing_kept, site_by, site_of, with_promise}
+use Rattle.qc_recover.specs.Sites.{Kept, keeps, kept_by, nothing_kept, site_by, site_of, with_promise}
 use Rattle.qc_recover.specs.Words.{begins_life, clocks_in, clocks_of}
-use Rattle.qc_recover.proofs.Asked.{promiser}
+use Rattle.qc_site.proofs.Promised.{promiser}
 
 pub kept_more : (rs more : List Record) → kept_by (rs ++ more) ≡ fold keeps (kept_by rs) more
 kept_more rs more = fold-append keeps nothing_kept rs more

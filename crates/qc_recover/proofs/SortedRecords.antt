@@ -3,22 +3,22 @@ use Rattle.std.proofs.Common.{◌≡◌, ◌⊎◌, inl, inr, ℕ, not, List, []
 use Rattle.std.specs.Option.{option_map_or}
 use Rattle.qc_entry.specs.declared.record.Prepared.{Prepared}
 use Rattle.qc_entry.specs.Line.{IsAscending}
+use Rattle.qc_entry.specs.Log.{without}
 use Rattle.qc_entry.proofs.Union.{ascending-union}
 use Rattle.qc_list.specs.Members.{In}
 use Rattle.qc_list.proofs.Members.{In-more}
-use Rattle.qc_lock.specs.declared.held.Held.{Held}
-use Rattle.qc_lock.specs.Sound.{IsSound}
 use Rattle.qc_msg.specs.declared.record.Record.{Record}
 use Rattle.qc_msg.specs.declared.record.Record.TheVariants as records
 use Rattle.qc_site.specs.Promise.{lines_of, prepared_of, without_prepared}
 use Rattle.qc_site.specs.Sorted.{ArePromisesSorted, IsSiteSorted}
-use Rattle.qc_site.proofs.Sorted.{ascending-stamped, promises-filter, promises-push, sound-held}
+use Rattle.qc_site.proofs.Sorted.{ascending-stamped, ascending-without, held-sound, promises-filter, promises-push}
 use Rattle.qc_stamp.specs.declared.stamp.TxId.{TxId}
 use Rattle.qc_stamp.specs.Order.{same_tx}
-use Rattle.qc_recover.specs.Sites.{Kept, done_lines, done_stamp, holds, keeps, kept_by, nothing_kept, site_of}
+use Rattle.qc_recover.specs.Sites.{Kept, done_lines, done_stamp, keeps, kept_by, nothing_kept, site_of}
 use Rattle.qc_recover.specs.Words.{IsRecordSorted}
 
 record IsKeptSorted (k : Kept) : Type 0 where
+  pub began : IsAscending k.began
   pub lines : IsAscending k.lines
   pub promises : ArePromisesSorted k.promises
 
@@ -32,17 +32,19 @@ left_sorted : (ps : List Prepared) (tx : TxId) → ArePromisesSorted ps → AreP
 left_sorted ps tx sorted = promises-filter (λ (q : Prepared). not (same_tx q.tx tx)) ps sorted
 
 one_more : (k : Kept) (r : Record) → IsKeptSorted k → IsRecordSorted r → IsKeptSorted (keeps k r)
-one_more k records.Life w sorted = record { lines = w.lines; promises = w.promises }
+one_more k records.Life w sorted = record { began = w.began; lines = w.lines; promises = w.promises }
 one_more k (records.Prepare p) w sorted = record {
+  began = w.began;
   lines = ascending-union k.lines p.lines w.lines sorted.2;
   promises = promises-push (without_prepared k.promises p.tx) p (left_sorted k.promises p.tx w.promises) sorted.0 sorted.1 sorted.2;
 }
 one_more k (records.Done tx clock) w sorted = record {
-  lines = ascending-union k.lines (done_lines k.prepares tx clock) w.lines (done_ascends k.prepares tx clock);
+  began = w.began;
+  lines = ascending-union k.lines (without (done_lines k.prepares tx clock) k.began) w.lines (ascending-without (done_lines k.prepares tx clock) k.began (done_ascends k.prepares tx clock));
   promises = left_sorted k.promises tx w.promises;
 }
-one_more k (records.Close epoch) w sorted = record { lines = w.lines; promises = w.promises }
-one_more k (records.Install epoch clock lines) w sorted = record { lines = sorted; promises = tt }
+one_more k (records.Close epoch) w sorted = record { began = w.began; lines = w.lines; promises = w.promises }
+one_more k (records.Install epoch clock lines) w sorted = record { began = sorted; lines = tt; promises = tt }
 one_more k (records.Commit commit) w sorted = w
 one_more k (records.Decide epoch clock lines) w sorted = w
 
@@ -50,17 +52,14 @@ from : (k : Kept) (rs : List Record) → IsKeptSorted k → ((r : Record) → In
 from k [] w each = w
 from k (r ∷ rs) w each = from (keeps k r) rs (one_more k r w (each r (inl refl))) (λ q later. each q (inr later))
 
-held_sound : (held : List Held) (ps : List Prepared) → IsSound held → IsSound (fold holds held ps)
-held_sound held [] sound = sound
-held_sound held (p ∷ ps) sound = held_sound (holds held p) ps (sound-held held p.tx p.locks p.own sound)
-
 site_sorted : (number : ℕ) (rs : List Record) → ((r : Record) → In r rs → IsRecordSorted r) → IsSiteSorted (site_of number rs)
 site_sorted number rs each =
-    let w = from nothing_kept rs (record { lines = tt; promises = tt }) each in
+    let w = from nothing_kept rs (record { began = tt; lines = tt; promises = tt }) each in
     record {
+      began = w.began;
       log = w.lines;
       recorded = w.lines;
-      held = held_sound [] (kept_by rs).promises (record { single = tt; full = tt; sorted = tt });
+      held = held-sound [] (kept_by rs).promises (record { single = tt; full = tt; sorted = tt });
       prepared = w.promises;
     }
 

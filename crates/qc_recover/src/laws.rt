@@ -18,7 +18,8 @@ ghost use Rattle.qc_msg.specs.declared.message.Outcome.TheVariants.{Aborted, Com
 ghost use Rattle.qc_msg.specs.declared.record.Record.{Record};
 ghost use Rattle.qc_msg.specs.declared.record.Record.TheVariants.{Close, Commit, Done, Install, Life, Prepare};
 ghost use Rattle.qc_recover.specs.Clients.{client_of, client_rises};
-ghost use Rattle.qc_recover.specs.Sites.{in_order, site_of, site_rises};
+ghost use Rattle.qc_recover.specs.Sites.{site_of, site_rises};
+ghost use Rattle.qc_site.specs.Epochs.{in_order};
 ghost use Rattle.qc_recover.specs.Words.{IsRecordSorted, begins_life, clocks_in, is_rise};
 ghost use Rattle.qc_site.specs.Conduct.{latest};
 ghost use Rattle.qc_site.specs.Promise.{is_prepared, prepared_of};
@@ -67,12 +68,11 @@ pub fn installs_begin_anew()
         → site_of number (rs ++ Install epoch clock lines ∷ []) ≡ record (new_site number) {
           life = (site_of number rs).life;
           epoch = epoch;
-          log = lines;
-          recorded = lines;
+          began = lines;
           clock = max (latest (site_of number rs).clock lines) clock;
         } }
     ensures late { (number : ℕ) (rs : List Record) (epoch clock done : ℕ) (lines : List Line) (tx : TxId)
-        → (site_of number (rs ++ Install epoch clock lines ∷ Done tx done ∷ [])).log ≡ lines }
+        → (site_of number (rs ++ Install epoch clock lines ∷ Done tx done ∷ [])).log ≡ [] }
 {}
 
 /// The last Prepare of a transaction is its promise, until it is done. Those of

@@ -6,7 +6,7 @@ ghost use Rattle.qc_decl.specs.Limits.{most_clients, most_sites};
 ghost use Rattle.qc_entry.specs.declared.record.Prepared.{Prepared};
 ghost use Rattle.qc_list.specs.Members.{In};
 ghost use Rattle.qc_msg.specs.declared.record.Record.TheVariants.{Prepare};
-ghost use Rattle.qc_recover.specs.Sites.{held_by, inquiries, kept_by, site_by, site_rises};
+ghost use Rattle.qc_recover.specs.Sites.{inquiries, kept_by, site_by, site_rises};
 ghost use Rattle.qc_site.specs.Site.{moved};
 
 use crate::site_records::SiteRecords;
@@ -15,7 +15,7 @@ use qc_decl::Declaration;
 use qc_list::{List, OutOfMemory};
 use qc_lock::Locks;
 use qc_msg::{Message, Posting, Record, Sends, Turn};
-use qc_site::{Promises, Site};
+use qc_site::{Promises, Site, held_by};
 use std::alloc::Global;
 
 /// A site that has risen, and its rising turn.
@@ -55,7 +55,7 @@ fn kept_by(alloc: Global, records: &[Record]) -> Result<SiteRecords, OutOfMemory
     requires { length records.now < 2 ^ 32 - 2 }
     ensures { IfOk result (λ kept. kept ≡ kept_by records.now) }
 {
-    let mut kept = SiteRecords::new(alloc);
+    let mut kept = SiteRecords::new(alloc)?;
     'records: for rec in records {
         kept.keep(alloc, rec)?;
     }
@@ -72,6 +72,7 @@ fn site_by(alloc: Global, number: u8, kept: SiteRecords) -> Result<Site, OutOfMe
         life,
         epoch,
         closed_for,
+        began,
         lines,
         prepares: _,
         promises,
@@ -79,19 +80,8 @@ fn site_by(alloc: Global, number: u8, kept: SiteRecords) -> Result<Site, OutOfMe
     } = kept;
     let lines = lines.into_log(alloc)?;
     Site::risen(
-        number, life, epoch, closed_for, lines, held, promises, clock,
+        number, life, epoch, closed_for, began, lines, held, promises, clock,
     )
-}
-
-/// What the promised transactions hold.
-fn held_by(alloc: Global, promises: &Promises) -> Result<Locks, OutOfMemory>
-    ensures { IfOk result (λ held. held ≡ held_by promises.now) }
-{
-    let mut held = Locks::new(alloc);
-    'promises: for promise in promises.iter() {
-        held.hold(promise)?;
-    }
-    Ok(held)
 }
 
 /// At most so many questions go out at a rise.

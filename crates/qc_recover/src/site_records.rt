@@ -22,8 +22,9 @@ pub(crate) struct SiteRecords {
     pub(crate) epoch: u8,
     /// The epoch of the last Close after it.
     pub(crate) closed_for: Option<u8>,
-    /// The lines of the last Install, and those of later Prepares and of what is
-    /// done.
+    /// The lines of the last Install.
+    pub(crate) began: Log,
+    /// What later Prepares and what is done give beside them.
     pub(crate) lines: LineSet,
     /// The last Prepare of each transaction after the last Install.
     pub(crate) prepares: Promises,
@@ -42,6 +43,7 @@ impl Model for SiteRecords {
       life = k.life;
       epoch = k.epoch;
       closed_for = k.closed_for;
+      began = k.began;
       lines = k.lines;
       prepares = k.prepares;
       promises = k.promises;
@@ -50,19 +52,20 @@ impl Model for SiteRecords {
 }
 
 impl SiteRecords {
-    /// What no record gives. It takes no memory.
-    pub(crate) fn new(alloc: Global) -> SiteRecords
-        ensures { result ≡ nothing_kept }
+    /// What no record gives.
+    pub(crate) fn new(alloc: Global) -> Result<SiteRecords, OutOfMemory>
+        ensures { IfOk result (λ k. k ≡ nothing_kept) }
     {
-        SiteRecords {
+        Ok(SiteRecords {
             life: FIRST_LIFE,
             epoch: FIRST_EPOCH,
             closed_for: None,
+            began: Log::new(alloc)?,
             lines: LineSet::new(alloc),
             prepares: Promises::new(alloc),
             promises: Promises::new(alloc),
             clock: Clock { value: 0 },
-        }
+        })
     }
 
     /// Keeps what one record more gives.
@@ -100,11 +103,12 @@ impl SiteRecords {
     }
 
     /// A transaction committed with this clock: the own lines of its last
-    /// Prepare are lines now, and its promise goes.
+    /// Prepare are lines now, but for those that the epoch began with, and its
+    /// promise goes.
     fn finish(&mut self, alloc: Global, tx: TxId, clock: u64) -> Result<(), OutOfMemory>
         ensures { OnOk result (self.new ≡ keeps self.old (Done tx clock)) }
     {
-        let lines = done_lines(alloc, &self.prepares, tx, clock)?;
+        let lines = done_lines(alloc, &self.prepares, tx, clock)?.without(&self.began)?;
         self.lines.join(lines.lines())?;
         self.promises.remove(tx);
         self.clock.pass(clock);
@@ -123,8 +127,8 @@ impl SiteRecords {
     {
         self.epoch = epoch;
         self.closed_for = None;
+        self.began = lines.copy()?;
         self.lines = LineSet::new(alloc);
-        self.lines.join(lines.lines())?;
         self.prepares = Promises::new(alloc);
         self.promises = Promises::new(alloc);
         self.clock = latest(self.clock, lines.lines());

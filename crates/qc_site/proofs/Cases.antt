@@ -1,5 +1,5 @@
 -- What a site may become and do: one case for each row.
-use Rattle.std.proofs.Common.{◌≡◌, ℕ, ◌==◌, nat_lt, nat_le, not, Bool, true, false, cond, List, Option, Some, None, refl, sym, subst}
+use Rattle.std.proofs.Common.{◌≡◌, ℕ, ◌+◌, ◌==◌, nat_lt, nat_le, not, Bool, true, false, cond, List, Option, Some, None, refl, sym, subst, ◌∙◌}
 use Rattle.qc_stamp.specs.declared.stamp.Stamp.{Stamp}
 use Rattle.qc_stamp.specs.declared.stamp.TxId.{TxId}
 use Rattle.qc_entry.specs.declared.line.Line.{Line}
@@ -18,13 +18,17 @@ use Rattle.qc_msg.specs.declared.message.Outcome.{Outcome}
 use Rattle.qc_msg.specs.declared.message.Outcome.TheVariants.{Committed, Aborted, Active}
 use Rattle.qc_msg.specs.declared.message.Want.{Want}
 use Rattle.qc_msg.specs.declared.message.Want.TheVariants.{Read, Append, Prepare}
+use Rattle.qc_msg.specs.declared.record.Record.TheVariants as records
+use Rattle.qc_msg.specs.declared.turn.Turn.{Turn}
+use Rattle.qc_msg.specs.Lengths.{epoch_length}
 use Rattle.qc_msg.specs.Turns.{quiet}
-use Rattle.qc_site.specs.Site.{SiteState, SiteMove, moved, answers}
+use Rattle.qc_site.specs.Epochs.{closed, closes, installed, installs, is_closed_for, shut_answer}
+use Rattle.qc_site.specs.Site.{SiteState, SiteMove, moved, answers, recording}
 use Rattle.qc_site.specs.Promise.{dropped, finishes, is_prepared, joins, prepare_length, prepared_of, prepares, promise_of, promised, votes}
 use Rattle.qc_site.specs.Requests.{appends, appends_by, clashing, closed_fault, fault_of, grants, names_declared, reads, reads_by, relation_at, requested}
 use Rattle.qc_site.specs.Conduct.{site_at}
 use Rattle.qc_site.specs.Ended.{is_final}
-use Rattle.qc_site.specs.Told.{is_grant}
+use Rattle.qc_site.specs.Told.{closes_in, installs_in, is_grant}
 
 -- what a test that came out otherwise would show
 pub never : {A : Type 0} → false ≡ true → A
@@ -120,7 +124,46 @@ join_cases P s tx stamp none some = by (prepared_of s.prepared tx) refl
     by None is = none is
     by (Some p) is = some p is
 
--- the state alone: as it was, or changed by a grant, a promise or a decision
+-- a Close, by its rows, and an Install
+pub close_rows : (P : SiteMove → Type 0) (s : SiteState) (from number k : ℕ)
+    → P (moved s (answers from number (says.Behind s.epoch)))
+    → P (moved s (answers from number (says.Closed s.epoch)))
+    → P (moved s (answers from number (shut_answer s)))
+    → P (moved (closed s k) (recording from number (records.Close k) (shut_answer (closed s k))))
+    → P (closes s from number k)
+close_rows P s from number k behind closed again made =
+    choose P (nat_lt (s.epoch + 1) k) _ _ (λ is. behind)
+    (λ near. choose P (nat_le k s.epoch) _ _ (λ is. closed) (λ later. choose P (is_closed_for k s.closed_for) _ _ (λ is. again) (λ first. made)))
+
+pub install_rows : (P : SiteMove → Type 0) (s : SiteState) (from number k clock : ℕ) (lines : List Line)
+    → P (moved s (answers from number says.Installed))
+    → P (moved s (answers from number (says.Behind s.epoch)))
+    → P (moved (installed s k clock lines) (recording from number (records.Install k clock lines) says.Installed))
+    → P (installs s from number k clock lines)
+install_rows P s from number k clock lines known long made =
+    choose P (nat_le k s.epoch) _ _ (λ is. known) (λ later. choose P (nat_le (epoch_length lines) most_record_bytes) _ _ (λ fits. made) (λ is. long))
+
+-- a Close: it is answered and no more, or the site closes
+pub close_cases : (P : SiteMove → Type 0) (s : SiteState) (from number k : ℕ)
+    → ((answer : Answer) → P (moved s (answers from number answer)))
+    → (nat_lt (s.epoch + 1) k ≡ false → nat_le k s.epoch ≡ false → P (moved (closed s k) (recording from number (records.Close k) (shut_answer (closed s k)))))
+    → P (closes s from number k)
+close_cases P s from number k told made =
+    choose P (nat_lt (s.epoch + 1) k) _ _ (λ is. told (says.Behind s.epoch))
+    (λ near. choose P (nat_le k s.epoch) _ _ (λ is. told (says.Closed s.epoch))
+    (λ later. choose P (is_closed_for k s.closed_for) _ _ (λ is. told (shut_answer s)) (λ first. made near later)))
+
+-- an Install: it is answered and no more, or the site begins the epoch
+pub install_cases : (P : SiteMove → Type 0) (s : SiteState) (from number k clock : ℕ) (lines : List Line)
+    → ((answer : Answer) → P (moved s (answers from number answer)))
+    → (nat_le k s.epoch ≡ false → nat_le (epoch_length lines) most_record_bytes ≡ true
+    → P (moved (installed s k clock lines) (recording from number (records.Install k clock lines) says.Installed)))
+    → P (installs s from number k clock lines)
+install_cases P s from number k clock lines told made =
+    choose P (nat_le k s.epoch) _ _ (λ is. told says.Installed)
+    (λ later. choose P (nat_le (epoch_length lines) most_record_bytes) _ _ (made later) (λ long. told (says.Behind s.epoch)))
+
+-- the state alone: as it was, or changed by a grant, a promise or a decision, or as an epoch is closed or begun
 pub state_cases : (P : SiteState → Type 0) (decl : Declaration) (s : SiteState) (from number : ℕ) (message : Message)
     → P s
     → ((tx : TxId) (epoch life object inv : ℕ) → message ≡ messages.Request tx epoch life (Read object inv) → P (reads s from number tx object inv).site)
@@ -128,22 +171,85 @@ pub state_cases : (P : SiteState → Type 0) (decl : Declaration) (s : SiteState
     → ((tx : TxId) → P (promised s (promise_of s tx)))
     → ((tx : TxId) (verdict : Outcome) → message ≡ messages.Decision tx verdict → is_final verdict ≡ true → P (dropped s tx))
     → ((tx : TxId) (stamp : Stamp) (p : Prepared) → message ≡ messages.Decision tx (Committed stamp) → P (joins s tx stamp (Some p)).site)
+    → ((k : ℕ) → message ≡ messages.Close k → P (closed s k))
+    → ((k clock : ℕ) (lines : List Line) → message ≡ messages.Install k clock lines → nat_le k s.epoch ≡ false → P (installed s k clock lines))
     → P (site_at decl s from number message).site
-state_cases P decl s from number (messages.Request tx epoch life (Read object inv)) same read append promise drop join =
+state_cases P decl s from number (messages.Request tx epoch life (Read object inv)) same read append promise drop join close install =
     request_cases (λ m. P m.site) decl s from number tx epoch life (Read object inv) same (λ fault is. same)
     (λ is. read_cases (λ m. P m.site) decl s from number tx object inv (λ free. read tx epoch life object inv refl) (λ c clash. same))
-state_cases P decl s from number (messages.Request tx epoch life (Append object view own)) same read append promise drop join =
+state_cases P decl s from number (messages.Request tx epoch life (Append object view own)) same read append promise drop join close install =
     request_cases (λ m. P m.site) decl s from number tx epoch life (Append object view own) same (λ fault is. same)
     (λ is. append_cases (λ m. P m.site) decl s from number tx object view own (λ free. append tx epoch life object view own refl) (λ c clash. same))
-state_cases P decl s from number (messages.Request tx epoch life Prepare) same read append promise drop join =
+state_cases P decl s from number (messages.Request tx epoch life Prepare) same read append promise drop join close install =
     request_cases (λ m. P m.site) decl s from number tx epoch life Prepare same (λ fault is. same)
     (λ is. prepare_cases (λ m. P m.site) s from number tx same (λ held stands. same) (λ held made. promise tx))
-state_cases P decl s from number (messages.Answer to answer) same read append promise drop join = same
-state_cases P decl s from number (messages.Decision tx (Committed stamp)) same read append promise drop join =
+state_cases P decl s from number (messages.Answer to answer) same read append promise drop join close install = same
+state_cases P decl s from number (messages.Decision tx (Committed stamp)) same read append promise drop join close install =
     join_cases (λ m. P m.site) s tx stamp (λ none. drop tx (Committed stamp) refl refl) (λ p some. join tx stamp p refl)
-state_cases P decl s from number (messages.Decision tx Aborted) same read append promise drop join = drop tx Aborted refl refl
-state_cases P decl s from number (messages.Decision tx Active) same read append promise drop join = same
-state_cases P decl s from number (messages.Inquiry tx) same read append promise drop join = same
-state_cases P decl s from number (messages.Ask tx) same read append promise drop join = same
-state_cases P decl s from number (messages.Close epoch) same read append promise drop join = same
-state_cases P decl s from number (messages.Install epoch clock log) same read append promise drop join = same
+state_cases P decl s from number (messages.Decision tx Aborted) same read append promise drop join close install = drop tx Aborted refl refl
+state_cases P decl s from number (messages.Decision tx Active) same read append promise drop join close install = same
+state_cases P decl s from number (messages.Inquiry tx) same read append promise drop join close install = same
+state_cases P decl s from number (messages.Ask tx) same read append promise drop join close install = same
+state_cases P decl s from number (messages.Close k) same read append promise drop join close install =
+    close_cases (λ m. P m.site) s from number k (λ answer. same) (λ near later. close k refl)
+state_cases P decl s from number (messages.Install k clock lines) same read append promise drop join close install =
+    install_cases (λ m. P m.site) s from number k clock lines (λ answer. same) (λ later fits. install k clock lines refl later)
+
+-- the same where the turn begins no epoch
+pub lasting_cases : (P : SiteState → Type 0) (decl : Declaration) (s : SiteState) (from number : ℕ) (message : Message)
+    → P s
+    → ((tx : TxId) (epoch life object inv : ℕ) → message ≡ messages.Request tx epoch life (Read object inv) → P (reads s from number tx object inv).site)
+    → ((tx : TxId) (epoch life object : ℕ) (view : List Line) (own : List OwnLine) → message ≡ messages.Request tx epoch life (Append object view own) → P (appends s from number tx view own).site)
+    → ((tx : TxId) → P (promised s (promise_of s tx)))
+    → ((tx : TxId) (verdict : Outcome) → message ≡ messages.Decision tx verdict → is_final verdict ≡ true → P (dropped s tx))
+    → ((tx : TxId) (stamp : Stamp) (p : Prepared) → message ≡ messages.Decision tx (Committed stamp) → P (joins s tx stamp (Some p)).site)
+    → ((k : ℕ) → message ≡ messages.Close k → P (closed s k))
+    → installs_in (site_at decl s from number message).turn ≡ false
+    → P (site_at decl s from number message).site
+lasting_cases P decl s from number message same read append promise drop join close = by message refl
+  where
+    others : (m : Message) → message ≡ m → ((k clock : ℕ) (lines : List Line) → m ≡ messages.Install k clock lines → ⊥) → P (site_at decl s from number m).site
+    others m is never =
+        state_cases P decl s from number m same (λ tx epoch life object inv this. read tx epoch life object inv (is ∙ this)) (λ tx epoch life object view own this. append tx epoch life object view own (is ∙ this))
+        promise (λ tx verdict this. drop tx verdict (is ∙ this)) (λ tx stamp p this. join tx stamp p (is ∙ this)) (λ k this. close k (is ∙ this)) (λ k clock lines this later. absurd (never k clock lines this))
+
+    by : (m : Message) → message ≡ m → installs_in (site_at decl s from number m).turn ≡ false → P (site_at decl s from number m).site
+    by (messages.Request tx epoch life want) is lasts = others (messages.Request tx epoch life want) is (λ k clock lines this. let none : ⊥ = cc in none)
+    by (messages.Answer to answer) is lasts = same
+    by (messages.Decision tx verdict) is lasts = others (messages.Decision tx verdict) is (λ k clock lines this. let none : ⊥ = cc in none)
+    by (messages.Inquiry tx) is lasts = same
+    by (messages.Ask tx) is lasts = same
+    by (messages.Close k) is lasts = others (messages.Close k) is (λ n clock lines this. let none : ⊥ = cc in none)
+    by (messages.Install k clock lines) is lasts =
+        install_cases (λ m. installs_in m.turn ≡ false → P m.site) s from number k clock lines (λ answer none. same) (λ later fits none. absurd (let clash : ⊥ = cc in clash)) lasts
+
+-- and where it closes none either
+
+abbrev pub IsSteady : Turn → Type 0
+IsSteady turn = (closes_in turn ≡ false) × (installs_in turn ≡ false)
+
+pub steady_cases : (P : SiteState → Type 0) (decl : Declaration) (s : SiteState) (from number : ℕ) (message : Message)
+    → P s
+    → ((tx : TxId) (epoch life object inv : ℕ) → message ≡ messages.Request tx epoch life (Read object inv) → P (reads s from number tx object inv).site)
+    → ((tx : TxId) (epoch life object : ℕ) (view : List Line) (own : List OwnLine) → message ≡ messages.Request tx epoch life (Append object view own) → P (appends s from number tx view own).site)
+    → ((tx : TxId) → P (promised s (promise_of s tx)))
+    → ((tx : TxId) (verdict : Outcome) → message ≡ messages.Decision tx verdict → is_final verdict ≡ true → P (dropped s tx))
+    → ((tx : TxId) (stamp : Stamp) (p : Prepared) → message ≡ messages.Decision tx (Committed stamp) → P (joins s tx stamp (Some p)).site)
+    → IsSteady (site_at decl s from number message).turn
+    → P (site_at decl s from number message).site
+steady_cases P decl s from number message same read append promise drop join = by message refl
+  where
+    others : (m : Message) → message ≡ m → ((k : ℕ) → m ≡ messages.Close k → ⊥) → IsSteady (site_at decl s from number m).turn → P (site_at decl s from number m).site
+    others m is never steady =
+        lasting_cases P decl s from number m same (λ tx epoch life object inv this. read tx epoch life object inv (is ∙ this)) (λ tx epoch life object view own this. append tx epoch life object view own (is ∙ this))
+        promise (λ tx verdict this. drop tx verdict (is ∙ this)) (λ tx stamp p this. join tx stamp p (is ∙ this)) (λ k this. absurd (never k this)) steady.1
+
+    by : (m : Message) → message ≡ m → IsSteady (site_at decl s from number m).turn → P (site_at decl s from number m).site
+    by (messages.Request tx epoch life want) is steady = others (messages.Request tx epoch life want) is (λ k this. let none : ⊥ = cc in none) steady
+    by (messages.Answer to answer) is steady = same
+    by (messages.Decision tx verdict) is steady = others (messages.Decision tx verdict) is (λ k this. let none : ⊥ = cc in none) steady
+    by (messages.Inquiry tx) is steady = same
+    by (messages.Ask tx) is steady = same
+    by (messages.Close k) is steady =
+        close_cases (λ m. closes_in m.turn ≡ false → P m.site) s from number k (λ answer none. same) (λ near later none. absurd (let clash : ⊥ = cc in clash)) steady.0
+    by (messages.Install k clock lines) is steady = others (messages.Install k clock lines) is (λ n this. let none : ⊥ = cc in none) steady

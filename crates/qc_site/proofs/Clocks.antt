@@ -1,5 +1,5 @@
 -- The clock passes each stamp that comes, and never falls.
-use Rattle.std.proofs.Common.{◌≡◌, ◌⊎◌, inl, inr, ℕ, ◌≤◌, max, List, [], ◌∷◌, ◌++◌, fold, map, refl, sym, ap, subst, arith}
+use Rattle.std.proofs.Common.{◌≡◌, ◌⊎◌, inl, inr, ℕ, ◌≤◌, max, List, [], ◌∷◌, ◌++◌, fold, map, ap, arith}
 use Rattle.qc_list.specs.Members.{In}
 use Rattle.qc_stamp.specs.declared.stamp.Stamp.{Stamp}
 use Rattle.qc_entry.specs.declared.line.Line.{Line}
@@ -14,19 +14,18 @@ use Rattle.qc_msg.specs.declared.step.Given.{Given}
 use Rattle.qc_msg.specs.declared.step.Given.TheVariants as given
 use Rattle.qc_msg.specs.Deeds.{Deed, Takes, Writes, Sends, Tells, Falls, Rises}
 use Rattle.qc_msg.specs.Turns.{quiet}
-use Rattle.qc_site.specs.Brought.{stamps_at, stamps_given, stamps_in, stamps_taken, stamps_told, view_in}
-use Rattle.qc_site.specs.Conduct.{clock_after, clock_asked, clock_told, latest, passed, site_after, site_at, site_does, site_on, site_takes}
+use Rattle.qc_site.specs.Brought.{stamps_at, stamps_given, stamps_in, stamps_of, stamps_taken, stamps_told, view_in}
+use Rattle.qc_site.specs.Conduct.{clock_after, clock_asked, clock_told, latest, passed, site_after, site_does, site_on, site_takes}
 use Rattle.qc_site.specs.Site.{SiteMove, SiteState, moved, new_site}
 use Rattle.qc_site.proofs.Cases.{state_cases}
 
--- what a message does once the clock has passed leaves it as it is
-clock_stays : (decl : Declaration) (s : SiteState) (from number : ℕ) (message : Message) → (site_at decl s from number message).site.clock ≡ s.clock
-clock_stays decl s from number message =
-    state_cases (λ (x : SiteState). x.clock ≡ s.clock) decl s from number message refl
-    (λ tx epoch life object inv is. refl) (λ tx epoch life object view own is. refl) (λ tx. refl) (λ tx verdict is final. refl) (λ tx stamp p is. refl)
-
-clock_on : (decl : Declaration) (s : SiteState) (from number : ℕ) (message : Message) → clock_after s.clock message ≡ (site_on decl s from number message).site.clock
-clock_on decl s from number message = sym (clock_stays decl (passed s message) from number message)
+-- what a message does once the clock has passed leaves it as it is, or lets it rise
+pub clock_on : (decl : Declaration) (s : SiteState) (from number : ℕ) (message : Message) → clock_after s.clock message ≤ (site_on decl s from number message).site.clock
+clock_on decl s from number message =
+    let p : SiteState = passed s message in
+    state_cases (λ (x : SiteState). p.clock ≤ x.clock) decl p from number message (omega arith)
+    (λ tx epoch life object inv is. omega arith) (λ tx epoch life object view own is. omega arith) (λ tx. omega arith) (λ tx verdict is final. omega arith) (λ tx stamp q is. omega arith)
+    (λ k is. omega arith) (λ k clock lines is later. omega arith)
 
 -- the latest of a clock and lines
 
@@ -35,7 +34,7 @@ latest_later clock [] = omega arith
 latest_later clock (l ∷ ls) =
     let later : max clock l.stamp.clock ≤ latest (max clock l.stamp.clock) ls = latest_later (max clock l.stamp.clock) ls in omega arith
 
-latest_passes : (clock : ℕ) (lines : List Line) (stamp : Stamp) → In stamp (map (λ (l : Line). l.stamp) lines) → stamp.clock ≤ latest clock lines
+latest_passes : (clock : ℕ) (lines : List Line) (stamp : Stamp) → In stamp (stamps_of lines) → stamp.clock ≤ latest clock lines
 latest_passes clock [] stamp member = absurd member
 latest_passes clock (l ∷ ls) stamp (inl same) =
     let later : max clock l.stamp.clock ≤ latest (max clock l.stamp.clock) ls = latest_later (max clock l.stamp.clock) ls in
@@ -62,9 +61,9 @@ after_later clock (messages.Decision tx verdict) = told_later clock verdict
 after_later clock (messages.Inquiry tx) = omega arith
 after_later clock (messages.Ask tx) = omega arith
 after_later clock (messages.Close epoch) = omega arith
-after_later clock (messages.Install epoch installed log) = omega arith
+after_later clock (messages.Install epoch installed lines) = latest_later clock lines
 
-asked_passes : (clock : ℕ) (want : Want) (stamp : Stamp) → In stamp (map (λ (l : Line). l.stamp) (view_in want)) → stamp.clock ≤ clock_asked clock want
+asked_passes : (clock : ℕ) (want : Want) (stamp : Stamp) → In stamp (stamps_of (view_in want)) → stamp.clock ≤ clock_asked clock want
 asked_passes clock (Read object inv) stamp member = absurd member
 asked_passes clock (Append object view own) stamp member = latest_passes clock view stamp member
 asked_passes clock Prepare stamp member = absurd member
@@ -82,14 +81,19 @@ after_passes clock (messages.Decision tx verdict) stamp member = told_passes clo
 after_passes clock (messages.Inquiry tx) stamp member = absurd member
 after_passes clock (messages.Ask tx) stamp member = absurd member
 after_passes clock (messages.Close epoch) stamp member = absurd member
-after_passes clock (messages.Install epoch installed log) stamp member = absurd member
+after_passes clock (messages.Install epoch installed lines) stamp member = latest_passes clock lines stamp member
 
 pub never_falls : (decl : Declaration) (s : SiteState) (from number : ℕ) (message : Message) → s.clock ≤ (site_on decl s from number message).site.clock
-never_falls decl s from number message = subst (λ (c : ℕ). s.clock ≤ c) (clock_on decl s from number message) (after_later s.clock message)
+never_falls decl s from number message =
+    let on : clock_after s.clock message ≤ (site_on decl s from number message).site.clock = clock_on decl s from number message in
+    let later : s.clock ≤ clock_after s.clock message = after_later s.clock message in
+    omega (arith, on, later)
 
 pub passes_stamps : (decl : Declaration) (s : SiteState) (from number : ℕ) (message : Message) (stamp : Stamp) → In stamp (stamps_in message) → stamp.clock ≤ (site_on decl s from number message).site.clock
 passes_stamps decl s from number message stamp member =
-    subst (λ (c : ℕ). stamp.clock ≤ c) (clock_on decl s from number message) (after_passes s.clock message stamp member)
+    let on : clock_after s.clock message ≤ (site_on decl s from number message).site.clock = clock_on decl s from number message in
+    let has : stamp.clock ≤ clock_after s.clock message = after_passes s.clock message stamp member in
+    omega (arith, on, has)
 
 -- over deeds
 

@@ -1,5 +1,5 @@
 -- Holders are of clients below the most, and so is who is in the way.
-use Rattle.std.proofs.Common.{◌≡◌, inl, inr, ℕ, ◌<◌, ◌==◌, ◌&&◌, not, Bool, true, false, cond, List, [], ◌∷◌, length, Some, sym, subst}
+use Rattle.std.proofs.Common.{◌≡◌, inl, inr, ℕ, ◌<◌, ◌==◌, ◌&&◌, not, Bool, true, false, cond, List, [], ◌∷◌, ◌++◌, fold, length, Some, sym, subst}
 use Rattle.qc_decl.specs.Limits.{most_clients}
 use Rattle.qc_entry.specs.declared.line.OwnLine.{OwnLine}
 use Rattle.qc_entry.specs.declared.line.ReadLock.{ReadLock}
@@ -10,7 +10,10 @@ use Rattle.qc_lock.specs.Clash.{append_clash, read_clash}
 use Rattle.qc_lock.specs.Conflict.{In, IsAppendConflict, IsReadConflict, IsSmallest}
 use Rattle.qc_lock.specs.Held.{same_tx, with_entry, with_held, with_locks, with_owns, without_held, held_of}
 use Rattle.qc_lock.proofs.Conflicts.{append_smallest, read_smallest}
-use Rattle.qc_site.specs.Holders.{AreOfClients}
+use Rattle.qc_entry.specs.declared.record.Prepared.{Prepared}
+use Rattle.qc_site.specs.Epochs.{held_by, holds}
+use Rattle.qc_site.specs.Holders.{AreByClients, AreOfClients}
+use Rattle.qc_site.specs.Promise.{without_prepared}
 
 -- a holder among them is of a client
 of_client : (h : Held) (held : List Held) → In h held → AreOfClients held → h.tx.client < most_clients
@@ -41,6 +44,28 @@ clients-without [] tx clients = tt
 clients-without (h ∷ hs) tx clients = by (not (same_tx h.tx tx)) (clients-without hs tx clients.1) where
   by : (t : Bool) → AreOfClients (without_held hs tx) → AreOfClients (cond t (h ∷ without_held hs tx) (without_held hs tx))
   by true rest = (clients.0, rest)
+  by false rest = rest
+
+-- what promised transactions hold
+
+clients-from : (held : List Held) (ps : List Prepared) → AreOfClients held → AreByClients ps → AreOfClients (fold holds held ps)
+clients-from held [] clients each = clients
+clients-from held (p ∷ ps) clients each = clients-from (holds held p) ps (clients-held held p.tx p.locks p.own clients each.0) each.1
+
+pub clients-promised : (ps : List Prepared) → AreByClients ps → AreOfClients (held_by ps)
+clients-promised ps each = clients-from [] ps tt each
+
+-- promises, one more and without those of a transaction
+
+pub by_clients-push : (ps : List Prepared) (p : Prepared) → AreByClients ps → p.tx.client < most_clients → AreByClients (ps ++ p ∷ [])
+by_clients-push [] p each here = (here, tt)
+by_clients-push (q ∷ qs) p each here = (each.0, by_clients-push qs p each.1 here)
+
+pub by_clients-without : (ps : List Prepared) (tx : TxId) → AreByClients ps → AreByClients (without_prepared ps tx)
+by_clients-without [] tx each = tt
+by_clients-without (p ∷ ps) tx each = by (not (same_tx p.tx tx)) (by_clients-without ps tx each.1) where
+  by : (t : Bool) → AreByClients (without_prepared ps tx) → AreByClients (cond t (p ∷ without_prepared ps tx) (without_prepared ps tx))
+  by true rest = (each.0, rest)
   by false rest = rest
 
 -- who is in the way

@@ -27,7 +27,7 @@ use Rattle.qc_site.specs.Holders.{HasOperation}
 use Rattle.qc_site.specs.Promise.{finishes, prepared_of, without_prepared}
 use Rattle.qc_site.specs.Site.{SiteMove, SiteState}
 use Rattle.qc_site.specs.Told.{grants_in}
-use Rattle.qc_site.proofs.Cases.{append_cases, fault_grants_not, never, join_cases, read_cases, request_cases, state_cases}
+use Rattle.qc_site.proofs.Cases.{append_cases, fault_grants_not, never, join_cases, read_cases, request_cases, steady_cases, IsSteady}
 use Rattle.qc_site.proofs.Votes.{not_ended, prepared-without, prepared-without_other}
 
 -- insertion keeps locks, and operations of own lines
@@ -99,9 +99,9 @@ given_own held tx other locks own op has = by (same_tx other tx) refl
 
 kept_at : (P : Held → Type 0) (decl : Declaration) (s : SiteState) (from number : ℕ) (message : Message) (tx : TxId)
     → ((other : TxId) (locks : List ReadLock) (own : List OwnLine) → P (held_of (with_held s.held other locks own) tx))
-    → P (held_of s.held tx) → ends message tx ≡ false → P (held_of (site_at decl s from number message).site.held tx)
+    → P (held_of s.held tx) → ends message tx ≡ false → IsSteady (site_at decl s from number message).turn → P (held_of (site_at decl s from number message).site.held tx)
 kept_at P decl s from number message tx given here ongoing =
-    state_cases (λ (x : SiteState). P (held_of x.held tx)) decl s from number message here
+    steady_cases (λ (x : SiteState). P (held_of x.held tx)) decl s from number message here
     (λ t epoch life object inv same. given t (record { object = object; inv = inv } ∷ []) [])
     (λ t epoch life object view own same. given t [] own)
     (λ t. here) drops (λ t stamp q same. drops t (Committed stamp) same refl)
@@ -112,12 +112,12 @@ kept_at P decl s from number message tx given here ongoing =
         subst P (sym (held-without_other s.held t tx (not_ended (is_final verdict) (same_tx t tx) unended final))) here
 
 pub lock_stays : (decl : Declaration) (s : SiteState) (from number : ℕ) (message : Message) (tx : TxId) (lock : ReadLock)
-    → In lock (held_of s.held tx).locks → ends message tx ≡ false → In lock (held_of (site_on decl s from number message).site.held tx).locks
+    → In lock (held_of s.held tx).locks → ends message tx ≡ false → IsSteady (site_on decl s from number message).turn → In lock (held_of (site_on decl s from number message).site.held tx).locks
 lock_stays decl s from number message tx lock member ongoing =
     kept_at (λ (h : Held). In lock h.locks) decl (passed s message) from number message tx (λ other locks own. given_locks s.held tx other locks own lock member) member ongoing
 
 pub operation_stays : (decl : Declaration) (s : SiteState) (from number : ℕ) (message : Message) (tx : TxId) (op : ℕ)
-    → HasOperation op (held_of s.held tx).own → ends message tx ≡ false → HasOperation op (held_of (site_on decl s from number message).site.held tx).own
+    → HasOperation op (held_of s.held tx).own → ends message tx ≡ false → IsSteady (site_on decl s from number message).turn → HasOperation op (held_of (site_on decl s from number message).site.held tx).own
 operation_stays decl s from number message tx op has ongoing =
     kept_at (λ (h : Held). HasOperation op h.own) decl (passed s message) from number message tx (λ other locks own. given_own s.held tx other locks own op has) has ongoing
 

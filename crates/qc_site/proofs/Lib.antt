@@ -1,8 +1,11 @@
 pub mod Holders
 pub mod Promised
+pub mod Ascending
+pub mod InOrder
 pub mod Cases
 pub mod Clocks
 pub mod Refusals
+pub mod FirstEpoch
 pub mod Logs
 pub mod Votes
 pub mod Holding

@@ -24,7 +24,7 @@ use Rattle.qc_site.specs.Conduct.{passed, site_at, site_on}
 use Rattle.qc_site.specs.Requests.{clashing, fault_of, grants, relation_at}
 use Rattle.qc_site.specs.Site.{SiteMove, SiteState, answers}
 use Rattle.qc_site.specs.Told.{answer_of, grants_in, refuses_in}
-use Rattle.qc_site.proofs.Cases.{append_cases, fault_grants_not, fault_is, never, join_cases, prepare_cases, read_cases, request_cases}
+use Rattle.qc_site.proofs.Cases.{append_cases, close_cases, fault_grants_not, fault_is, install_cases, never, join_cases, prepare_cases, read_cases, request_cases}
 
 -- what is granted conflicts with nothing
 
@@ -85,8 +85,8 @@ refused_at decl s from number (messages.Decision tx Aborted) = never
 refused_at decl s from number (messages.Decision tx Active) = never
 refused_at decl s from number (messages.Inquiry tx) = never
 refused_at decl s from number (messages.Ask tx) = never
-refused_at decl s from number (messages.Close epoch) = never
-refused_at decl s from number (messages.Install epoch clock log) = never
+refused_at decl s from number (messages.Close k) = close_cases (Unchanged s) s from number k (λ answer yes. (refl, refl)) (λ near later. never)
+refused_at decl s from number (messages.Install k clock lines) = install_cases (Unchanged s) s from number k clock lines (λ answer yes. (refl, refl)) (λ later fits. never)
 
 pub refusal_changes_nothing : (decl : Declaration) (s : SiteState) (from number : ℕ) (message : Message)
     → refuses_in (site_on decl s from number message).turn ≡ true

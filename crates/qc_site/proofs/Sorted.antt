@@ -10,7 +10,7 @@ use Rattle.qc_entry.specs.declared.line.OwnLine.{OwnLine}
 use Rattle.qc_entry.specs.declared.line.ReadLock.{ReadLock}
 use Rattle.qc_entry.specs.declared.record.Prepared.{Prepared}
 use Rattle.qc_entry.specs.Line.{IsAscending, line_cmp}
-use Rattle.qc_entry.specs.Log.{has_line}
+use Rattle.qc_entry.specs.Log.{has_line, without}
 use Rattle.qc_entry.proofs.Union.{ascending-union}
 use Rattle.qc_decl.specs.declared.declaration.Declaration.{Declaration}
 use Rattle.qc_lock.specs.declared.held.Held.{Held}
@@ -24,6 +24,7 @@ use Rattle.qc_msg.specs.declared.step.Given.TheVariants as given
 use Rattle.qc_msg.specs.Deeds.{Deed, Takes, Writes, Sends, Tells, Falls, Rises}
 use Rattle.qc_msg.specs.Turns.{quiet}
 use Rattle.qc_site.specs.Conduct.{passed, site_after, site_at, site_does, site_on, site_takes}
+use Rattle.qc_site.specs.Epochs.{holds}
 use Rattle.qc_site.specs.Promise.{dropped, joins, lines_of, promise_of, promised, stamped, with_stamped}
 use Rattle.qc_site.specs.Site.{SiteMove, SiteState, moved, new_site}
 use Rattle.qc_site.specs.Sorted.{AreDeedsSorted, ArePromisesSorted, IsGivenSorted, IsMessageSorted, IsSiteSorted}
@@ -60,6 +61,14 @@ ascending-stamped stamp tx lines [] ascending = ascending
 ascending-stamped stamp tx lines (o ∷ os) ascending =
     ascending-stamped stamp tx (with_stamped stamp tx lines o) os (ascending-union lines (stamped stamp tx o ∷ []) ascending (tt, tt))
 
+pub ascending-without : (lines others : List Line) → IsAscending lines → IsAscending (without lines others)
+ascending-without lines others ascending = ascends-filter line_cmp (λ (l : Line). not (has_line others l)) lines ascending
+
+-- what promises hold
+pub held-sound : (held : List Held) (ps : List Prepared) → IsSound held → IsSound (fold holds held ps)
+held-sound held [] sound = sound
+held-sound held (p ∷ ps) sound = held-sound (holds held p) ps (sound-held held p.tx p.locks p.own sound)
+
 -- each change
 
 promised-sorted : (s : SiteState) (tx : TxId) → IsSiteSorted s → IsSiteSorted (promised s (promise_of s tx))
@@ -67,6 +76,7 @@ promised-sorted s tx w =
     let entry = sorted-find s.held tx w.held.sorted in
     let lines : IsAscending (promise_of s tx).lines = ascends-filter line_cmp (λ (l : Line). not (has_line s.recorded l)) s.log w.log in
     record {
+      began = w.began;
       log = w.log;
       recorded = ascending-union s.recorded (promise_of s tx).lines w.recorded lines;
       held = w.held;
@@ -75,6 +85,7 @@ promised-sorted s tx w =
 
 dropped-sorted : (s : SiteState) (tx : TxId) → IsSiteSorted s → IsSiteSorted (dropped s tx)
 dropped-sorted s tx w = record {
+  began = w.began;
   log = w.log;
   recorded = w.recorded;
   held = sound-without s.held tx w.held;
@@ -84,10 +95,11 @@ dropped-sorted s tx w = record {
 joined-sorted : (s : SiteState) (tx : TxId) (stamp : Stamp) (p : Prepared) → IsSiteSorted s → IsSiteSorted (joins s tx stamp (Some p)).site
 joined-sorted s tx stamp p w =
     let rest : IsSiteSorted (dropped s tx) = dropped-sorted s tx w in
-    let lines : IsAscending (lines_of stamp tx p.own) = ascending-stamped stamp tx [] p.own tt in
+    let lines : IsAscending (without (lines_of stamp tx p.own) s.began) = ascending-without (lines_of stamp tx p.own) s.began (ascending-stamped stamp tx [] p.own tt) in
     record {
-      log = ascending-union s.log (lines_of stamp tx p.own) w.log lines;
-      recorded = ascending-union s.recorded (lines_of stamp tx p.own) w.recorded lines;
+      began = w.began;
+      log = ascending-union s.log (without (lines_of stamp tx p.own) s.began) w.log lines;
+      recorded = ascending-union s.recorded (without (lines_of stamp tx p.own) s.began) w.recorded lines;
       held = rest.held;
       prepared = rest.prepared;
     }
@@ -96,6 +108,7 @@ sorted_at : (decl : Declaration) (s : SiteState) (from number : ℕ) (message : 
 sorted_at decl s from number message w sorted =
     state_cases IsSiteSorted decl s from number message w
     (λ tx epoch life object inv is. record {
+      began = w.began;
       log = w.log;
       recorded = w.recorded;
       held = sound-held s.held tx (record { object = object; inv = inv } ∷ []) [] w.held;
@@ -104,16 +117,31 @@ sorted_at decl s from number message w sorted =
     (λ tx epoch life object view own is.
     let ascending : IsAscending view = subst IsMessageSorted is sorted in
     record {
-      log = ascending-union s.log view w.log ascending;
+      began = w.began;
+      log = ascending-union s.log (without view s.began) w.log (ascending-without view s.began ascending);
       recorded = w.recorded;
       held = sound-held s.held tx [] own w.held;
       prepared = w.prepared;
     })
     (λ tx. promised-sorted s tx w) (λ tx verdict is final. dropped-sorted s tx w) (λ tx stamp p is. joined-sorted s tx stamp p w)
+    (λ k is. record {
+      began = w.began;
+      log = w.log;
+      recorded = w.recorded;
+      held = held-sound [] s.prepared (record { single = tt; full = tt; sorted = tt });
+      prepared = w.prepared;
+    })
+    (λ k clock lines is later. record {
+      began = subst IsMessageSorted is sorted;
+      log = tt;
+      recorded = tt;
+      held = record { single = tt; full = tt; sorted = tt };
+      prepared = tt;
+    })
 
 pub stays_sorted : (decl : Declaration) (s : SiteState) (from number : ℕ) (message : Message) → IsSiteSorted s → IsMessageSorted message → IsSiteSorted (site_on decl s from number message).site
 stays_sorted decl s from number message w sorted =
-    sorted_at decl (passed s message) from number message (record { log = w.log; recorded = w.recorded; held = w.held; prepared = w.prepared }) sorted
+    sorted_at decl (passed s message) from number message (record { began = w.began; log = w.log; recorded = w.recorded; held = w.held; prepared = w.prepared }) sorted
 
 -- all deeds
 
@@ -134,4 +162,4 @@ deeds-sorted decl m (Rises records ∷ ds) w sorted = deeds-sorted decl m ds w s
 pub after_sorted : (decl : Declaration) (number : ℕ) (ds : List Deed) → AreDeedsSorted ds → IsSiteSorted (site_after decl number ds).site
 after_sorted decl number ds sorted =
     deeds-sorted decl (moved (new_site number) quiet) ds
-    (record { log = tt; recorded = tt; held = record { single = tt; full = tt; sorted = tt }; prepared = tt }) sorted
+    (record { began = tt; log = tt; recorded = tt; held = record { single = tt; full = tt; sorted = tt }; prepared = tt }) sorted

@@ -19,9 +19,9 @@ use Rattle.qc_site.specs.Ended.{ends, is_final}
 use Rattle.qc_site.specs.Promise.{is_prepared, prepared_of, prepares, promise_of, without_prepared}
 use Rattle.qc_site.specs.Requests.{fault_of, grants}
 use Rattle.qc_site.specs.Site.{SiteMove, SiteState, answers, moved}
-use Rattle.qc_site.specs.Told.{is_vote, votes_in}
+use Rattle.qc_site.specs.Told.{installs_in, is_vote, votes_in}
 use Rattle.qc_site.specs.Vote.{IsBacked}
-use Rattle.qc_site.proofs.Cases.{append_cases, fault_is, never, prepare_cases, read_cases, request_cases, state_cases}
+use Rattle.qc_site.proofs.Cases.{append_cases, fault_is, lasting_cases, never, prepare_cases, read_cases, request_cases}
 
 -- promises, one more
 
@@ -110,13 +110,14 @@ not_ended true same is final = is
 not_ended false same is final = never final
 
 stands_at : (decl : Declaration) (s : SiteState) (from number : ℕ) (message : Message) (tx : TxId) (p : Prepared)
-    → prepared_of s.prepared tx ≡ Some p → ends message tx ≡ false → prepared_of (site_at decl s from number message).site.prepared tx ≡ Some p
+    → prepared_of s.prepared tx ≡ Some p → ends message tx ≡ false → installs_in (site_at decl s from number message).turn ≡ false
+    → prepared_of (site_at decl s from number message).site.prepared tx ≡ Some p
 stands_at decl s from number message tx p is ongoing =
-    state_cases (λ (x : SiteState). prepared_of x.prepared tx ≡ Some p) decl s from number message is
+    lasting_cases (λ (x : SiteState). prepared_of x.prepared tx ≡ Some p) decl s from number message is
     (λ t epoch life object inv same. is) (λ t epoch life object view own same. is)
     (λ t. prepared_first s.prepared (promise_of s t) p tx is)
     (λ t verdict same final. drops t verdict same final)
-    (λ t stamp q same. drops t (Committed stamp) same refl)
+    (λ t stamp q same. drops t (Committed stamp) same refl) (λ k same. is)
   where
     drops : (t : TxId) (verdict : Outcome) → message ≡ messages.Decision t verdict → is_final verdict ≡ true → prepared_of (without_prepared s.prepared t) tx ≡ Some p
     drops t verdict same final =
@@ -124,5 +125,6 @@ stands_at decl s from number message tx p is ongoing =
         prepared-without_other s.prepared t tx (not_ended (is_final verdict) (same_tx t tx) unended final) ∙ is
 
 pub promise_stands : (decl : Declaration) (s : SiteState) (from number : ℕ) (message : Message) (tx : TxId) (p : Prepared)
-    → prepared_of s.prepared tx ≡ Some p → ends message tx ≡ false → prepared_of (site_on decl s from number message).site.prepared tx ≡ Some p
+    → prepared_of s.prepared tx ≡ Some p → ends message tx ≡ false → installs_in (site_on decl s from number message).turn ≡ false
+    → prepared_of (site_on decl s from number message).site.prepared tx ≡ Some p
 promise_stands decl s from number message tx p is ongoing = stands_at decl (passed s message) from number message tx p is ongoing

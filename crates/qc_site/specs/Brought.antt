@@ -22,7 +22,10 @@ view_in (Read object inv) = []
 view_in (Append object view own) = view
 view_in Prepare = []
 
--- stamps: those of the lines of an Append's view, and that of a committed transaction
+-- stamps: those of the lines of an Append's view and of an Install, and that of a committed transaction
+
+abbrev pub stamps_of : List Line → List Stamp
+stamps_of lines = map (λ (l : Line). l.stamp) lines
 
 abbrev pub stamps_told : Outcome → List Stamp
 stamps_told (Committed stamp) = stamp ∷ []
@@ -30,13 +33,13 @@ stamps_told Aborted = []
 stamps_told Active = []
 
 abbrev pub stamps_in : Message → List Stamp
-stamps_in (messages.Request tx epoch life want) = map (λ (l : Line). l.stamp) (view_in want)
+stamps_in (messages.Request tx epoch life want) = stamps_of (view_in want)
 stamps_in (messages.Answer to answer) = []
 stamps_in (messages.Decision tx verdict) = stamps_told verdict
 stamps_in (messages.Inquiry tx) = []
 stamps_in (messages.Ask tx) = []
 stamps_in (messages.Close epoch) = []
-stamps_in (messages.Install epoch clock log) = []
+stamps_in (messages.Install epoch clock lines) = stamps_of lines
 
 abbrev pub stamps_given : Given → List Stamp
 stamps_given (given.Called command) = []

@@ -14,6 +14,7 @@ use Rattle.qc_msg.specs.declared.step.Given.TheVariants as given
 use Rattle.qc_msg.specs.Deeds.{Deed, Takes, Writes, Sends, Tells, Falls, Rises}
 use Rattle.qc_msg.specs.Turns.{quiet}
 use Rattle.qc_site.specs.Site.{SiteState, SiteMove, moved, new_site}
+use Rattle.qc_site.specs.Epochs.{closes, installs}
 use Rattle.qc_site.specs.Promise.{finishes}
 use Rattle.qc_site.specs.Requests.{fault_of, names_declared, requested}
 
@@ -39,10 +40,9 @@ clock_after clock (messages.Decision tx verdict) = clock_told clock verdict
 clock_after clock (messages.Inquiry tx) = clock
 clock_after clock (messages.Ask tx) = clock
 clock_after clock (messages.Close epoch) = clock
-clock_after clock (messages.Install epoch installed log) = clock
+clock_after clock (messages.Install epoch installed lines) = latest clock lines
 
--- what the site does for a message once its clock has passed. Nobody sends it an answer, an Inquiry or an Ask; and
--- nobody closes or installs an epoch yet
+-- what the site does for a message once its clock has passed. Nobody sends it an answer, an Inquiry or an Ask
 abbrev pub site_at : Declaration → SiteState → ℕ → ℕ → Message → SiteMove
 site_at decl s from number (messages.Request tx epoch life want) =
     if names_declared decl tx want
@@ -52,8 +52,8 @@ site_at decl s from number (messages.Answer to answer) = moved s quiet
 site_at decl s from number (messages.Decision tx verdict) = finishes s tx verdict
 site_at decl s from number (messages.Inquiry tx) = moved s quiet
 site_at decl s from number (messages.Ask tx) = moved s quiet
-site_at decl s from number (messages.Close epoch) = moved s quiet
-site_at decl s from number (messages.Install epoch clock log) = moved s quiet
+site_at decl s from number (messages.Close epoch) = closes s from number epoch
+site_at decl s from number (messages.Install epoch clock lines) = installs s from number epoch clock lines
 
 -- the site once its clock has passed
 abbrev pub passed : SiteState → Message → SiteState

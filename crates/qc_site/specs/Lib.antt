@@ -2,6 +2,7 @@ pub mod Holders
 pub mod Site
 pub mod Promise
 pub mod Requests
+pub mod Epochs
 pub mod Conduct
 pub mod Told
 pub mod Vote

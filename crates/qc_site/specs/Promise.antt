@@ -12,7 +12,7 @@ use Rattle.qc_entry.specs.Log.{union, without}
 use Rattle.qc_decl.specs.Limits.{most_record_bytes}
 use Rattle.qc_lock.specs.declared.held.Held.{Held}
 use Rattle.qc_lock.specs.Held.{held_of, is_held, without_held}
-use Rattle.qc_msg.specs.declared.message.Answer.TheVariants.{Fault, Stale, Yes}
+use Rattle.qc_msg.specs.declared.message.Answer.TheVariants.{Stale, Yes}
 use Rattle.qc_msg.specs.declared.message.Outcome.{Outcome}
 use Rattle.qc_msg.specs.declared.message.Outcome.TheVariants.{Committed, Aborted, Active}
 use Rattle.qc_msg.specs.declared.record.Record.TheVariants as records
@@ -20,7 +20,7 @@ use Rattle.qc_msg.specs.declared.turn.Appended.TheVariants.{Done}
 use Rattle.qc_msg.specs.declared.turn.Turn.{Turn}
 pub use Rattle.qc_msg.specs.Lengths.{prepare_length}
 use Rattle.qc_msg.specs.Turns.{quiet}
-use Rattle.qc_site.specs.Site.{SiteState, SiteMove, moved, answering, answers}
+use Rattle.qc_site.specs.Site.{SiteState, SiteMove, moved, answers, recording}
 
 -- what the site would promise: all that the transaction holds, and the lines that no record gives yet
 abbrev pub promise_of : SiteState → TxId → Prepared
@@ -39,17 +39,9 @@ is_prepared prepared tx = is_some (prepared_of prepared tx)
 abbrev pub promised : SiteState → Prepared → SiteState
 promised s p = record s { recorded = union s.recorded p.lines; prepared = s.prepared ++ p ∷ [] }
 
--- the promise is written before it is told; where it can't be written, that is told
+-- the promise is written before it is told
 abbrev pub votes : SiteState → ℕ → ℕ → Prepared → Turn
-votes s from number p =
-    record {
-      write = Some (records.Prepare p);
-      sends = answering from number (Yes s.clock) ∷ [];
-      told = None;
-      failed_sends = answering from number Fault ∷ [];
-      failed_told = None;
-      append = Done;
-    }
+votes s from number p = recording from number (records.Prepare p) (Yes s.clock)
 
 -- it is made where it fits a record
 abbrev pub promises : SiteState → ℕ → ℕ → Prepared → SiteMove
@@ -99,11 +91,11 @@ records_done tx stamp =
       append = Done;
     }
 
--- a transaction committed: what was promised of it joins the log, and this is written
+-- a transaction committed: what was promised of it is learned, and this is written
 abbrev pub joins : SiteState → TxId → Stamp → Option Prepared → SiteMove
 joins s tx stamp None = moved (dropped s tx) quiet
 joins s tx stamp (Some p) =
-    let lines : List Line = lines_of stamp tx p.own in
+    let lines : List Line = without (lines_of stamp tx p.own) s.began in
     moved
     (record (dropped s tx) { log = union s.log lines; recorded = union s.recorded lines })
     (records_done tx stamp)

@@ -5,7 +5,7 @@ use Rattle.std.specs.Option.{option_map_or}
 use Rattle.qc_stamp.specs.declared.stamp.TxId.{TxId}
 use Rattle.qc_entry.specs.declared.line.Line.{Line}
 use Rattle.qc_entry.specs.declared.line.OwnLine.{OwnLine}
-use Rattle.qc_entry.specs.Log.{union, of_object}
+use Rattle.qc_entry.specs.Log.{of_object}
 use Rattle.qc_table.specs.declared.kind.Kind.{Kind}
 use Rattle.qc_decl.specs.declared.declaration.Declaration.{Declaration}
 use Rattle.qc_decl.specs.Actors.{client_actor}
@@ -20,7 +20,7 @@ use Rattle.qc_msg.specs.declared.message.Want.{Want}
 use Rattle.qc_msg.specs.declared.message.Want.TheVariants.{Read, Append, Prepare}
 use Rattle.qc_msg.specs.declared.turn.Turn.{Turn}
 use Rattle.qc_msg.specs.Turns.{sending}
-use Rattle.qc_site.specs.Site.{SiteState, SiteMove, moved, answering, answers}
+use Rattle.qc_site.specs.Site.{SiteState, SiteMove, moved, answering, answers, known, learned}
 use Rattle.qc_site.specs.Promise.{prepares}
 
 -- what refuses a request of this epoch, which names this life: the first row that applies
@@ -43,24 +43,24 @@ abbrev pub clashing : Declaration → ℕ → ℕ → Conflict → Turn
 clashing decl from number c = sending (answering from number (Clash c.holder c.inv c.event)
     ∷ record { to = client_actor decl c.holder.client; message = messages.Inquiry c.holder } ∷ [])
 
--- a Read: the lock is held, and the lines of the object are granted
+-- a Read: the lock is held, and all known lines of the object are granted
 
 abbrev pub reads : SiteState → ℕ → ℕ → TxId → ℕ → ℕ → SiteMove
 reads s from number tx object inv =
     moved
     (record s { held = with_held s.held tx (record { object = object; inv = inv } ∷ []) [] })
-    (answers from number (Granted s.life s.clock (of_object s.log object)))
+    (answers from number (Granted s.life s.clock (of_object (known s) object)))
 
 abbrev pub reads_by : Declaration → SiteState → ℕ → ℕ → TxId → ℕ → ℕ → Option Conflict → SiteMove
 reads_by decl s from number tx object inv None = reads s from number tx object inv
 reads_by decl s from number tx object inv (Some c) = moved s (clashing decl from number c)
 
--- an Append: its view joins the log, and its own lines are held
+-- an Append: the lines of its view are learned, and its own lines are held
 
 abbrev pub appends : SiteState → ℕ → ℕ → TxId → List Line → List OwnLine → SiteMove
 appends s from number tx view own =
     moved
-    (record s { log = union s.log view; held = with_held s.held tx [] own })
+    (record s { log = learned s view; held = with_held s.held tx [] own })
     (answers from number (Granted s.life s.clock []))
 
 abbrev pub appends_by : Declaration → SiteState → ℕ → ℕ → TxId → List Line → List OwnLine → Option Conflict → SiteMove

@@ -1,11 +1,15 @@
 -- A site's state, and what it answers.
-use Rattle.std.specs.Prelude.{◌≡◌, ℕ, List, [], ◌∷◌, Option, None}
+use Rattle.std.specs.Prelude.{ℕ, List, [], ◌∷◌, Option, Some, None}
 use Rattle.qc_entry.specs.declared.line.Line.{Line}
 use Rattle.qc_entry.specs.declared.record.Prepared.{Prepared}
+use Rattle.qc_entry.specs.Log.{union, without}
 use Rattle.qc_lock.specs.declared.held.Held.{Held}
 use Rattle.qc_stamp.specs.Lives.{first_life}
 use Rattle.qc_msg.specs.declared.message.Answer.{Answer}
+use Rattle.qc_msg.specs.declared.message.Answer.TheVariants.{Fault}
 use Rattle.qc_msg.specs.declared.message.Message.TheVariants as messages
+use Rattle.qc_msg.specs.declared.record.Record.{Record}
+use Rattle.qc_msg.specs.declared.turn.Appended.TheVariants.{Done}
 use Rattle.qc_msg.specs.declared.turn.Posting.{Posting}
 use Rattle.qc_msg.specs.declared.turn.Turn.{Turn}
 use Rattle.qc_msg.specs.Begun.{first_epoch}
@@ -18,7 +22,8 @@ pub record SiteState : Type 0 where
   -- the epoch that it has installed, and the one that it has closed that for
   pub epoch : ℕ
   pub closed_for : Option ℕ
-  -- all lines that it knows, and those that its own records give
+  -- the lines that its epoch began with, those that it learned since, and those of these that its own records give
+  pub began : List Line
   pub log : List Line
   pub recorded : List Line
   -- what each unfinished transaction holds
@@ -43,6 +48,7 @@ new_site number =
       life = first_life;
       epoch = first_epoch;
       closed_for = None;
+      began = [];
       log = [];
       recorded = [];
       held = [];
@@ -50,12 +56,13 @@ new_site number =
       clock = 0;
     }
 
--- the site of this number in its first life and epoch, which it hasn't closed
-pub record IsAtFirst (number : ℕ) (s : SiteState) : Type 0 where
-  pub number_is : s.number ≡ number
-  pub life_is : s.life ≡ first_life
-  pub epoch_is : s.epoch ≡ first_epoch
-  pub is_open : s.closed_for ≡ None
+-- all lines that it knows
+abbrev pub known : SiteState → List Line
+known s = union s.began s.log
+
+-- it learns lines: those that its epoch didn't begin with join the log
+abbrev pub learned : SiteState → List Line → List Line
+learned s lines = union s.log (without lines s.began)
 
 -- the answer to the request of this number, to its sender
 abbrev pub answering : ℕ → ℕ → Answer → Posting
@@ -63,3 +70,15 @@ answering from number answer = record { to = from; message = messages.Answer num
 
 abbrev pub answers : ℕ → ℕ → Answer → Turn
 answers from number answer = sending (answering from number answer ∷ [])
+
+-- this is written before the request is answered; where it can't be written, that is told
+abbrev pub recording : ℕ → ℕ → Record → Answer → Turn
+recording from number written answer =
+    record {
+      write = Some written;
+      sends = answering from number answer ∷ [];
+      told = None;
+      failed_sends = answering from number Fault ∷ [];
+      failed_told = None;
+      append = Done;
+    }

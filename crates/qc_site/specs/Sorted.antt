@@ -20,12 +20,13 @@ ArePromisesSorted (p ∷ ps) = Ascends lock_cmp p.locks × Ascends own_cmp p.own
     × ArePromisesSorted ps
 
 pub record IsSiteSorted (s : SiteState) : Type 0 where
+  pub began : IsAscending s.began
   pub log : IsAscending s.log
   pub recorded : IsAscending s.recorded
   pub held : IsSound s.held
   pub prepared : ArePromisesSorted s.prepared
 
--- the view of an Append, and of each that was taken
+-- the lines that a message brings, and each that was taken
 
 abbrev pub IsMessageSorted : Message → Type 0
 IsMessageSorted (messages.Request tx epoch life want) = IsAscending (view_in want)
@@ -34,7 +35,7 @@ IsMessageSorted (messages.Decision tx verdict) = Unit {0}
 IsMessageSorted (messages.Inquiry tx) = Unit {0}
 IsMessageSorted (messages.Ask tx) = Unit {0}
 IsMessageSorted (messages.Close epoch) = Unit {0}
-IsMessageSorted (messages.Install epoch clock log) = Unit {0}
+IsMessageSorted (messages.Install epoch clock lines) = IsAscending lines
 
 abbrev pub IsGivenSorted : Given → Type 0
 IsGivenSorted (given.Called command) = Unit {0}

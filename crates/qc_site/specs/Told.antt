@@ -1,11 +1,14 @@
--- What a turn answers: the answer in its first message.
-use Rattle.std.specs.Prelude.{Bool, true, false, List, [], ◌∷◌, Option, Some, None}
+-- What a turn answers, the answer in its first message, and what it writes of epochs.
+use Rattle.std.specs.Prelude.{Bool, true, false, List, [], ◌∷◌, Option, Some, None, is_some}
+use Rattle.std.specs.Option.{option_map_or}
 use Rattle.qc_msg.specs.declared.message.Answer.{Answer}
 use Rattle.qc_msg.specs.declared.message.Answer.TheVariants as answers
 use Rattle.qc_msg.specs.declared.message.Message.{Message}
 use Rattle.qc_msg.specs.declared.message.Message.TheVariants as messages
+use Rattle.qc_msg.specs.declared.record.Record.{Record}
 use Rattle.qc_msg.specs.declared.turn.Posting.{Posting}
 use Rattle.qc_msg.specs.declared.turn.Turn.{Turn}
+use Rattle.qc_msg.specs.Readings.{close_in, install_in}
 
 abbrev pub answer_in : Message → Option Answer
 answer_in (messages.Request tx epoch life want) = None
@@ -77,3 +80,11 @@ refuses_in turn = passes is_refusal (answer_of turn)
 
 abbrev pub votes_in : Turn → Bool
 votes_in turn = passes is_vote (answer_of turn)
+
+-- whether it closes the site's epoch, and whether it begins another
+
+abbrev pub closes_in : Turn → Bool
+closes_in turn = option_map_or (λ (r : Record). is_some (close_in r)) turn.write false
+
+abbrev pub installs_in : Turn → Bool
+installs_in turn = option_map_or (λ (r : Record). is_some (install_in r)) turn.write false

@@ -1,10 +1,10 @@
 //! Who asks a site something, and how it is answered.
 
 ghost use Rattle.std.specs.Prelude.{◌≡◌, [], ◌∷◌, IfOk};
-ghost use Rattle.qc_site.specs.Site.{answering, answers};
+ghost use Rattle.qc_site.specs.Site.{answering, answers, recording};
 
 use qc_list::OutOfMemory;
-use qc_msg::{Answer, Message, Posting, Sends, Turn};
+use qc_msg::{Answer, Appended, Message, Posting, Record, Sends, Turn};
 use std::alloc::Global;
 
 /// The sender of a request, with the request's number.
@@ -26,6 +26,26 @@ impl Asker {
             answer,
         };
         Posting::alone(alloc, self.from, message)
+    }
+
+    /// The turn that writes this before it answers the request; where it can't be
+    /// written, that is told.
+    pub(crate) fn recording(
+        self,
+        alloc: Global,
+        written: Record,
+        answer: Answer,
+    ) -> Result<Turn, OutOfMemory>
+        ensures { IfOk result (λ turn. turn ≡ recording self.from self.number written answer) }
+    {
+        Ok(Turn {
+            write: Some(written),
+            sends: self.answering(alloc, answer)?,
+            told: None,
+            failed_sends: self.answering(alloc, Answer::Fault)?,
+            failed_told: None,
+            append: Appended::Done,
+        })
     }
 
     /// The turn that only answers the request.

@@ -14,11 +14,11 @@ pub(crate) fn clock_after(clock: Clock, message: &Message) -> Clock
     match message {
         Message::Request { want, .. } => clock_asked(clock, want),
         Message::Decision { verdict, .. } => clock_told(clock, *verdict),
+        Message::Install { log, .. } => latest(clock, log.lines()),
         Message::Answer { .. }
         | Message::Inquiry { .. }
         | Message::Ask { .. }
-        | Message::Close { .. }
-        | Message::Install { .. } => clock,
+        | Message::Close { .. } => clock,
     }
 }
 

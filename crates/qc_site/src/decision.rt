@@ -31,8 +31,8 @@ impl Site {
         }
     }
 
-    /// Finishes a transaction that committed: what was promised of it joins
-    /// the log, and this is written.
+    /// Finishes a transaction that committed: what was promised of it is
+    /// learned, and this is written.
     fn commit(&mut self, alloc: Global, tx: TxId, stamp: Stamp) -> Result<Turn, OutOfMemory>
         ensures ok { IfOk result (λ turn. joins self.old tx stamp (prepared_of self.old.prepared tx)
             ≡ record { site = self.new; turn = turn }) }
@@ -42,7 +42,7 @@ impl Site {
             self.forget(tx);
             return Ok(Turn::quiet(alloc));
         };
-        let lines = lines_of(alloc, stamp, tx, promise.own.items())?;
+        let lines = lines_of(alloc, stamp, tx, promise.own.items())?.without(&self.began)?;
         self.recorded.merge_both(&mut self.log, &lines)?;
         self.forget(tx);
         Ok(records_done(alloc, tx, stamp))

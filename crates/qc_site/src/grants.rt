@@ -68,7 +68,7 @@ impl Site {
         ensures err { OnErr result (self.new ≡ self.old) }
     {
         let kind = kind_of(decl, object).unwrap();
-        let turn = asker.answered(alloc, self.granted(self.log.of(object)?))?;
+        let turn = asker.answered(alloc, self.granted(self.known_of(object)?))?;
         match self.held.try_read(kind, tx, object, inv) {
             Ok(()) => Ok(turn),
             Err(LockFault::Conflict(clash)) => clashing(alloc, decl, asker, clash),
@@ -76,8 +76,8 @@ impl Site {
         }
     }
 
-    /// Holds own lines, and merges the view into the log. The merged log is
-    /// made first, since the locks change last.
+    /// Holds own lines, and learns the view. The merged log is made first, since
+    /// the locks change last.
     fn append(
         &mut self,
         alloc: Global,
@@ -98,7 +98,7 @@ impl Site {
     {
         let kind = kind_of(decl, object).unwrap();
         let turn = asker.answered(alloc, self.granted(Log::new(alloc)?))?;
-        let log = self.log.union(view)?;
+        let log = self.learned(view)?;
         match self.held.try_append(kind, tx, own.items()) {
             Ok(()) => {
                 if let Some(log) = log {

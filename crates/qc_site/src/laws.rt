@@ -1,26 +1,27 @@
 //! Laws of sites, each the contract of a function with nothing to do. They hold
 //! for every state, whether a run comes to it or not.
 
-ghost use Rattle.std.specs.Prelude.{◌≡◌, ◌≢◌, ◌≤◌, ◌<◌, ◌⊎◌, ℕ, true, false, List, [], ◌∷◌, Some, None};
+ghost use Rattle.std.specs.Prelude.{◌≡◌, ◌≢◌, ◌≤◌, ◌<◌, ◌+◌, ◌⊎◌, ℕ, true, false, List, [], ◌∷◌, Some, None};
 ghost use Rattle.qc_list.specs.Members.{In};
 ghost use Rattle.qc_stamp.specs.Order.{same_tx};
 ghost use Rattle.qc_stamp.specs.declared.stamp.Stamp.{Stamp};
 ghost use Rattle.qc_stamp.specs.declared.stamp.TxId.{TxId};
-ghost use Rattle.qc_entry.specs.Log.{union};
 ghost use Rattle.qc_entry.specs.declared.line.Line.{Line};
 ghost use Rattle.qc_entry.specs.declared.line.OwnLine.{OwnLine};
 ghost use Rattle.qc_entry.specs.declared.line.ReadLock.{ReadLock};
 ghost use Rattle.qc_entry.specs.declared.record.Prepared.{Prepared};
 ghost use Rattle.qc_table.specs.Depends.{depends};
 ghost use Rattle.qc_decl.specs.declared.declaration.Declaration.{Declaration};
+ghost use Rattle.qc_decl.specs.Limits.{most_record_bytes};
 ghost use Rattle.qc_lock.specs.Conflict.{In as IsAmong, IsAppendConflict, IsReadConflict, IsSmallest};
 ghost use Rattle.qc_lock.specs.Held.{entry_of, held_of, with_locks, with_owns};
 ghost use Rattle.qc_lock.specs.declared.clash.Clash.{Clash as Conflict};
 ghost use Rattle.qc_lock.specs.declared.held.Held.{Held};
 ghost use Rattle.qc_msg.specs.Deeds.{Deed};
+ghost use Rattle.qc_msg.specs.Lengths.{epoch_length};
 ghost use Rattle.qc_msg.specs.Turns.{quiet};
 ghost use Rattle.qc_msg.specs.declared.message.Answer.{Answer};
-ghost use Rattle.qc_msg.specs.declared.message.Answer.TheVariants.{Clash, Closed, Behind, Restarted};
+ghost use Rattle.qc_msg.specs.declared.message.Answer.TheVariants.{Clash, Closed, Behind, Installed, Restarted};
 ghost use Rattle.qc_msg.specs.declared.message.Message.{Message};
 ghost use Rattle.qc_msg.specs.declared.message.Message.TheVariants as messages;
 ghost use Rattle.qc_msg.specs.declared.message.Message.TheVariants.{Request};
@@ -28,6 +29,7 @@ ghost use Rattle.qc_msg.specs.declared.message.Outcome.{Outcome};
 ghost use Rattle.qc_msg.specs.declared.message.Outcome.TheVariants.{Active};
 ghost use Rattle.qc_msg.specs.declared.message.Want.{Want};
 ghost use Rattle.qc_msg.specs.declared.message.Want.TheVariants.{Read, Append};
+ghost use Rattle.qc_msg.specs.declared.record.Record.TheVariants as records;
 ghost use Rattle.qc_msg.specs.declared.step.Command.{Command};
 ghost use Rattle.qc_msg.specs.declared.step.Given.TheVariants.{Called, Lost};
 ghost use Rattle.qc_site.specs.Brought.{brought, stamps_in, stamps_taken};
@@ -36,9 +38,10 @@ ghost use Rattle.qc_site.specs.Ended.{ends, is_final};
 ghost use Rattle.qc_site.specs.Holders.{HasOperation};
 ghost use Rattle.qc_site.specs.Promise.{prepared_of};
 ghost use Rattle.qc_site.specs.Requests.{clashing, grants, names_declared, relation_at};
-ghost use Rattle.qc_site.specs.Site.{IsAtFirst, SiteState, answers, moved};
+ghost use Rattle.qc_site.specs.Epochs.{closed, installed, shut_answer};
+ghost use Rattle.qc_site.specs.Site.{SiteState, answers, learned, moved, recording};
 ghost use Rattle.qc_site.specs.Sorted.{AreDeedsSorted, IsMessageSorted, IsSiteSorted};
-ghost use Rattle.qc_site.specs.Told.{answer_of, grants_in, refuses_in, votes_in};
+ghost use Rattle.qc_site.specs.Told.{answer_of, closes_in, grants_in, installs_in, refuses_in, votes_in};
 ghost use Rattle.qc_site.specs.Vote.{IsBacked};
 
 /// A clock never falls.
@@ -113,15 +116,20 @@ pub fn grants_are_held()
         ≡ with_owns (held_of s.held tx).own own }
 {}
 
-/// What a transaction holds stays until a decision on it: each lock, and an own
-/// line of each operation.
+/// What a transaction holds stays until a decision on it, or until the site
+/// closes its epoch or begins another: each lock, and an own line of each
+/// operation.
 pub fn what_is_held_stays()
     ensures locks { (decl : Declaration) (s : SiteState) (from number : ℕ) (message : Message) (tx : TxId)
         (lock : ReadLock)
         → In lock (held_of s.held tx).locks → ends message tx ≡ false
+        → closes_in (site_on decl s from number message).turn ≡ false
+        → installs_in (site_on decl s from number message).turn ≡ false
         → In lock (held_of (site_on decl s from number message).site.held tx).locks }
     ensures own { (decl : Declaration) (s : SiteState) (from number : ℕ) (message : Message) (tx : TxId) (op : ℕ)
         → HasOperation op (held_of s.held tx).own → ends message tx ≡ false
+        → closes_in (site_on decl s from number message).turn ≡ false
+        → installs_in (site_on decl s from number message).turn ≡ false
         → HasOperation op (held_of (site_on decl s from number message).site.held tx).own }
 {}
 
@@ -155,19 +163,27 @@ pub fn votes_are_backed()
         (request_on decl s from number tx epoch life want) }
 {}
 
-/// A promise stands until a decision on its transaction.
+/// A promise stands until a decision on its transaction, or until the site
+/// begins another epoch: one that closes its own keeps it.
 pub fn promises_stand()
     ensures { (decl : Declaration) (s : SiteState) (from number : ℕ) (message : Message) (tx : TxId) (p : Prepared)
         → prepared_of s.prepared tx ≡ Some p → ends message tx ≡ false
+        → installs_in (site_on decl s from number message).turn ≡ false
         → prepared_of (site_on decl s from number message).site.prepared tx ≡ Some p }
 {}
 
-/// The log gains exactly the view of an Append that is granted, or the own lines
-/// that were promised of a committed transaction, with its stamp.
+/// Until the site begins another epoch, what its own began with stays, and the
+/// log gains just what that lacks of the view of an Append that is granted, or
+/// of the own lines that were promised of a committed transaction, with its
+/// stamp.
 pub fn logs_gain_what_is_brought()
-    ensures { (decl : Declaration) (s : SiteState) (from number : ℕ) (message : Message)
+    ensures log { (decl : Declaration) (s : SiteState) (from number : ℕ) (message : Message)
+        → installs_in (site_on decl s from number message).turn ≡ false
         → (site_on decl s from number message).site.log
-        ≡ union s.log (brought s.prepared (grants_in (site_on decl s from number message).turn) message) }
+        ≡ learned s (brought s.prepared (grants_in (site_on decl s from number message).turn) message) }
+    ensures began { (decl : Declaration) (s : SiteState) (from number : ℕ) (message : Message)
+        → installs_in (site_on decl s from number message).turn ≡ false
+        → (site_on decl s from number message).site.began ≡ s.began }
 {}
 
 /// Lines ascend, each transaction has one entry that holds something, and
@@ -179,19 +195,66 @@ pub fn sites_stay_sorted()
         → IsSiteSorted (site_after decl number deeds).site }
 {}
 
-/// A site's number stays, and its life and epoch don't change yet: whatever it
-/// took, it is in the first ones.
-pub fn lives_and_epochs_stay()
+/// A site's number stays; its life and epoch never fall, and stay where it
+/// neither closes its epoch nor begins another, as does whether it has closed.
+pub fn lives_and_epochs_rise()
     ensures number { (decl : Declaration) (s : SiteState) (from number : ℕ) (message : Message)
         → (site_on decl s from number message).site.number ≡ s.number }
+    ensures lives { (decl : Declaration) (s : SiteState) (from number : ℕ) (message : Message)
+        → s.life ≤ (site_on decl s from number message).site.life }
+    ensures epochs { (decl : Declaration) (s : SiteState) (from number : ℕ) (message : Message)
+        → s.epoch ≤ (site_on decl s from number message).site.epoch }
     ensures life { (decl : Declaration) (s : SiteState) (from number : ℕ) (message : Message)
+        → closes_in (site_on decl s from number message).turn ≡ false
+        → installs_in (site_on decl s from number message).turn ≡ false
         → (site_on decl s from number message).site.life ≡ s.life }
     ensures epoch { (decl : Declaration) (s : SiteState) (from number : ℕ) (message : Message)
+        → closes_in (site_on decl s from number message).turn ≡ false
+        → installs_in (site_on decl s from number message).turn ≡ false
         → (site_on decl s from number message).site.epoch ≡ s.epoch }
     ensures closed_for { (decl : Declaration) (s : SiteState) (from number : ℕ) (message : Message)
+        → closes_in (site_on decl s from number message).turn ≡ false
+        → installs_in (site_on decl s from number message).turn ≡ false
         → (site_on decl s from number message).site.closed_for ≡ s.closed_for }
-    ensures deeds { (decl : Declaration) (number : ℕ) (deeds : List Deed)
-        → IsAtFirst number (site_after decl number deeds).site }
+{}
+
+/// A Close is answered by the first row that applies: the site is too far behind,
+/// or in that epoch or a later one, or has closed for it and tells so again; else
+/// it closes. Then a new life begins, in which it holds what it has promised and
+/// no more, and this is written before it is told.
+pub fn closes_are_answered_by_rows()
+    ensures behind { (decl : Declaration) (s : SiteState) (from number epoch : ℕ) → s.epoch + 1 < epoch
+        → site_on decl s from number (messages.Close epoch) ≡ moved s (answers from number (Behind s.epoch)) }
+    ensures closed { (decl : Declaration) (s : SiteState) (from number epoch : ℕ) → epoch ≤ s.epoch
+        → site_on decl s from number (messages.Close epoch) ≡ moved s (answers from number (Closed s.epoch)) }
+    ensures again { (decl : Declaration) (s : SiteState) (from number epoch : ℕ) → epoch ≡ s.epoch + 1
+        → s.closed_for ≡ Some epoch
+        → site_on decl s from number (messages.Close epoch) ≡ moved s (answers from number (shut_answer s)) }
+    ensures closes { (decl : Declaration) (s : SiteState) (from number epoch : ℕ) → epoch ≡ s.epoch + 1
+        → s.closed_for ≡ None
+        → site_on decl s from number (messages.Close epoch)
+        ≡ moved (closed s epoch) (recording from number (records.Close epoch) (shut_answer (closed s epoch))) }
+{}
+
+/// An Install is answered by the first row that applies: the site is in that
+/// epoch or a later one, or its record would be too long; else it begins the
+/// epoch, with these lines and nothing else, and this is written before it is
+/// told. The clock passes the lines in each row, and the clock of the Install in
+/// the last one.
+pub fn installs_are_answered_by_rows()
+    ensures known { (decl : Declaration) (s : SiteState) (from number epoch clock : ℕ) (lines : List Line)
+        → epoch ≤ s.epoch
+        → site_on decl s from number (messages.Install epoch clock lines)
+        ≡ moved (passed s (messages.Install epoch clock lines)) (answers from number Installed) }
+    ensures long { (decl : Declaration) (s : SiteState) (from number epoch clock : ℕ) (lines : List Line)
+        → s.epoch < epoch → most_record_bytes < epoch_length lines
+        → site_on decl s from number (messages.Install epoch clock lines)
+        ≡ moved (passed s (messages.Install epoch clock lines)) (answers from number (Behind s.epoch)) }
+    ensures begins { (decl : Declaration) (s : SiteState) (from number epoch clock : ℕ) (lines : List Line)
+        → s.epoch < epoch → epoch_length lines ≤ most_record_bytes
+        → site_on decl s from number (messages.Install epoch clock lines)
+        ≡ moved (installed (passed s (messages.Install epoch clock lines)) epoch clock lines)
+        (recording from number (records.Install epoch clock lines) Installed) }
 {}
 
 /// A request is answered by the first row that applies: the site is in an
@@ -235,10 +298,6 @@ pub fn other_inputs_do_nothing()
         → site_on decl s from number (messages.Inquiry tx) ≡ moved s quiet }
     ensures ask { (decl : Declaration) (s : SiteState) (from number : ℕ) (tx : TxId)
         → site_on decl s from number (messages.Ask tx) ≡ moved s quiet }
-    ensures close { (decl : Declaration) (s : SiteState) (from number epoch : ℕ)
-        → site_on decl s from number (messages.Close epoch) ≡ moved s quiet }
-    ensures install { (decl : Declaration) (s : SiteState) (from number epoch clock : ℕ) (log : List Line)
-        → site_on decl s from number (messages.Install epoch clock log) ≡ moved s quiet }
     ensures command { (decl : Declaration) (s : SiteState) (command : Command)
         → site_takes decl s (Called command) ≡ moved s quiet }
     ensures lost { (decl : Declaration) (s : SiteState) (number : ℕ) → site_takes decl s (Lost number) ≡ moved s quiet }

@@ -20,7 +20,9 @@
 mod asker;
 mod clock;
 mod decision;
+mod epochs;
 mod grants;
+mod known;
 mod laws;
 mod promise;
 mod promises;
@@ -30,10 +32,12 @@ mod site;
 
 pub use clock::latest;
 pub use decision::lines_of;
+pub use epochs::held_by;
 pub use laws::{
-    clashes_are_the_smallest, clocks_never_fall, clocks_pass_what_comes, decisions_free,
-    grants_are_held, grants_conflict_with_nothing, lives_and_epochs_stay,
-    logs_gain_what_is_brought, other_inputs_do_nothing, promises_stand, refusals_change_nothing,
+    clashes_are_the_smallest, clocks_never_fall, clocks_pass_what_comes,
+    closes_are_answered_by_rows, decisions_free, grants_are_held, grants_conflict_with_nothing,
+    installs_are_answered_by_rows, lives_and_epochs_rise, logs_gain_what_is_brought,
+    other_inputs_do_nothing, promises_stand, refusals_change_nothing,
     requests_are_answered_by_rows, sites_stay_sorted, votes_are_backed, what_is_held_stays,
 };
 pub use promises::Promises;

@@ -1,7 +1,7 @@
 //! What a site promises, and when (presumed abort).
 
-ghost use Rattle.std.specs.Prelude.{◌≡◌, ◌+◌, ◌*◌, IfOk, OnErr, OnOk, None, nat_le, IsTrue, length};
-ghost use Rattle.qc_decl.specs.Limits.{most_record_bytes};
+ghost use Rattle.std.specs.Prelude.{◌≡◌, ◌<◌, ◌+◌, ◌*◌, IfOk, OnErr, OnOk, None, nat_le, IsTrue, length};
+ghost use Rattle.qc_decl.specs.Limits.{most_clients, most_record_bytes};
 ghost use Rattle.qc_msg.specs.declared.message.Answer.TheVariants.{Yes};
 ghost use Rattle.qc_site.specs.Promise.{is_prepared, prepare_length, prepared_of, prepares};
 ghost use Rattle.qc_site.specs.Promise.{promise_of, promised, promises};
@@ -11,7 +11,7 @@ use crate::asker::Asker;
 use qc_decl::MOST_RECORD_BYTES;
 use qc_entry::{Owns, Prepared, Reads};
 use qc_list::OutOfMemory;
-use qc_msg::{Answer, Appended, Record, Turn};
+use qc_msg::{Answer, Record, Turn};
 use qc_stamp::TxId;
 use std::alloc::Global;
 
@@ -24,6 +24,7 @@ impl Site {
         asker: Asker,
         tx: TxId,
     ) -> Result<Turn, OutOfMemory>
+        requires { tx.client < most_clients }
         ensures ok { IfOk result (λ turn. prepares self.old asker.from asker.number tx
             ≡ record { site = self.new; turn = turn }) }
         ensures err { OnErr result (self.new ≡ self.old) }
@@ -73,34 +74,29 @@ impl Site {
         promise: Prepared,
     ) -> Result<Turn, OutOfMemory>
         requires first { prepared_of self.old.prepared promise.tx ≡ None }
+        requires client { promise.tx.client < most_clients }
         requires fits { IsTrue (nat_le (prepare_length promise) most_record_bytes) }
         ensures ok { IfOk result (λ turn. promises self.old asker.from asker.number promise
             ≡ record { site = self.new; turn = turn }) }
         ensures err { OnErr result (self.new ≡ self.old) }
     {
-        let sends = asker.answering(alloc, self.yes())?;
-        let failed_sends = asker.answering(alloc, Answer::Fault)?;
-        self.keep(&promise)?;
-        Ok(Turn {
-            write: Some(Record::Prepare(promise)),
-            sends,
-            told: None,
-            failed_sends,
-            failed_told: None,
-            append: Appended::Done,
-        })
+        let written = Record::Prepare(promise.copy()?);
+        let turn = asker.recording(alloc, written, self.yes())?;
+        self.keep(promise)?;
+        Ok(turn)
     }
 
     /// Keeps the first promise of a transaction, whose record gives its lines.
-    fn keep(&mut self, promise: &Prepared) -> Result<(), OutOfMemory>
-        requires { prepared_of self.old.prepared promise.now.tx ≡ None }
-        ensures ok { OnOk result (self.new ≡ promised self.old promise.now) }
+    fn keep(&mut self, promise: Prepared) -> Result<(), OutOfMemory>
+        requires first { prepared_of self.old.prepared promise.tx ≡ None }
+        requires client { promise.tx.client < most_clients }
+        ensures ok { OnOk result (self.new ≡ promised self.old promise) }
         ensures err { OnErr result (self.new ≡ self.old) }
     {
-        self.prepared.add(promise.copy()?)?;
-        if let Err(refused) = self.recorded.merge(&promise.lines) {
-            self.prepared.remove(promise.tx);
-            return Err(refused);
+        let recorded = self.recorded.union(&promise.lines)?;
+        self.prepared.add(promise)?;
+        if let Some(recorded) = recorded {
+            self.recorded = recorded;
         }
         Ok(())
     }

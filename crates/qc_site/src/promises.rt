@@ -8,6 +8,7 @@ ghost use Rattle.std.specs.Map.Iter.{ShowsInOrder, deref};
 ghost use Rattle.std.specs.Ordering.{eq_by_cmp};
 ghost use Rattle.std.specs.Set.{is_member};
 ghost use Rattle.qc_entry.specs.declared.record.Prepared.{Prepared};
+ghost use Rattle.qc_lock.specs.Numbered.{IsOneForEach};
 ghost use Rattle.qc_site.specs.Promise.{is_prepared, prepared_of, without_prepared};
 ghost use Rattle.qc_stamp.specs.Order.{tx_cmp};
 ghost use Rattle.qc_stamp.specs.declared.stamp.TxId.{TxId};
@@ -74,6 +75,7 @@ impl Promises {
     pub fn transactions(&self) -> Keys<'_, TxId, u64>
         ensures ascending { IsStrictlySortedBy tx_cmp result }
         ensures just { (tx : TxId) → is_member (eq_by_cmp tx_cmp) result tx ≡ is_prepared self.now tx }
+        ensures single { IsOneForEach (λ p. p.tx) self.now }
         ensures runs { ShowsInOrder (deref {X = TxId}) }
     {
         self.numbers.keys()

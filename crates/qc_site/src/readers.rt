@@ -1,8 +1,10 @@
 //! What is read off a site.
 
-ghost use Rattle.std.specs.Prelude.{◌≡◌, length};
+ghost use Rattle.std.specs.Prelude.{◌≡◌, IfOk, length};
+ghost use Rattle.qc_site.specs.Site.{known};
 
 use crate::Site;
+use qc_list::OutOfMemory;
 
 impl Site {
     /// Its number.
@@ -27,11 +29,12 @@ impl Site {
     }
 
     /// The number of lines that it knows.
-    pub fn lines(&self) -> u64
-        ensures { result ≡ length self.now.log }
+    pub fn lines(&self) -> Result<u64, OutOfMemory>
+        ensures { IfOk result (λ n. n ≡ length (known self.now)) }
     {
-        self.log.lines().len() as u64
+        Ok(self.known()?.lines().len() as u64)
     }
+
     /// The number of unfinished transactions that hold something here.
     pub fn holders(&self) -> u64
         ensures { result ≡ length self.now.held }

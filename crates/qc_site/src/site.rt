@@ -1,10 +1,10 @@
 //! A site's state, and what it does as a message comes.
 
-ghost use Rattle.std.specs.Prelude.{◌≡◌, ◌≤◌, ◌<◌, IfOk, OnErr};
+ghost use Rattle.std.specs.Prelude.{◌≡◌, ◌≤◌, ◌<◌, ◌-◌, ◌^◌, IfOk, OnErr};
 ghost use Rattle.qc_decl.specs.Limits.{most_clients, most_sites};
 ghost use Rattle.qc_site.specs.Conduct.{site_at, site_on};
 ghost use Rattle.qc_site.specs.Promise.{dropped};
-ghost use Rattle.qc_site.specs.Holders.{AreOfClients};
+ghost use Rattle.qc_site.specs.Holders.{AreByClients, AreOfClients};
 ghost use Rattle.qc_site.specs.Site.{new_site};
 
 use crate::asker::Asker;
@@ -19,15 +19,16 @@ use qc_stamp::{Clock, FIRST_LIFE};
 use std::alloc::Global;
 use std::marker::Model;
 
-/// A site: its life and epoch, its log, what is held and promised, and its
-/// clock. Each transaction that holds something is of a client below the most
-/// clients.
+/// A site: its life and epoch, what its epoch began with and the log since,
+/// what is held and promised, and its clock. Each transaction that holds
+/// something or is promised is of a client below the most clients.
 #[derive(Drop)]
 pub struct Site {
     pub(crate) number: u8,
     pub(crate) life: u32,
     pub(crate) epoch: u8,
     pub(crate) closed_for: Option<u8>,
+    pub(crate) began: Log,
     pub(crate) log: Log,
     pub(crate) recorded: Log,
     pub(crate) held: Locks,
@@ -37,7 +38,7 @@ pub struct Site {
 
 impl Model for Site {
     ghost use Rattle.qc_site.specs.Site.{SiteState};
-    ghost use Rattle.qc_site.specs.Holders.{AreOfClients};
+    ghost use Rattle.qc_site.specs.Holders.{AreByClients, AreOfClients};
 
     ghost Value = { SiteState };
 
@@ -46,6 +47,7 @@ impl Model for Site {
       life = s.life;
       epoch = s.epoch;
       closed_for = s.closed_for;
+      began = s.began;
       log = s.log;
       recorded = s.recorded;
       held = s.held;
@@ -53,7 +55,7 @@ impl Model for Site {
       clock = s.clock.value;
     } };
 
-    ghost invariant = { λ s. AreOfClients s.held };
+    ghost invariant = { λ s. AreOfClients s.held × AreByClients s.prepared };
 }
 
 impl Site {
@@ -66,6 +68,7 @@ impl Site {
             life: FIRST_LIFE,
             epoch: FIRST_EPOCH,
             closed_for: None,
+            began: Log::new(alloc)?,
             log: Log::new(alloc)?,
             recorded: Log::new(alloc)?,
             held: Locks::new(alloc),
@@ -75,24 +78,28 @@ impl Site {
     }
 
     /// The site of this number that rises: its records give its life, its epoch
-    /// and the one that it has closed that for, its lines, its promises and its
-    /// clock, and its promises give what is held.
+    /// and the one that it has closed that for, what its epoch began with and the
+    /// lines since, its promises and its clock, and its promises give what is
+    /// held.
     pub fn risen(
         number: u8,
         life: u32,
         epoch: u8,
         closed_for: Option<u8>,
+        began: Log,
         lines: Log,
         held: Locks,
         prepared: Promises,
         clock: Clock,
     ) -> Result<Site, OutOfMemory>
-        requires { AreOfClients held }
+        requires held { AreOfClients held }
+        requires prepared { AreByClients prepared }
         ensures { IfOk result (λ s. s ≡ record {
           number = number;
           life = life;
           epoch = epoch;
           closed_for = closed_for;
+          began = began;
           log = lines;
           recorded = lines;
           held = held;
@@ -105,6 +112,7 @@ impl Site {
             life,
             epoch,
             closed_for,
+            began,
             recorded: lines.copy()?,
             log: lines,
             held,
@@ -126,6 +134,7 @@ impl Site {
     ) -> Result<Turn, OutOfMemory>
         requires sites { decl.now.sites ≤ most_sites }
         requires clients { decl.now.clients ≤ most_clients }
+        requires life { self.old.life < 2 ^ 32 - 1 }
         ensures ok { IfOk result (λ turn. site_on decl.now self.old from number message.now
             ≡ record { site = self.new; turn = turn }) }
         ensures err { OnErr result (self.new ≡ self.old) }
@@ -150,6 +159,7 @@ impl Site {
     ) -> Result<Turn, OutOfMemory>
         requires sites { decl.now.sites ≤ most_sites }
         requires clients { decl.now.clients ≤ most_clients }
+        requires life { self.old.life < 2 ^ 32 - 1 }
         ensures ok { IfOk result (λ turn. site_at decl.now self.old asker.from asker.number message.now
             ≡ record { site = self.new; turn = turn }) }
         ensures err { OnErr result (self.new ≡ self.old) }
@@ -165,11 +175,13 @@ impl Site {
                 self.request(alloc, decl, asker, *tx, want, fault)
             }
             Message::Decision { tx, verdict } => self.finish(alloc, *tx, *verdict),
-            Message::Answer { .. }
-            | Message::Inquiry { .. }
-            | Message::Ask { .. }
-            | Message::Close { .. }
-            | Message::Install { .. } => Ok(Turn::quiet(alloc)),
+            Message::Close { epoch } => self.close(alloc, asker, *epoch),
+            Message::Install { epoch, clock, log } => {
+                self.install(alloc, asker, *epoch, *clock, log)
+            }
+            Message::Answer { .. } | Message::Inquiry { .. } | Message::Ask { .. } => {
+                Ok(Turn::quiet(alloc))
+            }
         }
     }
 }

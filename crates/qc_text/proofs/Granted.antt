@@ -2,19 +2,18 @@
 use Rattle.std.proofs.Common.{◌≡◌, ℕ, ◌+◌, ◌<◌, ◌||◌, Bool, true, false, List, [], ◌∷◌, Option, Some, None, length, get_or, map, drop, sym, ap, refl, ◌∙◌, cond}
 use Rattle.std.specs.Option.{option_map_or}
 use Rattle.qc_entry.specs.declared.line.Line.{Line}
-use Rattle.qc_entry.specs.Log.{union}
-use Rattle.qc_entry.proofs.Union.{union-nil}
 use Rattle.qc_msg.specs.declared.message.Envelope.{Envelope}
 use Rattle.qc_msg.specs.declared.step.Fall.TheVariants as causes
 use Rattle.qc_msg.specs.Readings.{Requested, request_in}
 use Rattle.qc_msg.specs.Deeds.{Deed, Takes, Writes, Sends, Tells, Falls, Rises}
 use Rattle.qc_promise.specs.SiteHeld.{is_granted}
-use Rattle.qc_promise.specs.SiteLogs.{view_by, view_in}
+use Rattle.qc_promise.specs.SiteLogs.{Lines, learning, view_by, view_in}
 use Rattle.qc_text.specs.Deeds.{deed_of}
 use Rattle.qc_text.specs.Holders.{ends_post, sends_grant}
 use Rattle.qc_text.specs.Views.{view_asked}
 use Rattle.qc_text.specs.declared.deeds.Deed.{Deed as Found}
 use Rattle.qc_text.proofs.Found.{found_rest}
+use Rattle.qc_text.proofs.Recorded.{learn_none}
 
 -- grants
 
@@ -74,22 +73,22 @@ view_cond e after = by (request_in e.message)
     by None = sym (view_asked_of (is_granted e.number after))
     by (Some q) = refl
 
-pub joins : (e : Envelope) (after : List Deed) (lines view : List Line) → view_asked e.message ≡ view → is_granted e.number after ≡ true
-    → union lines view ≡ union lines (view_by after e)
-joins e after lines view v g =
-    ap (λ (l : List Line). union lines l) (sym v)
-    ∙ ap (λ (b : Bool). union lines (cond b (view_asked e.message) [])) (sym g)
-    ∙ ap (λ (l : List Line). union lines l) (sym (view_cond e after))
+pub joins : (e : Envelope) (after : List Deed) (l : Lines) (view : List Line) → view_asked e.message ≡ view → is_granted e.number after ≡ true
+    → learning l view ≡ learning l (view_by after e)
+joins e after l view v g =
+    ap (learning l) (sym v)
+    ∙ ap (λ (b : Bool). learning l (cond b (view_asked e.message) [])) (sym g)
+    ∙ ap (learning l) (sym (view_cond e after))
 
-pub joins_nothing : (e : Envelope) (after : List Deed) (lines : List Line) → is_granted e.number after ≡ false → lines ≡ union lines (view_by after e)
-joins_nothing e after lines g =
-    sym (union-nil lines)
-    ∙ ap (λ (b : Bool). union lines (cond b (view_asked e.message) [])) (sym g)
-    ∙ ap (λ (l : List Line). union lines l) (sym (view_cond e after))
+pub joins_nothing : (e : Envelope) (after : List Deed) (l : Lines) → is_granted e.number after ≡ false → l ≡ learning l (view_by after e)
+joins_nothing e after l g =
+    sym (learn_none l)
+    ∙ ap (λ (b : Bool). learning l (cond b (view_asked e.message) [])) (sym g)
+    ∙ ap (learning l) (sym (view_cond e after))
 
-pub joins_no_view : (e : Envelope) (after : List Deed) (lines : List Line) → view_asked e.message ≡ [] → lines ≡ union lines (view_by after e)
-joins_no_view e after lines v =
-    sym (union-nil lines)
-    ∙ ap (λ (l : List Line). union lines l) (sym (view_asked_of (is_granted e.number after)))
-    ∙ ap (λ (l : List Line). union lines (cond (is_granted e.number after) l [])) (sym v)
-    ∙ ap (λ (l : List Line). union lines l) (sym (view_cond e after))
+pub joins_no_view : (e : Envelope) (after : List Deed) (l : Lines) → view_asked e.message ≡ [] → l ≡ learning l (view_by after e)
+joins_no_view e after l v =
+    sym (learn_none l)
+    ∙ ap (learning l) (sym (view_asked_of (is_granted e.number after)))
+    ∙ ap (λ (w : List Line). learning l (cond (is_granted e.number after) w [])) (sym v)
+    ∙ ap (learning l) (sym (view_cond e after))

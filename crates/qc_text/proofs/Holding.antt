@@ -1,13 +1,12 @@
 -- The transactions that hold something, walked forward, are those that a site's deeds show.
 use Rattle.std.proofs.Common.{◌≡◌, ℕ, ◌==◌, ◌&&◌, ◌||◌, not, Bool, true, false, cond, List, [], ◌∷◌, ◌++◌, length, map, refl, sym, ap, ◌∙◌, subst, append_assoc}
 use Rattle.std.specs.Prelude.{filter, fold}
-use Rattle.std.proofs.lemmas.List.{append-nil, length-map, map-append}
+use Rattle.std.proofs.lemmas.List.{append-nil}
 use Rattle.std.proofs.lemmas.List.Elements.{filter-append}
 use Rattle.std.proofs.lemmas.List.Sums.{fold-append}
 use Rattle.qc_stamp.specs.declared.stamp.TxId.{TxId}
 use Rattle.qc_stamp.specs.Order.{same_tx}
 use Rattle.qc_stamp.proofs.Orders.{other_tx_sym, same_tx_is, same_tx_itself}
-use Rattle.qc_entry.specs.declared.record.Prepared.{Prepared}
 use Rattle.qc_lock.specs.declared.held.Held.{Held}
 use Rattle.qc_lock.specs.Held.{held_of, with_entry, with_locks, with_owns}
 use Rattle.qc_msg.specs.declared.message.Message.{Message}
@@ -16,27 +15,21 @@ use Rattle.qc_msg.specs.declared.message.Outcome.{Outcome}
 use Rattle.qc_msg.specs.declared.message.Outcome.TheVariants.{Committed, Aborted, Active}
 use Rattle.qc_msg.specs.declared.message.Want.{Want}
 use Rattle.qc_msg.specs.declared.message.Want.TheVariants.{Read, Append, Prepare}
-use Rattle.qc_msg.specs.declared.record.Record.{Record}
-use Rattle.qc_msg.specs.declared.record.Record.TheVariants as records
 use Rattle.qc_msg.specs.declared.step.Given.TheVariants as given
 use Rattle.qc_msg.specs.Deeds.{Deed, Takes, Writes, Sends, Tells, Falls, Rises}
 use Rattle.qc_promise.specs.SiteEnds.{is_ended, is_final}
-use Rattle.qc_promise.specs.Lifetimes.{Lifetime}
-use Rattle.qc_promise.specs.SiteHeld.{Grant, held_since_rise, holding, is_granted, standing, with_promise}
-use Rattle.qc_promise.specs.SitePromises.{promises_of}
-use Rattle.qc_promise.proofs.Promises.{either_way, other_promises, promises_by_record, promises_with}
-use Rattle.qc_text.specs.Holders.{holders_from, holders_with, is_holding, is_holder, names_some, with_holder, without_holder}
-use Rattle.qc_text.specs.Lifetimes.{held_in}
+use Rattle.qc_promise.specs.SiteHeld.{Grant, holding, is_granted, standing}
+use Rattle.qc_text.specs.Holders.{holders_from, is_holding, is_holder, with_holder, without_holder}
 
 -- grants held, by transaction alone
 
-abbrev hold : List Held → Grant → List Held
+abbrev pub hold : List Held → Grant → List Held
 hold held g = holding held g.tx g.want
 
-abbrev hold_tx : List TxId → Grant → List TxId
+abbrev pub hold_tx : List TxId → Grant → List TxId
 hold_tx txs g = cond (is_holding g.want) (with_holder txs g.tx) txs
 
-abbrev name : Held → TxId
+abbrev pub name : Held → TxId
 name h = h.tx
 
 put_named : (held : List Held) (e : Held) → map name (with_entry held e) ≡ with_holder (map name held) e.tx
@@ -52,7 +45,7 @@ put_named (h ∷ hs) e = by (same_tx h.tx e.tx) refl (put_named hs e) where
   by true is ih = ap (λ (t : TxId). t ∷ map name hs) (sym (same_tx_is h.tx e.tx is))
   by false is ih = deep (is_holder (map name hs) e.tx) ih
 
-append_named : (held : List Held) (e : Held) (b : Bool) → map name (cond b held (with_entry held e)) ≡ cond (not b) (with_holder (map name held) e.tx) (map name held)
+pub append_named : (held : List Held) (e : Held) (b : Bool) → map name (cond b held (with_entry held e)) ≡ cond (not b) (with_holder (map name held) e.tx) (map name held)
 append_named held e true = refl
 append_named held e false = put_named held e
 
@@ -63,7 +56,7 @@ hold_named held tx (Append object view own) =
     append_named held (record { tx = tx; locks = with_locks (held_of held tx).locks []; own = with_owns (held_of held tx).own own }) (length own == 0)
 hold_named held tx Prepare = refl
 
-all_named : (held : List Held) (gs : List Grant) → map name (fold hold held gs) ≡ fold hold_tx (map name held) gs
+pub all_named : (held : List Held) (gs : List Grant) → map name (fold hold held gs) ≡ fold hold_tx (map name held) gs
 all_named held [] = refl
 all_named held (g ∷ gs) = all_named (hold held g) gs ∙ ap (λ (v : List TxId). fold hold_tx v gs) (hold_named held g.tx g.want)
 
@@ -97,7 +90,7 @@ other_dropped txs tx t other =
         ap (λ (b : Bool). without_holder txs tx ++ cond (not b) (t ∷ []) []) (sym other)
         ∙ sym (filter-append (λ u. not (same_tx u tx)) txs (t ∷ []))
 
-abbrev is_other : TxId → Grant → Bool
+abbrev pub is_other : TxId → Grant → Bool
 is_other tx g = not (same_tx tx g.tx)
 
 one_same : (b : Bool) (txs : List TxId) (tx t : TxId) → same_tx t tx ≡ true → without_holder (cond b (with_holder txs t) txs) tx ≡ without_holder txs tx
@@ -109,7 +102,7 @@ one_other true txs tx t other = other_dropped txs tx t other
 one_other false txs tx t other = refl
 
 -- what is held without it is what the grants of the others hold
-dropped : (tx : TxId) (txs : List TxId) (gs : List Grant) → without_holder (fold hold_tx txs gs) tx ≡ fold hold_tx (without_holder txs tx) (filter (is_other tx) gs)
+pub dropped : (tx : TxId) (txs : List TxId) (gs : List Grant) → without_holder (fold hold_tx txs gs) tx ≡ fold hold_tx (without_holder txs tx) (filter (is_other tx) gs)
 dropped tx txs [] = refl
 dropped tx txs (g ∷ gs) = by (same_tx tx g.tx) refl (dropped tx (hold_tx txs g) gs) where
   by : (b : Bool) → same_tx tx g.tx ≡ b → without_holder (fold hold_tx (hold_tx txs g) gs) tx ≡ fold hold_tx (without_holder (hold_tx txs g) tx) (filter (is_other tx) gs)
@@ -122,10 +115,10 @@ dropped tx txs (g ∷ gs) = by (same_tx tx g.tx) refl (dropped tx (hold_tx txs g
 
 -- the grants so far that stand among the deeds to come
 
-abbrev stays : List Deed → Grant → Bool
+abbrev pub stays : List Deed → Grant → Bool
 stays ds g = not (is_ended g.tx ds)
 
-abbrev Walks : List Deed → Type 0
+abbrev pub Walks : List Deed → Type 0
 Walks ds = (gs : List Grant) → holders_from (fold hold_tx [] gs) ds ≡ fold hold_tx [] (filter (stays ds) gs ++ standing ds)
 
 filter_none : (gs : List Grant) → filter (λ (g : Grant). true) gs ≡ gs
@@ -208,7 +201,7 @@ message_more number from to (messages.Ask tx) ds walk gs = walk gs
 message_more number from to (messages.Close epoch) ds walk gs = walk gs
 message_more number from to (messages.Install epoch clock log) ds walk gs = walk gs
 
-walks : (ds : List Deed) → Walks ds
+pub walks : (ds : List Deed) → Walks ds
 walks [] gs = sym (ap (λ (v : List Grant). fold hold_tx [] v) (append-nil (filter (stays []) gs) ∙ filter_none gs))
 walks (Takes (given.Called command) ∷ ds) gs = walks ds gs
 walks (Takes (given.Got e) ∷ ds) gs = message_more e.number e.from e.to e.message ds (walks ds) gs
@@ -218,80 +211,3 @@ walks (Sends number to message ∷ ds) gs = walks ds gs
 walks (Tells reply ∷ ds) gs = walks ds gs
 walks (Falls cause pending ∷ ds) gs = walks ds gs
 walks (Rises kept ∷ ds) gs = walks ds gs
-
--- promises of the records of a rise, as if they had been granted
-
-abbrev as_grant : Prepared → Grant
-as_grant p = record { tx = p.tx; want = cond (names_some p) (Read 0 0) Prepare }
-
-held_some : (b : Bool) → is_holding (cond b (Read 0 0) Prepare) ≡ b
-held_some true = refl
-held_some false = refl
-
-promise_named : (held : List Held) (p : Prepared) → map name (with_promise held p) ≡ hold_tx (map name held) (as_grant p)
-promise_named held p =
-    append_named held (record { tx = p.tx; locks = with_locks (held_of held p.tx).locks p.locks; own = with_owns (held_of held p.tx).own p.own }) ((length p.locks == 0) && (length p.own == 0))
-    ∙ ap (λ (b : Bool). cond b (with_holder (map name held) p.tx) (map name held)) (sym (held_some (names_some p)))
-
-promises_named : (held : List Held) (ps : List Prepared) → map name (fold with_promise held ps) ≡ fold hold_tx (map name held) (map as_grant ps)
-promises_named held [] = refl
-promises_named held (p ∷ ps) = promises_named (with_promise held p) ps ∙ ap (λ (v : List TxId). fold hold_tx v (map as_grant ps)) (promise_named held p)
-
--- those of others, and those that aren't ended
-
-others_granted : (tx : TxId) (ps : List Prepared) → filter (is_other tx) (map as_grant ps) ≡ map as_grant (other_promises ps tx)
-others_granted tx [] = refl
-others_granted tx (p ∷ ps) =
-    ap (λ (b : Bool). cond (not b) (as_grant p ∷ filter (is_other tx) (map as_grant ps)) (filter (is_other tx) (map as_grant ps))) (either_way tx p.tx)
-    ∙ by (same_tx p.tx tx) (others_granted tx ps)
-  where
-    by : (b : Bool) → filter (is_other tx) (map as_grant ps) ≡ map as_grant (other_promises ps tx)
-        → cond (not b) (as_grant p ∷ filter (is_other tx) (map as_grant ps)) (filter (is_other tx) (map as_grant ps)) ≡ map as_grant (cond (not b) (p ∷ other_promises ps tx) (other_promises ps tx))
-    by true rest = rest
-    by false rest = ap (λ (v : List Grant). as_grant p ∷ v) rest
-
-stay_granted : (ds : List Deed) (ps : List Prepared) → filter (stays ds) (map as_grant ps) ≡ map as_grant (filter (λ (p : Prepared). not (is_ended p.tx ds)) ps)
-stay_granted ds [] = refl
-stay_granted ds (p ∷ ps) = by (is_ended p.tx ds) (stay_granted ds ps)
-  where
-    by : (b : Bool) → filter (stays ds) (map as_grant ps) ≡ map as_grant (filter (λ (q : Prepared). not (is_ended q.tx ds)) ps)
-        → cond (not b) (as_grant p ∷ filter (stays ds) (map as_grant ps)) (filter (stays ds) (map as_grant ps))
-        ≡ map as_grant (cond (not b) (p ∷ filter (λ (q : Prepared). not (is_ended q.tx ds)) ps) (filter (λ (q : Prepared). not (is_ended q.tx ds)) ps))
-    by true rest = rest
-    by false rest = ap (λ (v : List Grant). as_grant p ∷ v) rest
-
--- a record more
-
-abbrev granted_by : List Prepared → List TxId
-granted_by ps = fold hold_tx [] (map as_grant ps)
-
-without_promises : (ps : List Prepared) (tx : TxId) → without_holder (granted_by ps) tx ≡ granted_by (other_promises ps tx)
-without_promises ps tx = dropped tx [] (map as_grant ps) ∙ ap (fold hold_tx []) (others_granted tx ps)
-
-record_more : (ps : List Prepared) (r : Record) → holders_with (granted_by ps) r ≡ granted_by (promises_with ps r)
-record_more ps records.Life = refl
-record_more ps (records.Prepare p) =
-    ap (λ (v : List TxId). cond (names_some p) (with_holder v p.tx) v) (without_promises ps p.tx)
-    ∙ ap (λ (b : Bool). cond b (with_holder (granted_by (other_promises ps p.tx)) p.tx) (granted_by (other_promises ps p.tx))) (sym (held_some (names_some p)))
-    ∙ sym (fold-append hold_tx [] (map as_grant (other_promises ps p.tx)) (as_grant p ∷ []))
-    ∙ ap (fold hold_tx []) (sym (map-append as_grant (other_promises ps p.tx) (p ∷ [])))
-record_more ps (records.Done tx clock) = without_promises ps tx
-record_more ps (records.Close epoch) = refl
-record_more ps (records.Install epoch clock lines) = refl
-record_more ps (records.Commit commit) = refl
-record_more ps (records.Decide epoch clock lines) = refl
-
-records_walked : (ps : List Prepared) (rs : List Record) → fold holders_with (granted_by ps) rs ≡ granted_by (fold promises_with ps rs)
-records_walked ps [] = refl
-records_walked ps (r ∷ rs) = ap (λ (v : List TxId). fold holders_with v rs) (record_more ps r) ∙ records_walked (promises_with ps r) rs
-
--- as many as hold something in the present life
-pub holders_counted : (l : Lifetime) → length (holders_from (fold holders_with [] l.kept) l.since) ≡ length (held_in l)
-holders_counted l =
-    ap (λ (v : List TxId). length (holders_from v l.since)) (records_walked [] l.kept ∙ ap granted_by (sym (promises_by_record l.kept)))
-    ∙ ap length (walks l.since (map as_grant (promises_of l.kept))
-    ∙ fold-append hold_tx [] (filter (stays l.since) (map as_grant (promises_of l.kept))) (standing l.since)
-    ∙ ap (λ (v : List Grant). fold hold_tx (fold hold_tx [] v) (standing l.since)) (stay_granted l.since (promises_of l.kept))
-    ∙ ap (λ (v : List TxId). fold hold_tx v (standing l.since)) (sym (promises_named [] (filter (λ (p : Prepared). not (is_ended p.tx l.since)) (promises_of l.kept))))
-    ∙ sym (all_named (held_since_rise l.since (promises_of l.kept)) (standing l.since)))
-    ∙ length-map (held_in l) name

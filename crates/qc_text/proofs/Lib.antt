@@ -11,4 +11,7 @@ pub mod Recorded
 pub mod Risen
 pub mod Walked
 pub mod Holding
+pub mod Promised
+pub mod Cuts
+pub mod Held
 pub mod SetOf

@@ -1,4 +1,4 @@
--- What records show, one deed or one record on: life, epoch, the last Prepare, and the log.
+-- What records show, one deed or one record on: life, epoch, the last Prepare, and the lines.
 use Rattle.std.proofs.Common.{◌≡◌, ℕ, Bor, ◌+◌, ◌<◌, Bool, true, false, List, [], ◌∷◌, ◌++◌, Some, None, length, get_or, map, take, drop, sym, ap, refl, ◌∙◌, cond, Option}
 use Rattle.std.specs.Prelude.{fold, option_map}
 use Rattle.std.specs.List.{cons_option, filter_map}
@@ -9,13 +9,12 @@ use Rattle.qc_stamp.specs.declared.stamp.TxId.{TxId}
 use Rattle.qc_stamp.specs.Order.{same_tx, tx_cmp}
 use Rattle.qc_entry.specs.declared.line.Line.{Line}
 use Rattle.qc_entry.specs.declared.record.Prepared.{Prepared}
-use Rattle.qc_entry.specs.Log.{union}
 use Rattle.qc_entry.proofs.Union.{union-nil}
 use Rattle.qc_msg.specs.declared.record.Record.{Record}
 use Rattle.qc_msg.specs.declared.record.Record.TheVariants as journals
 use Rattle.qc_msg.specs.Deeds.{Deed}
 use Rattle.qc_msg.specs.Readings.{written_in}
-use Rattle.qc_promise.specs.SiteLogs.{done_lines, joining, lines_of, log_from, recorded_from, with_given, with_written}
+use Rattle.qc_promise.specs.SiteLogs.{Lines, done_lines, learning, lines_from, lines_of, recorded_from, with_given, with_joined, with_written}
 use Rattle.qc_promise.specs.SiteRecords.{epoch_by, last_prepare, life_by, prepare_by}
 use Rattle.qc_text.specs.Deeds.{deed_of}
 use Rattle.qc_text.specs.Records.{epoch_at, life_at}
@@ -88,39 +87,36 @@ last_none f rs r drops none tx = ap (option_map (λ (q : Bor Prepared). q.now)) 
 
 -- a Done gives the lines of the last Prepare, and without one nothing
 
-pub done_some : (before : List Record) (tx : TxId) (clock : ℕ) (lines : List Line) (p : Prepared) → Some p ≡ last_prepare tx before
-    → union lines (lines_of (record { clock = clock; client = tx.client }) tx p.own) ≡ union lines (done_lines before (record { tx = tx; clock = clock }))
-done_some before tx clock lines p found =
-    ap (λ (o : Option Prepared). union lines (option_map_or (λ (q : Prepared). lines_of (record { clock = clock; client = tx.client }) tx q.own) o [])) found
+pub learn_none : (l : Lines) → learning l [] ≡ l
+learn_none l = ap (λ (v : List Line). record l { since = v }) (union-nil l.since)
 
-pub done_nothing : (before : List Record) (tx : TxId) (clock : ℕ) (lines : List Line) → None ≡ last_prepare tx before → lines ≡ union lines (done_lines before (record { tx = tx; clock = clock }))
-done_nothing before tx clock lines none_found =
-    sym (union-nil lines)
-    ∙ ap (λ (o : Option Prepared). union lines (option_map_or (λ (q : Prepared). lines_of (record { clock = clock; client = tx.client }) tx q.own) o [])) none_found
+pub done_some : (before : List Record) (tx : TxId) (clock : ℕ) (l : Lines) (p : Prepared) → Some p ≡ last_prepare tx before
+    → learning l (lines_of (record { clock = clock; client = tx.client }) tx p.own) ≡ learning l (done_lines before (record { tx = tx; clock = clock }))
+done_some before tx clock l p found =
+    ap (λ (o : Option Prepared). learning l (option_map_or (λ (q : Prepared). lines_of (record { clock = clock; client = tx.client }) tx q.own) o [])) found
 
--- the log
+pub done_nothing : (before : List Record) (tx : TxId) (clock : ℕ) (l : Lines) → None ≡ last_prepare tx before → l ≡ learning l (done_lines before (record { tx = tx; clock = clock }))
+done_nothing before tx clock l none_found =
+    sym (learn_none l)
+    ∙ ap (λ (o : Option Prepared). learning l (option_map_or (λ (q : Prepared). lines_of (record { clock = clock; client = tx.client }) tx q.own) o [])) none_found
 
-pub union_none : (lines : List Line) → union lines [] ≡ lines
-union_none lines = union-nil lines
-
--- by records
-
-pub given_more : (rs : List Record) (i : ℕ) (r d : Record) (lines after all : List Line) → i < length rs → r ≡ get_or rs i d
-    → after ≡ with_given lines (take i rs) r
-    → recorded_from lines (take i rs) (drop i rs) ≡ all
+-- the lines, by records
+pub given_more : (rs : List Record) (i : ℕ) (r d : Record) (l after all : Lines) → i < length rs → r ≡ get_or rs i d
+    → after ≡ with_given l (take i rs) r
+    → recorded_from l (take i rs) (drop i rs) ≡ all
     → recorded_from after (take (i + 1) rs) (drop (i + 1) rs) ≡ all
-given_more rs i r d lines after all l e is known =
-    ap (λ (v : List Line). recorded_from v (take (i + 1) rs) (drop (i + 1) rs)) is
-    ∙ ap (λ (v : List Record). recorded_from (with_given lines (take i rs) r) v (drop (i + 1) rs)) (more rs i r d l e)
-    ∙ ap (λ (v : List Record). recorded_from lines (take i rs) v) (sym (rest rs i r d l e))
+given_more rs i r d l after all within e is known =
+    ap (λ (v : Lines). recorded_from v (take (i + 1) rs) (drop (i + 1) rs)) is
+    ∙ ap (λ (v : List Record). recorded_from (with_given l (take i rs) r) v (drop (i + 1) rs)) (more rs i r d within e)
+    ∙ ap (λ (v : List Record). recorded_from l (take i rs) v) (sym (rest rs i r d within e))
     ∙ known
 
 -- by deeds, after these records
-pub log_more : (xs : List Found) (i : ℕ) (x d : Found) (before : List Record) (lines after all : List Line) → i < length xs → x ≡ get_or xs i d
-    → after ≡ union lines (joining before (deed_of x) (map deed_of (drop (i + 1) xs)))
-    → log_from lines before (map deed_of (drop i xs)) ≡ all
-    → log_from after (with_written before (deed_of x)) (map deed_of (drop (i + 1) xs)) ≡ all
-log_more xs i x d before lines after all l e a known =
-    ap (λ (v : List Line). log_from v (with_written before (deed_of x)) (map deed_of (drop (i + 1) xs))) a
-    ∙ ap (λ (v : List Deed). log_from lines before v) (sym (found_rest xs i x d l e))
+pub lines_more : (xs : List Found) (i : ℕ) (x d : Found) (before : List Record) (l after all : Lines) → i < length xs → x ≡ get_or xs i d
+    → after ≡ with_joined l before (deed_of x) (map deed_of (drop (i + 1) xs))
+    → lines_from l before (map deed_of (drop i xs)) ≡ all
+    → lines_from after (with_written before (deed_of x)) (map deed_of (drop (i + 1) xs)) ≡ all
+lines_more xs i x d before l after all within e a known =
+    ap (λ (v : Lines). lines_from v (with_written before (deed_of x)) (map deed_of (drop (i + 1) xs))) a
+    ∙ ap (λ (v : List Deed). lines_from l before v) (sym (found_rest xs i x d within e))
     ∙ known

@@ -8,10 +8,12 @@ pub mod Keys
 pub mod Log
 pub mod States
 pub mod Deeds
+pub mod Holdings
 pub mod Lifetimes
 pub mod Records
 pub mod Prepares
 pub mod Views
 pub mod Holders
+pub mod Promises
 pub mod Sites
 pub mod Text

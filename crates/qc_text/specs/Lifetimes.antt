@@ -3,15 +3,16 @@ use Rattle.std.specs.Prelude.{ℕ, ◌++◌, List, fold, map}
 use Rattle.std.specs.List.{filter_map}
 use Rattle.qc_stamp.specs.Lives.{first_life}
 use Rattle.qc_entry.specs.declared.line.Line.{Line}
+use Rattle.qc_entry.specs.Log.{union}
 use Rattle.qc_lock.specs.declared.held.Held.{Held}
 use Rattle.qc_msg.specs.Begun.{first_epoch}
 use Rattle.qc_msg.specs.Readings.{written_in}
 use Rattle.qc_promise.specs.Lifetimes.{Lifetime}
-use Rattle.qc_promise.specs.SiteHeld.{Grant, held_since_rise, holding, standing}
-use Rattle.qc_promise.specs.SiteLogs.{log_from, recorded_by}
-use Rattle.qc_promise.specs.SitePromises.{promises_of}
+use Rattle.qc_promise.specs.SiteHeld.{last_cut}
+use Rattle.qc_promise.specs.SiteLogs.{Lines, lines_from, recorded_by}
 use Rattle.qc_promise.specs.SiteRecords.{epoch_by, life_by}
 use Rattle.qc_text.specs.Deeds.{deed_of}
+use Rattle.qc_text.specs.Holdings.{held_by}
 use Rattle.qc_text.specs.declared.lifetimes.Lifetime.{Lifetime as Present}
 
 abbrev pub present : Present → Lifetime
@@ -25,10 +26,11 @@ life_in l = fold life_by first_life (l.kept ++ filter_map written_in l.since)
 abbrev pub epoch_in : Lifetime → ℕ
 epoch_in l = fold epoch_by first_epoch (l.kept ++ filter_map written_in l.since)
 
+abbrev pub lines_in : Lifetime → Lines
+lines_in l = lines_from (recorded_by l.kept) l.kept l.since
+
 abbrev pub log_in : Lifetime → List Line
-log_in l = log_from (recorded_by l.kept) l.kept l.since
+log_in l = union (lines_in l).began (lines_in l).since
 
 abbrev pub held_in : Lifetime → List Held
-held_in l =
-    fold (λ (held : List Held) (g : Grant). holding held g.tx g.want) (held_since_rise l.since (promises_of l.kept))
-    (standing l.since)
+held_in l = held_by l.kept (last_cut l.since)

@@ -1,21 +1,21 @@
-//! Which requests a site granted, and which transactions hold something by
-//! them.
+//! Which requests a site granted, and which transactions hold something by them
+//! and by what was promised.
 
-ghost use Rattle.std.specs.Prelude.{◌≡◌, [], List, OnOk, IfOk, fold, length, map};
+ghost use Rattle.std.specs.Prelude.{◌≡◌, List, OnOk, IfOk, length, map};
 ghost use Rattle.qc_stamp.specs.declared.stamp.TxId.{TxId};
 ghost use Rattle.qc_promise.specs.SiteEnds.{is_final};
 ghost use Rattle.qc_promise.specs.SiteHeld.{is_granted};
 ghost use Rattle.qc_text.specs.Deeds.{deed_of};
-ghost use Rattle.qc_text.specs.Holders.{IsSetOf, ends_post, holders_at, holders_by, holders_with, is_holding};
-ghost use Rattle.qc_text.specs.Holders.{names_some, sends_grant};
+ghost use Rattle.qc_text.specs.Holders.{IsSetOf, ends_post, holders_at, holders_by, is_holding, sends_grant};
 ghost use Rattle.qc_text.specs.Lifetimes.{held_in, present};
 
 use crate::deeds::{Deed, Letter};
 use crate::holders::Holders;
+use crate::holdings::holding_of;
 use crate::lifetimes::Lifetime;
-use qc_entry::Prepared;
+use crate::promises::promised_after;
 use qc_list::OutOfMemory;
-use qc_msg::{Answer, Message, Outcome, Record, Want};
+use qc_msg::{Answer, Message, Outcome, Want};
 use std::alloc::Global;
 
 /// Whether the request of this number is granted: one of the messages of its
@@ -64,54 +64,16 @@ fn grants(deed: &Deed<'_>, number: u32) -> bool
 pub(crate) fn count_holders(alloc: Global, current: &Lifetime<'_>) -> Result<u64, OutOfMemory>
     ensures { IfOk result (λ n. n ≡ length (held_in (present current.now))) }
 {
-    let mut holders = holders_kept(alloc, current.kept)?;
-    'deeds: for place in 0..current.since.len() {
+    let holding = holding_of(current.since);
+    let mut holders = promised_after(alloc, current.kept, holding.before)?;
+    'deeds: for place in 0..holding.since.len() {
         take_deed(
             &mut holders,
-            &current.since[place],
-            &current.since[place + 1..],
+            &holding.since[place],
+            &holding.since[place + 1..],
         )?;
     }
     Ok(holders.count())
-}
-
-/// The transactions whose promises stand among the records of a rise, and name
-/// something.
-fn holders_kept(alloc: Global, kept: &[Record]) -> Result<Holders, OutOfMemory>
-    ensures { IfOk result (λ holders. IsSetOf (fold holders_with [] kept.now) holders) }
-{
-    let mut holders = Holders::new(alloc);
-    'records: for written in kept {
-        take_record(&mut holders, written)?;
-    }
-    Ok(holders)
-}
-
-/// Takes a record of a rise: a promise holds what it names until a later record
-/// redeems it.
-fn take_record(holders: &mut Holders, written: &Record) -> Result<(), OutOfMemory>
-    ensures { OnOk result ((txs : List TxId) → IsSetOf txs holders.old
-        → IsSetOf (holders_with txs written.now) holders.new) }
-{
-    match written {
-        Record::Prepare(prepared) => {
-            holders.remove(prepared.tx);
-            if names_some(prepared) {
-                holders.add(prepared.tx)?;
-            }
-        }
-        Record::Done { tx, .. } => holders.remove(*tx),
-        Record::Install { .. } => holders.clear(),
-        Record::Life | Record::Close { .. } | Record::Commit(_) | Record::Decide { .. } => {}
-    }
-    Ok(())
-}
-
-/// Whether a promise names something to be held.
-fn names_some(prepared: &Prepared) -> bool
-    ensures { result ≡ names_some prepared.now }
-{
-    !(prepared.locks.items().is_empty() && prepared.own.items().is_empty())
 }
 
 /// Takes a deed, with those after it.

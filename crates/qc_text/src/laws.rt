@@ -2,6 +2,8 @@
 
 ghost use Rattle.std.specs.Prelude.{◌≡◌, ◌∷◌, [], List, None, codes};
 ghost use Rattle.qc_decl.specs.declared.declaration.Declaration.{Declaration};
+ghost use Rattle.qc_entry.specs.declared.line.Line.{Line};
+ghost use Rattle.qc_entry.specs.declared.line.ReadLock.{ReadLock};
 ghost use Rattle.qc_msg.specs.Steps.{by};
 ghost use Rattle.qc_msg.specs.declared.record.Record.TheVariants as records;
 ghost use Rattle.qc_msg.specs.declared.reply.Half.TheVariants as halves;
@@ -48,7 +50,9 @@ pub fn replies_read_so()
 {}
 
 /// A site is down from its own fall to its own rise. That it rises is its own
-/// record, and another's fall isn't its own.
+/// record, and another's fall isn't its own. As it closes an epoch it holds what
+/// it has promised; with one that it installs nothing, and it has that one's
+/// lines.
 pub fn sites_read_so()
     ensures began { site_line [] 0 ≡ codes "s0 life 1 epoch 1 lines 0 held 0\n" }
     ensures fell { site_line (by 0 (steps.Fell falls.Script None ∷ [])) 0 ≡ codes "s0 down\n" }
@@ -59,4 +63,15 @@ pub fn sites_read_so()
         ≡ codes "s0 life 2 epoch 1 lines 0 held 0\n" }
     ensures fell_again { site_line (by 0 (steps.Fell falls.Stop None ∷ steps.Rose [] ∷ steps.Fell falls.Script None
         ∷ [])) 0 ≡ codes "s0 down\n" }
+    ensures closed { (tx : TxId) (lock : ReadLock) → site_line (by 0 (steps.Wrote (records.Prepare (record {
+      tx = tx;
+      epoch = 1;
+      locks = lock ∷ [];
+      own = [];
+      lines = [];
+    })) ∷ steps.Wrote (records.Close 2) ∷ [])) 0
+        ≡ codes "s0 life 2 epoch 1 lines 0 held 1\n" }
+    ensures installed { (tx : TxId) (lock : ReadLock) (line : Line) → site_line (by 0 (steps.Wrote (records.Prepare
+        (record { tx = tx; epoch = 1; locks = lock ∷ []; own = []; lines = [] }))
+        ∷ steps.Wrote (records.Install 2 5 (line ∷ [])) ∷ [])) 0 ≡ codes "s0 life 1 epoch 2 lines 1 held 0\n" }
 {}

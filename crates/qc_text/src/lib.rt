@@ -13,7 +13,8 @@
 //!    that fell and hasn't risen is down.
 //! 4. The work is linear in the history, but for three things: the commits, the
 //!    last Prepares and the transactions that hold something are kept in order,
-//!    and a log is merged as often as the site merged it.
+//!    and a log is merged as often as the site merged it, lines that its epoch
+//!    began with being left out each time.
 //!
 //! The top call prints this text.
 #![tactic(auto)]
@@ -23,6 +24,8 @@ mod committed;
 mod deeds;
 mod grants;
 mod holders;
+mod holdings;
+mod known;
 mod laws;
 mod lifetimes;
 mod lines;
@@ -31,6 +34,7 @@ mod names;
 mod page;
 mod parts;
 mod prepares;
+mod promises;
 mod queues;
 mod records;
 mod replies;

@@ -1,10 +1,10 @@
 //! The lines that a site's records and deeds show.
 
 ghost use Rattle.std.specs.Prelude.{◌≡◌, [], List, OnOk, IfOk, MatchOption, map};
-ghost use Rattle.qc_entry.specs.Log.{union};
+ghost use Rattle.qc_msg.specs.Deeds.{Writes};
 ghost use Rattle.qc_msg.specs.declared.record.Record.{Record as Written};
-ghost use Rattle.qc_promise.specs.SiteLogs.{done_lines, joining, lines_done, lines_of, recorded_from, view_by};
-ghost use Rattle.qc_promise.specs.SiteLogs.{with_given, with_written};
+ghost use Rattle.qc_promise.specs.SiteLogs.{done_lines, learning, lines_of, recorded_from, view_by};
+ghost use Rattle.qc_promise.specs.SiteLogs.{with_given, with_joined, with_written};
 ghost use Rattle.qc_text.specs.Deeds.{deed_of, envelope_in};
 ghost use Rattle.qc_text.specs.Lifetimes.{log_in, present};
 ghost use Rattle.qc_text.specs.Prepares.{AreLast};
@@ -12,6 +12,7 @@ ghost use Rattle.qc_text.specs.Views.{view_asked};
 
 use crate::deeds::{Deed, Letter};
 use crate::grants::is_granted;
+use crate::known::Known;
 use crate::lifetimes::Lifetime;
 use crate::prepares::Prepares;
 use qc_entry::{Line, Log, OwnLine};
@@ -20,58 +21,54 @@ use qc_msg::{Message, Record, Want};
 use qc_stamp::{Stamp, TxId};
 use std::alloc::Global;
 
-/// The log of a site in its present life.
+/// The log of a site in its present life: all lines that it knows.
 pub(crate) fn log_of(alloc: Global, current: &Lifetime<'_>) -> Result<Log, OutOfMemory>
     ensures { IfOk result (λ log. log ≡ log_in (present current.now)) }
 {
-    let mut log = Log::new(alloc)?;
+    let mut known = Known::new(alloc)?;
     let mut prepares = Prepares::new(alloc);
-    give_all(alloc, &mut log, &mut prepares, current.kept)?;
+    give_all(alloc, &mut known, &mut prepares, current.kept)?;
     'deeds: for place in 0..current.since.len() {
         let (deed, after) = (&current.since[place], &current.since[place + 1..]);
-        join(alloc, &mut log, &prepares, deed, after)?;
+        join(alloc, &mut known, &prepares, deed, after)?;
         take_written(&mut prepares, deed)?;
     }
-    Ok(log)
+    known.into_log()
 }
 
 /// Adds the lines that the records of a rise give, and takes their Prepares.
 fn give_all<'a>(
     alloc: Global,
-    log: &mut Log,
+    known: &mut Known,
     prepares: &mut Prepares<'a>,
     kept: &'a [Record],
 ) -> Result<(), OutOfMemory>
     requires { AreLast prepares.old [] }
-    ensures given { OnOk result (log.new ≡ recorded_from log.old [] kept.now) }
+    ensures given { OnOk result (known.new ≡ recorded_from known.old [] kept.now) }
     ensures last { OnOk result (AreLast prepares.new kept.now) }
 {
     'records: for written in kept {
-        give(alloc, log, prepares, written)?;
+        give(alloc, known, prepares, written)?;
         prepares.take(written)?;
     }
     Ok(())
 }
 
-/// Adds the lines that a record gives; those of an Install take the place of
-/// all before.
-#[tactic(auto, using(crate::proofs::Recorded::union_none))]
+/// Adds the lines that a record gives; with an Install another epoch begins.
+#[tactic(auto, using(crate::proofs::Recorded::learn_none))]
 fn give(
     alloc: Global,
-    log: &mut Log,
+    known: &mut Known,
     prepares: &Prepares<'_>,
     written: &Record,
 ) -> Result<(), OutOfMemory>
     ensures { OnOk result ((before : List Written) → AreLast prepares.now before
-        → log.new ≡ with_given log.old before written.now) }
+        → known.new ≡ with_given known.old before written.now) }
 {
     match written {
-        Record::Prepare(prepared) => log.merge(&prepared.lines),
-        Record::Done { tx, clock } => join_done(alloc, log, prepares, *tx, *clock),
-        Record::Install { lines, .. } => {
-            *log = lines.copy()?;
-            Ok(())
-        }
+        Record::Prepare(prepared) => known.add(&prepared.lines),
+        Record::Done { tx, clock } => join_done(alloc, known, prepares, *tx, *clock),
+        Record::Install { lines, .. } => known.begin(alloc, lines),
         Record::Life | Record::Close { .. } | Record::Commit(_) | Record::Decide { .. } => Ok(()),
     }
 }
@@ -87,22 +84,22 @@ fn take_written<'a>(prepares: &mut Prepares<'a>, deed: &Deed<'a>) -> Result<(), 
     }
 }
 
-/// Adds the lines that a deed gives the log, after records of which the last
-/// Prepares are known, and among the deeds after it.
-#[tactic(auto, using(crate::proofs::Recorded::union_none))]
+/// Adds the lines that a deed brings, after records of which the last Prepares
+/// are known, and among the deeds after it.
+#[tactic(auto, using(crate::proofs::Recorded::learn_none))]
 fn join(
     alloc: Global,
-    log: &mut Log,
+    known: &mut Known,
     prepares: &Prepares<'_>,
     deed: &Deed<'_>,
     after: &[Deed<'_>],
 ) -> Result<(), OutOfMemory>
     ensures { OnOk result ((before : List Written) → AreLast prepares.now before
-        → log.new ≡ union log.old (joining before (deed_of deed.now) (map deed_of after.now))) }
+        → known.new ≡ with_joined known.old before (deed_of deed.now) (map deed_of after.now)) }
 {
     match deed {
-        Deed::Got(letter) => join_view(log, letter, after),
-        Deed::Wrote(written) => join_written(alloc, log, prepares, written),
+        Deed::Got(letter) => join_view(known, letter, after),
+        Deed::Wrote(written) => join_written(alloc, known, prepares, written),
         Deed::Called(_)
         | Deed::Lost(_)
         | Deed::Sent { .. }
@@ -113,13 +110,13 @@ fn join(
 }
 
 /// Adds the view of an Append, where it is granted.
-fn join_view(log: &mut Log, letter: &Letter<'_>, after: &[Deed<'_>]) -> Result<(), OutOfMemory>
-    ensures { OnOk result (log.new
-        ≡ union log.old (view_by (map deed_of after.now) (envelope_in letter.now))) }
+fn join_view(known: &mut Known, letter: &Letter<'_>, after: &[Deed<'_>]) -> Result<(), OutOfMemory>
+    ensures { OnOk result (known.new
+        ≡ learning known.old (view_by (map deed_of after.now) (envelope_in letter.now))) }
 {
     if let Some(view) = view_asked(letter.message) {
         if is_granted(after, letter.number) {
-            log.merge(view)?;
+            known.learn(view)?;
         }
     }
     Ok(())
@@ -138,23 +135,24 @@ fn view_asked(message: &Message) -> Option<&Log>
     }
 }
 
-/// Adds the lines that the log has of a record alone: those of a Done.
-#[tactic(auto, using(crate::proofs::Recorded::union_none))]
+/// Adds the lines that a record brings as it is written: those of a Done. With
+/// an Install another epoch begins.
+#[tactic(auto, using(crate::proofs::Recorded::learn_none))]
 fn join_written(
     alloc: Global,
-    log: &mut Log,
+    known: &mut Known,
     prepares: &Prepares<'_>,
     written: &Record,
 ) -> Result<(), OutOfMemory>
     ensures { OnOk result ((before : List Written) → AreLast prepares.now before
-        → log.new ≡ union log.old (lines_done before written.now)) }
+        → known.new ≡ with_joined known.old before (Writes written.now) []) }
 {
     match written {
-        Record::Done { tx, clock } => join_done(alloc, log, prepares, *tx, *clock),
+        Record::Done { tx, clock } => join_done(alloc, known, prepares, *tx, *clock),
+        Record::Install { lines, .. } => known.begin(alloc, lines),
         Record::Life
         | Record::Prepare(_)
         | Record::Close { .. }
-        | Record::Install { .. }
         | Record::Commit(_)
         | Record::Decide { .. } => Ok(()),
     }
@@ -164,13 +162,13 @@ fn join_written(
 /// this clock.
 fn join_done(
     alloc: Global,
-    log: &mut Log,
+    known: &mut Known,
     prepares: &Prepares<'_>,
     tx: TxId,
     clock: u64,
 ) -> Result<(), OutOfMemory>
     ensures { OnOk result ((before : List Written) → AreLast prepares.now before
-        → log.new ≡ union log.old (done_lines before (record { tx = tx; clock = clock }))) }
+        → known.new ≡ learning known.old (done_lines before (record { tx = tx; clock = clock }))) }
 {
     if let Some(prepared) = prepares.of(tx) {
         let stamp = Stamp {
@@ -178,7 +176,7 @@ fn join_done(
             client: tx.client,
         };
         let lines = lines_of(alloc, stamp, tx, prepared.own.items())?;
-        log.merge(&lines)?;
+        known.learn(&lines)?;
     }
     Ok(())
 }

@@ -94,6 +94,7 @@ fn down_after(down: bool, step: &Step) -> bool
 
 /// Adds what a site's deeds show: its life, its epoch, how many lines it has
 /// and how many transactions hold something there.
+#[tactic(auto, using(crate::proofs::Held::held_present))]
 fn put_shown(page: &mut Page, alloc: Global, deeds: &[Deed<'_>]) -> Result<(), OutOfMemory>
     ensures { OnOk result (page.new ≡ page.old ++ shown_text (map deed_of deeds.now)) }
 {

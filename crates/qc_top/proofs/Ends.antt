@@ -19,7 +19,7 @@ use Rattle.qc_script.specs.RunsWithFalls.{RunWithFalls, begins}
 use Rattle.qc_script.specs.declared.script.Script.{Script}
 use Rattle.qc_top.proofs.Right.{work_is}
 use Rattle.qc_fabric.specs.Limits.{IsBelow}
-use Rattle.qc_top.proofs.Runs.{run_atomic, run_due, run_first, run_known}
+use Rattle.qc_top.proofs.Runs.{run_atomic, run_due, run_known}
 use Rattle.qc_top.specs.Racks.{cause_of_rack}
 use Rattle.qc_top.specs.Top.{AreStatesKnown, IsFullCause, IsNoRack, IsRan, IsRight, IsRunnable, IsTold, Leaves, LeavesAsked, LeavesNothing, LeavesRun, LeavesWords, OnPrinted, PrintsBetween}
 use Rattle.qc_top.specs.Words.{AskedOf, asked}
@@ -58,7 +58,6 @@ leaves_run decl script h old cause new ready run ran whole text = record {
   text = text;
   states = on_printed cause (Kept h → AreStatesKnown decl h) (run_known decl script ready h run);
   replies = run_due decl script ready h run;
-  first = run_first decl script ready h run;
   atomic = run_atomic decl script ready h run;
 }
 

@@ -2,12 +2,11 @@
 use Rattle.std.proofs.Common.{◌≡◌, ◌≤◌, ℕ, zero, suc, Bool, true, false, List, [], ◌∷◌, length, Some, refl, sym, ap, ◌∙◌, subst, arith, slice_get}
 use Rattle.std.specs.Prelude.{replicate}
 use Rattle.qc_due.proofs.AccountDeclared.{asks_declared}
+use Rattle.qc_bounds.proofs.Rising.{run_rises_fit}
 use Rattle.qc_core.specs.Conduct.{IsLawfulWithFalls}
 use Rattle.qc_decl.specs.Actors.{actors}
 use Rattle.qc_decl.specs.declared.declaration.Declaration.{Declaration}
 use Rattle.qc_due.proofs.AllDue.{runs_due}
-use Rattle.qc_due.proofs.KeptFirst.{kept_first}
-use Rattle.qc_due.specs.Risen.{AllRiseInFirst}
 use Rattle.qc_due.proofs.WholeLaw.{is_whole}
 use Rattle.qc_due.specs.Whole.{IsClosedWithFalls, IsWholeWithFalls}
 use Rattle.qc_fabric.specs.Events.{before_last_event}
@@ -30,6 +29,7 @@ use Rattle.qc_script.specs.declared.script.Script.{Script}
 use Rattle.qc_reach.proofs.SightLaw.{after_seen}
 use Rattle.qc_reach.proofs.ToldRunLaws.{dealt, told}
 use Rattle.qc_top.proofs.OwnRises.{run_own}
+use Rattle.qc_top.proofs.Planned.{rises_planned}
 use Rattle.qc_top.specs.Top.{AreStatesKnown, IsEnd, IsRunnable}
 
 module _ (decl : Declaration) (script : Script) (ready : IsRunnable decl script) (h : List Entry) (run : RunWithFalls (IsLawfulWithFalls decl) (fits_of decl) decl script h) where
@@ -48,13 +48,10 @@ module _ (decl : Declaration) (script : Script) (ready : IsRunnable decl script)
       let clients : decl.clients ≤ 16 = ready.accepted.clients in
       omega arith
 
-  pub run_first : Kept h → AllRiseInFirst h
-  run_first kept = kept_first decl script (fits_of decl) h run.0 run.1 kept
-
-  pub run_due : AllRiseInFirst h → Due decl h
-  run_due first =
+  pub run_due : Due decl h
+  run_due =
       runs_due decl script (fits_of decl) ready.accepted (asks_declared decl script ready.accepted ready.declared) few h run.0 run.1
-      first (run_own decl script h run.0 run.1)
+      (rises_planned decl h (run_rises_fit decl script (fits_of decl) (λ a records fit. fit.0) h run.0 run.1)) (run_own decl script h run.0 run.1)
 
   pub run_known : Kept h → AreStatesKnown decl h
   run_known kept = (replay_copies decl (committed decl h)).1 (run_atomic kept).one_copy

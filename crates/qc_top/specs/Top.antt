@@ -5,7 +5,6 @@ use Rattle.qc_promise.specs.Committed.{committed}
 use Rattle.qc_promise.specs.Due.{Due}
 use Rattle.qc_promise.specs.Kept.{Kept}
 use Rattle.qc_core.specs.Conduct.{IsLawfulWithFalls}
-use Rattle.qc_due.specs.Risen.{AllRiseInFirst}
 use Rattle.qc_due.specs.Whole.{IsWholeWithFalls}
 use Rattle.qc_onecopy.specs.Replay.{replay}
 use Rattle.qc_decl.specs.Accepted.{IsAccepted}
@@ -148,10 +147,8 @@ pub record LeavesRun (decl : Declaration) (script : Script) (old : Option (List 
   pub text : PrintsBetween (text_of decl script h) old cause new
   -- and each state in it is known, where actors keep their records
   pub states : OnPrinted cause (Kept h → AreStatesKnown decl h)
-  -- each reply, each commit record and all that sites post is due, where nobody rises in another epoch than the first
-  pub replies : AllRiseInFirst h → Due decl h
-  -- and nobody does, where actors keep their records
-  pub first : Kept h → AllRiseInFirst h
+  -- each reply, each commit record and all that sites post is due
+  pub replies : Due decl h
   -- the history is atomic, where its actors keep their records
   pub atomic : Kept h → Atomic decl h
 

@@ -1,11 +1,13 @@
 -- A site that answers a Prepare for which a client waits doesn't say that it has forgotten, if what it would promise
--- fits a record: it is in another life than the request names, and says so, or it holds something.
-use Rattle.std.proofs.Common.{◌≡◌, ◌≢◌, ◌⊎◌, ◌<◌, ◌≤◌, ◌-◌, ◌==◌, nat_le, nat_lt, if◌then◌else◌, ℕ, Bool, true, false, List, [], ◌∷◌, ◌++◌, inl, inr, Option, Some, None, slice_get, refl, sym, ap, ◌∙◌, subst, arith, ltb-true, eqb-true, eq-eqb}
+-- fits a record: it is in a later epoch than the transaction's or in another life than the request names, and says so, or
+-- it holds something.
+use Rattle.std.proofs.Common.{◌≡◌, ◌≢◌, ◌⊎◌, ◌<◌, ◌≤◌, ◌-◌, ◌==◌, nat_le, nat_lt, if◌then◌else◌, ℕ, Bool, true, false, List, [], ◌∷◌, ◌++◌, inl, inr, Option, Some, None, slice_get, refl, sym, ap, ◌∙◌, subst, arith, ltb-true, eqb-true}
 use Rattle.std.specs.List.{AllByRecursion as Every}
 use Rattle.qc_core.proofs.SiteLaws.{shows}
 use Rattle.qc_core.proofs.SiteLives.{serves_as_lives}
 use Rattle.qc_core.specs.Actors.{ActorMove, actor_after, actor_takes}
 use Rattle.qc_core.specs.Conduct.{IsLawfulWithFalls}
+use Rattle.std.proofs.lemmas.Bool.{cases_eq, lt-ltb}
 use Rattle.std.proofs.lemmas.List.Sums.{fold-append}
 use Rattle.qc_due.proofs.Standing.{actor_more}
 use Rattle.qc_core.specs.Lives.{Lives, is_up, up_at}
@@ -22,7 +24,7 @@ use Rattle.qc_decl.specs.declared.declaration.Declaration.{Declaration}
 use Rattle.qc_guarantees.proofs.Accounts.{HasGrounds, WasSent}
 use Rattle.qc_guarantees.proofs.Grounds.{has_grounds}
 use Rattle.qc_guarantees.proofs.Mailed.{sent_as, sent_mail}
-use Rattle.qc_guarantees.proofs.SiteMoves.{Forgets, IsAnsweringTo, answers_requests, prepares_remembered}
+use Rattle.qc_guarantees.proofs.SiteMoves.{Forgets, IsAnswering, IsAnsweringTo, answers_inputs, answers_request, prepares_remembered}
 use Rattle.qc_guarantees.specs.Votes.{IsOpenVote}
 use Rattle.qc_votes.proofs.Nets.{at_number, backed, net, now, reached, refined}
 use Rattle.qc_votes.proofs.SiteClocks.{same_site}
@@ -53,13 +55,12 @@ use Rattle.qc_msg.specs.declared.turn.Turn.{Turn}
 use Rattle.qc_net.specs.Messages.{Backed}
 use Rattle.qc_net.specs.Sites.{SiteMirrors}
 use Rattle.qc_votes.proofs.Live.{live}
-use Rattle.qc_votes.proofs.Safe.{epoch_is, first_epochs}
 use Rattle.qc_votes.proofs.Splits.{snoc_same}
 use Rattle.qc_promise.specs.Account.{ClientRequest, Current}
 use Rattle.qc_promise.specs.Accounting.{account}
 use Rattle.qc_promise.specs.Kept.{Kept}
 use Rattle.qc_promise.specs.SiteDue.{fits_record, promise_due}
-use Rattle.qc_protocol.specs.Site.{items_of, site_after}
+use Rattle.qc_protocol.specs.Site.{epoch_from, items_of, site_after}
 use Rattle.qc_protocol.specs.State.{Active, State, Voting}
 use Rattle.qc_reach.proofs.Stood.{in_site}
 use Rattle.qc_reach.specs.Reached.{HasTaken}
@@ -71,11 +72,11 @@ use Rattle.qc_site.specs.Promise.{promise_of}
 use Rattle.qc_site.specs.Requests.{closed_fault, fault_of, life_fault, names_declared, requested}
 use Rattle.qc_site.specs.Site.{SiteState, moved}
 use Rattle.qc_stamp.specs.declared.stamp.TxId.{TxId}
-use Rattle.qc_votes.proofs.Holding.{IsGrantedIn, granted, is_held_with, still_held}
+use Rattle.qc_votes.proofs.Holding.{IsGrantedIn, granted, granted_below, is_held_with, still_held}
 use Rattle.qc_votes.proofs.LifeGrounds.{has_life_grounds}
 use Rattle.qc_votes.proofs.LivesTold.{HasParticipant}
 
--- a request that names another life is refused for that
+-- a request of an earlier epoch, or one that names another life, is refused for that
 
 life_refused : (s : SiteState) (life : ℕ) → (life ≢ 0) → (life ≢ s.life) → life_fault s life ≡ Some (answers.Restarted s.life)
 life_refused s life none other = by (life == 0) (life == s.life) refl refl
@@ -91,26 +92,31 @@ record IsRefused (s : SiteState) (epoch life : ℕ) : Type 0 where
   is : fault_of s epoch life ≡ Some fault
   remembers : Forgets fault → ⊥
 
-refused : (s : SiteState) (epoch life : ℕ) → epoch ≡ s.epoch → (life ≢ 0) → (life ≢ s.life) → IsRefused s epoch life
-refused s epoch life same none other = by (nat_lt s.epoch epoch) (nat_lt epoch s.epoch) refl refl
+refused : (s : SiteState) (epoch life : ℕ) → epoch ≤ s.epoch → (epoch < s.epoch) ⊎ (life ≢ s.life) → (life ≢ 0) → IsRefused s epoch life
+refused s epoch life low apart none = by (nat_lt s.epoch epoch) (nat_lt epoch s.epoch) refl refl
   where
-    closed : (o : Option ℕ) → (fault : Answer) × (closed_fault s life o ≡ Some fault) × (Forgets fault → ⊥)
-    closed None = (answers.Restarted s.life, life_refused s life none other, λ never. never)
-    closed (Some k) = (answers.Closed k, refl, λ never. never)
+    closed : (life ≢ s.life) → (o : Option ℕ) → (fault : Answer) × (closed_fault s life o ≡ Some fault) × (Forgets fault → ⊥)
+    closed other None = (answers.Restarted s.life, life_refused s life none other, λ never. never)
+    closed other (Some k) = (answers.Closed k, refl, λ never. never)
 
     by : (x y : Bool) → nat_lt s.epoch epoch ≡ x → nat_lt epoch s.epoch ≡ y → IsRefused s epoch life
-    by true y at is = absurd (let low : s.epoch < epoch = ltb-true s.epoch epoch at in let never : ⊥ = omega arith in never)
-    by false true at is = absurd (let low : epoch < s.epoch = ltb-true epoch s.epoch is in let never : ⊥ = omega arith in never)
+    by true y at is = absurd (let more : s.epoch < epoch = ltb-true s.epoch epoch at in let never : ⊥ = omega arith in never)
+    by false true at is = record {
+      fault = answers.Closed s.epoch;
+      is = (λ i. if at i then Some (answers.Behind s.epoch) else (if is i then Some (answers.Closed s.epoch) else closed_fault s life s.closed_for));
+      remembers = λ never. never;
+    }
     by false false at is =
-        let c = closed s.closed_for in
+        let other : life ≢ s.life = elim apart [ inl less ↦ absurd (let more : nat_lt epoch s.epoch ≡ true = lt-ltb epoch s.epoch less in let never : ⊥ = cc in never) | inr other ↦ other ] in
+        let c = closed other s.closed_for in
         record { fault = c.0; is = (λ i. if at i then Some (answers.Behind s.epoch) else (if is i then Some (answers.Closed s.epoch) else closed_fault s life s.closed_for)) ∙ c.1; remembers = c.2 }
 
-other_life : (decl : Declaration) (s : SiteState) (from number : ℕ) (tx : TxId) (epoch life : ℕ) → epoch ≡ s.epoch → (life ≢ 0) → (life ≢ s.life)
+other_life : (decl : Declaration) (s : SiteState) (from number : ℕ) (tx : TxId) (epoch life : ℕ) → epoch ≤ s.epoch → (epoch < s.epoch) ⊎ (life ≢ s.life) → (life ≢ 0)
     → (p : Posting) (k : ℕ) (x : Answer) → In p (site_at decl s from number (messages.Request tx epoch life Prepare)).turn.sends → p.message ≡ messages.Answer k x → Forgets x → ⊥
-other_life decl s from number tx epoch life same none other p k x among is forgets = by (names_declared decl tx Prepare) among
+other_life decl s from number tx epoch life low apart none p k x among is forgets = by (names_declared decl tx Prepare) among
   where
     r : IsRefused s epoch life
-    r = refused s epoch life same none other
+    r = refused s epoch life low apart none
 
     one : In p (requested decl s from number tx Prepare (Some r.fault)).turn.sends → ⊥
     one (inl here) = r.remembers (subst Forgets (let both : messages.Answer k x ≡ messages.Answer number r.fault = sym is ∙ ap (λ (y : Posting). y.message) here in cc) forgets)
@@ -190,8 +196,8 @@ module _ (fits : ℕ → List Record → Type 0) (decl : Declaration) (script : 
     posted_here : In p (site_takes decl s input).turn.sends
     posted_here = subst (λ (m : Turn). In p m.sends) (sym (ap (λ (m : ActorMove). m.turn) (sym (ap (actor_after decl b) deeds_are ∙ actor_more decl b before (Takes input ∷ []) ∙ ap (λ (v : Actor). actor_takes decl v input) was)) ∙ due decl b (deeds b [] h) turn law)) among
 
-    r : IsAnsweringTo input q.number
-    r = answers_requests decl s input p q.number y posted_here is
+    first : IsAnswering input q.number
+    first = answers_inputs decl s input p q.number y posted_here is
 
     participant : HasParticipant (account decl a h).current q
     participant = (has_life_grounds decl (a - decl.sites) (deeds a [] h)).votes q k.among k.want
@@ -220,6 +226,15 @@ module _ (fits : ℕ → List Record → Type 0) (decl : Declaration) (script : 
     request_in : In request (mail h)
     request_in = sent_mail a [] h q.number q.site (messages.Request t.tx sent.epoch q.life q.want) sent.is
 
+    first_is : first.envelope ≡ request
+    first_is =
+        let sent_there : (slice_get (mail h) first.envelope.number ≡ Some first.envelope) × (first.envelope.to ≡ b) = subst (WasSentTo b (mail h)) (input_is ∙ first.is) x.sent in
+        let both : Some first.envelope ≡ Some request = sym sent_there.0 ∙ ap (λ (n : ℕ). slice_get (mail h) n) first.numbered ∙ at_number fits decl script h open_inputs accepted sound run kept request request_in in
+        cc
+
+    r : IsAnsweringTo input q.number
+    r = answers_request input q.number first t.tx sent.epoch q.life q.want (ap (λ (e : Envelope). e.message) first_is)
+
     came : (slice_get (mail h) r.envelope.number ≡ Some r.envelope) × (r.envelope.to ≡ b)
     came = subst (WasSentTo b (mail h)) (input_is ∙ r.is) x.sent
 
@@ -235,10 +250,16 @@ module _ (fits : ℕ → List Record → Type 0) (decl : Declaration) (script : 
     g : IsGrantedIn fits decl script h open_inputs accepted sound run kept a client t begun q.site has
     g = granted fits decl script h open_inputs accepted sound run kept a client t begun q.site has
 
-    epoch_same : sent.epoch ≡ s.epoch
-    epoch_same =
+    epoch_asked : sent.epoch ≡ g.grant.epoch
+    epoch_asked =
         let asked : Backed decl machine (net fits decl script h open_inputs accepted sound run kept).mail request.from request.to (messages.Request t.tx sent.epoch q.life q.want) = backed fits decl script h open_inputs accepted sound run kept request (messages.Request t.tx sent.epoch q.life q.want) request_in refl in
-        asked.2 ∙ ap machine.epoch (sym g.its) ∙ sym g.epoch ∙ first_epochs fits decl script h open_inputs accepted sound run kept g.grant g.known ∙ sym (epoch_is fits decl script h open_inputs accepted sound run kept b site) ∙ mir.epoch
+        asked.2 ∙ ap machine.epoch (sym g.its) ∙ sym g.epoch
+
+    epoch_there : epoch_from 1 (machine.deeds g.grant.site) ≡ s.epoch
+    epoch_there = ap (λ (n : ℕ). epoch_from 1 (machine.deeds n)) (g.by ∙ here) ∙ mir.epoch
+
+    epoch_low : sent.epoch ≤ s.epoch
+    epoch_low = let low : g.grant.epoch ≤ epoch_from 1 (machine.deeds g.grant.site) = granted_below fits decl script h open_inputs accepted sound run kept g.grant g.known in let one = epoch_asked in let two = epoch_there in omega arith
 
     some : q.life ≢ 0
     some none = let low : 0 < life_of t.lives q.site = g.some in let zero : q.life ≡ 0 = none in let life : q.life ≡ life_of t.lives q.site = q_life in let never : ⊥ = omega arith in never
@@ -249,8 +270,8 @@ module _ (fits : ℕ → List Record → Type 0) (decl : Declaration) (script : 
         (subst (λ (m : Message). In p (site_at decl (passed s r.envelope.message) r.envelope.from r.envelope.number m).turn.sends) (r.content ∙ content)
         (subst (λ (i : Given). In p (site_takes decl s i).turn.sends) r.is posted_here))
 
-    in_another_life : q.life ≢ s.life → ⊥
-    in_another_life other = other_life decl (passed s r.envelope.message) r.envelope.from r.envelope.number t.tx sent.epoch q.life epoch_same some other p q.number y at_site is forgets
+    refused_there : (sent.epoch < s.epoch) ⊎ (q.life ≢ s.life) → ⊥
+    refused_there apart = other_life decl (passed s r.envelope.message) r.envelope.from r.envelope.number t.tx sent.epoch q.life epoch_low apart some p q.number y at_site is forgets
 
     fits_here : nat_le (prepare_length (promise_of s t.tx)) most_record_bytes ≡ true
     fits_here = subst (λ (v : Prepared). nat_le (prepare_length v) most_record_bytes ≡ true) promise_shown fit
@@ -264,8 +285,8 @@ module _ (fits : ℕ → List Record → Type 0) (decl : Declaration) (script : 
           lines = without (sym sh.log i) (sym sh.recorded i);
         }
 
-    in_this_life : q.life ≡ s.life → ⊥
-    in_this_life same = prepares_remembered decl (passed s r.envelope.message) r.envelope.from r.envelope.number t.tx sent.epoch q.life epoch_same held fits_here p q.number y at_site is forgets
+    in_this_life : sent.epoch ≡ s.epoch → q.life ≡ s.life → ⊥
+    in_this_life epoch same = prepares_remembered decl (passed s r.envelope.message) r.envelope.from r.envelope.number t.tx sent.epoch q.life epoch held fits_here p q.number y at_site is forgets
       where
         same_life : machine.life g.grant.site ≡ g.grant.life
         same_life = ap machine.life (g.by ∙ here) ∙ sym mir.life ∙ sym same ∙ q_life ∙ sym g.life
@@ -276,14 +297,16 @@ module _ (fits : ℕ → List Record → Type 0) (decl : Declaration) (script : 
         in_machine : In g.item (items_of t.tx (site_after (machine.deeds b)).held)
         in_machine =
             subst (λ (n : ℕ). In g.item (items_of t.tx (site_after (machine.deeds n)).held)) (g.by ∙ here)
-            (subst (λ (tx : TxId). In g.item (items_of tx (site_after (machine.deeds g.grant.site)).held)) g.its (still_held fits decl script h open_inputs accepted sound run kept g.grant g.known same_life running g.item g.among))
+            (subst (λ (tx : TxId). In g.item (items_of tx (site_after (machine.deeds g.grant.site)).held)) g.its (still_held fits decl script h open_inputs accepted sound run kept g.grant g.known same_life (epoch_there ∙ sym epoch ∙ epoch_asked) running g.item g.among))
 
         held : is_held s.held t.tx ≡ true
         held = is_held_with s.held t.tx g.item (mir.held t.tx g.item in_machine)
 
     pub never_forgotten : ⊥
-    never_forgotten = by (q.life == s.life) refl
-      where
-        by : (z : Bool) → (q.life == s.life) ≡ z → ⊥
-        by true at = in_this_life (eqb-true q.life s.life at)
-        by false at = in_another_life (λ same. let eq : (q.life == s.life) ≡ true = eq-eqb q.life s.life same in let never : ⊥ = cc in never)
+    never_forgotten = elim (cases_eq sent.epoch s.epoch) [
+      | inr apart ↦ refused_there (inl (let n = apart in let low = epoch_low in omega arith))
+      | inl epoch ↦ elim (cases_eq q.life s.life) [
+        | inl same ↦ in_this_life epoch same
+        | inr other ↦ refused_there (inr other)
+      ]
+    ]

@@ -18,7 +18,7 @@ use Rattle.qc_decl.specs.Actors.{actors, client_actor, is_client}
 use Rattle.std.proofs.lemmas.Bool.{leb-true}
 use Rattle.qc_decl.specs.declared.declaration.Declaration.{Declaration}
 use Rattle.qc_due.proofs.Declared.{run_declares}
-use Rattle.qc_due.proofs.KeptFirst.{kept_first}
+use Rattle.qc_due.proofs.KeptPlanned.{kept_planned}
 use Rattle.qc_entry.specs.declared.record.Commit.{Commit as CommitRecord}
 use Rattle.qc_laws.proofs.Places.{slice_get-within}
 use Rattle.qc_link.specs.Limits.{most_actors}
@@ -59,7 +59,7 @@ module _ (fits : ℕ → List Record → Type 0) (decl : Declaration) (script : 
   pub client_at : (a : ℕ) → is_client decl a ≡ true → (t : Bool) → slice_get open_inputs a ≡ Some t → IsAt decl a (deeds a [] h) t
   client_at a client t slot =
       let lived : LivesIn decl a h t = run_lives decl script fits few h open_inputs run a t slot in
-      let declared : Declares decl (deeds a [] h) = run_declares decl script fits accepted (asks_declared decl script accepted sound) h open_inputs run (kept_first decl script fits h open_inputs run kept) a in
+      let declared : Declares decl (deeds a [] h) = run_declares decl script fits accepted (asks_declared decl script accepted sound) h open_inputs run (kept_planned decl script fits accepted h open_inputs run kept) a in
       client_lives decl a client declared.first (deeds a [] h) t lived.above lived.lives declared.deeds
 
 -- the number of a client

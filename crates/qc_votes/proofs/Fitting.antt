@@ -16,6 +16,7 @@ use Rattle.qc_core.specs.Conduct.{IsLawfulWithFalls}
 use Rattle.qc_core.specs.Lives.{is_up, up_at}
 use Rattle.qc_core.specs.Sites.{IsShown}
 use Rattle.qc_core.specs.declared.actor.Actor.TheVariants as actor
+use Rattle.qc_entry.proofs.Union.{in_second}
 use Rattle.qc_decl.specs.Accepted.{IsAccepted}
 use Rattle.qc_decl.specs.Actors.{actors, is_client, is_site}
 use Rattle.qc_decl.specs.Limits.{most_committed_operations, most_record_bytes}
@@ -164,7 +165,7 @@ module _ (fits : ℕ → List Record → Type 0) (decl : Declaration) (script : 
     logged : (commits : List CommitRecord) → ((c : CommitRecord) → In c (records decl h) → In c commits) → (l : Line) → In l s.log → IsLogged decl commits l
     logged commits all l among =
         let k : IsLogged decl (net fits decl script h open_inputs accepted sound run kept).written l =
-        site_lines decl accepted (net fits decl script h open_inputs accepted sound run kept) (reached fits decl script h open_inputs accepted sound run kept).reached b l site ((reached fits decl script h open_inputs accepted sound run kept).up_is b (inl site) ∙ up) among in
+        site_lines decl accepted (net fits decl script h open_inputs accepted sound run kept) (reached fits decl script h open_inputs accepted sound run kept).reached b l site ((reached fits decl script h open_inputs accepted sound run kept).up_is b (inl site) ∙ up) (in_second l s.began s.log among) in
         let agree : Agree decl (net fits decl script h open_inputs accepted sound run kept).records (net fits decl script h open_inputs accepted sound run kept).written =
         written_are decl accepted (net fits decl script h open_inputs accepted sound run kept) (reached fits decl script h open_inputs accepted sound run kept).reached in
         let of : IsOfClient decl (net fits decl script h open_inputs accepted sound run kept).records k.commit = agree.each k.commit k.listed in
@@ -179,7 +180,7 @@ module _ (fits : ℕ → List Record → Type 0) (decl : Declaration) (script : 
 
     lines_few : (commits : List CommitRecord) → ((c : CommitRecord) → In c (records decl h) → In c commits) → length (without s.log s.recorded) ≤ sum_by (λ (c : CommitRecord). answered c.ops) commits
     lines_few commits all =
-        let whole : length s.log ≤ sum_by (λ (c : CommitRecord). answered c.ops) commits = log_count decl commits s.log mir.sorted (logged commits all) in
+        let whole : length s.log ≤ sum_by (λ (c : CommitRecord). answered c.ops) commits = log_count decl commits s.log mir.sorted.1 (logged commits all) in
         let part : length (without s.log s.recorded) ≡ count_by (λ (l : Line). not (has_line s.recorded l)) s.log = length-filter (λ (l : Line). not (has_line s.recorded l)) s.log in
         let less : count_by (λ (l : Line). not (has_line s.recorded l)) s.log ≤ length s.log = count_by-le-length (λ (l : Line). not (has_line s.recorded l)) s.log in
         omega arith

@@ -1,8 +1,8 @@
 -- What a site granted in its present life to a transaction that committed it holds until the Decision comes.
 use Rattle.std.proofs.Common.{◌≡◌, ◌≤◌, ◌⊎◌, ◌&&◌, not, ℕ, suc, ◌+◌, Bool, true, false, cond, List, [], ◌∷◌, ◌++◌, inl, inr, length, Option, Some, None, refl, sym, ap, ◌∙◌, subst, arith}
-use Rattle.std.specs.Prelude.{fold}
 use Rattle.std.specs.Option.{option_map_or}
 use Rattle.qc_core.specs.Conduct.{IsLawfulWithFalls}
+use Rattle.qc_core.proofs.SiteHolds.{whole}
 use Rattle.qc_decl.specs.Accepted.{IsAccepted}
 use Rattle.qc_decl.specs.declared.declaration.Declaration.{Declaration}
 use Rattle.qc_entry.specs.declared.line.Line.{Line}
@@ -14,10 +14,10 @@ use Rattle.qc_guarantees.proofs.Mailed.{taken_mail}
 use Rattle.qc_guarantees.proofs.Room.{numbered_within}
 use Rattle.qc_votes.proofs.Nets.{backed, listed, now, refined}
 use Rattle.qc_list.specs.Members.{In}
-use Rattle.qc_list.proofs.Members.{In-first, In-more, In-second}
+use Rattle.qc_list.proofs.Members.{In-first, In-second}
 use Rattle.qc_lock.specs.Held.{held_of}
 use Rattle.qc_msg.specs.Deeds.{Deed, Takes, deeds, mail}
-use Rattle.qc_msg.specs.Readings.{request_in, risen_in}
+use Rattle.qc_msg.specs.Readings.{request_in}
 use Rattle.qc_msg.specs.Steps.{Entry}
 use Rattle.qc_msg.specs.declared.message.Envelope.{Envelope}
 use Rattle.qc_msg.specs.declared.message.Message.{Message}
@@ -34,10 +34,9 @@ use Rattle.qc_onecopy.proofs.Lists.{in_map}
 use Rattle.qc_onecopy.specs.Executed.{Executed, own_line}
 use Rattle.qc_promise.specs.Committed.{committed}
 use Rattle.qc_promise.specs.Kept.{Kept}
-use Rattle.qc_promise.specs.Lifetimes.{Lifetime, begun_with, lifetime, with_deed}
 use Rattle.qc_promise.specs.SiteEnds.{is_ended, is_final}
-use Rattle.qc_promise.specs.SiteHeld.{Grant, held_shown, held_since_rise, is_granted, standing, standing_as, standing_by}
-use Rattle.qc_promise.specs.SitePromises.{promises_of}
+use Rattle.qc_promise.specs.SiteHeld.{Grant, held_of_promises, held_shown, is_granted, last_cut, standing, standing_as, standing_by}
+use Rattle.qc_promise.specs.SitePromises.{prepared_shown}
 use Rattle.qc_protocol.proofs.LogKeeps.{log_laws}
 use Rattle.qc_protocol.proofs.Places.{at}
 use Rattle.qc_protocol.specs.Logs.{IsExecutedOrChosen, IsOwnClosedAt, LogLaws}
@@ -51,24 +50,9 @@ use Rattle.qc_script.specs.Sound.{IsScriptFor}
 use Rattle.qc_script.specs.declared.script.Script.{Script}
 use Rattle.qc_stamp.specs.declared.stamp.TxId.{TxId}
 
--- the deeds of a life are the actor's
-
-lived_in : (x : Deed) (l : Lifetime) (d : Deed) → In x (with_deed l d).since → In x l.since ⊎ (x ≡ d)
-lived_in x l d among = by (risen_in d) among
-  where
-    by : (o : Option (List Record)) → In x (option_map_or begun_with o (record l { since = l.since ++ d ∷ [] })).since → In x l.since ⊎ (x ≡ d)
-    by None there = In-more x d l.since there
-    by (Some rs) there = absurd there
-
-all_lived : (x : Deed) (ds : List Deed) (l : Lifetime) → In x (fold with_deed l ds).since → In x l.since ⊎ In x ds
-all_lived x [] l among = inl among
-all_lived x (d ∷ ds) l among = elim (all_lived x ds (with_deed l d) among) [
-  | inl old ↦ elim (lived_in x l d old) [ inl before ↦ inl before | inr now ↦ inr (inl now) ]
-  | inr later ↦ inr (inr later)
-]
-
-pub of_life : (x : Deed) (ds : List Deed) → In x (lifetime ds).since → In x ds
-of_life x ds among = elim (all_lived x ds (begun_with []) among) [ inl never ↦ absurd never | inr there ↦ there ]
+-- what came since the last rise, Close or Install is among all deeds
+since_in : (x : Deed) (ds : List Deed) → In x (last_cut ds).since → In x ds
+since_in x ds among = subst (In x) (whole ds) (In-second x (last_cut ds).before (last_cut ds).since among)
 
 module _ (fits : ℕ → List Record → Type 0) (decl : Declaration) (script : Script) (h : List Entry) (open_inputs : List Bool) (accepted : IsAccepted decl) (sound : IsScriptFor decl script)
     (run : RunsWithFalls (IsLawfulWithFalls decl) fits decl script h open_inputs) (kept : Kept h) where
@@ -105,10 +89,10 @@ module _ (fits : ℕ → List Record → Type 0) (decl : Declaration) (script : 
 
   module _ (c : CommitRecord) (is_committed : In c (committed decl h)) (site : ℕ) where
     abbrev since : List Deed
-    since = (lifetime (deeds site [] h)).since
+    since = (last_cut (deeds site [] h)).since
 
     taken_sent : (e : Envelope) → In (Takes (given.Got e)) since → In e (mail h)
-    taken_sent e among = taken_mail site [] h e (of_life (Takes (given.Got e)) (deeds site [] h) among)
+    taken_sent e among = taken_mail site [] h e (since_in (Takes (given.Got e)) (deeds site [] h) among)
 
     -- no final Decision came, where none came that it committed
     never_ended : (e : Envelope) (verdict : Outcome) → In (Takes (given.Got e)) since → ((stamp : _) → e.message ≡ messages.Decision c.tx (outcomes.Committed stamp) → ⊥) → e.message ≡ messages.Decision c.tx verdict → is_final verdict ≡ true → ⊥
@@ -164,7 +148,7 @@ module _ (fits : ℕ → List Record → Type 0) (decl : Declaration) (script : 
       agrees x is o l k e among same there ops = one_line c.tx o l (wanted_known x o e is) (standing_known k l among same there) ops
 
       wanted_held : (x : Item) → IsWanted want x → IsHeld (held_of (held_shown (deeds site [] h)) c.tx) x
-      wanted_held x is = standing_held (standing since) (held_since_rise since (promises_of (lifetime (deeds site [] h)).kept)) asked x it_stands (agrees x is) is
+      wanted_held x is = standing_held (standing since) (held_of_promises since (prepared_shown (last_cut (deeds site [] h)).before)) asked x it_stands (agrees x is) is
 
       pub granted_is_held : HasWanted (held_of (held_shown (deeds site [] h)) c.tx) want
       granted_is_held = by want wanted_held

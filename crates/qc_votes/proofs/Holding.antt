@@ -1,5 +1,6 @@
--- What a site granted to a transaction that its client runs, in the life in which the site is, it holds: through falls.
-use Rattle.std.proofs.Common.{◌≡◌, ◌⊎◌, ◌<◌, ◌-◌, ℕ, Bool, true, false, List, [], ◌∷◌, ◌++◌, inl, inr, Option, Some, None, is_some, unwrap_or, slice_get, refl, sym, ap, ◌∙◌, subst, arith}
+-- What a site granted to a transaction that its client runs, in the life and the epoch in which the site is, it holds:
+-- through falls.
+use Rattle.std.proofs.Common.{◌≡◌, ◌⊎◌, ◌<◌, ◌≤◌, ◌-◌, ℕ, Bool, true, false, List, [], ◌∷◌, ◌++◌, inl, inr, Option, Some, None, is_some, unwrap_or, slice_get, refl, sym, ap, ◌∙◌, subst, arith}
 use Rattle.qc_core.specs.Conduct.{IsLawfulWithFalls}
 use Rattle.qc_core.specs.Lives.{is_up}
 use Rattle.qc_core.specs.Sites.{IsShown}
@@ -27,13 +28,14 @@ use Rattle.qc_net.specs.Items.{items_wanted}
 use Rattle.qc_net.specs.Messages.{IsGrantTo, IsGrantable, IsRequest}
 use Rattle.qc_net.specs.Sites.{IsHeld, SiteMirrors}
 use Rattle.qc_guarantees.proofs.Live.{no_outcome}
-use Rattle.qc_votes.proofs.Live.{live}
-use Rattle.qc_votes.proofs.Safe.{epoch_is, first_epochs, granting}
+use Rattle.qc_votes.proofs.Live.{epoch_named, live}
+use Rattle.qc_votes.proofs.Safe.{granting}
 use Rattle.qc_promise.specs.Account.{Current}
 use Rattle.qc_promise.specs.Accounting.{account}
 use Rattle.qc_promise.specs.Kept.{Kept}
 use Rattle.qc_promise.specs.SiteHeld.{held_shown}
-use Rattle.qc_promise.specs.SiteRecords.{life_shown}
+use Rattle.qc_promise.specs.SiteRecords.{epoch_shown, life_shown}
+use Rattle.qc_protocol.proofs.Epochs.{epoch-append, rising-right, upward}
 use Rattle.qc_protocol.proofs.Keeps.{laws}
 use Rattle.qc_protocol.proofs.Order.{between}
 use Rattle.qc_protocol.proofs.SiteLists.{items_of-append, items_of-each_held, items_of-kept}
@@ -120,8 +122,19 @@ module _ (fits : ℕ → List Record → Type 0) (decl : Declaration) (script : 
   wl : StateLaws decl then
   wl = laws decl (refined fits decl script h open_inputs accepted sound run kept).acts (refined fits decl script h open_inputs accepted sound run kept).run
 
-  -- a grant of a transaction that hasn't ended, of the life in which its site is
-  module _ (g : Granted) (known : In g then.granted) (life : then.life g.site ≡ g.life) (running : (then.status g.tx ≡ Active) ⊎ (then.status g.tx ≡ Voting)) where
+  -- a site is in the epoch of each grant that it gave, or in a later one
+  pub granted_below : (g : Granted) → In g then.granted → g.epoch ≤ epoch_from 1 (then.deeds g.site)
+  granted_below g known =
+      let law : GrantedLaw (then.deeds g.site) (then.life g.site) g = wl.granted g known in
+      let rest : List Deed = Grants g.tx g.items g.view ∷ law.post in
+      let rising : HasRisingEpochs 1 (g.before ++ rest) = subst (HasRisingEpochs 1) law.split (wl.rising g.site) in
+      let high : epoch_from 1 g.before ≤ epoch_from (epoch_from 1 g.before) rest = upward rest (epoch_from 1 g.before) (rising-right g.before rest 1 rising) in
+      let there : epoch_from (epoch_from 1 g.before) rest ≡ epoch_from 1 (then.deeds g.site) = sym (ap (epoch_from 1) law.split ∙ epoch-append g.before rest 1) in
+      let told : epoch_from 1 g.before ≡ g.epoch = (wl.facts g known).current in
+      omega arith
+
+  -- a grant of a transaction that hasn't ended, of the life and the epoch in which its site is
+  module _ (g : Granted) (known : In g then.granted) (life : then.life g.site ≡ g.life) (epoch : epoch_from 1 (then.deeds g.site) ≡ g.epoch) (running : (then.status g.tx ≡ Active) ⊎ (then.status g.tx ≡ Voting)) where
     law : GrantedLaw (then.deeds g.site) (then.life g.site) g
     law = wl.granted g known
 
@@ -129,16 +142,7 @@ module _ (fits : ℕ → List Record → Type 0) (decl : Declaration) (script : 
     rising = subst (HasRisingEpochs 1) law.split (wl.rising g.site)
 
     no_install : HaveNoInstall law.post
-    no_install = between g.before (Grants g.tx g.items g.view) law.post g.epoch rising tt (wl.facts g known).current (same_epoch)
-      where
-        first : g.epoch ≡ 1
-        first = first_epochs fits decl script h open_inputs accepted sound run kept g known
-
-        at_end : epoch_from 1 (then.deeds g.site) ≡ 1
-        at_end = epoch_is fits decl script h open_inputs accepted sound run kept g.site (granting fits decl script h open_inputs accepted sound run kept g known)
-
-        same_epoch : epoch_from 1 (g.before ++ Grants g.tx g.items g.view ∷ law.post) ≡ g.epoch
-        same_epoch = sym (ap (epoch_from 1) law.split) ∙ at_end ∙ sym first
+    no_install = between g.before (Grants g.tx g.items g.view) law.post g.epoch rising tt (wl.facts g known).current (sym (ap (epoch_from 1) law.split) ∙ epoch)
 
     never : NeverEnds g.tx law.post
     never = (
@@ -209,8 +213,12 @@ module _ (fits : ℕ → List Record → Type 0) (decl : Declaration) (script : 
               among = subst (In item.item) (sym b.grant.items_are) item.among;
             }
 
-    -- the site is up in that life, without an open input
-    module _ (free : slice_get open_inputs site ≡ Some false) (up : is_up (deeds site [] h) ≡ true) (life : life_of t.lives site ≡ life_shown (deeds site [] h)) where
+    -- its epoch is the transaction's
+    pub granted_epoch : granted.grant.epoch ≡ t.epoch
+    granted_epoch = granted.epoch ∙ ap then.epoch granted.its ∙ sym (epoch_named fits decl script h open_inputs accepted sound run kept a client t begun)
+
+    -- the site is up in that life and that epoch, without an open input
+    module _ (free : slice_get open_inputs site ≡ Some false) (up : is_up (deeds site [] h) ≡ true) (life : life_of t.lives site ≡ life_shown (deeds site [] h)) (epoch : t.epoch ≡ epoch_shown (deeds site [] h)) where
       sh : IsShown (deeds site [] h) ((net fits decl script h open_inputs accepted sound run kept).sites site)
       sh = shown fits decl script h open_inputs accepted sound run kept site granted.place free up
 
@@ -220,19 +228,22 @@ module _ (fits : ℕ → List Record → Type 0) (decl : Declaration) (script : 
       same_life : then.life granted.grant.site ≡ granted.grant.life
       same_life = ap then.life granted.by ∙ sym mir.life ∙ sh.life ∙ sym life ∙ sym granted.life
 
+      same_epoch : epoch_from 1 (then.deeds granted.grant.site) ≡ granted.grant.epoch
+      same_epoch = ap (λ (n : ℕ). epoch_from 1 (then.deeds n)) granted.by ∙ mir.epoch ∙ sh.epoch ∙ sym epoch ∙ sym granted_epoch
+
       running : (then.status granted.grant.tx ≡ Active) ⊎ (then.status granted.grant.tx ≡ Voting)
       running = subst (λ (tx : TxId). (then.status tx ≡ Active) ⊎ (then.status tx ≡ Voting)) (sym granted.its) (live fits decl script h open_inputs accepted sound run kept a client t begun).active
 
       in_machine : In granted.item (items_of t.tx (site_after (then.deeds site)).held)
       in_machine =
           subst (λ (n : ℕ). In granted.item (items_of t.tx (site_after (then.deeds n)).held)) granted.by
-          (subst (λ (tx : TxId). In granted.item (items_of tx (site_after (then.deeds granted.grant.site)).held)) granted.its (still_held granted.grant granted.known same_life running granted.item granted.among))
+          (subst (λ (tx : TxId). In granted.item (items_of tx (site_after (then.deeds granted.grant.site)).held)) granted.its (still_held granted.grant granted.known same_life same_epoch running granted.item granted.among))
 
       pub site_holds : is_held (held_shown (deeds site [] h)) t.tx ≡ true
       site_holds = subst (λ (held : List Held). is_held held t.tx ≡ true) sh.held
           (is_held_with ((net fits decl script h open_inputs accepted sound run kept).sites site).held t.tx granted.item (mir.held t.tx granted.item in_machine))
 
-  -- a site whose promise a client waits for, in the life that the request names
+  -- a site whose promise a client waits for, in the life that the request names and in the transaction's epoch
   module _ (a : ℕ) (client : is_client decl a ≡ true) (t : Current) (begun : (account decl a h).current ≡ Some t) (q : ClientRequest) (k : IsOpenVote (account decl a h) q) where
     participant : HasParticipant (account decl a h).current q
     participant = (has_life_grounds decl (a - decl.sites) (deeds a [] h)).votes q k.among k.want
@@ -240,7 +251,7 @@ module _ (fits : ℕ → List Record → Type 0) (decl : Declaration) (script : 
     same : participant.0 ≡ t
     same = let both : Some participant.0 ≡ Some t = sym participant.1 ∙ begun in cc
 
-    pub asked_holds : slice_get open_inputs q.site ≡ Some false → is_up (deeds q.site [] h) ≡ true → q.life ≡ life_shown (deeds q.site [] h) → is_held (held_shown (deeds q.site [] h)) t.tx ≡ true
-    asked_holds free up life =
+    pub asked_holds : slice_get open_inputs q.site ≡ Some false → is_up (deeds q.site [] h) ≡ true → q.life ≡ life_shown (deeds q.site [] h) → t.epoch ≡ epoch_shown (deeds q.site [] h) → is_held (held_shown (deeds q.site [] h)) t.tx ≡ true
+    asked_holds free up life epoch =
         site_holds a client t begun q.site (subst (λ (u : Current). has_granted u.lives q.site ≡ true) same participant.2) free up
-        (sym (ap (λ (u : Current). life_of u.lives q.site) same) ∙ sym participant.3 ∙ life)
+        (sym (ap (λ (u : Current). life_of u.lives q.site) same) ∙ sym participant.3 ∙ life) epoch

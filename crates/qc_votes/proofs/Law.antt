@@ -23,7 +23,7 @@ use Rattle.qc_msg.specs.declared.step.Step.{Step}
 use Rattle.qc_onecopy.specs.Logged.{IsOperation}
 use Rattle.qc_guarantees.proofs.Committed.{both_live}
 use Rattle.qc_guarantees.proofs.FirstGrants.{same_lives}
-use Rattle.qc_guarantees.proofs.Machine.{IsSafe}
+use Rattle.qc_guarantees.proofs.Settled.{IsSafe}
 use Rattle.qc_guarantees.proofs.Moments.{First, Second, split}
 use Rattle.qc_guarantees.specs.Ordered.{IsOrdered}
 use Rattle.qc_votes.proofs.Known.{IsWriting, known_since}
@@ -32,7 +32,7 @@ use Rattle.qc_votes.proofs.Moments.{WroteAt}
 use Rattle.qc_votes.proofs.Ours.{known_after, not_steady, not_told, own_record}
 use Rattle.qc_votes.proofs.Pending.{passes, sees}
 use Rattle.qc_votes.proofs.Reader.{IsFalling, IsPosted, IsReading, account_then, behind, due_at, early_kept, m as writes_then, mid_due, posted_at, r as due_then, reads_before, reads_between, safe_early, says, steady}
-use Rattle.qc_votes.proofs.Safe.{first_epochs, safe}
+use Rattle.qc_votes.proofs.Safe.{safe}
 use Rattle.qc_votes.specs.Ordered.{DependsOn, IsToldBy}
 use Rattle.qc_promise.specs.Account.{Account, Current, view_of}
 use Rattle.qc_promise.specs.Accounting.{account, account_at}
@@ -90,7 +90,7 @@ module _ (fits : ℕ → List Record → Type 0) (decl : Declaration) (script : 
 
     never_at : (now : List Entry) (n : WroteAt fits decl script accepted sound now w.actor d.logged.commit) → IsReading fits decl script h open_inputs accepted sound run kept c op t k now n.open_inputs n.run n.kept → ⊥
     never_at now n reading =
-        both_live decl accepted (refined fits decl script now n.open_inputs accepted sound n.run n.kept).acts (refined fits decl script now n.open_inputs accepted sound n.run n.kept).run (first_epochs fits decl script now n.open_inputs accepted sound n.run n.kept)
+        both_live decl accepted (refined fits decl script now n.open_inputs accepted sound n.run n.kept).acts (refined fits decl script now n.open_inputs accepted sound n.run n.kept).run
         reading.s there.t (account decl k.actor now).clock (account decl w.actor now).clock
         (live fits decl script now n.open_inputs accepted sound n.run n.kept k.actor m.client reading.s reading.begun)
         (live fits decl script now n.open_inputs accepted sound n.run n.kept w.actor n.client there.t there.begun)

@@ -36,7 +36,7 @@ use Rattle.qc_promise.specs.Accounting.{account}
 use Rattle.qc_promise.specs.Committed.{committed}
 use Rattle.qc_promise.specs.Kept.{Kept}
 use Rattle.qc_promise.specs.SiteDue.{fits_record, promise_due}
-use Rattle.qc_promise.specs.SiteRecords.{life_shown}
+use Rattle.qc_promise.specs.SiteRecords.{epoch_shown, life_shown}
 use Rattle.qc_reach.specs.Reached.{HasTaken}
 use Rattle.qc_script.specs.RunsWithFalls.{RunsWithFalls}
 use Rattle.qc_script.specs.Sound.{IsScriptFor}
@@ -66,12 +66,12 @@ module _ (fits : ℕ → List Record → Type 0) (decl : Declaration) (script : 
         (promise_fits fits decl script h open_inputs accepted sound run kept site is up (committed decl h) all few a client t begun x.before (seen_before fits decl script h open_inputs accepted sound run kept site is up x))
 
   module _ (a : ℕ) (client : is_client decl a ≡ true) where
-    pub remembers : (t : Current) → (account decl a h).current ≡ Some t → (q : ClientRequest) → IsOpenVote (account decl a h) q → slice_get open_inputs q.site ≡ Some false → is_up (deeds q.site [] h) ≡ true → q.life ≡ life_shown (deeds q.site [] h)
+    pub remembers : (t : Current) → (account decl a h).current ≡ Some t → (q : ClientRequest) → IsOpenVote (account decl a h) q → slice_get open_inputs q.site ≡ Some false → is_up (deeds q.site [] h) ≡ true → q.life ≡ life_shown (deeds q.site [] h) → t.epoch ≡ epoch_shown (deeds q.site [] h)
         → IsRemembered (deeds q.site [] h) t.tx
-    remembers t begun q vote free up life =
+    remembers t begun q vote free up life epoch =
         let part : HasParticipant (account decl a h).current q = (has_life_grounds decl (a - decl.sites) (deeds a [] h)).votes q vote.among vote.want in
         record {
-          held = asked_holds fits decl script h open_inputs accepted sound run kept a client t begun q vote free up life;
+          held = asked_holds fits decl script h open_inputs accepted sound run kept a client t begun q vote free up life epoch;
           fits = fits_free a client t begun q.site (granted fits decl script h open_inputs accepted sound run kept a client part.0 part.1 q.site part.2).place up free;
         }
 

@@ -103,7 +103,7 @@ module _ (fits : ℕ → List Record → Type 0) (decl : Declaration) (script : 
       by true up s = record {
         was = account decl a h;
         tied = subst (Ties decl (account decl a h)) (same_client s.state c (sym s.actor ∙ (reached fits decl script h open_inputs accepted sound run kept).actors_are a (inr client) up slot ∙ in_client decl (net fits decl script h open_inputs accepted sound run kept) a client)) s.ties;
-        begun_then = record { old = t; was = begun; tx = refl; ops = refl; view = λ object l among. among; lives = same_lives t.lives };
+        begun_then = record { old = t; was = begun; tx = refl; epoch = refl; ops = refl; view = λ object l among. among; lives = same_lives t.lives };
         rises = omega arith;
         up = up;
       }
@@ -172,6 +172,10 @@ module _ (fits : ℕ → List Record → Type 0) (decl : Declaration) (script : 
         omega arith
         );
   }
+
+  -- its epoch is the machine's
+  pub epoch_named : t.epoch ≡ then.epoch t.tx
+  epoch_named = w.epoch ∙ sym (ap (λ (y : Transaction). y.begun.epoch) k.begun.is) ∙ b.0.epoch ∙ ap then.epoch named
 
   -- it is up, and its transaction is of the life that its records give
   pub is_up_now : is_up ds ≡ true

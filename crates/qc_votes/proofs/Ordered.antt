@@ -19,9 +19,9 @@ use Rattle.qc_msg.specs.declared.step.Given.{Given}
 use Rattle.qc_msg.specs.declared.step.Given.TheVariants as given
 use Rattle.qc_recover.specs.Clients.{client_rises}
 use Rattle.qc_recover.specs.Sites.{kept_by, site_rises}
-use Rattle.qc_recover.specs.Sites.{holds}
+use Rattle.qc_site.specs.Epochs.{holds}
 use Rattle.qc_site.proofs.Cases.{state_cases}
-use Rattle.qc_site.proofs.Sorted.{sound-held}
+use Rattle.qc_site.proofs.Sorted.{held-sound, sound-held}
 use Rattle.qc_site.specs.Conduct.{passed, site_at, site_takes}
 use Rattle.qc_site.specs.Site.{SiteState, new_site}
 
@@ -32,12 +32,16 @@ HoldsInOrder Down = Unit {0}
 
 -- each input
 
+none_held : IsSound []
+none_held = record { single = tt; full = tt; sorted = tt }
+
 at_site : (decl : Declaration) (s : SiteState) (from number : ℕ) (message : Message) → IsSound s.held → IsSound (site_at decl s from number message).site.held
 at_site decl s from number message sound =
     state_cases (λ (t : SiteState). IsSound t.held) decl s from number message sound
     (λ tx epoch life object inv is. sound-held s.held tx (record { object = object; inv = inv } ∷ []) [] sound)
     (λ tx epoch life object view own is. sound-held s.held tx [] own sound)
     (λ tx. sound) (λ tx verdict is final. sound-without s.held tx sound) (λ tx stamp p is. sound-without s.held tx sound)
+    (λ k is. held-sound [] s.prepared none_held) (λ k clock lines is later. none_held)
 
 site_taken : (decl : Declaration) (s : SiteState) (g : Given) → IsSound s.held → IsSound (site_takes decl s g).site.held
 site_taken decl s (given.Called command) sound = sound
@@ -55,9 +59,6 @@ sent (Client c) number to message sound = tt
 sent Down number to message sound = tt
 
 -- a rise
-
-none_held : IsSound []
-none_held = record { single = tt; full = tt; sorted = tt }
 
 promises_held : (held : List Held) (ps : List Prepared) → IsSound held → IsSound (fold holds held ps)
 promises_held held [] sound = sound

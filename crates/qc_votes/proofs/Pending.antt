@@ -28,9 +28,8 @@ use Rattle.qc_onecopy.specs.Executed.{depends_at}
 use Rattle.qc_onecopy.specs.Logged.{IsOperation}
 use Rattle.qc_guarantees.proofs.Committed.{reader_sees, writer_passes}
 use Rattle.qc_guarantees.proofs.Live.{Live}
-use Rattle.qc_guarantees.proofs.Machine.{AreOfFirstEpoch, IsSafe}
+use Rattle.qc_guarantees.proofs.Settled.{IsSafe}
 use Rattle.qc_votes.proofs.Live.{client_named, is_up_now, live}
-use Rattle.qc_votes.proofs.Safe.{first_epochs}
 use Rattle.qc_promise.specs.Account.{Current, view_of}
 use Rattle.qc_promise.specs.Accounting.{account}
 use Rattle.qc_promise.specs.Kept.{Journal, Kept, journal_of}
@@ -47,18 +46,16 @@ use Rattle.qc_script.specs.declared.script.Script.{Script}
 record StandsBeside (decl : Declaration) (t : Current) (clock : ℕ) (c : CommitRecord) : Type 0 where
   acts : List Act
   run : IsRun decl acts
-  first : AreOfFirstEpoch acts
   alive : Live (state acts) t clock
   safe : IsSafe acts t.tx
   among : In c (state acts).records
 
 -- where it may be written, it stands as it is written
-written_beside : (decl : Declaration) (acts : List Act) → IsRun decl acts → AreOfFirstEpoch acts → (t : Current) (clock : ℕ) → Live (state acts) t clock → IsSafe acts t.tx → (c : CommitRecord) → MayCommit (state acts) c → c.tx ≢ t.tx → (t.tx.client ≢ c.tx.client)
+written_beside : (decl : Declaration) (acts : List Act) → IsRun decl acts → (t : Current) (clock : ℕ) → Live (state acts) t clock → IsSafe acts t.tx → (c : CommitRecord) → MayCommit (state acts) c → c.tx ≢ t.tx → (t.tx.client ≢ c.tx.client)
     → StandsBeside decl t clock c
-written_beside decl acts run first t clock l safe c may apart others = record {
+written_beside decl acts run t clock l safe c may apart others = record {
   acts = Commit c ∷ acts;
   run = (may, run);
-  first = first;
   alive = record {
     active = put_tx_case (λ (s : Status). (s ≡ Active) ⊎ (s ≡ Voting)) (state acts).status c.tx (Committed c) t.tx (λ same. absurd (apart (sym same))) (λ other. l.active);
     ops = l.ops;
@@ -119,7 +116,6 @@ module _ (fits : ℕ → List Record → Type 0) (decl : Declaration) (script : 
     beside (inl among) = record {
       acts = (refined fits decl script h open_inputs accepted sound run kept).acts;
       run = (refined fits decl script h open_inputs accepted sound run kept).run;
-      first = first_epochs fits decl script h open_inputs accepted sound run kept;
       alive = live fits decl script h open_inputs accepted sound run kept a client t begun;
       safe = safe;
       among = (refined fits decl script h open_inputs accepted sound run kept).agrees.records c (agree.all c (record { actor = w; client = writer; listed = subst (In (records.Commit c)) (sym ((reached fits decl script h open_inputs accepted sound run kept).records_are w (inr writer))) among }));
@@ -129,7 +125,7 @@ module _ (fits : ℕ → List Record → Type 0) (decl : Declaration) (script : 
         agree = written_are decl accepted (net fits decl script h open_inputs accepted sound run kept) (reached fits decl script h open_inputs accepted sound run kept).reached
     beside (inr pending) =
         let may : MayCommit (now fits decl script h open_inputs accepted sound run kept) c × (c.tx.client ≡ w - decl.sites) = pends w c writer pending in
-        written_beside decl (refined fits decl script h open_inputs accepted sound run kept).acts (refined fits decl script h open_inputs accepted sound run kept).run (first_epochs fits decl script h open_inputs accepted sound run kept)
+        written_beside decl (refined fits decl script h open_inputs accepted sound run kept).acts (refined fits decl script h open_inputs accepted sound run kept).run
         t (account decl a h).clock (live fits decl script h open_inputs accepted sound run kept a client t begun) safe c may.0 apart (others (down w writer (records.Commit c) pending) may.1)
 
     module _ (known : IsKnown c (journal_of (own w h))) where
@@ -139,9 +135,9 @@ module _ (fits : ℕ → List Record → Type 0) (decl : Declaration) (script : 
       -- the reader is live
       pub sees : (op : Op) (line : Line) → In op t.ops → line.stamp ≡ c.stamp → line.tx ≡ c.tx → IsOperation decl c.ops line.op line.object line.event → line.object ≡ op.object
           → IsTrue (depends_at decl op.object op.inv line.event) → In line (view_of t op.object) × (line.stamp.clock ≤ (account decl a h).clock)
-      sees op line = reader_sees decl accepted b.acts b.run b.first t (account decl a h).clock b.alive b.safe c b.among apart op line
+      sees op line = reader_sees decl accepted b.acts b.run t (account decl a h).clock b.alive b.safe c b.among apart op line
 
       -- the writer is live
       pub passes : (op : Op) (number object number_of_event : ℕ) → In op c.ops → IsOperation decl t.ops number object number_of_event → object ≡ op.object
           → IsTrue (depends_at decl op.object op.inv number_of_event) → c.stamp.clock ≤ (account decl a h).clock
-      passes op number object number_of_event = writer_passes decl accepted b.acts b.run b.first t (account decl a h).clock b.alive b.safe c b.among apart op number object number_of_event
+      passes op number object number_of_event = writer_passes decl accepted b.acts b.run t (account decl a h).clock b.alive b.safe c b.among apart op number object number_of_event

@@ -39,7 +39,7 @@ use Rattle.qc_msg.specs.declared.turn.Posting.{Posting}
 use Rattle.qc_msg.specs.declared.turn.Turn.{Turn}
 use Rattle.qc_script.specs.RunsWithFalls.{RunsWithFalls}
 use Rattle.qc_script.specs.declared.script.Script.{Script}
-use Rattle.qc_site.proofs.Cases.{append_cases, prepare_cases, read_cases, request_cases}
+use Rattle.qc_site.proofs.Cases.{append_cases, close_cases, install_cases, prepare_cases, read_cases, request_cases}
 use Rattle.qc_site.specs.Conduct.{passed, site_at, site_takes}
 use Rattle.qc_site.specs.Promise.{finishes, joins, prepared_of}
 use Rattle.qc_site.specs.Requests.{grants}
@@ -77,8 +77,9 @@ at_never decl s from number (messages.Answer to answer) = λ p n x among is forg
 at_never decl s from number (messages.Decision tx verdict) = finishes_never s tx verdict
 at_never decl s from number (messages.Inquiry tx) = λ p n x among is forgets. among
 at_never decl s from number (messages.Ask tx) = λ p n x among is forgets. among
-at_never decl s from number (messages.Close epoch) = λ p n x among is forgets. among
-at_never decl s from number (messages.Install epoch clock log) = λ p n x among is forgets. among
+at_never decl s from number (messages.Close epoch) = close_cases NeverForgets s from number epoch (λ answer p n x among is forgets. among) (λ near later. at_fault from number)
+at_never decl s from number (messages.Install epoch clock log) =
+    install_cases NeverForgets s from number epoch clock log (λ answer p n x among is forgets. among) (λ later fits. at_fault from number)
 
 pub fails_never : (decl : Declaration) (s : SiteState) (g : Given) → NeverForgets (site_takes decl s g)
 fails_never decl s (given.Called command) p n x among is forgets = among

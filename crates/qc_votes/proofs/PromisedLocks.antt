@@ -1,6 +1,6 @@
 -- A site by its conduct, through falls and rises: of what it has promised it holds the locks, and its clock has passed
 -- what its records say is done.
-use Rattle.std.proofs.Common.{◌≡◌, ◌≤◌, ◌-◌, not, nat_le, max, if◌then◌else◌, ℕ, Bool, true, false, cond, List, [], ◌∷◌, ◌++◌, inl, inr, Option, Some, None, option_to_list, refl, sym, ap, ◌∙◌, subst, arith, append_assoc}
+use Rattle.std.proofs.Common.{fold, ◌≡◌, ◌≤◌, ◌-◌, not, nat_le, max, if◌then◌else◌, ℕ, Bool, true, false, cond, List, [], ◌∷◌, ◌++◌, inl, inr, Option, Some, None, option_to_list, refl, sym, ap, ◌∙◌, subst, arith, append_assoc}
 use Rattle.std.proofs.lemmas.List.Sums.{fold-append}
 use Rattle.qc_due.proofs.Standing.{actor_more}
 use Rattle.qc_core.proofs.LivesLaws.{rises as actor_rising}
@@ -21,7 +21,7 @@ use Rattle.qc_entry.specs.declared.record.Prepared.{Prepared}
 use Rattle.qc_list.specs.Members.{In}
 use Rattle.qc_list.proofs.Members.{In-more, In-unfiltered}
 use Rattle.qc_laws.proofs.Downs.{due}
-use Rattle.qc_lock.proofs.Entries.{held-without_other}
+use Rattle.qc_lock.proofs.Entries.{held-without_other, locks_given}
 use Rattle.qc_lock.specs.Held.{held_of, is_held, with_held, with_lock, with_locks}
 use Rattle.qc_lock.specs.Clash.{append_clash, read_clash}
 use Rattle.qc_lock.specs.declared.clash.Clash.{Clash as Conflict}
@@ -45,6 +45,8 @@ use Rattle.qc_msg.specs.declared.turn.Appended.{Appended}
 use Rattle.qc_msg.specs.declared.turn.Appended.TheVariants as ends
 use Rattle.qc_msg.specs.declared.turn.Turn.{Turn}
 use Rattle.qc_net.proofs.Held.{given_case, lock_more, lock_new}
+use Rattle.qc_site.proofs.Cases.{close_cases, install_cases}
+use Rattle.qc_site.specs.Epochs.{holds, installs}
 use Rattle.qc_promise.specs.Kept.{Journal, no_journal}
 use Rattle.qc_onecopy.proofs.Lists.{in_split}
 use Rattle.qc_reach.proofs.Growing.{actor_posted, all_sent, journal_posted}
@@ -115,7 +117,7 @@ clock_up (messages.Decision tx verdict) clock = told_up verdict clock
 clock_up (messages.Inquiry tx) clock = omega arith
 clock_up (messages.Ask tx) clock = omega arith
 clock_up (messages.Close epoch) clock = omega arith
-clock_up (messages.Install epoch installed lines) clock = omega arith
+clock_up (messages.Install epoch began lines) clock = latest_up lines clock
 
 -- what is held more, and what is dropped
 
@@ -152,6 +154,24 @@ holds_promised s tx old p among l there = elim (In-more p (promise_of s tx) s.pr
   | inl before ↦ old p before l there
   | inr same ↦ subst (λ (x : Prepared). In l x.locks → In l (held_of s.held x.tx).locks) (sym same) (λ held. held) there
 ]
+
+-- what was promised is held as the site closes its epoch
+
+lock_stays : (held : List Held) (q : Prepared) (t : TxId) (l : ReadLock) → In l (held_of held t).locks → In l (held_of (holds held q) t).locks
+lock_stays held q t l was =
+    given_case (λ (ls : List ReadLock) (os : List OwnLine). In l ls) held q.tx t q.locks q.own
+    (λ same. locks_more (held_of held q.tx).locks q.locks l (subst (λ (u : TxId). In l (held_of held u).locks) (sym same) was)) was
+
+locks_stay : (ps : List Prepared) (held : List Held) (t : TxId) (l : ReadLock) → In l (held_of held t).locks → In l (held_of (fold holds held ps) t).locks
+locks_stay [] held t l was = was
+locks_stay (q ∷ ps) held t l was = locks_stay ps (holds held q) t l (lock_stays held q t l was)
+
+has_locks : (ps : List Prepared) (held : List Held) (p : Prepared) → In p ps → (l : ReadLock) → In l p.locks → In l (held_of (fold holds held ps) p.tx).locks
+has_locks [] held p among l there = absurd among
+has_locks (q ∷ ps) held p (inl same) l there =
+    subst (λ (x : Prepared). In l x.locks → In l (held_of (fold holds (holds held q) ps) x.tx).locks) (sym same)
+    (λ mine. locks_stay ps (holds held q) q.tx l (subst (In l) (sym (locks_given held q.tx q.locks q.own)) (locks_all (held_of held q.tx).locks q.locks l mine))) there
+has_locks (q ∷ ps) held p (inr among) l there = has_locks ps (holds held q) p among l there
 
 -- a site that does nothing but answer
 stays : (s : SiteState) (turn : Turn) → turn.write ≡ None → HoldsLocks s → MoveKeeps s (moved s turn)
@@ -201,8 +221,15 @@ module _ (decl : Declaration) where
   heard s from number (messages.Decision tx verdict) old = finish decl (passed s (messages.Decision tx verdict)) old from number tx s.clock verdict refl
   heard s from number (messages.Inquiry tx) old = stays s quiet refl old
   heard s from number (messages.Ask tx) old = stays s quiet refl old
-  heard s from number (messages.Close epoch) old = stays s quiet refl old
-  heard s from number (messages.Install epoch installed lines) old = stays s quiet refl old
+  heard s from number (messages.Close epoch) old =
+      close_cases (MoveKeeps s) s from number epoch (λ answer. stays s (answers from number answer) refl old)
+      (λ near later. record { locks = λ p among l there. has_locks s.prepared [] p among l there; rises = omega arith; writes = tt })
+  heard s from number (messages.Install epoch began lines) old = install_keeps (passed s (messages.Install epoch began lines)) old
+    where
+      install_keeps : (at : SiteState) → HoldsLocks at → MoveKeeps at (installs at from number epoch began lines)
+      install_keeps at had =
+          install_cases (MoveKeeps at) at from number epoch began lines (λ answer. stays at (answers from number answer) refl had)
+          (λ later fits. record { locks = λ p among l there. absurd among; rises = omega arith; writes = tt })
 
   taken : (s : SiteState) (g : Given) → HoldsLocks s → MoveKeeps s (site_takes decl s g)
   taken s (given.Called command) old = stays s quiet refl old

@@ -23,7 +23,7 @@ use Rattle.qc_msg.specs.declared.step.Fall.{Fall}
 use Rattle.qc_msg.specs.declared.step.Step.{Step}
 use Rattle.qc_msg.specs.declared.step.Step.TheVariants as steps
 use Rattle.qc_guarantees.proofs.FirstGrants.{KeepsLives}
-use Rattle.qc_guarantees.proofs.Machine.{IsSafe}
+use Rattle.qc_guarantees.proofs.Settled.{IsSafe}
 use Rattle.qc_guarantees.proofs.Persists.{AreMoves, Has, IsNumbered, moves_back, stays_begun}
 use Rattle.qc_votes.proofs.Counts.{all_steady}
 use Rattle.qc_votes.proofs.FallenMoments.{FellAt, fallen_moment}

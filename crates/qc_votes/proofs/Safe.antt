@@ -1,13 +1,10 @@
--- In a run with falls each grant is of the first epoch, and a transaction whose participants have all promised in the end is
--- safe at each moment before: each site is in the life in which it granted, or has voted.
+-- In a run with falls a transaction whose participants have all promised in the end is safe at each moment before: each
+-- site is in the life in which it granted, or has voted.
 use Rattle.std.proofs.Common.{◌≡◌, ◌⊎◌, ◌<◌, ◌≤◌, ℕ, Bool, true, List, [], ◌∷◌, ◌++◌, inl, inr, fold, Some, slice_get, refl, sym, ap, ◌∙◌, subst, arith}
-use Rattle.std.specs.List.{AllByRecursion as Every}
 use Rattle.qc_core.specs.Conduct.{IsLawfulWithFalls}
 use Rattle.qc_decl.specs.Accepted.{IsAccepted}
 use Rattle.qc_decl.specs.Actors.{is_client, is_site}
 use Rattle.qc_decl.specs.declared.declaration.Declaration.{Declaration}
-use Rattle.qc_due.proofs.KeptFirst.{journals_first}
-use Rattle.qc_due.specs.Risen.{IsOfFirst}
 use Rattle.qc_votes.proofs.Cast.{votes_cast}
 use Rattle.qc_votes.proofs.Nets.{at_number, backed, net, now, one_request, reached, refined}
 use Rattle.qc_votes.specs.Recorded.{HasPromised, HaveAllPromised}
@@ -23,40 +20,22 @@ use Rattle.qc_msg.specs.declared.message.Envelope.{Envelope}
 use Rattle.qc_msg.specs.declared.message.Message.TheVariants as messages
 use Rattle.qc_msg.specs.declared.message.Want.TheVariants.{Prepare}
 use Rattle.qc_msg.specs.declared.record.Record.{Record}
-use Rattle.qc_msg.specs.declared.record.Record.TheVariants as records
 use Rattle.qc_net.specs.Messages.{IsRequest, IsVoteTo}
 use Rattle.qc_net.specs.Sites.{KeptMirrors}
 use Rattle.qc_net.proofs.Machine.{slice_get-append}
 use Rattle.qc_guarantees.proofs.FirstGrants.{KeepsLives}
-use Rattle.qc_guarantees.proofs.Machine.{AreOfFirstEpoch, IsSafe}
+use Rattle.qc_guarantees.proofs.Settled.{IsSafe}
 use Rattle.qc_votes.proofs.Live.{IsParticipant, participant}
 use Rattle.qc_promise.specs.Account.{Current}
 use Rattle.qc_promise.specs.Accounting.{account}
 use Rattle.qc_promise.specs.Kept.{Kept, journal_of}
 use Rattle.qc_protocol.proofs.Keeps.{laws}
 use Rattle.qc_protocol.specs.State.{Granted, State, YesVote}
-use Rattle.qc_protocol.specs.StateLaws.{GrantedLaw, HasRisingEpochs, StateLaws}
-use Rattle.qc_recover.specs.Sites.{Kept as Given, keeps, kept_by, nothing_kept}
+use Rattle.qc_protocol.specs.StateLaws.{StateLaws}
+use Rattle.qc_recover.specs.Sites.{kept_by}
 use Rattle.qc_script.specs.RunsWithFalls.{RunsWithFalls}
 use Rattle.qc_script.specs.Sound.{IsScriptFor}
 use Rattle.qc_script.specs.declared.script.Script.{Script}
-use Rattle.qc_protocol.proofs.Epochs.{epoch-append, rising-left, rising-right, upward}
-use Rattle.qc_protocol.specs.Site.{Deed, Grants, epoch_from}
-
--- records of the first epoch leave a site in it
-
-keeps_first : (k : Given) (r : Record) → IsOfFirst r → (keeps k r).epoch ≡ k.epoch
-keeps_first k records.Life first = refl
-keeps_first k (records.Prepare p) first = refl
-keeps_first k (records.Done tx clock) first = refl
-keeps_first k (records.Close epoch) first = absurd first
-keeps_first k (records.Install epoch clock lines) first = absurd first
-keeps_first k (records.Commit commit) first = refl
-keeps_first k (records.Decide epoch clock lines) first = refl
-
-all_first : (k : Given) (rs : List Record) → Every IsOfFirst rs → (fold keeps k rs).epoch ≡ k.epoch
-all_first k [] first = refl
-all_first k (r ∷ rs) first = all_first (keeps k r) rs first.1 ∙ keeps_first k r first.0
 
 module _ (fits : ℕ → List Record → Type 0) (decl : Declaration) (script : Script) (h : List Entry) (open_inputs : List Bool) (accepted : IsAccepted decl) (sound : IsScriptFor decl script)
     (run : RunsWithFalls (IsLawfulWithFalls decl) fits decl script h open_inputs) (kept : Kept h) where
@@ -74,24 +53,6 @@ module _ (fits : ℕ → List Record → Type 0) (decl : Declaration) (script : 
 
   pub granting : (g : Granted) → In g then.granted → is_site decl g.site ≡ true
   granting g known = (refined fits decl script h open_inputs accepted sound run kept).agrees.placed g known
-
-  -- each site is in it
-  pub epoch_is : (site : ℕ) → is_site decl site ≡ true → epoch_from 1 (then.deeds site) ≡ 1
-  epoch_is site is =
-      (site_kept site is).epoch ∙ ap (λ (rs : List Record). (kept_by rs).epoch) (site_records site is)
-      ∙ all_first nothing_kept (journal_of (own site h)).records (journals_first decl script fits h open_inputs run kept site)
-
-  pub first_epochs : AreOfFirstEpoch (refined fits decl script h open_inputs accepted sound run kept).acts
-  first_epochs g known =
-      let law : GrantedLaw (then.deeds g.site) (then.life g.site) g = wl.granted g known in
-      let rest : List Deed = Grants g.tx g.items g.view ∷ law.post in
-      let rising : HasRisingEpochs 1 (g.before ++ rest) = subst (HasRisingEpochs 1) law.split (wl.rising g.site) in
-      let low : 1 ≤ epoch_from 1 g.before = upward g.before 1 (rising-left g.before rest 1 rising) in
-      let high : epoch_from 1 g.before ≤ epoch_from (epoch_from 1 g.before) rest = upward rest (epoch_from 1 g.before) (rising-right g.before rest 1 rising) in
-      let there : epoch_from (epoch_from 1 g.before) rest ≡ epoch_from 1 (then.deeds g.site) = sym (ap (epoch_from 1) law.split ∙ epoch-append g.before rest 1) in
-      let first : epoch_from 1 (then.deeds g.site) ≡ 1 = epoch_is g.site (granting g known) in
-      let told : epoch_from 1 g.before ≡ g.epoch = (wl.facts g known).current in
-      omega arith
 
   -- the life of a site is that of its records
   life_is : (site : ℕ) → is_site decl site ≡ true → then.life site ≡ life_at h site

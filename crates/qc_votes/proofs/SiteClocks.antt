@@ -1,12 +1,14 @@
 -- A site's clock has passed the lines that it knows, through falls.
 use Rattle.std.proofs.Common.{◌≡◌, ◌≤◌, ℕ, Bool, true, false, List, [], inl, Some, slice_get, sym, ◌∙◌, subst, arith, ltb-true}
 use Rattle.qc_core.specs.Conduct.{IsLawfulWithFalls}
+use Rattle.qc_core.proofs.SiteLines.{began_shows}
 use Rattle.qc_core.specs.Lives.{is_up}
 use Rattle.qc_core.specs.Sites.{IsShown}
 use Rattle.qc_core.specs.declared.actor.Actor.TheVariants as actor
 use Rattle.qc_decl.specs.Accepted.{IsAccepted}
 use Rattle.qc_decl.specs.Actors.{actors, is_site}
 use Rattle.qc_decl.specs.declared.declaration.Declaration.{Declaration}
+use Rattle.qc_entry.specs.Log.{union}
 use Rattle.qc_entry.specs.declared.line.Line.{Line}
 use Rattle.qc_votes.proofs.Nets.{net, now, reached, refined}
 use Rattle.qc_link.specs.Limits.{most_actors}
@@ -47,6 +49,6 @@ module _ (fits : ℕ → List Record → Type 0) (decl : Declaration) (script : 
 
     pub lines_passed : (line : Line) → In line (log_shown (deeds site [] h)) → line.stamp.clock ≤ clock_shown (deeds site [] h)
     lines_passed line among =
-        let low : line.stamp.clock ≤ ((net fits decl script h open_inputs accepted sound run kept).sites site).clock = mirrors.passed line (mirrors.logged line (subst (In line) (sym shown.log) among)) in
+        let low : line.stamp.clock ≤ ((net fits decl script h open_inputs accepted sound run kept).sites site).clock = mirrors.passed line (mirrors.logged line (subst (In line) (λ i. union ((began_shows (deeds site [] h) ∙ sym shown.began) i) (sym shown.log i)) among)) in
         let same : ((net fits decl script h open_inputs accepted sound run kept).sites site).clock ≡ clock_shown (deeds site [] h) = shown.clock in
         omega arith

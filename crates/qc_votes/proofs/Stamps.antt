@@ -8,7 +8,7 @@ use Rattle.qc_core.specs.Lives.{AreSteady}
 use Rattle.qc_decl.specs.Accepted.{IsAccepted}
 use Rattle.qc_decl.specs.Actors.{actors, is_client}
 use Rattle.qc_decl.specs.declared.declaration.Declaration.{Declaration}
-use Rattle.qc_due.proofs.KeptFirst.{kept_due}
+use Rattle.qc_due.proofs.KeptPlanned.{kept_due}
 use Rattle.qc_entry.specs.declared.record.Commit.{Commit as CommitRecord}
 use Rattle.qc_guarantees.proofs.ClockLaw.{counted_passes, reply_clock, sent_clock, take_clock, written_clock}
 use Rattle.qc_guarantees.proofs.DueStamps.{do_stamp, none_some, stamp_of}

@@ -11,7 +11,6 @@ use Rattle.qc_core.proofs.LivesLaws as actor_laws
 use Rattle.qc_decl.specs.Accepted.{IsAccepted}
 use Rattle.qc_decl.specs.Actors.{is_site}
 use Rattle.qc_decl.specs.declared.declaration.Declaration.{Declaration}
-use Rattle.qc_epoch.specs.SiteRows.{takes}
 use Rattle.qc_votes.specs.Votes.{life_at}
 use Rattle.qc_votes.proofs.SiteLives.{life_of}
 use Rattle.qc_inbox.specs.Downs.{is_down}
@@ -25,8 +24,12 @@ use Rattle.qc_msg.specs.Deeds.{Deed, WasSentTo, deeds, envelopes, mail}
 use Rattle.qc_msg.specs.Steps.{Entry, HasRecord, MayEnd, by, posted_as, sends_as}
 use Rattle.qc_msg.specs.declared.message.Answer.TheVariants as answers
 use Rattle.qc_msg.specs.declared.message.Envelope.{Envelope}
+use Rattle.qc_msg.specs.declared.message.Message.{Message}
 use Rattle.qc_msg.specs.declared.message.Message.TheVariants as messages
-use Rattle.qc_msg.specs.declared.message.Want.TheVariants.{Prepare}
+use Rattle.qc_msg.specs.declared.message.Outcome.{Outcome}
+use Rattle.qc_msg.specs.declared.message.Outcome.TheVariants.{Aborted, Active, Committed}
+use Rattle.qc_msg.specs.declared.message.Want.{Want}
+use Rattle.qc_msg.specs.declared.message.Want.TheVariants.{Append, Prepare, Read}
 use Rattle.qc_msg.specs.declared.record.Record.{Record}
 use Rattle.qc_msg.specs.declared.step.Given.{Given}
 use Rattle.qc_msg.specs.declared.step.Given.TheVariants as given
@@ -45,15 +48,19 @@ use Rattle.qc_net.proofs.VotesLater.{votes_later}
 use Rattle.qc_promise.specs.Kept.{Journal}
 use Rattle.qc_protocol.proofs.Names.{put_here}
 use Rattle.qc_reach.proofs.Growing.{journal_posted}
-use Rattle.qc_reach.proofs.OneEpoch.{takes_so}
 use Rattle.qc_reach.proofs.Posting.{never_up}
 use Rattle.qc_reach.proofs.Stood.{Stands, Stood, in_site}
 use Rattle.qc_reach.specs.Reached.{HasTaken}
 use Rattle.qc_recover.specs.Clients.{client_rises}
-use Rattle.qc_recover.specs.Sites.{in_order, kept_by, most_inquiries, site_rises}
-use Rattle.qc_site.proofs.Rows.{life_stays}
-use Rattle.qc_site.specs.Conduct.{site_takes}
+use Rattle.qc_recover.specs.Sites.{kept_by, most_inquiries, site_rises}
+use Rattle.qc_site.specs.Epochs.{closed, in_order, shut_answer}
+use Rattle.qc_site.proofs.Cases.{append_cases, close_cases, install_cases, join_cases, prepare_cases, read_cases, request_cases, state_cases}
+use Rattle.qc_site.specs.Conduct.{passed, site_at, site_takes}
+use Rattle.qc_site.specs.Promise.{finishes, prepares}
+use Rattle.qc_site.specs.Requests.{grants}
+use Rattle.qc_site.specs.Told.{closes_in}
 use Rattle.qc_site.specs.Site.{SiteMove, SiteState}
+use Rattle.qc_stamp.specs.declared.stamp.TxId.{TxId}
 use Rattle.qc_atomic.proofs.Stood.{may_come}
 
 -- a request for a promise that a vote answers, and the life that it names
@@ -70,11 +77,68 @@ pub record IsCast (ms : List Envelope) (to low : ℕ) : Type 0 where
 abbrev pub IsVote : Posting → ℕ → Type 0
 IsVote p to = (clock : ℕ) × (p.message ≡ messages.Answer to (answers.Yes clock))
 
--- a site keeps its life as it takes an input
-takes_life : (decl : Declaration) (s : SiteState) (g : Given) → (site_takes decl s g).site.life ≡ s.life
-takes_life decl s (given.Called command) = refl
-takes_life decl s (given.Got e) = life_stays decl s e.from e.number e.message
-takes_life decl s (given.Lost number) = refl
+-- a site keeps its life as it takes an input, but where it closes its epoch; then it tells no vote
+
+other_life : (decl : Declaration) (s : SiteState) (from number : ℕ) (m : Message) → ((k : ℕ) → m ≡ messages.Close k → ⊥) → (site_at decl s from number m).site.life ≡ s.life
+other_life decl s from number m never =
+    state_cases (λ (t : SiteState). t.life ≡ s.life) decl s from number m refl (λ tx epoch life object inv is. refl) (λ tx epoch life object view own is. refl) (λ tx. refl)
+    (λ tx verdict is final. refl) (λ tx stamp p is. refl) (λ k is. absurd (never k is)) (λ k clock lines is later. refl)
+
+heard_life : (decl : Declaration) (s : SiteState) (from number : ℕ) (m : Message) → closes_in (site_at decl s from number m).turn ≡ false → (site_at decl s from number m).site.life ≡ s.life
+heard_life decl s from number (messages.Request tx epoch life want) stays = other_life decl s from number (messages.Request tx epoch life want) (λ k is. let none : ⊥ = cc in none)
+heard_life decl s from number (messages.Answer to answer) stays = refl
+heard_life decl s from number (messages.Decision tx verdict) stays = other_life decl s from number (messages.Decision tx verdict) (λ k is. let none : ⊥ = cc in none)
+heard_life decl s from number (messages.Inquiry tx) stays = refl
+heard_life decl s from number (messages.Ask tx) stays = refl
+heard_life decl s from number (messages.Close k) stays =
+    close_cases (λ m. closes_in m.turn ≡ false → m.site.life ≡ s.life) s from number k (λ answer none. refl) (λ near later none. absurd (let clash : ⊥ = cc in clash)) stays
+heard_life decl s from number (messages.Install k clock lines) stays =
+    install_cases (λ m. m.site.life ≡ s.life) s from number k clock lines (λ answer. refl) (λ later fits. refl)
+
+takes_life : (decl : Declaration) (s : SiteState) (g : Given) → closes_in (site_takes decl s g).turn ≡ false → (site_takes decl s g).site.life ≡ s.life
+takes_life decl s (given.Called command) stays = refl
+takes_life decl s (given.Got e) stays = heard_life decl (passed s e.message) e.from e.number e.message stays
+takes_life decl s (given.Lost number) stays = refl
+
+-- what tells no vote, where the site closes
+
+abbrev TellsNone : SiteMove → Type 0
+TellsNone m = closes_in m.turn ≡ true → (p : Posting) → In p m.turn.sends → (to : ℕ) → IsVote p to → ⊥
+
+promised_none : (s : SiteState) (from number : ℕ) (tx : TxId) → TellsNone (prepares s from number tx)
+promised_none s from number tx =
+    prepare_cases TellsNone s from number tx (λ closes p among to v. let never : ⊥ = cc in never) (λ held stands closes p among to v. let never : ⊥ = cc in never)
+    (λ held made closes p among to v. let never : ⊥ = cc in never)
+
+wanted_none : (decl : Declaration) (s : SiteState) (from number : ℕ) (tx : TxId) (want : Want) → TellsNone (grants decl s from number tx want)
+wanted_none decl s from number tx (Read object inv) =
+    read_cases TellsNone decl s from number tx object inv (λ free closes p among to v. let never : ⊥ = cc in never) (λ c clash closes p among to v. let never : ⊥ = cc in never)
+wanted_none decl s from number tx (Append object view own) =
+    append_cases TellsNone decl s from number tx object view own (λ free closes p among to v. let never : ⊥ = cc in never) (λ c clash closes p among to v. let never : ⊥ = cc in never)
+wanted_none decl s from number tx Prepare = promised_none s from number tx
+
+finished_none : (s : SiteState) (tx : TxId) (verdict : Outcome) → TellsNone (finishes s tx verdict)
+finished_none s tx (Committed stamp) = join_cases TellsNone s tx stamp (λ none closes p among to v. absurd among) (λ q some closes p among to v. absurd among)
+finished_none s tx Aborted = λ closes p among to v. absurd among
+finished_none s tx Active = λ closes p among to v. absurd among
+
+heard_none : (decl : Declaration) (s : SiteState) (from number : ℕ) (m : Message) → TellsNone (site_at decl s from number m)
+heard_none decl s from number (messages.Request tx epoch life want) =
+    request_cases TellsNone decl s from number tx epoch life want (λ closes p among to v. absurd among) (λ fault is closes p among to v. let never : ⊥ = cc in never) (λ is. wanted_none decl s from number tx want)
+heard_none decl s from number (messages.Answer to answer) = λ closes p among to v. absurd among
+heard_none decl s from number (messages.Decision tx verdict) = finished_none s tx verdict
+heard_none decl s from number (messages.Inquiry tx) = λ closes p among to v. absurd among
+heard_none decl s from number (messages.Ask tx) = λ closes p among to v. absurd among
+heard_none decl s from number (messages.Close k) =
+    close_cases TellsNone s from number k (λ answer closes p among to v. let never : ⊥ = cc in never)
+    (λ near later closes p among to v. elim among [ inl first ↦ (let says : p.message ≡ messages.Answer number (shut_answer (closed s k)) = ap (λ (q : Posting). q.message) first in let never : ⊥ = (let told = v.1 in cc) in never) | inr none ↦ none ])
+heard_none decl s from number (messages.Install k clock lines) =
+    install_cases TellsNone s from number k clock lines (λ answer closes p among to v. let never : ⊥ = cc in never) (λ later fits closes p among to v. let never : ⊥ = cc in never)
+
+takes_none : (decl : Declaration) (s : SiteState) (g : Given) → TellsNone (site_takes decl s g)
+takes_none decl s (given.Called command) = λ closes p among to v. absurd among
+takes_none decl s (given.Got e) = heard_none decl (passed s e.message) e.from e.number e.message
+takes_none decl s (given.Lost number) = λ closes p among to v. absurd among
 
 fallen : (ds : List Deed) → is_up ds ≡ false → is_down ds ≡ true
 fallen ds down = by (is_down ds) (up_is ds)
@@ -101,16 +165,13 @@ module _ (decl : Declaration) (accepted : IsAccepted decl) (h : List Entry) (inp
       x = s.opened up refl
 
       abbrev move : SiteMove
-      move = takes decl (old.net.sites a) x.given
+      move = site_takes decl (old.net.sites a) x.given
 
       came : MayCome old.net a x.given
       came = may_come old.net a x.given (subst (λ (ms : List Envelope). WasSentTo a ms x.given) (sym old.mail_is) x.sent)
 
-      so : move ≡ site_takes decl (old.net.sites a) x.given
-      so = takes_so decl (old.net.sites a) a (mail h) x.given old.one x.sent
-
       turn_is : move.turn ≡ with_record turn
-      turn_is = ap (λ (m : ActorMove). m.turn) (sym (x.is ∙ ap (λ (v : Actor). actor_takes decl v x.given) (in_site decl old.net a site) ∙ ap by_site (sym so))) ∙ due decl a ds turn law
+      turn_is = ap (λ (m : ActorMove). m.turn) (sym (x.is ∙ ap (λ (v : Actor). actor_takes decl v x.given) (in_site decl old.net a site))) ∙ due decl a ds turn law
 
       abbrev next : Net
       next = after_site old.net a move
@@ -118,13 +179,13 @@ module _ (decl : Declaration) (accepted : IsAccepted decl) (h : List Entry) (inp
       reached : nets.Reaches decl next
       reached = nets.serves a x.given old.net old.reached site (s.up ∙ up) came
 
-      -- the life of its records is that of before
-      life_then : life_of (next.records a) ≡ life_of (old.net.records a)
-      life_then =
+      -- the life of its records is that of before, where it doesn't close its epoch
+      life_then : closes_in move.turn ≡ false → life_of (next.records a) ≡ life_of (old.net.records a)
+      life_then stays =
           let m : Refines decl next = refines decl accepted next reached in
           let n : Refines decl old.net = refines decl accepted old.net old.reached in
           (m.agrees.kept a site).life_is ∙ sym (m.agrees.sites a site (s.up ∙ up)).life
-          ∙ ap (λ (t : SiteState). t.life) (put_here old.net.sites a move.site) ∙ ap (λ (t : SiteMove). t.site.life) so ∙ takes_life decl (old.net.sites a) x.given
+          ∙ ap (λ (t : SiteState). t.life) (put_here old.net.sites a move.site) ∙ takes_life decl (old.net.sites a) x.given stays
           ∙ (n.agrees.sites a site (s.up ∙ up)).life ∙ sym (n.agrees.kept a site).life_is
 
       records_then : life_at (after Done) a ≡ life_of (next.records a)
@@ -132,8 +193,8 @@ module _ (decl : Declaration) (accepted : IsAccepted decl) (h : List Entry) (inp
           ap (λ (j : Journal). life_of j.records) (sym (journal a (after Done)) ∙ ap journal_after (deeds-posted_as Done a (length (mail h)) h turn) ∙ journal_posted ds Done (length (mail h)) turn)
           ∙ sym (ap life_of (put_here old.net.records a (old.net.records a ++ option_to_list move.turn.write) ∙ (λ i. s.records i ++ option_to_list (turn_is i).write)))
 
-      casts : (e : Envelope) (to clock : ℕ) → In e (mail h ++ envelopes a (length (mail h)) turn.sends) → e.from ≡ a → e.message ≡ messages.Answer to (answers.Yes clock) → In e (mail h) ⊎ IsCast (mail h ++ envelopes a (length (mail h)) turn.sends) to (life_at (after Done) a)
-      casts e to clock among from is = elim (votes_later decl accepted old.net old.reached next (later_nets.more old.net next later_nets.same (later_nets.serves a x.given old.net site (s.up ∙ up) came)) e (subst (In e) (sym mail_then) among) (subst (λ (b : ℕ). is_site decl b ≡ true) (sym from) site) to clock is) [
+      casts : closes_in move.turn ≡ false → (e : Envelope) (to clock : ℕ) → In e (mail h ++ envelopes a (length (mail h)) turn.sends) → e.from ≡ a → e.message ≡ messages.Answer to (answers.Yes clock) → In e (mail h) ⊎ IsCast (mail h ++ envelopes a (length (mail h)) turn.sends) to (life_at (after Done) a)
+      casts stays e to clock among from is = elim (votes_later decl accepted old.net old.reached next (later_nets.more old.net next later_nets.same (later_nets.serves a x.given old.net site (s.up ∙ up) came)) e (subst (In e) (sym mail_then) among) (subst (λ (b : ℕ). is_site decl b ≡ true) (sym from) site) to clock is) [
         | inl before ↦ inl (subst (In e) old.mail_is before)
         | inr v ↦ inr (record {
           request = v.request;
@@ -147,7 +208,7 @@ module _ (decl : Declaration) (accepted : IsAccepted decl) (h : List Entry) (inp
             | inl none ↦ inl none
             | inr low ↦ inr (
                 let here : life_of (old.net.records e.from) ≡ life_of (old.net.records a) = ap (λ (b : ℕ). life_of (old.net.records b)) from in
-                let same : life_at (after Done) a ≡ life_of (old.net.records a) = records_then ∙ life_then in
+                let same : life_at (after Done) a ≡ life_of (old.net.records a) = records_then ∙ life_then stays in
                 let low_is : life_of (old.net.records e.from) ≤ v.life = low in
                 omega arith)
           ];
@@ -173,7 +234,12 @@ module _ (decl : Declaration) (accepted : IsAccepted decl) (h : List Entry) (inp
 
         by : (u : Bool) → is_up ds ≡ u → (end : Appended) → MayEnd turn.write end → In e (envelopes a (length (mail h)) (sends_as end turn)) → In p (sends_as end turn)
             → In e (mail h) ⊎ IsCast (mail h ++ envelopes a (length (mail h)) (sends_as end turn)) to (life_at (after end) a)
-        by true up Done may there sent = casts up e to clock (In-second e (mail h) (envelopes a (length (mail h)) turn.sends) there) from is
+        by true up Done may there sent = cast (closes_in (move up).turn) refl
+          where
+            cast : (t : Bool) → closes_in (move up).turn ≡ t → In e (mail h) ⊎ IsCast (mail h ++ envelopes a (length (mail h)) turn.sends) to (life_at (after Done) a)
+            cast true closes =
+                absurd (takes_none decl (old.net.sites a) (x up).given closes p (subst (λ (t : Turn). In p t.sends) (sym (turn_is up)) sent) to (clock, sym same ∙ is))
+            cast false stays = casts up stays e to clock (In-second e (mail h) (envelopes a (length (mail h)) turn.sends) there) from is
         by true up Failed may there sent = absurd (silent up p to sent (clock, sym same ∙ is))
         by true up Stopped may there sent = absurd sent
         by false down end may there sent = absurd (elim (written end down may) [

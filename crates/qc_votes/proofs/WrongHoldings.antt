@@ -12,7 +12,7 @@ use Rattle.qc_msg.specs.declared.message.Envelope.{Envelope}
 use Rattle.qc_msg.specs.declared.message.Message.TheVariants.{Answer, Request}
 use Rattle.qc_msg.specs.declared.message.Want.TheVariants.{Prepare, Read}
 use Rattle.qc_msg.specs.declared.step.Given.TheVariants.{Got}
-use Rattle.qc_promise.specs.Lifetimes.{lifetime}
+use Rattle.qc_promise.specs.SiteHeld.{last_cut}
 
 abbrev request : ℕ → Envelope
 request life = record { number = 0; from = 1; to = 0; message = Request tx 1 life Prepare }
@@ -95,7 +95,7 @@ promise_kept = record {
 
 -- grants
 
-pub granted_now : IsGrantedSince (lifetime granted).since tx (Read 0 0)
+pub granted_now : IsGrantedSince (last_cut granted).since tx (Read 0 0)
 granted_now = record {
   request = record { number = 0; from = 1; to = 0; message = Request tx 1 0 (Read 0 0) };
   epoch = 1;
@@ -108,10 +108,10 @@ granted_now = record {
   undecided = λ e stamp among is. elim among [ inl same ↦ (let never : ⊥ = cc in never) | inr never ↦ never ];
 }
 
-pub granted_before : IsGrantedSince (lifetime (fallen [])).since tx (Read 0 0) → ⊥
+pub granted_before : IsGrantedSince (last_cut (fallen [])).since tx (Read 0 0) → ⊥
 granted_before g = by g.before g.stands
   where
-    by : (before : List Deed) → (lifetime (fallen [])).since ≡ before ++ Takes (Got g.request) ∷ g.since → ⊥
+    by : (before : List Deed) → (last_cut (fallen [])).since ≡ before ++ Takes (Got g.request) ∷ g.since → ⊥
     by [] is = let never : ⊥ = cc in never
     by (x ∷ []) is = let never : ⊥ = cc in never
     by (x ∷ y ∷ before) is = let never : ⊥ = cc in never

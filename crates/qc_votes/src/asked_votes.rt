@@ -23,7 +23,7 @@ ghost use Rattle.qc_promise.specs.Accounting.{account};
 ghost use Rattle.qc_promise.specs.Kept.{Kept};
 ghost use Rattle.qc_promise.specs.SiteDue.{fits_record, promise_due};
 ghost use Rattle.qc_promise.specs.SiteHeld.{held_shown};
-ghost use Rattle.qc_promise.specs.SiteRecords.{life_shown};
+ghost use Rattle.qc_promise.specs.SiteRecords.{epoch_shown, life_shown};
 ghost use Rattle.qc_script.specs.RunsWithFalls.{RunsWithFalls};
 ghost use Rattle.qc_script.specs.Sound.{IsScriptFor};
 ghost use Rattle.qc_script.specs.declared.script.Script.{Script};
@@ -32,8 +32,9 @@ use qc_script::ConductWithFalls;
 
 /// A site that granted something to a transaction that its client runs, and that
 /// counted, holds something of it as long as the site is in the life of that
-/// grant: at each moment at which it is up and has no open input. So it doesn't
-/// refuse a Prepare that names this life for having forgotten.
+/// grant and in the transaction's epoch: at each moment at which it is up and has
+/// no open input. So it doesn't refuse a Prepare that names this life and this
+/// epoch for having forgotten.
 pub fn granted_sites_hold_through_falls<C: ConductWithFalls>()
     ensures { (decl : Declaration) (script : Script) (h : List Entry) (open_inputs : List Bool)
         → IsAccepted decl → IsScriptFor decl script
@@ -41,11 +42,13 @@ pub fn granted_sites_hold_through_falls<C: ConductWithFalls>()
         → (a : ℕ) → is_client decl a ≡ true → (t : Current) → (account decl a h).current ≡ Some t
         → (site : ℕ) → has_granted t.lives site ≡ true → slice_get open_inputs site ≡ Some false
         → is_up (deeds site [] h) ≡ true → life_of t.lives site ≡ life_shown (deeds site [] h)
+        → t.epoch ≡ epoch_shown (deeds site [] h)
         → is_held (held_shown (deeds site [] h)) t.tx ≡ true }
 {}
 
 /// So while a client waits for a site's promise, its transaction holds something at
-/// the site, as long as the site is in the life that the request names.
+/// the site, as long as the site is in the life that the request names and in the
+/// transaction's epoch.
 pub fn asked_sites_hold_through_falls<C: ConductWithFalls>()
     ensures { (decl : Declaration) (script : Script) (h : List Entry) (open_inputs : List Bool)
         → IsAccepted decl → IsScriptFor decl script
@@ -53,13 +56,14 @@ pub fn asked_sites_hold_through_falls<C: ConductWithFalls>()
         → (a : ℕ) → is_client decl a ≡ true → (t : Current) → (account decl a h).current ≡ Some t
         → (q : ClientRequest) → IsOpenVote (account decl a h) q → slice_get open_inputs q.site ≡ Some false
         → is_up (deeds q.site [] h) ≡ true → q.life ≡ life_shown (deeds q.site [] h)
+        → t.epoch ≡ epoch_shown (deeds q.site [] h)
         → is_held (held_shown (deeds q.site [] h)) t.tx ≡ true }
 {}
 
 /// A site that answers a Prepare for which its client waits says neither that it has
 /// forgotten the transaction nor that it is behind, where what it would promise, by
-/// its deeds before that input, fits a record: in another life than the request
-/// names it says so.
+/// its deeds before that input, fits a record: in a later epoch, or in another life
+/// than the request names, it says so.
 pub fn asked_sites_remember_through_falls<C: ConductWithFalls>()
     ensures stale { (decl : Declaration) (script : Script) (h : List Entry) (open_inputs : List Bool)
         → IsAccepted decl → IsScriptFor decl script

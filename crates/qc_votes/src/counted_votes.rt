@@ -26,7 +26,7 @@ ghost use Rattle.qc_promise.specs.Account.{ClientRequest, Current};
 ghost use Rattle.qc_promise.specs.Accounting.{account};
 ghost use Rattle.qc_promise.specs.Kept.{Kept};
 ghost use Rattle.qc_promise.specs.SiteDue.{fits_record, promise_due};
-ghost use Rattle.qc_promise.specs.SiteRecords.{life_shown};
+ghost use Rattle.qc_promise.specs.SiteRecords.{epoch_shown, life_shown};
 ghost use Rattle.qc_script.specs.RunsWithFalls.{RunsWithFalls};
 ghost use Rattle.qc_script.specs.Sound.{IsScriptFor};
 ghost use Rattle.qc_script.specs.declared.script.Script.{Script};
@@ -57,7 +57,8 @@ pub fn promises_of_running_transactions_fit<C: ConductWithFalls>()
 
 /// While a client waits for a site's promise, its transaction holds something at
 /// the site, and what the site would promise of it fits a record, as long as the
-/// site is in the life that the request names, and has no open input.
+/// site is in the life that the request names and in the transaction's epoch, and
+/// has no open input.
 pub fn asked_sites_have_room_through_falls<C: ConductWithFalls>()
     ensures { (decl : Declaration) (script : Script) (h : List Entry) (open_inputs : List Bool)
         → IsAccepted decl → IsScriptFor decl script
@@ -66,12 +67,14 @@ pub fn asked_sites_have_room_through_falls<C: ConductWithFalls>()
         → (a : ℕ) → is_client decl a ≡ true → (t : Current) → (account decl a h).current ≡ Some t
         → (q : ClientRequest) → IsOpenVote (account decl a h) q → slice_get open_inputs q.site ≡ Some false
         → is_up (deeds q.site [] h) ≡ true → q.life ≡ life_shown (deeds q.site [] h)
+        → t.epoch ≡ epoch_shown (deeds q.site [] h)
         → IsRemembered (deeds q.site [] h) t.tx }
 {}
 
 /// Who answers a Prepare for which its client waits says neither that it has
 /// forgotten the transaction nor that it is behind, whatever becomes of its
-/// record: a site in another life than the request names says so.
+/// record: a site in a later epoch, or in another life than the request names, says
+/// so.
 pub fn asked_sites_never_forget_through_falls<C: ConductWithFalls>()
     ensures stale { (decl : Declaration) (script : Script) (h : List Entry) (open_inputs : List Bool)
         → IsAccepted decl → IsScriptFor decl script

@@ -24,8 +24,7 @@ ghost use Rattle.qc_msg.specs.Steps.{Entry};
 ghost use Rattle.qc_onecopy.specs.Logged.{IsClosedLog};
 ghost use Rattle.qc_promise.specs.Committed.{committed};
 ghost use Rattle.qc_promise.specs.Kept.{Kept};
-ghost use Rattle.qc_promise.specs.Lifetimes.{lifetime};
-ghost use Rattle.qc_promise.specs.SiteHeld.{held_shown};
+ghost use Rattle.qc_promise.specs.SiteHeld.{held_shown, last_cut};
 ghost use Rattle.qc_script.specs.RunsWithFalls.{RunsWithFalls};
 ghost use Rattle.qc_script.specs.Sound.{IsScriptFor};
 ghost use Rattle.qc_script.specs.declared.script.Script.{Script};
@@ -33,16 +32,16 @@ ghost use Rattle.qc_stamp.specs.declared.stamp.TxId.{TxId};
 
 use qc_script::ConductWithFalls;
 
-/// The held law through falls: what a site granted in its present life to a
-/// transaction that committed, it holds from that turn on until it takes the
-/// Decision that this committed: the lock of a Read, and the own lines of an
-/// Append, whatever it had promised of the transaction before it rose.
+/// The held law through falls: what a site granted since it rose, closed an epoch or
+/// installed one to a transaction that committed, it holds from that turn on until it
+/// takes the Decision that this committed: the lock of a Read, and the own lines of an
+/// Append, whatever it had promised of the transaction before.
 pub fn granted_items_are_held_in_their_lives<C: ConductWithFalls>()
     ensures { (decl : Declaration) (script : Script) (h : List Entry) (open_inputs : List Bool)
         → IsAccepted decl → IsScriptFor decl script
         → RunsWithFalls (IsLawfulWithFalls decl) C.fits decl script h open_inputs → Kept h
         → (c : Commit) → In c (committed decl h) → (site : ℕ) (want : Want)
-        → IsGrantedSince (lifetime (deeds site [] h)).since c.tx want
+        → IsGrantedSince (last_cut (deeds site [] h)).since c.tx want
         → HasWanted (held_of (held_shown (deeds site [] h)) c.tx) want }
 {}
 

@@ -6,8 +6,9 @@
 //!
 //! # What is held and promised
 //!
-//! 1. What a site granted in its present life to a transaction that committed it
-//!    holds until it takes the Decision (`granted_items_are_held_in_their_lives`).
+//! 1. What a site granted since it last rose, closed an epoch or installed one to a
+//!    transaction that committed it holds until it takes the Decision
+//!    (`granted_items_are_held_in_their_lives`).
 //!    What it has promised it holds, in every life, till it is done
 //!    (`promised_items_are_held_through_falls`).
 //! 2. A vote is cast in the life of its site that its request names
@@ -42,7 +43,8 @@
 //!    (`dependent_operations_are_ordered_through_falls`). Sites may fall and rise
 //!    at any time: one that granted something votes for it in the life in which it
 //!    granted, or not at all. So may clients: a record that was being written as
-//!    its client fell counts from its rise on.
+//!    its client fell counts from its rise on. And epochs may change: a transaction
+//!    that is to commit has ended before the next epoch is decided.
 //! 2. There are such moments: each operation of a committed transaction had been
 //!    told as its record was written, or was being written
 //!    (`operations_of_records_were_told_through_falls`).
@@ -58,10 +60,11 @@
 //!
 //! 1. A site that granted something, which counted, to a transaction that its
 //!    client runs holds something of it, as long as it is in the life of that
-//!    grant (`granted_sites_hold_through_falls`).
+//!    grant and in the transaction's epoch (`granted_sites_hold_through_falls`).
 //! 2. So does a site whose promise a client waits for, as long as it is in the
-//!    life that the request names (`asked_sites_hold_through_falls`): where epoch
-//!    and life don't refuse the Prepare, the site holds what it granted.
+//!    life that the request names and in that epoch
+//!    (`asked_sites_hold_through_falls`): where epoch and life don't refuse the
+//!    Prepare, the site holds what it granted.
 //! 3. So it doesn't answer Stale or Behind, where what it would promise fits a
 //!    record (`asked_sites_remember_through_falls`).
 //!
@@ -70,7 +73,7 @@
 //! 1. Within twice the limit of committed operations, as a run counts them, what a site would promise
 //!    of a transaction that its client runs fits a record
 //!    (`promises_of_running_transactions_fit`). So a site whose promise a client
-//!    waits for, in the life that the request names, remembers
+//!    waits for, in the life that the request names and in the transaction's epoch, remembers
 //!    (`asked_sites_have_room_through_falls`), and answers neither Stale nor Behind
 //!    (`asked_sites_never_forget_through_falls`).
 //! 2. So no vote that counts is Stale or Behind, and nobody is told that a site

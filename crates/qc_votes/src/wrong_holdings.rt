@@ -11,8 +11,7 @@ ghost use Rattle.qc_votes.specs.WrongHoldings.{in_another_life, prepared, promis
 ghost use Rattle.qc_lock.specs.Held.{held_of};
 ghost use Rattle.qc_msg.specs.Deeds.{deeds};
 ghost use Rattle.qc_msg.specs.declared.message.Want.TheVariants.{Read};
-ghost use Rattle.qc_promise.specs.Lifetimes.{lifetime};
-ghost use Rattle.qc_promise.specs.SiteHeld.{held_shown};
+ghost use Rattle.qc_promise.specs.SiteHeld.{held_shown, last_cut};
 
 /// A site that rose doesn't vote for what it was asked for in its former life.
 /// It may vote for what names its present life, or none.
@@ -37,8 +36,8 @@ pub fn locks_of_former_lives_are_refused()
     ensures granted { HasWanted (held_of (held_shown granted) tx) (Read 0 0) }
     ensures forgotten { HasWanted (held_of (held_shown (fallen [])) tx) (Read 0 0) → ⊥ }
     ensures promised { HasWanted (held_of (held_shown (fallen (promise ∷ []))) tx) (Read 0 0) }
-    ensures present { IsGrantedSince (lifetime granted).since tx (Read 0 0) }
-    ensures former { IsGrantedSince (lifetime (fallen [])).since tx (Read 0 0) → ⊥ }
+    ensures present { IsGrantedSince (last_cut granted).since tx (Read 0 0) }
+    ensures former { IsGrantedSince (last_cut (fallen [])).since tx (Read 0 0) → ⊥ }
 {}
 
 /// A promise that isn't on the disk doesn't stand, nor does one that is done.

@@ -57,7 +57,7 @@ kept_work : (work : Caused Work) (cause : Cause) (taken : List ℕ) (h : List En
 kept_work (Err why) cause taken h left kept = tt
 kept_work (Ok (works.Accept decl)) cause taken h left kept = tt
 kept_work (Ok (works.Run decl script)) cause taken h left kept = record {
-  due = left.replies (left.first kept);
+  due = left.replies;
   atomic = left.atomic kept;
   states = printed_then cause (Kept h → AreStatesKnown decl h) (AreStatesKnown decl h)
       (λ known. known kept) left.states;

@@ -9,6 +9,8 @@
 #[cfg(test)]
 mod decisions;
 #[cfg(test)]
+mod epochs;
+#[cfg(test)]
 mod grants;
 #[cfg(test)]
 mod journals;

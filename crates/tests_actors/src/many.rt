@@ -95,7 +95,7 @@ fn check_many(
 {
     let RisenSite { mut site, turn } = rise;
     assert_eq!(rt; (turn.sends.items().len(), inquiries(&turn)), (500, 500));
-    check_state(rt, &site, (2, 1, 2_000, 500));
+    check_state(rt, &site, (2, 1, 2_000, 500))?;
     check_rows(
         rt,
         alloc,

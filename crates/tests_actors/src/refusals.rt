@@ -74,11 +74,9 @@ fn what_nobody_sends_is_put_aside(rt: HostRuntime) -> Result<(), OutOfMemory> {
             (Taken::Answer, ""),
             (Taken::Inquiry, ""),
             (Taken::Ask, ""),
-            (Taken::Close, ""),
-            (Taken::Install, ""),
             (
                 Taken::Prepare(0),
-                "write prepare 0.1.1 epoch 1 [0 0][][]; 3: 16 yes 0; else 3: 16 fault",
+                "write prepare 0.1.1 epoch 1 [0 0][][]; 3: 14 yes 0; else 3: 14 fault",
             ),
         ],
         0,

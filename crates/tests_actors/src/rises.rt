@@ -43,10 +43,15 @@ fn risen_from(
 
 /// What is read off a site: its life, its epoch, how many lines it knows, and how
 /// many transactions hold something.
-pub(crate) fn check_state(rt: &impl Abort, site: &Site, want: (u32, u8, u64, u64)) {
-    let state = (site.life(), site.epoch(), site.lines(), site.holders());
+pub(crate) fn check_state(
+    rt: &impl Abort,
+    site: &Site,
+    want: (u32, u8, u64, u64),
+) -> Result<(), OutOfMemory> {
+    let state = (site.life(), site.epoch(), site.lines()?, site.holders());
     assert_eq!(rt; site.number(), 1);
     assert_eq!(rt; state, want);
+    Ok(())
 }
 
 /// The rising turn is as wanted, and so is the site. It is given back.
@@ -59,7 +64,7 @@ fn check_rise(
 ) -> Result<Site, OutOfMemory> {
     let text = turn_text(alloc, &rise.turn)?;
     assert_eq!(rt; text.as_str(), turn);
-    check_state(rt, &rise.site, state);
+    check_state(rt, &rise.site, state)?;
     Ok(rise.site)
 }
 

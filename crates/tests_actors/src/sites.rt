@@ -6,7 +6,7 @@ ghost use Rattle.qc_decl.specs.Accepted.{IsAccepted};
 use qc_decl::{Declaration, built_in};
 use qc_entry::{Line, Log, OwnLine, Owns};
 use qc_list::OutOfMemory;
-use qc_msg::{Answer, Message, Outcome, Want};
+use qc_msg::{Answer, Message, Outcome, Turn, Want};
 use qc_site::Site;
 use qc_stamp::{Stamp, TxId};
 use std::alloc::Global;
@@ -57,9 +57,10 @@ pub(crate) enum Taken<'a> {
     Answer,
     Inquiry,
     Ask,
-    /// What only the administrator sends: a Close, an Install.
-    Close,
-    Install,
+    /// The administrator's: a Close of an epoch, and an Install of one, with its
+    /// clock and its lines, each by clock, client and event.
+    Close(u8),
+    Install(u8, u64, &'a [(u64, u8, u8)]),
 }
 
 /// The first transaction of a client.
@@ -170,7 +171,13 @@ fn message(alloc: Global, taken: Taken<'_>) -> Result<Message, OutOfMemory> {
         Taken::Append(client, view, own) => append(alloc, client, view, own),
         Taken::ReadIn(..) | Taken::PrepareIn(..) | Taken::AppendIn(..) => other_epoch(alloc, taken),
         Taken::Committed(..) | Taken::Aborted(_) | Taken::Active(_) => Ok(verdict(taken)),
-        _ => unasked(alloc, taken),
+        Taken::Close(epoch) => Ok(Message::Close { epoch }),
+        Taken::Install(epoch, clock, lines) => Ok(Message::Install {
+            epoch,
+            clock,
+            log: log(alloc, lines)?,
+        }),
+        _ => Ok(unasked(taken)),
     }
 }
 
@@ -203,29 +210,18 @@ fn verdict(taken: Taken<'_>) -> Message {
 }
 
 /// What nobody sends a site.
-fn unasked(alloc: Global, taken: Taken<'_>) -> Result<Message, OutOfMemory> {
+fn unasked(taken: Taken<'_>) -> Message {
     match taken {
-        Taken::Answer => Ok(Message::Answer {
+        Taken::Answer => Message::Answer {
             to: 0,
             answer: Answer::Stale,
-        }),
-        Taken::Inquiry => Ok(Message::Inquiry { tx: tx(0) }),
-        Taken::Ask => Ok(Message::Ask { tx: tx(0) }),
-        Taken::Install => install(alloc),
-        _ => Ok(Message::Close { epoch: 2 }),
+        },
+        Taken::Inquiry => Message::Inquiry { tx: tx(0) },
+        _ => Message::Ask { tx: tx(0) },
     }
 }
 
-fn install(alloc: Global) -> Result<Message, OutOfMemory> {
-    Ok(Message::Install {
-        epoch: 2,
-        clock: 9,
-        log: Log::new(alloc)?,
-    })
-}
-
-/// Who sends it: the client, the actor 3 for client 0; of what nobody sends, the
-/// administrator.
+/// Who sends it: the client, the actor 3 for client 0; or else the administrator.
 fn sender(taken: Taken<'_>) -> u8 {
     match taken {
         Taken::Read(client, _)
@@ -250,8 +246,25 @@ pub(crate) fn three(rt: &impl Abort, alloc: Global) -> Result<Declaration, OutOf
     }
 }
 
+/// A site whose life isn't the last takes a message of this sender and number.
+fn taken_by(
+    rt: &impl Abort,
+    alloc: Global,
+    decl: &Declaration,
+    site: &mut Site,
+    envelope: (u8, u32),
+    message: &Message,
+) -> Result<Turn, OutOfMemory>
+    requires { IsAccepted decl.now }
+{
+    let life = site.life();
+    assert!(rt; life < u32::MAX);
+    site.handle(alloc, decl, envelope.0, envelope.1, message)
+}
+
 /// What a site does for what it takes, as a text.
 fn answer(
+    rt: &impl Abort,
     alloc: Global,
     decl: &Declaration,
     site: &mut Site,
@@ -261,7 +274,7 @@ fn answer(
     requires { IsAccepted decl.now }
 {
     let message = message(alloc, taken)?;
-    let turn = site.handle(alloc, decl, sender(taken), number, &message)?;
+    let turn = taken_by(rt, alloc, decl, site, (sender(taken), number), &message)?;
     turn_text(alloc, &turn)
 }
 
@@ -276,7 +289,7 @@ fn check_row(
 ) -> Result<(), OutOfMemory>
     requires { IsAccepted decl.now }
 {
-    let text = answer(alloc, decl, site, number, row.0)?;
+    let text = answer(rt, alloc, decl, site, number, row.0)?;
     assert_eq!(rt; text.as_str(), row.1, "at message {number}");
     Ok(())
 }
@@ -315,7 +328,7 @@ fn site_after(
 }
 
 /// A new site of `@three` does what the rows say.
-fn new_site_after(
+pub(crate) fn new_site_after(
     rt: &impl Abort,
     alloc: Global,
     rows: &[(Taken<'_>, &str)],
@@ -335,14 +348,14 @@ pub(crate) fn check_site(
     holders: u64,
 ) -> Result<(), OutOfMemory> {
     let site = new_site_after(rt, alloc, rows)?;
-    check_counts(rt, &site, lines, holders);
-    Ok(())
+    check_counts(rt, &site, lines, holders)
 }
 
 /// What is read off a site.
-fn check_counts(rt: &impl Abort, site: &Site, lines: u64, holders: u64) {
+fn check_counts(rt: &impl Abort, site: &Site, lines: u64, holders: u64) -> Result<(), OutOfMemory> {
     assert_eq!(rt; (site.number(), site.life(), site.epoch()), (1, 1, 1));
-    assert_eq!(rt; (site.lines(), site.holders()), (lines, holders));
+    assert_eq!(rt; (site.lines()?, site.holders()), (lines, holders));
+    Ok(())
 }
 
 /// A new site is asked for a promise of a transaction that holds so many locks
@@ -354,26 +367,32 @@ pub(crate) fn check_prepare(
     is_promised: bool,
 ) -> Result<(), OutOfMemory> {
     let decl = three(rt, alloc)?;
-    let is_stale = is_stale(alloc, &decl, counts)?;
+    let is_stale = is_stale(rt, alloc, &decl, counts)?;
     assert_eq!(rt; is_stale, !is_promised, "at {counts:?}");
     Ok(())
 }
 
 /// Whether a promise is refused that would have so many locks, own lines and
 /// lines.
-fn is_stale(alloc: Global, decl: &Declaration, counts: (u8, u8, u64)) -> Result<bool, OutOfMemory>
+fn is_stale(
+    rt: &impl Abort,
+    alloc: Global,
+    decl: &Declaration,
+    counts: (u8, u8, u64),
+) -> Result<bool, OutOfMemory>
     requires { IsAccepted decl.now }
 {
     let (locks, owns, lines) = counts;
     let mut site = Site::new(alloc, 1)?;
-    read_many(alloc, decl, &mut site, locks)?;
-    append_many(alloc, decl, &mut site, owns, lines)?;
-    let answer = answer(alloc, decl, &mut site, 11, Taken::Prepare(0))?;
+    read_many(rt, alloc, decl, &mut site, locks)?;
+    append_many(rt, alloc, decl, &mut site, owns, lines)?;
+    let answer = answer(rt, alloc, decl, &mut site, 11, Taken::Prepare(0))?;
     Ok(answer.as_str() == "3: 11 stale")
 }
 
 /// The site takes so many Reads of x.
 fn read_many(
+    rt: &impl Abort,
     alloc: Global,
     decl: &Declaration,
     site: &mut Site,
@@ -382,13 +401,14 @@ fn read_many(
     requires { IsAccepted decl.now }
 {
     for inv in 0..locks {
-        let _granted = answer(alloc, decl, site, 10, Taken::Read(0, inv))?;
+        let _granted = answer(rt, alloc, decl, site, 10, Taken::Read(0, inv))?;
     }
     Ok(())
 }
 
 /// The site takes an Append to x with so many own lines and so many lines.
 fn append_many(
+    rt: &impl Abort,
     alloc: Global,
     decl: &Declaration,
     site: &mut Site,
@@ -399,7 +419,7 @@ fn append_many(
 {
     let own = many_owns(alloc, owns)?;
     let append = append_in(0, 1, many_lines(alloc, lines)?, own)?;
-    let _granted = site.handle(alloc, decl, 3, 10, &append)?;
+    let _granted = taken_by(rt, alloc, decl, site, (3, 10), &append)?;
     Ok(())
 }
 

@@ -1,5 +1,4 @@
-use Rattle.std.proofs.Common.{◌∷◌, [], ◌∙◌, ap}
-use Rattle.qc_entry.proofs.Union.{union-nil}
+use Rattle.std.proofs.Common.{◌∷◌, [], ap}
 use Rattle.qc_msg.specs.declared.record.Record.TheVariants as records
 use Rattle.qc_site.specs.Site.{SiteState}
 use Rattle.qc_recover.proofs.SiteLaws.{site_more}
@@ -8,4 +7,3 @@ use Rattle.qc_recover.proofs.laws.installs_begin_anew.Goals as goal
 pub returns-clause-late : goal.returns-clause-late
 returns-clause-late c = λ number rs epoch clock done lines tx.
     ap (λ (s : SiteState). s.log) (site_more number rs (records.Install epoch clock lines ∷ records.Done tx done ∷ []))
-    ∙ union-nil lines

@@ -1,4 +1,4 @@
-use Rattle.qc_recover.proofs.Asked.{In_order_is, order_ascends}
+use Rattle.qc_site.proofs.InOrder.{In_order_is, order_ascends}
 use Rattle.qc_recover.proofs.laws.promises_are_asked_about_in_order.Goals as goal
 
 pub returns-clause-order : goal.returns-clause-order

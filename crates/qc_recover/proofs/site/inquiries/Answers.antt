@@ -5,7 +5,8 @@ use Rattle.qc_msg.specs.declared.message.Message.TheVariants as messages
 use Rattle.qc_msg.specs.declared.turn.Posting.{Posting}
 use Rattle.qc_stamp.specs.declared.stamp.TxId.{TxId}
 use Rattle.qc_recover.specs.Sites.{inquiry, most_inquiries}
-use Rattle.qc_recover.proofs.Asked.{asked_more, each_key, keys_in_order}
+use Rattle.qc_site.proofs.InOrder.{each_key, keys_in_order}
+use Rattle.qc_recover.proofs.Asked.{asked_more}
 use Rattle.qc_recover.proofs.site.inquiries.Goals as goal
 
 pub transactions-init : goal.transactions-init

@@ -8,8 +8,6 @@ returns c = record {
   answer = λ decl s from number to answer. refl;
   inquiry = λ decl s from number tx. refl;
   ask = λ decl s from number tx. refl;
-  close = λ decl s from number epoch. refl;
-  install = λ decl s from number epoch clock log. refl;
   command = λ decl s command. refl;
   lost = λ decl s number. refl;
 }

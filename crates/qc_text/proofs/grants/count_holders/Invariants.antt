@@ -3,9 +3,11 @@ use Rattle.std.specs.Prelude.{fold}
 use Rattle.qc_stamp.specs.declared.stamp.TxId.{TxId}
 use Rattle.qc_text.specs.Deeds.{deed_of}
 use Rattle.qc_text.specs.Holders.{IsSetOf, holders_from, holders_with}
+use Rattle.qc_text.specs.Promises.{promised_at}
 use Rattle.qc_text.proofs.grants.count_holders.Given as goal
 
 abbrev pub invariant-deeds : goal.invariant-deeds
 invariant-deeds l =
     (txs : List TxId) × IsSetOf txs l.holders
-    × (holders_from txs (map deed_of (drop l.place l.current.since.now)) ≡ holders_from (fold holders_with [] l.current.kept.now) (map deed_of l.current.since.now))
+    × (holders_from txs (map deed_of (drop l.place l.holding.since.now))
+    ≡ holders_from (fold promised_at (fold holders_with [] l.current.kept.now) (map deed_of l.holding.before.now)) (map deed_of l.holding.since.now))

@@ -25,3 +25,11 @@ returns-clause-rose c = refl
 pub returns-clause-fell_again : goal.returns-clause-fell_again
 unfolding digits
 returns-clause-fell_again c = refl
+
+pub returns-clause-closed : goal.returns-clause-closed
+unfolding digits
+returns-clause-closed c = λ tx lock. refl
+
+pub returns-clause-installed : goal.returns-clause-installed
+unfolding digits
+returns-clause-installed c = λ tx lock line. refl

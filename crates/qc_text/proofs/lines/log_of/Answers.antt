@@ -1,6 +1,5 @@
-use Rattle.std.proofs.Common.{[], List, ap, ◌∙◌, map}
-use Rattle.qc_entry.specs.declared.line.Line.{Line}
-use Rattle.qc_promise.specs.SiteLogs.{log_from, recorded_from}
+use Rattle.std.proofs.Common.{[], ap, ◌∙◌, map}
+use Rattle.qc_promise.specs.SiteLogs.{Lines, lines_from, recorded_from}
 use Rattle.qc_text.specs.Deeds.{deed_of}
 use Rattle.qc_text.proofs.lines.log_of.Goals as goal
 
@@ -9,6 +8,6 @@ deeds-init c =
     let life = c.args.current.now in (
       life.kept.now,
       c.in_ok-give_all.ensures.last,
-      ap (λ (lines : List Line). log_from lines life.kept.now (map deed_of life.since.now))
-          (c.in_ok-give_all.ensures.given ∙ ap (λ (lines : List Line). recorded_from lines [] life.kept.now) c.in_ok-log.ensures),
+      ap (λ (lines : Lines). lines_from lines life.kept.now (map deed_of life.since.now))
+          (c.in_ok-give_all.ensures.given ∙ ap (λ (lines : Lines). recorded_from lines [] life.kept.now) c.in_ok-known.ensures),
     )

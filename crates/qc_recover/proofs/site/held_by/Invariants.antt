@@ -1,9 +1,0 @@
-use Rattle.std.proofs.Common.{◌≡◌, fold}
-use Rattle.qc_recover.specs.Sites.{held_by, holds}
-use Rattle.qc_recover.proofs.site.held_by.Given as goal
-
-abbrev pub invariant-promises : goal.invariant-promises
-invariant-promises l =
-    (goal.iterator-promises).can_next l.promise-iterator ×
-    (goal.iterator-promises).is_finite l.promise-iterator ×
-    (fold holds l.held l.promise-iterator ≡ held_by l.promises)

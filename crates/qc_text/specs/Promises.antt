@@ -1,0 +1,33 @@
+-- The transactions whose promises stand at a site and name something, one deed after another.
+use Rattle.std.specs.Prelude.{if◌then◌else◌, List}
+use Rattle.qc_stamp.specs.declared.stamp.TxId.{TxId}
+use Rattle.qc_msg.specs.declared.message.Message.{Message}
+use Rattle.qc_msg.specs.declared.message.Message.TheVariants as messages
+use Rattle.qc_msg.specs.declared.step.Given.{Given}
+use Rattle.qc_msg.specs.declared.step.Given.TheVariants as given
+use Rattle.qc_msg.specs.Deeds.{Deed, Takes, Writes, Sends, Tells, Falls, Rises}
+use Rattle.qc_promise.specs.SiteEnds.{is_aborted}
+use Rattle.qc_text.specs.Holders.{holders_with, without_holder}
+
+-- after a message: one that is aborted isn't promised any more
+abbrev pub promised_by : List TxId → Message → List TxId
+promised_by txs (messages.Request tx epoch life want) = txs
+promised_by txs (messages.Answer to answer) = txs
+promised_by txs (messages.Decision tx verdict) = if is_aborted verdict then without_holder txs tx else txs
+promised_by txs (messages.Inquiry tx) = txs
+promised_by txs (messages.Ask tx) = txs
+promised_by txs (messages.Close epoch) = txs
+promised_by txs (messages.Install epoch clock log) = txs
+
+abbrev pub promised_given : List TxId → Given → List TxId
+promised_given txs (given.Called command) = txs
+promised_given txs (given.Got envelope) = promised_by txs envelope.message
+promised_given txs (given.Lost number) = txs
+
+abbrev pub promised_at : List TxId → Deed → List TxId
+promised_at txs (Takes given) = promised_given txs given
+promised_at txs (Writes written) = holders_with txs written
+promised_at txs (Sends number to message) = txs
+promised_at txs (Tells reply) = txs
+promised_at txs (Falls cause pending) = txs
+promised_at txs (Rises records) = txs

@@ -1,0 +1,19 @@
+-- None of these is due: the administrator sends what nothing calls for.
+use Rattle.std.proofs.Common.{◌≡◌, Bool, true, false, []}
+use Rattle.qc_decl.specs.Actors.{administrator}
+use Rattle.qc_msg.specs.Deeds.{deeds}
+use Rattle.tests_epochs.specs.Declarations.{three_epochs}
+use Rattle.tests_epochs.specs.Whole.{IsAdminDueIn}
+use Rattle.tests_epochs.proofs.Places.{admin_due_at}
+use Rattle.tests_epochs.specs.WrongSends as wrong_sends
+
+uncalled_differs : ◌≡◌ {A = Bool} false true → ⊥
+uncalled_differs e = let never : ⊥ = cc in never
+
+pub another_log_refused : IsAdminDueIn three_epochs wrong_sends.another_log → ⊥
+another_log_refused all =
+    uncalled_differs (admin_due_at 6 three_epochs (deeds (administrator three_epochs) [] wrong_sends.another_log) all)
+
+pub not_decided_refused : IsAdminDueIn three_epochs wrong_sends.not_decided → ⊥
+not_decided_refused all =
+    uncalled_differs (admin_due_at 12 three_epochs (deeds (administrator three_epochs) [] wrong_sends.not_decided) all)

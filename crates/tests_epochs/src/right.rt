@@ -1,0 +1,106 @@
+//! Right histories with falls and epochs, in which all is due.
+
+ghost use Rattle.tests_epochs.specs.Whole.{AllDue};
+ghost use Rattle.tests_epochs.specs.MovedOnce as moved_once;
+ghost use Rattle.tests_epochs.specs.StampsPassReads as stamps_pass_reads;
+ghost use Rattle.tests_epochs.specs.AskLost as ask_lost;
+ghost use Rattle.tests_epochs.specs.InstallsLate as installs_late;
+ghost use Rattle.tests_epochs.specs.TooFewClose as too_few_close;
+ghost use Rattle.tests_epochs.specs.SeveralPromises as several_promises;
+ghost use Rattle.tests_epochs.specs.DoubtOfSecond as doubt_of_second;
+ghost use Rattle.tests_epochs.specs.EachEntryMerged as each_entry_merged;
+ghost use Rattle.tests_epochs.specs.OneUnheard as one_unheard;
+ghost use Rattle.tests_epochs.specs.DoubtfulCommit as doubtful_commit;
+ghost use Rattle.tests_epochs.specs.DecideStops as decide_stops;
+ghost use Rattle.tests_epochs.specs.ClosedRises as closed_rises;
+ghost use Rattle.tests_epochs.specs.ShutRises as shut_rises;
+ghost use Rattle.tests_epochs.specs.ToldPromiseStays as told_promise_stays;
+ghost use Rattle.tests_epochs.specs.InstalledAgain as installed_again;
+ghost use Rattle.tests_epochs.specs.LastDecision as last_decision;
+ghost use Rattle.tests_epochs.specs.AdministratorDown as administrator_down;
+ghost use Rattle.tests_epochs.specs.AskedWhileActive as asked_while_active;
+ghost use Rattle.tests_epochs.specs.Random1 as random1;
+ghost use Rattle.tests_epochs.specs.Random2 as random2;
+ghost use Rattle.tests_epochs.specs.Random3 as random3;
+ghost use Rattle.tests_epochs.specs.Random4 as random4;
+ghost use Rattle.tests_epochs.specs.Random5 as random5;
+ghost use Rattle.tests_epochs.specs.Random6 as random6;
+ghost use Rattle.tests_epochs.specs.Random7 as random7;
+ghost use Rattle.tests_epochs.specs.Random8 as random8;
+ghost use Rattle.tests_epochs.specs.Random9 as random9;
+ghost use Rattle.tests_epochs.specs.Random10 as random10;
+ghost use Rattle.tests_epochs.specs.Random11 as random11;
+ghost use Rattle.tests_epochs.specs.Random12 as random12;
+ghost use Rattle.tests_epochs.specs.Random13 as random13;
+ghost use Rattle.tests_epochs.specs.Random14 as random14;
+ghost use Rattle.tests_epochs.specs.Random15 as random15;
+ghost use Rattle.tests_epochs.specs.Random16 as random16;
+ghost use Rattle.tests_epochs.specs.Random17 as random17;
+ghost use Rattle.tests_epochs.specs.Random18 as random18;
+ghost use Rattle.tests_epochs.specs.Random19 as random19;
+ghost use Rattle.tests_epochs.specs.Random20 as random20;
+ghost use Rattle.tests_epochs.specs.Random21 as random21;
+ghost use Rattle.tests_epochs.specs.Random22 as random22;
+ghost use Rattle.tests_epochs.specs.Random23 as random23;
+ghost use Rattle.tests_epochs.specs.Random24 as random24;
+ghost use Rattle.tests_epochs.specs.Random25 as random25;
+ghost use Rattle.tests_epochs.specs.Declarations.{three_epochs, two_objects};
+
+/// All is due in the worked histories.
+pub fn all_is_due_in_worked_histories()
+    ensures moved_once { AllDue three_epochs moved_once.history }
+    ensures stamps_pass_reads { AllDue three_epochs stamps_pass_reads.history }
+    ensures ask_lost { AllDue three_epochs ask_lost.history }
+    ensures installs_late { AllDue three_epochs installs_late.history }
+    ensures too_few_close { AllDue three_epochs too_few_close.history }
+    ensures several_promises { AllDue three_epochs several_promises.history }
+    ensures doubt_of_second { AllDue three_epochs doubt_of_second.history }
+    ensures each_entry_merged { AllDue two_objects each_entry_merged.history }
+    ensures one_unheard { AllDue three_epochs one_unheard.history }
+    ensures doubtful_commit { AllDue three_epochs doubtful_commit.history }
+    ensures decide_stops { AllDue three_epochs decide_stops.history }
+    ensures closed_rises { AllDue three_epochs closed_rises.history }
+    ensures shut_rises { AllDue three_epochs shut_rises.history }
+    ensures told_promise_stays { AllDue three_epochs told_promise_stays.history }
+    ensures installed_again { AllDue three_epochs installed_again.history }
+    ensures last_decision { AllDue three_epochs last_decision.history }
+    ensures administrator_down { AllDue three_epochs administrator_down.history }
+    ensures asked_while_active { AllDue three_epochs asked_while_active.history }
+{}
+
+/// All is due in the random histories 1 to 10.
+pub fn all_is_due_in_1_to_10()
+    ensures random1 { AllDue random1.decl random1.history }
+    ensures random2 { AllDue random2.decl random2.history }
+    ensures random3 { AllDue random3.decl random3.history }
+    ensures random4 { AllDue random4.decl random4.history }
+    ensures random5 { AllDue random5.decl random5.history }
+    ensures random6 { AllDue random6.decl random6.history }
+    ensures random7 { AllDue random7.decl random7.history }
+    ensures random8 { AllDue random8.decl random8.history }
+    ensures random9 { AllDue random9.decl random9.history }
+    ensures random10 { AllDue random10.decl random10.history }
+{}
+
+/// All is due in the random histories 11 to 20.
+pub fn all_is_due_in_11_to_20()
+    ensures random11 { AllDue random11.decl random11.history }
+    ensures random12 { AllDue random12.decl random12.history }
+    ensures random13 { AllDue random13.decl random13.history }
+    ensures random14 { AllDue random14.decl random14.history }
+    ensures random15 { AllDue random15.decl random15.history }
+    ensures random16 { AllDue random16.decl random16.history }
+    ensures random17 { AllDue random17.decl random17.history }
+    ensures random18 { AllDue random18.decl random18.history }
+    ensures random19 { AllDue random19.decl random19.history }
+    ensures random20 { AllDue random20.decl random20.history }
+{}
+
+/// All is due in the random histories 21 to 25.
+pub fn all_is_due_in_21_to_25()
+    ensures random21 { AllDue random21.decl random21.history }
+    ensures random22 { AllDue random22.decl random22.history }
+    ensures random23 { AllDue random23.decl random23.history }
+    ensures random24 { AllDue random24.decl random24.history }
+    ensures random25 { AllDue random25.decl random25.history }
+{}

@@ -1,0 +1,35 @@
+//! Wrong histories of sites, each refused.
+
+ghost use Rattle.tests_epochs.specs.Whole.{IsSiteDueIn};
+ghost use Rattle.tests_epochs.specs.WrongShuts as wrong_shuts;
+ghost use Rattle.tests_epochs.specs.WrongGrants as wrong_grants;
+ghost use Rattle.tests_epochs.specs.WrongRisenSites as wrong_risen_sites;
+ghost use Rattle.tests_epochs.specs.Declarations.{three_epochs};
+
+/// These aren't due: sites that close and install epochs.
+pub fn wrong_shuts_are_refused()
+    ensures promises_by_their_coming { IsSiteDueIn three_epochs 0 wrong_shuts.promises_by_their_coming → ⊥ }
+    ensures a_promise_left_out { IsSiteDueIn three_epochs 0 wrong_shuts.a_promise_left_out → ⊥ }
+    ensures shut_without_a_record { IsSiteDueIn three_epochs 0 wrong_shuts.shut_without_a_record → ⊥ }
+    ensures installed_without_a_record { IsSiteDueIn three_epochs 0 wrong_shuts.installed_without_a_record → ⊥ }
+    ensures installed_without_a_line { IsSiteDueIn three_epochs 0 wrong_shuts.installed_without_a_line → ⊥ }
+{}
+
+/// These aren't due: sites that grant what the next epoch doesn't let them.
+pub fn wrong_grants_are_refused()
+    ensures granted_in_a_closed_epoch { IsSiteDueIn three_epochs 1 wrong_grants.granted_in_a_closed_epoch → ⊥ }
+    ensures granted_without_installed_lines { IsSiteDueIn three_epochs 1 wrong_grants.granted_without_installed_lines
+        → ⊥ }
+    ensures granted_below_installed_clock { IsSiteDueIn three_epochs 1 wrong_grants.granted_below_installed_clock → ⊥ }
+    ensures granted_in_the_first_life { IsSiteDueIn three_epochs 1 wrong_grants.granted_in_the_first_life → ⊥ }
+{}
+
+/// These aren't due: sites that rise closed, or in an installed epoch.
+pub fn wrong_risen_sites_are_refused()
+    ensures a_closed_site_grants { IsSiteDueIn three_epochs 0 wrong_risen_sites.a_closed_site_grants → ⊥ }
+    ensures a_told_promise_forgotten { IsSiteDueIn three_epochs 0 wrong_risen_sites.a_told_promise_forgotten → ⊥ }
+    ensures a_promise_unasked { IsSiteDueIn three_epochs 0 wrong_risen_sites.a_promise_unasked → ⊥ }
+    ensures closed_again { IsSiteDueIn three_epochs 0 wrong_risen_sites.closed_again → ⊥ }
+    ensures an_epoch_forgotten { IsSiteDueIn three_epochs 1 wrong_risen_sites.an_epoch_forgotten → ⊥ }
+    ensures installed_lines_forgotten { IsSiteDueIn three_epochs 1 wrong_risen_sites.installed_lines_forgotten → ⊥ }
+{}
