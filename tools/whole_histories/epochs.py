@@ -25,7 +25,7 @@ from choosing import chosen_of
 from editing import Edited
 from epoch_scripts import DECLARATIONS, SCHEDULED, WORKED
 from falls import told_falls
-from modules import COLUMNS, IMPORTS, broken, entries, headed, words_of
+from modules import COLUMNS, IMPORTS, broken, entries, entries_after, headed, words_of
 from refusing_epochs import admin_lemma, lemma_module, site_lemma, turns_lemma
 from runs import low
 from spelling import declaration, kind
@@ -167,10 +167,24 @@ def make_all_right(worked, picked):
 
 # Wrong histories.
 
-def make_file(file, says, cases, source):
+def common_steps(history, other):
+    """How many of their first steps are the same."""
+    return next((k for k, (x, y) in enumerate(zip(history, other)) if x != y), min(len(history), len(other)))
+
+
+def wrong_module(says, cases, worked):
+    """Each wrong history is written from where it leaves the worked one that it follows longest."""
+    body, stories = "", {}
+    for name, wrong_is, history, *_ in cases:
+        first, story = max(((common_steps(history, right), n) for n, _, _, right in worked), key=lambda found: found[0])
+        stories[story] = "use Rattle.tests_epochs.specs.%s as %s\n" % (story, low(story))
+        body += "\n-- %s\n%s" % (wrong_is, entries_after(name, low(story), first, history))
+    return headed("Wrong histories: " + says, body.lstrip("\n"), WORDS, "".join(stories.values()))
+
+
+def make_file(file, says, cases, source, worked):
     """The wrong histories of a file: (name, what is wrong, history, lemma, statement)."""
-    body = "".join("\n-- %s\n%s" % (case[1], entries(case[0], case[2])) for case in cases)
-    write("specs/%s.antt" % file, headed("Wrong histories: " + says, body.lstrip("\n"), WORDS))
+    write("specs/%s.antt" % file, wrong_module(says, cases, worked))
     write("proofs/%s.antt" % file, lemma_module(
         "None of these is due: " + says, "".join(case[3] for case in cases), file, low(file)))
     function = low(file) + "_are_refused"
@@ -178,7 +192,7 @@ def make_file(file, says, cases, source):
     return law("These aren't due: " + says, function, [(case[0], case[4]) for case in cases])
 
 
-def make_wrong(run, kinds, source, head, word):
+def make_wrong(run, kinds, source, head, word, worked):
     laws = ""
     for file, says, cases in kinds:
         made = []
@@ -204,7 +218,7 @@ def make_wrong(run, kinds, source, head, word):
                 text = site_lemma(said, name, site, right, wrong, part)
                 statement = "IsSiteDueIn three_epochs %d %s → ⊥" % (site, said)
             made.append((name, wrong_is, wrong, text, statement))
-        laws += make_file(file, says, made, source)
+        laws += make_file(file, says, made, source, worked)
     paths = ["Rattle.tests_epochs.specs.Whole.{%s}" % word] + [
         "Rattle.tests_epochs.specs.%s as %s" % (file, low(file)) for file, _, _ in kinds]
     write("src/%s.rt" % source, "//! %s\n\n%s%s" % (head, uses(paths, laws, "ghost "), laws))
@@ -242,9 +256,9 @@ def main(words):
     parts = step, msg, record, reply
     admin = wrong_epochs.cases(*parts) + wrong_calls.cases(step, msg, reply)
     wrong = make_wrong(run, admin, "wrong", "Wrong histories of the administrator, each refused.",
-                       "AreAdminTurns, IsAdminDueIn")
+                       "AreAdminTurns, IsAdminDueIn", worked)
     wrong += make_wrong(run, wrong_epoch_sites.cases(*parts), "wrong_sites", "Wrong histories of sites, each refused.",
-                        "IsSiteDueIn")
+                        "IsSiteDueIn", worked)
     for feature, count in sorted((seen + more).items()):
         print("%4d  %s" % (count, feature))
     for folder, known in (("specs", ["Words", "Declarations", "Whole"] + specs),

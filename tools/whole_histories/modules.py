@@ -55,7 +55,7 @@ def broken(item):
 
 
 IMPORTS = (
-    ("Rattle.std.specs.Prelude", ("List", "[]", "◌∷◌", "Some", "None")),
+    ("Rattle.std.specs.Prelude", ("List", "[]", "◌∷◌", "◌++◌", "take", "Some", "None")),
     ("Rattle.qc_decl.specs.declared.declaration.Declaration", ("Declaration",)),
     ("Rattle.qc_decl.specs.One", ("three", "row")),
     ("Rattle.qc_msg.specs.Steps", ("Entry", "marked")),
@@ -107,20 +107,29 @@ def module(head, decl, history, schedule=None, imports=IMPORTS):
     return headed(head, body + entries("history", history), imports)
 
 
+def marked(history):
+    return ["marked %d %s" % (actor, step(x)) for actor, x in history]
+
+
 def entries(name, history):
     """A history as a definition."""
-    items = ["marked %d %s" % (actor, step(x)) for actor, x in history]
-    return "abbrev pub %s : List Entry\n%s =\n%s\n" % (name, name, filled(items, "[]"))
+    return "abbrev pub %s : List Entry\n%s =\n%s\n" % (name, name, filled(marked(history), "[]"))
 
 
-def headed(head, body, imports):
-    """A module: its head comment, the names that its body uses, the body."""
+def entries_after(name, story, first, history):
+    """A history as a definition: its first entries are those of a story, a module with a history."""
+    return "abbrev pub %s : List Entry\n%s =\n    take %d %s.history ++\n%s\n" % (
+        name, name, first, story, filled(marked(history[first:]), "[]"))
+
+
+def headed(head, body, imports, stories=""):
+    """A module: its head comment, the names that its body uses, lines that bring stories, the body."""
     used = words_of("\n".join(text for text in body.split("\n") if not text.startswith("--")))
     out = "".join("-- %s\n" % text for text in textwrap.wrap(head, COLUMNS - 3))
     for where, names in imports:
-        names = [n for n in names if n in used or n == "◌∷◌"]
+        names = [n for n in names if n.strip("◌") in used or n == "◌∷◌"]
         out += imported(where, names)
-    return out + variants(used) + "\n" + body
+    return out + variants(used) + stories + "\n" + body
 
 
 def told(decl, history):

@@ -139,6 +139,10 @@ def command_open(mine, other, place, due):
     return ("Option Command", term("Some", spelled_command(mine[0].command)), "None"), "(%s).2"
 
 
+def never_called_for(mine, other, place, due):
+    return ("Bool", "false", "true"), "%s"
+
+
 def record_due(record, due):
     if due is None or kind(due) != "Wrote":
         return ("Option Installing", "None", decided(record)), "(%s).0"
@@ -168,6 +172,7 @@ def what_is_due(mine, other, place, due):
 PARTS = {
     "due": what_is_due, "last": last_reply, "before": written_before, "pending": pending_behind,
     "posted": posted_at_rise, "untold": reply_untold, "unwritten": decision_unwritten, "busy": command_open,
+    "uncalled": never_called_for,
 }
 
 

@@ -2,13 +2,15 @@
 the last step that counts, or that of the deed that isn't due with the last one; what stands behind that goes.
 """
 
+import dataclasses
+
 import wrong_admin_falls
-from epoch_scripts import ASK_LOST, DOUBT, EACH, FEW, MOVED_ONCE, SEVERAL, STAMPS, UNHEARD, WRITES
+from epoch_scripts import ASK_LOST, DOUBT, EACH, FEW, MOVED_ONCE, SEVERAL, STAMPS, STOPPED, UNHEARD, WRITES
 from spelling import kind
 from wrong_admin_falls import ADMIN, ALL, DUE
 
 TWICE = WRITES + "phase|admin epoch 2|phase|admin epoch 2"
-UNTOLD, UNWRITTEN, BUSY = "untold", "unwritten", "busy"
+UNTOLD, UNWRITTEN, BUSY, UNCALLED = "untold", "unwritten", "busy", "uncalled"
 
 
 def cases(step, msg, record, reply):
@@ -103,6 +105,16 @@ def cases(step, msg, record, reply):
         h.put(k + 1, ADMIN, step.Called(step.Epoch(2)))
         return k + 1
 
+    def another_log_sent(h):
+        k = h.sent("Install")
+        h.change_message(k, log=())
+        return k
+
+    def installed_undecided(h):
+        k = h.sent("Close", 3)
+        h.put(k + 1, ADMIN, dataclasses.replace(h.step(h.sent("Install", 2)), number=100))
+        return k + 1
+
     def third_close(h):
         return h.sent("Close", 2)
 
@@ -166,11 +178,18 @@ def cases(step, msg, record, reply):
         ("another_log_installed", "The sites are sent other lines than the decision has.", "three_epochs", MOVED_ONCE,
          another_log, DUE),
     )
+    sends = (
+        ("another_log", "An Install of another log than the one that he decided.", "three_epochs", MOVED_ONCE,
+         another_log_sent, UNCALLED),
+        ("not_decided", "An Install of what was being decided as he fell, before it is decided.", "three_epochs",
+         STOPPED, installed_undecided, UNCALLED),
+    )
     falls, rises = wrong_admin_falls.through_falls(step, reply)
     return (
         ("WrongMoves", "the administrator tells what he moved, or refuses, otherwise than he did.", moves),
         ("WrongDoubts", "doubts of the administrator, and a decision in doubt.", doubts),
         ("WrongRounds", "what the administrator makes of the sites that closed.", rounds),
+        ("WrongSends", "the administrator sends what nothing calls for.", sends),
         ("WrongInputs", "what the administrator takes while something else is due.", inputs),
         ("WrongDecisions", "decisions of the administrator with another clock or other lines.", decisions),
         ("WrongFalls", "decisions of the administrator as his disk fails, and of one who rose.", falls),

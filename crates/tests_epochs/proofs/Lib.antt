@@ -8,6 +8,7 @@ pub mod Random21To25
 pub mod WrongMoves
 pub mod WrongDoubts
 pub mod WrongRounds
+pub mod WrongSends
 pub mod WrongInputs
 pub mod WrongDecisions
 pub mod WrongFalls
@@ -19,4 +20,3 @@ pub mod WrongInstalls
 pub mod WrongShuts
 pub mod WrongGrants
 pub mod WrongRisenSites
-pub mod WrongSends

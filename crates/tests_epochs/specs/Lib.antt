@@ -47,6 +47,7 @@ pub mod Random25
 pub mod WrongMoves
 pub mod WrongDoubts
 pub mod WrongRounds
+pub mod WrongSends
 pub mod WrongInputs
 pub mod WrongDecisions
 pub mod WrongFalls
@@ -58,4 +59,3 @@ pub mod WrongInstalls
 pub mod WrongShuts
 pub mod WrongGrants
 pub mod WrongRisenSites
-pub mod WrongSends

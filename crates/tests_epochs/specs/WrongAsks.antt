@@ -1,152 +1,37 @@
 -- Wrong histories: the administrator asks other clients, or at another time.
-use Rattle.std.specs.Prelude.{List, [], ◌∷◌, Some}
+use Rattle.std.specs.Prelude.{List, [], ◌∷◌, ◌++◌, take}
 use Rattle.qc_msg.specs.Steps.{Entry, marked}
-use Rattle.tests_histories.specs.Words.{tx, stamp, line, own_line, operation, read_lock, prepare, commit}
-use Rattle.qc_msg.specs.declared.step.Step.TheVariants.{Phase, Called, Got, Lost, Wrote, Sent, Told}
-use Rattle.tests_epochs.specs.Words.{prepared}
+use Rattle.tests_histories.specs.Words.{tx, stamp, line}
+use Rattle.qc_msg.specs.declared.step.Step.TheVariants.{Got, Wrote, Sent}
 use Rattle.qc_msg.specs.declared.message.Answer.TheVariants as answers
-use Rattle.qc_msg.specs.declared.reply.Why.TheVariants as causes
-use Rattle.qc_msg.specs.declared.step.Command.TheVariants as commands
 use Rattle.qc_msg.specs.declared.message.Message.TheVariants as messages
 use Rattle.qc_msg.specs.declared.message.Outcome.TheVariants as outcomes
 use Rattle.qc_msg.specs.declared.record.Record.TheVariants as records
-use Rattle.qc_msg.specs.declared.reply.Reply.TheVariants as replies
-use Rattle.qc_msg.specs.declared.message.Want.TheVariants as wants
+use Rattle.tests_epochs.specs.StampsPassReads as stamps_pass_reads
+use Rattle.tests_epochs.specs.SeveralPromises as several_promises
 
 -- A client is asked before enough sites have closed.
 abbrev pub asked_too_early : List Entry
 asked_too_early =
-    marked 7 (Phase 1) ∷ marked 3 (Called commands.Begin) ∷ marked 3 (Told (replies.Began (tx 0 1))) ∷
-    marked 3 (Called commands.Commit) ∷ marked 3 (Wrote (commit (stamp 1 0) (tx 0 1) [])) ∷
-    marked 3 (Told (replies.Committed (stamp 1 0))) ∷ marked 3 (Called commands.Begin) ∷
-    marked 3 (Told (replies.Began (tx 0 2))) ∷ marked 3 (Called commands.Commit) ∷
-    marked 3 (Wrote (commit (stamp 2 0) (tx 0 2) [])) ∷ marked 3 (Told (replies.Committed (stamp 2 0))) ∷
-    marked 3 (Called commands.Begin) ∷ marked 3 (Told (replies.Began (tx 0 3))) ∷ marked 3 (Called commands.Commit) ∷
-    marked 3 (Wrote (commit (stamp 3 0) (tx 0 3) [])) ∷ marked 3 (Told (replies.Committed (stamp 3 0))) ∷
-    marked 3 (Called commands.Begin) ∷ marked 3 (Told (replies.Began (tx 0 4))) ∷ marked 3 (Called (commands.Do 0 0)) ∷
-    marked 3 (Sent 0 0 (messages.Request (tx 0 4) 1 0 (wants.Read 0 0))) ∷
-    marked 3 (Sent 1 1 (messages.Request (tx 0 4) 1 0 (wants.Read 0 0))) ∷ marked 0 (Got 0) ∷
-    marked 0 (Sent 2 3 (messages.Answer 0 (answers.Granted 1 0 []))) ∷ marked 1 (Got 1) ∷
-    marked 1 (Sent 3 3 (messages.Answer 1 (answers.Granted 1 0 []))) ∷ marked 3 (Got 2) ∷ marked 3 (Got 3) ∷
-    marked 3 (Told (replies.Response 0)) ∷ marked 3 (Called commands.Commit) ∷
-    marked 3 (Sent 4 0 (messages.Request (tx 0 4) 1 1 wants.Prepare)) ∷
-    marked 3 (Sent 5 1 (messages.Request (tx 0 4) 1 1 wants.Prepare)) ∷ marked 0 (Got 4) ∷
-    marked 0 (Wrote (prepare (tx 0 4) 1 (read_lock 0 0 ∷ []) [] [])) ∷
-    marked 0 (Sent 6 3 (messages.Answer 4 (answers.Yes 0))) ∷ marked 1 (Got 5) ∷
-    marked 1 (Wrote (prepare (tx 0 4) 1 (read_lock 0 0 ∷ []) [] [])) ∷
-    marked 1 (Sent 7 3 (messages.Answer 5 (answers.Yes 0))) ∷ marked 3 (Got 6) ∷ marked 3 (Got 7) ∷
-    marked 3 (Wrote (commit (stamp 4 0) (tx 0 4) (operation 0 0 (Some 0) ∷ []))) ∷
-    marked 3 (Sent 8 0 (messages.Decision (tx 0 4) (outcomes.Committed (stamp 4 0)))) ∷
-    marked 3 (Sent 9 1 (messages.Decision (tx 0 4) (outcomes.Committed (stamp 4 0)))) ∷
-    marked 3 (Told (replies.Committed (stamp 4 0))) ∷ marked 7 (Phase 2) ∷ marked 6 (Called (commands.Epoch 2)) ∷
-    marked 6 (Sent 10 0 (messages.Close 2)) ∷ marked 6 (Sent 11 1 (messages.Close 2)) ∷ marked 0 (Got 10) ∷
-    marked 0 (Wrote (records.Close 2)) ∷
-    marked 0 (Sent 12 6 (messages.Answer 10 (answers.Shut 0 [] (prepared (tx 0 4) 1 (read_lock 0 0 ∷ []) [] [] ∷ []))))
-    ∷
-    marked 1 (Got 11) ∷ marked 1 (Wrote (records.Close 2)) ∷
-    marked 1 (Sent 13 6 (messages.Answer 11 (answers.Shut 0 [] (prepared (tx 0 4) 1 (read_lock 0 0 ∷ []) [] [] ∷ []))))
-    ∷
-    marked 6 (Got 12) ∷ marked 6 (Sent 14 3 (messages.Ask (tx 0 4))) ∷ marked 6 (Got 13) ∷ marked 3 (Got 14) ∷
+    take 54 stamps_pass_reads.history ++
+    marked 6 (Sent 14 3 (messages.Ask (tx 0 4))) ∷ marked 6 (Got 13) ∷ marked 3 (Got 14) ∷
     marked 3 (Sent 15 6 (messages.Answer 14 (answers.Answered (outcomes.Committed (stamp 4 0))))) ∷ marked 6 (Got 15) ∷
     marked 6 (Wrote (records.Decide 2 4 [])) ∷ []
 
 -- Another client is asked about a transaction.
 abbrev pub another_client_asked : List Entry
 another_client_asked =
-    marked 7 (Phase 1) ∷ marked 3 (Called commands.Begin) ∷ marked 3 (Told (replies.Began (tx 0 1))) ∷
-    marked 3 (Called commands.Commit) ∷ marked 3 (Wrote (commit (stamp 1 0) (tx 0 1) [])) ∷
-    marked 3 (Told (replies.Committed (stamp 1 0))) ∷ marked 3 (Called commands.Begin) ∷
-    marked 3 (Told (replies.Began (tx 0 2))) ∷ marked 3 (Called commands.Commit) ∷
-    marked 3 (Wrote (commit (stamp 2 0) (tx 0 2) [])) ∷ marked 3 (Told (replies.Committed (stamp 2 0))) ∷
-    marked 3 (Called commands.Begin) ∷ marked 3 (Told (replies.Began (tx 0 3))) ∷ marked 3 (Called commands.Commit) ∷
-    marked 3 (Wrote (commit (stamp 3 0) (tx 0 3) [])) ∷ marked 3 (Told (replies.Committed (stamp 3 0))) ∷
-    marked 3 (Called commands.Begin) ∷ marked 3 (Told (replies.Began (tx 0 4))) ∷ marked 3 (Called (commands.Do 0 0)) ∷
-    marked 3 (Sent 0 0 (messages.Request (tx 0 4) 1 0 (wants.Read 0 0))) ∷
-    marked 3 (Sent 1 1 (messages.Request (tx 0 4) 1 0 (wants.Read 0 0))) ∷ marked 0 (Got 0) ∷
-    marked 0 (Sent 2 3 (messages.Answer 0 (answers.Granted 1 0 []))) ∷ marked 1 (Got 1) ∷
-    marked 1 (Sent 3 3 (messages.Answer 1 (answers.Granted 1 0 []))) ∷ marked 3 (Got 2) ∷ marked 3 (Got 3) ∷
-    marked 3 (Told (replies.Response 0)) ∷ marked 3 (Called commands.Commit) ∷
-    marked 3 (Sent 4 0 (messages.Request (tx 0 4) 1 1 wants.Prepare)) ∷
-    marked 3 (Sent 5 1 (messages.Request (tx 0 4) 1 1 wants.Prepare)) ∷ marked 0 (Got 4) ∷
-    marked 0 (Wrote (prepare (tx 0 4) 1 (read_lock 0 0 ∷ []) [] [])) ∷
-    marked 0 (Sent 6 3 (messages.Answer 4 (answers.Yes 0))) ∷ marked 1 (Got 5) ∷
-    marked 1 (Wrote (prepare (tx 0 4) 1 (read_lock 0 0 ∷ []) [] [])) ∷
-    marked 1 (Sent 7 3 (messages.Answer 5 (answers.Yes 0))) ∷ marked 3 (Got 6) ∷ marked 3 (Got 7) ∷
-    marked 3 (Wrote (commit (stamp 4 0) (tx 0 4) (operation 0 0 (Some 0) ∷ []))) ∷
-    marked 3 (Sent 8 0 (messages.Decision (tx 0 4) (outcomes.Committed (stamp 4 0)))) ∷
-    marked 3 (Sent 9 1 (messages.Decision (tx 0 4) (outcomes.Committed (stamp 4 0)))) ∷
-    marked 3 (Told (replies.Committed (stamp 4 0))) ∷ marked 7 (Phase 2) ∷ marked 6 (Called (commands.Epoch 2)) ∷
-    marked 6 (Sent 10 0 (messages.Close 2)) ∷ marked 6 (Sent 11 1 (messages.Close 2)) ∷ marked 0 (Got 10) ∷
-    marked 0 (Wrote (records.Close 2)) ∷
-    marked 0 (Sent 12 6 (messages.Answer 10 (answers.Shut 0 [] (prepared (tx 0 4) 1 (read_lock 0 0 ∷ []) [] [] ∷ []))))
-    ∷
-    marked 1 (Got 11) ∷ marked 1 (Wrote (records.Close 2)) ∷
-    marked 1 (Sent 13 6 (messages.Answer 11 (answers.Shut 0 [] (prepared (tx 0 4) 1 (read_lock 0 0 ∷ []) [] [] ∷ []))))
-    ∷
-    marked 6 (Got 12) ∷ marked 6 (Got 13) ∷ marked 6 (Sent 14 4 (messages.Ask (tx 0 4))) ∷ marked 4 (Got 14) ∷
+    take 55 stamps_pass_reads.history ++
+    marked 6 (Sent 14 4 (messages.Ask (tx 0 4))) ∷ marked 4 (Got 14) ∷
     marked 4 (Sent 15 6 (messages.Answer 14 (answers.Answered (outcomes.Committed (stamp 4 0))))) ∷ marked 6 (Got 15) ∷
     marked 6 (Wrote (records.Decide 2 4 [])) ∷ []
 
 -- Clients are asked in another order than that of the promises.
 abbrev pub asked_out_of_order : List Entry
 asked_out_of_order =
-    marked 7 (Phase 1) ∷ marked 5 (Called commands.Begin) ∷ marked 5 (Told (replies.Began (tx 2 1))) ∷
-    marked 5 (Called (commands.Do 0 2)) ∷
-    marked 5 (Sent 0 2 (messages.Request (tx 2 1) 1 0 (wants.Append 0 [] (own_line 1 0 3 ∷ [])))) ∷
-    marked 5 (Sent 1 0 (messages.Request (tx 2 1) 1 0 (wants.Append 0 [] (own_line 1 0 3 ∷ [])))) ∷ marked 2 (Got 0) ∷
-    marked 2 (Sent 2 5 (messages.Answer 0 (answers.Granted 1 0 []))) ∷ marked 0 (Got 1) ∷
-    marked 0 (Sent 3 5 (messages.Answer 1 (answers.Granted 1 0 []))) ∷ marked 5 (Got 2) ∷ marked 5 (Got 3) ∷
-    marked 5 (Told (replies.Response 2)) ∷ marked 5 (Called commands.Commit) ∷
-    marked 5 (Sent 4 2 (messages.Request (tx 2 1) 1 1 wants.Prepare)) ∷
-    marked 5 (Sent 5 0 (messages.Request (tx 2 1) 1 1 wants.Prepare)) ∷ marked 2 (Got 4) ∷
-    marked 2 (Wrote (prepare (tx 2 1) 1 [] (own_line 1 0 3 ∷ []) [])) ∷
-    marked 2 (Sent 6 5 (messages.Answer 4 (answers.Yes 0))) ∷ marked 0 (Got 5) ∷
-    marked 0 (Wrote (prepare (tx 2 1) 1 [] (own_line 1 0 3 ∷ []) [])) ∷
-    marked 0 (Sent 7 5 (messages.Answer 5 (answers.Yes 0))) ∷ marked 5 (Got 6) ∷ marked 5 (Got 7) ∷
-    marked 5 (Wrote (commit (stamp 1 2) (tx 2 1) (operation 0 2 (Some 2) ∷ []))) ∷
-    marked 5 (Sent 8 0 (messages.Decision (tx 2 1) (outcomes.Committed (stamp 1 2)))) ∷
-    marked 5 (Sent 9 2 (messages.Decision (tx 2 1) (outcomes.Committed (stamp 1 2)))) ∷
-    marked 5 (Told (replies.Committed (stamp 1 2))) ∷ marked 2 (Got 9) ∷ marked 2 (Wrote (records.Done (tx 2 1) 1)) ∷
-    marked 7 (Phase 2) ∷ marked 4 (Called commands.Begin) ∷ marked 4 (Told (replies.Began (tx 1 1))) ∷
-    marked 4 (Called (commands.Do 0 1)) ∷
-    marked 4 (Sent 10 1 (messages.Request (tx 1 1) 1 0 (wants.Append 0 [] (own_line 1 0 2 ∷ [])))) ∷
-    marked 4 (Sent 11 2 (messages.Request (tx 1 1) 1 0 (wants.Append 0 [] (own_line 1 0 2 ∷ [])))) ∷ marked 1 (Got 10) ∷
-    marked 1 (Sent 12 4 (messages.Answer 10 (answers.Granted 1 0 []))) ∷ marked 2 (Got 11) ∷
-    marked 2 (Sent 13 4 (messages.Answer 11 (answers.Granted 1 1 []))) ∷ marked 4 (Got 12) ∷ marked 4 (Got 13) ∷
-    marked 4 (Told (replies.Response 2)) ∷ marked 4 (Called commands.Commit) ∷
-    marked 4 (Sent 14 1 (messages.Request (tx 1 1) 1 1 wants.Prepare)) ∷
-    marked 4 (Sent 15 2 (messages.Request (tx 1 1) 1 1 wants.Prepare)) ∷ marked 1 (Got 14) ∷
-    marked 1 (Wrote (prepare (tx 1 1) 1 [] (own_line 1 0 2 ∷ []) [])) ∷
-    marked 1 (Sent 16 4 (messages.Answer 14 (answers.Yes 0))) ∷ marked 2 (Got 15) ∷
-    marked 2 (Wrote (prepare (tx 1 1) 1 [] (own_line 1 0 2 ∷ []) [])) ∷
-    marked 2 (Sent 17 4 (messages.Answer 15 (answers.Yes 1))) ∷ marked 4 (Got 16) ∷ marked 4 (Got 17) ∷
-    marked 4 (Wrote (commit (stamp 2 1) (tx 1 1) (operation 0 1 (Some 2) ∷ []))) ∷
-    marked 4 (Sent 18 1 (messages.Decision (tx 1 1) (outcomes.Committed (stamp 2 1)))) ∷
-    marked 4 (Sent 19 2 (messages.Decision (tx 1 1) (outcomes.Committed (stamp 2 1)))) ∷
-    marked 4 (Told (replies.Committed (stamp 2 1))) ∷ marked 2 (Got 19) ∷ marked 2 (Wrote (records.Done (tx 1 1) 2)) ∷
-    marked 7 (Phase 3) ∷ marked 3 (Called commands.Begin) ∷ marked 3 (Told (replies.Began (tx 0 1))) ∷
-    marked 3 (Called (commands.Do 0 2)) ∷
-    marked 3 (Sent 20 0 (messages.Request (tx 0 1) 1 0 (wants.Append 0 [] (own_line 1 0 3 ∷ [])))) ∷
-    marked 3 (Sent 21 1 (messages.Request (tx 0 1) 1 0 (wants.Append 0 [] (own_line 1 0 3 ∷ [])))) ∷ marked 0 (Got 20) ∷
-    marked 0 (Sent 22 3 (messages.Answer 20 (answers.Granted 1 0 []))) ∷ marked 1 (Got 21) ∷
-    marked 1 (Sent 23 3 (messages.Answer 21 (answers.Granted 1 0 []))) ∷ marked 3 (Got 22) ∷ marked 3 (Got 23) ∷
-    marked 3 (Told (replies.Response 2)) ∷ marked 3 (Called commands.Commit) ∷
-    marked 3 (Sent 24 0 (messages.Request (tx 0 1) 1 1 wants.Prepare)) ∷
-    marked 3 (Sent 25 1 (messages.Request (tx 0 1) 1 1 wants.Prepare)) ∷ marked 0 (Got 24) ∷
-    marked 0 (Wrote (prepare (tx 0 1) 1 [] (own_line 1 0 3 ∷ []) [])) ∷
-    marked 0 (Sent 26 3 (messages.Answer 24 (answers.Yes 0))) ∷ marked 3 (Got 26) ∷ marked 3 (Lost 25) ∷
-    marked 3 (Sent 27 0 (messages.Decision (tx 0 1) outcomes.Aborted)) ∷
-    marked 3 (Sent 28 1 (messages.Decision (tx 0 1) outcomes.Aborted)) ∷
-    marked 3 (Told (replies.Aborted (causes.NoAnswer 1))) ∷ marked 7 (Phase 4) ∷ marked 6 (Called (commands.Epoch 2)) ∷
-    marked 6 (Sent 29 0 (messages.Close 2)) ∷ marked 6 (Sent 30 1 (messages.Close 2)) ∷ marked 0 (Got 29) ∷
-    marked 0 (Wrote (records.Close 2)) ∷
-    marked 0 (Sent 31 6 (messages.Answer 29 (answers.Shut 0 [] (prepared (tx 0 1) 1 [] (own_line 1 0 3 ∷ []) [] ∷
-    prepared (tx 2 1) 1 [] (own_line 1 0 3 ∷ []) [] ∷ [])))) ∷
-    marked 1 (Got 30) ∷ marked 1 (Wrote (records.Close 2)) ∷
-    marked 1 (Sent 32 6 (messages.Answer 30 (answers.Shut 0 [] (prepared (tx 1 1) 1 [] (own_line 1 0 2 ∷ []) [] ∷ []))))
-    ∷
-    marked 6 (Got 31) ∷ marked 6 (Got 32) ∷ marked 6 (Sent 33 5 (messages.Ask (tx 2 1))) ∷
-    marked 6 (Sent 34 3 (messages.Ask (tx 0 1))) ∷ marked 6 (Sent 35 4 (messages.Ask (tx 1 1))) ∷ marked 3 (Got 34) ∷
+    take 96 several_promises.history ++
+    marked 6 (Sent 33 5 (messages.Ask (tx 2 1))) ∷ marked 6 (Sent 34 3 (messages.Ask (tx 0 1))) ∷
+    marked 6 (Sent 35 4 (messages.Ask (tx 1 1))) ∷ marked 3 (Got 34) ∷
     marked 3 (Sent 36 6 (messages.Answer 34 (answers.Answered outcomes.Aborted))) ∷ marked 5 (Got 33) ∷
     marked 5 (Sent 37 6 (messages.Answer 33 (answers.Answered (outcomes.Committed (stamp 1 2))))) ∷ marked 4 (Got 35) ∷
     marked 4 (Sent 38 6 (messages.Answer 35 (answers.Answered (outcomes.Committed (stamp 2 1))))) ∷ marked 6 (Got 36) ∷

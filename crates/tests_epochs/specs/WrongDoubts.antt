@@ -1,204 +1,40 @@
 -- Wrong histories: doubts of the administrator, and a decision in doubt.
-use Rattle.std.specs.Prelude.{List, [], ◌∷◌, Some}
+use Rattle.std.specs.Prelude.{List, [], ◌∷◌, ◌++◌, take}
 use Rattle.qc_msg.specs.Steps.{Entry, marked}
-use Rattle.tests_histories.specs.Words.{tx, stamp, line, own_line, operation, read_lock, prepare, commit}
-use Rattle.qc_msg.specs.declared.step.Step.TheVariants.{Phase, Called, Got, Lost, Wrote, Sent, Told}
-use Rattle.tests_epochs.specs.Words.{prepared}
-use Rattle.qc_msg.specs.declared.message.Answer.TheVariants as answers
-use Rattle.qc_msg.specs.declared.step.Command.TheVariants as commands
-use Rattle.qc_msg.specs.declared.message.Message.TheVariants as messages
-use Rattle.qc_msg.specs.declared.message.Outcome.TheVariants as outcomes
+use Rattle.tests_histories.specs.Words.{tx, line}
+use Rattle.qc_msg.specs.declared.step.Step.TheVariants.{Wrote, Told}
 use Rattle.qc_msg.specs.declared.record.Record.TheVariants as records
 use Rattle.qc_msg.specs.declared.reply.Reply.TheVariants as replies
-use Rattle.qc_msg.specs.declared.message.Want.TheVariants as wants
+use Rattle.tests_epochs.specs.StampsPassReads as stamps_pass_reads
+use Rattle.tests_epochs.specs.AskLost as ask_lost
+use Rattle.tests_epochs.specs.DoubtOfSecond as doubt_of_second
 
 -- A transaction is told as in doubt that committed.
 abbrev pub doubt_of_what_is_answered : List Entry
 doubt_of_what_is_answered =
-    marked 7 (Phase 1) ∷ marked 3 (Called commands.Begin) ∷ marked 3 (Told (replies.Began (tx 0 1))) ∷
-    marked 3 (Called commands.Commit) ∷ marked 3 (Wrote (commit (stamp 1 0) (tx 0 1) [])) ∷
-    marked 3 (Told (replies.Committed (stamp 1 0))) ∷ marked 3 (Called commands.Begin) ∷
-    marked 3 (Told (replies.Began (tx 0 2))) ∷ marked 3 (Called commands.Commit) ∷
-    marked 3 (Wrote (commit (stamp 2 0) (tx 0 2) [])) ∷ marked 3 (Told (replies.Committed (stamp 2 0))) ∷
-    marked 3 (Called commands.Begin) ∷ marked 3 (Told (replies.Began (tx 0 3))) ∷ marked 3 (Called commands.Commit) ∷
-    marked 3 (Wrote (commit (stamp 3 0) (tx 0 3) [])) ∷ marked 3 (Told (replies.Committed (stamp 3 0))) ∷
-    marked 3 (Called commands.Begin) ∷ marked 3 (Told (replies.Began (tx 0 4))) ∷ marked 3 (Called (commands.Do 0 0)) ∷
-    marked 3 (Sent 0 0 (messages.Request (tx 0 4) 1 0 (wants.Read 0 0))) ∷
-    marked 3 (Sent 1 1 (messages.Request (tx 0 4) 1 0 (wants.Read 0 0))) ∷ marked 0 (Got 0) ∷
-    marked 0 (Sent 2 3 (messages.Answer 0 (answers.Granted 1 0 []))) ∷ marked 1 (Got 1) ∷
-    marked 1 (Sent 3 3 (messages.Answer 1 (answers.Granted 1 0 []))) ∷ marked 3 (Got 2) ∷ marked 3 (Got 3) ∷
-    marked 3 (Told (replies.Response 0)) ∷ marked 3 (Called commands.Commit) ∷
-    marked 3 (Sent 4 0 (messages.Request (tx 0 4) 1 1 wants.Prepare)) ∷
-    marked 3 (Sent 5 1 (messages.Request (tx 0 4) 1 1 wants.Prepare)) ∷ marked 0 (Got 4) ∷
-    marked 0 (Wrote (prepare (tx 0 4) 1 (read_lock 0 0 ∷ []) [] [])) ∷
-    marked 0 (Sent 6 3 (messages.Answer 4 (answers.Yes 0))) ∷ marked 1 (Got 5) ∷
-    marked 1 (Wrote (prepare (tx 0 4) 1 (read_lock 0 0 ∷ []) [] [])) ∷
-    marked 1 (Sent 7 3 (messages.Answer 5 (answers.Yes 0))) ∷ marked 3 (Got 6) ∷ marked 3 (Got 7) ∷
-    marked 3 (Wrote (commit (stamp 4 0) (tx 0 4) (operation 0 0 (Some 0) ∷ []))) ∷
-    marked 3 (Sent 8 0 (messages.Decision (tx 0 4) (outcomes.Committed (stamp 4 0)))) ∷
-    marked 3 (Sent 9 1 (messages.Decision (tx 0 4) (outcomes.Committed (stamp 4 0)))) ∷
-    marked 3 (Told (replies.Committed (stamp 4 0))) ∷ marked 7 (Phase 2) ∷ marked 6 (Called (commands.Epoch 2)) ∷
-    marked 6 (Sent 10 0 (messages.Close 2)) ∷ marked 6 (Sent 11 1 (messages.Close 2)) ∷ marked 0 (Got 10) ∷
-    marked 0 (Wrote (records.Close 2)) ∷
-    marked 0 (Sent 12 6 (messages.Answer 10 (answers.Shut 0 [] (prepared (tx 0 4) 1 (read_lock 0 0 ∷ []) [] [] ∷ []))))
-    ∷
-    marked 1 (Got 11) ∷ marked 1 (Wrote (records.Close 2)) ∷
-    marked 1 (Sent 13 6 (messages.Answer 11 (answers.Shut 0 [] (prepared (tx 0 4) 1 (read_lock 0 0 ∷ []) [] [] ∷ []))))
-    ∷
-    marked 6 (Got 12) ∷ marked 6 (Got 13) ∷ marked 6 (Sent 14 3 (messages.Ask (tx 0 4))) ∷ marked 3 (Got 14) ∷
-    marked 3 (Sent 15 6 (messages.Answer 14 (answers.Answered (outcomes.Committed (stamp 4 0))))) ∷ marked 6 (Got 15) ∷
+    take 59 stamps_pass_reads.history ++
     marked 6 (Told (replies.InDoubt (tx 0 4) 0)) ∷ []
 
 -- The doubt is told at another site than the first one.
 abbrev pub doubt_at_another_site : List Entry
 doubt_at_another_site =
-    marked 7 (Phase 1) ∷ marked 3 (Called commands.Begin) ∷ marked 3 (Told (replies.Began (tx 0 1))) ∷
-    marked 3 (Called (commands.Do 0 2)) ∷
-    marked 3 (Sent 0 0 (messages.Request (tx 0 1) 1 0 (wants.Append 0 [] (own_line 1 0 3 ∷ [])))) ∷
-    marked 3 (Sent 1 1 (messages.Request (tx 0 1) 1 0 (wants.Append 0 [] (own_line 1 0 3 ∷ [])))) ∷ marked 0 (Got 0) ∷
-    marked 0 (Sent 2 3 (messages.Answer 0 (answers.Granted 1 0 []))) ∷ marked 1 (Got 1) ∷
-    marked 1 (Sent 3 3 (messages.Answer 1 (answers.Granted 1 0 []))) ∷ marked 3 (Got 2) ∷ marked 3 (Got 3) ∷
-    marked 3 (Told (replies.Response 2)) ∷ marked 3 (Called commands.Commit) ∷
-    marked 3 (Sent 4 0 (messages.Request (tx 0 1) 1 1 wants.Prepare)) ∷
-    marked 3 (Sent 5 1 (messages.Request (tx 0 1) 1 1 wants.Prepare)) ∷ marked 0 (Got 4) ∷
-    marked 0 (Wrote (prepare (tx 0 1) 1 [] (own_line 1 0 3 ∷ []) [])) ∷
-    marked 0 (Sent 6 3 (messages.Answer 4 (answers.Yes 0))) ∷ marked 1 (Got 5) ∷
-    marked 1 (Wrote (prepare (tx 0 1) 1 [] (own_line 1 0 3 ∷ []) [])) ∷
-    marked 1 (Sent 7 3 (messages.Answer 5 (answers.Yes 0))) ∷ marked 3 (Got 6) ∷ marked 3 (Got 7) ∷
-    marked 3 (Wrote (commit (stamp 1 0) (tx 0 1) (operation 0 2 (Some 2) ∷ []))) ∷
-    marked 3 (Sent 8 0 (messages.Decision (tx 0 1) (outcomes.Committed (stamp 1 0)))) ∷
-    marked 3 (Sent 9 1 (messages.Decision (tx 0 1) (outcomes.Committed (stamp 1 0)))) ∷
-    marked 3 (Told (replies.Committed (stamp 1 0))) ∷ marked 7 (Phase 2) ∷ marked 6 (Called (commands.Epoch 2)) ∷
-    marked 6 (Sent 10 0 (messages.Close 2)) ∷ marked 6 (Sent 11 1 (messages.Close 2)) ∷ marked 0 (Got 10) ∷
-    marked 0 (Wrote (records.Close 2)) ∷
-    marked 0 (Sent 12 6 (messages.Answer 10 (answers.Shut 0 [] (prepared (tx 0 1) 1 [] (own_line 1 0 3 ∷ []) [] ∷ []))))
-    ∷
-    marked 1 (Got 11) ∷ marked 1 (Wrote (records.Close 2)) ∷
-    marked 1 (Sent 13 6 (messages.Answer 11 (answers.Shut 0 [] (prepared (tx 0 1) 1 [] (own_line 1 0 3 ∷ []) [] ∷ []))))
-    ∷
-    marked 6 (Got 12) ∷ marked 6 (Got 13) ∷ marked 6 (Sent 14 3 (messages.Ask (tx 0 1))) ∷ marked 6 (Lost 14) ∷
+    take 42 ask_lost.history ++
     marked 6 (Told (replies.InDoubt (tx 0 1) 1)) ∷ []
 
 -- A transaction is told as in doubt that isn't the one.
 abbrev pub doubt_of_another_promise : List Entry
 doubt_of_another_promise =
-    marked 7 (Phase 1) ∷ marked 5 (Called commands.Begin) ∷ marked 5 (Told (replies.Began (tx 2 1))) ∷
-    marked 5 (Called (commands.Do 0 2)) ∷
-    marked 5 (Sent 0 2 (messages.Request (tx 2 1) 1 0 (wants.Append 0 [] (own_line 1 0 3 ∷ [])))) ∷
-    marked 5 (Sent 1 0 (messages.Request (tx 2 1) 1 0 (wants.Append 0 [] (own_line 1 0 3 ∷ [])))) ∷ marked 2 (Got 0) ∷
-    marked 2 (Sent 2 5 (messages.Answer 0 (answers.Granted 1 0 []))) ∷ marked 0 (Got 1) ∷
-    marked 0 (Sent 3 5 (messages.Answer 1 (answers.Granted 1 0 []))) ∷ marked 5 (Got 2) ∷ marked 5 (Got 3) ∷
-    marked 5 (Told (replies.Response 2)) ∷ marked 5 (Called commands.Commit) ∷
-    marked 5 (Sent 4 2 (messages.Request (tx 2 1) 1 1 wants.Prepare)) ∷
-    marked 5 (Sent 5 0 (messages.Request (tx 2 1) 1 1 wants.Prepare)) ∷ marked 2 (Got 4) ∷
-    marked 2 (Wrote (prepare (tx 2 1) 1 [] (own_line 1 0 3 ∷ []) [])) ∷
-    marked 2 (Sent 6 5 (messages.Answer 4 (answers.Yes 0))) ∷ marked 0 (Got 5) ∷
-    marked 0 (Wrote (prepare (tx 2 1) 1 [] (own_line 1 0 3 ∷ []) [])) ∷
-    marked 0 (Sent 7 5 (messages.Answer 5 (answers.Yes 0))) ∷ marked 5 (Got 6) ∷ marked 5 (Got 7) ∷
-    marked 5 (Wrote (commit (stamp 1 2) (tx 2 1) (operation 0 2 (Some 2) ∷ []))) ∷
-    marked 5 (Sent 8 0 (messages.Decision (tx 2 1) (outcomes.Committed (stamp 1 2)))) ∷
-    marked 5 (Sent 9 2 (messages.Decision (tx 2 1) (outcomes.Committed (stamp 1 2)))) ∷
-    marked 5 (Told (replies.Committed (stamp 1 2))) ∷ marked 7 (Phase 2) ∷ marked 4 (Called commands.Begin) ∷
-    marked 4 (Told (replies.Began (tx 1 1))) ∷ marked 4 (Called (commands.Do 0 1)) ∷
-    marked 4 (Sent 10 1 (messages.Request (tx 1 1) 1 0 (wants.Append 0 [] (own_line 1 0 2 ∷ [])))) ∷
-    marked 4 (Sent 11 2 (messages.Request (tx 1 1) 1 0 (wants.Append 0 [] (own_line 1 0 2 ∷ [])))) ∷ marked 1 (Got 10) ∷
-    marked 1 (Sent 12 4 (messages.Answer 10 (answers.Granted 1 0 []))) ∷ marked 2 (Got 11) ∷
-    marked 2 (Sent 13 4 (messages.Answer 11 (answers.Granted 1 0 []))) ∷ marked 4 (Got 12) ∷ marked 4 (Got 13) ∷
-    marked 4 (Told (replies.Response 2)) ∷ marked 4 (Called commands.Commit) ∷
-    marked 4 (Sent 14 1 (messages.Request (tx 1 1) 1 1 wants.Prepare)) ∷
-    marked 4 (Sent 15 2 (messages.Request (tx 1 1) 1 1 wants.Prepare)) ∷ marked 1 (Got 14) ∷
-    marked 1 (Wrote (prepare (tx 1 1) 1 [] (own_line 1 0 2 ∷ []) [])) ∷
-    marked 1 (Sent 16 4 (messages.Answer 14 (answers.Yes 0))) ∷ marked 2 (Got 15) ∷
-    marked 2 (Wrote (prepare (tx 1 1) 1 [] (own_line 1 0 2 ∷ []) [])) ∷
-    marked 2 (Sent 17 4 (messages.Answer 15 (answers.Yes 0))) ∷ marked 4 (Got 16) ∷ marked 4 (Got 17) ∷
-    marked 4 (Wrote (commit (stamp 1 1) (tx 1 1) (operation 0 1 (Some 2) ∷ []))) ∷
-    marked 4 (Sent 18 1 (messages.Decision (tx 1 1) (outcomes.Committed (stamp 1 1)))) ∷
-    marked 4 (Sent 19 2 (messages.Decision (tx 1 1) (outcomes.Committed (stamp 1 1)))) ∷
-    marked 4 (Told (replies.Committed (stamp 1 1))) ∷ marked 7 (Phase 3) ∷ marked 3 (Called commands.Begin) ∷
-    marked 3 (Told (replies.Began (tx 0 1))) ∷ marked 3 (Called (commands.Do 0 2)) ∷
-    marked 3 (Sent 20 0 (messages.Request (tx 0 1) 1 0 (wants.Append 0 [] (own_line 1 0 3 ∷ [])))) ∷
-    marked 3 (Sent 21 1 (messages.Request (tx 0 1) 1 0 (wants.Append 0 [] (own_line 1 0 3 ∷ [])))) ∷ marked 0 (Got 20) ∷
-    marked 0 (Sent 22 3 (messages.Answer 20 (answers.Granted 1 0 []))) ∷ marked 1 (Got 21) ∷
-    marked 1 (Sent 23 3 (messages.Answer 21 (answers.Granted 1 0 []))) ∷ marked 3 (Got 22) ∷ marked 3 (Got 23) ∷
-    marked 3 (Told (replies.Response 2)) ∷ marked 3 (Called commands.Commit) ∷
-    marked 3 (Sent 24 0 (messages.Request (tx 0 1) 1 1 wants.Prepare)) ∷
-    marked 3 (Sent 25 1 (messages.Request (tx 0 1) 1 1 wants.Prepare)) ∷ marked 0 (Got 24) ∷
-    marked 0 (Wrote (prepare (tx 0 1) 1 [] (own_line 1 0 3 ∷ []) [])) ∷
-    marked 0 (Sent 26 3 (messages.Answer 24 (answers.Yes 0))) ∷ marked 1 (Got 25) ∷
-    marked 1 (Wrote (prepare (tx 0 1) 1 [] (own_line 1 0 3 ∷ []) [])) ∷
-    marked 1 (Sent 27 3 (messages.Answer 25 (answers.Yes 0))) ∷ marked 3 (Got 26) ∷ marked 3 (Got 27) ∷
-    marked 3 (Wrote (commit (stamp 1 0) (tx 0 1) (operation 0 2 (Some 2) ∷ []))) ∷
-    marked 3 (Sent 28 0 (messages.Decision (tx 0 1) (outcomes.Committed (stamp 1 0)))) ∷
-    marked 3 (Sent 29 1 (messages.Decision (tx 0 1) (outcomes.Committed (stamp 1 0)))) ∷
-    marked 3 (Told (replies.Committed (stamp 1 0))) ∷ marked 7 (Phase 4) ∷ marked 6 (Called (commands.Epoch 2)) ∷
-    marked 6 (Sent 30 0 (messages.Close 2)) ∷ marked 6 (Sent 31 1 (messages.Close 2)) ∷ marked 0 (Got 30) ∷
-    marked 0 (Wrote (records.Close 2)) ∷
-    marked 0 (Sent 32 6 (messages.Answer 30 (answers.Shut 0 [] (prepared (tx 0 1) 1 [] (own_line 1 0 3 ∷ []) [] ∷
-    prepared (tx 2 1) 1 [] (own_line 1 0 3 ∷ []) [] ∷ [])))) ∷
-    marked 1 (Got 31) ∷ marked 1 (Wrote (records.Close 2)) ∷
-    marked 1 (Sent 33 6 (messages.Answer 31 (answers.Shut 0 [] (prepared (tx 0 1) 1 [] (own_line 1 0 3 ∷ []) [] ∷
-    prepared (tx 1 1) 1 [] (own_line 1 0 2 ∷ []) [] ∷ [])))) ∷
-    marked 6 (Got 32) ∷ marked 6 (Got 33) ∷ marked 6 (Sent 34 3 (messages.Ask (tx 0 1))) ∷
-    marked 6 (Sent 35 5 (messages.Ask (tx 2 1))) ∷ marked 6 (Sent 36 4 (messages.Ask (tx 1 1))) ∷ marked 3 (Got 34) ∷
-    marked 3 (Sent 37 6 (messages.Answer 34 (answers.Answered (outcomes.Committed (stamp 1 0))))) ∷ marked 5 (Got 35) ∷
-    marked 5 (Sent 38 6 (messages.Answer 35 (answers.Answered (outcomes.Committed (stamp 1 2))))) ∷ marked 6 (Got 37) ∷
-    marked 6 (Got 38) ∷ marked 6 (Lost 36) ∷ marked 6 (Told (replies.InDoubt (tx 2 1) 0)) ∷ []
+    take 106 doubt_of_second.history ++
+    marked 6 (Told (replies.InDoubt (tx 2 1) 0)) ∷ []
 
 -- A transaction is told as in doubt, and nobody was asked.
 abbrev pub doubt_before_it_is_asked : List Entry
 doubt_before_it_is_asked =
-    marked 7 (Phase 1) ∷ marked 3 (Called commands.Begin) ∷ marked 3 (Told (replies.Began (tx 0 1))) ∷
-    marked 3 (Called (commands.Do 0 2)) ∷
-    marked 3 (Sent 0 0 (messages.Request (tx 0 1) 1 0 (wants.Append 0 [] (own_line 1 0 3 ∷ [])))) ∷
-    marked 3 (Sent 1 1 (messages.Request (tx 0 1) 1 0 (wants.Append 0 [] (own_line 1 0 3 ∷ [])))) ∷ marked 0 (Got 0) ∷
-    marked 0 (Sent 2 3 (messages.Answer 0 (answers.Granted 1 0 []))) ∷ marked 1 (Got 1) ∷
-    marked 1 (Sent 3 3 (messages.Answer 1 (answers.Granted 1 0 []))) ∷ marked 3 (Got 2) ∷ marked 3 (Got 3) ∷
-    marked 3 (Told (replies.Response 2)) ∷ marked 3 (Called commands.Commit) ∷
-    marked 3 (Sent 4 0 (messages.Request (tx 0 1) 1 1 wants.Prepare)) ∷
-    marked 3 (Sent 5 1 (messages.Request (tx 0 1) 1 1 wants.Prepare)) ∷ marked 0 (Got 4) ∷
-    marked 0 (Wrote (prepare (tx 0 1) 1 [] (own_line 1 0 3 ∷ []) [])) ∷
-    marked 0 (Sent 6 3 (messages.Answer 4 (answers.Yes 0))) ∷ marked 1 (Got 5) ∷
-    marked 1 (Wrote (prepare (tx 0 1) 1 [] (own_line 1 0 3 ∷ []) [])) ∷
-    marked 1 (Sent 7 3 (messages.Answer 5 (answers.Yes 0))) ∷ marked 3 (Got 6) ∷ marked 3 (Got 7) ∷
-    marked 3 (Wrote (commit (stamp 1 0) (tx 0 1) (operation 0 2 (Some 2) ∷ []))) ∷
-    marked 3 (Sent 8 0 (messages.Decision (tx 0 1) (outcomes.Committed (stamp 1 0)))) ∷
-    marked 3 (Sent 9 1 (messages.Decision (tx 0 1) (outcomes.Committed (stamp 1 0)))) ∷
-    marked 3 (Told (replies.Committed (stamp 1 0))) ∷ marked 7 (Phase 2) ∷ marked 6 (Called (commands.Epoch 2)) ∷
-    marked 6 (Sent 10 0 (messages.Close 2)) ∷ marked 6 (Sent 11 1 (messages.Close 2)) ∷ marked 0 (Got 10) ∷
-    marked 0 (Wrote (records.Close 2)) ∷
-    marked 0 (Sent 12 6 (messages.Answer 10 (answers.Shut 0 [] (prepared (tx 0 1) 1 [] (own_line 1 0 3 ∷ []) [] ∷ []))))
-    ∷
-    marked 1 (Got 11) ∷ marked 1 (Wrote (records.Close 2)) ∷
-    marked 1 (Sent 13 6 (messages.Answer 11 (answers.Shut 0 [] (prepared (tx 0 1) 1 [] (own_line 1 0 3 ∷ []) [] ∷ []))))
-    ∷
-    marked 6 (Got 12) ∷ marked 6 (Got 13) ∷ marked 6 (Told (replies.InDoubt (tx 0 1) 0)) ∷ []
+    take 40 ask_lost.history ++
+    marked 6 (Told (replies.InDoubt (tx 0 1) 0)) ∷ []
 
 -- An epoch is decided, though a transaction is in doubt.
 abbrev pub decided_in_doubt : List Entry
 decided_in_doubt =
-    marked 7 (Phase 1) ∷ marked 3 (Called commands.Begin) ∷ marked 3 (Told (replies.Began (tx 0 1))) ∷
-    marked 3 (Called (commands.Do 0 2)) ∷
-    marked 3 (Sent 0 0 (messages.Request (tx 0 1) 1 0 (wants.Append 0 [] (own_line 1 0 3 ∷ [])))) ∷
-    marked 3 (Sent 1 1 (messages.Request (tx 0 1) 1 0 (wants.Append 0 [] (own_line 1 0 3 ∷ [])))) ∷ marked 0 (Got 0) ∷
-    marked 0 (Sent 2 3 (messages.Answer 0 (answers.Granted 1 0 []))) ∷ marked 1 (Got 1) ∷
-    marked 1 (Sent 3 3 (messages.Answer 1 (answers.Granted 1 0 []))) ∷ marked 3 (Got 2) ∷ marked 3 (Got 3) ∷
-    marked 3 (Told (replies.Response 2)) ∷ marked 3 (Called commands.Commit) ∷
-    marked 3 (Sent 4 0 (messages.Request (tx 0 1) 1 1 wants.Prepare)) ∷
-    marked 3 (Sent 5 1 (messages.Request (tx 0 1) 1 1 wants.Prepare)) ∷ marked 0 (Got 4) ∷
-    marked 0 (Wrote (prepare (tx 0 1) 1 [] (own_line 1 0 3 ∷ []) [])) ∷
-    marked 0 (Sent 6 3 (messages.Answer 4 (answers.Yes 0))) ∷ marked 1 (Got 5) ∷
-    marked 1 (Wrote (prepare (tx 0 1) 1 [] (own_line 1 0 3 ∷ []) [])) ∷
-    marked 1 (Sent 7 3 (messages.Answer 5 (answers.Yes 0))) ∷ marked 3 (Got 6) ∷ marked 3 (Got 7) ∷
-    marked 3 (Wrote (commit (stamp 1 0) (tx 0 1) (operation 0 2 (Some 2) ∷ []))) ∷
-    marked 3 (Sent 8 0 (messages.Decision (tx 0 1) (outcomes.Committed (stamp 1 0)))) ∷
-    marked 3 (Sent 9 1 (messages.Decision (tx 0 1) (outcomes.Committed (stamp 1 0)))) ∷
-    marked 3 (Told (replies.Committed (stamp 1 0))) ∷ marked 7 (Phase 2) ∷ marked 6 (Called (commands.Epoch 2)) ∷
-    marked 6 (Sent 10 0 (messages.Close 2)) ∷ marked 6 (Sent 11 1 (messages.Close 2)) ∷ marked 0 (Got 10) ∷
-    marked 0 (Wrote (records.Close 2)) ∷
-    marked 0 (Sent 12 6 (messages.Answer 10 (answers.Shut 0 [] (prepared (tx 0 1) 1 [] (own_line 1 0 3 ∷ []) [] ∷ []))))
-    ∷
-    marked 1 (Got 11) ∷ marked 1 (Wrote (records.Close 2)) ∷
-    marked 1 (Sent 13 6 (messages.Answer 11 (answers.Shut 0 [] (prepared (tx 0 1) 1 [] (own_line 1 0 3 ∷ []) [] ∷ []))))
-    ∷
-    marked 6 (Got 12) ∷ marked 6 (Got 13) ∷ marked 6 (Sent 14 3 (messages.Ask (tx 0 1))) ∷ marked 6 (Lost 14) ∷
+    take 42 ask_lost.history ++
     marked 6 (Wrote (records.Decide 2 1 (line 1 0 1 1 0 3 ∷ []))) ∷ []

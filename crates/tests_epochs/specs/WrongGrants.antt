@@ -1,213 +1,33 @@
 -- Wrong histories: sites that grant what the next epoch doesn't let them.
-use Rattle.std.specs.Prelude.{List, [], ◌∷◌, Some}
+use Rattle.std.specs.Prelude.{List, [], ◌∷◌, ◌++◌, take}
 use Rattle.qc_msg.specs.Steps.{Entry, marked}
-use Rattle.tests_histories.specs.Words.{tx, stamp, line, own_line, operation, read_lock, prepare, commit}
-use Rattle.qc_msg.specs.declared.step.Step.TheVariants.{Phase, Called, Got, Wrote, Sent, Told}
-use Rattle.tests_epochs.specs.Words.{prepared}
+use Rattle.tests_histories.specs.Words.{line}
+use Rattle.qc_msg.specs.declared.step.Step.TheVariants.{Sent}
 use Rattle.qc_msg.specs.declared.message.Answer.TheVariants as answers
-use Rattle.qc_msg.specs.declared.step.Command.TheVariants as commands
 use Rattle.qc_msg.specs.declared.message.Message.TheVariants as messages
-use Rattle.qc_msg.specs.declared.message.Outcome.TheVariants as outcomes
-use Rattle.qc_msg.specs.declared.record.Record.TheVariants as records
-use Rattle.qc_msg.specs.declared.reply.Reply.TheVariants as replies
-use Rattle.qc_msg.specs.declared.message.Want.TheVariants as wants
+use Rattle.tests_epochs.specs.MovedOnce as moved_once
+use Rattle.tests_epochs.specs.StampsPassReads as stamps_pass_reads
 
 -- A site grants in an epoch that it left.
 abbrev pub granted_in_a_closed_epoch : List Entry
 granted_in_a_closed_epoch =
-    marked 7 (Phase 1) ∷ marked 3 (Called commands.Begin) ∷ marked 3 (Told (replies.Began (tx 0 1))) ∷
-    marked 3 (Called (commands.Do 0 2)) ∷
-    marked 3 (Sent 0 0 (messages.Request (tx 0 1) 1 0 (wants.Append 0 [] (own_line 1 0 3 ∷ [])))) ∷
-    marked 3 (Sent 1 1 (messages.Request (tx 0 1) 1 0 (wants.Append 0 [] (own_line 1 0 3 ∷ [])))) ∷ marked 0 (Got 0) ∷
-    marked 0 (Sent 2 3 (messages.Answer 0 (answers.Granted 1 0 []))) ∷ marked 1 (Got 1) ∷
-    marked 1 (Sent 3 3 (messages.Answer 1 (answers.Granted 1 0 []))) ∷ marked 3 (Got 2) ∷ marked 3 (Got 3) ∷
-    marked 3 (Told (replies.Response 2)) ∷ marked 3 (Called commands.Commit) ∷
-    marked 3 (Sent 4 0 (messages.Request (tx 0 1) 1 1 wants.Prepare)) ∷
-    marked 3 (Sent 5 1 (messages.Request (tx 0 1) 1 1 wants.Prepare)) ∷ marked 0 (Got 4) ∷
-    marked 0 (Wrote (prepare (tx 0 1) 1 [] (own_line 1 0 3 ∷ []) [])) ∷
-    marked 0 (Sent 6 3 (messages.Answer 4 (answers.Yes 0))) ∷ marked 1 (Got 5) ∷
-    marked 1 (Wrote (prepare (tx 0 1) 1 [] (own_line 1 0 3 ∷ []) [])) ∷
-    marked 1 (Sent 7 3 (messages.Answer 5 (answers.Yes 0))) ∷ marked 3 (Got 6) ∷ marked 3 (Got 7) ∷
-    marked 3 (Wrote (commit (stamp 1 0) (tx 0 1) (operation 0 2 (Some 2) ∷ []))) ∷
-    marked 3 (Sent 8 0 (messages.Decision (tx 0 1) (outcomes.Committed (stamp 1 0)))) ∷
-    marked 3 (Sent 9 1 (messages.Decision (tx 0 1) (outcomes.Committed (stamp 1 0)))) ∷
-    marked 3 (Told (replies.Committed (stamp 1 0))) ∷ marked 0 (Got 8) ∷ marked 0 (Wrote (records.Done (tx 0 1) 1)) ∷
-    marked 1 (Got 9) ∷ marked 1 (Wrote (records.Done (tx 0 1) 1)) ∷ marked 7 (Phase 2) ∷
-    marked 6 (Called (commands.Epoch 2)) ∷ marked 6 (Sent 10 0 (messages.Close 2)) ∷
-    marked 6 (Sent 11 1 (messages.Close 2)) ∷ marked 0 (Got 10) ∷ marked 0 (Wrote (records.Close 2)) ∷
-    marked 0 (Sent 12 6 (messages.Answer 10 (answers.Shut 1 (line 1 0 1 1 0 3 ∷ []) []))) ∷ marked 1 (Got 11) ∷
-    marked 1 (Wrote (records.Close 2)) ∷
-    marked 1 (Sent 13 6 (messages.Answer 11 (answers.Shut 1 (line 1 0 1 1 0 3 ∷ []) []))) ∷ marked 6 (Got 12) ∷
-    marked 6 (Got 13) ∷ marked 6 (Wrote (records.Decide 2 1 (line 1 0 1 1 0 3 ∷ []))) ∷
-    marked 6 (Sent 14 0 (messages.Install 2 1 (line 1 0 1 1 0 3 ∷ []))) ∷
-    marked 6 (Sent 15 1 (messages.Install 2 1 (line 1 0 1 1 0 3 ∷ []))) ∷
-    marked 6 (Sent 16 2 (messages.Install 2 1 (line 1 0 1 1 0 3 ∷ []))) ∷ marked 0 (Got 14) ∷
-    marked 0 (Wrote (records.Install 2 1 (line 1 0 1 1 0 3 ∷ []))) ∷
-    marked 0 (Sent 17 6 (messages.Answer 14 answers.Installed)) ∷ marked 1 (Got 15) ∷
-    marked 1 (Wrote (records.Install 2 1 (line 1 0 1 1 0 3 ∷ []))) ∷
-    marked 1 (Sent 18 6 (messages.Answer 15 answers.Installed)) ∷ marked 2 (Got 16) ∷
-    marked 2 (Wrote (records.Install 2 1 (line 1 0 1 1 0 3 ∷ []))) ∷
-    marked 2 (Sent 19 6 (messages.Answer 16 answers.Installed)) ∷ marked 6 (Got 17) ∷ marked 6 (Got 18) ∷
-    marked 6 (Got 19) ∷ marked 6 (Told (replies.Moved 3 7)) ∷ marked 7 (Phase 3) ∷ marked 4 (Called commands.Begin) ∷
-    marked 4 (Told (replies.Began (tx 1 1))) ∷ marked 4 (Called (commands.Do 0 0)) ∷
-    marked 4 (Sent 20 1 (messages.Request (tx 1 1) 1 0 (wants.Read 0 0))) ∷
-    marked 4 (Sent 21 2 (messages.Request (tx 1 1) 1 0 (wants.Read 0 0))) ∷ marked 1 (Got 20) ∷
+    take 68 moved_once.history ++
     marked 1 (Sent 22 4 (messages.Answer 20 (answers.Granted 2 1 []))) ∷ []
 
 -- A grant leaves out the lines that the epoch began with.
 abbrev pub granted_without_installed_lines : List Entry
 granted_without_installed_lines =
-    marked 7 (Phase 1) ∷ marked 3 (Called commands.Begin) ∷ marked 3 (Told (replies.Began (tx 0 1))) ∷
-    marked 3 (Called (commands.Do 0 2)) ∷
-    marked 3 (Sent 0 0 (messages.Request (tx 0 1) 1 0 (wants.Append 0 [] (own_line 1 0 3 ∷ [])))) ∷
-    marked 3 (Sent 1 1 (messages.Request (tx 0 1) 1 0 (wants.Append 0 [] (own_line 1 0 3 ∷ [])))) ∷ marked 0 (Got 0) ∷
-    marked 0 (Sent 2 3 (messages.Answer 0 (answers.Granted 1 0 []))) ∷ marked 1 (Got 1) ∷
-    marked 1 (Sent 3 3 (messages.Answer 1 (answers.Granted 1 0 []))) ∷ marked 3 (Got 2) ∷ marked 3 (Got 3) ∷
-    marked 3 (Told (replies.Response 2)) ∷ marked 3 (Called commands.Commit) ∷
-    marked 3 (Sent 4 0 (messages.Request (tx 0 1) 1 1 wants.Prepare)) ∷
-    marked 3 (Sent 5 1 (messages.Request (tx 0 1) 1 1 wants.Prepare)) ∷ marked 0 (Got 4) ∷
-    marked 0 (Wrote (prepare (tx 0 1) 1 [] (own_line 1 0 3 ∷ []) [])) ∷
-    marked 0 (Sent 6 3 (messages.Answer 4 (answers.Yes 0))) ∷ marked 1 (Got 5) ∷
-    marked 1 (Wrote (prepare (tx 0 1) 1 [] (own_line 1 0 3 ∷ []) [])) ∷
-    marked 1 (Sent 7 3 (messages.Answer 5 (answers.Yes 0))) ∷ marked 3 (Got 6) ∷ marked 3 (Got 7) ∷
-    marked 3 (Wrote (commit (stamp 1 0) (tx 0 1) (operation 0 2 (Some 2) ∷ []))) ∷
-    marked 3 (Sent 8 0 (messages.Decision (tx 0 1) (outcomes.Committed (stamp 1 0)))) ∷
-    marked 3 (Sent 9 1 (messages.Decision (tx 0 1) (outcomes.Committed (stamp 1 0)))) ∷
-    marked 3 (Told (replies.Committed (stamp 1 0))) ∷ marked 0 (Got 8) ∷ marked 0 (Wrote (records.Done (tx 0 1) 1)) ∷
-    marked 1 (Got 9) ∷ marked 1 (Wrote (records.Done (tx 0 1) 1)) ∷ marked 7 (Phase 2) ∷
-    marked 6 (Called (commands.Epoch 2)) ∷ marked 6 (Sent 10 0 (messages.Close 2)) ∷
-    marked 6 (Sent 11 1 (messages.Close 2)) ∷ marked 0 (Got 10) ∷ marked 0 (Wrote (records.Close 2)) ∷
-    marked 0 (Sent 12 6 (messages.Answer 10 (answers.Shut 1 (line 1 0 1 1 0 3 ∷ []) []))) ∷ marked 1 (Got 11) ∷
-    marked 1 (Wrote (records.Close 2)) ∷
-    marked 1 (Sent 13 6 (messages.Answer 11 (answers.Shut 1 (line 1 0 1 1 0 3 ∷ []) []))) ∷ marked 6 (Got 12) ∷
-    marked 6 (Got 13) ∷ marked 6 (Wrote (records.Decide 2 1 (line 1 0 1 1 0 3 ∷ []))) ∷
-    marked 6 (Sent 14 0 (messages.Install 2 1 (line 1 0 1 1 0 3 ∷ []))) ∷
-    marked 6 (Sent 15 1 (messages.Install 2 1 (line 1 0 1 1 0 3 ∷ []))) ∷
-    marked 6 (Sent 16 2 (messages.Install 2 1 (line 1 0 1 1 0 3 ∷ []))) ∷ marked 0 (Got 14) ∷
-    marked 0 (Wrote (records.Install 2 1 (line 1 0 1 1 0 3 ∷ []))) ∷
-    marked 0 (Sent 17 6 (messages.Answer 14 answers.Installed)) ∷ marked 1 (Got 15) ∷
-    marked 1 (Wrote (records.Install 2 1 (line 1 0 1 1 0 3 ∷ []))) ∷
-    marked 1 (Sent 18 6 (messages.Answer 15 answers.Installed)) ∷ marked 2 (Got 16) ∷
-    marked 2 (Wrote (records.Install 2 1 (line 1 0 1 1 0 3 ∷ []))) ∷
-    marked 2 (Sent 19 6 (messages.Answer 16 answers.Installed)) ∷ marked 6 (Got 17) ∷ marked 6 (Got 18) ∷
-    marked 6 (Got 19) ∷ marked 6 (Told (replies.Moved 3 7)) ∷ marked 7 (Phase 3) ∷ marked 4 (Called commands.Begin) ∷
-    marked 4 (Told (replies.Began (tx 1 1))) ∷ marked 4 (Called (commands.Do 0 0)) ∷
-    marked 4 (Sent 20 1 (messages.Request (tx 1 1) 1 0 (wants.Read 0 0))) ∷
-    marked 4 (Sent 21 2 (messages.Request (tx 1 1) 1 0 (wants.Read 0 0))) ∷ marked 1 (Got 20) ∷
-    marked 1 (Sent 22 4 (messages.Answer 20 (answers.Closed 2))) ∷ marked 2 (Got 21) ∷
-    marked 2 (Sent 23 4 (messages.Answer 21 (answers.Closed 2))) ∷ marked 4 (Got 22) ∷ marked 4 (Got 23) ∷
-    marked 4 (Told (replies.Closed 2 1)) ∷ marked 4 (Called commands.Abort) ∷
-    marked 4 (Sent 24 1 (messages.Decision (tx 1 1) outcomes.Aborted)) ∷
-    marked 4 (Sent 25 2 (messages.Decision (tx 1 1) outcomes.Aborted)) ∷ marked 4 (Told replies.Dropped) ∷
-    marked 1 (Got 24) ∷ marked 2 (Got 25) ∷ marked 4 (Called commands.Begin) ∷
-    marked 4 (Told (replies.Began (tx 1 2))) ∷ marked 4 (Called (commands.Do 0 0)) ∷
-    marked 4 (Sent 26 1 (messages.Request (tx 1 2) 2 0 (wants.Read 0 0))) ∷ marked 1 (Got 26) ∷
+    take 85 moved_once.history ++
     marked 1 (Sent 27 4 (messages.Answer 26 (answers.Granted 2 1 []))) ∷ []
 
 -- A grant's clock doesn't pass the epoch's.
 abbrev pub granted_below_installed_clock : List Entry
 granted_below_installed_clock =
-    marked 7 (Phase 1) ∷ marked 3 (Called commands.Begin) ∷ marked 3 (Told (replies.Began (tx 0 1))) ∷
-    marked 3 (Called commands.Commit) ∷ marked 3 (Wrote (commit (stamp 1 0) (tx 0 1) [])) ∷
-    marked 3 (Told (replies.Committed (stamp 1 0))) ∷ marked 3 (Called commands.Begin) ∷
-    marked 3 (Told (replies.Began (tx 0 2))) ∷ marked 3 (Called commands.Commit) ∷
-    marked 3 (Wrote (commit (stamp 2 0) (tx 0 2) [])) ∷ marked 3 (Told (replies.Committed (stamp 2 0))) ∷
-    marked 3 (Called commands.Begin) ∷ marked 3 (Told (replies.Began (tx 0 3))) ∷ marked 3 (Called commands.Commit) ∷
-    marked 3 (Wrote (commit (stamp 3 0) (tx 0 3) [])) ∷ marked 3 (Told (replies.Committed (stamp 3 0))) ∷
-    marked 3 (Called commands.Begin) ∷ marked 3 (Told (replies.Began (tx 0 4))) ∷ marked 3 (Called (commands.Do 0 0)) ∷
-    marked 3 (Sent 0 0 (messages.Request (tx 0 4) 1 0 (wants.Read 0 0))) ∷
-    marked 3 (Sent 1 1 (messages.Request (tx 0 4) 1 0 (wants.Read 0 0))) ∷ marked 0 (Got 0) ∷
-    marked 0 (Sent 2 3 (messages.Answer 0 (answers.Granted 1 0 []))) ∷ marked 1 (Got 1) ∷
-    marked 1 (Sent 3 3 (messages.Answer 1 (answers.Granted 1 0 []))) ∷ marked 3 (Got 2) ∷ marked 3 (Got 3) ∷
-    marked 3 (Told (replies.Response 0)) ∷ marked 3 (Called commands.Commit) ∷
-    marked 3 (Sent 4 0 (messages.Request (tx 0 4) 1 1 wants.Prepare)) ∷
-    marked 3 (Sent 5 1 (messages.Request (tx 0 4) 1 1 wants.Prepare)) ∷ marked 0 (Got 4) ∷
-    marked 0 (Wrote (prepare (tx 0 4) 1 (read_lock 0 0 ∷ []) [] [])) ∷
-    marked 0 (Sent 6 3 (messages.Answer 4 (answers.Yes 0))) ∷ marked 1 (Got 5) ∷
-    marked 1 (Wrote (prepare (tx 0 4) 1 (read_lock 0 0 ∷ []) [] [])) ∷
-    marked 1 (Sent 7 3 (messages.Answer 5 (answers.Yes 0))) ∷ marked 3 (Got 6) ∷ marked 3 (Got 7) ∷
-    marked 3 (Wrote (commit (stamp 4 0) (tx 0 4) (operation 0 0 (Some 0) ∷ []))) ∷
-    marked 3 (Sent 8 0 (messages.Decision (tx 0 4) (outcomes.Committed (stamp 4 0)))) ∷
-    marked 3 (Sent 9 1 (messages.Decision (tx 0 4) (outcomes.Committed (stamp 4 0)))) ∷
-    marked 3 (Told (replies.Committed (stamp 4 0))) ∷ marked 7 (Phase 2) ∷ marked 6 (Called (commands.Epoch 2)) ∷
-    marked 6 (Sent 10 0 (messages.Close 2)) ∷ marked 6 (Sent 11 1 (messages.Close 2)) ∷ marked 0 (Got 10) ∷
-    marked 0 (Wrote (records.Close 2)) ∷
-    marked 0 (Sent 12 6 (messages.Answer 10 (answers.Shut 0 [] (prepared (tx 0 4) 1 (read_lock 0 0 ∷ []) [] [] ∷ []))))
-    ∷
-    marked 1 (Got 11) ∷ marked 1 (Wrote (records.Close 2)) ∷
-    marked 1 (Sent 13 6 (messages.Answer 11 (answers.Shut 0 [] (prepared (tx 0 4) 1 (read_lock 0 0 ∷ []) [] [] ∷ []))))
-    ∷
-    marked 6 (Got 12) ∷ marked 6 (Got 13) ∷ marked 6 (Sent 14 3 (messages.Ask (tx 0 4))) ∷ marked 3 (Got 14) ∷
-    marked 3 (Sent 15 6 (messages.Answer 14 (answers.Answered (outcomes.Committed (stamp 4 0))))) ∷ marked 6 (Got 15) ∷
-    marked 6 (Wrote (records.Decide 2 4 [])) ∷ marked 6 (Sent 16 0 (messages.Install 2 4 [])) ∷
-    marked 6 (Sent 17 1 (messages.Install 2 4 [])) ∷ marked 6 (Sent 18 2 (messages.Install 2 4 [])) ∷
-    marked 0 (Got 16) ∷ marked 0 (Wrote (records.Install 2 4 [])) ∷
-    marked 0 (Sent 19 6 (messages.Answer 16 answers.Installed)) ∷ marked 1 (Got 17) ∷
-    marked 1 (Wrote (records.Install 2 4 [])) ∷ marked 1 (Sent 20 6 (messages.Answer 17 answers.Installed)) ∷
-    marked 2 (Got 18) ∷ marked 2 (Wrote (records.Install 2 4 [])) ∷
-    marked 2 (Sent 21 6 (messages.Answer 18 answers.Installed)) ∷ marked 6 (Got 19) ∷ marked 6 (Got 20) ∷
-    marked 6 (Got 21) ∷ marked 6 (Told (replies.Moved 3 7)) ∷ marked 7 (Phase 3) ∷ marked 4 (Called commands.Begin) ∷
-    marked 4 (Told (replies.Began (tx 1 1))) ∷ marked 4 (Called (commands.Do 0 2)) ∷
-    marked 4 (Sent 22 1 (messages.Request (tx 1 1) 1 0 (wants.Append 0 [] (own_line 1 0 3 ∷ [])))) ∷
-    marked 4 (Sent 23 2 (messages.Request (tx 1 1) 1 0 (wants.Append 0 [] (own_line 1 0 3 ∷ [])))) ∷ marked 1 (Got 22) ∷
-    marked 1 (Sent 24 4 (messages.Answer 22 (answers.Closed 2))) ∷ marked 2 (Got 23) ∷
-    marked 2 (Sent 25 4 (messages.Answer 23 (answers.Closed 2))) ∷ marked 4 (Got 24) ∷ marked 4 (Got 25) ∷
-    marked 4 (Told (replies.Closed 2 1)) ∷ marked 4 (Called commands.Abort) ∷
-    marked 4 (Sent 26 1 (messages.Decision (tx 1 1) outcomes.Aborted)) ∷
-    marked 4 (Sent 27 2 (messages.Decision (tx 1 1) outcomes.Aborted)) ∷ marked 4 (Told replies.Dropped) ∷
-    marked 1 (Got 26) ∷ marked 2 (Got 27) ∷ marked 4 (Called commands.Begin) ∷
-    marked 4 (Told (replies.Began (tx 1 2))) ∷ marked 4 (Called (commands.Do 0 2)) ∷
-    marked 4 (Sent 28 1 (messages.Request (tx 1 2) 2 0 (wants.Append 0 [] (own_line 1 0 3 ∷ [])))) ∷
-    marked 4 (Sent 29 2 (messages.Request (tx 1 2) 2 0 (wants.Append 0 [] (own_line 1 0 3 ∷ [])))) ∷
-    marked 4 (Sent 30 0 (messages.Request (tx 1 2) 2 0 (wants.Append 0 [] (own_line 1 0 3 ∷ [])))) ∷ marked 1 (Got 28) ∷
+    take 102 stamps_pass_reads.history ++
     marked 1 (Sent 31 4 (messages.Answer 28 (answers.Granted 2 0 []))) ∷ []
 
 -- A site that has closed grants in its first life.
 abbrev pub granted_in_the_first_life : List Entry
 granted_in_the_first_life =
-    marked 7 (Phase 1) ∷ marked 3 (Called commands.Begin) ∷ marked 3 (Told (replies.Began (tx 0 1))) ∷
-    marked 3 (Called (commands.Do 0 2)) ∷
-    marked 3 (Sent 0 0 (messages.Request (tx 0 1) 1 0 (wants.Append 0 [] (own_line 1 0 3 ∷ [])))) ∷
-    marked 3 (Sent 1 1 (messages.Request (tx 0 1) 1 0 (wants.Append 0 [] (own_line 1 0 3 ∷ [])))) ∷ marked 0 (Got 0) ∷
-    marked 0 (Sent 2 3 (messages.Answer 0 (answers.Granted 1 0 []))) ∷ marked 1 (Got 1) ∷
-    marked 1 (Sent 3 3 (messages.Answer 1 (answers.Granted 1 0 []))) ∷ marked 3 (Got 2) ∷ marked 3 (Got 3) ∷
-    marked 3 (Told (replies.Response 2)) ∷ marked 3 (Called commands.Commit) ∷
-    marked 3 (Sent 4 0 (messages.Request (tx 0 1) 1 1 wants.Prepare)) ∷
-    marked 3 (Sent 5 1 (messages.Request (tx 0 1) 1 1 wants.Prepare)) ∷ marked 0 (Got 4) ∷
-    marked 0 (Wrote (prepare (tx 0 1) 1 [] (own_line 1 0 3 ∷ []) [])) ∷
-    marked 0 (Sent 6 3 (messages.Answer 4 (answers.Yes 0))) ∷ marked 1 (Got 5) ∷
-    marked 1 (Wrote (prepare (tx 0 1) 1 [] (own_line 1 0 3 ∷ []) [])) ∷
-    marked 1 (Sent 7 3 (messages.Answer 5 (answers.Yes 0))) ∷ marked 3 (Got 6) ∷ marked 3 (Got 7) ∷
-    marked 3 (Wrote (commit (stamp 1 0) (tx 0 1) (operation 0 2 (Some 2) ∷ []))) ∷
-    marked 3 (Sent 8 0 (messages.Decision (tx 0 1) (outcomes.Committed (stamp 1 0)))) ∷
-    marked 3 (Sent 9 1 (messages.Decision (tx 0 1) (outcomes.Committed (stamp 1 0)))) ∷
-    marked 3 (Told (replies.Committed (stamp 1 0))) ∷ marked 0 (Got 8) ∷ marked 0 (Wrote (records.Done (tx 0 1) 1)) ∷
-    marked 1 (Got 9) ∷ marked 1 (Wrote (records.Done (tx 0 1) 1)) ∷ marked 7 (Phase 2) ∷
-    marked 6 (Called (commands.Epoch 2)) ∷ marked 6 (Sent 10 0 (messages.Close 2)) ∷
-    marked 6 (Sent 11 1 (messages.Close 2)) ∷ marked 0 (Got 10) ∷ marked 0 (Wrote (records.Close 2)) ∷
-    marked 0 (Sent 12 6 (messages.Answer 10 (answers.Shut 1 (line 1 0 1 1 0 3 ∷ []) []))) ∷ marked 1 (Got 11) ∷
-    marked 1 (Wrote (records.Close 2)) ∷
-    marked 1 (Sent 13 6 (messages.Answer 11 (answers.Shut 1 (line 1 0 1 1 0 3 ∷ []) []))) ∷ marked 6 (Got 12) ∷
-    marked 6 (Got 13) ∷ marked 6 (Wrote (records.Decide 2 1 (line 1 0 1 1 0 3 ∷ []))) ∷
-    marked 6 (Sent 14 0 (messages.Install 2 1 (line 1 0 1 1 0 3 ∷ []))) ∷
-    marked 6 (Sent 15 1 (messages.Install 2 1 (line 1 0 1 1 0 3 ∷ []))) ∷
-    marked 6 (Sent 16 2 (messages.Install 2 1 (line 1 0 1 1 0 3 ∷ []))) ∷ marked 0 (Got 14) ∷
-    marked 0 (Wrote (records.Install 2 1 (line 1 0 1 1 0 3 ∷ []))) ∷
-    marked 0 (Sent 17 6 (messages.Answer 14 answers.Installed)) ∷ marked 1 (Got 15) ∷
-    marked 1 (Wrote (records.Install 2 1 (line 1 0 1 1 0 3 ∷ []))) ∷
-    marked 1 (Sent 18 6 (messages.Answer 15 answers.Installed)) ∷ marked 2 (Got 16) ∷
-    marked 2 (Wrote (records.Install 2 1 (line 1 0 1 1 0 3 ∷ []))) ∷
-    marked 2 (Sent 19 6 (messages.Answer 16 answers.Installed)) ∷ marked 6 (Got 17) ∷ marked 6 (Got 18) ∷
-    marked 6 (Got 19) ∷ marked 6 (Told (replies.Moved 3 7)) ∷ marked 7 (Phase 3) ∷ marked 4 (Called commands.Begin) ∷
-    marked 4 (Told (replies.Began (tx 1 1))) ∷ marked 4 (Called (commands.Do 0 0)) ∷
-    marked 4 (Sent 20 1 (messages.Request (tx 1 1) 1 0 (wants.Read 0 0))) ∷
-    marked 4 (Sent 21 2 (messages.Request (tx 1 1) 1 0 (wants.Read 0 0))) ∷ marked 1 (Got 20) ∷
-    marked 1 (Sent 22 4 (messages.Answer 20 (answers.Closed 2))) ∷ marked 2 (Got 21) ∷
-    marked 2 (Sent 23 4 (messages.Answer 21 (answers.Closed 2))) ∷ marked 4 (Got 22) ∷ marked 4 (Got 23) ∷
-    marked 4 (Told (replies.Closed 2 1)) ∷ marked 4 (Called commands.Abort) ∷
-    marked 4 (Sent 24 1 (messages.Decision (tx 1 1) outcomes.Aborted)) ∷
-    marked 4 (Sent 25 2 (messages.Decision (tx 1 1) outcomes.Aborted)) ∷ marked 4 (Told replies.Dropped) ∷
-    marked 1 (Got 24) ∷ marked 2 (Got 25) ∷ marked 4 (Called commands.Begin) ∷
-    marked 4 (Told (replies.Began (tx 1 2))) ∷ marked 4 (Called (commands.Do 0 0)) ∷
-    marked 4 (Sent 26 1 (messages.Request (tx 1 2) 2 0 (wants.Read 0 0))) ∷ marked 1 (Got 26) ∷
+    take 85 moved_once.history ++
     marked 1 (Sent 27 4 (messages.Answer 26 (answers.Granted 1 1 (line 1 0 1 1 0 3 ∷ [])))) ∷ []

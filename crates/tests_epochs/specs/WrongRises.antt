@@ -1,47 +1,21 @@
 -- Wrong histories: the administrator's other deeds as he rises, and while he is down.
-use Rattle.std.specs.Prelude.{List, [], ◌∷◌, Some, None}
+use Rattle.std.specs.Prelude.{List, [], ◌∷◌, ◌++◌, take}
 use Rattle.qc_msg.specs.Steps.{Entry, marked}
-use Rattle.tests_histories.specs.Words.{tx, stamp, line, own_line, operation, prepare, commit}
-use Rattle.qc_msg.specs.declared.step.Step.TheVariants.{Phase, Called, Got, Wrote, Sent, Told, Armed, Fell, Rose}
+use Rattle.tests_histories.specs.Words.{line}
+use Rattle.qc_msg.specs.declared.step.Step.TheVariants.{Called, Got, Wrote, Sent, Told}
 use Rattle.qc_msg.specs.declared.message.Answer.TheVariants as answers
 use Rattle.qc_msg.specs.declared.step.Command.TheVariants as commands
 use Rattle.qc_msg.specs.declared.message.Message.TheVariants as messages
-use Rattle.qc_msg.specs.declared.message.Outcome.TheVariants as outcomes
 use Rattle.qc_msg.specs.declared.record.Record.TheVariants as records
 use Rattle.qc_msg.specs.declared.reply.Reply.TheVariants as replies
-use Rattle.qc_msg.specs.declared.message.Want.TheVariants as wants
-use Rattle.qc_msg.specs.declared.step.Fall.TheVariants as falls
-use Rattle.qc_outside.specs.declared.disk.ArmKind.TheVariants as arms
+use Rattle.tests_epochs.specs.DecideStops as decide_stops
+use Rattle.tests_epochs.specs.InstalledAgain as installed_again
+use Rattle.tests_epochs.specs.AdministratorDown as administrator_down
 
 -- A decision is installed that he didn't rise with.
 abbrev pub a_lost_decision_installed : List Entry
 a_lost_decision_installed =
-    marked 7 (Phase 1) ∷ marked 3 (Called commands.Begin) ∷ marked 3 (Told (replies.Began (tx 0 1))) ∷
-    marked 3 (Called (commands.Do 0 2)) ∷
-    marked 3 (Sent 0 0 (messages.Request (tx 0 1) 1 0 (wants.Append 0 [] (own_line 1 0 3 ∷ [])))) ∷
-    marked 3 (Sent 1 1 (messages.Request (tx 0 1) 1 0 (wants.Append 0 [] (own_line 1 0 3 ∷ [])))) ∷ marked 0 (Got 0) ∷
-    marked 0 (Sent 2 3 (messages.Answer 0 (answers.Granted 1 0 []))) ∷ marked 1 (Got 1) ∷
-    marked 1 (Sent 3 3 (messages.Answer 1 (answers.Granted 1 0 []))) ∷ marked 3 (Got 2) ∷ marked 3 (Got 3) ∷
-    marked 3 (Told (replies.Response 2)) ∷ marked 3 (Called commands.Commit) ∷
-    marked 3 (Sent 4 0 (messages.Request (tx 0 1) 1 1 wants.Prepare)) ∷
-    marked 3 (Sent 5 1 (messages.Request (tx 0 1) 1 1 wants.Prepare)) ∷ marked 0 (Got 4) ∷
-    marked 0 (Wrote (prepare (tx 0 1) 1 [] (own_line 1 0 3 ∷ []) [])) ∷
-    marked 0 (Sent 6 3 (messages.Answer 4 (answers.Yes 0))) ∷ marked 1 (Got 5) ∷
-    marked 1 (Wrote (prepare (tx 0 1) 1 [] (own_line 1 0 3 ∷ []) [])) ∷
-    marked 1 (Sent 7 3 (messages.Answer 5 (answers.Yes 0))) ∷ marked 3 (Got 6) ∷ marked 3 (Got 7) ∷
-    marked 3 (Wrote (commit (stamp 1 0) (tx 0 1) (operation 0 2 (Some 2) ∷ []))) ∷
-    marked 3 (Sent 8 0 (messages.Decision (tx 0 1) (outcomes.Committed (stamp 1 0)))) ∷
-    marked 3 (Sent 9 1 (messages.Decision (tx 0 1) (outcomes.Committed (stamp 1 0)))) ∷
-    marked 3 (Told (replies.Committed (stamp 1 0))) ∷ marked 0 (Got 8) ∷ marked 0 (Wrote (records.Done (tx 0 1) 1)) ∷
-    marked 1 (Got 9) ∷ marked 1 (Wrote (records.Done (tx 0 1) 1)) ∷ marked 7 (Phase 2) ∷
-    marked 7 (Armed 6 arms.Stop 3) ∷ marked 6 (Called (commands.Epoch 2)) ∷ marked 6 (Sent 10 0 (messages.Close 2)) ∷
-    marked 6 (Sent 11 1 (messages.Close 2)) ∷ marked 0 (Got 10) ∷ marked 0 (Wrote (records.Close 2)) ∷
-    marked 0 (Sent 12 6 (messages.Answer 10 (answers.Shut 1 (line 1 0 1 1 0 3 ∷ []) []))) ∷ marked 1 (Got 11) ∷
-    marked 1 (Wrote (records.Close 2)) ∷
-    marked 1 (Sent 13 6 (messages.Answer 11 (answers.Shut 1 (line 1 0 1 1 0 3 ∷ []) []))) ∷ marked 6 (Got 12) ∷
-    marked 6 (Got 13) ∷ marked 6 (Told replies.Fault) ∷
-    marked 6 (Fell falls.Stop (Some (records.Decide 2 1 (line 1 0 1 1 0 3 ∷ [])))) ∷ marked 7 (Phase 3) ∷
-    marked 6 (Rose []) ∷ marked 6 (Wrote records.Life) ∷ marked 6 (Called (commands.Epoch 2)) ∷
+    take 51 decide_stops.history ++
     marked 6 (Sent 14 0 (messages.Install 2 1 (line 1 0 1 1 0 3 ∷ []))) ∷
     marked 6 (Sent 15 1 (messages.Install 2 1 (line 1 0 1 1 0 3 ∷ []))) ∷
     marked 6 (Sent 16 2 (messages.Install 2 1 (line 1 0 1 1 0 3 ∷ []))) ∷ marked 0 (Got 14) ∷
@@ -56,121 +30,19 @@ a_lost_decision_installed =
 -- What a site told before he fell counts.
 abbrev pub a_shut_of_before_his_fall : List Entry
 a_shut_of_before_his_fall =
-    marked 7 (Phase 1) ∷ marked 3 (Called commands.Begin) ∷ marked 3 (Told (replies.Began (tx 0 1))) ∷
-    marked 3 (Called (commands.Do 0 2)) ∷
-    marked 3 (Sent 0 0 (messages.Request (tx 0 1) 1 0 (wants.Append 0 [] (own_line 1 0 3 ∷ [])))) ∷
-    marked 3 (Sent 1 1 (messages.Request (tx 0 1) 1 0 (wants.Append 0 [] (own_line 1 0 3 ∷ [])))) ∷ marked 0 (Got 0) ∷
-    marked 0 (Sent 2 3 (messages.Answer 0 (answers.Granted 1 0 []))) ∷ marked 1 (Got 1) ∷
-    marked 1 (Sent 3 3 (messages.Answer 1 (answers.Granted 1 0 []))) ∷ marked 3 (Got 2) ∷ marked 3 (Got 3) ∷
-    marked 3 (Told (replies.Response 2)) ∷ marked 3 (Called commands.Commit) ∷
-    marked 3 (Sent 4 0 (messages.Request (tx 0 1) 1 1 wants.Prepare)) ∷
-    marked 3 (Sent 5 1 (messages.Request (tx 0 1) 1 1 wants.Prepare)) ∷ marked 0 (Got 4) ∷
-    marked 0 (Wrote (prepare (tx 0 1) 1 [] (own_line 1 0 3 ∷ []) [])) ∷
-    marked 0 (Sent 6 3 (messages.Answer 4 (answers.Yes 0))) ∷ marked 1 (Got 5) ∷
-    marked 1 (Wrote (prepare (tx 0 1) 1 [] (own_line 1 0 3 ∷ []) [])) ∷
-    marked 1 (Sent 7 3 (messages.Answer 5 (answers.Yes 0))) ∷ marked 3 (Got 6) ∷ marked 3 (Got 7) ∷
-    marked 3 (Wrote (commit (stamp 1 0) (tx 0 1) (operation 0 2 (Some 2) ∷ []))) ∷
-    marked 3 (Sent 8 0 (messages.Decision (tx 0 1) (outcomes.Committed (stamp 1 0)))) ∷
-    marked 3 (Sent 9 1 (messages.Decision (tx 0 1) (outcomes.Committed (stamp 1 0)))) ∷
-    marked 3 (Told (replies.Committed (stamp 1 0))) ∷ marked 0 (Got 8) ∷ marked 0 (Wrote (records.Done (tx 0 1) 1)) ∷
-    marked 1 (Got 9) ∷ marked 1 (Wrote (records.Done (tx 0 1) 1)) ∷ marked 7 (Phase 2) ∷
-    marked 7 (Armed 6 arms.Stop 3) ∷ marked 6 (Called (commands.Epoch 2)) ∷ marked 6 (Sent 10 0 (messages.Close 2)) ∷
-    marked 6 (Sent 11 1 (messages.Close 2)) ∷ marked 0 (Got 10) ∷ marked 0 (Wrote (records.Close 2)) ∷
-    marked 0 (Sent 12 6 (messages.Answer 10 (answers.Shut 1 (line 1 0 1 1 0 3 ∷ []) []))) ∷ marked 1 (Got 11) ∷
-    marked 1 (Wrote (records.Close 2)) ∷
-    marked 1 (Sent 13 6 (messages.Answer 11 (answers.Shut 1 (line 1 0 1 1 0 3 ∷ []) []))) ∷ marked 6 (Got 12) ∷
-    marked 6 (Got 13) ∷ marked 6 (Told replies.Fault) ∷
-    marked 6 (Fell falls.Stop (Some (records.Decide 2 1 (line 1 0 1 1 0 3 ∷ [])))) ∷ marked 7 (Phase 3) ∷
-    marked 6 (Rose []) ∷ marked 6 (Wrote records.Life) ∷ marked 6 (Called (commands.Epoch 2)) ∷
-    marked 6 (Sent 14 0 (messages.Close 2)) ∷ marked 6 (Sent 15 1 (messages.Close 2)) ∷ marked 0 (Got 14) ∷
-    marked 0 (Sent 16 6 (messages.Answer 14 (answers.Shut 1 (line 1 0 1 1 0 3 ∷ []) []))) ∷ marked 1 (Got 15) ∷
-    marked 1 (Sent 17 6 (messages.Answer 15 (answers.Shut 1 (line 1 0 1 1 0 3 ∷ []) []))) ∷ marked 6 (Got 16) ∷
+    take 58 decide_stops.history ++
     marked 6 (Got 13) ∷ marked 6 (Wrote (records.Decide 2 1 (line 1 0 1 1 0 3 ∷ []))) ∷ []
 
 -- A risen administrator tells the sites as closed that had closed before.
 abbrev pub closed_before_his_fall : List Entry
 closed_before_his_fall =
-    marked 7 (Phase 1) ∷ marked 3 (Called commands.Begin) ∷ marked 3 (Told (replies.Began (tx 0 1))) ∷
-    marked 3 (Called (commands.Do 0 2)) ∷
-    marked 3 (Sent 0 0 (messages.Request (tx 0 1) 1 0 (wants.Append 0 [] (own_line 1 0 3 ∷ [])))) ∷
-    marked 3 (Sent 1 1 (messages.Request (tx 0 1) 1 0 (wants.Append 0 [] (own_line 1 0 3 ∷ [])))) ∷ marked 0 (Got 0) ∷
-    marked 0 (Sent 2 3 (messages.Answer 0 (answers.Granted 1 0 []))) ∷ marked 1 (Got 1) ∷
-    marked 1 (Sent 3 3 (messages.Answer 1 (answers.Granted 1 0 []))) ∷ marked 3 (Got 2) ∷ marked 3 (Got 3) ∷
-    marked 3 (Told (replies.Response 2)) ∷ marked 3 (Called commands.Commit) ∷
-    marked 3 (Sent 4 0 (messages.Request (tx 0 1) 1 1 wants.Prepare)) ∷
-    marked 3 (Sent 5 1 (messages.Request (tx 0 1) 1 1 wants.Prepare)) ∷ marked 0 (Got 4) ∷
-    marked 0 (Wrote (prepare (tx 0 1) 1 [] (own_line 1 0 3 ∷ []) [])) ∷
-    marked 0 (Sent 6 3 (messages.Answer 4 (answers.Yes 0))) ∷ marked 1 (Got 5) ∷
-    marked 1 (Wrote (prepare (tx 0 1) 1 [] (own_line 1 0 3 ∷ []) [])) ∷
-    marked 1 (Sent 7 3 (messages.Answer 5 (answers.Yes 0))) ∷ marked 3 (Got 6) ∷ marked 3 (Got 7) ∷
-    marked 3 (Wrote (commit (stamp 1 0) (tx 0 1) (operation 0 2 (Some 2) ∷ []))) ∷
-    marked 3 (Sent 8 0 (messages.Decision (tx 0 1) (outcomes.Committed (stamp 1 0)))) ∷
-    marked 3 (Sent 9 1 (messages.Decision (tx 0 1) (outcomes.Committed (stamp 1 0)))) ∷
-    marked 3 (Told (replies.Committed (stamp 1 0))) ∷ marked 0 (Got 8) ∷ marked 0 (Wrote (records.Done (tx 0 1) 1)) ∷
-    marked 1 (Got 9) ∷ marked 1 (Wrote (records.Done (tx 0 1) 1)) ∷ marked 7 (Phase 2) ∷
-    marked 6 (Called (commands.Epoch 2)) ∷ marked 6 (Sent 10 0 (messages.Close 2)) ∷
-    marked 6 (Sent 11 1 (messages.Close 2)) ∷ marked 0 (Got 10) ∷ marked 0 (Wrote (records.Close 2)) ∷
-    marked 0 (Sent 12 6 (messages.Answer 10 (answers.Shut 1 (line 1 0 1 1 0 3 ∷ []) []))) ∷ marked 1 (Got 11) ∷
-    marked 1 (Wrote (records.Close 2)) ∷
-    marked 1 (Sent 13 6 (messages.Answer 11 (answers.Shut 1 (line 1 0 1 1 0 3 ∷ []) []))) ∷ marked 6 (Got 12) ∷
-    marked 6 (Got 13) ∷ marked 6 (Wrote (records.Decide 2 1 (line 1 0 1 1 0 3 ∷ []))) ∷
-    marked 6 (Sent 14 0 (messages.Install 2 1 (line 1 0 1 1 0 3 ∷ []))) ∷
-    marked 6 (Sent 15 1 (messages.Install 2 1 (line 1 0 1 1 0 3 ∷ []))) ∷
-    marked 6 (Sent 16 2 (messages.Install 2 1 (line 1 0 1 1 0 3 ∷ []))) ∷ marked 0 (Got 14) ∷
-    marked 0 (Wrote (records.Install 2 1 (line 1 0 1 1 0 3 ∷ []))) ∷
-    marked 0 (Sent 17 6 (messages.Answer 14 answers.Installed)) ∷ marked 1 (Got 15) ∷
-    marked 1 (Wrote (records.Install 2 1 (line 1 0 1 1 0 3 ∷ []))) ∷
-    marked 1 (Sent 18 6 (messages.Answer 15 answers.Installed)) ∷ marked 2 (Got 16) ∷
-    marked 2 (Wrote (records.Install 2 1 (line 1 0 1 1 0 3 ∷ []))) ∷
-    marked 2 (Sent 19 6 (messages.Answer 16 answers.Installed)) ∷ marked 6 (Got 17) ∷ marked 6 (Got 18) ∷
-    marked 6 (Got 19) ∷ marked 6 (Told (replies.Moved 3 7)) ∷ marked 7 (Phase 3) ∷ marked 6 (Fell falls.Script None) ∷
-    marked 6 (Rose ((records.Decide 2 1 (line 1 0 1 1 0 3 ∷ [])) ∷ [])) ∷ marked 6 (Wrote records.Life) ∷
-    marked 6 (Called (commands.Epoch 2)) ∷ marked 6 (Sent 20 0 (messages.Install 2 1 (line 1 0 1 1 0 3 ∷ []))) ∷
-    marked 6 (Sent 21 1 (messages.Install 2 1 (line 1 0 1 1 0 3 ∷ []))) ∷
-    marked 6 (Sent 22 2 (messages.Install 2 1 (line 1 0 1 1 0 3 ∷ []))) ∷ marked 0 (Got 20) ∷
-    marked 0 (Sent 23 6 (messages.Answer 20 answers.Installed)) ∷ marked 1 (Got 21) ∷
-    marked 1 (Sent 24 6 (messages.Answer 21 answers.Installed)) ∷ marked 2 (Got 22) ∷
-    marked 2 (Sent 25 6 (messages.Answer 22 answers.Installed)) ∷ marked 6 (Got 23) ∷ marked 6 (Got 24) ∷
-    marked 6 (Got 25) ∷ marked 6 (Told (replies.Moved 3 7)) ∷ []
+    take 78 installed_again.history ++
+    marked 6 (Told (replies.Moved 3 7)) ∷ []
 
 -- He installs his decision as he rises, and nobody called.
 abbrev pub installs_as_he_rises : List Entry
 installs_as_he_rises =
-    marked 7 (Phase 1) ∷ marked 3 (Called commands.Begin) ∷ marked 3 (Told (replies.Began (tx 0 1))) ∷
-    marked 3 (Called (commands.Do 0 2)) ∷
-    marked 3 (Sent 0 0 (messages.Request (tx 0 1) 1 0 (wants.Append 0 [] (own_line 1 0 3 ∷ [])))) ∷
-    marked 3 (Sent 1 1 (messages.Request (tx 0 1) 1 0 (wants.Append 0 [] (own_line 1 0 3 ∷ [])))) ∷ marked 0 (Got 0) ∷
-    marked 0 (Sent 2 3 (messages.Answer 0 (answers.Granted 1 0 []))) ∷ marked 1 (Got 1) ∷
-    marked 1 (Sent 3 3 (messages.Answer 1 (answers.Granted 1 0 []))) ∷ marked 3 (Got 2) ∷ marked 3 (Got 3) ∷
-    marked 3 (Told (replies.Response 2)) ∷ marked 3 (Called commands.Commit) ∷
-    marked 3 (Sent 4 0 (messages.Request (tx 0 1) 1 1 wants.Prepare)) ∷
-    marked 3 (Sent 5 1 (messages.Request (tx 0 1) 1 1 wants.Prepare)) ∷ marked 0 (Got 4) ∷
-    marked 0 (Wrote (prepare (tx 0 1) 1 [] (own_line 1 0 3 ∷ []) [])) ∷
-    marked 0 (Sent 6 3 (messages.Answer 4 (answers.Yes 0))) ∷ marked 1 (Got 5) ∷
-    marked 1 (Wrote (prepare (tx 0 1) 1 [] (own_line 1 0 3 ∷ []) [])) ∷
-    marked 1 (Sent 7 3 (messages.Answer 5 (answers.Yes 0))) ∷ marked 3 (Got 6) ∷ marked 3 (Got 7) ∷
-    marked 3 (Wrote (commit (stamp 1 0) (tx 0 1) (operation 0 2 (Some 2) ∷ []))) ∷
-    marked 3 (Sent 8 0 (messages.Decision (tx 0 1) (outcomes.Committed (stamp 1 0)))) ∷
-    marked 3 (Sent 9 1 (messages.Decision (tx 0 1) (outcomes.Committed (stamp 1 0)))) ∷
-    marked 3 (Told (replies.Committed (stamp 1 0))) ∷ marked 0 (Got 8) ∷ marked 0 (Wrote (records.Done (tx 0 1) 1)) ∷
-    marked 1 (Got 9) ∷ marked 1 (Wrote (records.Done (tx 0 1) 1)) ∷ marked 7 (Phase 2) ∷
-    marked 6 (Called (commands.Epoch 2)) ∷ marked 6 (Sent 10 0 (messages.Close 2)) ∷
-    marked 6 (Sent 11 1 (messages.Close 2)) ∷ marked 0 (Got 10) ∷ marked 0 (Wrote (records.Close 2)) ∷
-    marked 0 (Sent 12 6 (messages.Answer 10 (answers.Shut 1 (line 1 0 1 1 0 3 ∷ []) []))) ∷ marked 1 (Got 11) ∷
-    marked 1 (Wrote (records.Close 2)) ∷
-    marked 1 (Sent 13 6 (messages.Answer 11 (answers.Shut 1 (line 1 0 1 1 0 3 ∷ []) []))) ∷ marked 6 (Got 12) ∷
-    marked 6 (Got 13) ∷ marked 6 (Wrote (records.Decide 2 1 (line 1 0 1 1 0 3 ∷ []))) ∷
-    marked 6 (Sent 14 0 (messages.Install 2 1 (line 1 0 1 1 0 3 ∷ []))) ∷
-    marked 6 (Sent 15 1 (messages.Install 2 1 (line 1 0 1 1 0 3 ∷ []))) ∷
-    marked 6 (Sent 16 2 (messages.Install 2 1 (line 1 0 1 1 0 3 ∷ []))) ∷ marked 0 (Got 14) ∷
-    marked 0 (Wrote (records.Install 2 1 (line 1 0 1 1 0 3 ∷ []))) ∷
-    marked 0 (Sent 17 6 (messages.Answer 14 answers.Installed)) ∷ marked 1 (Got 15) ∷
-    marked 1 (Wrote (records.Install 2 1 (line 1 0 1 1 0 3 ∷ []))) ∷
-    marked 1 (Sent 18 6 (messages.Answer 15 answers.Installed)) ∷ marked 2 (Got 16) ∷
-    marked 2 (Wrote (records.Install 2 1 (line 1 0 1 1 0 3 ∷ []))) ∷
-    marked 2 (Sent 19 6 (messages.Answer 16 answers.Installed)) ∷ marked 6 (Got 17) ∷ marked 6 (Got 18) ∷
-    marked 6 (Got 19) ∷ marked 6 (Told (replies.Moved 3 7)) ∷ marked 7 (Phase 3) ∷ marked 6 (Fell falls.Script None) ∷
-    marked 6 (Rose ((records.Decide 2 1 (line 1 0 1 1 0 3 ∷ [])) ∷ [])) ∷ marked 6 (Wrote records.Life) ∷
+    take 65 installed_again.history ++
     marked 6 (Sent 20 0 (messages.Install 2 1 (line 1 0 1 1 0 3 ∷ []))) ∷
     marked 6 (Sent 21 1 (messages.Install 2 1 (line 1 0 1 1 0 3 ∷ []))) ∷
     marked 6 (Sent 22 2 (messages.Install 2 1 (line 1 0 1 1 0 3 ∷ []))) ∷ []
@@ -178,102 +50,17 @@ installs_as_he_rises =
 -- He rises and writes no record of it.
 abbrev pub no_life_written : List Entry
 no_life_written =
-    marked 7 (Phase 1) ∷ marked 3 (Called commands.Begin) ∷ marked 3 (Told (replies.Began (tx 0 1))) ∷
-    marked 3 (Called (commands.Do 0 2)) ∷
-    marked 3 (Sent 0 0 (messages.Request (tx 0 1) 1 0 (wants.Append 0 [] (own_line 1 0 3 ∷ [])))) ∷
-    marked 3 (Sent 1 1 (messages.Request (tx 0 1) 1 0 (wants.Append 0 [] (own_line 1 0 3 ∷ [])))) ∷ marked 0 (Got 0) ∷
-    marked 0 (Sent 2 3 (messages.Answer 0 (answers.Granted 1 0 []))) ∷ marked 1 (Got 1) ∷
-    marked 1 (Sent 3 3 (messages.Answer 1 (answers.Granted 1 0 []))) ∷ marked 3 (Got 2) ∷ marked 3 (Got 3) ∷
-    marked 3 (Told (replies.Response 2)) ∷ marked 3 (Called commands.Commit) ∷
-    marked 3 (Sent 4 0 (messages.Request (tx 0 1) 1 1 wants.Prepare)) ∷
-    marked 3 (Sent 5 1 (messages.Request (tx 0 1) 1 1 wants.Prepare)) ∷ marked 0 (Got 4) ∷
-    marked 0 (Wrote (prepare (tx 0 1) 1 [] (own_line 1 0 3 ∷ []) [])) ∷
-    marked 0 (Sent 6 3 (messages.Answer 4 (answers.Yes 0))) ∷ marked 1 (Got 5) ∷
-    marked 1 (Wrote (prepare (tx 0 1) 1 [] (own_line 1 0 3 ∷ []) [])) ∷
-    marked 1 (Sent 7 3 (messages.Answer 5 (answers.Yes 0))) ∷ marked 3 (Got 6) ∷ marked 3 (Got 7) ∷
-    marked 3 (Wrote (commit (stamp 1 0) (tx 0 1) (operation 0 2 (Some 2) ∷ []))) ∷
-    marked 3 (Sent 8 0 (messages.Decision (tx 0 1) (outcomes.Committed (stamp 1 0)))) ∷
-    marked 3 (Sent 9 1 (messages.Decision (tx 0 1) (outcomes.Committed (stamp 1 0)))) ∷
-    marked 3 (Told (replies.Committed (stamp 1 0))) ∷ marked 0 (Got 8) ∷ marked 0 (Wrote (records.Done (tx 0 1) 1)) ∷
-    marked 1 (Got 9) ∷ marked 1 (Wrote (records.Done (tx 0 1) 1)) ∷ marked 7 (Phase 2) ∷
-    marked 6 (Called (commands.Epoch 2)) ∷ marked 6 (Sent 10 0 (messages.Close 2)) ∷
-    marked 6 (Sent 11 1 (messages.Close 2)) ∷ marked 0 (Got 10) ∷ marked 0 (Wrote (records.Close 2)) ∷
-    marked 0 (Sent 12 6 (messages.Answer 10 (answers.Shut 1 (line 1 0 1 1 0 3 ∷ []) []))) ∷ marked 1 (Got 11) ∷
-    marked 1 (Wrote (records.Close 2)) ∷
-    marked 1 (Sent 13 6 (messages.Answer 11 (answers.Shut 1 (line 1 0 1 1 0 3 ∷ []) []))) ∷ marked 6 (Got 12) ∷
-    marked 6 (Got 13) ∷ marked 6 (Wrote (records.Decide 2 1 (line 1 0 1 1 0 3 ∷ []))) ∷
-    marked 6 (Sent 14 0 (messages.Install 2 1 (line 1 0 1 1 0 3 ∷ []))) ∷
-    marked 6 (Sent 15 1 (messages.Install 2 1 (line 1 0 1 1 0 3 ∷ []))) ∷
-    marked 6 (Sent 16 2 (messages.Install 2 1 (line 1 0 1 1 0 3 ∷ []))) ∷ marked 0 (Got 14) ∷
-    marked 0 (Wrote (records.Install 2 1 (line 1 0 1 1 0 3 ∷ []))) ∷
-    marked 0 (Sent 17 6 (messages.Answer 14 answers.Installed)) ∷ marked 1 (Got 15) ∷
-    marked 1 (Wrote (records.Install 2 1 (line 1 0 1 1 0 3 ∷ []))) ∷
-    marked 1 (Sent 18 6 (messages.Answer 15 answers.Installed)) ∷ marked 2 (Got 16) ∷
-    marked 2 (Wrote (records.Install 2 1 (line 1 0 1 1 0 3 ∷ []))) ∷
-    marked 2 (Sent 19 6 (messages.Answer 16 answers.Installed)) ∷ marked 6 (Got 17) ∷ marked 6 (Got 18) ∷
-    marked 6 (Got 19) ∷ marked 6 (Told (replies.Moved 3 7)) ∷ marked 7 (Phase 3) ∷ marked 6 (Fell falls.Script None) ∷
-    marked 6 (Rose ((records.Decide 2 1 (line 1 0 1 1 0 3 ∷ [])) ∷ [])) ∷ marked 6 (Called (commands.Epoch 2)) ∷ []
+    take 64 installed_again.history ++
+    marked 6 (Called (commands.Epoch 2)) ∷ []
 
 -- A risen administrator knows of the first epoch alone.
 abbrev pub the_first_epoch_again : List Entry
 the_first_epoch_again =
-    marked 7 (Phase 1) ∷ marked 3 (Called commands.Begin) ∷ marked 3 (Told (replies.Began (tx 0 1))) ∷
-    marked 3 (Called (commands.Do 0 2)) ∷
-    marked 3 (Sent 0 0 (messages.Request (tx 0 1) 1 0 (wants.Append 0 [] (own_line 1 0 3 ∷ [])))) ∷
-    marked 3 (Sent 1 1 (messages.Request (tx 0 1) 1 0 (wants.Append 0 [] (own_line 1 0 3 ∷ [])))) ∷ marked 0 (Got 0) ∷
-    marked 0 (Sent 2 3 (messages.Answer 0 (answers.Granted 1 0 []))) ∷ marked 1 (Got 1) ∷
-    marked 1 (Sent 3 3 (messages.Answer 1 (answers.Granted 1 0 []))) ∷ marked 3 (Got 2) ∷ marked 3 (Got 3) ∷
-    marked 3 (Told (replies.Response 2)) ∷ marked 3 (Called commands.Commit) ∷
-    marked 3 (Sent 4 0 (messages.Request (tx 0 1) 1 1 wants.Prepare)) ∷
-    marked 3 (Sent 5 1 (messages.Request (tx 0 1) 1 1 wants.Prepare)) ∷ marked 0 (Got 4) ∷
-    marked 0 (Wrote (prepare (tx 0 1) 1 [] (own_line 1 0 3 ∷ []) [])) ∷
-    marked 0 (Sent 6 3 (messages.Answer 4 (answers.Yes 0))) ∷ marked 1 (Got 5) ∷
-    marked 1 (Wrote (prepare (tx 0 1) 1 [] (own_line 1 0 3 ∷ []) [])) ∷
-    marked 1 (Sent 7 3 (messages.Answer 5 (answers.Yes 0))) ∷ marked 3 (Got 6) ∷ marked 3 (Got 7) ∷
-    marked 3 (Wrote (commit (stamp 1 0) (tx 0 1) (operation 0 2 (Some 2) ∷ []))) ∷
-    marked 3 (Sent 8 0 (messages.Decision (tx 0 1) (outcomes.Committed (stamp 1 0)))) ∷
-    marked 3 (Sent 9 1 (messages.Decision (tx 0 1) (outcomes.Committed (stamp 1 0)))) ∷
-    marked 3 (Told (replies.Committed (stamp 1 0))) ∷ marked 0 (Got 8) ∷ marked 0 (Wrote (records.Done (tx 0 1) 1)) ∷
-    marked 1 (Got 9) ∷ marked 1 (Wrote (records.Done (tx 0 1) 1)) ∷ marked 7 (Phase 2) ∷
-    marked 6 (Called (commands.Epoch 2)) ∷ marked 6 (Sent 10 0 (messages.Close 2)) ∷
-    marked 6 (Sent 11 1 (messages.Close 2)) ∷ marked 0 (Got 10) ∷ marked 0 (Wrote (records.Close 2)) ∷
-    marked 0 (Sent 12 6 (messages.Answer 10 (answers.Shut 1 (line 1 0 1 1 0 3 ∷ []) []))) ∷ marked 1 (Got 11) ∷
-    marked 1 (Wrote (records.Close 2)) ∷
-    marked 1 (Sent 13 6 (messages.Answer 11 (answers.Shut 1 (line 1 0 1 1 0 3 ∷ []) []))) ∷ marked 6 (Got 12) ∷
-    marked 6 (Got 13) ∷ marked 6 (Wrote (records.Decide 2 1 (line 1 0 1 1 0 3 ∷ []))) ∷
-    marked 6 (Sent 14 0 (messages.Install 2 1 (line 1 0 1 1 0 3 ∷ []))) ∷
-    marked 6 (Sent 15 1 (messages.Install 2 1 (line 1 0 1 1 0 3 ∷ []))) ∷
-    marked 6 (Sent 16 2 (messages.Install 2 1 (line 1 0 1 1 0 3 ∷ []))) ∷ marked 0 (Got 14) ∷
-    marked 0 (Wrote (records.Install 2 1 (line 1 0 1 1 0 3 ∷ []))) ∷
-    marked 0 (Sent 17 6 (messages.Answer 14 answers.Installed)) ∷ marked 1 (Got 15) ∷
-    marked 1 (Wrote (records.Install 2 1 (line 1 0 1 1 0 3 ∷ []))) ∷
-    marked 1 (Sent 18 6 (messages.Answer 15 answers.Installed)) ∷ marked 2 (Got 16) ∷
-    marked 2 (Wrote (records.Install 2 1 (line 1 0 1 1 0 3 ∷ []))) ∷
-    marked 2 (Sent 19 6 (messages.Answer 16 answers.Installed)) ∷ marked 6 (Got 17) ∷ marked 6 (Got 18) ∷
-    marked 6 (Got 19) ∷ marked 6 (Told (replies.Moved 3 7)) ∷ marked 7 (Phase 3) ∷ marked 6 (Fell falls.Script None) ∷
-    marked 6 (Rose ((records.Decide 2 1 (line 1 0 1 1 0 3 ∷ [])) ∷ [])) ∷ marked 6 (Wrote records.Life) ∷
-    marked 6 (Called (commands.Epoch 2)) ∷ marked 6 (Sent 20 0 (messages.Install 2 1 (line 1 0 1 1 0 3 ∷ []))) ∷
-    marked 6 (Sent 21 1 (messages.Install 2 1 (line 1 0 1 1 0 3 ∷ []))) ∷
-    marked 6 (Sent 22 2 (messages.Install 2 1 (line 1 0 1 1 0 3 ∷ []))) ∷ marked 0 (Got 20) ∷
-    marked 0 (Sent 23 6 (messages.Answer 20 answers.Installed)) ∷ marked 1 (Got 21) ∷
-    marked 1 (Sent 24 6 (messages.Answer 21 answers.Installed)) ∷ marked 2 (Got 22) ∷
-    marked 2 (Sent 25 6 (messages.Answer 22 answers.Installed)) ∷ marked 6 (Got 23) ∷ marked 6 (Got 24) ∷
-    marked 6 (Got 25) ∷ marked 6 (Told (replies.Moved 0 7)) ∷ marked 7 (Phase 4) ∷
-    marked 6 (Called (commands.Epoch 3)) ∷ marked 6 (Told (replies.Order 1)) ∷ []
+    take 81 installed_again.history ++
+    marked 6 (Told (replies.Order 1)) ∷ []
 
 -- He refuses an epoch while he is down.
 abbrev pub refused_while_down : List Entry
 refused_while_down =
-    marked 7 (Phase 1) ∷ marked 6 (Called (commands.Epoch 2)) ∷ marked 6 (Sent 0 0 (messages.Close 2)) ∷
-    marked 6 (Sent 1 1 (messages.Close 2)) ∷ marked 0 (Got 0) ∷ marked 0 (Wrote (records.Close 2)) ∷
-    marked 0 (Sent 2 6 (messages.Answer 0 (answers.Shut 0 [] []))) ∷ marked 1 (Got 1) ∷
-    marked 1 (Wrote (records.Close 2)) ∷ marked 1 (Sent 3 6 (messages.Answer 1 (answers.Shut 0 [] []))) ∷
-    marked 6 (Got 2) ∷ marked 6 (Got 3) ∷ marked 6 (Wrote (records.Decide 2 0 [])) ∷
-    marked 6 (Sent 4 0 (messages.Install 2 0 [])) ∷ marked 6 (Sent 5 1 (messages.Install 2 0 [])) ∷
-    marked 6 (Sent 6 2 (messages.Install 2 0 [])) ∷ marked 0 (Got 4) ∷ marked 0 (Wrote (records.Install 2 0 [])) ∷
-    marked 0 (Sent 7 6 (messages.Answer 4 answers.Installed)) ∷ marked 1 (Got 5) ∷
-    marked 1 (Wrote (records.Install 2 0 [])) ∷ marked 1 (Sent 8 6 (messages.Answer 5 answers.Installed)) ∷
-    marked 2 (Got 6) ∷ marked 2 (Wrote (records.Install 2 0 [])) ∷
-    marked 2 (Sent 9 6 (messages.Answer 6 answers.Installed)) ∷ marked 6 (Got 7) ∷ marked 6 (Got 8) ∷ marked 6 (Got 9) ∷
-    marked 6 (Told (replies.Moved 3 7)) ∷ marked 7 (Phase 2) ∷ marked 6 (Fell falls.Script None) ∷
-    marked 6 (Called (commands.Epoch 3)) ∷ marked 6 (Told (replies.Order 2)) ∷ []
+    take 32 administrator_down.history ++
+    marked 6 (Told (replies.Order 2)) ∷ []

@@ -1,9 +1,8 @@
 -- Wrong histories: what the administrator makes of the sites that closed.
-use Rattle.std.specs.Prelude.{List, [], ◌∷◌, Some}
+use Rattle.std.specs.Prelude.{List, [], ◌∷◌, ◌++◌, take}
 use Rattle.qc_msg.specs.Steps.{Entry, marked}
-use Rattle.tests_histories.specs.Words.{tx, stamp, line, own_line, operation, prepare, commit}
-use Rattle.qc_msg.specs.declared.step.Step.TheVariants.{Phase, Cut, Called, Got, Lost, Wrote, Sent, Told}
-use Rattle.tests_epochs.specs.Words.{prepared}
+use Rattle.tests_histories.specs.Words.{tx, stamp, line}
+use Rattle.qc_msg.specs.declared.step.Step.TheVariants.{Called, Got, Wrote, Sent, Told}
 use Rattle.qc_msg.specs.declared.message.Answer.TheVariants as answers
 use Rattle.qc_msg.specs.declared.step.Command.TheVariants as commands
 use Rattle.qc_msg.specs.declared.reply.Half.TheVariants as halves
@@ -11,138 +10,44 @@ use Rattle.qc_msg.specs.declared.message.Message.TheVariants as messages
 use Rattle.qc_msg.specs.declared.message.Outcome.TheVariants as outcomes
 use Rattle.qc_msg.specs.declared.record.Record.TheVariants as records
 use Rattle.qc_msg.specs.declared.reply.Reply.TheVariants as replies
-use Rattle.qc_msg.specs.declared.message.Want.TheVariants as wants
+use Rattle.tests_epochs.specs.MovedOnce as moved_once
+use Rattle.tests_epochs.specs.TooFewClose as too_few_close
+use Rattle.tests_epochs.specs.AskLost as ask_lost
 
 -- A decided epoch is decided once more.
 abbrev pub decided_twice : List Entry
 decided_twice =
-    marked 7 (Phase 1) ∷ marked 3 (Called commands.Begin) ∷ marked 3 (Told (replies.Began (tx 0 1))) ∷
-    marked 3 (Called (commands.Do 0 2)) ∷
-    marked 3 (Sent 0 0 (messages.Request (tx 0 1) 1 0 (wants.Append 0 [] (own_line 1 0 3 ∷ [])))) ∷
-    marked 3 (Sent 1 1 (messages.Request (tx 0 1) 1 0 (wants.Append 0 [] (own_line 1 0 3 ∷ [])))) ∷ marked 0 (Got 0) ∷
-    marked 0 (Sent 2 3 (messages.Answer 0 (answers.Granted 1 0 []))) ∷ marked 1 (Got 1) ∷
-    marked 1 (Sent 3 3 (messages.Answer 1 (answers.Granted 1 0 []))) ∷ marked 3 (Got 2) ∷ marked 3 (Got 3) ∷
-    marked 3 (Told (replies.Response 2)) ∷ marked 3 (Called commands.Commit) ∷
-    marked 3 (Sent 4 0 (messages.Request (tx 0 1) 1 1 wants.Prepare)) ∷
-    marked 3 (Sent 5 1 (messages.Request (tx 0 1) 1 1 wants.Prepare)) ∷ marked 0 (Got 4) ∷
-    marked 0 (Wrote (prepare (tx 0 1) 1 [] (own_line 1 0 3 ∷ []) [])) ∷
-    marked 0 (Sent 6 3 (messages.Answer 4 (answers.Yes 0))) ∷ marked 1 (Got 5) ∷
-    marked 1 (Wrote (prepare (tx 0 1) 1 [] (own_line 1 0 3 ∷ []) [])) ∷
-    marked 1 (Sent 7 3 (messages.Answer 5 (answers.Yes 0))) ∷ marked 3 (Got 6) ∷ marked 3 (Got 7) ∷
-    marked 3 (Wrote (commit (stamp 1 0) (tx 0 1) (operation 0 2 (Some 2) ∷ []))) ∷
-    marked 3 (Sent 8 0 (messages.Decision (tx 0 1) (outcomes.Committed (stamp 1 0)))) ∷
-    marked 3 (Sent 9 1 (messages.Decision (tx 0 1) (outcomes.Committed (stamp 1 0)))) ∷
-    marked 3 (Told (replies.Committed (stamp 1 0))) ∷ marked 0 (Got 8) ∷ marked 0 (Wrote (records.Done (tx 0 1) 1)) ∷
-    marked 1 (Got 9) ∷ marked 1 (Wrote (records.Done (tx 0 1) 1)) ∷ marked 7 (Phase 2) ∷
-    marked 6 (Called (commands.Epoch 2)) ∷ marked 6 (Sent 10 0 (messages.Close 2)) ∷
-    marked 6 (Sent 11 1 (messages.Close 2)) ∷ marked 0 (Got 10) ∷ marked 0 (Wrote (records.Close 2)) ∷
-    marked 0 (Sent 12 6 (messages.Answer 10 (answers.Shut 1 (line 1 0 1 1 0 3 ∷ []) []))) ∷ marked 1 (Got 11) ∷
-    marked 1 (Wrote (records.Close 2)) ∷
-    marked 1 (Sent 13 6 (messages.Answer 11 (answers.Shut 1 (line 1 0 1 1 0 3 ∷ []) []))) ∷ marked 6 (Got 12) ∷
-    marked 6 (Got 13) ∷ marked 6 (Wrote (records.Decide 2 1 (line 1 0 1 1 0 3 ∷ []))) ∷
-    marked 6 (Sent 14 0 (messages.Install 2 1 (line 1 0 1 1 0 3 ∷ []))) ∷
-    marked 6 (Sent 15 1 (messages.Install 2 1 (line 1 0 1 1 0 3 ∷ []))) ∷
-    marked 6 (Sent 16 2 (messages.Install 2 1 (line 1 0 1 1 0 3 ∷ []))) ∷ marked 0 (Got 14) ∷
-    marked 0 (Wrote (records.Install 2 1 (line 1 0 1 1 0 3 ∷ []))) ∷
-    marked 0 (Sent 17 6 (messages.Answer 14 answers.Installed)) ∷ marked 1 (Got 15) ∷
-    marked 1 (Wrote (records.Install 2 1 (line 1 0 1 1 0 3 ∷ []))) ∷
-    marked 1 (Sent 18 6 (messages.Answer 15 answers.Installed)) ∷ marked 2 (Got 16) ∷
-    marked 2 (Wrote (records.Install 2 1 (line 1 0 1 1 0 3 ∷ []))) ∷
-    marked 2 (Sent 19 6 (messages.Answer 16 answers.Installed)) ∷ marked 6 (Got 17) ∷ marked 6 (Got 18) ∷
-    marked 6 (Got 19) ∷ marked 6 (Told (replies.Moved 3 7)) ∷ marked 7 (Phase 3) ∷
+    take 62 moved_once.history ++
     marked 6 (Called (commands.Epoch 2)) ∷ marked 6 (Wrote (records.Decide 2 1 (line 1 0 1 1 0 3 ∷ []))) ∷ []
 
 -- An epoch is decided, though too few sites have closed.
 abbrev pub decided_by_too_few : List Entry
 decided_by_too_few =
-    marked 7 (Phase 1) ∷ marked 7 (Cut 6 0) ∷ marked 7 (Cut 6 1) ∷ marked 3 (Called commands.Begin) ∷
-    marked 3 (Told (replies.Began (tx 0 1))) ∷ marked 6 (Called (commands.Epoch 2)) ∷
-    marked 6 (Sent 0 0 (messages.Close 2)) ∷ marked 6 (Sent 1 1 (messages.Close 2)) ∷ marked 6 (Lost 0) ∷
-    marked 6 (Lost 1) ∷ marked 6 (Sent 2 2 (messages.Close 2)) ∷ marked 2 (Got 2) ∷ marked 2 (Wrote (records.Close 2)) ∷
-    marked 2 (Sent 3 6 (messages.Answer 2 (answers.Shut 0 [] []))) ∷ marked 6 (Got 3) ∷
+    take 15 too_few_close.history ++
     marked 6 (Wrote (records.Decide 2 0 [])) ∷ []
 
 -- What a site told for an earlier command counts.
 abbrev pub a_shut_of_an_earlier_command : List Entry
 a_shut_of_an_earlier_command =
-    marked 7 (Phase 1) ∷ marked 3 (Called commands.Begin) ∷ marked 3 (Told (replies.Began (tx 0 1))) ∷
-    marked 3 (Called (commands.Do 0 2)) ∷
-    marked 3 (Sent 0 0 (messages.Request (tx 0 1) 1 0 (wants.Append 0 [] (own_line 1 0 3 ∷ [])))) ∷
-    marked 3 (Sent 1 1 (messages.Request (tx 0 1) 1 0 (wants.Append 0 [] (own_line 1 0 3 ∷ [])))) ∷ marked 0 (Got 0) ∷
-    marked 0 (Sent 2 3 (messages.Answer 0 (answers.Granted 1 0 []))) ∷ marked 1 (Got 1) ∷
-    marked 1 (Sent 3 3 (messages.Answer 1 (answers.Granted 1 0 []))) ∷ marked 3 (Got 2) ∷ marked 3 (Got 3) ∷
-    marked 3 (Told (replies.Response 2)) ∷ marked 3 (Called commands.Commit) ∷
-    marked 3 (Sent 4 0 (messages.Request (tx 0 1) 1 1 wants.Prepare)) ∷
-    marked 3 (Sent 5 1 (messages.Request (tx 0 1) 1 1 wants.Prepare)) ∷ marked 0 (Got 4) ∷
-    marked 0 (Wrote (prepare (tx 0 1) 1 [] (own_line 1 0 3 ∷ []) [])) ∷
-    marked 0 (Sent 6 3 (messages.Answer 4 (answers.Yes 0))) ∷ marked 1 (Got 5) ∷
-    marked 1 (Wrote (prepare (tx 0 1) 1 [] (own_line 1 0 3 ∷ []) [])) ∷
-    marked 1 (Sent 7 3 (messages.Answer 5 (answers.Yes 0))) ∷ marked 3 (Got 6) ∷ marked 3 (Got 7) ∷
-    marked 3 (Wrote (commit (stamp 1 0) (tx 0 1) (operation 0 2 (Some 2) ∷ []))) ∷
-    marked 3 (Sent 8 0 (messages.Decision (tx 0 1) (outcomes.Committed (stamp 1 0)))) ∷
-    marked 3 (Sent 9 1 (messages.Decision (tx 0 1) (outcomes.Committed (stamp 1 0)))) ∷
-    marked 3 (Told (replies.Committed (stamp 1 0))) ∷ marked 7 (Phase 2) ∷ marked 6 (Called (commands.Epoch 2)) ∷
-    marked 6 (Sent 10 0 (messages.Close 2)) ∷ marked 6 (Sent 11 1 (messages.Close 2)) ∷ marked 0 (Got 10) ∷
-    marked 0 (Wrote (records.Close 2)) ∷
-    marked 0 (Sent 12 6 (messages.Answer 10 (answers.Shut 0 [] (prepared (tx 0 1) 1 [] (own_line 1 0 3 ∷ []) [] ∷ []))))
-    ∷
-    marked 1 (Got 11) ∷ marked 1 (Wrote (records.Close 2)) ∷
-    marked 1 (Sent 13 6 (messages.Answer 11 (answers.Shut 0 [] (prepared (tx 0 1) 1 [] (own_line 1 0 3 ∷ []) [] ∷ []))))
-    ∷
-    marked 6 (Got 12) ∷ marked 6 (Got 13) ∷ marked 6 (Sent 14 3 (messages.Ask (tx 0 1))) ∷ marked 6 (Lost 14) ∷
-    marked 6 (Told (replies.InDoubt (tx 0 1) 0)) ∷ marked 7 (Phase 3) ∷ marked 6 (Called (commands.Epoch 2)) ∷
-    marked 6 (Sent 15 0 (messages.Close 2)) ∷ marked 6 (Sent 16 1 (messages.Close 2)) ∷ marked 0 (Got 15) ∷
-    marked 0 (Sent 17 6 (messages.Answer 15 (answers.Shut 0 [] (prepared (tx 0 1) 1 [] (own_line 1 0 3 ∷ []) [] ∷ []))))
-    ∷
-    marked 1 (Got 16) ∷
-    marked 1 (Sent 18 6 (messages.Answer 16 (answers.Shut 0 [] (prepared (tx 0 1) 1 [] (own_line 1 0 3 ∷ []) [] ∷ []))))
-    ∷
-    marked 6 (Got 17) ∷ marked 6 (Got 13) ∷ marked 6 (Sent 19 3 (messages.Ask (tx 0 1))) ∷ marked 3 (Got 19) ∷
+    take 52 ask_lost.history ++
+    marked 6 (Got 13) ∷ marked 6 (Sent 19 3 (messages.Ask (tx 0 1))) ∷ marked 3 (Got 19) ∷
     marked 3 (Sent 20 6 (messages.Answer 19 (answers.Answered (outcomes.Committed (stamp 1 0))))) ∷ marked 6 (Got 20) ∷
     marked 6 (Wrote (records.Decide 2 1 (line 1 0 1 1 0 3 ∷ []))) ∷ []
 
 -- Too few are told before all sites are asked.
 abbrev pub short_before_all_are_asked : List Entry
 short_before_all_are_asked =
-    marked 7 (Phase 1) ∷ marked 7 (Cut 6 0) ∷ marked 7 (Cut 6 1) ∷ marked 3 (Called commands.Begin) ∷
-    marked 3 (Told (replies.Began (tx 0 1))) ∷ marked 6 (Called (commands.Epoch 2)) ∷
-    marked 6 (Sent 0 0 (messages.Close 2)) ∷ marked 6 (Sent 1 1 (messages.Close 2)) ∷ marked 6 (Lost 0) ∷
-    marked 6 (Lost 1) ∷ marked 6 (Told (replies.Quorum halves.Close 0 2)) ∷ []
+    take 10 too_few_close.history ++
+    marked 6 (Told (replies.Quorum halves.Close 0 2)) ∷ []
 
 -- Too few are told with another weight.
 abbrev pub short_of_another_weight : List Entry
 short_of_another_weight =
-    marked 7 (Phase 1) ∷ marked 7 (Cut 6 0) ∷ marked 7 (Cut 6 1) ∷ marked 3 (Called commands.Begin) ∷
-    marked 3 (Told (replies.Began (tx 0 1))) ∷ marked 6 (Called (commands.Epoch 2)) ∷
-    marked 6 (Sent 0 0 (messages.Close 2)) ∷ marked 6 (Sent 1 1 (messages.Close 2)) ∷ marked 6 (Lost 0) ∷
-    marked 6 (Lost 1) ∷ marked 6 (Sent 2 2 (messages.Close 2)) ∷ marked 2 (Got 2) ∷ marked 2 (Wrote (records.Close 2)) ∷
-    marked 2 (Sent 3 6 (messages.Answer 2 (answers.Shut 0 [] []))) ∷ marked 6 (Got 3) ∷
+    take 15 too_few_close.history ++
     marked 6 (Told (replies.Quorum halves.Close 1 3)) ∷ []
 
 -- Fault is told, though the record fits, and he doesn't fall.
 abbrev pub fault_of_nothing : List Entry
 fault_of_nothing =
-    marked 7 (Phase 1) ∷ marked 3 (Called commands.Begin) ∷ marked 3 (Told (replies.Began (tx 0 1))) ∷
-    marked 3 (Called (commands.Do 0 2)) ∷
-    marked 3 (Sent 0 0 (messages.Request (tx 0 1) 1 0 (wants.Append 0 [] (own_line 1 0 3 ∷ [])))) ∷
-    marked 3 (Sent 1 1 (messages.Request (tx 0 1) 1 0 (wants.Append 0 [] (own_line 1 0 3 ∷ [])))) ∷ marked 0 (Got 0) ∷
-    marked 0 (Sent 2 3 (messages.Answer 0 (answers.Granted 1 0 []))) ∷ marked 1 (Got 1) ∷
-    marked 1 (Sent 3 3 (messages.Answer 1 (answers.Granted 1 0 []))) ∷ marked 3 (Got 2) ∷ marked 3 (Got 3) ∷
-    marked 3 (Told (replies.Response 2)) ∷ marked 3 (Called commands.Commit) ∷
-    marked 3 (Sent 4 0 (messages.Request (tx 0 1) 1 1 wants.Prepare)) ∷
-    marked 3 (Sent 5 1 (messages.Request (tx 0 1) 1 1 wants.Prepare)) ∷ marked 0 (Got 4) ∷
-    marked 0 (Wrote (prepare (tx 0 1) 1 [] (own_line 1 0 3 ∷ []) [])) ∷
-    marked 0 (Sent 6 3 (messages.Answer 4 (answers.Yes 0))) ∷ marked 1 (Got 5) ∷
-    marked 1 (Wrote (prepare (tx 0 1) 1 [] (own_line 1 0 3 ∷ []) [])) ∷
-    marked 1 (Sent 7 3 (messages.Answer 5 (answers.Yes 0))) ∷ marked 3 (Got 6) ∷ marked 3 (Got 7) ∷
-    marked 3 (Wrote (commit (stamp 1 0) (tx 0 1) (operation 0 2 (Some 2) ∷ []))) ∷
-    marked 3 (Sent 8 0 (messages.Decision (tx 0 1) (outcomes.Committed (stamp 1 0)))) ∷
-    marked 3 (Sent 9 1 (messages.Decision (tx 0 1) (outcomes.Committed (stamp 1 0)))) ∷
-    marked 3 (Told (replies.Committed (stamp 1 0))) ∷ marked 0 (Got 8) ∷ marked 0 (Wrote (records.Done (tx 0 1) 1)) ∷
-    marked 1 (Got 9) ∷ marked 1 (Wrote (records.Done (tx 0 1) 1)) ∷ marked 7 (Phase 2) ∷
-    marked 6 (Called (commands.Epoch 2)) ∷ marked 6 (Sent 10 0 (messages.Close 2)) ∷
-    marked 6 (Sent 11 1 (messages.Close 2)) ∷ marked 0 (Got 10) ∷ marked 0 (Wrote (records.Close 2)) ∷
-    marked 0 (Sent 12 6 (messages.Answer 10 (answers.Shut 1 (line 1 0 1 1 0 3 ∷ []) []))) ∷ marked 1 (Got 11) ∷
-    marked 1 (Wrote (records.Close 2)) ∷
-    marked 1 (Sent 13 6 (messages.Answer 11 (answers.Shut 1 (line 1 0 1 1 0 3 ∷ []) []))) ∷ marked 6 (Got 12) ∷
-    marked 6 (Got 13) ∷ marked 6 (Told replies.Fault) ∷ []
+    take 44 moved_once.history ++
+    marked 6 (Told replies.Fault) ∷ []

@@ -44,6 +44,12 @@ pub fn wrong_rounds_are_refused()
     ensures fault_of_nothing { IsAdminDueIn three_epochs wrong_rounds.fault_of_nothing → ⊥ }
 {}
 
+/// These aren't due: the administrator sends what nothing calls for.
+pub fn wrong_sends_are_refused()
+    ensures another_log { IsAdminDueIn three_epochs wrong_sends.another_log → ⊥ }
+    ensures not_decided { IsAdminDueIn three_epochs wrong_sends.not_decided → ⊥ }
+{}
+
 /// These aren't due: what the administrator takes while something else is due.
 pub fn wrong_inputs_are_refused()
     ensures a_reply_untold { IsAdminDueIn three_epochs wrong_inputs.a_reply_untold → ⊥ }
@@ -109,10 +115,4 @@ pub fn wrong_installs_are_refused()
     ensures a_site_left_out { IsAdminDueIn three_epochs wrong_installs.a_site_left_out → ⊥ }
     ensures earlier_installs_count { IsAdminDueIn three_epochs wrong_installs.earlier_installs_count → ⊥ }
     ensures an_answer_of_what_was_lost { IsAdminDueIn three_epochs wrong_installs.an_answer_of_what_was_lost → ⊥ }
-{}
-
-/// These aren't due: the administrator sends what nothing calls for.
-pub fn wrong_sends_are_refused()
-    ensures another_log { IsAdminDueIn three_epochs wrong_sends.another_log → ⊥ }
-    ensures not_decided { IsAdminDueIn three_epochs wrong_sends.not_decided → ⊥ }
 {}
