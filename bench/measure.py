@@ -10,6 +10,8 @@ seen is this program's own, some 17 MB. Cases:
 - begins: one phase of N commands `c0 begin` over @one, of which all but the first are refused;
 - load: transactions that write, read and commit over @three, one a phase, of three clients in turn; beside them
   load_walk.rs, compiled with `rustc -O`: a plain program for the same transactions without links, refusals and proofs;
+- change: a load of 500, then a client's read that is given up and another one; and the same with the quorums changed between
+  the load and the reads (the declaration of examples/quorums_change);
 - messages: transactions of 16 reads over @three that are given up, of one client, where no log grows: so many messages; and
   until the limit of steps;
 - sixteen sites: the same over sixteen sites, of which each read asks nine, 100,000 messages; alone, and behind 55,000 rules of
@@ -82,6 +84,12 @@ def lost_decisions(count, invocation, end):
     return "\n".join((*lines, "phase", *["c0 begin", "c0 do x0 " + invocation, "c0 " + end] * count)) + "\n"
 
 
+def change(count, moved):
+    """So many transactions, then the quorums change or they don't, then a read that is given up and another one."""
+    reads_twice = ["c1 begin", "c1 do x R", "c1 abort", "c1 begin", "c1 do x R", "c1 commit"]
+    return "\n".join((*load(count, SEED), "phase", *["admin epoch 2"] * moved, "phase", *reads_twice)) + "\n"
+
+
 def equal_triples():
     """Six types of 64 states and 64 events, all of them legal in each state, which they leave as it is; each with 64
     groups of 1,024 equal triples."""
@@ -128,6 +136,10 @@ def cases(program, folder):
         text = "\n".join(load(count, SEED)) + "\n"
         words["load %d" % count] = [program, "run", "@three", written(folder, "load_%d" % count, text)]
     words["walk 500"] = [walk, "500", str(SEED)]
+    epochs = os.path.join(ROOT, "examples/quorums_change/decl.toml")
+    for name, moved in (("no change", 0), ("change", 1)):
+        text = change(TRANSACTIONS[-1], moved)
+        words[name] = [program, "run", epochs, written(folder, name.replace(" ", "_"), text)]
     for count in (*MESSAGES, PAST_THE_LIMIT):
         text = "\n".join(reads(count)) + "\n"
         name = "step limit" if count == PAST_THE_LIMIT else "%d messages" % count
@@ -165,6 +177,7 @@ def bars(found):
     yield "KB a step, of %d" % steps, found["100000 begins"][1] / steps, 1
     yield "load 500 / load 250", seconds["load 500"] / seconds["load 250"], 5
     yield "load 500 / walk 500", seconds["load 500"] / seconds["walk 500"], 2.6
+    yield "change / no change", seconds["change"] / seconds["no change"], 1.2
     for count in MESSAGES[:-1]:
         ratio = seconds["%d messages" % (2 * count)] / seconds["%d messages" % count]
         yield "%d messages / %d messages" % (2 * count, count), ratio, 2.3

@@ -4,12 +4,14 @@
 usage: tools/workers.py [RUNS] [SEED] [PROGRAM]
 
 Makes RUNS scripts, 1,000 unless it is given, by Python's `random` from SEED, 1 unless it is given. Each is over a declaration
-that is built in, one of examples/types/, or a union of up to three of those for up to five clients. In half of them sites and
-clients crash and restart, and disks stop and fail. PROGRAM is crates/quorum/out/quorum unless it is given; it has to be built.
+that is built in, one of examples/types/, or a union of up to three of those for up to five clients; many of these have up to
+four epochs, and the administrator moves from one to the next. In half of the scripts actors crash and restart, and disks stop
+and fail. PROGRAM is crates/quorum/out/quorum unless it is given; it has to be built.
 It runs each script by 2, 4 or 8 workers in turn, and by one. The replay is written apart from the proved code. Each run has to
 end in 20 seconds, with status 0 and nothing on standard error, and in its text:
 
-- each command has its reply, in the script's order, and one that this client could get then, up or down;
+- each command has its reply, in the script's order, and one that this client could get then, up or down; each of the
+  administrator's is one that he could give, by the epoch that was decided last;
 - the stamps of the log rise, and the log has just the transactions that were told as committed, each with the stamp that its
   client was told, and with the operations and responses of its `do`s, and maybe some of which the client was told `?`;
 - one copy of each object, by the declaration's rows, gives these responses in the log's order, and ends in the state printed;
@@ -59,7 +61,7 @@ class Declaration:
 
     def __init__(self, word, tables, text=None):
         self.word, self.text = word, text
-        self.sites, self.clients = tables["sites"], tables["clients"]
+        self.sites, self.clients, self.epochs = tables["sites"], tables["clients"], len(tables.get("epoch", [0]))
         types = {table["name"]: table for table in tables["type"]}
         self.types = {thing["name"]: types[thing["type"]] for thing in tables["object"]}
         self.steps = {thing: steps_of(table) for thing, table in self.types.items()}
@@ -100,6 +102,21 @@ def union(chance, gallery):
     return {"sites": first["sites"], "clients": clients, "type": [*types.values()], "object": objects, "epoch": [epoch]}
 
 
+def with_epochs(chance, tables):
+    """The same with up to three epochs more: as the first, or with one half of all weight and the other of one."""
+    first = tables["epoch"][0]
+    total, more = sum(first["weights"]), []
+    for _ in range(chance.randrange(4)):
+        initial, final = chance.choice(((None, None), (total, 1), (1, total)))
+        need = lambda threshold, weight: threshold if weight is None or threshold.endswith(" 0") else "%s %d" % (
+            threshold[: threshold.rindex(" ")], weight)
+        more.append({
+            "weights": first["weights"], "initial": [need(it, initial) for it in first["initial"]],
+            "final": [need(it, final) for it in first["final"]],
+        })
+    return {**tables, "epoch": [first] + more}
+
+
 def declaration(chance, gallery):
     """A declaration by chance: one that is built in, one of the gallery, or a union of those. The gallery has the text and
     the tables of each."""
@@ -108,10 +125,11 @@ def declaration(chance, gallery):
         word, count = ("@one", 1) if kind == 0 else ("@three", 3)
         return Declaration(word, {**REGISTER, "sites": count, "clients": count})
     if kind < 6:
-        text, tables = chance.choice(gallery)
+        tables = chance.choice(gallery)[1]
     else:
         tables = union(chance, [tables for _, tables in gallery])
-        text = text_of(tables)
+    tables = with_epochs(chance, tables)
+    text = text_of(tables)
     return Declaration("decl.toml", tables, text)
 
 
@@ -119,11 +137,11 @@ def declaration(chance, gallery):
 
 
 class Script:
-    """A script by chance: its lines, and its commands in their order, each a client's number and its words."""
+    """A script by chance: its lines, and its commands in their order, each a client's number, or ADMIN, and its words."""
 
     def __init__(self, chance, decl):
         self.chance, self.decl, self.lines, self.commands = chance, decl, [], []
-        self.open, self.cuts, self.down = set(), [], []
+        self.open, self.cuts, self.down, self.epoch = set(), [], [], 1
         loses, self.falls = chance.random() < 0.6, chance.random() < 0.5
         if loses:
             self.lines += [self.link() for _ in range(chance.randint(1, 8))]
@@ -159,10 +177,25 @@ class Script:
         order = [client for client in actors for _ in range(self.chance.randint(1, 12))]
         self.chance.shuffle(order)
         long = self.chance.random() < 0.03
-        for client in order + order[:1] * (30 if long else 0):
+        order += order[:1] * (30 if long else 0)
+        for _ in range(self.chance.choice((0, 0, 1, 1, 2)) if self.decl.epochs > 1 else 0):
+            order.insert(self.chance.randint(0, len(order)), ADMIN)
+        for client in order:
+            if client == ADMIN:
+                words = ["epoch", str(self.next_epoch())]
+                self.commands.append((ADMIN, words))
+                self.lines.append("admin " + " ".join(words))
+                continue
             words = self.command(client, long)
             self.commands.append((client, words))
             self.lines.append("c%d %s" % (client, " ".join(words)))
+
+    def next_epoch(self):
+        """Mostly the epoch behind the one that was asked for last, or that one again."""
+        if self.chance.random() < 0.1:
+            return self.chance.randint(2, self.decl.epochs)
+        self.epoch = min(self.epoch + (self.chance.random() < 0.7), self.decl.epochs)
+        return max(self.epoch, 2)
 
     def control(self):
         if self.cuts and self.chance.random() < 0.6:
@@ -172,7 +205,7 @@ class Script:
 
     def fall(self):
         """Somebody falls or rises, or a fault is armed."""
-        actor = self.chance.choice((self.site, self.client))()
+        actor = "admin" if self.chance.random() < 0.15 else self.chance.choice((self.site, self.client))()
         word = self.chance.choice(("crash", "restart", "restart", "stop", "fail"))
         if word == "restart" and self.down and self.chance.random() < 0.8:
             actor = self.down.pop(self.chance.randrange(len(self.down)))
@@ -180,8 +213,8 @@ class Script:
             self.down.append(actor)
         at = self.chance.randint(1, 12)
         self.lines.append("%s %s" % (word, actor) if word in ("crash", "restart") else "%s %s at %d" % (word, actor, at))
-        if actor[0] == "c":
-            self.commands.append((int(actor[1:]), [word]))
+        if actor[0] != "s":
+            self.commands.append((ADMIN if actor == "admin" else int(actor[1:]), [word]))
 
     def command(self, client, long):
         """A command that mostly fits what the client has open."""
@@ -198,6 +231,8 @@ class Script:
 
 # The replay of a text.
 
+ADMIN = -1
+
 NUMBER = r"(0|[1-9]\d*)"
 TRANSACTION = r"%s\.[1-9]\d*\.%s" % (NUMBER, NUMBER)
 STAMP = r"%s\.%s" % (NUMBER, NUMBER)
@@ -207,8 +242,14 @@ QUORUM = re.compile(r"! quorum (read|append) %s of %s" % (NUMBER, NUMBER))
 NO_ANSWER = re.compile(r"! no answer s%s" % NUMBER)
 RESTARTED = re.compile(r"! restarted s%s %s %s" % (NUMBER, NUMBER, NUMBER))
 FAULT = re.compile(r"! fault s%s" % NUMBER)
-SITE = re.compile(r"s%s (down|life [1-9]\d* epoch 1 lines %s held %s)" % (NUMBER, NUMBER, NUMBER))
-# Lines of a script that a client has no reply to.
+CLOSED = re.compile(r"! closed ([2-9]) s%s" % NUMBER)
+SITES = r"(-|s\d+(?: s\d+)*)"
+MOVED = re.compile(r"closed %s installed %s" % (SITES, SITES))
+ORDER = re.compile(r"! order ([1-9])")
+SHORT = re.compile(r"! quorum close %s of %s" % (NUMBER, NUMBER))
+IN_DOUBT = re.compile(r"! in doubt (%s) s%s" % (TRANSACTION, NUMBER))
+SITE = re.compile(r"s%s (down|life [1-9]\d* epoch [1-9]\d* lines %s held %s)" % (NUMBER, NUMBER, NUMBER))
+# Lines of a script that have no reply.
 CONTROLS = "crash", "restart", "stop", "fail"
 
 
@@ -305,6 +346,10 @@ class Client:
             want(int(quorum[2]) < int(quorum[3]), "a quorum that is met")
             self.doomed = quorum[1] == "append"
             self.counts["without a quorum"] += 1
+        elif CLOSED.fullmatch(result):
+            want(int(CLOSED.fullmatch(result)[1]) <= self.decl.epochs, "an epoch that isn't declared")
+            self.doomed = None
+            self.counts["in a closed epoch"] += 1
         elif result == "! absent":
             self.operations.append("%s %s absent" % (thing, inv))
             self.counts["absent"] += 1
@@ -320,6 +365,8 @@ class Client:
             self.counts["lost for want of a vote"] += 1
         elif RESTARTED.fullmatch(result) or FAULT.fullmatch(result):
             self.counts["lost for a fall"] += 1
+        elif CLOSED.fullmatch(result):
+            self.counts["lost for a closed epoch"] += 1
         elif result == "?":
             want(self.armed, "its disk fails by itself")
             self.doubts.append((self.open, self.operations))
@@ -332,6 +379,54 @@ class Client:
             self.commits.append((stamp, self.open, self.operations))
             self.counts["committed"] += 1
         self.end()
+
+
+class Admin:
+    """What the administrator told so far: which epochs may be decided last; whether he is up, None where his disk may have
+    failed as he rose; whether a fault was armed for it; and of whom he told that they are in doubt."""
+
+    def __init__(self, decl, counts):
+        self.decl, self.counts, self.decided, self.up, self.armed, self.doubts = decl, counts, {1}, True, False, []
+
+    def controlled(self, word):
+        if word in ("stop", "fail"):
+            self.armed = True
+        elif word == "crash":
+            self.up = False
+        elif self.up is not True:
+            self.up = None if self.armed else True
+
+    def takes(self, words, result):
+        epoch = int(words[1])
+        want(self.up is None or self.up == (result != "! down"), "whether he is up was known")
+        self.up = result != "! down"
+        moved, order, short, doubt = (it.fullmatch(result) for it in (MOVED, ORDER, SHORT, IN_DOUBT))
+        if not self.up:
+            self.counts["told down"] += 1
+        elif order:
+            want(int(order[1]) in self.decided, "another epoch is decided")
+            want(epoch != int(order[1]) + 1 and (epoch != int(order[1]) or epoch == 1), "the epoch is in order")
+            self.decided = {int(order[1])}
+            self.counts["epochs out of order"] += 1
+        elif moved:
+            closed = moved[1] != "-"
+            want(epoch - closed in self.decided, "another epoch is decided")
+            want(all(int(it[1:]) < self.decl.sites for it in " ".join(moved.groups()).split(" ") if it != "-"), "which sites")
+            self.decided = {epoch}
+            self.counts["epochs decided" if closed else "epochs installed again"] += 1
+        elif short:
+            want(epoch - 1 in self.decided and int(short[1]) < int(short[2]), "sites that close")
+            self.decided = {epoch - 1}
+            self.counts["epochs that too few closed"] += 1
+        elif doubt:
+            want(epoch - 1 in self.decided and int(doubt[4]) < self.decl.sites, "in doubt where")
+            self.decided = {epoch - 1}
+            self.doubts.append((int(doubt[2]), doubt[1]))
+            self.counts["epochs in doubt"] += 1
+        else:
+            want(result == "! fault" and self.armed and epoch - 1 in self.decided, "his disk fails by itself")
+            self.decided, self.up = {epoch - 1, epoch}, False
+            self.counts["epochs that weren't written"] += 1
 
 
 def stamp_of(text):
@@ -359,22 +454,24 @@ def replay_replies(decl, commands, lines, counts):
     """The transactions that were told as committed, by stamp, and those in doubt: each with its operations."""
     asked = [words for number, words in commands if words[0] not in CONTROLS]
     want(len(lines) == len(asked), "%d replies to %d commands" % (len(lines), len(asked)))
-    clients = [Client(number, decl, counts) for number in range(decl.clients)]
+    clients, admin = [Client(number, decl, counts) for number in range(decl.clients)], Admin(decl, counts)
     left = iter(lines)
     for number, words in commands:
+        actor = admin if number == ADMIN else clients[number]
         if words[0] in CONTROLS:
-            clients[number].controlled(words[0])
+            actor.controlled(words[0])
             continue
         line = next(left)
-        head = "c%d %s " % (number, " ".join(words[words[0] == "do" :]))
+        head = "%s %s " % ("admin" if number == ADMIN else "c%d" % number, " ".join(words[words[0] == "do" :]))
         want(line.startswith(head), "%s, where the command is %s" % (line, head))
         try:
-            clients[number].takes(words, line[len(head) :])
+            actor.takes(words, line[len(head) :])
         except Wrong as wrong:
             raise Wrong("%s: %s" % (line, wrong)) from wrong
     for client in clients:
         want(all(name in clients[holder].begun for holder, name in client.holders), "a conflict with what wasn't begun")
         counts["left open"] += client.open is not None
+    want(all(name in clients[holder].begun for holder, name in admin.doubts), "in doubt of what wasn't begun")
     return sorted(commit for client in clients for commit in client.commits), [it for client in clients for it in client.doubts]
 
 
@@ -477,6 +574,8 @@ def main():
     print(amounts("transactions", "committed", "given up", "given up as doomed", "lost for want of a vote", "left open"))
     print(amounts("operations", "with a response", "absent", "in conflict", "without a quorum", "doomed", "too long"))
     print(amounts("commands without a transaction", "begun twice", "told down", "in doubt", "lost for a fall"))
+    print(amounts("epochs decided", "epochs installed again", "epochs out of order", "epochs in doubt"))
+    print(amounts("epochs that too few closed", "epochs that weren't written", "in a closed epoch", "lost for a closed epoch"))
     return 1 if failures or not runs else 0
 
 

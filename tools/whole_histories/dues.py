@@ -121,7 +121,7 @@ def lemma(name, source):
     sites = "sites_due_where_posted %s %s %s.sites refl" % (decl, history, decl)
     turns = "by_turns_where_placed %s %s (actors %s) refl" % (decl, history, decl)
     mail = "mailed_where_shown [] %s refl" % history
-    fields = ("turns", turns), ("mail", mail), ("replies", replies), ("sites", sites)
+    fields = ("turns", turns), ("mail", mail), ("replies", replies), ("sites", sites), ("admin", "tt")
     value = replies if source == "LaterRows" else "record {\n%s}" % "".join("  %s = %s;\n" % f for f in fields)
     return "\npub %s_due : %s\n%s_due = %s\n" % (name, statement(name, source), name, value)
 

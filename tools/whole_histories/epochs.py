@@ -75,11 +75,11 @@ def right_lemma(name, decl):
     h = "%s.history" % name
     admin = "(deeds (administrator %s) [] %s)" % (decl, h)
     return (
-        "\npub {0}_due : AllDue {1} {2}\n{0}_due = record {{\n  due = record {{\n"
-        "    turns = by_turns_where_placed {1} {2} (actors {1}) refl;\n    mail = mailed_where_shown [] {2} refl;\n"
-        "    replies = all_due_where_shown {1} {2} {1}.clients refl;\n"
-        "    sites = sites_due_where_posted {1} {2} {1}.sites refl;\n  }};\n"
-        "  admin = admin_due_where_shown {1} {3} refl;\n  admin_turns = refl;\n}}\n").format(name, decl, h, admin)
+        "\npub {0}_due : Due {1} {2}\n{0}_due = record {{\n"
+        "  turns = by_turns_where_placed {1} {2} (actors {1}) refl;\n  mail = mailed_where_shown [] {2} refl;\n"
+        "  replies = all_due_where_shown {1} {2} {1}.clients refl;\n"
+        "  sites = sites_due_where_posted {1} {2} {1}.sites refl;\n"
+        "  admin = admin_due_where_shown {1} {3} refl;\n}}\n").format(name, decl, h, admin)
 
 
 LEMMA_PATHS = (
@@ -87,7 +87,7 @@ LEMMA_PATHS = (
     "Rattle.qc_msg.specs.Deeds.{deeds}",
     "Rattle.tests_due.proofs.Orders.{by_turns_where_placed, mailed_where_shown}",
     "Rattle.tests_due.proofs.Owed.{all_due_where_shown}", "Rattle.tests_due.proofs.Sites.{sites_due_where_posted}",
-    "Rattle.tests_epochs.specs.Whole.{AllDue}", "Rattle.tests_epochs.proofs.Owed.{admin_due_where_shown}",
+    "Rattle.qc_promise.specs.Due.{Due}", "Rattle.tests_epochs.proofs.Owed.{admin_due_where_shown}",
 )
 
 
@@ -110,7 +110,7 @@ def make_right(file, doc, name, histories):
         write("specs/%s.antt" % n, history_module(says, None if shared else decl, history))
         decl = decl if shared else "%s.decl" % low(n)
         body += right_lemma(low(n), decl)
-        clauses.append((low(n), "AllDue %s %s.history" % (decl, low(n))))
+        clauses.append((low(n), "Due %s %s.history" % (decl, low(n))))
         paths.append("Rattle.tests_epochs.specs.%s as %s" % (n, low(n)))
     write("proofs/%s.antt" % file, "-- %s\n%s%s" % (doc, uses(list(LEMMA_PATHS) + paths, body), body))
     answers("right", name, file, [n for n, _ in clauses], "due")
@@ -159,7 +159,7 @@ def make_all_right(worked, picked):
                         for k, (_, decl, _, history) in enumerate(group)]))
     made = [make_right(*group) for group in groups]
     laws = "".join(text for _, text in made)
-    paths = ["Rattle.tests_epochs.specs.Whole.{AllDue}"] + [path for paths, _ in made for path in paths]
+    paths = ["Rattle.qc_promise.specs.Due.{Due}"] + [path for paths, _ in made for path in paths]
     write("src/right.rt", "//! Right histories with falls and epochs, in which all is due.\n\n" + uses(
         paths, laws, "ghost ") + laws)
     return [n for group in groups for n, _, _, _ in group[3]], [group[0] for group in groups]

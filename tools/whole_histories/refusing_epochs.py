@@ -164,6 +164,10 @@ def last_reply(mine, other, place, due):
     return reply_due(mine[place].reply, [x for x in other if kind(x) == "Told"][-1])
 
 
+def fall_missing(mine, other, place, due):
+    return reply_due(mine[place].reply, None)
+
+
 def what_is_due(mine, other, place, due):
     x = mine[place]
     return record_due(x.record, due) if kind(x) == "Wrote" else reply_due(x.reply, due)
@@ -172,7 +176,7 @@ def what_is_due(mine, other, place, due):
 PARTS = {
     "due": what_is_due, "last": last_reply, "before": written_before, "pending": pending_behind,
     "posted": posted_at_rise, "untold": reply_untold, "unwritten": decision_unwritten, "busy": command_open,
-    "uncalled": never_called_for,
+    "uncalled": never_called_for, "unfallen": fall_missing,
 }
 
 

@@ -9,9 +9,9 @@ from epoch_scripts import AGAIN, DOWN, MOVED_ONCE, STOPPED
 ADMIN = 6
 ALL = frozenset((0, 1, 2))
 # which part of what is due of the deed is another one: the reply or the decision, a reply that is due as the right one's
-# last, what is written before, what is pending at the fall, what is posted at a rise; at an input, that a reply is
-# untold, a decision unwritten, or a command without its reply; or the turns are wrong
-LAST = "last"
+# last, or with the fall behind it alone, what is written before, what is pending at the fall, what is posted at a rise; at
+# an input, that a reply is untold, a decision unwritten, or a command without its reply; or the turns are wrong
+LAST, UNFALLEN = "last", "unfallen"
 DUE, BEFORE, PENDING, POSTED, TURNS = "due", "before", "pending", "posted", "turns"
 
 
@@ -25,6 +25,12 @@ def through_falls(step, reply):
         k = fault_though_decided(h)
         h.put(k + 1, ADMIN, step.Fell("Disk", h.step(k - 1).record))
         return k, k + 1
+
+    def fault_and_no_fall(h):
+        rose = h.find("Rose", actor=ADMIN)
+        h.drop(rose, rose + 1)
+        h.drop(h.find("Fell", actor=ADMIN))
+        return h.told("Fault"), h.find("Called", 1, actor=ADMIN)
 
     def another_record_pending(h):
         k = h.find("Fell", actor=ADMIN)
@@ -85,6 +91,8 @@ def through_falls(step, reply):
          fault_though_decided, DUE),
         ("fault_before_a_fall", "It is told so, and he falls with the record that he wrote.", "three_epochs",
          MOVED_ONCE, fault_before_a_fall, BEFORE),
+        ("fault_and_no_fall", "Fault is told as his disk stops, and he doesn't fall.", "three_epochs", STOPPED,
+         fault_and_no_fall, UNFALLEN),
         ("another_record_pending", "As he falls he was writing another decision than is due.", "three_epochs", STOPPED,
          another_record_pending, PENDING),
         ("decided_again_though_it_rose", "He rises with the decision that he was writing, and writes it again.",
@@ -110,13 +118,6 @@ def through_falls(step, reply):
 
 
 def turns(step, record, reply):
-    def fault_and_no_fall(h):
-        fell = h.find("Fell", actor=ADMIN)
-        rose = h.find("Rose", actor=ADMIN)
-        h.drop(rose, rose + 1)
-        h.drop(fell)
-        return h.find("Called", 1, actor=ADMIN)
-
     def fallen_untold(h):
         k = h.told("Fault")
         h.drop(k)
@@ -138,8 +139,6 @@ def turns(step, record, reply):
         return k
 
     return (
-        ("fault_and_no_fall", "Fault is told as his disk stops, and he doesn't fall.", "three_epochs", STOPPED,
-         fault_and_no_fall, TURNS),
         ("fallen_untold", "He falls as he writes his decision, and tells nothing.", "three_epochs", STOPPED,
          fallen_untold, TURNS),
         ("life_between", "He writes that he rose, and didn't.", "three_epochs", MOVED_ONCE, life_between, TURNS),

@@ -1,5 +1,5 @@
 -- A script that was read for an accepted declaration names what is declared.
-use Rattle.std.proofs.Common.{◌≡◌, ℕ, ◌<◌, List, [], length, Option, Some, None, slice_get, refl, ap, ◌∙◌, arith}
+use Rattle.std.proofs.Common.{◌≡◌, ℕ, ◌-◌, ◌<◌, ◌≤◌, ◌==◌, Bool, true, false, cond, List, [], length, Option, Some, None, slice_get, refl, ap, ◌∙◌, arith, eqb-true}
 use Rattle.std.specs.Prelude.{option_and_then}
 use Rattle.std.specs.Str.{bytes_eq}
 use Rattle.std.proofs.lemmas.List.Quantifiers.{position-Some}
@@ -15,6 +15,8 @@ use Rattle.qc_script.specs.Sound.{IsAskedFor, IsCommandFor, IsPhaseFor, IsScript
 use Rattle.qc_script.specs.declared.script.Script.{Script}
 use Rattle.qc_laws.proofs.Places.{slice_get-within}
 use Rattle.qc_net.specs.Net.{IsNamed, IsNamedAt}
+use Rattle.qc_net.specs.Sites.{IsPlanned}
+use Rattle.qc_plan.specs.declared.plan.Plan.{Plan}
 use Rattle.qc_atomic.specs.Reached.{AreNamed}
 
 module _ (decl : Declaration) (accepted : IsAccepted decl) where
@@ -34,12 +36,22 @@ module _ (decl : Declaration) (accepted : IsAccepted decl) where
       by_object None none e = absurd (let never : ⊥ = cc in never)
       by_object (Some number) at e = by_names number (slice_get decl.kind_names number) at refl e
 
+  -- an epoch of a declared number has a plan
+  planned : (number : ℕ) → 2 ≤ number → number ≤ length decl.plans → IsPlanned decl number
+  planned number low high = by (number == 0) refl
+    where
+      by : (b : Bool) → (number == 0) ≡ b → IsPlanned decl number
+      by true is = absurd (let none : number ≡ 0 = eqb-true number 0 is in let never : ⊥ = omega arith in never)
+      by false is =
+          let at : (plan : Plan) × (slice_get decl.plans (number - 1) ≡ Some plan) = slice_get-within decl.plans (number - 1) (omega arith) in
+          (at.0, ap (λ (b : Bool). cond b None (slice_get decl.plans (number - 1))) is ∙ at.1)
+
   asked_named : (actor : ℕ) (c : Command) → IsAskedFor decl actor c → IsNamed decl c
   asked_named actor Begin is = tt
   asked_named actor (Do object inv) is = inv_is object inv is.2.0 is.2.1
   asked_named actor Commit is = tt
   asked_named actor Abort is = tt
-  asked_named actor (Epoch number) is = tt
+  asked_named actor (Epoch number) is = planned number is.1 is.2
 
   pub script_named : (script : Script) → IsScriptFor decl script → AreNamed decl script
   script_named script sound p line listed among =

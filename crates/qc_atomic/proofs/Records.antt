@@ -1,13 +1,14 @@
 -- Only clients write commit records.
-use Rattle.std.proofs.Common.{◌≡◌, ◌≤◌, ◌<◌, ℕ, ◌==◌, ◌&&◌, Bool, true, false, cond, List, [], ◌∷◌, ◌++◌, ◌⊎◌, inl, inr, Option, Some, None, option_to_list, slice_get, refl, sym, ap, ◌∙◌, subst, eq-eqb}
+use Rattle.std.proofs.Common.{◌≡◌, ◌≤◌, ◌<◌, ℕ, ◌==◌, ◌&&◌, Bool, true, false, cond, List, [], ◌∷◌, ◌++◌, ◌⊎◌, inl, inr, Option, Some, None, option_to_list, slice_get, refl, sym, ap, ◌∙◌, subst, eq-eqb, arith}
 use Rattle.std.proofs.lemmas.Bool.{cases_lt, le-leb, lt-ltb}
 use Rattle.qc_list.specs.Members.{In}
 use Rattle.qc_list.proofs.Members.{In-first, In-second, every-In}
 use Rattle.qc_core.specs.Conduct.{IsLawful}
 use Rattle.qc_decl.specs.declared.declaration.Declaration.{Declaration}
-use Rattle.qc_decl.specs.Actors.{actors, is_client}
+use Rattle.qc_decl.specs.Actors.{actors, administrator, is_client}
 use Rattle.qc_entry.specs.declared.record.Commit.{Commit}
-use Rattle.qc_laws.proofs.Acted.{has_entry, others_do_nothing, run_acts}
+use Rattle.qc_laws.proofs.Acted.{has_entry, run_acts}
+use Rattle.qc_laws.proofs.Idle.{IsInput, idle}
 use Rattle.qc_laws.specs.Turns.{ActsIn}
 use Rattle.qc_msg.specs.declared.message.Envelope.{Envelope}
 use Rattle.qc_msg.specs.declared.record.Record.{Record}
@@ -76,12 +77,12 @@ module _ (decl : Declaration) (script : Script) (h : List Entry) (open_inputs : 
           every-In IsMuteDeed (Writes (records_of.Commit c)) (deeds a [] h) (sites_mute decl a (lt-ltb a decl.sites site) (deeds a [] h) place.0 r.above r.acts) among
 
   pub none_write : NoneWrite decl [] h
-  none_write a other c among = by (cases_lt a (actors decl)) (cases_lt a decl.sites)
+  none_write a other c among = by (cases_lt a (administrator decl)) (cases_lt a decl.sites)
     where
-      by : (a < actors decl) ⊎ (actors decl ≤ a) → (a < decl.sites) ⊎ (decl.sites ≤ a) → ⊥
-      by (inr past) where_it = subst (In (Writes (records_of.Commit c))) (others_do_nothing (IsLawful decl) decl script h open_inputs run a past) among
-      by (inl within) (inl site) = site_writes a site within c among
-      by (inl within) (inr client) = let yes : is_client decl a ≡ true = λ i. (le-leb decl.sites a client i && lt-ltb a (actors decl) within i) in let never : ⊥ = cc in never
+      by : (a < administrator decl) ⊎ (administrator decl ≤ a) → (a < decl.sites) ⊎ (decl.sites ≤ a) → ⊥
+      by (inr past) where_it = every-In IsInput (Writes (records_of.Commit c)) (deeds a [] h) (idle decl a past script h open_inputs run) among
+      by (inl within) (inl site) = site_writes a site (omega arith) c among
+      by (inl within) (inr client) = let yes : is_client decl a ≡ true = λ i. (le-leb decl.sites a client i && lt-ltb a (administrator decl) within i) in let never : ⊥ = cc in never
 
   pub records_are_clients : records decl h ≡ written h
   records_are_clients = clients_only decl [] h (λ a. run_up (IsLawful decl) decl script h open_inputs run a) none_write

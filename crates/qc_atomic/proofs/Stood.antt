@@ -3,6 +3,7 @@
 use Rattle.std.proofs.Common.{◌≡◌, ◌≢◌, ℕ, ◌-◌, ◌<◌, ◌≤◌, ◌==◌, ◌&&◌, nat_le, nat_lt, arith, Bool, true, false, List, [], ◌++◌, Option, Some, slice_get, refl, sym, ap, ◌∙◌, subst, eq-eqb, eqb-true, ltb-true}
 use Rattle.std.specs.Prelude.{fold, slice_set}
 use Rattle.std.proofs.lemmas.Bool.{leb-true}
+use Rattle.qc_decl.proofs.Clients.{client_past}
 use Rattle.qc_list.specs.Members.{In}
 use Rattle.qc_list.proofs.Members.{every-at, every-from_In}
 use Rattle.qc_decl.specs.declared.declaration.Declaration.{Declaration}
@@ -121,7 +122,7 @@ module _ (decl : Declaration) where
   pub both : (a : ℕ) → is_site decl a ≡ true → is_client decl a ≡ true → ⊥
   both a site client =
       let low : a < decl.sites = ltb-true a decl.sites site in
-      let high : decl.sites ≤ a = leb-true decl.sites a (and_first (nat_le decl.sites a) (nat_lt a (actors decl)) client) in
+      let high : decl.sites ≤ a = client_past decl a client in
       omega arith
 
   -- the deeds stay, and more is sent

@@ -13,7 +13,7 @@ use Rattle.qc_client.specs.Conduct.{client_after}
 use Rattle.qc_site.specs.Conduct.{site_after}
 use Rattle.qc_net.specs.Net.{IsNamed, Net, Reaches}
 
--- each `do` of a script names a declared object, and an invocation of its type
+-- each `do` of a script names a declared object, and an invocation of its type, and each `epoch` one that is declared
 abbrev pub AreNamed : Declaration → Script → Type 0
 AreNamed decl script = (phase : PhaseLines) (line : CommandLine) → In phase script.phases → In line phase.commands
     → IsNamed decl line.command

@@ -3,15 +3,17 @@ use Rattle.std.proofs.Common.{◌≡◌, ℕ, ◌-◌, ◌^◌, ◌<◌, ◌≤�
 use Rattle.std.proofs.Common.{length, take, Option, inl, inr, refl, sym, subst, arith}
 use Rattle.std.specs.Prelude.{option_to_list}
 use Rattle.std.specs.List.{AllByRecursion as Every}
-use Rattle.qc_client.specs.Client.{new_client}
+use Rattle.qc_core.proofs.AdminWrites.{admin_written}
+use Rattle.qc_decl.proofs.Clients.{client_below}
+use Rattle.qc_epoch.specs.Conduct.{admin_takes}
 use Rattle.qc_client.specs.Conduct.{client_takes}
 use Rattle.qc_core.specs.declared.actor.Actor.{Actor}
-use Rattle.qc_core.specs.declared.actor.Actor.TheVariants.{Site, Client, Down}
-use Rattle.qc_core.specs.Actors.{ActorMove, actor_does, actor_rises, actor_sends, actor_takes, by_client}
-use Rattle.qc_core.specs.Actors.{by_site, down_takes, moved, new_actor}
+use Rattle.qc_core.specs.declared.actor.Actor.TheVariants.{Site, Client, Admin, Down}
+use Rattle.qc_core.specs.Actors.{ActorMove, actor_does, actor_rises, actor_sends, actor_takes}
+use Rattle.qc_core.specs.Actors.{down_takes, moved, new_actor}
 use Rattle.qc_core.proofs.Written.{client_written}
 use Rattle.qc_decl.specs.Accepted.{IsAccepted}
-use Rattle.qc_decl.specs.Actors.{actors, is_site}
+use Rattle.qc_decl.specs.Actors.{actors, administrator, is_client, is_site}
 use Rattle.qc_decl.specs.declared.declaration.Declaration.{Declaration}
 use Rattle.qc_entry.specs.declared.record.Prepared.{Prepared}
 use Rattle.qc_msg.specs.declared.message.Message.{Message}
@@ -21,13 +23,13 @@ use Rattle.qc_msg.specs.declared.step.Given.TheVariants as given
 use Rattle.qc_msg.specs.declared.turn.Turn.{Turn}
 use Rattle.qc_msg.specs.Deeds.{Deed, Takes, Writes, Sends, Tells, Falls, Rises}
 use Rattle.qc_msg.specs.Turns.{quiet}
-use Rattle.qc_recover.specs.Clients.{client_rises}
-use Rattle.qc_recover.specs.Sites.{kept_by, most_inquiries, site_rises}
+use Rattle.qc_recover.specs.Sites.{kept_by, most_inquiries}
 use Rattle.qc_site.specs.Epochs.{in_order}
 use Rattle.qc_site.specs.Conduct.{site_takes}
-use Rattle.qc_site.specs.Site.{new_site}
 use Rattle.qc_bounds.specs.Bounds.{CountsWithin}
 use Rattle.qc_bounds.proofs.ActorsWithin.{IsOfPost}
+use Rattle.qc_bounds.proofs.AdminsInForm.{AdminInForm, AdminMoveInForm, GivenToldIn, admin_risen_form, admin_sends_form, admin_takes_form}
+use Rattle.qc_core.proofs.ByNumber.{new_by, rises_by}
 use Rattle.qc_bounds.proofs.ClientsInForm.{ClientInForm, ClientMoveInForm, client_takes_form, sent_form}
 use Rattle.qc_bounds.proofs.ClientsRisen.{client_risen_form}
 use Rattle.qc_bounds.proofs.Declared.{answers_in_form}
@@ -40,7 +42,8 @@ use Rattle.qc_bounds.proofs.SitesTake.{SiteStands, site_takes_form, site_takes_s
 module _ (decl : Declaration) where
   abbrev pub StateInForm : ℕ → Actor → Type 0
   StateInForm a (Site s) = SiteStands s
-  StateInForm a (Client c) = ClientInForm decl (a - decl.sites) c
+  StateInForm a (Client c) = (is_client decl a ≡ true) × ClientInForm decl (a - decl.sites) c
+  StateInForm a (Admin m) = AdminInForm m
   StateInForm a Down = Unit {0}
 
   pub record TurnInForm (a : ℕ) (turn : Turn) : Type 0 where
@@ -59,10 +62,11 @@ module _ (decl : Declaration) where
   down_form a = record { state = tt; turn = quiet_form a }
 
   pub new_form : (a : ℕ) → MoveInForm a (moved (new_actor decl a) quiet)
-  new_form a = record { state = by (is_site decl a); turn = quiet_form a }
+  new_form a = record { state = by (is_site decl a) (is_client decl a) refl; turn = quiet_form a }
     where
-      by : (b : Bool) → StateInForm a (cond b (Site (new_site a)) (Client (new_client (a - decl.sites))))
-      by true = record {
+      by : (site client : Bool) → is_client decl a ≡ client → StateInForm a (new_by decl a site client)
+      by false false is = record { decided = tt; doing = tt }
+      by true client is = record {
         form = record { epoch = (omega arith, omega arith); began = tt; log = tt; held = tt; prepared = tt };
         sorted = record {
           began = tt;
@@ -72,10 +76,13 @@ module _ (decl : Declaration) where
           prepared = tt;
         };
       }
-      by false = record {
-        front = record { client_is = refl; life = (omega arith, omega arith); begun = tt; doing = tt };
-        desk = record { client_is = refl; voting = tt; commits = tt };
-      }
+      by false true is = (
+        is,
+        record {
+          front = record { client_is = refl; life = (omega arith, omega arith); begun = tt; doing = tt };
+          desk = record { client_is = refl; voting = tt; commits = tt };
+        },
+      )
 
   -- one input
 
@@ -84,17 +91,18 @@ module _ (decl : Declaration) where
   down_taken a (given.Got e) = quiet_form a
   down_taken a (given.Lost number) = quiet_form a
 
-  client_writes : decl.clients ≤ 16 → (a : ℕ) (w : Option Record) → a < actors decl
+  client_writes : decl.clients ≤ 16 → (a : ℕ) (w : Option Record) → is_client decl a ≡ true
       → OwnWriteInForm (a - decl.sites) w → Every WriteInForm (option_to_list w)
-  client_writes few a w low (inl none) =
+  client_writes few a w is (inl none) =
       subst (λ (o : Option Record). Every WriteInForm (option_to_list o)) (sym none) tt
-  client_writes few a w low (inr one) =
+  client_writes few a w is (inr one) =
       subst (λ (o : Option Record). Every WriteInForm (option_to_list o)) (sym one.1) ((own, tt), tt)
     where
       own : CommitInForm one.0
       own =
           let its : OwnCommitInForm (a - decl.sites) one.0 = one.2 in
           let client : one.0.tx.client ≡ a - decl.sites = its.client_is in
+          let low : a < administrator decl = client_below decl a is in
           let below : one.0.tx.client ≤ 15 = omega (arith, client, low, few) in
           record {
             stamp = its.stamp;
@@ -103,34 +111,52 @@ module _ (decl : Declaration) where
             few = its.few;
           }
 
+  -- of the administrator: what a client tells him is of the transaction that it was asked about
+  abbrev pub IsToldFor : Actor → Given → Type 0
+  IsToldFor (Site s) g = Unit {0}
+  IsToldFor (Client c) g = Unit {0}
+  IsToldFor (Admin m) g = GivenToldIn m g
+  IsToldFor Down g = Unit {0}
+
   pub takes_form : (accepted : IsAccepted decl) (a n : ℕ) (v : Actor) (g : Given) → StateInForm a v
-      → CountsWithin n v → n < 2 ^ 32 - 1 → TakenInForm g → MoveInForm a (actor_takes decl v g)
-  takes_form accepted a n (Site s) g w counts low here =
+      → CountsWithin n v → n < 2 ^ 32 - 1 → TakenInForm g → IsToldFor v g → MoveInForm a (actor_takes decl v g)
+  takes_form accepted a n (Site s) g w counts low here told =
       let m : SiteMoveInForm (site_takes decl s g) = site_takes_form decl accepted.clients s g w here in
       record {
         state = record { form = m.site; sorted = site_takes_sorted decl accepted.clients s g w here };
         turn = record { sends = m.sends; failed_sends = m.failed_sends; write = λ low. m.write };
       }
-  takes_form accepted a n (Client c) g w counts low here =
+  takes_form accepted a n (Client c) g w counts low here told =
       let few : c.front.count < 2 ^ 32 - 1 = (let count : c.front.count ≤ n = counts in omega (arith, count, low)) in
       let m : ClientMoveInForm decl (a - decl.sites) (client_takes decl c g) =
-      client_takes_form decl (a - decl.sites) (answers_in_form decl accepted) c w few g here in
+      client_takes_form decl (a - decl.sites) (answers_in_form decl accepted) c w.1 few g here in
       record {
-        state = m.client_is;
+        state = (w.0, m.client_is);
         turn = record {
           sends = m.sends;
           failed_sends = subst SendsInForm (sym (client_written decl c g).failed_sends) tt;
-          write = λ low. client_writes accepted.clients a (client_takes decl c g).turn.write low m.write;
+          write = λ low. client_writes accepted.clients a (client_takes decl c g).turn.write w.0 m.write;
         };
       }
-  takes_form accepted a n Down g w counts low here = record { state = tt; turn = down_taken a g }
+  takes_form accepted a n (Admin m) g w counts low here told =
+      let on : AdminMoveInForm (admin_takes decl m g) = admin_takes_form decl m g w here told in
+      record {
+        state = on.admin;
+        turn = record {
+          sends = on.sends;
+          failed_sends = subst SendsInForm (sym (admin_written decl m g).failed_sends) tt;
+          write = λ low. on.write;
+        };
+      }
+  takes_form accepted a n Down g w counts low here told = record { state = tt; turn = down_taken a g }
 
   -- a post
 
   sends_form : (a : ℕ) (v : Actor) (number to : ℕ) (message : Message) → StateInForm a v
       → StateInForm a (actor_sends v number to message)
   sends_form a (Site s) number to message w = w
-  sends_form a (Client c) number to message w = sent_form decl (a - decl.sites) c number to message w
+  sends_form a (Client c) number to message w = (w.0, sent_form decl (a - decl.sites) c number to message w.1)
+  sends_form a (Admin m) number to message w = admin_sends_form m number to message w
   sends_form a Down number to message w = w
 
   pub posts_form : (a : ℕ) (m : ActorMove) (ds : List Deed) → Every IsOfPost ds → MoveInForm a m
@@ -149,11 +175,14 @@ module _ (decl : Declaration) where
 
   pub rises_form : (a : ℕ) (rs : List Record) → Every RecordInForm rs → length rs ≤ 2 ^ 31
       → MoveInForm a (actor_rises decl a rs)
-  rises_form a rs all few = by (is_site decl a)
+  rises_form a rs all few = by (is_site decl a) (is_client decl a) refl
     where
-      by : (b : Bool)
-          → MoveInForm a (cond b (by_site (site_rises decl a rs)) (by_client (client_rises (a - decl.sites) rs)))
-      by true = record {
+      by : (site client : Bool) → is_client decl a ≡ client → MoveInForm a (rises_by decl a rs site client)
+      by false false is = record {
+        state = admin_risen_form rs all;
+        turn = record { sends = tt; failed_sends = tt; write = λ low. ((tt, tt), tt) };
+      }
+      by true client is = record {
         state = site_risen_form a rs all;
         turn = record {
           sends =
@@ -163,7 +192,7 @@ module _ (decl : Declaration) where
           write = λ low. ((tt, tt), tt);
         };
       }
-      by false = record {
-        state = client_risen_form decl (a - decl.sites) rs all few;
+      by false true is = record {
+        state = (is, client_risen_form decl (a - decl.sites) rs all few);
         turn = record { sends = tt; failed_sends = tt; write = λ low. ((tt, tt), tt) };
       }

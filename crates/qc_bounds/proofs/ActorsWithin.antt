@@ -5,12 +5,13 @@ use Rattle.std.proofs.Common.{arith}
 use Rattle.std.specs.Prelude.{option_to_list}
 use Rattle.std.specs.List.{AllByRecursion as Every}
 use Rattle.qc_list.proofs.Members.{every-append, every-weaker}
-use Rattle.qc_client.specs.Client.{new_client, moved as client_moved}
+use Rattle.qc_client.specs.Client.{moved as client_moved}
 use Rattle.qc_client.specs.Conduct.{client_takes}
 use Rattle.qc_core.specs.declared.actor.Actor.{Actor}
-use Rattle.qc_core.specs.declared.actor.Actor.TheVariants.{Site, Client, Down}
+use Rattle.qc_core.specs.declared.actor.Actor.TheVariants.{Site, Client, Admin, Down}
 use Rattle.qc_core.specs.Actors.{ActorMove, actor_does, actor_sends, actor_takes, down_takes, moved, new_actor}
-use Rattle.qc_decl.specs.Actors.{is_site}
+use Rattle.qc_core.proofs.ByNumber.{new_by}
+use Rattle.qc_decl.specs.Actors.{is_client, is_site}
 use Rattle.qc_decl.specs.declared.declaration.Declaration.{Declaration}
 use Rattle.qc_msg.specs.declared.message.Message.{Message}
 use Rattle.qc_msg.specs.declared.record.Record.{Record}
@@ -26,12 +27,13 @@ use Rattle.qc_msg.specs.declared.turn.Turn.{Turn}
 use Rattle.qc_msg.specs.Deeds.{Deed, Takes, Writes, Sends, Tells, Falls, Rises, deeds_as, sends_of, tells_of, writes_of}
 use Rattle.qc_msg.specs.Turns.{quiet}
 use Rattle.qc_site.specs.Conduct.{site_takes}
-use Rattle.qc_site.specs.Site.{new_site}
+use Rattle.qc_epoch.specs.Conduct as admins
 use Rattle.qc_laws.specs.Within.{ClientMoveWithin, GivenWithin, SiteMoveWithin}
 use Rattle.qc_laws.proofs.ClientsWithin.{all_posts-within, client-le, client_takes_within}
 use Rattle.qc_laws.proofs.Greater.{lines-le, sends-le}
 use Rattle.qc_laws.proofs.SitesWithin.{site-le, site_takes_within}
 use Rattle.qc_bounds.specs.Within.{AreWithin, MoveWithin, RecordWithin, StateWithin, TurnWithin}
+use Rattle.qc_bounds.proofs.AdminsWithin.{AdminMoveWithin, admin_le, admin_sends_within, admin_takes_within}
 use Rattle.qc_bounds.proofs.ClientWrites.{client_writes_within}
 use Rattle.qc_bounds.proofs.SiteWrites.{WritesWithin, site_writes_within}
 
@@ -55,6 +57,7 @@ module _ (low high : ℕ) (le : low ≤ high) where
   pub state_le : (v : Actor) → StateWithin low v → StateWithin high v
   state_le (Site s) w = site-le low high s le w
   state_le (Client c) w = client-le low high c le w
+  state_le (Admin m) w = admin_le low high le m w
   state_le Down w = tt
 
   pub turn_le : (t : Turn) → TurnWithin low t → TurnWithin high t
@@ -75,14 +78,15 @@ down_within bound = record { state = tt; turn = quiet_within bound }
 
 -- an actor that has done nothing
 pub new_within : (bound : ℕ) (decl : Declaration) (a : ℕ) → MoveWithin bound (moved (new_actor decl a) quiet)
-new_within bound decl a = record { state = by (is_site decl a); turn = quiet_within bound }
+new_within bound decl a = record { state = by (is_site decl a) (is_client decl a); turn = quiet_within bound }
   where
-    by : (b : Bool) → StateWithin bound (cond b (Site (new_site a)) (Client (new_client (a - decl.sites))))
-    by true = record { clock = omega arith; began = tt; log = tt; prepared = tt }
-    by false = record {
+    by : (site client : Bool) → StateWithin bound (new_by decl a site client)
+    by true client = record { clock = omega arith; began = tt; log = tt; prepared = tt }
+    by false true = record {
       front = record { clock = omega arith; count = omega arith; views = tt };
       desk = record { clock = omega arith; commits = tt };
     }
+    by false false = record { decided = tt; doing = tt }
 
 -- one input
 
@@ -107,6 +111,9 @@ module _ (bound : ℕ) (decl : Declaration) where
         state = m.client;
         turn = record { sends = m.sends; failed_sends = t.failed_sends; write = t.write };
       }
+  takes_within (Admin m) g w here =
+      let on : AdminMoveWithin bound (admins.admin_takes decl m g) = admin_takes_within bound decl m w g here in
+      move_le bound (bound + 1) (omega arith) (actor_takes decl (Admin m) g) (record { state = on.admin; turn = on.turn })
   takes_within Down g w here = record { state = tt; turn = down_taken (bound + 1) g }
 
 -- a post
@@ -154,6 +161,7 @@ module _ (bound : ℕ) (decl : Declaration) (a : ℕ) where
   sends_within (Client c) number to message w =
       (all_posts-within bound decl (client_moved c quiet) (Sends number to message ∷ []) (tt, tt)
       (record { client = w; sends = tt })).client
+  sends_within (Admin m) number to message w = admin_sends_within bound m number to message w
   sends_within Down number to message w = w
 
   pub posts_within : (m : ActorMove) (ds : List Deed) → Every IsOfPost ds → MoveWithin bound m

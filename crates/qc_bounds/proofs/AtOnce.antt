@@ -3,12 +3,16 @@
 use Rattle.std.proofs.Common.{◌≡◌, ℕ, ◌-◌, Bool, true, false, cond, List, [], ◌∷◌, ◌++◌, fold, Some, slice_get, refl}
 use Rattle.std.proofs.Common.{sym, ap, ◌∙◌}
 use Rattle.std.proofs.lemmas.List.Sums.{fold-append}
+use Rattle.qc_admin.specs.Holds.{IsNumberedAtOnce}
+use Rattle.qc_admin.proofs.AtOnce.{takes_now}
+use Rattle.qc_epoch.specs.Admin.{Admin}
+use Rattle.qc_epoch.specs.Conduct.{admin_takes}
 use Rattle.qc_client.specs.declared.client.Client.{Client}
 use Rattle.qc_client.specs.Conduct.{client_takes}
 use Rattle.qc_core.specs.declared.actor.Actor.{Actor}
 use Rattle.qc_core.specs.declared.actor.Actor.TheVariants as actors_of
 use Rattle.qc_core.specs.Actors.{ActorMove, actor_after, actor_does, actor_rises, actor_sent, actor_takes, by_client}
-use Rattle.qc_core.specs.Actors.{by_site, down_takes}
+use Rattle.qc_core.specs.Actors.{down_takes}
 use Rattle.qc_core.specs.Acts.{MayTake, is_running}
 use Rattle.qc_core.specs.Conduct.{IsLawfulWithFalls}
 use Rattle.qc_core.proofs.ByTurns.{after_takes, called_turn}
@@ -16,14 +20,13 @@ use Rattle.qc_core.proofs.ClientLands.{lands}
 use Rattle.qc_core.proofs.ClientStands.{Lands}
 use Rattle.qc_core.proofs.LivesLaws.{rises as after_rises}
 use Rattle.qc_decl.specs.Accepted.{IsAccepted}
-use Rattle.qc_decl.specs.Actors.{is_site}
+use Rattle.qc_decl.specs.Actors.{is_client, is_site}
 use Rattle.qc_decl.specs.declared.declaration.Declaration.{Declaration}
 use Rattle.qc_msg.specs.declared.record.Record.{Record}
 use Rattle.qc_msg.specs.declared.step.Given.{Given}
 use Rattle.qc_msg.specs.declared.turn.Turn.{Turn}
 use Rattle.qc_msg.specs.Deeds.{Deed, Rises, deeds, turn_deeds}
 use Rattle.qc_msg.specs.Steps.{Entry}
-use Rattle.qc_recover.specs.Clients.{client_rises}
 use Rattle.qc_recover.specs.Sites.{site_rises}
 use Rattle.qc_script.specs.RunsWithFalls.{RunsWithFalls}
 use Rattle.qc_script.specs.declared.script.Script.{Script}
@@ -31,7 +34,8 @@ use Rattle.qc_site.specs.Conduct.{site_takes}
 use Rattle.qc_bounds.specs.Fitting.{AllRiseFit}
 use Rattle.qc_bounds.proofs.Calling.{known_at}
 use Rattle.qc_bounds.proofs.Standing.{IsOpen, IsReady}
-use Rattle.qc_bounds.proofs.TurnsPosted.{client_turn, down_turn, site_turn}
+use Rattle.qc_core.proofs.ByNumber.{rises_by}
+use Rattle.qc_bounds.proofs.TurnsPosted.{admin_turn, client_turn, down_turn, site_turn}
 
 module _ (decl : Declaration) (a : ℕ) where
   -- an input
@@ -47,6 +51,10 @@ module _ (decl : Declaration) (a : ℕ) where
       lands decl ds c g first accepted.has_site accepted.sites ready.stands may in
       ap (λ (m : ActorMove). m.actor) (client_turn decl a (client_takes decl c g) first (client_takes decl c g).turn)
       ∙ ap (λ (d : Client). actors_of.Client d) on.once
+  input_sent accepted (actors_of.Admin m) ds g first ready may =
+      let on : IsNumberedAtOnce decl (admin_takes decl m g) = takes_now decl m g accepted ready.holds in
+      ap (λ (m : ActorMove). m.actor) (admin_turn decl a (admin_takes decl m g) first (admin_takes decl m g).turn)
+      ∙ ap (λ (d : Admin). actors_of.Admin d) (on.told first)
   input_sent accepted actors_of.Down ds g first ready may =
       ap (λ (m : ActorMove). m.actor) (down_turn decl a (down_takes g) first (down_takes g))
 
@@ -67,19 +75,17 @@ module _ (decl : Declaration) (a : ℕ) where
   rise_sent : (rs : List Record) (first : ℕ)
       → (fold (actor_does decl a) (actor_rises decl a rs) (turn_deeds first (actor_rises decl a rs).turn)).actor
       ≡ actor_sent (actor_rises decl a rs).actor first
-  rise_sent rs first = by (is_site decl a)
+  rise_sent rs first = by (is_site decl a) (is_client decl a)
     where
-      by : (b : Bool)
+      by : (site client : Bool)
           →
-          (fold (actor_does decl a)
-          (cond b (by_site (site_rises decl a rs)) (by_client (client_rises (a - decl.sites) rs)))
-          (turn_deeds first
-          (cond b (by_site (site_rises decl a rs)) (by_client (client_rises (a - decl.sites) rs))).turn)).actor
-          ≡ actor_sent
-          (cond b (by_site (site_rises decl a rs)) (by_client (client_rises (a - decl.sites) rs))).actor first
-      by true =
+          (fold (actor_does decl a) (rises_by decl a rs site client)
+          (turn_deeds first (rises_by decl a rs site client).turn)).actor
+          ≡ actor_sent (rises_by decl a rs site client).actor first
+      by true client =
           ap (λ (m : ActorMove). m.actor) (site_turn decl a (site_rises decl a rs) first (site_rises decl a rs).turn)
-      by false = refl
+      by false true = refl
+      by false false = refl
 
   pub risen_sent : (ds : List Deed) (rs : List Record) (turn : Turn) (first : ℕ)
       → IsLawfulWithFalls decl a (ds ++ Rises rs ∷ []) turn

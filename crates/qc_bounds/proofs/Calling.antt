@@ -4,7 +4,15 @@ use Rattle.std.proofs.Common.{slice_get, refl, sym, ap, ◌∙◌, subst, arith}
 use Rattle.std.specs.List.{AllByRecursion as Every}
 use Rattle.qc_list.specs.Members.{In}
 use Rattle.qc_list.proofs.Members.{every-In, every-weaker}
+use Rattle.qc_admin.specs.Fits.{AdminFits, GivenFits, GoesToActors}
+use Rattle.qc_admin.proofs.Fitting.{takes_fit}
+use Rattle.qc_admin.proofs.Receivers.{takes_go}
 use Rattle.qc_client.specs.declared.client.Client.{Client}
+use Rattle.qc_epoch.specs.Admin.{Admin}
+use Rattle.qc_epoch.specs.Conduct.{admin_takes}
+use Rattle.qc_epoch.specs.Deciding.{most_asks}
+use Rattle.qc_site.specs.Conduct.{site_takes}
+use Rattle.qc_msg.specs.declared.turn.Posting.{Posting}
 use Rattle.qc_client.specs.Conduct.{client_takes, sent, sent_by}
 use Rattle.qc_client.specs.Fits.{promise_in}
 use Rattle.qc_commit.specs.declared.desk.Voting.{Voting}
@@ -17,12 +25,11 @@ use Rattle.qc_core.specs.Acts.{MayTake, is_running}
 use Rattle.qc_core.specs.Conduct.{IsLawfulWithFalls, with_record}
 use Rattle.qc_core.proofs.ByTurns.{after_takes, called_turn}
 use Rattle.qc_core.proofs.ClientLands.{lands}
-use Rattle.qc_core.proofs.ClientReaches.{client_reach, quiet_short}
+use Rattle.qc_core.proofs.ClientReaches.{client_reach}
 use Rattle.qc_core.proofs.ClientStands.{Lands, Stands}
 use Rattle.qc_core.proofs.SiteReaches.{site_reach}
 use Rattle.qc_decl.specs.Accepted.{IsAccepted}
-use Rattle.qc_decl.specs.Actors.{actors}
-use Rattle.qc_decl.specs.Limits.{most_steps}
+use Rattle.qc_decl.specs.Limits.{most_clients, most_sites, most_steps}
 use Rattle.qc_decl.specs.declared.declaration.Declaration.{Declaration}
 use Rattle.qc_fit.specs.Numbers.{greatest_clock, most_records}
 use Rattle.qc_front.specs.declared.doing.Doing.{Doing}
@@ -31,8 +38,6 @@ use Rattle.qc_front.specs.Conduct as fronts
 use Rattle.qc_front.specs.Fits as rounds
 use Rattle.qc_front.proofs.Fitting.{fits as front_fits}
 use Rattle.qc_link.specs.Limits.{most_actors}
-use Rattle.qc_laws.specs.LivesIn.{LivesIn}
-use Rattle.qc_laws.proofs.Lived.{run_lives}
 use Rattle.qc_msg.specs.declared.message.Envelope.{Envelope}
 use Rattle.qc_msg.specs.declared.message.Message.{Message}
 use Rattle.qc_msg.specs.declared.message.Message.TheVariants as messages
@@ -48,15 +53,15 @@ use Rattle.qc_laws.proofs.DesksWithin.{promised-within}
 use Rattle.qc_script.specs.RunsWithFalls.{RunsWithFalls}
 use Rattle.qc_script.specs.declared.script.Script.{Script}
 use Rattle.qc_bounds.specs.Bounds.{CountsWithin, IsBoundedWithFalls, LivesWithin}
-use Rattle.qc_bounds.specs.Calls.{IsFailedShort, IsSound}
+use Rattle.qc_bounds.specs.Calls.{IsFailedShort, IsTurnShort}
 use Rattle.qc_bounds.specs.Fitting.{AllRiseFit}
 use Rattle.qc_bounds.specs.Within.{StateWithin}
 use Rattle.qc_bounds.proofs.CountBounds.{history_counts, history_lives}
 use Rattle.qc_bounds.proofs.FailedSends.{failed_short}
-use Rattle.qc_bounds.proofs.FitBounds.{rise_clients, rise_few, rise_within}
+use Rattle.qc_bounds.proofs.FitBounds.{rise_few, rise_within}
 use Rattle.qc_bounds.proofs.Needs.{run_bounded}
-use Rattle.qc_bounds.proofs.Senders.{AreFrom, deeds_sound, run_from}
-use Rattle.qc_bounds.proofs.Standing.{IsOpen, IsReady, Known, known}
+use Rattle.qc_bounds.proofs.RunsFit.{known_in, run_fits}
+use Rattle.qc_bounds.proofs.Standing.{IsOpen, IsReady, Known}
 
 -- few sites are asked, before the numbers of a turn's messages are known as after
 
@@ -98,26 +103,46 @@ module _ (decl : Declaration) (accepted : IsAccepted decl) where
         clock = omega arith;
         desk = record { clock = omega arith; few = ready.stands.few };
       }
+  ready_fits running (actors_of.Admin m) clock count life low few short ready within counts lives = ready.fits
   ready_fits running actors_of.Down clock count life low few short ready within counts lives = tt
 
   -- after an input it asked few sites, and its turn is short
-  taken_few : (v : Actor) (ds : List Deed) (g : Given) → IsReady decl (is_running ds) v → MayTake ds g
+  taken_few : (v : Actor) (ds : List Deed) (g : Given) → IsReady decl (is_running ds) v → MayTake ds g → GivenFits g
       → AsksFew (actor_takes decl v g).actor
-  taken_few (actors_of.Site s) ds g ready may = tt
-  taken_few (actors_of.Client c) ds g ready may =
+  taken_few (actors_of.Site s) ds g ready may fits = tt
+  taken_few (actors_of.Client c) ds g ready may fits =
       let on : Lands decl _ 0 (client_takes decl c g) =
       lands decl ds c g 0 accepted.has_site accepted.sites ready.stands may in
       few_sent (client_takes decl c g).client 0 on.stands.few (round_few _ _ on.stands)
-  taken_few actors_of.Down ds g ready may = tt
+  taken_few (actors_of.Admin m) ds g ready may fits = takes_fit decl m g accepted ready.fits fits
+  taken_few actors_of.Down ds g ready may fits = tt
 
-  taken_short : (v : Actor) (running : Bool) (g : Given) → IsReady decl running v → IsFrom g
-      → IsShort (actor_takes decl v g).turn
-  taken_short (actors_of.Site s) running g ready from = (site_reach decl accepted s g from ready).turn
-  taken_short (actors_of.Client c) running g ready from =
-      (client_reach decl accepted c g from ready.stands.front ready.asked).turn
-  taken_short actors_of.Down running (given.Called command) ready from = record { receivers = tt; few = omega arith }
-  taken_short actors_of.Down running (given.Got e) ready from = quiet_short
-  taken_short actors_of.Down running (given.Lost number) ready from = quiet_short
+  few_enough : (turn : Turn) → IsShort turn → IsTurnShort turn
+  few_enough turn short = record {
+    receivers = short.receivers;
+    few = (let few : length turn.sends ≤ 16 = short.few in omega arith);
+  }
+
+  admin_short : (m : Admin) (g : Given) → AdminFits m → GivenFits g → IsTurnShort (admin_takes decl m g).turn
+  admin_short m g fits here =
+      let goes : GoesToActors (admin_takes decl m g).turn = takes_go decl m g accepted fits here in
+      record {
+        receivers =
+            every-weaker (λ (p : Posting). p.to < most_sites + most_clients) (λ (p : Posting). p.to < most_actors)
+            (λ p low. omega arith) (admin_takes decl m g).turn.sends goes.receivers;
+        few = goes.few;
+      }
+
+  taken_short : (v : Actor) (running : Bool) (g : Given) → IsReady decl running v → IsFrom g → GivenFits g
+      → IsTurnShort (actor_takes decl v g).turn
+  taken_short (actors_of.Site s) running g ready from fits =
+      few_enough (site_takes decl s g).turn (site_reach decl accepted s g from ready).turn
+  taken_short (actors_of.Client c) running g ready from fits =
+      few_enough (client_takes decl c g).turn (client_reach decl accepted c g from ready.stands.front ready.asked).turn
+  taken_short (actors_of.Admin m) running g ready from fits = admin_short m g ready.fits fits
+  taken_short actors_of.Down running (given.Called command) ready from fits = record { receivers = tt; few = omega arith }
+  taken_short actors_of.Down running (given.Got e) ready from fits = record { receivers = tt; few = omega arith }
+  taken_short actors_of.Down running (given.Lost number) ready from fits = record { receivers = tt; few = omega arith }
 
 message_promise : (bound : ℕ) (message : Message) → MessageWithin bound message → promise_in message ≤ bound
 message_promise bound (messages.Request tx epoch life want) here = omega arith
@@ -143,23 +168,9 @@ module _ (decl : Declaration) (script : Script) (fits : ℕ → List Record → 
       omega arith
 
   module _ (accepted : IsAccepted decl) where
-    low_mail : AreFrom most_actors (mail h)
-    low_mail =
-        let sites : decl.sites ≤ 16 = accepted.sites in let clients : decl.clients ≤ 16 = accepted.clients in
-        every-weaker (λ (e : Envelope). e.from < actors decl) (λ (e : Envelope). e.from < most_actors)
-        (λ e low. omega arith) (mail h) (run_from decl script fits h open_inputs run)
-
     module _ (fit : AllRiseFit decl h) (a : ℕ) where
-      sound : Every IsSound (deeds a [] h)
-      sound = deeds_sound a [] h tt low_mail (rise_clients decl h accepted fit)
-
       pub known_at : (t : Bool) → slice_get open_inputs a ≡ Some t → Known decl accepted a (deeds a [] h) t
-      known_at t is =
-          let few : actors decl ≤ most_actors =
-          (let sites : decl.sites ≤ 16 = accepted.sites in
-          let clients : decl.clients ≤ 16 = accepted.clients in omega arith) in
-          let lived : LivesIn decl a h t = run_lives decl script fits few h open_inputs run a t is in
-          known decl accepted a (deeds a [] h) t lived.above lived.lives sound
+      known_at = known_in decl script fits accepted h open_inputs run fit (run_fits decl script fits accepted h open_inputs run fit) a
 
       pub actor_fits : length h < most_steps → slice_get open_inputs a ≡ Some false
           → ActorFits (actor_after decl a (deeds a [] h)).actor
@@ -174,20 +185,20 @@ module _ (decl : Declaration) (script : Script) (fits : ℕ → List Record → 
           let o : IsOpen decl accepted a (deeds a [] h) = known_at true taken in
           subst (λ (m : ActorMove). AsksFew m.actor)
           (sym (ap (actor_after decl a) o.is ∙ after_takes decl a o.before o.input))
-          (taken_few decl accepted (actor_after decl a o.before).actor o.before o.input o.ready o.may)
+          (taken_few decl accepted (actor_after decl a o.before).actor o.before o.input o.ready o.may o.fits)
 
       pub turn_short : (turn : Turn) → slice_get open_inputs a ≡ Some true
-          → IsLawfulWithFalls decl a (deeds a [] h) turn → IsShort turn
+          → IsLawfulWithFalls decl a (deeds a [] h) turn → IsTurnShort turn
       turn_short turn taken law =
           let o : IsOpen decl accepted a (deeds a [] h) = known_at true taken in
           let same : (actor_takes decl (actor_after decl a o.before).actor o.input).turn ≡ with_record turn =
           ap (λ (m : ActorMove). m.turn)
           (sym (after_takes decl a o.before o.input) ∙ ap (actor_after decl a) (sym o.is))
           ∙ called_turn decl a (deeds a [] h) turn law in
-          let short : IsShort (with_record turn) =
-          subst IsShort same
+          let short : IsTurnShort (with_record turn) =
+          subst IsTurnShort same
           (taken_short decl accepted (actor_after decl a o.before).actor
-          (is_running o.before) o.input o.ready o.from) in
+          (is_running o.before) o.input o.ready o.from o.fits) in
           record { receivers = short.receivers; few = short.few }
 
       pub turn_failed : (turn : Turn) → slice_get open_inputs a ≡ Some true
@@ -202,5 +213,5 @@ module _ (decl : Declaration) (script : Script) (fits : ℕ → List Record → 
           subst IsFailedShort same (failed_short decl (actor_after decl a o.before).actor o.input o.from) in
           record { receivers = short.receivers; few = short.few }
 
-pub numbers : (h : List Entry) → length h < most_steps → length (mail h) + 16 < 2 ^ 32
+pub numbers : (h : List Entry) → length h < most_steps → length (mail h) + most_asks < 2 ^ 32
 numbers h short = (let low : length (mail h) ≤ length h = length-mail h in omega arith)

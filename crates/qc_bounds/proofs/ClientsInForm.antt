@@ -47,7 +47,7 @@ abbrev KnownInForm : TxId → Known → Type 0
 KnownInForm tx (knowns.Committed stamp) = StampInForm stamp tx
 KnownInForm tx knowns.Uncommitted = Unit {0}
 
-known_form : (tx : TxId) (commits : List Commit) → CommitsInForm commits
+pub known_form : (tx : TxId) (commits : List Commit) → CommitsInForm commits
     → KnownInForm tx (known_by (record_of commits tx))
 known_form tx [] all = tt
 known_form tx (c ∷ cs) all = by (same_tx c.tx tx) refl (known_form tx cs all.1)
@@ -57,7 +57,7 @@ known_form tx (c ∷ cs) all = by (same_tx c.tx tx) refl (known_form tx cs all.1
     by true same rest = subst (StampInForm c.stamp) (same_tx_is c.tx tx same) all.0
     by false other rest = rest
 
-verdict_form : (tx : TxId) (k : Known) (begun : Bool) → KnownInForm tx k → VerdictInForm tx (outcome_by k begun)
+pub verdict_form : (tx : TxId) (k : Known) (begun : Bool) → KnownInForm tx k → VerdictInForm tx (outcome_by k begun)
 verdict_form tx (knowns.Committed stamp) begun here = here
 verdict_form tx knowns.Uncommitted true here = tt
 verdict_form tx knowns.Uncommitted false here = tt
@@ -143,7 +143,7 @@ module _ (decl : Declaration) (client : ℕ) where
     calls_form (commands.Do object inv) here = fronted (commands.Do object inv) here
     calls_form commands.Commit here = commits_form c.front.transaction w.front.begun
     calls_form commands.Abort here = fronted commands.Abort tt
-    calls_form (commands.Epoch number) here = fronted (commands.Epoch number) tt
+    calls_form (commands.Epoch number) here = fronted (commands.Epoch number) here
 
     answers_form : (number : ℕ) (answer : Option Answer) → CameInForm answer
         → ClientMoveInForm (answered decl c number answer)

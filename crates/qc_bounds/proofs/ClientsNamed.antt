@@ -207,7 +207,7 @@ module _ (decl : Declaration) (k : ℕ) where
     calls_named (commands.Do object inv) here = fronted (commands.Do object inv) here
     calls_named commands.Commit here = commits_named c.front.transaction w.front.begun w.own.begun
     calls_named commands.Abort here = fronted commands.Abort tt
-    calls_named (commands.Epoch number) here = fronted (commands.Epoch number) tt
+    calls_named (commands.Epoch number) here = fronted (commands.Epoch number) here
 
     answers_named : (number : ℕ) (answer : Option Answer) → CameNamed decl answer
         → ClientMoveNamed (answered decl c number answer)

@@ -5,13 +5,13 @@ use Rattle.std.proofs.Common.{Option, Some, None, refl, arith, length-append}
 use Rattle.std.specs.Prelude.{option_to_list, slice_get}
 use Rattle.std.specs.List.{AllByRecursion as Every}
 use Rattle.qc_list.proofs.Members.{every-append}
-use Rattle.qc_client.specs.Client.{new_client}
 use Rattle.qc_client.specs.Conduct.{client_takes, sent_one}
 use Rattle.qc_core.specs.declared.actor.Actor.{Actor}
 use Rattle.qc_core.specs.declared.actor.Actor.TheVariants as actors
 use Rattle.qc_core.specs.Actors.{ActorMove, actor_after, actor_does, actor_rises, actor_sends, actor_takes, by_client}
 use Rattle.qc_core.specs.Actors.{by_site, moved, new_actor}
-use Rattle.qc_decl.specs.Actors.{is_site}
+use Rattle.qc_core.proofs.ByNumber.{new_by, rises_by}
+use Rattle.qc_decl.specs.Actors.{is_client, is_site}
 use Rattle.qc_decl.specs.declared.declaration.Declaration.{Declaration}
 use Rattle.qc_msg.specs.declared.message.Envelope.{Envelope}
 use Rattle.qc_msg.specs.declared.message.Message.{Message}
@@ -50,6 +50,7 @@ module _ (decl : Declaration) (a : ℕ) where
   counts_more : (low high : ℕ) (v : Actor) → low ≤ high → CountsWithin low v → CountsWithin high v
   counts_more low high (actors.Site s) le w = tt
   counts_more low high (actors.Client c) le w = (let n : c.front.count ≤ low = w in omega arith)
+  counts_more low high (actors.Admin m) le w = tt
   counts_more low high actors.Down le w = tt
 
   counts_take : (n : ℕ) (v : Actor) (g : Given) → CountsWithin n v → CountsWithin (n + 1) (actor_takes decl v g).actor
@@ -57,6 +58,7 @@ module _ (decl : Declaration) (a : ℕ) where
   counts_take n (actors.Client c) g w =
       (let before : c.front.count ≤ n = w in let step : (client_takes decl c g).client.front.count ≤ c.front.count + 1 =
       (takes_steps decl c g).count in omega arith)
+  counts_take n (actors.Admin m) g w = tt
   counts_take n actors.Down g w = tt
 
   counts_send : (n : ℕ) (v : Actor) (number to : ℕ) (message : Message) → CountsWithin n v
@@ -65,16 +67,16 @@ module _ (decl : Declaration) (a : ℕ) where
   counts_send n (actors.Client c) number to message w =
       (let before : c.front.count ≤ n = w in let same : (sent_one c number to message).front.count ≡ c.front.count =
       (sent_same c number to message).count in omega arith)
+  counts_send n (actors.Admin m) number to message w = tt
   counts_send n actors.Down number to message w = tt
 
   counts_rise : (n : ℕ) (rs : List Record) → CountsWithin n (actor_rises decl a rs).actor
-  counts_rise n rs = by (is_site decl a)
+  counts_rise n rs = by (is_site decl a) (is_client decl a)
     where
-      by : (b : Bool)
-          → CountsWithin n
-          (cond b (by_site (site_rises decl a rs)) (by_client (client_rises (a - decl.sites) rs))).actor
-      by true = tt
-      by false = omega arith
+      by : (site client : Bool) → CountsWithin n (rises_by decl a rs site client).actor
+      by true client = tt
+      by false true = omega arith
+      by false false = tt
 
   counts_fold : (n : ℕ) (m : ActorMove) (ds : List Deed) → CountsWithin n m.actor
       → CountsWithin (n + length ds) (fold (actor_does decl a) m ds).actor
@@ -94,17 +96,19 @@ module _ (decl : Declaration) (a : ℕ) where
       by (Rises rs) = counts_rise (n + 1) rs
 
   new_counts : CountsWithin 0 (new_actor decl a)
-  new_counts = by (is_site decl a)
+  new_counts = by (is_site decl a) (is_client decl a)
     where
-      by : (b : Bool) → CountsWithin 0 (cond b (actors.Site (new_site a)) (actors.Client (new_client (a - decl.sites))))
-      by true = tt
-      by false = omega arith
+      by : (site client : Bool) → CountsWithin 0 (new_by decl a site client)
+      by true client = tt
+      by false true = omega arith
+      by false false = tt
 
   -- its life: that of its last rise, or the first
 
   lives_more : (low high : ℕ) (v : Actor) → low ≤ high → LivesWithin low v → LivesWithin high v
   lives_more low high (actors.Site s) le w = (let n : s.life ≤ low = w in omega arith)
   lives_more low high (actors.Client c) le w = (let n : c.front.life ≤ low = w in omega arith)
+  lives_more low high (actors.Admin m) le w = tt
   lives_more low high actors.Down le w = tt
 
   site_life : (s : SiteState) (g : Given) → (site_takes decl s g).site.life ≤ s.life + 1
@@ -124,6 +128,7 @@ module _ (decl : Declaration) (a : ℕ) where
   lives_take n (actors.Client c) g w =
       (let before : c.front.life ≤ n = w in let same : (client_takes decl c g).client.front.life ≡ c.front.life =
       (takes_steps decl c g).life in omega arith)
+  lives_take n (actors.Admin m) g w = tt
   lives_take n actors.Down g w = tt
 
   lives_send : (n : ℕ) (v : Actor) (number to : ℕ) (message : Message) → LivesWithin n v
@@ -132,24 +137,24 @@ module _ (decl : Declaration) (a : ℕ) where
   lives_send n (actors.Client c) number to message w =
       (let before : c.front.life ≤ n = w in let same : (sent_one c number to message).front.life ≡ c.front.life =
       (sent_same c number to message).life in omega arith)
+  lives_send n (actors.Admin m) number to message w = tt
   lives_send n actors.Down number to message w = tt
 
   pub lives_rise : (n : ℕ) (rs : List Record) → length rs ≤ n → LivesWithin (n + 2) (actor_rises decl a rs).actor
-  lives_rise n rs few = by (is_site decl a)
+  lives_rise n rs few = by (is_site decl a) (is_client decl a)
     where
       long : length (rs ++ records.Life ∷ []) ≡ length rs + 1
       long = length-append rs (records.Life ∷ [])
 
-      by : (b : Bool)
-          → LivesWithin (n + 2)
-          (cond b (by_site (site_rises decl a rs)) (by_client (client_rises (a - decl.sites) rs))).actor
-      by true =
+      by : (site client : Bool) → LivesWithin (n + 2) (rises_by decl a rs site client).actor
+      by true client =
           (let life : (site_rises decl a rs).site.life ≤ 1 + length (rs ++ records.Life ∷ []) = site_lives no_site
           (rs ++ records.Life ∷ []) in omega (arith, life, long, few))
-      by false =
+      by false true =
           (let life : (client_rises (a - decl.sites) rs).client.front.life ≤ 1 + length
           (rs ++ records.Life ∷ []) = client_lives no_client (rs ++ records.Life ∷ []) in omega
           (arith, life, long, few))
+      by false false = tt
 
   lives_fold : (n k : ℕ) (m : ActorMove) (ds : List Deed) → Every (RisesFew n) ds → n + 2 ≤ k → LivesWithin k m.actor
       → LivesWithin (k + length ds) (fold (actor_does decl a) m ds).actor
@@ -169,12 +174,12 @@ module _ (decl : Declaration) (a : ℕ) where
       by (Rises rs) few = lives_more (n + 2) (k + 1) (actor_rises decl a rs).actor (omega arith) (lives_rise n rs few)
 
   new_lives : (n : ℕ) → LivesWithin (n + 2) (new_actor decl a)
-  new_lives n = by (is_site decl a)
+  new_lives n = by (is_site decl a) (is_client decl a)
     where
-      by : (b : Bool)
-          → LivesWithin (n + 2) (cond b (actors.Site (new_site a)) (actors.Client (new_client (a - decl.sites))))
-      by true = omega arith
-      by false = omega arith
+      by : (site client : Bool) → LivesWithin (n + 2) (new_by decl a site client)
+      by true client = omega arith
+      by false true = omega arith
+      by false false = tt
 
 -- the deeds of a history are at most its steps
 

@@ -1,12 +1,14 @@
 -- What an accepted declaration has is in form: objects, invocations, responses and events stay below their limits; so
 -- do commands of it, and answers of views.
-use Rattle.std.proofs.Common.{◌≡◌, ℕ, ◌<◌, ◌≤◌, nat_lt, Bool, true, false, length, Option, Some, None, refl}
+use Rattle.std.proofs.Common.{◌≡◌, ℕ, zero, suc, ◌<◌, ◌≤◌, ◌-◌, ◌==◌, nat_lt, Bool, true, false, cond, length, Option, Some, None, refl}
 use Rattle.std.proofs.Common.{slice_get, subst, arith}
 use Rattle.std.specs.Prelude.{option_and_then, option_map, position}
-use Rattle.std.proofs.lemmas.Bool.{leb-false}
+use Rattle.std.proofs.lemmas.Bool.{eqb-false, leb-false}
 use Rattle.std.proofs.lemmas.Option.{slice_get_within}
 use Rattle.qc_decl.specs.Accepted.{IsAccepted}
-use Rattle.qc_decl.specs.Lookup.{table_at}
+use Rattle.qc_decl.specs.Lookup.{plan_in, table_at}
+use Rattle.qc_plan.specs.declared.plan.Plan.{Plan}
+use Rattle.qc_record.specs.Legal.{IsWithin}
 use Rattle.qc_decl.specs.declared.declaration.Declaration.{Declaration}
 use Rattle.qc_fit.specs.Said.{HasEvent, HasInvocation, HasResponse}
 use Rattle.qc_front.specs.Answering.{resp_of}
@@ -21,6 +23,10 @@ use Rattle.qc_bounds.proofs.EventsNamed.{EventNamed, answer_named}
 use Rattle.qc_bounds.proofs.Names.{CommandNamed}
 use Rattle.qc_bounds.proofs.Forms.{CommandInForm, EventInForm, InvocationInForm}
 use Rattle.qc_bounds.proofs.FrontsInForm.{AnswersInForm}
+
+positive : (n : ℕ) → (n ≡ 0 → ⊥) → 1 ≤ n
+positive zero none = absurd (none refl)
+positive (suc n) none = omega arith
 
 -- rows without fault have few events
 
@@ -88,9 +94,21 @@ module _ (decl : Declaration) (accepted : IsAccepted decl) where
       let named : EventNamed decl object event = answer_named decl accepted t object inv event is in
       event_form object event (resp_of decl object event) named.event_is named.resp_is
 
+  -- an epoch with a plan
+  epoch_form : (number : ℕ) (plan : Plan) → plan_in decl number ≡ Some plan → IsWithin 1 8 number
+  epoch_form number plan is = by (number == 0) refl is
+    where
+      by : (b : Bool) → (number == 0) ≡ b → cond b None (slice_get decl.plans (number - 1)) ≡ Some plan → IsWithin 1 8 number
+      by true none is = absurd (let never : ⊥ = cc in never)
+      by false some is =
+          let place : number - 1 < length decl.plans = slice_get_within decl.plans (number - 1) plan is in
+          let few : length decl.plans ≤ 8 = accepted.epochs in
+          let past : number ≡ 0 → ⊥ = eqb-false number 0 some in
+          (let low : 1 ≤ number = positive number past in low, omega (arith, place, few))
+
   pub command_form : (c : Command) → CommandNamed decl c → CommandInForm c
   command_form Begin named = tt
   command_form (Do object inv) named = invocation_form object inv named
   command_form Commit named = tt
   command_form Abort named = tt
-  command_form (Epoch number) named = tt
+  command_form (Epoch number) named = epoch_form number named.0 named.1

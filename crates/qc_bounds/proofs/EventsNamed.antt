@@ -1,11 +1,12 @@
 -- What an accepted declaration's scripts ask, and the event that answers it, is declared; the first epoch has a plan.
-use Rattle.std.proofs.Common.{◌≡◌, ℕ, ◌<◌, List, length, Option, Some, None, slice_get, refl, sym, ap, ◌∙◌, subst}
-use Rattle.std.proofs.Common.{arith}
+use Rattle.std.proofs.Common.{◌≡◌, ℕ, ◌<◌, ◌≤◌, ◌-◌, ◌==◌, Bool, true, false, cond, List, length, Option, Some, None, slice_get, refl, sym, ap, ◌∙◌, subst}
+use Rattle.std.proofs.Common.{arith, eqb-true}
 use Rattle.std.specs.Prelude.{option_and_then, option_map, unwrap_or}
 use Rattle.std.specs.Str.{bytes_eq}
 use Rattle.std.proofs.lemmas.List.Quantifiers.{position-Some}
 use Rattle.qc_decl.specs.Accepted.{HasNames, IsAccepted}
 use Rattle.qc_decl.specs.Lookup.{table_at}
+use Rattle.qc_plan.specs.declared.plan.Plan.{Plan}
 use Rattle.qc_decl.specs.Named.{inv_named, place_of}
 use Rattle.qc_decl.specs.declared.declaration.Declaration.{Declaration}
 use Rattle.qc_decl.specs.declared.declaration.KindNames.{KindNames}
@@ -111,12 +112,21 @@ module _ (decl : Declaration) (accepted : IsAccepted decl) where
         below = inv_below object number.0 inv kind.0 asked.0 number.1 kind.1 asked.1;
       }
 
+  -- an epoch that is declared has a plan
+  epoch_named : (number : ℕ) → 2 ≤ number → number ≤ length decl.plans → HasPlan decl number
+  epoch_named number low most = by (number == 0) refl
+    where
+      by : (b : Bool) → (number == 0) ≡ b
+          → (plan : Plan) × (cond b None (slice_get decl.plans (number - 1)) ≡ Some plan)
+      by true none = absurd (let zero : number ≡ 0 = eqb-true number 0 none in let never : ⊥ = omega arith in never)
+      by false some = slice_get-within decl.plans (number - 1) (omega arith)
+
   pub command_named : (a : ℕ) (c : Command) → IsAskedFor decl a c → CommandNamed decl c
   command_named a Begin is = tt
   command_named a (Do object inv) is = asked_named object inv is.1 is.2
   command_named a Commit is = tt
   command_named a Abort is = tt
-  command_named a (Epoch number) is = tt
+  command_named a (Epoch number) is = epoch_named number is.1 is.2
 
   -- the event that answers it
 

@@ -2,8 +2,9 @@
 use Rattle.std.proofs.Common.{ℕ, ◌<◌, ◌≤◌, List, length, sym, subst, arith}
 use Rattle.std.specs.List.{AllByRecursion as Every}
 use Rattle.qc_core.specs.declared.actor.Actor.{Actor}
-use Rattle.qc_core.specs.declared.actor.Actor.TheVariants.{Site, Client, Down}
+use Rattle.qc_core.specs.declared.actor.Actor.TheVariants.{Site, Client, Admin, Down}
 use Rattle.qc_core.specs.Actors.{IsFrom, actor_takes}
+use Rattle.qc_core.proofs.AdminWrites.{admin_written}
 use Rattle.qc_core.proofs.Written.{client_written}
 use Rattle.qc_decl.specs.declared.declaration.Declaration.{Declaration}
 use Rattle.qc_link.specs.Limits.{most_actors}
@@ -76,6 +77,12 @@ failed_short decl (Client c) g from = record {
   receivers =
       subst (λ (ps : List Posting). Every (λ (p : Posting). p.to < most_actors) ps)
       (sym (client_written decl c g).failed_sends) tt;
+}
+failed_short decl (Admin m) g from = record {
+  few = subst (λ (ps : List Posting). length ps ≤ 1) (sym (admin_written decl m g).failed_sends) (omega arith);
+  receivers =
+      subst (λ (ps : List Posting). Every (λ (p : Posting). p.to < most_actors) ps)
+      (sym (admin_written decl m g).failed_sends) tt;
 }
 failed_short decl Down (given.Called command) from = record { few = omega arith; receivers = tt }
 failed_short decl Down (given.Got e) from = record { few = omega arith; receivers = tt }

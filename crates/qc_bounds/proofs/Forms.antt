@@ -126,7 +126,7 @@ CommandInForm commands.Begin = Unit {0}
 CommandInForm (commands.Do object inv) = InvocationInForm object inv
 CommandInForm commands.Commit = Unit {0}
 CommandInForm commands.Abort = Unit {0}
-CommandInForm (commands.Epoch number) = Unit {0}
+CommandInForm (commands.Epoch number) = IsWithin 1 8 number
 
 abbrev pub TakenInForm : Given → Type 0
 TakenInForm (given.Called command) = CommandInForm command

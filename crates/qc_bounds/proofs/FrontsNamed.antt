@@ -199,7 +199,7 @@ module _ (decl : Declaration) where
       one to (messages.Answer number answer) never = absurd never
       one to (messages.Decision tx verdict) is = tt
       one to (messages.Inquiry tx) is = tt
-      one to (messages.Ask tx) is = tt
+      one to (messages.Ask tx) is = absurd is
       one to (messages.Close epoch) is = absurd is
       one to (messages.Install epoch clock log) is = absurd is
 

@@ -11,13 +11,14 @@ use Rattle.qc_core.specs.Conduct.{IsLawfulWithFalls, with_record}
 use Rattle.qc_core.proofs.ByTurns.{after_takes, called_turn}
 use Rattle.qc_core.proofs.LivesLaws.{falls as after_falls, rises as after_rises}
 use Rattle.qc_decl.specs.Accepted.{IsAccepted}
-use Rattle.qc_decl.specs.Actors.{controller}
+use Rattle.qc_decl.specs.Actors.{actors, controller}
+use Rattle.qc_link.specs.Limits.{most_actors}
 use Rattle.qc_decl.specs.declared.declaration.Declaration.{Declaration}
 use Rattle.qc_inbox.proofs.FallMail.{ready_sent}
 use Rattle.qc_inbox.proofs.Keeping.{same_mail}
 use Rattle.qc_laws.proofs.Acted.{deeds-silent}
 use Rattle.qc_laws.proofs.Numbered.{IsSilent, mail-silent, phase_silent}
-use Rattle.qc_laws.proofs.Lived.{deeds-fall, deeds-rise, line_silent}
+use Rattle.qc_laws.proofs.Lived.{deeds-fall, deeds-rise, line_silent, run_lives}
 use Rattle.qc_msg.specs.declared.message.Envelope.{Envelope}
 use Rattle.qc_msg.specs.declared.record.Record.{Record}
 use Rattle.qc_msg.specs.declared.step.Fall.{Fall}
@@ -40,6 +41,8 @@ use Rattle.qc_script.specs.Sound.{IsScriptFor}
 use Rattle.qc_script.specs.declared.script.Script.{Script}
 use Rattle.qc_bounds.proofs.ActorsWithin.{deeds_post}
 use Rattle.qc_bounds.proofs.AskedNamed.{given_named}
+use Rattle.qc_bounds.proofs.AsksAnswered.{ActorTold, AreReady, MailTold, MessageTold, SendsTold, TurnTold, actor_more, given_told, mail_more, posted_asked, posts_told, sends_more, takes_told}
+use Rattle.qc_bounds.proofs.AsksReady.{new_told, open_ready, risen_ready, rises_told}
 use Rattle.qc_bounds.proofs.CountBounds.{history_counts}
 use Rattle.qc_bounds.proofs.ActorsInForm.{MoveInForm, TurnInForm, down_form, new_form, posts_form, rises_form}
 use Rattle.qc_bounds.proofs.ActorsInForm.{takes_form}
@@ -52,6 +55,8 @@ module _ (decl : Declaration) where
   pub record AllInForm (h : List Entry) : Type 0 where
     pub messages : MailInForm (mail h)
     pub actors_are : (a : ℕ) → MoveInForm decl a (actor_after decl a (deeds a [] h))
+    pub told : MailTold (mail h) (mail h)
+    pub actors_told : (a : ℕ) → ActorTold (mail h) (actor_after decl a (deeds a [] h))
 
   envelopes_form : (from n : ℕ) (ps : List Posting) → SendsInForm ps → MailInForm (envelopes from n ps)
   envelopes_form from n [] all = tt
@@ -65,8 +70,24 @@ module _ (decl : Declaration) where
 
   -- one actor goes on
   grows : (c : ℕ) (h : List Entry) (xs : List Step) → AllInForm h → MailInForm (mail (h ++ by c xs))
-      → MoveInForm decl c (actor_after decl c (deeds c [] (h ++ by c xs))) → AllInForm (h ++ by c xs)
-  grows c h xs form messages own = record { messages = messages; actors_are = λ a. at a (c == a) refl } where
+      → MoveInForm decl c (actor_after decl c (deeds c [] (h ++ by c xs)))
+      → MailTold (mail (h ++ by c xs)) (mail (h ++ by c xs))
+      → ActorTold (mail (h ++ by c xs)) (actor_after decl c (deeds c [] (h ++ by c xs))) → AllInForm (h ++ by c xs)
+  grows c h xs form messages own told own_told = record {
+    messages = messages;
+    actors_are = λ a. at a (c == a) refl;
+    told = told;
+    actors_told = λ a. told_at a (c == a) refl;
+  } where
+    told_at : (a : ℕ) (t : Bool) → (c == a) ≡ t → ActorTold (mail (h ++ by c xs)) (actor_after decl a (deeds a [] (h ++ by c xs)))
+    told_at a true same =
+        subst (λ (k : ℕ). ActorTold (mail (h ++ by c xs)) (actor_after decl k (deeds k [] (h ++ by c xs)))) (eqb-true c a same)
+        own_told
+    told_at a false other =
+        subst (λ (ds : List Deed). ActorTold (mail (h ++ by c xs)) (actor_after decl a ds)) (sym (deeds-other c a [] h xs other))
+        (subst (λ (ms : List Envelope). ActorTold ms (actor_after decl a (deeds a [] h))) (sym (mail-append h (by c xs)))
+        (actor_more (mail h) (mail (by c xs)) (actor_after decl a (deeds a [] h)) (form.actors_told a)))
+
     at : (a : ℕ) (t : Bool) → (c == a) ≡ t → MoveInForm decl a (actor_after decl a (deeds a [] (h ++ by c xs)))
     at a true same =
         subst (λ (k : ℕ). MoveInForm decl k (actor_after decl k (deeds k [] (h ++ by c xs)))) (eqb-true c a same) own
@@ -74,28 +95,63 @@ module _ (decl : Declaration) where
         subst (λ (ds : List Deed). MoveInForm decl a (actor_after decl a ds)) (sym (deeds-other c a [] h xs other))
         (form.actors_are a)
 
+  -- where nothing is sent
+  rests : (c : ℕ) (h : List Entry) (xs : List Step) → AllInForm h → mail (h ++ by c xs) ≡ mail h
+      → MoveInForm decl c (actor_after decl c (deeds c [] (h ++ by c xs)))
+      → ActorTold (mail h) (actor_after decl c (deeds c [] (h ++ by c xs))) → AllInForm (h ++ by c xs)
+  rests c h xs form same own own_told =
+      grows c h xs form (subst MailInForm (sym same) form.messages) own
+      (subst (λ (ms : List Envelope). MailTold ms ms) (sym same) form.told)
+      (subst (λ (ms : List Envelope). ActorTold ms (actor_after decl c (deeds c [] (h ++ by c xs)))) (sym same) own_told)
+
   still : (c : ℕ) (h : List Entry) (step : Step) → IsSilent step → AllInForm h → AllInForm (h ++ by c (step ∷ []))
   still c h step silent form =
-      grows c h (step ∷ []) form (subst MailInForm (sym (mail-silent h c step silent)) form.messages)
+      rests c h (step ∷ []) form (mail-silent h c step silent)
       (subst (λ (ds : List Deed). MoveInForm decl c (actor_after decl c ds)) (sym (deeds-silent c c h step silent))
       (form.actors_are c))
+      (subst (λ (ds : List Deed). ActorTold (mail h) (actor_after decl c ds)) (sym (deeds-silent c c h step silent))
+      (form.actors_told c))
 
   taken : (accepted : IsAccepted decl) (c : ℕ) (h : List Entry) (g : Given) → length h < 2 ^ 31
       → WasSentTo c (mail h) g → TakenInForm g → AllInForm h → AllInForm (h ++ by c (step_of g ∷ []))
   taken accepted c h g short sent here form =
-      grows c h (step_of g ∷ []) form (subst MailInForm (sym (mail-taken h c g)) form.messages)
+      rests c h (step_of g ∷ []) form (mail-taken h c g)
       (subst (MoveInForm decl c)
       (sym (ap (actor_after decl c) (deeds-taken c h g sent) ∙ after_takes decl c (deeds c [] h) g))
       (takes_form decl accepted c (length h) (actor_after decl c (deeds c [] h)).actor g (form.actors_are c).state
-      (history_counts decl c h) (omega (arith, short)) here))
+      (history_counts decl c h) (omega (arith, short)) here
+      (given_told (mail h) decl (actor_after decl c (deeds c [] h)).actor c g sent form.told (form.actors_told c).asked)))
+      (subst (ActorTold (mail h))
+      (sym (ap (actor_after decl c) (deeds-taken c h g sent) ∙ after_takes decl c (deeds c [] h) g))
+      (takes_told (mail h) decl c (actor_after decl c (deeds c [] h)).actor g (form.actors_are c).state sent
+      (form.actors_told c).asked))
 
   pub turn_form : (c : ℕ) (ds : List Deed) (turn : Turn) → IsLawfulWithFalls decl c ds turn
       → MoveInForm decl c (actor_after decl c ds) → TurnInForm decl c (with_record turn)
   turn_form c ds turn law form = subst (TurnInForm decl c) (called_turn decl c ds turn law) form.turn
 
-  posted : (c n : ℕ) (h : List Entry) (turn : Turn) → IsLawfulWithFalls decl c (deeds c [] h) turn → AllInForm h
-      → AllInForm (h ++ by c (posted_as turn.append n turn))
-  posted c n h turn law form =
+  envelopes_told : (ms : List Envelope) (from n : ℕ) (ps : List Posting) → SendsTold ms ps → MailTold ms (envelopes from n ps)
+  envelopes_told ms from n [] all = tt
+  envelopes_told ms from n (p ∷ ps) all = (all.0, envelopes_told ms from (n + 1) ps all.1)
+
+  as_told : (ms : List Envelope) (end : Appended) (turn : Turn) → TurnTold ms (with_record turn) → SendsTold ms (sends_as end turn)
+  as_told ms Done turn w = w.sends
+  as_told ms Failed turn w = w.failed_sends
+  as_told ms Stopped turn w = tt
+
+  posted : (c : ℕ) (h : List Entry) (turn : Turn) → IsLawfulWithFalls decl c (deeds c [] h) turn
+      → AreReady (actor_after decl c (deeds c [] h)).actor turn → AllInForm h
+      → AllInForm (h ++ by c (posted_as turn.append (length (mail h)) turn))
+  posted c h turn law ready form =
+      let n : ℕ = length (mail h) in
+      let ns : List Envelope = envelopes c n (sends_as turn.append turn) in
+      let before = actor_after decl c (deeds c [] h) in
+      let grown : mail (h ++ by c (posted_as turn.append n turn)) ≡ mail h ++ ns =
+      mail-append h (by c (posted_as turn.append n turn)) ∙ ap (λ (v : List Envelope). mail h ++ v)
+      (mail-posted_as turn.append c n turn) in
+      let more : ActorTold (mail h ++ ns) before = actor_more (mail h) ns before (form.actors_told c) in
+      let said : TurnTold (mail h) (with_record turn) =
+      subst (TurnTold (mail h)) (called_turn decl c (deeds c [] h) turn law) (form.actors_told c).turn in
       let its : TurnInForm decl c (with_record turn) = turn_form c (deeds c [] h) turn law (form.actors_are c) in
       grows c h (posted_as turn.append n turn) form
       (subst MailInForm
@@ -112,23 +168,43 @@ module _ (decl : Declaration) where
       (posts_form decl c (actor_after decl c (deeds c [] h)) (deeds_as turn.append n turn)
       (deeds_post turn.append n turn)
       (form.actors_are c)))
+      (subst (λ (ms : List Envelope). MailTold ms ms) (sym grown)
+      (every-append (λ (e : Envelope). MessageTold (mail h ++ ns) e.message) (mail h) ns
+      (mail_more (mail h) ns (mail h) form.told)
+      (envelopes_told (mail h ++ ns) c n (sends_as turn.append turn)
+      (sends_more (mail h) ns (sends_as turn.append turn) (as_told (mail h) turn.append turn said)))))
+      (subst (λ (ms : List Envelope). ActorTold ms (actor_after decl c (deeds c [] (h ++ by c (posted_as turn.append n turn)))))
+      (sym grown)
+      (subst (ActorTold (mail h ++ ns))
+      (sym
+      (ap (actor_after decl c) (deeds-posted_as turn.append c n h turn) ∙ fold-append (actor_does decl c) _
+      (deeds c [] h) (deeds_as turn.append n turn)))
+      (record {
+        turn =
+            posts_told decl c (mail h ++ ns) before (deeds_as turn.append n turn) (deeds_post turn.append n turn) more.turn;
+        asked = posted_asked decl c (mail h) before.actor before.turn turn turn.append ready more.asked;
+      })))
 
   fallen : (c : ℕ) (h : List Entry) (cause : Fall) → AllInForm h → AllInForm (h ++ by c (steps.Fell cause None ∷ []))
   fallen c h cause form =
-      grows c h (steps.Fell cause None ∷ []) form
-      (subst MailInForm (sym (same_mail h (marked c (steps.Fell cause None)) refl)) form.messages)
+      rests c h (steps.Fell cause None ∷ []) form (same_mail h (marked c (steps.Fell cause None)) refl)
       (subst (MoveInForm decl c)
       (sym (ap (actor_after decl c) (deeds-fall c h cause) ∙ after_falls decl c (deeds c [] h) cause None))
       (down_form decl c))
+      (subst (ActorTold (mail h))
+      (sym (ap (actor_after decl c) (deeds-fall c h cause) ∙ after_falls decl c (deeds c [] h) cause None))
+      (record { turn = record { sends = tt; failed_sends = tt }; asked = tt }))
 
   risen : (c : ℕ) (h : List Entry) (rs : List Record) → Every RecordInForm rs → length rs ≤ 2 ^ 31 → AllInForm h
       → AllInForm (h ++ by c (steps.Rose rs ∷ []))
   risen c h rs all few form =
-      grows c h (steps.Rose rs ∷ []) form
-      (subst MailInForm (sym (same_mail h (marked c (steps.Rose rs)) refl)) form.messages)
+      rests c h (steps.Rose rs ∷ []) form (same_mail h (marked c (steps.Rose rs)) refl)
       (subst (MoveInForm decl c)
       (sym (ap (actor_after decl c) (deeds-rise c h rs) ∙ after_rises decl c (deeds c [] h) rs))
       (rises_form decl c rs all few))
+      (subst (ActorTold (mail h))
+      (sym (ap (actor_after decl c) (deeds-rise c h rs) ∙ after_rises decl c (deeds c [] h) rs))
+      (rises_told decl c (mail h) rs))
 
   -- records that may rise
   pub record MayRise (rs : List Record) : Type 0 where
@@ -154,7 +230,12 @@ module _ (decl : Declaration) where
     given_form a h ms (given.Lost number) all sent is = tt
 
     pub run_form : (h : List Entry) (open_inputs : List Bool) → IsRun h open_inputs → length h < 2 ^ 31 → AllInForm h
-    run_form h open_inputs begins short = record { messages = tt; actors_are = new_form decl }
+    run_form h open_inputs begins short = record {
+      messages = tt;
+      actors_are = new_form decl;
+      told = tt;
+      actors_told = new_told decl;
+    }
     run_form h open_inputs (takes c g before older run free rdy) short =
         let low : length older < 2 ^ 31 = before_short older (marked c (step_of g) ∷ []) short in
         let old : AllInForm older = run_form older before run low in
@@ -162,7 +243,11 @@ module _ (decl : Declaration) where
         ready_sent (IsLawfulWithFalls decl) fits decl script older before run c g rdy in
         taken accepted c older g low sent (given_form c older (mail older) g old.messages sent rdy) old
     run_form h open_inputs (posts c turn before older run open_input law) short =
-        posted c (length (mail older)) older turn law
+        posted c older turn law
+        (open_ready decl c (deeds c [] older) turn
+        (run_lives decl script fits
+        (let sites : decl.sites ≤ 16 = accepted.sites in let clients : decl.clients ≤ 16 = accepted.clients in
+        let few : actors decl ≤ most_actors = omega arith in few) older before run c true open_input).lives law)
         (run_form older before run
         (before_short older (by c (posted_as turn.append (length (mail older)) turn)) short))
     run_form h open_inputs (phase before older run none done calm further) short =
@@ -182,7 +267,13 @@ module _ (decl : Declaration) where
         run_form older before run (before_short older (marked c (steps.Rose rs) ∷ post) short) in
         let may : MayRise rs = let_rise c rs fit in
         subst AllInForm (append_assoc older (marked c (steps.Rose rs) ∷ []) post)
-        (posted c (length (mail older)) rose turn law (risen c older rs may.form may.few old))
+        (subst (λ (n : ℕ). AllInForm (rose ++ by c (posted_as turn.append n turn)))
+        (ap (λ (ms : List Envelope). length ms) (same_mail older (marked c (steps.Rose rs)) refl))
+        (posted c rose turn law
+        (risen_ready decl c (actor_after decl c (deeds c [] rose)) rs turn
+        (ap (actor_after decl c) (deeds-rise c older rs) ∙ after_rises decl c (deeds c [] older) rs)
+        (called_turn decl c (deeds c [] rose) turn law))
+        (risen c older rs may.form may.few old)))
     run_form h open_inputs (damaged c offset lines before older run left) short =
         still c older (steps.Damaged offset) (record { sends = λ a. refl; deeds = λ ms. refl })
         (run_form older before run (before_short older (marked c (steps.Damaged offset) ∷ []) short))

@@ -1,4 +1,5 @@
--- In each run with falls whose records are kept, all that is said, held and written names declared things.
+-- In each run with falls all that is said, held and written names declared things, where the records that rise do: so
+-- where they are kept.
 use Rattle.std.proofs.Common.{◌≡◌, ℕ, ◌+◌, ◌==◌, Bool, true, false, List, [], ◌∷◌, ◌++◌}
 use Rattle.std.proofs.Common.{length, None, refl, sym, ap, ◌∙◌, subst, eqb-true}
 use Rattle.std.proofs.Common.{append_assoc}
@@ -144,43 +145,57 @@ module _ (decl : Declaration) where
       (rises_named decl first c rs all)) (all, tt)
 
   module _ (accepted : IsAccepted decl) (script : Script) (sound : IsScriptFor decl script)
-      (fits : ℕ → List Record → Type 0) where
+      (fits : ℕ → List Record → Type 0) (Side : List Entry → Type 0)
+      (part : (older k : List Entry) → Side (older ++ k) → Side older)
+      (risen_has : (older post : List Entry) (c : ℕ) (rs : List Record) → fits c rs → Side (older ++ marked c (steps.Rose rs) ∷ post)
+      → AllNamed older → AreNamed decl c rs) where
     abbrev IsRun : List Entry → List Bool → Type 0
     IsRun h open_inputs = RunsWithFalls (IsLawfulWithFalls decl) fits decl script h open_inputs
 
-    pub run_named : (h : List Entry) (open_inputs : List Bool) → IsRun h open_inputs → Kept h → AllNamed h
-    run_named h open_inputs begins kept = record { messages = tt; actors_are = new_named decl (first_planned decl accepted); puts = tt }
-    run_named h open_inputs (takes c g before older run free rdy) kept =
-        let old : AllNamed older = run_named older before run (kept_part older (marked c (step_of g) ∷ []) kept) in
+    -- where what rises does
+    pub run_named_by : (h : List Entry) (open_inputs : List Bool) → IsRun h open_inputs → Side h → AllNamed h
+    run_named_by h open_inputs begins side = record { messages = tt; actors_are = new_named decl (first_planned decl accepted); puts = tt }
+    run_named_by h open_inputs (takes c g before older run free rdy) side =
+        let old : AllNamed older = run_named_by older before run (part older (marked c (step_of g) ∷ []) side) in
         let sent : WasSentTo c (mail older) g =
         ready_sent (IsLawfulWithFalls decl) fits decl script older before run c g rdy in
         taken accepted c older g sent
         (given_named decl accepted script sound c older (mail older) g old.messages sent rdy) old
-    run_named h open_inputs (posts c turn before older run open_input law) kept =
+    run_named_by h open_inputs (posts c turn before older run open_input law) side =
         posted c (length (mail older)) older turn law
-        (run_named older before run (kept_part older (by c (posted_as turn.append (length (mail older)) turn)) kept))
-    run_named h open_inputs (phase before older run none done calm further) kept =
+        (run_named_by older before run (part older (by c (posted_as turn.append (length (mail older)) turn)) side))
+    run_named_by h open_inputs (phase before older run none done calm further) side =
         still (controller decl) older (steps.Phase (phase_of older + 1)) (phase_silent (phase_of older + 1)) (tt, tt)
-        (run_named older before run
-        (kept_part older (marked (controller decl) (steps.Phase (phase_of older + 1)) ∷ []) kept))
-    run_named h open_inputs (control line lines step before older run left is) kept =
+        (run_named_by older before run
+        (part older (marked (controller decl) (steps.Phase (phase_of older + 1)) ∷ []) side))
+    run_named_by h open_inputs (control line lines step before older run left is) side =
         still (controller decl) older step (line_silent line step is)
         (line_puts (RecordNamed decl) (controller decl) line step is)
-        (run_named older before run (kept_part older (marked (controller decl) step ∷ []) kept))
-    run_named h open_inputs (falls c lines before older run left) kept =
+        (run_named_by older before run (part older (marked (controller decl) step ∷ []) side))
+    run_named_by h open_inputs (falls c lines before older run left) side =
         fallen c older causes.Script
-        (run_named older before run (kept_part older (marked c (steps.Fell causes.Script None) ∷ []) kept))
-    run_named h open_inputs (rises c rs turn lines before older run left fit has law) kept =
+        (run_named_by older before run (part older (marked c (steps.Fell causes.Script None) ∷ []) side))
+    run_named_by h open_inputs (rises c rs turn lines before older run left fit has law) side =
         let post : List Entry = by c (posted_as turn.append (length (mail older)) turn) in
         let rose : List Entry = older ++ marked c (steps.Rose rs) ∷ [] in
         let old : AllNamed older =
-        run_named older before run (kept_part older (marked c (steps.Rose rs) ∷ post) kept) in
+        run_named_by older before run (part older (marked c (steps.Rose rs) ∷ post) side) in
         subst AllNamed (append_assoc older (marked c (steps.Rose rs) ∷ []) post)
         (posted c (length (mail older)) rose turn law
         (risen (first_planned decl accepted) c older rs
-        (back_has (RecordNamed decl) c older rs old.puts (kept older post (marked c (steps.Rose rs)) refl)) old))
-    run_named h open_inputs (damaged c offset lines before older run left) kept =
+        (risen_has older post c rs fit side old) old))
+    run_named_by h open_inputs (damaged c offset lines before older run left) side =
         still c older (steps.Damaged offset) (record { sends = λ a. refl; deeds = λ ms. refl }) (tt, tt)
-        (run_named older before run (kept_part older (marked c (steps.Damaged offset) ∷ []) kept))
-    run_named h open_inputs (unopened c cause lines before older run left disk) kept =
-        fallen c older cause (run_named older before run (kept_part older (marked c (steps.Fell cause None) ∷ []) kept))
+        (run_named_by older before run (part older (marked c (steps.Damaged offset) ∷ []) side))
+    run_named_by h open_inputs (unopened c cause lines before older run left disk) side =
+        fallen c older cause (run_named_by older before run (part older (marked c (steps.Fell cause None) ∷ []) side))
+
+  -- where records are kept
+
+  pub run_named : (accepted : IsAccepted decl) (script : Script) (sound : IsScriptFor decl script) (fits : ℕ → List Record → Type 0)
+      (h : List Entry) (open_inputs : List Bool) → RunsWithFalls (IsLawfulWithFalls decl) fits decl script h open_inputs → Kept h
+      → AllNamed h
+  run_named accepted script sound fits h open_inputs run kept =
+      run_named_by accepted script sound fits Kept (λ older k side. kept_part older k side)
+      (λ older post c rs fit side old. back_has (RecordNamed decl) c older rs old.puts (side older post (marked c (steps.Rose rs)) refl))
+      h open_inputs run kept

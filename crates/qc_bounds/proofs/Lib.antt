@@ -1,3 +1,12 @@
+pub mod AsksReady
+pub mod AsksAnswered
+pub mod AdminsAsked
+pub mod AdminsInForm
+pub mod AdminsNamed
+pub mod AdminKeeps
+pub mod RunsFit
+pub mod MailFits
+pub mod AdminsWithin
 pub mod Putting
 pub mod SiteWrites
 pub mod ClientWrites
@@ -28,6 +37,7 @@ pub mod RisenNamed
 pub mod AskedNamed
 pub mod ActorsNamed
 pub mod HistoriesNamed
+pub mod FitsNamed
 pub mod RecordsFit
 pub mod AtOnce
 pub mod RisenClock

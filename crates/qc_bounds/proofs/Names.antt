@@ -76,7 +76,7 @@ module _ (decl : Declaration) where
   MessageNamed (messages.Answer to answer) = AnswerNamed answer
   MessageNamed (messages.Decision tx verdict) = Unit {0}
   MessageNamed (messages.Inquiry tx) = Unit {0}
-  MessageNamed (messages.Ask tx) = Unit {0}
+  MessageNamed (messages.Ask tx) = tx.client < decl.clients
   MessageNamed (messages.Close epoch) = HasPlan decl epoch
   MessageNamed (messages.Install epoch clock log) = HasPlan decl epoch × LinesNamed log
 
@@ -93,7 +93,7 @@ module _ (decl : Declaration) where
   CommandNamed (commands.Do object inv) = HasInvocation decl object inv
   CommandNamed commands.Commit = Unit {0}
   CommandNamed commands.Abort = Unit {0}
-  CommandNamed (commands.Epoch number) = Unit {0}
+  CommandNamed (commands.Epoch number) = HasPlan decl number
 
   abbrev pub GivenNamed : Given → Type 0
   GivenNamed (given.Called command) = CommandNamed command

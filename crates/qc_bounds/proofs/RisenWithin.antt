@@ -1,11 +1,13 @@
--- What a site and a client are by records within a bound, and what they do as they rise, is within it.
+-- What a site, a client and the administrator are by records within a bound, and what they do as they rise, is within
+-- it.
 use Rattle.std.proofs.Common.{ℕ, ◌-◌, ◌≤◌, max, not, Bool, true, false, cond, List, [], ◌∷◌, ◌++◌, fold, map, take, Option}
 use Rattle.std.proofs.Common.{Some, None, arith}
 use Rattle.std.specs.List.{AllByRecursion as Every}
 use Rattle.std.specs.Option.{option_map_or}
 use Rattle.qc_list.proofs.Members.{every-append, every-filter}
-use Rattle.qc_core.specs.Actors.{actor_rises, by_client, by_site}
-use Rattle.qc_decl.specs.Actors.{is_site}
+use Rattle.qc_core.specs.Actors.{actor_rises}
+use Rattle.qc_core.proofs.ByNumber.{rises_by}
+use Rattle.qc_decl.specs.Actors.{is_client, is_site}
 use Rattle.qc_decl.specs.declared.declaration.Declaration.{Declaration}
 use Rattle.qc_entry.specs.Log.{has_line, without}
 use Rattle.qc_entry.specs.declared.line.Line.{Line}
@@ -18,13 +20,15 @@ use Rattle.qc_msg.specs.declared.record.Record.TheVariants as records
 use Rattle.qc_recover.specs.Clients as by_client_records
 use Rattle.qc_recover.specs.Sites.{done_lines, done_stamp, inquiry, keeps, Kept, kept_by, most_inquiries, nothing_kept}
 use Rattle.qc_site.specs.Epochs.{in_order}
-use Rattle.qc_recover.specs.Sites.{site_rises}
+use Rattle.qc_epoch.specs.Admin.{Decided}
+use Rattle.qc_recover.specs.Admins as admins
 use Rattle.qc_site.specs.Conduct.{latest}
 use Rattle.qc_site.specs.Promise.{lines_of, prepared_of, stamped, with_stamped, without_prepared}
 use Rattle.qc_stamp.specs.Order.{same_tx}
 use Rattle.qc_stamp.specs.declared.stamp.Stamp.{Stamp}
 use Rattle.qc_stamp.specs.declared.stamp.TxId.{TxId}
 use Rattle.qc_laws.specs.Within.{LinesWithin, PromisesWithin, SendsWithin}
+use Rattle.qc_bounds.specs.AdminWithin.{DecidedWithin}
 use Rattle.qc_bounds.specs.Within.{AreWithin, MoveWithin, RecordWithin}
 
 module _ (bound : ℕ) where
@@ -34,7 +38,7 @@ module _ (bound : ℕ) where
       let first : l.stamp.clock ≤ bound = within.0 in
       latest_within (max clock l.stamp.clock) ls (omega arith) within.1
 
-  stamped_within : (stamp : Stamp) (tx : TxId) (lines : List Line) (own : List OwnLine) → stamp.clock ≤ bound
+  pub stamped_within : (stamp : Stamp) (tx : TxId) (lines : List Line) (own : List OwnLine) → stamp.clock ≤ bound
       → LinesWithin bound lines → LinesWithin bound (fold (with_stamped stamp tx) lines own)
   stamped_within stamp tx lines [] here within = within
   stamped_within stamp tx lines (o ∷ os) here within =
@@ -127,6 +131,23 @@ module _ (bound : ℕ) where
   client_kept [] k all w = w
   client_kept (r ∷ rs) k all w = client_kept rs (by_client_records.keeps k r) all.1 (client_keeps k r all.0 w)
 
+  -- the administrator
+
+  decided_keeps : (k : Option Decided) (r : Record) → RecordWithin bound r → DecidedWithin bound k
+      → DecidedWithin bound (admins.keeps k r)
+  decided_keeps k records.Life here w = w
+  decided_keeps k (records.Prepare p) here w = w
+  decided_keeps k (records.Done tx clock) here w = w
+  decided_keeps k (records.Close epoch) here w = w
+  decided_keeps k (records.Install epoch clock lines) here w = w
+  decided_keeps k (records.Commit commit) here w = w
+  decided_keeps k (records.Decide epoch clock lines) here w = record { epoch_is = tt; clock_is = here.0; lines_are = here.1 }
+
+  decided_kept : (rs : List Record) (k : Option Decided) → AreWithin bound rs → DecidedWithin bound k
+      → DecidedWithin bound (fold admins.keeps k rs)
+  decided_kept [] k all w = w
+  decided_kept (r ∷ rs) k all w = decided_kept rs (admins.keeps k r) all.1 (decided_keeps k r all.0 w)
+
   -- their turns
 
   inquiries_within : (decl : Declaration) (txs : List TxId) → SendsWithin bound (map (inquiry decl) txs)
@@ -150,12 +171,10 @@ module _ (bound : ℕ) where
 
   pub rises_within : (decl : Declaration) (a : ℕ) (rs : List Record) → AreWithin bound rs
       → MoveWithin bound (actor_rises decl a rs)
-  rises_within decl a rs all = by (is_site decl a)
+  rises_within decl a rs all = by (is_site decl a) (is_client decl a)
     where
-      by : (b : Bool)
-          → MoveWithin bound
-          (cond b (by_site (site_rises decl a rs)) (by_client (by_client_records.client_rises (a - decl.sites) rs)))
-      by true =
+      by : (site client : Bool) → MoveWithin bound (rises_by decl a rs site client)
+      by true client =
           let w : KeptWithin (kept_by (rs ++ records.Life ∷ [])) = site_within a rs all in
           record {
             state = record { clock = w.clock; began = w.began; log = w.lines; prepared = w.promises };
@@ -165,7 +184,7 @@ module _ (bound : ℕ) where
               write = (tt, tt);
             };
           }
-      by false =
+      by false true =
           let w : CommitsWithin (by_client_records.kept_by (rs ++ records.Life ∷ [])) = client_within rs all in
           record {
             state = record {
@@ -174,3 +193,7 @@ module _ (bound : ℕ) where
             };
             turn = record { sends = tt; failed_sends = tt; write = (tt, tt) };
           }
+      by false false = record {
+        state = record { decided = decided_kept (rs ++ records.Life ∷ []) None (risen rs all) tt; doing = tt };
+        turn = record { sends = tt; failed_sends = tt; write = (tt, tt) };
+      }

@@ -5,17 +5,17 @@ use Rattle.std.specs.List.{AllByRecursion as Every}
 use Rattle.std.proofs.lemmas.List.{length-map}
 use Rattle.qc_list.specs.Order.{by_order, inserted}
 use Rattle.qc_list.proofs.Members.{every-In, every-from_In}
-use Rattle.qc_core.specs.Actors.{AsksFew, actor_rises, by_client, by_site}
-use Rattle.qc_decl.specs.Actors.{actors, is_site}
+use Rattle.qc_core.specs.Actors.{AsksFew, actor_rises}
+use Rattle.qc_decl.specs.Actors.{actors, is_client, is_site}
 use Rattle.qc_decl.specs.declared.declaration.Declaration.{Declaration}
 use Rattle.qc_entry.specs.declared.record.Prepared.{Prepared}
 use Rattle.qc_msg.specs.declared.record.Record.{Record}
 use Rattle.qc_msg.specs.declared.record.Record.TheVariants as records
 use Rattle.qc_msg.specs.declared.turn.Posting.{Posting}
-use Rattle.qc_recover.specs.Clients.{client_rises}
 use Rattle.qc_recover.specs.Sites.{Kept, inquiries, inquiry, keeps, kept_by, most_inquiries, nothing_kept}
 use Rattle.qc_site.specs.Epochs.{in_order}
-use Rattle.qc_recover.specs.Sites.{site_rises, with_promise}
+use Rattle.qc_recover.specs.Sites.{with_promise}
+use Rattle.qc_core.proofs.ByNumber.{rises_by}
 use Rattle.qc_recover.proofs.Asked.{first_every}
 use Rattle.qc_site.proofs.InOrder.{In_order_is}
 use Rattle.qc_recover.proofs.Promised.{each_promise}
@@ -142,25 +142,24 @@ module _ (decl : Declaration) where
 
   pub rising_short : (a : ℕ) (rs : List Record) → Every (PromisesDeclared decl) rs
       → IsRisingShort decl rs (actor_rises decl a rs).turn
-  rising_short a rs all = by (is_site decl a)
+  rising_short a rs all = by (is_site decl a) (is_client decl a)
     where
-      by : (b : Bool)
-          → IsRisingShort decl rs
-          (cond b (by_site (site_rises decl a rs)) (by_client (client_rises (a - decl.sites) rs))).turn
-      by true =
+      by : (site client : Bool) → IsRisingShort decl rs (rises_by decl a rs site client).turn
+      by true client =
           record {
             few = few_inquiries rs;
             bounded = bounded_inquiries rs;
             receivers = receivers rs all;
             failed_sends = refl;
           }
-      by false = record { few = omega arith; bounded = omega arith; receivers = tt; failed_sends = refl }
+      by false true = record { few = omega arith; bounded = omega arith; receivers = tt; failed_sends = refl }
+      by false false = record { few = omega arith; bounded = omega arith; receivers = tt; failed_sends = refl }
 
   -- an actor that has risen numbers what it asked: nothing
   pub rising_asks_few : (a : ℕ) (rs : List Record) → AsksFew (actor_rises decl a rs).actor
-  rising_asks_few a rs = by (is_site decl a)
+  rising_asks_few a rs = by (is_site decl a) (is_client decl a)
     where
-      by : (b : Bool)
-          → AsksFew (cond b (by_site (site_rises decl a rs)) (by_client (client_rises (a - decl.sites) rs))).actor
-      by true = tt
-      by false = (tt, tt)
+      by : (site client : Bool) → AsksFew (rises_by decl a rs site client).actor
+      by true client = tt
+      by false true = (tt, tt)
+      by false false = tt

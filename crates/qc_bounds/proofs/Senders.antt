@@ -1,13 +1,15 @@
 -- In each run with falls messages come from actors, and so does what an actor takes.
 use Rattle.std.proofs.Common.{◌≡◌, ℕ, zero, suc, ◌+◌, ◌<◌, ◌==◌, Bool, true, false, cond, List, [], ◌∷◌, ◌++◌, length}
-use Rattle.std.proofs.Common.{Option, Some, None, slice_get, refl, sym, subst, arith}
+use Rattle.std.proofs.Common.{Option, Some, None, slice_get, refl, sym, subst, eqb-true, arith}
 use Rattle.std.specs.Prelude.{option_to_list}
 use Rattle.std.specs.List.{AllByRecursion as Every}
 use Rattle.std.proofs.lemmas.Bool.{ltb-true}
 use Rattle.qc_list.proofs.Members.{every-append, every-at}
+use Rattle.qc_admin.specs.Fits.{MessageFits}
 use Rattle.qc_core.specs.Actors.{actor_after}
 use Rattle.qc_core.specs.Conduct.{IsLawfulWithFalls, with_record}
-use Rattle.qc_decl.specs.Actors.{actors, controller, is_client, is_site}
+use Rattle.qc_decl.proofs.Clients.{client_within}
+use Rattle.qc_decl.specs.Actors.{actors, administrator, controller, is_administrator, is_client, is_site}
 use Rattle.qc_decl.specs.declared.declaration.Declaration.{Declaration}
 use Rattle.qc_inbox.proofs.Keeping.{same_mail}
 use Rattle.qc_laws.proofs.Numbered.{mail-silent}
@@ -23,7 +25,6 @@ use Rattle.qc_msg.specs.declared.turn.Turn.{Turn}
 use Rattle.qc_msg.specs.Deeds.{Deed, deed_at, deeds, envelope_of, envelopes, heard, mail}
 use Rattle.qc_msg.specs.Steps.{Entry, by, marked, posted_as, sends_as}
 use Rattle.qc_msg.proofs.Growth.{mail-append, mail-posted_as, mail-taken}
-use Rattle.qc_laws.proofs.InRuns.{client_low}
 use Rattle.qc_script.specs.Ready.{phase_of}
 use Rattle.qc_script.specs.RunsWithFalls.{RunsWithFalls, begins, takes, posts, phase, control, falls, rises, damaged}
 use Rattle.qc_script.specs.RunsWithFalls.{unopened}
@@ -38,18 +39,22 @@ envelopes_from : (limit a n : ℕ) (ps : List Posting) → a < limit → AreFrom
 envelopes_from limit a n [] low = tt
 envelopes_from limit a n (p ∷ ps) low = (low, envelopes_from limit a (n + 1) ps low)
 
--- only sites and clients have lawful turns
+-- only sites, clients and the administrator have lawful turns
 pub lawful_actor : (decl : Declaration) (a : ℕ) (ds : List Deed) (turn : Turn) → IsLawfulWithFalls decl a ds turn
     → a < actors decl
-lawful_actor decl a ds turn law = by (is_site decl a) (is_client decl a) refl refl law.called_for
+lawful_actor decl a ds turn law =
+    by (is_site decl a) (is_client decl a) (is_administrator decl a) refl refl refl law.called_for
   where
-    by : (s c : Bool) → is_site decl a ≡ s → is_client decl a ≡ c
-        → cond s (Some (actor_after decl a ds).turn) (cond c (Some (actor_after decl a ds).turn) None) ≡ Some
-        (with_record turn)
-        → a < actors decl
-    by true c site client is = (let low : a < decl.sites = ltb-true a decl.sites site in omega arith)
-    by false true site client is = client_low decl a client
-    by false false site client is = absurd (let never : ⊥ = cc in never)
+    its : Option Turn
+    its = Some (actor_after decl a ds).turn
+
+    by : (s c m : Bool) → is_site decl a ≡ s → is_client decl a ≡ c → is_administrator decl a ≡ m
+        → cond s its (cond c its (cond m its None)) ≡ Some (with_record turn) → a < actors decl
+    by true c m site client admin is = (let low : a < decl.sites = ltb-true a decl.sites site in omega arith)
+    by false true m site client admin is = client_within decl a client
+    by false false true site client admin is =
+        (let same : a ≡ administrator decl = eqb-true a (administrator decl) admin in omega arith)
+    by false false false site client admin is = absurd (let never : ⊥ = cc in never)
 
 pub place_low : (bs : List Bool) (a : ℕ) (t : Bool) → slice_get bs a ≡ Some t → a < length bs
 place_low [] a t is = absurd (let never : ⊥ = cc in never)
@@ -98,20 +103,26 @@ module _ (decl : Declaration) (script : Script) (fits : ℕ → List Record → 
 
 -- what is taken comes from them, and what rises is of clients
 
-heard_sound : (o : Option Envelope) → ((e : Envelope) → o ≡ Some e → e.from < most_actors) → Every IsSound (heard o)
+abbrev pub IsSoundMessage : Envelope → Type 0
+IsSoundMessage e = (e.from < most_actors) × MessageFits e.message
+
+abbrev pub AreSound : List Envelope → Type 0
+AreSound ms = Every IsSoundMessage ms
+
+heard_sound : (o : Option Envelope) → ((e : Envelope) → o ≡ Some e → IsSoundMessage e) → Every IsSound (heard o)
 heard_sound None low = tt
 heard_sound (Some e) low = (low e refl, tt)
 
-deed_sound : (ms : List Envelope) (step : Step) → AreFrom most_actors ms → Every IsOfClient (risen_at step)
+deed_sound : (ms : List Envelope) (step : Step) → AreSound ms → Every IsOfClient (risen_at step)
     → Every IsSound (deed_at ms step)
 deed_sound ms (steps.Phase number) from risen = tt
 deed_sound ms (steps.Cut x y) from risen = tt
 deed_sound ms (steps.Heal x y) from risen = tt
 deed_sound ms (steps.Armed actor kind at) from risen = tt
-deed_sound ms (steps.Called command) from risen = (tt, tt)
+deed_sound ms (steps.Called command) from risen = ((tt, tt), tt)
 deed_sound ms (steps.Got number) from risen =
-    heard_sound (slice_get ms number) (λ e is. every-at (λ (e : Envelope). e.from < most_actors) ms number e from is)
-deed_sound ms (steps.Lost number) from risen = (tt, tt)
+    heard_sound (slice_get ms number) (λ e is. every-at IsSoundMessage ms number e from is)
+deed_sound ms (steps.Lost number) from risen = ((tt, tt), tt)
 deed_sound ms (steps.Wrote written) from risen = (tt, tt)
 deed_sound ms (steps.Sent number to message) from risen = (tt, tt)
 deed_sound ms (steps.Told reply) from risen = (tt, tt)
@@ -119,7 +130,7 @@ deed_sound ms (steps.Fell cause pending) from risen = (tt, tt)
 deed_sound ms (steps.Rose rs) from risen = (risen, tt)
 deed_sound ms (steps.Damaged offset) from risen = tt
 
-part_from : (xs ys : List Envelope) → AreFrom most_actors (xs ++ ys) → AreFrom most_actors xs × AreFrom most_actors ys
+part_from : (xs ys : List Envelope) → AreSound (xs ++ ys) → AreSound xs × AreSound ys
 part_from [] ys all = (tt, all)
 part_from (x ∷ xs) ys all = let rest = part_from xs ys all.1 in ((all.0, rest.0), rest.1)
 
@@ -134,13 +145,13 @@ mail_cons e h = by (envelope_of e) refl
     by None is = rw is refl
     by (Some x) is = rw is refl
 
-pub deeds_sound : (a : ℕ) (ms : List Envelope) (h : List Entry) → AreFrom most_actors ms → AreFrom most_actors (mail h)
+pub deeds_sound : (a : ℕ) (ms : List Envelope) (h : List Entry) → AreSound ms → AreSound (mail h)
     → Every (λ (e : Entry). Every IsOfClient (risen_at e.step)) h → Every IsSound (deeds a ms h)
 deeds_sound a ms [] from more risen = tt
 deeds_sound a ms (e ∷ h) from more risen =
-    let both = part_from (option_to_list (envelope_of e)) (mail h) (subst (AreFrom most_actors) (mail_cons e h) more) in
+    let both = part_from (option_to_list (envelope_of e)) (mail h) (subst AreSound (mail_cons e h) more) in
     every-append IsSound (cond (e.actor == a) (deed_at ms e.step) []) (deeds a (ms ++ option_to_list (envelope_of e)) h)
     (own_sound (e.actor == a) (deed_at ms e.step) (deed_sound ms e.step from risen.0))
     (deeds_sound a (ms ++ option_to_list (envelope_of e)) h
-    (every-append (λ (x : Envelope). x.from < most_actors) ms
+    (every-append IsSoundMessage ms
     (option_to_list (envelope_of e)) from both.0) both.1 risen.1)

@@ -3,9 +3,8 @@ use Rattle.std.proofs.Common.{◌≡◌, ◌<◌, ◌≤◌, ℕ, zero, suc, Boo
 use Rattle.std.specs.List.{AllByRecursion as Every}
 use Rattle.qc_bounds.proofs.Calling.{turn_failed, turn_short}
 use Rattle.qc_bounds.proofs.Rising.{risen_turn_short}
-use Rattle.qc_bounds.specs.Calls.{IsFailedShort, IsRisingShort}
+use Rattle.qc_bounds.specs.Calls.{IsFailedShort, IsRisingShort, IsTurnShort}
 use Rattle.qc_bounds.specs.Fitting.{AllFit, AllRiseFit}
-use Rattle.qc_core.specs.Actors.{IsShort}
 use Rattle.qc_core.specs.Conduct.{IsLawfulWithFalls}
 use Rattle.qc_decl.specs.Accepted.{IsAccepted}
 use Rattle.qc_decl.specs.Actors.{actors, administrator, controller}
@@ -103,7 +102,7 @@ module _ (fits : ℕ → List Record → Type 0) (decl : Declaration) (script : 
     taken : (a : ℕ) (turn : Turn) → slice_get inputs a ≡ Some true → IsLawfulWithFalls decl a (deeds a [] h) turn → AreShown (h ++ by a (posted_as turn.append (length (mail h)) turn))
     taken a turn slot law =
         let within : a < most_actors = slot_within h inputs run a true slot in
-        let short : IsShort turn = turn_short decl script fits h inputs run accepted fit a turn slot law in
+        let short : IsTurnShort turn = turn_short decl script fits h inputs run accepted fit a turn slot law in
         let failed : IsFailedShort turn = turn_failed decl script fits h inputs run accepted fit a turn slot law in (
           after_post_as turn.append old.0 a turn,
           kept_post script h old.0 a turn old.1 within (post_receivers turn.append turn short.receivers failed.receivers)

@@ -1,4 +1,5 @@
--- Through falls and rises a client stands as its calls rely on, and what a site holds is of clients.
+-- Through falls and rises a client, and the administrator, stand as their calls rely on, and what a site holds is of
+-- clients.
 use Rattle.std.proofs.Common.{◌≡◌, ◌⊎◌, ℕ, ◌-◌, ◌<◌, Bool, true, false, cond, List, [], ◌∷◌, ◌++◌, fold, Option}
 use Rattle.std.proofs.Common.{Some, None, inl, inr, refl, sym, ap, ◌∙◌, subst, append_assoc}
 use Rattle.std.specs.List.{AllByRecursion as Every}
@@ -6,12 +7,17 @@ use Rattle.std.proofs.lemmas.List.Sums.{fold-append}
 use Rattle.qc_list.specs.Members.{In}
 use Rattle.qc_list.proofs.Members.{In-more, every-In}
 use Rattle.qc_client.specs.declared.client.Client.{Client}
-use Rattle.qc_client.specs.Client.{new_client}
+use Rattle.qc_admin.specs.Fits.{AdminFits, GivenFits}
+use Rattle.qc_admin.specs.Holds.{AdminHolds, IsNumberedAtOnce}
+use Rattle.qc_admin.proofs.AtOnce.{takes_now}
+use Rattle.qc_admin.proofs.Fitting.{sent_fits, takes_fit}
+use Rattle.qc_epoch.specs.Admin.{Admin}
+use Rattle.qc_epoch.specs.Conduct.{admin_takes}
 use Rattle.qc_client.specs.Conduct.{client_takes}
 use Rattle.qc_core.specs.declared.actor.Actor.{Actor}
 use Rattle.qc_core.specs.declared.actor.Actor.TheVariants as actors
 use Rattle.qc_core.specs.Actors.{ActorMove, IsFrom, actor_after, actor_does, actor_rises, actor_takes, by_client}
-use Rattle.qc_core.specs.Actors.{by_site, down_takes, new_actor}
+use Rattle.qc_core.specs.Actors.{by_admin, down_takes, new_actor}
 use Rattle.qc_core.specs.Acts.{MayTake, is_running, runs_at, runs_given}
 use Rattle.qc_core.specs.Conduct.{IsLawfulWithFalls, with_record}
 use Rattle.qc_core.specs.Lives.{Lives}
@@ -23,7 +29,7 @@ use Rattle.qc_core.proofs.ClientStands.{Lands, Stands, new_stands, runs_told}
 use Rattle.qc_core.proofs.LivesLaws.{falls as after_falls, rises as after_rises}
 use Rattle.qc_core.proofs.SiteReaches.{IsOfClients, site_reach}
 use Rattle.qc_decl.specs.Accepted.{IsAccepted}
-use Rattle.qc_decl.specs.Actors.{is_site}
+use Rattle.qc_decl.specs.Actors.{is_client, is_site}
 use Rattle.qc_decl.specs.Limits.{most_clients}
 use Rattle.qc_decl.specs.declared.declaration.Declaration.{Declaration}
 use Rattle.qc_entry.specs.declared.record.Prepared.{Prepared}
@@ -37,15 +43,14 @@ use Rattle.qc_msg.specs.declared.turn.Appended.{Appended}
 use Rattle.qc_msg.specs.declared.turn.Appended.TheVariants.{Done, Failed, Stopped}
 use Rattle.qc_msg.specs.declared.turn.Turn.{Turn}
 use Rattle.qc_msg.specs.Deeds.{Deed, Takes, Falls, Rises, deeds_as, sends_of, tells_of, turn_deeds}
-use Rattle.qc_recover.specs.Clients.{client_rises}
 use Rattle.qc_recover.specs.Sites.{kept_by, site_rises}
 use Rattle.qc_site.proofs.Holders.{clients-promised}
 use Rattle.qc_recover.proofs.Promised.{each_promise}
 use Rattle.qc_site.specs.Conduct.{site_takes}
 use Rattle.qc_site.specs.Holders.{AreByClients}
-use Rattle.qc_site.specs.Site.{new_site}
 use Rattle.qc_bounds.specs.Calls.{IsOfClient, IsSound}
-use Rattle.qc_bounds.proofs.TurnsPosted.{client_turn, down_turn, runs_event, runs_turn, site_turn}
+use Rattle.qc_core.proofs.ByNumber.{new_by, rises_by}
+use Rattle.qc_bounds.proofs.TurnsPosted.{admin_turn, client_turn, down_turn, runs_event, runs_turn, site_turn}
 
 -- what holds of an actor between two inputs
 
@@ -53,32 +58,37 @@ pub record ClientReady (decl : Declaration) (running : Bool) (c : Client) : Type
   pub stands : Stands decl running c
   pub asked : AskedFit decl.sites c
 
+pub record AdminReady (decl : Declaration) (m : Admin) : Type 0 where
+  pub fits : AdminFits m
+  pub holds : AdminHolds decl m
+
 abbrev pub IsReady : Declaration → Bool → Actor → Type 0
 IsReady decl running (actors.Site s) = IsOfClients s
 IsReady decl running (actors.Client c) = ClientReady decl running c
+IsReady decl running (actors.Admin m) = AdminReady decl m
 IsReady decl running actors.Down = Unit {0}
 
 module _ (decl : Declaration) (accepted : IsAccepted decl) (a : ℕ) where
   new_ready : IsReady decl false (new_actor decl a)
-  new_ready = by (is_site decl a)
+  new_ready = by (is_site decl a) (is_client decl a)
     where
-      by : (b : Bool)
-          → IsReady decl false (cond b (actors.Site (new_site a)) (actors.Client (new_client (a - decl.sites))))
-      by true = record { held = tt; prepared = tt }
-      by false = record { stands = new_stands decl (a - decl.sites); asked = new_asked decl.sites (a - decl.sites) }
+      by : (site client : Bool) → IsReady decl false (new_by decl a site client)
+      by true client = record { held = tt; prepared = tt }
+      by false false = record { fits = tt; holds = tt }
+      by false true = record { stands = new_stands decl (a - decl.sites); asked = new_asked decl.sites (a - decl.sites) }
 
   -- one input with its turn
   event_ready : (v : Actor) (ds : List Deed) (g : Given) (first : ℕ) → IsReady decl (is_running ds) v → MayTake ds g
-      → IsFrom g
+      → IsFrom g → GivenFits g
       → IsReady decl (runs_told (runs_given (is_running ds) g) (actor_takes decl v g).turn.told)
       (fold (actor_does decl a) (actor_takes decl v g) (turn_deeds first (actor_takes decl v g).turn)).actor
-  event_ready (actors.Site s) ds g first ready may from =
+  event_ready (actors.Site s) ds g first ready may from fits =
       subst
       (λ (m : ActorMove). IsReady decl
       (runs_told (runs_given (is_running ds) g) (site_takes decl s g).turn.told) m.actor)
       (sym (site_turn decl a (site_takes decl s g) first (site_takes decl s g).turn))
       (site_reach decl accepted s g from ready).clients
-  event_ready (actors.Client c) ds g first ready may from =
+  event_ready (actors.Client c) ds g first ready may from fits =
       let on : Lands decl (runs_given (is_running ds) g) first (client_takes decl c g) =
       lands decl ds c g first accepted.has_site accepted.sites ready.stands may in
       let reach : ClientReach decl.sites (client_takes decl c g) =
@@ -90,7 +100,19 @@ module _ (decl : Declaration) (accepted : IsAccepted decl) (a : ℕ) where
       (client_turn decl a (client_takes decl c g) first (client_takes decl c g).turn ∙ ap
       (λ (d : Client). by_client (record { client = d; turn = (client_takes decl c g).turn })) on.once))
       (record { stands = on.stands; asked = sent_asked decl.sites (client_takes decl c g).client first reach.asked })
-  event_ready actors.Down ds g first ready may from =
+  event_ready (actors.Admin m) ds g first ready may from fits =
+      let on : IsNumberedAtOnce decl (admin_takes decl m g) = takes_now decl m g accepted ready.holds in
+      subst
+      (λ (v : ActorMove). IsReady decl
+      (runs_told (runs_given (is_running ds) g) (admin_takes decl m g).turn.told) v.actor)
+      (sym
+      (admin_turn decl a (admin_takes decl m g) first (admin_takes decl m g).turn ∙ ap
+      (λ (d : Admin). by_admin (record { admin = d; turn = (admin_takes decl m g).turn })) (on.told first)))
+      (record {
+        fits = sent_fits (admin_takes decl m g).admin first (takes_fit decl m g accepted ready.fits fits);
+        holds = on.holds first;
+      })
+  event_ready actors.Down ds g first ready may from fits =
       subst (λ (m : ActorMove). IsReady decl (runs_told (runs_given (is_running ds) g) (down_takes g).told) m.actor)
       (sym (down_turn decl a (down_takes g) first (down_takes g))) tt
 
@@ -115,19 +137,18 @@ module _ (decl : Declaration) (accepted : IsAccepted decl) (a : ℕ) where
   rise_ready : (rs : List Record) (first : ℕ) → Every IsOfClient rs
       → IsReady decl false
       (fold (actor_does decl a) (actor_rises decl a rs) (turn_deeds first (actor_rises decl a rs).turn)).actor
-  rise_ready rs first all = by (is_site decl a)
+  rise_ready rs first all = by (is_site decl a) (is_client decl a)
     where
-      by : (b : Bool)
+      by : (site client : Bool)
           → IsReady decl false
-          (fold (actor_does decl a)
-          (cond b (by_site (site_rises decl a rs)) (by_client (client_rises (a - decl.sites) rs)))
-          (turn_deeds first
-          (cond b (by_site (site_rises decl a rs)) (by_client (client_rises (a - decl.sites) rs))).turn)).actor
-      by true =
+          (fold (actor_does decl a) (rises_by decl a rs site client)
+          (turn_deeds first (rises_by decl a rs site client).turn)).actor
+      by false false = record { fits = tt; holds = tt }
+      by true client =
           subst (λ (m : ActorMove). IsReady decl false m.actor)
           (sym (site_turn decl a (site_rises decl a rs) first (site_rises decl a rs).turn))
           (promises_of rs all)
-      by false = record {
+      by false true = record {
         stands =
             record {
               front = refl;
@@ -148,6 +169,7 @@ module _ (decl : Declaration) (accepted : IsAccepted decl) (a : ℕ) where
     pub ready : IsReady decl (is_running before) (actor_after decl a before).actor
     pub may : MayTake before input
     pub from : IsFrom input
+    pub fits : GivenFits input
 
   abbrev pub Known : List Deed → Bool → Type 0
   Known ds false = IsReady decl (is_running ds) (actor_after decl a ds).actor
@@ -186,7 +208,7 @@ module _ (decl : Declaration) (accepted : IsAccepted decl) (a : ℕ) where
       (subst
       (λ (m : ActorMove). IsReady decl (runs_told (runs_given (is_running o.before) o.input) move.turn.told) m.actor)
       (sym after)
-      (event_ready (actor_after decl a o.before).actor o.before o.input first o.ready o.may o.from))))
+      (event_ready (actor_after decl a o.before).actor o.before o.input first o.ready o.may o.from o.fits))))
     where
       move : ActorMove
       move = actor_takes decl (actor_after decl a o.before).actor o.input
@@ -249,7 +271,8 @@ module _ (decl : Declaration) (accepted : IsAccepted decl) (a : ℕ) where
     is = refl;
     ready = known before false m life (first_all before (Takes g ∷ []) all);
     may = may;
-    from = (last_all before (Takes g ∷ []) all).0;
+    from = (last_all before (Takes g ∷ []) all).0.0;
+    fits = (last_all before (Takes g ∷ []) all).0.1;
   }
   known ds b n (lives.posts before turn m first life low law) all =
       unwritten before turn.append first turn

@@ -6,7 +6,7 @@ use Rattle.qc_due.proofs.Standing.{steady_client}
 use Rattle.qc_client.specs.Client.{ClientMove}
 use Rattle.qc_core.specs.declared.actor.Actor.TheVariants as actors
 use Rattle.qc_core.specs.Actors.{ActorMove, actor_does, by_client}
-use Rattle.qc_core.specs.Actors.{by_site, moved}
+use Rattle.qc_core.specs.Actors.{by_admin, by_site, moved}
 use Rattle.qc_core.specs.Acts.{is_running, runs_at, runs_given}
 use Rattle.qc_core.proofs.ActorSent.{does_turn}
 use Rattle.qc_core.proofs.ClientStands.{runs_told, sends_all}
@@ -18,6 +18,9 @@ use Rattle.qc_msg.specs.declared.step.Given.{Given}
 use Rattle.qc_msg.specs.declared.turn.Posting.{Posting}
 use Rattle.qc_msg.specs.declared.turn.Turn.{Turn}
 use Rattle.qc_msg.specs.Deeds.{Deed, Takes, sends_of, tells_of, turn_deeds, writes_of}
+use Rattle.qc_admin.specs.Sent.{sent_each}
+use Rattle.qc_epoch.specs.Admin.{AdminMove}
+use Rattle.qc_epoch.specs.Conduct.{sent_one}
 use Rattle.qc_site.specs.Site.{SiteMove}
 
 -- whether a command runs, over a turn's deeds
@@ -49,7 +52,7 @@ runs_event ds g first turn =
     ∙ ap (λ (r : Bool). fold runs_at r (turn_deeds first turn)) (fold-append runs_at false ds (Takes g ∷ []))
     ∙ runs_turn (runs_given (is_running ds) g) first turn
 
--- a site's state, and that it is down, don't change as a turn is posted
+-- a site's state, and that it is down, don't change as a turn is posted; of the others, the numbers of their messages
 
 module _ (decl : Declaration) (a : ℕ) where
   abbrev Does : ActorMove → List Deed → ActorMove
@@ -91,6 +94,19 @@ module _ (decl : Declaration) (a : ℕ) where
       turn_parts (moved actors.Down t) first turn
       ∙ ap (λ (v : ActorMove). Does v (tells_of turn.told)) (down_sends t first turn.sends)
       ∙ tells_keep (moved actors.Down t) turn.told
+
+  admin_sends : (m : AdminMove) (first : ℕ) (ps : List Posting)
+      → Does (by_admin m) (sends_of first ps) ≡ by_admin (record m { admin = sent_each m.admin first ps })
+  admin_sends m first [] = refl
+  admin_sends m first (p ∷ ps) =
+      admin_sends (record m { admin = sent_one m.admin first p.to p.message }) (first + 1) ps
+
+  pub admin_turn : (m : AdminMove) (first : ℕ) (turn : Turn)
+      → Does (by_admin m) (turn_deeds first turn) ≡ by_admin (record m { admin = sent_each m.admin first turn.sends })
+  admin_turn m first turn =
+      turn_parts (by_admin m) first turn
+      ∙ ap (λ (v : ActorMove). Does v (tells_of turn.told)) (admin_sends m first turn.sends)
+      ∙ tells_keep (by_admin (record m { admin = sent_each m.admin first turn.sends })) turn.told
 
   pub client_turn : (m : ClientMove) (first : ℕ) (turn : Turn)
       → Does (by_client m) (turn_deeds first turn) ≡ by_client

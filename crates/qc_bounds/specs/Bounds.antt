@@ -2,7 +2,7 @@
 use Rattle.std.specs.Prelude.{ℕ, ◌≤◌, [], List, length}
 use Rattle.std.specs.List.{AllByRecursion as Every}
 use Rattle.qc_core.specs.declared.actor.Actor.{Actor}
-use Rattle.qc_core.specs.declared.actor.Actor.TheVariants.{Site, Client, Down}
+use Rattle.qc_core.specs.declared.actor.Actor.TheVariants.{Site, Client, Admin, Down}
 use Rattle.qc_core.specs.Actors.{actor_after}
 use Rattle.qc_decl.specs.declared.declaration.Declaration.{Declaration}
 use Rattle.qc_msg.specs.Deeds.{deeds, mail}
@@ -21,16 +21,18 @@ pub record IsBoundedWithFalls (decl : Declaration) (bound : ℕ) (h : List Entry
   -- the clocks of all records that were written, that were being written at a fall, and that rose
   pub records : PutWithin bound h
 
--- how many transactions a client that is up has begun, and an actor's life
+-- how many transactions a client that is up has begun, and an actor's life: the administrator counts neither
 
 abbrev pub CountsWithin : ℕ → Actor → Type 0
 CountsWithin bound (Site s) = Unit {0}
 CountsWithin bound (Client c) = c.front.count ≤ bound
+CountsWithin bound (Admin m) = Unit {0}
 CountsWithin bound Down = Unit {0}
 
 abbrev pub LivesWithin : ℕ → Actor → Type 0
 LivesWithin bound (Site s) = s.life ≤ bound
 LivesWithin bound (Client c) = c.front.life ≤ bound
+LivesWithin bound (Admin m) = Unit {0}
 LivesWithin bound Down = Unit {0}
 
 -- each rise gives at most so many records

@@ -1,10 +1,12 @@
 -- What comes to an actor in a run with falls, and what it posts, as far as its calls rely on it.
 use Rattle.std.specs.Prelude.{◌≡◌, ◌<◌, ◌≤◌, List, [], length}
 use Rattle.std.specs.List.{AllByRecursion as Every}
+use Rattle.qc_admin.specs.Fits.{GivenFits}
 use Rattle.qc_core.specs.Actors.{IsFrom}
 use Rattle.qc_decl.specs.Actors.{actors}
 use Rattle.qc_decl.specs.Limits.{most_clients}
 use Rattle.qc_decl.specs.declared.declaration.Declaration.{Declaration}
+use Rattle.qc_epoch.specs.Deciding.{most_asks}
 use Rattle.qc_link.specs.Limits.{most_actors}
 use Rattle.qc_msg.specs.declared.record.Record.{Record}
 use Rattle.qc_msg.specs.declared.record.Record.TheVariants as records
@@ -23,9 +25,9 @@ IsOfClient (records.Install epoch clock lines) = Unit {0}
 IsOfClient (records.Commit c) = Unit {0}
 IsOfClient (records.Decide epoch clock lines) = Unit {0}
 
--- a message that is taken comes from an actor, and what rises is of such clients
+-- a message that is taken comes from an actor, and tells promises of such clients; what rises is of such, too
 abbrev pub IsSound : Deed → Type 0
-IsSound (Takes given) = IsFrom given
+IsSound (Takes given) = IsFrom given × GivenFits given
 IsSound (Writes written) = Unit {0}
 IsSound (Sends number to message) = Unit {0}
 IsSound (Tells reply) = Unit {0}
@@ -49,6 +51,12 @@ pub record IsRisingShort (decl : Declaration) (rs : List Record) (turn : Turn) :
   pub bounded : length turn.sends ≤ most_inquiries
   pub receivers : Every (λ (p : Posting). p.to < actors decl) turn.sends
   pub failed_sends : turn.failed_sends ≡ []
+
+-- what is sent for an input: it goes to actors, and is at most one message for each site, or, of the administrator, one
+-- for each transaction that he asks about
+pub record IsTurnShort (turn : Turn) : Type 0 where
+  pub receivers : Every (λ (p : Posting). p.to < most_actors) turn.sends
+  pub few : length turn.sends ≤ most_asks
 
 -- what is sent where a turn's record isn't written, for an input: at most one message, which goes to an actor
 pub record IsFailedShort (turn : Turn) : Type 0 where

@@ -1,3 +1,5 @@
+pub mod AdminParts
+pub mod AdminWithin
 pub mod Records
 pub mod Within
 pub mod Bounds

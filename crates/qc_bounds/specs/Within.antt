@@ -2,13 +2,14 @@
 use Rattle.std.specs.Prelude.{ℕ, ◌≤◌, List, option_to_list}
 use Rattle.std.specs.List.{AllByRecursion as Every}
 use Rattle.qc_core.specs.declared.actor.Actor.{Actor}
-use Rattle.qc_core.specs.declared.actor.Actor.TheVariants.{Site, Client, Down}
+use Rattle.qc_core.specs.declared.actor.Actor.TheVariants.{Site, Client, Admin, Down}
 use Rattle.qc_core.specs.Actors.{ActorMove}
 use Rattle.qc_msg.specs.declared.record.Record.{Record}
 use Rattle.qc_msg.specs.declared.record.Record.TheVariants as records
 use Rattle.qc_msg.specs.declared.turn.Turn.{Turn}
 use Rattle.qc_msg.specs.Steps.{Entry}
 use Rattle.qc_laws.specs.Within.{ClientWithin, LinesWithin, SendsWithin, SiteWithin}
+use Rattle.qc_bounds.specs.AdminWithin.{AdminWithin}
 use Rattle.qc_bounds.specs.Records.{AllPut, AllRisen}
 
 -- the clocks that a record tells
@@ -37,6 +38,7 @@ RiseWithin bound h = AllRisen (λ a. RecordWithin bound) h
 abbrev pub StateWithin : ℕ → Actor → Type 0
 StateWithin bound (Site s) = SiteWithin bound s
 StateWithin bound (Client c) = ClientWithin bound c
+StateWithin bound (Admin m) = AdminWithin bound m
 StateWithin bound Down = Unit {0}
 
 pub record TurnWithin (bound : ℕ) (turn : Turn) : Type 0 where

@@ -1,12 +1,12 @@
 //! Bounds on clocks, counts and lives in every run with falls, each law the
 //! contract of a function with nothing to do.
 
-ghost use Rattle.std.specs.Prelude.{◌≡◌, ◌≤◌, ◌+◌, ℕ, Bool, false, List, [], ◌∷◌, ◌++◌, length};
+ghost use Rattle.std.specs.Prelude.{◌≡◌, ◌≤◌, ◌+◌, ℕ, Bool, true, List, [], ◌∷◌, ◌++◌, length};
 ghost use Rattle.qc_bounds.specs.Bounds.{CountsWithin, IsBoundedWithFalls, LivesWithin, RiseWithFew};
 ghost use Rattle.qc_bounds.specs.Within.{MoveWithin, RiseWithin};
 ghost use Rattle.qc_core.specs.Actors.{actor_after};
 ghost use Rattle.qc_core.specs.Conduct.{IsLawfulWithFalls};
-ghost use Rattle.qc_decl.specs.Actors.{is_site};
+ghost use Rattle.qc_decl.specs.Actors.{is_client};
 ghost use Rattle.qc_decl.specs.declared.declaration.Declaration.{Declaration};
 ghost use Rattle.qc_entry.specs.declared.record.Commit.{Commit as CommitRecord};
 ghost use Rattle.qc_msg.specs.Deeds.{Deed, Rises, deeds};
@@ -19,7 +19,7 @@ ghost use Rattle.qc_script.specs.declared.script.Script.{Script};
 use qc_script::ConductWithFalls;
 
 /// Where what rises has clocks up to a bound, every clock is at most that and
-/// one more for each step: of each message, of each site and client that is up,
+/// one more for each step: of each message, of each actor that is up,
 /// of its last turn, and of each record that was written, or was being written
 /// at a fall. Where records are kept, every clock is at most the number of
 /// steps: nothing rises but what was written.
@@ -38,7 +38,7 @@ pub fn clocks_are_bounded_with_falls<C: ConductWithFalls>()
 #[tactic(auto, using(crate::proofs::RisenClock::risen_clock))]
 pub fn bounds_are_on_what_rises()
     ensures { (decl : Declaration) (a : ℕ) (ds : List Deed) (c : CommitRecord) (bound : ℕ)
-        → is_site decl a ≡ false
+        → is_client decl a ≡ true
         → MoveWithin bound (actor_after decl a (ds ++ Rises (Commit c ∷ []) ∷ [])) → c.stamp.clock ≤ bound }
 {}
 

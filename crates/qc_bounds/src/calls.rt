@@ -3,12 +3,14 @@
 
 ghost use Rattle.std.specs.Prelude.{◌≡◌, ◌<◌, ◌+◌, ◌-◌, ◌^◌, ℕ, Bool, true, false, List, [], ◌∷◌, ◌++◌, Some};
 ghost use Rattle.std.specs.Prelude.{length, slice_get};
+ghost use Rattle.qc_admin.specs.Fits.{MessageFits};
 ghost use Rattle.qc_bounds.specs.Bounds.{RiseWithFew};
-ghost use Rattle.qc_bounds.specs.Calls.{IsFailedShort, IsRisingShort};
+ghost use Rattle.qc_bounds.specs.Calls.{IsFailedShort, IsRisingShort, IsTurnShort};
 ghost use Rattle.qc_bounds.specs.Fitting.{AllFit, AllRiseFit};
 ghost use Rattle.qc_bounds.specs.Within.{RiseWithin};
 ghost use Rattle.qc_client.specs.Fits.{promise_in};
-ghost use Rattle.qc_core.specs.Actors.{ActorFits, AsksFew, IsShort, actor_after, actor_sent};
+ghost use Rattle.qc_core.specs.Actors.{ActorFits, AsksFew, actor_after, actor_sent};
+ghost use Rattle.qc_epoch.specs.Deciding.{most_asks};
 ghost use Rattle.qc_core.specs.Conduct.{IsLawfulWithFalls};
 ghost use Rattle.qc_decl.specs.Accepted.{IsAccepted};
 ghost use Rattle.qc_decl.specs.Limits.{most_clients, most_steps};
@@ -41,9 +43,9 @@ pub fn what_rises_fits<C: ConductWithFalls>()
 
 /// Below the limit of steps, where what rises fits: an actor without an open
 /// input has all that its calls require; with one, after its call, it has asked
-/// few sites; each message brings a promise that a call may hear; and there are
-/// numbers for the messages of a turn.
-#[tactic(auto, using(crate::proofs::Calling::actor_fits, crate::proofs::Calling::actor_asks_few, crate::proofs::Calling::promises, crate::proofs::Calling::numbers))]
+/// few sites; each message brings a promise that a call may hear, and tells of
+/// promises of clients alone; and there are numbers for the messages of a turn.
+#[tactic(auto, using(crate::proofs::Calling::actor_fits, crate::proofs::Calling::actor_asks_few, crate::proofs::Calling::promises, crate::proofs::RunsFit::messages_fit, crate::proofs::Calling::numbers))]
 pub fn calls_may_be_made_with_falls<C: ConductWithFalls>()
     ensures fits { (decl : Declaration) (script : Script) (h : List Entry) (open_inputs : List Bool)
         → RunsWithFalls (IsLawfulWithFalls decl) C.fits decl script h open_inputs → IsAccepted decl
@@ -57,17 +59,20 @@ pub fn calls_may_be_made_with_falls<C: ConductWithFalls>()
         → RunsWithFalls (IsLawfulWithFalls decl) C.fits decl script h open_inputs
         → (e : Envelope) → AllRiseFit decl h → length h < most_steps → In e (mail h)
         → promise_in e.message < 2 ^ 63 }
-    ensures numbers { (h : List Entry) → length h < most_steps → length (mail h) + 16 < 2 ^ 32 }
+    ensures messages { (decl : Declaration) (script : Script) (h : List Entry) (open_inputs : List Bool)
+        → RunsWithFalls (IsLawfulWithFalls decl) C.fits decl script h open_inputs → IsAccepted decl
+        → AllRiseFit decl h → (e : Envelope) → In e (mail h) → MessageFits e.message }
+    ensures numbers { (h : List Entry) → length h < most_steps → length (mail h) + most_asks < 2 ^ 32 }
 {}
 
-/// A turn that is posted for an input has at most 16 messages, and where its
-/// record isn't written at most one; all go to actors.
+/// A turn that is posted for an input has few messages, and where its record
+/// isn't written at most one; all go to actors.
 #[tactic(auto, using(crate::proofs::Calling::turn_short, crate::proofs::Calling::turn_failed))]
 pub fn turns_are_short_with_falls<C: ConductWithFalls>()
     ensures written { (decl : Declaration) (script : Script) (h : List Entry) (open_inputs : List Bool)
         → RunsWithFalls (IsLawfulWithFalls decl) C.fits decl script h open_inputs → IsAccepted decl
         → AllRiseFit decl h → (a : ℕ) (turn : Turn) → slice_get open_inputs a ≡ Some true
-        → IsLawfulWithFalls decl a (deeds a [] h) turn → IsShort turn }
+        → IsLawfulWithFalls decl a (deeds a [] h) turn → IsTurnShort turn }
     ensures unwritten { (decl : Declaration) (script : Script) (h : List Entry) (open_inputs : List Bool)
         → RunsWithFalls (IsLawfulWithFalls decl) C.fits decl script h open_inputs → IsAccepted decl
         → AllRiseFit decl h → (a : ℕ) (turn : Turn) → slice_get open_inputs a ≡ Some true

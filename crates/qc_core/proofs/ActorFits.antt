@@ -4,7 +4,7 @@ use Rattle.std.specs.List.{AllByRecursion as Every}
 use Rattle.std.proofs.lemmas.List.Sums.{fold-append}
 use Rattle.qc_decl.specs.declared.declaration.Declaration.{Declaration}
 use Rattle.qc_decl.specs.Accepted.{IsAccepted}
-use Rattle.qc_decl.specs.Actors.{actors, is_client, is_site}
+use Rattle.qc_decl.specs.Actors.{administrator, is_client, is_site}
 use Rattle.qc_commit.specs.declared.desk.Voting.{Voting}
 use Rattle.qc_commit.specs.Conduct as desks
 use Rattle.qc_commit.specs.Fits as votes
@@ -72,7 +72,7 @@ client_fits decl running c n accepted low st within =
 site_fits : (s : SiteState) (n : ℕ) → n < 2 ^ 31 → ActorWithin n (actor.Site s) → ActorFits (actor.Site s)
 site_fits s n low within = let life : s.life ≤ n = within in omega arith
 
-pub actor_fits : (decl : Declaration) (a : ℕ) (ds : List Deed) (m n : ℕ) → IsAccepted decl → a < actors decl → Acts decl a ds false m → n < 2 ^ 31 → ActorWithin n (actor_after decl a ds).actor → ActorFits (actor_after decl a ds).actor
+pub actor_fits : (decl : Declaration) (a : ℕ) (ds : List Deed) (m n : ℕ) → IsAccepted decl → a < administrator decl → Acts decl a ds false m → n < 2 ^ 31 → ActorWithin n (actor_after decl a ds).actor → ActorFits (actor_after decl a ds).actor
 actor_fits decl a ds m n accepted below acts low = by (is_site decl a) refl
   where
     by : (b : Bool) → is_site decl a ≡ b → ActorWithin n (actor_after decl a ds).actor → ActorFits (actor_after decl a ds).actor
@@ -80,13 +80,13 @@ actor_fits decl a ds m n accepted below acts low = by (is_site decl a) refl
         subst (λ (v : ActorMove). ActorFits v.actor) (sym (at_site decl a ds (acts_steady decl a ds false m acts) is))
         (site_fits (site_after decl a ds).site n low (subst (λ (v : ActorMove). ActorWithin n v.actor) (at_site decl a ds (acts_steady decl a ds false m acts) is) within))
     by false is within =
-        subst (λ (v : ActorMove). ActorFits v.actor) (sym (at_client decl a ds (acts_steady decl a ds false m acts) is))
+        subst (λ (v : ActorMove). ActorFits v.actor) (sym (at_client decl a ds (acts_steady decl a ds false m acts) is (other_client decl a below is)))
         (client_fits decl (is_running ds) (client_after decl (a - decl.sites) ds).client n accepted low
         (known decl a ds false m accepted.has_site accepted.sites is (other_client decl a below is) acts)
-        (subst (λ (v : ActorMove). ActorWithin n v.actor) (at_client decl a ds (acts_steady decl a ds false m acts) is) within))
+        (subst (λ (v : ActorMove). ActorWithin n v.actor) (at_client decl a ds (acts_steady decl a ds false m acts) is (other_client decl a below is)) within))
 
 -- after an input it asked few sites
-pub actor_asks_few : (decl : Declaration) (a : ℕ) (ds : List Deed) (m : ℕ) (g : Given) → IsAccepted decl → a < actors decl → Acts decl a ds false m → MayTake ds g → AsksFew (actor_takes decl (actor_after decl a ds).actor g).actor
+pub actor_asks_few : (decl : Declaration) (a : ℕ) (ds : List Deed) (m : ℕ) (g : Given) → IsAccepted decl → a < administrator decl → Acts decl a ds false m → MayTake ds g → AsksFew (actor_takes decl (actor_after decl a ds).actor g).actor
 actor_asks_few decl a ds m g accepted below acts may = by (is_site decl a) refl
   where
     by : (b : Bool) → is_site decl a ≡ b → AsksFew (actor_takes decl (actor_after decl a ds).actor g).actor
@@ -94,7 +94,7 @@ actor_asks_few decl a ds m g accepted below acts may = by (is_site decl a) refl
     by false is =
         let st : Stands decl (is_running ds) (client_after decl (a - decl.sites) ds).client = known decl a ds false m accepted.has_site accepted.sites is (other_client decl a below is) acts in
         let on : Lands decl _ 0 (client_takes decl (client_after decl (a - decl.sites) ds).client g) = lands decl ds (client_after decl (a - decl.sites) ds).client g 0 accepted.has_site accepted.sites st may in
-        subst (λ (v : ActorMove). AsksFew (actor_takes decl v.actor g).actor) (sym (at_client decl a ds (acts_steady decl a ds false m acts) is))
+        subst (λ (v : ActorMove). AsksFew (actor_takes decl v.actor g).actor) (sym (at_client decl a ds (acts_steady decl a ds false m acts) is (other_client decl a below is)))
         (few_sent (client_takes decl (client_after decl (a - decl.sites) ds).client g).client 0 on.stands.few (round_few decl _ _ accepted on.stands))
 
 -- a site's turns are short
@@ -157,7 +157,7 @@ client_asked decl a ds b n accepted no_site client (posts before turn m first ac
         (sent_asked decl.sites (client_takes decl (client_after decl (a - decl.sites) o.before).client o.input).client first
         (client_reach decl accepted (client_after decl (a - decl.sites) o.before).client o.input o.from o.stood.front o.asked).asked)))
 
-pub actor_short : (decl : Declaration) (a : ℕ) (ds : List Deed) (m : ℕ) (g : Given) → IsAccepted decl → a < actors decl → Acts decl a ds false m → Every IsFromActor ds → IsFrom g → IsShort (actor_takes decl (actor_after decl a ds).actor g).turn
+pub actor_short : (decl : Declaration) (a : ℕ) (ds : List Deed) (m : ℕ) (g : Given) → IsAccepted decl → a < administrator decl → Acts decl a ds false m → Every IsFromActor ds → IsFrom g → IsShort (actor_takes decl (actor_after decl a ds).actor g).turn
 actor_short decl a ds m g accepted below acts from here = by (is_site decl a) refl
   where
     by : (b : Bool) → is_site decl a ≡ b → IsShort (actor_takes decl (actor_after decl a ds).actor g).turn
@@ -165,7 +165,7 @@ actor_short decl a ds m g accepted below acts from here = by (is_site decl a) re
         subst (λ (v : ActorMove). IsShort (actor_takes decl v.actor g).turn) (sym (at_site decl a ds (acts_steady decl a ds false m acts) is))
         (site_reach decl accepted (site_after decl a ds).site g here (site_clients decl accepted _ ds from (record { held = tt; prepared = tt }))).turn
     by false is =
-        subst (λ (v : ActorMove). IsShort (actor_takes decl v.actor g).turn) (sym (at_client decl a ds (acts_steady decl a ds false m acts) is))
+        subst (λ (v : ActorMove). IsShort (actor_takes decl v.actor g).turn) (sym (at_client decl a ds (acts_steady decl a ds false m acts) is (other_client decl a below is)))
         (client_reach decl accepted (client_after decl (a - decl.sites) ds).client g here
         (known decl a ds false m accepted.has_site accepted.sites is (other_client decl a below is) acts).front
         (client_asked decl a ds false m accepted is (other_client decl a below is) acts from)).turn

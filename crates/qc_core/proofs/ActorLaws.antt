@@ -3,7 +3,7 @@ use Rattle.std.proofs.Common.{◌≡◌, ℕ, ◌-◌, ◌<◌, ◌&&◌, nat_le
 use Rattle.std.proofs.lemmas.Bool.Decides.{nat_tests}
 use Rattle.std.proofs.lemmas.List.Sums.{fold-append}
 use Rattle.qc_decl.specs.declared.declaration.Declaration.{Declaration}
-use Rattle.qc_decl.specs.Actors.{actors, is_client, is_site}
+use Rattle.qc_decl.specs.Actors.{administrator, is_client, is_site}
 use Rattle.qc_client.specs.Client.{ClientMove, new_client, moved as client_moved}
 use Rattle.qc_client.specs.Conduct.{client_after, client_does}
 use Rattle.qc_msg.specs.declared.message.Envelope.{Envelope}
@@ -14,7 +14,8 @@ use Rattle.qc_msg.specs.Turns.{quiet}
 use Rattle.qc_site.specs.Conduct.{site_after, site_does}
 use Rattle.qc_site.specs.Site.{SiteMove, new_site, moved as site_moved}
 use Rattle.qc_core.specs.declared.actor.Actor.{Actor}
-use Rattle.qc_core.specs.declared.actor.Actor.TheVariants.{Site, Client, Down}
+use Rattle.qc_epoch.specs.Admin.{new_admin}
+use Rattle.qc_core.specs.declared.actor.Actor.TheVariants.{Site, Client, Admin, Down}
 use Rattle.qc_core.specs.Actors.{ActorMove, actor_after, actor_does, actor_hears, actor_takes, by_client, by_site, moved}
 use Rattle.qc_core.specs.Conduct.{turn_after}
 use Rattle.qc_core.specs.Lives.{AreSteady, IsSteady}
@@ -27,6 +28,7 @@ input decl a ds g = fold-append (actor_does decl a) _ ds (Takes g ∷ [])
 pub message : (decl : Declaration) (actor : Actor) (e : Envelope) → actor_takes decl actor (given.Got e) ≡ actor_hears decl actor e.from e.number e.message
 message decl (Site s) e = refl
 message decl (Client c) e = refl
+message decl (Admin m) e = refl
 message decl Down e = refl
 
 -- a site's fold, and a client's
@@ -57,30 +59,31 @@ clients decl a m (d ∷ ds) steady = ap (λ (v : ActorMove). fold (actor_does de
 
 pub at_site : (decl : Declaration) (a : ℕ) (ds : List Deed) → AreSteady ds → is_site decl a ≡ true → actor_after decl a ds ≡ by_site (site_after decl a ds)
 at_site decl a ds steady is =
-    ap (λ (b : Bool). fold (actor_does decl a) (moved (cond b (Site (new_site a)) (Client (new_client (a - decl.sites)))) quiet) ds) is
+    ap (λ (b : Bool). fold (actor_does decl a) (moved (cond b (Site (new_site a)) (cond (is_client decl a) (Client (new_client (a - decl.sites))) (Admin new_admin))) quiet) ds) is
     ∙ sites decl a (site_moved (new_site a) quiet) ds steady
 
-pub at_client : (decl : Declaration) (a : ℕ) (ds : List Deed) → AreSteady ds → is_site decl a ≡ false → actor_after decl a ds ≡ by_client (client_after decl (a - decl.sites) ds)
-at_client decl a ds steady is =
-    ap (λ (b : Bool). fold (actor_does decl a) (moved (cond b (Site (new_site a)) (Client (new_client (a - decl.sites)))) quiet) ds) is
+pub at_client : (decl : Declaration) (a : ℕ) (ds : List Deed) → AreSteady ds → is_site decl a ≡ false → is_client decl a ≡ true → actor_after decl a ds ≡ by_client (client_after decl (a - decl.sites) ds)
+at_client decl a ds steady is client =
+    ap (λ (b : Bool). fold (actor_does decl a) (moved (cond b (Site (new_site a)) (cond (is_client decl a) (Client (new_client (a - decl.sites))) (Admin new_admin))) quiet) ds) is
+    ∙ ap (λ (b : Bool). fold (actor_does decl a) (moved (cond b (Client (new_client (a - decl.sites))) (Admin new_admin)) quiet) ds) client
     ∙ clients decl a (client_moved (new_client (a - decl.sites)) quiet) ds steady
 
--- who is no site is a client
+-- who comes before the administrator, and is no site, is a client
 
-pub other_client : (decl : Declaration) (a : ℕ) → a < actors decl → is_site decl a ≡ false → is_client decl a ≡ true
-other_client decl a below is = is_there decl.sites (actors decl) a below is
+pub other_client : (decl : Declaration) (a : ℕ) → a < administrator decl → is_site decl a ≡ false → is_client decl a ≡ true
+other_client decl a below is = is_there decl.sites (administrator decl) a below is
   where
     is_there : (s n k : ℕ) → k < n → nat_lt k s ≡ false → (nat_le s k && nat_lt k n) ≡ true
     is_there s n k below is = grind (arith, nat_tests)
 
-turn_by : (decl : Declaration) (a : ℕ) (ds : List Deed) → AreSteady ds → a < actors decl → (b : Bool) → is_site decl a ≡ b → turn_after decl a ds ≡ Some (actor_after decl a ds).turn
+turn_by : (decl : Declaration) (a : ℕ) (ds : List Deed) → AreSteady ds → a < administrator decl → (b : Bool) → is_site decl a ≡ b → turn_after decl a ds ≡ Some (actor_after decl a ds).turn
 turn_by decl a ds steady below true is =
     ap (λ (b : Bool). cond b (Some (site_after decl a ds).turn) (cond (is_client decl a) (Some (client_after decl (a - decl.sites) ds).turn) None)) is
     ∙ ap (λ (m : ActorMove). Some m.turn) (sym (at_site decl a ds steady is))
 turn_by decl a ds steady below false is =
     ap (λ (b : Bool). cond b (Some (site_after decl a ds).turn) (cond (is_client decl a) (Some (client_after decl (a - decl.sites) ds).turn) None)) is
     ∙ ap (λ (b : Bool). cond b (Some (client_after decl (a - decl.sites) ds).turn) None) (other_client decl a below is)
-    ∙ ap (λ (m : ActorMove). Some m.turn) (sym (at_client decl a ds steady is))
+    ∙ ap (λ (m : ActorMove). Some m.turn) (sym (at_client decl a ds steady is (other_client decl a below is)))
 
-pub turn : (decl : Declaration) (a : ℕ) (ds : List Deed) → AreSteady ds → a < actors decl → turn_after decl a ds ≡ Some (actor_after decl a ds).turn
+pub turn : (decl : Declaration) (a : ℕ) (ds : List Deed) → AreSteady ds → a < administrator decl → turn_after decl a ds ≡ Some (actor_after decl a ds).turn
 turn decl a ds steady below = turn_by decl a ds steady below (is_site decl a) refl

@@ -2,7 +2,7 @@
 use Rattle.std.proofs.Common.{◌≡◌, ℕ, ◌+◌, ◌-◌, ◌<◌, ◌≤◌, Bool, true, false, cond, List, [], ◌∷◌, ◌++◌, fold, Option, Some, None, refl, sym, ap, ◌∙◌, subst}
 use Rattle.std.proofs.lemmas.List.Sums.{fold-append}
 use Rattle.qc_decl.specs.declared.declaration.Declaration.{Declaration}
-use Rattle.qc_decl.specs.Actors.{actors, is_client, is_site}
+use Rattle.qc_decl.specs.Actors.{administrator, is_client, is_site}
 use Rattle.qc_decl.specs.Limits.{most_sites}
 use Rattle.qc_msg.specs.declared.record.Record.{Record}
 use Rattle.qc_msg.specs.declared.reply.Reply.{Reply}
@@ -174,7 +174,7 @@ site_turn decl m first turn =
 
 -- any actor
 
-pub actor_sent_at_once : (decl : Declaration) (a : ℕ) (ds : List Deed) (n : ℕ) (g : Given) (first : ℕ) → 0 < decl.sites → decl.sites ≤ most_sites → a < actors decl → Acts decl a ds false n → MayTake ds g
+pub actor_sent_at_once : (decl : Declaration) (a : ℕ) (ds : List Deed) (n : ℕ) (g : Given) (first : ℕ) → 0 < decl.sites → decl.sites ≤ most_sites → a < administrator decl → Acts decl a ds false n → MayTake ds g
     → (actor_after decl a ((ds ++ Takes g ∷ []) ++ turn_deeds first (actor_takes decl (actor_after decl a ds).actor g).turn)).actor ≡ actor_sent (actor_takes decl (actor_after decl a ds).actor g).actor first
 actor_sent_at_once decl a ds n g first some most below acts may = by (is_site decl a) refl
   where
@@ -190,7 +190,7 @@ actor_sent_at_once decl a ds n g first some most below acts may = by (is_site de
         ∙ site_turn decl (site_after decl a (ds ++ Takes g ∷ [])) first (site_takes decl (site_after decl a ds).site g).turn
         ∙ fold-append (site_does decl) _ ds (Takes g ∷ [])))
     by false is =
-        subst (λ (m : ActorMove). (actor_after decl a ((ds ++ Takes g ∷ []) ++ turn_deeds first (actor_takes decl m.actor g).turn)).actor ≡ actor_sent (actor_takes decl m.actor g).actor first) (sym (at_client decl a ds steady is))
-        (ap (λ (m : ActorMove). m.actor) (at_client decl a ((ds ++ Takes g ∷ []) ++ turn_deeds first (client_takes decl (client_after decl (a - decl.sites) ds).client g).turn) (event_steady ds g first (client_takes decl (client_after decl (a - decl.sites) ds).client g).turn steady) is)
+        subst (λ (m : ActorMove). (actor_after decl a ((ds ++ Takes g ∷ []) ++ turn_deeds first (actor_takes decl m.actor g).turn)).actor ≡ actor_sent (actor_takes decl m.actor g).actor first) (sym (at_client decl a ds steady is (other_client decl a below is)))
+        (ap (λ (m : ActorMove). m.actor) (at_client decl a ((ds ++ Takes g ∷ []) ++ turn_deeds first (client_takes decl (client_after decl (a - decl.sites) ds).client g).turn) (event_steady ds g first (client_takes decl (client_after decl (a - decl.sites) ds).client g).turn steady) is (other_client decl a below is))
         ∙ ap (λ (c : Client). (by_client (record { client = c; turn = quiet })).actor)
         (sent_at_once decl (a - decl.sites) ds g first some most (known decl a ds false n some most is (other_client decl a below is) acts) may))

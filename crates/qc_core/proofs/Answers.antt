@@ -3,7 +3,7 @@
 use Rattle.std.proofs.Common.{◌≡◌, ℕ, ◌-◌, Bool, true, false, cond, List, [], ◌∷◌, ◌++◌, map, take, refl, sym, ap, ◌∙◌, subst}
 use Rattle.std.specs.List.{AllByRecursion as Every}
 use Rattle.qc_decl.specs.declared.declaration.Declaration.{Declaration}
-use Rattle.qc_decl.specs.Actors.{is_site}
+use Rattle.qc_decl.specs.Actors.{is_client, is_site}
 use Rattle.qc_msg.specs.declared.record.Record.{Record}
 use Rattle.qc_msg.specs.declared.step.Given.{Given}
 use Rattle.qc_msg.specs.declared.step.Given.TheVariants as given
@@ -13,6 +13,7 @@ use Rattle.qc_msg.specs.declared.turn.Posting.{Posting}
 use Rattle.qc_msg.specs.declared.turn.Turn.{Turn}
 use Rattle.qc_msg.specs.Deeds.{Deed, Takes, Rises}
 use Rattle.qc_msg.specs.Steps.{sends_as}
+use Rattle.qc_recover.specs.Admins.{admin_rises}
 use Rattle.qc_recover.specs.Clients.{client_rises}
 use Rattle.qc_recover.specs.Sites.{inquiry, kept_by, most_inquiries, site_rises}
 use Rattle.qc_site.specs.Epochs.{in_order}
@@ -20,13 +21,14 @@ use Rattle.qc_stamp.specs.declared.stamp.TxId.{TxId}
 use Rattle.qc_entry.specs.declared.record.Prepared.{Prepared}
 use Rattle.qc_core.specs.declared.actor.Actor.{Actor}
 use Rattle.qc_core.specs.declared.actor.Actor.TheVariants as actor
-use Rattle.qc_core.specs.Actors.{ActorMove, actor_after, actor_rises, actor_takes, by_client, by_site}
+use Rattle.qc_core.specs.Actors.{ActorMove, actor_after, actor_rises, actor_takes, by_admin, by_client, by_site}
 use Rattle.qc_core.specs.Conduct.{IsLawfulWithFalls, with_record}
 use Rattle.qc_core.proofs.ByTurns.{after_takes, called_turn}
 use Rattle.qc_core.proofs.LivesLaws.{rises}
 use Rattle.qc_core.proofs.FrontWrites.{NoAnswer}
 use Rattle.qc_core.proofs.SiteWrites.{IsAnswerTo, IsSiteTurn, site_written}
-use Rattle.qc_core.proofs.Written.{client_answers, client_written}
+use Rattle.qc_core.proofs.AdminWrites.{admin_written, no_answers}
+use Rattle.qc_core.proofs.Written.{client_answers, client_written, none_answers}
 
 record Answering (P : Posting → Type 0) (t : Turn) : Type 0 where
   sends : Every P t.sends
@@ -50,6 +52,7 @@ nothing_sent P ps none = subst (Every P) (sym none) tt
 takes_answer : (decl : Declaration) (v : Actor) (g : Given) → Answering (IsAnswerTo g) (actor_takes decl v g).turn
 takes_answer decl (actor.Site s) g = let well : IsSiteTurn g _ = site_written decl s g in record { sends = well.sends; failed_sends = well.failed_sends }
 takes_answer decl (actor.Client c) g = record { sends = client_answers decl c g; failed_sends = nothing_sent (IsAnswerTo g) _ (client_written decl c g).failed_sends }
+takes_answer decl (actor.Admin m) g = record { sends = none_answers g _ (no_answers _ (admin_written decl m g).sends); failed_sends = nothing_sent (IsAnswerTo g) _ (admin_written decl m g).failed_sends }
 takes_answer decl actor.Down (given.Called command) = record { sends = tt; failed_sends = tt }
 takes_answer decl actor.Down (given.Got e) = record { sends = tt; failed_sends = tt }
 takes_answer decl actor.Down (given.Lost number) = record { sends = tt; failed_sends = tt }
@@ -67,12 +70,13 @@ inquiries_ask decl [] = tt
 inquiries_ask decl (tx ∷ txs) = (refl, inquiries_ask decl txs)
 
 rises_answer : (decl : Declaration) (a : ℕ) (rs : List Record) → Answering NoAnswer (actor_rises decl a rs).turn
-rises_answer decl a rs = by (is_site decl a)
+rises_answer decl a rs = by (is_site decl a) (is_client decl a)
   where
-    by : (x : Bool) → Answering NoAnswer (cond x (by_site (site_rises decl a rs)) (by_client (client_rises (a - decl.sites) rs))).turn
-    by true =
+    by : (x y : Bool) → Answering NoAnswer (cond x (by_site (site_rises decl a rs)) (cond y (by_client (client_rises (a - decl.sites) rs)) (by_admin (admin_rises rs)))).turn
+    by true y =
         record { sends = inquiries_ask decl (take most_inquiries (in_order (map (λ (p : Prepared). p.tx) (kept_by rs).promises))); failed_sends = tt }
-    by false = record { sends = tt; failed_sends = tt }
+    by false true = record { sends = tt; failed_sends = tt }
+    by false false = record { sends = tt; failed_sends = tt }
 
 pub answers_rising : (decl : Declaration) (a : ℕ) (before : List Deed) (rs : List Record) (turn : Turn) → IsLawfulWithFalls decl a (before ++ Rises rs ∷ []) turn → Every NoAnswer (sends_as turn.append turn)
 answers_rising decl a before rs turn lawful =

@@ -1,8 +1,8 @@
 -- Who lives goes by turns: what stands in one place of this order, after each thing that an actor does.
-use Rattle.std.proofs.Common.{◌≡◌, ℕ, ◌+◌, ◌-◌, Bool, true, false, cond, not, List, [], ◌∷◌, ◌++◌, fold, ◌&&◌, Option, Some, None, is_some, refl, sym, ap, ◌∙◌, subst, ◌⊎◌, inl, inr}
+use Rattle.std.proofs.Common.{◌≡◌, ℕ, ◌+◌, ◌-◌, ◌<◌, Bool, true, false, cond, not, List, [], ◌∷◌, ◌++◌, fold, ◌&&◌, Option, Some, None, is_some, refl, sym, ap, ◌∙◌, subst, ◌⊎◌, inl, inr}
 use Rattle.std.proofs.lemmas.List.Sums.{fold-append}
 use Rattle.qc_decl.specs.declared.declaration.Declaration.{Declaration}
-use Rattle.qc_decl.specs.Actors.{is_client, is_site}
+use Rattle.qc_decl.specs.Actors.{administrator, is_administrator, is_client, is_site}
 use Rattle.qc_client.specs.Client.{new_client}
 use Rattle.qc_client.specs.Conduct.{client_takes}
 use Rattle.qc_msg.specs.declared.record.Record.{Record}
@@ -23,18 +23,21 @@ use Rattle.qc_msg.specs.Steps.{HasRecord, MayEnd, IsByDisk}
 use Rattle.qc_msg.specs.Turns.{quiet, telling}
 use Rattle.qc_msg.specs.declared.step.Command.{Command}
 use Rattle.std.specs.List.{AllByRecursion as Every}
-use Rattle.qc_promise.specs.Turns.{AreByTurns, told_first, told_last, Place, Idle, Open, Rising, Sending, Written, Failing, Fallen, Called, Saying, SaysDown, SaysUnwritten, SaysNeither, fallen_with, goes_on, other, place_after, saying_of}
+use Rattle.qc_promise.specs.Turns.{AreByTurns, told_first, told_last, Place, Idle, Open, Rising, Sending, Written, Failing, Faulted, Fallen, Called, Saying, SaysDown, SaysUnwritten, SaysFault, SaysNeither, fallen_with, goes_on, other, place_after, saying_of}
+use Rattle.qc_epoch.specs.Admin.{new_admin}
+use Rattle.qc_recover.specs.Admins.{admin_rises}
 use Rattle.qc_recover.specs.Clients.{client_rises}
 use Rattle.qc_recover.specs.Sites.{rising, site_rises}
 use Rattle.qc_site.specs.Conduct.{site_takes}
 use Rattle.qc_site.specs.Site.{new_site}
 use Rattle.qc_core.specs.declared.actor.Actor.{Actor}
 use Rattle.qc_core.specs.declared.actor.Actor.TheVariants as actor
-use Rattle.qc_core.specs.Actors.{ActorMove, actor_after, actor_does, actor_rises, actor_sends, actor_takes, by_client, by_site, down_takes, moved}
+use Rattle.qc_core.specs.Actors.{ActorMove, actor_after, actor_does, actor_rises, actor_sends, actor_takes, by_admin, by_client, by_site, down_takes, moved}
 use Rattle.qc_core.specs.Conduct.{IsLawfulWithFalls, with_record}
 use Rattle.qc_core.specs.Lives.{AreUncommanded, IsUncommanded, Lives, MayReach, is_up, up_at}
 use Rattle.qc_core.specs.Lives as lives
-use Rattle.qc_core.proofs.LivesLaws.{down, rises, up}
+use Rattle.qc_core.proofs.AdminWrites.{FaultsAlone, IsAdminTurn, TellsNone, admin_written, no_life}
+use Rattle.qc_core.proofs.LivesLaws.{down, rises, turn_by, up}
 use Rattle.qc_core.proofs.FrontWrites.{FailsAlone, IsClientTurn, says_neither, says_unwritten, tells_neither, tells_unwritten}
 use Rattle.qc_core.proofs.SiteWrites.{IsSiteTurn, site_written, writes_no_life}
 use Rattle.qc_core.proofs.Written.{client_written}
@@ -57,6 +60,7 @@ is_resting (Some Rising) = false
 is_resting (Some Sending) = true
 is_resting (Some Written) = true
 is_resting (Some Failing) = false
+is_resting (Some Faulted) = true
 is_resting (Some Fallen) = false
 is_resting (Some Called) = false
 
@@ -80,6 +84,7 @@ IsPosting Rising = ⊥
 IsPosting Sending = Unit {0}
 IsPosting Written = Unit {0}
 IsPosting Failing = ⊥
+IsPosting Faulted = ⊥
 IsPosting Fallen = ⊥
 IsPosting Called = ⊥
 
@@ -90,11 +95,13 @@ MayTell false told = tells_neither told ≡ true
 first_rests : (s : Saying) → says_neither s ≡ true → is_resting (told_first s) ≡ true
 first_rests SaysDown fails = absurd (let never : ⊥ = cc in never)
 first_rests SaysUnwritten fails = absurd (let never : ⊥ = cc in never)
+first_rests SaysFault fails = absurd (let never : ⊥ = cc in never)
 first_rests SaysNeither holds = refl
 
 last_rests : (s : Saying) → says_neither s ≡ true → is_resting (told_last s) ≡ true
 last_rests SaysDown fails = absurd (let never : ⊥ = cc in never)
 last_rests SaysUnwritten fails = absurd (let never : ⊥ = cc in never)
+last_rests SaysFault fails = absurd (let never : ⊥ = cc in never)
 last_rests SaysNeither holds = refl
 
 reply_rests : (place : Place) → IsPosting place → (reply : Reply) → says_neither (saying_of reply) ≡ true → AreResting false place (Tells reply ∷ [])
@@ -104,6 +111,7 @@ reply_rests Rising never reply holds = absurd never
 reply_rests Sending is reply holds = last_rests (saying_of reply) holds
 reply_rests Written is reply holds = last_rests (saying_of reply) holds
 reply_rests Failing never reply holds = absurd never
+reply_rests Faulted never reply holds = absurd never
 reply_rests Fallen never reply holds = absurd never
 reply_rests Called never reply holds = absurd never
 
@@ -114,6 +122,7 @@ place_rests site Rising never = absurd never
 place_rests site Sending is = refl
 place_rests site Written is = refl
 place_rests site Failing never = absurd never
+place_rests site Faulted never = absurd never
 place_rests site Fallen never = absurd never
 place_rests site Called never = absurd never
 
@@ -130,6 +139,7 @@ tail_rests site Rising never n (p ∷ ps) told may = absurd never
 tail_rests site Sending is n (p ∷ ps) told may = tail_rests site Sending tt (n + 1) ps told may
 tail_rests site Written is n (p ∷ ps) told may = tail_rests site Written tt (n + 1) ps told may
 tail_rests site Failing never n (p ∷ ps) told may = absurd never
+tail_rests site Faulted never n (p ∷ ps) told may = absurd never
 tail_rests site Fallen never n (p ∷ ps) told may = absurd never
 tail_rests site Called never n (p ∷ ps) told may = absurd never
 
@@ -166,11 +176,13 @@ site_stopped (Some written) (Some reply) has no_life none = absurd (let same : S
 client_fails : (written : Record) (s : Saying) → other written ≡ true → says_unwritten s ≡ true → after false (told_first s) (Falls causes.Disk (Some written) ∷ []) ≡ Some Fallen
 client_fails written SaysDown holds fails = absurd (let never : ⊥ = cc in never)
 client_fails written SaysUnwritten holds is = ap fallen_with holds
+client_fails written SaysFault holds fails = absurd (let never : ⊥ = cc in never)
 client_fails written SaysNeither holds fails = absurd (let never : ⊥ = cc in never)
 
 client_stops : (written : Record) (s : Saying) → other written ≡ true → says_unwritten s ≡ true → after false (told_first s) (Falls causes.Stop (Some written) ∷ []) ≡ Some Fallen
 client_stops written SaysDown holds fails = absurd (let never : ⊥ = cc in never)
 client_stops written SaysUnwritten holds is = ap fallen_with holds
+client_stops written SaysFault holds fails = absurd (let never : ⊥ = cc in never)
 client_stops written SaysNeither holds fails = absurd (let never : ⊥ = cc in never)
 
 client_failed : (w : Option Record) (n : ℕ) (ps : List Posting) (told : Option Reply) → HasRecord w → writes_no_life w ≡ true → FailsAlone w ps told → after false (Some Open) (sends_of n ps ++ (tells_of told ++ Falls causes.Disk w ∷ [])) ≡ Some Fallen
@@ -201,42 +213,74 @@ client_post Done n t told alone no_life may = done_rests false t.write n t.sends
 client_post Failed n t told alone no_life may = client_failed t.write n t.failed_sends t.failed_told may no_life alone
 client_post Stopped n t told alone no_life may = client_stopped t.write t.failed_sends t.failed_told may no_life alone
 
+-- the administrator's: what isn't written is told as a fault, and so is what is too long for a record
+
+admin_done : (n : ℕ) (w : Option Record) (ps : List Posting) (told : Option Reply) → TellsNone w ps told → writes_no_life w ≡ true → AreResting false Open (writes_of w ++ (sends_of n ps ++ tells_of told))
+admin_done n w ps told (inl neither) no_life = done_rests false w n ps told no_life neither
+admin_done n w ps told (inr fault) no_life =
+    subst (λ (x : Option Record). AreResting false Open (writes_of x ++ (sends_of n ps ++ tells_of told))) (sym fault.0)
+    (subst (λ (x : List Posting). AreResting false Open (sends_of n x ++ tells_of told)) (sym fault.1)
+    (subst (λ (x : Option Reply). AreResting false Open (tells_of x)) (sym fault.2) refl))
+
+admin_failed : (w : Option Record) (n : ℕ) (ps : List Posting) (told : Option Reply) → HasRecord w → writes_no_life w ≡ true → ps ≡ [] → FaultsAlone w told → after false (Some Open) (sends_of n ps ++ (tells_of told ++ Falls causes.Disk w ∷ [])) ≡ Some Fallen
+admin_failed None n ps told never no_life none alone = absurd never
+admin_failed (Some written) n ps told has no_life none alone =
+    ap (λ (x : List Posting). after false (Some Open) (sends_of n x ++ (tells_of told ++ Falls causes.Disk (Some written) ∷ []))) none
+    ∙ ap (λ (x : Option Reply). after false (Some Open) (tells_of x ++ Falls causes.Disk (Some written) ∷ [])) alone
+    ∙ ap fallen_with no_life
+
+admin_stopped : (w : Option Record) (told : Option Reply) → HasRecord w → writes_no_life w ≡ true → FaultsAlone w told → after false (Some Open) (tells_of told ++ Falls causes.Stop w ∷ []) ≡ Some Fallen
+admin_stopped None told never no_life alone = absurd never
+admin_stopped (Some written) told has no_life alone =
+    ap (λ (x : Option Reply). after false (Some Open) (tells_of x ++ Falls causes.Stop (Some written) ∷ [])) alone
+    ∙ ap fallen_with no_life
+
+admin_post : (end : Appended) (n : ℕ) (t : Turn) → TellsNone t.write t.sends t.told → FaultsAlone t.write t.failed_told → t.failed_sends ≡ [] → writes_no_life t.write ≡ true → MayEnd t.write end → Fits (still_up end) false (after false (Some Open) (deeds_as end n t))
+admin_post Done n t told alone none no_life may = admin_done n t.write t.sends t.told told no_life
+admin_post Failed n t told alone none no_life may = admin_failed t.write n t.failed_sends t.failed_told may no_life none alone
+admin_post Stopped n t told alone none no_life may = admin_stopped t.write t.failed_told may no_life alone
+
 rising_post : (site : Bool) (end : Appended) (n : ℕ) (sends : List Posting) → Fits (still_up end) false (after site (Some Rising) (deeds_as end n (rising sends)))
 rising_post true Done n sends = tail_rests true Written tt n sends None refl
 rising_post false Done n sends = tail_rests false Written tt n sends None refl
 rising_post site Failed n sends = refl
 rising_post site Stopped n sends = refl
 
--- which kind of actor it is, where it is up
+-- whether it is a site, where it is up
 
 abbrev IsKind : Bool → Actor → Type 0
 IsKind site (actor.Site s) = site ≡ true
 IsKind site (actor.Client c) = site ≡ false
+IsKind site (actor.Admin m) = site ≡ false
 IsKind site actor.Down = Unit {0}
 
 kind_takes : (decl : Declaration) (site : Bool) (v : Actor) (g : Given) → IsKind site v → IsKind site (actor_takes decl v g).actor
 kind_takes decl site (actor.Site s) g is = is
 kind_takes decl site (actor.Client c) g is = is
+kind_takes decl site (actor.Admin m) g is = is
 kind_takes decl site actor.Down g is = tt
 
 kind_sends : (site : Bool) (v : Actor) (number to : ℕ) (message : _) → IsKind site v → IsKind site (actor_sends v number to message)
 kind_sends site (actor.Site s) number to message is = is
 kind_sends site (actor.Client c) number to message is = is
+kind_sends site (actor.Admin m) number to message is = is
 kind_sends site actor.Down number to message is = tt
 
 kind_rises : (decl : Declaration) (a : ℕ) (rs : List Record) → IsKind (is_site decl a) (actor_rises decl a rs).actor
-kind_rises decl a rs = by (is_site decl a)
+kind_rises decl a rs = by (is_site decl a) (is_client decl a)
   where
-    by : (x : Bool) → IsKind x (cond x (by_site (site_rises decl a rs)) (by_client (client_rises (a - decl.sites) rs))).actor
-    by true = refl
-    by false = refl
+    by : (x y : Bool) → IsKind x (cond x (by_site (site_rises decl a rs)) (cond y (by_client (client_rises (a - decl.sites) rs)) (by_admin (admin_rises rs)))).actor
+    by true y = refl
+    by false true = refl
+    by false false = refl
 
 kind_new : (decl : Declaration) (a : ℕ) → IsKind (is_site decl a) (actor_after decl a []).actor
-kind_new decl a = by (is_site decl a)
+kind_new decl a = by (is_site decl a) (is_client decl a)
   where
-    by : (x : Bool) → IsKind x (cond x (actor.Site (new_site a)) (actor.Client (new_client (a - decl.sites))))
-    by true = refl
-    by false = refl
+    by : (x y : Bool) → IsKind x (cond x (actor.Site (new_site a)) (cond y (actor.Client (new_client (a - decl.sites))) (actor.Admin new_admin)))
+    by true y = refl
+    by false true = refl
+    by false false = refl
 
 kind_from : (decl : Declaration) (a : ℕ) (m : ActorMove) (ds : List Deed) → IsKind (is_site decl a) m.actor → IsKind (is_site decl a) (fold (actor_does decl a) m ds).actor
 kind_from decl a m [] is = is
@@ -253,15 +297,16 @@ kind_after decl a ds = kind_from decl a _ ds (kind_new decl a)
 -- the turn that it posts is the actor's, but for what became of its record
 
 pub called_turn : (decl : Declaration) (a : ℕ) (ds : List Deed) (turn : Turn) → IsLawfulWithFalls decl a ds turn → (actor_after decl a ds).turn ≡ with_record turn
-called_turn decl a ds turn lawful = by (is_site decl a) (is_client decl a) lawful.called_for
+called_turn decl a ds turn lawful = by (is_site decl a) (is_client decl a) (is_administrator decl a) lawful.called_for
   where
     here : Some (actor_after decl a ds).turn ≡ Some (with_record turn) → (actor_after decl a ds).turn ≡ with_record turn
     here is = cc
 
-    by : (x y : Bool) → cond x (Some (actor_after decl a ds).turn) (cond y (Some (actor_after decl a ds).turn) None) ≡ Some (with_record turn) → (actor_after decl a ds).turn ≡ with_record turn
-    by true y is = here is
-    by false true is = here is
-    by false false is = absurd (let no : ⊥ = cc in no)
+    by : (x y z : Bool) → turn_by x y z (actor_after decl a ds).turn ≡ Some (with_record turn) → (actor_after decl a ds).turn ≡ with_record turn
+    by true y z is = here is
+    by false true z is = here is
+    by false false true is = here is
+    by false false false is = absurd (let no : ⊥ = cc in no)
 
 pub after_takes : (decl : Declaration) (a : ℕ) (ds : List Deed) (g : Given) → actor_after decl a (ds ++ Takes g ∷ []) ≡ actor_takes decl (actor_after decl a ds).actor g
 after_takes decl a ds g = fold-append (actor_does decl a) _ ds (Takes g ∷ [])
@@ -278,6 +323,10 @@ taken_post decl site (actor.Client c) g t n kind up_now is may =
     let well : IsClientTurn (with_record t) = subst IsClientTurn is (client_written decl c g) in
     subst (λ (x : Bool). Fits (still_up t.append) false (after x (Some Open) (deeds_as t.append n t))) (sym kind)
     (client_post t.append n t well.told well.fails well.writes may)
+taken_post decl site (actor.Admin m) g t n kind up_now is may =
+    let well : IsAdminTurn (with_record t) = subst IsAdminTurn is (admin_written decl m g) in
+    subst (λ (x : Bool). Fits (still_up t.append) false (after x (Some Open) (deeds_as t.append n t))) (sym kind)
+    (admin_post t.append n t well.told well.fails well.failed_sends (no_life t.write well.writes) may)
 taken_post decl site actor.Down g t n kind up_now is may = absurd (up_now refl)
 
 -- a post while it is down
@@ -387,6 +436,7 @@ module _ (decl : Declaration) (a : ℕ) where
   comes_up site (Some Sending) g none rests = let_in site g none Open
   comes_up site (Some Written) g none rests = let_in site g none Open
   comes_up site (Some Failing) g none rests = absurd (let never : ⊥ = cc in never)
+  comes_up site (Some Faulted) g none rests = let_in site g none Open
   comes_up site (Some Fallen) g none rests = absurd (let never : ⊥ = cc in never)
   comes_up site (Some Called) g none rests = absurd (let never : ⊥ = cc in never)
 
@@ -408,6 +458,7 @@ module _ (decl : Declaration) (a : ℕ) where
   crashed site (Some Sending) rests = refl
   crashed site (Some Written) rests = refl
   crashed site (Some Failing) rests = absurd (let never : ⊥ = cc in never)
+  crashed site (Some Faulted) rests = refl
   crashed site (Some Fallen) rests = absurd (let never : ⊥ = cc in never)
   crashed site (Some Called) rests = absurd (let never : ⊥ = cc in never)
 
@@ -469,11 +520,12 @@ module _ (decl : Declaration) (a : ℕ) where
   -- the post of a rise
 
   rises_turn : (rs : List Record) → (sends : List Posting) × ((actor_rises decl a rs).turn ≡ rising sends)
-  rises_turn rs = by (is_site decl a)
+  rises_turn rs = by (is_site decl a) (is_client decl a)
     where
-      by : (x : Bool) → (sends : List Posting) × ((cond x (by_site (site_rises decl a rs)) (by_client (client_rises (a - decl.sites) rs))).turn ≡ rising sends)
-      by true = ((site_rises decl a rs).turn.sends, refl)
-      by false = ((client_rises (a - decl.sites) rs).turn.sends, refl)
+      by : (x y : Bool) → (sends : List Posting) × ((cond x (by_site (site_rises decl a rs)) (cond y (by_client (client_rises (a - decl.sites) rs)) (by_admin (admin_rises rs)))).turn ≡ rising sends)
+      by true y = ((site_rises decl a rs).turn.sends, refl)
+      by false true = ((client_rises (a - decl.sites) rs).turn.sends, refl)
+      by false false = ((admin_rises rs).turn.sends, refl)
 
   same_deeds : (end : Appended) (n : ℕ) (t : Turn) → deeds_as end n (with_record t) ≡ deeds_as end n t
   same_deeds Done n t = refl

@@ -12,7 +12,7 @@ use Rattle.qc_msg.specs.declared.turn.Posting.{Posting}
 use Rattle.qc_msg.specs.declared.turn.Turn.{Turn}
 use Rattle.qc_msg.specs.Begun.{decisions}
 use Rattle.qc_msg.specs.Readings.{answer_in}
-use Rattle.qc_promise.specs.Turns.{Saying, SaysDown, SaysUnwritten, SaysNeither, saying_of}
+use Rattle.qc_promise.specs.Turns.{Saying, SaysDown, SaysUnwritten, SaysFault, SaysNeither, saying_of}
 use Rattle.qc_msg.specs.declared.reply.Half.TheVariants as halves
 use Rattle.qc_plan.specs.declared.standing.Verdict.{Verdict}
 use Rattle.qc_plan.specs.declared.standing.Verdict.TheVariants as verdicts
@@ -53,11 +53,13 @@ use Rattle.qc_core.proofs.SiteWrites.{writes_no_life}
 abbrev pub says_neither : Saying → Bool
 says_neither SaysDown = false
 says_neither SaysUnwritten = false
+says_neither SaysFault = false
 says_neither SaysNeither = true
 
 abbrev pub says_unwritten : Saying → Bool
 says_unwritten SaysDown = false
 says_unwritten SaysUnwritten = true
+says_unwritten SaysFault = false
 says_unwritten SaysNeither = false
 
 abbrev pub tells_neither : Option Reply → Bool

@@ -30,6 +30,9 @@ pub mod SiteReaches
 pub mod ActorFits
 pub mod SiteWrites
 pub mod FrontWrites
+pub mod AdminWrites
+pub mod ByNumber
+pub mod AdminOver
 pub mod Written
 pub mod LivesLaws
 pub mod SiteLives

@@ -1,9 +1,9 @@
 -- An actor through its falls and rises: who is down has no state; who never falls lives as it acts; what it puts into its
 -- journal its steps put there.
-use Rattle.std.proofs.Common.{◌≡◌, ℕ, ◌+◌, ◌-◌, ◌==◌, Bool, true, false, cond, not, List, [], ◌∷◌, ◌++◌, fold, length, filter, map, Option, Some, None, option_to_list, slice_get, append_assoc, refl, sym, ap, ◌∙◌, subst}
+use Rattle.std.proofs.Common.{◌≡◌, ℕ, ◌+◌, ◌-◌, ◌==◌, ◌<◌, ◌&&◌, nat_le, nat_lt, arith, ltb-true, Bool, true, false, cond, not, List, [], ◌∷◌, ◌++◌, fold, length, filter, map, Option, Some, None, option_to_list, slice_get, append_assoc, refl, sym, ap, ◌∙◌, subst}
 use Rattle.std.proofs.lemmas.List.Sums.{fold-append}
 use Rattle.qc_decl.specs.declared.declaration.Declaration.{Declaration}
-use Rattle.qc_decl.specs.Actors.{is_client, is_site}
+use Rattle.qc_decl.specs.Actors.{administrator, is_administrator, is_client, is_site}
 use Rattle.qc_client.specs.Conduct.{client_after}
 use Rattle.qc_msg.specs.declared.message.Envelope.{Envelope}
 use Rattle.qc_msg.specs.declared.record.Record.{Record}
@@ -21,20 +21,22 @@ use Rattle.qc_msg.specs.Steps.{Entry, MayEnd, sends_as}
 use Rattle.qc_msg.specs.Turns.{quiet}
 use Rattle.qc_client.specs.Client.{new_client}
 use Rattle.qc_site.specs.Site.{new_site}
+use Rattle.qc_epoch.specs.Admin.{new_admin}
+use Rattle.qc_recover.specs.Admins.{admin_rises}
 use Rattle.qc_recover.specs.Clients.{client_rises}
 use Rattle.qc_recover.specs.Sites.{site_rises}
 use Rattle.qc_promise.specs.Kept.{Journal, journal_of, journal_with, no_journal}
 use Rattle.qc_site.specs.Conduct.{site_after}
 use Rattle.qc_core.specs.declared.actor.Actor.{Actor}
 use Rattle.qc_core.specs.declared.actor.Actor.TheVariants as actor
-use Rattle.qc_core.specs.Actors.{ActorMove, actor_after, actor_does, actor_rises, actor_sends, actor_takes, by_client, by_site, moved}
+use Rattle.qc_core.specs.Actors.{ActorMove, actor_after, actor_does, actor_rises, actor_sends, actor_takes, by_admin, by_client, by_site, moved}
 use Rattle.qc_core.specs.Acts.{Acts, MayTake}
 use Rattle.qc_core.specs.Acts as acts
 use Rattle.qc_core.specs.Conduct.{IsLawful, IsLawfulWithFalls, turn_after, turn_with_falls}
 use Rattle.qc_core.specs.Journals.{journal_after, journal_at}
 use Rattle.qc_core.specs.Lives.{AreSteady, Lives, MayReach, is_up, up_at}
 use Rattle.qc_core.specs.Lives as lives
-use Rattle.qc_core.proofs.ActorLaws.{at_client, at_site}
+use Rattle.qc_core.proofs.ActorLaws.{other_client, turn}
 use Rattle.qc_core.proofs.Steady.{acts_steady, turn_steady}
 use Rattle.qc_core.proofs.Written.{after_written}
 
@@ -51,24 +53,28 @@ rises decl a ds records = fold-append (actor_does decl a) _ ds (Rises records �
 abbrev is_down : Actor → Bool
 is_down (actor.Site s) = false
 is_down (actor.Client c) = false
+is_down (actor.Admin m) = false
 is_down actor.Down = true
 
 takes_stays : (decl : Declaration) (v : Actor) (g : Given) → is_down (actor_takes decl v g).actor ≡ is_down v
 takes_stays decl (actor.Site s) g = refl
 takes_stays decl (actor.Client c) g = refl
+takes_stays decl (actor.Admin m) g = refl
 takes_stays decl actor.Down g = refl
 
 sends_stays : (v : Actor) (number to : ℕ) (message : _) → is_down (actor_sends v number to message) ≡ is_down v
 sends_stays (actor.Site s) number to message = refl
 sends_stays (actor.Client c) number to message = refl
+sends_stays (actor.Admin m) number to message = refl
 sends_stays actor.Down number to message = refl
 
 rises_up : (decl : Declaration) (a : ℕ) (rs : List Record) → is_down (actor_rises decl a rs).actor ≡ false
-rises_up decl a rs = by (is_site decl a)
+rises_up decl a rs = by (is_site decl a) (is_client decl a)
   where
-    by : (x : Bool) → is_down (cond x (by_site (site_rises decl a rs)) (by_client (client_rises (a - decl.sites) rs))).actor ≡ false
-    by true = refl
-    by false = refl
+    by : (x y : Bool) → is_down (cond x (by_site (site_rises decl a rs)) (cond y (by_client (client_rises (a - decl.sites) rs)) (by_admin (admin_rises rs)))).actor ≡ false
+    by true y = refl
+    by false true = refl
+    by false false = refl
 
 down_from : (decl : Declaration) (a : ℕ) (m : ActorMove) (u : Bool) (ds : List Deed) → is_down m.actor ≡ not u → is_down (fold (actor_does decl a) m ds).actor ≡ not (fold up_at u ds)
 down_from decl a m u [] is = is
@@ -80,15 +86,17 @@ down_from decl a m u (Falls cause pending ∷ ds) is = down_from decl a (moved a
 down_from decl a m u (Rises records ∷ ds) is = down_from decl a (actor_rises decl a records) true ds (rises_up decl a records)
 
 new_up : (decl : Declaration) (a : ℕ) → is_down (actor_after decl a []).actor ≡ false
-new_up decl a = by (is_site decl a)
+new_up decl a = by (is_site decl a) (is_client decl a)
   where
-    by : (x : Bool) → is_down (cond x (actor.Site (new_site a)) (actor.Client (new_client (a - decl.sites)))) ≡ false
-    by true = refl
-    by false = refl
+    by : (x y : Bool) → is_down (cond x (actor.Site (new_site a)) (cond y (actor.Client (new_client (a - decl.sites))) (actor.Admin new_admin))) ≡ false
+    by true y = refl
+    by false true = refl
+    by false false = refl
 
 down_is : (v : Actor) → is_down v ≡ true → v ≡ actor.Down
 down_is (actor.Site s) is = absurd (let no : ⊥ = cc in no)
 down_is (actor.Client c) is = absurd (let no : ⊥ = cc in no)
+down_is (actor.Admin m) is = absurd (let no : ⊥ = cc in no)
 down_is actor.Down is = refl
 
 pub down : (decl : Declaration) (a : ℕ) (ds : List Deed) → is_up ds ≡ false → (actor_after decl a ds).actor ≡ actor.Down
@@ -115,43 +123,56 @@ reaches ds (given.Called command) steady = tt
 reaches ds (given.Got e) steady = steady_from true ds steady
 reaches ds (given.Lost number) steady = steady_from true ds steady
 
--- the turn of today is that of the actor
-pub same_turn : (decl : Declaration) (a : ℕ) (ds : List Deed) → AreSteady ds → turn_with_falls decl a ds ≡ turn_after decl a ds
-same_turn decl a ds steady = by (is_site decl a) refl
-  where
-    turns : Bool → Turn → Turn → Option Turn
-    turns x first second = cond x (Some first) (cond (is_client decl a) (Some second) None)
+-- a site's or a client's turn is that of the actor
 
-    by : (x : Bool) → is_site decl a ≡ x → turns (is_site decl a) (actor_after decl a ds).turn (actor_after decl a ds).turn ≡ turns (is_site decl a) (site_after decl a ds).turn (client_after decl (a - decl.sites) ds).turn
-    by true is =
-        ap (λ (x : Bool). turns x (actor_after decl a ds).turn (actor_after decl a ds).turn) is
-        ∙ ap (λ (m : ActorMove). Some m.turn) (at_site decl a ds steady is)
-        ∙ sym (ap (λ (x : Bool). turns x (site_after decl a ds).turn (client_after decl (a - decl.sites) ds).turn) is)
-    by false is =
-        ap (λ (x : Bool). turns x (actor_after decl a ds).turn (actor_after decl a ds).turn) is
-        ∙ ap (λ (m : ActorMove). cond (is_client decl a) (Some m.turn) None) (at_client decl a ds steady is)
-        ∙ sym (ap (λ (x : Bool). turns x (site_after decl a ds).turn (client_after decl (a - decl.sites) ds).turn) is)
+abbrev pub turn_by : Bool → Bool → Bool → Turn → Option Turn
+turn_by site client admin turn = cond site (Some turn) (cond client (Some turn) (cond admin (Some turn) None))
+
+pub some_turn : (decl : Declaration) (a : ℕ) (ds : List Deed) → a < administrator decl → turn_with_falls decl a ds ≡ Some (actor_after decl a ds).turn
+some_turn decl a ds below = by (is_site decl a) refl
+  where
+    by : (x : Bool) → is_site decl a ≡ x → turn_by (is_site decl a) (is_client decl a) (is_administrator decl a) (actor_after decl a ds).turn ≡ Some (actor_after decl a ds).turn
+    by true is = ap (λ (x : Bool). turn_by x (is_client decl a) (is_administrator decl a) (actor_after decl a ds).turn) is
+    by false is = ap (λ (x : Bool). turn_by x (is_client decl a) (is_administrator decl a) (actor_after decl a ds).turn) is
+        ∙ ap (λ (y : Bool). turn_by false y (is_administrator decl a) (actor_after decl a ds).turn) (other_client decl a below is)
+
+pub same_turn : (decl : Declaration) (a : ℕ) (ds : List Deed) → AreSteady ds → a < administrator decl → turn_with_falls decl a ds ≡ turn_after decl a ds
+same_turn decl a ds steady below = some_turn decl a ds below ∙ sym (turn decl a ds steady below)
+
+and_last : (x y : Bool) → (x && y) ≡ true → y ≡ true
+and_last true y is = is
+and_last false y is = absurd (let no : ⊥ = cc in no)
+
+-- who has a turn without falls comes before the administrator
+pub who_acts : (decl : Declaration) (a : ℕ) (ds : List Deed) (turn : Turn) → IsLawful decl a ds turn → a < administrator decl
+who_acts decl a ds turn lawful = by (is_site decl a) (is_client decl a) refl refl lawful
+  where
+    by : (x y : Bool) → is_site decl a ≡ x → is_client decl a ≡ y → cond x (Some (site_after decl a ds).turn) (cond y (Some (client_after decl (a - decl.sites) ds).turn) None) ≡ Some turn → a < administrator decl
+    by true y site client is = let low : a < decl.sites = ltb-true a decl.sites site in omega arith
+    by false true site client is = ltb-true a (administrator decl) (and_last (nat_le decl.sites a) (nat_lt a (administrator decl)) client)
+    by false false site client is = absurd (let no : ⊥ = cc in no)
 
 -- any turn that it calls for has its record written
 pub called_written : (decl : Declaration) (a : ℕ) (ds : List Deed) (turn : Turn) → turn_with_falls decl a ds ≡ Some turn → turn.append ≡ Done
-called_written decl a ds turn = by (is_site decl a) (is_client decl a)
+called_written decl a ds turn = by (is_site decl a) (is_client decl a) (is_administrator decl a)
   where
     here : Some (actor_after decl a ds).turn ≡ Some turn → turn.append ≡ Done
     here is = let same : (actor_after decl a ds).turn ≡ turn = cc in sym (ap (λ (t : Turn). t.append) same) ∙ after_written decl a ds
 
-    by : (x y : Bool) → cond x (Some (actor_after decl a ds).turn) (cond y (Some (actor_after decl a ds).turn) None) ≡ Some turn → turn.append ≡ Done
-    by true y is = here is
-    by false true is = here is
-    by false false is = absurd (let no : ⊥ = cc in no)
+    by : (x y z : Bool) → turn_by x y z (actor_after decl a ds).turn ≡ Some turn → turn.append ≡ Done
+    by true y z is = here is
+    by false true z is = here is
+    by false false true is = here is
+    by false false false is = absurd (let no : ⊥ = cc in no)
 
 pub written : (decl : Declaration) (a : ℕ) (ds : List Deed) (turn : Turn) → AreSteady ds → IsLawful decl a ds turn → turn.append ≡ Done
-written decl a ds turn steady lawful = called_written decl a ds turn (same_turn decl a ds steady ∙ lawful)
+written decl a ds turn steady lawful = called_written decl a ds turn (same_turn decl a ds steady (who_acts decl a ds turn lawful) ∙ lawful)
 
 pub lawful_still : (decl : Declaration) (a : ℕ) (ds : List Deed) (turn : Turn) → AreSteady ds → IsLawful decl a ds turn → IsLawfulWithFalls decl a ds turn
 lawful_still decl a ds turn steady lawful =
     let done : turn.append ≡ Done = written decl a ds turn steady lawful in
     record {
-      called_for = same_turn decl a ds steady ∙ lawful ∙ ap (λ (x : Appended). Some (record turn { append = x })) done;
+      called_for = same_turn decl a ds steady (who_acts decl a ds turn lawful) ∙ lawful ∙ ap (λ (x : Appended). Some (record turn { append = x })) done;
       may_end = subst (MayEnd turn.write) (sym done) tt;
     }
 

@@ -4,7 +4,7 @@ use Rattle.std.specs.Prelude.{fold}
 use Rattle.std.proofs.lemmas.List.Sums.{fold-append}
 use Rattle.qc_client.specs.Client.{new_client}
 use Rattle.qc_decl.specs.declared.declaration.Declaration.{Declaration}
-use Rattle.qc_decl.specs.Actors.{is_client, is_site}
+use Rattle.qc_decl.specs.Actors.{is_administrator, is_client, is_site}
 use Rattle.qc_msg.specs.declared.record.Record.{Record}
 use Rattle.qc_msg.specs.declared.record.Record.TheVariants as journals
 use Rattle.qc_msg.specs.declared.reply.Reply.{Reply}
@@ -14,13 +14,15 @@ use Rattle.qc_msg.specs.declared.turn.Appended.TheVariants.{Done, Failed, Stoppe
 use Rattle.qc_msg.specs.declared.turn.Posting.{Posting}
 use Rattle.qc_msg.specs.declared.turn.Turn.{Turn}
 use Rattle.qc_msg.specs.Deeds.{Deed, Takes, Rises, deeds_as, turn_deeds, writes_of}
+use Rattle.qc_epoch.specs.Admin.{new_admin}
+use Rattle.qc_recover.specs.Admins.{admin_rises}
 use Rattle.qc_recover.specs.Clients.{client_rises}
 use Rattle.qc_recover.specs.Sites.{site_rises}
 use Rattle.qc_site.specs.Conduct.{site_takes}
 use Rattle.qc_site.specs.Site.{SiteMove, SiteState, new_site}
 use Rattle.qc_core.specs.declared.actor.Actor.{Actor}
-use Rattle.qc_core.specs.declared.actor.Actor.TheVariants.{Site, Client}
-use Rattle.qc_core.specs.Actors.{ActorMove, actor_after, actor_does, actor_takes, by_client, by_site, moved}
+use Rattle.qc_core.specs.declared.actor.Actor.TheVariants.{Site, Client, Admin}
+use Rattle.qc_core.specs.Actors.{ActorMove, actor_after, actor_does, actor_takes, by_admin, by_client, by_site, moved}
 use Rattle.qc_core.specs.Conduct.{IsLawfulWithFalls, with_record}
 use Rattle.qc_core.specs.Sites.{Serves, crashes, rises, serves, starts, stays_up, unopened}
 use Rattle.qc_core.proofs.SiteMoves.{steps}
@@ -57,13 +59,13 @@ module _ (decl : Declaration) (site : ℕ) (is : is_site decl site ≡ true) whe
   pub rose : (ds : List Deed) (rs : List Record) → actor_after decl site (ds ++ Rises rs ∷ []) ≡ by_site (site_rises decl site rs)
   rose ds rs =
       fold-append (actor_does decl site) _ ds (Rises rs ∷ [])
-      ∙ ap (λ (b : Bool). cond b (by_site (site_rises decl site rs)) (by_client (client_rises (site - decl.sites) rs))) is
+      ∙ ap (λ (b : Bool). cond b (by_site (site_rises decl site rs)) (cond (is_client decl site) (by_client (client_rises (site - decl.sites) rs)) (by_admin (admin_rises rs)))) is
 
   -- the turn that is lawful then, and what the site is once that is posted
 
   pub called : (ds : List Deed) (turn : Turn) (move : SiteMove) → actor_after decl site ds ≡ by_site move → IsLawfulWithFalls decl site ds turn → move.turn ≡ with_record turn
   called ds turn move at lawful =
-      let here : Some (actor_after decl site ds).turn ≡ Some (with_record turn) = sym (ap (λ (b : Bool). cond b (Some (actor_after decl site ds).turn) (cond (is_client decl site) (Some (actor_after decl site ds).turn) None)) is) ∙ lawful.called_for in
+      let here : Some (actor_after decl site ds).turn ≡ Some (with_record turn) = sym (ap (λ (b : Bool). cond b (Some (actor_after decl site ds).turn) (cond (is_client decl site) (Some (actor_after decl site ds).turn) (cond (is_administrator decl site) (Some (actor_after decl site ds).turn) None))) is) ∙ lawful.called_for in
       let same : (actor_after decl site ds).turn ≡ with_record turn = cc in
       sym (ap (λ (m : ActorMove). m.turn) at) ∙ same
 
@@ -83,7 +85,7 @@ module _ (decl : Declaration) (site : ℕ) (is : is_site decl site ≡ true) whe
   IsAsShown ds = (actor_after decl site ds).actor ≡ Site (shown site ds)
 
   pub is_shown : (ds : List Deed) (up : Bool) → Serves decl site ds up → up ≡ true → IsAsShown ds
-  is_shown ds up starts on = ap (λ (b : Bool). cond b (Site (new_site site)) (Client (new_client (site - decl.sites)))) is
+  is_shown ds up starts on = ap (λ (b : Bool). cond b (Site (new_site site)) (cond (is_client decl site) (Client (new_client (site - decl.sites))) (Admin new_admin))) is
   is_shown ds up (serves before g turn n served ok lawful) on = from (is_shown before true served refl)
     where
       by : (end : Appended) → end ≡ Done → IsAsShown (before ++ Takes g ∷ turn_deeds n turn) → IsAsShown (before ++ Takes g ∷ deeds_as end n turn)

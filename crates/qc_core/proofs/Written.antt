@@ -2,7 +2,7 @@
 -- write and tell, and whom they answer.
 use Rattle.std.proofs.Common.{◌≡◌, ℕ, ◌==◌, ◌-◌, Bool, true, false, cond, List, [], ◌∷◌, fold, length, map, Option, Some, None, refl, ap, subst, sym}
 use Rattle.qc_decl.specs.declared.declaration.Declaration.{Declaration}
-use Rattle.qc_decl.specs.Actors.{is_site}
+use Rattle.qc_decl.specs.Actors.{is_client, is_site}
 use Rattle.std.specs.List.{AllByRecursion as Every}
 use Rattle.qc_list.proofs.Members.{every-weaker}
 use Rattle.qc_msg.specs.declared.message.Envelope.{Envelope}
@@ -43,9 +43,11 @@ use Rattle.qc_client.specs.Client.{by_desk, by_front}
 use Rattle.qc_client.specs.Conduct as clients
 use Rattle.qc_core.specs.declared.actor.Actor.{Actor}
 use Rattle.qc_core.specs.declared.actor.Actor.TheVariants as actor
+use Rattle.qc_recover.specs.Admins.{admin_rises}
 use Rattle.qc_recover.specs.Clients.{client_rises}
 use Rattle.qc_recover.specs.Sites.{site_rises}
-use Rattle.qc_core.specs.Actors.{ActorMove, actor_after, actor_does, actor_rises, actor_sends, actor_takes, by_client, by_site, down_takes, moved}
+use Rattle.qc_core.specs.Actors.{ActorMove, actor_after, actor_does, actor_rises, actor_sends, actor_takes, by_admin, by_client, by_site, down_takes, moved}
+use Rattle.qc_core.proofs.AdminWrites.{admin_written}
 use Rattle.qc_core.proofs.FrontWrites.{IsAsking, IsClientTurn, command_written, commits_asks, ends_asks, prepares_ask, quiet_asks, says_well, takes_in_written}
 pub use Rattle.qc_core.proofs.FrontWrites.{NoAnswer}
 pub use Rattle.qc_core.proofs.SiteWrites.{IsAnsweredTo, IsAnswerTo, IsSiteTurn, site_written}
@@ -100,7 +102,7 @@ record IsClientTaken (g : Given) (t : Turn) : Type 0 where
   turn : IsClientTurn t
   sends : Every (IsAnswerTo g) t.sends
 
-none_answers : (g : Given) (ps : List Posting) → Every NoAnswer ps → Every (IsAnswerTo g) ps
+pub none_answers : (g : Given) (ps : List Posting) → Every NoAnswer ps → Every (IsAnswerTo g) ps
 none_answers g ps none = every-weaker NoAnswer (IsAnswerTo g) (λ p is. subst (IsAnsweredTo (heard_in g) p.to) (sym is) tt) ps none
 
 asking_taken : (g : Given) (t : Turn) → IsAsking t → IsClientTaken g t
@@ -151,14 +153,16 @@ down_written (given.Lost number) = refl
 takes_written : (decl : Declaration) (a : Actor) (g : Given) → (actor_takes decl a g).turn.append ≡ Done
 takes_written decl (actor.Site s) g = (site_written decl s g).append
 takes_written decl (actor.Client c) g = (client_written decl c g).append
+takes_written decl (actor.Admin m) g = (admin_written decl m g).append
 takes_written decl actor.Down g = down_written g
 
 rises_written : (decl : Declaration) (a : ℕ) (rs : List Record) → (actor_rises decl a rs).turn.append ≡ Done
-rises_written decl a rs = by (is_site decl a)
+rises_written decl a rs = by (is_site decl a) (is_client decl a)
   where
-    by : (x : Bool) → (cond x (by_site (site_rises decl a rs)) (by_client (client_rises (a - decl.sites) rs))).turn.append ≡ Done
-    by true = refl
-    by false = refl
+    by : (x y : Bool) → (cond x (by_site (site_rises decl a rs)) (cond y (by_client (client_rises (a - decl.sites) rs)) (by_admin (admin_rises rs)))).turn.append ≡ Done
+    by true y = refl
+    by false true = refl
+    by false false = refl
 
 does_written : (decl : Declaration) (a : ℕ) (m : ActorMove) (ds : List Deed) → m.turn.append ≡ Done → (fold (actor_does decl a) m ds).turn.append ≡ Done
 does_written decl a m [] is = is

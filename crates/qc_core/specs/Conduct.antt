@@ -1,8 +1,8 @@
--- Which turn an actor's last input or rise calls for, after its deeds: a site's, or a client's; nobody else takes
--- inputs yet.
+-- Which turn an actor's last input or rise calls for, after its deeds: a site's, a client's, or the administrator's;
+-- nobody else takes inputs.
 use Rattle.std.specs.Prelude.{◌≡◌, ℕ, ◌-◌, if◌then◌else◌, List, Option, Some, None}
 use Rattle.qc_decl.specs.declared.declaration.Declaration.{Declaration}
-use Rattle.qc_decl.specs.Actors.{is_site, is_client}
+use Rattle.qc_decl.specs.Actors.{is_administrator, is_client, is_site}
 use Rattle.qc_client.specs.Conduct.{client_after}
 use Rattle.qc_msg.specs.declared.turn.Appended.TheVariants.{Done}
 use Rattle.qc_msg.specs.declared.turn.Turn.{Turn}
@@ -11,7 +11,7 @@ use Rattle.qc_msg.specs.Steps.{MayEnd}
 use Rattle.qc_site.specs.Conduct.{site_after}
 use Rattle.qc_core.specs.Actors.{actor_after}
 
--- where no actor falls: the conduct of a site, or of a client, alone
+-- where no actor falls, and nobody asks the administrator: the conduct of a site, or of a client, alone
 
 abbrev pub turn_after : Declaration → ℕ → List Deed → Option Turn
 turn_after decl a deeds =
@@ -27,7 +27,8 @@ IsLawful decl a deeds turn = turn_after decl a deeds ≡ Some turn
 abbrev pub turn_with_falls : Declaration → ℕ → List Deed → Option Turn
 turn_with_falls decl a deeds =
     if is_site decl a then Some (actor_after decl a deeds).turn
-    else (if is_client decl a then Some (actor_after decl a deeds).turn else None)
+    else (if is_client decl a then Some (actor_after decl a deeds).turn
+    else (if is_administrator decl a then Some (actor_after decl a deeds).turn else None))
 
 -- a turn as the conduct has it: the conduct doesn't know what becomes of the record
 abbrev pub with_record : Turn → Turn

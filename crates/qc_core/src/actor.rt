@@ -1,14 +1,14 @@
-//! One actor of a run: a site or a client, or none while it is down.
-//!
-//! The administrator will be one more variant, with a line in each definition of
-//! `specs/Actors.antt` and an arm in each call.
+//! One actor: a site, a client or the administrator, or none while it is down.
 
-ghost use Rattle.std.specs.Prelude.{◌≡◌, ◌+◌, ◌<◌, ◌^◌, IfOk, OnErr};
+ghost use Rattle.std.specs.Prelude.{◌≡◌, ◌+◌, ◌<◌, ◌≤◌, ◌^◌, IfOk, OnErr};
 ghost use Rattle.qc_client.specs.Fits.{promise_in};
 ghost use Rattle.qc_decl.specs.Accepted.{IsAccepted};
-ghost use Rattle.qc_decl.specs.Actors.{actors};
+ghost use Rattle.qc_admin.specs.Fits.{MessageFits};
+ghost use Rattle.qc_decl.specs.Actors.{administrator};
+ghost use Rattle.qc_epoch.specs.Deciding.{most_asks};
 ghost use Rattle.qc_msg.specs.declared.step.Given.TheVariants as given;
 
+use qc_admin::Admin;
 use qc_client::Client;
 use qc_decl::Declaration;
 use qc_list::OutOfMemory;
@@ -23,6 +23,8 @@ pub enum Actor {
     Site(Site),
     /// A client.
     Client(Client),
+    /// The administrator.
+    Admin(Admin),
     /// One that fell and hasn't risen: of what it was nothing is left.
     Down,
 }
@@ -32,13 +34,15 @@ impl Actor {
 
     /// The actor of this number before it does anything.
     pub fn new(alloc: Global, decl: &Declaration, number: u8) -> Result<Actor, OutOfMemory>
-        requires { number < actors decl.now }
+        requires { number ≤ administrator decl.now }
         ensures { IfOk result (λ actor. actor ≡ new_actor decl.now number) }
     {
         if number < decl.sites {
             Ok(Actor::Site(Site::new(alloc, number)?))
-        } else {
+        } else if number - decl.sites < decl.clients {
             Ok(Actor::Client(Client::new(alloc, number - decl.sites)))
+        } else {
+            Ok(Actor::Admin(Admin::new()))
         }
     }
 
@@ -58,6 +62,7 @@ impl Actor {
         match self {
             Actor::Site(_) => Ok(Turn::quiet(alloc)),
             Actor::Client(client) => client.command(alloc, decl, &command),
+            Actor::Admin(admin) => admin.command(alloc, decl, &command),
             Actor::Down => Ok(Turn::telling(alloc, Reply::Down)),
         }
     }
@@ -75,6 +80,7 @@ impl Actor {
         requires accepted { IsAccepted decl.now }
         requires fits { ActorFits self.old }
         requires promise { promise_in message.now < 2 ^ 63 }
+        requires message { MessageFits message.now }
         ensures ok { IfOk result (λ turn. actor_hears decl.now self.old from number message.now
             ≡ moved self.new turn) }
         ensures err { OnErr result (self.new ≡ self.old) }
@@ -82,6 +88,7 @@ impl Actor {
         match self {
             Actor::Site(site) => site.handle(alloc, decl, from, number, message),
             Actor::Client(client) => client.hear(alloc, decl, from, number, message),
+            Actor::Admin(admin) => admin.hear(alloc, decl, message),
             Actor::Down => Ok(Turn::quiet(alloc)),
         }
     }
@@ -102,6 +109,7 @@ impl Actor {
         match self {
             Actor::Site(_) => Ok(Turn::quiet(alloc)),
             Actor::Client(client) => client.lose(alloc, decl, number),
+            Actor::Admin(admin) => admin.lose(alloc, decl, number),
             Actor::Down => Ok(Turn::quiet(alloc)),
         }
     }
@@ -110,12 +118,13 @@ impl Actor {
     /// takes no memory.
     pub fn sent(&mut self, first: u32)
         requires few { AsksFew self.old }
-        requires numbers { first + 16 < 2 ^ 32 }
+        requires numbers { first + most_asks < 2 ^ 32 }
         ensures { self.new ≡ actor_sent self.old first }
     {
         match self {
             Actor::Site(_) => {}
             Actor::Client(client) => client.sent(first),
+            Actor::Admin(admin) => admin.sent(first),
             Actor::Down => {}
         }
     }

@@ -12,7 +12,7 @@ ghost use Rattle.qc_core.specs.Lives.{AreSteady};
 ghost use Rattle.qc_core.specs.Lives.{Lives, is_up};
 ghost use Rattle.qc_core.specs.Sites.{IsShown, IsSiteDeed, Serves};
 ghost use Rattle.qc_decl.specs.Accepted.{IsAccepted};
-ghost use Rattle.qc_decl.specs.Actors.{actors};
+ghost use Rattle.qc_decl.specs.Actors.{administrator};
 ghost use Rattle.qc_decl.specs.Limits.{most_sites};
 ghost use Rattle.qc_decl.specs.declared.declaration.Declaration.{Declaration};
 ghost use Rattle.qc_msg.specs.Deeds.{Deed, Takes, turn_deeds};
@@ -64,7 +64,7 @@ pub fn actors_are_folds()
 /// of that fold.
 #[tactic(auto, using(crate::proofs::ActorLaws::turn))]
 pub fn turns_are_those_of_actors()
-    ensures { (decl : Declaration) (a : ℕ) (ds : List Deed) → AreSteady ds → a < actors decl
+    ensures { (decl : Declaration) (a : ℕ) (ds : List Deed) → AreSteady ds → a < administrator decl
         → turn_after decl a ds ≡ Some (actor_after decl a ds).turn }
 {}
 
@@ -74,7 +74,7 @@ pub fn turns_are_those_of_actors()
 #[tactic(auto, using(crate::proofs::ActorSent::actor_sent_at_once))]
 pub fn requests_are_numbered_at_once()
     ensures { (decl : Declaration) (a : ℕ) (ds : List Deed) (n : ℕ) (given : Given) (first : ℕ)
-        → 0 < decl.sites → decl.sites ≤ most_sites → a < actors decl → Acts decl a ds false n → MayTake ds given
+        → 0 < decl.sites → decl.sites ≤ most_sites → a < administrator decl → Acts decl a ds false n → MayTake ds given
         → (actor_after decl a ((ds ++ Takes given ∷ [])
         ++ turn_deeds first (actor_takes decl (actor_after decl a ds).actor given).turn)).actor
         ≡ actor_sent (actor_takes decl (actor_after decl a ds).actor given).actor first }
@@ -84,11 +84,11 @@ pub fn requests_are_numbered_at_once()
 /// the ends of their types, it fits: its calls may be made.
 #[tactic(auto, using(crate::proofs::ActorFits::actor_fits, crate::proofs::ActorFits::actor_asks_few))]
 pub fn actors_fit()
-    ensures fits { (decl : Declaration) (a : ℕ) (ds : List Deed) (m n : ℕ) → IsAccepted decl → a < actors decl
+    ensures fits { (decl : Declaration) (a : ℕ) (ds : List Deed) (m n : ℕ) → IsAccepted decl → a < administrator decl
         → Acts decl a ds false m → n < 2 ^ 31 → ActorWithin n (actor_after decl a ds).actor
         → ActorFits (actor_after decl a ds).actor }
     ensures few { (decl : Declaration) (a : ℕ) (ds : List Deed) (m : ℕ) (given : Given) → IsAccepted decl
-        → a < actors decl → Acts decl a ds false m → MayTake ds given
+        → a < administrator decl → Acts decl a ds false m → MayTake ds given
         → AsksFew (actor_takes decl (actor_after decl a ds).actor given).actor }
 {}
 
@@ -97,6 +97,6 @@ pub fn actors_fit()
 #[tactic(auto, using(crate::proofs::ActorFits::actor_short))]
 pub fn turns_are_short()
     ensures { (decl : Declaration) (a : ℕ) (ds : List Deed) (m : ℕ) (given : Given) → IsAccepted decl
-        → a < actors decl → Acts decl a ds false m → Every IsFromActor ds → IsFrom given
+        → a < administrator decl → Acts decl a ds false m → Every IsFromActor ds → IsFrom given
         → IsShort (actor_takes decl (actor_after decl a ds).actor given).turn }
 {}

@@ -1,7 +1,7 @@
 //! Laws of an actor through its falls and rises, each the contract of a function
 //! with nothing to do.
 
-ghost use Rattle.std.specs.Prelude.{◌≡◌, ℕ, Bool, true, false, List, [], ◌∷◌, ◌++◌, Option, None};
+ghost use Rattle.std.specs.Prelude.{◌<◌, ◌≡◌, ℕ, Bool, true, false, List, [], ◌∷◌, ◌++◌, Option, None};
 ghost use Rattle.qc_core.specs.declared.actor.Actor.TheVariants as actor;
 ghost use Rattle.qc_core.specs.Actors.{actor_after, actor_rises, moved};
 ghost use Rattle.qc_core.specs.Acts.{Acts};
@@ -9,7 +9,7 @@ ghost use Rattle.qc_core.specs.Conduct.{IsLawful, IsLawfulWithFalls, turn_after,
 ghost use Rattle.qc_core.specs.GivenBack.{AreGivenBack};
 ghost use Rattle.qc_core.specs.Journals.{journal_after};
 ghost use Rattle.qc_core.specs.Lives.{AreSteady, AreUncommanded, Lives, is_up};
-ghost use Rattle.qc_decl.specs.Actors.{is_site};
+ghost use Rattle.qc_decl.specs.Actors.{administrator, is_site};
 ghost use Rattle.qc_promise.specs.Turns.{AreByTurns};
 ghost use Rattle.qc_decl.specs.declared.declaration.Declaration.{Declaration};
 ghost use Rattle.qc_msg.specs.Deeds.{Deed, Falls, Rises, deeds, own};
@@ -40,12 +40,12 @@ pub fn who_is_down_has_no_state()
         → (actor_after decl a ds).actor ≡ actor.Down → ⊥ }
 {}
 
-/// Where an actor neither falls nor rises, its deeds call for the turn that
-/// the conduct of a site or a client alone calls for, which has its record
-/// written; so what acts there lives.
+/// Where a site or a client neither falls nor rises, its deeds call for the turn
+/// that its conduct alone calls for, which has its record written; so what acts
+/// there lives.
 #[tactic(auto, using(crate::proofs::LivesLaws::same_turn, crate::proofs::LivesLaws::written, crate::proofs::LivesLaws::lawful_still, crate::proofs::LivesLaws::act_lives))]
 pub fn who_never_falls_lives_as_it_acts()
-    ensures turn { (decl : Declaration) (a : ℕ) (ds : List Deed) → AreSteady ds
+    ensures turn { (decl : Declaration) (a : ℕ) (ds : List Deed) → AreSteady ds → a < administrator decl
         → turn_with_falls decl a ds ≡ turn_after decl a ds }
     ensures written { (decl : Declaration) (a : ℕ) (ds : List Deed) (turn : Turn) → AreSteady ds
         → IsLawful decl a ds turn → turn.append ≡ Done }

@@ -1,3 +1,4 @@
 pub mod AcceptedNames
 pub mod BuiltInRules
+pub mod Clients
 pub mod Places

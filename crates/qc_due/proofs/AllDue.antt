@@ -1,4 +1,4 @@
--- All is due in a run with falls: by turns, by mail, of each client and of each site.
+-- All is due in a run with falls: by turns, by mail, of each client, of each site and of the administrator.
 use Rattle.std.proofs.Common.{◌≤◌, ℕ, Bool, List}
 use Rattle.qc_core.specs.Conduct.{IsLawfulWithFalls}
 use Rattle.qc_decl.specs.Accepted.{IsAccepted}
@@ -15,6 +15,7 @@ use Rattle.qc_promise.specs.Due.{Due}
 use Rattle.qc_script.specs.RunsWithFalls.{RunsWithFalls}
 use Rattle.qc_script.specs.declared.script.Script.{Script}
 use Rattle.qc_due.specs.Risen.{AllRisePlanned}
+use Rattle.qc_due.proofs.Administrators.{run_admin_due}
 use Rattle.qc_due.proofs.Declared.{replies_due}
 
 pub runs_due : (decl : Declaration) (script : Script) (fits : ℕ → List Record → Type 0) → IsAccepted decl → AsksDeclared decl script → actors decl ≤ most_actors → (h : List Entry) (open_inputs : List Bool)
@@ -24,4 +25,5 @@ runs_due decl script fits accepted asks few h open_inputs run planned given = re
   mail = run_mailed decl script fits few h open_inputs run;
   replies = replies_due decl script fits accepted asks h open_inputs run planned few;
   sites = run_due decl script fits few h open_inputs run given;
+  admin = run_admin_due decl script fits accepted.has_site few h open_inputs run;
 }

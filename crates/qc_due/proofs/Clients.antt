@@ -1,7 +1,7 @@
 -- In each run with falls all that a client does is due.
 use Rattle.std.proofs.Common.{◌≡◌, ◌<◌, ◌≤◌, ℕ, ◌-◌, ◌&&◌, Bool, true, List, [], length, Some, slice_get, sym, subst, le-leb, lt-ltb, arith}
 use Rattle.qc_core.specs.Conduct.{IsLawfulWithFalls}
-use Rattle.qc_decl.specs.Actors.{actors, client_actor, is_client}
+use Rattle.qc_decl.specs.Actors.{actors, administrator, client_actor, is_client}
 use Rattle.qc_decl.specs.declared.declaration.Declaration.{Declaration}
 use Rattle.qc_laws.proofs.Places.{slice_get-within}
 use Rattle.qc_link.specs.Limits.{most_actors}
@@ -28,7 +28,7 @@ module _ (decl : Declaration) (script : Script) (fits : ℕ → List Record → 
       placed = subst (λ (n : ℕ). client_actor decl client < n) (sym (run_long decl script fits few h open_inputs run)) low
 
       is : is_client decl (client_actor decl client) ≡ true
-      is = λ i. le-leb decl.sites (client_actor decl client) (omega arith) i && lt-ltb (client_actor decl client) (actors decl) low i
+      is = λ i. le-leb decl.sites (client_actor decl client) (omega arith) i && lt-ltb (client_actor decl client) (administrator decl) (omega arith) i
 
       number : client_actor decl client - decl.sites ≡ client
       number = omega arith

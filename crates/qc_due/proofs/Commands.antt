@@ -3,6 +3,7 @@ use Rattle.std.proofs.Common.{◌≡◌, ℕ, ◌-◌, ◌++◌, ◌<◌, ◌≤
 use Rattle.std.specs.Prelude.{fold}
 use Rattle.std.specs.List.{find}
 use Rattle.std.proofs.lemmas.Bool.{leb-true, ltb-true}
+use Rattle.qc_decl.proofs.Clients.{client_past}
 use Rattle.qc_decl.specs.declared.declaration.Declaration.{Declaration}
 use Rattle.qc_decl.specs.Actors.{actors, is_client, is_site}
 use Rattle.qc_core.specs.Acts.{MayTake, is_running, runs_at}
@@ -131,7 +132,7 @@ pub no_site : (decl : Declaration) (a : ℕ) → is_client decl a ≡ true → i
 no_site decl a is = by (nat_lt a decl.sites) refl
   where
     by : (b : Bool) → nat_lt a decl.sites ≡ b → b ≡ false
-    by true low = absurd (let less : a < decl.sites = ltb-true a decl.sites low in let more : decl.sites ≤ a = leb-true decl.sites a (first_true (nat_le decl.sites a) (nat_lt a (actors decl)) is) in omega arith)
+    by true low = absurd (let less : a < decl.sites = ltb-true a decl.sites low in let more : decl.sites ≤ a = client_past decl a is in omega arith)
     by false low = refl
 
 pub lawful_turn : (decl : Declaration) (a : ℕ) (ds : List Deed) (turn : Turn) → is_client decl a ≡ true → IsLawful decl a ds turn → turn ≡ (client_after decl (a - decl.sites) ds).turn

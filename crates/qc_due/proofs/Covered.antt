@@ -1,4 +1,5 @@
--- Each open request of a client is awaited: it stays so as others act, and as the client takes an input and posts.
+-- Each open request of a client, or of the administrator, is awaited: it stays so as others act, and as he takes an input
+-- and posts.
 use Rattle.std.proofs.Common.{◌≡◌, ℕ, ◌+◌, ◌==◌, ◌⊎◌, Bool, true, false, if◌then◌else◌, inl, inr, List, [], ◌∷◌, ◌++◌, drop, Option, Some, None, refl, sym, ◌∙◌, subst, eq-eqb}
 use Rattle.std.specs.Prelude.{fold, set}
 use Rattle.qc_list.specs.Members.{In}
@@ -8,6 +9,9 @@ use Rattle.qc_core.specs.Actors.{ActorMove, actor_does, actor_sends, actor_takes
 use Rattle.qc_decl.specs.declared.declaration.Declaration.{Declaration}
 use Rattle.qc_client.specs.declared.client.Client.{Client}
 use Rattle.qc_client.specs.Conduct.{client_takes, sent_one}
+use Rattle.qc_epoch.specs.Admin.{Admin}
+use Rattle.qc_epoch.specs.Conduct as admins
+use Rattle.qc_epoch.specs.Conduct.{admin_takes}
 use Rattle.qc_laws.specs.Calls.{IsAwaited, open_calls}
 use Rattle.qc_laws.proofs.Awaiting.{awaited_got, awaited_lost, awaited_request}
 use Rattle.qc_laws.proofs.Covered.{ready_copy, ready_loss}
@@ -25,8 +29,10 @@ use Rattle.qc_msg.specs.declared.turn.Turn.{Turn}
 use Rattle.qc_msg.specs.Deeds.{Sends, sends_of, tells_of, turn_deeds, writes_of}
 use Rattle.qc_msg.specs.Steps.{Entry, by, posted, sents, step_of, told, wrote}
 use Rattle.qc_script.specs.declared.script.Script.{Script}
-use Rattle.qc_script.specs.Inbox.{Inbox, control_acted, copy_taken, inbox_at, is_up, loss_taken}
+use Rattle.qc_script.specs.Inbox.{Inbox, control_acted, copy_taken, inbox_at, is_request, is_up, loss_taken}
 use Rattle.qc_script.specs.Ready.{ready_in}
+use Rattle.qc_due.proofs.AdminCalls.{KeepsCalls, sent_call, takes_keep}
+use Rattle.qc_due.proofs.AdminNumbers.{DoingPlain, open_numbers}
 use Rattle.qc_due.proofs.Awaiting.{KeepsUp, Spares, awaited_step, keeps_up}
 
 -- each open request of a client is awaited, and the client is up by its inbox
@@ -35,9 +41,16 @@ pub record AreAwaited (a : ℕ) (c : Client) (i : Inbox) : Type 0 where
   pub calls : (q : Call) → In q (open_calls c) → IsAwaited q.number i
   pub bound : IsBound c.front
 
+-- the same of the administrator
+pub record AreHisAwaited (a : ℕ) (m : Admin) (i : Inbox) : Type 0 where
+  pub up : is_up i.up a ≡ true
+  pub calls : (k : ℕ) → In k (open_numbers m.doing) → IsAwaited k i
+  pub plain : DoingPlain m.doing
+
 abbrev pub Awaits : ℕ → Actor → Inbox → Type 0
 Awaits a (actors.Site s) i = Unit {0}
 Awaits a (actors.Client c) i = AreAwaited a c i
+Awaits a (actors.Admin m) i = AreHisAwaited a m i
 Awaits a actors.Down i = Unit {0}
 
 module _ (decl : Declaration) (script : Script) (a : ℕ) where
@@ -50,6 +63,11 @@ module _ (decl : Declaration) (script : Script) (a : ℕ) where
     up = keeps_up script a i b step keeps ∙ are.up;
     calls = λ q member. awaited_step script a q.number i b step spares are.up (are.calls q member);
     bound = are.bound;
+  }
+  one_step (actors.Admin m) i b step spares keeps are = record {
+    up = keeps_up script a i b step keeps ∙ are.up;
+    calls = λ k member. awaited_step script a k i b step spares are.up (are.calls k member);
+    plain = are.plain;
   }
   one_step actors.Down i b step spares keeps are = tt
 
@@ -108,9 +126,23 @@ module _ (decl : Declaration) (script : Script) (a : ℕ) where
           subst (λ (t : Bool). IsAwaited q.number (if t then loss_taken i else i)) (sym (eq-eqb a a refl))
           (awaited_lost script a q.number n i (drop 1 i.lost) (ready_loss decl a i n r) (kept.calls q member).1 (are.calls q (kept.calls q member).0))
 
+  admin_take : (m : Admin) (i : Inbox) (g : Given) → ready_in decl a i ≡ Some g → AreHisAwaited a m i → AreHisAwaited a (admin_takes decl m g).admin (inbox_at script a i a (step_of g))
+  admin_take m i g rdy are = record { up = taken_up i g are.up; calls = at g rdy (takes_keep decl m g are.plain); plain = (takes_keep decl m g are.plain).plain }
+    where
+      at : (g : Given) → ready_in decl a i ≡ Some g → KeepsCalls (λ k. IsNotFor k g) (open_numbers m.doing) (admin_takes decl m g)
+          → (k : ℕ) → In k (open_numbers (admin_takes decl m g).admin.doing) → IsAwaited k (inbox_at script a i a (step_of g))
+      at (given.Called command) r kept k member = awaited_step script a k i a (steps.Called command) tt are.up (are.calls k (kept.calls k member).0)
+      at (given.Got e) r kept k member =
+          subst (λ (t : Bool). IsAwaited k (if t then copy_taken i else i)) (sym (eq-eqb a a refl))
+          (awaited_got script a k i e (drop 1 i.copies) (ready_copy decl a i e r) (kept.calls k member).1 (are.calls k (kept.calls k member).0))
+      at (given.Lost n) r kept k member =
+          subst (λ (t : Bool). IsAwaited k (if t then loss_taken i else i)) (sym (eq-eqb a a refl))
+          (awaited_lost script a k n i (drop 1 i.lost) (ready_loss decl a i n r) (kept.calls k member).1 (are.calls k (kept.calls k member).0))
+
   pub own_take : (v : Actor) (i : Inbox) (g : Given) → ready_in decl a i ≡ Some g → Awaits a v i → Awaits a (actor_takes decl v g).actor (inbox_at script a i a (step_of g))
   own_take (actors.Site s) i g rdy are = tt
   own_take (actors.Client c) i g rdy are = client_take c i g rdy are
+  own_take (actors.Admin m) i g rdy are = admin_take m i g rdy are
   own_take actors.Down i g rdy are = tt
 
   -- it posts: its requests are open then, and awaited
@@ -126,14 +158,27 @@ module _ (decl : Declaration) (script : Script) (a : ℕ) where
       at q (inl old) = awaited_step script a q.number i a (steps.Sent n p.to p.message) tt are.up (are.calls q old)
       at q (inr new) = subst (λ (k : ℕ). IsAwaited k (inbox_at script a i a (steps.Sent n p.to p.message))) (sym new.0) (awaited_request script a i (record { number = n; from = a; to = p.to; message = p.message }) (eq-eqb a a refl) new.1)
 
+  admin_request : (m : Admin) (i : Inbox) (n : ℕ) (p : Posting) → AreHisAwaited a m i → AreHisAwaited a (admins.sent_one m n p.to p.message) (inbox_at script a i a (steps.Sent n p.to p.message))
+  admin_request m i n p are = record {
+    up = keeps_up script a i a (steps.Sent n p.to p.message) tt ∙ are.up;
+    calls = λ k member. at k ((sent_call m n p.to p.message).calls k member);
+    plain = (sent_call m n p.to p.message).plain are.plain;
+  }
+    where
+      at : (k : ℕ) → In k (open_numbers m.doing) ⊎ ((k ≡ n) × (is_request p.message ≡ true)) → IsAwaited k (inbox_at script a i a (steps.Sent n p.to p.message))
+      at k (inl old) = awaited_step script a k i a (steps.Sent n p.to p.message) tt are.up (are.calls k old)
+      at k (inr new) = subst (λ (x : ℕ). IsAwaited x (inbox_at script a i a (steps.Sent n p.to p.message))) (sym new.0) (awaited_request script a i (record { number = n; from = a; to = p.to; message = p.message }) (eq-eqb a a refl) new.1)
+
   own_request : (v : Actor) (i : Inbox) (n : ℕ) (p : Posting) → Awaits a v i → Awaits a (actor_sends v n p.to p.message) (inbox_at script a i a (steps.Sent n p.to p.message))
   own_request (actors.Site s) i n p are = tt
   own_request (actors.Client c) i n p are = client_request c i n p are
+  own_request (actors.Admin m) i n p are = admin_request m i n p are
   own_request actors.Down i n p are = tt
 
   own_wrote : (v : Actor) (i : Inbox) (w : Record) → Awaits a v i → Awaits a v (inbox_at script a i a (steps.Wrote w))
   own_wrote (actors.Site s) i w are = tt
   own_wrote (actors.Client c) i w are = subst (λ (t : Bool). AreAwaited a c (if t then i else control_acted a (record i { up = set i.up a true }))) (sym are.up) are
+  own_wrote (actors.Admin m) i w are = subst (λ (t : Bool). AreHisAwaited a m (if t then i else control_acted a (record i { up = set i.up a true }))) (sym are.up) are
   own_wrote actors.Down i w are = tt
 
   own_tells : (m : ActorMove) (i : Inbox) (reply : Option Reply) → Awaits a m.actor i → Awaits a (fold (actor_does decl a) m (tells_of reply)).actor (fold step_in i (by a (told reply)))

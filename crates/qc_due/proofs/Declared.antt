@@ -26,7 +26,7 @@ module _ (decl : Declaration) (script : Script) (fits : ℕ → List Record → 
   run_declares a = record {
     first = first_planned decl accepted;
     deeds = all_declared decl accepted a (deeds a [] h) (run_askable (IsLawfulWithFalls decl) fits decl script asks h open_inputs run a)
-        (deeds_planned decl a [] h tt (run_planned decl (first_planned decl accepted) script fits h open_inputs run all));
+        (deeds_planned decl a [] h tt (run_planned decl (first_planned decl accepted) script fits asks h open_inputs run all));
   }
 
   pub replies_due : actors decl ≤ most_actors → (client : ℕ) → client < decl.clients → AreRepliesDue decl client (deeds (client_actor decl client) [] h)

@@ -94,13 +94,13 @@ due_do decl d desk t views object inv qs k =
 
 -- what is carried
 
-line_itself : (l : Line) → same_line l l ≡ true
+pub line_itself : (l : Line) → same_line l l ≡ true
 line_itself l = ap is_eq (tied_itself line_order.total l)
 
 own_itself : (l : OwnLine) → same_own l l ≡ true
 own_itself l = rw (eq-eqb l.op l.op refl, eq-eqb l.object l.object refl, eq-eqb l.event l.event refl) refl
 
-all_same : {A : Type 0} (same : A → A → Bool) → ((x : A) → same x x ≡ true) → (xs : List A) → pointwise same xs xs ≡ true
+pub all_same : {A : Type 0} (same : A → A → Bool) → ((x : A) → same x x ≡ true) → (xs : List A) → pointwise same xs xs ≡ true
 all_same same itself [] = refl
 all_same same itself (x ∷ xs) = ap (λ (b : Bool). b && pointwise same xs xs) (itself x) ∙ all_same same itself xs
 

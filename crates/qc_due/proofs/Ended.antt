@@ -4,6 +4,7 @@ use Rattle.std.proofs.Common.{◌≡◌, ℕ, ◌+◌, ◌-◌, ◌<◌, ◌≤�
 use Rattle.std.specs.Prelude.{is_none, replicate}
 use Rattle.std.specs.List.{list_all}
 use Rattle.std.proofs.lemmas.Bool.{ltb-true}
+use Rattle.qc_decl.proofs.Clients.{client_within}
 use Rattle.qc_client.specs.declared.client.Client.{Client}
 use Rattle.qc_client.specs.Conduct.{client_after}
 use Rattle.qc_commit.specs.declared.desk.Desk.{Desk}
@@ -90,7 +91,7 @@ module _ (decl : Declaration) (script : Script) (accepted : IsAccepted decl) (as
   free : (a : ℕ) → is_client decl a ≡ true → slice_get (replicate (actors decl) false) a ≡ Some false
   free a client =
       let place : (t : Bool) × (slice_get (replicate (actors decl) false) a ≡ Some t) =
-      has_entry (IsLawful decl) decl script h (replicate (actors decl) false) closed a (ltb-true a (actors decl) (second_true (nat_le decl.sites a) (nat_lt a (actors decl)) client)) in
+      has_entry (IsLawful decl) decl script h (replicate (actors decl) false) closed a (client_within decl a client) in
       place.1 ∙ ap (λ (t : Bool). Some t) (replicate_at (actors decl) a false place.0 place.1)
 
   pub none_runs : (a : ℕ) → is_client decl a ≡ true → is_running (deeds a [] h) ≡ false

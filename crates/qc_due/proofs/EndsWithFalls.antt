@@ -37,7 +37,7 @@ use Rattle.qc_script.specs.declared.script.Script.{Script}
 use Rattle.qc_due.proofs.AwaitedWithFalls.{open_requests_awaited}
 use Rattle.qc_due.proofs.Places.{client_within, few_actors}
 use Rattle.qc_due.proofs.Plain.{ArePlain, entries_idle, entries_left, inbox_then, line_plain, post_plain}
-use Rattle.qc_due.proofs.Reached.{receiver_is_site, unanswered_at_site}
+use Rattle.qc_due.proofs.ClientReached.{receiver_is_site, unanswered_at_site}
 use Rattle.qc_due.proofs.LifelongWithFalls.{none_runs_down}
 use Rattle.qc_due.proofs.Tied.{IsAtRest, Stands}
 use Rattle.qc_due.proofs.Resting.{free_rests, run_waits, tied_rests}
@@ -56,7 +56,7 @@ place_within [] a t is = absurd (let never : ⊥ = cc in never)
 place_within (b ∷ bs) zero t is = omega arith
 place_within (b ∷ bs) (suc a) t is = let further : a < length bs = place_within bs a t is in omega arith
 
-no_members : {X : Type 0} (xs : List X) → ((x : X) → In x xs → ⊥) → xs ≡ []
+pub no_members : {X : Type 0} (xs : List X) → ((x : X) → In x xs → ⊥) → xs ≡ []
 no_members [] none = refl
 no_members (x ∷ xs) none = absurd (none x (inl refl))
 
@@ -98,7 +98,7 @@ module _ (decl : Declaration) (script : Script) (accepted : IsAccepted decl) (as
           within : r.envelope.to < numbers.actors decl
           within =
               let site : r.envelope.to < decl.sites = receiver_is_site decl script accepted asks fits a client h open_inputs run r.envelope r.sent r.from r.request in
-              let all : numbers.actors decl ≡ decl.sites + decl.clients = refl in
+              let all : numbers.actors decl ≡ decl.sites + decl.clients + 1 = refl in
               omega arith
 
           at : In r.envelope (inbox script r.envelope.to h).copies ⊎ IsTaken h open_inputs r.envelope → ⊥
@@ -163,21 +163,31 @@ module _ (decl : Declaration) (script : Script) (accepted : IsAccepted decl) (as
   cannot : {A : Type 0} (lines : List Control) (line : Control) (more : List Control) → lines ≡ [] → lines ≡ line ∷ more → A
   cannot lines line more none some = absurd (let never : ⊥ = cc in never)
 
-  pub line_idle : (h : List Entry) (open_inputs : List Bool) → IsRun h open_inputs → (line : Control) (lines : List Control) → controls_left script h ≡ line ∷ lines
-      → (a : ℕ) → is_client decl a ≡ true → is_running (deeds a [] h) ≡ false
-  line_idle h open_inputs begins line lines left a client = refl
-  line_idle h open_inputs (takes b g before older run free_b rdy) line lines left a client =
+  -- of one that runs no command where nothing is left, none runs while a control line is
+
+  abbrev pub RestsAtEnds : ℕ → Type 0
+  RestsAtEnds a =
+      (h : List Entry) (open_inputs : List Bool) → IsRun h open_inputs → ((b : ℕ) → slice_get open_inputs b ≡ Some true → ⊥) → IsQuiet decl script h → controls_left script h ≡ []
+      → is_running (deeds a [] h) ≡ false
+
+  pub idle_of : (a : ℕ) → RestsAtEnds a → (h : List Entry) (open_inputs : List Bool) → IsRun h open_inputs → (line : Control) (lines : List Control) → controls_left script h ≡ line ∷ lines → is_running (deeds a [] h) ≡ false
+  idle_of a rests h open_inputs begins line lines left = refl
+  idle_of a rests h open_inputs (takes b g before older run free_b rdy) line lines left =
       let long : length before ≡ numbers.actors decl = run_long decl script fits few older before run in
       let low : b < length before = place_within before b false free_b in
       cannot (controls_left script (older ++ marked b (step_of g) ∷ [])) line lines (taken_left older b g ∙ none_left older b (omega arith) g rdy) left
-  line_idle h open_inputs (posts b turn before older run open_b law) line lines left a client =
+  idle_of a rests h open_inputs (posts b turn before older run open_b law) line lines left =
       cannot (controls_left script (older ++ by b (posted_as turn.append (length (mail older)) turn))) line lines
       (plain_left older (by b (posted_as turn.append (length (mail older)) turn)) (post_plain b (length (mail older)) turn.append turn) (open_closes older before run b open_b)) left
-  line_idle h open_inputs (phase before older run none done quiet_all more) line lines left a client =
-      phase_idle older a (none_runs older before run none quiet_all done a client)
-  line_idle h open_inputs (control first rest step before older run at is) line lines left a client = entries_idle a older (marked (controller decl) step ∷ []) (line_plain first step is, tt) (line_idle older before run first rest at a client)
-  line_idle h open_inputs (falls b rest before older run at) line lines left a client = entries_idle a older _ (tt, tt) (line_idle older before run _ rest at a client)
-  line_idle h open_inputs (rises b kept turn rest before older run at fit has law) line lines left a client =
-      entries_idle a older (by b (steps.Rose kept ∷ posted_as turn.append (length (mail older)) turn)) (tt, post_plain b (length (mail older)) turn.append turn) (line_idle older before run _ rest at a client)
-  line_idle h open_inputs (damaged b offset rest before older run at) line lines left a client = entries_idle a older _ (tt, tt) (line_idle older before run _ rest at a client)
-  line_idle h open_inputs (unopened b cause rest before older run at disk) line lines left a client = entries_idle a older _ (tt, tt) (line_idle older before run _ rest at a client)
+  idle_of a rests h open_inputs (phase before older run none done quiet_all more) line lines left =
+      phase_idle older a (rests older before run none quiet_all done)
+  idle_of a rests h open_inputs (control first rest step before older run at is) line lines left = entries_idle a older (marked (controller decl) step ∷ []) (line_plain first step is, tt) (idle_of a rests older before run first rest at)
+  idle_of a rests h open_inputs (falls b rest before older run at) line lines left = entries_idle a older _ (tt, tt) (idle_of a rests older before run _ rest at)
+  idle_of a rests h open_inputs (rises b kept turn rest before older run at fit has law) line lines left =
+      entries_idle a older (by b (steps.Rose kept ∷ posted_as turn.append (length (mail older)) turn)) (tt, post_plain b (length (mail older)) turn.append turn) (idle_of a rests older before run _ rest at)
+  idle_of a rests h open_inputs (damaged b offset rest before older run at) line lines left = entries_idle a older _ (tt, tt) (idle_of a rests older before run _ rest at)
+  idle_of a rests h open_inputs (unopened b cause rest before older run at disk) line lines left = entries_idle a older _ (tt, tt) (idle_of a rests older before run _ rest at)
+
+  pub line_idle : (h : List Entry) (open_inputs : List Bool) → IsRun h open_inputs → (line : Control) (lines : List Control) → controls_left script h ≡ line ∷ lines
+      → (a : ℕ) → is_client decl a ≡ true → is_running (deeds a [] h) ≡ false
+  line_idle h open_inputs run line lines left a client = idle_of a (λ k o r closed quiet done. none_runs k o r closed quiet done a client) h open_inputs run line lines left

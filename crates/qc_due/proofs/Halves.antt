@@ -27,7 +27,7 @@ drop_suc zero ys = refl
 drop_suc (suc n) [] = refl
 drop_suc (suc n) (y ∷ ys) = drop_suc n ys
 
-drop_last : {A B : Type 0} (xs : List A) (x : A) (ys : List B) → drop (length (xs ++ x ∷ [])) ys ≡ drop 1 (drop (length xs) ys)
+pub drop_last : {A B : Type 0} (xs : List A) (x : A) (ys : List B) → drop (length (xs ++ x ∷ [])) ys ≡ drop 1 (drop (length xs) ys)
 drop_last [] x ys = refl
 drop_last (z ∷ xs) x [] = sym (drop-nil 1)
 drop_last (z ∷ xs) x (y ∷ ys) = drop_last xs x ys

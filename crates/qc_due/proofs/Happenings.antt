@@ -1,6 +1,7 @@
 -- What each event of a client leaves: a fall, a rise, an input with its turn. All that was due is due still.
 use Rattle.std.proofs.Common.{◌≡◌, ℕ, ◌-◌, Bool, true, false, cond, List, [], ◌∷◌, ◌++◌, inl, inr, Option, Some, None, is_some, refl, sym, ap, ◌∙◌, subst, append_assoc}
 use Rattle.std.specs.Prelude.{fold, option_and_then}
+use Rattle.qc_core.proofs.ByNumber.{client_risen}
 use Rattle.qc_core.specs.declared.actor.Actor.{Actor}
 use Rattle.qc_core.specs.Actors.{ActorMove, actor_after, actor_does, actor_takes, by_client, by_site}
 use Rattle.qc_core.specs.Acts.{MayTake}
@@ -101,7 +102,7 @@ module _ (decl : Declaration) (a : ℕ) (client : is_client decl a ≡ true) whe
   -- a rise, whatever its records
 
   rises_to : (ds : List Deed) (kept : List Record) → actor_after decl a (ds ++ Rises kept ∷ []) ≡ by_client (client_rises (a - decl.sites) kept)
-  rises_to ds kept = actor_more decl a ds (Rises kept ∷ []) ∙ ap (λ (b : Bool). cond b (by_site (site_rises decl a kept)) (by_client (client_rises (a - decl.sites) kept))) (no_site decl a client)
+  rises_to ds kept = actor_more decl a ds (Rises kept ∷ []) ∙ client_risen decl a client kept
 
   module _ (planned : IsPlanned decl first_epoch) (ds : List Deed) (r : IsAtRest decl a ds) (kept : List Record) where
     anew : account_is decl a (ds ++ Rises kept ∷ []) ≡ account_with (a - decl.sites) kept

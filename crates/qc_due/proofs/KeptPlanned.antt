@@ -2,6 +2,8 @@
 use Rattle.std.proofs.Common.{◌≡◌, ◌≤◌, ℕ, ◌+◌, ◌==◌, Bool, true, false, cond, List, [], ◌∷◌, ◌++◌, filter, map, length, Option, Some, None, inl, inr, refl, sym, ap, ◌∙◌, subst, append_assoc}
 use Rattle.std.specs.Prelude.{fold, option_to_list}
 use Rattle.std.specs.List.{AllByRecursion as Every}
+use Rattle.qc_laws.proofs.Proper.{IsAskableDeed}
+use Rattle.qc_due.proofs.Commanded.{run_askable}
 use Rattle.qc_list.proofs.Members.{every-weaker}
 use Rattle.qc_core.specs.Conduct.{IsLawfulWithFalls}
 use Rattle.qc_decl.specs.Accepted.{IsAccepted}
@@ -37,7 +39,7 @@ use Rattle.qc_due.proofs.PlannedMail.{IsMailPlanned, deeds_planned}
 use Rattle.qc_inbox.proofs.Keeping.{same_mail}
 use Rattle.qc_due.specs.Risen.{AllRisePlanned, RisesPlanned}
 use Rattle.qc_due.proofs.AllDue.{runs_due}
-use Rattle.qc_due.proofs.MailPlanned.{deeds_risen, lawful_writes, run_planned}
+use Rattle.qc_due.proofs.MailPlanned.{deeds_risen, lawful_writes, rise_askable, run_planned}
 
 module _ (decl : Declaration) where
   -- steps that put records of epochs with plans alone into a journal
@@ -163,27 +165,27 @@ module _ (decl : Declaration) where
 part_kept : (h k : List Entry) → Kept (h ++ k) → Kept h
 part_kept h k kept = λ before later e is. kept before (later ++ k) e (sym (append_assoc before (e ∷ later) k) ∙ ap (λ (es : List Entry). es ++ k) is)
 
-module _ (decl : Declaration) (script : Script) (fits : ℕ → List Record → Type 0) (accepted : IsAccepted decl) where
+module _ (decl : Declaration) (script : Script) (fits : ℕ → List Record → Type 0) (accepted : IsAccepted decl) (asks : AsksDeclared decl script) where
   abbrev IsRun : List Entry → List Bool → Type 0
   IsRun h open_inputs = RunsWithFalls (IsLawfulWithFalls decl) fits decl script h open_inputs
 
   more : (h k : List Entry) → AllPutPlanned decl h → AllPutPlanned decl k → AllPutPlanned decl (h ++ k)
   more h k first second = both_all (λ (e : Entry). PutsPlanned decl e.step) h k first second
 
-  turn_puts : (a n : ℕ) (h : List Entry) (turn : Turn) → IsLawfulWithFalls decl a (deeds a [] h) turn → IsMailPlanned decl (mail h) → AllPutPlanned decl h → AllPutPlanned decl (by a (posted_as turn.append n turn))
-  turn_puts a n h turn law told puts =
+  turn_puts : (a n : ℕ) (h : List Entry) (turn : Turn) → IsLawfulWithFalls decl a (deeds a [] h) turn → IsMailPlanned decl (mail h) → AllPutPlanned decl h → Every (IsAskableDeed decl a) (deeds a [] h) → AllPutPlanned decl (by a (posted_as turn.append n turn))
+  turn_puts a n h turn law told puts asked =
       post_puts decl a n turn.append turn
-      (lawful_writes decl (first_planned decl accepted) a (deeds a [] h) turn (deeds_planned decl a [] h tt told) (deeds_risen decl a [] h (all_rise decl h puts)) law)
+      (lawful_writes decl (first_planned decl accepted) a (deeds a [] h) turn (deeds_planned decl a [] h tt told) (deeds_risen decl a [] h (all_rise decl h puts)) asked law)
 
   mail_planned : (h : List Entry) (open_inputs : List Bool) → IsRun h open_inputs → AllPutPlanned decl h → IsMailPlanned decl (mail h)
-  mail_planned h open_inputs run puts = run_planned decl (first_planned decl accepted) script fits h open_inputs run (all_rise decl h puts)
+  mail_planned h open_inputs run puts = run_planned decl (first_planned decl accepted) script fits asks h open_inputs run (all_rise decl h puts)
 
   run_puts : (h : List Entry) (open_inputs : List Bool) → IsRun h open_inputs → Kept h → AllPutPlanned decl h
   run_puts h open_inputs begins kept = tt
   run_puts h open_inputs (takes a g before older run free rdy) kept = more older _ (run_puts older before run (part_kept older _ kept)) (input_puts decl g, tt)
   run_puts h open_inputs (posts a turn before older run taken law) kept =
       let puts : AllPutPlanned decl older = run_puts older before run (part_kept older _ kept) in
-      more older (by a (posted_as turn.append (length (mail older)) turn)) puts (turn_puts a (length (mail older)) older turn law (mail_planned older before run puts) puts)
+      more older (by a (posted_as turn.append (length (mail older)) turn)) puts (turn_puts a (length (mail older)) older turn law (mail_planned older before run puts) puts (run_askable (IsLawfulWithFalls decl) fits decl script asks older before run a))
   run_puts h open_inputs (phase before older run none done quiet further) kept = more older _ (run_puts older before run (part_kept older _ kept)) (tt, tt)
   run_puts h open_inputs (control line lines step before older run left is) kept = more older _ (run_puts older before run (part_kept older _ kept)) (line_puts decl line step is, tt)
   run_puts h open_inputs (falls a lines before older run left) kept = more older _ (run_puts older before run (part_kept older _ kept)) (tt, tt)
@@ -194,7 +196,8 @@ module _ (decl : Declaration) (script : Script) (fits : ℕ → List Record → 
       more older (marked a (steps.Rose records) ∷ post) puts (
         risen,
         turn_puts a (length (mail older)) (older ++ marked a (steps.Rose records) ∷ []) turn law
-            (subst (IsMailPlanned decl) (sym (same_mail older (marked a (steps.Rose records)) refl)) (mail_planned older before run puts)) (more older (marked a (steps.Rose records) ∷ []) puts (risen, tt)),
+            (subst (IsMailPlanned decl) (sym (same_mail older (marked a (steps.Rose records)) refl)) (mail_planned older before run puts)) (more older (marked a (steps.Rose records) ∷ []) puts (risen, tt))
+            (rise_askable decl a older records (run_askable (IsLawfulWithFalls decl) fits decl script asks older before run a)),
       )
   run_puts h open_inputs (damaged a offset lines before older run left) kept = more older _ (run_puts older before run (part_kept older _ kept)) (tt, tt)
   run_puts h open_inputs (unopened a cause lines before older run left disk) kept = more older _ (run_puts older before run (part_kept older _ kept)) (tt, tt)
@@ -206,6 +209,6 @@ module _ (decl : Declaration) (script : Script) (fits : ℕ → List Record → 
   pub journals_planned : (h : List Entry) (open_inputs : List Bool) → IsRun h open_inputs → Kept h → (a : ℕ) → Every (IsRecordPlanned decl) (journal_of (own a h)).records
   journals_planned h open_inputs run kept a = given_planned decl a h (journal_of (own a h)).records (run_puts h open_inputs run kept) (inl refl)
 
-  pub kept_due : AsksDeclared decl script → actors decl ≤ most_actors → (h : List Entry) (open_inputs : List Bool) → IsRun h open_inputs → Kept h → Due decl h
-  kept_due asks few h open_inputs run kept =
+  pub kept_due : actors decl ≤ most_actors → (h : List Entry) (open_inputs : List Bool) → IsRun h open_inputs → Kept h → Due decl h
+  kept_due few h open_inputs run kept =
       runs_due decl script fits accepted asks few h open_inputs run (kept_planned h open_inputs run kept) (kept_rises decl script fits few h open_inputs run kept)

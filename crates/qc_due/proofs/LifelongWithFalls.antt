@@ -1,6 +1,7 @@
 -- Over all its deeds, through falls and rises, a client that is up and has no open input is tied to its account; its
 -- turns tell only where a command runs.
 use Rattle.std.proofs.Common.{◌≡◌, ℕ, ◌-◌, Bool, true, false, cond, List, [], ◌∷◌, ◌++◌, None, is_some, refl, sym, ap, ◌∙◌, subst}
+use Rattle.qc_core.proofs.ByNumber.{client_risen}
 use Rattle.qc_core.specs.declared.actor.Actor.{Actor}
 use Rattle.qc_core.specs.declared.actor.Actor.TheVariants as actors
 use Rattle.qc_core.specs.Actors.{ActorMove, actor_after, actor_takes, by_client, by_site}
@@ -94,7 +95,7 @@ module _ (decl : Declaration) (a : ℕ) (client : is_client decl a ≡ true) whe
   -- a rise, whatever its records
 
   pub rises_to : (ds : List Deed) (kept : List Record) → actor_after decl a (ds ++ Rises kept ∷ []) ≡ by_client (client_rises (a - decl.sites) kept)
-  rises_to ds kept = actor_more decl a ds (Rises kept ∷ []) ∙ ap (λ (b : Bool). cond b (by_site (site_rises decl a kept)) (by_client (client_rises (a - decl.sites) kept))) (no_site decl a client)
+  rises_to ds kept = actor_more decl a ds (Rises kept ∷ []) ∙ client_risen decl a client kept
 
   risen_rest : (ds : List Deed) (kept : List Record) → IsAtRest decl a client ((ds ++ Rises kept ∷ []) ++ Writes records.Life ∷ [])
   risen_rest ds kept = record {

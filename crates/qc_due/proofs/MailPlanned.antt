@@ -2,6 +2,14 @@
 use Rattle.std.proofs.Common.{◌≡◌, ℕ, ◌+◌, ◌-◌, ◌==◌, Bool, true, false, cond, List, [], ◌∷◌, ◌++◌, length, Option, Some, None, slice_get, inl, inr, refl, sym, subst, append_assoc}
 use Rattle.std.specs.Prelude.{fold, option_to_list}
 use Rattle.std.specs.List.{AllByRecursion as Every}
+use Rattle.qc_core.specs.Actors.{by_admin}
+use Rattle.qc_recover.specs.Admins.{admin_rises}
+use Rattle.qc_epoch.specs.Admin.{new_admin}
+use Rattle.qc_laws.proofs.Lived.{deeds-rise}
+use Rattle.qc_laws.specs.Asked.{AsksDeclared}
+use Rattle.qc_laws.proofs.Proper.{IsAskableDeed}
+use Rattle.qc_due.proofs.Commanded.{run_askable}
+use Rattle.qc_due.proofs.AdminEpochs.{AdminMovePlanned, AdminPlanned, IsPlannedInput, admin_planned, input_planned, new_admin_planned, risen_admin_planned, sent_planned}
 use Rattle.qc_client.specs.Client.{new_client}
 use Rattle.qc_client.specs.Conduct.{client_takes}
 use Rattle.qc_core.specs.declared.actor.Actor.{Actor}
@@ -10,7 +18,7 @@ use Rattle.qc_core.specs.Actors.{ActorMove, actor_does, actor_rises, actor_sends
 use Rattle.qc_core.specs.Conduct.{IsLawfulWithFalls, with_record}
 use Rattle.qc_core.proofs.ByTurns.{called_turn}
 use Rattle.qc_core.proofs.Written.{client_written}
-use Rattle.qc_decl.specs.Actors.{controller, is_site}
+use Rattle.qc_decl.specs.Actors.{controller, is_client, is_site}
 use Rattle.qc_decl.specs.declared.declaration.Declaration.{Declaration}
 use Rattle.qc_inbox.proofs.Keeping.{same_mail}
 use Rattle.qc_laws.proofs.Mailed.{both_all}
@@ -52,6 +60,7 @@ use Rattle.qc_due.proofs.SiteRises.{rises_planned, rising_planned}
 abbrev ActorPlanned : Declaration → Actor → Type 0
 ActorPlanned decl (actor.Site s) = SitePlanned decl s
 ActorPlanned decl (actor.Client c) = Unit {0}
+ActorPlanned decl (actor.Admin m) = AdminPlanned decl m
 ActorPlanned decl actor.Down = Unit {0}
 
 record MovePlanned (decl : Declaration) (m : ActorMove) : Type 0 where
@@ -71,60 +80,64 @@ client_writes : (decl : Declaration) (t : Turn) → IsClientTurn t → Every (Is
 client_writes decl t (inl none) = subst (λ (w : Option Record). Every (IsRecordPlanned decl) (option_to_list w)) (sym none) tt
 client_writes decl t (inr one) = subst (λ (w : Option Record). Every (IsRecordPlanned decl) (option_to_list w)) (sym one.write) (tt, tt)
 
-actor_planned : (decl : Declaration) (v : Actor) (g : Given) → TakesPlanned decl g → ActorPlanned decl v → MovePlanned decl (actor_takes decl v g)
-actor_planned decl (actor.Site s) g told w = record { state = takes_stay_planned decl s g told w; turn = takes_planned decl s g told w }
-actor_planned decl (actor.Client c) g told w = record {
+actor_planned : (decl : Declaration) (v : Actor) (g : Given) → TakesPlanned decl g → IsPlannedInput decl g → ActorPlanned decl v → MovePlanned decl (actor_takes decl v g)
+actor_planned decl (actor.Site s) g told asked w = record { state = takes_stay_planned decl s g told w; turn = takes_planned decl s g told w }
+actor_planned decl (actor.Client c) g told asked w = record {
   state = tt;
   turn = record { sends = client_takes_planned decl c g; failed_sends = subst (TellPlanned decl) (sym (client_written decl c g).failed_sends) tt; writes = client_writes decl (client_takes decl c g).turn (takes_turn decl c g) };
 }
-actor_planned decl actor.Down (given.Called command) told w = record { state = tt; turn = record { sends = tt; failed_sends = tt; writes = tt } }
-actor_planned decl actor.Down (given.Got e) told w = record { state = tt; turn = says_nothing decl }
-actor_planned decl actor.Down (given.Lost number) told w = record { state = tt; turn = says_nothing decl }
+actor_planned decl (actor.Admin m) g told asked w = let moves : AdminMovePlanned decl _ = admin_planned decl m w g asked in record { state = moves.state; turn = moves.turn }
+actor_planned decl actor.Down (given.Called command) told asked w = record { state = tt; turn = record { sends = tt; failed_sends = tt; writes = tt } }
+actor_planned decl actor.Down (given.Got e) told asked w = record { state = tt; turn = says_nothing decl }
+actor_planned decl actor.Down (given.Lost number) told asked w = record { state = tt; turn = says_nothing decl }
 
 sends_planned : (decl : Declaration) (v : Actor) (number to : ℕ) (message : Message) → ActorPlanned decl v → ActorPlanned decl (actor_sends v number to message)
 sends_planned decl (actor.Site s) number to message w = w
 sends_planned decl (actor.Client c) number to message w = tt
+sends_planned decl (actor.Admin m) number to message w = sent_planned decl m w number to message
 sends_planned decl actor.Down number to message w = tt
 
 module _ (decl : Declaration) (first : IsPlanned decl first_epoch) where
   risen_planned : (a : ℕ) (kept : List Record) → Every (IsRecordPlanned decl) kept → MovePlanned decl (actor_rises decl a kept)
-  risen_planned a kept all = at (is_site decl a)
+  risen_planned a kept all = at (is_site decl a) (is_client decl a)
     where
-      at : (b : Bool) → MovePlanned decl (cond b (by_site (site_rises decl a kept)) (by_client (client_rises (a - decl.sites) kept)))
-      at true = record { state = rises_planned decl first a kept all; turn = rising_planned decl a kept }
-      at false = record { state = tt; turn = record { sends = tt; failed_sends = tt; writes = (tt, tt) } }
+      at : (b c : Bool) → MovePlanned decl (cond b (by_site (site_rises decl a kept)) (cond c (by_client (client_rises (a - decl.sites) kept)) (by_admin (admin_rises kept))))
+      at true c = record { state = rises_planned decl first a kept all; turn = rising_planned decl a kept }
+      at false true = record { state = tt; turn = record { sends = tt; failed_sends = tt; writes = (tt, tt) } }
+      at false false = record { state = risen_admin_planned decl kept all; turn = record { sends = tt; failed_sends = tt; writes = (tt, tt) } }
 
-  does_planned : (a : ℕ) (ds : List Deed) (m : ActorMove) → Every (DeedPlanned decl) ds → Every (RisesOfPlanned decl) ds → MovePlanned decl m → MovePlanned decl (fold (actor_does decl a) m ds)
-  does_planned a [] m told all w = w
-  does_planned a (Takes g ∷ ds) m told all w = does_planned a ds (actor_takes decl m.actor g) told.1 all.1 (actor_planned decl m.actor g told.0 w.state)
-  does_planned a (Writes written ∷ ds) m told all w = does_planned a ds m told.1 all.1 w
-  does_planned a (Sends number to message ∷ ds) m told all w =
-      does_planned a ds (record m { actor = actor_sends m.actor number to message }) told.1 all.1 (record { state = sends_planned decl m.actor number to message w.state; turn = w.turn })
-  does_planned a (Tells reply ∷ ds) m told all w = does_planned a ds m told.1 all.1 w
-  does_planned a (Falls cause pending ∷ ds) m told all w = does_planned a ds (moved actor.Down quiet) told.1 all.1 (record { state = tt; turn = says_nothing decl })
-  does_planned a (Rises kept ∷ ds) m told all w = does_planned a ds (actor_rises decl a kept) told.1 all.1 (risen_planned a kept all.0)
+  does_planned : (a : ℕ) (ds : List Deed) (m : ActorMove) → Every (DeedPlanned decl) ds → Every (RisesOfPlanned decl) ds → Every (IsAskableDeed decl a) ds → MovePlanned decl m → MovePlanned decl (fold (actor_does decl a) m ds)
+  does_planned a [] m told all asked w = w
+  does_planned a (Takes g ∷ ds) m told all asked w = does_planned a ds (actor_takes decl m.actor g) told.1 all.1 asked.1 (actor_planned decl m.actor g told.0 (input_planned decl a g asked.0) w.state)
+  does_planned a (Writes written ∷ ds) m told all asked w = does_planned a ds m told.1 all.1 asked.1 w
+  does_planned a (Sends number to message ∷ ds) m told all asked w =
+      does_planned a ds (record m { actor = actor_sends m.actor number to message }) told.1 all.1 asked.1 (record { state = sends_planned decl m.actor number to message w.state; turn = w.turn })
+  does_planned a (Tells reply ∷ ds) m told all asked w = does_planned a ds m told.1 all.1 asked.1 w
+  does_planned a (Falls cause pending ∷ ds) m told all asked w = does_planned a ds (moved actor.Down quiet) told.1 all.1 asked.1 (record { state = tt; turn = says_nothing decl })
+  does_planned a (Rises kept ∷ ds) m told all asked w = does_planned a ds (actor_rises decl a kept) told.1 all.1 asked.1 (risen_planned a kept all.0)
 
   new_planned : (a : ℕ) → ActorPlanned decl (new_actor decl a)
-  new_planned a = at (is_site decl a)
+  new_planned a = at (is_site decl a) (is_client decl a)
     where
-      at : (b : Bool) → ActorPlanned decl (cond b (actor.Site (new_site a)) (actor.Client (new_client (a - decl.sites))))
-      at true = record { epoch = first; closed = tt }
-      at false = tt
+      at : (b c : Bool) → ActorPlanned decl (cond b (actor.Site (new_site a)) (cond c (actor.Client (new_client (a - decl.sites))) (actor.Admin new_admin)))
+      at true c = record { epoch = first; closed = tt }
+      at false true = tt
+      at false false = new_admin_planned decl
 
-  lawful_turn : (a : ℕ) (ds : List Deed) (turn : Turn) → Every (DeedPlanned decl) ds → Every (RisesOfPlanned decl) ds → IsLawfulWithFalls decl a ds turn → TurnPlanned decl (with_record turn)
-  lawful_turn a ds turn told all law =
-      subst (TurnPlanned decl) (called_turn decl a ds turn law) (does_planned a ds (moved (new_actor decl a) quiet) told all (record { state = new_planned a; turn = says_nothing decl })).turn
+  lawful_turn : (a : ℕ) (ds : List Deed) (turn : Turn) → Every (DeedPlanned decl) ds → Every (RisesOfPlanned decl) ds → Every (IsAskableDeed decl a) ds → IsLawfulWithFalls decl a ds turn → TurnPlanned decl (with_record turn)
+  lawful_turn a ds turn told all asked law =
+      subst (TurnPlanned decl) (called_turn decl a ds turn law) (does_planned a ds (moved (new_actor decl a) quiet) told all asked (record { state = new_planned a; turn = says_nothing decl })).turn
 
-  lawful_sends : (a : ℕ) (ds : List Deed) (turn : Turn) → Every (DeedPlanned decl) ds → Every (RisesOfPlanned decl) ds → IsLawfulWithFalls decl a ds turn → TellPlanned decl (sends_as turn.append turn)
-  lawful_sends a ds turn told all law = sent_as turn.append (lawful_turn a ds turn told all law)
+  lawful_sends : (a : ℕ) (ds : List Deed) (turn : Turn) → Every (DeedPlanned decl) ds → Every (RisesOfPlanned decl) ds → Every (IsAskableDeed decl a) ds → IsLawfulWithFalls decl a ds turn → TellPlanned decl (sends_as turn.append turn)
+  lawful_sends a ds turn told all asked law = sent_as turn.append (lawful_turn a ds turn told all asked law)
     where
       sent_as : (end : Appended) → TurnPlanned decl (with_record turn) → TellPlanned decl (sends_as end turn)
       sent_as Done planned = planned.sends
       sent_as Failed planned = planned.failed_sends
       sent_as Stopped planned = tt
 
-  pub lawful_writes : (a : ℕ) (ds : List Deed) (turn : Turn) → Every (DeedPlanned decl) ds → Every (RisesOfPlanned decl) ds → IsLawfulWithFalls decl a ds turn → Every (IsRecordPlanned decl) (option_to_list turn.write)
-  lawful_writes a ds turn told all law = (lawful_turn a ds turn told all law).writes
+  pub lawful_writes : (a : ℕ) (ds : List Deed) (turn : Turn) → Every (DeedPlanned decl) ds → Every (RisesOfPlanned decl) ds → Every (IsAskableDeed decl a) ds → IsLawfulWithFalls decl a ds turn → Every (IsRecordPlanned decl) (option_to_list turn.write)
+  lawful_writes a ds turn told all asked law = (lawful_turn a ds turn told all asked law).writes
 
 -- the deeds of a history in which nobody rises with an epoch without a plan
 
@@ -161,9 +174,13 @@ pub part_risen : (decl : Declaration) (h k : List Entry) → AllRisePlanned decl
 part_risen decl [] k all = tt
 part_risen decl (e ∷ h) k all = (all.0, part_risen decl h k all.1)
 
+-- a rise asks for nothing
+pub rise_askable : (decl : Declaration) (a : ℕ) (h : List Entry) (kept : List Record) → Every (IsAskableDeed decl a) (deeds a [] h) → Every (IsAskableDeed decl a) (deeds a [] (h ++ marked a (steps.Rose kept) ∷ []))
+rise_askable decl a h kept all = subst (Every (IsAskableDeed decl a)) (sym (deeds-rise a h kept)) (both_all (IsAskableDeed decl a) (deeds a [] h) (Rises kept ∷ []) all (tt, tt))
+
 -- each run
 
-module _ (decl : Declaration) (first : IsPlanned decl first_epoch) (script : Script) (fits : ℕ → List Record → Type 0) where
+module _ (decl : Declaration) (first : IsPlanned decl first_epoch) (script : Script) (fits : ℕ → List Record → Type 0) (asks : AsksDeclared decl script) where
   abbrev IsRun : List Entry → List Bool → Type 0
   IsRun h open_inputs = RunsWithFalls (IsLawfulWithFalls decl) fits decl script h open_inputs
 
@@ -189,7 +206,8 @@ module _ (decl : Declaration) (first : IsPlanned decl first_epoch) (script : Scr
   run_planned h open_inputs (posts a turn before older run taken law) all =
       subst (IsMailPlanned decl) (sym (mail-append older (by a (posted_as turn.append (length (mail older)) turn))))
       (posted_mail a (length (mail older)) turn older
-      (lawful_sends decl first a (deeds a [] older) turn (deeds_planned decl a [] older tt (run_planned older before run (part_risen decl older _ all))) (deeds_risen decl a [] older (part_risen decl older (by a (posted_as turn.append (length (mail older)) turn)) all)) law)
+      (lawful_sends decl first a (deeds a [] older) turn (deeds_planned decl a [] older tt (run_planned older before run (part_risen decl older _ all))) (deeds_risen decl a [] older (part_risen decl older (by a (posted_as turn.append (length (mail older)) turn)) all))
+      (run_askable (IsLawfulWithFalls decl) fits decl script asks older before run a) law)
       (run_planned older before run (part_risen decl older (by a (posted_as turn.append (length (mail older)) turn)) all)))
   run_planned h open_inputs (phase before older run none done all_quiet more) all =
       still older (marked (controller decl) (steps.Phase (phase_of older + 1))) refl (run_planned older before run (part_risen decl older _ all))
@@ -202,7 +220,8 @@ module _ (decl : Declaration) (first : IsPlanned decl first_epoch) (script : Scr
       (deeds_planned decl a [] (older ++ marked a (steps.Rose kept) ∷ []) tt (still older (marked a (steps.Rose kept)) refl (run_planned older before run (part_risen decl older _ all))))
       (deeds_risen decl a [] (older ++ marked a (steps.Rose kept) ∷ [])
       (part_risen decl (older ++ marked a (steps.Rose kept) ∷ []) (by a (posted_as turn.append (length (mail older)) turn))
-      (subst (AllRisePlanned decl) (sym (append_assoc older (marked a (steps.Rose kept) ∷ []) (by a (posted_as turn.append (length (mail older)) turn)))) all))) law)
+      (subst (AllRisePlanned decl) (sym (append_assoc older (marked a (steps.Rose kept) ∷ []) (by a (posted_as turn.append (length (mail older)) turn)))) all)))
+      (rise_askable decl a older kept (run_askable (IsLawfulWithFalls decl) fits decl script asks older before run a)) law)
       (run_planned older before run (part_risen decl older _ all)))
   run_planned h open_inputs (damaged a offset lines before older run left) all = still older (marked a (steps.Damaged offset)) refl (run_planned older before run (part_risen decl older _ all))
   run_planned h open_inputs (unopened a cause lines before older run left disk) all = still older (marked a (steps.Fell cause None)) refl (run_planned older before run (part_risen decl older _ all))

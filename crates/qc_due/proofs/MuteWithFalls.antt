@@ -3,6 +3,7 @@ use Rattle.std.proofs.Common.{◌≡◌, ℕ, ◌+◌, ◌-◌, ◌<◌, ◌≤�
 use Rattle.std.specs.Prelude.{fold, slice_get}
 use Rattle.std.specs.List.{AllByRecursion as Every}
 use Rattle.std.proofs.lemmas.Bool.{lt-ltb, ltb-false, le-leb}
+use Rattle.qc_core.proofs.ByNumber.{site_new, site_risen}
 use Rattle.qc_core.specs.declared.actor.Actor.{Actor}
 use Rattle.qc_core.specs.declared.actor.Actor.TheVariants as actor
 use Rattle.qc_core.specs.Actors.{ActorMove, actor_does, actor_rises, actor_sends, actor_takes, by_client, by_site, moved, new_actor}
@@ -13,7 +14,7 @@ use Rattle.qc_core.proofs.ByTurns.{called_turn}
 use Rattle.qc_core.proofs.Written.{IsSiteTurn, site_written}
 use Rattle.qc_client.specs.Client.{new_client}
 use Rattle.qc_decl.specs.Accepted.{IsAccepted}
-use Rattle.qc_decl.specs.Actors.{actors, is_site}
+use Rattle.qc_decl.specs.Actors.{actors, administrator, is_site}
 use Rattle.qc_decl.specs.declared.declaration.Declaration.{Declaration}
 use Rattle.qc_laws.specs.Asked.{AsksDeclared}
 use Rattle.qc_laws.specs.Whole.{calls_of, replies_of}
@@ -103,6 +104,7 @@ module _ (decl : Declaration) (a : ℕ) (site : is_site decl a ≡ true) where
   abbrev IsSites : Actor → Type 0
   IsSites (actor.Site s) = Unit {0}
   IsSites (actor.Client c) = ⊥
+  IsSites (actor.Admin m) = ⊥
   IsSites actor.Down = Unit {0}
 
   record Quiets (m : ActorMove) : Type 0 where
@@ -112,6 +114,7 @@ module _ (decl : Declaration) (a : ℕ) (site : is_site decl a ≡ true) where
   takes_quiet : (v : Actor) (g : Given) → command_in g ≡ None → IsSites v → Quiets (actor_takes decl v g)
   takes_quiet (actor.Site s) g none is = let t : IsSiteTurn g _ = site_written decl s g in record { state = tt; says = record { told = t.told; failed = t.failed } }
   takes_quiet (actor.Client c) g none never = absurd never
+  takes_quiet (actor.Admin m) g none never = absurd never
   takes_quiet actor.Down (given.Called command) none is = absurd (let never : ⊥ = cc in never)
   takes_quiet actor.Down (given.Got e) none is = record { state = tt; says = record { told = refl; failed = refl } }
   takes_quiet actor.Down (given.Lost n) none is = record { state = tt; says = record { told = refl; failed = refl } }
@@ -119,11 +122,12 @@ module _ (decl : Declaration) (a : ℕ) (site : is_site decl a ≡ true) where
   sends_state : (v : Actor) (n to : ℕ) (message : _) → IsSites v → IsSites (actor_sends v n to message)
   sends_state (actor.Site s) n to message is = tt
   sends_state (actor.Client c) n to message never = never
+  sends_state (actor.Admin m) n to message never = never
   sends_state actor.Down n to message is = tt
 
   rises_quiet : (kept : List Record) → Quiets (actor_rises decl a kept)
   rises_quiet kept =
-      subst (λ (b : Bool). Quiets (cond b (by_site (site_rises decl a kept)) (by_client (client_rises (a - decl.sites) kept)))) (sym site)
+      subst Quiets (sym (site_risen decl a site kept))
       (record { state = tt; says = record { told = refl; failed = refl } })
 
   all_quiet : (ds : List Deed) (m : ActorMove) → AreUncommanded ds → Quiets m → Quiets (fold (actor_does decl a) m ds)
@@ -136,7 +140,7 @@ module _ (decl : Declaration) (a : ℕ) (site : is_site decl a ≡ true) where
   all_quiet (Rises kept ∷ ds) m calls q = all_quiet ds (actor_rises decl a kept) calls.1 (rises_quiet kept)
 
   new_quiet : IsSites (new_actor decl a)
-  new_quiet = subst (λ (b : Bool). IsSites (cond b (actor.Site (new_site a)) (actor.Client (new_client (a - decl.sites))))) (sym site) tt
+  new_quiet = subst IsSites (sym (site_new decl a site)) tt
 
   lawful_says : (ds : List Deed) (turn : Turn) → AreUncommanded ds → IsLawfulWithFalls decl a ds turn → Says turn
   lawful_says ds turn calls law =
@@ -160,7 +164,7 @@ module _ (decl : Declaration) (a : ℕ) (site : is_site decl a ≡ true) where
   site_mute ds b n (lives.unopened older cause m life down by_disk) calls = both_all IsMute older (Falls cause None ∷ []) (site_mute older false m life (first_all _ older (Falls cause None ∷ []) calls)) (tt, tt)
 
 module _ (decl : Declaration) (script : Script) (accepted : IsAccepted decl) (asks : AsksDeclared decl script) (fits : ℕ → List Record → Type 0) (h : List Entry) (open_inputs : List Bool)
-    (run : RunsWithFalls (IsLawfulWithFalls decl) fits decl script h open_inputs) (a : ℕ) (within : a < actors decl) where
+    (run : RunsWithFalls (IsLawfulWithFalls decl) fits decl script h open_inputs) (a : ℕ) (within : a < administrator decl) where
   few : actors decl ≤ most_actors
   few = few_actors decl accepted
 
@@ -182,7 +186,7 @@ module _ (decl : Declaration) (script : Script) (accepted : IsAccepted decl) (as
       by true site = site_ordered site
       by false other =
           let past : decl.sites ≤ a = ltb-false a decl.sites other in
-          run_ordered decl script accepted asks fits a (λ i. le-leb decl.sites a past i && lt-ltb a (actors decl) within i) h open_inputs run
+          run_ordered decl script accepted asks fits a (λ i. le-leb decl.sites a past i && lt-ltb a (administrator decl) within i) h open_inputs run
 
   pub actor_replied : length (calls_of a h) ≡ length (replies_of a h) + open_commands (is_running (deeds a [] h))
   actor_replied = all_counted (deeds a [] h) actor_ordered

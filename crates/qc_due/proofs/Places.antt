@@ -1,6 +1,7 @@
 -- The numbers of actors, and the deeds of an actor that rises.
 use Rattle.std.proofs.Common.{◌≡◌, ℕ, ◌+◌, ◌<◌, ◌≤◌, ◌==◌, ◌&&◌, nat_le, nat_lt, Bool, true, false, List, [], ◌∷◌, ◌++◌, refl, sym, ap, ◌∙◌, arith, append_assoc, eqb-true}
 use Rattle.std.proofs.lemmas.Bool.{leb-true, ltb-true}
+pub use Rattle.qc_decl.proofs.Clients.{client_below, client_past, client_within}
 use Rattle.qc_decl.specs.declared.declaration.Declaration.{Declaration}
 use Rattle.qc_decl.specs.Accepted.{IsAccepted}
 use Rattle.qc_decl.specs.Actors.{actors, controller, is_client}
@@ -13,17 +14,6 @@ use Rattle.qc_msg.specs.declared.turn.Turn.{Turn}
 use Rattle.qc_msg.specs.Deeds.{Deed, Rises, deeds, deeds_as}
 use Rattle.qc_msg.specs.Steps.{Entry, by, marked, posted_as}
 use Rattle.qc_msg.proofs.Growth.{deeds-posted_as}
-
-both_true : (x y : Bool) → (x && y) ≡ true → (x ≡ true) × (y ≡ true)
-both_true true true is = (refl, refl)
-both_true true false is = absurd (let never : ⊥ = cc in never)
-both_true false y is = absurd (let never : ⊥ = cc in never)
-
-pub client_within : (decl : Declaration) (a : ℕ) → is_client decl a ≡ true → a < actors decl
-client_within decl a client = ltb-true a (actors decl) (both_true (nat_le decl.sites a) (nat_lt a (actors decl)) client).1
-
-pub client_past : (decl : Declaration) (a : ℕ) → is_client decl a ≡ true → decl.sites ≤ a
-client_past decl a client = leb-true decl.sites a (both_true (nat_le decl.sites a) (nat_lt a (actors decl)) client).0
 
 pub few_actors : (decl : Declaration) → IsAccepted decl → actors decl ≤ most_actors
 few_actors decl accepted =
@@ -39,7 +29,7 @@ apart x y differs = at (x == y) refl
     at false other = refl
 
 pub apart_from_controller : (decl : Declaration) (a : ℕ) → is_client decl a ≡ true → (controller decl == a) ≡ false
-apart_from_controller decl a client = apart (controller decl) a (λ same. (let within : a < decl.sites + decl.clients = client_within decl a client in let is : decl.sites + decl.clients + 1 ≡ a = same in omega arith))
+apart_from_controller decl a client = apart (controller decl) a (λ same. (let within : a < decl.sites + decl.clients = client_below decl a client in let is : decl.sites + decl.clients + 1 ≡ a = same in omega arith))
 
 pub rose_split : (a : ℕ) (h : List Entry) (kept : List Record) (end : Appended) (n : ℕ) (turn : Turn) → deeds a [] (h ++ by a (steps.Rose kept ∷ posted_as end n turn)) ≡ (deeds a [] h ++ Rises kept ∷ []) ++ deeds_as end n turn
 rose_split a h kept end n turn =

@@ -5,6 +5,7 @@ use Rattle.std.specs.List.{AllByRecursion as Every}
 use Rattle.qc_due.proofs.Commands.{no_site}
 use Rattle.qc_client.specs.declared.client.Client.{Client}
 use Rattle.qc_client.specs.Client.{new_client}
+use Rattle.qc_core.proofs.ByNumber.{client_new, client_risen}
 use Rattle.qc_core.specs.declared.actor.Actor.{Actor}
 use Rattle.qc_core.specs.declared.actor.Actor.TheVariants as actor
 use Rattle.qc_core.specs.Actors.{ActorMove, actor_does, actor_rises, actor_sends, actor_takes, by_client, by_site, moved, new_actor}
@@ -43,7 +44,7 @@ use Rattle.qc_script.specs.Ready.{controller_step, phase_of}
 use Rattle.qc_script.specs.RunsWithFalls.{RunsWithFalls, begins, takes, posts, phase, control, falls, rises, damaged, unopened}
 use Rattle.qc_script.specs.declared.script.Script.{Script}
 use Rattle.qc_site.specs.Site.{new_site}
-use Rattle.qc_due.proofs.Places.{client_past, client_within}
+use Rattle.qc_due.proofs.Places.{client_below, client_past}
 
 module _ (decl : Declaration) (accepted : IsAccepted decl) (a : ℕ) (client : is_client decl a ≡ true) where
   -- the client over its deeds
@@ -51,6 +52,7 @@ module _ (decl : Declaration) (accepted : IsAccepted decl) (a : ℕ) (client : i
   abbrev ActorSound : Actor → Type 0
   ActorSound (actor.Site s) = ⊥
   ActorSound (actor.Client c) = Sound decl (a - decl.sites) c
+  ActorSound (actor.Admin m) = ⊥
   ActorSound actor.Down = Unit {0}
 
   record MoveSound (m : ActorMove) : Type 0 where
@@ -60,7 +62,7 @@ module _ (decl : Declaration) (accepted : IsAccepted decl) (a : ℕ) (client : i
 
   within : a - decl.sites < decl.clients
   within =
-      let low : a < decl.sites + decl.clients = client_within decl a client in
+      let low : a < decl.sites + decl.clients = client_below decl a client in
       let past : decl.sites ≤ a = client_past decl a client in
       omega arith
 
@@ -72,6 +74,7 @@ module _ (decl : Declaration) (accepted : IsAccepted decl) (a : ℕ) (client : i
   takes_move : (v : Actor) (g : Given) → IsAskableGiven decl a g → ActorSound v → MoveSound (actor_takes decl v g)
   takes_move (actor.Site s) g is never = absurd never
   takes_move (actor.Client c) g is s = client_sound c g is s
+  takes_move (actor.Admin m) g is never = absurd never
   takes_move actor.Down (given.Called command) is s = record { state = tt; sends = tt; failed = refl }
   takes_move actor.Down (given.Got e) is s = record { state = tt; sends = tt; failed = refl }
   takes_move actor.Down (given.Lost n) is s = record { state = tt; sends = tt; failed = refl }
@@ -79,11 +82,12 @@ module _ (decl : Declaration) (accepted : IsAccepted decl) (a : ℕ) (client : i
   sends_state : (v : Actor) (n to : ℕ) (message : _) → ActorSound v → ActorSound (actor_sends v n to message)
   sends_state (actor.Site s) n to message never = never
   sends_state (actor.Client c) n to message s = sent_sound decl accepted a (a - decl.sites) within c n to message s
+  sends_state (actor.Admin m) n to message never = never
   sends_state actor.Down n to message s = tt
 
   rises_move : (kept : List Record) → MoveSound (actor_rises decl a kept)
   rises_move kept =
-      subst (λ (b : Bool). MoveSound (cond b (by_site (site_rises decl a kept)) (by_client (client_rises (a - decl.sites) kept)))) (sym (no_site decl a client))
+      subst MoveSound (sym (client_risen decl a client kept))
       (record { state = record { front = record { client = refl; begun = tt }; sited = tt }; sends = tt; failed = refl })
 
   all_moves : (ds : List Deed) (m : ActorMove) → Every (IsAskableDeed decl a) ds → MoveSound m → MoveSound (fold (actor_does decl a) m ds)
@@ -97,7 +101,7 @@ module _ (decl : Declaration) (accepted : IsAccepted decl) (a : ℕ) (client : i
   all_moves (Rises kept ∷ ds) m are s = all_moves ds (actor_rises decl a kept) are.1 (rises_move kept)
 
   new_sound : ActorSound (new_actor decl a)
-  new_sound = subst (λ (b : Bool). ActorSound (cond b (actor.Site (new_site a)) (actor.Client (new_client (a - decl.sites))))) (sym (no_site decl a client)) (record { front = record { client = refl; begun = tt }; sited = tt })
+  new_sound = subst ActorSound (sym (client_new decl a client)) (record { front = record { client = refl; begun = tt }; sited = tt })
 
   abbrev MoveSends : Turn → Type 0
   MoveSends t = AreProper decl t.sends × (t.failed_sends ≡ [])

@@ -1,32 +1,26 @@
--- In each run with falls of an accepted declaration whose script names declared objects, an unanswered request of a
--- client is at its site.
-use Rattle.std.proofs.Common.{◌≡◌, ℕ, ◌+◌, ◌<◌, ◌≤◌, ◌==◌, ◌⊎◌, Bool, true, false, if◌then◌else◌, inl, inr, List, [], ◌∷◌, ◌++◌, drop, length, Some, None, slice_get, refl, sym, ap, ◌∙◌, subst, arith, append_assoc}
+-- Where whoever gets an actor's requests answers them at once, an unanswered request is at its receiver.
+use Rattle.std.proofs.Common.{◌≡◌, ℕ, ◌+◌, ◌<◌, ◌≤◌, ◌==◌, ◌⊎◌, Bool, true, false, if◌then◌else◌, inl, inr, List, [], ◌∷◌, ◌++◌, drop, length, Some, None, slice_get, refl, sym, ap, ◌∙◌, subst, append_assoc}
 use Rattle.std.specs.Prelude.{fold, slice_set}
-use Rattle.std.proofs.lemmas.Bool.{eq-eqb, eqb-true, lt-ltb}
+use Rattle.std.proofs.lemmas.Bool.{eq-eqb, eqb-true}
 use Rattle.std.proofs.lemmas.List.Sums.{fold-append}
 use Rattle.qc_list.specs.Members.{In}
-use Rattle.qc_list.proofs.Members.{every-In}
-use Rattle.qc_core.specs.declared.actor.Actor.{Actor}
-use Rattle.qc_core.specs.declared.actor.Actor.TheVariants as actor
 use Rattle.qc_core.specs.Actors.{ActorMove, actor_after, actor_takes}
 use Rattle.qc_core.specs.Conduct.{IsLawfulWithFalls, with_record}
 use Rattle.qc_core.specs.Lives.{MayReach, up_at}
 use Rattle.qc_core.specs.Lives as lives
 use Rattle.qc_core.proofs.ByTurns.{after_takes, called_turn}
-use Rattle.qc_decl.specs.Accepted.{IsAccepted}
-use Rattle.qc_decl.specs.Actors.{actors, controller, is_client}
+use Rattle.qc_decl.specs.Actors.{actors, controller}
 use Rattle.qc_decl.specs.declared.declaration.Declaration.{Declaration}
 use Rattle.qc_inbox.proofs.FallLaws.{lines_close}
 use Rattle.qc_inbox.proofs.FallMail.{ready_sent}
-use Rattle.qc_laws.specs.Asked.{AsksDeclared}
 use Rattle.qc_laws.specs.Waits.{IsAtReceiver, IsTaken}
 use Rattle.qc_laws.proofs.Covered.{ready_copy}
 use Rattle.qc_laws.proofs.Places.{slice_get-set_other, slice_get-set_same}
-use Rattle.qc_laws.proofs.SiteReplies.{IsReply}
 use Rattle.qc_link.specs.Limits.{most_actors}
 use Rattle.qc_laws.specs.LivesIn.{LivesIn}
 use Rattle.qc_laws.proofs.Lived.{run_lives}
 use Rattle.qc_msg.specs.declared.message.Envelope.{Envelope}
+use Rattle.qc_msg.specs.declared.message.Answer.{Answer}
 use Rattle.qc_msg.specs.declared.message.Message.TheVariants as messages
 use Rattle.qc_msg.specs.declared.record.Record.{Record}
 use Rattle.qc_msg.specs.declared.step.Control.{Control}
@@ -38,23 +32,21 @@ use Rattle.qc_msg.specs.declared.step.Step.{Step}
 use Rattle.qc_msg.specs.declared.step.Step.TheVariants as steps
 use Rattle.qc_msg.specs.declared.turn.Appended.{Appended}
 use Rattle.qc_msg.specs.declared.turn.Appended.TheVariants.{Done, Failed, Stopped}
+use Rattle.qc_msg.specs.declared.turn.Posting.{Posting}
 use Rattle.qc_msg.specs.declared.turn.Turn.{Turn}
 use Rattle.qc_msg.specs.Deeds.{Deed, Takes, deeds, mail}
-use Rattle.qc_msg.specs.Steps.{Entry, by, fell, marked, posted, posted_as, sents, step_of, told}
+use Rattle.qc_msg.specs.Steps.{Entry, by, fell, marked, posted, posted_as, sends_as, sents, step_of, told}
 use Rattle.qc_msg.proofs.Growth.{deeds-other, deeds-taken, mail-taken}
 use Rattle.qc_script.specs.declared.script.Script.{Script}
 use Rattle.qc_script.specs.Requests.{SentRequest, request_numbers}
 use Rattle.qc_script.specs.Inbox.{Inbox, command_called, copy_taken, empty_inbox, inbox, inbox_at, is_request, loss_taken}
 use Rattle.qc_script.specs.Ready.{controller_step, controls_left, phase_of, ready, ready_in}
 use Rattle.qc_script.specs.RunsWithFalls.{RunsWithFalls, begins, takes, posts, phase, control, falls, rises, damaged, unopened}
-use Rattle.qc_site.specs.Conduct.{passed, site_at}
-use Rattle.qc_site.specs.Site.{SiteState}
 use Rattle.qc_due.proofs.Answering.{IsSpared, copies_left}
-use Rattle.qc_due.proofs.Places.{apart, client_past, client_within, few_actors}
+use Rattle.qc_due.proofs.Places.{apart}
 use Rattle.qc_due.proofs.Plain.{inbox_then}
-use Rattle.qc_due.proofs.Proper.{IsOwnProper, post_sends, rise_sends, run_proper}
-use Rattle.qc_due.proofs.Somewhere.{AreSomewhere, IsSomewhere, MayAllFollow, MayFollow, all_follow, post_follows}
-use Rattle.qc_due.proofs.SiteTurns.{IsDeclared, declared_request, fell_last, site_up, step_on, took_up, turn_ends}
+use Rattle.qc_due.proofs.Somewhere.{AreSomewhere, AreToOthers, IsOther, IsSomewhere, MayAllFollow, MayFollow, all_follow, post_follows}
+use Rattle.qc_due.proofs.SiteTurns.{fell_last, step_on, took_up, turn_ends}
 
 -- requests and their numbers
 
@@ -94,18 +86,31 @@ own_copies script decl b i (given.Got e) x rdy there = at (subst (In x) (ready_c
     at (inl same) = inl (ap (λ (v : Envelope). given.Got v) (sym same))
     at (inr later) = inr (subst (λ (t : Bool). In x (if t then copy_taken i else i).copies) (sym (eq-eqb b b refl)) later)
 
-module _ (decl : Declaration) (script : Script) (accepted : IsAccepted decl) (asks : AsksDeclared decl script) (fits : ℕ → List Record → Type 0) (a : ℕ) (client : is_client decl a ≡ true) where
+-- the answer to a request comes first
+
+pub record RepliesTo (e : Envelope) (t : Turn) : Type 0 where
+  pub answer : Answer
+  pub rest : List Posting
+  pub sends : t.sends ≡ record { to = e.from; message = messages.Answer e.number answer } ∷ rest
+
+-- whoever gets a request of actor a is another, and answers it at once where it is up
+pub record IsReplied (decl : Declaration) (a : ℕ) (e : Envelope) : Type 0 where
+  pub other : IsOther a e.to
+  pub replies : (ds : List Deed) → lives.is_up ds ≡ true → RepliesTo e (actor_takes decl (actor_after decl e.to ds).actor (given.Got e)).turn
+
+-- so it is with each request of actor a in each run, and with what it sends
+pub record AreReplied (decl : Declaration) (script : Script) (fits : ℕ → List Record → Type 0) (a : ℕ) : Type 0 where
+  pub replied : (h : List Entry) (open_inputs : List Bool) → RunsWithFalls (IsLawfulWithFalls decl) fits decl script h open_inputs → (e : Envelope) → In e (mail h) → e.from ≡ a → is_request e.message ≡ true → IsReplied decl a e
+  pub posts : (older : List Entry) (before after : List Bool) → RunsWithFalls (IsLawfulWithFalls decl) fits decl script older before → (b : ℕ) (turn : Turn)
+      → RunsWithFalls (IsLawfulWithFalls decl) fits decl script (older ++ by b (posted_as turn.append (length (mail older)) turn)) after
+      → IsLawfulWithFalls decl b (deeds b [] older) turn → b ≡ a → AreToOthers a (sends_as turn.append turn)
+  pub rises : (older : List Entry) (before after : List Bool) → RunsWithFalls (IsLawfulWithFalls decl) fits decl script older before → (b : ℕ) (kept : List Record) (turn : Turn)
+      → RunsWithFalls (IsLawfulWithFalls decl) fits decl script (older ++ by b (steps.Rose kept ∷ posted_as turn.append (length (mail older)) turn)) after
+      → IsLawfulWithFalls decl b (deeds b [] (older ++ marked b (steps.Rose kept) ∷ [])) turn → b ≡ a → AreToOthers a (sends_as turn.append turn)
+
+module _ (decl : Declaration) (script : Script) (fits : ℕ → List Record → Type 0) (few : actors decl ≤ most_actors) (a : ℕ) (a_low : a < most_actors) (are_replied : AreReplied decl script fits a) where
   abbrev IsRun : List Entry → List Bool → Type 0
   IsRun h open_inputs = RunsWithFalls (IsLawfulWithFalls decl) fits decl script h open_inputs
-
-  few : actors decl ≤ most_actors
-  few = few_actors decl accepted
-
-  a_low : a < most_actors
-  a_low = let all : actors decl ≤ most_actors = few in let within : a < actors decl = client_within decl a client in omega arith
-
-  past : decl.sites ≤ a
-  past = client_past decl a client
 
   abbrev IsKept : List Entry → List Bool → Type 0
   IsKept h open_inputs = AreSomewhere script (IsTaken h open_inputs) h a
@@ -169,22 +174,15 @@ module _ (decl : Declaration) (script : Script) (accepted : IsAccepted decl) (as
               let differs : b ≡ s.envelope.to → ⊥ = λ is. (let one : slice_get before s.envelope.to ≡ Some false = subst (λ (k : ℕ). slice_get before k ≡ Some false) is free in let two : slice_get before s.envelope.to ≡ Some true = t.is_open in let never : ⊥ = cc in never) in
               inr (taken_stays older (marked b (step_of g) ∷ []) before (slice_set before b true) s.envelope (deeds-other b s.envelope.to [] older (step_of g ∷ []) (apart b s.envelope.to differs)) (slice_get-set_other before b s.envelope.to true differs) t)
 
-  -- each request in the mail is declared
-  declared_at : (h : List Entry) (open_inputs : List Bool) → IsRun h open_inputs → (e : Envelope) → In e (mail h) → e.from ≡ a → is_request e.message ≡ true → IsDeclared decl e
-  declared_at h open_inputs run e member from request = declared_request decl e e.message refl request (every-In (IsOwnProper decl accepted a client) e (mail h) (run_proper decl accepted a client script asks fits h open_inputs run) member from)
-
   -- who has taken a request and posts answers it, or falls
 
   post_over : (older : List Entry) (before : List Bool) (b n : ℕ) (turn : Turn) → IsRun older before → slice_get before b ≡ Some true → IsLawfulWithFalls decl b (deeds b [] older) turn
-      → (first : List Deed) (e : Envelope) → IsDeclared decl e → e.to ≡ b → e.from ≡ a → deeds b [] older ≡ first ++ Takes (given.Got e) ∷ []
+      → (first : List Deed) (e : Envelope) → IsReplied decl a e → e.to ≡ b → e.from ≡ a → deeds b [] older ≡ first ++ Takes (given.Got e) ∷ []
       → (r : SentRequest) → r.number ≡ e.number → r.to ≡ b → In r (inbox script a (older ++ by b (posted_as turn.append n turn))).unanswered → ⊥
   post_over older before b n turn run open_b law first e d to from last r number to_b = ends turn.append
     where
-      low : b < decl.sites
-      low = subst (λ (k : ℕ). k < decl.sites) to d.site
-
       not_a : (b == a) ≡ false
-      not_a = apart b a (λ same. (let high : decl.sites ≤ a = past in let less : b < decl.sites = low in let is : b ≡ a = same in omega arith))
+      not_a = subst (λ (k : ℕ). (k == a) ≡ false) to d.other.1
 
       lived : LivesIn decl b older true
       lived = run_lives decl script fits few older before run b true open_b
@@ -192,16 +190,11 @@ module _ (decl : Declaration) (script : Script) (accepted : IsAccepted decl) (as
       up : lives.is_up first ≡ true
       up = took_up decl b (deeds b [] older) lived.above lived.lives first e last
 
-      state : (s : SiteState) × ((actor_after decl b first).actor ≡ actor.Site s)
-      state = site_up decl b (lt-ltb b decl.sites low) first up
+      reply : RepliesTo e (actor_takes decl (actor_after decl b first).actor (given.Got e)).turn
+      reply = subst (λ (k : ℕ). RepliesTo e (actor_takes decl (actor_after decl k first).actor (given.Got e)).turn) to (d.replies first up)
 
-      reply : IsReply e.from e.number (site_at decl (passed state.0 e.message) e.from e.number e.message)
-      reply = d.replies (passed state.0 e.message)
-
-      turn_is : with_record turn ≡ (site_at decl (passed state.0 e.message) e.from e.number e.message).turn
-      turn_is =
-          sym (called_turn decl b (deeds b [] older) turn law) ∙ ap (λ (ds : List Deed). (actor_after decl b ds).turn) last
-          ∙ ap (λ (m : ActorMove). m.turn) (after_takes decl b first (given.Got e)) ∙ ap (λ (v : Actor). (actor_takes decl v (given.Got e)).turn) state.1
+      turn_is : with_record turn ≡ (actor_takes decl (actor_after decl b first).actor (given.Got e)).turn
+      turn_is = sym (called_turn decl b (deeds b [] older) turn law) ∙ ap (λ (ds : List Deed). (actor_after decl b ds).turn) last ∙ ap (λ (m : ActorMove). m.turn) (after_takes decl b first (given.Got e))
 
       sends : turn.sends ≡ record { to = a; message = messages.Answer e.number reply.answer } ∷ reply.rest
       sends = ap (λ (t : Turn). t.sends) turn_is ∙ reply.sends ∙ ap (λ (k : ℕ). record { to = k; message = messages.Answer e.number reply.answer } ∷ reply.rest) from
@@ -222,8 +215,8 @@ module _ (decl : Declaration) (script : Script) (accepted : IsAccepted decl) (as
       → IsRun (older ++ by b (posted_as turn.append (length (mail older)) turn)) (slice_set before b false) → IsKept older before → IsKept (older ++ by b (posted_as turn.append (length (mail older)) turn)) (slice_set before b false)
   post_kept b turn before older run open_b law whole are =
       moved_to (IsTaken older before) (IsTaken (older ++ by b (posted_as turn.append (length (mail older)) turn)) (slice_set before b false)) (older ++ by b (posted_as turn.append (length (mail older)) turn)) change
-      (all_follow decl script (IsTaken older before) a a_low past older (by b (posted_as turn.append (length (mail older)) turn))
-      (post_follows decl a b (length (mail older)) turn.append turn (post_sends decl accepted a client script asks fits older before run b turn law)) are)
+      (all_follow script (IsTaken older before) a a_low older (by b (posted_as turn.append (length (mail older)) turn))
+      (post_follows a b (length (mail older)) turn.append turn (are_replied.posts older before (slice_set before b false) run b turn whole law)) are)
     where
       change : (r : SentRequest) (s : IsSomewhere script (IsTaken older before) (older ++ by b (posted_as turn.append (length (mail older)) turn)) a r) → In r (inbox script a (older ++ by b (posted_as turn.append (length (mail older)) turn))).unanswered
           → IsTaken older before s.envelope → IsTaken (older ++ by b (posted_as turn.append (length (mail older)) turn)) (slice_set before b false) s.envelope
@@ -236,22 +229,22 @@ module _ (decl : Declaration) (script : Script) (accepted : IsAccepted decl) (as
           on true mine =
               let is : b ≡ s.envelope.to = eqb-true b s.envelope.to mine in
               absurd (post_over older before b (length (mail older)) turn run open_b law t.before s.envelope
-              (declared_at (older ++ by b (posted_as turn.append (length (mail older)) turn)) (slice_set before b false) whole s.envelope s.sent s.from s.request)
+              (are_replied.replied (older ++ by b (posted_as turn.append (length (mail older)) turn)) (slice_set before b false) whole s.envelope s.sent s.from s.request)
               (sym is) s.from (subst (λ (k : ℕ). deeds k [] older ≡ t.before ++ Takes (given.Got s.envelope) ∷ []) (sym is) t.last) r (sym s.number) (sym s.to ∙ sym is) member)
 
   -- events where no input is open
-  closed_kept : (older k : List Entry) (before : List Bool) → ((b : ℕ) → slice_get before b ≡ Some true → ⊥) → MayAllFollow decl a k → IsKept older before → IsKept (older ++ k) before
+  closed_kept : (older k : List Entry) (before : List Bool) → ((b : ℕ) → slice_get before b ≡ Some true → ⊥) → MayAllFollow a k → IsKept older before → IsKept (older ++ k) before
   closed_kept older k before none may are =
-      moved_to (IsTaken older before) (IsTaken (older ++ k) before) (older ++ k) (λ r s member t. absurd (none s.envelope.to t.is_open)) (all_follow decl script (IsTaken older before) a a_low past older k may are)
+      moved_to (IsTaken older before) (IsTaken (older ++ k) before) (older ++ k) (λ r s member t. absurd (none s.envelope.to t.is_open)) (all_follow script (IsTaken older before) a a_low older k may are)
 
-  line_kept : (older k : List Entry) (before : List Bool) → IsRun older before → (line : Control) (lines : List Control) → controls_left script older ≡ line ∷ lines → MayAllFollow decl a k → IsKept older before → IsKept (older ++ k) before
+  line_kept : (older k : List Entry) (before : List Bool) → IsRun older before → (line : Control) (lines : List Control) → controls_left script older ≡ line ∷ lines → MayAllFollow a k → IsKept older before → IsKept (older ++ k) before
   line_kept older k before run line lines left may are = closed_kept older k before (lines_close (IsLawfulWithFalls decl) fits decl script older before few run line lines left) may are
 
-  control_follows : (c : ℕ) (line : Control) (step : Step) → controller_step line ≡ Some step → MayFollow decl a c step
+  control_follows : (c : ℕ) (line : Control) (step : Step) → controller_step line ≡ Some step → MayFollow a c step
   control_follows c (controls.Phase k) step is = absurd (let never : ⊥ = cc in never)
-  control_follows c (controls.Cut x y) step is = subst (MayFollow decl a c) (let same : steps.Cut x y ≡ step = cc in same) tt
-  control_follows c (controls.Heal x y) step is = subst (MayFollow decl a c) (let same : steps.Heal x y ≡ step = cc in same) tt
-  control_follows c (controls.Armed r kind place) step is = subst (MayFollow decl a c) (let same : steps.Armed r kind place ≡ step = cc in same) tt
+  control_follows c (controls.Cut x y) step is = subst (MayFollow a c) (let same : steps.Cut x y ≡ step = cc in same) tt
+  control_follows c (controls.Heal x y) step is = subst (MayFollow a c) (let same : steps.Heal x y ≡ step = cc in same) tt
+  control_follows c (controls.Armed r kind place) step is = subst (MayFollow a c) (let same : steps.Armed r kind place ≡ step = cc in same) tt
   control_follows c (controls.Crash x) step is = absurd (let never : ⊥ = cc in never)
   control_follows c (controls.Restart x) step is = absurd (let never : ⊥ = cc in never)
 
@@ -264,18 +257,15 @@ module _ (decl : Declaration) (script : Script) (accepted : IsAccepted decl) (as
   run_kept h open_inputs (falls b lines before older run left) = line_kept older (marked b (steps.Fell causes.Script None) ∷ []) before run (controls.Crash b) lines left (tt, tt) (run_kept older before run)
   run_kept h open_inputs (rises b kept turn lines before older run left fit has law) =
       line_kept older (by b (steps.Rose kept ∷ posted_as turn.append (length (mail older)) turn)) before run (controls.Restart b) lines left
-      (tt, post_follows decl a b (length (mail older)) turn.append turn (rise_sends decl accepted a client script asks fits older before run b kept turn law)) (run_kept older before run)
+      (tt, post_follows a b (length (mail older)) turn.append turn (are_replied.rises older before before run b kept turn (rises b kept turn lines before older run left fit has law) law)) (run_kept older before run)
   run_kept h open_inputs (damaged b offset lines before older run left) = line_kept older (marked b (steps.Damaged offset) ∷ []) before run (controls.Restart b) lines left (tt, tt) (run_kept older before run)
   run_kept h open_inputs (unopened b cause lines before older run left disk) = line_kept older (marked b (steps.Fell cause None) ∷ []) before run (controls.Restart b) lines left (tt, tt) (run_kept older before run)
 
-  -- an unanswered request is at its site
-  pub unanswered_at_site : (h : List Entry) (open_inputs : List Bool) → IsRun h open_inputs → (n : ℕ) → In n (request_numbers (inbox script a h).unanswered) → IsAtReceiver script h open_inputs a n
-  unanswered_at_site h open_inputs run n member = at (of_number n (inbox script a h).unanswered member)
+  -- an unanswered request is at its receiver
+  pub unanswered_at_receiver : (h : List Entry) (open_inputs : List Bool) → IsRun h open_inputs → (n : ℕ) → In n (request_numbers (inbox script a h).unanswered) → IsAtReceiver script h open_inputs a n
+  unanswered_at_receiver h open_inputs run n member = at (of_number n (inbox script a h).unanswered member)
     where
       at : (r : SentRequest) × (In r (inbox script a h).unanswered × (r.number ≡ n)) → IsAtReceiver script h open_inputs a n
       at found =
           let s : IsSomewhere script (IsTaken h open_inputs) h a found.0 = run_kept h open_inputs run found.0 found.1.0 in
           record { envelope = s.envelope; number = s.number ∙ found.1.1; from = s.from; request = s.request; sent = s.sent; place = s.place }
-
-  pub receiver_is_site : (h : List Entry) (open_inputs : List Bool) → IsRun h open_inputs → (e : Envelope) → In e (mail h) → e.from ≡ a → is_request e.message ≡ true → e.to < decl.sites
-  receiver_is_site h open_inputs run e member from request = (declared_at h open_inputs run e member from request).site

@@ -1,17 +1,20 @@
 -- A site that is up answers each request that names what is declared, unless its record isn't written, and it falls.
-use Rattle.std.proofs.Common.{◌≡◌, ℕ, ◌+◌, ◌-◌, ◌<◌, ◌==◌, Bool, true, false, cond, if◌then◌else◌, List, [], ◌∷◌, ◌++◌, Option, Some, None, refl, sym, ap, ◌∙◌, subst, append_assoc}
+use Rattle.std.proofs.Common.{◌≡◌, ℕ, ◌+◌, ◌-◌, ◌<◌, ◌==◌, Bool, true, false, if◌then◌else◌, List, [], ◌∷◌, ◌++◌, Option, Some, None, refl, sym, ap, ◌∙◌, subst, append_assoc}
 use Rattle.std.specs.Prelude.{fold}
 use Rattle.std.proofs.lemmas.Bool.{eq-eqb}
 use Rattle.std.proofs.lemmas.List.Sums.{fold-append}
 use Rattle.qc_list.specs.Members.{In}
 use Rattle.qc_client.specs.Client.{new_client}
+use Rattle.qc_client.specs.Conduct.{client_takes, sent_one}
+use Rattle.qc_client.specs.declared.client.Client.{Client}
+use Rattle.qc_core.proofs.ByNumber.{client_new, client_risen, site_new, site_risen}
 use Rattle.qc_core.specs.declared.actor.Actor.{Actor}
 use Rattle.qc_core.specs.declared.actor.Actor.TheVariants as actor
-use Rattle.qc_core.specs.Actors.{ActorMove, actor_after, actor_does, actor_rises, actor_sends, actor_takes, by_client, by_site, moved, new_actor}
+use Rattle.qc_core.specs.Actors.{ActorMove, actor_after, actor_does, actor_rises, actor_sends, actor_takes, moved, new_actor}
 use Rattle.qc_core.specs.Lives.{MayReach, up_at}
 use Rattle.qc_core.specs.Lives as lives
 use Rattle.qc_core.proofs.ByTurns.{Opened, opened}
-use Rattle.qc_decl.specs.Actors.{is_site}
+use Rattle.qc_decl.specs.Actors.{is_client, is_site}
 use Rattle.qc_decl.specs.declared.declaration.Declaration.{Declaration}
 use Rattle.qc_laws.proofs.Answering.{answer_ends, others_fewer}
 use Rattle.qc_laws.proofs.Rounds.{IsProper}
@@ -61,39 +64,55 @@ declared_request decl e (messages.Ask tx) is request p = absurd p
 declared_request decl e (messages.Close epoch) is request p = absurd p
 declared_request decl e (messages.Install epoch clock log) is request p = absurd p
 
--- a site that is up is a site by its deeds
+-- what an actor is while it is up, by its deeds
 
-abbrev SiteAt : Bool → Actor → Type 0
-SiteAt true v = (s : SiteState) × (v ≡ actor.Site s)
-SiteAt false v = Unit {0}
+abbrev KindAt : (Actor → Type 0) → Bool → Actor → Type 0
+KindAt Is true v = Is v
+KindAt Is false v = Unit {0}
 
-module _ (decl : Declaration) (b : ℕ) (site : is_site decl b ≡ true) where
-  taken_site : (u : Bool) (v : Actor) (g : Given) → SiteAt u v → SiteAt u (actor_takes decl v g).actor
-  taken_site true v g is = ((site_takes decl is.0 g).site, ap (λ (w : Actor). (actor_takes decl w g).actor) is.1)
-  taken_site false v g is = tt
+module _ (decl : Declaration) (b : ℕ) (Is : Actor → Type 0) (new : Is (new_actor decl b)) (taken : (v : Actor) (g : Given) → Is v → Is (actor_takes decl v g).actor)
+    (sent : (v : Actor) (n to : ℕ) (m : Message) → Is v → Is (actor_sends v n to m)) (risen : (kept : List Record) → Is (actor_rises decl b kept).actor) where
+  taken_at : (u : Bool) (v : Actor) (g : Given) → KindAt Is u v → KindAt Is u (actor_takes decl v g).actor
+  taken_at true v g is = taken v g is
+  taken_at false v g is = tt
 
-  sent_site : (u : Bool) (v : Actor) (n to : ℕ) (m : Message) → SiteAt u v → SiteAt u (actor_sends v n to m)
-  sent_site true v n to m is = (is.0, ap (λ (w : Actor). actor_sends w n to m) is.1)
-  sent_site false v n to m is = tt
+  sent_at : (u : Bool) (v : Actor) (n to : ℕ) (m : Message) → KindAt Is u v → KindAt Is u (actor_sends v n to m)
+  sent_at true v n to m is = sent v n to m is
+  sent_at false v n to m is = tt
 
-  risen_site : (kept : List Record) → SiteAt true (actor_rises decl b kept).actor
-  risen_site kept =
-      subst (λ (t : Bool). SiteAt true (cond t (by_site (site_rises decl b kept)) (by_client (client_rises (b - decl.sites) kept))).actor) (sym site) ((site_rises decl b kept).site, refl)
+  kind_from : (u : Bool) (ds : List Deed) (m : ActorMove) → KindAt Is u m.actor → KindAt Is (fold up_at u ds) (fold (actor_does decl b) m ds).actor
+  kind_from u [] m is = is
+  kind_from u (Takes g ∷ ds) m is = kind_from u ds (actor_takes decl m.actor g) (taken_at u m.actor g is)
+  kind_from u (Writes written ∷ ds) m is = kind_from u ds m is
+  kind_from u (Sends n to message ∷ ds) m is = kind_from u ds (record m { actor = actor_sends m.actor n to message }) (sent_at u m.actor n to message is)
+  kind_from u (Tells reply ∷ ds) m is = kind_from u ds m is
+  kind_from u (Falls cause pending ∷ ds) m is = kind_from false ds (moved actor.Down quiet) tt
+  kind_from u (Rises kept ∷ ds) m is = kind_from true ds (actor_rises decl b kept) (risen kept)
 
-  site_from : (u : Bool) (ds : List Deed) (m : ActorMove) → SiteAt u m.actor → SiteAt (fold up_at u ds) (fold (actor_does decl b) m ds).actor
-  site_from u [] m is = is
-  site_from u (Takes g ∷ ds) m is = site_from u ds (actor_takes decl m.actor g) (taken_site u m.actor g is)
-  site_from u (Writes written ∷ ds) m is = site_from u ds m is
-  site_from u (Sends n to message ∷ ds) m is = site_from u ds (record m { actor = actor_sends m.actor n to message }) (sent_site u m.actor n to message is)
-  site_from u (Tells reply ∷ ds) m is = site_from u ds m is
-  site_from u (Falls cause pending ∷ ds) m is = site_from false ds (moved actor.Down quiet) tt
-  site_from u (Rises kept ∷ ds) m is = site_from true ds (actor_rises decl b kept) (risen_site kept)
+  kind_up : (ds : List Deed) → lives.is_up ds ≡ true → Is (actor_after decl b ds).actor
+  kind_up ds up = subst (λ (u : Bool). KindAt Is u (actor_after decl b ds).actor) up (kind_from true ds (moved (new_actor decl b) quiet) new)
 
-  pub site_up : (ds : List Deed) → lives.is_up ds ≡ true → (s : SiteState) × ((actor_after decl b ds).actor ≡ actor.Site s)
-  site_up ds up = subst (λ (u : Bool). SiteAt u (actor_after decl b ds).actor) up (site_from true ds (moved (new_actor decl b) quiet) first)
-    where
-      first : SiteAt true (new_actor decl b)
-      first = (new_site b, ap (λ (t : Bool). cond t (actor.Site (new_site b)) (actor.Client (new_client (b - decl.sites)))) site)
+-- a site that is up is a site, and a client is a client
+
+abbrev pub IsSomeSite : Actor → Type 0
+IsSomeSite v = (s : SiteState) × (v ≡ actor.Site s)
+
+abbrev pub IsSomeClient : Actor → Type 0
+IsSomeClient v = (c : Client) × (v ≡ actor.Client c)
+
+pub site_up : (decl : Declaration) (b : ℕ) → is_site decl b ≡ true → (ds : List Deed) → lives.is_up ds ≡ true → IsSomeSite (actor_after decl b ds).actor
+site_up decl b site =
+    kind_up decl b IsSomeSite (new_site b, site_new decl b site)
+    (λ v g is. ((site_takes decl is.0 g).site, ap (λ (w : Actor). (actor_takes decl w g).actor) is.1))
+    (λ v n to m is. (is.0, ap (λ (w : Actor). actor_sends w n to m) is.1))
+    (λ kept. subst (λ (m : ActorMove). IsSomeSite m.actor) (sym (site_risen decl b site kept)) ((site_rises decl b kept).site, refl))
+
+pub client_up : (decl : Declaration) (b : ℕ) → is_client decl b ≡ true → (ds : List Deed) → lives.is_up ds ≡ true → IsSomeClient (actor_after decl b ds).actor
+client_up decl b client =
+    kind_up decl b IsSomeClient (new_client (b - decl.sites), client_new decl b client)
+    (λ v g is. ((client_takes decl is.0 g).client, ap (λ (w : Actor). (actor_takes decl w g).actor) is.1))
+    (λ v n to m is. (sent_one is.0 n to m, ap (λ (w : Actor). actor_sends w n to m) is.1))
+    (λ kept. subst (λ (m : ActorMove). IsSomeClient m.actor) (sym (client_risen decl b client kept)) ((client_rises (b - decl.sites) kept).client, refl))
 
 -- who took a message was up
 

@@ -1,17 +1,14 @@
 -- Each unanswered request stays somewhere, step by step: a copy of it is ready at its receiver, or it is wherever else
 -- requests may be, which no step here touches.
-use Rattle.std.proofs.Common.{◌≡◌, ℕ, ◌+◌, ◌<◌, ◌≤◌, ◌==◌, ◌⊎◌, Bool, true, false, inl, inr, List, [], ◌∷◌, ◌++◌, Option, Some, None, refl, sym, ap, ◌∙◌, subst, arith}
+use Rattle.std.proofs.Common.{◌≡◌, ℕ, ◌+◌, ◌<◌, ◌==◌, ◌⊎◌, Bool, true, false, inl, inr, List, [], ◌∷◌, ◌++◌, Option, Some, None, refl, sym, ap, ◌∙◌, subst}
 use Rattle.std.specs.List.{AllByRecursion as Every}
 use Rattle.std.proofs.lemmas.Bool.{eq-eqb, eqb-true}
 use Rattle.qc_list.specs.Members.{In}
 use Rattle.qc_list.proofs.Members.{In-first, In-second}
-use Rattle.qc_decl.specs.declared.declaration.Declaration.{Declaration}
-use Rattle.qc_laws.proofs.Rounds.{AreProper, IsProper}
 use Rattle.qc_link.specs.Fate.{fate}
 use Rattle.qc_link.specs.Limits.{most_actors}
 use Rattle.qc_msg.specs.declared.message.Envelope.{Envelope}
 use Rattle.qc_msg.specs.declared.message.Message.{Message}
-use Rattle.qc_msg.specs.declared.message.Message.TheVariants as messages
 use Rattle.qc_msg.specs.declared.record.Record.{Record}
 use Rattle.qc_msg.specs.declared.reply.Reply.{Reply}
 use Rattle.qc_msg.specs.declared.step.Step.{Step}
@@ -43,59 +40,57 @@ pub record IsSomewhere (script : Script) (X : Envelope → Type 0) (h : List Ent
 abbrev pub AreSomewhere : Script → (Envelope → Type 0) → List Entry → ℕ → Type 0
 AreSomewhere script X h a = (r : SentRequest) → In r (inbox script a h).unanswered → IsSomewhere script X h a r
 
--- a step of actor b that is no input; a request of actor a's own goes to a site
-abbrev pub MayFollow : Declaration → ℕ → ℕ → Step → Type 0
-MayFollow decl a b (steps.Phase k) = Unit {0}
-MayFollow decl a b (steps.Cut x y) = Unit {0}
-MayFollow decl a b (steps.Heal x y) = Unit {0}
-MayFollow decl a b (steps.Armed actor kind at) = Unit {0}
-MayFollow decl a b (steps.Called command) = ⊥
-MayFollow decl a b (steps.Got n) = ⊥
-MayFollow decl a b (steps.Lost n) = ⊥
-MayFollow decl a b (steps.Wrote written) = Unit {0}
-MayFollow decl a b (steps.Sent n to message) = b ≡ a → is_request message ≡ true → to < decl.sites
-MayFollow decl a b (steps.Told reply) = Unit {0}
-MayFollow decl a b (steps.Fell cause pending) = Unit {0}
-MayFollow decl a b (steps.Rose records) = Unit {0}
-MayFollow decl a b (steps.Damaged offset) = Unit {0}
+-- an actor other than a
+abbrev pub IsOther : ℕ → ℕ → Type 0
+IsOther a to = (to < most_actors) × ((to == a) ≡ false)
 
-abbrev pub MayAllFollow : Declaration → ℕ → List Entry → Type 0
-MayAllFollow decl a k = Every (λ (e : Entry). MayFollow decl a e.actor e.step) k
+abbrev pub AreToOthers : ℕ → List Posting → Type 0
+AreToOthers a ps = Every (λ (p : Posting). is_request p.message ≡ true → IsOther a p.to) ps
+
+-- a step of actor b that is no input; a request of actor a's own goes to another
+abbrev pub MayFollow : ℕ → ℕ → Step → Type 0
+MayFollow a b (steps.Phase k) = Unit {0}
+MayFollow a b (steps.Cut x y) = Unit {0}
+MayFollow a b (steps.Heal x y) = Unit {0}
+MayFollow a b (steps.Armed actor kind at) = Unit {0}
+MayFollow a b (steps.Called command) = ⊥
+MayFollow a b (steps.Got n) = ⊥
+MayFollow a b (steps.Lost n) = ⊥
+MayFollow a b (steps.Wrote written) = Unit {0}
+MayFollow a b (steps.Sent n to message) = b ≡ a → is_request message ≡ true → IsOther a to
+MayFollow a b (steps.Told reply) = Unit {0}
+MayFollow a b (steps.Fell cause pending) = Unit {0}
+MayFollow a b (steps.Rose records) = Unit {0}
+MayFollow a b (steps.Damaged offset) = Unit {0}
+
+abbrev pub MayAllFollow : ℕ → List Entry → Type 0
+MayAllFollow a k = Every (λ (e : Entry). MayFollow a e.actor e.step) k
 
 -- posts
 
-proper_site : (decl : Declaration) (to : ℕ) (m : Message) → IsProper decl to m → is_request m ≡ true → to < decl.sites
-proper_site decl to (messages.Request tx epoch life want) is request = is.0
-proper_site decl to (messages.Answer number answer) is request = absurd (let never : ⊥ = cc in never)
-proper_site decl to (messages.Decision tx verdict) is request = absurd (let never : ⊥ = cc in never)
-proper_site decl to (messages.Inquiry tx) is request = absurd (let never : ⊥ = cc in never)
-proper_site decl to (messages.Ask tx) is request = absurd is
-proper_site decl to (messages.Close epoch) is request = absurd is
-proper_site decl to (messages.Install epoch clock log) is request = absurd is
-
-module _ (decl : Declaration) (a b : ℕ) where
-  sents_follow : (n : ℕ) (ps : List Posting) (rest : List Step) → (b ≡ a → AreProper decl ps) → MayAllFollow decl a (by b rest) → MayAllFollow decl a (by b (sents n ps ++ rest))
+module _ (a b : ℕ) where
+  sents_follow : (n : ℕ) (ps : List Posting) (rest : List Step) → (b ≡ a → AreToOthers a ps) → MayAllFollow a (by b rest) → MayAllFollow a (by b (sents n ps ++ rest))
   sents_follow n [] rest are after = after
-  sents_follow n (p ∷ ps) rest are after = ((λ is request. proper_site decl p.to p.message (are is).0 request), sents_follow (n + 1) ps rest (λ is. (are is).1) after)
+  sents_follow n (p ∷ ps) rest are after = ((λ is. (are is).0), sents_follow (n + 1) ps rest (λ is. (are is).1) after)
 
-  told_follow : (reply : Option Reply) (rest : List Step) → MayAllFollow decl a (by b rest) → MayAllFollow decl a (by b (told reply ++ rest))
+  told_follow : (reply : Option Reply) (rest : List Step) → MayAllFollow a (by b rest) → MayAllFollow a (by b (told reply ++ rest))
   told_follow None rest after = after
   told_follow (Some reply) rest after = (tt, after)
 
-  last_follow : (reply : Option Reply) → MayAllFollow decl a (by b (told reply))
+  last_follow : (reply : Option Reply) → MayAllFollow a (by b (told reply))
   last_follow None = tt
   last_follow (Some reply) = (tt, tt)
 
-  pub post_follows : (n : ℕ) (end : Appended) (t : Turn) → (b ≡ a → AreProper decl (sends_as end t)) → MayAllFollow decl a (by b (posted_as end n t))
+  pub post_follows : (n : ℕ) (end : Appended) (t : Turn) → (b ≡ a → AreToOthers a (sends_as end t)) → MayAllFollow a (by b (posted_as end n t))
   post_follows n Done t are = at t.write
     where
-      at : (w : Option Record) → MayAllFollow decl a (by b (wrote w ++ (sents n t.sends ++ told t.told)))
+      at : (w : Option Record) → MayAllFollow a (by b (wrote w ++ (sents n t.sends ++ told t.told)))
       at None = sents_follow n t.sends (told t.told) are (last_follow t.told)
       at (Some written) = (tt, sents_follow n t.sends (told t.told) are (last_follow t.told))
   post_follows n Failed t are = sents_follow n t.failed_sends (told t.failed_told ++ fell _ t.write) are (told_follow t.failed_told (fell _ t.write) (tt, tt))
   post_follows n Stopped t are = told_follow t.failed_told (fell _ t.write) (tt, tt)
 
-module _ (decl : Declaration) (script : Script) (X : Envelope → Type 0) (a : ℕ) (a_low : a < most_actors) (past : decl.sites ≤ a) where
+module _ (script : Script) (X : Envelope → Type 0) (a : ℕ) (a_low : a < most_actors) where
   sent_more : (h k : List Entry) (x : Envelope) → In x (mail h) → In x (mail (h ++ k))
   sent_more h k x member = subst (In x) (sym (mail-append h k)) (In-first x (mail h) (mail k) member)
 
@@ -135,20 +130,17 @@ module _ (decl : Declaration) (script : Script) (X : Envelope → Type 0) (a : �
     fewer : ((r : SentRequest) → In r (inbox_at script a (inbox script a h) b (steps.Sent n to m)).unanswered → In r (inbox script a h).unanswered) → AreSomewhere script X (h ++ entry ∷ []) a
     fewer less r member = stays h entry r tt (are r (less r (subst (λ (i : Inbox). In r i.unanswered) (inbox_then script a h entry) member)))
 
-    more : (b == a) ≡ true → is_request m ≡ true → to < decl.sites → AreSomewhere script X (h ++ entry ∷ []) a
-    more mine request low r member = at (own_new script a (inbox script a h) sent away mine r (subst (λ (i : Inbox). In r i.unanswered) (inbox_then script a h entry) member))
+    more : (b == a) ≡ true → is_request m ≡ true → IsOther a to → AreSomewhere script X (h ++ entry ∷ []) a
+    more mine request other r member = at (own_new script a (inbox script a h) sent other.1 mine r (subst (λ (i : Inbox). In r i.unanswered) (inbox_then script a h entry) member))
       where
         is : b ≡ a
         is = eqb-true b a mine
 
-        away : (to == a) ≡ false
-        away = apart to a (λ same. (let less : to < decl.sites = low in let high : decl.sites ≤ a = past in omega arith))
-
         back : (b == to) ≡ false
-        back = apart b to (λ same. (let less : to < decl.sites = low in let high : decl.sites ≤ a = past in let eq : b ≡ a = is in omega arith))
+        back = apart b to (λ same. (let yes : (to == a) ≡ true = eq-eqb to a (sym same ∙ is) in let no : (to == a) ≡ false = other.1 in let never : ⊥ = cc in never))
 
         to_low : to < most_actors
-        to_low = let less : to < decl.sites = low in let high : decl.sites ≤ a = past in let lower : a < most_actors = a_low in omega arith
+        to_low = other.0
 
         fresh : IsNew script a (inbox script a h) sent r → IsSomewhere script X (h ++ entry ∷ []) a r
         fresh new = record {
@@ -168,18 +160,18 @@ module _ (decl : Declaration) (script : Script) (X : Envelope → Type 0) (a : �
         at (inl old) = stays h entry r tt (are r old)
         at (inr new) = fresh new
 
-    message : (b ≡ a → is_request m ≡ true → to < decl.sites) → AreSomewhere script X (h ++ entry ∷ []) a
-    message sites = at (b == a) refl (is_request m) refl
+    message : (b ≡ a → is_request m ≡ true → IsOther a to) → AreSomewhere script X (h ++ entry ∷ []) a
+    message others = at (b == a) refl (is_request m) refl
       where
         at : (t : Bool) → (b == a) ≡ t → (q : Bool) → is_request m ≡ q → AreSomewhere script X (h ++ entry ∷ []) a
         at false other q is = fewer (others_fewer script a (inbox script a h) sent other)
         at true mine false is = fewer (silent_fewer script a (inbox script a h) sent is)
-        at true mine true is = more mine is (sites (eqb-true b a mine) is)
+        at true mine true is = more mine is (others (eqb-true b a mine) is)
 
-  follows : (h : List Entry) (e : Entry) → MayFollow decl a e.actor e.step → AreSomewhere script X h a → AreSomewhere script X (h ++ e ∷ []) a
+  follows : (h : List Entry) (e : Entry) → MayFollow a e.actor e.step → AreSomewhere script X h a → AreSomewhere script X (h ++ e ∷ []) a
   follows h e may are = by e.step refl may
     where
-      by : (step : Step) → e.step ≡ step → MayFollow decl a e.actor step → AreSomewhere script X (h ++ e ∷ []) a
+      by : (step : Step) → e.step ≡ step → MayFollow a e.actor step → AreSomewhere script X (h ++ e ∷ []) a
       by (steps.Phase k) is may = still h e (subst IsStill (sym is) tt) are
       by (steps.Cut x y) is may = still h e (subst IsStill (sym is) tt) are
       by (steps.Heal x y) is may = still h e (subst IsStill (sym is) tt) are
@@ -194,5 +186,5 @@ module _ (decl : Declaration) (script : Script) (X : Envelope → Type 0) (a : �
       by (steps.Rose records) is may = still h e (subst IsStill (sym is) tt) are
       by (steps.Damaged offset) is may = still h e (subst IsStill (sym is) tt) are
 
-  pub all_follow : (h k : List Entry) → MayAllFollow decl a k → AreSomewhere script X h a → AreSomewhere script X (h ++ k) a
-  all_follow h k may are = entries (λ (v : List Entry). AreSomewhere script X v a) (λ (e : Entry). MayFollow decl a e.actor e.step) (λ v e one is. follows v e one is) h k may are
+  pub all_follow : (h k : List Entry) → MayAllFollow a k → AreSomewhere script X h a → AreSomewhere script X (h ++ k) a
+  all_follow h k may are = entries (λ (v : List Entry). AreSomewhere script X v a) (λ (e : Entry). MayFollow a e.actor e.step) (λ v e one is. follows v e one is) h k may are

@@ -12,7 +12,7 @@ use Rattle.qc_client.specs.declared.client.Client.{Client}
 use Rattle.qc_client.specs.Client.{ClientMove}
 use Rattle.qc_client.specs.Conduct.{client_does, client_takes}
 use Rattle.qc_decl.specs.declared.declaration.Declaration.{Declaration}
-use Rattle.qc_decl.specs.Actors.{is_client, is_site}
+use Rattle.qc_decl.specs.Actors.{is_administrator, is_client, is_site}
 use Rattle.qc_msg.specs.declared.record.Record.{Record}
 use Rattle.qc_msg.specs.declared.reply.Reply.{Reply}
 use Rattle.qc_msg.specs.declared.step.Given.{Given}
@@ -149,7 +149,7 @@ module _ (decl : Declaration) (a : ℕ) where
   pub turn_is : is_client decl a ≡ true → (ds : List Deed) (turn : Turn) → IsLawfulWithFalls decl a ds turn → (actor_after decl a ds).turn ≡ with_record turn
   turn_is client ds turn law = by (is_site decl a) (is_client decl a) client law.called_for
     where
-      by : (s c : Bool) → c ≡ true → cond s (Some (actor_after decl a ds).turn) (cond c (Some (actor_after decl a ds).turn) None) ≡ Some (with_record turn) → (actor_after decl a ds).turn ≡ with_record turn
+      by : (s c : Bool) → c ≡ true → cond s (Some (actor_after decl a ds).turn) (cond c (Some (actor_after decl a ds).turn) (cond (is_administrator decl a) (Some (actor_after decl a ds).turn) None)) ≡ Some (with_record turn) → (actor_after decl a ds).turn ≡ with_record turn
       by true c is e = same_some (actor_after decl a ds).turn (with_record turn) e
       by false true is e = same_some (actor_after decl a ds).turn (with_record turn) e
       by false false is e = absurd (let never : ⊥ = cc in never)

@@ -76,7 +76,7 @@ apart_range first (suc count) = (
   apart_range (first + 1) count,
 )
 
-apart_cyclic : (sites first : ℕ) → AreApart (cyclic sites first)
+pub apart_cyclic : (sites first : ℕ) → AreApart (cyclic sites first)
 apart_cyclic sites first =
     both_apart (range_with_len first (sites - first)) (range_with_len 0 first) (apart_range first (sites - first)) (apart_range 0 first)
     (λ x y later sooner same.

@@ -85,7 +85,7 @@ module _ (decl : Declaration) (a : ℕ) (client : is_client decl a ≡ true) whe
     is = refl;
     stands = record {
       state = new_client (a - decl.sites);
-      actor = ap (λ (m : ActorMove). m.actor) (at_client decl a [] tt (no_site decl a client));
+      actor = ap (λ (m : ActorMove). m.actor) (at_client decl a [] tt (no_site decl a client) client);
       ties = clients_tied decl a client [] 0 acts.starts;
       holds = clients_hold decl a client [] 0 acts.starts;
       busy = λ all. refl;

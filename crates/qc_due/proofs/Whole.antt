@@ -3,7 +3,7 @@ use Rattle.std.proofs.Common.{◌≡◌, ◌⊎◌, ◌<◌, ℕ, ◌-◌, ◌&&
 use Rattle.qc_core.specs.Acts.{Acts}
 use Rattle.qc_core.specs.Conduct.{IsLawful}
 use Rattle.qc_decl.specs.Accepted.{IsAccepted}
-use Rattle.qc_decl.specs.Actors.{actors, client_actor, is_client}
+use Rattle.qc_decl.specs.Actors.{actors, administrator, client_actor, is_client}
 use Rattle.qc_decl.specs.declared.declaration.Declaration.{Declaration}
 use Rattle.qc_laws.proofs.Acted.{has_entry, run_acts}
 use Rattle.qc_laws.proofs.ByMail.{run_by_turns, run_mailed}
@@ -24,6 +24,7 @@ use Rattle.qc_script.specs.declared.script.Script.{Script}
 use Rattle.qc_due.specs.Declares.{Declares}
 use Rattle.qc_due.specs.Ties.{NoneRuns}
 use Rattle.qc_due.specs.Waits.{IsWaiting}
+use Rattle.qc_due.proofs.AdminIdle.{run_admin_due}
 use Rattle.qc_due.proofs.Awaits.{clients_owe_nothing, clients_wait}
 use Rattle.qc_due.proofs.Courses.{clients_due, turns_tell}
 use Rattle.qc_due.proofs.Declaring.{run_declares}
@@ -70,7 +71,7 @@ module _ (decl : Declaration) (script : Script) (h : List Entry) (open_inputs : 
         low = omega arith
 
         is : is_client decl (client_actor decl client) ≡ true
-        is = λ i. le-leb decl.sites (client_actor decl client) (omega arith) i && lt-ltb (client_actor decl client) (actors decl) low i
+        is = λ i. le-leb decl.sites (client_actor decl client) (omega arith) i && lt-ltb (client_actor decl client) (administrator decl) (omega arith) i
 
         number : client_actor decl client - decl.sites ≡ client
         number = omega arith
@@ -87,4 +88,5 @@ module _ (decl : Declaration) (script : Script) (h : List Entry) (open_inputs : 
       mail = run_mailed decl script h open_inputs run;
       replies = replies_due;
       sites = λ site within. run_due decl script h open_inputs run site within;
+      admin = run_admin_due decl script h open_inputs run;
     }

@@ -1,7 +1,8 @@
 -- Where nothing is left to happen a run with falls is whole: each command is told its reply.
-use Rattle.std.proofs.Common.{◌≡◌, ℕ, ◌+◌, ◌≤◌, ◌==◌, ◌&&◌, ◌||◌, not, Bool, true, false, cond, List, [], ◌∷◌, ◌++◌, length, Option, Some, None, is_some, refl, sym, ap, ◌∙◌, subst, arith}
+use Rattle.std.proofs.Common.{◌≡◌, ℕ, ◌+◌, ◌<◌, ◌≤◌, ◌==◌, ◌&&◌, ◌||◌, not, Bool, true, false, cond, List, [], ◌∷◌, ◌++◌, length, Option, Some, None, is_some, refl, sym, ap, ◌∙◌, subst, arith}
 use Rattle.std.specs.Prelude.{fold, option_to_list, replicate, slice_get}
 use Rattle.std.specs.List.{filter_map}
+use Rattle.std.proofs.lemmas.Bool.{eq-eqb, eqb-true}
 use Rattle.std.proofs.lemmas.List.{append-nil, take_all}
 use Rattle.qc_client.specs.declared.client.Client.{Client}
 use Rattle.qc_core.specs.declared.actor.Actor.TheVariants as actor
@@ -27,7 +28,9 @@ use Rattle.qc_script.specs.declared.script.PhaseLines.{PhaseLines}
 use Rattle.qc_script.specs.declared.script.Script.{Script}
 use Rattle.qc_due.specs.Order.{AreInOrder}
 use Rattle.qc_laws.specs.Exchanges.{AreAnswered, exchanges, exchanges_from}
+use Rattle.qc_due.specs.Known.{AsksEpochs, AsksKnown}
 use Rattle.qc_due.specs.Whole.{IsClosedWithFalls, IsWholeWithFalls}
+use Rattle.qc_due.proofs.AdminEnds.{his_none_runs, his_order}
 use Rattle.qc_due.proofs.Busy.{busy_runs}
 use Rattle.qc_due.proofs.Calling.{run_asked, run_phases}
 use Rattle.qc_due.proofs.EndsWithFalls.{copies_none, losts_none, none_open, none_runs, nothing_ready}
@@ -77,30 +80,59 @@ module _ (decl : Declaration) (script : Script) (accepted : IsAccepted decl) (as
         let count : length (calls_of a h) ≡ length (replies_of a h) + 0 = all_counted (deeds a [] h) (ordered a client) ∙ ap (λ (t : Bool). length (replies_of a h) + open_commands t) (none_runs_now a client) in
         omega arith
 
-    no_command : (a : ℕ) → is_client decl a ≡ true → command_in decl a (inbox script a h) ≡ None
-    no_command a client =
-        sym (ap (λ (es : List Envelope). first_copy es (first_lost (inbox script a h).lost (command_in decl a (inbox script a h))))
-        (copies_none decl script accepted asks fits h (replicate (actors decl) false) closed none_open_now quiet done a (client_within decl a client))
-        ∙ ap (λ (ns : List ℕ). first_lost ns (command_in decl a (inbox script a h)))
-        (losts_none decl script accepted asks fits h (replicate (actors decl) false) closed none_open_now quiet done a (client_within decl a client)))
-        ∙ nothing_ready decl script accepted asks fits h (replicate (actors decl) false) closed none_open_now quiet done a (client_within decl a client)
+    -- of whoever takes commands, where it has them in order and runs none
 
-    none_left : (a : ℕ) → is_client decl a ≡ true → (inbox script a h).commands ≡ []
-    none_left a client =
-        no_commands (takes_commands decl a) (inbox script a h).busy (inbox script a h).commands (ap (λ (t : Bool). t || (a == administrator decl)) client)
-        (busy_runs script a h (ordered a client) ∙ none_runs_now a client) (no_command a client)
+    module _ (a : ℕ) (within : a < actors decl) (takes : takes_commands decl a ≡ true) (order : AreInOrder false (deeds a [] h)) (rests : is_running (deeds a [] h) ≡ false) where
+      no_command : command_in decl a (inbox script a h) ≡ None
+      no_command =
+          sym (ap (λ (es : List Envelope). first_copy es (first_lost (inbox script a h).lost (command_in decl a (inbox script a h))))
+          (copies_none decl script accepted asks fits h (replicate (actors decl) false) closed none_open_now quiet done a within)
+          ∙ ap (λ (ns : List ℕ). first_lost ns (command_in decl a (inbox script a h)))
+          (losts_none decl script accepted asks fits h (replicate (actors decl) false) closed none_open_now quiet done a within))
+          ∙ nothing_ready decl script accepted asks fits h (replicate (actors decl) false) closed none_open_now quiet done a within
 
-    calls_whole : length script.phases ≤ phase_of h → (a : ℕ) → is_client decl a ≡ true → calls_of a h ≡ asked_by a script
-    calls_whole all a client =
-        sym (append-nil (calls_of a h)) ∙ ap (λ (v : List Command). calls_of a h ++ v) (sym (none_left a client)) ∙ run_asked (IsLawfulWithFalls decl) fits decl script a h (replicate (actors decl) false) closed
-        ∙ ap (λ (v : List PhaseLines). asked_in_all a v) (take_all (phase_of h) script.phases all)
+      none_left : (inbox script a h).commands ≡ []
+      none_left = no_commands (takes_commands decl a) (inbox script a h).busy (inbox script a h).commands takes (busy_runs script a h order ∙ rests) no_command
 
-    pub is_whole : length script.phases ≤ phase_of h → IsWholeWithFalls fits decl script h
-    is_whole all = record {
-      closed = closed;
-      phases = (let most : phase_of h ≤ length script.phases = run_phases (IsLawfulWithFalls decl) fits decl script h (replicate (actors decl) false) closed in omega arith);
-      controls = done;
-      replies = λ a client. subst (λ (cs : List Command). AreAnswered cs (exchanges (deeds a [] h))) (calls_whole all a client)
-          (answered_from None (deeds a [] h) (ordered a client) (none_runs_now a client));
-      quiet = quiet;
-    }
+      calls_whole : length script.phases ≤ phase_of h → calls_of a h ≡ asked_by a script
+      calls_whole all =
+          sym (append-nil (calls_of a h)) ∙ ap (λ (v : List Command). calls_of a h ++ v) (sym none_left) ∙ run_asked (IsLawfulWithFalls decl) fits decl script a h (replicate (actors decl) false) closed
+          ∙ ap (λ (v : List PhaseLines). asked_in_all a v) (take_all (phase_of h) script.phases all)
+
+      answered : length script.phases ≤ phase_of h → AreAnswered (asked_by a script) (exchanges (deeds a [] h))
+      answered all = subst (λ (cs : List Command). AreAnswered cs (exchanges (deeds a [] h))) (calls_whole all) (answered_from None (deeds a [] h) order rests)
+
+    -- a client, and the administrator
+
+    clients_answered : length script.phases ≤ phase_of h → (a : ℕ) → is_client decl a ≡ true → AreAnswered (asked_by a script) (exchanges (deeds a [] h))
+    clients_answered all a client = answered a (client_within decl a client) (ap (λ (t : Bool). t || (a == administrator decl)) client) (ordered a client) (none_runs_now a client) all
+
+    module _ (known : AsksKnown fits decl script) (epochs : AsksEpochs decl script) where
+      pub none_of_his_runs : is_running (deeds (administrator decl) [] h) ≡ false
+      none_of_his_runs = his_none_runs decl script accepted asks fits known epochs h (replicate (actors decl) false) closed none_open_now quiet done
+
+      his_answered : length script.phases ≤ phase_of h → AreAnswered (asked_by (administrator decl) script) (exchanges (deeds (administrator decl) [] h))
+      his_answered all =
+          answered (administrator decl) (omega arith) (takes_his (is_client decl (administrator decl)))
+          (his_order decl script accepted asks fits known epochs h (replicate (actors decl) false) closed) none_of_his_runs all
+        where
+          takes_his : (t : Bool) → (t || (administrator decl == administrator decl)) ≡ true
+          takes_his true = refl
+          takes_his false = eq-eqb (administrator decl) (administrator decl) refl
+
+      all_answered : length script.phases ≤ phase_of h → (a : ℕ) → takes_commands decl a ≡ true → AreAnswered (asked_by a script) (exchanges (deeds a [] h))
+      all_answered all a takes = by (is_client decl a) refl (a == administrator decl) refl takes
+        where
+          by : (t : Bool) → is_client decl a ≡ t → (u : Bool) → (a == administrator decl) ≡ u → (t || u) ≡ true → AreAnswered (asked_by a script) (exchanges (deeds a [] h))
+          by true client u is some = clients_answered all a client
+          by false other true is some = subst (λ (k : ℕ). AreAnswered (asked_by k script) (exchanges (deeds k [] h))) (sym (eqb-true a (administrator decl) is)) (his_answered all)
+          by false other false is some = absurd (let never : ⊥ = cc in never)
+
+      pub is_whole : length script.phases ≤ phase_of h → IsWholeWithFalls fits decl script h
+      is_whole all = record {
+        closed = closed;
+        phases = (let most : phase_of h ≤ length script.phases = run_phases (IsLawfulWithFalls decl) fits decl script h (replicate (actors decl) false) closed in omega arith);
+        controls = done;
+        replies = all_answered all;
+        quiet = quiet;
+      }

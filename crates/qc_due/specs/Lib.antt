@@ -5,6 +5,7 @@ pub mod ByRows
 pub mod Declares
 pub mod Planned
 pub mod Goes
+pub mod Known
 pub mod Waits
 pub mod Risen
 pub mod Order

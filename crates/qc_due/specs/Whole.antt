@@ -2,13 +2,13 @@
 use Rattle.std.specs.Prelude.{◌≡◌, ℕ, true, false, List, [], length, replicate}
 use Rattle.qc_core.specs.Conduct.{IsLawfulWithFalls}
 use Rattle.qc_decl.specs.declared.declaration.Declaration.{Declaration}
-use Rattle.qc_decl.specs.Actors.{actors, is_client}
+use Rattle.qc_decl.specs.Actors.{actors}
 use Rattle.qc_laws.specs.Exchanges.{AreAnswered, exchanges}
 use Rattle.qc_laws.specs.Whole.{IsQuiet, asked_by}
 use Rattle.qc_msg.specs.declared.record.Record.{Record}
 use Rattle.qc_msg.specs.Deeds.{deeds}
 use Rattle.qc_msg.specs.Steps.{Entry}
-use Rattle.qc_script.specs.Ready.{controls_left, phase_of}
+use Rattle.qc_script.specs.Ready.{controls_left, phase_of, takes_commands}
 use Rattle.qc_script.specs.RunsWithFalls.{RunsWithFalls}
 use Rattle.qc_script.specs.declared.script.Script.{Script}
 
@@ -25,8 +25,8 @@ pub record IsWholeWithFalls (fits : ℕ → List Record → Type 0) (decl : Decl
   -- every phase began, and each of their control lines acted
   pub phases : phase_of h ≡ length script.phases
   pub controls : controls_left script h ≡ []
-  -- each client called just the commands that the script asks it, in their order, and told a reply to each, before the
-  -- next one and before it fell; and it told nothing beside
-  pub replies : (a : ℕ) → is_client decl a ≡ true → AreAnswered (asked_by a script) (exchanges (deeds a [] h))
+  -- each client and the administrator called just the commands that the script asks it, in their order, and told a reply
+  -- to each, before the next one and before it fell; and it told nothing beside
+  pub replies : (a : ℕ) → takes_commands decl a ≡ true → AreAnswered (asked_by a script) (exchanges (deeds a [] h))
   -- nothing is ready for any actor
   pub quiet : IsQuiet decl script h

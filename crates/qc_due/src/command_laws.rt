@@ -10,7 +10,7 @@ ghost use Rattle.qc_core.specs.Acts.{is_running};
 ghost use Rattle.qc_core.specs.Conduct.{IsLawfulWithFalls};
 ghost use Rattle.qc_core.specs.Lives.{is_up};
 ghost use Rattle.qc_decl.specs.Accepted.{IsAccepted};
-ghost use Rattle.qc_decl.specs.Actors.{actors, is_client};
+ghost use Rattle.qc_decl.specs.Actors.{actors, administrator, is_client};
 ghost use Rattle.qc_decl.specs.declared.declaration.Declaration.{Declaration};
 ghost use Rattle.qc_due.specs.Order.{AreInOrder};
 ghost use Rattle.qc_laws.specs.Asked.{AsksDeclared};
@@ -73,7 +73,7 @@ pub fn no_command_runs_while_a_line_is_left<C: ConductWithFalls>()
         → (a : ℕ) → is_client decl a ≡ true → is_running (deeds a [] h) ≡ false }
 {}
 
-/// An actor calls a command only where none runs, and each reply that it tells
+/// A site or a client calls a command only where none runs, and each reply that it tells
 /// answers a command that was called and not yet answered: also where it is down,
 /// and where its record isn't written. It falls and rises only where no command
 /// runs, so a fall leaves none without its reply.
@@ -82,16 +82,16 @@ pub fn replies_answer_commands_with_falls<C: ConductWithFalls>()
     ensures { (decl : Declaration) (script : Script) → IsAccepted decl → AsksDeclared decl script
         → (h : List Entry) (open_inputs : List Bool)
         → RunsWithFalls (IsLawfulWithFalls decl) C.fits decl script h open_inputs
-        → (a : ℕ) → a < actors decl → AreInOrder false (deeds a [] h) }
+        → (a : ℕ) → a < administrator decl → AreInOrder false (deeds a [] h) }
 {}
 
-/// So an actor told one reply to each command that it called, but for the one
+/// So it told one reply to each command that it called, but for the one
 /// that runs.
 #[tactic(auto, using(crate::proofs::MuteWithFalls::actor_replied))]
 pub fn calls_are_replied_with_falls<C: ConductWithFalls>()
     ensures { (decl : Declaration) (script : Script) → IsAccepted decl → AsksDeclared decl script
         → (h : List Entry) (open_inputs : List Bool)
         → RunsWithFalls (IsLawfulWithFalls decl) C.fits decl script h open_inputs
-        → (a : ℕ) → a < actors decl
+        → (a : ℕ) → a < administrator decl
         → length (calls_of a h) ≡ length (replies_of a h) + cond (is_running (deeds a [] h)) 1 0 }
 {}

@@ -45,8 +45,8 @@ pub fn replies_are_due_with_falls<C: ConductWithFalls>()
 {}
 
 /// All is due in every run with falls: actors go by turns, messages reach their
-/// receivers, and each deed of a client and each post of a site is due; where
-/// what rises names epochs with plans, and clients rise with commit records that
+/// receivers, and each deed of a client and of the administrator and each post of
+/// a site is due; where what rises names epochs with plans, and clients rise with commit records that
 /// name stamps of their transactions' own clients.
 #[tactic(auto, using(crate::proofs::AllDue::runs_due))]
 pub fn runs_with_falls_are_due<C: ConductWithFalls>()
@@ -56,11 +56,12 @@ pub fn runs_with_falls_are_due<C: ConductWithFalls>()
         → RiseWithOwn decl h → Due decl h }
 {}
 
-/// Where records are kept, what rises names epochs with plans: no actor writes a
-/// record of another.
+/// Where a script asks for what is declared and records are kept, what rises names
+/// epochs with plans: no actor writes a record of another.
 #[tactic(auto, using(crate::proofs::KeptPlanned::kept_planned))]
 pub fn what_rises_is_planned_where_records_are_kept<C: ConductWithFalls>()
-    ensures { (decl : Declaration) (script : Script) → IsAccepted decl → (h : List Entry) (open_inputs : List Bool)
+    ensures { (decl : Declaration) (script : Script) → IsAccepted decl → AsksDeclared decl script
+        → (h : List Entry) (open_inputs : List Bool)
         → RunsWithFalls (IsLawfulWithFalls decl) C.fits decl script h open_inputs → Kept h
         → AllRisePlanned decl h }
 {}

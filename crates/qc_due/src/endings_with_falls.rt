@@ -8,8 +8,9 @@ ghost use Rattle.qc_due.specs.Waits.{IsWaiting};
 ghost use Rattle.qc_core.specs.Acts.{is_running};
 ghost use Rattle.qc_core.specs.Conduct.{IsLawfulWithFalls};
 ghost use Rattle.qc_decl.specs.Accepted.{IsAccepted};
-ghost use Rattle.qc_decl.specs.Actors.{actors, is_client};
+ghost use Rattle.qc_decl.specs.Actors.{actors, administrator, is_client};
 ghost use Rattle.qc_decl.specs.declared.declaration.Declaration.{Declaration};
+ghost use Rattle.qc_due.specs.Known.{AsksEpochs, AsksKnown};
 ghost use Rattle.qc_due.specs.Whole.{IsClosedWithFalls, IsWholeWithFalls};
 ghost use Rattle.qc_laws.specs.Asked.{AsksDeclared};
 ghost use Rattle.qc_laws.specs.Whole.{IsQuiet, calls_of, replies_of};
@@ -62,13 +63,25 @@ pub fn each_call_has_its_reply_with_falls<C: ConductWithFalls>()
         → (a : ℕ) → is_client decl a ≡ true → length (calls_of a h) ≡ length (replies_of a h) }
 {}
 
-/// And such a run of which no phase is left is whole: each client called just the
-/// script's commands in their order, and told a reply to each before the next one
-/// and before any fall, and nothing beside.
+/// So does every command of the administrator, where a script asks him for epochs
+/// alone, and each Ask of his is about a transaction of a declared client.
+#[tactic(auto, using(crate::proofs::WholeLaw::none_of_his_runs))]
+pub fn commands_of_the_administrator_end<C: ConductWithFalls>()
+    ensures { (decl : Declaration) (script : Script) → IsAccepted decl → AsksDeclared decl script
+        → (h : List Entry) → IsClosedWithFalls C.fits decl script h
+        → IsQuiet decl script h → controls_left script h ≡ []
+        → AsksKnown C.fits decl script → AsksEpochs decl script
+        → is_running (deeds (administrator decl) [] h) ≡ false }
+{}
+
+/// And such a run of which no phase is left is whole: each client, and the
+/// administrator, called just the script's commands in their order, and told a reply
+/// to each before the next one and before any fall, and nothing beside.
 #[tactic(auto, using(crate::proofs::WholeLaw::is_whole))]
 pub fn runs_with_falls_are_whole<C: ConductWithFalls>()
     ensures { (decl : Declaration) (script : Script) → IsAccepted decl → AsksDeclared decl script
         → (h : List Entry) → IsClosedWithFalls C.fits decl script h
         → IsQuiet decl script h → controls_left script h ≡ []
+        → AsksKnown C.fits decl script → AsksEpochs decl script
         → length script.phases ≤ phase_of h → IsWholeWithFalls C.fits decl script h }
 {}

@@ -38,15 +38,22 @@
 //! 9. What is due of a client stays so through its falls and rises, whatever the
 //!    records that it rises with (`lives_of_clients_are_due`).
 //!
+//! # The account of the administrator's deeds is the administrator
+//!
+//! Stage by stage, as he closes sites, asks clients and installs: each reply, record
+//! and message of his is due, and so is what he does as he rises, whatever the
+//! records (`lives_of_the_administrator_are_due`). Of a run without falls it is
+//! nothing: he does nothing there.
+//!
 //! # What is due with falls
 //!
 //! 1. In every run with falls each deed of a client is due, where what comes to it
 //!    is declared (`clients_of_runs_with_falls_are_due`).
 //! 2. That is so where the script asks for what is declared and each record that
 //!    rises names epochs with plans (`replies_are_due_with_falls`).
-//! 3. Then all is due in the run, by turns, by mail, of clients and of sites, where
-//!    the commit records that rise name stamps of their own clients
-//!    (`runs_with_falls_are_due`).
+//! 3. Then all is due in the run, by turns, by mail, of clients, of sites and of the
+//!    administrator, where the commit records that rise name stamps of their own
+//!    clients (`runs_with_falls_are_due`).
 //! 4. Where records are kept, each record that rises names epochs with plans
 //!    (`what_rises_is_planned_where_records_are_kept`); and so all is due
 //!    (`runs_with_falls_are_due_where_records_are_kept`).
@@ -54,9 +61,6 @@
 //! # Commands, replies, requests and ends with falls
 //!
 //! None of them asks that records are kept: whatever disks lose, commands end.
-//!
-//! None of them asks that records are kept:
-//! whatever disks lose, commands end.
 //!
 //! 1. What an actor called and what is left to it is what the phases so far ask
 //!    it (`calls_are_asked_with_falls`), and no more phases begin than the script
@@ -125,7 +129,7 @@ pub use exchanges::{
     falls_between_commands_are_taken, missing_replies_are_refused, needless_replies_are_refused,
     other_calls_are_refused,
 };
-pub use lives::lives_of_clients_are_due;
+pub use lives::{lives_of_clients_are_due, lives_of_the_administrator_are_due};
 pub use request_laws::{
     no_request_is_open_at_the_end_with_falls, open_requests_are_awaited_with_falls,
     unanswered_requests_are_at_their_sites_with_falls,

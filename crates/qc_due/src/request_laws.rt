@@ -43,7 +43,7 @@ pub fn open_requests_are_awaited_with_falls<C: ConductWithFalls>()
 /// unanswered request of a client is at the site that it was sent to: a copy of
 /// it is ready there, or it is the site's open input. A site that falls leaves no
 /// request to it unanswered.
-#[tactic(auto, using(crate::proofs::Reached::unanswered_at_site))]
+#[tactic(auto, using(crate::proofs::ClientReached::unanswered_at_site))]
 pub fn unanswered_requests_are_at_their_sites_with_falls<C: ConductWithFalls>()
     ensures { (decl : Declaration) (script : Script) → IsAccepted decl → AsksDeclared decl script
         → (a : ℕ) → is_client decl a ≡ true

@@ -30,7 +30,7 @@ pub fn replies_are_due()
 
 /// So all that is promised of a history is due in every such run: actors act by
 /// turns, messages reach their receivers, what clients tell and write is due, and
-/// what sites post.
+/// what sites post. The administrator does nothing in it.
 #[tactic(auto, using(crate::proofs::Whole::all_is_due))]
 pub fn runs_are_due()
     ensures { (decl : Declaration) (script : Script) (h : List Entry) (open_inputs : List Bool)

@@ -82,7 +82,7 @@ impl<C: Conduct, N: Named> Still<C, N> {
         ensures held { IfOk result (λ s. s.held ≡ replicate (actors N.declaration) false) }
         ensures spare { IfOk result (λ s. s.spare ≡ 0) }
     {
-        let actors = decl.sites + decl.clients;
+        let actors = decl.sites + decl.clients + 1;
         let mailboxes = Mailboxes::new(alloc, &script)?;
         let inputs = closed(alloc, actors)?;
         let held = closed(alloc, actors)?;

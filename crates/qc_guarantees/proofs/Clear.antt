@@ -12,7 +12,7 @@ use Rattle.qc_stamp.specs.declared.stamp.TxId.{TxId}
 use Rattle.qc_core.specs.Acts.{is_running}
 use Rattle.qc_core.specs.Conduct.{IsLawful}
 use Rattle.qc_decl.specs.Accepted.{IsAccepted}
-use Rattle.qc_decl.specs.Actors.{actors, client_actor, controller, is_client}
+use Rattle.qc_decl.specs.Actors.{administrator, client_actor, controller, is_client}
 use Rattle.qc_decl.specs.declared.declaration.Declaration.{Declaration}
 use Rattle.qc_msg.specs.declared.message.Envelope.{Envelope}
 use Rattle.qc_msg.specs.declared.message.Message.TheVariants as messages
@@ -29,7 +29,8 @@ use Rattle.qc_script.specs.Runs.{Runs, begins, takes, posts, phase, control}
 use Rattle.qc_script.specs.declared.script.Script.{Script}
 use Rattle.qc_laws.specs.Asked.{AsksDeclared}
 use Rattle.qc_laws.specs.Turns.{ActsIn}
-use Rattle.qc_laws.proofs.Acted.{deeds-silent, has_place, run_acts}
+use Rattle.qc_laws.proofs.Acted.{deeds-silent, run_acts}
+use Rattle.qc_laws.proofs.Idle.{posts_before}
 use Rattle.qc_laws.proofs.Arrivals.{what_is_ready_was_sent}
 use Rattle.qc_laws.proofs.Numbered.{IsSilent, control_silent, mail-silent, phase_silent, run_numbered}
 use Rattle.qc_laws.proofs.Places.{slice_get-set_same}
@@ -137,8 +138,8 @@ module _ (decl : Declaration) (script : Script) (accepted : IsAccepted decl) (as
           runs : is_running (deeds a [] older) ≡ true
           runs = (is_busy decl (a - decl.sites) (deeds a [] older) (run_up (IsLawful decl) decl script older before run a)).requests q among
 
-          low : b < actors decl
-          low = has_place (IsLawful decl) decl script older before run b true is_opened
+          low : b < administrator decl
+          low = posts_before decl b (deeds b [] older) turn lawful
 
           still_at : (h : List Entry) (open_inputs : List Bool) → Runs (IsLawful decl) decl script h open_inputs → is_client decl b ≡ true → is_running (deeds a [] h) ≡ true → IsStill decl script b h
           still_at h open_inputs run_h poster running = at (one_still decl script accepted asks calm h open_inputs run_h a b named poster differs)

@@ -3,6 +3,7 @@ use Rattle.std.proofs.Common.{◌≡◌, ◌<◌, ◌≤◌, ◌+◌, ◌-◌, �
 use Rattle.std.specs.Prelude.{fold}
 use Rattle.std.specs.List.{find}
 use Rattle.std.proofs.lemmas.List.Sums.{fold-append}
+use Rattle.qc_decl.proofs.Clients.{client_within}
 use Rattle.qc_stamp.specs.declared.stamp.Stamp.{Stamp}
 use Rattle.qc_decl.specs.declared.declaration.Declaration.{Declaration}
 use Rattle.qc_entry.specs.declared.line.Line.{Line}
@@ -229,7 +230,7 @@ module _ (decl : Declaration) where
 
   pub stamps_pass : (script : Script) (h : List Entry) (open_inputs : List Bool) → Runs (IsLawful decl) decl script h open_inputs → (a : ℕ) → is_client decl a ≡ true → (front back : List Deed) (c : CommitRecord) (clock : ℕ)
       → deeds a [] h ≡ front ++ Writes (records.Commit c) ∷ back → IsCounted decl (a - decl.sites) front clock → clock < c.stamp.clock
-  stamps_pass script h open_inputs run a client front back c clock is k = by (has_entry (IsLawful decl) decl script h open_inputs run a (ltb-true a (actors decl) (and_second (nat_le decl.sites a) (nat_lt a (actors decl)) client)))
+  stamps_pass script h open_inputs run a client front back c clock is k = by (has_entry (IsLawful decl) decl script h open_inputs run a (client_within decl a client))
     where
       by : (t : Bool) × (slice_get open_inputs a ≡ Some t) → clock < c.stamp.clock
       by slot =

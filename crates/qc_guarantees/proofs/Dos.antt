@@ -8,7 +8,7 @@ use Rattle.qc_stamp.specs.declared.stamp.TxId.{TxId}
 use Rattle.qc_core.specs.Acts.{is_running}
 use Rattle.qc_core.specs.Conduct.{IsLawful}
 use Rattle.qc_decl.specs.Accepted.{IsAccepted}
-use Rattle.qc_decl.specs.Actors.{actors, client_actor, is_client}
+use Rattle.qc_decl.specs.Actors.{administrator, client_actor, is_client}
 use Rattle.qc_decl.specs.declared.declaration.Declaration.{Declaration}
 use Rattle.qc_msg.specs.declared.reply.Reply.{Reply}
 use Rattle.qc_msg.specs.declared.reply.Reply.TheVariants as replies
@@ -22,7 +22,9 @@ use Rattle.qc_script.specs.Runs.{Runs}
 use Rattle.qc_script.specs.declared.script.Script.{Script}
 use Rattle.qc_laws.specs.Asked.{AsksDeclared}
 use Rattle.qc_laws.specs.Turns.{ActsIn}
-use Rattle.qc_laws.proofs.Acted.{others_do_nothing, run_acts}
+use Rattle.qc_laws.proofs.Acted.{run_acts}
+use Rattle.qc_laws.proofs.Idle.{idle}
+use Rattle.qc_guarantees.proofs.IdleDeeds.{idle_named}
 use Rattle.qc_promise.specs.Account.{Current, new_account}
 use Rattle.qc_promise.specs.Accounting.{account, account_at}
 use Rattle.qc_promise.specs.Rows.{do_row, running_row, row_of}
@@ -70,14 +72,15 @@ module _ (decl : Declaration) (script : Script) (accepted : IsAccepted decl) (as
       above : decl.sites ≤ client_actor decl tx.client
       above = omega arith
 
-      low : client_actor decl tx.client < actors decl
-      low = at (nat_lt (client_actor decl tx.client) (actors decl)) refl
+      low : client_actor decl tx.client < administrator decl
+      low = at (nat_lt (client_actor decl tx.client) (administrator decl)) refl
         where
-          at : (x : Bool) → nat_lt (client_actor decl tx.client) (actors decl) ≡ x → client_actor decl tx.client < actors decl
-          at true is = ltb-true (client_actor decl tx.client) (actors decl) is
+          at : (x : Bool) → nat_lt (client_actor decl tx.client) (administrator decl) ≡ x → client_actor decl tx.client < administrator decl
+          at true is = ltb-true (client_actor decl tx.client) (administrator decl) is
           at false is =
-              let none : deeds (client_actor decl tx.client) [] older ≡ [] = others_do_nothing (IsLawful decl) decl script older before run (client_actor decl tx.client) (ltb-false (client_actor decl tx.client) (actors decl) is) in
-              let nobody : begun_by decl (client_actor decl tx.client) older ≡ None = ap (λ (ds : List Deed). name_of (fold (account_at decl) (new_account (client_actor decl tx.client - decl.sites)) ds)) none in
+              let nobody : begun_by decl (client_actor decl tx.client) older ≡ None =
+              idle_named decl (deeds (client_actor decl tx.client) [] older) (new_account (client_actor decl tx.client - decl.sites))
+              (idle decl (client_actor decl tx.client) (ltb-false (client_actor decl tx.client) (administrator decl) is) script older before run) in
               let somebody : begun_by decl (client_actor decl tx.client) older ≡ Some tx = e.still in
               absurd (let never : ⊥ = cc in never)
 

@@ -6,6 +6,7 @@ use Rattle.std.specs.Prelude.{fold}
 use Rattle.std.proofs.lemmas.List.{append-nil}
 use Rattle.std.proofs.lemmas.List.Sums.{fold-append}
 use Rattle.std.proofs.lemmas.List.Elements.{filter_map-append}
+use Rattle.qc_decl.proofs.Clients.{client_within}
 use Rattle.qc_stamp.specs.declared.stamp.Stamp.{Stamp}
 use Rattle.qc_list.specs.Members.{In}
 use Rattle.qc_list.proofs.Members.{In-second}
@@ -57,7 +58,7 @@ begun_of d stamp c is = by d.current refl is
 
 module _ (decl : Declaration) (script : Script) (accepted : IsAccepted decl) (sound : IsScriptFor decl script) (h : List Entry) (open_inputs : List Bool) (run : Runs (IsLawful decl) decl script h open_inputs) where
   within : (a : ℕ) → is_client decl a ≡ true → a < actors decl
-  within a client = ltb-true a (actors decl) (and_second (nat_le decl.sites a) (nat_lt a (actors decl)) client)
+  within a client = client_within decl a client
 
   -- all that a client does is due
   deeds_due : (a : ℕ) → is_client decl a ≡ true → AreByRows decl (new_account (a - decl.sites)) (deeds a [] h)

@@ -31,6 +31,7 @@ pub mod AskedSites
 pub mod AskedClients
 pub mod Names
 pub mod OpenDeeds
+pub mod IdleDeeds
 pub mod OwnWords
 pub mod FirstAccounts
 pub mod ClientWords

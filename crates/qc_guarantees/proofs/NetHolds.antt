@@ -2,6 +2,7 @@
 -- that a site has is sorted.
 use Rattle.std.proofs.Common.{◌≡◌, ◌⊎◌, ◌<◌, ◌≤◌, ◌&&◌, nat_le, nat_lt, ℕ, Bool, true, false, List, ◌++◌, inl, inr, length, Option, Some, None, slice_get, refl, sym, ap, ◌∙◌, subst, arith, ltb-true}
 use Rattle.std.proofs.lemmas.Bool.{leb-true}
+use Rattle.qc_decl.proofs.Clients.{client_past}
 use Rattle.qc_stamp.specs.declared.stamp.TxId.{TxId}
 use Rattle.qc_list.specs.Members.{In}
 use Rattle.qc_list.proofs.Members.{In-first}
@@ -44,7 +45,7 @@ use Rattle.qc_atomic.proofs.FirstSites.{IsCalmGiven, IsCalmMessage}
 pub both : (decl : Declaration) (a : ℕ) → is_site decl a ≡ true → is_client decl a ≡ true → ⊥
 both decl a site client =
     let low : a < decl.sites = ltb-true a decl.sites site in
-    let high : decl.sites ≤ a = leb-true decl.sites a (and_first (nat_le decl.sites a) (nat_lt a (actors decl)) client) in
+    let high : decl.sites ≤ a = client_past decl a client in
     omega arith
   where
     and_first : (s t : Bool) → (s && t) ≡ true → s ≡ true

@@ -9,7 +9,7 @@ use Rattle.qc_list.proofs.Members.{every-In, every-from_In}
 use Rattle.qc_stamp.specs.declared.stamp.TxId.{TxId}
 use Rattle.qc_stamp.specs.Order.{same_tx}
 use Rattle.qc_decl.specs.Accepted.{IsAccepted}
-use Rattle.qc_decl.specs.Actors.{actors, client_actor, is_client}
+use Rattle.qc_decl.specs.Actors.{administrator, client_actor, is_client}
 use Rattle.qc_decl.specs.declared.declaration.Declaration.{Declaration}
 use Rattle.qc_lock.proofs.Entries.{tx_apart}
 use Rattle.qc_msg.specs.declared.message.Envelope.{Envelope}
@@ -29,7 +29,9 @@ use Rattle.qc_script.specs.Runs.{Runs}
 use Rattle.qc_script.specs.declared.script.Script.{Script}
 use Rattle.qc_laws.specs.Asked.{AsksDeclared}
 use Rattle.qc_laws.specs.Turns.{ActsIn}
-use Rattle.qc_laws.proofs.Acted.{others_do_nothing, run_acts}
+use Rattle.qc_laws.proofs.Acted.{run_acts}
+use Rattle.qc_laws.proofs.Idle.{IsInput, idle}
+use Rattle.qc_guarantees.proofs.IdleDeeds.{idle_open}
 use Rattle.qc_laws.proofs.Proper.{run_proper}
 use Rattle.qc_laws.proofs.SiteReplies.{IsProperFrom}
 use Rattle.qc_laws.proofs.DecisionLaws.{moves_on}
@@ -165,23 +167,22 @@ module _ (decl : Declaration) (script : Script) (accepted : IsAccepted decl) (as
   turns : (a : ℕ) (named : is_client decl a ≡ true) → ActsIn decl a h (place a named).is_open
   turns a named = run_acts decl script h open_inputs run a (place a named).is_open (place a named).at
 
-  -- who sends something is an actor; past the sites it is a client
+  -- who sends something is a site or a client
 
-  pub client_is : (a : ℕ) → decl.sites ≤ a → a < actors decl → is_client decl a ≡ true
-  client_is a above low = by (nat_le decl.sites a) (nat_lt a (actors decl)) (le-leb decl.sites a above) (lt-ltb a (actors decl) low)
+  pub client_is : (a : ℕ) → decl.sites ≤ a → a < administrator decl → is_client decl a ≡ true
+  client_is a above low = by (nat_le decl.sites a) (nat_lt a (administrator decl)) (le-leb decl.sites a above) (lt-ltb a (administrator decl) low)
     where
       by : (t u : Bool) → t ≡ true → u ≡ true → (t && u) ≡ true
       by true u is now = now
       by false u is now = absurd (let never : ⊥ = cc in never)
 
   sender_is : (e : Envelope) → In e (mail h) → decl.sites ≤ e.from → is_client decl e.from ≡ true
-  sender_is e among above = by (nat_lt e.from (actors decl)) refl
+  sender_is e among above = by (nat_lt e.from (administrator decl)) refl
     where
-      by : (t : Bool) → nat_lt e.from (actors decl) ≡ t → is_client decl e.from ≡ true
-      by true low = client_is e.from above (ltb-true e.from (actors decl) low)
+      by : (t : Bool) → nat_lt e.from (administrator decl) ≡ t → is_client decl e.from ≡ true
+      by true low = client_is e.from above (ltb-true e.from (administrator decl) low)
       by false past =
-          let none : deeds e.from [] h ≡ [] = others_do_nothing (IsLawful decl) decl script h open_inputs run e.from (ltb-false e.from (actors decl) past) in
-          absurd (subst (In (Sends e.number e.to e.message)) none (mail_sent [] h e among))
+          absurd (every-In IsInput (Sends e.number e.to e.message) (deeds e.from [] h) (idle decl e.from (ltb-false e.from (administrator decl) past) script h open_inputs run) (mail_sent [] h e among))
 
   born_own : (a : ℕ) (named : is_client decl a ≡ true) (x : TxId) → (status (deeds a [] h) x ≡ Unborn → ⊥) → a ≡ client_actor decl x.client
   born_own a named x born =
@@ -238,12 +239,12 @@ module _ (decl : Declaration) (script : Script) (accepted : IsAccepted decl) (as
       by : (t : Bool) → is_client decl (client_actor decl x.client) ≡ t → begun_by decl (client_actor decl x.client) h ≡ Some x
       by true named = open_named decl accepted (client_actor decl x.client) (client_no_site decl (client_actor decl x.client) named) named s x (deeds (client_actor decl x.client) [] h) (place (client_actor decl x.client) named).is_open
           (turns (client_actor decl x.client) named).above (turns (client_actor decl x.client) named).acts done
-      by false other = at (nat_lt (client_actor decl x.client) (actors decl)) refl
+      by false other = at (nat_lt (client_actor decl x.client) (administrator decl)) refl
         where
-          at : (u : Bool) → nat_lt (client_actor decl x.client) (actors decl) ≡ u → begun_by decl (client_actor decl x.client) h ≡ Some x
-          at true low = absurd (let yes : is_client decl (client_actor decl x.client) ≡ true = client_is (client_actor decl x.client) above (ltb-true (client_actor decl x.client) (actors decl) low) in let never : ⊥ = cc in never)
+          at : (u : Bool) → nat_lt (client_actor decl x.client) (administrator decl) ≡ u → begun_by decl (client_actor decl x.client) h ≡ Some x
+          at true low = absurd (let yes : is_client decl (client_actor decl x.client) ≡ true = client_is (client_actor decl x.client) above (ltb-true (client_actor decl x.client) (administrator decl) low) in let never : ⊥ = cc in never)
           at false past =
-              let none : deeds (client_actor decl x.client) [] h ≡ [] = others_do_nothing (IsLawful decl) decl script h open_inputs run (client_actor decl x.client) (ltb-false (client_actor decl x.client) (actors decl) past) in
-              let shut : open_done s x (deeds (client_actor decl x.client) [] h) ≡ false = ap (open_done s x) none in
+              let shut : open_done s x (deeds (client_actor decl x.client) [] h) ≡ false =
+              idle_open s x (deeds (client_actor decl x.client) [] h) false (idle decl (client_actor decl x.client) (ltb-false (client_actor decl x.client) (administrator decl) past) script h open_inputs run) in
               let opened : open_done s x (deeds (client_actor decl x.client) [] h) ≡ true = done in
               absurd (let never : ⊥ = cc in never)

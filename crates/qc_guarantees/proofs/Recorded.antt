@@ -2,6 +2,7 @@
 use Rattle.std.proofs.Common.{◌≡◌, ◌-◌, nat_le, nat_lt, ℕ, Bool, true, cond, List, [], ◌∷◌, ◌++◌, Option, Some, None, option_map, option_to_list, slice_get, refl, sym, ap, ◌∙◌, subst, eq-eqb, ltb-true}
 use Rattle.std.specs.Prelude.{fold}
 use Rattle.std.proofs.lemmas.List.Sums.{fold-append}
+use Rattle.qc_decl.proofs.Clients.{client_within}
 use Rattle.qc_core.specs.Conduct.{IsLawful}
 use Rattle.qc_decl.specs.declared.declaration.Declaration.{Declaration}
 use Rattle.qc_decl.specs.Actors.{actors, is_client}
@@ -31,7 +32,7 @@ module _ (decl : Declaration) (script : Script) (h : List Entry) (open_inputs : 
   parts reply rest = deeds-append a [] before (marked a (steps.Told reply) ∷ rest) ∙ ap (λ (b : Bool). deeds a [] before ++ (cond b (Tells reply ∷ []) [] ++ deeds a (mail before ++ option_to_list (envelope_of (marked a (steps.Told reply)))) rest)) (eq-eqb a a refl)
 
   reply_due : (reply : Reply) → h ≡ before ++ marked a (steps.Told reply) ∷ after → IsByRow decl (account decl a before) (Tells reply)
-  reply_due reply is = by (has_entry (IsLawful decl) decl script h open_inputs run a (ltb-true a (actors decl) (and_second (nat_le decl.sites a) (nat_lt a (actors decl)) client)))
+  reply_due reply is = by (has_entry (IsLawful decl) decl script h open_inputs run a (client_within decl a client))
     where
       by : (t : Bool) × (slice_get open_inputs a ≡ Some t) → IsByRow decl (account decl a before) (Tells reply)
       by slot =

@@ -7,7 +7,8 @@ use Rattle.qc_onecopy.proofs.Lists.{in_split}
 use Rattle.qc_core.specs.Conduct.{IsLawful}
 use Rattle.qc_decl.specs.declared.declaration.Declaration.{Declaration}
 use Rattle.qc_decl.specs.Accepted.{IsAccepted}
-use Rattle.qc_decl.specs.Actors.{actors, controller, is_client}
+use Rattle.qc_decl.proofs.Clients.{client_within}
+use Rattle.qc_decl.specs.Actors.{administrator, controller, is_client}
 use Rattle.qc_msg.specs.declared.message.Envelope.{Envelope}
 use Rattle.qc_msg.specs.declared.message.Message.{Message}
 use Rattle.qc_msg.specs.declared.message.Message.TheVariants as messages
@@ -27,7 +28,8 @@ use Rattle.qc_script.specs.Ready.{phase_of}
 use Rattle.qc_script.specs.Runs.{Runs, begins, takes, posts, phase, control}
 use Rattle.qc_script.specs.Sound.{IsScriptFor}
 use Rattle.qc_script.specs.declared.script.Script.{Script}
-use Rattle.qc_laws.proofs.Acted.{deeds-silent, has_entry, others_do_nothing, run_acts}
+use Rattle.qc_laws.proofs.Acted.{deeds-silent, has_entry, run_acts}
+use Rattle.qc_laws.proofs.Idle.{IsInput, idle}
 use Rattle.qc_laws.proofs.Arrivals.{what_is_ready_was_sent}
 use Rattle.qc_laws.proofs.Numbered.{control_silent, phase_silent}
 use Rattle.qc_laws.proofs.Proper.{run_proper}
@@ -104,23 +106,24 @@ module _ (decl : Declaration) (script : Script) (accepted : IsAccepted decl) (so
   called_named h open_inputs (control line lines step before older run left is) a c among = called_named older before run a c (subst (λ (v : List Deed). In (Takes (given.Called c)) v) (deeds-silent a (controller decl) older step (control_silent line step is)) among)
 
   module _ (h : List Entry) (open_inputs : List Bool) (run : Runs (IsLawful decl) decl script h open_inputs) where
-    -- who sent something is an actor
-    sender_within : (e : Envelope) → In e (mail h) → e.from < actors decl
-    sender_within e sent = by (nat_lt e.from (actors decl)) refl
+    -- who sent something is a site or a client
+    sender_within : (e : Envelope) → In e (mail h) → e.from < administrator decl
+    sender_within e sent = by (nat_lt e.from (administrator decl)) refl
       where
-        by : (b : Bool) → nat_lt e.from (actors decl) ≡ b → e.from < actors decl
-        by true low = ltb-true e.from (actors decl) low
-        by false high = absurd (subst (λ (v : List Deed). In (Sends e.number e.to e.message) v) (others_do_nothing (IsLawful decl) decl script h open_inputs run e.from (ltb-false e.from (actors decl) high)) (mail_sent [] h e sent))
+        by : (b : Bool) → nat_lt e.from (administrator decl) ≡ b → e.from < administrator decl
+        by true low = ltb-true e.from (administrator decl) low
+        by false high =
+            absurd (every-In IsInput (Sends e.number e.to e.message) (deeds e.from [] h) (idle decl e.from (ltb-false e.from (administrator decl) high) script h open_inputs run) (mail_sent [] h e sent))
 
-    client_of : (a : ℕ) → decl.sites ≤ a → a < actors decl → is_client decl a ≡ true
-    client_of a low high = ap (λ (b : Bool). b && nat_lt a (actors decl)) (le-leb decl.sites a low) ∙ lt-ltb a (actors decl) high
+    client_of : (a : ℕ) → decl.sites ≤ a → a < administrator decl → is_client decl a ≡ true
+    client_of a low high = ap (λ (b : Bool). b && nat_lt a (administrator decl)) (le-leb decl.sites a low) ∙ lt-ltb a (administrator decl) high
 
     request_is_right : (e : Envelope) (tx : TxId) (epoch life : ℕ) (want : Want) → In e (mail h) → e.message ≡ messages.Request tx epoch life want → IsNamedWant decl want × IsFull want
     request_is_right e tx epoch life want sent is =
         let p : IsProperFrom decl e.from e.to e.message = every-In (λ (x : Envelope). IsProperFrom decl x.from x.to x.message) e (mail h) (run_proper decl script accepted (asks_declared decl script accepted sound) h open_inputs run) sent in
         let q : IsProperFrom decl e.from e.to (messages.Request tx epoch life want) = subst (IsProperFrom decl e.from e.to) is p in
         let client : is_client decl e.from ≡ true = client_of e.from q.0 (sender_within e sent) in
-        let slot : (t : Bool) × (slice_get open_inputs e.from ≡ Some t) = has_entry (IsLawful decl) decl script h open_inputs run e.from (sender_within e sent) in
+        let slot : (t : Bool) × (slice_get open_inputs e.from ≡ Some t) = has_entry (IsLawful decl) decl script h open_inputs run e.from (client_within decl e.from client) in
         let acts : ActsIn decl e.from h slot.0 = run_acts decl script h open_inputs run e.from slot.0 slot.1 in
         request_right decl (e.from - decl.sites) (deeds e.from [] h) e.number e.to tx epoch life want (clients_due decl e.from client (deeds e.from [] h) slot.0 acts.above acts.acts) (λ c among. called_named h open_inputs run e.from c among)
         (subst (λ (m : Message). In (Sends e.number e.to m) (deeds e.from [] h)) is (mail_sent [] h e sent))

@@ -2,6 +2,7 @@
 use Rattle.std.proofs.Common.{◌*◌, ◌≡◌, ◌<◌, ◌≤◌, ◌+◌, ◌-◌, ◌==◌, ℕ, zero, suc, nat_le, nat_lt, Bool, true, false, cond, List, [], ◌∷◌, ◌++◌, length, Some, None, slice_get, refl, sym, ap, ◌∙◌, subst, arith, eqb-true, eq-eqb, ltb-true}
 use Rattle.std.specs.Prelude.{fold, slice_set, sum_by}
 use Rattle.std.proofs.lemmas.List.{append-nil}
+use Rattle.qc_decl.proofs.Clients.{client_within}
 use Rattle.qc_stamp.specs.declared.stamp.TxId.{TxId}
 use Rattle.qc_list.specs.Members.{In}
 use Rattle.qc_list.proofs.Members.{every-at, every-from_In}
@@ -187,7 +188,7 @@ module _ (decl : Declaration) (script : Script) (accepted : IsAccepted decl) (so
       same_slot = slice_get-set_other open_inputs a b false (λ e. (let t : (a == b) ≡ true = eq-eqb a b e in let f : (a == b) ≡ false = apart in let never : ⊥ = cc in never))
 
   pub client_slot : (h : List Entry) (open_inputs : List Bool) → Runs (IsLawful decl) decl script h open_inputs → (a : ℕ) → is_client decl a ≡ true → (t : Bool) × (slice_get open_inputs a ≡ Some t)
-  client_slot h open_inputs run a client = has_entry (IsLawful decl) decl script h open_inputs run a (ltb-true a (actors decl) (and_second (nat_le decl.sites a) (nat_lt a (actors decl)) client))
+  client_slot h open_inputs run a client = has_entry (IsLawful decl) decl script h open_inputs run a (client_within decl a client)
 
   -- so a site doesn't say either way that it has forgotten
   module _ (h : List Entry) (open_inputs : List Bool) (run : Runs (IsLawful decl) decl script h open_inputs) (few : operations_of h ≤ 2 * most_committed_operations) (a : ℕ) (client : is_client decl a ≡ true)

@@ -7,6 +7,7 @@ use Rattle.std.proofs.lemmas.Bool.{ltb-true}
 use Rattle.std.proofs.lemmas.List.{append-nil, append_assoc}
 use Rattle.std.proofs.lemmas.List.Elements.{filter_map-append}
 use Rattle.std.proofs.lemmas.List.Sums.{fold-append}
+use Rattle.qc_decl.proofs.Clients.{client_within}
 use Rattle.qc_list.proofs.Members.{every-at}
 use Rattle.qc_core.specs.Acts.{is_running, runs_at}
 use Rattle.qc_core.specs.Conduct.{IsLawful}
@@ -208,7 +209,7 @@ module _ (decl : Declaration) (script : Script) (accepted : IsAccepted decl) (as
 
     all_called : (c : ℕ) → is_client decl c ≡ true → calls_of c h ≡ asked_until c script (phase_of h)
     all_called c named =
-        let low : c < actors decl = ltb-true c (actors decl) (second_true (nat_le decl.sites c) (nat_lt c (actors decl)) named) in
+        let low : c < actors decl = client_within decl c named in
         let idle : command_in decl c (inbox script c h) ≡ None =
         sym (ap (λ (es : List Envelope). first_copy es (first_lost (inbox script c h).lost (command_in decl c (inbox script c h)))) (copies_none decl script accepted asks h closed rests done c low)
         ∙ ap (λ (ns : List ℕ). first_lost ns (command_in decl c (inbox script c h))) (losts_none decl script accepted asks h closed rests done c low))

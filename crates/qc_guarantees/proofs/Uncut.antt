@@ -13,7 +13,7 @@ use Rattle.qc_core.specs.Conduct.{IsLawful}
 use Rattle.qc_core.specs.Lives.{AreSteady, IsSteady}
 use Rattle.qc_core.proofs.SiteHolds.{AreNoCuts, uncut}
 use Rattle.qc_decl.specs.Accepted.{IsAccepted}
-use Rattle.qc_decl.specs.Actors.{actors, client_actor, is_site}
+use Rattle.qc_decl.specs.Actors.{actors, administrator, client_actor, is_site}
 use Rattle.qc_decl.specs.declared.declaration.Declaration.{Declaration}
 use Rattle.qc_lock.specs.declared.held.Held.{Held}
 use Rattle.qc_msg.specs.declared.message.Envelope.{Envelope}
@@ -49,7 +49,8 @@ use Rattle.qc_site.specs.Requests.{grants}
 use Rattle.qc_site.specs.Site.{SiteMove, SiteState, moved, new_site}
 use Rattle.qc_laws.specs.Asked.{AsksDeclared}
 use Rattle.qc_laws.specs.Turns.{ActsIn}
-use Rattle.qc_laws.proofs.Acted.{has_entry, others_do_nothing, run_acts}
+use Rattle.qc_laws.proofs.Acted.{has_entry, run_acts}
+use Rattle.qc_laws.proofs.Idle.{IsInput, idle}
 use Rattle.qc_laws.proofs.Proper.{run_proper}
 use Rattle.qc_laws.proofs.Served.{first_part, lawful_site, second_part}
 use Rattle.qc_laws.proofs.SiteReplies.{IsProperFrom}
@@ -186,7 +187,7 @@ module _ (decl : Declaration) (script : Script) (accepted : IsAccepted decl) (so
           let acts : ActsIn decl a h place.0 = run_acts decl script h open_inputs run a place.0 place.1 in
           acts_uncut decl a site (deeds a [] h) place.0 acts.above acts.acts (calm_deeds decl script accepted (asks_declared decl script accepted sound) h open_inputs run a)
 
-  client_uncut : (a : ℕ) → decl.sites ≤ a → a < actors decl → AreNoCuts (deeds a [] h)
+  client_uncut : (a : ℕ) → decl.sites ≤ a → a < administrator decl → AreNoCuts (deeds a [] h)
   client_uncut a high low =
       let place : client_actor decl (a - decl.sites) ≡ a = omega arith in
       let within : a - decl.sites < decl.clients = omega arith in
@@ -195,14 +196,22 @@ module _ (decl : Declaration) (script : Script) (accepted : IsAccepted decl) (so
       due_uncut decl (new_account (a - decl.sites)) (deeds a [] h) (run_up (IsLawful decl) decl script h open_inputs run a)
       (subst (λ (k : ℕ). AreDeedsDue decl (new_account (a - decl.sites)) (deeds k [] h)) place due)
 
+  idle_uncut : (ds : List Deed) → Every IsInput ds → AreNoCuts ds
+  idle_uncut [] all = tt
+  idle_uncut (Takes given ∷ ds) all = (refl, idle_uncut ds all.1)
+  idle_uncut (Writes written ∷ ds) all = absurd all.0
+  idle_uncut (Sends number to message ∷ ds) all = absurd all.0
+  idle_uncut (Tells reply ∷ ds) all = absurd all.0
+  idle_uncut (Falls cause pending ∷ ds) all = absurd all.0
+  idle_uncut (Rises kept ∷ ds) all = absurd all.0
+
   never_cut : (a : ℕ) → AreNoCuts (deeds a [] h)
-  never_cut a = by (nat_lt a (actors decl)) (is_site decl a) refl refl
+  never_cut a = by (nat_lt a (administrator decl)) (is_site decl a) refl refl
     where
-      by : (low site : Bool) → nat_lt a (actors decl) ≡ low → is_site decl a ≡ site → AreNoCuts (deeds a [] h)
+      by : (low site : Bool) → nat_lt a (administrator decl) ≡ low → is_site decl a ≡ site → AreNoCuts (deeds a [] h)
       by true true low site = site_uncut a site
-      by true false low other = client_uncut a (ltb-false a decl.sites other) (ltb-true a (actors decl) low)
-      by false site past is =
-          subst AreNoCuts (sym (others_do_nothing (IsLawful decl) decl script h open_inputs run a (ltb-false a (actors decl) past))) tt
+      by true false low other = client_uncut a (ltb-false a decl.sites other) (ltb-true a (administrator decl) low)
+      by false site past is = idle_uncut (deeds a [] h) (idle decl a (ltb-false a (administrator decl) past) script h open_inputs run)
 
   -- what is held was granted since the first day
   pub held_from_first : (a : ℕ) → held_shown (deeds a [] h) ≡ fold (λ (held : List Held) (k : Grant). holding held k.tx k.want) [] (standing (deeds a [] h))

@@ -50,7 +50,8 @@
 //! 9. Wrong histories are refused (`wrong_refusals_are_refused`,
 //!    `wrong_endings_are_refused`).
 //! 10. All this is said of runs without falls; a run with falls in which nobody
-//!    falls is one (`runs_in_which_nobody_falls_are_runs`).
+//!    falls and the administrator does nothing is one
+//!    (`runs_in_which_nobody_falls_are_runs`).
 //!
 //! # The ordering lemma
 //!

@@ -2,6 +2,7 @@
 use Rattle.std.proofs.Common.{◌≡◌, ℕ, ◌-◌, ◌&&◌, not, nat_le, nat_lt, Bool, true, false, List, [], ◌∷◌, ◌++◌, Some, is_some, slice_get, refl, sym, ap, ◌∙◌, subst}
 use Rattle.std.specs.List.{AllByRecursion as Every}
 use Rattle.std.proofs.lemmas.Bool.{le-ltb, leb-true}
+use Rattle.qc_decl.proofs.Clients.{client_past}
 use Rattle.qc_core.specs.Acts.{Acts, MayTake, is_running, posts, runs_given, starts, takes}
 use Rattle.qc_core.specs.Conduct.{IsLawful}
 use Rattle.qc_decl.specs.declared.declaration.Declaration.{Declaration}
@@ -51,7 +52,7 @@ clients_command decl a commands.Begin client is = tt
 clients_command decl a (commands.Do object inv) client is = tt
 clients_command decl a commands.Commit client is = tt
 clients_command decl a commands.Abort client is = tt
-clients_command decl a (commands.Epoch number) client is = let never : ⊥ = cc in never
+clients_command decl a (commands.Epoch number) client is = let other : is_client decl a ≡ false = is.0 in let never : ⊥ = cc in never
 
 module _ (decl : Declaration) (a : ℕ) (client : is_client decl a ≡ true) where
   both : (x y : Bool) → (x && y) ≡ true → x ≡ true
@@ -59,7 +60,7 @@ module _ (decl : Declaration) (a : ℕ) (client : is_client decl a ≡ true) whe
   both false y is = absurd (let never : ⊥ = cc in never)
 
   no_site : is_site decl a ≡ false
-  no_site = le-ltb a decl.sites (leb-true decl.sites a (both (nat_le decl.sites a) (nat_lt a (actors decl)) client))
+  no_site = le-ltb a decl.sites (client_past decl a client)
 
   given_busy : (m : ClientMove) (ds : List Deed) (g : Given) → MayTake ds g → IsAskableGiven decl a g → is_waiting m.client ≡ is_running ds → IsBusyAs (runs_given (is_running ds) g) (client_takes decl m.client g)
   given_busy m ds (given.Called command) may is same = ends_busy (client_takes decl m.client (given.Called command)) (called_ends decl m.client command (clients_command decl a command client is) (same ∙ may))

@@ -5,7 +5,7 @@ use Rattle.qc_core.specs.declared.actor.Actor.TheVariants.{Down}
 use Rattle.qc_core.specs.Actors.{ActorMove, actor_after, actor_does, actor_rises, actor_sends, actor_takes, moved}
 use Rattle.qc_core.specs.Conduct.{IsLawfulWithFalls, with_record}
 use Rattle.qc_core.specs.Lives.{is_up, up_at}
-use Rattle.qc_decl.specs.Actors.{is_client, is_site}
+use Rattle.qc_decl.specs.Actors.{is_administrator, is_client, is_site}
 use Rattle.qc_decl.specs.declared.declaration.Declaration.{Declaration}
 use Rattle.qc_inbox.specs.Downs.{TellsWhereDown, down_at, is_down}
 use Rattle.qc_msg.specs.declared.step.Given.{Given}
@@ -70,15 +70,16 @@ silent_down decl a ds down = silent_from decl a false _ ds (λ is. absurd (let n
 -- a lawful turn is that of the actor, but for what became of its record
 
 pub due : (decl : Declaration) (a : ℕ) (ds : List Deed) (turn : Turn) → IsLawfulWithFalls decl a ds turn → (actor_after decl a ds).turn ≡ with_record turn
-due decl a ds turn lawful = by (is_site decl a) (is_client decl a) lawful.called_for
+due decl a ds turn lawful = by (is_site decl a) (is_client decl a) (is_administrator decl a) lawful.called_for
   where
     here : Some (actor_after decl a ds).turn ≡ Some (with_record turn) → (actor_after decl a ds).turn ≡ with_record turn
     here is = cc
 
-    by : (x y : Bool) → cond x (Some (actor_after decl a ds).turn) (cond y (Some (actor_after decl a ds).turn) None) ≡ Some (with_record turn) → (actor_after decl a ds).turn ≡ with_record turn
-    by true y is = here is
-    by false true is = here is
-    by false false is = absurd (let no : ⊥ = cc in no)
+    by : (x y z : Bool) → cond x (Some (actor_after decl a ds).turn) (cond y (Some (actor_after decl a ds).turn) (cond z (Some (actor_after decl a ds).turn) None)) ≡ Some (with_record turn) → (actor_after decl a ds).turn ≡ with_record turn
+    by true y z is = here is
+    by false true z is = here is
+    by false false true is = here is
+    by false false false is = absurd (let no : ⊥ = cc in no)
 
 pub tells : (decl : Declaration) → TellsWhereDown (IsLawfulWithFalls decl)
 tells decl = record {

@@ -2,6 +2,7 @@
 use Rattle.std.proofs.Common.{◌≡◌, ℕ, ◌+◌, ◌-◌, ◌<◌, ◌≤◌, ◌&&◌, ◌⊎◌, nat_le, nat_lt, Bool, true, false, inl, inr, List, [], ◌∷◌, Option, None, refl, sym, ap, ◌∙◌, subst, arith}
 use Rattle.std.specs.Prelude.{replicate}
 use Rattle.std.proofs.lemmas.Bool.{ltb-true}
+use Rattle.qc_decl.proofs.Clients.{client_within}
 use Rattle.qc_list.specs.Members.{In}
 use Rattle.qc_client.specs.Conduct.{client_after}
 use Rattle.qc_decl.specs.declared.declaration.Declaration.{Declaration}
@@ -44,7 +45,7 @@ module _ (decl : Declaration) (script : Script) (accepted : IsAccepted decl) (as
   low a within =
       let sites : decl.sites ≤ 16 = accepted.sites in
       let clients : decl.clients ≤ 16 = accepted.clients in
-      let few : a < decl.sites + decl.clients = within in
+      let few : a < decl.sites + decl.clients + 1 = within in
       omega arith
 
   no_controls : (a : ℕ) → a < actors decl → (inbox script a h).controls ≡ []
@@ -67,7 +68,7 @@ module _ (decl : Declaration) (script : Script) (accepted : IsAccepted decl) (as
       site = receiver_is_site decl script accepted asks 0 (omega arith) h (replicate (actors decl) false) closed r.envelope r.sent r.request
 
       within : r.envelope.to < actors decl
-      within = let low : r.envelope.to < decl.sites = site in let all : actors decl ≡ decl.sites + decl.clients = refl in omega arith
+      within = let low : r.envelope.to < decl.sites = site in let all : actors decl ≡ decl.sites + decl.clients + 1 = refl in omega arith
 
       at : In r.envelope (inbox script r.envelope.to h).copies ⊎ IsTaken h (replicate (actors decl) false) r.envelope → ⊥
       at (inl there) = subst (In r.envelope) (copies_none r.envelope.to within) there
@@ -80,7 +81,7 @@ module _ (decl : Declaration) (script : Script) (accepted : IsAccepted decl) (as
 
   pub no_open_requests : (a : ℕ) → is_client decl a ≡ true → (q : Call) → In q (open_calls (client_after decl (a - decl.sites) (deeds a [] h)).client) → ⊥
   no_open_requests a client q member =
-      not_awaited a q.number (ltb-true a (actors decl) (both (nat_le decl.sites a) (nat_lt a (actors decl)) client))
+      not_awaited a q.number (client_within decl a client)
       (open_requests_awaited decl script a h (replicate (actors decl) false) closed q member)
 
 no_members : {X : Type 0} (xs : List X) → ((x : X) → In x xs → ⊥) → xs ≡ []

@@ -3,6 +3,7 @@
 use Rattle.std.proofs.Common.{◌≡◌, ℕ, ◌+◌, ◌<◌, ◌≤◌, ◌&&◌, nat_le, nat_lt, Bool, true, false, List, [], ◌∷◌, ◌++◌, fold, length, Option, Some, None, option_to_list, slice_get, inl, inr, refl, sym, subst, arith}
 use Rattle.std.specs.List.{AllByRecursion as Every}
 use Rattle.std.proofs.lemmas.Bool.{ltb-true}
+use Rattle.qc_decl.proofs.Clients.{client_within}
 use Rattle.qc_list.proofs.Members.{every-append, every-weaker}
 use Rattle.qc_core.specs.Conduct.{IsLawfulWithFalls}
 use Rattle.qc_core.specs.GivenBack.{AreGivenBack}
@@ -144,7 +145,7 @@ both_true false y is = let never : ⊥ = cc in absurd never
 module _ (decl : Declaration) (script : Script) (fits : ℕ → List Record → Type 0) (few : actors decl ≤ most_actors) where
   pub kept_rises : (h : List Entry) (open_inputs : List Bool) → RunsWithFalls (IsLawfulWithFalls decl) fits decl script h open_inputs → Kept h → RiseWithOwn decl h
   kept_rises h open_inputs run kept a client =
-      let low : a < actors decl = ltb-true a (actors decl) (both_true (nat_le decl.sites a) (nat_lt a (actors decl)) client) in
+      let low : a < actors decl = client_within decl a client in
       let long : length open_inputs ≡ actors decl = run_long decl script fits few h open_inputs run in
       let place : (t : Bool) × (slice_get open_inputs a ≡ Some t) = slice_get-within open_inputs a (omega arith) in
       let lived : LivesIn decl a h place.0 = run_lives decl script fits few h open_inputs run a place.0 place.1 in

@@ -14,7 +14,7 @@ use Rattle.qc_core.proofs.SiteLaws.{are_due, shows}
 use Rattle.qc_core.proofs.SiteLives.{serves_as_lives}
 use Rattle.qc_core.proofs.Written.{after_written}
 use Rattle.qc_decl.specs.declared.declaration.Declaration.{Declaration}
-use Rattle.qc_decl.specs.Actors.{actors, controller, is_client, is_site}
+use Rattle.qc_decl.specs.Actors.{is_administrator, actors, controller, is_client, is_site}
 use Rattle.qc_link.specs.Limits.{most_actors}
 use Rattle.qc_msg.specs.declared.message.Envelope.{Envelope}
 use Rattle.qc_msg.specs.declared.record.Record.{Record}
@@ -110,9 +110,9 @@ module _ (decl : Declaration) (a : ℕ) (within : a < decl.sites) where
   lawful_next : (ds : List Deed) → IsLawfulWithFalls decl a ds (actor_after decl a ds).turn
   lawful_next ds = record { called_for = called; may_end = subst (MayEnd (actor_after decl a ds).turn.write) (sym (after_written decl a ds)) tt }
     where
-      called : (if is_site decl a then Some (actor_after decl a ds).turn else (if is_client decl a then Some (actor_after decl a ds).turn else None)) ≡ Some (with_record (actor_after decl a ds).turn)
+      called : (if is_site decl a then Some (actor_after decl a ds).turn else (if is_client decl a then Some (actor_after decl a ds).turn else (if is_administrator decl a then Some (actor_after decl a ds).turn else None))) ≡ Some (with_record (actor_after decl a ds).turn)
       called =
-          ap (λ (t : Bool). if t then Some (actor_after decl a ds).turn else (if is_client decl a then Some (actor_after decl a ds).turn else None)) (lt-ltb a decl.sites within)
+          ap (λ (t : Bool). if t then Some (actor_after decl a ds).turn else (if is_client decl a then Some (actor_after decl a ds).turn else (if is_administrator decl a then Some (actor_after decl a ds).turn else None))) (lt-ltb a decl.sites within)
           ∙ ap (λ (end : _). Some (record (actor_after decl a ds).turn { append = end })) (after_written decl a ds)
 
   served_due : (ds : List Deed) (n : ℕ) → Lives decl a ds false n → Every IsSiteDeed ds → AreDue decl [] ds

@@ -4,6 +4,8 @@ use Rattle.std.specs.Prelude.{replicate, slice_set}
 use Rattle.std.proofs.lemmas.Bool.{leb-true, ltb-true}
 use Rattle.std.proofs.lemmas.List.Sums.{fold-append}
 use Rattle.qc_decl.specs.Accepted.{IsAccepted}
+pub use Rattle.qc_decl.proofs.Clients.{client_no_site, client_within as client_low}
+use Rattle.qc_decl.proofs.Clients.{client_past}
 use Rattle.qc_decl.specs.Actors.{actors, controller, is_client, is_site}
 use Rattle.qc_decl.specs.declared.declaration.Declaration.{Declaration}
 use Rattle.qc_stamp.specs.declared.stamp.TxId.{TxId}
@@ -82,32 +84,8 @@ run_place decl script h open_inputs (runs.posts b turn before older run taken la
 run_place decl script h open_inputs (runs.phase before older run none done calm more) a low = run_place decl script older before run a low
 run_place decl script h open_inputs (runs.control line lines step before older run left is) a low = run_place decl script older before run a low
 
--- a client is no site, and is an actor
-
-client_above : (decl : Declaration) (a : ℕ) → is_client decl a ≡ true → decl.sites ≤ a
-client_above decl a is = by (nat_le decl.sites a) refl is where
-  by : (t : Bool) → nat_le decl.sites a ≡ t → (t && nat_lt a (actors decl)) ≡ true → decl.sites ≤ a
-  by true low named = leb-true decl.sites a low
-  by false low never = absurd (let no : ⊥ = cc in no)
-
-pub client_low : (decl : Declaration) (a : ℕ) → is_client decl a ≡ true → a < actors decl
-client_low decl a is = by (nat_le decl.sites a) (nat_lt a (actors decl)) refl is where
-  by : (s t : Bool) → nat_lt a (actors decl) ≡ t → (s && t) ≡ true → a < actors decl
-  by s true low named = ltb-true a (actors decl) low
-  by true false low never = absurd (let no : ⊥ = cc in no)
-  by false false low never = absurd (let no : ⊥ = cc in no)
-
-pub client_no_site : (decl : Declaration) (a : ℕ) → is_client decl a ≡ true → is_site decl a ≡ false
-client_no_site decl a is = by (is_site decl a) refl where
-  above : decl.sites ≤ a
-  above = client_above decl a is
-
-  by : (t : Bool) → is_site decl a ≡ t → t ≡ false
-  by true low = absurd (let l : a < decl.sites = ltb-true a decl.sites low in let m : decl.sites ≤ a = above in omega arith)
-  by false low = refl
-
 pub client_number : (decl : Declaration) (a : ℕ) → is_client decl a ≡ true → decl.sites + (a - decl.sites) ≡ a
-client_number decl a is = let above : decl.sites ≤ a = client_above decl a is in omega arith
+client_number decl a is = let above : decl.sites ≤ a = client_past decl a is in omega arith
 
 -- what a client keeps, over its deeds by turns
 

@@ -9,6 +9,7 @@ pub mod Up
 pub mod FirstLives
 pub mod Running
 pub mod Acted
+pub mod Idle
 pub mod Commanded
 pub mod Delivered
 pub mod ByMail

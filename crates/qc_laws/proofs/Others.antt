@@ -5,7 +5,7 @@ use Rattle.std.specs.List.{AllByRecursion as Every}
 use Rattle.std.proofs.lemmas.Bool.{and_parts}
 use Rattle.qc_core.specs.Actors.{actor_after}
 use Rattle.qc_core.specs.Conduct.{IsLawfulWithFalls, with_record}
-use Rattle.qc_decl.specs.Actors.{actors, controller, is_client, is_site}
+use Rattle.qc_decl.specs.Actors.{administrator, is_administrator, actors, controller, is_client, is_site}
 use Rattle.qc_decl.specs.declared.declaration.Declaration.{Declaration}
 use Rattle.qc_laws.proofs.Acted.{deeds-silent}
 use Rattle.qc_laws.proofs.Numbered.{phase_silent}
@@ -31,17 +31,18 @@ OnlyFalls a h = Every IsFall (deeds a [] h)
 
 -- nobody else has a turn
 
-neither : (site client : Bool) (t turn : Turn) → site ≡ false → client ≡ false
-    → (if site then Some t else (if client then Some t else None)) ≡ Some turn → ⊥
-neither true client t turn isnt other called = let no : ⊥ = cc in no
-neither false true t turn isnt other called = let no : ⊥ = cc in no
-neither false false t turn isnt other called = let no : ⊥ = cc in no
+neither : (site client admin : Bool) (t turn : Turn) → site ≡ false → client ≡ false → admin ≡ false
+    → (if site then Some t else (if client then Some t else (if admin then Some t else None))) ≡ Some turn → ⊥
+neither true client admin t turn isnt other none called = let no : ⊥ = cc in no
+neither false true admin t turn isnt other none called = let no : ⊥ = cc in no
+neither false false true t turn isnt other none called = let no : ⊥ = cc in no
+neither false false false t turn isnt other none called = let no : ⊥ = cc in no
 
 turnless : (decl : Declaration) (a : ℕ) (ds : List Deed) (turn : Turn) → actors decl ≤ a
     → IsLawfulWithFalls decl a ds turn → ⊥
 turnless decl a ds turn past law =
-    neither (is_site decl a) (is_client decl a) (actor_after decl a ds).turn (with_record turn)
-    (site (is_site decl a) refl) (client (is_client decl a) refl) law.called_for
+    neither (is_site decl a) (is_client decl a) (is_administrator decl a) (actor_after decl a ds).turn (with_record turn)
+    (site (is_site decl a) refl) (client (is_client decl a) refl) (admin (is_administrator decl a) refl) law.called_for
   where
     site : (b : Bool) → is_site decl a ≡ b → b ≡ false
     site false is = refl
@@ -50,9 +51,13 @@ turnless decl a ds turn past law =
     client : (b : Bool) → is_client decl a ≡ b → b ≡ false
     client false is = refl
     client true is =
-        let low : a < actors decl =
-        ltb-true a (actors decl) (and_parts (nat_le decl.sites a) (nat_lt a (actors decl)) is).1 in
+        let low : a < administrator decl =
+        ltb-true a (administrator decl) (and_parts (nat_le decl.sites a) (nat_lt a (administrator decl)) is).1 in
         absurd (omega (arith, low, past))
+
+    admin : (b : Bool) → is_administrator decl a ≡ b → b ≡ false
+    admin false is = refl
+    admin true is = let same : a ≡ administrator decl = eqb-true a (administrator decl) is in absurd (omega (arith, same, past))
 
 module _ (decl : Declaration) (script : Script) (fits : ℕ → List Record → Type 0) (few : actors decl ≤ most_actors) where
   abbrev IsRun : List Entry → List Bool → Type 0

@@ -6,7 +6,8 @@ use Rattle.std.proofs.lemmas.Bool.{lt-ltb, ltb-true, leb-true}
 use Rattle.qc_core.specs.Conduct.{IsLawful}
 use Rattle.qc_decl.specs.declared.declaration.Declaration.{Declaration}
 use Rattle.qc_decl.specs.Accepted.{IsAccepted}
-use Rattle.qc_decl.specs.Actors.{actors, controller, first_site, is_client, is_site}
+use Rattle.qc_decl.proofs.Clients.{client_below, client_past}
+use Rattle.qc_decl.specs.Actors.{administrator, controller, first_site, is_client, is_site}
 use Rattle.qc_msg.specs.declared.begun.Begun.{Begun}
 use Rattle.qc_msg.specs.declared.message.Answer.{Answer}
 use Rattle.qc_msg.specs.declared.message.Envelope.{Envelope}
@@ -252,19 +253,13 @@ client_mail : (decl : Declaration) (a n : ℕ) (ps : List Posting) → decl.site
 client_mail decl a n [] past are = tt
 client_mail decl a n (p ∷ ps) past are = (from_client decl a p.to p.message past are.0, client_mail decl a (n + 1) ps past are.1)
 
-both_true : (x y : Bool) → (x && y) ≡ true → (x ≡ true) × (y ≡ true)
-both_true true true is = (refl, refl)
-both_true true false is = absurd (let never : ⊥ = cc in never)
-both_true false y is = absurd (let never : ⊥ = cc in never)
-
 lawful_mail : (decl : Declaration) (accepted : IsAccepted decl) (a n : ℕ) (ds : List Deed) (turn : Turn) → Every (IsAskableDeed decl a) ds → IsLawful decl a ds turn → IsMailProper decl (envelopes a n turn.sends)
 lawful_mail decl accepted a n ds turn are law = at (is_site decl a) (is_client decl a) refl law
   where
     client : is_client decl a ≡ true → turn ≡ (client_after decl (a - decl.sites) ds).turn → IsMailProper decl (envelopes a n turn.sends)
     client is same =
-        let parts : (nat_le decl.sites a ≡ true) × (nat_lt a (actors decl) ≡ true) = both_true (nat_le decl.sites a) (nat_lt a (actors decl)) is in
-        let past : decl.sites ≤ a = leb-true decl.sites a parts.0 in
-        let low : a < decl.sites + decl.clients = ltb-true a (actors decl) parts.1 in
+        let past : decl.sites ≤ a = client_past decl a is in
+        let low : a < administrator decl = client_below decl a is in
         subst (λ (t : Turn). IsMailProper decl (envelopes a n t.sends)) (sym same)
         (client_mail decl a n (client_after decl (a - decl.sites) ds).turn.sends past (client_proper decl accepted a (a - decl.sites) (omega arith) ds are))
 

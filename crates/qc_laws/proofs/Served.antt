@@ -141,7 +141,7 @@ module _ (decl : Declaration) (script : Script) (h : List Entry) (open_inputs : 
       subst (IsShown (deeds site [] h)) same it.2
 
   pub run_due : AreDue decl [] (deeds site [] h)
-  run_due = by (has_entry (IsLawful decl) decl script h open_inputs run site (let all : decl.sites + decl.clients ≡ actors decl = refl in omega arith))
+  run_due = by (has_entry (IsLawful decl) decl script h open_inputs run site (let all : decl.sites + decl.clients + 1 ≡ actors decl = refl in omega arith))
     where
       by : (t : Bool) × (slice_get open_inputs site ≡ Some t) → AreDue decl [] (deeds site [] h)
       by place = serves_due decl site a_site (deeds site [] h) (steady place.0 place.1) place.0 (serves_at place.0 place.1)

@@ -3,6 +3,7 @@ use Rattle.std.proofs.Common.{◌≡◌, ℕ, ◌+◌, ◌<◌, ◌≤◌, ◌==
 use Rattle.std.specs.Prelude.{replicate}
 use Rattle.std.proofs.lemmas.Bool.{ltb-true}
 use Rattle.std.proofs.lemmas.List.{append-nil, take_all}
+use Rattle.qc_decl.proofs.Clients.{client_within}
 use Rattle.qc_core.specs.Acts.{is_running}
 use Rattle.qc_core.specs.Conduct.{IsLawful}
 use Rattle.qc_decl.specs.declared.declaration.Declaration.{Declaration}
@@ -39,7 +40,7 @@ no_commands false busy (c ∷ commands) may free is = absurd (let never : ⊥ = 
 module _ (decl : Declaration) (script : Script) (accepted : IsAccepted decl) (asks : AsksDeclared decl script) (h : List Entry) (closed : IsClosed decl script h) (quiet : IsQuiet decl script h) (done : controls_left script h ≡ [])
     (idle : (a : ℕ) → is_client decl a ≡ true → is_running (deeds a [] h) ≡ false) where
   acts : (a : ℕ) → is_client decl a ≡ true → a < actors decl
-  acts a client = ltb-true a (actors decl) (second_true (nat_le decl.sites a) (nat_lt a (actors decl)) client)
+  acts a client = client_within decl a client
 
   no_command : (a : ℕ) → is_client decl a ≡ true → command_in decl a (inbox script a h) ≡ None
   no_command a client =

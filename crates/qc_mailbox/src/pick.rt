@@ -103,8 +103,8 @@ impl Mailboxes {
         }
     }
 
-    /// The site or client that comes next, of those that have no open input and
-    /// aren't held: the one whose first copy has the smallest number, else the
+    /// The actor that comes next, of those that have no open input and aren't
+    /// held: the one whose first copy has the smallest number, else the
     /// lowest with a lost request, else the one that called the fewest commands
     /// in this phase, the lowest on a tie. None where nothing is ready for any of
     /// them.
@@ -113,7 +113,7 @@ impl Mailboxes {
         ensures { result ≡ picked_in decl.now (either inputs.now held.now) self.now.inboxes }
     {
         let mut best = None;
-        'actors: for actor in 0..decl.sites + decl.clients {
+        'actors: for actor in 0..decl.sites + decl.clients + 1 {
             best = sooner(best, actor, self.rank(decl, inputs, held, actor));
         }
         match best {

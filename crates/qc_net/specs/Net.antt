@@ -21,7 +21,6 @@ use Rattle.qc_list.specs.Members.{In}
 use Rattle.qc_decl.specs.Actors.{administrator, is_client, is_site}
 use Rattle.qc_decl.specs.declared.declaration.Declaration.{Declaration}
 use Rattle.qc_msg.specs.declared.message.Envelope.{Envelope}
-use Rattle.qc_msg.specs.declared.step.Command.TheVariants as commands
 use Rattle.qc_msg.specs.declared.step.Given.{Given}
 use Rattle.qc_msg.specs.declared.step.Given.TheVariants.{Called, Got, Lost}
 use Rattle.qc_msg.specs.declared.turn.Posting.{Posting}
@@ -125,7 +124,7 @@ after_client net a move =
       pending = net.pending;
     }
 
--- a `do` names a declared object, and an invocation of its type
+-- a `do` names a declared object, and an invocation of its type; an `epoch` one that is declared
 
 abbrev pub IsNamedAt : Declaration → ℕ → ℕ → Type 0
 IsNamedAt decl object inv = (kind : Kind) × (kind_at decl object ≡ Some kind) × (inv < kind.table.invs)
@@ -135,7 +134,7 @@ IsNamed decl Begin = Unit {0}
 IsNamed decl (Do object inv) = IsNamedAt decl object inv
 IsNamed decl Commit = Unit {0}
 IsNamed decl Abort = Unit {0}
-IsNamed decl (Epoch number) = Unit {0}
+IsNamed decl (Epoch number) = IsPlanned decl number
 
 -- what may come to an actor: a message that was sent to it; anything may be taken for lost
 abbrev pub MayCome : Net → ℕ → Given → Type 0
@@ -143,13 +142,9 @@ MayCome net a (Called command) = Unit {0}
 MayCome net a (Got envelope) = In envelope net.mail × (envelope.to ≡ a)
 MayCome net a (Lost number) = Unit {0}
 
--- and to the administrator: an `epoch` of one that is declared
+-- and to the administrator: a command that names what is declared
 abbrev pub MayAdminister : Declaration → Given → Type 0
-MayAdminister decl (Called commands.Begin) = Unit {0}
-MayAdminister decl (Called (commands.Do object inv)) = Unit {0}
-MayAdminister decl (Called commands.Commit) = Unit {0}
-MayAdminister decl (Called commands.Abort) = Unit {0}
-MayAdminister decl (Called (commands.Epoch number)) = IsPlanned decl number
+MayAdminister decl (Called command) = IsNamed decl command
 MayAdminister decl (Got envelope) = Unit {0}
 MayAdminister decl (Lost number) = Unit {0}
 

@@ -1,15 +1,13 @@
--- Who is named by the control line that may be done next, and what is known of that actor: it is a site or a client, up
--- where it is to fall, and down where it is to rise.
+-- Who is named by the control line that may be done next, and what is known of that actor: it is up where it is to fall,
+-- and down where it is to rise.
 use Rattle.std.proofs.Common.{◌≡◌, ℕ, ◌<◌, ◌≤◌, not, Bool, true, false, List, [], ◌∷◌, Some, slice_get, fold}
-use Rattle.std.proofs.Common.{refl, sym, ap, ◌∙◌, ltb-true, arith, subst}
-use Rattle.std.specs.List.{AllByRecursion as Every, list_all}
-use Rattle.std.proofs.lemmas.Bool.{and_parts}
+use Rattle.std.proofs.Common.{refl, sym, ap, ◌∙◌, arith, subst}
 use Rattle.qc_core.specs.Actors.{actor_after}
 use Rattle.qc_core.specs.Conduct.{IsLawfulWithFalls}
 use Rattle.qc_core.specs.Lives.{is_up, up_at}
 use Rattle.qc_core.specs.declared.actor.Actor.TheVariants.{Down}
 use Rattle.qc_core.proofs.LivesLaws.{down, up}
-use Rattle.qc_decl.specs.Actors.{actors}
+use Rattle.qc_decl.specs.Actors.{actors, administrator}
 use Rattle.qc_decl.specs.declared.declaration.Declaration.{Declaration}
 use Rattle.qc_inbox.specs.Downs.{down_at}
 use Rattle.qc_inbox.proofs.FallLaws.{crashes_up, restarts_down, up_by_deeds}
@@ -23,51 +21,32 @@ use Rattle.qc_outside.specs.declared.disk.ArmKind.{ArmKind}
 use Rattle.qc_script.specs.Inbox.{inbox, is_up as is_up_in}
 use Rattle.qc_script.specs.Ready.{controls_left}
 use Rattle.qc_script.specs.RunsWithFalls.{RunsWithFalls}
-use Rattle.qc_script.specs.declared.script.PhaseLines.{PhaseLines}
+use Rattle.qc_script.specs.Sound.{IsControlFor}
 use Rattle.qc_script.specs.declared.script.Script.{Script}
-use Rattle.qc_bounds.proofs.SettledLines.{next_passes, next_sound}
+use Rattle.qc_bounds.proofs.SettledLines.{next_sound}
 use Rattle.qc_fabric.specs.Advances.{WasNext}
 use Rattle.qc_fabric.specs.Controls.{MayDo}
-use Rattle.qc_node.specs.Built.{IsRunnable, is_built_control, is_built_line, is_built_phase}
+use Rattle.qc_node.specs.Runnable.{IsRunnable}
 use Rattle.qc_node.specs.Rules.{fits_of}
 
-module _ (decl : Declaration) where
-  built_controls : (lines : List Control) → list_all (is_built_control decl) lines ≡ true
-      → Every (λ (c : Control). is_built_control decl c ≡ true) lines
-  built_controls [] is = tt
-  built_controls (c ∷ lines) is =
-      let both = and_parts (is_built_control decl c) (list_all (is_built_control decl) lines) is in
-      (both.0, built_controls lines both.1)
-
-  built_phases : (phases : List PhaseLines) → list_all (is_built_phase decl) phases ≡ true
-      → Every (λ (phase : PhaseLines). Every (λ (c : Control). is_built_control decl c ≡ true) phase.controls) phases
-  built_phases [] is = tt
-  built_phases (phase ∷ phases) is =
-      let both = and_parts (is_built_phase decl phase) (list_all (is_built_phase decl) phases) is in
-      let here =
-      and_parts (list_all (is_built_control decl) phase.controls) (list_all (is_built_line decl) phase.commands) both.0
-      in
-      (built_controls phase.controls here.0, built_phases phases both.1)
-
 module _ (decl : Declaration) (script : Script) (runs : IsRunnable decl script) (h : List Entry) (inputs : List Bool) where
-  next_built : (line : Control) → slice_get (controls_left script h) 0 ≡ Some line → is_built_control decl line ≡ true
-  next_built line is =
-      next_passes (is_built_control decl) script h line (built_phases decl script.phases runs.built) is
+  next_for : (line : Control) → slice_get (controls_left script h) 0 ≡ Some line → IsControlFor decl line
+  next_for line is = next_sound decl script h line runs.declared is
 
   pub armed_below : (a : ℕ) (kind : ArmKind) (at : ℕ) → MayDo decl script h inputs (controls.Armed a kind at)
       → a < actors decl
-  armed_below a kind at may = ltb-true a (actors decl) (next_built (controls.Armed a kind at) may.next)
+  armed_below a kind at may = let within : a ≤ administrator decl = (next_for (controls.Armed a kind at) may.next).0 in omega (arith, within)
 
   pub armed_counted : (a : ℕ) (kind : ArmKind) (at : ℕ) → MayDo decl script h inputs (controls.Armed a kind at) → 1 ≤ at
-  armed_counted a kind at may = (next_sound decl script h (controls.Armed a kind at) runs.declared may.next).1.0
+  armed_counted a kind at may = (next_for (controls.Armed a kind at) may.next).1.0
 
   pub crashed_below : (a : ℕ) → MayDo decl script h inputs (controls.Crash a) → a < actors decl
-  crashed_below a may = ltb-true a (actors decl) (next_built (controls.Crash a) may.next)
+  crashed_below a may = let within : a ≤ administrator decl = next_for (controls.Crash a) may.next in omega (arith, within)
 
   pub restarted_below : (a : ℕ) → MayDo decl script h inputs (controls.Restart a) → a < actors decl
-  restarted_below a may = ltb-true a (actors decl) (next_built (controls.Restart a) may.next)
+  restarted_below a may = let within : a ≤ administrator decl = next_for (controls.Restart a) may.next in omega (arith, within)
 
--- the line that was next at some time names a site or a client
+-- the line that was next at some time names an actor
 
 module _ (decl : Declaration) (script : Script) (runs : IsRunnable decl script) (line : Control)
     (was : WasNext decl script line) (a : ℕ) where

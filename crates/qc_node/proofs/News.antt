@@ -28,7 +28,7 @@ module _ (z : TableId) (all xs ys : List (Pass Step)) (p : Pass Step) (split : x
       let whole : length (xs ++ p ∷ ys) ≡ length all = ap (λ (l : List (Pass Step)). length l) split in
       omega (arith, here.number_is, whole, length-append xs (p ∷ ys), count)
 
--- the last two of all are the administrator's and the controller's
+-- the last of all is the controller's
 
 pub front_new : (z : TableId) (all xs ys : List (Pass Step)) → all ≡ xs ++ ys → AreNew z all → AreNew z xs
 front_new z all xs ys split new = λ n p is.
@@ -41,9 +41,6 @@ last_new z all xs p n split count new =
     let same : length xs ≡ n = omega (arith, whole, length-append xs (p ∷ []), count) in
     subst (λ (k : ℕ). IsNew z k p) same
     (new (length xs) p (ap (λ (l : List (Pass Step)). slice_get l (length xs)) split ∙ slice_get-last xs p))
-
-pub new_by_number : (z : TableId) (n : ℕ) (p : Pass Step) → IsNew z n p → IsNew z (number p) p
-new_by_number z n p new = subst (λ (k : ℕ). IsNew z k p) (sym new.number_is) new
 
 -- what is left of a list behind so many of its elements, by places
 

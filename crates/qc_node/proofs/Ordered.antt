@@ -34,7 +34,7 @@ use Rattle.qc_fabric.specs.Tells.{IsSame}
 use Rattle.qc_fabric.specs.declared.rising.Rising.{Rising}
 use Rattle.qc_node.specs.Cells.{IsCell, IsLeft}
 use Rattle.qc_node.specs.Rules.{fits_of}
-use Rattle.qc_node.specs.Built.{IsRunnable}
+use Rattle.qc_node.specs.Runnable.{IsRunnable}
 use Rattle.qc_node.proofs.Lines.{armed_counted, crashed_up, restarted_down}
 
 pub few_actors : (decl : Declaration) → IsAccepted decl → actors decl ≤ most_actors
@@ -76,7 +76,7 @@ module _ (tells : Bool) (z : TableId) (decl : Declaration) (p : Pass Step) (pr :
               by_whom = controller decl;
               other =
                   (let low : number p < actors decl = cell.is_actor in
-                  let over : controller decl ≡ actors decl + 1 = refl in
+                  let over : controller decl ≡ actors decl = refl in
                   ne_eqb (controller decl) (number p) (λ same. let no : ⊥ = omega arith in no));
               some = some;
               now_is =

@@ -24,7 +24,7 @@ use Rattle.qc_process.specs.Views.{HasFewRecords, IsUp, MayWrite, ProcessView, S
 use Rattle.qc_record.specs.Records.{spelled}
 use Rattle.qc_script.specs.declared.script.Script.{Script}
 use Rattle.qc_fabric.specs.Tells.{Posts, Sees, Takes}
-use Rattle.qc_node.specs.Built.{IsRunnable}
+use Rattle.qc_node.specs.Runnable.{IsRunnable}
 use Rattle.qc_node.specs.Cells.{IsCell}
 use Rattle.qc_node.specs.Rules.{fits_of}
 use Rattle.qc_node.proofs.Kept.{cell_stored}

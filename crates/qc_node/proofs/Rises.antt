@@ -15,6 +15,7 @@ use Rattle.qc_core.specs.Actors.{ActorMove, AsksFew, actor_after, actor_rises, a
 use Rattle.qc_core.specs.Conduct.{IsLawfulWithFalls}
 use Rattle.qc_core.proofs.LivesLaws.{falls, rises}
 use Rattle.qc_core.proofs.Written.{after_written}
+use Rattle.qc_epoch.specs.Deciding.{most_asks}
 use Rattle.qc_decl.specs.Actors.{actors}
 use Rattle.qc_decl.specs.declared.declaration.Declaration.{Declaration}
 use Rattle.qc_fit.specs.Fits.{fits}
@@ -282,7 +283,7 @@ module _ (tells : Bool) (decl : Declaration) (script : Script) (q : Pass Step) (
 
       module _ (r : Pass Step) (first : ℕ)
           (did : RisesAs (IsLawfulWithFalls decl) (fits_of decl) decl script q r result first) where
-        pub risen_numbers : first + 16 < 2 ^ 32
+        pub risen_numbers : first + most_asks < 2 ^ 32
         risen_numbers =
             let less : length (mail (seen q ++ did.others)) ≤ length (seen q ++ did.others) =
             length-mail (seen q ++ did.others) in

@@ -9,6 +9,7 @@ use Rattle.qc_core.specs.Actors.{ActorFits, ActorMove, AsksFew, actor_after, act
 use Rattle.qc_core.specs.Conduct.{IsLawfulWithFalls}
 use Rattle.qc_core.proofs.ByTurns.{after_takes}
 use Rattle.qc_core.proofs.Written.{after_written}
+use Rattle.qc_epoch.specs.Deciding.{most_asks}
 use Rattle.qc_decl.specs.Accepted.{IsAccepted}
 use Rattle.qc_decl.specs.Actors.{actors}
 use Rattle.qc_decl.specs.Limits.{most_steps}
@@ -218,7 +219,7 @@ module _ (tells : Bool) (decl : Declaration) (script : Script) (accepted : IsAcc
             pub posts_go : Goes (number p2) (seen p2) (posted_as end first ended) (seen r)
             posts_go = record { others = posts.others; not_own = posts.not_own; now_is = posts.seen_is }
 
-            pub numbers_left : first + 16 < 2 ^ 32
+            pub numbers_left : first + most_asks < 2 ^ 32
             numbers_left =
                 let less : length (mail (seen p2 ++ posts.others)) ≤ length (seen p2 ++ posts.others) =
                 length-mail (seen p2 ++ posts.others) in

@@ -24,7 +24,7 @@ use Rattle.qc_bounds.proofs.Falls.{all_below_spent}
 use Rattle.qc_bounds.proofs.Kept.{run_kept}
 use Rattle.qc_bounds.proofs.Limits.{damage_within}
 use Rattle.qc_bounds.proofs.RunFaults.{run_faults, script_sound}
-use Rattle.qc_node.specs.Built.{IsRunnable}
+use Rattle.qc_node.specs.Runnable.{IsRunnable}
 use Rattle.qc_node.specs.Rules.{fits_of}
 use Rattle.qc_node.specs.Settling.{IsSettling}
 

@@ -1,16 +1,18 @@
 -- A turn in a run: what an actor's calls ask as it takes an input, and what it is once its turn was posted.
-use Rattle.std.proofs.Common.{◌≡◌, ℕ, ◌<◌, zero, suc, Bool, true, false, List, [], ◌∷◌, ◌++◌, length, Some, None}
-use Rattle.std.proofs.Common.{refl, sym, ap, ◌∙◌, subst, cond, inl, inr, slice_get}
-use Rattle.qc_bounds.specs.Calls.{IsFailedShort}
+use Rattle.std.proofs.Common.{◌≡◌, ℕ, ◌<◌, ◌≤◌, zero, suc, Bool, true, false, List, [], ◌∷◌, ◌++◌, length, Some, None}
+use Rattle.std.proofs.Common.{refl, sym, ap, ◌∙◌, subst, cond, inl, inr, slice_get, arith, eq-eqb}
+use Rattle.std.proofs.lemmas.Bool.{cases_lt}
+use Rattle.qc_bounds.specs.Calls.{IsFailedShort, IsTurnShort}
 use Rattle.qc_bounds.specs.Fitting.{AllRiseFit}
 use Rattle.qc_bounds.proofs.AtOnce.{run_sent}
 use Rattle.qc_bounds.proofs.Calling.{actor_asks_few, actor_fits, promises, turn_failed, turn_short}
 use Rattle.qc_bounds.proofs.Rising.{run_rises_fit}
-use Rattle.qc_core.specs.Actors.{ActorFits, AsksFew, IsShort, actor_after, actor_sent}
+use Rattle.qc_bounds.proofs.RunsFit.{messages_fit}
+use Rattle.qc_core.specs.Actors.{ActorFits, AsksFew, actor_after, actor_sent}
 use Rattle.qc_core.specs.Conduct.{IsLawfulWithFalls, turn_with_falls, with_record}
 use Rattle.qc_core.proofs.ActorLaws.{other_client}
 use Rattle.qc_decl.specs.Accepted.{IsAccepted}
-use Rattle.qc_decl.specs.Actors.{actors, is_client, is_site}
+use Rattle.qc_decl.specs.Actors.{actors, administrator, is_administrator, is_client, is_site}
 use Rattle.qc_decl.specs.Limits.{most_steps}
 use Rattle.qc_decl.specs.declared.declaration.Declaration.{Declaration}
 use Rattle.qc_inbox.proofs.FallMail.{ready_sent}
@@ -32,19 +34,28 @@ in_mail [] n e is = absurd (let no : ⊥ = cc in no)
 in_mail (x ∷ xs) zero e is = inl (let same : e ≡ x = cc in same)
 in_mail (x ∷ xs) (suc n) e is = inr (in_mail xs n e is)
 
--- a site or a client has a turn for its last input, whatever becomes of the turn's record
+-- every actor has a turn for its last input, whatever becomes of the turn's record
 
 has_turn : (decl : Declaration) (a : ℕ) (ds : List Deed) → a < actors decl
     → turn_with_falls decl a ds ≡ Some (actor_after decl a ds).turn
-has_turn decl a ds low = by (is_site decl a) refl
+has_turn decl a ds low = by (is_site decl a) (is_client decl a) (is_administrator decl a) refl refl refl
   where
-    by : (s : Bool) → is_site decl a ≡ s
-        → cond s (Some (actor_after decl a ds).turn) (cond (is_client decl a) (Some (actor_after decl a ds).turn) None)
-        ≡ Some (actor_after decl a ds).turn
-    by true is = refl
-    by false is =
-        subst (λ (c : Bool). cond c (Some (actor_after decl a ds).turn) None ≡ Some (actor_after decl a ds).turn)
-        (sym (other_client decl a low is)) refl
+    turn : Turn
+    turn = (actor_after decl a ds).turn
+
+    at_last : is_client decl a ≡ false → is_site decl a ≡ false → is_administrator decl a ≡ false → ⊥
+    at_last none no_site no_admin = elim (cases_lt a (administrator decl)) [
+      | inl before ↦ (let is : is_client decl a ≡ true = other_client decl a before no_site in let no : ⊥ = cc in no)
+      | inr past ↦ (let same : a ≡ administrator decl = omega arith in
+          let is : is_administrator decl a ≡ true = eq-eqb a (administrator decl) same in let no : ⊥ = cc in no)
+    ]
+
+    by : (s c m : Bool) → is_site decl a ≡ s → is_client decl a ≡ c → is_administrator decl a ≡ m
+        → cond s (Some turn) (cond c (Some turn) (cond m (Some turn) None)) ≡ Some turn
+    by true c m site client admin = refl
+    by false true m site client admin = refl
+    by false false true site client admin = refl
+    by false false false site client admin = absurd (at_last client site admin)
 
 pub turn_is_lawful : (decl : Declaration) (a : ℕ) (ds : List Deed) (turn : Turn) → a < actors decl
     → (actor_after decl a ds).turn ≡ with_record turn → MayEnd turn.write turn.append → IsLawfulWithFalls decl a ds turn
@@ -66,8 +77,10 @@ module _ (decl : Declaration) (script : Script) (accepted : IsAccepted decl) (a 
 
   readable_if : length h < most_steps → (g : Given) → WasSentTo a (mail h) g → IsReadable g
   readable_if short (given.Called command) is = tt
-  readable_if short (given.Got e) is =
-      promises decl script (fits_of decl) h inputs run e rises_fit short (in_mail (mail h) e.number e is.0)
+  readable_if short (given.Got e) is = (
+    promises decl script (fits_of decl) h inputs run e rises_fit short (in_mail (mail h) e.number e is.0),
+    messages_fit decl script (fits_of decl) accepted h inputs run rises_fit e (in_mail (mail h) e.number e is.0),
+  )
   readable_if short (given.Lost n) is = tt
 
   pub readable : length h < most_steps → (g : Given) → ready decl script a h ≡ Some g → IsReadable g
@@ -78,7 +91,7 @@ module _ (decl : Declaration) (script : Script) (accepted : IsAccepted decl) (a 
 
   module _ (taken : slice_get inputs a ≡ Some true) (turn : Turn)
       (lawful : IsLawfulWithFalls decl a (deeds a [] h) turn) where
-    pub short_turn : IsShort turn
+    pub short_turn : IsTurnShort turn
     short_turn = turn_short decl script (fits_of decl) h inputs run accepted rises_fit a turn taken lawful
 
     pub short_failed : IsFailedShort turn

@@ -4,7 +4,7 @@ use mathlib.Core.List.{IsPrefix}
 use Rattle.atomic_table.specs.Seated.{TableId}
 use Rattle.qc_core.specs.Actors.{actor_after, actor_takes}
 use Rattle.qc_core.specs.Conduct.{IsLawfulWithFalls}
-use Rattle.qc_decl.specs.Actors.{actors, administrator}
+use Rattle.qc_decl.specs.Actors.{actors}
 use Rattle.qc_decl.specs.declared.declaration.Declaration.{Declaration}
 use Rattle.qc_msg.specs.Deeds.{Takes, deeds, deeds_as}
 use Rattle.qc_msg.specs.Steps.{Entry}
@@ -40,7 +40,7 @@ abbrev pub IsKnown : Bool → Declaration → ℕ → List Entry → Bool → Pr
 IsKnown tells decl a h false p = IsProcess tells decl a h p
 IsKnown tells decl a h true p = IsLeft tells decl a h p.store
 
--- the pass is of the run, of a site or a client, and has no room
+-- the pass is of the run, of an actor, and has no room
 pub record IsCell (tells : Bool) (z : TableId) (decl : Declaration) (given_up : Bool) (p : ProcessView)
     (pass : Pass Step) : Type 0 where
   pub table_is : pass_table pass ≡ z
@@ -73,11 +73,3 @@ pub record IsServed (decl : Declaration) (old new : Known) : Type 0 where
 abbrev pub IsTurn : Declaration → Script → Known → Known → TurnEnd → Type 0
 IsTurn decl script old new ends.NothingReady = IsIdle decl script old new
 IsTurn decl script old new ends.Done = IsServed decl old new
-
--- the administrator, to whom nothing happens: his pass is of the run, and has no room
-pub record IsAdministrator (tells : Bool) (z : TableId) (decl : Declaration) (s : StoreView) (pass : Pass Step) : Type 0
-  where
-    pub table_is : pass_table pass ≡ z
-    pub number_is : number pass ≡ administrator decl
-    pub no_room : room pass ≡ 0
-    pub stored : IsStored tells decl (administrator decl) (seen pass) s

@@ -1,4 +1,4 @@
-pub mod Built
+pub mod Runnable
 pub mod Rules
 pub mod Cells
 pub mod Restarts

@@ -5,7 +5,7 @@ ghost use Rattle.qc_decl.specs.Actors.{actors};
 ghost use Rattle.qc_pass.specs.Made.{IsNew};
 ghost use Rattle.qc_pass.specs.Tokens.{number};
 ghost use Rattle.qc_process.specs.Stored.{IsProcess};
-ghost use Rattle.qc_node.specs.Built.{IsRunnable};
+ghost use Rattle.qc_node.specs.Runnable.{IsRunnable};
 ghost use Rattle.qc_node.specs.Cells.{IsTurn};
 
 use crate::ends::TurnEnd;

@@ -1,33 +1,28 @@
-//! The cells of all sites and clients, with the administrator and the controller.
+//! The cells of all actors, with the controller.
 
-ghost use Rattle.std.specs.Prelude.{◌≡◌, ◌+◌, ◌<◌, IfOk, vec_len};
-ghost use Rattle.qc_decl.specs.Actors.{actors, controller};
-ghost use Rattle.qc_pass.specs.Made.{AreNew};
-ghost use Rattle.qc_node.specs.Built.{IsRunnable};
+ghost use Rattle.std.specs.Prelude.{◌≡◌, ◌<◌, vec_len};
+ghost use Rattle.qc_decl.specs.Actors.{actors};
+ghost use Rattle.qc_node.specs.Runnable.{IsRunnable};
 
-use crate::administrator::Administrator;
 use crate::cell::Cell;
 use crate::controller::Controller;
 use crate::ends::TurnEnd;
-use crate::processes::Processes;
 use crate::rules::Rules;
 use qc_decl::Declaration;
 use qc_fabric::{Fabric, Named};
 use qc_list::OutOfMemory;
-use qc_msg::{Control, Step};
+use qc_msg::Control;
 use qc_outside::{Disk, Gate};
-use qc_pass::Pass;
-use std::alloc::{AllocError, Global};
+use std::alloc::Global;
 use std::sync::{Mutex, Wait};
 use std::thread::Threads;
 
-/// The cells of all sites and clients, by number, the administrator, and the
-/// controller. Locks are taken in this order: a cell's, the controller's, the
-/// fabric's; and no thread holds two of one kind.
+/// The cells of all actors, by number, and the controller. Locks are taken in this
+/// order: a cell's, the controller's, the fabric's; and no thread holds two of one
+/// kind.
 #[derive(Drop)]
 pub struct Cells<D: Disk, N: Named> {
     pub(crate) cells: Vec<Mutex<Cell<D, N>>>,
-    pub(crate) administrator: Mutex<Administrator<D, N>>,
     pub(crate) controller: Mutex<Controller<N>>,
     ghost whole: { vec_len cells ≡ actors N.declaration },
 }

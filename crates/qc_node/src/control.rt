@@ -9,7 +9,7 @@ ghost use Rattle.qc_decl.specs.Accepted.{IsAccepted};
 ghost use Rattle.qc_process.specs.Opens.{OpensAs, StaysOnDisk};
 ghost use Rattle.qc_process.specs.Views.{HasFewRecords};
 ghost use Rattle.qc_fabric.specs.Risings.{size_of_rising};
-ghost use Rattle.qc_node.specs.Built.{IsRunnable};
+ghost use Rattle.qc_node.specs.Runnable.{IsRunnable};
 ghost use Rattle.qc_node.specs.Restarts.{IsClosed, IsRecorded, opened_of};
 
 use crate::cell::Cell;

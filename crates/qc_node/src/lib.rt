@@ -1,4 +1,4 @@
-//! Sites and clients on threads, each with its journal.
+//! Sites, clients and the administrator on threads, each with its journal.
 //!
 //! Each actor sits in a cell of its own: its process, an actor over a disk, with its
 //! pass. A worker picks an actor that has something to do, and the actor takes its
@@ -24,8 +24,6 @@
 //!    disks that were handed out go back, with their journals begun.
 #![tactic(auto)]
 
-mod administrator;
-mod built;
 mod cell;
 mod cells;
 mod control;
@@ -39,7 +37,6 @@ mod scripts;
 mod settle;
 mod worker;
 
-pub use built::is_built;
 pub use cell::Cell;
 pub use cells::Cells;
 pub use ends::{DriveEnd, TurnEnd};

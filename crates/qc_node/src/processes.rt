@@ -3,9 +3,9 @@
 
 ghost use Rattle.std.specs.Prelude.{◌≡◌, ◌<◌, [], Bool, true, IfErr, IfOk, IfSome, IsSome, is_some, vec_len};
 ghost use Rattle.qc_decl.specs.Accepted.{IsAccepted};
-ghost use Rattle.qc_decl.specs.Actors.{actors, administrator, controller};
+ghost use Rattle.qc_decl.specs.Actors.{actors};
 ghost use Rattle.qc_decl.specs.declared.declaration.Declaration.{Declaration as Declared};
-ghost use Rattle.qc_process.specs.Stored.{IsProcess, IsStored};
+ghost use Rattle.qc_process.specs.Stored.{IsProcess};
 ghost use Rattle.qc_process.specs.Views.{IsUp};
 ghost use Rattle.qc_bounds.specs.Places.{AreHandedOut};
 ghost use Rattle.qc_node.specs.Starts.{AreProcesses, AreStarted, AreUnstarted, AreUp, IsGivenBack, IsStarted};
@@ -13,50 +13,12 @@ ghost use Rattle.qc_node.specs.Starts.{IsUnstarted};
 
 use qc_decl::Declaration;
 use qc_outside::{Disk, Rack, RackFault};
-use qc_process::{Process, Store};
+use qc_process::Process;
 use std::alloc::Global;
 
-/// The processes of all sites and clients, by number, and the administrator's store.
-#[derive(Drop)]
-pub(crate) struct Processes<D: Disk> {
-    pub(crate) each: Vec<Process<D>>,
-    pub(crate) administrator: Store<D>,
-}
-
-/// A process over a disk of the rack, in no folder, for each site and client, and a
-/// store for the administrator.
-pub(crate) fn start<K: Rack>(
-    alloc: Global,
-    decl: &Declaration,
-    rack: &mut K,
-) -> Result<Processes<K::D>, RackFault>
-    requires accepted { IsAccepted decl.now }
-    ensures whole { IfOk result (λ ps. vec_len ps.each ≡ actors decl.now) }
-    ensures each { IfOk result (λ ps. (tells : Bool) → (tells ≡ true → IsSome (K.places rack.old))
-        → AreProcesses tells decl.now ps.each.items) }
-    ensures administrator { IfOk result (λ ps. (tells : Bool) → (tells ≡ true → IsSome (K.places rack.old))
-        → IsStored tells decl.now (administrator decl.now) [] ps.administrator) }
-    ensures started { IfOk result (λ _. AreStarted (controller decl.now) (K.places rack.old) (K.faults rack.old)
-        (K.places rack.new) (K.faults rack.new)) }
-    ensures refused { IfErr result (λ fault. AreUnstarted (K.places rack.old) (K.faults rack.old) (K.places rack.new)
-        (K.faults rack.new) fault) }
-{
-    let each = start_all(alloc, decl, rack)?;
-    match start_store(alloc, rack, decl.sites + decl.clients) {
-        Ok(administrator) => Ok(Processes {
-            each,
-            administrator,
-        }),
-        Err(fault) => {
-            give_back(rack, each);
-            Err(fault)
-        }
-    }
-}
-
-/// The processes of all sites and clients.
+/// A process over a disk of the rack, in no folder, for each actor, by number.
 #[tactic(auto, using(crate::proofs::Starts::none_started, crate::proofs::Unstarted::wanting_unstarted))]
-fn start_all<K: Rack>(
+pub(crate) fn start<K: Rack>(
     alloc: Global,
     decl: &Declaration,
     rack: &mut K,
@@ -71,7 +33,7 @@ fn start_all<K: Rack>(
     ensures refused { IfErr result (λ fault. AreUnstarted (K.places rack.old) (K.faults rack.old) (K.places rack.new)
         (K.faults rack.new) fault) }
 {
-    let actors = decl.sites + decl.clients;
+    let actors = decl.sites + decl.clients + 1;
     let mut each = Vec::with_capacity(alloc, usize::from(actors))?;
     for actor in 0..actors {
         match start_one(alloc, decl, rack, actor) {
@@ -105,26 +67,6 @@ fn start_one<K: Rack>(
     let disk = rack.disk(None, actor)?;
     match Process::new(alloc, decl, actor, disk) {
         Ok(process) => Ok(process),
-        Err((disk, fault)) => {
-            rack.keep(None, actor, disk);
-            Err(fault)
-        }
-    }
-}
-
-/// The store of one.
-#[tactic(auto, using(crate::proofs::Starts::one_started, crate::proofs::Starts::rack_refused, crate::proofs::Starts::start_refused))]
-fn start_store<K: Rack>(alloc: Global, rack: &mut K, actor: u8) -> Result<Store<K::D>, RackFault>
-    ensures begun { IfOk result (λ s. (tells : Bool) (decl : Declared) → (tells ≡ true → IsSome (K.places rack.old))
-        → IsStored tells decl actor [] s) }
-    ensures started { IfOk result (λ _. IsStarted actor (K.places rack.old) (K.faults rack.old) (K.places rack.new)
-        (K.faults rack.new)) }
-    ensures refused { IfErr result (λ fault. IsUnstarted actor (K.places rack.old) (K.faults rack.old)
-        (K.places rack.new) (K.faults rack.new) fault) }
-{
-    let disk = rack.disk(None, actor)?;
-    match Store::new(alloc, actor, disk) {
-        Ok(store) => Ok(store),
         Err((disk, fault)) => {
             rack.keep(None, actor, disk);
             Err(fault)

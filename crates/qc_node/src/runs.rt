@@ -3,26 +3,24 @@
 ghost use Rattle.std.specs.Prelude.{◌≡◌, ◌+◌, ◌-◌, ◌^◌, ◌<◌, ◌≤◌, ℕ, [], true, IfErr, IfOk, IfSome, IsSome, is_some};
 ghost use Rattle.std.specs.Prelude.{vec_capacity, vec_len};
 ghost use Rattle.qc_decl.specs.Accepted.{IsAccepted};
-ghost use Rattle.qc_decl.specs.Actors.{actors, administrator, controller};
+ghost use Rattle.qc_decl.specs.Actors.{actors, controller};
 ghost use Rattle.qc_pass.specs.Made.{AreNew, IsFirst};
 ghost use Rattle.qc_pass.specs.Tokens.{table_of};
-ghost use Rattle.qc_process.specs.Stored.{IsStored};
 ghost use Rattle.qc_promise.specs.Kept.{Kept};
 ghost use Rattle.qc_promise.specs.Spent.{Spent};
 ghost use Rattle.qc_script.specs.Ready.{phase_of};
 ghost use Rattle.qc_script.specs.Sound.{IsScriptFor};
 ghost use Rattle.qc_bounds.specs.Places.{AreHandedOut};
-ghost use Rattle.qc_node.specs.Built.{IsRunnable, is_built};
+ghost use Rattle.qc_node.specs.Runnable.{IsRunnable};
 ghost use Rattle.qc_node.specs.Ends.{HasEnded};
 ghost use Rattle.qc_node.specs.Places.{AreEmpty, AreGivenBack, BothTell, HoldJournals, IsRefused};
 ghost use Rattle.qc_node.specs.Starts.{AreProcesses};
 
-use crate::administrator::Administrator;
 use crate::cell::Cell;
 use crate::cells::Cells;
 use crate::controller::Controller;
 use crate::ends::DriveEnd;
-use crate::processes::{Processes, start};
+use crate::processes::start;
 use crate::rules::Rules;
 use crate::scripts::{Job, drive_script};
 use crate::settle::settle;
@@ -68,7 +66,6 @@ pub fn run_script<G: Gate + Sync, K: Rack, R: Threads + Wait + Sync>(
     rack: &mut K,
 ) -> Result<Ran, RackFault>
     requires accepted { IsAccepted job.now.decl.now }
-    requires built { is_built job.now.decl.now script ≡ true }
     requires sound { IsScriptFor job.now.decl.now script }
     ensures script { IfOk result (λ ran. ran.script ≡ script) }
     ensures ended { IfOk result (λ ran. HasEnded job.now.decl.now script ran.history ran.end) }
@@ -127,7 +124,7 @@ fn run_named<N: Named + Send + Sync, G: Gate + Sync, K: Rack, R: Threads + Wait 
         each,
     } = made;
     let still: Still<Rules, N> = Still::make(alloc, job.decl, script, passes, right)?;
-    let places = Vec::with_capacity(alloc, usize::from(job.decl.sites + job.decl.clients))?;
+    let places = Vec::with_capacity(alloc, usize::from(job.decl.sites + job.decl.clients + 1))?;
     let processes = start(alloc, job.decl, rack)?;
     let cells = cells_of(each, processes, places);
     Ok(run_cells(rt, alloc, job, still, cells, rack))
@@ -168,40 +165,30 @@ fn run_cells<N: Named + Send + Sync, G: Gate + Sync, K: Rack, R: Threads + Wait 
 }
 
 /// The cells of all processes, each with the pass of its number, in a list that has
-/// room for them; then come the administrator's pass and the controller's. It takes
-/// no memory.
+/// room for them; then comes the controller's pass. It takes no memory.
 fn cells_of<D: Disk, N: Named>(
     passes: Vec<Pass<Step>>,
-    processes: Processes<D>,
+    processes: Vec<Process<D>>,
     cells: Vec<Mutex<Cell<D, N>>>,
 ) -> Cells<D, N>
     requires fresh { AreNew N.table passes.items }
     requires whole { vec_len passes ≡ controller N.declaration + 1 }
-    requires processes { vec_len processes.each ≡ actors N.declaration }
-    requires begun { AreProcesses N.tells N.declaration processes.each.items }
-    requires administrator { IsStored N.tells N.declaration (administrator N.declaration) [] processes.administrator }
+    requires processes { vec_len processes ≡ actors N.declaration }
+    requires begun { AreProcesses N.tells N.declaration processes.items }
     requires none { vec_len cells ≡ 0 }
     requires room { actors N.declaration ≤ vec_capacity cells }
 {
-    let Processes {
-        each,
-        administrator,
-    } = processes;
     let mut passes = passes;
     let Some(controller) = passes.pop() else {
         unreachable!()
     };
-    let Some(pass) = passes.pop() else {
-        unreachable!()
-    };
     Cells {
-        cells: actors_of(passes, each, cells),
-        administrator: Mutex::new(Administrator::new(administrator, pass)),
+        cells: actors_of(passes, processes, cells),
         controller: Mutex::new(Controller::new(controller)),
     }
 }
 
-/// The cells of sites and clients alone.
+/// The cells of the actors alone.
 fn actors_of<D: Disk, N: Named>(
     passes: Vec<Pass<Step>>,
     processes: Vec<Process<D>>,

@@ -1,7 +1,7 @@
 //! A whole script, by as many workers as are asked for.
 
 ghost use Rattle.std.specs.Prelude.{◌≡◌, length, nat_le};
-ghost use Rattle.qc_node.specs.Built.{IsRunnable};
+ghost use Rattle.qc_node.specs.Runnable.{IsRunnable};
 ghost use Rattle.qc_node.specs.Ends.{IsPhaseEnd, IsScriptEnd};
 
 use crate::cells::Cells;

@@ -6,7 +6,6 @@ ghost use Rattle.qc_decl.specs.Actors.{controller};
 ghost use Rattle.qc_bounds.specs.Places.{AreHandedOut};
 ghost use Rattle.qc_node.specs.Settling.{IsSettling};
 
-use crate::administrator::Administrator;
 use crate::cell::Cell;
 use crate::cells::Cells;
 use qc_fabric::{Named, Roll};
@@ -23,13 +22,11 @@ pub(crate) fn settle<K: Rack, N: Named>(cells: Cells<K::D, N>, roll: &mut Roll<N
 {
     let Cells {
         cells,
-        administrator,
         controller: _,
     } = cells;
     for cell in cells {
         settle_one(cell.into_inner(), roll, rack);
     }
-    settle_administrator(administrator.into_inner(), roll, rack);
 }
 
 /// The disk of one cell goes back, which hadn't gone back before.
@@ -43,21 +40,4 @@ fn settle_one<K: Rack, N: Named>(cell: Cell<K::D, N>, roll: &mut Roll<N>, rack: 
     roll.call(&mut cell.pass);
     let actor = cell.pass.number();
     rack.keep(None, actor, cell.process.into_disk());
-}
-
-/// The administrator's goes back.
-fn settle_administrator<K: Rack, N: Named>(
-    administrator: Administrator<K::D, N>,
-    roll: &mut Roll<N>,
-    rack: &mut K,
-)
-    ensures history { roll.new.history ≡ roll.old.history }
-    ensures one { (count before : ℕ) → IsSettling N.tells N.declaration roll.old.history roll.old.rooms count before
-        (K.faults rack.old) (K.places rack.old) → IsSettling N.tells N.declaration roll.new.history roll.new.rooms
-        (count + 1) before (K.faults rack.new) (K.places rack.new) }
-{
-    let mut administrator = administrator;
-    roll.call(&mut administrator.pass);
-    let actor = administrator.pass.number();
-    rack.keep(None, actor, administrator.store.into_disk());
 }

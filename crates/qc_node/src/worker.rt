@@ -1,7 +1,7 @@
 //! One worker.
 
 ghost use Rattle.std.specs.Prelude.{◌≡◌};
-ghost use Rattle.qc_node.specs.Built.{IsRunnable};
+ghost use Rattle.qc_node.specs.Runnable.{IsRunnable};
 
 use crate::cells::Cells;
 use crate::ends::DriveEnd;

@@ -3,10 +3,11 @@ use Rattle.std.proofs.Common.{◌≡◌, inl, inr, ℕ, ◌-◌, ◌^◌, ◌≤
 use Rattle.std.proofs.Common.{Result, Ok, Err, Vec, IfOk, OnErr, IfSome, length, option_to_list, refl, sym, ◌∙◌, ap, subst, arith, if◌then◌else◌}
 use Rattle.std.specs.declared.alloc.AllocError.{AllocError}
 use Rattle.std.specs.declared.alloc.Global.{Global}
-use Rattle.qc_core.specs.Actors.{ActorMove, actor_rises, by_client, by_site, moved}
+use Rattle.qc_core.proofs.ByNumber.{rises_by}
+use Rattle.qc_core.specs.Actors.{ActorMove, actor_rises, moved}
 use Rattle.qc_core.specs.declared.actor.Actor.{Actor}
 use Rattle.qc_core.specs.declared.actor.Actor.TheVariants.{Down}
-use Rattle.qc_decl.specs.Actors.{is_site}
+use Rattle.qc_decl.specs.Actors.{is_client, is_site}
 use Rattle.qc_decl.specs.declared.declaration.Declaration.{Declaration}
 use Rattle.qc_fit.specs.Numbers.{most_records}
 use Rattle.qc_journal.specs.Grammar.{Holds, IsNoJournal}
@@ -25,8 +26,6 @@ use Rattle.qc_promise.specs.Kept.{IsGivenBack, Journal}
 use Rattle.qc_promise.specs.Spent.{Calls, of_opening}
 use Rattle.qc_record.specs.Records.{is_legal}
 use Rattle.qc_record.proofs.Frames.{apart}
-use Rattle.qc_recover.specs.Clients.{client_rises}
-use Rattle.qc_recover.specs.Sites.{site_rises}
 use Rattle.qc_store.specs.Accounts.{IsAccountOf}
 use Rattle.qc_store.specs.Calls.{of_bodies}
 use Rattle.qc_store.specs.Contents.{AreGiven}
@@ -51,27 +50,27 @@ use Rattle.qc_process.proofs.Told.{told_around}
 
 -- what rises
 
+-- whatever its kind, it writes that it lives, and is up
+module _ (decl : Declaration) (a : ℕ) (rs : List Record) where
+  writes_by : (site client : Bool) → (rises_by decl a rs site client).turn.write ≡ Some Life
+  writes_by true client = refl
+  writes_by false true = refl
+  writes_by false false = refl
+
+  up_by : (site client : Bool) → (rises_by decl a rs site client).actor ≡ Down → ⊥
+  up_by true client same = cc same
+  up_by false true same = cc same
+  up_by false false same = cc same
+
 rise_writes : (decl : Declaration) (a : ℕ) (rs : List Record) → (actor_rises decl a rs).turn.write ≡ Some Life
-rise_writes decl a rs = by_kind (is_site decl a)
-  where
-    by_kind : (b : Bool)
-        → (if b then by_site (site_rises decl a rs) else by_client (client_rises (a - decl.sites) rs)).turn.write
-        ≡ Some Life
-    by_kind true = refl
-    by_kind false = refl
+rise_writes decl a rs = writes_by decl a rs (is_site decl a) (is_client decl a)
 
 pub life_waits : (decl : Declaration) (a : ℕ) (rs : List Record) (actor : Actor) (turn : Turn)
     → actor_rises decl a rs ≡ moved actor turn → turn.write ≡ Some Life
 life_waits decl a rs actor turn is = sym (ap (λ (m : ActorMove). m.turn.write) is) ∙ rise_writes decl a rs
 
 rise_is_up : (decl : Declaration) (a : ℕ) (rs : List Record) → (actor_rises decl a rs).actor ≡ Down → ⊥
-rise_is_up decl a rs is = by_kind (is_site decl a) is
-  where
-    by_kind : (b : Bool)
-        → (if b then by_site (site_rises decl a rs) else by_client (client_rises (a - decl.sites) rs)).actor ≡ Down
-        → ⊥
-    by_kind true same = cc same
-    by_kind false same = cc same
+rise_is_up decl a rs is = up_by decl a rs (is_site decl a) (is_client decl a) is
 
 pub risen_is_up : (decl : Declaration) (a : ℕ) (rs : List Record) (actor : Actor) (turn : Turn)
     → actor_rises decl a rs ≡ moved actor turn → actor ≡ Down → ⊥

@@ -1,11 +1,13 @@
 -- What an actor's calls ask of an input.
 use Rattle.std.specs.Prelude.{◌^◌, ◌<◌}
+use Rattle.qc_admin.specs.Fits.{MessageFits}
 use Rattle.qc_client.specs.Fits.{promise_in}
 use Rattle.qc_msg.specs.declared.step.Given.{Given}
 use Rattle.qc_msg.specs.declared.step.Given.TheVariants as given
 
--- the clock of the promise that it may bring is far from the end of its type
+-- The clock of the promise that it may bring is far from the end of its type, and what it tells of promises is of few
+-- clients.
 abbrev pub IsReadable : Given → Type 0
 IsReadable (given.Called command) = Unit {0}
-IsReadable (given.Got envelope) = promise_in envelope.message < 2 ^ 63
+IsReadable (given.Got envelope) = (promise_in envelope.message < 2 ^ 63) × MessageFits envelope.message
 IsReadable (given.Lost number) = Unit {0}

@@ -7,6 +7,7 @@ ghost use Rattle.qc_core.specs.declared.actor.Actor.TheVariants as actors;
 ghost use Rattle.qc_decl.specs.Accepted.{IsAccepted};
 ghost use Rattle.qc_decl.specs.Actors.{actors as number_of_actors};
 ghost use Rattle.qc_decl.specs.declared.declaration.Declaration.{Declaration as Declared};
+ghost use Rattle.qc_epoch.specs.Deciding.{most_asks};
 ghost use Rattle.qc_msg.specs.Deeds.{own};
 ghost use Rattle.qc_msg.specs.Steps.{Entry, HasRecord, posted_as};
 ghost use Rattle.qc_msg.specs.declared.step.Fall.TheVariants as fall;
@@ -136,7 +137,7 @@ impl<D: Disk> Process<D> {
     /// on. It takes no memory.
     pub fn sent(&mut self, first: u32)
         requires few { AsksFew self.old.actor }
-        requires numbers { first + 16 < 2 ^ 32 }
+        requires numbers { first + most_asks < 2 ^ 32 }
         ensures { self.new ≡ record self.old { actor = actor_sent self.old.actor first } }
     {
         self.actor.sent(first);

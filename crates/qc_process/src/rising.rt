@@ -5,6 +5,7 @@ ghost use Rattle.qc_core.specs.Actors.{actor_rises, moved};
 ghost use Rattle.qc_decl.specs.Accepted.{IsAccepted};
 ghost use Rattle.qc_process.specs.Fitting.{all_fit};
 
+use qc_admin::admin_of;
 use qc_core::Actor;
 use qc_decl::Declaration;
 use qc_list::OutOfMemory;
@@ -26,8 +27,11 @@ pub(crate) fn risen(
     if actor < decl.sites {
         let risen = site_of(alloc, decl, actor, records)?;
         Ok((Actor::Site(risen.site), risen.turn))
-    } else {
+    } else if actor - decl.sites < decl.clients {
         let risen = client_of(alloc, actor - decl.sites, records)?;
         Ok((Actor::Client(risen.client), risen.turn))
+    } else {
+        let risen = admin_of(alloc, records)?;
+        Ok((Actor::Admin(risen.admin), risen.turn))
     }
 }

@@ -22,6 +22,8 @@ pub data Place : Type 0 where
   Written : Place
   -- it told that its record isn't written, and has to fall
   Failing : Place
+  -- it told a fault: its record isn't written, and it falls, or was too long, and it goes on
+  Faulted : Place
   -- down; and down with a command called
   Fallen : Place
   Called : Place
@@ -35,6 +37,7 @@ comes_at Rising given = None
 comes_at Sending given = Some Open
 comes_at Written given = Some Open
 comes_at Failing given = None
+comes_at Faulted given = Some Open
 comes_at Fallen given = cond (is_some (command_in given)) (Some Called) None
 comes_at Called given = None
 
@@ -49,6 +52,7 @@ writes_at Rising written = cond (is_life written) (Some Written) None
 writes_at Sending written = None
 writes_at Written written = None
 writes_at Failing written = None
+writes_at Faulted written = None
 writes_at Fallen written = None
 writes_at Called written = None
 
@@ -59,13 +63,16 @@ sends_at Rising = None
 sends_at Sending = Some Sending
 sends_at Written = Some Written
 sends_at Failing = None
+sends_at Faulted = None
 sends_at Fallen = None
 sends_at Called = None
 
--- what a reply says of its actor: that it is down, that its record isn't written, or neither
+-- what a reply says of its actor: that it is down, that its record isn't written, that it isn't or was too long, or none
+-- of these
 pub data Saying : Type 0 where
   SaysDown : Saying
   SaysUnwritten : Saying
+  SaysFault : Saying
   SaysNeither : Saying
 
 abbrev pub saying_of : Reply → Saying
@@ -86,24 +93,28 @@ saying_of (replies.Committed stamp) = SaysNeither
 saying_of replies.Dropped = SaysNeither
 saying_of (replies.Order current) = SaysNeither
 saying_of (replies.InDoubt tx site) = SaysNeither
-saying_of replies.Fault = SaysUnwritten
+saying_of replies.Fault = SaysFault
 saying_of (replies.Moved closed installed) = SaysNeither
 
--- that a record isn't written is told alone, and the fall follows; that one is down is told while it is, and then alone
+-- that a record isn't written is told alone, and the fall follows; so is a fault, and the fall may follow; that one is
+-- down is told while it is, and then alone
 
 abbrev pub told_first : Saying → Option Place
 told_first SaysDown = None
 told_first SaysUnwritten = Some Failing
+told_first SaysFault = Some Faulted
 told_first SaysNeither = Some Idle
 
 abbrev pub told_last : Saying → Option Place
 told_last SaysDown = None
 told_last SaysUnwritten = None
+told_last SaysFault = None
 told_last SaysNeither = Some Idle
 
 abbrev pub told_down : Saying → Option Place
 told_down SaysDown = Some Fallen
 told_down SaysUnwritten = None
+told_down SaysFault = None
 told_down SaysNeither = None
 
 abbrev pub tells_at : Place → Saying → Option Place
@@ -113,6 +124,7 @@ tells_at Rising saying = None
 tells_at Sending saying = told_last saying
 tells_at Written saying = told_last saying
 tells_at Failing saying = None
+tells_at Faulted saying = None
 tells_at Fallen saying = None
 tells_at Called saying = told_down saying
 
@@ -128,6 +140,7 @@ crashes_at Rising None = None
 crashes_at Sending None = Some Fallen
 crashes_at Written None = Some Fallen
 crashes_at Failing None = None
+crashes_at Faulted None = Some Fallen
 crashes_at Fallen None = None
 crashes_at Called None = None
 
@@ -145,6 +158,7 @@ stops_at site Rising written = fallen_with (is_life written)
 stops_at site Sending written = None
 stops_at site Written written = None
 stops_at site Failing written = fallen_with (other written)
+stops_at site Faulted written = fallen_with (other written)
 stops_at site Fallen written = None
 stops_at site Called written = None
 
@@ -155,6 +169,7 @@ fails_at site Rising written = fallen_with (is_life written)
 fails_at site Sending written = fallen_with (site && other written)
 fails_at site Written written = None
 fails_at site Failing written = fallen_with (other written)
+fails_at site Faulted written = fallen_with (other written)
 fails_at site Fallen written = None
 fails_at site Called written = None
 
@@ -165,6 +180,7 @@ opens_not Rising = None
 opens_not Sending = None
 opens_not Written = None
 opens_not Failing = None
+opens_not Faulted = None
 opens_not Fallen = Some Fallen
 opens_not Called = None
 
@@ -188,6 +204,7 @@ rises_at Rising = None
 rises_at Sending = None
 rises_at Written = None
 rises_at Failing = None
+rises_at Faulted = None
 rises_at Fallen = Some Rising
 rises_at Called = None
 

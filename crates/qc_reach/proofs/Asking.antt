@@ -1,22 +1,26 @@
 -- An actor through its deeds: where what it takes tells of such transactions alone, and what it rises with promises for
 -- these, it asks about no others, and promises for no others.
-use Rattle.std.proofs.Common.{ℕ, ◌-◌, Bool, true, false, cond, List, [], ◌∷◌, fold, inl, inr, Option, option_to_list, sym, subst}
+use Rattle.std.proofs.Common.{ℕ, Bool, true, false, List, [], ◌∷◌, fold, inl, inr, Option, Some, None, option_to_list, sym, subst}
 use Rattle.std.specs.List.{AllByRecursion as Every}
-use Rattle.qc_client.specs.Client.{new_client}
 use Rattle.qc_client.specs.Conduct.{client_takes}
 use Rattle.qc_client.specs.declared.client.Client.{Client}
 use Rattle.qc_core.specs.declared.actor.Actor.{Actor}
 use Rattle.qc_core.specs.declared.actor.Actor.TheVariants as actors
-use Rattle.qc_core.specs.Actors.{ActorMove, actor_does, actor_rises, actor_sends, actor_takes, by_client, by_site, moved, new_actor}
+use Rattle.qc_core.specs.Actors.{ActorMove, actor_does, actor_rises, actor_sends, actor_takes, moved, new_actor}
 use Rattle.qc_core.specs.Conduct.{IsLawfulWithFalls, with_record}
+use Rattle.qc_core.proofs.AdminWrites.{IsAdminTurn, IsOfAdmin, IsSentByAdmin, WritesDecision, admin_written}
+use Rattle.qc_core.proofs.ByNumber.{new_by, rises_by}
 use Rattle.qc_core.proofs.ByTurns.{called_turn}
 use Rattle.qc_core.proofs.Written.{client_written}
-use Rattle.qc_decl.specs.Actors.{is_site}
+use Rattle.qc_decl.specs.Actors.{is_client, is_site}
 use Rattle.qc_decl.specs.declared.declaration.Declaration.{Declaration}
+use Rattle.qc_epoch.specs.Admin.{Admin}
+use Rattle.qc_epoch.specs.Conduct.{admin_takes}
 use Rattle.qc_list.proofs.Members.{every-weaker}
 use Rattle.qc_msg.specs.declared.message.Message.{Message}
 use Rattle.qc_msg.specs.declared.message.Message.TheVariants as messages
 use Rattle.qc_msg.specs.declared.record.Record.{Record}
+use Rattle.qc_msg.specs.declared.record.Record.TheVariants as records
 use Rattle.qc_msg.specs.declared.step.Given.{Given}
 use Rattle.qc_msg.specs.declared.step.Given.TheVariants as given
 use Rattle.qc_msg.specs.declared.turn.Appended.{Appended}
@@ -26,11 +30,9 @@ use Rattle.qc_msg.specs.declared.turn.Turn.{Turn}
 use Rattle.qc_msg.specs.Deeds.{Deed, Takes, Writes, Sends, Tells, Falls, Rises}
 use Rattle.qc_msg.specs.Steps.{sends_as}
 use Rattle.qc_msg.specs.Turns.{quiet}
-use Rattle.qc_recover.specs.Clients.{client_rises}
 use Rattle.qc_recover.specs.Sites.{site_rises}
 use Rattle.qc_laws.proofs.RightTurns.{IsNoInquiry, NoInquiries}
 use Rattle.qc_laws.proofs.SitesAsk.{GivenTells, HeldFor, PreparedFor}
-use Rattle.qc_site.specs.Site.{new_site}
 use Rattle.qc_stamp.specs.declared.stamp.TxId.{TxId}
 use Rattle.qc_due.proofs.Writing.{IsClientTurn, takes_turn}
 use Rattle.qc_reach.proofs.Changes.{input_changes}
@@ -40,6 +42,7 @@ module _ (decl : Declaration) (B : TxId → Type 0) where
   abbrev ActorAsks : Actor → Type 0
   ActorAsks (actors.Site s) = HeldFor decl B s.held × PreparedFor decl B s.prepared
   ActorAsks (actors.Client c) = Unit {0}
+  ActorAsks (actors.Admin m) = Unit {0}
   ActorAsks actors.Down = Unit {0}
 
   record MoveAsks (m : ActorMove) : Type 0 where
@@ -74,11 +77,42 @@ module _ (decl : Declaration) (B : TxId → Type 0) where
       by (inl none) = subst (λ (w : Option Record). Every (PromisesFor decl B) (option_to_list w)) (sym none) tt
       by (inr one) = subst (λ (w : Option Record). Every (PromisesFor decl B) (option_to_list w)) (sym one.write) (tt, tt)
 
+  -- nor does the administrator, of whom nobody is promised anything
+
+  admin_no_inquiry : (to : ℕ) (message : Message) → IsOfAdmin message → IsAbout decl B to message
+  admin_no_inquiry to (messages.Request tx epoch life want) is = absurd is
+  admin_no_inquiry to (messages.Answer asked answer) is = absurd is
+  admin_no_inquiry to (messages.Decision tx verdict) is = absurd is
+  admin_no_inquiry to (messages.Inquiry tx) is = absurd is
+  admin_no_inquiry to (messages.Ask tx) is = tt
+  admin_no_inquiry to (messages.Close epoch) is = tt
+  admin_no_inquiry to (messages.Install epoch clock log) is = tt
+
+  no_promise : (w : Option Record) → WritesDecision w → Every (PromisesFor decl B) (option_to_list w)
+  no_promise None is = tt
+  no_promise (Some records.Life) is = absurd is
+  no_promise (Some (records.Prepare p)) is = absurd is
+  no_promise (Some (records.Done tx clock)) is = absurd is
+  no_promise (Some (records.Close epoch)) is = absurd is
+  no_promise (Some (records.Install epoch clock lines)) is = absurd is
+  no_promise (Some (records.Commit commit)) is = absurd is
+  no_promise (Some (records.Decide epoch clock lines)) is = (tt, tt)
+
+  admin_asks : (m : Admin) (g : Given) → TurnAsks decl B (admin_takes decl m g).turn
+  admin_asks m g =
+      let w : IsAdminTurn (admin_takes decl m g).turn = admin_written decl m g in
+      record {
+        sends = every-weaker IsSentByAdmin (λ (p : Posting). IsAbout decl B p.to p.message) (λ p. admin_no_inquiry p.to p.message) (admin_takes decl m g).turn.sends w.sends;
+        failed = subst (AreAbout decl B) (sym w.failed_sends) tt;
+        writes = no_promise (admin_takes decl m g).turn.write w.writes;
+      }
+
   -- each deed
 
   actor_asks : (v : Actor) (g : Given) → ActorAsks v → GivenTells decl B g → MoveAsks (actor_takes decl v g)
   actor_asks (actors.Site s) g all here = let a : SiteAsks decl B _ = takes_ask decl B s g all.0 all.1 here in record { state = (a.held, a.prepared); turn = a.turn }
   actor_asks (actors.Client c) g all here = record { state = tt; turn = client_asks c g }
+  actor_asks (actors.Admin m) g all here = record { state = tt; turn = admin_asks m g }
   actor_asks actors.Down (given.Called command) all here = record { state = tt; turn = record { sends = tt; failed = tt; writes = tt } }
   actor_asks actors.Down (given.Got e) all here = record { state = tt; turn = nothing }
   actor_asks actors.Down (given.Lost number) all here = record { state = tt; turn = nothing }
@@ -86,14 +120,16 @@ module _ (decl : Declaration) (B : TxId → Type 0) where
   sent_asks : (v : Actor) (number to : ℕ) (message : Message) → ActorAsks v → ActorAsks (actor_sends v number to message)
   sent_asks (actors.Site s) number to message all = all
   sent_asks (actors.Client c) number to message all = tt
+  sent_asks (actors.Admin m) number to message all = tt
   sent_asks actors.Down number to message all = tt
 
   risen_asks : (a : ℕ) (kept : List Record) → Every (PromisesFor decl B) kept → MoveAsks (actor_rises decl a kept)
-  risen_asks a kept all = by (is_site decl a)
+  risen_asks a kept all = by (is_site decl a) (is_client decl a)
     where
-      by : (site : Bool) → MoveAsks (cond site (by_site (site_rises decl a kept)) (by_client (client_rises (a - decl.sites) kept)))
-      by true = let r : SiteAsks decl B (site_rises decl a kept) = rises_ask decl B a kept all in record { state = (r.held, r.prepared); turn = r.turn }
-      by false = record { state = tt; turn = record { sends = tt; failed = tt; writes = (tt, tt) } }
+      by : (site client : Bool) → MoveAsks (rises_by decl a kept site client)
+      by true client = let r : SiteAsks decl B (site_rises decl a kept) = rises_ask decl B a kept all in record { state = (r.held, r.prepared); turn = r.turn }
+      by false true = record { state = tt; turn = record { sends = tt; failed = tt; writes = (tt, tt) } }
+      by false false = record { state = tt; turn = record { sends = tt; failed = tt; writes = (tt, tt) } }
 
   abbrev pub IsTold : Deed → Type 0
   IsTold (Takes g) = GivenTells decl B g
@@ -114,11 +150,12 @@ module _ (decl : Declaration) (B : TxId → Type 0) where
   does_ask a (Rises kept ∷ ds) m all asks = does_ask a ds (actor_rises decl a kept) all.1 (risen_asks a kept all.0)
 
   new_asks : (a : ℕ) → ActorAsks (new_actor decl a)
-  new_asks a = by (is_site decl a)
+  new_asks a = by (is_site decl a) (is_client decl a)
     where
-      by : (site : Bool) → ActorAsks (cond site (actors.Site (new_site a)) (actors.Client (new_client (a - decl.sites))))
-      by true = (tt, tt)
-      by false = tt
+      by : (site client : Bool) → ActorAsks (new_by decl a site client)
+      by true client = (tt, tt)
+      by false true = tt
+      by false false = tt
 
   -- a lawful turn, whatever becomes of its record
   pub lawful_asks : (a : ℕ) (ds : List Deed) (turn : Turn) → Every IsTold ds → IsLawfulWithFalls decl a ds turn → TurnAsks decl B (with_record turn)

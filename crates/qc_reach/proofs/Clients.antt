@@ -8,7 +8,8 @@ use Rattle.qc_core.specs.Conduct.{IsLawfulWithFalls}
 use Rattle.qc_core.specs.Journals.{journal_at}
 use Rattle.qc_reach.specs.Ends.{AreCommitsTold}
 use Rattle.qc_decl.specs.Accepted.{IsAccepted}
-use Rattle.qc_decl.specs.Actors.{actors, client_actor, is_client}
+use Rattle.qc_decl.proofs.Clients.{client_below, client_past}
+use Rattle.qc_decl.specs.Actors.{actors, administrator, client_actor, is_client}
 use Rattle.qc_decl.specs.declared.declaration.Declaration.{Declaration}
 use Rattle.qc_due.proofs.Declared.{run_declares}
 use Rattle.qc_due.proofs.KeptPlanned.{kept_due, kept_planned}
@@ -39,19 +40,14 @@ client_is decl n low =
     let y : nat_lt (decl.sites + n) (decl.sites + decl.clients) ≡ true = lt-ltb (decl.sites + n) (decl.sites + decl.clients) (omega arith) in
     rw (x, y) refl
 
-both_true : (x y : Bool) → (x && y) ≡ true → (x ≡ true) × (y ≡ true)
-both_true true y is = (refl, is)
-both_true false y is = let never : ⊥ = cc in absurd never
-
 pub record IsNumbered (decl : Declaration) (a : ℕ) : Type 0 where
   pub low : a - decl.sites < decl.clients
   pub is : a ≡ client_actor decl (a - decl.sites)
 
 pub numbered : (decl : Declaration) (a : ℕ) → is_client decl a ≡ true → IsNumbered decl a
 numbered decl a client =
-    let both : (nat_le decl.sites a ≡ true) × (nat_lt a (actors decl) ≡ true) = both_true (nat_le decl.sites a) (nat_lt a (actors decl)) client in
-    let above : decl.sites ≤ a = leb-true decl.sites a both.0 in
-    let below : a < decl.sites + decl.clients = ltb-true a (actors decl) both.1 in
+    let above : decl.sites ≤ a = client_past decl a client in
+    let below : a < administrator decl = client_below decl a client in
     record { low = omega arith; is = omega arith }
 
 -- the deeds of a client, as its laws want them
@@ -83,7 +79,7 @@ module _ (fits : ℕ → List Record → Type 0) (decl : Declaration) (script : 
     commits_told = on (slice_get-within open_inputs (client_actor decl n) (subst (λ (k : ℕ). client_actor decl n < k) (sym (run_long decl script fits few h open_inputs run)) within))
       where
         declared : Declares decl its
-        declared = run_declares decl script fits accepted asks h open_inputs run (kept_planned decl script fits accepted h open_inputs run kept) (client_actor decl n)
+        declared = run_declares decl script fits accepted asks h open_inputs run (kept_planned decl script fits accepted asks h open_inputs run kept) (client_actor decl n)
 
         on : (t : Bool) × (slice_get open_inputs (client_actor decl n) ≡ Some t) → AreCommitsTold its
         on place =

@@ -6,6 +6,7 @@ use Rattle.qc_core.specs.declared.actor.Actor.TheVariants as actors
 use Rattle.qc_client.specs.Conduct.{client_takes}
 use Rattle.qc_core.specs.Actors.{ActorMove, actor_after, actor_takes, by_client, by_site}
 use Rattle.qc_core.specs.Acts.{MayTake}
+use Rattle.qc_core.proofs.ByNumber.{client_risen}
 use Rattle.qc_core.specs.Conduct.{IsLawfulWithFalls, with_record}
 use Rattle.qc_core.specs.Lives.{Lives, MayReach, is_up}
 use Rattle.qc_core.specs.Lives as lives
@@ -44,7 +45,7 @@ rest_all P (x ∷ xs) ys all = rest_all P xs ys all.1
 -- what it becomes as it rises
 pub rises_to : (decl : Declaration) (a : ℕ) → is_client decl a ≡ true → (ds : List Deed) (kept : List Record) → actor_after decl a (ds ++ Rises kept ∷ []) ≡ by_client (client_rises (a - decl.sites) kept)
 rises_to decl a client ds kept =
-    actor_more decl a ds (Rises kept ∷ []) ∙ ap (λ (b : Bool). cond b (by_site (site_rises decl a kept)) (by_client (client_rises (a - decl.sites) kept))) (no_site decl a client)
+    actor_more decl a ds (Rises kept ∷ []) ∙ client_risen decl a client kept
 
 -- What a client's life keeps through each event: at first, over a turn as far as it got, a command while it is down, a
 -- crash, a rise, and where its journal isn't opened.

@@ -1,4 +1,4 @@
--- The places of a client, deed by deed: where it is down or has just risen, and where it has to fall.
+-- The places of a client, deed by deed: where it is down or has just risen, and where a record of its may be pending.
 use Rattle.std.proofs.Common.{◌≡◌, Bool, true, false, cond, List, ◌∷◌, Option, Some, None, is_some, refl, sym, subst}
 use Rattle.qc_entry.specs.declared.record.Commit.{Commit as CommitRecord}
 use Rattle.qc_msg.specs.declared.record.Record.{Record}
@@ -9,7 +9,7 @@ use Rattle.qc_msg.specs.declared.step.Given.{Given}
 use Rattle.qc_msg.specs.Deeds.{Deed, Falls}
 use Rattle.qc_msg.specs.Readings.{command_in, is_life}
 use Rattle.qc_promise.specs.Posts.{pending_next}
-use Rattle.qc_promise.specs.Turns.{Place, Idle, Open, Rising, Sending, Written, Failing, Fallen, Called, Saying, SaysDown, SaysUnwritten, SaysNeither, comes_at, falls_at, rises_at, sends_at, tells_at, writes_at}
+use Rattle.qc_promise.specs.Turns.{Place, Idle, Open, Rising, Sending, Written, Failing, Faulted, Fallen, Called, Saying, SaysDown, SaysUnwritten, SaysFault, SaysNeither, comes_at, falls_at, rises_at, sends_at, tells_at, writes_at}
 
 abbrev pub is_off : Place → Bool
 is_off Idle = false
@@ -18,6 +18,7 @@ is_off Rising = true
 is_off Sending = false
 is_off Written = false
 is_off Failing = false
+is_off Faulted = false
 is_off Fallen = true
 is_off Called = true
 
@@ -28,6 +29,7 @@ is_failing Rising = false
 is_failing Sending = false
 is_failing Written = false
 is_failing Failing = true
+is_failing Faulted = true
 is_failing Fallen = false
 is_failing Called = false
 
@@ -44,6 +46,7 @@ comes Rising g = tt
 comes Sending g = (refl, refl)
 comes Written g = (refl, refl)
 comes Failing g = tt
+comes Faulted g = (refl, refl)
 comes Fallen g = by (is_some (command_in g))
   where
     by : (b : Bool) → CameTo true (cond b (Some Called) None)
@@ -58,6 +61,7 @@ sends Rising = tt
 sends Sending = (refl, refl)
 sends Written = (refl, refl)
 sends Failing = tt
+sends Faulted = tt
 sends Fallen = tt
 sends Called = tt
 
@@ -82,6 +86,7 @@ writes Rising r = by (is_life r)
 writes Sending r = tt
 writes Written r = tt
 writes Failing r = tt
+writes Faulted r = tt
 writes Fallen r = tt
 writes Called r = tt
 
@@ -90,9 +95,11 @@ writes Called r = tt
 abbrev pub IsSaid : Bool → Saying → Type 0
 IsSaid false SaysDown = ⊥
 IsSaid false SaysUnwritten = Unit {0}
+IsSaid false SaysFault = Unit {0}
 IsSaid false SaysNeither = Unit {0}
 IsSaid true SaysDown = Unit {0}
 IsSaid true SaysUnwritten = ⊥
+IsSaid true SaysFault = ⊥
 IsSaid true SaysNeither = ⊥
 
 abbrev pub ToldTo : Bool → Saying → Option Place → Type 0
@@ -103,18 +110,23 @@ pub tells : (p : Place) (s : Saying) → ToldTo (is_off p) s (tells_at p s)
 tells Idle s = tt
 tells Open SaysDown = tt
 tells Open SaysUnwritten = (refl, tt)
+tells Open SaysFault = (refl, tt)
 tells Open SaysNeither = (refl, tt)
 tells Rising s = tt
 tells Sending SaysDown = tt
 tells Sending SaysUnwritten = tt
+tells Sending SaysFault = tt
 tells Sending SaysNeither = (refl, tt)
 tells Written SaysDown = tt
 tells Written SaysUnwritten = tt
+tells Written SaysFault = tt
 tells Written SaysNeither = (refl, tt)
 tells Failing s = tt
+tells Faulted s = tt
 tells Fallen s = tt
 tells Called SaysDown = (refl, tt)
 tells Called SaysUnwritten = tt
+tells Called SaysFault = tt
 tells Called SaysNeither = tt
 
 -- a fall: with a commit record pending where the client has to fall, alone
@@ -151,6 +163,7 @@ crashes Rising None = tt
 crashes Sending None = (refl, (refl, none_to Sending causes.Script))
 crashes Written None = (refl, (refl, none_to Written causes.Script))
 crashes Failing None = tt
+crashes Faulted None = (refl, (refl, none_to Faulted causes.Script))
 crashes Fallen None = tt
 crashes Called None = tt
 
@@ -161,6 +174,7 @@ unopened_stops Rising = tt
 unopened_stops Sending = tt
 unopened_stops Written = tt
 unopened_stops Failing = tt
+unopened_stops Faulted = tt
 unopened_stops Fallen = (refl, (refl, none_to Fallen causes.Stop))
 unopened_stops Called = tt
 
@@ -171,6 +185,7 @@ unopened_fails Rising = tt
 unopened_fails Sending = tt
 unopened_fails Written = tt
 unopened_fails Failing = tt
+unopened_fails Faulted = tt
 unopened_fails Fallen = (refl, (refl, none_to Fallen causes.Disk))
 unopened_fails Called = tt
 
@@ -210,6 +225,24 @@ failing_fails (Install epoch clock lines) = (refl, (refl, λ c after is. (refl, 
 failing_fails (Commit commit) = (refl, (refl, λ c after is. (refl, is)))
 failing_fails (Decide epoch clock lines) = (refl, (refl, λ c after is. (refl, is)))
 
+faulted_stops : (r : Record) → FellTo Faulted causes.Stop (Some r) (falls_at false Faulted causes.Stop (Some r))
+faulted_stops Life = tt
+faulted_stops (Prepare prepared) = (refl, (refl, λ c after is. (refl, is)))
+faulted_stops (Done tx clock) = (refl, (refl, λ c after is. (refl, is)))
+faulted_stops (Close epoch) = (refl, (refl, λ c after is. (refl, is)))
+faulted_stops (Install epoch clock lines) = (refl, (refl, λ c after is. (refl, is)))
+faulted_stops (Commit commit) = (refl, (refl, λ c after is. (refl, is)))
+faulted_stops (Decide epoch clock lines) = (refl, (refl, λ c after is. (refl, is)))
+
+faulted_fails : (r : Record) → FellTo Faulted causes.Disk (Some r) (falls_at false Faulted causes.Disk (Some r))
+faulted_fails Life = tt
+faulted_fails (Prepare prepared) = (refl, (refl, λ c after is. (refl, is)))
+faulted_fails (Done tx clock) = (refl, (refl, λ c after is. (refl, is)))
+faulted_fails (Close epoch) = (refl, (refl, λ c after is. (refl, is)))
+faulted_fails (Install epoch clock lines) = (refl, (refl, λ c after is. (refl, is)))
+faulted_fails (Commit commit) = (refl, (refl, λ c after is. (refl, is)))
+faulted_fails (Decide epoch clock lines) = (refl, (refl, λ c after is. (refl, is)))
+
 pub falls : (p : Place) (cause : Fall) (pending : Option Record) → FellTo p cause pending (falls_at false p cause pending)
 falls p causes.Script pending = crashes p pending
 falls p causes.Stop None = unopened_stops p
@@ -219,6 +252,7 @@ falls Rising causes.Stop (Some r) = risen_stops r
 falls Sending causes.Stop (Some r) = tt
 falls Written causes.Stop (Some r) = tt
 falls Failing causes.Stop (Some r) = failing_stops r
+falls Faulted causes.Stop (Some r) = faulted_stops r
 falls Fallen causes.Stop (Some r) = tt
 falls Called causes.Stop (Some r) = tt
 falls p causes.Disk None = unopened_fails p
@@ -228,6 +262,7 @@ falls Rising causes.Disk (Some r) = risen_fails r
 falls Sending causes.Disk (Some r) = tt
 falls Written causes.Disk (Some r) = tt
 falls Failing causes.Disk (Some r) = failing_fails r
+falls Faulted causes.Disk (Some r) = faulted_fails r
 falls Fallen causes.Disk (Some r) = tt
 falls Called causes.Disk (Some r) = tt
 
@@ -244,5 +279,6 @@ rises Rising = tt
 rises Sending = tt
 rises Written = tt
 rises Failing = tt
+rises Faulted = tt
 rises Fallen = (refl, (refl, refl))
 rises Called = tt

@@ -4,13 +4,14 @@ use Rattle.std.proofs.Common.{◌≡◌, ℕ, ◌+◌, ◌-◌, ◌&&◌, not, B
 use Rattle.std.proofs.lemmas.List.Sums.{fold-append}
 use Rattle.qc_core.specs.declared.actor.Actor.{Actor}
 use Rattle.qc_core.specs.declared.actor.Actor.TheVariants as actor
-use Rattle.qc_core.specs.Actors.{ActorMove, actor_after, actor_does, actor_rises, actor_sends, actor_takes, by_client, by_site}
+use Rattle.qc_core.specs.Actors.{ActorMove, actor_after, actor_does, actor_rises, actor_sends, actor_takes, by_client}
+use Rattle.qc_core.proofs.ByNumber.{new_by, rises_by}
 use Rattle.qc_core.specs.Acts.{MayTake, is_running, runs_given}
 use Rattle.qc_core.specs.Conduct.{with_record}
 use Rattle.qc_core.specs.Lives.{Lives}
 use Rattle.qc_core.specs.Lives as lives
 use Rattle.qc_decl.specs.declared.declaration.Declaration.{Declaration}
-use Rattle.qc_decl.specs.Actors.{is_site}
+use Rattle.qc_decl.specs.Actors.{is_client, is_site}
 use Rattle.qc_msg.specs.declared.record.Record.{Record}
 use Rattle.qc_msg.specs.declared.reply.Reply.{Reply}
 use Rattle.qc_msg.specs.declared.step.Command.{Command}
@@ -25,7 +26,6 @@ use Rattle.qc_msg.specs.declared.turn.Posting.{Posting}
 use Rattle.qc_msg.specs.declared.turn.Turn.{Turn}
 use Rattle.qc_msg.specs.Deeds.{Deed, Takes, Sends, Falls, Rises, deeds_as, sends_of, tells_of, turn_deeds, writes_of}
 use Rattle.qc_client.specs.declared.client.Client.{Client}
-use Rattle.qc_client.specs.Client.{new_client}
 use Rattle.qc_client.specs.Conduct.{client_takes}
 use Rattle.qc_client.specs.Inputs.{IsFree}
 use Rattle.qc_front.specs.Going.{is_idle}
@@ -35,15 +35,13 @@ use Rattle.qc_laws.proofs.Downs.{due}
 use Rattle.qc_laws.specs.Calls.{is_waiting}
 use Rattle.qc_laws.proofs.Replying.{running_more, running_turn}
 use Rattle.qc_laws.proofs.Waiting.{IsNoCall, called_ends, epoch_rests, round_none, sent_waits, takes_ends, takes_rests, votes_none}
-use Rattle.qc_recover.specs.Clients.{client_rises}
-use Rattle.qc_recover.specs.Sites.{site_rises}
-use Rattle.qc_site.specs.Site.{new_site}
 
 -- whether an actor waits for votes, or for what its running `do` asked
 
 abbrev waits_in : Actor → Bool
 waits_in (actor.Site s) = false
 waits_in (actor.Client c) = is_waiting c
+waits_in (actor.Admin m) = false
 waits_in actor.Down = false
 
 -- after an input it waits only where a command runs that its turn doesn't end
@@ -81,6 +79,7 @@ client_ended decl c ds (given.Lost number) may only = other_ended decl c (given.
 taken_ended : (decl : Declaration) (v : Actor) (ds : List Deed) (g : Given) → MayTake ds g → (is_running ds ≡ false → waits_in v ≡ false) → Ended (runs_given (is_running ds) g) (actor_takes decl v g)
 taken_ended decl (actor.Site s) ds g may only is = refl
 taken_ended decl (actor.Client c) ds g may only is = client_ended decl c ds g may only is
+taken_ended decl (actor.Admin m) ds g may only is = refl
 taken_ended decl actor.Down ds g may only is = refl
 
 -- what is sent and told changes nothing of that
@@ -88,6 +87,7 @@ taken_ended decl actor.Down ds g may only is = refl
 sent_same : (v : Actor) (number to : ℕ) (message : _) → waits_in (actor_sends v number to message) ≡ waits_in v
 sent_same (actor.Site s) number to message = refl
 sent_same (actor.Client c) number to message = sent_waits c number to message
+sent_same (actor.Admin m) number to message = refl
 sent_same actor.Down number to message = refl
 
 module _ (decl : Declaration) (a : ℕ) where
@@ -112,11 +112,12 @@ module _ (decl : Declaration) (a : ℕ) where
   after_fall ds cause pending = ap (λ (m : ActorMove). waits_in m.actor) (fold-append (actor_does decl a) _ ds (Falls cause pending ∷ []))
 
   risen_rests : (rs : List Record) → waits_in (actor_rises decl a rs).actor ≡ false
-  risen_rests rs = by (is_site decl a)
+  risen_rests rs = by (is_site decl a) (is_client decl a)
     where
-      by : (x : Bool) → waits_in (cond x (by_site (site_rises decl a rs)) (by_client (client_rises (a - decl.sites) rs))).actor ≡ false
-      by true = refl
-      by false = refl
+      by : (x y : Bool) → waits_in (rises_by decl a rs x y).actor ≡ false
+      by true y = refl
+      by false true = refl
+      by false false = refl
 
   after_rise : (ds : List Deed) (rs : List Record) → waits_in (actor_after decl a (ds ++ Rises rs ∷ [])).actor ≡ false
   after_rise ds rs = ap (λ (m : ActorMove). waits_in m.actor) (fold-append (actor_does decl a) _ ds (Rises rs ∷ [])) ∙ risen_rests rs
@@ -164,11 +165,12 @@ module _ (decl : Declaration) (a : ℕ) where
   rise_rests ds rs turn n Stopped = stopped_rests (ds ++ Rises rs ∷ []) n turn
 
   new_rests : waits_in (actor_after decl a []).actor ≡ false
-  new_rests = by (is_site decl a)
+  new_rests = by (is_site decl a) (is_client decl a)
     where
-      by : (x : Bool) → waits_in (cond x (actor.Site (new_site a)) (actor.Client (new_client (a - decl.sites)))) ≡ false
-      by true = refl
-      by false = refl
+      by : (x y : Bool) → waits_in (new_by decl a x y) ≡ false
+      by true y = refl
+      by false true = refl
+      by false false = refl
 
   life_ends : (ds : List Deed) (t : Bool) (n : ℕ) → Lives decl a ds t n → EndsAt ds t
   life_ends ds t n lives.starts = λ none. new_rests

@@ -17,6 +17,7 @@ use Rattle.qc_msg.specs.declared.turn.Posting.{Posting}
 use Rattle.qc_msg.specs.declared.turn.Turn.{Turn}
 use Rattle.qc_msg.specs.Deeds.{Deed, Falls, Sends, deeds_as, sends_of, tells_of, turn_deeds, writes_of}
 use Rattle.qc_net.specs.Net.{sent_all}
+use Rattle.qc_net.specs.Net as nets
 use Rattle.qc_promise.specs.Kept.{Journal, no_journal, pending_with}
 
 -- whether it is up
@@ -88,16 +89,19 @@ journal_posted ds end n turn = fold-append journal_at no_journal ds (deeds_as en
 abbrev pub all_sent : Actor → ℕ → List Posting → Actor
 all_sent (actor.Site s) n ps = actor.Site s
 all_sent (actor.Client c) n ps = actor.Client (sent_all c n ps)
+all_sent (actor.Admin m) n ps = actor.Admin (nets.all_sent m n ps)
 all_sent actor.Down n ps = actor.Down
 
 all_more : (v : Actor) (n to : ℕ) (message : _) (ps : List Posting) → all_sent (actor_sends v n to message) (n + 1) ps ≡ all_sent v n (record { to = to; message = message } ∷ ps)
 all_more (actor.Site s) n to message ps = refl
 all_more (actor.Client c) n to message ps = refl
+all_more (actor.Admin m) n to message ps = refl
 all_more actor.Down n to message ps = refl
 
 none_sent : (v : Actor) (n : ℕ) → v ≡ all_sent v n []
 none_sent (actor.Site s) n = refl
 none_sent (actor.Client c) n = refl
+none_sent (actor.Admin m) n = refl
 none_sent actor.Down n = refl
 
 module _ (decl : Declaration) (a : ℕ) where

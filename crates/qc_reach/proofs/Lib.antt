@@ -15,7 +15,9 @@ pub mod Asked
 pub mod Growing
 pub mod Stood
 pub mod Posting
+pub mod AdminPosting
 pub mod Rising
+pub mod AdminRising
 pub mod RunsStand
 pub mod Reaching
 pub mod Written

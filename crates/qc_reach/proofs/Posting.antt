@@ -1,6 +1,6 @@
--- An actor posts its turn: the net takes and posts in one step, or falls in it. One that is down only tells a reply,
--- which is nothing to the net.
-use Rattle.std.proofs.Common.{◌≡◌, ◌≢◌, ℕ, ◌==◌, not, Bool, true, false, cond, List, [], ◌++◌, length, Option, Some, None, option_to_list, slice_get, inl, inr, refl, sym, ap, ◌∙◌, subst}
+-- A site or a client posts its turn: the net takes and posts in one step, or falls in it. One that is down only tells a
+-- reply, which is nothing to the net.
+use Rattle.std.proofs.Common.{◌≡◌, ◌≢◌, ℕ, ◌==◌, not, Bool, true, false, cond, List, [], ◌++◌, length, Option, Some, None, option_to_list, slice_get, inl, inr, refl, sym, ap, ◌∙◌, subst, eqb-true}
 use Rattle.std.specs.Prelude.{slice_set}
 use Rattle.std.proofs.lemmas.List.{append-nil}
 use Rattle.qc_core.specs.declared.actor.Actor.{Actor}
@@ -10,7 +10,7 @@ use Rattle.qc_core.specs.Conduct.{IsLawfulWithFalls, with_record}
 use Rattle.qc_core.specs.Journals.{journal_after}
 use Rattle.qc_core.specs.Lives.{is_up}
 use Rattle.qc_decl.specs.declared.declaration.Declaration.{Declaration}
-use Rattle.qc_decl.specs.Actors.{is_client, is_site}
+use Rattle.qc_decl.specs.Actors.{administrator, is_administrator, is_client, is_site}
 use Rattle.qc_client.specs.Client.{ClientMove}
 use Rattle.qc_client.specs.Conduct.{client_takes}
 use Rattle.qc_inbox.specs.Downs.{is_down}
@@ -45,19 +45,21 @@ fell_leaves decl net a pending sends b other = record {
   pending = put_other net.pending a pending b other;
   sites = refl;
   clients = refl;
+  admin = λ at. refl;
 }
 
 pub never_up : (u : Bool) → u ≡ false → u ≡ true → ⊥
 never_up u down up = let no : ⊥ = cc in no
 
--- an actor that takes no inputs has no lawful turn
-pub no_turn : (decl : Declaration) (a : ℕ) (ds : List Deed) (turn : Turn) → IsLawfulWithFalls decl a ds turn → is_site decl a ≡ false → is_client decl a ≡ false → ⊥
-no_turn decl a ds turn law = by (is_site decl a) (is_client decl a) law.called_for
+-- who has a lawful turn takes inputs
+pub takes_inputs : (decl : Declaration) (a : ℕ) (ds : List Deed) (turn : Turn) → IsLawfulWithFalls decl a ds turn → TakesInputs decl a
+takes_inputs decl a ds turn law = by (is_site decl a) (is_client decl a) (is_administrator decl a) refl refl refl law.called_for
   where
-    by : (t c : Bool) → cond t (Some (actor_after decl a ds).turn) (cond c (Some (actor_after decl a ds).turn) None) ≡ Some (with_record turn) → t ≡ false → c ≡ false → ⊥
-    by true c is none no_client = let no : ⊥ = cc in no
-    by false true is none no_client = let no : ⊥ = cc in no
-    by false false is none no_client = let no : ⊥ = cc in no
+    by : (t c m : Bool) → is_site decl a ≡ t → is_client decl a ≡ c → is_administrator decl a ≡ m → cond t (Some (actor_after decl a ds).turn) (cond c (Some (actor_after decl a ds).turn) (cond m (Some (actor_after decl a ds).turn) None)) ≡ Some (with_record turn) → TakesInputs decl a
+    by true c m site client admin is = inl site
+    by false true m none client admin is = inr (inl client)
+    by false false true none no_client admin is = inr (inr (eqb-true a (administrator decl) admin))
+    by false false false none no_client no_admin is = absurd (let no : ⊥ = cc in no)
 
 -- a turn that ends so, after these deeds of its actor, makes another history of a history
 
@@ -108,23 +110,23 @@ module _ (decl : Declaration) (h : List Entry) (inputs : List Bool) (old : Stood
   abbrev n : ℕ
   n = length (mail h)
 
-  abbrev after : Appended → List Entry
+  abbrev pub after : Appended → List Entry
   after end = h ++ by a (posted_as end n turn)
 
-  abbrev now : List Bool
+  abbrev pub now : List Bool
   now = slice_set inputs a false
 
-  mail_now : (end : Appended) → mail (after end) ≡ mail h ++ envelopes a n (sends_as end turn)
+  pub mail_now : (end : Appended) → mail (after end) ≡ mail h ++ envelopes a n (sends_as end turn)
   mail_now end = mail-append h (by a (posted_as end n turn)) ∙ ap (λ (ms : List Envelope). mail h ++ ms) (mail-posted_as end a n turn)
 
   -- the net after it
-  to_net : (end : Appended) (next : Net)
+  pub to_net : (end : Appended) (next : Net)
       → Shows decl h inputs now old a turn end (after end) ds (deeds-posted_as end a n h turn) (mail_now end) (λ b other. deeds-other a b [] h (posted_as end n turn) other) (λ b other. slot_other inputs a b false other) (not_now inputs a false true true taken false_true) next
       → Stood decl (after end) now
   to_net end next shows =
       turned decl h inputs now old a turn end (after end) ds (deeds-posted_as end a n h turn) (mail_now end) (λ b other. deeds-other a b [] h (posted_as end n turn) other) (λ b other. slot_other inputs a b false other) (not_now inputs a false true true taken false_true) next shows
 
-  fails_shows : (end : Appended) (r : Record) → Stands decl old.net a h (Some true) → turn.write ≡ Some r → ended_up end true ≡ false → ended_journal end turn.write (journal_after ds) ≡ record (journal_after ds) { pending = pending_with (journal_after ds).pending turn.write }
+  pub fails_shows : (end : Appended) (r : Record) → Stands decl old.net a h (Some true) → turn.write ≡ Some r → ended_up end true ≡ false → ended_journal end turn.write (journal_after ds) ≡ record (journal_after ds) { pending = pending_with (journal_after ds).pending turn.write }
       → Reaches decl (after_fall old.net a (Some r) (sends_as end turn)) → is_up ds ≡ true → Stood decl (after end) now
   fails_shows end r s wrote falls journal reached up =
       let down : ended_up end (is_up ds) ≡ false = ap (ended_up end) up ∙ falls in
@@ -174,6 +176,7 @@ module _ (decl : Declaration) (h : List Entry) (inputs : List Bool) (old : Stood
         pending = refl;
         sites = put_other old.net.sites a move.site b other;
         clients = refl;
+        admin = λ at. refl;
       };
       up = s.up;
       records = put_here old.net.records a (old.net.records a ++ option_to_list move.turn.write) ∙ (λ i. s.records i ++ option_to_list (turn_is i).write);
@@ -229,6 +232,7 @@ module _ (decl : Declaration) (h : List Entry) (inputs : List Bool) (old : Stood
         pending = refl;
         sites = refl;
         clients = put_other old.net.clients a (sent_all step.client (length old.net.mail) step.turn.sends) b other;
+        admin = λ at. refl;
       };
       up = s.up;
       records = put_here old.net.records a (old.net.records a ++ option_to_list step.turn.write) ∙ (λ i. s.records i ++ option_to_list (turn_was i).write);
@@ -272,16 +276,3 @@ module _ (decl : Declaration) (h : List Entry) (inputs : List Bool) (old : Stood
   })
   down_posts s down Failed may = absurd (subst HasRecord ((tells decl).writes_none a ds turn law (fallen down)) may)
   down_posts s down Stopped may = absurd (subst HasRecord ((tells decl).writes_none a ds turn law (fallen down)) may)
-
-  pub posts : Stood decl (after turn.append) now
-  posts = by (is_site decl a) (is_client decl a) refl refl (is_up ds) refl
-    where
-      stands : TakesInputs decl a → Stands decl old.net a h (Some true)
-      stands is = subst (Stands decl old.net a h) taken (old.actors a is)
-
-      by : (t c : Bool) → is_site decl a ≡ t → is_client decl a ≡ c → (u : Bool) → is_up ds ≡ u → Stood decl (after turn.append) now
-      by true c site client true up = site_posts site (stands (inl site)) up turn.append law.may_end
-      by true c site client false down = down_posts (stands (inl site)) down turn.append law.may_end
-      by false true none client true up = client_posts client (stands (inr client)) up turn.append law.may_end
-      by false true none client false down = down_posts (stands (inr client)) down turn.append law.may_end
-      by false false none no_client u is = absurd (no_turn decl a ds turn law none no_client)

@@ -3,6 +3,7 @@ use Rattle.std.proofs.Common.{◌≡◌, ℕ, ◌+◌, ◌-◌, Bool, true, fals
 use Rattle.std.specs.List.{AllByRecursion as Every}
 use Rattle.qc_core.specs.declared.actor.Actor.{Actor}
 use Rattle.qc_core.specs.Actors.{ActorMove, actor_after, actor_takes, by_client, by_site, down_takes}
+use Rattle.qc_core.proofs.ByNumber.{client_risen}
 use Rattle.qc_core.specs.Conduct.{IsLawfulWithFalls}
 use Rattle.qc_core.specs.Lives.{Lives}
 use Rattle.qc_core.specs.Lives as lives
@@ -134,7 +135,7 @@ module _ (decl : Declaration) (a : ℕ) (client : is_client decl a ≡ true) (pl
   rises_tells : (ds : List Deed) (kept : List Record) → TellsCommits (actor_after decl a (ds ++ Rises kept ∷ [])).turn
   rises_tells ds kept =
       subst (λ (m : ActorMove). TellsCommits m.turn)
-      (sym (actor_more decl a ds (Rises kept ∷ []) ∙ ap (λ (b : Bool). cond b (by_site (site_rises decl a kept)) (by_client (client_rises (a - decl.sites) kept))) (no_site decl a client)))
+      (sym (actor_more decl a ds (Rises kept ∷ []) ∙ client_risen decl a client kept))
       (λ c is. let never : ⊥ = cc in absurd never)
 
   lawful_tells : (ds : List Deed) (turn : Turn) → IsLawfulWithFalls decl a ds turn → TellsCommits (actor_after decl a ds).turn → TellsCommits turn

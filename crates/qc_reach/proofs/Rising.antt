@@ -1,10 +1,11 @@
--- An actor rises with its records, and with the one that was pending, or without it: the net gives it these too, and it
--- is up once the record of its rise is written.
+-- A site or a client rises with its records, and with the one that was pending, or without it: the net gives it these
+-- too, and it is up once the record of its rise is written.
 use Rattle.std.proofs.Common.{◌≡◌, ◌⊎◌, ℕ, ◌-◌, Bool, true, false, cond, List, [], ◌∷◌, ◌++◌, length, Option, Some, None, option_to_list, slice_get, inl, inr, refl, sym, ap, ◌∙◌, subst, append_assoc}
 use Rattle.std.proofs.lemmas.List.{append-nil}
 use Rattle.std.proofs.lemmas.List.Sums.{fold-append}
 use Rattle.qc_core.specs.declared.actor.Actor.TheVariants as actor
 use Rattle.qc_core.specs.Actors.{ActorMove, actor_after, actor_rises, by_client, by_site}
+use Rattle.qc_core.proofs.ByNumber.{client_risen, site_risen}
 use Rattle.qc_core.specs.Conduct.{IsLawfulWithFalls, with_record}
 use Rattle.qc_core.specs.Journals.{journal_after, journal_at}
 use Rattle.qc_core.specs.Lives.{is_up, up_at}
@@ -34,14 +35,14 @@ use Rattle.qc_recover.specs.Clients.{client_rises}
 use Rattle.qc_recover.specs.Sites.{site_rises}
 use Rattle.qc_site.specs.Site.{SiteState}
 use Rattle.qc_reach.proofs.Growing.{actor_posted, all_sent, ended_journal, ended_up}
-use Rattle.qc_reach.proofs.Posting.{Shows, never_up, no_turn, turned}
+use Rattle.qc_reach.proofs.Posting.{Shows, never_up, turned}
 use Rattle.qc_reach.proofs.Stood.{Stands, Stood, in_client, in_site, not_site}
 
 -- what is given back: the records, and the pending one or none
-record Back (j : Journal) (given : List Record) : Type 0 where
-  back : Option Record
-  is : given ≡ j.records ++ option_to_list back
-  from : (back ≡ None) ⊎ (back ≡ j.pending)
+pub record Back (j : Journal) (given : List Record) : Type 0 where
+  pub back : Option Record
+  pub is : given ≡ j.records ++ option_to_list back
+  pub from : (back ≡ None) ⊎ (back ≡ j.pending)
 
 back_of : (j : Journal) (given : List Record) → IsGivenBack j given → Back j given
 back_of j given (inl is) = record { back = None; is = is ∙ sym (append-nil j.records); from = inl refl }
@@ -64,13 +65,13 @@ module _ (decl : Declaration) (h : List Entry) (inputs : List Bool) (old : Stood
   split : (end : Appended) → after end ≡ (h ++ marked a (steps.Rose records) ∷ []) ++ by a (posted_as end n turn)
   split end = sym (append_assoc h (marked a (steps.Rose records) ∷ []) (by a (posted_as end n turn)))
 
-  deeds_now : (end : Appended) → deeds a [] (after end) ≡ ds ++ deeds_as end n turn
+  pub deeds_now : (end : Appended) → deeds a [] (after end) ≡ ds ++ deeds_as end n turn
   deeds_now end = ap (deeds a []) (split end) ∙ deeds-posted_as end a n (h ++ marked a (steps.Rose records) ∷ []) turn ∙ ap (λ (v : List Deed). v ++ deeds_as end n turn) rose
 
-  mail_now : (end : Appended) → mail (after end) ≡ mail h ++ envelopes a n (sends_as end turn)
+  pub mail_now : (end : Appended) → mail (after end) ≡ mail h ++ envelopes a n (sends_as end turn)
   mail_now end = mail-append h (by a (steps.Rose records ∷ posted_as end n turn)) ∙ ap (λ (ms : List Envelope). mail h ++ ms) (mail-posted_as end a n turn)
 
-  to_net : (end : Appended) (next : Net)
+  pub to_net : (end : Appended) (next : Net)
       → Shows decl h inputs inputs old a turn end (after end) ds (deeds_now end) (mail_now end) (λ b other. deeds-other a b [] h (steps.Rose records ∷ posted_as end n turn) other) (λ b other. refl) shut next
       → Stood decl (after end) inputs
   to_net end next shows =
@@ -78,39 +79,39 @@ module _ (decl : Declaration) (h : List Entry) (inputs : List Bool) (old : Stood
 
   -- what it is, and its turn
 
-  risen : actor_after decl a ds ≡ actor_rises decl a records
+  pub risen : actor_after decl a ds ≡ actor_rises decl a records
   risen = actor_laws.rises decl a (deeds a [] h) records
 
-  turn_is : (actor_rises decl a records).turn ≡ with_record turn
+  pub turn_is : (actor_rises decl a records).turn ≡ with_record turn
   turn_is = ap (λ (m : ActorMove). m.turn) (sym risen) ∙ ap (λ (v : List Deed). (actor_after decl a v).turn) (sym rose) ∙ due decl a (deeds a [] (h ++ marked a (steps.Rose records) ∷ [])) turn law
 
-  up_now : is_up ds ≡ true
+  pub up_now : is_up ds ≡ true
   up_now = fold-append up_at true (deeds a [] h) (Rises records ∷ [])
 
   abbrev given_journal : Journal
   given_journal = record { records = records; pending = None }
 
-  journal_now : journal_after ds ≡ given_journal
+  pub journal_now : journal_after ds ≡ given_journal
   journal_now = fold-append journal_at no_journal (deeds a [] h) (Rises records ∷ [])
 
-  b : Back (journal_after (deeds a [] h)) records
+  pub b : Back (journal_after (deeds a [] h)) records
   b = back_of (journal_after (deeds a [] h)) records (subst (λ (j : Journal). IsGivenBack j records) (sym (journal a h)) given)
 
   module _ (s : Stands decl old.net a h (slice_get inputs a)) where
-    abbrev net_records : List Record
+    abbrev pub net_records : List Record
     net_records = old.net.records a ++ option_to_list b.back
 
-    same_records : net_records ≡ records
+    pub same_records : net_records ≡ records
     same_records = ap (λ (rs : List Record). rs ++ option_to_list b.back) s.records ∙ sym b.is
 
-    is_given : nets.IsGivenBack old.net a b.back
+    pub is_given : nets.IsGivenBack old.net a b.back
     is_given = elim b.from [ inl none ↦ inl none | inr it ↦ inr (it ∙ sym s.pending) ]
 
-    was_down : old.net.up a ≡ false
+    pub was_down : old.net.up a ≡ false
     was_down = s.up ∙ down
 
     -- the record of its rise isn't written
-    in_vain : (end : Appended) → ended_up end true ≡ false → ended_journal end turn.write (journal_after ds) ≡ record (journal_after ds) { pending = pending_with (journal_after ds).pending turn.write }
+    pub in_vain : (end : Appended) → ended_up end true ≡ false → ended_journal end turn.write (journal_after ds) ≡ record (journal_after ds) { pending = pending_with (journal_after ds).pending turn.write }
         → turn.write ≡ Some Life → sends_as end turn ≡ [] → Reaches decl (after_vain_rise old.net a b.back) → Stood decl (after end) inputs
     in_vain end falls shape wrote none reached =
         let still : ended_up end (is_up ds) ≡ false = ap (ended_up end) up_now ∙ falls in
@@ -123,6 +124,7 @@ module _ (decl : Declaration) (h : List Entry) (inputs : List Bool) (old : Stood
             pending = put_other old.net.pending a (Some Life) c other;
             sites = refl;
             clients = refl;
+            admin = λ at. refl;
           };
           up = was_down ∙ sym still;
           records = put_here old.net.records a net_records ∙ same_records ∙ ap (λ (j : Journal). j.records) (sym (shape ∙ ap (λ (j : Journal). record j { pending = pending_with j.pending turn.write }) journal_now));
@@ -131,14 +133,14 @@ module _ (decl : Declaration) (h : List Entry) (inputs : List Bool) (old : Stood
           state = λ is. absurd (never_up (ended_up end (is_up ds)) still is);
         })
 
-    written_now : turn.write ≡ Some Life → (records ++ Life ∷ []) ≡ (ended_journal Done turn.write (journal_after ds)).records
+    pub written_now : turn.write ≡ Some Life → (records ++ Life ∷ []) ≡ (ended_journal Done turn.write (journal_after ds)).records
     written_now wrote = λ i. (sym journal_now i).records ++ option_to_list (sym wrote i)
 
     -- a site
 
     module _ (site : is_site decl a ≡ true) where
       by_rise : actor_rises decl a records ≡ by_site (site_rises decl a records)
-      by_rise = ap (λ (t : Bool). cond t (by_site (site_rises decl a records)) (by_client (client_rises (a - decl.sites) records))) site
+      by_rise = site_risen decl a site records
 
       site_turn : (site_rises decl a records).turn ≡ with_record turn
       site_turn = ap (λ (m : ActorMove). m.turn) (sym by_rise) ∙ turn_is
@@ -153,6 +155,7 @@ module _ (decl : Declaration) (h : List Entry) (inputs : List Bool) (old : Stood
           pending = put_other old.net.pending a None c other;
           sites = put_other old.net.sites a (site_rises decl a net_records).site c other;
           clients = refl;
+          admin = λ at. refl;
         };
         up = put_here old.net.up a true ∙ sym up_now;
         records = put_here old.net.records a (net_records ++ Life ∷ []) ∙ ap (λ (rs : List Record). rs ++ Life ∷ []) same_records ∙ written_now (ap (λ (t : Turn). t.write) (sym site_turn));
@@ -170,7 +173,7 @@ module _ (decl : Declaration) (h : List Entry) (inputs : List Bool) (old : Stood
 
     module _ (client : is_client decl a ≡ true) where
       by_rising : actor_rises decl a records ≡ by_client (client_rises (a - decl.sites) records)
-      by_rising = ap (λ (t : Bool). cond t (by_site (site_rises decl a records)) (by_client (client_rises (a - decl.sites) records))) (not_site decl a client)
+      by_rising = client_risen decl a client records
 
       client_turn : (client_rises (a - decl.sites) records).turn ≡ with_record turn
       client_turn = ap (λ (m : ActorMove). m.turn) (sym by_rising) ∙ turn_is
@@ -188,6 +191,7 @@ module _ (decl : Declaration) (h : List Entry) (inputs : List Bool) (old : Stood
           pending = put_other old.net.pending a None c other;
           sites = refl;
           clients = put_other old.net.clients a (client_rises (a - decl.sites) net_records).client c other;
+          admin = λ at. refl;
         };
         up = put_here old.net.up a true ∙ sym up_now;
         records = put_here old.net.records a (net_records ++ Life ∷ []) ∙ ap (λ (rs : List Record). rs ++ Life ∷ []) same_records ∙ written_now (ap (λ (t : Turn). t.write) (sym client_turn));
@@ -200,11 +204,3 @@ module _ (decl : Declaration) (h : List Entry) (inputs : List Bool) (old : Stood
       })
       client_up Failed = in_vain Failed refl refl (ap (λ (t : Turn). t.write) (sym client_turn)) (ap (λ (t : Turn). t.failed_sends) (sym client_turn)) (nets.client_rises_in_vain a b.back old.net old.reached client was_down is_given)
       client_up Stopped = in_vain Stopped refl refl (ap (λ (t : Turn). t.write) (sym client_turn)) refl (nets.client_rises_in_vain a b.back old.net old.reached client was_down is_given)
-
-  pub rises : Stood decl (after turn.append) inputs
-  rises = by (is_site decl a) (is_client decl a) refl refl
-    where
-      by : (t c : Bool) → is_site decl a ≡ t → is_client decl a ≡ c → Stood decl (after turn.append) inputs
-      by true c site client = site_up (old.actors a (inl site)) site turn.append
-      by false true none client = client_up (old.actors a (inr client)) client turn.append
-      by false false none no_client = absurd (no_turn decl a (deeds a [] (h ++ marked a (steps.Rose records) ∷ [])) turn law none no_client)

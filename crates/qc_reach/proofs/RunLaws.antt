@@ -89,8 +89,8 @@ module _ (fits : ℕ → List Record → Type 0) (decl : Declaration) (script : 
   listed = (
     r.net.written,
     record {
-      each = λ c among. (let is : IsOfClient decl r.net.records c = agree.each c among in record { actor = is.actor; client = is.client; listed = subst (In (records.Commit c)) (r.records_are is.actor (inr is.client)) is.listed });
-      all = λ c is. agree.all c (record { actor = is.actor; client = is.client; listed = subst (In (records.Commit c)) (sym (r.records_are is.actor (inr is.client))) is.listed });
+      each = λ c among. (let is : IsOfClient decl r.net.records c = agree.each c among in record { actor = is.actor; client = is.client; listed = subst (In (records.Commit c)) (r.records_are is.actor (inr (inl is.client))) is.listed });
+      all = λ c is. agree.all c (record { actor = is.actor; client = is.client; listed = subst (In (records.Commit c)) (sym (r.records_are is.actor (inr (inl is.client)))) is.listed });
     },
   )
 
@@ -98,12 +98,12 @@ module _ (fits : ℕ → List Record → Type 0) (decl : Declaration) (script : 
     of_net : (c : CommitRecord) → In c commits → In c r.net.written
     of_net c among =
         let is : IsOfClient decl (records_of h) c = standing.each c among in
-        agree.all c (record { actor = is.actor; client = is.client; listed = subst (In (records.Commit c)) (sym (r.records_are is.actor (inr is.client))) is.listed })
+        agree.all c (record { actor = is.actor; client = is.client; listed = subst (In (records.Commit c)) (sym (r.records_are is.actor (inr (inl is.client)))) is.listed })
 
     to_them : (c : CommitRecord) → In c r.net.written → In c commits
     to_them c among =
         let is : IsOfClient decl r.net.records c = agree.each c among in
-        standing.all c (record { actor = is.actor; client = is.client; listed = subst (In (records.Commit c)) (r.records_are is.actor (inr is.client)) is.listed })
+        standing.all c (record { actor = is.actor; client = is.client; listed = subst (In (records.Commit c)) (r.records_are is.actor (inr (inl is.client))) is.listed })
 
     net_apart : AreApart r.net.written
     net_apart = nets.apart decl accepted r.net r.reached

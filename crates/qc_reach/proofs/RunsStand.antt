@@ -1,9 +1,10 @@
 -- Each run with falls whose records are kept is one of the net.
-use Rattle.std.proofs.Common.{◌≡◌, ◌≢◌, ℕ, ◌+◌, ◌<◌, ◌≤◌, ◌&&◌, nat_le, nat_lt, Bool, true, false, List, [], ◌∷◌, ◌++◌, length, Option, Some, None, slice_get, inl, inr, refl, sym, ap, ◌∙◌, subst, arith, append_assoc}
+use Rattle.std.proofs.Common.{◌≡◌, ◌≢◌, ℕ, ◌+◌, ◌<◌, ◌≤◌, ◌&&◌, nat_le, nat_lt, Bool, true, false, List, [], ◌∷◌, ◌++◌, length, Option, Some, None, slice_get, inl, inr, refl, sym, ap, ◌∙◌, subst, arith, append_assoc, eq-eqb, eqb-true}
 use Rattle.std.specs.Prelude.{replicate, slice_set}
 use Rattle.std.proofs.lemmas.Bool.{ltb-true}
 use Rattle.std.proofs.lemmas.List.{append-nil}
 use Rattle.std.proofs.lemmas.List.Sums.{fold-append}
+use Rattle.qc_decl.proofs.Clients.{client_within}
 use Rattle.qc_core.specs.declared.actor.Actor.{Actor}
 use Rattle.qc_core.specs.declared.actor.Actor.TheVariants as actor
 use Rattle.qc_core.specs.Actors.{actor_after, actor_does, actor_takes}
@@ -11,7 +12,8 @@ use Rattle.qc_core.specs.Conduct.{IsLawfulWithFalls}
 use Rattle.qc_core.specs.Journals.{journal_after, journal_at}
 use Rattle.qc_core.specs.Lives.{is_up, up_at}
 use Rattle.qc_decl.specs.Accepted.{IsAccepted}
-use Rattle.qc_decl.specs.Actors.{actors, controller, is_client, is_site}
+use Rattle.qc_decl.specs.Actors.{actors, administrator, controller, is_administrator, is_client, is_site}
+use Rattle.qc_msg.specs.declared.step.Command.{Command}
 use Rattle.qc_decl.specs.declared.declaration.Declaration.{Declaration}
 use Rattle.qc_inbox.proofs.FallLaws.{crashes_up, lines_close, restarts_down, up_by_deeds}
 use Rattle.qc_inbox.proofs.FallMail.{ready_sent}
@@ -37,7 +39,7 @@ use Rattle.qc_msg.specs.declared.turn.Turn.{Turn}
 use Rattle.qc_msg.specs.Deeds.{Falls, Takes, WasSentTo, deeds, mail, own}
 use Rattle.qc_msg.specs.Steps.{Entry, by, marked, posted_as, step_of}
 use Rattle.qc_msg.proofs.Growth.{deeds-other, deeds-taken, mail-append, mail-taken}
-use Rattle.qc_net.specs.Net.{MayCommand, Net, Reaches, after_fall, first_net}
+use Rattle.qc_net.specs.Net.{IsNamed, MayAdminister, MayCommand, Net, Reaches, after_fall, first_net}
 use Rattle.qc_net.specs.Net as nets
 use Rattle.qc_promise.specs.Kept.{IsGivenBack, Journal, Kept, journal_of, no_journal}
 use Rattle.qc_protocol.proofs.Names.{put_here}
@@ -54,7 +56,8 @@ use Rattle.qc_reach.proofs.Asked.{ready_named}
 use Rattle.qc_reach.proofs.Free.{client_free}
 use Rattle.qc_reach.proofs.Posting.{fell_leaves, never_up}
 use Rattle.qc_reach.proofs.Posting as post
-use Rattle.qc_reach.proofs.Rising as rise
+use Rattle.qc_reach.proofs.AdminPosting as posting
+use Rattle.qc_reach.proofs.AdminRising as rise
 use Rattle.qc_reach.proofs.Stood.{Leaves, Stands, Stood, in_client, itself, moves, stays}
 
 -- the records of a shorter history are kept too
@@ -64,14 +67,10 @@ kept_of_first h k kept before later e is = kept before (later ++ k) e (sym (appe
 mail_fall : (a : ℕ) (h : List Entry) (cause : Fall) → mail (h ++ marked a (steps.Fell cause None) ∷ []) ≡ mail h ++ []
 mail_fall a h cause = mail-append h (marked a (steps.Fell cause None) ∷ [])
 
-both_true : (x y : Bool) → (x && y) ≡ true → y ≡ true
-both_true true true is = refl
-both_true true false is = is
-both_true false y is = let never : ⊥ = cc in absurd never
-
 within : (decl : Declaration) (a : ℕ) → TakesInputs decl a → a < actors decl
 within decl a (inl site) = let low : a < decl.sites = ltb-true a decl.sites site in omega arith
-within decl a (inr client) = ltb-true a (actors decl) (both_true (nat_le decl.sites a) (nat_lt a (actors decl)) client)
+within decl a (inr (inl client)) = client_within decl a client
+within decl a (inr (inr at)) = omega arith
 
 module _ (decl : Declaration) (script : Script) (fits : ℕ → List Record → Type 0) (accepted : IsAccepted decl) (sound : IsScriptFor decl script) where
   few : actors decl ≤ most_actors
@@ -96,10 +95,18 @@ module _ (decl : Declaration) (script : Script) (fits : ℕ → List Record → 
       life : LivesIn decl a h false
       life = run_lives decl script fits few h inputs run a false free
 
+      named : (command : Command) → g ≡ given.Called command → IsNamed decl command
+      named command is = ready_named decl script (script_named decl accepted script sound) a h command (rdy ∙ ap (λ (x : Given). Some x) is)
+
+      may_admin : (x : Given) → g ≡ x → MayAdminister decl x
+      may_admin (given.Called command) is = named command is
+      may_admin (given.Got envelope) is = tt
+      may_admin (given.Lost number) is = tt
+
       may : (x : Given) → g ≡ x → (c : _) → (actor_after decl a (deeds a [] h)).actor ≡ actor.Client c → MayCommand decl c x
       may (given.Called command) is c state = (
         client_free decl a (deeds a [] h) life.above c life.lives (may_take decl script a h (given.Called command) (rdy ∙ ap (λ (x : Given). Some x) is)) state,
-        ready_named decl script (script_named decl accepted script sound) a h command (rdy ∙ ap (λ (x : Given). Some x) is),
+        named command is,
       )
       may (given.Got envelope) is c state = tt
       may (given.Lost number) is c state = tt
@@ -127,6 +134,7 @@ module _ (decl : Declaration) (script : Script) (fits : ℕ → List Record → 
                   given = g;
                   sent = subst (λ (ms : List Envelope). WasSentTo a ms g) (sym (mail-taken h a g)) sent;
                   may = λ client. may g refl (old.net.clients a) (s.closed (sym same_up ∙ up) free ∙ in_client decl old.net a client);
+                  may_admin = λ at. may_admin g refl;
                   before = deeds a [] h;
                   deeds_are = deeds-taken a h g sent;
                   was = s.closed (sym same_up ∙ up) free;
@@ -141,7 +149,7 @@ module _ (decl : Declaration) (script : Script) (fits : ℕ → List Record → 
       net = old.net;
       reached = old.reached;
       mail_is = old.mail_is ∙ sym (mail-silent h b step silent);
-      actors = λ a is. stays decl old.net old.net a h (h ++ marked b step ∷ []) [] (slice_get inputs a) (slice_get inputs a) (itself decl old.net a) (deeds-silent a b h step silent) (mail-silent h b step silent ∙ sym (append-nil (mail h))) refl (old.actors a is);
+      actors = λ a is. stays decl old.net old.net a h (h ++ marked b step ∷ []) [] (slice_get inputs a) (slice_get inputs a) is (itself decl old.net a) (deeds-silent a b h step silent) (mail-silent h b step silent ∙ sym (append-nil (mail h))) refl (old.actors a is);
     }
 
     -- an actor falls
@@ -175,7 +183,7 @@ module _ (decl : Declaration) (script : Script) (fits : ℕ → List Record → 
         moves decl h (fallen a cause) inputs inputs old a next [] reached (same ∙ old.mail_is ∙ sym (append-nil (mail h)) ∙ sym (mail_fall a h cause)) (mail_fall a h cause) leaves (λ b other. deeds-other a b [] h (steps.Fell cause None ∷ []) other) (λ b other. refl) here
 
     pub stands_fallen : (a : ℕ) (lines : List Control) → controls_left script h ≡ controls.Crash a ∷ lines → Stood decl (fallen a causes.Script) inputs
-    stands_fallen a lines left = by (is_site decl a) (is_client decl a) refl refl
+    stands_fallen a lines left = by_kind (is_site decl a) (is_client decl a) (is_administrator decl a) refl refl refl
       where
         up : (is : TakesInputs decl a) → is_up (deeds a [] h) ≡ true
         up is = sym (up_in a is) ∙ crashes_up (IsLawfulWithFalls decl) fits decl script h inputs few run a lines left
@@ -186,14 +194,23 @@ module _ (decl : Declaration) (script : Script) (fits : ℕ → List Record → 
             falls_to a causes.Script (after_fall old.net a None []) reached (append-nil old.net.mail) (fell_leaves decl old.net a None [])
             (λ it. fell_stands a causes.Script (after_fall old.net a None []) (slice_get inputs a) (put_here old.net.up a false) s.records (put_here old.net.pending a None ∙ sym (s.clear (up is))))
 
-        by : (t c : Bool) → is_site decl a ≡ t → is_client decl a ≡ c → Stood decl (fallen a causes.Script) inputs
-        by true c site client = to_net (inl site) (nets.site_falls a old.net old.reached site ((old.actors a (inl site)).up ∙ up (inl site)))
-        by false true none client = to_net (inr client) (nets.client_falls a old.net old.reached client ((old.actors a (inr client)).up ∙ up (inr client)))
-        by false false none no_client = falls_to a causes.Script old.net old.reached refl (λ b other. itself decl old.net b) (λ is. absurd (nobody is))
-          where
-            nobody : TakesInputs decl a → ⊥
-            nobody (inl site) = let no : ⊥ = cc in no
-            nobody (inr client) = let no : ⊥ = cc in no
+        reaches : (is : TakesInputs decl a) → Reaches decl (after_fall old.net a None [])
+        reaches (inl site) = nets.site_falls a old.net old.reached site ((old.actors a (inl site)).up ∙ up (inl site))
+        reaches (inr (inl client)) = nets.client_falls a old.net old.reached client ((old.actors a (inr (inl client))).up ∙ up (inr (inl client)))
+        reaches (inr (inr at)) =
+            subst (λ (b : ℕ). old.net.up b ≡ true → Reaches decl (after_fall old.net b None [])) (sym at) (λ is_up. nets.admin_falls old.net old.reached is_up)
+            ((old.actors a (inr (inr at))).up ∙ up (inr (inr at)))
+
+        nobody : is_site decl a ≡ false → is_client decl a ≡ false → is_administrator decl a ≡ false → TakesInputs decl a → ⊥
+        nobody none no_client no_admin (inl site) = let no : ⊥ = cc in no
+        nobody none no_client no_admin (inr (inl client)) = let no : ⊥ = cc in no
+        nobody none no_client no_admin (inr (inr at)) = let is : is_administrator decl a ≡ true = eq-eqb a (administrator decl) at in let no : ⊥ = cc in no
+
+        by_kind : (t c m : Bool) → is_site decl a ≡ t → is_client decl a ≡ c → is_administrator decl a ≡ m → Stood decl (fallen a causes.Script) inputs
+        by_kind true c m site client admin = to_net (inl site) (reaches (inl site))
+        by_kind false true m none client admin = to_net (inr (inl client)) (reaches (inr (inl client)))
+        by_kind false false true none no_client admin = let at : a ≡ administrator decl = eqb-true a (administrator decl) admin in to_net (inr (inr at)) (reaches (inr (inr at)))
+        by_kind false false false none no_client no_admin = falls_to a causes.Script old.net old.reached refl (λ b other. itself decl old.net b) (λ is. absurd (nobody none no_client no_admin is))
 
     -- its journal isn't opened: it stays down
 
@@ -211,18 +228,10 @@ module _ (decl : Declaration) (script : Script) (fits : ℕ → List Record → 
     pub stands_risen : (a : ℕ) (records : List Record) (turn : Turn) (lines : List Control) → controls_left script h ≡ controls.Restart a ∷ lines → IsLawfulWithFalls decl a (deeds a [] (h ++ marked a (steps.Rose records) ∷ [])) turn
         → IsGivenBack (journal_of (own a h)) records → Stood decl (h ++ by a (steps.Rose records ∷ posted_as turn.append (length (mail h)) turn)) inputs
     stands_risen a records turn lines left law back =
-        rise.rises decl h inputs old a records turn law back down (lines_close (IsLawfulWithFalls decl) fits decl script h inputs few run (controls.Restart a) lines left a)
+        rise.rises decl h inputs old records turn a law back down (lines_close (IsLawfulWithFalls decl) fits decl script h inputs few run (controls.Restart a) lines left a)
       where
-        takes_inputs : TakesInputs decl a
-        takes_inputs = by (is_site decl a) (is_client decl a) refl refl
-          where
-            by : (t c : Bool) → is_site decl a ≡ t → is_client decl a ≡ c → TakesInputs decl a
-            by true c site client = inl site
-            by false true none client = inr client
-            by false false none no_client = absurd (post.no_turn decl a (deeds a [] (h ++ marked a (steps.Rose records) ∷ [])) turn law none no_client)
-
         down : is_up (deeds a [] h) ≡ false
-        down = sym (up_in a takes_inputs) ∙ restarts_down (IsLawfulWithFalls decl) fits decl script h inputs few run a lines left
+        down = sym (up_in a (post.takes_inputs decl a (deeds a [] (h ++ marked a (steps.Rose records) ∷ [])) turn law)) ∙ restarts_down (IsLawfulWithFalls decl) fits decl script h inputs few run a lines left
 
   none_open : (a : ℕ) → slice_get (replicate (actors decl) false) a ≡ Some true → ⊥
   none_open a is = let no : true ≡ false = replicate_at (actors decl) a false true is in true_false no
@@ -239,7 +248,7 @@ module _ (decl : Declaration) (script : Script) (fits : ℕ → List Record → 
   pub runs_stand : (h : List Entry) (inputs : List Bool) → IsRun h inputs → Kept h → Stood decl h inputs
   runs_stand h inputs begins kept = first_stood
   runs_stand h inputs (takes a g before older run free rdy) kept = stands_taken older before run (runs_stand older before run (kept_of_first older _ kept)) a g free rdy
-  runs_stand h inputs (posts a turn before older run taken law) kept = post.posts decl older before (runs_stand older before run (kept_of_first older _ kept)) a turn taken law
+  runs_stand h inputs (posts a turn before older run taken law) kept = posting.posts decl older before (runs_stand older before run (kept_of_first older _ kept)) turn a taken law
   runs_stand h inputs (phase before older run idle done quiet more) kept =
       stands_still older before run (runs_stand older before run (kept_of_first older _ kept)) (controller decl) (steps.Phase (phase_of older + 1)) (phase_silent (phase_of older + 1))
   runs_stand h inputs (control line lines acted before older run left is) kept =

@@ -1,6 +1,7 @@
 -- In every run with falls whose records are kept each record comes after all that its client had seen.
 use Rattle.std.proofs.Common.{◌≡◌, ◌≤◌, ◌<◌, ℕ, ◌-◌, nat_le, nat_lt, Bool, true, false, List, [], fold, length, Some, slice_get, inl, refl, sym, ap, ◌∙◌, subst, arith}
 use Rattle.std.proofs.lemmas.Bool.{leb-true, ltb-true}
+use Rattle.qc_decl.proofs.Clients.{client_past, client_within}
 use Rattle.qc_stamp.specs.declared.stamp.Stamp.{Stamp}
 use Rattle.qc_stamp.specs.declared.stamp.TxId.{TxId}
 use Rattle.qc_list.specs.Members.{In}
@@ -69,7 +70,7 @@ named_client client false life count tx is = is.0
 
 number_of : (decl : Declaration) (a number : ℕ) → is_client decl a ≡ true → number ≡ a - decl.sites → client_actor decl number ≡ a
 number_of decl a number client is =
-    let low : decl.sites ≤ a = leb-true decl.sites a (and_first (nat_le decl.sites a) (nat_lt a (actors decl)) client) in
+    let low : decl.sites ≤ a = client_past decl a client in
     omega arith
 
 module _ (fits : ℕ → List Record → Type 0) (decl : Declaration) (script : Script) (h : List Entry) (open_inputs : List Bool) (accepted : IsAccepted decl) (sound : IsScriptFor decl script)
@@ -133,11 +134,11 @@ module _ (fits : ℕ → List Record → Type 0) (decl : Declaration) (script : 
   }
 
   declares : (a : ℕ) → Declares decl (deeds a [] h)
-  declares a = run_declares decl script fits accepted (asks_declared decl script accepted sound) h open_inputs run (kept_planned decl script fits accepted h open_inputs run kept) a
+  declares a = run_declares decl script fits accepted (asks_declared decl script accepted sound) h open_inputs run (kept_planned decl script fits accepted (asks_declared decl script accepted sound) h open_inputs run kept) a
 
   stands : (a : ℕ) (client : is_client decl a ≡ true) (tx : TxId) → StandsNow decl a client (declares a).first (committed decl h) tx (deeds a [] h)
   stands a client tx =
-      let low : a < actors decl = ltb-true a (actors decl) (and_second (nat_le decl.sites a) (nat_lt a (actors decl)) client) in
+      let low : a < actors decl = client_within decl a client in
       let long : length open_inputs ≡ actors decl = run_long decl script fits few h open_inputs run in
       let place : (t : Bool) × (slice_get open_inputs a ≡ Some t) = slice_get-within open_inputs a (omega arith) in
       let lived : LivesIn decl a h place.0 = run_lives decl script fits few h open_inputs run a place.0 place.1 in

@@ -1,13 +1,15 @@
--- A net stands for a history with falls where it has the history's mail, and each site and client is up, and has on its
--- disk, what its deeds say; one that is up is as its deeds give it, or as it was before the input that is open.
+-- A net stands for a history with falls where it has the history's mail, and each site and client and the administrator is
+-- up, and has on its disk, what its deeds say; one that is up is as its deeds give it, or as it was before the input that is open.
 use Rattle.std.proofs.Common.{◌≡◌, ◌≢◌, ℕ, ◌==◌, Bool, true, false, cond, List, [], ◌++◌, Option, Some, None, slice_get, inl, inr, refl, sym, ap, ◌∙◌, subst}
 use Rattle.qc_core.specs.declared.actor.Actor.{Actor}
 use Rattle.qc_core.specs.declared.actor.Actor.TheVariants as actor
 use Rattle.qc_core.specs.Actors.{actor_after, actor_takes}
+use Rattle.qc_core.proofs.ByNumber.{admin_no_client, admin_no_site}
 use Rattle.qc_core.specs.Journals.{journal_after}
 use Rattle.qc_core.specs.Lives.{is_up}
 use Rattle.qc_decl.specs.declared.declaration.Declaration.{Declaration}
-use Rattle.qc_decl.specs.Actors.{is_client, is_site}
+use Rattle.qc_decl.proofs.Clients.{client_no_site}
+use Rattle.qc_decl.specs.Actors.{administrator, is_client, is_site}
 use Rattle.qc_client.specs.declared.client.Client.{Client}
 use Rattle.qc_msg.specs.declared.message.Envelope.{Envelope}
 use Rattle.qc_msg.specs.declared.step.Given.{Given}
@@ -15,9 +17,10 @@ use Rattle.qc_msg.specs.declared.step.Given.TheVariants as given
 use Rattle.qc_msg.specs.Deeds.{Deed, WasSentTo, deeds, mail}
 use Rattle.qc_msg.specs.Steps.{Entry}
 use Rattle.qc_net.specs.Net.{MayCommand, Net, Reaches}
-use Rattle.qc_net.proofs.Kepts.{no_client}
 use Rattle.qc_net.proofs.Nets.{place}
 use Rattle.qc_laws.proofs.Places.{slice_get-more}
+use Rattle.qc_epoch.specs.Admin.{Admin}
+use Rattle.qc_site.specs.Site.{SiteState}
 use Rattle.qc_atomic.proofs.Stood.{apart}
 use Rattle.qc_reach.specs.Reached.{HasTaken, TakesInputs, actor_in}
 
@@ -49,28 +52,47 @@ module _ (decl : Declaration) where
     pub pending : next.pending b ≡ net.pending b
     pub sites : next.sites b ≡ net.sites b
     pub clients : next.clients b ≡ net.clients b
+    pub admin : b ≡ administrator decl → next.admin ≡ net.admin
 
   pub itself : (net : Net) (b : ℕ) → Leaves net net b
-  itself net b = record { up = refl; records = refl; pending = refl; sites = refl; clients = refl }
+  itself net b = record { up = refl; records = refl; pending = refl; sites = refl; clients = refl; admin = λ at. refl }
 
-  same_actor : (net next : Net) (b : ℕ) → Leaves net next b → actor_in decl net b ≡ actor_in decl next b
-  same_actor net next b leaves = sym (λ i. cond (is_site decl b) (actor.Site (leaves.sites i)) (actor.Client (leaves.clients i)))
+  -- what an actor of the net is
 
-  pub stays : (net next : Net) (b : ℕ) (h k : List Entry) (more : List Envelope) (o p : Option Bool) → Leaves net next b → deeds b [] k ≡ deeds b [] h → mail k ≡ mail h ++ more → p ≡ o → Stands net b h o → Stands next b k p
-  stays net next b h k more o p leaves same grows slot s = record {
+  pub in_site : (net : Net) (a : ℕ) → is_site decl a ≡ true → actor_in decl net a ≡ actor.Site (net.sites a)
+  in_site net a site = ap (λ (b : Bool). cond b (actor.Site (net.sites a)) (cond (is_client decl a) (actor.Client (net.clients a)) (actor.Admin net.admin))) site
+
+  pub not_site : (a : ℕ) → is_client decl a ≡ true → is_site decl a ≡ false
+  not_site a client = client_no_site decl a client
+
+  pub in_client : (net : Net) (a : ℕ) → is_client decl a ≡ true → actor_in decl net a ≡ actor.Client (net.clients a)
+  in_client net a client = λ i. cond (not_site a client i) (actor.Site (net.sites a)) (cond (client i) (actor.Client (net.clients a)) (actor.Admin net.admin))
+
+  pub in_admin : (net : Net) → actor_in decl net (administrator decl) ≡ actor.Admin net.admin
+  in_admin net = λ i. cond (admin_no_site decl i) (actor.Site (net.sites (administrator decl))) (cond (admin_no_client decl i) (actor.Client (net.clients (administrator decl))) (actor.Admin net.admin))
+
+  same_actor : (net next : Net) (b : ℕ) → TakesInputs decl b → Leaves net next b → actor_in decl net b ≡ actor_in decl next b
+  same_actor net next b (inl site) leaves = in_site net b site ∙ ap (λ (v : SiteState). actor.Site v) (sym leaves.sites) ∙ sym (in_site next b site)
+  same_actor net next b (inr (inl client)) leaves = in_client net b client ∙ ap (λ (v : Client). actor.Client v) (sym leaves.clients) ∙ sym (in_client next b client)
+  same_actor net next b (inr (inr at)) leaves =
+      ap (actor_in decl net) at ∙ in_admin net ∙ ap (λ (v : Admin). actor.Admin v) (sym (leaves.admin at)) ∙ sym (in_admin next) ∙ ap (actor_in decl next) (sym at)
+
+  pub stays : (net next : Net) (b : ℕ) (h k : List Entry) (more : List Envelope) (o p : Option Bool) → TakesInputs decl b → Leaves net next b → deeds b [] k ≡ deeds b [] h → mail k ≡ mail h ++ more → p ≡ o → Stands net b h o → Stands next b k p
+  stays net next b h k more o p is_one leaves same grows slot s = record {
     up = leaves.up ∙ s.up ∙ ap is_up (sym same);
     records = leaves.records ∙ s.records ∙ ap (λ (ds : List Deed). (journal_after ds).records) (sym same);
     pending = leaves.pending ∙ s.pending ∙ ap (λ (ds : List Deed). (journal_after ds).pending) (sym same);
     clear = λ up. ap (λ (ds : List Deed). (journal_after ds).pending) same ∙ s.clear (sym (ap is_up same) ∙ up);
-    closed = λ up is. ap (λ (ds : List Deed). (actor_after decl b ds).actor) same ∙ s.closed (sym (ap is_up same) ∙ up) (sym slot ∙ is) ∙ same_actor net next b leaves;
+    closed = λ up is. ap (λ (ds : List Deed). (actor_after decl b ds).actor) same ∙ s.closed (sym (ap is_up same) ∙ up) (sym slot ∙ is) ∙ same_actor net next b is_one leaves;
     opened = λ up is. (let x : HasTaken decl net b h = s.opened (sym (ap is_up same) ∙ up) (sym slot ∙ is) in record {
       given = x.given;
       sent = subst (λ (ms : List Envelope). WasSentTo b ms x.given) (sym grows) (still_sent b (mail h) more x.given x.sent);
       may = λ client. subst (λ (c : Client). MayCommand decl c x.given) (sym leaves.clients) (x.may client);
+      may_admin = x.may_admin;
       before = x.before;
       deeds_are = same ∙ x.deeds_are;
-      was = x.was ∙ same_actor net next b leaves;
-      is = ap (actor_after decl b) same ∙ x.is ∙ ap (λ (v : Actor). actor_takes decl v x.given) (same_actor net next b leaves);
+      was = x.was ∙ same_actor net next b is_one leaves;
+      is = ap (actor_after decl b) same ∙ x.is ∙ ap (λ (v : Actor). actor_takes decl v x.given) (same_actor net next b is_one leaves);
     });
   }
 
@@ -84,21 +106,6 @@ module _ (decl : Declaration) where
     mail_is = mail_is;
     actors = λ b is. elim (place b a) [
       | inl at ↦ subst (λ (n : ℕ). Stands next n k (slice_get later n)) (sym at) (here (subst (TakesInputs decl) at is))
-      | inr other ↦ (let differs : (a == b) ≡ false = apart a b (λ at. other (sym at)) in stays old.net next b h k more (slice_get inputs b) (slice_get later b) (leaves b other) (same b differs) grows (slots b differs) (old.actors b is))
+      | inr other ↦ (let differs : (a == b) ≡ false = apart a b (λ at. other (sym at)) in stays old.net next b h k more (slice_get inputs b) (slice_get later b) is (leaves b other) (same b differs) grows (slots b differs) (old.actors b is))
     ];
   }
-
-  -- what an actor of the net is
-
-  pub in_site : (net : Net) (a : ℕ) → is_site decl a ≡ true → actor_in decl net a ≡ actor.Site (net.sites a)
-  in_site net a site = ap (λ (b : Bool). cond b (actor.Site (net.sites a)) (actor.Client (net.clients a))) site
-
-  pub not_site : (a : ℕ) → is_client decl a ≡ true → is_site decl a ≡ false
-  not_site a client = at (is_site decl a) refl
-    where
-      at : (t : Bool) → is_site decl a ≡ t → t ≡ false
-      at true site = absurd (no_client decl a site client)
-      at false none = refl
-
-  pub in_client : (net : Net) (a : ℕ) → is_client decl a ≡ true → actor_in decl net a ≡ actor.Client (net.clients a)
-  in_client net a client = ap (λ (b : Bool). cond b (actor.Site (net.sites a)) (actor.Client (net.clients a))) (not_site a client)

@@ -7,6 +7,7 @@ use Rattle.qc_list.specs.Members.{In}
 use Rattle.qc_core.specs.declared.actor.Actor.{Actor}
 use Rattle.qc_core.specs.Actors.{ActorMove, actor_after, actor_takes, by_client, by_site}
 use Rattle.qc_core.specs.Acts.{MayTake}
+use Rattle.qc_core.proofs.ByNumber.{client_risen}
 use Rattle.qc_core.specs.Conduct.{IsLawfulWithFalls}
 use Rattle.qc_core.specs.Journals.{journal_after, journal_at}
 use Rattle.qc_core.specs.Lives.{MayReach, is_up}
@@ -208,7 +209,7 @@ module _ (decl : Declaration) (a : ℕ) (client : is_client decl a ≡ true) (co
     rise_as Stopped first = in_vain causes.Stop
 
     rises_to : actor_after decl a (ds ++ Rises kept ∷ []) ≡ by_client (client_rises (a - decl.sites) kept)
-    rises_to = actor_more decl a ds (Rises kept ∷ []) ∙ ap (λ (b : Bool). cond b (by_site (site_rises decl a kept)) (by_client (client_rises (a - decl.sites) kept))) (no_site decl a client)
+    rises_to = actor_more decl a ds (Rises kept ∷ []) ∙ client_risen decl a client kept
 
     pub rise_stands : (turn : Turn) (first : ℕ) → IsLawfulWithFalls decl a (ds ++ Rises kept ∷ []) turn → AtRest ((ds ++ Rises kept ∷ []) ++ deeds_as turn.append first turn)
     rise_stands turn first law =

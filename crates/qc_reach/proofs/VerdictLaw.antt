@@ -4,6 +4,7 @@ use Rattle.std.proofs.Common.{◌≡◌, ◌↔◌, ◌-◌, ◌≢◌, ◌≤�
 use Rattle.std.specs.List.{AllByRecursion as Every, AllPairs, filter_map}
 use Rattle.std.proofs.lemmas.Bool.{leb-true, ltb-true}
 use Rattle.std.proofs.lemmas.List.Sums.{fold-append}
+use Rattle.qc_decl.proofs.Clients.{client_past, client_within}
 use Rattle.qc_core.specs.Conduct.{IsLawfulWithFalls}
 use Rattle.qc_core.specs.Journals.{journal_after}
 use Rattle.qc_entry.specs.declared.record.Commit.{Commit}
@@ -106,7 +107,7 @@ module _ (decl : Declaration) (script : Script) (fits : ℕ → List Record → 
   AreKnown h = (a : ℕ) → is_client decl a ≡ true → (tx : TxId) → KnownFrom tx Unborn (deeds a [] h)
 
   declares : (h : List Entry) (open_inputs : List Bool) → IsRun h open_inputs → Kept h → (a : ℕ) → Declares decl (deeds a [] h)
-  declares h open_inputs run kept a = run_declares decl script fits accepted (asks_declared decl script accepted sound) h open_inputs run (kept_planned decl script fits accepted h open_inputs run kept) a
+  declares h open_inputs run kept a = run_declares decl script fits accepted (asks_declared decl script accepted sound) h open_inputs run (kept_planned decl script fits accepted (asks_declared decl script accepted sound) h open_inputs run kept) a
 
   record Lived (h : List Entry) (open_inputs : List Bool) (a : ℕ) : Type 0 where
     is_open : Bool
@@ -114,7 +115,7 @@ module _ (decl : Declaration) (script : Script) (fits : ℕ → List Record → 
 
   lived : (h : List Entry) (open_inputs : List Bool) → IsRun h open_inputs → (a : ℕ) → is_client decl a ≡ true → Lived h open_inputs a
   lived h open_inputs run a client =
-      let low : a < actors decl = ltb-true a (actors decl) (and_second (nat_le decl.sites a) (nat_lt a (actors decl)) client) in
+      let low : a < actors decl = client_within decl a client in
       let long : length open_inputs ≡ actors decl = run_long decl script fits few h open_inputs run in
       let place : (t : Bool) × (slice_get open_inputs a ≡ Some t) = slice_get-within open_inputs a (omega arith) in
       record { is_open = place.0; in_run = run_lives decl script fits few h open_inputs run a place.0 place.1 }
@@ -219,7 +220,7 @@ module _ (decl : Declaration) (script : Script) (fits : ℕ → List Record → 
   pub own_names : (h : List Entry) (open_inputs : List Bool) → IsRun h open_inputs → Kept h → (a : ℕ) → is_client decl a ≡ true → (tx : TxId) → status (deeds a [] h) tx ≢ Unborn → client_actor decl tx.client ≡ a
   own_names h open_inputs run kept a client tx born =
       let mine : tx.client ≡ a - decl.sites = (all_shows h open_inputs run kept a client tx).own born in
-      let low : decl.sites ≤ a = leb-true decl.sites a (and_first (nat_le decl.sites a) (nat_lt a (actors decl)) client) in
+      let low : decl.sites ≤ a = client_past decl a client in
       omega arith
 
   -- what has ended stays so

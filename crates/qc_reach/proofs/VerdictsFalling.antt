@@ -66,7 +66,7 @@ module _ (decl : Declaration) (a : ℕ) (client : is_client decl a ≡ true) (tx
     is = refl;
     but = tt;
     here = λ c is. subst (λ (x : Client). Up tx Unborn no_journal number (page_of x))
-        (same_client (new_client number) c (sym (ap (λ (m : ActorMove). m.actor) (at_client decl a [] tt (no_site decl a client))) ∙ is)) (record {
+        (same_client (new_client number) c (sym (ap (λ (m : ActorMove). m.actor) (at_client decl a [] tt (no_site decl a client) client)) ∙ is)) (record {
           status = new_status tx number first_life;
           listed = λ x among. absurd among;
           life = refl;

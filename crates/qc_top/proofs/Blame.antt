@@ -11,13 +11,12 @@ use Rattle.qc_outside.specs.Shelf.{Answer}
 use Rattle.qc_outside.specs.declared.shelf.ShelfFault.TheVariants as faults
 use Rattle.qc_report.specs.declared.cause.Cause.{Cause}
 use Rattle.qc_report.specs.declared.cause.Cause.TheVariants as causes
-use Rattle.qc_node.specs.Built.{is_built}
 use Rattle.qc_script.specs.Grammar.{Refusal, script_of}
 use Rattle.qc_script.specs.declared.script.Script.{Script}
 use Rattle.qc_top.proofs.Ends.{the_err}
 use Rattle.qc_top.specs.Answers.{IsCounted, is_built_in}
 use Rattle.qc_top.specs.Words.{AskedOf}
-use Rattle.qc_top.specs.Work.{Caused, ◌>>=◌, Gives, IsBlamed, built_run, bytes_of, run_of, spelled_in, unless_a_line_is, unless_refused, work_of, work_on}
+use Rattle.qc_top.specs.Work.{Caused, ◌>>=◌, Gives, IsBlamed, bytes_of, run_of, spelled_in, unless_a_line_is, unless_refused, work_of, work_on}
 use Rattle.qc_top.specs.declared.answers.Answers.{Answers}
 use Rattle.qc_top.specs.declared.work.Work.{Work}
 use Rattle.qc_top.specs.declared.work.Work.TheVariants.{Accept, Run}
@@ -77,19 +76,12 @@ never_read : (read : Result Script Refusal) (blamed : Bool) → unless_a_line_is
 never_read (Ok script) blamed is = cc
 never_read (Err refusal) blamed is = cc
 
-never_built : (decl : Declaration) (script : Script) (blamed : Bool) → built_run decl script ≡ Err (failed blamed) → ⊥
-never_built decl script blamed is = by (is_built decl script) is
-  where
-    by : (t : Bool) → (let given : Caused Work = if t then Ok (Run decl script) else Err causes.NotBuilt in given) ≡ Err (failed blamed) → ⊥
-    by true is = cc
-    by false is = cc
-
 never_run : (decl : Declaration) (bytes : List ℕ) (blamed : Bool) → run_of decl bytes ≡ Err (failed blamed) → ⊥
-never_run decl bytes blamed is = by (came_of (unless_a_line_is (script_of decl bytes)) (built_run decl) (failed blamed) is)
+never_run decl bytes blamed is = by (came_of (unless_a_line_is (script_of decl bytes)) (λ script. Ok (Run decl script)) (failed blamed) is)
   where
-    by : (unless_a_line_is (script_of decl bytes) ≡ Err (failed blamed)) ⊎ ((script : Script) × (unless_a_line_is (script_of decl bytes) ≡ Ok script) × (built_run decl script ≡ Err (failed blamed))) → ⊥
+    by : (unless_a_line_is (script_of decl bytes) ≡ Err (failed blamed)) ⊎ ((script : Script) × (unless_a_line_is (script_of decl bytes) ≡ Ok script) × ((let given : Caused Work = Ok (Run decl script) in given) ≡ Err (failed blamed))) → ⊥
     by (inl none) = never_read (script_of decl bytes) blamed none
-    by (inr (script, there, none)) = never_built decl script blamed none
+    by (inr (script, there, none)) = cc
 
 -- something stands under the declaration's name
 record IsScriptFailed (blamed : Bool) (script : Option (List ℕ)) (answer : Answer) : Type 0 where

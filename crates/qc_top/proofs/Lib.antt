@@ -6,5 +6,4 @@ mod Planned
 mod Right
 mod Runs
 mod Takes
-mod Unbuilt
 mod Workers

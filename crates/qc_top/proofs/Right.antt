@@ -1,5 +1,4 @@
--- What the words come to can be done: its declaration keeps the rules, and a script that is run names what is declared and
--- is built.
+-- What the words come to can be done: its declaration keeps the rules, and a script that is run names what is declared.
 use Rattle.std.proofs.Common.{◌≡◌, ℕ, Bool, true, false, cond, List, Option, Some, None, Result, Ok, Err, refl, ap, subst}
 use Rattle.std.specs.Option.{option_map_or}
 use Rattle.std.specs.Prelude.{if◌then◌else◌, codes}
@@ -14,7 +13,6 @@ use Rattle.qc_decl.specs.declared.declaration.Declaration.{Declaration}
 use Rattle.qc_outside.specs.Shelf.{Answer}
 use Rattle.qc_outside.specs.declared.shelf.ShelfFault.TheVariants as faults
 use Rattle.qc_report.specs.declared.cause.Cause.TheVariants as causes
-use Rattle.qc_node.specs.Built.{is_built}
 use Rattle.qc_script.proofs.SoundScripts.{script_names}
 use Rattle.qc_script.specs.Grammar.{Refusal, script_of}
 use Rattle.qc_script.specs.Sound.{IsScriptFor}
@@ -22,7 +20,7 @@ use Rattle.qc_script.specs.declared.script.Script.{Script}
 use Rattle.qc_top.specs.Top.{IsRight}
 use Rattle.qc_top.specs.Words.{AskedOf}
 use Rattle.qc_top.specs.Answers.{is_built_in}
-use Rattle.qc_top.specs.Work.{Caused, ◌>>=◌, built_run, bytes_of, run_of, spelled_in, unless_a_line_is, unless_refused, work_of, work_on}
+use Rattle.qc_top.specs.Work.{Caused, ◌>>=◌, bytes_of, run_of, spelled_in, unless_a_line_is, unless_refused, work_of, work_on}
 use Rattle.qc_top.specs.declared.answers.Answers.{Answers}
 use Rattle.qc_top.specs.declared.work.Work.{Work}
 use Rattle.qc_top.specs.declared.work.Work.TheVariants.{Accept, Run}
@@ -92,13 +90,9 @@ read_is (Err refusal) script is = absurd (let never : ⊥ = cc in never)
 
 run_is : (decl : Declaration) (bytes : List ℕ) (work : Work) → IsAccepted decl → run_of decl bytes ≡ Ok work → IsRight work
 run_is decl bytes work right is =
-    let c : Came (unless_a_line_is (script_of decl bytes)) (built_run decl) work = came (unless_a_line_is (script_of decl bytes)) (built_run decl) work is in
+    let c : Came (unless_a_line_is (script_of decl bytes)) (λ script. Ok (Run decl script)) work = came (unless_a_line_is (script_of decl bytes)) (λ script. Ok (Run decl script)) work is in
     let sound : IsScriptFor decl c.first = script_names decl bytes c.first (read_is (script_of decl bytes) c.first c.is) in
-    by c.first sound (is_built decl c.first) refl c.rest
-  where
-    by : (script : Script) → IsScriptFor decl script → (t : Bool) → is_built decl script ≡ t → (let given : Caused Work = if t then Ok (Run decl script) else Err causes.NotBuilt in given) ≡ Ok work → IsRight work
-    by script sound true built is = subst IsRight (inner (Run decl script) work is) (record { accepted = right; declared = sound; built = built })
-    by script sound false unbuilt is = absurd (let never : ⊥ = cc in never)
+    subst IsRight (inner (Run decl c.first) work c.rest) (record { accepted = right; declared = sound })
 
 pub work_is : (asked : AskedOf) (answers : Answers) (work : Work) → work_of asked answers ≡ Ok work → IsRight work
 work_is asked answers work is =

@@ -1,7 +1,8 @@
 -- What is promised of every run of a script that was read.
 use Rattle.std.proofs.Common.{◌≡◌, ◌≤◌, ℕ, zero, suc, Bool, true, false, List, [], ◌∷◌, length, Some, refl, sym, ap, ◌∙◌, subst, arith, slice_get}
 use Rattle.std.specs.Prelude.{replicate}
-use Rattle.qc_due.proofs.AccountDeclared.{asks_declared}
+use Rattle.qc_due.proofs.AccountDeclared.{asks_declared, asks_epochs}
+use Rattle.qc_bounds.proofs.FitsNamed.{asks_known}
 use Rattle.qc_bounds.proofs.Rising.{run_rises_fit}
 use Rattle.qc_core.specs.Conduct.{IsLawfulWithFalls}
 use Rattle.qc_decl.specs.Actors.{actors}
@@ -72,7 +73,8 @@ module _ (decl : Declaration) (script : Script) (ready : IsRunnable decl script)
       let over : IsScriptEnd decl script h ended.inputs ends.Quiet = subst (λ (e : DriveEnd). IsScriptEnd decl script h ended.inputs e) quiet ended.ended in
       let clear : ended.inputs ≡ replicate (actors decl) false = all_clear ended.inputs over.1.1.none_open ∙ ap (λ (n : ℕ). replicate n false) ended.opens in
       let closed : IsClosedWithFalls (fits_of decl) decl script h = subst (λ (bits : List Bool). RunsWithFalls (IsLawfulWithFalls decl) (fits_of decl) decl script h bits) clear ended.runs in
-      is_whole decl script ready.accepted (asks_declared decl script ready.accepted ready.declared) (fits_of decl) h closed over.1.1.none_ready over.1.1.none_left over.1.0
+      is_whole decl script ready.accepted (asks_declared decl script ready.accepted ready.declared) (fits_of decl) h closed over.1.1.none_ready over.1.1.none_left
+      (asks_known decl ready.accepted script ready.declared (fits_of decl) (λ a records fit. fit.0)) (asks_epochs decl script ready.declared) over.1.0
 
   pub ended_end : (end : DriveEnd) → HasEnded decl script h end → IsEnd end h
   ended_end ends.Quiet ended = none_reached h ended.ended.0

@@ -1,6 +1,5 @@
 pub mod Words
 pub mod Answers
-pub mod Unbuilt
 pub mod Work
 pub mod Racks
 pub mod Source

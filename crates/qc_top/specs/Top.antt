@@ -21,9 +21,8 @@ use Rattle.qc_report.specs.declared.cause.Cause.TheVariants as causes
 use Rattle.qc_text.specs.Text.{text_of}
 use Rattle.qc_script.specs.RunsWithFalls.{RunWithFalls}
 use Rattle.qc_script.specs.declared.script.Script.{Script}
-use Rattle.qc_script.specs.Sound.{IsScriptFor}
 use Rattle.qc_fabric.specs.Limits.{HasReached, IsBelow}
-use Rattle.qc_node.specs.Built.{is_built}
+pub use Rattle.qc_node.specs.Runnable.{IsRunnable}
 use Rattle.qc_node.specs.Rules.{fits_of}
 use Rattle.qc_node.specs.declared.ends.DriveEnd.{DriveEnd}
 use Rattle.qc_node.specs.declared.ends.DriveEnd.TheVariants as ends
@@ -176,12 +175,6 @@ LeavesWords gives files told words before after first last old cause new h =
     MatchOption (asked words)
     (LeavesNothing causes.NotBuilt old cause new h × (after ≡ before) × (last ≡ first))
     (λ a. LeavesAsked gives files told a before after first last old cause new h)
-
--- a script that is run, over a declaration: it names what is declared
-pub record IsRunnable (decl : Declaration) (script : Script) : Type 0 where
-  pub accepted : IsAccepted decl
-  pub declared : IsScriptFor decl script
-  pub built : is_built decl script ≡ true
 
 -- work that can be done: what the words come to is such work
 abbrev pub IsRight : Work → Type 0

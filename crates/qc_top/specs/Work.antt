@@ -11,7 +11,6 @@ use Rattle.qc_outside.specs.declared.shelf.ShelfFault.{ShelfFault}
 use Rattle.qc_outside.specs.declared.shelf.ShelfFault.TheVariants as faults
 use Rattle.qc_report.specs.declared.cause.Cause.{Cause}
 use Rattle.qc_report.specs.declared.cause.Cause.TheVariants as causes
-use Rattle.qc_node.specs.Built.{is_built}
 use Rattle.qc_script.specs.Grammar.{Refusal, script_of}
 use Rattle.qc_script.specs.declared.script.Script.{Script}
 use Rattle.qc_script.specs.declared.script.ScriptFault.TheVariants.{Line}
@@ -62,13 +61,9 @@ abbrev pub unless_a_line_is : Result Script Refusal → Caused Script
 unless_a_line_is (Ok script) = Ok script
 unless_a_line_is (Err refusal) = Err (causes.Script (Line refusal.number refusal.kind))
 
--- the run of a script; of one for the administrator it isn't built
-abbrev pub built_run : Declaration → Script → Caused Work
-built_run decl script = if is_built decl script then Ok (Run decl script) else Err causes.NotBuilt
-
 -- the run of the script that bytes spell
 abbrev pub run_of : Declaration → List ℕ → Caused Work
-run_of decl bytes = unless_a_line_is (script_of decl bytes) >>= built_run decl
+run_of decl bytes = unless_a_line_is (script_of decl bytes) >>= (λ script. Ok (Run decl script))
 
 abbrev pub script_work : Answer → Result Declaration DeclFault → Caused Work
 script_work answer spelled = bytes_of true answer >>= (λ bytes. unless_refused spelled >>= (λ decl. run_of decl bytes))
@@ -78,7 +73,7 @@ work_on None answer spelled = unless_refused spelled >>= (λ decl. Ok (Accept de
 work_on (Some script) answer spelled = script_work answer spelled
 
 -- What is asked. The first cause for which there is nothing to do is told, in this order: the declaration's file, the
--- script's, the declaration, the first line that is refused of the script, and that it has lines which aren't built.
+-- script's, the declaration, and the first line that is refused of the script.
 abbrev pub work_of : AskedOf → Answers → Caused Work
 work_of asked answers = spelled_in asked.decl answers.decl >>= work_on asked.script answers.script
 
@@ -99,7 +94,7 @@ abbrev pub IsRefusal : Cause → Type 0
 IsRefusal (causes.Shelf script fault) = Unit {0}
 IsRefusal (causes.Declaration fault) = Unit {0}
 IsRefusal (causes.Script fault) = Unit {0}
-IsRefusal causes.NotBuilt = Unit {0}
+IsRefusal causes.NotBuilt = ⊥
 IsRefusal causes.OutOfMemory = Unit {0}
 IsRefusal causes.Done = ⊥
 IsRefusal causes.Sink = ⊥

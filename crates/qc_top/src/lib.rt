@@ -18,8 +18,6 @@
 //! 4. The sink takes the whole text of the run, a part of it where it failed,
 //!    or nothing. Each printed state is known, where records are kept.
 //! 5. Status, limits and blame are those of the cause.
-//! 6. A script isn't built exactly where it has a line for the administrator
-//!    (`built_scripts_have_no_unbuilt_line`).
 //!
 //! The program stands on it.
 #![tactic(auto)]
@@ -35,7 +33,7 @@ mod work;
 
 pub use answers::{Answer, Answers, answers_for};
 pub use ended::Ended;
-pub use laws::{built_scripts_have_no_unbuilt_line, one_to_eight_workers_are_asked};
+pub use laws::one_to_eight_workers_are_asked;
 pub use qc_msg::What;
 pub use qc_report::{Cause, cause_text};
 pub use qc_text::text;

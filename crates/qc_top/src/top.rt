@@ -30,10 +30,10 @@ use std::thread::Threads;
 /// Does all that the program does. `check DECL` takes the declaration of this
 /// name and says that it is accepted; `run DECL SCRIPT` runs the script of this
 /// name over it and writes the text of the run to the sink. With `--workers N`
-/// behind these words the sites and clients are served by so many threads. Files
+/// behind these words the actors are served by so many threads. Files
 /// are taken from the shelf; a name of a declaration that begins with `@` is that
 /// of a built-in one. For a run the rack gives each actor a disk, and it gets all of
-/// them back. Each turn of a site or client passes the gate before it is posted.
+/// them back. Each turn of an actor passes the gate before it is posted.
 /// Where the shelf, the sink or a disk is blamed for a failure, the count of faults
 /// rose, or stands at the greatest number that it can tell.
 pub fn quorum_words<T, F, K, R, G>(

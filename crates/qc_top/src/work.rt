@@ -17,7 +17,6 @@ use crate::words::Asked;
 use qc_accept::{DeclFault, accept};
 use qc_decl::{Declaration, built_in};
 use qc_list::List;
-use qc_node::is_built;
 use qc_outside::ShelfFault;
 use qc_report::Cause;
 use qc_script::{Script, ScriptFault, read};
@@ -142,8 +141,7 @@ fn script_work(alloc: Global, source: Source, answer: Answer) -> Result<Work, Ca
     run_of(alloc, decl, bytes.items())
 }
 
-/// The run of the script that these bytes spell. Where it has lines for the
-/// administrator, it isn't built.
+/// The run of the script that these bytes spell.
 fn run_of(alloc: Global, decl: Declaration, bytes: &[u8]) -> Result<Work, Cause>
     requires accepted { IsAccepted decl }
     requires named { IsNamed decl }
@@ -152,11 +150,7 @@ fn run_of(alloc: Global, decl: Declaration, bytes: &[u8]) -> Result<Work, Cause>
     ensures refusal { IfErr result IsRefusal }
 {
     let script = script_in(alloc, &decl, bytes)?;
-    if is_built(&decl, &script) {
-        Ok(Work::Run(decl, script))
-    } else {
-        Err(Cause::NotBuilt)
-    }
+    Ok(Work::Run(decl, script))
 }
 
 /// The script that these bytes spell, unless a line of it is refused.

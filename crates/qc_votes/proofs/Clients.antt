@@ -1,6 +1,7 @@
 -- Each client of a run with falls is as its deeds say, where it has an open input and where it has none; and with a turn
 -- that has a commit record, this is due.
 use Rattle.std.proofs.Common.{◌≡◌, ◌<◌, ◌≤◌, ◌+◌, ◌-◌, ◌&&◌, ℕ, nat_le, nat_lt, Bool, true, false, List, [], ◌∷◌, ◌++◌, Option, Some, slice_get, refl, sym, ap, ◌∙◌, subst, arith, ltb-true}
+use Rattle.qc_decl.proofs.Clients.{client_below, client_past, client_within}
 use Rattle.qc_due.proofs.Commands.{free_for}
 use Rattle.qc_due.proofs.AccountDeclared.{asks_declared}
 use Rattle.qc_due.proofs.Lifelong.{client_lives}
@@ -14,7 +15,7 @@ use Rattle.qc_client.specs.Conduct.{client_takes}
 use Rattle.qc_core.specs.Actors.{ActorMove, actor_after, actor_takes, down_takes}
 use Rattle.qc_core.specs.Conduct.{IsLawfulWithFalls, with_record}
 use Rattle.qc_decl.specs.Accepted.{IsAccepted}
-use Rattle.qc_decl.specs.Actors.{actors, client_actor, is_client}
+use Rattle.qc_decl.specs.Actors.{actors, administrator, client_actor, is_client}
 use Rattle.std.proofs.lemmas.Bool.{leb-true}
 use Rattle.qc_decl.specs.declared.declaration.Declaration.{Declaration}
 use Rattle.qc_due.proofs.Declared.{run_declares}
@@ -40,12 +41,8 @@ use Rattle.qc_script.specs.RunsWithFalls.{RunsWithFalls}
 use Rattle.qc_script.specs.Sound.{IsScriptFor}
 use Rattle.qc_script.specs.declared.script.Script.{Script}
 
-both_true : (x y : Bool) → (x && y) ≡ true → y ≡ true
-both_true true y is = is
-both_true false y is = absurd (let never : ⊥ = cc in never)
-
 pub within : (decl : Declaration) (a : ℕ) → is_client decl a ≡ true → a < actors decl
-within decl a client = ltb-true a (actors decl) (both_true (nat_le decl.sites a) (nat_lt a (actors decl)) client)
+within decl a client = client_within decl a client
 
 module _ (fits : ℕ → List Record → Type 0) (decl : Declaration) (script : Script) (h : List Entry) (open_inputs : List Bool) (accepted : IsAccepted decl) (sound : IsScriptFor decl script)
     (run : RunsWithFalls (IsLawfulWithFalls decl) fits decl script h open_inputs) (kept : Kept h) where
@@ -59,7 +56,7 @@ module _ (fits : ℕ → List Record → Type 0) (decl : Declaration) (script : 
   pub client_at : (a : ℕ) → is_client decl a ≡ true → (t : Bool) → slice_get open_inputs a ≡ Some t → IsAt decl a (deeds a [] h) t
   client_at a client t slot =
       let lived : LivesIn decl a h t = run_lives decl script fits few h open_inputs run a t slot in
-      let declared : Declares decl (deeds a [] h) = run_declares decl script fits accepted (asks_declared decl script accepted sound) h open_inputs run (kept_planned decl script fits accepted h open_inputs run kept) a in
+      let declared : Declares decl (deeds a [] h) = run_declares decl script fits accepted (asks_declared decl script accepted sound) h open_inputs run (kept_planned decl script fits accepted (asks_declared decl script accepted sound) h open_inputs run kept) a in
       client_lives decl a client declared.first (deeds a [] h) t lived.above lived.lives declared.deeds
 
 -- the number of a client
@@ -69,13 +66,9 @@ pub record IsNumbered (decl : Declaration) (a : ℕ) : Type 0 where
 
 pub numbered : (decl : Declaration) (a : ℕ) → is_client decl a ≡ true → IsNumbered decl a
 numbered decl a client =
-    let above : decl.sites ≤ a = leb-true decl.sites a (first_true (nat_le decl.sites a) (nat_lt a (actors decl)) client) in
-    let below : a < decl.sites + decl.clients = within decl a client in
+    let above : decl.sites ≤ a = client_past decl a client in
+    let below : a < administrator decl = client_below decl a client in
     record { low = omega arith; is = omega arith }
-  where
-    first_true : (x y : Bool) → (x && y) ≡ true → x ≡ true
-    first_true true y is = refl
-    first_true false y is = is
 
 -- a turn with a commit record
 

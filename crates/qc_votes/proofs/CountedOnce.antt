@@ -13,7 +13,7 @@ use Rattle.qc_bounds.specs.Records.{AllPut}
 use Rattle.qc_core.proofs.LivesLaws.{journal}
 use Rattle.qc_core.specs.Conduct.{IsLawfulWithFalls}
 use Rattle.qc_decl.specs.Accepted.{IsAccepted}
-use Rattle.qc_decl.specs.Actors.{actors, is_client}
+use Rattle.qc_decl.specs.Actors.{actors, administrator, is_client}
 use Rattle.qc_decl.specs.declared.declaration.Declaration.{Declaration}
 use Rattle.qc_entry.specs.declared.record.Commit.{Commit as CommitRecord}
 use Rattle.qc_list.proofs.Members.{In-filter, In-unfiltered, every-In}
@@ -46,8 +46,8 @@ never_itself c before = let tied : stamp_cmp c.stamp c.stamp ≡ Equal = tied_it
 named_client : (decl : Declaration) (n : ℕ) → n < decl.clients → is_client decl (decl.sites + n) ≡ true
 named_client decl n few =
     let low : decl.sites ≤ decl.sites + n = omega arith in
-    let high : decl.sites + n < actors decl = omega arith in
-    λ i. (le-leb decl.sites (decl.sites + n) low i) && (lt-ltb (decl.sites + n) (actors decl) high i)
+    let high : decl.sites + n < administrator decl = omega arith in
+    λ i. (le-leb decl.sites (decl.sites + n) low i) && (lt-ltb (decl.sites + n) (administrator decl) high i)
 
 module _ (fits : ℕ → List Record → Type 0) (decl : Declaration) (script : Script) (h : List Entry) (open_inputs : List Bool) (accepted : IsAccepted decl) (sound : IsScriptFor decl script)
     (run : RunsWithFalls (IsLawfulWithFalls decl) fits decl script h open_inputs) (kept : Kept h) where

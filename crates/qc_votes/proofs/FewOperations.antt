@@ -63,7 +63,7 @@ module _ (fits : ℕ → List Record → Type 0) (decl : Declaration) (script : 
 
   m : ClientMirrors decl then (net fits decl script h open_inputs accepted sound run kept).mail a c
   m = (refined fits decl script h open_inputs accepted sound run kept).agrees.clients a client
-      ((reached fits decl script h open_inputs accepted sound run kept).up_is a (inr client) ∙ is_up_now fits decl script h open_inputs accepted sound run kept a client t begun)
+      ((reached fits decl script h open_inputs accepted sound run kept).up_is a (inr (inl client)) ∙ is_up_now fits decl script h open_inputs accepted sound run kept a client t begun)
 
   clients_own : t.tx.client ≡ c.front.client
   clients_own =

@@ -172,7 +172,7 @@ module _ (fits : ℕ → List Record → Type 0) (decl : Declaration) (script : 
         record {
           commit = k.commit;
           listed = all k.commit ((standing decl h kept).all k.commit
-              (record { actor = of.actor; client = of.client; listed = subst (In (journals.Commit k.commit)) ((reached fits decl script h open_inputs accepted sound run kept).records_are of.actor (inr of.client)) of.listed }));
+              (record { actor = of.actor; client = of.client; listed = subst (In (journals.Commit k.commit)) ((reached fits decl script h open_inputs accepted sound run kept).records_are of.actor (inr (inl of.client))) of.listed }));
           stamped = k.stamped;
           named = k.named;
           operation = k.operation;

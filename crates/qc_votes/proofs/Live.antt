@@ -102,7 +102,7 @@ module _ (fits : ℕ → List Record → Type 0) (decl : Declaration) (script : 
       by : (up : Bool) → is_up ds ≡ up → Stands decl a up ds → IsTiedTo
       by true up s = record {
         was = account decl a h;
-        tied = subst (Ties decl (account decl a h)) (same_client s.state c (sym s.actor ∙ (reached fits decl script h open_inputs accepted sound run kept).actors_are a (inr client) up slot ∙ in_client decl (net fits decl script h open_inputs accepted sound run kept) a client)) s.ties;
+        tied = subst (Ties decl (account decl a h)) (same_client s.state c (sym s.actor ∙ (reached fits decl script h open_inputs accepted sound run kept).actors_are a (inr (inl client)) up slot ∙ in_client decl (net fits decl script h open_inputs accepted sound run kept) a client)) s.ties;
         begun_then = record { old = t; was = begun; tx = refl; epoch = refl; ops = refl; view = λ object l among. among; lives = same_lives t.lives };
         rises = omega arith;
         up = up;
@@ -122,7 +122,7 @@ module _ (fits : ℕ → List Record → Type 0) (decl : Declaration) (script : 
       by false down s = absurd (none_begun (account_is decl a at.before).current begun_before.old ((counts at.before (Takes at.given ∷ []) at.is).down s.up) begun_before.was)
       by true up s =
           let up_now : is_up ds ≡ true = ap is_up at.is ∙ fold-append up_at true at.before (Takes at.given ∷ []) ∙ up in
-          let x : HasTaken decl (net fits decl script h open_inputs accepted sound run kept) a h = (reached fits decl script h open_inputs accepted sound run kept).actors_were a (inr client) up_now slot in
+          let x : HasTaken decl (net fits decl script h open_inputs accepted sound run kept) a h = (reached fits decl script h open_inputs accepted sound run kept).actors_were a (inr (inl client)) up_now slot in
           let before : at.before ≡ x.before = same_last at.before x.before (Takes at.given) (Takes x.given) (sym at.is ∙ x.deeds_are) in
           let rises : (account_is decl a at.before).clock ≤ (account_taken (account_is decl a at.before) at.given).clock = take_clock decl (account_is decl a at.before) at.given in
           let now_is : (account decl a h).clock ≡ (account_taken (account_is decl a at.before) at.given).clock = ap (λ (d : Account). d.clock) account_now in
@@ -148,7 +148,7 @@ module _ (fits : ℕ → List Record → Type 0) (decl : Declaration) (script : 
   k = tied_kept decl o.was c w.old o.tied w.was
 
   m : ClientMirrors decl then (net fits decl script h open_inputs accepted sound run kept).mail a c
-  m = (refined fits decl script h open_inputs accepted sound run kept).agrees.clients a client ((reached fits decl script h open_inputs accepted sound run kept).up_is a (inr client) ∙ o.up)
+  m = (refined fits decl script h open_inputs accepted sound run kept).agrees.clients a client ((reached fits decl script h open_inputs accepted sound run kept).up_is a (inr (inl client)) ∙ o.up)
 
   b : TransactionMirrors then c.front k.x × RunningMirrors decl then (net fits decl script h open_inputs accepted sound run kept).mail c k.x
   b = subst (BegunMirrors decl then (net fits decl script h open_inputs accepted sound run kept).mail c) k.transaction m.begun
@@ -184,8 +184,8 @@ module _ (fits : ℕ → List Record → Type 0) (decl : Declaration) (script : 
   pub life_named : t.tx.life ≡ life_of_records (records_of h a)
   life_named =
       ap (λ (x : TxId). x.life) (sym named ∙ b.0.named)
-      ∙ (clients_kept decl (net fits decl script h open_inputs accepted sound run kept) (reached fits decl script h open_inputs accepted sound run kept).reached a client ((reached fits decl script h open_inputs accepted sound run kept).up_is a (inr client) ∙ o.up)).life
-      ∙ ap life_of_records ((reached fits decl script h open_inputs accepted sound run kept).records_are a (inr client))
+      ∙ (clients_kept decl (net fits decl script h open_inputs accepted sound run kept) (reached fits decl script h open_inputs accepted sound run kept).reached a client ((reached fits decl script h open_inputs accepted sound run kept).up_is a (inr (inl client)) ∙ o.up)).life
+      ∙ ap life_of_records ((reached fits decl script h open_inputs accepted sound run kept).records_are a (inr (inl client)))
 
   -- it is its client's own
   pub client_named : t.tx.client ≡ a - decl.sites

@@ -2,12 +2,14 @@
 -- input, and there it is due.
 use Rattle.std.proofs.Common.{◌≡◌, ◌+◌, ◌-◌, not, ℕ, Bool, true, false, cond, List, [], ◌∷◌, ◌++◌, inl, inr, length, Option, Some, None, slice_get, refl, sym, ap, ◌∙◌, subst}
 use Rattle.std.proofs.lemmas.List.{append-nil}
-use Rattle.qc_core.specs.Actors.{ActorMove, actor_after, actor_takes, by_client, by_site}
+use Rattle.qc_core.proofs.AdminOver.{WritesAsAdmin, admin_over}
+use Rattle.qc_core.proofs.ByNumber.{rises_by}
+use Rattle.qc_core.specs.Actors.{ActorMove, actor_after, actor_takes}
 use Rattle.qc_core.specs.Conduct.{IsLawfulWithFalls, with_record}
 use Rattle.qc_core.specs.Lives.{is_up}
 use Rattle.qc_core.proofs.LivesLaws as actor_laws
 use Rattle.qc_decl.specs.Accepted.{IsAccepted}
-use Rattle.qc_decl.specs.Actors.{is_client, is_site}
+use Rattle.qc_decl.specs.Actors.{administrator, is_client, is_site}
 use Rattle.qc_decl.specs.declared.declaration.Declaration.{Declaration}
 use Rattle.qc_entry.specs.declared.record.Commit.{Commit as CommitRecord}
 use Rattle.qc_votes.proofs.Clients.{IsCommitting, client_at, committing}
@@ -37,12 +39,10 @@ use Rattle.qc_atomic.proofs.Posted.{taken_writes}
 use Rattle.qc_atomic.proofs.Silent.{site_silent}
 use Rattle.qc_guarantees.proofs.Moments.{First, IsFirst, Second, first_posted, none_in, one_in, split, wrote}
 use Rattle.qc_promise.specs.Kept.{Kept}
-use Rattle.qc_reach.proofs.Posting.{no_turn}
+use Rattle.qc_reach.proofs.Posting.{takes_inputs}
 use Rattle.qc_reach.proofs.RunsStand.{kept_of_first}
 use Rattle.qc_reach.proofs.Stood.{in_site}
-use Rattle.qc_reach.specs.Reached.{HasTaken}
-use Rattle.qc_recover.specs.Clients.{client_rises}
-use Rattle.qc_recover.specs.Sites.{site_rises}
+use Rattle.qc_reach.specs.Reached.{HasTaken, TakesInputs}
 use Rattle.qc_script.specs.Ready.{controller_step, phase_of}
 use Rattle.qc_script.specs.RunsWithFalls.{RunsWithFalls, begins, takes, posts, phase, control, falls, rises, damaged, unopened}
 use Rattle.qc_script.specs.Sound.{IsScriptFor}
@@ -114,31 +114,38 @@ module _ (fits : ℕ → List Record → Type 0) (decl : Declaration) (script : 
 
     -- so a client does, where it is due
     pub posted : slice_get inputs b ≡ Some true → IsLawfulWithFalls decl b ds turn → WroteAt h b c
-    posted taken law = by (is_site decl b) (is_client decl b) refl refl
+    posted taken law = by_kind (takes_inputs decl b ds turn law)
       where
-        by : (s t : Bool) → is_site decl b ≡ s → is_client decl b ≡ t → WroteAt h b c
-        by true t site client = absurd (silent site taken law)
-        by false true none client = record {
+        -- the administrator doesn't write it
+        admin_silent : b ≡ administrator decl → ⊥
+        admin_silent at =
+            let w : WritesAsAdmin (actor_after decl b ds).turn.write = subst (λ (a : ℕ). WritesAsAdmin (actor_after decl a ds).turn.write) (sym at) (admin_over decl ds).writes in
+            subst WritesAsAdmin (ap (λ (t : Turn). t.write) (due decl b ds turn law) ∙ writes) w
+
+        by_kind : TakesInputs decl b → WroteAt h b c
+        by_kind (inl site) = absurd (silent site taken law)
+        by_kind (inr (inl client)) = record {
           open_inputs = inputs;
           run = run;
           kept = kept;
           client = client;
           commits = committing decl b client ds (client_at fits decl script h inputs accepted sound run kept b client true taken) turn law c writes;
         }
-        by false false none no_client = absurd (no_turn decl b ds turn law none no_client)
+        by_kind (inr (inr at)) = absurd (admin_silent at)
 
     -- and nobody as it rises
     pub risen : (rs : List Record) → IsLawfulWithFalls decl b (deeds b [] (h ++ marked b (steps.Rose rs) ∷ [])) turn → ⊥
-    risen rs law = by (is_site decl b) same
+    risen rs law = by (is_site decl b) (is_client decl b) same
       where
-        same : (cond (is_site decl b) (by_site (site_rises decl b rs)) (by_client (client_rises (b - decl.sites) rs))).turn ≡ with_record turn
+        same : (rises_by decl b rs (is_site decl b) (is_client decl b)).turn ≡ with_record turn
         same =
             ap (λ (m : ActorMove). m.turn) (sym (ap (actor_after decl b) (deeds-append b [] h (by b (steps.Rose rs ∷ [])) ∙ ap (λ (v : List Deed). ds ++ v) (deeds-rose b (mail h) rs)) ∙ actor_laws.rises decl b ds rs))
             ∙ due decl b (deeds b [] (h ++ marked b (steps.Rose rs) ∷ [])) turn law
 
-        by : (s : Bool) → (cond s (by_site (site_rises decl b rs)) (by_client (client_rises (b - decl.sites) rs))).turn ≡ with_record turn → ⊥
-        by true is = let both : Some records.Life ≡ Some (records.Commit c) = ap (λ (t : Turn). t.write) is ∙ writes in let never : ⊥ = cc in never
-        by false is = let both : Some records.Life ≡ Some (records.Commit c) = ap (λ (t : Turn). t.write) is ∙ writes in let never : ⊥ = cc in never
+        by : (s t : Bool) → (rises_by decl b rs s t).turn ≡ with_record turn → ⊥
+        by true t is = let both : Some records.Life ≡ Some (records.Commit c) = ap (λ (t : Turn). t.write) is ∙ writes in let never : ⊥ = cc in never
+        by false true is = let both : Some records.Life ≡ Some (records.Commit c) = ap (λ (t : Turn). t.write) is ∙ writes in let never : ⊥ = cc in never
+        by false false is = let both : Some records.Life ≡ Some (records.Commit c) = ap (λ (t : Turn). t.write) is ∙ writes in let never : ⊥ = cc in never
 
   pub moment : (h : List Entry) (inputs : List Bool) → IsRun h inputs → Kept h → (before : List Entry) (a : ℕ) (c : CommitRecord) (after : List Entry) → h ≡ before ++ wrote a c ∷ after → WroteAt before a c
   moment h inputs begins kept before a c after is = absurd (none_in [] (λ e never. absurd never) before a c after is)

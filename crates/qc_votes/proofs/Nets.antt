@@ -1,5 +1,5 @@
 -- Of a run with falls whose records are kept: its net, the machine's run that this is, and what stands behind its mail.
-use Rattle.std.proofs.Common.{◌≡◌, ◌↔◌, ℕ, Bool, List, Some, slice_get, sym, ap, ◌∙◌, subst}
+use Rattle.std.proofs.Common.{◌≡◌, ◌↔◌, ℕ, Bool, List, Some, slice_get, sym, ap, ◌∙◌, subst, inl}
 use Rattle.qc_core.specs.Conduct.{IsLawfulWithFalls}
 use Rattle.qc_decl.specs.Accepted.{IsAccepted}
 use Rattle.qc_decl.specs.declared.declaration.Declaration.{Declaration}
@@ -74,4 +74,4 @@ module _ (fits : ℕ → List Record → Type 0) (decl : Declaration) (script : 
   of_machine c among =
       let is : IsOfClient decl (records_of h) c = stand.each c ((listed c).0 among) in
       let agree : Agree decl net.records net.written = written_are decl accepted net reached.reached in
-      refined.agrees.records c (agree.all c (record { actor = is.actor; client = is.client; listed = subst (In (journals.Commit c)) (sym (reached.records_are is.actor (inr is.client))) is.listed }))
+      refined.agrees.records c (agree.all c (record { actor = is.actor; client = is.client; listed = subst (In (journals.Commit c)) (sym (reached.records_are is.actor (inr (inl is.client)))) is.listed }))

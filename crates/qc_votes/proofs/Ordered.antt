@@ -1,10 +1,10 @@
 -- What a site holds is in order, whatever it took and whatever records it rose with.
 use Rattle.std.proofs.Common.{◌≡◌, ℕ, ◌-◌, Bool, true, false, cond, List, [], ◌∷◌, ◌++◌, fold, subst}
-use Rattle.qc_client.specs.Client.{new_client}
 use Rattle.qc_core.specs.declared.actor.Actor.{Actor}
-use Rattle.qc_core.specs.declared.actor.Actor.TheVariants.{Site, Client, Down}
-use Rattle.qc_core.specs.Actors.{ActorMove, actor_after, actor_does, actor_rises, actor_sends, actor_takes, by_client, by_site, moved}
-use Rattle.qc_decl.specs.Actors.{is_site}
+use Rattle.qc_core.specs.declared.actor.Actor.TheVariants.{Site, Client, Admin, Down}
+use Rattle.qc_core.specs.Actors.{ActorMove, actor_after, actor_does, actor_rises, actor_sends, actor_takes, moved}
+use Rattle.qc_core.proofs.ByNumber.{new_by, rises_by}
+use Rattle.qc_decl.specs.Actors.{is_client, is_site}
 use Rattle.qc_decl.specs.declared.declaration.Declaration.{Declaration}
 use Rattle.qc_entry.specs.declared.record.Prepared.{Prepared}
 use Rattle.qc_lock.proofs.Order.{sound-without}
@@ -17,17 +17,17 @@ use Rattle.qc_msg.specs.declared.record.Record.{Record}
 use Rattle.qc_msg.specs.declared.record.Record.TheVariants as records
 use Rattle.qc_msg.specs.declared.step.Given.{Given}
 use Rattle.qc_msg.specs.declared.step.Given.TheVariants as given
-use Rattle.qc_recover.specs.Clients.{client_rises}
-use Rattle.qc_recover.specs.Sites.{kept_by, site_rises}
+use Rattle.qc_recover.specs.Sites.{kept_by}
 use Rattle.qc_site.specs.Epochs.{holds}
 use Rattle.qc_site.proofs.Cases.{state_cases}
 use Rattle.qc_site.proofs.Sorted.{held-sound, sound-held}
 use Rattle.qc_site.specs.Conduct.{passed, site_at, site_takes}
-use Rattle.qc_site.specs.Site.{SiteState, new_site}
+use Rattle.qc_site.specs.Site.{SiteState}
 
 abbrev HoldsInOrder : Actor → Type 0
 HoldsInOrder (Site s) = IsSound s.held
 HoldsInOrder (Client c) = Unit {0}
+HoldsInOrder (Admin m) = Unit {0}
 HoldsInOrder Down = Unit {0}
 
 -- each input
@@ -51,11 +51,13 @@ site_taken decl s (given.Lost number) sound = sound
 taken : (decl : Declaration) (v : Actor) (g : Given) → HoldsInOrder v → HoldsInOrder (actor_takes decl v g).actor
 taken decl (Site s) g sound = site_taken decl s g sound
 taken decl (Client c) g sound = tt
+taken decl (Admin m) g sound = tt
 taken decl Down g sound = tt
 
 sent : (v : Actor) (number to : ℕ) (message : Message) → HoldsInOrder v → HoldsInOrder (actor_sends v number to message)
 sent (Site s) number to message sound = sound
 sent (Client c) number to message sound = tt
+sent (Admin m) number to message sound = tt
 sent Down number to message sound = tt
 
 -- a rise
@@ -65,11 +67,12 @@ promises_held held [] sound = sound
 promises_held held (p ∷ ps) sound = promises_held (holds held p) ps (sound-held held p.tx p.locks p.own sound)
 
 risen : (decl : Declaration) (a : ℕ) (rs : List Record) → HoldsInOrder (actor_rises decl a rs).actor
-risen decl a rs = at (is_site decl a)
+risen decl a rs = at (is_site decl a) (is_client decl a)
   where
-    at : (t : Bool) → HoldsInOrder (cond t (by_site (site_rises decl a rs)) (by_client (client_rises (a - decl.sites) rs))).actor
-    at true = promises_held [] (kept_by (rs ++ records.Life ∷ [])).promises none_held
-    at false = tt
+    at : (site client : Bool) → HoldsInOrder (rises_by decl a rs site client).actor
+    at true client = promises_held [] (kept_by (rs ++ records.Life ∷ [])).promises none_held
+    at false true = tt
+    at false false = tt
 
 -- all deeds
 
@@ -84,8 +87,9 @@ over decl a m (Rises rs ∷ ds) sound = over decl a (actor_rises decl a rs) ds (
 
 -- a site after its deeds
 pub holds_in_order : (decl : Declaration) (a : ℕ) (ds : List Deed) (s : SiteState) → (actor_after decl a ds).actor ≡ Site s → IsSound s.held
-holds_in_order decl a ds s is = subst HoldsInOrder is (over decl a _ ds (at (is_site decl a)))
+holds_in_order decl a ds s is = subst HoldsInOrder is (over decl a _ ds (at (is_site decl a) (is_client decl a)))
   where
-    at : (t : Bool) → HoldsInOrder (cond t (Site (new_site a)) (Client (new_client (a - decl.sites))))
-    at true = none_held
-    at false = tt
+    at : (site client : Bool) → HoldsInOrder (new_by decl a site client)
+    at true client = none_held
+    at false true = tt
+    at false false = tt

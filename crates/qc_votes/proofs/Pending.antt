@@ -93,8 +93,8 @@ module _ (fits : ℕ → List Record → Type 0) (decl : Declaration) (script : 
   pub pends : (w : ℕ) (c : CommitRecord) → is_client decl w ≡ true → (journal_of (own w h)).pending ≡ Some (records.Commit c) → MayCommit (now fits decl script h open_inputs accepted sound run kept) c × (c.tx.client ≡ w - decl.sites)
   pends w c client pending =
       subst (IsPendingBy (now fits decl script h open_inputs accepted sound run kept) (w - decl.sites))
-      ((reached fits decl script h open_inputs accepted sound run kept).pending_is w (inr client) ∙ pending)
-      ((refined fits decl script h open_inputs accepted sound run kept).agrees.fallen w client ((reached fits decl script h open_inputs accepted sound run kept).up_is w (inr client) ∙ down w client (records.Commit c) pending)).pends
+      ((reached fits decl script h open_inputs accepted sound run kept).pending_is w (inr (inl client)) ∙ pending)
+      ((refined fits decl script h open_inputs accepted sound run kept).agrees.fallen w client ((reached fits decl script h open_inputs accepted sound run kept).up_is w (inr (inl client)) ∙ down w client (records.Commit c) pending)).pends
 
   module _ (a : ℕ) (client : is_client decl a ≡ true) (t : Current) (begun : (account decl a h).current ≡ Some t) (safe : IsSafe (refined fits decl script h open_inputs accepted sound run kept).acts t.tx)
       (w : ℕ) (writer : is_client decl w ≡ true) (c : CommitRecord) (apart : c.tx ≢ t.tx) where
@@ -118,7 +118,7 @@ module _ (fits : ℕ → List Record → Type 0) (decl : Declaration) (script : 
       run = (refined fits decl script h open_inputs accepted sound run kept).run;
       alive = live fits decl script h open_inputs accepted sound run kept a client t begun;
       safe = safe;
-      among = (refined fits decl script h open_inputs accepted sound run kept).agrees.records c (agree.all c (record { actor = w; client = writer; listed = subst (In (records.Commit c)) (sym ((reached fits decl script h open_inputs accepted sound run kept).records_are w (inr writer))) among }));
+      among = (refined fits decl script h open_inputs accepted sound run kept).agrees.records c (agree.all c (record { actor = w; client = writer; listed = subst (In (records.Commit c)) (sym ((reached fits decl script h open_inputs accepted sound run kept).records_are w (inr (inl writer)))) among }));
     }
       where
         agree : Agree decl (net fits decl script h open_inputs accepted sound run kept).records (net fits decl script h open_inputs accepted sound run kept).written

@@ -3,14 +3,14 @@
 use Rattle.std.proofs.Common.{fold, ◌≡◌, ◌≤◌, ◌-◌, not, nat_le, max, if◌then◌else◌, ℕ, Bool, true, false, cond, List, [], ◌∷◌, ◌++◌, inl, inr, Option, Some, None, option_to_list, refl, sym, ap, ◌∙◌, subst, arith, append_assoc}
 use Rattle.std.proofs.lemmas.List.Sums.{fold-append}
 use Rattle.qc_due.proofs.Standing.{actor_more}
+use Rattle.qc_core.proofs.ByNumber.{site_new, site_risen}
 use Rattle.qc_core.proofs.LivesLaws.{rises as actor_rising}
-use Rattle.qc_core.specs.Actors.{ActorMove, actor_after, actor_takes, by_client, by_site}
+use Rattle.qc_core.specs.Actors.{ActorMove, actor_after, actor_takes, by_site}
 use Rattle.qc_core.specs.Conduct.{IsLawfulWithFalls}
 use Rattle.qc_core.specs.Journals.{journal_after, journal_at}
 use Rattle.qc_core.specs.Sites.{Serves, crashes, rises, serves, starts, stays_up, unopened}
 use Rattle.qc_core.specs.declared.actor.Actor.{Actor}
-use Rattle.qc_core.specs.declared.actor.Actor.TheVariants.{Site, Client}
-use Rattle.qc_client.specs.Client.{new_client}
+use Rattle.qc_core.specs.declared.actor.Actor.TheVariants.{Site}
 use Rattle.qc_decl.specs.Actors.{is_site}
 use Rattle.qc_decl.specs.Limits.{most_record_bytes}
 use Rattle.qc_decl.specs.declared.declaration.Declaration.{Declaration}
@@ -51,7 +51,6 @@ use Rattle.qc_promise.specs.Kept.{Journal, no_journal}
 use Rattle.qc_onecopy.proofs.Lists.{in_split}
 use Rattle.qc_reach.proofs.Growing.{actor_posted, all_sent, journal_posted}
 use Rattle.qc_recover.proofs.SiteLaws.{clocks_passed, locks_held}
-use Rattle.qc_recover.specs.Clients.{client_rises}
 use Rattle.qc_recover.specs.Sites.{nothing_kept, site_of, site_rises}
 use Rattle.qc_site.specs.Conduct.{clock_after, clock_asked, clock_told, latest, passed, site_on, site_takes}
 use Rattle.qc_site.specs.Promise.{dropped, finishes, joins, prepared_of, is_prepared, promise_of, promised, votes, without_prepared}
@@ -291,7 +290,7 @@ module _ (decl : Declaration) (site : ℕ) (is : is_site decl site ≡ true) whe
   pub stands : (ds : List Deed) (up : Bool) → Serves decl site ds up → up ≡ true → Stands ds
   stands ds up starts on = record {
     s = new_site site;
-    at = ap (λ (b : Bool). cond b (Site (new_site site)) (Client (new_client (site - decl.sites)))) is;
+    at = site_new decl site is;
     keeps = record { locks = λ p never. absurd never; dones = λ tx done never. absurd never };
   }
   stands ds up (serves before g turn n served ok lawful) on = by turn.append (was_written turn.append on) (stands before true served refl)
@@ -310,7 +309,7 @@ module _ (decl : Declaration) (site : ℕ) (is : is_site decl site ≡ true) whe
       by : (end : Appended) → end ≡ ends.Done → Stands (before ++ Rises rs ∷ deeds_as end n turn)
       by ends.Done done = subst Stands (append_assoc before (Rises rs ∷ []) (turn_deeds n turn))
           (posted (before ++ Rises rs ∷ []) (site_rises decl site rs) (record { records = rs; pending = None }) n turn
-          (actor_rising decl site before rs ∙ ap (λ (b : Bool). cond b (by_site (site_rises decl site rs)) (by_client (client_rises (site - decl.sites) rs))) is)
+          (actor_rising decl site before rs ∙ site_risen decl site is rs)
           (fold-append journal_at no_journal before (Rises rs ∷ [])) lawful (risen_keeps site (rs ++ records.Life ∷ [])))
       by ends.Failed done = absurd (let never : ⊥ = cc in never)
       by ends.Stopped done = absurd (let never : ⊥ = cc in never)

@@ -3,7 +3,8 @@
 use Rattle.std.proofs.Common.{◌≡◌, ◌⊎◌, ◌+◌, ◌-◌, ◌==◌, ℕ, Bool, true, false, cond, List, [], ◌∷◌, ◌++◌, inl, inr, length, Option, Some, None, option_to_list, slice_get, refl, sym, ap, ◌∙◌, subst, append_assoc, eqb-true}
 use Rattle.qc_due.proofs.Standing.{actor_more, turn_is}
 use Rattle.qc_client.specs.Conduct.{client_takes}
-use Rattle.qc_core.specs.Actors.{ActorMove, actor_after, actor_takes, by_client, by_site}
+use Rattle.qc_core.specs.Actors.{ActorMove, actor_after, actor_takes}
+use Rattle.qc_core.proofs.ByNumber.{client_risen}
 use Rattle.qc_core.specs.Conduct.{IsLawfulWithFalls, with_record}
 use Rattle.qc_core.specs.Journals.{journal_after, journal_at}
 use Rattle.qc_core.proofs.LivesLaws.{journal}
@@ -37,9 +38,6 @@ use Rattle.qc_onecopy.proofs.Lists.{in_split}
 use Rattle.qc_promise.specs.Kept.{IsGivenBack, Journal, Kept, journal_of, journal_with, no_journal}
 use Rattle.qc_reach.proofs.Growing.{ended_journal, journal_posted}
 use Rattle.qc_reach.proofs.RunsStand.{kept_of_first}
-use Rattle.qc_reach.proofs.Stood.{not_site}
-use Rattle.qc_recover.specs.Clients.{client_rises}
-use Rattle.qc_recover.specs.Sites.{site_rises}
 use Rattle.qc_script.specs.Ready.{controller_step, phase_of}
 use Rattle.qc_script.specs.RunsWithFalls.{RunsWithFalls, begins, takes, posts, phase, control, falls, rises, damaged, unopened}
 use Rattle.qc_script.specs.Sound.{IsScriptFor}
@@ -222,7 +220,7 @@ module _ (fits : ℕ → List Record → Type 0) (decl : Declaration) (script : 
         writes_life mine =
             ap (λ (t : Turn). t.write)
             (sym (turn_is decl b mine (deeds b [] (h ++ marked b (steps.Rose given) ∷ [])) turn law) ∙ ap (λ (v : List Deed). (actor_after decl b v).turn) rose ∙ ap (λ (m : ActorMove). m.turn) (actor_laws.rises decl b (deeds b [] h) given)
-            ∙ ap (λ (t : Bool). (cond t (by_site (site_rises decl b given)) (by_client (client_rises (b - decl.sites) given))).turn) (not_site decl b mine))
+            ∙ ap (λ (m : ActorMove). m.turn) (client_risen decl b mine given))
 
         given_here : is_client decl b ≡ true → IsKnown c (ended_journal turn.append turn.write (record { records = given; pending = None })) → In (Commit c) given
         given_here mine here = elim (posted_known c turn.append turn.write (record { records = given; pending = None }) here) [

@@ -7,7 +7,8 @@ use Rattle.qc_due.proofs.Standing.{IsAtInput, Stands, actor_more, turn_is}
 use Rattle.qc_due.proofs.Writing.{IsClientTurn, IsCommitTurn, takes_turn}
 use Rattle.qc_client.specs.Conduct.{client_takes}
 use Rattle.qc_core.proofs.LivesLaws as actor_laws
-use Rattle.qc_core.specs.Actors.{ActorMove, actor_after, actor_takes, by_client, by_site, down_takes}
+use Rattle.qc_core.specs.Actors.{ActorMove, actor_after, actor_takes, down_takes}
+use Rattle.qc_core.proofs.ByNumber.{rises_by}
 use Rattle.qc_core.specs.Conduct.{IsLawfulWithFalls, with_record}
 use Rattle.qc_decl.specs.Accepted.{IsAccepted}
 use Rattle.qc_decl.specs.Actors.{is_client, is_site}
@@ -36,8 +37,6 @@ use Rattle.qc_guarantees.proofs.Moments.{First, Second, split}
 use Rattle.qc_votes.specs.Replies.{EndsTurn, IsRunWithout, unknown_fall}
 use Rattle.qc_promise.specs.Kept.{Kept}
 use Rattle.qc_reach.proofs.RunsStand.{kept_of_first}
-use Rattle.qc_recover.specs.Clients.{client_rises}
-use Rattle.qc_recover.specs.Sites.{site_rises}
 use Rattle.qc_script.specs.Ready.{phase_of}
 use Rattle.qc_script.specs.RunsWithFalls.{RunsWithFalls, begins, takes, posts, phase, control, falls, rises, damaged, unopened}
 use Rattle.qc_script.specs.Sound.{IsScriptFor}
@@ -186,16 +185,17 @@ module _ (fits : ℕ → List Record → Type 0) (decl : Declaration) (script : 
 
   -- a rising turn tells nothing
   risen_silent : (older : List Entry) (b : ℕ) (rs : List Record) (turn : Turn) → IsLawfulWithFalls decl b (deeds b [] (older ++ marked b (steps.Rose rs) ∷ [])) turn → (turn.told ≡ None) × (turn.failed_told ≡ None)
-  risen_silent older b rs turn law = by (is_site decl b) same
+  risen_silent older b rs turn law = by (is_site decl b) (is_client decl b) same
     where
-      same : (cond (is_site decl b) (by_site (site_rises decl b rs)) (by_client (client_rises (b - decl.sites) rs))).turn ≡ with_record turn
+      same : (rises_by decl b rs (is_site decl b) (is_client decl b)).turn ≡ with_record turn
       same =
           ap (λ (m : ActorMove). m.turn) (sym (ap (actor_after decl b) (deeds-append b [] older (post.by b (steps.Rose rs ∷ [])) ∙ ap (λ (v : List Deed). deeds b [] older ++ v) (deeds-rose b (mail older) rs)) ∙ actor_laws.rises decl b (deeds b [] older) rs))
           ∙ due decl b (deeds b [] (older ++ marked b (steps.Rose rs) ∷ [])) turn law
 
-      by : (s : Bool) → (cond s (by_site (site_rises decl b rs)) (by_client (client_rises (b - decl.sites) rs))).turn ≡ with_record turn → (turn.told ≡ None) × (turn.failed_told ≡ None)
-      by true is = (ap (λ (t : Turn). t.told) (sym is), ap (λ (t : Turn). t.failed_told) (sym is))
-      by false is = (ap (λ (t : Turn). t.told) (sym is), ap (λ (t : Turn). t.failed_told) (sym is))
+      by : (s c : Bool) → (rises_by decl b rs s c).turn ≡ with_record turn → (turn.told ≡ None) × (turn.failed_told ≡ None)
+      by true c is = (ap (λ (t : Turn). t.told) (sym is), ap (λ (t : Turn). t.failed_told) (sym is))
+      by false true is = (ap (λ (t : Turn). t.told) (sym is), ap (λ (t : Turn). t.failed_told) (sym is))
+      by false false is = (ap (λ (t : Turn). t.told) (sym is), ap (λ (t : Turn). t.failed_told) (sym is))
 
   pub replies_end : (h : List Entry) (inputs : List Bool) → IsRun h inputs → Kept h → (before : List Entry) (a : ℕ) (reply : Reply) (after : List Entry) → is_client decl a ≡ true → h ≡ before ++ tells a reply ∷ after → Ends h a before reply
   replies_end h inputs begins kept before a reply after client is = absurd (silent_none [] (λ e never. absurd never) before a reply after is)

@@ -2,7 +2,8 @@
 -- one; and no other event votes.
 use Rattle.std.proofs.Common.{◌≡◌, ◌≤◌, ◌⊎◌, ℕ, not, Bool, true, false, cond, List, [], ◌∷◌, ◌++◌, inl, inr, length, map, take, ◌-◌, Some, option_to_list, slice_get, refl, sym, ap, ◌∙◌, subst, arith}
 use Rattle.qc_core.specs.declared.actor.Actor.{Actor}
-use Rattle.qc_core.specs.Actors.{ActorMove, actor_after, actor_takes, by_client, by_site}
+use Rattle.qc_core.specs.Actors.{ActorMove, actor_after, actor_takes, by_site}
+use Rattle.qc_core.proofs.ByNumber.{site_risen}
 use Rattle.qc_core.specs.Conduct.{IsLawfulWithFalls, with_record}
 use Rattle.qc_core.specs.Journals.{journal_after}
 use Rattle.qc_core.specs.Lives.{is_up}
@@ -51,7 +52,6 @@ use Rattle.qc_reach.proofs.Growing.{journal_posted}
 use Rattle.qc_reach.proofs.Posting.{never_up}
 use Rattle.qc_reach.proofs.Stood.{Stands, Stood, in_site}
 use Rattle.qc_reach.specs.Reached.{HasTaken}
-use Rattle.qc_recover.specs.Clients.{client_rises}
 use Rattle.qc_recover.specs.Sites.{kept_by, most_inquiries, site_rises}
 use Rattle.qc_site.specs.Epochs.{closed, in_order, shut_answer}
 use Rattle.qc_site.proofs.Cases.{append_cases, close_cases, install_cases, join_cases, prepare_cases, read_cases, request_cases, state_cases}
@@ -254,7 +254,7 @@ module _ (decl : Declaration) (accepted : IsAccepted decl) (h : List Entry) (inp
     where
       turn_is : (site_rises decl a records).turn ≡ with_record turn
       turn_is =
-          ap (λ (m : ActorMove). m.turn) (sym (ap (λ (t : Bool). cond t (by_site (site_rises decl a records)) (by_client (client_rises (a - decl.sites) records))) site)
+          ap (λ (m : ActorMove). m.turn) (sym (site_risen decl a site records)
           ∙ sym (actor_laws.rises decl a (deeds a [] h) records)
           ∙ ap (actor_after decl a) (sym (deeds-append a [] h (by a (steps.Rose records ∷ [])) ∙ ap (λ (v : List Deed). deeds a [] h ++ v) (deeds-rose a (mail h) records))))
           ∙ due decl a (deeds a [] (h ++ by a (steps.Rose records ∷ []))) turn law

@@ -42,4 +42,5 @@ too_long_due = record {
   mail = mailed_where_shown [] long_transaction.too_long refl;
   replies = all_due_where_shown three long_transaction.too_long three.clients refl;
   sites = sites_due_where_posted three long_transaction.too_long three.sites refl;
+  admin = tt;
 }

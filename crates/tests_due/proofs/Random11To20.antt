@@ -22,6 +22,7 @@ random11_due = record {
   mail = mailed_where_shown [] random11.history refl;
   replies = all_due_where_shown random11.decl random11.history random11.decl.clients refl;
   sites = sites_due_where_posted random11.decl random11.history random11.decl.sites refl;
+  admin = tt;
 }
 
 pub random12_due : Due random12.decl random12.history
@@ -30,6 +31,7 @@ random12_due = record {
   mail = mailed_where_shown [] random12.history refl;
   replies = all_due_where_shown random12.decl random12.history random12.decl.clients refl;
   sites = sites_due_where_posted random12.decl random12.history random12.decl.sites refl;
+  admin = tt;
 }
 
 pub random13_due : Due random13.decl random13.history
@@ -38,6 +40,7 @@ random13_due = record {
   mail = mailed_where_shown [] random13.history refl;
   replies = all_due_where_shown random13.decl random13.history random13.decl.clients refl;
   sites = sites_due_where_posted random13.decl random13.history random13.decl.sites refl;
+  admin = tt;
 }
 
 pub random14_due : Due random14.decl random14.history
@@ -46,6 +49,7 @@ random14_due = record {
   mail = mailed_where_shown [] random14.history refl;
   replies = all_due_where_shown random14.decl random14.history random14.decl.clients refl;
   sites = sites_due_where_posted random14.decl random14.history random14.decl.sites refl;
+  admin = tt;
 }
 
 pub random15_due : Due random15.decl random15.history
@@ -54,6 +58,7 @@ random15_due = record {
   mail = mailed_where_shown [] random15.history refl;
   replies = all_due_where_shown random15.decl random15.history random15.decl.clients refl;
   sites = sites_due_where_posted random15.decl random15.history random15.decl.sites refl;
+  admin = tt;
 }
 
 pub random16_due : Due random16.decl random16.history
@@ -62,6 +67,7 @@ random16_due = record {
   mail = mailed_where_shown [] random16.history refl;
   replies = all_due_where_shown random16.decl random16.history random16.decl.clients refl;
   sites = sites_due_where_posted random16.decl random16.history random16.decl.sites refl;
+  admin = tt;
 }
 
 pub random17_due : Due random17.decl random17.history
@@ -70,6 +76,7 @@ random17_due = record {
   mail = mailed_where_shown [] random17.history refl;
   replies = all_due_where_shown random17.decl random17.history random17.decl.clients refl;
   sites = sites_due_where_posted random17.decl random17.history random17.decl.sites refl;
+  admin = tt;
 }
 
 pub random18_due : Due random18.decl random18.history
@@ -78,6 +85,7 @@ random18_due = record {
   mail = mailed_where_shown [] random18.history refl;
   replies = all_due_where_shown random18.decl random18.history random18.decl.clients refl;
   sites = sites_due_where_posted random18.decl random18.history random18.decl.sites refl;
+  admin = tt;
 }
 
 pub random19_due : Due random19.decl random19.history
@@ -86,6 +94,7 @@ random19_due = record {
   mail = mailed_where_shown [] random19.history refl;
   replies = all_due_where_shown random19.decl random19.history random19.decl.clients refl;
   sites = sites_due_where_posted random19.decl random19.history random19.decl.sites refl;
+  admin = tt;
 }
 
 pub random20_due : Due random20.decl random20.history
@@ -94,4 +103,5 @@ random20_due = record {
   mail = mailed_where_shown [] random20.history refl;
   replies = all_due_where_shown random20.decl random20.history random20.decl.clients refl;
   sites = sites_due_where_posted random20.decl random20.history random20.decl.sites refl;
+  admin = tt;
 }

@@ -22,6 +22,7 @@ random1_due = record {
   mail = mailed_where_shown [] random1.history refl;
   replies = all_due_where_shown random1.decl random1.history random1.decl.clients refl;
   sites = sites_due_where_posted random1.decl random1.history random1.decl.sites refl;
+  admin = tt;
 }
 
 pub random2_due : Due random2.decl random2.history
@@ -30,6 +31,7 @@ random2_due = record {
   mail = mailed_where_shown [] random2.history refl;
   replies = all_due_where_shown random2.decl random2.history random2.decl.clients refl;
   sites = sites_due_where_posted random2.decl random2.history random2.decl.sites refl;
+  admin = tt;
 }
 
 pub random3_due : Due random3.decl random3.history
@@ -38,6 +40,7 @@ random3_due = record {
   mail = mailed_where_shown [] random3.history refl;
   replies = all_due_where_shown random3.decl random3.history random3.decl.clients refl;
   sites = sites_due_where_posted random3.decl random3.history random3.decl.sites refl;
+  admin = tt;
 }
 
 pub random4_due : Due random4.decl random4.history
@@ -46,6 +49,7 @@ random4_due = record {
   mail = mailed_where_shown [] random4.history refl;
   replies = all_due_where_shown random4.decl random4.history random4.decl.clients refl;
   sites = sites_due_where_posted random4.decl random4.history random4.decl.sites refl;
+  admin = tt;
 }
 
 pub random5_due : Due random5.decl random5.history
@@ -54,6 +58,7 @@ random5_due = record {
   mail = mailed_where_shown [] random5.history refl;
   replies = all_due_where_shown random5.decl random5.history random5.decl.clients refl;
   sites = sites_due_where_posted random5.decl random5.history random5.decl.sites refl;
+  admin = tt;
 }
 
 pub random6_due : Due random6.decl random6.history
@@ -62,6 +67,7 @@ random6_due = record {
   mail = mailed_where_shown [] random6.history refl;
   replies = all_due_where_shown random6.decl random6.history random6.decl.clients refl;
   sites = sites_due_where_posted random6.decl random6.history random6.decl.sites refl;
+  admin = tt;
 }
 
 pub random7_due : Due random7.decl random7.history
@@ -70,6 +76,7 @@ random7_due = record {
   mail = mailed_where_shown [] random7.history refl;
   replies = all_due_where_shown random7.decl random7.history random7.decl.clients refl;
   sites = sites_due_where_posted random7.decl random7.history random7.decl.sites refl;
+  admin = tt;
 }
 
 pub random8_due : Due random8.decl random8.history
@@ -78,6 +85,7 @@ random8_due = record {
   mail = mailed_where_shown [] random8.history refl;
   replies = all_due_where_shown random8.decl random8.history random8.decl.clients refl;
   sites = sites_due_where_posted random8.decl random8.history random8.decl.sites refl;
+  admin = tt;
 }
 
 pub random9_due : Due random9.decl random9.history
@@ -86,6 +94,7 @@ random9_due = record {
   mail = mailed_where_shown [] random9.history refl;
   replies = all_due_where_shown random9.decl random9.history random9.decl.clients refl;
   sites = sites_due_where_posted random9.decl random9.history random9.decl.sites refl;
+  admin = tt;
 }
 
 pub random10_due : Due random10.decl random10.history
@@ -94,4 +103,5 @@ random10_due = record {
   mail = mailed_where_shown [] random10.history refl;
   replies = all_due_where_shown random10.decl random10.history random10.decl.clients refl;
   sites = sites_due_where_posted random10.decl random10.history random10.decl.sites refl;
+  admin = tt;
 }

@@ -22,6 +22,7 @@ random21_due = record {
   mail = mailed_where_shown [] random21.history refl;
   replies = all_due_where_shown random21.decl random21.history random21.decl.clients refl;
   sites = sites_due_where_posted random21.decl random21.history random21.decl.sites refl;
+  admin = tt;
 }
 
 pub random22_due : Due random22.decl random22.history
@@ -30,6 +31,7 @@ random22_due = record {
   mail = mailed_where_shown [] random22.history refl;
   replies = all_due_where_shown random22.decl random22.history random22.decl.clients refl;
   sites = sites_due_where_posted random22.decl random22.history random22.decl.sites refl;
+  admin = tt;
 }
 
 pub random23_due : Due random23.decl random23.history
@@ -38,6 +40,7 @@ random23_due = record {
   mail = mailed_where_shown [] random23.history refl;
   replies = all_due_where_shown random23.decl random23.history random23.decl.clients refl;
   sites = sites_due_where_posted random23.decl random23.history random23.decl.sites refl;
+  admin = tt;
 }
 
 pub random24_due : Due random24.decl random24.history
@@ -46,6 +49,7 @@ random24_due = record {
   mail = mailed_where_shown [] random24.history refl;
   replies = all_due_where_shown random24.decl random24.history random24.decl.clients refl;
   sites = sites_due_where_posted random24.decl random24.history random24.decl.sites refl;
+  admin = tt;
 }
 
 pub random25_due : Due random25.decl random25.history
@@ -54,6 +58,7 @@ random25_due = record {
   mail = mailed_where_shown [] random25.history refl;
   replies = all_due_where_shown random25.decl random25.history random25.decl.clients refl;
   sites = sites_due_where_posted random25.decl random25.history random25.decl.sites refl;
+  admin = tt;
 }
 
 pub random26_due : Due random26.decl random26.history
@@ -62,6 +67,7 @@ random26_due = record {
   mail = mailed_where_shown [] random26.history refl;
   replies = all_due_where_shown random26.decl random26.history random26.decl.clients refl;
   sites = sites_due_where_posted random26.decl random26.history random26.decl.sites refl;
+  admin = tt;
 }
 
 pub random27_due : Due random27.decl random27.history
@@ -70,6 +76,7 @@ random27_due = record {
   mail = mailed_where_shown [] random27.history refl;
   replies = all_due_where_shown random27.decl random27.history random27.decl.clients refl;
   sites = sites_due_where_posted random27.decl random27.history random27.decl.sites refl;
+  admin = tt;
 }
 
 pub random28_due : Due random28.decl random28.history
@@ -78,6 +85,7 @@ random28_due = record {
   mail = mailed_where_shown [] random28.history refl;
   replies = all_due_where_shown random28.decl random28.history random28.decl.clients refl;
   sites = sites_due_where_posted random28.decl random28.history random28.decl.sites refl;
+  admin = tt;
 }
 
 pub random29_due : Due random29.decl random29.history
@@ -86,6 +94,7 @@ random29_due = record {
   mail = mailed_where_shown [] random29.history refl;
   replies = all_due_where_shown random29.decl random29.history random29.decl.clients refl;
   sites = sites_due_where_posted random29.decl random29.history random29.decl.sites refl;
+  admin = tt;
 }
 
 pub random30_due : Due random30.decl random30.history
@@ -94,4 +103,5 @@ random30_due = record {
   mail = mailed_where_shown [] random30.history refl;
   replies = all_due_where_shown random30.decl random30.history random30.decl.clients refl;
   sites = sites_due_where_posted random30.decl random30.history random30.decl.sites refl;
+  admin = tt;
 }

@@ -22,6 +22,7 @@ random31_due = record {
   mail = mailed_where_shown [] random31.history refl;
   replies = all_due_where_shown random31.decl random31.history random31.decl.clients refl;
   sites = sites_due_where_posted random31.decl random31.history random31.decl.sites refl;
+  admin = tt;
 }
 
 pub random32_due : Due random32.decl random32.history
@@ -30,6 +31,7 @@ random32_due = record {
   mail = mailed_where_shown [] random32.history refl;
   replies = all_due_where_shown random32.decl random32.history random32.decl.clients refl;
   sites = sites_due_where_posted random32.decl random32.history random32.decl.sites refl;
+  admin = tt;
 }
 
 pub random33_due : Due random33.decl random33.history
@@ -38,6 +40,7 @@ random33_due = record {
   mail = mailed_where_shown [] random33.history refl;
   replies = all_due_where_shown random33.decl random33.history random33.decl.clients refl;
   sites = sites_due_where_posted random33.decl random33.history random33.decl.sites refl;
+  admin = tt;
 }
 
 pub random34_due : Due random34.decl random34.history
@@ -46,6 +49,7 @@ random34_due = record {
   mail = mailed_where_shown [] random34.history refl;
   replies = all_due_where_shown random34.decl random34.history random34.decl.clients refl;
   sites = sites_due_where_posted random34.decl random34.history random34.decl.sites refl;
+  admin = tt;
 }
 
 pub random35_due : Due random35.decl random35.history
@@ -54,6 +58,7 @@ random35_due = record {
   mail = mailed_where_shown [] random35.history refl;
   replies = all_due_where_shown random35.decl random35.history random35.decl.clients refl;
   sites = sites_due_where_posted random35.decl random35.history random35.decl.sites refl;
+  admin = tt;
 }
 
 pub random36_due : Due random36.decl random36.history
@@ -62,6 +67,7 @@ random36_due = record {
   mail = mailed_where_shown [] random36.history refl;
   replies = all_due_where_shown random36.decl random36.history random36.decl.clients refl;
   sites = sites_due_where_posted random36.decl random36.history random36.decl.sites refl;
+  admin = tt;
 }
 
 pub random37_due : Due random37.decl random37.history
@@ -70,6 +76,7 @@ random37_due = record {
   mail = mailed_where_shown [] random37.history refl;
   replies = all_due_where_shown random37.decl random37.history random37.decl.clients refl;
   sites = sites_due_where_posted random37.decl random37.history random37.decl.sites refl;
+  admin = tt;
 }
 
 pub random38_due : Due random38.decl random38.history
@@ -78,6 +85,7 @@ random38_due = record {
   mail = mailed_where_shown [] random38.history refl;
   replies = all_due_where_shown random38.decl random38.history random38.decl.clients refl;
   sites = sites_due_where_posted random38.decl random38.history random38.decl.sites refl;
+  admin = tt;
 }
 
 pub random39_due : Due random39.decl random39.history
@@ -86,6 +94,7 @@ random39_due = record {
   mail = mailed_where_shown [] random39.history refl;
   replies = all_due_where_shown random39.decl random39.history random39.decl.clients refl;
   sites = sites_due_where_posted random39.decl random39.history random39.decl.sites refl;
+  admin = tt;
 }
 
 pub random40_due : Due random40.decl random40.history
@@ -94,4 +103,5 @@ random40_due = record {
   mail = mailed_where_shown [] random40.history refl;
   replies = all_due_where_shown random40.decl random40.history random40.decl.clients refl;
   sites = sites_due_where_posted random40.decl random40.history random40.decl.sites refl;
+  admin = tt;
 }

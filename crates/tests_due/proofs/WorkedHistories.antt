@@ -20,6 +20,7 @@ read_after_write_due = record {
   mail = mailed_where_shown [] read_after_write.history refl;
   replies = all_due_where_shown three read_after_write.history three.clients refl;
   sites = sites_due_where_posted three read_after_write.history three.sites refl;
+  admin = tt;
 }
 
 pub read_before_commit_due : Due three read_before_commit.history
@@ -28,6 +29,7 @@ read_before_commit_due = record {
   mail = mailed_where_shown [] read_before_commit.history refl;
   replies = all_due_where_shown three read_before_commit.history three.clients refl;
   sites = sites_due_where_posted three read_before_commit.history three.sites refl;
+  admin = tt;
 }
 
 pub blind_writes_due : Due three blind_writes.history
@@ -36,6 +38,7 @@ blind_writes_due = record {
   mail = mailed_where_shown [] blind_writes.history refl;
   replies = all_due_where_shown three blind_writes.history three.clients refl;
   sites = sites_due_where_posted three blind_writes.history three.sites refl;
+  admin = tt;
 }
 
 pub cut_off_due : Due three cut_off.history
@@ -44,6 +47,7 @@ cut_off_due = record {
   mail = mailed_where_shown [] cut_off.history refl;
   replies = all_due_where_shown three cut_off.history three.clients refl;
   sites = sites_due_where_posted three cut_off.history three.sites refl;
+  admin = tt;
 }
 
 pub late_copy_due : Due three late_copy.history
@@ -52,6 +56,7 @@ late_copy_due = record {
   mail = mailed_where_shown [] late_copy.history refl;
   replies = all_due_where_shown three late_copy.history three.clients refl;
   sites = sites_due_where_posted three late_copy.history three.sites refl;
+  admin = tt;
 }
 
 pub every_message_twice_due : Due three every_message_twice.history
@@ -60,6 +65,7 @@ every_message_twice_due = record {
   mail = mailed_where_shown [] every_message_twice.history refl;
   replies = all_due_where_shown three every_message_twice.history three.clients refl;
   sites = sites_due_where_posted three every_message_twice.history three.sites refl;
+  admin = tt;
 }
 
 pub doomed_write_due : Due three doomed_write.history
@@ -68,4 +74,5 @@ doomed_write_due = record {
   mail = mailed_where_shown [] doomed_write.history refl;
   replies = all_due_where_shown three doomed_write.history three.clients refl;
   sites = sites_due_where_posted three doomed_write.history three.sites refl;
+  admin = tt;
 }

@@ -1,9 +1,13 @@
--- None of these is by turns, and nobody falls.
-use Rattle.std.proofs.Common.{◌≡◌, true, false, []}
+-- None of these is by turns, and nobody falls; and no client is told a fault.
+use Rattle.std.proofs.Common.{◌≡◌, true, false, [], Option, Some}
 use Rattle.qc_decl.specs.Actors.{is_site}
 use Rattle.qc_decl.specs.One.{three}
+use Rattle.qc_msg.specs.declared.reply.Reply.{Reply}
+use Rattle.qc_msg.specs.declared.reply.Reply.TheVariants as replies
 use Rattle.qc_msg.specs.Deeds.{deeds}
+use Rattle.qc_promise.specs.Replies.{AreRepliesDue}
 use Rattle.qc_promise.specs.Turns.{AreByTurns}
+use Rattle.tests_due.proofs.Places.{due_at}
 use Rattle.tests_due.specs.WrongTurns as wrong_turns
 
 pub posts_before_an_input_refused : AreByTurns (is_site three 0) (deeds 0 [] wrong_turns.posts_before_an_input) → ⊥
@@ -30,8 +34,14 @@ posts_after_its_reply_refused is = let fails : false ≡ true = is in let never 
 pub unknown_without_a_fall_refused : AreByTurns (is_site three 3) (deeds 3 [] wrong_turns.unknown_without_a_fall) → ⊥
 unknown_without_a_fall_refused is = let fails : false ≡ true = is in let never : ⊥ = cc in never
 
-pub fault_without_a_fall_refused : AreByTurns (is_site three 3) (deeds 3 [] wrong_turns.fault_without_a_fall) → ⊥
-fault_without_a_fall_refused is = let fails : false ≡ true = is in let never : ⊥ = cc in never
+fault_differs : ◌≡◌ {A = Option Reply} (Some replies.NoTransaction) (Some replies.Fault) → ⊥
+fault_differs e = let never : ⊥ = cc in never
+
+pub fault_without_a_fall_refused : AreRepliesDue three 0 (deeds 3 [] wrong_turns.fault_without_a_fall) → ⊥
+fault_without_a_fall_refused all = fault_differs (due_at 1 three 0 (deeds 3 [] wrong_turns.fault_without_a_fall) all).0
+
+pub posts_after_a_fault_refused : AreByTurns (is_site three 6) (deeds 6 [] wrong_turns.posts_after_a_fault) → ⊥
+posts_after_a_fault_refused is = let fails : false ≡ true = is in let never : ⊥ = cc in never
 
 pub down_while_up_refused : AreByTurns (is_site three 3) (deeds 3 [] wrong_turns.down_while_up) → ⊥
 down_while_up_refused is = let fails : false ≡ true = is in let never : ⊥ = cc in never

@@ -63,6 +63,12 @@ fault_without_a_fall =
     marked 7 (Phase 1) ∷ marked 3 (Called commands.Commit) ∷ marked 3 (Told replies.Fault) ∷
     marked 3 (Called commands.Begin) ∷ []
 
+-- The administrator is told Fault, and sends something in the same turn.
+abbrev pub posts_after_a_fault : List Entry
+posts_after_a_fault =
+    marked 7 (Phase 1) ∷ marked 6 (Called (commands.Epoch 2)) ∷ marked 6 (Told replies.Fault) ∷
+    marked 6 (Sent 0 0 (messages.Close 2)) ∷ []
+
 -- A client that is up tells that it is down.
 abbrev pub down_while_up : List Entry
 down_while_up =

@@ -6,6 +6,7 @@ ghost use Rattle.qc_decl.specs.Actors.{actors, is_site};
 ghost use Rattle.qc_decl.specs.One.{three};
 ghost use Rattle.qc_msg.specs.Deeds.{deeds};
 ghost use Rattle.qc_promise.specs.Mail.{IsMailed};
+ghost use Rattle.qc_promise.specs.Replies.{AreRepliesDue};
 ghost use Rattle.qc_promise.specs.Turns.{AreByTurns};
 ghost use Rattle.tests_due.specs.Orders as orders;
 ghost use Rattle.tests_due.specs.WrongTurnsThroughFalls as falls;
@@ -22,7 +23,8 @@ pub fn right_orders_are_met()
     ensures client_rises_mail { IsMailed [] orders.client_rises }
 {}
 
-/// These aren't by turns, and nobody falls in them.
+/// These aren't by turns, and nobody falls in them; and a fault that a client is
+/// told isn't due.
 pub fn wrong_turns_are_refused()
     ensures posts_before_an_input { AreByTurns (is_site three 0) (deeds 0 [] turns.posts_before_an_input) → ⊥ }
     ensures record_after_its_message { AreByTurns (is_site three 0) (deeds 0 [] turns.record_after_its_message) → ⊥ }
@@ -32,7 +34,8 @@ pub fn wrong_turns_are_refused()
     ensures reply_twice { AreByTurns (is_site three 3) (deeds 3 [] turns.reply_twice) → ⊥ }
     ensures posts_after_its_reply { AreByTurns (is_site three 3) (deeds 3 [] turns.posts_after_its_reply) → ⊥ }
     ensures unknown_without_a_fall { AreByTurns (is_site three 3) (deeds 3 [] turns.unknown_without_a_fall) → ⊥ }
-    ensures fault_without_a_fall { AreByTurns (is_site three 3) (deeds 3 [] turns.fault_without_a_fall) → ⊥ }
+    ensures fault_without_a_fall { AreRepliesDue three 0 (deeds 3 [] turns.fault_without_a_fall) → ⊥ }
+    ensures posts_after_a_fault { AreByTurns (is_site three 6) (deeds 6 [] turns.posts_after_a_fault) → ⊥ }
     ensures down_while_up { AreByTurns (is_site three 3) (deeds 3 [] turns.down_while_up) → ⊥ }
     ensures site_is_commanded { AreByTurns (is_site three 0) (deeds 0 [] turns.site_is_commanded) → ⊥ }
     ensures site_tells_a_reply { AreByTurns (is_site three 0) (deeds 0 [] turns.site_tells_a_reply) → ⊥ }

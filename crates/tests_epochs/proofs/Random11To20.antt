@@ -5,7 +5,7 @@ use Rattle.qc_msg.specs.Deeds.{deeds}
 use Rattle.tests_due.proofs.Orders.{by_turns_where_placed, mailed_where_shown}
 use Rattle.tests_due.proofs.Owed.{all_due_where_shown}
 use Rattle.tests_due.proofs.Sites.{sites_due_where_posted}
-use Rattle.tests_epochs.specs.Whole.{AllDue}
+use Rattle.qc_promise.specs.Due.{Due}
 use Rattle.tests_epochs.proofs.Owed.{admin_due_where_shown}
 use Rattle.tests_epochs.specs.Random11 as random11
 use Rattle.tests_epochs.specs.Random12 as random12
@@ -18,122 +18,92 @@ use Rattle.tests_epochs.specs.Random18 as random18
 use Rattle.tests_epochs.specs.Random19 as random19
 use Rattle.tests_epochs.specs.Random20 as random20
 
-pub random11_due : AllDue random11.decl random11.history
+pub random11_due : Due random11.decl random11.history
 random11_due = record {
-  due = record {
-    turns = by_turns_where_placed random11.decl random11.history (actors random11.decl) refl;
-    mail = mailed_where_shown [] random11.history refl;
-    replies = all_due_where_shown random11.decl random11.history random11.decl.clients refl;
-    sites = sites_due_where_posted random11.decl random11.history random11.decl.sites refl;
-  };
+  turns = by_turns_where_placed random11.decl random11.history (actors random11.decl) refl;
+  mail = mailed_where_shown [] random11.history refl;
+  replies = all_due_where_shown random11.decl random11.history random11.decl.clients refl;
+  sites = sites_due_where_posted random11.decl random11.history random11.decl.sites refl;
   admin = admin_due_where_shown random11.decl (deeds (administrator random11.decl) [] random11.history) refl;
-  admin_turns = refl;
 }
 
-pub random12_due : AllDue random12.decl random12.history
+pub random12_due : Due random12.decl random12.history
 random12_due = record {
-  due = record {
-    turns = by_turns_where_placed random12.decl random12.history (actors random12.decl) refl;
-    mail = mailed_where_shown [] random12.history refl;
-    replies = all_due_where_shown random12.decl random12.history random12.decl.clients refl;
-    sites = sites_due_where_posted random12.decl random12.history random12.decl.sites refl;
-  };
+  turns = by_turns_where_placed random12.decl random12.history (actors random12.decl) refl;
+  mail = mailed_where_shown [] random12.history refl;
+  replies = all_due_where_shown random12.decl random12.history random12.decl.clients refl;
+  sites = sites_due_where_posted random12.decl random12.history random12.decl.sites refl;
   admin = admin_due_where_shown random12.decl (deeds (administrator random12.decl) [] random12.history) refl;
-  admin_turns = refl;
 }
 
-pub random13_due : AllDue random13.decl random13.history
+pub random13_due : Due random13.decl random13.history
 random13_due = record {
-  due = record {
-    turns = by_turns_where_placed random13.decl random13.history (actors random13.decl) refl;
-    mail = mailed_where_shown [] random13.history refl;
-    replies = all_due_where_shown random13.decl random13.history random13.decl.clients refl;
-    sites = sites_due_where_posted random13.decl random13.history random13.decl.sites refl;
-  };
+  turns = by_turns_where_placed random13.decl random13.history (actors random13.decl) refl;
+  mail = mailed_where_shown [] random13.history refl;
+  replies = all_due_where_shown random13.decl random13.history random13.decl.clients refl;
+  sites = sites_due_where_posted random13.decl random13.history random13.decl.sites refl;
   admin = admin_due_where_shown random13.decl (deeds (administrator random13.decl) [] random13.history) refl;
-  admin_turns = refl;
 }
 
-pub random14_due : AllDue random14.decl random14.history
+pub random14_due : Due random14.decl random14.history
 random14_due = record {
-  due = record {
-    turns = by_turns_where_placed random14.decl random14.history (actors random14.decl) refl;
-    mail = mailed_where_shown [] random14.history refl;
-    replies = all_due_where_shown random14.decl random14.history random14.decl.clients refl;
-    sites = sites_due_where_posted random14.decl random14.history random14.decl.sites refl;
-  };
+  turns = by_turns_where_placed random14.decl random14.history (actors random14.decl) refl;
+  mail = mailed_where_shown [] random14.history refl;
+  replies = all_due_where_shown random14.decl random14.history random14.decl.clients refl;
+  sites = sites_due_where_posted random14.decl random14.history random14.decl.sites refl;
   admin = admin_due_where_shown random14.decl (deeds (administrator random14.decl) [] random14.history) refl;
-  admin_turns = refl;
 }
 
-pub random15_due : AllDue random15.decl random15.history
+pub random15_due : Due random15.decl random15.history
 random15_due = record {
-  due = record {
-    turns = by_turns_where_placed random15.decl random15.history (actors random15.decl) refl;
-    mail = mailed_where_shown [] random15.history refl;
-    replies = all_due_where_shown random15.decl random15.history random15.decl.clients refl;
-    sites = sites_due_where_posted random15.decl random15.history random15.decl.sites refl;
-  };
+  turns = by_turns_where_placed random15.decl random15.history (actors random15.decl) refl;
+  mail = mailed_where_shown [] random15.history refl;
+  replies = all_due_where_shown random15.decl random15.history random15.decl.clients refl;
+  sites = sites_due_where_posted random15.decl random15.history random15.decl.sites refl;
   admin = admin_due_where_shown random15.decl (deeds (administrator random15.decl) [] random15.history) refl;
-  admin_turns = refl;
 }
 
-pub random16_due : AllDue random16.decl random16.history
+pub random16_due : Due random16.decl random16.history
 random16_due = record {
-  due = record {
-    turns = by_turns_where_placed random16.decl random16.history (actors random16.decl) refl;
-    mail = mailed_where_shown [] random16.history refl;
-    replies = all_due_where_shown random16.decl random16.history random16.decl.clients refl;
-    sites = sites_due_where_posted random16.decl random16.history random16.decl.sites refl;
-  };
+  turns = by_turns_where_placed random16.decl random16.history (actors random16.decl) refl;
+  mail = mailed_where_shown [] random16.history refl;
+  replies = all_due_where_shown random16.decl random16.history random16.decl.clients refl;
+  sites = sites_due_where_posted random16.decl random16.history random16.decl.sites refl;
   admin = admin_due_where_shown random16.decl (deeds (administrator random16.decl) [] random16.history) refl;
-  admin_turns = refl;
 }
 
-pub random17_due : AllDue random17.decl random17.history
+pub random17_due : Due random17.decl random17.history
 random17_due = record {
-  due = record {
-    turns = by_turns_where_placed random17.decl random17.history (actors random17.decl) refl;
-    mail = mailed_where_shown [] random17.history refl;
-    replies = all_due_where_shown random17.decl random17.history random17.decl.clients refl;
-    sites = sites_due_where_posted random17.decl random17.history random17.decl.sites refl;
-  };
+  turns = by_turns_where_placed random17.decl random17.history (actors random17.decl) refl;
+  mail = mailed_where_shown [] random17.history refl;
+  replies = all_due_where_shown random17.decl random17.history random17.decl.clients refl;
+  sites = sites_due_where_posted random17.decl random17.history random17.decl.sites refl;
   admin = admin_due_where_shown random17.decl (deeds (administrator random17.decl) [] random17.history) refl;
-  admin_turns = refl;
 }
 
-pub random18_due : AllDue random18.decl random18.history
+pub random18_due : Due random18.decl random18.history
 random18_due = record {
-  due = record {
-    turns = by_turns_where_placed random18.decl random18.history (actors random18.decl) refl;
-    mail = mailed_where_shown [] random18.history refl;
-    replies = all_due_where_shown random18.decl random18.history random18.decl.clients refl;
-    sites = sites_due_where_posted random18.decl random18.history random18.decl.sites refl;
-  };
+  turns = by_turns_where_placed random18.decl random18.history (actors random18.decl) refl;
+  mail = mailed_where_shown [] random18.history refl;
+  replies = all_due_where_shown random18.decl random18.history random18.decl.clients refl;
+  sites = sites_due_where_posted random18.decl random18.history random18.decl.sites refl;
   admin = admin_due_where_shown random18.decl (deeds (administrator random18.decl) [] random18.history) refl;
-  admin_turns = refl;
 }
 
-pub random19_due : AllDue random19.decl random19.history
+pub random19_due : Due random19.decl random19.history
 random19_due = record {
-  due = record {
-    turns = by_turns_where_placed random19.decl random19.history (actors random19.decl) refl;
-    mail = mailed_where_shown [] random19.history refl;
-    replies = all_due_where_shown random19.decl random19.history random19.decl.clients refl;
-    sites = sites_due_where_posted random19.decl random19.history random19.decl.sites refl;
-  };
+  turns = by_turns_where_placed random19.decl random19.history (actors random19.decl) refl;
+  mail = mailed_where_shown [] random19.history refl;
+  replies = all_due_where_shown random19.decl random19.history random19.decl.clients refl;
+  sites = sites_due_where_posted random19.decl random19.history random19.decl.sites refl;
   admin = admin_due_where_shown random19.decl (deeds (administrator random19.decl) [] random19.history) refl;
-  admin_turns = refl;
 }
 
-pub random20_due : AllDue random20.decl random20.history
+pub random20_due : Due random20.decl random20.history
 random20_due = record {
-  due = record {
-    turns = by_turns_where_placed random20.decl random20.history (actors random20.decl) refl;
-    mail = mailed_where_shown [] random20.history refl;
-    replies = all_due_where_shown random20.decl random20.history random20.decl.clients refl;
-    sites = sites_due_where_posted random20.decl random20.history random20.decl.sites refl;
-  };
+  turns = by_turns_where_placed random20.decl random20.history (actors random20.decl) refl;
+  mail = mailed_where_shown [] random20.history refl;
+  replies = all_due_where_shown random20.decl random20.history random20.decl.clients refl;
+  sites = sites_due_where_posted random20.decl random20.history random20.decl.sites refl;
   admin = admin_due_where_shown random20.decl (deeds (administrator random20.decl) [] random20.history) refl;
-  admin_turns = refl;
 }

@@ -5,7 +5,7 @@ use Rattle.qc_msg.specs.Deeds.{deeds}
 use Rattle.tests_due.proofs.Orders.{by_turns_where_placed, mailed_where_shown}
 use Rattle.tests_due.proofs.Owed.{all_due_where_shown}
 use Rattle.tests_due.proofs.Sites.{sites_due_where_posted}
-use Rattle.tests_epochs.specs.Whole.{AllDue}
+use Rattle.qc_promise.specs.Due.{Due}
 use Rattle.tests_epochs.proofs.Owed.{admin_due_where_shown}
 use Rattle.tests_epochs.specs.Random21 as random21
 use Rattle.tests_epochs.specs.Random22 as random22
@@ -13,62 +13,47 @@ use Rattle.tests_epochs.specs.Random23 as random23
 use Rattle.tests_epochs.specs.Random24 as random24
 use Rattle.tests_epochs.specs.Random25 as random25
 
-pub random21_due : AllDue random21.decl random21.history
+pub random21_due : Due random21.decl random21.history
 random21_due = record {
-  due = record {
-    turns = by_turns_where_placed random21.decl random21.history (actors random21.decl) refl;
-    mail = mailed_where_shown [] random21.history refl;
-    replies = all_due_where_shown random21.decl random21.history random21.decl.clients refl;
-    sites = sites_due_where_posted random21.decl random21.history random21.decl.sites refl;
-  };
+  turns = by_turns_where_placed random21.decl random21.history (actors random21.decl) refl;
+  mail = mailed_where_shown [] random21.history refl;
+  replies = all_due_where_shown random21.decl random21.history random21.decl.clients refl;
+  sites = sites_due_where_posted random21.decl random21.history random21.decl.sites refl;
   admin = admin_due_where_shown random21.decl (deeds (administrator random21.decl) [] random21.history) refl;
-  admin_turns = refl;
 }
 
-pub random22_due : AllDue random22.decl random22.history
+pub random22_due : Due random22.decl random22.history
 random22_due = record {
-  due = record {
-    turns = by_turns_where_placed random22.decl random22.history (actors random22.decl) refl;
-    mail = mailed_where_shown [] random22.history refl;
-    replies = all_due_where_shown random22.decl random22.history random22.decl.clients refl;
-    sites = sites_due_where_posted random22.decl random22.history random22.decl.sites refl;
-  };
+  turns = by_turns_where_placed random22.decl random22.history (actors random22.decl) refl;
+  mail = mailed_where_shown [] random22.history refl;
+  replies = all_due_where_shown random22.decl random22.history random22.decl.clients refl;
+  sites = sites_due_where_posted random22.decl random22.history random22.decl.sites refl;
   admin = admin_due_where_shown random22.decl (deeds (administrator random22.decl) [] random22.history) refl;
-  admin_turns = refl;
 }
 
-pub random23_due : AllDue random23.decl random23.history
+pub random23_due : Due random23.decl random23.history
 random23_due = record {
-  due = record {
-    turns = by_turns_where_placed random23.decl random23.history (actors random23.decl) refl;
-    mail = mailed_where_shown [] random23.history refl;
-    replies = all_due_where_shown random23.decl random23.history random23.decl.clients refl;
-    sites = sites_due_where_posted random23.decl random23.history random23.decl.sites refl;
-  };
+  turns = by_turns_where_placed random23.decl random23.history (actors random23.decl) refl;
+  mail = mailed_where_shown [] random23.history refl;
+  replies = all_due_where_shown random23.decl random23.history random23.decl.clients refl;
+  sites = sites_due_where_posted random23.decl random23.history random23.decl.sites refl;
   admin = admin_due_where_shown random23.decl (deeds (administrator random23.decl) [] random23.history) refl;
-  admin_turns = refl;
 }
 
-pub random24_due : AllDue random24.decl random24.history
+pub random24_due : Due random24.decl random24.history
 random24_due = record {
-  due = record {
-    turns = by_turns_where_placed random24.decl random24.history (actors random24.decl) refl;
-    mail = mailed_where_shown [] random24.history refl;
-    replies = all_due_where_shown random24.decl random24.history random24.decl.clients refl;
-    sites = sites_due_where_posted random24.decl random24.history random24.decl.sites refl;
-  };
+  turns = by_turns_where_placed random24.decl random24.history (actors random24.decl) refl;
+  mail = mailed_where_shown [] random24.history refl;
+  replies = all_due_where_shown random24.decl random24.history random24.decl.clients refl;
+  sites = sites_due_where_posted random24.decl random24.history random24.decl.sites refl;
   admin = admin_due_where_shown random24.decl (deeds (administrator random24.decl) [] random24.history) refl;
-  admin_turns = refl;
 }
 
-pub random25_due : AllDue random25.decl random25.history
+pub random25_due : Due random25.decl random25.history
 random25_due = record {
-  due = record {
-    turns = by_turns_where_placed random25.decl random25.history (actors random25.decl) refl;
-    mail = mailed_where_shown [] random25.history refl;
-    replies = all_due_where_shown random25.decl random25.history random25.decl.clients refl;
-    sites = sites_due_where_posted random25.decl random25.history random25.decl.sites refl;
-  };
+  turns = by_turns_where_placed random25.decl random25.history (actors random25.decl) refl;
+  mail = mailed_where_shown [] random25.history refl;
+  replies = all_due_where_shown random25.decl random25.history random25.decl.clients refl;
+  sites = sites_due_where_posted random25.decl random25.history random25.decl.sites refl;
   admin = admin_due_where_shown random25.decl (deeds (administrator random25.decl) [] random25.history) refl;
-  admin_turns = refl;
 }

@@ -4,12 +4,6 @@ use Rattle.tests_epochs.specs.Declarations.{three_epochs}
 use Rattle.tests_epochs.specs.Whole.{AreAdminTurns}
 use Rattle.tests_epochs.specs.WrongAdminTurns as wrong_admin_turns
 
-fault_and_no_fall_differs : ◌≡◌ {A = Bool} false true → ⊥
-fault_and_no_fall_differs e = let never : ⊥ = cc in never
-
-pub fault_and_no_fall_refused : AreAdminTurns three_epochs wrong_admin_turns.fault_and_no_fall → ⊥
-fault_and_no_fall_refused all = fault_and_no_fall_differs all
-
 fallen_untold_differs : ◌≡◌ {A = Bool} false true → ⊥
 fallen_untold_differs e = let never : ⊥ = cc in never
 

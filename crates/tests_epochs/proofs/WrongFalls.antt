@@ -24,6 +24,12 @@ fault_before_a_fall_differs e = let never : ⊥ = cc in never
 pub fault_before_a_fall_refused : IsAdminDueIn three_epochs wrong_falls.fault_before_a_fall → ⊥
 fault_before_a_fall_refused all = fault_before_a_fall_differs (((admin_due_at 6 three_epochs (deeds (administrator three_epochs) [] wrong_falls.fault_before_a_fall) all).1).0)
 
+fault_and_no_fall_differs : ◌≡◌ {A = Option Reply} None (Some replies.Fault) → ⊥
+fault_and_no_fall_differs e = let never : ⊥ = cc in never
+
+pub fault_and_no_fall_refused : IsAdminDueIn three_epochs wrong_falls.fault_and_no_fall → ⊥
+fault_and_no_fall_refused all = fault_and_no_fall_differs ((admin_due_at 5 three_epochs (deeds (administrator three_epochs) [] wrong_falls.fault_and_no_fall) all).0)
+
 another_record_pending_differs : ◌≡◌ {A = ℕ} 1 0 → ⊥
 another_record_pending_differs e = let never : ⊥ = cc in never
 

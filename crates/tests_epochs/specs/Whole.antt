@@ -1,11 +1,10 @@
--- What is due in a whole history: of the administrator, of one site, and of everybody.
+-- What is due in a whole history: of the administrator, and of one site.
 use Rattle.std.specs.Prelude.{ℕ, false, List, []}
 use Rattle.qc_decl.specs.declared.declaration.Declaration.{Declaration}
 use Rattle.qc_decl.specs.Actors.{administrator}
 use Rattle.qc_msg.specs.Deeds.{deeds}
 use Rattle.qc_msg.specs.Steps.{Entry}
 use Rattle.qc_promise.specs.AdminDue.{IsAdminDue}
-use Rattle.qc_promise.specs.Due.{Due}
 use Rattle.qc_promise.specs.SiteDue.{AreDue}
 use Rattle.qc_promise.specs.Turns.{AreByTurns}
 
@@ -17,8 +16,3 @@ AreAdminTurns decl h = AreByTurns false (deeds (administrator decl) [] h)
 
 abbrev pub IsSiteDueIn : Declaration → ℕ → List Entry → Type 0
 IsSiteDueIn decl site h = AreDue decl [] (deeds site [] h)
-
-pub record AllDue (decl : Declaration) (h : List Entry) : Type 0 where
-  pub due : Due decl h
-  pub admin : IsAdminDueIn decl h
-  pub admin_turns : AreAdminTurns decl h

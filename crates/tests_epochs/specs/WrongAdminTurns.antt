@@ -2,20 +2,13 @@
 use Rattle.std.specs.Prelude.{List, [], ◌∷◌, ◌++◌, take, Some}
 use Rattle.qc_msg.specs.Steps.{Entry, marked}
 use Rattle.tests_histories.specs.Words.{line}
-use Rattle.qc_msg.specs.declared.step.Step.TheVariants.{Phase, Called, Wrote, Sent, Told, Fell}
-use Rattle.qc_msg.specs.declared.step.Command.TheVariants as commands
+use Rattle.qc_msg.specs.declared.step.Step.TheVariants.{Wrote, Sent, Told, Fell}
 use Rattle.qc_msg.specs.declared.message.Message.TheVariants as messages
 use Rattle.qc_msg.specs.declared.record.Record.TheVariants as records
 use Rattle.qc_msg.specs.declared.reply.Reply.TheVariants as replies
 use Rattle.qc_msg.specs.declared.step.Fall.TheVariants as falls
 use Rattle.tests_epochs.specs.DecideStops as decide_stops
 use Rattle.tests_epochs.specs.MovedOnce as moved_once
-
--- Fault is told as his disk stops, and he doesn't fall.
-abbrev pub fault_and_no_fall : List Entry
-fault_and_no_fall =
-    take 46 decide_stops.history ++
-    marked 7 (Phase 3) ∷ marked 6 (Called (commands.Epoch 2)) ∷ []
 
 -- He falls as he writes his decision, and tells nothing.
 abbrev pub fallen_untold : List Entry

@@ -2,7 +2,7 @@
 use Rattle.std.specs.Prelude.{List, [], ◌∷◌, ◌++◌, take, Some}
 use Rattle.qc_msg.specs.Steps.{Entry, marked}
 use Rattle.tests_histories.specs.Words.{line}
-use Rattle.qc_msg.specs.declared.step.Step.TheVariants.{Called, Got, Wrote, Sent, Told, Fell, Rose}
+use Rattle.qc_msg.specs.declared.step.Step.TheVariants.{Phase, Called, Got, Wrote, Sent, Told, Fell, Rose}
 use Rattle.qc_msg.specs.declared.message.Answer.TheVariants as answers
 use Rattle.qc_msg.specs.declared.step.Command.TheVariants as commands
 use Rattle.qc_msg.specs.declared.message.Message.TheVariants as messages
@@ -24,6 +24,12 @@ abbrev pub fault_before_a_fall : List Entry
 fault_before_a_fall =
     take 45 moved_once.history ++
     marked 6 (Told replies.Fault) ∷ marked 6 (Fell falls.Disk (Some (records.Decide 2 1 (line 1 0 1 1 0 3 ∷ [])))) ∷ []
+
+-- Fault is told as his disk stops, and he doesn't fall.
+abbrev pub fault_and_no_fall : List Entry
+fault_and_no_fall =
+    take 46 decide_stops.history ++
+    marked 7 (Phase 3) ∷ marked 6 (Called (commands.Epoch 2)) ∷ []
 
 -- As he falls he was writing another decision than is due.
 abbrev pub another_record_pending : List Entry

@@ -1,6 +1,6 @@
 //! Right histories with falls and epochs, in which all is due.
 
-ghost use Rattle.tests_epochs.specs.Whole.{AllDue};
+ghost use Rattle.qc_promise.specs.Due.{Due};
 ghost use Rattle.tests_epochs.specs.MovedOnce as moved_once;
 ghost use Rattle.tests_epochs.specs.StampsPassReads as stamps_pass_reads;
 ghost use Rattle.tests_epochs.specs.AskLost as ask_lost;
@@ -48,59 +48,59 @@ ghost use Rattle.tests_epochs.specs.Declarations.{three_epochs, two_objects};
 
 /// All is due in the worked histories.
 pub fn all_is_due_in_worked_histories()
-    ensures moved_once { AllDue three_epochs moved_once.history }
-    ensures stamps_pass_reads { AllDue three_epochs stamps_pass_reads.history }
-    ensures ask_lost { AllDue three_epochs ask_lost.history }
-    ensures installs_late { AllDue three_epochs installs_late.history }
-    ensures too_few_close { AllDue three_epochs too_few_close.history }
-    ensures several_promises { AllDue three_epochs several_promises.history }
-    ensures doubt_of_second { AllDue three_epochs doubt_of_second.history }
-    ensures each_entry_merged { AllDue two_objects each_entry_merged.history }
-    ensures one_unheard { AllDue three_epochs one_unheard.history }
-    ensures doubtful_commit { AllDue three_epochs doubtful_commit.history }
-    ensures decide_stops { AllDue three_epochs decide_stops.history }
-    ensures closed_rises { AllDue three_epochs closed_rises.history }
-    ensures shut_rises { AllDue three_epochs shut_rises.history }
-    ensures told_promise_stays { AllDue three_epochs told_promise_stays.history }
-    ensures installed_again { AllDue three_epochs installed_again.history }
-    ensures last_decision { AllDue three_epochs last_decision.history }
-    ensures administrator_down { AllDue three_epochs administrator_down.history }
-    ensures asked_while_active { AllDue three_epochs asked_while_active.history }
+    ensures moved_once { Due three_epochs moved_once.history }
+    ensures stamps_pass_reads { Due three_epochs stamps_pass_reads.history }
+    ensures ask_lost { Due three_epochs ask_lost.history }
+    ensures installs_late { Due three_epochs installs_late.history }
+    ensures too_few_close { Due three_epochs too_few_close.history }
+    ensures several_promises { Due three_epochs several_promises.history }
+    ensures doubt_of_second { Due three_epochs doubt_of_second.history }
+    ensures each_entry_merged { Due two_objects each_entry_merged.history }
+    ensures one_unheard { Due three_epochs one_unheard.history }
+    ensures doubtful_commit { Due three_epochs doubtful_commit.history }
+    ensures decide_stops { Due three_epochs decide_stops.history }
+    ensures closed_rises { Due three_epochs closed_rises.history }
+    ensures shut_rises { Due three_epochs shut_rises.history }
+    ensures told_promise_stays { Due three_epochs told_promise_stays.history }
+    ensures installed_again { Due three_epochs installed_again.history }
+    ensures last_decision { Due three_epochs last_decision.history }
+    ensures administrator_down { Due three_epochs administrator_down.history }
+    ensures asked_while_active { Due three_epochs asked_while_active.history }
 {}
 
 /// All is due in the random histories 1 to 10.
 pub fn all_is_due_in_1_to_10()
-    ensures random1 { AllDue random1.decl random1.history }
-    ensures random2 { AllDue random2.decl random2.history }
-    ensures random3 { AllDue random3.decl random3.history }
-    ensures random4 { AllDue random4.decl random4.history }
-    ensures random5 { AllDue random5.decl random5.history }
-    ensures random6 { AllDue random6.decl random6.history }
-    ensures random7 { AllDue random7.decl random7.history }
-    ensures random8 { AllDue random8.decl random8.history }
-    ensures random9 { AllDue random9.decl random9.history }
-    ensures random10 { AllDue random10.decl random10.history }
+    ensures random1 { Due random1.decl random1.history }
+    ensures random2 { Due random2.decl random2.history }
+    ensures random3 { Due random3.decl random3.history }
+    ensures random4 { Due random4.decl random4.history }
+    ensures random5 { Due random5.decl random5.history }
+    ensures random6 { Due random6.decl random6.history }
+    ensures random7 { Due random7.decl random7.history }
+    ensures random8 { Due random8.decl random8.history }
+    ensures random9 { Due random9.decl random9.history }
+    ensures random10 { Due random10.decl random10.history }
 {}
 
 /// All is due in the random histories 11 to 20.
 pub fn all_is_due_in_11_to_20()
-    ensures random11 { AllDue random11.decl random11.history }
-    ensures random12 { AllDue random12.decl random12.history }
-    ensures random13 { AllDue random13.decl random13.history }
-    ensures random14 { AllDue random14.decl random14.history }
-    ensures random15 { AllDue random15.decl random15.history }
-    ensures random16 { AllDue random16.decl random16.history }
-    ensures random17 { AllDue random17.decl random17.history }
-    ensures random18 { AllDue random18.decl random18.history }
-    ensures random19 { AllDue random19.decl random19.history }
-    ensures random20 { AllDue random20.decl random20.history }
+    ensures random11 { Due random11.decl random11.history }
+    ensures random12 { Due random12.decl random12.history }
+    ensures random13 { Due random13.decl random13.history }
+    ensures random14 { Due random14.decl random14.history }
+    ensures random15 { Due random15.decl random15.history }
+    ensures random16 { Due random16.decl random16.history }
+    ensures random17 { Due random17.decl random17.history }
+    ensures random18 { Due random18.decl random18.history }
+    ensures random19 { Due random19.decl random19.history }
+    ensures random20 { Due random20.decl random20.history }
 {}
 
 /// All is due in the random histories 21 to 25.
 pub fn all_is_due_in_21_to_25()
-    ensures random21 { AllDue random21.decl random21.history }
-    ensures random22 { AllDue random22.decl random22.history }
-    ensures random23 { AllDue random23.decl random23.history }
-    ensures random24 { AllDue random24.decl random24.history }
-    ensures random25 { AllDue random25.decl random25.history }
+    ensures random21 { Due random21.decl random21.history }
+    ensures random22 { Due random22.decl random22.history }
+    ensures random23 { Due random23.decl random23.history }
+    ensures random24 { Due random24.decl random24.history }
+    ensures random25 { Due random25.decl random25.history }
 {}

@@ -71,6 +71,7 @@ pub fn wrong_decisions_are_refused()
 pub fn wrong_falls_are_refused()
     ensures fault_though_decided { IsAdminDueIn three_epochs wrong_falls.fault_though_decided → ⊥ }
     ensures fault_before_a_fall { IsAdminDueIn three_epochs wrong_falls.fault_before_a_fall → ⊥ }
+    ensures fault_and_no_fall { IsAdminDueIn three_epochs wrong_falls.fault_and_no_fall → ⊥ }
     ensures another_record_pending { IsAdminDueIn three_epochs wrong_falls.another_record_pending → ⊥ }
     ensures decided_again_though_it_rose { IsAdminDueIn three_epochs wrong_falls.decided_again_though_it_rose → ⊥ }
     ensures decided_again_after_a_rise { IsAdminDueIn three_epochs wrong_falls.decided_again_after_a_rise → ⊥ }
@@ -89,7 +90,6 @@ pub fn wrong_rises_are_refused()
 
 /// These aren't due: the administrator doesn't act by turns.
 pub fn wrong_admin_turns_are_refused()
-    ensures fault_and_no_fall { AreAdminTurns three_epochs wrong_admin_turns.fault_and_no_fall → ⊥ }
     ensures fallen_untold { AreAdminTurns three_epochs wrong_admin_turns.fallen_untold → ⊥ }
     ensures life_between { AreAdminTurns three_epochs wrong_admin_turns.life_between → ⊥ }
     ensures installed_first { AreAdminTurns three_epochs wrong_admin_turns.installed_first → ⊥ }

@@ -1,10 +1,9 @@
 //! A whole run of a script, over disks in memory.
 
-ghost use Rattle.std.specs.Prelude.{◌≡◌, ◌≤◌, true, IfOk, length};
+ghost use Rattle.std.specs.Prelude.{◌≤◌, IfOk, length};
 ghost use Rattle.qc_decl.specs.Accepted.{IsAccepted};
 ghost use Rattle.qc_decl.specs.Limits.{most_script_bytes};
 ghost use Rattle.qc_decl.specs.Named.{IsNamed};
-ghost use Rattle.qc_node.specs.Built.{is_built};
 ghost use Rattle.qc_script.specs.Sound.{IsScriptFor};
 
 use crate::steps::{Short, shorts};
@@ -45,7 +44,6 @@ pub fn run<G: Gate + Sync, R: Threads + Wait + Sync>(
 ) -> Result<Ran, RackFault>
     requires sound { IsScriptFor job.now.decl.now script }
     requires accepted { IsAccepted job.now.decl.now }
-    requires built { is_built job.now.decl.now script ≡ true }
 {
     let mut rack = MemRack::new(alloc, Tear::Nothing)?;
     let ran = run_script(rt, alloc, job, script, &mut rack)?;

@@ -82,8 +82,8 @@ fn files_are_taken_in_their_order(rt: HostRuntime) {
 }
 
 #[test]
-fn scripts_are_refused_or_not_built(rt: HostRuntime) {
-    let rows: [(&str, Ending); 9] = [
+fn scripts_are_refused(rt: HostRuntime) {
+    let rows: [(&str, Ending); 5] = [
         (
             "phase\nc0  begin\n",
             (3, "quorum: script: line 2: words\n", 0),
@@ -101,10 +101,6 @@ fn scripts_are_refused_or_not_built(rt: HostRuntime) {
             (3, "quorum: script: line 2: number\n", 0),
         ),
         ("c0 begin\n", (3, "quorum: script: line 1: place\n", 0)),
-        ("phase\ncrash admin\n", NOT_BUILT),
-        ("phase\nrestart admin\n", NOT_BUILT),
-        ("phase\nstop admin at 4\n", NOT_BUILT),
-        ("phase\nfail admin at 4\n", NOT_BUILT),
     ];
     for (script, want) in rows {
         ends_with(

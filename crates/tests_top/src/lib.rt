@@ -15,6 +15,8 @@ mod disks;
 #[cfg(test)]
 mod ends;
 #[cfg(test)]
+mod epochs;
+#[cfg(test)]
 mod falls;
 #[cfg(test)]
 mod overtaking;

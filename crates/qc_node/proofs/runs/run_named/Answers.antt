@@ -1,8 +1,8 @@
-use Rattle.std.proofs.Common.{◌∙◌, [], subst}
-use Rattle.qc_decl.specs.Actors.{administrator, controller}
+use Rattle.std.proofs.Common.{◌≡◌, ◌∙◌, subst}
+use Rattle.std.specs.Prelude.{vec_len}
+use Rattle.qc_decl.specs.Actors.{actors, controller}
 use Rattle.qc_decl.specs.declared.declaration.Declaration.{Declaration}
 use Rattle.qc_laws.proofs.Downs.{tells}
-use Rattle.qc_process.specs.Stored.{IsStored}
 use Rattle.qc_node.specs.Starts.{AreProcesses, IsHandedBelow}
 use Rattle.qc_node.proofs.Starts.{all_handed, empty_before, started_tells}
 use Rattle.qc_node.proofs.runs.run_named.Goals as goal
@@ -10,19 +10,16 @@ use Rattle.qc_node.proofs.runs.run_named.Goals as goal
 pub make-requires-clause-down : goal.make-requires-clause-down
 make-requires-clause-down g c = tells g.N.Named.declaration
 
+pub cells_of-cells-requires-clause-processes : goal.cells_of-cells-requires-clause-processes
+cells_of-cells-requires-clause-processes g c κs within =
+    subst (λ (d : Declaration). vec_len c.in_ok-processes.processes ≡ actors d) c.requires.declaration
+    c.in_ok-processes.ensures.whole
+
 pub cells_of-cells-requires-clause-begun : goal.cells_of-cells-requires-clause-begun
 cells_of-cells-requires-clause-begun g c κs within =
-    subst (λ (d : Declaration). AreProcesses g.N.Named.tells d c.in_ok-processes.processes.each.items)
+    subst (λ (d : Declaration). AreProcesses g.N.Named.tells d c.in_ok-processes.processes.items)
     c.requires.declaration
     (c.in_ok-processes.ensures.each g.N.Named.tells (λ is. c.requires.tells ∙ is))
-
-pub cells_of-cells-requires-clause-administrator :
-    goal.cells_of-cells-requires-clause-administrator
-cells_of-cells-requires-clause-administrator g c κs within =
-    subst
-    (λ (d : Declaration). IsStored g.N.Named.tells d (administrator d) [] c.in_ok-processes.processes.administrator)
-    c.requires.declaration
-    (c.in_ok-processes.ensures.administrator g.N.Named.tells (λ is. c.requires.tells ∙ is))
 
 pub run_cells-requires-clause-tells : goal.run_cells-requires-clause-tells
 run_cells-requires-clause-tells g c κs within =

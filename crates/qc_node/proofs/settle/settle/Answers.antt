@@ -36,8 +36,7 @@ loop-cell-preserved g c =
 pub returns-clause-settled : goal.returns-clause-settled
 returns-clause-settled g c =
     let count : length c.loop-cell.yielded ≡ actors g.N.Named.declaration = search (rules, arith) in
-    c.settle_administrator.ensures.one (actors g.N.Named.declaration) (g.K.Rack.faults c.args.rack.now)
-    (subst
+    subst
     (λ (n : ℕ). IsSettling g.N.Named.tells g.N.Named.declaration c.loop-cell.roll.history c.loop-cell.roll.rooms n
     (g.K.Rack.faults c.args.rack.now) (g.K.Rack.faults c.loop-cell.rack) (g.K.Rack.places c.loop-cell.rack)) count
-    c.loop-cell.invariant.settling)
+    c.loop-cell.invariant.settling

@@ -12,6 +12,7 @@ returns c = record {
   posts_after_its_reply = lemmas.posts_after_its_reply_refused;
   unknown_without_a_fall = lemmas.unknown_without_a_fall_refused;
   fault_without_a_fall = lemmas.fault_without_a_fall_refused;
+  posts_after_a_fault = lemmas.posts_after_a_fault_refused;
   down_while_up = lemmas.down_while_up_refused;
   site_is_commanded = lemmas.site_is_commanded_refused;
   site_tells_a_reply = lemmas.site_tells_a_reply_refused;

@@ -3,7 +3,6 @@ use Rattle.tests_epochs.proofs.wrong.wrong_admin_turns_are_refused.Goals as goal
 
 pub returns : goal.returns
 returns c = record {
-  fault_and_no_fall = lemmas.fault_and_no_fall_refused;
   fallen_untold = lemmas.fallen_untold_refused;
   life_between = lemmas.life_between_refused;
   installed_first = lemmas.installed_first_refused;

@@ -8,7 +8,7 @@ use Rattle.qc_fabric.proofs.still.Still.make.Goals as goal
 
 pub invariant_of-result : goal.invariant_of-result
 invariant_of-result g c =
-    let n : c.args.decl.now.sites + c.args.decl.now.clients ≡ actors g.N.Named.declaration = ap (λ (d : Declaration). d.sites + d.clients) c.requires.declaration in
+    let n : c.args.decl.now.sites + c.args.decl.now.clients + 1 ≡ actors g.N.Named.declaration = ap (λ (d : Declaration). d.sites + d.clients + 1) c.requires.declaration in
     starts (g.C.Conduct.lawful g.N.Named.declaration) (g.C.Conduct.fits g.N.Named.declaration) g.N.Named.declaration g.N.Named.script g.N.Named.table c.args.script c.new-2.result c.in_ok-mailboxes.mailboxes c.in_ok-inputs.inputs.items c.in_ok-held.held.items _ c.args.right
     c.requires.script (ap (λ (l : Logged). l.history) c.new-2.ensures) (c.in_ok-mailboxes.ensures.inboxes ∙ ap empty_inboxes c.requires.script)
     (c.in_ok-inputs.ensures ∙ ap (λ k. replicate k false) n) (c.in_ok-held.ensures ∙ ap (λ k. replicate k false) n) c.requires.table c.requires.right c.requires.sound c.requires.few c.requires.down

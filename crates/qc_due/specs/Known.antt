@@ -1,0 +1,47 @@
+-- What the administrator is asked, and whom he asks: a script asks him for epochs alone, and each Ask of a run with
+-- falls is about a transaction of a declared client.
+use Rattle.std.specs.Prelude.{◌≡◌, ℕ, ◌<◌, Bool, List}
+use Rattle.std.specs.List.{AllByRecursion as Every}
+use Rattle.qc_core.specs.Conduct.{IsLawfulWithFalls}
+use Rattle.qc_decl.specs.Actors.{administrator}
+use Rattle.qc_decl.specs.declared.declaration.Declaration.{Declaration}
+use Rattle.qc_msg.specs.Deeds.{mail}
+use Rattle.qc_msg.specs.Steps.{Entry}
+use Rattle.qc_msg.specs.declared.message.Envelope.{Envelope}
+use Rattle.qc_msg.specs.declared.message.Message.{Message}
+use Rattle.qc_msg.specs.declared.message.Message.TheVariants as messages
+use Rattle.qc_msg.specs.declared.record.Record.{Record}
+use Rattle.qc_msg.specs.declared.step.Command.{Command}
+use Rattle.qc_msg.specs.declared.step.Command.TheVariants as commands
+use Rattle.qc_script.specs.RunsWithFalls.{RunsWithFalls}
+use Rattle.qc_script.specs.declared.script.CommandLine.{CommandLine}
+use Rattle.qc_script.specs.declared.script.PhaseLines.{PhaseLines}
+use Rattle.qc_script.specs.declared.script.Script.{Script}
+
+abbrev pub IsKnown : Declaration → Message → Type 0
+IsKnown decl (messages.Request tx epoch life want) = Unit {0}
+IsKnown decl (messages.Answer number answer) = Unit {0}
+IsKnown decl (messages.Decision tx verdict) = Unit {0}
+IsKnown decl (messages.Inquiry tx) = Unit {0}
+IsKnown decl (messages.Ask tx) = tx.client < decl.clients
+IsKnown decl (messages.Close epoch) = Unit {0}
+IsKnown decl (messages.Install epoch clock log) = Unit {0}
+
+abbrev pub AsksKnown : (ℕ → List Record → Type 0) → Declaration → Script → Type 0
+AsksKnown fits decl script =
+    (h : List Entry) (open_inputs : List Bool) → RunsWithFalls (IsLawfulWithFalls decl) fits decl script h open_inputs
+    → Every (λ (e : Envelope). IsKnown decl e.message) (mail h)
+
+-- a script asks the administrator for epochs alone
+
+abbrev pub IsEpoch : Command → Type 0
+IsEpoch commands.Begin = ⊥
+IsEpoch (commands.Do object inv) = ⊥
+IsEpoch commands.Commit = ⊥
+IsEpoch commands.Abort = ⊥
+IsEpoch (commands.Epoch number) = Unit {0}
+
+abbrev pub AsksEpochs : Declaration → Script → Type 0
+AsksEpochs decl script =
+    Every (λ (p : PhaseLines). Every (λ (l : CommandLine). l.actor ≡ administrator decl → IsEpoch l.command) p.commands)
+    script.phases
