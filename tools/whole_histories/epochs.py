@@ -34,9 +34,9 @@ from wrong_admin_falls import ADMIN, TURNS
 CRATE = os.path.join(os.path.dirname(os.path.abspath(__file__)), "..", "..", "crates", "tests_epochs")
 GROUP = 10
 # (fewest steps, most steps, how many): of runs in which the administrator asks about transactions, and of others
-ASKING = ((150, 370, 6),)
-OTHERS = ((40, 129, 7), (130, 179, 7), (180, 219, 5))
-SEEDS = range(1, 1500)
+ASKING = ((120, 370, 9),)
+OTHERS = ((40, 129, 11), (130, 179, 11), (180, 219, 9))
+SEEDS = range(1, 2500)
 WORDS = IMPORTS + (("Rattle.tests_epochs.specs.Words", ("tx_in", "line_in", "prepared")),)
 
 

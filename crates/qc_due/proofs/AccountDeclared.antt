@@ -1,6 +1,6 @@
 -- What a script asks that was read for an accepted declaration is declared, no client is asked to move an epoch, and the
 -- administrator nothing else.
-use Rattle.std.proofs.Common.{◌≡◌, ℕ, ◌-◌, ◌==◌, ◌<◌, ◌≤◌, cond, None, eqb-true, ◌&&◌, nat_le, Bool, true, false, List, [], ◌∷◌, length, Some, Ok, is_some, slice_get, ap, ◌∙◌, refl, subst, arith}
+use Rattle.std.proofs.Common.{◌≡◌, ℕ, ◌-◌, ◌==◌, ◌<◌, ◌≤◌, cond, None, eqb-true, ◌&&◌, nat_le, Bool, true, false, List, [], ◌∷◌, length, Some, Ok, is_some, slice_get, ap, ◌∙◌, refl, arith}
 use Rattle.std.specs.Prelude.{IsTrue, option_and_then}
 use Rattle.std.specs.Str.{bytes_eq}
 use Rattle.std.specs.List.{AllByRecursion as Every}
@@ -8,7 +8,7 @@ use Rattle.std.proofs.lemmas.Bool.{le-ltb}
 use Rattle.std.proofs.lemmas.List.Quantifiers.{position-Some}
 use Rattle.qc_table.specs.declared.kind.Kind.{Kind}
 use Rattle.qc_decl.specs.Accepted.{IsAccepted}
-use Rattle.qc_decl.specs.Actors.{actors, administrator, is_client}
+use Rattle.qc_decl.specs.Actors.{administrator, is_client}
 use Rattle.qc_decl.specs.Lookup.{kind_at, plan_in}
 use Rattle.qc_decl.specs.Named.{object_named}
 use Rattle.qc_decl.specs.declared.declaration.Declaration.{Declaration}

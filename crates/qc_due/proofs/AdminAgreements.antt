@@ -1,7 +1,7 @@
 -- Each question of the administrator is answered as the request about its transaction is.
-use Rattle.std.proofs.Common.{◌≡◌, ◌+◌, Bool, false, cond, List, [], ◌∷◌, ◌++◌, Option, Some, None, option_map, refl, sym, ap, ◌∙◌, subst, append_assoc}
+use Rattle.std.proofs.Common.{◌≡◌, Bool, false, cond, List, [], ◌∷◌, ◌++◌, Option, Some, None, option_map, refl, sym, ap, ◌∙◌, subst, append_assoc}
 use Rattle.std.specs.Prelude.{is_some}
-use Rattle.std.specs.List.{AllByRecursion as Every, find}
+use Rattle.std.specs.List.{AllByRecursion as Every}
 use Rattle.std.specs.Option.{option_map_or, option_or}
 use Rattle.std.proofs.lemmas.List.{append-nil}
 use Rattle.std.proofs.lemmas.List.Folds.{find-append}
@@ -13,7 +13,7 @@ use Rattle.qc_promise.specs.AdminAccount.{AdminRequest, AdminWant, Ask, is_ask_o
 use Rattle.qc_promise.specs.AdminRounds.{Promised, is_among}
 use Rattle.qc_epoch.specs.Admin.{Question}
 use Rattle.qc_epoch.specs.Answers.{outcome_in}
-use Rattle.qc_due.proofs.AdminQuestions.{AreAbout, AreDistinct, about, asked, asked_of, heard, heard_is, or_parts, outcome_of}
+use Rattle.qc_due.proofs.AdminQuestions.{AreAbout, AreDistinct, about, asked_of, heard, heard_is, or_parts, outcome_of}
 
 -- each question is answered as the request about its transaction is
 

@@ -35,7 +35,8 @@ use Rattle.qc_laws.specs.Calls.{IsAnswerTo}
 use Rattle.qc_msg.specs.declared.reply.Reply.TheVariants as replies
 use Rattle.qc_msg.specs.Turns.{quiet, sending}
 use Rattle.std.specs.Prelude.{take}
-use Rattle.qc_due.proofs.AdminNumbers.{ArePlain, DoingPlain, IsFresh, IsLeft, all_unnumbered, called_spares, fresh_among, fresh_spares, left, none_numbered, number_if, numbers_in, open_in, open_numbers, plain_all, plain_noted, spares_then, still_spares, taken_spares, uncalled}
+use Rattle.qc_due.proofs.AdminNumbers.{DoingPlain, IsFresh, all_unnumbered, called_spares, fresh_among, fresh_spares, none_numbered, number_if, numbers_in, open_in, open_numbers, spares_then, still_spares, taken_spares, uncalled}
+use Rattle.qc_due.proofs.PlainRounds.{ArePlain, IsLeft, left, plain_all, plain_noted}
 
 -- his calls
 

@@ -10,7 +10,7 @@ use Rattle.qc_plan.specs.declared.plan.Plan.{Plan}
 use Rattle.qc_plan.specs.declared.standing.Standing.TheVariants as standings
 use Rattle.qc_plan.specs.declared.standing.Verdict.{Verdict}
 use Rattle.qc_plan.specs.declared.standing.Verdict.TheVariants as verdicts
-use Rattle.qc_plan.specs.Round.{RoundState, all_noted, clash_at, closed_at, cyclic, first_clash, first_closed, has_granted, note, note_in, refusal, settled, start, verdict, weighing, weight_at}
+use Rattle.qc_plan.specs.Round.{RoundState, all_noted, clash_at, closed_at, cyclic, has_granted, note, note_in, refusal, settled, start, verdict, weighing, weight_at}
 use Rattle.qc_plan.specs.Weights.{weight}
 use Rattle.qc_msg.specs.declared.message.Answer.{Answer}
 use Rattle.qc_msg.specs.declared.message.Answer.TheVariants as answers
@@ -24,6 +24,8 @@ use Rattle.qc_front.proofs.Apart.{apart_filter}
 use Rattle.qc_due.proofs.Nexts.{asking_one}
 use Rattle.qc_due.proofs.AdminRequests.{IsCalled, differ, length_taken, numbers_of, others_taken, other_taken, sites_of, takes, this_taken, all_taken}
 use Rattle.qc_due.proofs.Halves.{drop_last}
+use Rattle.qc_due.proofs.PlainRounds.{ArePlain}
+use Rattle.qc_due.proofs.PlainRounds as rounds
 use Rattle.qc_due.proofs.Step.{apart_cyclic}
 
 pub in_map : {A B : Type 0} (f : A → B) (x : A) (xs : List A) → In x xs → In (f x) (map f xs)
@@ -148,16 +150,12 @@ not_clashing q = by q.taken
     by None = refl
     by (Some answer) = at (option_and_then shut_in answer)
 
-none_closed : (cs : List AdminRequest) → first_closed (map close_asked cs) ≡ None
-none_closed [] = refl
-none_closed (q ∷ cs) = rw (not_closed q) (none_closed cs)
-
-none_clashing : (cs : List AdminRequest) → first_clash (map close_asked cs) ≡ None
-none_clashing [] = refl
-none_clashing (q ∷ cs) = rw (not_clashing q) (none_clashing cs)
+plain_asked : (cs : List AdminRequest) → ArePlain (map close_asked cs)
+plain_asked [] = tt
+plain_asked (q ∷ cs) = ((not_closed q, not_clashing q), plain_asked cs)
 
 pub none_refuses : (cs : List AdminRequest) → refusal (map close_asked cs) ≡ None
-none_refuses cs = rw (none_closed cs) (none_clashing cs)
+none_refuses cs = rounds.none_refuses (map close_asked cs) (plain_asked cs)
 
 -- once nothing is waited for, all are taken
 

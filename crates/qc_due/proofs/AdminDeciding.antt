@@ -18,7 +18,7 @@ use Rattle.qc_promise.specs.AdminDue.{AreAdminDeedsDue, decide_record}
 use Rattle.qc_promise.specs.AdminRounds.{Promised, ToldShut, all_answered, close_round, decision_due, first_doubt, promised_once, shuts_told, told_shut}
 use Rattle.qc_promise.specs.AdminRows.{admin_due, close_row, closed_sites, decide_due, decided_met, decided_of, decided_row, doubt_row, fits_record, site_set}
 use Rattle.qc_epoch.specs.Admin.{Admin, Decided, Installing, Question, ShutSite}
-use Rattle.qc_epoch.specs.Conduct.{decide_turn, decides, doing, install_of, install_sends, installing, replies_with, settles, settles_by}
+use Rattle.qc_epoch.specs.Conduct.{decide_turn, decides, install_of, install_sends, installing, replies_with, settles, settles_by}
 use Rattle.qc_epoch.specs.Deciding as deciding
 use Rattle.qc_epoch.specs.Deciding.{decision}
 use Rattle.qc_admin.specs.Sent.{sent_each}

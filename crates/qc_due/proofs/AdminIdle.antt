@@ -1,9 +1,9 @@
 -- Where nobody falls the administrator does nothing but take one input, which is due.
-use Rattle.std.proofs.Common.{◌≡◌, ◌<◌, ◌≤◌, ℕ, Bool, true, false, List, [], ◌∷◌, ◌++◌, Some, slice_get, refl, sym, subst, arith}
+use Rattle.std.proofs.Common.{◌≡◌, ℕ, Bool, false, List, [], ◌∷◌, ◌++◌, Some, slice_get, refl, sym, subst, arith}
 use Rattle.qc_core.specs.Acts.{Acts}
 use Rattle.qc_core.specs.Acts as acts
 use Rattle.qc_core.specs.Conduct.{IsLawful}
-use Rattle.qc_decl.specs.Actors.{actors, administrator}
+use Rattle.qc_decl.specs.Actors.{administrator}
 use Rattle.qc_decl.specs.declared.declaration.Declaration.{Declaration}
 use Rattle.qc_laws.specs.Turns.{ActsIn}
 use Rattle.qc_laws.proofs.Acted.{has_entry, run_acts}

@@ -1,23 +1,16 @@
 -- The numbers of the administrator's open requests, and which of them stay as something is taken.
-use Rattle.std.proofs.Common.{◌≡◌, ℕ, ◌==◌, not, nat_le, ◌⊎◌, Bool, true, false, cond, inl, inr, List, [], ◌∷◌, ◌++◌, length, map, drop, fold, Option, Some, None, option_map, refl, sym, ap, ◌∙◌, subst, eq-eqb}
-use Rattle.std.specs.Prelude.{is_none, unwrap_or}
+use Rattle.std.proofs.Common.{◌≡◌, ℕ, ◌==◌, not, ◌⊎◌, Bool, true, false, cond, inl, inr, List, [], ◌∷◌, ◌++◌, map, fold, Option, Some, None, option_map, refl, sym, ap, ◌∙◌, subst, eq-eqb}
+use Rattle.std.specs.Prelude.{is_none}
 use Rattle.std.specs.List.{AllByRecursion as Every, cons_option, find, filter_map}
-use Rattle.std.specs.Option.{option_or}
 use Rattle.qc_list.specs.Members.{In}
-use Rattle.qc_plan.specs.declared.standing.Asked.{Asked}
-use Rattle.qc_plan.specs.declared.standing.Verdict.{Verdict}
-use Rattle.qc_plan.specs.declared.standing.Verdict.TheVariants as verdicts
-use Rattle.qc_plan.specs.Round.{RoundState, all_noted, asking_all, clash_at, closed_at, first_clash, first_closed, has_granted, note_in, settled, verdict}
-use Rattle.qc_plan.specs.Weights.{weight}
 use Rattle.qc_msg.specs.declared.call.Call.{Call}
-use Rattle.qc_msg.specs.declared.message.Answer.{Answer}
-use Rattle.qc_msg.specs.declared.message.Answer.TheVariants as answers
 use Rattle.qc_msg.specs.declared.message.Outcome.{Outcome}
 use Rattle.qc_msg.specs.Calls.{site_called, without_call}
 use Rattle.qc_epoch.specs.Admin.{Doing, Resting, Closing, Asking, Installing, Question, ShutSite}
-use Rattle.qc_epoch.specs.Answers.{is_number, standing_of, taken_for}
+use Rattle.qc_epoch.specs.Answers.{is_number, taken_for}
 use Rattle.qc_entry.specs.declared.record.Prepared.{Prepared}
 use Rattle.qc_epoch.specs.Deciding.{is_questioned, with_question, with_questions}
+use Rattle.qc_due.proofs.PlainRounds.{ArePlain}
 
 -- the numbers of his open requests
 
@@ -37,83 +30,13 @@ open_numbers (Closing epoch calls round shuts) = numbers_in calls
 open_numbers (Asking epoch shuts questions) = open_in questions
 open_numbers (Installing closed awaited calls installed) = numbers_in calls
 
--- nobody who is asked to close is noted as closed or clashing in the round
-
-abbrev pub IsPlain : Asked → Type 0
-IsPlain a = (closed_at a.site a.standing ≡ None) × (clash_at a.site a.standing ≡ None)
-
-abbrev pub ArePlain : List Asked → Type 0
-ArePlain asked = Every IsPlain asked
+-- the round of Closes is plain
 
 abbrev pub DoingPlain : Doing → Type 0
 DoingPlain Resting = Unit {0}
 DoingPlain (Closing epoch calls round shuts) = ArePlain round.asked
 DoingPlain (Asking epoch shuts questions) = Unit {0}
 DoingPlain (Installing closed awaited calls installed) = Unit {0}
-
-pub plain_standing : (site : ℕ) (answer : Option Answer) → IsPlain (record { site = site; standing = Some (standing_of answer) })
-plain_standing site None = (refl, refl)
-plain_standing site (Some (answers.Granted life clock log)) = (refl, refl)
-plain_standing site (Some (answers.Clash holder inv event)) = (refl, refl)
-plain_standing site (Some (answers.Closed epoch)) = (refl, refl)
-plain_standing site (Some (answers.Behind epoch)) = (refl, refl)
-plain_standing site (Some (answers.Restarted life)) = (refl, refl)
-plain_standing site (Some answers.Stale) = (refl, refl)
-plain_standing site (Some answers.Fault) = (refl, refl)
-plain_standing site (Some (answers.Yes clock)) = (refl, refl)
-plain_standing site (Some (answers.Shut clock log prepared)) = (refl, refl)
-plain_standing site (Some answers.Installed) = (refl, refl)
-plain_standing site (Some (answers.Answered verdict)) = (refl, refl)
-
-pub plain_noted : (site : ℕ) (answer : Option Answer) (asked : List Asked) → ArePlain asked → ArePlain (note_in site (standing_of answer) asked)
-plain_noted site answer [] plain = tt
-plain_noted site answer (a ∷ asked) plain = by (a.site == site) (plain_noted site answer asked plain.1)
-  where
-    by : (b : Bool) → ArePlain (note_in site (standing_of answer) asked)
-        → ArePlain (cond b (record { site = site; standing = Some (standing_of answer) } ∷ asked) (a ∷ note_in site (standing_of answer) asked))
-    by true more = (plain_standing site answer, plain.1)
-    by false more = (plain.0, more)
-
-pub plain_more : (asked : List Asked) (site : ℕ) → ArePlain asked → ArePlain (asked ++ record { site = site; standing = None } ∷ [])
-plain_more [] site plain = ((refl, refl), tt)
-plain_more (a ∷ asked) site plain = (plain.0, plain_more asked site plain.1)
-
-pub plain_all : (sites : List ℕ) (r : RoundState) → ArePlain r.asked → ArePlain (asking_all r sites).asked
-plain_all [] r plain = plain
-plain_all (s ∷ ss) r plain = plain_all ss (record r { asked = r.asked ++ record { site = s; standing = None } ∷ []; rest = drop 1 r.rest }) (plain_more r.asked s plain)
-
-pub none_closed : (asked : List Asked) → ArePlain asked → first_closed asked ≡ None
-none_closed [] plain = refl
-none_closed (a ∷ asked) plain = ap (λ (o : Option Verdict). option_or o (first_closed asked)) plain.0.0 ∙ none_closed asked plain.1
-
-pub none_clashing : (asked : List Asked) → ArePlain asked → first_clash asked ≡ None
-none_clashing [] plain = refl
-none_clashing (a ∷ asked) plain = ap (λ (o : Option Verdict). option_or o (first_clash asked)) plain.0.1 ∙ none_clashing asked plain.1
-
-abbrev pub IsLeft : Verdict → Type 0
-IsLeft verdicts.Waiting = Unit {0}
-IsLeft verdicts.Met = Unit {0}
-IsLeft (verdicts.Closed epoch site) = ⊥
-IsLeft (verdicts.Clash tx site) = ⊥
-IsLeft (verdicts.Short got need) = Unit {0}
-
-pub left : (r : RoundState) → ArePlain r.asked → IsLeft (verdict r)
-left r plain =
-    subst (λ (o : Option Verdict). IsLeft (cond (all_noted r.asked) (unwrap_or o (settled r (weight (has_granted r.asked) r.weights))) verdicts.Waiting))
-    (sym (ap (λ (o : Option Verdict). option_or o (first_clash r.asked)) (none_closed r.asked plain) ∙ none_clashing r.asked plain))
-    (by (all_noted r.asked))
-  where
-    rest : (b : Bool) → IsLeft (cond b (verdicts.Short (weight (has_granted r.asked) r.weights) r.need) verdicts.Waiting)
-    rest true = tt
-    rest false = tt
-
-    at : (b : Bool) → IsLeft (cond b verdicts.Met (cond (length r.rest == 0) (verdicts.Short (weight (has_granted r.asked) r.weights) r.need) verdicts.Waiting))
-    at true = tt
-    at false = rest (length r.rest == 0)
-
-    by : (b : Bool) → IsLeft (cond b (settled r (weight (has_granted r.asked) r.weights)) verdicts.Waiting)
-    by true = at (nat_le r.need (weight (has_granted r.asked) r.weights))
-    by false = tt
 
 -- open requests by calls
 

@@ -1,6 +1,6 @@
 -- The requests of the administrator's account: the first thing that is taken for one, in his calls as in the account, and
 -- one request more.
-use Rattle.std.proofs.Common.{◌≡◌, ◌≢◌, ℕ, suc, ◌+◌, ◌==◌, ◌&&◌, Bool, true, false, cond, List, [], ◌∷◌, ◌++◌, length, map, filter, Option, Some, None, option_map, refl, sym, ap, ◌∙◌, arith, eq-eqb, eqb-true, inl, inr}
+use Rattle.std.proofs.Common.{◌≡◌, ◌≢◌, ℕ, suc, ◌==◌, ◌&&◌, Bool, true, false, cond, List, [], ◌∷◌, ◌++◌, length, map, filter, Option, Some, None, option_map, refl, sym, ap, ◌∙◌, arith, eq-eqb, eqb-true, inl, inr}
 use Rattle.std.specs.Prelude.{is_none, is_some}
 use Rattle.std.specs.List.{find, list_all}
 use Rattle.std.proofs.lemmas.List.{map-append}

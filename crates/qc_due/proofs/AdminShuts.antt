@@ -1,7 +1,7 @@
 -- What closed sites told, as the administrator keeps it in the order of the answers, and in asked order.
 use Rattle.std.proofs.Common.{◌≡◌, ◌≢◌, ℕ, ◌==◌, Bool, true, false, List, [], ◌∷◌, ◌++◌, map, Option, Some, None, option_map, refl, sym, ap, ◌∙◌, subst, eq-eqb, eqb-true, inl, inr}
 use Rattle.std.specs.Prelude.{option_and_then}
-use Rattle.std.specs.List.{filter_map, find}
+use Rattle.std.specs.List.{filter_map}
 use Rattle.std.specs.Option.{option_or}
 use Rattle.std.proofs.lemmas.List.{append-nil, map-append}
 use Rattle.std.proofs.lemmas.List.Elements.{filter_map-append}

@@ -1,7 +1,7 @@
 -- The administrator's Closes and Installs go to sites, and each Ask to the client of its transaction, whatever he takes.
-use Rattle.std.proofs.Common.{◌≡◌, ℕ, zero, suc, ◌+◌, ◌-◌, ◌<◌, ◌≤◌, ◌==◌, Bool, true, false, cond, List, [], ◌∷◌, ◌++◌, drop, length, map, take, Option, Some, None, refl, sym, subst, arith}
+use Rattle.std.proofs.Common.{◌≡◌, ℕ, ◌+◌, ◌-◌, ◌<◌, ◌≤◌, ◌==◌, Bool, true, false, cond, List, [], ◌∷◌, length, map, take, Option, Some, None, refl, arith}
 use Rattle.std.specs.Prelude.{nat_le, slice_get}
-use Rattle.std.specs.List.{AllByRecursion as Every, range_with_len}
+use Rattle.std.specs.List.{AllByRecursion as Every}
 use Rattle.qc_decl.specs.Accepted.{IsAccepted}
 use Rattle.qc_decl.specs.Actors.{client_actor}
 use Rattle.qc_decl.specs.Limits.{most_record_bytes}
@@ -13,7 +13,7 @@ use Rattle.qc_epoch.specs.Answers.{outcome_in, standing_of, taken_for, with_inst
 use Rattle.qc_epoch.specs.Conduct as conduct
 use Rattle.qc_epoch.specs.Conduct.{admin_takes, doing, requested, sent_one}
 use Rattle.qc_epoch.specs.Deciding.{all_taken, decision, first_doubt, in_asked_order, most_asks, questions_of}
-use Rattle.qc_laws.proofs.Rounds.{AreSites, sites_cyclic, sites_filter}
+use Rattle.qc_laws.proofs.DeclaredSites.{AreSites, asking_rest, sites_cyclic, sites_filter, sites_range, wanted_sites}
 use Rattle.qc_msg.specs.Calls.{site_called, without_call}
 use Rattle.qc_msg.specs.Lengths.{epoch_length}
 use Rattle.qc_msg.specs.Turns.{quiet, sending}
@@ -27,11 +27,10 @@ use Rattle.qc_msg.specs.declared.step.Command.TheVariants as commands
 use Rattle.qc_msg.specs.declared.step.Given.{Given}
 use Rattle.qc_msg.specs.declared.step.Given.TheVariants as given
 use Rattle.qc_msg.specs.declared.turn.Posting.{Posting}
-use Rattle.qc_plan.specs.Round.{RoundState, asking_all, note, verdict, wanted}
+use Rattle.qc_plan.specs.Round.{RoundState, note, verdict, wanted}
 use Rattle.qc_plan.specs.declared.plan.Plan.{Plan}
 use Rattle.qc_plan.specs.declared.standing.Verdict.{Verdict}
 use Rattle.qc_plan.specs.declared.standing.Verdict.TheVariants as verdicts
-use Rattle.qc_front.proofs.Awaited.{wanted_is}
 
 -- where a message of his goes
 
@@ -54,25 +53,6 @@ IsSited decl Resting = Unit {0}
 IsSited decl (Closing epoch calls round shuts) = AreSites decl round.rest
 IsSited decl (Asking epoch shuts questions) = Unit {0}
 IsSited decl (Installing closed awaited calls installed) = Unit {0}
-
-pub sites_front : (decl : Declaration) (xs ys : List ℕ) → AreSites decl (xs ++ ys) → AreSites decl xs
-sites_front decl [] ys all = tt
-sites_front decl (x ∷ xs) ys all = (all.0, sites_front decl xs ys all.1)
-
-pub sites_rest : (decl : Declaration) (xs : List ℕ) → AreSites decl xs → AreSites decl (drop 1 xs)
-sites_rest decl [] all = tt
-sites_rest decl (x ∷ xs) all = all.1
-
-pub asking_rest : (decl : Declaration) (r : RoundState) (sites : List ℕ) → AreSites decl r.rest → AreSites decl (asking_all r sites).rest
-asking_rest decl r [] all = all
-asking_rest decl r (s ∷ sites) all = asking_rest decl (record r { asked = r.asked ++ record { site = s; standing = None } ∷ []; rest = drop 1 r.rest }) sites (sites_rest decl r.rest all)
-
-pub wanted_sites : (decl : Declaration) (r : RoundState) → AreSites decl r.rest → AreSites decl (wanted r)
-wanted_sites decl r all = sites_front decl (wanted r) (wanted_is r).more (subst (AreSites decl) (sym (wanted_is r).is) all)
-
-pub sites_range : (decl : Declaration) (from n : ℕ) → from + n ≤ decl.sites → AreSites decl (range_with_len from n)
-sites_range decl from zero within = tt
-sites_range decl from (suc n) within = ((let low : from < decl.sites = omega arith in low), sites_range decl (from + 1) n (omega arith))
 
 -- his moves
 

@@ -1,5 +1,5 @@
 -- A client tells of no epoch: it answers Inquiries alone.
-use Rattle.std.proofs.Common.{◌≡◌, ℕ, ◌-◌, List, [], ◌∷◌, map, Option, Some, None, inl, inr, refl, sym, subst}
+use Rattle.std.proofs.Common.{ℕ, List, [], ◌∷◌, map, Option, Some, None, inl, inr, refl, sym, subst}
 use Rattle.std.specs.List.{AllByRecursion as Every, fold}
 use Rattle.qc_stamp.specs.declared.stamp.TxId.{TxId}
 use Rattle.qc_list.specs.Members.{In}

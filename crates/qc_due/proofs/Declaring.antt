@@ -1,8 +1,8 @@
 -- In a run what comes to a client is declared: scripts ask of declared objects, and nobody tells of another epoch than the
 -- first.
-use Rattle.std.proofs.Common.{◌≡◌, ℕ, ◌==◌, Bool, true, false, cond, List, [], ◌∷◌, ◌++◌, Option, Some, None, is_some, slice_get, refl, sym, ap, subst}
-use Rattle.std.specs.Prelude.{option_and_then, option_map, option_to_list}
-use Rattle.std.specs.List.{AllByRecursion as Every, cons_option}
+use Rattle.std.proofs.Common.{◌≡◌, ℕ, Bool, true, List, [], ◌∷◌, Option, Some, None, is_some, slice_get, refl, ap}
+use Rattle.std.specs.Prelude.{option_and_then, option_map}
+use Rattle.std.specs.List.{AllByRecursion as Every}
 use Rattle.qc_decl.specs.Accepted.{IsAccepted}
 use Rattle.qc_decl.specs.Lookup.{kind_at, table_at}
 use Rattle.qc_decl.specs.declared.declaration.Declaration.{Declaration}
@@ -11,10 +11,8 @@ use Rattle.qc_msg.specs.declared.message.Message.TheVariants as messages
 use Rattle.qc_msg.specs.declared.step.Command.{Command}
 use Rattle.qc_msg.specs.declared.step.Command.TheVariants as commands
 use Rattle.qc_msg.specs.declared.step.Given.TheVariants as given
-use Rattle.qc_msg.specs.declared.step.Step.{Step}
-use Rattle.qc_msg.specs.declared.step.Step.TheVariants as steps
 use Rattle.qc_msg.specs.Begun.{first_epoch}
-use Rattle.qc_msg.specs.Deeds.{Deed, Takes, Writes, Sends, Tells, Falls, Rises, deed_at, deeds, envelope_of, heard, mail}
+use Rattle.qc_msg.specs.Deeds.{Deed, Takes, Writes, Sends, Tells, Falls, Rises, deeds}
 use Rattle.qc_msg.specs.Steps.{Entry}
 use Rattle.qc_plan.specs.declared.plan.Plan.{Plan}
 use Rattle.qc_table.specs.declared.kind.Kind.{Kind}
@@ -22,7 +20,6 @@ use Rattle.qc_core.specs.Conduct.{IsLawful}
 use Rattle.qc_script.specs.Runs.{Runs}
 use Rattle.qc_script.specs.declared.script.Script.{Script}
 use Rattle.qc_laws.specs.Asked.{AsksDeclared, IsAskable}
-use Rattle.qc_laws.proofs.Mailed.{all_at, both_all}
 use Rattle.qc_laws.proofs.Places.{slice_get-within}
 use Rattle.qc_laws.proofs.Proper.{IsAskableDeed, run_askable}
 use Rattle.qc_due.proofs.Epochs.{DeedPlanned, TellsPlanned}

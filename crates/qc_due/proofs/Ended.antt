@@ -1,9 +1,8 @@
 -- A client that waits has an open request. So where nothing is left to happen every command has ended, and a run of
 -- which no phase is left is whole.
-use Rattle.std.proofs.Common.{◌≡◌, ℕ, ◌+◌, ◌-◌, ◌<◌, ◌≤◌, ◌&&◌, not, nat_le, nat_lt, Bool, true, false, cond, List, [], ◌∷◌, length, map, filter, Option, Some, None, is_some, slice_get, refl, sym, ap, ◌∙◌, arith}
+use Rattle.std.proofs.Common.{◌≡◌, ℕ, ◌+◌, ◌-◌, ◌<◌, ◌≤◌, ◌&&◌, not, Bool, true, false, cond, List, [], ◌∷◌, length, map, filter, Option, Some, None, is_some, slice_get, refl, sym, ap, ◌∙◌, arith}
 use Rattle.std.specs.Prelude.{is_none, replicate}
 use Rattle.std.specs.List.{list_all}
-use Rattle.std.proofs.lemmas.Bool.{ltb-true}
 use Rattle.qc_decl.proofs.Clients.{client_within}
 use Rattle.qc_client.specs.declared.client.Client.{Client}
 use Rattle.qc_client.specs.Conduct.{client_after}

@@ -1,5 +1,5 @@
 -- A site tells and writes of epochs with plans alone: it closes, installs and tells of those that it is asked for.
-use Rattle.std.proofs.Common.{◌≡◌, ℕ, ◌+◌, ◌-◌, ◌==◌, nat_le, nat_lt, not, List, [], ◌∷◌, ◌++◌, Option, Some, None, ◌∙◌, subst}
+use Rattle.std.proofs.Common.{ℕ, ◌==◌, nat_le, nat_lt, not, List, [], ◌∷◌, Option, Some, None, subst}
 use Rattle.std.specs.Prelude.{option_to_list}
 use Rattle.std.specs.List.{AllByRecursion as Every, fold}
 use Rattle.qc_stamp.specs.declared.stamp.Stamp.{Stamp}
@@ -26,7 +26,7 @@ use Rattle.qc_msg.specs.declared.step.Given.{Given}
 use Rattle.qc_msg.specs.declared.step.Given.TheVariants as given
 use Rattle.qc_msg.specs.declared.turn.Posting.{Posting}
 use Rattle.qc_msg.specs.declared.turn.Turn.{Turn}
-use Rattle.qc_msg.specs.Deeds.{Deed, Takes, Writes, Sends, Tells, Falls, Rises, deeds}
+use Rattle.qc_msg.specs.Deeds.{Deed, Takes, Writes, Sends, Tells, Falls, Rises}
 use Rattle.qc_msg.specs.Readings.{closed_in}
 use Rattle.qc_msg.specs.Turns.{quiet, sending}
 use Rattle.qc_site.specs.Conduct.{passed, site_at, site_does, site_on, site_takes}

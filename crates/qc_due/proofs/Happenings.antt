@@ -3,7 +3,7 @@ use Rattle.std.proofs.Common.{◌≡◌, ℕ, ◌-◌, Bool, true, false, cond, 
 use Rattle.std.specs.Prelude.{fold, option_and_then}
 use Rattle.qc_core.proofs.ByNumber.{client_risen}
 use Rattle.qc_core.specs.declared.actor.Actor.{Actor}
-use Rattle.qc_core.specs.Actors.{ActorMove, actor_after, actor_does, actor_takes, by_client, by_site}
+use Rattle.qc_core.specs.Actors.{ActorMove, actor_after, actor_does, actor_takes, by_client}
 use Rattle.qc_core.specs.Acts.{MayTake}
 use Rattle.qc_core.specs.Conduct.{IsLawfulWithFalls, with_record}
 use Rattle.qc_core.specs.Lives.{is_up}
@@ -36,13 +36,13 @@ use Rattle.qc_promise.specs.Posts.{Act, IsPostOf, Wrote, fallen_in, pending_next
 use Rattle.qc_promise.specs.Replies.{AreDeedsDue, IsInputDue, IsRecordDue, IsReplyDue, rising_turn}
 use Rattle.qc_promise.specs.Rows.{due, is_declared_for, reply_to, row_of, running_row}
 use Rattle.qc_recover.specs.Clients.{client_rises}
-use Rattle.qc_recover.specs.Sites.{rising, site_rises}
+use Rattle.qc_recover.specs.Sites.{rising}
 use Rattle.qc_due.specs.ByRows as rows
 use Rattle.qc_due.specs.Declares.{IsDeclaredDeed, IsPlanned}
 use Rattle.qc_due.specs.Goes.{Goes}
 use Rattle.qc_due.specs.Ties.{Ties}
 use Rattle.qc_due.proofs.Anew.{begins_anew}
-use Rattle.qc_due.proofs.Commands.{free_for, no_site}
+use Rattle.qc_due.proofs.Commands.{free_for}
 use Rattle.qc_due.proofs.Dues.{IsWithin, due_as, due_then, none_due, within_all, within_at}
 use Rattle.qc_due.proofs.Fits.{takes_fit}
 use Rattle.qc_due.proofs.Nothing.{tied_none}

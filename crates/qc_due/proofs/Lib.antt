@@ -45,6 +45,7 @@ pub mod AllDue
 pub mod KeptPlanned
 pub mod Places
 pub mod Plain
+pub mod PlainRounds
 pub mod Calling
 pub mod Telling
 pub mod Tied

@@ -1,10 +1,10 @@
 -- Over all its deeds, through falls and rises, a client that is up and has no open input is tied to its account; its
 -- turns tell only where a command runs.
-use Rattle.std.proofs.Common.{◌≡◌, ℕ, ◌-◌, Bool, true, false, cond, List, [], ◌∷◌, ◌++◌, None, is_some, refl, sym, ap, ◌∙◌, subst}
+use Rattle.std.proofs.Common.{◌≡◌, ℕ, ◌-◌, Bool, true, false, List, [], ◌∷◌, ◌++◌, None, is_some, refl, sym, ap, ◌∙◌, subst}
 use Rattle.qc_core.proofs.ByNumber.{client_risen}
 use Rattle.qc_core.specs.declared.actor.Actor.{Actor}
 use Rattle.qc_core.specs.declared.actor.Actor.TheVariants as actors
-use Rattle.qc_core.specs.Actors.{ActorMove, actor_after, actor_takes, by_client, by_site}
+use Rattle.qc_core.specs.Actors.{ActorMove, actor_after, actor_takes, by_client}
 use Rattle.qc_core.specs.Acts.{MayTake, is_running}
 use Rattle.qc_core.specs.Conduct.{IsLawfulWithFalls, with_record}
 use Rattle.qc_core.specs.Lives.{Lives, MayReach, is_up, up_at}
@@ -27,10 +27,10 @@ use Rattle.qc_msg.specs.Deeds.{Deed, Takes, Writes, Tells, Rises, deeds_as, turn
 use Rattle.qc_promise.specs.Account.{Account}
 use Rattle.qc_promise.specs.Accounting.{account_at}
 use Rattle.qc_recover.specs.Clients.{client_rises}
-use Rattle.qc_recover.specs.Sites.{rising, site_rises}
+use Rattle.qc_recover.specs.Sites.{rising}
 use Rattle.qc_due.specs.Ties.{Ties}
 use Rattle.qc_due.proofs.Anew.{begins_anew}
-use Rattle.qc_due.proofs.Commands.{no_site, running}
+use Rattle.qc_due.proofs.Commands.{running}
 use Rattle.qc_due.proofs.Rising.{risen_account, risen_holds, risen_ties}
 use Rattle.qc_due.proofs.Standing.{account_is, account_more, actor_more, turn_is, up_more}
 use Rattle.qc_due.proofs.Telling.{Replies}

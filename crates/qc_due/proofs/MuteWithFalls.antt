@@ -1,18 +1,17 @@
 -- In each run with falls nobody commands a site, and a site tells nothing: so its deeds are in order too.
-use Rattle.std.proofs.Common.{◌≡◌, ℕ, ◌+◌, ◌-◌, ◌<◌, ◌≤◌, ◌&&◌, Bool, true, false, cond, List, [], ◌∷◌, ◌++◌, length, Option, Some, None, refl, sym, subst, arith}
+use Rattle.std.proofs.Common.{◌≡◌, ℕ, ◌+◌, ◌<◌, ◌≤◌, ◌&&◌, Bool, true, false, List, [], ◌∷◌, ◌++◌, length, Option, Some, None, refl, sym, subst, arith}
 use Rattle.std.specs.Prelude.{fold, slice_get}
 use Rattle.std.specs.List.{AllByRecursion as Every}
 use Rattle.std.proofs.lemmas.Bool.{lt-ltb, ltb-false, le-leb}
 use Rattle.qc_core.proofs.ByNumber.{site_new, site_risen}
 use Rattle.qc_core.specs.declared.actor.Actor.{Actor}
 use Rattle.qc_core.specs.declared.actor.Actor.TheVariants as actor
-use Rattle.qc_core.specs.Actors.{ActorMove, actor_does, actor_rises, actor_sends, actor_takes, by_client, by_site, moved, new_actor}
+use Rattle.qc_core.specs.Actors.{ActorMove, actor_does, actor_rises, actor_sends, actor_takes, moved, new_actor}
 use Rattle.qc_core.specs.Conduct.{IsLawfulWithFalls, with_record}
 use Rattle.qc_core.specs.Lives.{AreUncommanded, Lives}
 use Rattle.qc_core.specs.Lives as lives
 use Rattle.qc_core.proofs.ByTurns.{called_turn}
 use Rattle.qc_core.proofs.Written.{IsSiteTurn, site_written}
-use Rattle.qc_client.specs.Client.{new_client}
 use Rattle.qc_decl.specs.Accepted.{IsAccepted}
 use Rattle.qc_decl.specs.Actors.{actors, administrator, is_site}
 use Rattle.qc_decl.specs.declared.declaration.Declaration.{Declaration}
@@ -38,11 +37,8 @@ use Rattle.qc_msg.specs.Deeds.{Deed, Takes, Writes, Sends, Tells, Falls, Rises, 
 use Rattle.qc_msg.specs.Readings.{command_in}
 use Rattle.qc_msg.specs.Steps.{Entry}
 use Rattle.qc_msg.specs.Turns.{quiet}
-use Rattle.qc_recover.specs.Clients.{client_rises}
-use Rattle.qc_recover.specs.Sites.{site_rises}
 use Rattle.qc_script.specs.RunsWithFalls.{RunsWithFalls}
 use Rattle.qc_script.specs.declared.script.Script.{Script}
-use Rattle.qc_site.specs.Site.{new_site}
 use Rattle.qc_core.specs.Acts.{is_running}
 use Rattle.qc_due.specs.Order.{AreInOrder}
 use Rattle.qc_due.proofs.Ordered.{all_counted, open_commands, run_ordered}

@@ -47,7 +47,7 @@ held_after (Some (picks.Actor a)) held = slice_set held a true
 held_after (Some picks.Quiet) held = held
 held_after (Some (picks.Full full)) held = held
 
--- an actor that is named is a site or a client
+-- an actor that is named is a site, a client or the administrator
 abbrev pub IsNamed : Declaration → Option Picked → Type 0
 IsNamed decl None = Unit {0}
 IsNamed decl (Some (picks.Actor a)) = a < actors decl

@@ -79,8 +79,8 @@ pub fn picks_are_made_by_trays()
         → IsKept script h kept → actors decl ≤ most_actors → picked_in decl held kept ≡ picked decl script held h }
 {}
 
-/// None comes next exactly where nothing is ready for any site or client that
-/// isn't held, and something is ready for the one that does.
+/// None comes next exactly where nothing is ready for any actor that isn't held,
+/// and something is ready for the one that does.
 pub fn who_comes_next_has_something_ready()
     ensures none { (decl : Declaration) (script : Script) (held : List Bool) (h : List Entry)
         → picked decl script held h ≡ None

@@ -23,6 +23,7 @@ pub mod FrontAsks
 pub mod RequestsGone
 pub mod Fewer
 pub mod Covered
+pub mod DeclaredSites
 pub mod Rounds
 pub mod SiteReplies
 pub mod Proper

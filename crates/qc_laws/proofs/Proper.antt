@@ -54,11 +54,12 @@ use Rattle.qc_site.specs.Conduct.{site_after}
 use Rattle.qc_laws.specs.Asked.{AreAskable, AsksDeclared, IsAskable}
 use Rattle.qc_laws.specs.Whole.{asked_in_all, call_in, calls_of}
 use Rattle.qc_laws.proofs.Calling.{run_asked}
+use Rattle.qc_laws.proofs.DeclaredSites.{AreSites, sites_cyclic, sites_filter}
 use Rattle.qc_laws.proofs.Mailed.{both_all}
 use Rattle.qc_laws.proofs.Numbered.{control_silent, mail-silent, phase_silent}
 use Rattle.qc_laws.proofs.OwnFronts.{OwnFront}
 use Rattle.qc_laws.proofs.OwnFronts as own_fronts
-use Rattle.qc_laws.proofs.Rounds.{AreProper, AreSites, IsGood, IsProper, IsSited, called_good, decisions_proper, of_either, sites_cyclic, sites_filter, takes_good}
+use Rattle.qc_laws.proofs.Rounds.{AreProper, IsGood, IsProper, IsSited, called_good, decisions_proper, of_either, takes_good}
 use Rattle.qc_laws.proofs.SiteReplies.{IsMailProper, IsProperFrom, asks_nothing}
 
 -- what a client is asked is what the script asks

@@ -1,6 +1,6 @@
 -- Requests go to sites and name what is declared: of a front end, whatever it takes.
-use Rattle.std.proofs.Common.{◌≡◌, ℕ, zero, suc, ◌+◌, ◌-◌, ◌%◌, ◌<◌, ◌≤◌, ◌==◌, ◌&&◌, nat_le, nat_lt, Bool, true, false, cond, if◌then◌else◌, List, [], ◌∷◌, ◌++◌, drop, map, length, Option, Some, None, is_some, slice_get, refl, sym, ap, ◌∙◌, subst, arith}
-use Rattle.std.specs.List.{AllByRecursion as Every, filter, range_with_len}
+use Rattle.std.proofs.Common.{◌≡◌, ℕ, ◌-◌, ◌%◌, ◌<◌, ◌≤◌, ◌==◌, ◌&&◌, nat_le, nat_lt, Bool, true, false, cond, if◌then◌else◌, List, [], ◌∷◌, map, length, Option, Some, None, is_some, slice_get, refl, sym, ap, ◌∙◌, subst, arith}
+use Rattle.std.specs.List.{AllByRecursion as Every}
 use Rattle.std.specs.Option.{option_map_or}
 use Rattle.std.proofs.lemmas.Bool.{lt-ltb}
 use Rattle.qc_decl.specs.declared.declaration.Declaration.{Declaration}
@@ -9,7 +9,7 @@ use Rattle.qc_decl.specs.Actors.{first_site}
 use Rattle.qc_decl.specs.Limits.{most_transaction_operations}
 use Rattle.qc_decl.specs.Lookup.{append_need_of, kind_at, plan_in, read_need_of}
 use Rattle.qc_plan.specs.declared.plan.Plan.{Plan}
-use Rattle.qc_plan.specs.Round.{RoundState, asking_all, cyclic, note, verdict, wanted}
+use Rattle.qc_plan.specs.Round.{RoundState, cyclic, note, verdict, wanted}
 use Rattle.qc_plan.specs.declared.standing.Verdict.{Verdict}
 use Rattle.qc_plan.specs.declared.standing.Verdict.TheVariants as verdicts
 use Rattle.qc_stamp.specs.declared.stamp.TxId.{TxId}
@@ -40,8 +40,8 @@ use Rattle.qc_front.specs.Conduct as fronts
 use Rattle.qc_front.specs.Counting.{appended_with, learns, read_with, standing_of}
 use Rattle.qc_front.specs.Front.{FrontMove, aborts, begins, gives_up, moved as front_moved}
 use Rattle.qc_front.specs.Rounds.{answered, append_by, performs, read_by, reads}
-use Rattle.qc_front.proofs.Awaited.{wanted_is}
 use Rattle.qc_site.specs.Requests.{names_declared}
+use Rattle.qc_laws.proofs.DeclaredSites.{AreSites, asking_rest, sites_cyclic, sites_filter, wanted_sites}
 use Rattle.qc_laws.proofs.OwnFronts.{IsOwnTransaction, OwnFront, appended_name, read_name}
 use Rattle.qc_laws.specs.Asked.{IsAskable}
 
@@ -62,51 +62,12 @@ IsProper decl to (messages.Install epoch clock log) = ⊥
 abbrev pub AreProper : Declaration → List Posting → Type 0
 AreProper decl ps = Every (λ (p : Posting). IsProper decl p.to p.message) ps
 
-abbrev pub AreSites : Declaration → List ℕ → Type 0
-AreSites decl sites = Every (λ (s : ℕ). s < decl.sites) sites
-
 pub decisions_proper : (decl : Declaration) (b : Begun) (v : Outcome) → AreProper decl (decisions b v)
 decisions_proper decl b v = over b.asked
   where
     over : (asked : List ℕ) → AreProper decl (map (λ (site : ℕ). record { to = site; message = messages.Decision b.tx v }) asked)
     over [] = tt
     over (site ∷ asked) = (tt, over asked)
-
--- lists of sites
-
-sites_both : (decl : Declaration) (xs ys : List ℕ) → AreSites decl xs → AreSites decl ys → AreSites decl (xs ++ ys)
-sites_both decl [] ys first second = second
-sites_both decl (x ∷ xs) ys first second = (first.0, sites_both decl xs ys first.1 second)
-
-sites_front : (decl : Declaration) (xs ys : List ℕ) → AreSites decl (xs ++ ys) → AreSites decl xs
-sites_front decl [] ys all = tt
-sites_front decl (x ∷ xs) ys all = (all.0, sites_front decl xs ys all.1)
-
-sites_range : (decl : Declaration) (from n : ℕ) → from + n ≤ decl.sites → AreSites decl (range_with_len from n)
-sites_range decl from zero within = tt
-sites_range decl from (suc n) within = ((let low : from < decl.sites = omega arith in low), sites_range decl (from + 1) n (omega arith))
-
-pub sites_filter : (decl : Declaration) (test : ℕ → Bool) (xs : List ℕ) → AreSites decl xs → AreSites decl (filter test xs)
-sites_filter decl test [] all = tt
-sites_filter decl test (x ∷ xs) all = at (test x) (sites_filter decl test xs all.1)
-  where
-    at : (t : Bool) → AreSites decl (filter test xs) → AreSites decl (cond t (x ∷ filter test xs) (filter test xs))
-    at true rest = (all.0, rest)
-    at false rest = rest
-
-pub sites_cyclic : (decl : Declaration) (n from : ℕ) → n ≤ decl.sites → from ≤ decl.sites → AreSites decl (cyclic n from)
-sites_cyclic decl n from few low = sites_both decl (range_with_len from (n - from)) (range_with_len 0 from) (sites_range decl from (n - from) (omega arith)) (sites_range decl 0 from (omega arith))
-
-sites_rest : (decl : Declaration) (xs : List ℕ) → AreSites decl xs → AreSites decl (drop 1 xs)
-sites_rest decl [] all = tt
-sites_rest decl (x ∷ xs) all = all.1
-
-asking_rest : (decl : Declaration) (r : RoundState) (sites : List ℕ) → AreSites decl r.rest → AreSites decl (asking_all r sites).rest
-asking_rest decl r [] all = all
-asking_rest decl r (s ∷ sites) all = asking_rest decl (record r { asked = r.asked ++ record { site = s; standing = None } ∷ []; rest = drop 1 r.rest }) sites (sites_rest decl r.rest all)
-
-wanted_sites : (decl : Declaration) (r : RoundState) → AreSites decl r.rest → AreSites decl (wanted r)
-wanted_sites decl r all = sites_front decl (wanted r) (wanted_is r).more (subst (AreSites decl) (sym (wanted_is r).is) all)
 
 -- what runs is asked of sites, of a declared object
 abbrev pub IsSited : Declaration → Doing → Type 0

@@ -4,7 +4,8 @@ pub mod Parts
 pub mod WorkedHistories
 pub mod Random1To10
 pub mod Random11To20
-pub mod Random21To25
+pub mod Random21To30
+pub mod Random31To40
 pub mod WrongMoves
 pub mod WrongDoubts
 pub mod WrongRounds

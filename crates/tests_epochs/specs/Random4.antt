@@ -1,73 +1,91 @@
--- Random: sites 3, clients 2, steps 112, messages 14, commits 4, absent 14, falls 5, rises 3, unwritten records 1,
--- closes 1, decisions 1, installs 3.
+-- Random: sites 1, clients 2, steps 109, messages 32, cuts 1, commits 2, falls 2, rises 2.
 use Rattle.std.specs.Prelude.{List, [], ◌∷◌, Some, None}
 use Rattle.qc_decl.specs.declared.declaration.Declaration.{Declaration}
 use Rattle.qc_decl.specs.One.{row}
 use Rattle.qc_msg.specs.Steps.{Entry, marked}
-use Rattle.tests_histories.specs.Words.{tx, stamp, operation, commit, declaration, kind, pair, plan}
-use Rattle.qc_msg.specs.declared.step.Step.TheVariants.{Phase, Called, Got, Wrote, Sent, Told, Armed, Fell, Rose}
+use Rattle.tests_histories.specs.Words.{tx, stamp, line, own_line, operation, read_lock}
+use Rattle.tests_histories.specs.Words.{prepare, commit, declaration, kind, pair, plan}
+use Rattle.qc_msg.specs.declared.step.Step.TheVariants.{Phase, Cut, Heal, Called, Got, Wrote, Sent, Told, Fell, Rose}
 use Rattle.qc_msg.specs.declared.message.Answer.TheVariants as answers
 use Rattle.qc_msg.specs.declared.step.Command.TheVariants as commands
 use Rattle.qc_msg.specs.declared.message.Message.TheVariants as messages
+use Rattle.qc_msg.specs.declared.message.Outcome.TheVariants as outcomes
 use Rattle.qc_msg.specs.declared.record.Record.TheVariants as records
 use Rattle.qc_msg.specs.declared.reply.Reply.TheVariants as replies
+use Rattle.qc_msg.specs.declared.message.Want.TheVariants as wants
 use Rattle.qc_msg.specs.declared.step.Fall.TheVariants as falls
-use Rattle.qc_outside.specs.declared.disk.ArmKind.TheVariants as arms
 
 abbrev pub decl : Declaration
 decl =
-    declaration 3 2 (kind 2 3 3 0 (row 0 0 0 0 ∷ row 1 0 1 1 ∷ row 0 1 2 0 ∷ row 1 1 2 0 ∷ row 0 2 2 1 ∷ row 1 2 2 1 ∷
-    []) (pair 0 2 ∷ pair 0 3 ∷ pair 1 1 ∷ []) ∷ kind 4 2 2 0 (row 1 1 1 1 ∷ row 3 0 0 2 ∷ row 3 0 1 3 ∷ row 3 1 1 0 ∷
-    row 3 1 0 1 ∷ []) [] ∷ []) (1 ∷ 1 ∷ []) (plan (1 ∷ 0 ∷ 1 ∷ []) ((0 ∷ 0 ∷ []) ∷ (0 ∷ 0 ∷ []) ∷ []) ((2 ∷ 0 ∷ 0 ∷ 0 ∷
-    []) ∷ (0 ∷ 0 ∷ 0 ∷ 0 ∷ []) ∷ []) ∷ plan (1 ∷ 1 ∷ 1 ∷ []) ((0 ∷ 1 ∷ []) ∷ (0 ∷ 0 ∷ []) ∷ []) ((3 ∷ 1 ∷ 0 ∷ 0 ∷ []) ∷
-    (0 ∷ 0 ∷ 0 ∷ 0 ∷ []) ∷ []) ∷ [])
+    declaration 1 2 (kind 2 2 3 0 (row 0 0 0 1 ∷ row 1 0 1 1 ∷ row 0 1 2 0 ∷ row 1 1 2 0 ∷ []) (pair 0 0 ∷ pair 0 2 ∷
+    []) ∷ kind 7 3 4 0 (row 0 0 0 1 ∷ row 0 1 0 2 ∷ row 1 0 0 3 ∷ row 1 1 0 4 ∷ row 2 0 0 5 ∷ row 2 1 0 6 ∷ row 0 2 3 0
+    ∷ row 1 2 1 0 ∷ row 2 2 2 0 ∷ row 3 2 1 1 ∷ row 4 2 1 2 ∷ row 5 2 2 1 ∷ row 6 2 2 2 ∷ []) (pair 0 0 ∷ pair 0 1 ∷
+    pair 0 3 ∷ pair 0 4 ∷ pair 1 0 ∷ pair 1 1 ∷ pair 1 3 ∷ pair 1 4 ∷ pair 2 0 ∷ pair 2 1 ∷ pair 2 3 ∷ pair 2 4 ∷ []) ∷
+    []) (1 ∷ []) (plan (1 ∷ []) ((1 ∷ 1 ∷ 1 ∷ []) ∷ []) ((1 ∷ 1 ∷ 0 ∷ 1 ∷ 1 ∷ []) ∷ []) ∷ [])
 
 abbrev pub history : List Entry
 history =
-    marked 6 (Phase 1) ∷ marked 6 (Armed 4 arms.Fail 8) ∷ marked 3 (Called commands.Begin) ∷
-    marked 4 (Called commands.Begin) ∷ marked 3 (Told (replies.Began (tx 0 1))) ∷ marked 5 (Called (commands.Epoch 2)) ∷
-    marked 3 (Called (commands.Do 1 0)) ∷ marked 3 (Told replies.Absent) ∷ marked 5 (Sent 0 0 (messages.Close 2)) ∷
-    marked 0 (Got 0) ∷ marked 3 (Called (commands.Do 1 1)) ∷ marked 3 (Told replies.Absent) ∷
-    marked 3 (Called (commands.Do 1 0)) ∷ marked 3 (Told replies.Absent) ∷ marked 3 (Called commands.Commit) ∷
-    marked 3 (Wrote (commit (stamp 1 0) (tx 0 1) (operation 1 0 None ∷ operation 1 1 None ∷ operation 1 0 None ∷ []))) ∷
-    marked 3 (Told (replies.Committed (stamp 1 0))) ∷ marked 0 (Wrote (records.Close 2)) ∷
-    marked 0 (Sent 1 5 (messages.Answer 0 (answers.Shut 0 [] []))) ∷ marked 5 (Got 1) ∷
-    marked 5 (Wrote (records.Decide 2 0 [])) ∷ marked 5 (Sent 2 0 (messages.Install 2 0 [])) ∷
-    marked 5 (Sent 3 1 (messages.Install 2 0 [])) ∷ marked 5 (Sent 4 2 (messages.Install 2 0 [])) ∷ marked 0 (Got 2) ∷
-    marked 0 (Wrote (records.Install 2 0 [])) ∷ marked 0 (Sent 5 5 (messages.Answer 2 answers.Installed)) ∷
-    marked 1 (Got 3) ∷ marked 1 (Wrote (records.Install 2 0 [])) ∷
-    marked 1 (Sent 6 5 (messages.Answer 3 answers.Installed)) ∷ marked 5 (Got 5) ∷ marked 5 (Got 6) ∷
-    marked 4 (Told (replies.Began (tx 1 1))) ∷ marked 4 (Called (commands.Do 1 0)) ∷ marked 4 (Told replies.Absent) ∷
-    marked 4 (Called (commands.Do 0 0)) ∷ marked 4 (Told replies.Absent) ∷ marked 4 (Called commands.Commit) ∷
-    marked 2 (Got 4) ∷ marked 2 (Wrote (records.Install 2 0 [])) ∷
-    marked 2 (Sent 7 5 (messages.Answer 4 answers.Installed)) ∷ marked 5 (Got 7) ∷ marked 5 (Told (replies.Moved 1 7)) ∷
-    marked 4 (Wrote (commit (stamp 1 1) (tx 1 1) (operation 1 0 None ∷ operation 0 0 None ∷ []))) ∷
-    marked 4 (Told (replies.Committed (stamp 1 1))) ∷ marked 6 (Phase 2) ∷ marked 5 (Fell falls.Script None) ∷
-    marked 5 (Fell falls.Disk None) ∷ marked 5 (Called (commands.Epoch 2)) ∷ marked 3 (Called commands.Begin) ∷
-    marked 5 (Told replies.Down) ∷ marked 3 (Told (replies.Began (tx 0 2))) ∷ marked 5 (Called (commands.Epoch 2)) ∷
-    marked 4 (Called commands.Begin) ∷ marked 4 (Told (replies.Began (tx 1 2))) ∷ marked 3 (Called (commands.Do 0 1)) ∷
-    marked 4 (Called (commands.Do 0 1)) ∷ marked 5 (Told replies.Down) ∷ marked 4 (Told replies.Absent) ∷
-    marked 3 (Told replies.Absent) ∷ marked 4 (Called commands.Abort) ∷ marked 4 (Told replies.Dropped) ∷
-    marked 4 (Called commands.Begin) ∷ marked 4 (Told (replies.Began (tx 1 3))) ∷ marked 4 (Called commands.Commit) ∷
-    marked 4 (Wrote (commit (stamp 2 1) (tx 1 3) [])) ∷ marked 4 (Told (replies.Committed (stamp 2 1))) ∷
-    marked 6 (Phase 3) ∷ marked 0 (Fell falls.Script None) ∷
-    marked 0 (Rose ((records.Close 2) ∷ (records.Install 2 0 []) ∷ [])) ∷ marked 0 (Wrote records.Life) ∷
-    marked 5 (Rose ((records.Decide 2 0 []) ∷ [])) ∷ marked 5 (Wrote records.Life) ∷
-    marked 3 (Called (commands.Do 1 0)) ∷ marked 3 (Told replies.Absent) ∷ marked 3 (Called (commands.Do 1 1)) ∷
-    marked 3 (Told replies.Absent) ∷ marked 5 (Called (commands.Epoch 2)) ∷
-    marked 5 (Sent 8 0 (messages.Install 2 0 [])) ∷ marked 5 (Sent 9 1 (messages.Install 2 0 [])) ∷
-    marked 5 (Sent 10 2 (messages.Install 2 0 [])) ∷ marked 3 (Called (commands.Do 1 0)) ∷
-    marked 3 (Told replies.Absent) ∷ marked 3 (Called (commands.Do 0 0)) ∷ marked 3 (Told replies.Absent) ∷
-    marked 1 (Got 9) ∷ marked 1 (Sent 11 5 (messages.Answer 9 answers.Installed)) ∷ marked 3 (Called commands.Commit) ∷
-    marked 3 (Wrote (commit (stamp 2 0) (tx 0 2) (operation 0 1 None ∷ operation 1 0 None ∷ operation 1 1 None ∷
-    operation 1 0 None ∷ operation 0 0 None ∷ []))) ∷
-    marked 3 (Told (replies.Committed (stamp 2 0))) ∷ marked 5 (Got 11) ∷ marked 0 (Got 8) ∷ marked 2 (Got 10) ∷
-    marked 0 (Sent 12 5 (messages.Answer 8 answers.Installed)) ∷ marked 5 (Got 12) ∷
-    marked 2 (Sent 13 5 (messages.Answer 10 answers.Installed)) ∷ marked 5 (Got 13) ∷
-    marked 5 (Told (replies.Moved 0 7)) ∷ marked 6 (Phase 4) ∷ marked 4 (Fell falls.Script None) ∷
-    marked 4 (Rose ((commit (stamp 1 1) (tx 1 1) (operation 1 0 None ∷ operation 0 0 None ∷ [])) ∷ (commit (stamp 2 1)
-    (tx 1 3) []) ∷ [])) ∷
-    marked 4 (Fell falls.Stop (Some records.Life)) ∷ marked 3 (Called commands.Begin) ∷
-    marked 3 (Told (replies.Began (tx 0 3))) ∷ marked 3 (Called (commands.Do 1 1)) ∷ marked 3 (Told replies.Absent) ∷
-    marked 3 (Called (commands.Do 0 1)) ∷ marked 3 (Told replies.Absent) ∷ marked 3 (Called (commands.Do 1 1)) ∷
-    marked 3 (Told replies.Absent) ∷ marked 3 (Called commands.Abort) ∷ marked 3 (Told replies.Dropped) ∷ []
+    marked 4 (Phase 1) ∷ marked 1 (Called commands.Begin) ∷ marked 1 (Told (replies.Began (tx 0 1))) ∷
+    marked 1 (Called (commands.Do 0 1)) ∷ marked 1 (Sent 0 0 (messages.Request (tx 0 1) 1 0 (wants.Read 0 1))) ∷
+    marked 0 (Got 0) ∷ marked 0 (Sent 1 1 (messages.Answer 0 (answers.Granted 1 0 []))) ∷ marked 1 (Got 1) ∷
+    marked 1 (Sent 2 0 (messages.Request (tx 0 1) 1 1 (wants.Append 0 [] (own_line 1 0 1 ∷ [])))) ∷ marked 0 (Got 2) ∷
+    marked 0 (Sent 3 1 (messages.Answer 2 (answers.Granted 1 0 []))) ∷ marked 1 (Got 3) ∷
+    marked 1 (Told (replies.Response 0)) ∷ marked 1 (Called (commands.Do 0 1)) ∷
+    marked 1 (Sent 4 0 (messages.Request (tx 0 1) 1 1 (wants.Read 0 1))) ∷ marked 0 (Got 4) ∷
+    marked 0 (Sent 5 1 (messages.Answer 4 (answers.Granted 1 0 []))) ∷ marked 1 (Got 5) ∷
+    marked 1 (Sent 6 0 (messages.Request (tx 0 1) 1 1 (wants.Append 0 [] (own_line 1 0 1 ∷ own_line 2 0 1 ∷ [])))) ∷
+    marked 0 (Got 6) ∷ marked 0 (Sent 7 1 (messages.Answer 6 (answers.Granted 1 0 []))) ∷ marked 1 (Got 7) ∷
+    marked 1 (Told (replies.Response 0)) ∷ marked 1 (Called commands.Commit) ∷
+    marked 1 (Sent 8 0 (messages.Request (tx 0 1) 1 1 wants.Prepare)) ∷ marked 0 (Got 8) ∷
+    marked 0 (Wrote (prepare (tx 0 1) 1 (read_lock 0 1 ∷ []) (own_line 1 0 1 ∷ own_line 2 0 1 ∷ []) [])) ∷
+    marked 0 (Sent 9 1 (messages.Answer 8 (answers.Yes 0))) ∷ marked 1 (Got 9) ∷
+    marked 1 (Wrote (commit (stamp 1 0) (tx 0 1) (operation 0 1 (Some 0) ∷ operation 0 1 (Some 0) ∷ []))) ∷
+    marked 1 (Sent 10 0 (messages.Decision (tx 0 1) (outcomes.Committed (stamp 1 0)))) ∷
+    marked 1 (Told (replies.Committed (stamp 1 0))) ∷ marked 0 (Got 10) ∷ marked 0 (Wrote (records.Done (tx 0 1) 1)) ∷
+    marked 4 (Phase 2) ∷ marked 4 (Phase 3) ∷ marked 4 (Phase 4) ∷ marked 4 (Cut 2 1) ∷
+    marked 1 (Called commands.Begin) ∷ marked 1 (Told (replies.Began (tx 0 2))) ∷ marked 1 (Called (commands.Do 0 2)) ∷
+    marked 1 (Sent 11 0 (messages.Request (tx 0 2) 1 0 (wants.Read 0 2))) ∷ marked 0 (Got 11) ∷
+    marked 0 (Sent 12 1 (messages.Answer 11 (answers.Granted 1 1 (line 1 0 1 1 0 1 ∷ line 1 0 1 2 0 1 ∷ [])))) ∷
+    marked 1 (Got 12) ∷
+    marked 1 (Sent 13 0 (messages.Request (tx 0 2) 1 1 (wants.Append 0 (line 1 0 1 1 0 1 ∷ line 1 0 1 2 0 1 ∷ [])
+    (own_line 1 0 4 ∷ [])))) ∷
+    marked 0 (Got 13) ∷ marked 0 (Sent 14 1 (messages.Answer 13 (answers.Granted 1 1 []))) ∷ marked 1 (Got 14) ∷
+    marked 1 (Told (replies.Response 2)) ∷ marked 1 (Called (commands.Do 0 1)) ∷
+    marked 1 (Sent 15 0 (messages.Request (tx 0 2) 1 1 (wants.Read 0 1))) ∷ marked 0 (Got 15) ∷
+    marked 0 (Sent 16 1 (messages.Answer 15 (answers.Granted 1 1 (line 1 0 1 1 0 1 ∷ line 1 0 1 2 0 1 ∷ [])))) ∷
+    marked 1 (Got 16) ∷
+    marked 1 (Sent 17 0 (messages.Request (tx 0 2) 1 1 (wants.Append 0 (line 1 0 1 1 0 1 ∷ line 1 0 1 2 0 1 ∷ [])
+    (own_line 1 0 4 ∷ own_line 2 0 1 ∷ [])))) ∷
+    marked 0 (Got 17) ∷ marked 0 (Sent 18 1 (messages.Answer 17 (answers.Granted 1 1 []))) ∷ marked 1 (Got 18) ∷
+    marked 1 (Told (replies.Response 0)) ∷ marked 4 (Phase 5) ∷ marked 4 (Heal 2 1) ∷
+    marked 0 (Fell falls.Script None) ∷
+    marked 0 (Rose ((prepare (tx 0 1) 1 (read_lock 0 1 ∷ []) (own_line 1 0 1 ∷ own_line 2 0 1 ∷ []) []) ∷ (records.Done
+    (tx 0 1) 1) ∷ [])) ∷
+    marked 0 (Wrote records.Life) ∷ marked 3 (Fell falls.Script None) ∷ marked 3 (Rose []) ∷
+    marked 3 (Wrote records.Life) ∷ marked 2 (Called commands.Begin) ∷ marked 2 (Told (replies.Began (tx 1 1))) ∷
+    marked 2 (Called (commands.Do 0 2)) ∷ marked 2 (Sent 19 0 (messages.Request (tx 1 1) 1 0 (wants.Read 0 2))) ∷
+    marked 0 (Got 19) ∷
+    marked 0 (Sent 20 2 (messages.Answer 19 (answers.Granted 2 1 (line 1 0 1 1 0 1 ∷ line 1 0 1 2 0 1 ∷ [])))) ∷
+    marked 2 (Got 20) ∷
+    marked 2 (Sent 21 0 (messages.Request (tx 1 1) 1 2 (wants.Append 0 (line 1 0 1 1 0 1 ∷ line 1 0 1 2 0 1 ∷ [])
+    (own_line 1 0 4 ∷ [])))) ∷
+    marked 0 (Got 21) ∷ marked 0 (Sent 22 2 (messages.Answer 21 (answers.Granted 2 1 []))) ∷ marked 2 (Got 22) ∷
+    marked 2 (Told (replies.Response 2)) ∷ marked 2 (Called (commands.Do 0 2)) ∷
+    marked 2 (Sent 23 0 (messages.Request (tx 1 1) 1 2 (wants.Read 0 2))) ∷ marked 0 (Got 23) ∷
+    marked 0 (Sent 24 2 (messages.Answer 23 (answers.Granted 2 1 (line 1 0 1 1 0 1 ∷ line 1 0 1 2 0 1 ∷ [])))) ∷
+    marked 2 (Got 24) ∷
+    marked 2 (Sent 25 0 (messages.Request (tx 1 1) 1 2 (wants.Append 0 (line 1 0 1 1 0 1 ∷ line 1 0 1 2 0 1 ∷ [])
+    (own_line 1 0 4 ∷ own_line 2 0 4 ∷ [])))) ∷
+    marked 0 (Got 25) ∷ marked 0 (Sent 26 2 (messages.Answer 25 (answers.Granted 2 1 []))) ∷ marked 2 (Got 26) ∷
+    marked 2 (Told (replies.Response 2)) ∷ marked 2 (Called (commands.Do 0 0)) ∷
+    marked 2 (Sent 27 0 (messages.Request (tx 1 1) 1 2 (wants.Read 0 0))) ∷ marked 0 (Got 27) ∷
+    marked 0 (Sent 28 2 (messages.Answer 27 (answers.Granted 2 1 (line 1 0 1 1 0 1 ∷ line 1 0 1 2 0 1 ∷ [])))) ∷
+    marked 2 (Got 28) ∷
+    marked 2 (Sent 29 0 (messages.Request (tx 1 1) 1 2 (wants.Append 0 (line 1 0 1 1 0 1 ∷ line 1 0 1 2 0 1 ∷ [])
+    (own_line 1 0 4 ∷ own_line 2 0 4 ∷ own_line 3 0 0 ∷ [])))) ∷
+    marked 0 (Got 29) ∷ marked 0 (Sent 30 2 (messages.Answer 29 (answers.Granted 2 1 []))) ∷ marked 2 (Got 30) ∷
+    marked 2 (Told (replies.Response 0)) ∷ marked 2 (Called commands.Abort) ∷
+    marked 2 (Sent 31 0 (messages.Decision (tx 1 1) outcomes.Aborted)) ∷ marked 2 (Told replies.Dropped) ∷
+    marked 0 (Got 31) ∷ marked 2 (Called commands.Begin) ∷ marked 2 (Told (replies.Began (tx 1 2))) ∷
+    marked 2 (Called commands.Commit) ∷ marked 2 (Wrote (commit (stamp 2 1) (tx 1 2) [])) ∷
+    marked 2 (Told (replies.Committed (stamp 2 1))) ∷ []

@@ -44,6 +44,21 @@ ghost use Rattle.tests_epochs.specs.Random22 as random22;
 ghost use Rattle.tests_epochs.specs.Random23 as random23;
 ghost use Rattle.tests_epochs.specs.Random24 as random24;
 ghost use Rattle.tests_epochs.specs.Random25 as random25;
+ghost use Rattle.tests_epochs.specs.Random26 as random26;
+ghost use Rattle.tests_epochs.specs.Random27 as random27;
+ghost use Rattle.tests_epochs.specs.Random28 as random28;
+ghost use Rattle.tests_epochs.specs.Random29 as random29;
+ghost use Rattle.tests_epochs.specs.Random30 as random30;
+ghost use Rattle.tests_epochs.specs.Random31 as random31;
+ghost use Rattle.tests_epochs.specs.Random32 as random32;
+ghost use Rattle.tests_epochs.specs.Random33 as random33;
+ghost use Rattle.tests_epochs.specs.Random34 as random34;
+ghost use Rattle.tests_epochs.specs.Random35 as random35;
+ghost use Rattle.tests_epochs.specs.Random36 as random36;
+ghost use Rattle.tests_epochs.specs.Random37 as random37;
+ghost use Rattle.tests_epochs.specs.Random38 as random38;
+ghost use Rattle.tests_epochs.specs.Random39 as random39;
+ghost use Rattle.tests_epochs.specs.Random40 as random40;
 ghost use Rattle.tests_epochs.specs.Declarations.{three_epochs, two_objects};
 
 /// All is due in the worked histories.
@@ -96,11 +111,30 @@ pub fn all_is_due_in_11_to_20()
     ensures random20 { Due random20.decl random20.history }
 {}
 
-/// All is due in the random histories 21 to 25.
-pub fn all_is_due_in_21_to_25()
+/// All is due in the random histories 21 to 30.
+pub fn all_is_due_in_21_to_30()
     ensures random21 { Due random21.decl random21.history }
     ensures random22 { Due random22.decl random22.history }
     ensures random23 { Due random23.decl random23.history }
     ensures random24 { Due random24.decl random24.history }
     ensures random25 { Due random25.decl random25.history }
+    ensures random26 { Due random26.decl random26.history }
+    ensures random27 { Due random27.decl random27.history }
+    ensures random28 { Due random28.decl random28.history }
+    ensures random29 { Due random29.decl random29.history }
+    ensures random30 { Due random30.decl random30.history }
+{}
+
+/// All is due in the random histories 31 to 40.
+pub fn all_is_due_in_31_to_40()
+    ensures random31 { Due random31.decl random31.history }
+    ensures random32 { Due random32.decl random32.history }
+    ensures random33 { Due random33.decl random33.history }
+    ensures random34 { Due random34.decl random34.history }
+    ensures random35 { Due random35.decl random35.history }
+    ensures random36 { Due random36.decl random36.history }
+    ensures random37 { Due random37.decl random37.history }
+    ensures random38 { Due random38.decl random38.history }
+    ensures random39 { Due random39.decl random39.history }
+    ensures random40 { Due random40.decl random40.history }
 {}

@@ -10,6 +10,8 @@ pub use runs::{Ran, run, script_of};
 pub use steps::Short;
 
 #[cfg(test)]
+mod declarations;
+#[cfg(test)]
 mod rows;
 #[cfg(test)]
 mod tests;

@@ -4,6 +4,7 @@
 
 use crate::steps::Short;
 
+pub(crate) mod changes;
 mod conflicts;
 mod falls;
 mod links;
@@ -21,5 +22,5 @@ pub(crate) struct Row {
     pub(crate) steps: &'static [Short],
 }
 
-/// All rows, by what they are about.
+/// The rows over `@three`, by what they are about.
 pub(crate) const ROWS: [&[Row]; 4] = [&conflicts::ROWS, &losses::ROWS, &links::ROWS, &falls::ROWS];

@@ -1,10 +1,14 @@
 //! Scripts by workers.
 
+ghost use Rattle.qc_decl.specs.Accepted.{IsAccepted};
+ghost use Rattle.qc_decl.specs.Named.{IsNamed};
+
+use crate::declarations::{three, two_epochs};
 use crate::meeting::Meeting;
-use crate::rows::{ROWS, Row};
+use crate::rows::{ROWS, Row, changes};
 use crate::runs::{Ran, run, script_of};
 use crate::steps::Short;
-use qc_decl::{MOST_SCRIPT_BYTES, built_in};
+use qc_decl::{Declaration, MOST_SCRIPT_BYTES};
 use qc_node::{DriveEnd, Job};
 use qc_outside::{Gate, OpenGate};
 use std::alloc::Global;
@@ -31,23 +35,24 @@ c2 do x R
 c2 commit
 ";
 
-/// Runs a script by so many workers.
+/// Runs a script over a declaration by so many workers.
 fn ran<G: Gate + Sync, R: Threads + Wait + Sync>(
     rt: &R,
     alloc: Global,
+    decl: &Declaration,
     bytes: &[u8],
     gate: &G,
     workers: u8,
-) -> Result<Ran, Fail> {
+) -> Result<Ran, Fail>
+    requires accepted { IsAccepted decl.now }
+    requires named { IsNamed decl.now }
+{
     if bytes.len() > MOST_SCRIPT_BYTES as usize {
         return Err(Fail::from("the script is too long"));
     }
-    let Some(decl) = built_in(alloc, "@three")? else {
-        return Err(Fail::from("no such declaration"));
-    };
-    let script = script_of(alloc, bytes, &decl)?;
+    let script = script_of(alloc, bytes, decl)?;
     let job = Job {
-        decl: &decl,
+        decl,
         gate,
         workers,
     };
@@ -58,16 +63,35 @@ fn ran<G: Gate + Sync, R: Threads + Wait + Sync>(
 }
 
 /// Whether one worker takes just the steps of a row, and ends quiet.
-fn goes<R: Threads + Wait + Sync>(rt: &R, alloc: Global, row: &Row) -> Result<bool, Fail> {
-    let ran = ran(rt, alloc, row.script, &OpenGate, 1)?;
+fn goes<R: Threads + Wait + Sync>(
+    rt: &R,
+    alloc: Global,
+    decl: &Declaration,
+    row: &Row,
+) -> Result<bool, Fail>
+    requires accepted { IsAccepted decl.now }
+    requires named { IsNamed decl.now }
+{
+    let ran = ran(rt, alloc, decl, row.script, &OpenGate, 1)?;
     Ok(ran.end == DriveEnd::Quiet && ran.steps.as_slice() == row.steps)
 }
 
 /// One worker takes the steps that the rules give, one after another.
 #[test]
 fn one_worker_takes_the_steps_of_the_rules(rt: HostRuntime) -> Result<(), Fail> {
+    let decl = three(rt.alloc())?;
     for row in ROWS.iter().copied().flatten() {
-        assert!(rt; goes(&rt, rt.alloc(), row)?, "{}", row.name);
+        assert!(rt; goes(&rt, rt.alloc(), &decl, row)?, "{}", row.name);
+    }
+    Ok(())
+}
+
+/// So it does where quorums change.
+#[test]
+fn quorums_change_by_the_steps_of_the_rules(rt: HostRuntime) -> Result<(), Fail> {
+    let decl = two_epochs(rt.alloc())?;
+    for row in changes::ROWS.iter() {
+        assert!(rt; goes(&rt, rt.alloc(), &decl, row)?, "{}", row.name);
     }
     Ok(())
 }
@@ -82,7 +106,8 @@ fn count(steps: &[Short], kind: u8) -> usize {
 #[test]
 fn two_inputs_are_open_at_once(rt: HostRuntime) -> Result<(), Fail> {
     let gate = Meeting::new(3, 4);
-    let ran = ran(&rt, rt.alloc(), SCRIPT, &gate, 2)?;
+    let decl = three(rt.alloc())?;
+    let ran = ran(&rt, rt.alloc(), &decl, SCRIPT, &gate, 2)?;
     assert!(rt; gate.met());
     assert_eq!(rt; ran.end, DriveEnd::Quiet);
     assert_eq!(rt; count(ran.steps.as_slice(), b'P'), 2);

@@ -43,7 +43,7 @@ fn fall(process: &mut Process<MemDisk>)
 {
     match process.actor() {
         Actor::Down => {}
-        Actor::Site(_) | Actor::Client(_) => process.crash(),
+        Actor::Site(_) | Actor::Client(_) | Actor::Admin(_) => process.crash(),
     }
 }
 

@@ -1,6 +1,6 @@
-//! Whole runs in which quorums change, by one worker and by four: each a story, with its script and the text that it
-//! prints. What they want comes from a model that was written apart; the first two stand with their stories in
-//! `examples/quorums_change` and `examples/quorums_change_in_doubt`.
+//! Whole runs in which quorums change while somebody falls, by one worker and by four: each a story, with its script and
+//! the text that it prints. What they want comes from a model that was written apart. `examples/quorums_change` and
+//! `examples/quorums_change_in_doubt` have two more, which `.ci/examples` runs by one worker and by four.
 
 use crate::calls::prints;
 
@@ -31,74 +31,6 @@ final = [\"x W0:ok 2\", \"x W1:ok 2\"]
 weights = [1, 1, 1]
 initial = [\"x R 1\"]
 final = [\"x W0:ok 3\", \"x W1:ok 3\"]
-";
-
-const CHANGE_SCRIPT: &str = "\
-phase
-c0 begin
-c0 do x W1
-c0 commit
-phase
-admin epoch 2
-phase
-c1 begin
-c1 do x R
-c1 abort
-c1 begin
-c1 do x R
-c1 commit
-";
-
-const CHANGE_TEXT: &str = "\
-replies
-c0 begin 0.1.1
-c0 x W1 ok
-c0 commit 1.0
-admin epoch 2 closed s0 s1 installed s0 s1 s2
-c1 begin 1.1.1
-c1 x R ! closed 2 s1
-c1 abort ok
-c1 begin 1.1.2
-c1 x R 1
-c1 commit 2.1
-log
-1.0 0.1.1 x W1 ok
-2.1 1.1.2 x R 1
-states
-x 1
-sites
-s0 life 2 epoch 2 lines 1 held 0
-s1 life 2 epoch 2 lines 1 held 0
-s2 life 1 epoch 2 lines 1 held 0
-";
-
-const IN_DOUBT_SCRIPT: &str = "\
-phase
-stop c0 at 3
-c0 begin
-c0 do x W1
-c0 commit
-phase
-admin epoch 2
-phase
-restart c0
-admin epoch 2
-";
-
-const IN_DOUBT_TEXT: &str = "\
-replies
-c0 begin 0.1.1
-c0 x W1 ok
-c0 commit ?
-admin epoch 2 ! in doubt 0.1.1 s0
-admin epoch 2 closed s0 s1 installed s0 s1 s2
-log
-states
-x 0
-sites
-s0 life 2 epoch 2 lines 0 held 0
-s1 life 2 epoch 2 lines 0 held 0
-s2 life 1 epoch 2 lines 0 held 0
 ";
 
 const DECISION_ON_DISK_SCRIPT: &str = "\
@@ -202,13 +134,11 @@ s1 down
 s2 life 2 epoch 2 lines 1 held 0
 ";
 
-/// A change, one that a transaction in doubt holds up, one whose administrator falls as his decision is on his disk,
-/// and one that first has too few sites, then no administrator.
+/// A change whose administrator falls as his decision is on his disk, and one that first has too few sites, then no
+/// administrator.
 #[test]
 fn quorums_that_change(rt: HostRuntime) {
     let rows = [
-        (CHANGE_SCRIPT, CHANGE_TEXT),
-        (IN_DOUBT_SCRIPT, IN_DOUBT_TEXT),
         (DECISION_ON_DISK_SCRIPT, DECISION_ON_DISK_TEXT),
         (TOO_FEW_SITES_SCRIPT, TOO_FEW_SITES_TEXT),
     ];

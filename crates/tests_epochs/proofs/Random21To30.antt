@@ -1,4 +1,4 @@
--- All is due in the random histories 21 to 25.
+-- All is due in the random histories 21 to 30.
 use Rattle.std.proofs.Common.{[], refl}
 use Rattle.qc_decl.specs.Actors.{actors, administrator}
 use Rattle.qc_msg.specs.Deeds.{deeds}
@@ -12,6 +12,11 @@ use Rattle.tests_epochs.specs.Random22 as random22
 use Rattle.tests_epochs.specs.Random23 as random23
 use Rattle.tests_epochs.specs.Random24 as random24
 use Rattle.tests_epochs.specs.Random25 as random25
+use Rattle.tests_epochs.specs.Random26 as random26
+use Rattle.tests_epochs.specs.Random27 as random27
+use Rattle.tests_epochs.specs.Random28 as random28
+use Rattle.tests_epochs.specs.Random29 as random29
+use Rattle.tests_epochs.specs.Random30 as random30
 
 pub random21_due : Due random21.decl random21.history
 random21_due = record {
@@ -56,4 +61,49 @@ random25_due = record {
   replies = all_due_where_shown random25.decl random25.history random25.decl.clients refl;
   sites = sites_due_where_posted random25.decl random25.history random25.decl.sites refl;
   admin = admin_due_where_shown random25.decl (deeds (administrator random25.decl) [] random25.history) refl;
+}
+
+pub random26_due : Due random26.decl random26.history
+random26_due = record {
+  turns = by_turns_where_placed random26.decl random26.history (actors random26.decl) refl;
+  mail = mailed_where_shown [] random26.history refl;
+  replies = all_due_where_shown random26.decl random26.history random26.decl.clients refl;
+  sites = sites_due_where_posted random26.decl random26.history random26.decl.sites refl;
+  admin = admin_due_where_shown random26.decl (deeds (administrator random26.decl) [] random26.history) refl;
+}
+
+pub random27_due : Due random27.decl random27.history
+random27_due = record {
+  turns = by_turns_where_placed random27.decl random27.history (actors random27.decl) refl;
+  mail = mailed_where_shown [] random27.history refl;
+  replies = all_due_where_shown random27.decl random27.history random27.decl.clients refl;
+  sites = sites_due_where_posted random27.decl random27.history random27.decl.sites refl;
+  admin = admin_due_where_shown random27.decl (deeds (administrator random27.decl) [] random27.history) refl;
+}
+
+pub random28_due : Due random28.decl random28.history
+random28_due = record {
+  turns = by_turns_where_placed random28.decl random28.history (actors random28.decl) refl;
+  mail = mailed_where_shown [] random28.history refl;
+  replies = all_due_where_shown random28.decl random28.history random28.decl.clients refl;
+  sites = sites_due_where_posted random28.decl random28.history random28.decl.sites refl;
+  admin = admin_due_where_shown random28.decl (deeds (administrator random28.decl) [] random28.history) refl;
+}
+
+pub random29_due : Due random29.decl random29.history
+random29_due = record {
+  turns = by_turns_where_placed random29.decl random29.history (actors random29.decl) refl;
+  mail = mailed_where_shown [] random29.history refl;
+  replies = all_due_where_shown random29.decl random29.history random29.decl.clients refl;
+  sites = sites_due_where_posted random29.decl random29.history random29.decl.sites refl;
+  admin = admin_due_where_shown random29.decl (deeds (administrator random29.decl) [] random29.history) refl;
+}
+
+pub random30_due : Due random30.decl random30.history
+random30_due = record {
+  turns = by_turns_where_placed random30.decl random30.history (actors random30.decl) refl;
+  mail = mailed_where_shown [] random30.history refl;
+  replies = all_due_where_shown random30.decl random30.history random30.decl.clients refl;
+  sites = sites_due_where_posted random30.decl random30.history random30.decl.sites refl;
+  admin = admin_due_where_shown random30.decl (deeds (administrator random30.decl) [] random30.history) refl;
 }
