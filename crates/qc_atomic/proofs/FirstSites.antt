@@ -1,5 +1,5 @@
 -- A site that takes neither a Close nor an Install stays in its first life and epoch.
-use Rattle.std.proofs.Common.{◌≡◌, ℕ, nat_le, Bool, true, false, List, [], ◌∷◌, fold, Option, None, refl, subst}
+use Rattle.std.proofs.Common.{◌≡◌, ℕ, List, [], ◌∷◌, fold, None, refl, subst}
 use Rattle.std.specs.List.{AllByRecursion as Every}
 use Rattle.qc_stamp.specs.Lives.{first_life}
 use Rattle.qc_decl.specs.declared.declaration.Declaration.{Declaration}

@@ -1,13 +1,12 @@
 -- A net stands for a history where its sites and clients are as their deeds give them, or as they were before the
 -- input that is open. Such a client is tied to its account as that was.
-use Rattle.std.proofs.Common.{◌≡◌, ◌≢◌, ℕ, ◌-◌, ◌<◌, ◌≤◌, ◌==◌, ◌&&◌, nat_le, nat_lt, arith, Bool, true, false, List, [], ◌++◌, Option, Some, slice_get, refl, sym, ap, ◌∙◌, subst, eq-eqb, eqb-true, ltb-true}
+use Rattle.std.proofs.Common.{◌≡◌, ◌≢◌, ℕ, ◌-◌, ◌<◌, ◌≤◌, ◌==◌, ◌&&◌, arith, Bool, true, false, List, [], ◌++◌, Option, Some, slice_get, refl, sym, ap, ◌∙◌, subst, eq-eqb, eqb-true, ltb-true}
 use Rattle.std.specs.Prelude.{fold, slice_set}
-use Rattle.std.proofs.lemmas.Bool.{leb-true}
 use Rattle.qc_decl.proofs.Clients.{client_past}
 use Rattle.qc_list.specs.Members.{In}
 use Rattle.qc_list.proofs.Members.{every-at, every-from_In}
 use Rattle.qc_decl.specs.declared.declaration.Declaration.{Declaration}
-use Rattle.qc_decl.specs.Actors.{actors, is_client, is_site}
+use Rattle.qc_decl.specs.Actors.{is_client, is_site}
 use Rattle.qc_msg.specs.declared.message.Envelope.{Envelope}
 use Rattle.qc_msg.specs.declared.message.Message.{Message}
 use Rattle.qc_msg.specs.declared.message.Message.TheVariants as messages

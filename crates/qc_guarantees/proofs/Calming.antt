@@ -1,10 +1,9 @@
 -- A run with falls in which nobody falls or rises, nothing is armed, and the administrator does nothing, is a run.
-use Rattle.std.proofs.Common.{◌≡◌, ℕ, ◌<◌, ◌≤◌, ◌+◌, Bool, true, List, [], ◌∷◌, ◌++◌, Option, Some, None, length, inl, inr, slice_get, refl, sym, ap, ◌∙◌, subst, arith, length-append}
+use Rattle.std.proofs.Common.{◌≡◌, ℕ, ◌<◌, ◌+◌, Bool, true, List, [], ◌∷◌, ◌++◌, Some, None, length, inl, inr, slice_get, refl, sym, ap, ◌∙◌, subst, arith, length-append}
 use Rattle.std.proofs.lemmas.Bool.{cases_lt}
-use Rattle.std.specs.List.{AllByRecursion as Every}
 use Rattle.qc_core.specs.Acts.{Acts}
 use Rattle.qc_core.specs.Acts as acts
-use Rattle.qc_core.specs.Conduct.{IsLawful, IsLawfulWithFalls, with_record}
+use Rattle.qc_core.specs.Conduct.{IsLawful, IsLawfulWithFalls}
 use Rattle.qc_core.specs.Lives.{AreSteady}
 use Rattle.qc_core.proofs.LivesLaws.{same_turn}
 use Rattle.qc_decl.specs.Actors.{actors, administrator, controller}
@@ -23,9 +22,9 @@ use Rattle.qc_msg.specs.declared.step.Step.TheVariants as steps
 use Rattle.qc_msg.specs.declared.turn.Appended.{Appended}
 use Rattle.qc_msg.specs.declared.turn.Appended.TheVariants.{Done, Failed, Stopped}
 use Rattle.qc_msg.specs.declared.turn.Turn.{Turn}
-use Rattle.qc_msg.specs.Deeds.{Deed, Takes, Writes, Sends, Tells, Falls, Rises, deeds, mail}
-use Rattle.qc_msg.specs.Steps.{Entry, by, marked, posted, posted_as, sents, step_of, told}
-use Rattle.qc_script.specs.Ready.{controller_step, controls_left, step_of_control}
+use Rattle.qc_msg.specs.Deeds.{Deed, Takes, deeds, mail}
+use Rattle.qc_msg.specs.Steps.{Entry, by, marked, posted_as, sents, step_of, told}
+use Rattle.qc_script.specs.Ready.{controller_step, step_of_control}
 use Rattle.qc_script.specs.Runs.{Runs}
 use Rattle.qc_script.specs.Runs as runs
 use Rattle.qc_script.specs.RunsWithFalls.{RunsWithFalls}

@@ -1,5 +1,5 @@
 -- The stamp of a record has passed each clock that its client counted before.
-use Rattle.std.proofs.Common.{◌≡◌, ◌<◌, ◌≤◌, ◌+◌, ◌-◌, ℕ, nat_le, nat_lt, Bool, true, false, cond, List, [], ◌∷◌, ◌++◌, Option, Some, None, refl, sym, ap, ◌∙◌, slice_get, subst, arith, ltb-true}
+use Rattle.std.proofs.Common.{◌≡◌, ◌<◌, ◌≤◌, ◌+◌, ◌-◌, ℕ, Bool, true, false, cond, List, [], ◌∷◌, ◌++◌, Option, Some, None, refl, sym, ap, ◌∙◌, slice_get, subst, arith}
 use Rattle.std.specs.Prelude.{fold}
 use Rattle.std.specs.List.{find}
 use Rattle.std.proofs.lemmas.List.Sums.{fold-append}
@@ -28,10 +28,9 @@ use Rattle.qc_msg.specs.Deeds.{Deed, Takes, Writes, Sends, Tells, Falls, Rises, 
 use Rattle.qc_promise.specs.Account.{Account, ClientRequest, new_account}
 use Rattle.qc_promise.specs.Accounting.{account_at, account_taken, account_heard, account_sent, account_told_in, account_written, counted, counted_for, found_absent, granted, is_open, promised, responded, short_of, taken_for, told_by}
 use Rattle.qc_promise.specs.Asked.{is_asked_for}
-use Rattle.qc_promise.specs.Rows.{running_row}
 use Rattle.qc_due.specs.ByRows.{AreByRows, IsByRow}
 use Rattle.qc_core.specs.Conduct.{IsLawful}
-use Rattle.qc_decl.specs.Actors.{actors, is_client}
+use Rattle.qc_decl.specs.Actors.{is_client}
 use Rattle.qc_msg.specs.Steps.{Entry}
 use Rattle.qc_script.specs.Runs.{Runs}
 use Rattle.qc_script.specs.declared.script.Script.{Script}
@@ -39,7 +38,6 @@ use Rattle.qc_laws.proofs.Acted.{has_entry, run_acts}
 use Rattle.qc_laws.specs.Turns.{ActsIn}
 use Rattle.qc_due.proofs.Courses.{clients_due}
 use Rattle.qc_guarantees.specs.Clocks.{GrantTells, IsCounted, PromiseTells, Tells as TellsClock}
-use Rattle.qc_guarantees.proofs.Accounts.{and_second}
 use Rattle.qc_guarantees.proofs.Requests.{due_at}
 use Rattle.qc_guarantees.proofs.DueStamps.{due_stamp}
 

@@ -58,7 +58,7 @@ module _ (decl : Declaration) (accepted : IsAccepted decl) (acts : List Act) (ru
   ll = log_laws decl accepted acts run
 
   -- the operation of a line of these operations
-  record IsOperationOf (tx : TxId) (number object number_of_event : ℕ) : Type 0 where
+  pub record IsOperationOf (tx : TxId) (number object number_of_event : ℕ) : Type 0 where
     pub operation : Executed
     pub listed : In operation ((state acts).executed tx)
     pub some : IsSome operation.op.resp
@@ -66,7 +66,7 @@ module _ (decl : Declaration) (accepted : IsAccepted decl) (acts : List Act) (ru
     pub object_is : object ≡ operation.op.object
     pub event_is : number_of_event ≡ operation.event
 
-  operation_of : (tx : TxId) (ops : List Op) (number object number_of_event : ℕ) → ops ≡ map op_of ((state acts).executed tx) → IsOperation decl ops number object number_of_event → IsOperationOf tx number object number_of_event
+  pub operation_of : (tx : TxId) (ops : List Op) (number object number_of_event : ℕ) → ops ≡ map op_of ((state acts).executed tx) → IsOperation decl ops number object number_of_event → IsOperationOf tx number object number_of_event
   operation_of tx ops number object number_of_event are o =
       let k = nth ((state acts).executed tx) [] (ll.order tx) o.place o.operation (ap (λ (os : List Op). slice_get os o.place) (sym are) ∙ o.found) in
       let a = (ll.right tx k.operation (inl k.listed)).answered in
@@ -87,7 +87,7 @@ module _ (decl : Declaration) (accepted : IsAccepted decl) (acts : List Act) (ru
       }
 
   -- a record that stands: its transaction committed by it, with its operations
-  committed_ops : (c : CommitRecord) → In c (state acts).records → c.ops ≡ map op_of ((state acts).executed c.tx)
+  pub committed_ops : (c : CommitRecord) → In c (state acts).records → c.ops ≡ map op_of ((state acts).executed c.tx)
   committed_ops c h = (wl.record_of c.tx c (committed_record ((state acts).status c.tx) c (wl.written c h))).ops
 
   alive : (c : CommitRecord) → In c (state acts).records → (state acts).status c.tx ≢ Aborted

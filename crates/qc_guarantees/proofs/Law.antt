@@ -1,7 +1,7 @@
 -- The ordering lemma of every run. If the writer's record was there at the moment, the reader was live in the machine of that moment
 -- and the writer had committed: so the line was in the view. It wasn't written between the moment and the reader's record: both would
 -- have been live. If it was written later, its client's clock had passed the reader's stamp.
-use Rattle.std.proofs.Common.{◌≡◌, ◌≢◌, ◌≤◌, ◌<◌, ◌+◌, ◌-◌, nat_le, nat_lt, ℕ, Bool, true, cond, List, [], ◌∷◌, ◌++◌, inl, inr, Option, Some, None, slice_get, option_map, option_to_list, refl, sym, ap, ◌∙◌, subst, arith, eq-eqb, ltb-true, append_assoc}
+use Rattle.std.proofs.Common.{◌≡◌, ◌≢◌, ◌≤◌, ◌<◌, ◌+◌, ◌-◌, ℕ, Bool, true, cond, List, [], ◌∷◌, ◌++◌, inl, inr, Option, Some, None, slice_get, option_map, option_to_list, refl, sym, ap, ◌∙◌, subst, arith, eq-eqb, append_assoc}
 use Rattle.std.specs.Prelude.{fold}
 use Rattle.std.proofs.lemmas.List.{append-nil}
 use Rattle.std.proofs.lemmas.List.Sums.{fold-append}
@@ -35,7 +35,6 @@ use Rattle.qc_script.specs.declared.script.Script.{Script}
 use Rattle.qc_laws.proofs.Acted.{has_entry, run_acts}
 use Rattle.qc_laws.specs.Turns.{ActsIn}
 use Rattle.qc_net.specs.Mirrors.{Refines}
-use Rattle.qc_guarantees.proofs.Accounts.{and_second}
 use Rattle.qc_guarantees.proofs.ClockLaw.{clock_rises}
 use Rattle.qc_guarantees.proofs.DueStamps.{due_stamp}
 use Rattle.qc_guarantees.proofs.Requests.{due_at}

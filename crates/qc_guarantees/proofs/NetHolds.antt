@@ -1,7 +1,6 @@
 -- Of every net in which nobody falls: what a site granted it holds until a Decision ends its transaction, each lock was asked for, and all
 -- that a site has is sorted.
-use Rattle.std.proofs.Common.{◌≡◌, ◌⊎◌, ◌<◌, ◌≤◌, ◌&&◌, nat_le, nat_lt, ℕ, Bool, true, false, List, ◌++◌, inl, inr, length, Option, Some, None, slice_get, refl, sym, ap, ◌∙◌, subst, arith, ltb-true}
-use Rattle.std.proofs.lemmas.Bool.{leb-true}
+use Rattle.std.proofs.Common.{◌≡◌, ◌⊎◌, ◌<◌, ◌≤◌, ◌&&◌, ℕ, Bool, true, false, List, ◌++◌, inl, inr, length, Option, Some, None, slice_get, refl, sym, ap, ◌∙◌, subst, arith, ltb-true}
 use Rattle.qc_decl.proofs.Clients.{client_past}
 use Rattle.qc_stamp.specs.declared.stamp.TxId.{TxId}
 use Rattle.qc_list.specs.Members.{In}
@@ -11,7 +10,7 @@ use Rattle.qc_entry.specs.declared.line.Line.{Line}
 use Rattle.qc_entry.specs.declared.line.ReadLock.{ReadLock}
 use Rattle.qc_decl.specs.declared.declaration.Declaration.{Declaration}
 use Rattle.qc_decl.specs.Accepted.{IsAccepted}
-use Rattle.qc_decl.specs.Actors.{actors, is_client, is_site}
+use Rattle.qc_decl.specs.Actors.{is_client, is_site}
 use Rattle.qc_lock.specs.Held.{held_of, is_held}
 use Rattle.qc_msg.specs.declared.message.Answer.TheVariants as answers
 use Rattle.qc_msg.specs.declared.message.Envelope.{Envelope}

@@ -1,11 +1,11 @@
 -- A reply to a `do` records its operation, and leaves the views.
-use Rattle.std.proofs.Common.{◌≡◌, ◌-◌, nat_le, nat_lt, ℕ, Bool, true, cond, List, [], ◌∷◌, ◌++◌, Option, Some, None, option_map, option_to_list, slice_get, refl, sym, ap, ◌∙◌, subst, eq-eqb, ltb-true}
+use Rattle.std.proofs.Common.{◌≡◌, ◌-◌, ℕ, Bool, true, cond, List, [], ◌∷◌, ◌++◌, Option, Some, None, option_map, option_to_list, slice_get, refl, sym, ap, ◌∙◌, subst, eq-eqb}
 use Rattle.std.specs.Prelude.{fold}
 use Rattle.std.proofs.lemmas.List.Sums.{fold-append}
 use Rattle.qc_decl.proofs.Clients.{client_within}
 use Rattle.qc_core.specs.Conduct.{IsLawful}
 use Rattle.qc_decl.specs.declared.declaration.Declaration.{Declaration}
-use Rattle.qc_decl.specs.Actors.{actors, is_client}
+use Rattle.qc_decl.specs.Actors.{is_client}
 use Rattle.qc_msg.specs.declared.reply.Reply.{Reply}
 use Rattle.qc_msg.specs.declared.reply.Reply.TheVariants as replies
 use Rattle.qc_msg.specs.declared.step.Command.{Command}
@@ -22,7 +22,6 @@ use Rattle.qc_script.specs.Runs.{Runs}
 use Rattle.qc_script.specs.declared.script.Script.{Script}
 use Rattle.qc_laws.proofs.Acted.{has_entry, run_acts}
 use Rattle.qc_laws.specs.Turns.{ActsIn}
-use Rattle.qc_guarantees.proofs.Accounts.{and_second}
 use Rattle.qc_guarantees.proofs.Requests.{due_at}
 use Rattle.qc_guarantees.specs.Ordered.{Records}
 use Rattle.qc_guarantees.proofs.DueResponses.{IsAnswered, due_absent, due_response}

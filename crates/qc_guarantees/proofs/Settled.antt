@@ -10,8 +10,8 @@ use Rattle.qc_entry.specs.declared.record.Commit.{Commit as CommitRecord}
 use Rattle.qc_decl.specs.declared.declaration.Declaration.{Declaration}
 use Rattle.qc_decl.specs.Accepted.{IsAccepted}
 use Rattle.qc_decl.specs.Lookup.{plan_in}
-use Rattle.qc_protocol.specs.Site.{Deed, Grants, Item, LearnsCommit, Promise, epoch_from, site_after}
-use Rattle.qc_protocol.specs.SiteLaws.{HasDone, SparesUntilDone}
+use Rattle.qc_protocol.specs.Site.{Deed, Grants, Item, LearnsCommit, Promise, epoch_from}
+use Rattle.qc_protocol.specs.SiteLaws.{SparesUntilDone}
 use Rattle.qc_protocol.specs.State.{Aborted, Committed, Decision, Granted, Snapshot, Status, YesVote}
 use Rattle.qc_protocol.specs.State as machine
 use Rattle.qc_protocol.specs.Acts.{Act, state}

@@ -1,5 +1,5 @@
 -- No site that a client waits for has forgotten what it is asked to promise, and so no vote says so.
-use Rattle.std.proofs.Common.{◌*◌, ◌≡◌, ◌<◌, ◌≤◌, ◌+◌, ◌-◌, ◌==◌, ℕ, zero, suc, nat_le, nat_lt, Bool, true, false, cond, List, [], ◌∷◌, ◌++◌, length, Some, None, slice_get, refl, sym, ap, ◌∙◌, subst, arith, eqb-true, eq-eqb, ltb-true}
+use Rattle.std.proofs.Common.{◌*◌, ◌≡◌, ◌<◌, ◌≤◌, ◌-◌, ◌==◌, ℕ, zero, suc, nat_le, Bool, true, false, cond, List, [], ◌∷◌, ◌++◌, length, Some, None, slice_get, refl, sym, ap, ◌∙◌, subst, arith, eqb-true, eq-eqb}
 use Rattle.std.specs.Prelude.{fold, slice_set, sum_by}
 use Rattle.std.proofs.lemmas.List.{append-nil}
 use Rattle.qc_decl.proofs.Clients.{client_within}
@@ -10,7 +10,7 @@ use Rattle.qc_entry.specs.declared.record.Commit.{Commit as CommitRecord}
 use Rattle.qc_core.specs.Conduct.{IsLawful}
 use Rattle.qc_decl.specs.declared.declaration.Declaration.{Declaration}
 use Rattle.qc_decl.specs.Accepted.{IsAccepted}
-use Rattle.qc_decl.specs.Actors.{actors, is_client, is_site}
+use Rattle.qc_decl.specs.Actors.{is_client, is_site}
 use Rattle.qc_decl.specs.Limits.{most_committed_operations, most_record_bytes}
 use Rattle.qc_lock.specs.Held.{is_held}
 use Rattle.qc_msg.specs.declared.message.Answer.{Answer}
@@ -45,7 +45,6 @@ use Rattle.qc_atomic.proofs.Calm.{all_first}
 use Rattle.qc_atomic.proofs.Posted.{written_posted}
 use Rattle.qc_atomic.proofs.Stood.{OpenSite}
 use Rattle.qc_guarantees.specs.Votes.{IsOpenVote}
-use Rattle.qc_guarantees.proofs.Accounts.{and_second}
 use Rattle.qc_guarantees.proofs.NetHolds.{both}
 use Rattle.qc_guarantees.proofs.NeverRisen.{operations_written}
 use Rattle.qc_guarantees.proofs.SiteMoves.{Forgets, IsAnswering, IsAnsweringTo, answers_inputs, answers_request, prepares_remembered}

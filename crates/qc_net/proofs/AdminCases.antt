@@ -76,7 +76,7 @@ module _ (decl : Declaration) (acts : List Act) (net : Net) (run : IsRun decl ac
               record { plan = r.plan; planned = r.planned; weights = asked_weights round (wanted round) ∙ r.weights; need = asked_need round (wanted round) ∙ r.need; granted = asked_told shuts round (wanted round) r.granted },
               told,
             );
-          }))
+          })) (λ is. absurd (let never : ⊥ = cc in never))
 
       enough : verdict round ≡ verdicts.Met → AreEnough decl net.admin.epoch (in_asked_order round.asked shuts)
       enough met = record {
@@ -94,7 +94,7 @@ module _ (decl : Declaration) (acts : List Act) (net : Net) (run : IsRun decl ac
       by verdicts.Met is = asks_case decl acts net run m up k (in_asked_order round.asked shuts) next planned (enough is) (λ s among. told s (order_among round.asked shuts s among))
       by (verdicts.Closed e site) is = nothing decl acts net run m up
       by (verdicts.Clash tx site) is = nothing decl acts net run m up
-      by (verdicts.Short got need) is = ended decl acts net run m up (replies.Quorum halves.Close got need)
+      by (verdicts.Short got need) is = ended decl acts net run m up (replies.Quorum halves.Close got need) (λ is. absurd (let never : ⊥ = cc in never))
 
   -- a command
 
@@ -114,7 +114,7 @@ module _ (decl : Declaration) (acts : List Act) (net : Net) (run : IsRun decl ac
           (cond c (closes decl net.admin number [] (close_round decl net.admin.epoch) []) (replies_with net.admin (replies.Order net.admin.epoch)))))
       by true c is = again_case decl acts net run m up net.admin.decided refl
       by false true is = closes_case number [] (close_round decl net.admin.epoch) [] (let e : number ≡ net.admin.epoch + 1 = eqb-true number (net.admin.epoch + 1) is in omega arith) planned (λ x never. absurd never) round (λ s never. absurd never)
-      by false false is = ended decl acts net run m up (replies.Order net.admin.epoch)
+      by false false is = ended decl acts net run m up (replies.Order net.admin.epoch) (λ is. absurd (let never : ⊥ = cc in never))
 
   -- an answer, or a loss
 
@@ -245,7 +245,7 @@ module _ (decl : Declaration) (acts : List Act) (net : Net) (run : IsRun decl ac
 
       by : (b : Bool) → Goes decl acts net run m up ((cond b (settles decl net.admin k shuts (map (taken_for number (outcome_in answer)) qs)) (moved (doing net.admin (Asking k shuts (map (taken_for number (outcome_in answer)) qs))) quiet)))
       by true = settles_case decl acts net run m up k shuts (map (taken_for number (outcome_in answer)) qs) h.0 h.1 h.2 h.3 covered each
-      by false = stays decl acts net run m up (Asking k shuts (map (taken_for number (outcome_in answer)) qs)) (moved (doing net.admin (Asking k shuts (map (taken_for number (outcome_in answer)) qs))) quiet) refl refl refl (h.0, h.1, h.2, h.3, covered, each)
+      by false = stays decl acts net run m up (Asking k shuts (map (taken_for number (outcome_in answer)) qs)) (moved (doing net.admin (Asking k shuts (map (taken_for number (outcome_in answer)) qs))) quiet) refl refl refl (h.0, h.1, h.2, h.3, covered, each) (λ is. absurd (let never : ⊥ = cc in never))
 
   -- to an Install
   installing_case : (closed awaited : List ℕ) (calls : List Call) (done : List ℕ) (number : ℕ) (answer : Option Answer)
@@ -253,8 +253,8 @@ module _ (decl : Declaration) (acts : List Act) (net : Net) (run : IsRun decl ac
   installing_case closed awaited calls done number answer = by (site_called calls number)
     where
       ends : (b : Bool) (cs : List Call) (is : List ℕ) → Goes decl acts net run m up ((cond b (replies_with net.admin (replies.Moved (site_set closed) (site_set is))) (moved (doing net.admin (Installing closed awaited cs is)) quiet)))
-      ends true cs is = ended decl acts net run m up (replies.Moved (site_set closed) (site_set is))
-      ends false cs is = stays decl acts net run m up (Installing closed awaited cs is) (moved (doing net.admin (Installing closed awaited cs is)) quiet) refl refl refl tt
+      ends true cs is = ended decl acts net run m up (replies.Moved (site_set closed) (site_set is)) (λ same. absurd (let never : ⊥ = cc in never))
+      ends false cs is = stays decl acts net run m up (Installing closed awaited cs is) (moved (doing net.admin (Installing closed awaited cs is)) quiet) refl refl refl tt (λ same. absurd (let never : ⊥ = cc in never))
 
       by : (o : Option ℕ) → Goes decl acts net run m up ((installing_takes net.admin closed awaited calls done number answer o))
       by None = nothing decl acts net run m up

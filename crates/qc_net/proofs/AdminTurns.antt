@@ -3,6 +3,7 @@
 use Rattle.std.proofs.Common.{◌≡◌, ◌≢◌, ℕ, zero, suc, ◌+◌, ◌==◌, ◌⊎◌, nat_le, Bool, true, false, cond, inl, inr, List, [], ◌∷◌, ◌++◌, length, fold, map, take, Option, Some, None, refl, sym, ap, ◌∙◌, subst}
 use Rattle.qc_stamp.specs.declared.stamp.TxId.{TxId}
 use Rattle.qc_list.specs.Members.{In}
+use Rattle.qc_entry.specs.Line.{IsAscending}
 use Rattle.qc_entry.specs.declared.line.Line.{Line}
 use Rattle.qc_decl.specs.declared.declaration.Declaration.{Declaration}
 use Rattle.qc_decl.specs.Actors.{administrator}
@@ -18,7 +19,7 @@ use Rattle.qc_msg.specs.Calls.{with_call}
 use Rattle.qc_msg.specs.Deeds.{envelopes}
 use Rattle.qc_msg.specs.Turns.{quiet}
 use Rattle.qc_protocol.specs.Acts.{Act, Decide, after_act, state}
-use Rattle.qc_protocol.specs.Guards.{IsRun}
+use Rattle.qc_protocol.specs.Guards.{IsRun, MayDecide}
 use Rattle.qc_protocol.specs.State.{Decision, NotBegun, State}
 use Rattle.qc_epoch.specs.Admin.{Admin, AdminMove, Decided, Doing, Question, Resting, Asking, Installing, ShutSite, moved}
 use Rattle.qc_epoch.specs.Conduct.{again, all_sites, ask_of, asks, decides, doing, install_of, install_sends, installing, replies_with, settles, settles_by}
@@ -53,6 +54,13 @@ rule_from k (x ∷ xs) r = rule_from (keeps k x) xs r
 pub rule_more : (rs : List Record) (r : Record) → kept_by (rs ++ r ∷ []) ≡ keeps (kept_by rs) r
 rule_more rs r = rule_from None rs r
 
+-- a decision that may be made, and is too long for a record
+pub record IsTooLong (decl : Declaration) (now : State) : Type 0 where
+  pub decision : Decision
+  pub may : MayDecide decl now decision
+  pub sorted : IsAscending decision.log
+  pub long : nat_le (epoch_length decision.log) most_record_bytes ≡ false
+
 -- his turn leaves the decided epoch, or decides the next one
 
 pub record DecidesNext (epoch : ℕ) (move : AdminMove) : Type 0 where
@@ -70,11 +78,13 @@ module _ (decl : Declaration) (acts : List Act) (net : Net) (run : IsRun decl ac
   abbrev more_of : AdminMove → List Envelope
   more_of move = envelopes (administrator decl) (length net.mail) move.turn.sends
 
-  -- the machine goes along with a turn; and were its record written as he falls, it would decide
+  -- the machine goes along with a turn; were its record written as he falls, it would decide; and a fault is told of a
+  -- decision that is too long alone
   abbrev pub Goes : AdminMove → Type 0
   Goes move = Continues decl acts (after_admin decl net move)
       × ((r : Record) → move.turn.write ≡ Some r → IsPendingRule decl (state acts) (Some r) × (move.turn.failed_sends ≡ []))
       × IsInTurn net.admin.epoch move
+      × (move.turn.told ≡ Some replies.Fault → IsTooLong decl (state acts))
 
   shown : (v : State) (move : AdminMove) → AdminMirrors decl v (net.mail ++ more_of move) (all_sent move.admin (length net.mail) move.turn.sends)
       → RulesMirror decl v (kept_by (net.records (administrator decl) ++ option_to_list move.turn.write)) → AdminShows decl v (after_admin decl net move)
@@ -97,8 +107,8 @@ module _ (decl : Declaration) (acts : List Act) (net : Net) (run : IsRun decl ac
 
   -- where the machine does nothing
   pub rests : (move : AdminMove) → move.turn.write ≡ None → move.admin.epoch ≡ net.admin.epoch → ((p : Posting) → In p move.turn.sends → Backed decl (state acts) net.mail (administrator decl) p.to p.message)
-      → AdminMirrors decl (state acts) (net.mail ++ more_of move) (all_sent move.admin (length net.mail) move.turn.sends) → Goes (move)
-  rests move unwritten still turn admin = (
+      → AdminMirrors decl (state acts) (net.mail ++ more_of move) (all_sent move.admin (length net.mail) move.turn.sends) → (move.turn.told ≡ Some replies.Fault → IsTooLong decl (state acts)) → Goes (move)
+  rests move unwritten still turn admin long = (
     record {
       more = [];
       refines = record {
@@ -112,20 +122,21 @@ module _ (decl : Declaration) (acts : List Act) (net : Net) (run : IsRun decl ac
     },
     (λ r wrote. absurd (let both : None ≡ Some r = sym unwritten ∙ wrote in let never : ⊥ = cc in never)),
     inl (unwritten, still),
+    long,
   )
 
   -- nothing is sent, and what runs is this
-  pub stays : (d : Doing) (move : AdminMove) → move.admin ≡ doing net.admin d → move.turn.write ≡ None → move.turn.sends ≡ [] → DoingMirrors decl (state acts) net.mail net.admin.epoch d → Goes (move)
-  stays d move same unwritten none h = rests move unwritten (ap (λ (x : Admin). x.epoch) same) (λ p among. absurd (subst (λ (ps : List Posting). In p ps) none among))
+  pub stays : (d : Doing) (move : AdminMove) → move.admin ≡ doing net.admin d → move.turn.write ≡ None → move.turn.sends ≡ [] → DoingMirrors decl (state acts) net.mail net.admin.epoch d → (move.turn.told ≡ Some replies.Fault → IsTooLong decl (state acts)) → Goes (move)
+  stays d move same unwritten none h long = rests move unwritten (ap (λ (x : Admin). x.epoch) same) (λ p among. absurd (subst (λ (ps : List Posting). In p ps) none among))
       (subst (λ (ps : List Posting). AdminMirrors decl (state acts) (net.mail ++ envelopes (administrator decl) (length net.mail) ps) (all_sent move.admin (length net.mail) ps)) (sym none)
       (subst (λ (x : Admin). AdminMirrors decl (state acts) (net.mail ++ []) x) (sym same)
-      (admin_later decl (state acts) (state acts) (same_state (state acts)) net.mail [] (doing net.admin d) (record { planned = (m.admin up).planned; decided = (m.admin up).decided; doing = h }))))
+      (admin_later decl (state acts) (state acts) (same_state (state acts)) net.mail [] (doing net.admin d) (record { planned = (m.admin up).planned; decided = (m.admin up).decided; doing = h })))) long
 
-  pub ended : (reply : Reply) → Goes ((replies_with net.admin reply))
-  ended reply = stays Resting (replies_with net.admin reply) refl refl refl tt
+  pub ended : (reply : Reply) → (Some reply ≡ Some replies.Fault → IsTooLong decl (state acts)) → Goes ((replies_with net.admin reply))
+  ended reply long = stays Resting (replies_with net.admin reply) refl refl refl tt long
 
   pub nothing : Goes ((moved net.admin quiet))
-  nothing = stays net.admin.doing (moved net.admin quiet) refl refl refl (m.admin up).doing
+  nothing = stays net.admin.doing (moved net.admin quiet) refl refl refl (m.admin up).doing (λ is. absurd (let never : ⊥ = cc in never))
 
   -- Installs
 
@@ -142,18 +153,18 @@ module _ (decl : Declaration) (acts : List Act) (net : Net) (run : IsRun decl ac
 
   -- the decided epoch once more
   pub again_case : (o : Option Decided) → net.admin.decided ≡ o → Goes ((again decl net.admin o))
-  again_case None is = ended (replies.Order net.admin.epoch)
+  again_case None is = ended (replies.Order net.admin.epoch) (λ is. absurd (let never : ⊥ = cc in never))
   again_case (Some d) is =
       let h : DecidedMirrors decl (state acts) net.admin.epoch (Some d) = subst (λ (o : Option Decided). DecidedMirrors decl (state acts) net.admin.epoch o) is (m.admin up).decided in
       rests (again decl net.admin (Some d)) refl refl (installs_backed (state acts) d h.1)
-      (installs_sent (state acts) (net.mail ++ more_of (again decl net.admin (Some d))) net.admin d [] (all_sites decl) [] [] (length net.mail) (all_sites decl) (m.admin up).planned (m.admin up).decided)
+      (installs_sent (state acts) (net.mail ++ more_of (again decl net.admin (Some d))) net.admin d [] (all_sites decl) [] [] (length net.mail) (all_sites decl) (m.admin up).planned (m.admin up).decided) (λ is. absurd (let never : ⊥ = cc in never))
 
   -- an epoch is decided
 
   decides_case : (k : ℕ) (shuts : List ShutSite) (questions : List Question) (closed : List ℕ) → k ≡ suc net.admin.epoch → IsPlanned decl k → AreEnough decl net.admin.epoch shuts → AreSnapshots decl (state acts) k shuts → IsCovered shuts questions
       → ((q : Question) → In q questions → QuestionMirrors decl (state acts) net.mail q) → first_doubt questions ≡ None
       → Goes ((decides decl net.admin (decision k shuts questions) closed))
-  decides_case k shuts questions closed next planned enough told covered each none = by (nat_le (epoch_length (merged shuts questions)) most_record_bytes)
+  decides_case k shuts questions closed next planned enough told covered each none = by (nat_le (epoch_length (merged shuts questions)) most_record_bytes) refl
     where
       d : Decision
       d = decision_of decl (state acts) k net.mail net.admin.epoch shuts questions next enough told covered each none
@@ -175,7 +186,7 @@ module _ (decl : Declaration) (acts : List Act) (net : Net) (run : IsRun decl ac
         planned = planned;
       }
 
-      by : (b : Bool) → Goes ((cond b
+      by : (b : Bool) → nat_le (epoch_length (merged shuts questions)) most_record_bytes ≡ b → Goes ((cond b
           (moved (record { epoch = k; decided = Some (decision k shuts questions); doing = installing decl closed }) (record {
             write = Some (Rattle.qc_msg.specs.declared.record.Record.TheVariants.Decide k (greatest shuts questions) (merged shuts questions));
             sends = install_sends decl (decision k shuts questions);
@@ -185,8 +196,13 @@ module _ (decl : Declaration) (acts : List Act) (net : Net) (run : IsRun decl ac
             append = Rattle.qc_msg.specs.declared.turn.Appended.TheVariants.Done;
           }))
           (replies_with net.admin replies.Fault)))
-      by false = ended replies.Fault
-      by true = (
+      by false long = ended replies.Fault (λ is. record {
+        decision = decision_of decl (state acts) k net.mail net.admin.epoch shuts questions next enough told covered each none;
+        may = may_decide decl (state acts) k net.mail net.admin.epoch shuts questions next enough told covered each none;
+        sorted = merged_ascends shuts questions (λ s among. (told s among).sorted);
+        long = long;
+      })
+      by true short = (
         record {
           more = Decide d ∷ [];
           refines = record {
@@ -212,6 +228,7 @@ module _ (decl : Declaration) (acts : List Act) (net : Net) (run : IsRun decl ac
           refl,
         ))),
         inr (record { next = k; clock = greatest shuts questions; lines = merged shuts questions; wrote = refl; follows = next; then_is = refl }),
+        (λ is. absurd (let never : ⊥ = cc in never)),
       )
         where
           move : AdminMove
@@ -230,7 +247,7 @@ module _ (decl : Declaration) (acts : List Act) (net : Net) (run : IsRun decl ac
   settles_case k shuts questions next planned enough told covered each = by (first_doubt questions) refl
     where
       by : (o : Option Question) → first_doubt questions ≡ o → Goes ((settles_by decl net.admin k shuts questions o))
-      by (Some q) is = ended (replies.InDoubt q.tx q.site)
+      by (Some q) is = ended (replies.InDoubt q.tx q.site) (λ is. absurd (let never : ⊥ = cc in never))
       by None is = decides_case k shuts questions (map (λ (s : ShutSite). s.site) shuts) next planned enough told covered each is
 
   -- the clients are asked
@@ -279,7 +296,7 @@ module _ (decl : Declaration) (acts : List Act) (net : Net) (run : IsRun decl ac
                   (λ q among. ((questions_new shuts q among).0, question_later decl (state acts) (state acts) (same_state (state acts)) net.mail (envelopes (administrator decl) (length net.mail) (map (ask_of decl) (take most_asks (questions_of shuts)))) q (begun q among)))
                   (at_number net.mail (administrator decl) (length net.mail) (map (ask_of decl) (take most_asks (questions_of shuts))) refl),
             );
-          }))
+          })) (λ is. absurd (let never : ⊥ = cc in never))
         where
           all : List Envelope
           all = net.mail ++ envelopes (administrator decl) (length net.mail) (map (ask_of decl) (take most_asks (questions_of shuts)))

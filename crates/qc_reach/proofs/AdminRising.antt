@@ -8,7 +8,6 @@ use Rattle.qc_core.specs.Conduct.{IsLawfulWithFalls, with_record}
 use Rattle.qc_core.specs.Lives.{is_up}
 use Rattle.qc_decl.specs.declared.declaration.Declaration.{Declaration}
 use Rattle.qc_decl.specs.Actors.{administrator}
-use Rattle.qc_epoch.specs.Admin.{Admin}
 use Rattle.qc_msg.specs.declared.record.Record.{Record}
 use Rattle.qc_msg.specs.declared.record.Record.TheVariants.{Life}
 use Rattle.qc_msg.specs.declared.step.Step.TheVariants as steps

@@ -1,11 +1,9 @@
 -- What each client of a run with falls has done: by turns, due, given back, and told.
-use Rattle.std.proofs.Common.{◌≡◌, ◌<◌, ◌≤◌, ℕ, ◌+◌, ◌-◌, ◌&&◌, nat_le, nat_lt, Bool, true, false, List, [], ◌∷◌, Some, slice_get, refl, sym, subst, le-leb, lt-ltb, arith}
-use Rattle.std.proofs.lemmas.Bool.{leb-true, ltb-true}
+use Rattle.std.proofs.Common.{◌≡◌, ◌<◌, ◌≤◌, ℕ, ◌+◌, ◌-◌, nat_le, nat_lt, Bool, true, false, List, [], Some, slice_get, refl, sym, subst, le-leb, lt-ltb, arith}
 use Rattle.qc_due.specs.Declares.{Declares}
 use Rattle.qc_due.proofs.Commands.{no_site}
 use Rattle.qc_due.proofs.AccountDeclared.{asks_declared}
 use Rattle.qc_core.specs.Conduct.{IsLawfulWithFalls}
-use Rattle.qc_core.specs.Journals.{journal_at}
 use Rattle.qc_reach.specs.Ends.{AreCommitsTold}
 use Rattle.qc_decl.specs.Accepted.{IsAccepted}
 use Rattle.qc_decl.proofs.Clients.{client_below, client_past}
@@ -19,10 +17,10 @@ use Rattle.qc_link.specs.Limits.{most_actors}
 use Rattle.qc_laws.specs.LivesIn.{LivesIn}
 use Rattle.qc_laws.proofs.Lived.{run_lives, run_long}
 use Rattle.qc_msg.specs.declared.record.Record.{Record}
-use Rattle.qc_msg.specs.Deeds.{Deed, Takes, Writes, Sends, Tells, Falls, Rises, deeds}
+use Rattle.qc_msg.specs.Deeds.{Deed, deeds}
 use Rattle.qc_msg.specs.Steps.{Entry}
 use Rattle.qc_promise.specs.Due.{Due}
-use Rattle.qc_promise.specs.Kept.{Journal, Kept, no_journal}
+use Rattle.qc_promise.specs.Kept.{Kept, no_journal}
 use Rattle.qc_promise.specs.Replies.{AreRepliesDue}
 use Rattle.qc_promise.specs.Turns.{AreByTurns}
 use Rattle.qc_script.specs.RunsWithFalls.{RunsWithFalls}

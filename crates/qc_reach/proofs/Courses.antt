@@ -1,10 +1,10 @@
 -- What each event of a client's life keeps, all its deeds keep, through its falls and rises.
-use Rattle.std.proofs.Common.{◌≡◌, ℕ, ◌-◌, Bool, true, false, cond, List, [], ◌∷◌, ◌++◌, None, refl, sym, ap, ◌∙◌, subst}
+use Rattle.std.proofs.Common.{◌≡◌, ℕ, ◌-◌, Bool, true, false, List, [], ◌∷◌, ◌++◌, None, refl, sym, ap, ◌∙◌, subst}
 use Rattle.std.specs.List.{AllByRecursion as Every}
 use Rattle.qc_core.specs.declared.actor.Actor.{Actor}
 use Rattle.qc_core.specs.declared.actor.Actor.TheVariants as actors
 use Rattle.qc_client.specs.Conduct.{client_takes}
-use Rattle.qc_core.specs.Actors.{ActorMove, actor_after, actor_takes, by_client, by_site}
+use Rattle.qc_core.specs.Actors.{ActorMove, actor_after, actor_takes, by_client}
 use Rattle.qc_core.specs.Acts.{MayTake}
 use Rattle.qc_core.proofs.ByNumber.{client_risen}
 use Rattle.qc_core.specs.Conduct.{IsLawfulWithFalls, with_record}
@@ -27,8 +27,7 @@ use Rattle.qc_msg.specs.Steps.{MayEnd}
 use Rattle.qc_msg.specs.Turns.{telling}
 use Rattle.qc_msg.specs.declared.reply.Reply.TheVariants as replies
 use Rattle.qc_recover.specs.Clients.{client_rises}
-use Rattle.qc_recover.specs.Sites.{rising, site_rises}
-use Rattle.qc_due.proofs.Commands.{no_site}
+use Rattle.qc_recover.specs.Sites.{rising}
 use Rattle.qc_due.specs.Declares.{IsDeclaredDeed, IsPlanned}
 use Rattle.qc_due.proofs.Happenings.{as_record, takes_to}
 use Rattle.qc_due.proofs.Lifelong.{client_lives}

@@ -1,6 +1,6 @@
 -- The commit records that a client's deeds make: those that it wrote, and those that it was writing as it fell. A journal
 -- that rises give back loses none of its records.
-use Rattle.std.proofs.Common.{◌≡◌, ◌⊎◌, List, [], ◌∷◌, ◌++◌, inl, inr, fold, Some, option_and_then, option_to_list, sym, subst}
+use Rattle.std.proofs.Common.{◌≡◌, ◌⊎◌, List, [], ◌∷◌, inl, inr, fold, Some, option_and_then, option_to_list, sym, subst}
 use Rattle.std.specs.List.{cons_option}
 use Rattle.qc_list.specs.Members.{In}
 use Rattle.qc_list.proofs.Members.{In-first, In-last}

@@ -1,8 +1,8 @@
 -- A client tells of each commit record that it writes, in the post that writes it, through its falls and rises.
-use Rattle.std.proofs.Common.{◌≡◌, ℕ, ◌+◌, ◌-◌, Bool, true, false, cond, List, [], ◌∷◌, ◌++◌, Option, Some, None, is_some, refl, sym, ap, ◌∙◌, subst}
+use Rattle.std.proofs.Common.{◌≡◌, ℕ, ◌+◌, ◌-◌, Bool, true, false, List, [], ◌∷◌, ◌++◌, Option, Some, None, is_some, refl, sym, ap, ◌∙◌, subst}
 use Rattle.std.specs.List.{AllByRecursion as Every}
 use Rattle.qc_core.specs.declared.actor.Actor.{Actor}
-use Rattle.qc_core.specs.Actors.{ActorMove, actor_after, actor_takes, by_client, by_site, down_takes}
+use Rattle.qc_core.specs.Actors.{ActorMove, actor_after, actor_takes, down_takes}
 use Rattle.qc_core.proofs.ByNumber.{client_risen}
 use Rattle.qc_core.specs.Conduct.{IsLawfulWithFalls}
 use Rattle.qc_core.specs.Lives.{Lives}
@@ -24,12 +24,10 @@ use Rattle.qc_msg.specs.declared.turn.Turn.{Turn}
 use Rattle.qc_msg.specs.Begun.{first_epoch}
 use Rattle.qc_msg.specs.Deeds.{Deed, Takes, Writes, Sends, Tells, Falls, Rises, deeds_as, sends_of, tells_of, turn_deeds, writes_of}
 use Rattle.qc_promise.specs.Accounting.{account_taken}
-use Rattle.qc_recover.specs.Clients.{client_rises}
-use Rattle.qc_recover.specs.Sites.{site_rises}
 use Rattle.qc_due.specs.Declares.{IsDeclaredDeed, IsPlanned}
 use Rattle.qc_due.specs.ByRows as rows
 use Rattle.qc_due.specs.Goes.{Goes}
-use Rattle.qc_due.proofs.Commands.{free_for, no_site}
+use Rattle.qc_due.proofs.Commands.{free_for}
 use Rattle.qc_due.proofs.Lifelong.{client_lives}
 use Rattle.qc_due.proofs.Standing.{IsAtInput, IsTied, Stands, account_is, actor_more, turn_is}
 use Rattle.qc_due.proofs.Step.{takes_go}

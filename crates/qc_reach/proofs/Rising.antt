@@ -1,6 +1,6 @@
 -- A site or a client rises with its records, and with the one that was pending, or without it: the net gives it these
 -- too, and it is up once the record of its rise is written.
-use Rattle.std.proofs.Common.{◌≡◌, ◌⊎◌, ℕ, ◌-◌, Bool, true, false, cond, List, [], ◌∷◌, ◌++◌, length, Option, Some, None, option_to_list, slice_get, inl, inr, refl, sym, ap, ◌∙◌, subst, append_assoc}
+use Rattle.std.proofs.Common.{◌≡◌, ◌⊎◌, ℕ, ◌-◌, Bool, true, false, List, [], ◌∷◌, ◌++◌, length, Option, Some, None, option_to_list, slice_get, inl, inr, refl, sym, ap, ◌∙◌, subst, append_assoc}
 use Rattle.std.proofs.lemmas.List.{append-nil}
 use Rattle.std.proofs.lemmas.List.Sums.{fold-append}
 use Rattle.qc_core.specs.declared.actor.Actor.TheVariants as actor
@@ -36,7 +36,7 @@ use Rattle.qc_recover.specs.Sites.{site_rises}
 use Rattle.qc_site.specs.Site.{SiteState}
 use Rattle.qc_reach.proofs.Growing.{actor_posted, all_sent, ended_journal, ended_up}
 use Rattle.qc_reach.proofs.Posting.{Shows, never_up, turned}
-use Rattle.qc_reach.proofs.Stood.{Stands, Stood, in_client, in_site, not_site}
+use Rattle.qc_reach.proofs.Stood.{Stands, Stood, in_client, in_site}
 
 -- what is given back: the records, and the pending one or none
 pub record Back (j : Journal) (given : List Record) : Type 0 where

@@ -1,6 +1,5 @@
 -- In every run with falls whose records are kept each record comes after all that its client had seen.
-use Rattle.std.proofs.Common.{◌≡◌, ◌≤◌, ◌<◌, ℕ, ◌-◌, nat_le, nat_lt, Bool, true, false, List, [], fold, length, Some, slice_get, inl, refl, sym, ap, ◌∙◌, subst, arith}
-use Rattle.std.proofs.lemmas.Bool.{leb-true, ltb-true}
+use Rattle.std.proofs.Common.{◌≡◌, ◌≤◌, ◌<◌, ℕ, ◌-◌, Bool, true, false, List, [], fold, length, Some, slice_get, inl, refl, sym, ap, ◌∙◌, subst, arith}
 use Rattle.qc_decl.proofs.Clients.{client_past, client_within}
 use Rattle.qc_stamp.specs.declared.stamp.Stamp.{Stamp}
 use Rattle.qc_stamp.specs.declared.stamp.TxId.{TxId}
@@ -17,7 +16,6 @@ use Rattle.qc_laws.proofs.Places.{slice_get-within}
 use Rattle.qc_link.specs.Limits.{most_actors}
 use Rattle.qc_laws.specs.LivesIn.{LivesIn}
 use Rattle.qc_laws.proofs.Lived.{run_lives, run_long}
-use Rattle.qc_lock.proofs.Entries.{and_first, and_second}
 use Rattle.qc_msg.specs.declared.message.Answer.TheVariants.{Granted}
 use Rattle.qc_msg.specs.declared.message.Envelope.{Envelope}
 use Rattle.qc_msg.specs.declared.message.Message.{Message}

@@ -1,16 +1,15 @@
 -- A site promises only for transactions that it was asked for, and asks clients only about these, as it rises too.
-use Rattle.std.proofs.Common.{◌≡◌, ℕ, not, List, [], ◌∷◌, ◌++◌, fold, map, take, option_to_list, refl}
+use Rattle.std.proofs.Common.{◌≡◌, ℕ, List, [], ◌∷◌, ◌++◌, fold, map, take, option_to_list, refl}
 use Rattle.std.specs.List.{AllByRecursion as Every}
 use Rattle.std.specs.declared.cmp.Ordering.{Ordering}
 use Rattle.std.specs.declared.cmp.Ordering.TheVariants.{Equal, Greater, Less}
 use Rattle.qc_list.specs.Order.{by_order, inserted}
-use Rattle.qc_list.proofs.Members.{every-append, every-filter, every-weaker}
+use Rattle.qc_list.proofs.Members.{every-append, every-weaker}
 use Rattle.qc_stamp.specs.declared.stamp.TxId.{TxId}
-use Rattle.qc_stamp.specs.Order.{same_tx, tx_cmp}
+use Rattle.qc_stamp.specs.Order.{tx_cmp}
 use Rattle.qc_entry.specs.declared.record.Prepared.{Prepared}
 use Rattle.qc_decl.specs.Actors.{client_actor}
 use Rattle.qc_decl.specs.declared.declaration.Declaration.{Declaration}
-use Rattle.qc_lock.specs.declared.held.Held.{Held}
 use Rattle.qc_msg.specs.declared.message.Answer.{Answer}
 use Rattle.qc_msg.specs.declared.message.Answer.TheVariants as says
 use Rattle.qc_msg.specs.declared.message.Message.{Message}
@@ -30,7 +29,7 @@ use Rattle.qc_recover.specs.Sites.{inquiry, keeps, Kept, kept_by, most_inquiries
 use Rattle.qc_site.specs.Epochs.{in_order}
 use Rattle.qc_laws.proofs.SitesAsk.{Asks, GivenTells, HeldFor, PreparedFor, SiteTells, Tells, held-promised, prepared-left, site_asks}
 use Rattle.qc_site.specs.Conduct.{passed, site_at, site_takes}
-use Rattle.qc_site.specs.Promise.{promise_of, without_prepared}
+use Rattle.qc_site.specs.Promise.{without_prepared}
 use Rattle.qc_site.specs.Requests.{grants}
 use Rattle.qc_site.specs.Site.{SiteMove, SiteState, answers, moved}
 use Rattle.qc_site.proofs.Cases.{append_cases, close_cases, install_cases, join_cases, prepare_cases, read_cases, request_cases}

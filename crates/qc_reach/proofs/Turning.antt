@@ -1,11 +1,11 @@
 -- What each event of a client leaves: an input with its turn, a fall, a rise. It stands in what it has seen as before.
-use Rattle.std.proofs.Common.{◌≡◌, ℕ, ◌-◌, Bool, true, false, cond, List, [], ◌∷◌, ◌++◌, inl, inr, fold, Option, Some, None, sym, ap, ◌∙◌, subst, append_assoc}
+use Rattle.std.proofs.Common.{◌≡◌, ℕ, ◌-◌, Bool, true, false, List, [], ◌∷◌, ◌++◌, inl, inr, fold, Option, Some, None, sym, ap, ◌∙◌, subst, append_assoc}
 use Rattle.std.specs.Prelude.{is_some}
 use Rattle.std.proofs.lemmas.List.Sums.{fold-append}
 use Rattle.qc_stamp.specs.declared.stamp.TxId.{TxId}
 use Rattle.qc_list.specs.Members.{In}
 use Rattle.qc_core.specs.declared.actor.Actor.{Actor}
-use Rattle.qc_core.specs.Actors.{ActorMove, actor_after, actor_takes, by_client, by_site}
+use Rattle.qc_core.specs.Actors.{ActorMove, actor_after, actor_takes, by_client}
 use Rattle.qc_core.specs.Acts.{MayTake}
 use Rattle.qc_core.proofs.ByNumber.{client_risen}
 use Rattle.qc_core.specs.Conduct.{IsLawfulWithFalls}
@@ -39,10 +39,10 @@ use Rattle.qc_promise.specs.Replies.{IsRecordDue}
 use Rattle.qc_promise.specs.Rows.{running_row}
 use Rattle.qc_promise.specs.Seen.{Sight, no_sight, sight, sight_taken}
 use Rattle.qc_recover.specs.Clients.{client_rises}
-use Rattle.qc_recover.specs.Sites.{rising, site_rises}
+use Rattle.qc_recover.specs.Sites.{rising}
 use Rattle.qc_due.specs.ByRows.{AreByRows}
 use Rattle.qc_due.specs.Goes.{Goes}
-use Rattle.qc_due.proofs.Commands.{free_for, no_site}
+use Rattle.qc_due.proofs.Commands.{free_for}
 use Rattle.qc_due.proofs.Happenings.{as_record}
 use Rattle.qc_due.proofs.Standing.{IsFallen, IsTied, account_is, actor_more, steady_up, turn_is, up_more}
 use Rattle.qc_due.proofs.Step.{takes_go}

@@ -1,8 +1,7 @@
 -- In every run with falls whose records are kept each deed of a client is right for each transaction, and the stamps of
 -- its records rise.
-use Rattle.std.proofs.Common.{◌≡◌, ◌↔◌, ◌-◌, ◌≢◌, ◌≤◌, ◌<◌, ℕ, ◌+◌, ◌==◌, nat_le, nat_lt, Bool, true, false, List, [], ◌∷◌, ◌++◌, fold, length, option_to_list, Option, Some, None, slice_get, refl, sym, ap, ◌∙◌, subst, arith, append_assoc, eqb-true}
+use Rattle.std.proofs.Common.{◌≡◌, ◌↔◌, ◌-◌, ◌≢◌, ◌≤◌, ◌<◌, ℕ, ◌+◌, ◌==◌, Bool, true, false, List, [], ◌∷◌, ◌++◌, fold, length, option_to_list, Option, Some, None, slice_get, refl, sym, ap, ◌∙◌, subst, arith, append_assoc, eqb-true}
 use Rattle.std.specs.List.{AllByRecursion as Every, AllPairs, filter_map}
-use Rattle.std.proofs.lemmas.Bool.{leb-true, ltb-true}
 use Rattle.std.proofs.lemmas.List.Sums.{fold-append}
 use Rattle.qc_decl.proofs.Clients.{client_past, client_within}
 use Rattle.qc_core.specs.Conduct.{IsLawfulWithFalls}
@@ -21,7 +20,6 @@ use Rattle.qc_list.specs.Members.{In}
 use Rattle.qc_list.proofs.Members.{every-append, every-at}
 use Rattle.qc_laws.specs.LivesIn.{LivesIn}
 use Rattle.qc_laws.proofs.Lived.{deeds-fall, deeds-rise, line_silent, run_lives, run_long}
-use Rattle.qc_lock.proofs.Entries.{and_first, and_second}
 use Rattle.qc_msg.specs.declared.message.Envelope.{Envelope}
 use Rattle.qc_msg.specs.declared.message.Message.{Message}
 use Rattle.qc_msg.specs.declared.message.Message.TheVariants as messages

@@ -1,6 +1,6 @@
 -- Each client of a run with falls is as its deeds say, where it has an open input and where it has none; and with a turn
 -- that has a commit record, this is due.
-use Rattle.std.proofs.Common.{◌≡◌, ◌<◌, ◌≤◌, ◌+◌, ◌-◌, ◌&&◌, ℕ, nat_le, nat_lt, Bool, true, false, List, [], ◌∷◌, ◌++◌, Option, Some, slice_get, refl, sym, ap, ◌∙◌, subst, arith, ltb-true}
+use Rattle.std.proofs.Common.{◌≡◌, ◌<◌, ◌≤◌, ◌-◌, ℕ, Bool, true, false, List, [], ◌∷◌, ◌++◌, Option, Some, slice_get, sym, ap, ◌∙◌, subst, arith}
 use Rattle.qc_decl.proofs.Clients.{client_below, client_past, client_within}
 use Rattle.qc_due.proofs.Commands.{free_for}
 use Rattle.qc_due.proofs.AccountDeclared.{asks_declared}
@@ -16,7 +16,6 @@ use Rattle.qc_core.specs.Actors.{ActorMove, actor_after, actor_takes, down_takes
 use Rattle.qc_core.specs.Conduct.{IsLawfulWithFalls, with_record}
 use Rattle.qc_decl.specs.Accepted.{IsAccepted}
 use Rattle.qc_decl.specs.Actors.{actors, administrator, client_actor, is_client}
-use Rattle.std.proofs.lemmas.Bool.{leb-true}
 use Rattle.qc_decl.specs.declared.declaration.Declaration.{Declaration}
 use Rattle.qc_due.proofs.Declared.{run_declares}
 use Rattle.qc_due.proofs.KeptPlanned.{kept_planned}

@@ -13,7 +13,7 @@ use Rattle.qc_bounds.specs.Records.{AllPut}
 use Rattle.qc_core.proofs.LivesLaws.{journal}
 use Rattle.qc_core.specs.Conduct.{IsLawfulWithFalls}
 use Rattle.qc_decl.specs.Accepted.{IsAccepted}
-use Rattle.qc_decl.specs.Actors.{actors, administrator, is_client}
+use Rattle.qc_decl.specs.Actors.{administrator, is_client}
 use Rattle.qc_decl.specs.declared.declaration.Declaration.{Declaration}
 use Rattle.qc_entry.specs.declared.record.Commit.{Commit as CommitRecord}
 use Rattle.qc_list.proofs.Members.{In-filter, In-unfiltered, every-In}

@@ -31,7 +31,7 @@ use Rattle.qc_fit.specs.Said.{HasInvocation}
 use Rattle.qc_guarantees.proofs.Lengths.{key, lock_count, log_count, own_count}
 use Rattle.qc_guarantees.proofs.Room.{numbered_within}
 use Rattle.qc_guarantees.proofs.Stale.{below_length}
-use Rattle.qc_votes.proofs.Nets.{net, now, reached, refined}
+use Rattle.qc_votes.proofs.Nets.{logged_by, net, now, reached, refined}
 use Rattle.qc_votes.proofs.SiteClocks.{same_site}
 use Rattle.qc_link.specs.Limits.{most_actors}
 use Rattle.qc_list.specs.Members.{In}
@@ -46,7 +46,6 @@ use Rattle.qc_msg.specs.Deeds.{Deed, Takes, deeds}
 use Rattle.qc_msg.specs.Lengths.{prepare_length}
 use Rattle.qc_msg.specs.Steps.{Entry}
 use Rattle.qc_msg.specs.declared.record.Record.{Record}
-use Rattle.qc_msg.specs.declared.record.Record.TheVariants as journals
 use Rattle.qc_net.proofs.NetLaws.{site_lines}
 use Rattle.qc_net.specs.Sites.{SiteMirrors}
 use Rattle.qc_onecopy.specs.Executed.{Executed, own_line}
@@ -60,12 +59,9 @@ use Rattle.qc_protocol.proofs.LogKeeps.{log_laws}
 use Rattle.qc_protocol.specs.Logs.{IsExecutedOrChosen, IsOwnClosedAt, LogLaws}
 use Rattle.qc_protocol.specs.Site.{items_of, site_after}
 use Rattle.qc_protocol.specs.State.{State}
-use Rattle.qc_reach.proofs.Committing.{standing}
 use Rattle.qc_reach.proofs.RunsStand.{kept_of_first}
 use Rattle.qc_reach.proofs.Stood.{in_site}
-use Rattle.qc_reach.proofs.Written.{Agree, written_are}
 use Rattle.qc_reach.specs.Reached.{HasTaken}
-use Rattle.qc_reach.specs.Standing.{IsOfClient}
 use Rattle.qc_script.specs.RunsWithFalls.{RunsWithFalls}
 use Rattle.qc_script.specs.Sound.{IsScriptFor}
 use Rattle.qc_script.specs.declared.script.Script.{Script}
@@ -164,19 +160,8 @@ module _ (fits : ℕ → List Record → Type 0) (decl : Declaration) (script : 
 
     logged : (commits : List CommitRecord) → ((c : CommitRecord) → In c (records decl h) → In c commits) → (l : Line) → In l s.log → IsLogged decl commits l
     logged commits all l among =
-        let k : IsLogged decl (net fits decl script h open_inputs accepted sound run kept).written l =
-        site_lines decl accepted (net fits decl script h open_inputs accepted sound run kept) (reached fits decl script h open_inputs accepted sound run kept).reached b l site ((reached fits decl script h open_inputs accepted sound run kept).up_is b (inl site) ∙ up) (in_second l s.began s.log among) in
-        let agree : Agree decl (net fits decl script h open_inputs accepted sound run kept).records (net fits decl script h open_inputs accepted sound run kept).written =
-        written_are decl accepted (net fits decl script h open_inputs accepted sound run kept) (reached fits decl script h open_inputs accepted sound run kept).reached in
-        let of : IsOfClient decl (net fits decl script h open_inputs accepted sound run kept).records k.commit = agree.each k.commit k.listed in
-        record {
-          commit = k.commit;
-          listed = all k.commit ((standing decl h kept).all k.commit
-              (record { actor = of.actor; client = of.client; listed = subst (In (journals.Commit k.commit)) ((reached fits decl script h open_inputs accepted sound run kept).records_are of.actor (inr (inl of.client))) of.listed }));
-          stamped = k.stamped;
-          named = k.named;
-          operation = k.operation;
-        }
+        logged_by fits decl script h open_inputs accepted sound run kept commits all l
+        (site_lines decl accepted (net fits decl script h open_inputs accepted sound run kept) (reached fits decl script h open_inputs accepted sound run kept).reached b l site ((reached fits decl script h open_inputs accepted sound run kept).up_is b (inl site) ∙ up) (in_second l s.began s.log among))
 
     lines_few : (commits : List CommitRecord) → ((c : CommitRecord) → In c (records decl h) → In c commits) → length (without s.log s.recorded) ≤ sum_by (λ (c : CommitRecord). answered c.ops) commits
     lines_few commits all =

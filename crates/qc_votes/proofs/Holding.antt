@@ -29,7 +29,6 @@ use Rattle.qc_net.specs.Messages.{IsGrantTo, IsGrantable, IsRequest}
 use Rattle.qc_net.specs.Sites.{IsHeld, SiteMirrors}
 use Rattle.qc_guarantees.proofs.Live.{no_outcome}
 use Rattle.qc_votes.proofs.Live.{epoch_named, live}
-use Rattle.qc_votes.proofs.Safe.{granting}
 use Rattle.qc_promise.specs.Account.{Current}
 use Rattle.qc_promise.specs.Accounting.{account}
 use Rattle.qc_promise.specs.Kept.{Kept}

@@ -47,7 +47,7 @@ use Rattle.qc_votes.proofs.LivesTold.{HasParticipant}
 
 module _ (fits : ℕ → List Record → Type 0) (decl : Declaration) (script : Script) (h : List Entry) (open_inputs : List Bool) (accepted : IsAccepted decl) (sound : IsScriptFor decl script)
     (run : RunsWithFalls (IsLawfulWithFalls decl) fits decl script h open_inputs) (kept : Kept h) (counted : operations_of h ≤ 2 * most_committed_operations) where
-  few : committed_operations decl h ≤ 2 * most_committed_operations
+  pub few : committed_operations decl h ≤ 2 * most_committed_operations
   few = subst (λ (n : ℕ). n ≤ 2 * most_committed_operations) (sym (committed_counted fits decl script h open_inputs accepted sound run kept)) counted
 
   all : AreAll fits decl script accepted sound (committed decl h) few h

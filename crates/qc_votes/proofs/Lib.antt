@@ -51,3 +51,6 @@ pub mod Brought
 pub mod CountedOnce
 pub mod Laws
 pub mod WrongBallots
+pub mod EpochLaw
+pub mod WrongEpochs
+pub mod DecisionsFit

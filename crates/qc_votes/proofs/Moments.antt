@@ -1,6 +1,6 @@
 -- Where a commit record was written in a run with falls: the entries before it are a run, in which its client has an open
 -- input, and there it is due.
-use Rattle.std.proofs.Common.{◌≡◌, ◌+◌, ◌-◌, not, ℕ, Bool, true, false, cond, List, [], ◌∷◌, ◌++◌, inl, inr, length, Option, Some, None, slice_get, refl, sym, ap, ◌∙◌, subst}
+use Rattle.std.proofs.Common.{◌≡◌, ◌+◌, not, ℕ, Bool, true, false, List, [], ◌∷◌, ◌++◌, inl, inr, length, Option, Some, None, slice_get, refl, sym, ap, ◌∙◌, subst}
 use Rattle.std.proofs.lemmas.List.{append-nil}
 use Rattle.qc_core.proofs.AdminOver.{WritesAsAdmin, admin_over}
 use Rattle.qc_core.proofs.ByNumber.{rises_by}

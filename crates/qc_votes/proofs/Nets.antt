@@ -3,6 +3,7 @@ use Rattle.std.proofs.Common.{◌≡◌, ◌↔◌, ℕ, Bool, List, Some, slice
 use Rattle.qc_core.specs.Conduct.{IsLawfulWithFalls}
 use Rattle.qc_decl.specs.Accepted.{IsAccepted}
 use Rattle.qc_decl.specs.declared.declaration.Declaration.{Declaration}
+use Rattle.qc_entry.specs.declared.line.Line.{Line}
 use Rattle.qc_entry.specs.declared.record.Commit.{Commit as CommitRecord}
 use Rattle.qc_list.specs.Members.{In}
 use Rattle.qc_msg.specs.declared.message.Envelope.{Envelope}
@@ -16,6 +17,7 @@ use Rattle.qc_net.specs.Mirrors.{Refines}
 use Rattle.qc_net.specs.Net.{Net}
 use Rattle.qc_net.proofs.Refining.{refines}
 use Rattle.qc_onecopy.proofs.Committed.{sorts}
+use Rattle.qc_onecopy.specs.Logged.{IsLogged}
 use Rattle.qc_promise.specs.Committed.{committed, records}
 use Rattle.qc_promise.specs.Kept.{Kept}
 use Rattle.qc_protocol.specs.Acts.{state}
@@ -75,3 +77,17 @@ module _ (fits : ℕ → List Record → Type 0) (decl : Declaration) (script : 
       let is : IsOfClient decl (records_of h) c = stand.each c ((listed c).0 among) in
       let agree : Agree decl net.records net.written = written_are decl accepted net reached.reached in
       refined.agrees.records c (agree.all c (record { actor = is.actor; client = is.client; listed = subst (In (journals.Commit c)) (sym (reached.records_are is.actor (inr (inl is.client)))) is.listed }))
+
+  -- a line of what the net has written is one of any records that have all that were committed
+  pub logged_by : (commits : List CommitRecord) → ((c : CommitRecord) → In c (records decl h) → In c commits) → (l : Line) → IsLogged decl net.written l → IsLogged decl commits l
+  logged_by commits all l k =
+      let agree : Agree decl net.records net.written = written_are decl accepted net reached.reached in
+      let of : IsOfClient decl net.records k.commit = agree.each k.commit k.listed in
+      record {
+        commit = k.commit;
+        listed = all k.commit (stand.all k.commit
+            (record { actor = of.actor; client = of.client; listed = subst (In (journals.Commit k.commit)) (reached.records_are of.actor (inr (inl of.client))) of.listed }));
+        stamped = k.stamped;
+        named = k.named;
+        operation = k.operation;
+      }

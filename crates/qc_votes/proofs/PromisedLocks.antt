@@ -1,6 +1,6 @@
 -- A site by its conduct, through falls and rises: of what it has promised it holds the locks, and its clock has passed
 -- what its records say is done.
-use Rattle.std.proofs.Common.{fold, ◌≡◌, ◌≤◌, ◌-◌, not, nat_le, max, if◌then◌else◌, ℕ, Bool, true, false, cond, List, [], ◌∷◌, ◌++◌, inl, inr, Option, Some, None, option_to_list, refl, sym, ap, ◌∙◌, subst, arith, append_assoc}
+use Rattle.std.proofs.Common.{fold, ◌≡◌, ◌≤◌, not, nat_le, max, if◌then◌else◌, ℕ, Bool, true, false, cond, List, [], ◌∷◌, ◌++◌, inl, inr, Option, Some, None, option_to_list, refl, sym, ap, ◌∙◌, subst, arith, append_assoc}
 use Rattle.std.proofs.lemmas.List.Sums.{fold-append}
 use Rattle.qc_due.proofs.Standing.{actor_more}
 use Rattle.qc_core.proofs.ByNumber.{site_new, site_risen}

@@ -1,5 +1,5 @@
 -- What a site has promised it holds, through falls, and its clock has passed what is done.
-use Rattle.std.proofs.Common.{◌≡◌, ◌≤◌, ℕ, Bool, true, false, List, [], ◌∷◌, inl, Some, slice_get, refl, sym, ap, ◌∙◌, subst, arith, ltb-true}
+use Rattle.std.proofs.Common.{◌≡◌, ◌≤◌, ℕ, Bool, true, false, List, [], inl, Some, slice_get, refl, sym, ap, ◌∙◌, subst, arith, ltb-true}
 use Rattle.qc_core.proofs.LivesLaws.{journal}
 use Rattle.qc_core.specs.Conduct.{IsLawfulWithFalls}
 use Rattle.qc_core.specs.Lives.{is_up}

@@ -1,6 +1,6 @@
 -- Each commit record in a client's journal, or pending there, was written, or was being written, in a post of that client,
 -- where it was due.
-use Rattle.std.proofs.Common.{◌≡◌, ◌⊎◌, ◌+◌, ◌-◌, ◌==◌, ℕ, Bool, true, false, cond, List, [], ◌∷◌, ◌++◌, inl, inr, length, Option, Some, None, option_to_list, slice_get, refl, sym, ap, ◌∙◌, subst, append_assoc, eqb-true}
+use Rattle.std.proofs.Common.{◌≡◌, ◌⊎◌, ◌+◌, ◌==◌, ℕ, Bool, true, false, List, [], ◌∷◌, ◌++◌, inl, inr, length, Option, Some, None, option_to_list, slice_get, refl, sym, ap, ◌∙◌, subst, append_assoc, eqb-true}
 use Rattle.qc_due.proofs.Standing.{actor_more, turn_is}
 use Rattle.qc_client.specs.Conduct.{client_takes}
 use Rattle.qc_core.specs.Actors.{ActorMove, actor_after, actor_takes}

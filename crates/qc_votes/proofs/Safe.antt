@@ -1,6 +1,6 @@
 -- In a run with falls a transaction whose participants have all promised in the end is safe at each moment before: each
 -- site is in the life in which it granted, or has voted.
-use Rattle.std.proofs.Common.{◌≡◌, ◌⊎◌, ◌<◌, ◌≤◌, ℕ, Bool, true, List, [], ◌∷◌, ◌++◌, inl, inr, fold, Some, slice_get, refl, sym, ap, ◌∙◌, subst, arith}
+use Rattle.std.proofs.Common.{◌≡◌, ◌⊎◌, ◌<◌, ◌≤◌, ℕ, Bool, true, List, ◌++◌, inl, inr, Some, slice_get, refl, sym, ap, ◌∙◌, subst, arith}
 use Rattle.qc_core.specs.Conduct.{IsLawfulWithFalls}
 use Rattle.qc_decl.specs.Accepted.{IsAccepted}
 use Rattle.qc_decl.specs.Actors.{is_client, is_site}

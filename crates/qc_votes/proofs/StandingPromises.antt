@@ -8,7 +8,6 @@ use Rattle.std.proofs.lemmas.List.{append-nil}
 use Rattle.std.proofs.lemmas.List.Elements.{filter_map-append}
 use Rattle.qc_core.specs.Journals.{journal_after, journal_at}
 use Rattle.qc_entry.specs.declared.record.Prepared.{Prepared}
-use Rattle.qc_votes.proofs.PromisedLocks.{stands}
 use Rattle.qc_votes.specs.Promised.{IsLastPromise, IsUnaborted}
 use Rattle.qc_list.specs.Members.{In}
 use Rattle.qc_list.proofs.Members.{In-first, In-second}

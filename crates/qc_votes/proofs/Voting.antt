@@ -1,8 +1,8 @@
 -- A site that posts a turn votes in the life that its records give it, then and after the turn, where the request names
 -- one; and no other event votes.
-use Rattle.std.proofs.Common.{◌≡◌, ◌≤◌, ◌⊎◌, ℕ, not, Bool, true, false, cond, List, [], ◌∷◌, ◌++◌, inl, inr, length, map, take, ◌-◌, Some, option_to_list, slice_get, refl, sym, ap, ◌∙◌, subst, arith}
+use Rattle.std.proofs.Common.{◌≡◌, ◌≤◌, ◌⊎◌, ℕ, not, Bool, true, false, List, [], ◌∷◌, ◌++◌, inl, inr, length, map, take, Some, option_to_list, slice_get, refl, sym, ap, ◌∙◌, subst, arith}
 use Rattle.qc_core.specs.declared.actor.Actor.{Actor}
-use Rattle.qc_core.specs.Actors.{ActorMove, actor_after, actor_takes, by_site}
+use Rattle.qc_core.specs.Actors.{ActorMove, actor_after, actor_takes}
 use Rattle.qc_core.proofs.ByNumber.{site_risen}
 use Rattle.qc_core.specs.Conduct.{IsLawfulWithFalls, with_record}
 use Rattle.qc_core.specs.Journals.{journal_after}

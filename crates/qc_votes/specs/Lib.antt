@@ -7,3 +7,5 @@ pub mod Ordered
 pub mod WrongPrecedence
 pub mod Replies
 pub mod Operations
+pub mod Epochs
+pub mod WrongEpochs

@@ -48,11 +48,17 @@
 //! 2. There are such moments: each operation of a committed transaction had been
 //!    told as its record was written, or was being written
 //!    (`operations_of_records_were_told_through_falls`).
-//! 3. A client's reply ends its turn, and only Unknown is told at a fall
+//! 3. Where the two asked in different epochs, that of the later epoch has the
+//!    greater stamp, and where it depends on the other, it had seen its line
+//!    (`later_epochs_follow_earlier_ones_through_falls`). A transaction asks in
+//!    one epoch (`transactions_ask_in_one_epoch`), the one that its requests name
+//!    (`other_epochs_are_refused`). Epochs are decided one after another
+//!    (`decisions_are_in_turn_through_falls`, `decisions_out_of_turn_are_refused`).
+//! 4. A client's reply ends its turn, and only Unknown is told at a fall
 //!    (`replies_end_their_turns_through_falls`); with each Response and each Absent
 //!    an operation is recorded, which was answered from the view of then
 //!    (`replies_record_operations_through_falls`).
-//! 4. A record that never rose is no committed one
+//! 5. A record that never rose is no committed one
 //!    (`records_that_never_rose_are_refused`), and other replies than Unknown are
 //!    none of a fall (`other_replies_at_falls_are_refused`).
 //!
@@ -78,7 +84,10 @@
 //!    (`asked_sites_never_forget_through_falls`).
 //! 2. So no vote that counts is Stale or Behind, and nobody is told that a site
 //!    has forgotten (`votes_are_never_stale_through_falls`).
-//! 3. A run counts just the operations of its committed transactions, each once:
+//! 3. What an epoch begins with fits a record too: the administrator finds no
+//!    decision too long (`decisions_fit_records_through_falls`), and no site an
+//!    Install (`installs_fit_records_through_falls`).
+//! 4. A run counts just the operations of its committed transactions, each once:
 //!    those of records that clients wrote, and of records that were being written
 //!    as they fell, and that rose (`committed_operations_are_counted`,
 //!    `records_that_rise_are_counted`).
@@ -88,10 +97,12 @@ mod asked_votes;
 mod clocks;
 mod count_laws;
 mod counted_votes;
+mod epochs;
 mod holdings;
 mod order;
 mod promised_votes;
 mod replies;
+mod wrong_epochs;
 mod wrong_holdings;
 mod wrong_precedence;
 
@@ -108,6 +119,11 @@ pub use counted_votes::{
     asked_sites_have_room_through_falls, asked_sites_never_forget_through_falls,
     promises_of_running_transactions_fit, votes_are_never_stale_through_falls,
 };
+pub use epochs::{
+    decisions_are_in_turn_through_falls, decisions_fit_records_through_falls,
+    installs_fit_records_through_falls, later_epochs_follow_earlier_ones_through_falls,
+    transactions_ask_in_one_epoch,
+};
 pub use holdings::{
     granted_items_are_held_in_their_lives, granted_logs_are_closed_through_falls,
     promised_items_are_held_through_falls,
@@ -120,6 +136,7 @@ pub use promised_votes::{
     votes_are_cast_in_the_lives_that_they_name,
 };
 pub use replies::{replies_end_their_turns_through_falls, replies_record_operations_through_falls};
+pub use wrong_epochs::{decisions_out_of_turn_are_refused, other_epochs_are_refused};
 pub use wrong_holdings::{
     locks_of_former_lives_are_refused, promises_that_were_let_go_are_refused,
     votes_of_former_lives_are_refused, votes_without_promises_are_refused,

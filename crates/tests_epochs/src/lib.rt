@@ -19,7 +19,7 @@ mod wrong;
 mod wrong_sites;
 
 pub use right::{
-    all_is_due_in_1_to_10, all_is_due_in_11_to_20, all_is_due_in_21_to_25,
+    all_is_due_in_1_to_10, all_is_due_in_11_to_20, all_is_due_in_21_to_30, all_is_due_in_31_to_40,
     all_is_due_in_worked_histories,
 };
 pub use wrong::{
