@@ -62,6 +62,10 @@ KEPT = (PROMISED + "link c0 s0 4 drop|link admin c0 1 drop|" + WRITES + "phase|a
 DOWN = "phase|admin epoch 2|phase|crash admin|admin epoch 3|phase|restart admin|admin epoch 3"
 DECISIONS = ("phase|admin epoch 2|" + WRITES + "phase|admin epoch 3|phase|crash admin|restart admin|admin epoch 3|"
              "admin epoch 2")
+UNINSTALLED = "link admin s0 2 drop|phase|c0 begin|c0 do x W1|phase|admin epoch 2|phase|c0 commit"
+HELD = "phase|c0 begin|c0 do x W1|phase|admin epoch 2|" + READS
+REDEEMED = ("link c0 s0 3 drop|link c0 s0 4 late|" + WRITES + "phase|crash s0|restart s0|admin epoch 2|phase|c1 begin")
+THIRD = WRITES + "phase|admin epoch 2|phase|admin epoch 3"
 
 # name: (what it holds, the declaration, the script)
 WORKED = {

@@ -20,8 +20,9 @@ IMPORTS = (
     ("Rattle.tests_epochs.specs.Whole", ("AreAdminTurns", "IsAdminDueIn", "IsSiteDueIn")),
     ("Rattle.tests_epochs.proofs.Places", ("admin_due_at",)),
     ("Rattle.tests_epochs.proofs.Parts",
-     ("clock_decided", "doubt_told", "first_promise", "half_need", "is_closed_told", "life_granted", "lines_decided",
-      "lines_installed", "lines_pending", "promises_told", "sites_closed", "sites_installed")),
+     ("clock_decided", "clock_told", "doubt_told", "first_promise", "half_need", "is_clash_told", "is_closed_told",
+      "life_granted", "lines_decided", "lines_installed", "lines_pending", "lines_told", "promises_told",
+      "sites_closed", "sites_installed")),
 )
 
 
@@ -63,6 +64,9 @@ POSTS = {
     "count_sends": lambda posted: sum(kind(x) == "Sent" for x in posted),
     "promises_told": lambda posted: len(answer(posted).prepared),
     "first_promise": lambda posted: answer(posted).prepared[0].tx[0],
+    "lines_told": lambda posted: len(answer(posted).log),
+    "clock_told": lambda posted: answer(posted).clock,
+    "is_clash_told": lambda posted: int(kind(answer(posted)) == "Clash"),
     "is_closed_told": lambda posted: int(kind(answer(posted)) == "Closed"),
     "lines_granted": lambda posted: len(answer(posted).log),
     "clock_granted": lambda posted: answer(posted).clock,

@@ -2,7 +2,8 @@
 gives the place of the last step that counts; what stands behind that goes.
 """
 
-from epoch_scripts import CLOSED, KEPT, MOVED_ONCE, SEVERAL, SHUT_RISES, STAMPS
+from epoch_scripts import (
+    CLOSED, HELD, KEPT, LATE, MOVED_ONCE, REDEEMED, SEVERAL, SHUT_RISES, STAMPS, UNINSTALLED)
 from spelling import kind
 
 
@@ -71,6 +72,33 @@ def cases(step, msg, record, reply):
         h.put(k, 0, step.Wrote(record.Close(2)))
         return k + 1
 
+    def votes(h):
+        """In place of a Closed the site promises what it is asked, and votes for it."""
+        k = h.find("Sent", actor=0, test=lambda x: kind(x.message) == "Closed")
+        h.change(k, message=msg.Yes(h.step(k).message.to, 1))
+        h.put(k, 0, step.Wrote(record.Prepare(record.Prepared((0, 1, 1), 1, (), ((1, 0, 3),), ()))))
+        return k + 1
+
+    def clashes(h):
+        """In place of its first grant once it installed, the site tells who had its lock before."""
+        k = first_grant(h)
+        h.change(k, message=msg.Clash(h.step(k).message.to, (0, 1, 1), 0, 3))
+        return k
+
+    def installs_earlier(h):
+        """The third site installs the epoch whose Install comes late."""
+        k = h.find("Sent", 1, actor=2, test=lambda x: kind(x.message) == "Installed")
+        earlier = h.step(h.wrote("Decide")).record
+        h.put(k, 2, step.Wrote(record.Install(earlier.epoch, earlier.clock, earlier.lines)))
+        return k + 1
+
+    def redeems(h):
+        """The first site writes what became of what it had promised before it installed."""
+        decisions = {x.number for _, x in h.steps if kind(x) == "Sent" and kind(x.message) == "Decision"}
+        k = [k for k, (a, x) in enumerate(h.steps) if a == 0 and kind(x) == "Got" and x.number in decisions][-1]
+        h.put(k + 1, 0, step.Wrote(record.Done((0, 1, 1), 1)))
+        return k + 1
+
     shuts = (
         ("promises_by_their_coming", "A Shut tells the promises in the order in which they came.", SEVERAL, 0,
          tells(0, prepared=lambda ps: tuple(reversed(ps))), "first_promise"),
@@ -78,9 +106,19 @@ def cases(step, msg, record, reply):
          "promises_told"),
         ("shut_without_a_record", "A site tells that it has closed, and writes nothing.", SEVERAL, 0,
          unwritten("Close"), "count_records"),
+        ("a_line_left_out", "A Shut leaves a line out.", MOVED_ONCE, 0, tells(0, log=lambda lines: lines[1:]),
+         "lines_told"),
+        ("shut_below_its_clock", "A Shut's clock is below that of a line.", MOVED_ONCE, 0,
+         tells(0, clock=lambda clock: clock - 1), "clock_told"),
+        ("promised_once_closed", "A closed site promises a transaction, and votes for it.", UNINSTALLED, 0, votes,
+         "is_closed_told"),
         ("installed_without_a_record", "A site tells that it has installed, and writes nothing.", MOVED_ONCE, 0,
          unwritten("Install"), "count_records"),
         ("installed_without_a_line", "A site installs a line less.", MOVED_ONCE, 0, line_less, "lines_installed"),
+        ("an_earlier_epoch_installed", "A site installs an earlier epoch than its own.", LATE, 2, installs_earlier,
+         "count_records"),
+        ("redeemed_once_installed", "A site redeems a promise of the epoch before.", REDEEMED, 0, redeems,
+         "count_records"),
     )
     grants_after = (
         ("granted_in_a_closed_epoch", "A site grants in an epoch that it left.", MOVED_ONCE, 1, granted(1, 2, 1),
@@ -91,6 +129,8 @@ def cases(step, msg, record, reply):
          "clock_granted"),
         ("granted_in_the_first_life", "A site that has closed grants in its first life.", MOVED_ONCE, 1,
          grants(life=1), "life_granted"),
+        ("refused_for_what_was_dropped", "A site refuses a read for what was held in the epoch before.", HELD, 1,
+         clashes, "is_clash_told"),
     )
     risen = (
         ("a_closed_site_grants", "A closed site rises, and grants in the closed epoch.", SHUT_RISES, 0, granted(0, 3, 0),

@@ -5,7 +5,7 @@ the last step that counts, or that of the deed that isn't due with the last one;
 import dataclasses
 
 import wrong_admin_falls
-from epoch_scripts import ASK_LOST, DOUBT, EACH, FEW, MOVED_ONCE, SEVERAL, STAMPS, STOPPED, UNHEARD, WRITES
+from epoch_scripts import ASK_LOST, DOUBT, EACH, FEW, MOVED_ONCE, SEVERAL, STAMPS, STOPPED, THIRD, UNHEARD, WRITES
 from spelling import kind
 from wrong_admin_falls import ADMIN, ALL, DUE
 
@@ -71,6 +71,16 @@ def cases(step, msg, record, reply):
     def decided_by_too_few(h):
         shut = h.step(h.sent("Shut")).message
         return writes(h, h.told("Quorum"), record.Decide(2, shut.clock, shut.log))
+
+    def decided_by_another_plan(h):
+        """For the third epoch two of three sites have closed, as for the second."""
+        shut = h.step(h.sent("Shut", 3)).message
+        k = h.find("Got", 1, actor=ADMIN, test=lambda x: x.number in shuts_of(h)[2:])
+        h.put(k + 1, ADMIN, step.Wrote(record.Decide(3, shut.clock, shut.log)))
+        return k + 1
+
+    def shuts_of(h):
+        return [x.number for _, x in h.steps if kind(x) == "Sent" and kind(x.message) == "Shut"]
 
     def earlier_shut(h):
         """The second site's Shut for the second command doesn't come; that for the first one comes once more."""
@@ -149,6 +159,8 @@ def cases(step, msg, record, reply):
         ("decided_twice", "A decided epoch is decided once more.", "three_epochs", TWICE, decided_twice, DUE),
         ("decided_by_too_few", "An epoch is decided, though too few sites have closed.", "three_epochs", FEW,
          decided_by_too_few, DUE),
+        ("decided_by_another_plan", "An epoch is decided by the plan of the one before the last.", "three_epochs", THIRD,
+         decided_by_another_plan, DUE),
         ("a_shut_of_an_earlier_command", "What a site told for an earlier command counts.", "three_epochs", ASK_LOST,
          earlier_shut, DUE),
         ("short_before_all_are_asked", "Too few are told before all sites are asked.", "three_epochs", FEW,
@@ -172,6 +184,8 @@ def cases(step, msg, record, reply):
         ("committed_lines_left_out", "The lines of a promise that committed are left out.", "three_epochs", ASK_LOST,
          decides(lines=lambda lines: ()), DUE),
         ("aborted_lines_merged", "The lines of a promise that aborted are there.", "three_epochs", SEVERAL,
+         decides(lines=aborted_lines), DUE),
+        ("a_line_that_nobody_told", "A line is there that no site told.", "three_epochs", MOVED_ONCE,
          decides(lines=aborted_lines), DUE),
         ("one_entry_of_a_transaction", "Of the lines that two sites promised of a transaction one site's are there.",
          "two_objects", EACH, decides(lines=lambda lines: lines[:1]), DUE),

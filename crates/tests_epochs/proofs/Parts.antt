@@ -62,6 +62,29 @@ life_in _ = 0
 abbrev pub life_granted : List Act → ℕ
 life_granted acts = life_in (first_answer acts)
 
+abbrev told_clash : Option Answer → ℕ
+told_clash (Some (answers.Clash holder inv event)) = 1
+told_clash _ = 0
+
+abbrev pub is_clash_told : List Act → ℕ
+is_clash_told acts = told_clash (first_answer acts)
+
+-- a Shut
+
+abbrev shut_lines : Option Answer → ℕ
+shut_lines (Some (answers.Shut clock log prepared)) = length log
+shut_lines _ = 0
+
+abbrev pub lines_told : List Act → ℕ
+lines_told acts = shut_lines (first_answer acts)
+
+abbrev shut_clock : Option Answer → ℕ
+shut_clock (Some (answers.Shut clock log prepared)) = clock
+shut_clock _ = 0
+
+abbrev pub clock_told : List Act → ℕ
+clock_told acts = shut_clock (first_answer acts)
+
 abbrev promises_in : Option Answer → List Prepared
 promises_in (Some (answers.Shut clock log prepared)) = prepared
 promises_in _ = []

@@ -28,6 +28,12 @@ aborted_lines_merged_differs e = let never : ⊥ = cc in never
 pub aborted_lines_merged_refused : IsAdminDueIn three_epochs wrong_decisions.aborted_lines_merged → ⊥
 aborted_lines_merged_refused all = aborted_lines_merged_differs (ap lines_decided (admin_due_at 11 three_epochs (deeds (administrator three_epochs) [] wrong_decisions.aborted_lines_merged) all).0)
 
+a_line_that_nobody_told_differs : ◌≡◌ {A = ℕ} 1 2 → ⊥
+a_line_that_nobody_told_differs e = let never : ⊥ = cc in never
+
+pub a_line_that_nobody_told_refused : IsAdminDueIn three_epochs wrong_decisions.a_line_that_nobody_told → ⊥
+a_line_that_nobody_told_refused all = a_line_that_nobody_told_differs (ap lines_decided (admin_due_at 5 three_epochs (deeds (administrator three_epochs) [] wrong_decisions.a_line_that_nobody_told) all).0)
+
 one_entry_of_a_transaction_differs : ◌≡◌ {A = ℕ} 2 1 → ⊥
 one_entry_of_a_transaction_differs e = let never : ⊥ = cc in never
 

@@ -25,6 +25,12 @@ decided_by_too_few_differs e = let never : ⊥ = cc in never
 pub decided_by_too_few_refused : IsAdminDueIn three_epochs wrong_rounds.decided_by_too_few → ⊥
 decided_by_too_few_refused all = decided_by_too_few_differs ((admin_due_at 7 three_epochs (deeds (administrator three_epochs) [] wrong_rounds.decided_by_too_few) all).0)
 
+decided_by_another_plan_differs : ◌≡◌ {A = Option Installing} None (Some (record { epoch = 3; clock = 1; lines = (line 1 0 1 1 0 3 ∷ []) })) → ⊥
+decided_by_another_plan_differs e = let never : ⊥ = cc in never
+
+pub decided_by_another_plan_refused : IsAdminDueIn three_epochs wrong_rounds.decided_by_another_plan → ⊥
+decided_by_another_plan_refused all = decided_by_another_plan_differs ((admin_due_at 19 three_epochs (deeds (administrator three_epochs) [] wrong_rounds.decided_by_another_plan) all).0)
+
 a_shut_of_an_earlier_command_differs : ◌≡◌ {A = Option Installing} None (Some (record { epoch = 2; clock = 1; lines = (line 1 0 1 1 0 3 ∷ []) })) → ⊥
 a_shut_of_an_earlier_command_differs e = let never : ⊥ = cc in never
 

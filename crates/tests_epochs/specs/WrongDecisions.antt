@@ -10,8 +10,8 @@ use Rattle.qc_msg.specs.declared.reply.Reply.TheVariants as replies
 use Rattle.tests_epochs.specs.StampsPassReads as stamps_pass_reads
 use Rattle.tests_epochs.specs.AskLost as ask_lost
 use Rattle.tests_epochs.specs.SeveralPromises as several_promises
-use Rattle.tests_epochs.specs.EachEntryMerged as each_entry_merged
 use Rattle.tests_epochs.specs.MovedOnce as moved_once
+use Rattle.tests_epochs.specs.EachEntryMerged as each_entry_merged
 
 -- The clock doesn't pass the stamp of a promise that committed.
 abbrev pub a_clock_that_leaves_out_stamps : List Entry
@@ -30,6 +30,12 @@ abbrev pub aborted_lines_merged : List Entry
 aborted_lines_merged =
     take 108 several_promises.history ++
     marked 6 (Wrote (records.Decide 2 2 (line 1 0 1 1 0 3 ∷ line 1 2 1 1 0 3 ∷ line 2 1 1 1 0 2 ∷ []))) ∷ []
+
+-- A line is there that no site told.
+abbrev pub a_line_that_nobody_told : List Entry
+a_line_that_nobody_told =
+    take 44 moved_once.history ++
+    marked 6 (Wrote (records.Decide 2 1 (line 1 0 1 1 0 3 ∷ line 1 0 1 1 0 3 ∷ []))) ∷ []
 
 -- Of the lines that two sites promised of a transaction one site's are there.
 abbrev pub one_entry_of_a_transaction : List Entry

@@ -26,6 +26,20 @@ decided_by_too_few =
     take 15 too_few_close.history ++
     marked 6 (Wrote (records.Decide 2 0 [])) ∷ []
 
+-- An epoch is decided by the plan of the one before the last.
+abbrev pub decided_by_another_plan : List Entry
+decided_by_another_plan =
+    take 62 moved_once.history ++
+    marked 6 (Called (commands.Epoch 3)) ∷ marked 6 (Sent 20 0 (messages.Close 3)) ∷
+    marked 6 (Sent 21 1 (messages.Close 3)) ∷ marked 6 (Sent 22 2 (messages.Close 3)) ∷ marked 0 (Got 20) ∷
+    marked 0 (Wrote (records.Close 3)) ∷
+    marked 0 (Sent 23 6 (messages.Answer 20 (answers.Shut 1 (line 1 0 1 1 0 3 ∷ []) []))) ∷ marked 1 (Got 21) ∷
+    marked 1 (Wrote (records.Close 3)) ∷
+    marked 1 (Sent 24 6 (messages.Answer 21 (answers.Shut 1 (line 1 0 1 1 0 3 ∷ []) []))) ∷ marked 2 (Got 22) ∷
+    marked 2 (Wrote (records.Close 3)) ∷
+    marked 2 (Sent 25 6 (messages.Answer 22 (answers.Shut 1 (line 1 0 1 1 0 3 ∷ []) []))) ∷ marked 6 (Got 23) ∷
+    marked 6 (Got 24) ∷ marked 6 (Wrote (records.Decide 3 1 (line 1 0 1 1 0 3 ∷ []))) ∷ []
+
 -- What a site told for an earlier command counts.
 abbrev pub a_shut_of_an_earlier_command : List Entry
 a_shut_of_an_earlier_command =

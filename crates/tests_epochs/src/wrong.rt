@@ -38,6 +38,7 @@ pub fn wrong_doubts_are_refused()
 pub fn wrong_rounds_are_refused()
     ensures decided_twice { IsAdminDueIn three_epochs wrong_rounds.decided_twice → ⊥ }
     ensures decided_by_too_few { IsAdminDueIn three_epochs wrong_rounds.decided_by_too_few → ⊥ }
+    ensures decided_by_another_plan { IsAdminDueIn three_epochs wrong_rounds.decided_by_another_plan → ⊥ }
     ensures a_shut_of_an_earlier_command { IsAdminDueIn three_epochs wrong_rounds.a_shut_of_an_earlier_command → ⊥ }
     ensures short_before_all_are_asked { IsAdminDueIn three_epochs wrong_rounds.short_before_all_are_asked → ⊥ }
     ensures short_of_another_weight { IsAdminDueIn three_epochs wrong_rounds.short_of_another_weight → ⊥ }
@@ -63,6 +64,7 @@ pub fn wrong_decisions_are_refused()
         → ⊥ }
     ensures committed_lines_left_out { IsAdminDueIn three_epochs wrong_decisions.committed_lines_left_out → ⊥ }
     ensures aborted_lines_merged { IsAdminDueIn three_epochs wrong_decisions.aborted_lines_merged → ⊥ }
+    ensures a_line_that_nobody_told { IsAdminDueIn three_epochs wrong_decisions.a_line_that_nobody_told → ⊥ }
     ensures one_entry_of_a_transaction { IsAdminDueIn two_objects wrong_decisions.one_entry_of_a_transaction → ⊥ }
     ensures another_log_installed { IsAdminDueIn three_epochs wrong_decisions.another_log_installed → ⊥ }
 {}

@@ -11,8 +11,13 @@ pub fn wrong_shuts_are_refused()
     ensures promises_by_their_coming { IsSiteDueIn three_epochs 0 wrong_shuts.promises_by_their_coming → ⊥ }
     ensures a_promise_left_out { IsSiteDueIn three_epochs 0 wrong_shuts.a_promise_left_out → ⊥ }
     ensures shut_without_a_record { IsSiteDueIn three_epochs 0 wrong_shuts.shut_without_a_record → ⊥ }
+    ensures a_line_left_out { IsSiteDueIn three_epochs 0 wrong_shuts.a_line_left_out → ⊥ }
+    ensures shut_below_its_clock { IsSiteDueIn three_epochs 0 wrong_shuts.shut_below_its_clock → ⊥ }
+    ensures promised_once_closed { IsSiteDueIn three_epochs 0 wrong_shuts.promised_once_closed → ⊥ }
     ensures installed_without_a_record { IsSiteDueIn three_epochs 0 wrong_shuts.installed_without_a_record → ⊥ }
     ensures installed_without_a_line { IsSiteDueIn three_epochs 0 wrong_shuts.installed_without_a_line → ⊥ }
+    ensures an_earlier_epoch_installed { IsSiteDueIn three_epochs 2 wrong_shuts.an_earlier_epoch_installed → ⊥ }
+    ensures redeemed_once_installed { IsSiteDueIn three_epochs 0 wrong_shuts.redeemed_once_installed → ⊥ }
 {}
 
 /// These aren't due: sites that grant what the next epoch doesn't let them.
@@ -22,6 +27,7 @@ pub fn wrong_grants_are_refused()
         → ⊥ }
     ensures granted_below_installed_clock { IsSiteDueIn three_epochs 1 wrong_grants.granted_below_installed_clock → ⊥ }
     ensures granted_in_the_first_life { IsSiteDueIn three_epochs 1 wrong_grants.granted_in_the_first_life → ⊥ }
+    ensures refused_for_what_was_dropped { IsSiteDueIn three_epochs 1 wrong_grants.refused_for_what_was_dropped → ⊥ }
 {}
 
 /// These aren't due: sites that rise closed, or in an installed epoch.

@@ -7,4 +7,5 @@ returns c = record {
   granted_without_installed_lines = lemmas.granted_without_installed_lines_refused;
   granted_below_installed_clock = lemmas.granted_below_installed_clock_refused;
   granted_in_the_first_life = lemmas.granted_in_the_first_life_refused;
+  refused_for_what_was_dropped = lemmas.refused_for_what_was_dropped_refused;
 }
