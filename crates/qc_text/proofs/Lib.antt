@@ -15,3 +15,4 @@ pub mod Promised
 pub mod Cuts
 pub mod Held
 pub mod SetOf
+pub mod Numbered

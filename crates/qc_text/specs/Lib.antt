@@ -17,3 +17,4 @@ pub mod Holders
 pub mod Promises
 pub mod Sites
 pub mod Text
+pub mod Summary

@@ -1,7 +1,8 @@
-//! How results and sites read, each line computed from its definition.
+//! How results, sites and summaries read, each line computed from its definition.
 
-ghost use Rattle.std.specs.Prelude.{◌≡◌, ◌∷◌, [], List, None, codes};
+ghost use Rattle.std.specs.Prelude.{◌≡◌, ◌∷◌, ◌++◌, [], List, None, Some, codes};
 ghost use Rattle.qc_decl.specs.declared.declaration.Declaration.{Declaration};
+ghost use Rattle.qc_decl.specs.One.{three};
 ghost use Rattle.qc_entry.specs.declared.line.Line.{Line};
 ghost use Rattle.qc_entry.specs.declared.line.ReadLock.{ReadLock};
 ghost use Rattle.qc_msg.specs.Steps.{by};
@@ -16,6 +17,7 @@ ghost use Rattle.qc_stamp.specs.declared.stamp.Stamp.{Stamp};
 ghost use Rattle.qc_stamp.specs.declared.stamp.TxId.{TxId};
 ghost use Rattle.qc_text.specs.Results.{reply_text};
 ghost use Rattle.qc_text.specs.Sites.{site_line};
+ghost use Rattle.qc_text.specs.Summary.{summary_of};
 
 /// A reply reads so, whatever the command that it is told for; a response is
 /// the name that the declaration gives it.
@@ -74,4 +76,23 @@ pub fn sites_read_so()
     ensures installed { (tx : TxId) (lock : ReadLock) (line : Line) → site_line (by 0 (steps.Wrote (records.Prepare
         (record { tx = tx; epoch = 1; locks = lock ∷ []; own = []; lines = [] }))
         ∷ steps.Wrote (records.Install 2 5 (line ∷ [])) ∷ [])) 0 ≡ codes "s0 life 1 epoch 2 lines 1 held 0\n" }
+{}
+
+/// A summary of a load reads so. Of `@three`, c0 is actor 3. Two transactions
+/// committed, the one with the greater stamp first, and one aborted; an operation
+/// without a response doesn't count.
+pub fn summaries_read_so()
+    ensures nothing { summary_of three 1 0 []
+        ≡ codes "load 1 0\ncommitted 0\naborted 0\noperations 0\nwrites 0\nones 0\nlast -\n" }
+    ensures some { summary_of three 3 7 (by 3 (steps.Wrote (records.Commit (record {
+      stamp = record { clock = 2; client = 0 };
+      tx = record { client = 0; life = 1; number = 1 };
+      ops = record { object = 0; inv = 2; resp = Some 2 } ∷ record { object = 0; inv = 0; resp = Some 1 } ∷ [];
+    })) ∷ steps.Told (replies.Committed (record { clock = 2; client = 0 })) ∷ [])
+        ++ (by 4 (steps.Wrote (records.Commit (record {
+          stamp = record { clock = 1; client = 1 };
+          tx = record { client = 1; life = 1; number = 1 };
+          ops = record { object = 0; inv = 0; resp = Some 0 } ∷ record { object = 0; inv = 1; resp = None } ∷ [];
+        })) ∷ []) ++ by 5 (steps.Told (replies.Aborted whys.Doomed) ∷ [])))
+        ≡ codes "load 3 7\ncommitted 2\naborted 1\noperations 3\nwrites 1\nones 1\nlast 2.0\n" }
 {}

@@ -1,8 +1,8 @@
-//! The printed text of a run.
+//! The printed text of a run, and the summary of a load's.
 //!
-//! It has four sections, each read off the history alone: the replies, in the
-//! script's order; the log of what committed, in the order of the stamps; the
-//! states after a replay of it; and the sites. No premise is asked of the
+//! The text has four sections, each read off the history alone: the replies, in
+//! the script's order; the log of what committed, in the order of the stamps;
+//! the states after a replay of it; and the sites. No premise is asked of the
 //! history, and nothing is taken from the code that made it. What holds:
 //!
 //! 1. Each function that adds to a page adds exactly what its definition in
@@ -11,12 +11,14 @@
 //!    took.
 //! 3. A site's line is what the promise says that its own steps show; a site
 //!    that fell and hasn't risen is down.
-//! 4. The work is linear in the history, but for three things: the commits, the
+//! 4. The summary of a load counts what committed, what was told aborted, and the
+//!    operations by the names that the declaration gives them (`summary`).
+//! 5. The work is linear in the history, but for three things: the commits, the
 //!    last Prepares and the transactions that hold something are kept in order,
 //!    and a log is merged as often as the site merged it, lines that its epoch
 //!    began with being left out each time.
 //!
-//! The top call prints this text.
+//! The top call prints the text.
 #![tactic(auto)]
 
 mod asked;
@@ -29,6 +31,7 @@ mod known;
 mod laws;
 mod lifetimes;
 mod lines;
+mod loads;
 mod log;
 mod names;
 mod page;
@@ -43,5 +46,6 @@ mod results;
 mod sites;
 mod states;
 
-pub use laws::{replies_read_so, sites_read_so};
+pub use laws::{replies_read_so, sites_read_so, summaries_read_so};
+pub use loads::summary;
 pub use report::text;

@@ -1,0 +1,5 @@
+mod Texts
+mod Writable
+mod Reading
+mod Phases
+mod Lengths
