@@ -16,7 +16,7 @@ BANDS = {
     "theory": "onecopy protocol runs bases",
     "system": "msg record fit script inbox mailbox fabric promise spent store site commit front client epoch recover admin core process",
     "laws": "laws due bounds net atomic reach guarantees votes falls",
-    "outside": "node report text gen top files quorum",
+    "outside": "node report text gen words top files quorum",
 }
 
 

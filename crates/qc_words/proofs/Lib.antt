@@ -1,0 +1,12 @@
+mod Alike
+mod Anywhere
+mod Askable
+mod Clapped
+mod Commands
+mod Fits
+mod Numbers
+mod Rows
+mod Said
+mod Steps
+mod Walks
+mod Written

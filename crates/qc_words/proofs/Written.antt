@@ -1,0 +1,69 @@
+-- What can be asked is read as it is written.
+use Rattle.std.proofs.Common.{◌≡◌, ◌∙◌, ℕ, ◌<◌, ◌≤◌, ◌^◌, true, [], ◌∷◌, Option, Some, None, length, refl, ap, arith}
+use Rattle.std.specs.Prelude.{decimal}
+use Rattle.std.specs.Char.{is_ascii_digit}
+use Rattle.std.specs.List.{list_all}
+use Rattle.std.proofs.lemmas.Bool.{le-leb}
+use Rattle.std.proofs.lemmas.Fmt.{decimal_is_IsNumeral, decimal_nonempty, length-decimal-le}
+use Rattle.qc_words.specs.Askable.{IsAskable, IsLoad, IsName, IsRun}
+use Rattle.qc_words.specs.Forms.{Text, option_of}
+use Rattle.qc_words.specs.Limits.{greatest_seed, most_transactions, most_workers}
+use Rattle.qc_words.specs.Numbers.{number_of, number_within}
+use Rattle.qc_words.specs.Words.{AskedOf, Check, Run, Load, asked}
+use Rattle.qc_words.specs.Written.{words_in}
+use Rattle.qc_words.proofs.Clapped.{option_is_long, values_are_plain}
+use Rattle.qc_words.proofs.Numbers.{digits}
+
+-- a value names no option
+no_option : (word : Text) → IsName word → option_of word ≡ None
+no_option word name = option_is_long word ∙ (values_are_plain word name).long
+
+-- digits begin with no `-`
+digits_are_value : (word : Text) → 0 < length word → list_all is_ascii_digit word ≡ true → IsName word
+digits_are_value [] some all = absurd (omega arith)
+digits_are_value (b ∷ rest) some all = grind (arith, all)
+
+number_is : (n : ℕ) → n ≤ 99999 → (IsName (decimal n)) × (number_of (decimal n) ≡ Some n)
+number_is n few =
+    let small : n < 2 ^ 64 = omega arith in
+    let some : 0 < length (decimal n) = decimal_nonempty n small in
+    let short : length (decimal n) ≤ 5 = length-decimal-le 5 n (omega arith) (omega arith) small in
+    let numeral = decimal_is_IsNumeral n small in
+    let all : list_all is_ascii_digit (decimal n) ≡ true = digits.from (decimal n) numeral.0.1 in (
+      digits_are_value (decimal n) some all,
+      rw (le-leb 1 _ some, le-leb _ 5 short, all) (ap Some numeral.1),
+    )
+
+within_is : (least most n : ℕ) → least ≤ n → n ≤ most → most ≤ 99999 → number_within least most (decimal n) ≡ Some n
+within_is least most n above below few = rw ((number_is n (omega arith)).1, le-leb least n above, le-leb n most below) refl
+
+check_read : (decl : Text) → IsName decl → asked (words_in (Check decl)) ≡ Some (Check decl)
+check_read decl name = rw (no_option decl name, name) refl
+
+run_read : (decl script : Text) (workers : ℕ) (dir : Option Text) → IsRun decl script workers dir → asked (words_in (Run decl script workers dir)) ≡ Some (Run decl script workers dir)
+run_read decl script workers None is =
+    let few : workers ≤ 8 = is.are_few.1 in
+    let number = number_is workers (omega arith) in
+    rw (no_option decl is.decl_is_name, is.decl_is_name, no_option script is.script_is_name, is.script_is_name, number.0)
+    (rw (within_is 1 most_workers workers is.are_few.0 is.are_few.1 (omega arith)) refl)
+run_read decl script workers (Some dir) is =
+    let few : workers ≤ 8 = is.are_few.1 in
+    let number = number_is workers (omega arith) in
+    rw (no_option decl is.decl_is_name, is.decl_is_name, no_option script is.script_is_name, is.script_is_name, number.0, is.dir_is_name)
+    (rw (within_is 1 most_workers workers is.are_few.0 is.are_few.1 (omega arith)) refl)
+
+load_read : (count seed workers : ℕ) → IsLoad count seed workers → asked (words_in (Load count seed workers)) ≡ Some (Load count seed workers)
+load_read count seed workers is =
+    let few : workers ≤ 8 = is.are_few.1 in
+    let most = is.most in
+    let within = is.within in
+    let counted = number_is count (omega arith) in
+    let seeded = number_is seed (omega arith) in
+    let number = number_is workers (omega arith) in
+    rw (no_option (decimal count) counted.0, counted.0, no_option (decimal seed) seeded.0, seeded.0, number.0)
+    (rw (within_is 1 most_transactions count is.least is.most (omega arith), within_is 0 greatest_seed seed (omega arith) is.within (omega arith), within_is 1 most_workers workers is.are_few.0 is.are_few.1 (omega arith)) refl)
+
+pub read_as_written : (a : AskedOf) → IsAskable a → asked (words_in a) ≡ Some a
+read_as_written (Check decl) is = check_read decl is
+read_as_written (Run decl script workers dir) is = run_read decl script workers dir is
+read_as_written (Load count seed workers) is = load_read count seed workers is

@@ -1,0 +1,10 @@
+use Rattle.std.proofs.Common.{◌≡◌, drop, map}
+use Rattle.clap.specs.Simple.{app_of}
+use Rattle.qc_words.specs.Parts.{texts_of}
+use Rattle.qc_words.specs.Matching.{option_rule, with_rules}
+use Rattle.qc_words.proofs.matching.with_options.Given as goal
+
+abbrev pub invariant-names : goal.invariant-names
+invariant-names l =
+    with_rules (app_of l.command) (map option_rule (texts_of (drop l.name-index l.names)))
+    ≡ with_rules (app_of l.fn.command) (map option_rule (texts_of l.names))

@@ -1,0 +1,10 @@
+pub mod Askable
+pub mod Asked
+pub mod Forms
+pub mod Limits
+pub mod Matching
+pub mod Numbers
+pub mod Parts
+pub mod Said
+pub mod Words
+pub mod Written
