@@ -1,5 +1,6 @@
 -- The lines of a log that another lacks.
-use Rattle.std.proofs.Common.{◌≡◌, ℕ, zero, suc, take, drop, List, [], ◌∷◌, false, cond, refl, ap, ◌∙◌, subst}
+use Rattle.std.proofs.Common.{◌≡◌, ℕ, zero, suc, take, drop, List, [], ◌∷◌, Some, false, cond, refl, ap, ◌∙◌, subst}
+use Rattle.std.specs.List.{AllByRecursion as Every, slice_get}
 use Rattle.std.proofs.lemmas.Cmp.{tied_itself}
 use Rattle.std.specs.declared.cmp.Ordering.TheVariants.{Less, Equal, Greater}
 use Rattle.std.specs.Prelude.{not}
@@ -55,3 +56,28 @@ without-shared (suc n) (x ∷ xs) (y ∷ ys) up other alike =
     let rest : take n xs ≡ take n ys = cc in
     let equal : line_cmp x y ≡ Equal = subst (λ l. line_cmp x l ≡ Equal) same (tied_itself line_order.total x) in
     without-Equal x xs y ys equal up.0 ∙ without-shared n xs ys up.1 other.1 rest
+
+-- lines behind all others stay
+
+stays : (xs ys : List Line) → Every (λ z. has_line ys z ≡ false) xs → without xs ys ≡ xs
+stays [] ys none = refl
+stays (x ∷ xs) ys none = rw none.0 (ap (λ zs. x ∷ zs) (stays xs ys none.1))
+
+absent-behind : (z : Line) (ys : List Line) → Every (λ l. line_cmp l z ≡ Less) ys → has_line ys z ≡ false
+absent-behind z [] all = refl
+absent-behind z (y ∷ ys) all = rw all.0 (absent-behind z ys all.1)
+
+further : (x z : Line) (ys : List Line) → line_cmp x z ≡ Less → Every (λ l. line_cmp l x ≡ Less) ys → Every (λ l. line_cmp l z ≡ Less) ys
+further x z [] less all = tt
+further x z (y ∷ ys) less all = (line_order.total.trans y x z all.0 less, further x z ys less all.1)
+
+none-there : (x : Line) (xs ys : List Line) → IsBelowAll line_cmp x xs → Every (λ l. line_cmp l x ≡ Less) ys → Every (λ z. has_line ys z ≡ false) xs
+none-there x [] ys low all = tt
+none-there x (z ∷ zs) ys low all = (absent-behind z ys (further x z ys low.0 all), none-there x zs ys low.1 all)
+
+pub without-behind : (first : Line) (xs ys : List Line) → IsAscending xs → Some first ≡ slice_get xs 0 → Every (λ l. line_cmp l first ≡ Less) ys → without xs ys ≡ xs
+without-behind first [] ys up at all = refl
+without-behind first (x ∷ xs) ys up at all =
+    let same : first ≡ x = cc in
+    let low : Every (λ l. line_cmp l x ≡ Less) ys = subst (λ y. Every (λ l. line_cmp l y ≡ Less) ys) same all in
+    stays (x ∷ xs) ys (absent-behind x ys low, none-there x xs ys up.0 low)

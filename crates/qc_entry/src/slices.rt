@@ -44,15 +44,32 @@ pub(crate) fn merged(alloc: Global, a: &[Line], b: &[Line]) -> Result<Vec<Line>,
     Ok(out)
 }
 
-/// The lines of the first sorted slice that aren't in the second. What both
-/// begin with alike is passed over: a site's records give most of its log.
+/// The lines of the first sorted slice that aren't in the second: all of them
+/// where they stand behind those, as new lines do behind what an epoch began with.
+/// Else what both begin with alike is passed over: a site's records give most of
+/// its log.
 pub(crate) fn rest_of(alloc: Global, a: &[Line], b: &[Line]) -> Result<Vec<Line>, OutOfMemory>
     requires first { IsAscending a.now }
     requires second { IsAscending b.now }
     ensures { IfOk result (λ v. v.items ≡ without a.now b.now) }
 {
+    if are_behind(a, b) {
+        return Vec::from_slice(alloc, a);
+    }
     let n = shared(a, b);
     others_of(alloc, &a[n..], &b[n..])
+}
+
+/// Whether sorted lines stand behind all others, so that none of them is there.
+fn are_behind(lines: &[Line], others: &[Line]) -> bool
+    requires first { IsAscending lines.now }
+    requires second { IsAscending others.now }
+    ensures { IsTrue result → without lines.now others.now ≡ lines.now }
+{
+    match lines.first() {
+        None => true,
+        Some(first) => all_before(others, first),
+    }
 }
 
 /// The same, line by line.
