@@ -3,7 +3,6 @@
 use Rattle.std.proofs.Common.{◌≡◌, ◌≢◌, ℕ, zero, suc, ◌+◌, ◌==◌, ◌⊎◌, nat_le, Bool, true, false, cond, inl, inr, List, [], ◌∷◌, ◌++◌, length, fold, map, take, Option, Some, None, refl, sym, ap, ◌∙◌, subst}
 use Rattle.qc_stamp.specs.declared.stamp.TxId.{TxId}
 use Rattle.qc_list.specs.Members.{In}
-use Rattle.qc_entry.specs.Line.{IsAscending}
 use Rattle.qc_entry.specs.declared.line.Line.{Line}
 use Rattle.qc_decl.specs.declared.declaration.Declaration.{Declaration}
 use Rattle.qc_decl.specs.Actors.{administrator}
@@ -19,13 +18,13 @@ use Rattle.qc_msg.specs.Calls.{with_call}
 use Rattle.qc_msg.specs.Deeds.{envelopes}
 use Rattle.qc_msg.specs.Turns.{quiet}
 use Rattle.qc_protocol.specs.Acts.{Act, Decide, after_act, state}
-use Rattle.qc_protocol.specs.Guards.{IsRun, MayDecide}
+use Rattle.qc_protocol.specs.Guards.{IsRun}
 use Rattle.qc_protocol.specs.State.{Decision, NotBegun, State}
 use Rattle.qc_epoch.specs.Admin.{Admin, AdminMove, Decided, Doing, Question, Resting, Asking, Installing, ShutSite, moved}
 use Rattle.qc_epoch.specs.Conduct.{again, all_sites, ask_of, asks, decides, doing, install_of, install_sends, installing, replies_with, settles, settles_by}
 use Rattle.qc_epoch.specs.Deciding.{decision, first_doubt, greatest, merged, most_asks, questions_of}
 use Rattle.qc_msg.specs.Lengths.{epoch_length}
-use Rattle.qc_net.specs.Admins.{AdminMirrors, AreEnough, AreSnapshots, DecidedMirrors, DoingMirrors, IsCovered, IsNumbered, IsPendingRule, IsTaken, QuestionMirrors, RulesMirror}
+use Rattle.qc_net.specs.Admins.{AdminMirrors, AreEnough, AreSnapshots, DecidedMirrors, DoingMirrors, IsCovered, IsNumbered, IsPendingRule, IsTaken, IsTooLong, QuestionMirrors, RulesMirror}
 use Rattle.qc_net.specs.Messages.{Backed}
 use Rattle.qc_net.specs.Mirrors.{Continues, Mirrors}
 use Rattle.qc_net.specs.Net.{Net, after_admin, all_sent}
@@ -53,13 +52,6 @@ rule_from k (x ∷ xs) r = rule_from (keeps k x) xs r
 
 pub rule_more : (rs : List Record) (r : Record) → kept_by (rs ++ r ∷ []) ≡ keeps (kept_by rs) r
 rule_more rs r = rule_from None rs r
-
--- a decision that may be made, and is too long for a record
-pub record IsTooLong (decl : Declaration) (now : State) : Type 0 where
-  pub decision : Decision
-  pub may : MayDecide decl now decision
-  pub sorted : IsAscending decision.log
-  pub long : nat_le (epoch_length decision.log) most_record_bytes ≡ false
 
 -- his turn leaves the decided epoch, or decides the next one
 

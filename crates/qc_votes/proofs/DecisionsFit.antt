@@ -28,8 +28,8 @@ use Rattle.qc_msg.specs.declared.message.Message.TheVariants.{Install}
 use Rattle.qc_msg.specs.declared.record.Record.{Record}
 use Rattle.qc_msg.specs.declared.reply.Reply.TheVariants.{Fault}
 use Rattle.qc_net.proofs.AdminCases.{admin_case}
-use Rattle.qc_net.proofs.AdminTurns.{IsTooLong}
 use Rattle.qc_net.proofs.NetLaws.{deciding_lines, message_lines}
+use Rattle.qc_net.specs.Admins.{IsTooLong}
 use Rattle.qc_net.specs.Lines.{lines_in}
 use Rattle.qc_net.specs.Sites.{IsDecided}
 use Rattle.qc_onecopy.specs.Logged.{IsLogged}
